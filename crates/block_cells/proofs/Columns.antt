@@ -2,7 +2,7 @@
 use Rattle.std.proofs.Common.{◌≡◌, ℕ, suc, zero, ◌+◌, ◌-◌, List, ◌∷◌, ◌++◌, refl, ap, ◌∙◌, length, drop, take, arith}
 use Rattle.std.specs.Prelude.{replicate}
 use Rattle.std.specs.List.{list_any, prefix_len, suffix_len}
-use Rattle.definition_text.specs.Columns.{is_white, is_blank, trimmed}
+use Rattle.definition_text.specs.Columns.{is_white, is_blank, trim}
 use Rattle.definition_block.specs.GfmTable.{is_bar_or_colon}
 
 pub any_columns : (owed : ℕ) (text : List ℕ) → list_any is_bar_or_colon (replicate owed 256 ++ text) ≡ list_any is_bar_or_colon text
@@ -21,5 +21,5 @@ bare_columns (suc owed) text =
     let e : 1 + n ≡ suc n = omega arith in
     ap (λ k. drop k (256 ∷ (replicate owed 256 ++ text))) e ∙ bare_columns owed text
 
-pub trimmed_columns : (owed : ℕ) (text : List ℕ) → trimmed (replicate owed 256 ++ text) ≡ trimmed text
+pub trimmed_columns : (owed : ℕ) (text : List ℕ) → trim (replicate owed 256 ++ text) ≡ trim text
 trimmed_columns owed text = ap (λ rest. take (length rest - suffix_len is_white rest) rest) (bare_columns owed text)

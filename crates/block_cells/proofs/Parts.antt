@@ -1,5 +1,6 @@
 -- The first part of a line.
-use Rattle.std.proofs.Common.{◌≡◌, ◌≢◌, Bool, ℕ, suc, zero, ◌<◌, ◌≤◌, List, [], ◌∷◌, ◌++◌, true, false, not, eqb, refl, sym, ap, ◌∙◌, length, drop, take, get_or, arith, inl, inr, Option, None, Some}
+use Rattle.std.proofs.Common.{◌≡◌, ◌≢◌, Bool, ℕ, suc, zero, ◌<◌, ◌≤◌, List, [], ◌∷◌, ◌++◌, true, false, not, eqb, refl, sym, ap, ◌∙◌, length, drop, take}
+use Rattle.std.proofs.Common.{get_or, arith, inl, inr, Option, None, Some}
 use Rattle.std.specs.Prelude.{replicate, is_some}
 use Rattle.std.proofs.lemmas.Bool.{true≢false, cases_Bool, cond-true, cond-false, and_parts, eqb-true}
 use Rattle.std.specs.Str.{IsCharBoundary}
@@ -123,7 +124,8 @@ same_cell owed other_owed cs other_cs before other_before after other_after e f 
     ∙ ap (cell (replicate other_owed 256 ++ other_cs) other_before) (sym h)
 
 -- a part that isn't blank, or that another one follows, is a cell
-pub filled_part : (c : Cell) (after : Option Piece) → is_blank c.codes ≡ false → without_blank_last (c ∷ parts_if after) ≡ c ∷ without_blank_last (parts_if after)
+pub filled_part : (c : Cell) (after : Option Piece) → is_blank c.codes ≡ false
+    → without_blank_last (c ∷ parts_if after) ≡ c ∷ without_blank_last (parts_if after)
 filled_part c None h = last_part c h
 filled_part c (Some line) h = before_part c line
 

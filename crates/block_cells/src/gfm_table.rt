@@ -7,7 +7,7 @@ ghost use Rattle.std.specs.Prelude.{◌≡◌, ◌≤◌, ◌==◌, ◌∷◌, [
 ghost use Rattle.std.specs.List.{list_any};
 ghost use Rattle.definition_text.specs.Content.{may_escape as escapes_next};
 ghost use Rattle.definition_text.specs.declared.beside.Kind.TheVariants.{Whitespace};
-ghost use Rattle.definition_text.specs.Columns.{is_blank as are_white, trimmed};
+ghost use Rattle.definition_text.specs.Columns.{is_blank as are_white, trim};
 ghost use Rattle.definition_block.specs.GfmTable.{cells, parts, is_bar as divides, without_blank_first, alignment as aligned, after_dashes as aligned_after};
 ghost use Rattle.definition_block.specs.GfmTable.{delimiter as delimiter_of, delimiters, is_bar_or_colon as tells_delimiters};
 ghost use Rattle.block_rows.specs.Rows.{piece_line};

@@ -7,7 +7,7 @@ use Rattle.definition_text.specs.BlockLines.{BlockLine, own_lines}
 use Rattle.definition_block.specs.Blocks.{Nil, join}
 use Rattle.definition_text.specs.Content.{content_of, content_text}
 use Rattle.definition_block.specs.Tree.{is_some_line}
-use Rattle.definition_block.specs.Definitions.{Cut, cut_into, cut_after, cut_most, defined}
+use Rattle.definition_block.specs.Definitions.{Cut, cut_into, cut_after, cut_most, definition_lines}
 use Rattle.definition_inline.specs.Definition.{definition_at}
 use Rattle.block_rows.specs.ParagraphLines.{AreLines}
 use Rattle.block_rows.proofs.DefinitionLines.{cut_enough}
@@ -24,7 +24,7 @@ cut_none (line ∷ others) none = ap (λ o. cut_after o (line ∷ others) (cut_m
 
 -- a definition, and those of the lines after it
 pub cut_one : (content : List ℕ) (ls : List BlockLine) (end : DefinitionEnd) (h : EndsAt content ls end)
-    → cut_all ls ≡ cut_into (join (defined h.read (take end.lines ls)) (cut_all (drop end.lines ls)).definitions) (cut_all (drop end.lines ls)).left
+    → cut_all ls ≡ cut_into (join (definition_lines h.read (take end.lines ls)) (cut_all (drop end.lines ls)).definitions) (cut_all (drop end.lines ls)).left
 cut_one content [] end h = absurd (none-some h.read h.found)
 cut_one content (line ∷ others) end h =
     let ls = line ∷ others in
@@ -32,8 +32,9 @@ cut_one content (line ∷ others) end h =
     let n = h.some in
     let rest = length-drop end.lines ls in
     ap (λ o. cut_after o ls (cut_most (length others))) h.found
-    ∙ ap (λ count. cut_into (join (defined h.read (take count ls)) (cut_most (length others) (drop count ls)).definitions) (cut_most (length others) (drop count ls)).left) (sym h.count)
-    ∙ ap (λ (more : Cut). cut_into (join (defined h.read (take end.lines ls)) more.definitions) more.left)
+    ∙ ap (λ count. cut_into (join (definition_lines h.read (take count ls)) (cut_most (length others) (drop count ls)).definitions)
+    (cut_most (length others) (drop count ls)).left) (sym h.count)
+    ∙ ap (λ (more : Cut). cut_into (join (definition_lines h.read (take end.lines ls)) more.definitions) more.left)
     (cut_enough (length others) (length left) left h.clean (omega (arith, rest, n)) (omega arith))
 
 -- ---- after some of them
@@ -44,7 +45,8 @@ pub record LeftOver (content : List ℕ) (ls : List BlockLine) (at first : ℕ) 
   pub rest : drop at content ≡ content_text (drop first ls)
   pub same : (cut_all ls).left ≡ (cut_all (drop first ls)).left
 
-pub left_after : (content : List ℕ) (ls : List BlockLine) (at first : ℕ) (end : DefinitionEnd) → LeftOver content ls at first → EndsAt (drop at content) (drop first ls) end
+pub left_after : (content : List ℕ) (ls : List BlockLine) (at first : ℕ) (end : DefinitionEnd) → LeftOver content ls at first
+    → EndsAt (drop at content) (drop first ls) end
     → LeftOver content ls (at + end.bytes) (first + end.lines)
 left_after content ls at first end k h =
     let lines = drop-drop end.lines first ls in

@@ -25,14 +25,16 @@ read_spaced : (content : List ℕ) (ls : List BlockLine) → AreLines ls → con
 read_spaced content ls h is =
     ap definition_at (ap content_codes is ∙ content_is ls h) ∙ definition_renamed code_byte code_byte-renames (content_of (own_lines ls))
 
-pub not_found : (content : List ℕ) (ls : List BlockLine) → AreLines ls → content ≡ content_text ls → definition_at (content_codes content) ≡ None → definition_at (content_of (own_lines ls)) ≡ None
+pub not_found : (content : List ℕ) (ls : List BlockLine) → AreLines ls → content ≡ content_text ls → definition_at (content_codes content) ≡ None
+    → definition_at (content_of (own_lines ls)) ≡ None
 not_found content ls h is none = go (definition_at (content_of (own_lines ls))) (sym none ∙ read_spaced content ls h is)
   where
     go : (o : Option Definition) → None ≡ option_map (renamed_definition code_byte) o → o ≡ None
     go None e = refl
     go (Some d) e = absurd (none-some (renamed_definition code_byte d) e)
 
-found : (content : List ℕ) (ls : List BlockLine) → AreLines ls → content ≡ content_text ls → (read : Definition) → definition_at (content_codes content) ≡ Some read
+found : (content : List ℕ) (ls : List BlockLine) → AreLines ls → content ≡ content_text ls → (read : Definition)
+    → definition_at (content_codes content) ≡ Some read
     → (d : Definition) × (definition_at (content_of (own_lines ls)) ≡ Some d) × (renamed_definition code_byte d ≡ read)
 found content ls h is read some = go (definition_at (content_of (own_lines ls))) refl (sym some ∙ read_spaced content ls h is)
   where
@@ -68,10 +70,12 @@ ended content rest ls h is bytes rest_bytes read some after =
     let left = content_text (drop (suc m) ls) in
     let whole : content ≡ split.front ++ left = is ∙ split.same in
     let left_bytes : AreBytes left =
-    subst AreBytes (ap (drop (length split.front)) whole ∙ drop-append (length split.front) split.front left refl) (later_bytes (length split.front) content bytes) in
+    subst AreBytes (ap (drop (length split.front)) whole ∙ drop-append (length split.front) split.front left refl)
+    (later_bytes (length split.front) content bytes) in
     let after_is : content_of (own_lines (drop (suc m) ls)) ≡ d.rest = ap (λ x. content_of (own_lines (drop x ls))) next ∙ cuts.after in
     let same : rest ≡ left =
-    same_bytes rest left rest_bytes left_bytes (after ∙ sym (ap (λ x. x.rest) here.2) ∙ sym (content_is (drop (suc m) ls) clean ∙ ap (map code_byte) after_is)) in
+    same_bytes rest left rest_bytes left_bytes (after ∙ sym (ap (λ x. x.rest) here.2)
+    ∙ sym (content_is (drop (suc m) ls) clean ∙ ap (map code_byte) after_is)) in
     let long = ap length whole ∙ length-append split.front left in
     let short = ap length same in
     let bytes_are : length content - length rest ≡ length split.front = omega (arith, long, short) in

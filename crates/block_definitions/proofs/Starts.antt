@@ -72,7 +72,8 @@ plain_line (c ∷ cs) h = ((or_parts (ends_line c) (eqb c 257) h.0).0, plain_lin
 plain_codes : (text : List ℕ) → HaveNoEnding text → content_codes text ≡ text
 plain_codes text h = ap content_codes (sym (append-nil text)) ∙ codes_in_line text [] (plain_line text h) ∙ append-nil text
 
-pub may_begin_not : (pieces : List Piece) (p : Piece) → slice_get pieces 0 ≡ Some p → AreLines (piece_lines pieces) → begins_label (after_spaces (content_codes p.text.now)) ≡ false
+pub may_begin_not : (pieces : List Piece) (p : Piece) → slice_get pieces 0 ≡ Some p → AreLines (piece_lines pieces)
+    → begins_label (after_spaces (content_codes p.text.now)) ≡ false
     → definition_at (content_of (own_lines (piece_lines pieces))) ≡ None
 may_begin_not [] p first h none = absurd (none-some p first)
 may_begin_not (q ∷ others) p first h none =
@@ -80,9 +81,11 @@ may_begin_not (q ∷ others) p first h none =
     let text = q.text.now in
     let clean = owed_clean q.owed text (first_clean (piece_line q) (piece_lines others) h) in
     no_definition (piece_line q) (piece_lines others) h
-    (ap begins_label (owed_passed q.owed text ∙ ap after_spaces (sym (plain_codes text clean))) ∙ ap (λ (x : Piece). begins_label (after_spaces (content_codes x.text.now))) same ∙ none)
+    (ap begins_label (owed_passed q.owed text ∙ ap after_spaces (sym (plain_codes text clean)))
+    ∙ ap (λ (x : Piece). begins_label (after_spaces (content_codes x.text.now))) same ∙ none)
 
 -- what the first piece begins with
-pub first_begins : (pieces : List Piece) (p : Piece) → slice_get pieces 0 ≡ Some p → begins_label (after_spaces (content_codes p.text.now)) ≡ begins_with_bracket pieces
+pub first_begins : (pieces : List Piece) (p : Piece) → slice_get pieces 0 ≡ Some p
+    → begins_label (after_spaces (content_codes p.text.now)) ≡ begins_with_bracket pieces
 first_begins [] p first = absurd (none-some p first)
 first_begins (q ∷ others) p first = ap (λ (x : Piece). begins_label (after_spaces (content_codes x.text.now))) (sym (the_same q p first))

@@ -2,6 +2,7 @@
 use Rattle.std.specs.Prelude.{ℕ, Bool, false, ◌==◌, List, [], ◌∷◌, length}
 use Rattle.std.specs.List.{sum_by}
 use Rattle.block_rows.specs.declared.row.Piece.{Piece}
+use Rattle.definition_text.specs.Ascii.{left_bracket}
 use Rattle.definition_text.specs.BlockLines.{BlockLine}
 use Rattle.definition_text.specs.Content.{content_codes, line_text}
 use Rattle.definition_inline.specs.Space.{after_spaces}
@@ -16,7 +17,7 @@ total ls = sum_by room ls
 -- whether an opening bracket comes first
 abbrev pub begins_label : List ℕ → Bool
 begins_label [] = false
-begins_label (c ∷ cs) = c == 91
+begins_label (c ∷ cs) = c == left_bracket
 
 -- whether one comes first after the spaces and tabs of the first line
 abbrev pub begins_with_bracket : List Piece → Bool

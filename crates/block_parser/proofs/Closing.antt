@@ -1,15 +1,10 @@
 -- Closing what is open, seen from the innermost container.
-use Rattle.std.proofs.Common.{◌≡◌, ℕ, zero, suc, ◌+◌, ◌<◌, get_or, Option, List, [], ◌∷◌, ◌++◌, refl, sym, ap, ◌∙◌, subst, length, arith}
+use Rattle.std.proofs.Common.{◌≡◌, ℕ, zero, suc, ◌+◌, ◌<◌, get_or, List, [], ◌∷◌, ◌++◌, refl, sym, ap, ◌∙◌, subst, length, arith}
 use Rattle.std.proofs.lemmas.List.{length-append, length-map, map-append, get_or-map}
 use Rattle.markdown_options.specs.declared.configuration.Constructs.{Constructs}
 use Rattle.definition_block.specs.declared.container.Container.{Container as CodeContainer}
-use Rattle.definition_block.specs.Container.{Container, Quote}
-use Rattle.markdown_options.specs.declared.line_ending.LineEnding.{LineEnding}
-use Rattle.definition_text.specs.declared.beside.Beside.{Beside}
-use Rattle.definition_text.specs.Columns.{Rest}
-use Rattle.block_parser.specs.View.{beside_at}
 use Rattle.block_starts.specs.View.{container_view, container_views}
-use Rattle.definition_block.specs.Tree.{beside_in, kind_after, Blocks, join, OpenLeaf, Text, Opening, Leaf, Inside, Tree, close, close_leaf, after}
+use Rattle.definition_block.specs.Tree.{Blocks, join, OpenLeaf, Text, Opening, Leaf, Inside, Tree, close, close_leaf, after}
 use Rattle.block_parser.specs.Spine.{Level, level, Spine, spine, spine_at, spine_after, containers_of, without_innermost, without_innermost_at}
 use Rattle.block_parser.proofs.Trees.{join-assoc}
 
@@ -68,7 +63,8 @@ snoc-parts (a ∷ more) (b ∷ bs) x y h =
     let k = snoc-parts more bs x y tails in
     (ap (λ z. z ∷ more) heads ∙ ap (λ zs. b ∷ zs) k.0, k.1)
 
-pub popped : (l : Level) (ls : List Level) (old new : List CodeContainer) (c : CodeContainer) → container_views old ≡ containers_of (l ∷ ls) → old ≡ new ++ c ∷ []
+pub popped : (l : Level) (ls : List Level) (old new : List CodeContainer) (c : CodeContainer) → container_views old ≡ containers_of (l ∷ ls)
+    → old ≡ new ++ c ∷ []
     → (container_views new ≡ containers_of ls) × (container_view c ≡ l.container)
 popped l ls old new c is pop =
     snoc-parts (container_views new) (containers_of ls) (container_view c) l.container
@@ -76,24 +72,9 @@ popped l ls old new c is pop =
 
 -- ---- those that the parser keeps
 
-pub view_at : (cs : List CodeContainer) (i : ℕ) (d : CodeContainer) → i < length cs → d ≡ get_or cs i d → container_view d ≡ get_or (container_views cs) i (container_view d)
+pub view_at : (cs : List CodeContainer) (i : ℕ) (d : CodeContainer) → i < length cs → d ≡ get_or cs i d
+    → container_view d ≡ get_or (container_views cs) i (container_view d)
 view_at cs i d lt is = ap container_view is ∙ sym (get_or-map container_view cs i d (container_view d) lt)
-
-pub view_at_or : (cs : List CodeContainer) (i : ℕ) (d : CodeContainer) → i < length cs → d ≡ get_or cs i d → get_or (container_views cs) i Quote ≡ container_view d
-view_at_or cs i d lt is = get_or-map container_view cs i d Quote lt ∙ ap container_view (sym is)
-
-beside_ending : (cs : List Container) (depth : ℕ) (outer : Rest) (beside : Beside) → (beside_at cs depth outer beside).ending ≡ beside.ending
-beside_ending cs zero outer beside = refl
-beside_ending cs (suc depth) outer beside = refl
-
--- one container more
-pub beside_more : (cs : List Container) (depth : ℕ) (c : Container) (outer rest : Rest) (beside : Beside) → get_or cs depth Quote ≡ c
-    → beside_in c rest (beside_at cs depth outer beside) ≡ beside_at cs (depth + 1) rest beside
-beside_more cs depth c outer rest beside is =
-    let next : suc depth ≡ depth + 1 = omega arith in
-    ap (λ (e : Option LineEnding). record { before = kind_after c rest; ending = e }) (beside_ending cs depth outer beside)
-    ∙ ap (λ (x : Container). beside_in x rest beside) (sym is)
-    ∙ ap (λ n. beside_at cs n rest beside) next
 
 pub views_length : (cs : List CodeContainer) → length (container_views cs) ≡ length cs
 views_length cs = length-map cs container_view

@@ -1,5 +1,6 @@
 -- Definitions that are cut from the front of the open paragraph.
-use Rattle.std.proofs.Common.{◌≡◌, ◌∷◌, [], ◌<◌, ◌≤◌, ℕ, zero, suc, if◌then◌else◌, Bool, true, false, List, Option, None, Some, refl, sym, ap, ◌∙◌, subst, take, drop, length, arith}
+use Rattle.std.proofs.Common.{◌≡◌, ◌∷◌, [], ◌<◌, ◌≤◌, ℕ, zero, suc, if◌then◌else◌, Bool, true, false, List, Option, None, Some, refl, sym, ap, ◌∙◌, subst, take}
+use Rattle.std.proofs.Common.{drop, length, arith}
 use Rattle.std.proofs.lemmas.Bool.{cond-true, cond-false}
 use Rattle.std.proofs.lemmas.List.{length-map}
 use Rattle.markdown_options.specs.declared.line_ending.LineEnding.{LineEnding}
@@ -12,7 +13,7 @@ use Rattle.std.specs.Option.{option_map}
 use Rattle.definition_text.specs.Columns.{code_byte}
 use Rattle.definition_text.specs.Content.{content_of, content_text}
 use Rattle.definition_inline.specs.Definition.{definition, definition_at}
-use Rattle.definition_block.specs.Definitions.{Cut, cut_into, cut_most, cut, defined, lines_before}
+use Rattle.definition_block.specs.Definitions.{Cut, cut_into, cut_most, cut, definition_lines, lines_before}
 use Rattle.block_rows.specs.ParagraphLines.{AreLines}
 use Rattle.block_rows.specs.Rows.{Single, definition_on, definition_value, row_value, block_rows, piece_line, piece_lines}
 use Rattle.block_rows.proofs.DefinitionLines.{definition_cuts}
@@ -83,7 +84,8 @@ none_yet p content around kids ls h clean is = record {
 }
 
 -- where a definition ends, by equations
-pub ends_as : (content content2 : List ℕ) (ls ls2 : List BlockLine) (end : DefinitionEnd) → content ≡ content2 → ls2 ≡ ls → EndsAt content ls end → EndsAt content2 ls2 end
+pub ends_as : (content content2 : List ℕ) (ls ls2 : List BlockLine) (end : DefinitionEnd) → content ≡ content2 → ls2 ≡ ls → EndsAt content ls end
+    → EndsAt content2 ls2 end
 ends_as content content2 ls ls2 end c l h =
     subst (λ (x : List ℕ). EndsAt x ls2 end) c (subst (λ (x : List BlockLine). EndsAt content x end) (sym l) h)
 
@@ -105,15 +107,18 @@ row_of_definition content ls end clean h =
     let own = take count ls in
     let own_clean = first_lines count ls clean cuts.some in
     let read : definition_on own ≡ Some (renamed_definition code_byte (definition h.read.label h.read.destination h.read.title [])) =
-    ap definition_at (content_is own own_clean) ∙ definition_renamed code_byte code_byte-renames (content_of (own_lines own)) ∙ ap (option_map (renamed_definition code_byte)) cuts.again in
+    ap definition_at (content_is own own_clean) ∙ definition_renamed code_byte code_byte-renames (content_of (own_lines own))
+    ∙ ap (option_map (renamed_definition code_byte)) cuts.again in
     ap (λ o. Single (definition_value o) ∷ []) (sym read)
     ∙ ap (λ n. row_value (row.Definition n) ls ∷ []) (sym h.count)
 
-pub one_more : {A : Type 0} (p q : Parser A) (content : List ℕ) (around : List Level) (kids : Blocks) (ls : List BlockLine) (k : Cutting p content around kids ls) (end : DefinitionEnd)
-    (h : EndsAt content k.left end) → HasRead q (spine around (join (join kids k.definitions) (defined h.read (take end.lines k.left))) (Text (drop end.lines k.left)))
+pub one_more : {A : Type 0} (p q : Parser A) (content : List ℕ) (around : List Level) (kids : Blocks) (ls : List BlockLine)
+    (k : Cutting p content around kids ls) (end : DefinitionEnd)
+    (h : EndsAt content k.left end) → HasRead q (spine around (join (join kids k.definitions) (definition_lines h.read (take end.lines k.left)))
+    (Text (drop end.lines k.left)))
     → Cutting q (drop end.bytes content) around kids ls
 one_more p q content around kids ls k end h reads =
-    let more = defined h.read (take end.lines k.left) in
+    let more = definition_lines h.read (take end.lines k.left) in
     let others = cut_all (drop end.lines k.left) in
     record {
       definitions = join k.definitions more;
@@ -127,9 +132,12 @@ one_more p q content around kids ls k end h reads =
     }
 
 -- no more
-pub all_cut : {A : Type 0} (on : Constructs) (p : Parser A) (content : List ℕ) (around : List Level) (kids : Blocks) (ls : List BlockLine) (k : Cutting p content around kids ls)
-    → on.definition ≡ true → definition_at (content_of (own_lines k.left)) ≡ None → HasRead p (spine around (join kids (cut on ls).definitions) (Text (cut on ls).left))
+pub all_cut : {A : Type 0} (on : Constructs) (p : Parser A) (content : List ℕ) (around : List Level) (kids : Blocks) (ls : List BlockLine)
+    (k : Cutting p content around kids ls)
+    → on.definition ≡ true → definition_at (content_of (own_lines k.left)) ≡ None
+    → HasRead p (spine around (join kids (cut on ls).definitions) (Text (cut on ls).left))
 all_cut on p content around kids ls k is none =
     subst (λ (x : Cut). HasRead p (spine around (join kids x.definitions) (Text x.left)))
-    (ap (λ (bs : Blocks). cut_into bs k.left) (sym (join-nil k.definitions)) ∙ ap (λ (x : Cut). cut_into (join k.definitions x.definitions) x.left) (sym (cut_none k.left none)) ∙ sym k.same ∙ sym (cut_on on ls is))
+    (ap (λ (bs : Blocks). cut_into bs k.left) (sym (join-nil k.definitions))
+    ∙ ap (λ (x : Cut). cut_into (join k.definitions x.definitions) x.left) (sym (cut_none k.left none)) ∙ sym k.same ∙ sym (cut_on on ls is))
     k.reads

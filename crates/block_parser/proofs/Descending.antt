@@ -1,5 +1,6 @@
 -- A line in the containers that are open.
-use Rattle.std.proofs.Common.{◌≡◌, ℕ, ◌+◌, ◌<◌, Bool, true, false, ◌&&◌, ◌==◌, List, [], ◌∷◌, ◌++◌, Option, None, Some, refl, sym, ap, ◌∙◌, subst, length, get_or, take, arith}
+use Rattle.std.proofs.Common.{◌≡◌, ℕ, ◌+◌, ◌<◌, Bool, true, false, ◌&&◌, ◌==◌, List, [], ◌∷◌, ◌++◌, Option, None, Some, refl, sym, ap, ◌∙◌, subst, length}
+use Rattle.std.proofs.Common.{get_or, take, arith}
 use Rattle.std.proofs.lemmas.Bool.{ne_eqb, eq-eqb}
 use Rattle.std.proofs.lemmas.List.{append-nil}
 use Rattle.std.specs.Prelude.{map, if◌then◌else◌}
@@ -10,11 +11,14 @@ use Rattle.definition_block.specs.Container.{Container}
 use Rattle.block_rows.specs.declared.row.Row.{Row}
 use Rattle.block_rows.specs.declared.row.Row.TheVariants as row
 use Rattle.definition_text.specs.Columns.{Rest}
+use Rattle.definition_block.specs.ContainerLine.{ContainerLine}
 use Rattle.definition_block.specs.Containers.{continues}
 use Rattle.definition_block.specs.CodeFenced.{Fence}
 use Rattle.definition_inline.specs.Definition.{Definition as LinkDefinition}
 use Rattle.definition_text.specs.BlockLines.{BlockLine, last_ending_or}
-use Rattle.definition_block.specs.Tree.{Block, Paragraph, Heading, Break, IndentedCode, FencedCode, Html, Table, Definition, Holds, Items, Ending, Blank, Blocks, Nil, Cons, join, all_endings, front, trailing, Text, Indented, Fenced, OpenHtml, OpenTable, Opening, Leaf, Inside, Tree, beside_in, grow, goes_on, new, began_blank, is_nothing, is_one_blank}
+use Rattle.definition_block.specs.Tree.{Block, Paragraph, Heading, Break, IndentedCode, FencedCode, Html, Table, Definition, Holds, Items, Ending, Blank}
+use Rattle.definition_block.specs.Tree.{Blocks, Nil, Cons, join, all_endings, front, trailing, Text, Indented, Fenced, OpenHtml, OpenTable, Opening, Leaf}
+use Rattle.definition_block.specs.Tree.{Inside, Tree, beside_in, grow, goes_on, new, began_blank, is_nothing, is_one_blank}
 use Rattle.block_rows.specs.Rows.{definition_on, definition_value, BlockRow, Single, rows_of}
 use Rattle.block_parser.specs.Spine.{Level, level, Spine, spine, spine_at, spine_of, spine_after, containers_of}
 use Rattle.block_parser.specs.Waits.{is_one_blank_row}
@@ -33,7 +37,8 @@ abbrev inner_containers : Opening → List Container
 inner_containers (Leaf leaf) = []
 inner_containers (Inside c kids inner) = c ∷ inner_containers inner
 
-containers-at : (around : List Level) (kids : Blocks) (now : Opening) → containers_of (spine_at around kids now).around ≡ containers_of around ++ inner_containers now
+containers-at : (around : List Level) (kids : Blocks) (now : Opening) → containers_of (spine_at around kids now).around
+    ≡ containers_of around ++ inner_containers now
 containers-at around kids (Leaf leaf) = sym (append-nil (containers_of around))
 containers-at around kids (Inside c inner_kids inner) =
     containers-at (level c kids ∷ around) inner_kids inner ∙ append-one (containers_of around) c (inner_containers inner)
@@ -52,20 +57,26 @@ container-at around kids inner_kids c d inner =
 -- ---- one container more
 
 abbrev pub Began : Tree → ℕ → Bool → Type 0
-Began t depth b = (around : List Level) (kids inner_kids : Blocks) (c : Container) (inner : Opening) → depth ≡ length around → spine_at around kids (Inside c inner_kids inner) ≡ spine_of t → b ≡ began_blank inner_kids inner
+Began t depth b = (around : List Level) (kids inner_kids : Blocks) (c : Container) (inner : Opening) → depth ≡ length around
+    → spine_at around kids (Inside c inner_kids inner) ≡ spine_of t → b ≡ began_blank inner_kids inner
 
 module _ (on : Constructs) (beside : Beside) (line : Rest) (t : Tree) (depth : ℕ) (rest : Rest) (here : Beside) (containers : List Container)
-    (opened : containers ≡ containers_of (spine_of t).around) (lt : depth < length containers) (c : Container) (is : c ≡ get_or containers depth c) (b : Bool) (began : Began t depth b) where
-  goes-inside : (after : Rest) → continues on c b rest ≡ Some after → (around : List Level) (kids : Blocks) (now : Opening) → depth ≡ length around → spine_at around kids now ≡ spine_of t
-      → spine_after [] t.done (grow on beside t.now line) ≡ spine_after around kids (grow on here now rest) → Descent on beside line t 0 (depth + 1) after (beside_in c rest here)
-  goes-inside after h around kids (Leaf leaf) deep same grows =
+    (opened : containers ≡ containers_of (spine_of t).around) (lt : depth < length containers) (c : Container) (is : c ≡ get_or containers depth c) (b : Bool)
+    (began : Began t depth b) where
+  goes-inside : (left : ContainerLine) → continues on c b rest ≡ Some left → (around : List Level) (kids : Blocks) (now : Opening) → depth ≡ length around
+      → spine_at around kids now ≡ spine_of t
+      → spine_after [] t.done (grow on beside t.now line) ≡ spine_after around kids (grow on here now rest)
+      → Descent on beside line t 0 (depth + 1) left.rest (beside_in left.before here)
+  goes-inside left h around kids (Leaf leaf) deep same grows =
       absurd (omega (arith, ap length opened, length-containers (spine_of t).around, ap (λ (s : Spine). length s.around) same))
-  goes-inside after h around kids (Inside inner_c inner_kids inner) deep same grows =
+  goes-inside left h around kids (Inside inner_c inner_kids inner) deep same grows =
       let same_c : c ≡ inner_c =
-      is ∙ ap (λ cs. get_or cs depth c) (opened ∙ ap (λ (s : Spine). containers_of s.around) (sym same)) ∙ ap (λ n. get_or (containers_of (spine_at around kids (Inside inner_c inner_kids inner)).around) n c) deep
+      is ∙ ap (λ cs. get_or cs depth c) (opened ∙ ap (λ (s : Spine). containers_of s.around) (sym same))
+      ∙ ap (λ n. get_or (containers_of (spine_at around kids (Inside inner_c inner_kids inner)).around) n c) deep
       ∙ container-at around kids inner_kids inner_c c inner in
-      let goes : continues on inner_c (began_blank inner_kids inner) rest ≡ Some after =
-      ap (λ x. continues on x (began_blank inner_kids inner) rest) (sym same_c) ∙ ap (λ x. continues on c x rest) (sym (began around kids inner_kids inner_c inner deep same)) ∙ h in
+      let goes : continues on inner_c (began_blank inner_kids inner) rest ≡ Some left =
+      ap (λ x. continues on x (began_blank inner_kids inner) rest) (sym same_c)
+      ∙ ap (λ x. continues on c x rest) (sym (began around kids inner_kids inner_c inner deep same)) ∙ h in
       record {
         around = level inner_c kids ∷ around;
         kids = inner_kids;
@@ -74,29 +85,41 @@ module _ (on : Constructs) (beside : Beside) (line : Rest) (t : Tree) (depth : �
         same = same;
         grows =
             grows
-            ∙ ap (λ o. spine_after around kids (goes_on o on inner_c inner_kids inner here rest (grow on (beside_in inner_c rest here) inner))) goes
-            ∙ ap (λ (bs : Blocks). spine_at (level inner_c bs ∷ around) (join inner_kids (grow on (beside_in inner_c rest here) inner after).done) (grow on (beside_in inner_c rest here) inner after).now) (join-nil kids)
-            ∙ ap (λ x. spine_after (level inner_c kids ∷ around) inner_kids (grow on (beside_in x rest here) inner after)) (sym same_c);
+            ∙ ap (λ o. spine_after around kids (goes_on o on inner_c inner_kids inner here rest (λ l. grow on (beside_in l.before here) inner l.rest))) goes
+            ∙ ap (λ (bs : Blocks). spine_at (level inner_c bs ∷ around) (join inner_kids (grow on (beside_in left.before here) inner left.rest).done)
+            (grow on (beside_in left.before here) inner left.rest).now) (join-nil kids);
         stuck = λ wrong. absurd (omega arith);
       }
 
-  pub goes_inside : (after : Rest) → continues on c b rest ≡ Some after → Descent on beside line t 0 depth rest here → Descent on beside line t 0 (depth + 1) after (beside_in c rest here)
-  goes_inside after h d = goes-inside after h d.around d.kids d.now d.deep d.same d.grows
+  pub goes_inside : (left : ContainerLine) → continues on c b rest ≡ Some left → Descent on beside line t 0 depth rest here
+      → Descent on beside line t 0 (depth + 1) left.rest (beside_in left.before here)
+  goes_inside left h d = goes-inside left h d.around d.kids d.now d.deep d.same d.grows
 
-  stays-outside : continues on c b rest ≡ None → (around : List Level) (kids : Blocks) (now : Opening) → depth ≡ length around → spine_at around kids now ≡ spine_of t
+  stays-outside : continues on c b rest ≡ None → (around : List Level) (kids : Blocks) (now : Opening) → depth ≡ length around
+      → spine_at around kids now ≡ spine_of t
       → grow on here now rest ≡ new (length rest) on false now here rest
   stays-outside h around kids (Leaf leaf) deep same =
       absurd (omega (arith, ap length opened, length-containers (spine_of t).around, ap (λ (s : Spine). length s.around) same))
   stays-outside h around kids (Inside inner_c inner_kids inner) deep same =
       let same_c : c ≡ inner_c =
-      is ∙ ap (λ cs. get_or cs depth c) (opened ∙ ap (λ (s : Spine). containers_of s.around) (sym same)) ∙ ap (λ n. get_or (containers_of (spine_at around kids (Inside inner_c inner_kids inner)).around) n c) deep
+      is ∙ ap (λ cs. get_or cs depth c) (opened ∙ ap (λ (s : Spine). containers_of s.around) (sym same))
+      ∙ ap (λ n. get_or (containers_of (spine_at around kids (Inside inner_c inner_kids inner)).around) n c) deep
       ∙ container-at around kids inner_kids inner_c c inner in
       let stops : continues on inner_c (began_blank inner_kids inner) rest ≡ None =
-      ap (λ x. continues on x (began_blank inner_kids inner) rest) (sym same_c) ∙ ap (λ x. continues on c x rest) (sym (began around kids inner_kids inner_c inner deep same)) ∙ h in
-      ap (λ o. goes_on o on inner_c inner_kids inner here rest (grow on (beside_in inner_c rest here) inner)) stops
+      ap (λ x. continues on x (began_blank inner_kids inner) rest) (sym same_c)
+      ∙ ap (λ x. continues on c x rest) (sym (began around kids inner_kids inner_c inner deep same)) ∙ h in
+      ap (λ o. goes_on o on inner_c inner_kids inner here rest (λ l. grow on (beside_in l.before here) inner l.rest)) stops
 
   pub stays_outside : continues on c b rest ≡ None → Descent on beside line t 0 depth rest here → Descent on beside line t (length containers) depth rest here
-  stays_outside h d = record { around = d.around; kids = d.kids; now = d.now; deep = d.deep; same = d.same; grows = d.grows; stuck = λ lt. stays-outside h d.around d.kids d.now d.deep d.same }
+  stays_outside h d = record {
+    around = d.around;
+    kids = d.kids;
+    now = d.now;
+    deep = d.deep;
+    same = d.same;
+    grows = d.grows;
+    stuck = λ lt. stays-outside h d.around d.kids d.now d.deep d.same;
+  }
 
 -- ---- whether a container began with a blank line
 
@@ -134,7 +157,8 @@ blank-rows (Cons b (Cons c bs)) = none b ∙ parts b c (all_endings (Cons b (Con
     none (Ending ending) = refl
     none (Blank ending) = refl
 
-    parts : (b c : Block) (x : Bool) → all_endings (Cons b (Cons c bs)) ≡ x → false ≡ (is_nil (if x then Nil else Cons b (front (Cons c bs))) && is_blank_rows (rows_of (if x then Cons b (Cons c bs) else trailing (Cons c bs))))
+    parts : (b c : Block) (x : Bool) → all_endings (Cons b (Cons c bs)) ≡ x
+        → false ≡ (is_nil (if x then Nil else Cons b (front (Cons c bs))) && is_blank_rows (rows_of (if x then Cons b (Cons c bs) else trailing (Cons c bs))))
     parts b c false h = refl
     parts (Ending e) (Ending f) true h = refl
     parts (Ending e) (Blank f) true h = refl
@@ -194,26 +218,37 @@ one-row (a ∷ b ∷ rows) = two a
     two (row.Blank ending) = refl
 
 -- only the innermost container can have begun so
-pub began_is : (rows waiting : List Row) (bare : Bool) (pool : List BlockLine) (containers : List Container) (around : List Level) (kids inner_kids : Blocks) (c : Container) (inner : Opening)
+pub began_is : (rows waiting : List Row) (bare : Bool) (pool : List BlockLine) (containers : List Container) (around : List Level) (kids inner_kids : Blocks)
+    (c : Container) (inner : Opening)
     → let s = spine_at around kids (Inside c inner_kids inner) in
     (left : List BlockLine) → Written rows waiting bare pool s.around s.kids left → containers ≡ containers_of s.around
     → ((length around + 1 == length containers) && is_nothing (Leaf s.leaf) && (bare && is_one_blank_row waiting)) ≡ began_blank inner_kids inner
 began_is rows waiting bare pool containers around kids inner_kids c (Leaf leaf) left h opened =
-    let last : (length around + 1 == length containers) ≡ true = eq-eqb (length around + 1) (length containers) (omega (arith, ap length opened, length-containers (level c kids ∷ around))) in
+    let last : (length around + 1 == length containers) ≡ true =
+    eq-eqb (length around + 1) (length containers) (omega (arith, ap length opened, length-containers (level c kids ∷ around))) in
     ap (λ x. x && is_nothing (Leaf leaf) && (bare && is_one_blank_row waiting)) last
     ∙ and-swap (is_nothing (Leaf leaf)) (bare && is_one_blank_row waiting)
     ∙ ap (λ x. x && is_nothing (Leaf leaf))
-    (ap (λ x. x && is_one_blank_row waiting) h.is_bare ∙ ap (λ x. is_nil (front inner_kids) && x) (one-row waiting ∙ ap is_blank_rows h.waiting_stand) ∙ sym (blank-rows inner_kids))
+    (ap (λ x. x && is_one_blank_row waiting) h.is_bare ∙ ap (λ x. is_nil (front inner_kids) && x) (one-row waiting ∙ ap is_blank_rows h.waiting_stand)
+    ∙ sym (blank-rows inner_kids))
 began_is rows waiting bare pool containers around kids inner_kids c (Inside inner_c others inner) left h opened =
     let more = length-around (level inner_c inner_kids ∷ (level c kids ∷ around)) others inner in
     let deeper : (length around + 1 == length containers) ≡ false =
-    ne_eqb (length around + 1) (length containers) (λ e. omega (arith, e, ap length opened, length-containers (spine_at around kids (Inside c inner_kids (Inside inner_c others inner))).around, more)) in
-    ap (λ x. x && is_nothing (Leaf (spine_at around kids (Inside c inner_kids (Inside inner_c others inner))).leaf) && (bare && is_one_blank_row waiting)) deeper
+    ne_eqb (length around + 1) (length containers) (λ e. omega (
+      arith,
+      e,
+      ap length opened,
+      length-containers (spine_at around kids (Inside c inner_kids (Inside inner_c others inner))).around,
+      more,
+    )) in
+    ap (λ x. x && is_nothing (Leaf (spine_at around kids (Inside c inner_kids (Inside inner_c others inner))).leaf) && (bare && is_one_blank_row waiting))
+    deeper
     ∙ sym (and-swap (is_one_blank inner_kids) false)
 
 -- ---- a line in all containers
 
-pub no_deeper : (containers : List Container) (around : List Level) (kids : Blocks) (now : Opening) → containers ≡ containers_of (spine_at around kids now).around → length containers ≡ length around → opening_depth now ≡ 0
+pub no_deeper : (containers : List Container) (around : List Level) (kids : Blocks) (now : Opening)
+    → containers ≡ containers_of (spine_at around kids now).around → length containers ≡ length around → opening_depth now ≡ 0
 no_deeper containers around kids now opened all =
     omega (arith, ap length opened, all, length-containers (spine_at around kids now).around, length-around around kids now)
 
@@ -227,7 +262,8 @@ module _ (P Q : Spine → Type 0) (on : Constructs) (e : Beside) (r : Rest) wher
   text_grows around kids (Leaf (OpenTable ls)) none is h = let wrong : InText ≡ InTable _ = is in cc
   text_grows around kids (Inside c inner_kids inner) none is h = absurd (omega (arith, none))
 
-  pub table_grows : (last : Option LineEnding) (around : List Level) (kids : Blocks) (now : Opening) → opening_depth now ≡ 0 → InTable last ≡ state_of (spine_at around kids now).leaf
+  pub table_grows : (last : Option LineEnding) (around : List Level) (kids : Blocks) (now : Opening) → opening_depth now ≡ 0
+      → InTable last ≡ state_of (spine_at around kids now).leaf
       → Q (spine_after around kids (new (length r) on true now e r)) → Q (spine_after around kids (grow on e now r))
   table_grows last around kids (Leaf (Text ls)) none is h = let wrong : InTable last ≡ InText = is in cc
   table_grows last around kids (Leaf (Indented ls pending)) none is h = let wrong : InTable last ≡ InIndented _ _ = is in cc
@@ -236,8 +272,10 @@ module _ (P Q : Spine → Type 0) (on : Constructs) (e : Beside) (r : Rest) wher
   table_grows last around kids (Leaf (OpenTable ls)) none is h = h
   table_grows last around kids (Inside c inner_kids inner) none is h = absurd (omega (arith, none))
 
-  pub indented_grows : ((around : List Level) (kids : Blocks) (ls pending : List BlockLine) → P (spine around kids (Indented ls pending)) → Q (spine_after around kids (leaf_grown on e r (Leaf (Indented ls pending)))))
-      → (count : ℕ) (last : Option LineEnding) (around : List Level) (kids : Blocks) (now : Opening) → opening_depth now ≡ 0 → InIndented count last ≡ state_of (spine_at around kids now).leaf
+  pub indented_grows : ((around : List Level) (kids : Blocks) (ls pending : List BlockLine) → P (spine around kids (Indented ls pending))
+      → Q (spine_after around kids (leaf_grown on e r (Leaf (Indented ls pending)))))
+      → (count : ℕ) (last : Option LineEnding) (around : List Level) (kids : Blocks) (now : Opening) → opening_depth now ≡ 0
+      → InIndented count last ≡ state_of (spine_at around kids now).leaf
       → P (spine_at around kids now) → Q (spine_after around kids (grow on e now r))
   indented_grows grows count last around kids (Leaf (Text ls)) none is h = let wrong : InIndented count last ≡ InText = is in cc
   indented_grows grows count last around kids (Leaf (Indented ls pending)) none is h = grows around kids ls pending h
@@ -246,8 +284,10 @@ module _ (P Q : Spine → Type 0) (on : Constructs) (e : Beside) (r : Rest) wher
   indented_grows grows count last around kids (Leaf (OpenTable ls)) none is h = let wrong : InIndented count last ≡ InTable _ = is in cc
   indented_grows grows count last around kids (Inside c inner_kids inner) none is h = absurd (omega (arith, none))
 
-  pub fenced_grows : (f : Fence) → ((around : List Level) (kids : Blocks) (opening : Option LineEnding) (ls : List BlockLine) → P (spine around kids (Fenced f opening ls)) → Q (spine_after around kids (leaf_grown on e r (Leaf (Fenced f opening ls)))))
-      → (last : Option LineEnding) (around : List Level) (kids : Blocks) (now : Opening) → opening_depth now ≡ 0 → InFenced f last ≡ state_of (spine_at around kids now).leaf
+  pub fenced_grows : (f : Fence) → ((around : List Level) (kids : Blocks) (opening : Option LineEnding) (ls : List BlockLine)
+      → P (spine around kids (Fenced f opening ls)) → Q (spine_after around kids (leaf_grown on e r (Leaf (Fenced f opening ls)))))
+      → (last : Option LineEnding) (around : List Level) (kids : Blocks) (now : Opening) → opening_depth now ≡ 0
+      → InFenced f last ≡ state_of (spine_at around kids now).leaf
       → P (spine_at around kids now) → Q (spine_after around kids (grow on e now r))
   fenced_grows f grows last around kids (Leaf (Text ls)) none is h = let wrong : InFenced f last ≡ InText = is in cc
   fenced_grows f grows last around kids (Leaf (Indented ls pending)) none is h = let wrong : InFenced f last ≡ InIndented _ _ = is in cc
@@ -260,8 +300,10 @@ module _ (P Q : Spine → Type 0) (on : Constructs) (e : Beside) (r : Rest) wher
   fenced_grows f grows last around kids (Leaf (OpenTable ls)) none is h = let wrong : InFenced f last ≡ InTable _ = is in cc
   fenced_grows f grows last around kids (Inside c inner_kids inner) none is h = absurd (omega (arith, none))
 
-  pub html_grows : (kind : ℕ) → ((around : List Level) (kids : Blocks) (ls : List BlockLine) → P (spine around kids (OpenHtml kind ls)) → Q (spine_after around kids (leaf_grown on e r (Leaf (OpenHtml kind ls)))))
-      → (last : Option LineEnding) (around : List Level) (kids : Blocks) (now : Opening) → opening_depth now ≡ 0 → InHtml kind last ≡ state_of (spine_at around kids now).leaf
+  pub html_grows : (kind : ℕ) → ((around : List Level) (kids : Blocks) (ls : List BlockLine) → P (spine around kids (OpenHtml kind ls))
+      → Q (spine_after around kids (leaf_grown on e r (Leaf (OpenHtml kind ls)))))
+      → (last : Option LineEnding) (around : List Level) (kids : Blocks) (now : Opening) → opening_depth now ≡ 0
+      → InHtml kind last ≡ state_of (spine_at around kids now).leaf
       → P (spine_at around kids now) → Q (spine_after around kids (grow on e now r))
   html_grows kind grows last around kids (Leaf (Text ls)) none is h = let wrong : InHtml kind last ≡ InText = is in cc
   html_grows kind grows last around kids (Leaf (Indented ls pending)) none is h = let wrong : InHtml kind last ≡ InIndented _ _ = is in cc

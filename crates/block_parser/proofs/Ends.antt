@@ -1,11 +1,13 @@
 -- How a container ends: what of the endings at its end stands in it.
-use Rattle.std.proofs.Common.{◌≡◌, suc, ◌-◌, Bool, true, false, if◌then◌else◌, ◌&&◌, List, [], ◌∷◌, ◌++◌, refl, sym, ap, ◌∙◌, append_assoc, length, take, drop, arith}
+use Rattle.std.proofs.Common.{◌≡◌, suc, ◌-◌, Bool, true, false, if◌then◌else◌, ◌&&◌, List, [], ◌∷◌, ◌++◌, refl, sym, ap, ◌∙◌, append_assoc, length, take, drop}
+use Rattle.std.proofs.Common.{arith}
 use Rattle.std.specs.Prelude.{map}
 use Rattle.std.proofs.lemmas.Bool.{cond-true, and_parts}
 use Rattle.std.proofs.lemmas.List.{append-nil, take-map, drop-map, length-map}
 use Rattle.definition_block.specs.Container.{Container, Quote, Item, Footnote}
 use Rattle.block_rows.specs.declared.row.Row.{Row}
-use Rattle.definition_block.specs.Tree.{Block, Paragraph, Heading, Break, IndentedCode, FencedCode, Html, Table, Definition, Holds, Items, Ending, Blank, Blocks, Nil, Cons, join, one, is_ending, all_endings, front, trailing, without_last, last_of, holds}
+use Rattle.definition_block.specs.Tree.{Block, Paragraph, Heading, Break, IndentedCode, FencedCode, Html, Table, Definition, Holds, Items, Ending, Blank}
+use Rattle.definition_block.specs.Tree.{Blocks, Nil, Cons, join, one, is_ending, all_endings, front, trailing, without_last, last_of, holds}
 use Rattle.block_rows.specs.Rows.{BlockRow, Single, Exit, start_row, block_rows, rows_of}
 use Rattle.block_parser.specs.Waits.{inside, outside}
 use Rattle.block_parser.specs.Shows.{lone}
@@ -59,15 +61,18 @@ without-front : (bs : Blocks) → rows_of (without_last bs) ≡ rows_of (front b
 without-front Nil = refl
 without-front (Cons b Nil) = single (is_ending b) refl
   where
-    single : (x : Bool) → is_ending b ≡ x → rows_of (if x then Nil else one b) ≡ rows_of (if x && true then Nil else one b) ++ rows_of (without_last (if x && true then one b else Nil))
+    single : (x : Bool) → is_ending b ≡ x → rows_of (if x then Nil else one b)
+        ≡ rows_of (if x && true then Nil else one b) ++ rows_of (without_last (if x && true then one b else Nil))
     single true h = sym (ap (λ (y : Bool). rows_of (if y then Nil else one b)) h)
     single false h = sym (append-nil (rows_of (one b)))
 without-front (Cons b (Cons c bs)) = parts (all_endings (Cons b (Cons c bs))) (without-front (Cons c bs))
   where
     parts : (x : Bool) → rows_of (without_last (Cons c bs)) ≡ rows_of (front (Cons c bs)) ++ rows_of (without_last (trailing (Cons c bs)))
-        → rows_of (Cons b (without_last (Cons c bs))) ≡ rows_of (if x then Nil else Cons b (front (Cons c bs))) ++ rows_of (without_last (if x then Cons b (Cons c bs) else trailing (Cons c bs)))
+        → rows_of (Cons b (without_last (Cons c bs))) ≡ rows_of (if x then Nil else Cons b (front (Cons c bs)))
+        ++ rows_of (without_last (if x then Cons b (Cons c bs) else trailing (Cons c bs)))
     parts true h = refl
-    parts false h = ap (λ x. block_rows b ++ x) h ∙ sym (append_assoc (block_rows b) (rows_of (front (Cons c bs))) (rows_of (without_last (trailing (Cons c bs)))))
+    parts false h = ap (λ x. block_rows b ++ x) h
+        ∙ sym (append_assoc (block_rows b) (rows_of (front (Cons c bs))) (rows_of (without_last (trailing (Cons c bs)))))
 
 last-trailing : (bs : Blocks) → last_of bs ≡ last_of (trailing bs)
 last-trailing Nil = refl
@@ -78,7 +83,8 @@ last-trailing (Cons b Nil) = single (is_ending b) refl
     single false h = refl
 last-trailing (Cons b (Cons c bs)) = parts (all_endings (Cons b (Cons c bs))) (last-trailing (Cons c bs))
   where
-    parts : (x : Bool) → last_of (Cons c bs) ≡ last_of (trailing (Cons c bs)) → last_of (Cons c bs) ≡ last_of (if x then Cons b (Cons c bs) else trailing (Cons c bs))
+    parts : (x : Bool) → last_of (Cons c bs) ≡ last_of (trailing (Cons c bs))
+        → last_of (Cons c bs) ≡ last_of (if x then Cons b (Cons c bs) else trailing (Cons c bs))
     parts true h = refl
     parts false h = h
 
@@ -137,7 +143,8 @@ inside-rows Quote kids waiting h =
     let count : length (rows_of (trailing kids)) - 1 ≡ n = ap (λ (x : List BlockRow). length x - 1) (sym h) ∙ ap (λ m. m - 1) (length-map waiting lone) in
     ap (λ x. start_row Quote ∷ (x ++ Exit ∷ []))
     (without-front kids
-    ∙ ap (λ x. rows_of (front kids) ++ x) ((endings-last (trailing kids) (trailing-all kids)).0 ∙ ap (λ m. take m (rows_of (trailing kids))) count ∙ ap (take n) (sym h) ∙ take-map lone n waiting))
+    ∙ ap (λ x. rows_of (front kids) ++ x) ((endings-last (trailing kids) (trailing-all kids)).0 ∙ ap (λ m. take m (rows_of (trailing kids))) count
+    ∙ ap (take n) (sym h) ∙ take-map lone n waiting))
 inside-rows (Item item) kids waiting h = ap (λ x. start_row (Item item) ∷ (x ++ Exit ∷ [])) (sym (append-nil (rows_of (front kids))))
 inside-rows (Footnote label) kids waiting h = ap (λ x. start_row (Footnote label) ∷ (x ++ Exit ∷ [])) (sym (append-nil (rows_of (front kids))))
 
@@ -146,6 +153,7 @@ pub outside-rows : (c : Container) (kids : Blocks) (waiting : List Row) → map 
 outside-rows Quote kids waiting h =
     let n = length waiting - 1 in
     let count : length (rows_of (trailing kids)) - 1 ≡ n = ap (λ (x : List BlockRow). length x - 1) (sym h) ∙ ap (λ m. m - 1) (length-map waiting lone) in
-    sym (ap rows_of (last-trailing kids) ∙ (endings-last (trailing kids) (trailing-all kids)).1 ∙ ap (λ m. drop m (rows_of (trailing kids))) count ∙ ap (drop n) (sym h) ∙ drop-map lone n waiting)
+    sym (ap rows_of (last-trailing kids) ∙ (endings-last (trailing kids) (trailing-all kids)).1 ∙ ap (λ m. drop m (rows_of (trailing kids))) count
+    ∙ ap (drop n) (sym h) ∙ drop-map lone n waiting)
 outside-rows (Item item) kids waiting h = h
 outside-rows (Footnote label) kids waiting h = h

@@ -1,5 +1,6 @@
 -- A row of delimiters under the open paragraph, and the head above it.
-use Rattle.std.proofs.Common.{◌≡◌, ℕ, ◌<◌, ◌-◌, suc, Bool, true, false, if◌then◌else◌, ◌&&◌, ◌==◌, List, [], ◌∷◌, Option, None, Some, refl, sym, ap, ◌∙◌, get_or, length, arith}
+use Rattle.std.proofs.Common.{◌≡◌, ℕ, ◌<◌, ◌-◌, suc, Bool, true, false, if◌then◌else◌, ◌&&◌, ◌==◌, List, [], ◌∷◌, Option, None, Some, refl, sym, ap, ◌∙◌}
+use Rattle.std.proofs.Common.{get_or, length, arith}
 use Rattle.std.specs.Prelude.{unwrap_or}
 use Rattle.std.specs.List.{list_any}
 use Rattle.std.proofs.lemmas.Bool.{cond-false, cond_both}
@@ -10,14 +11,14 @@ use Rattle.definition_text.specs.Indents.{small_indent}
 use Rattle.definition_block.specs.declared.align_kind.AlignKind.{AlignKind}
 use Rattle.definition_block.specs.Definitions.{cut, cut_into, cut_most}
 use Rattle.definition_block.specs.GfmTable.{alignments_of, cells, delimiter_row, delimiters, is_bar_or_colon, is_head, line_cells, some_alignments}
-use Rattle.definition_block.specs.Tree.{Nil, Paragraph, Tree, ended, is_some_line, paragraph_of, table_if}
+use Rattle.definition_block.specs.Tree.{Nil, Paragraph, Tree, block_and_ending, is_some_line, paragraph_of, table_if}
 use Rattle.block_rows.specs.declared.row.Piece.{Piece}
 use Rattle.block_rows.specs.Rows.{piece_line, piece_lines}
 use Rattle.definition_text.specs.declared.beside.Kind.TheVariants.{Whitespace}
-use Rattle.block_parser.specs.GfmTable.{fits, table_left}
+use Rattle.block_parser.specs.GfmTable.{fits, table_from_cut}
 
 -- a paragraph of some lines
-pub paragraph_some : (ls : List BlockLine) → 0 < length ls → paragraph_of ls ≡ ended (Paragraph (own_lines ls)) (last_ending ls)
+pub paragraph_some : (ls : List BlockLine) → 0 < length ls → paragraph_of ls ≡ block_and_ending (Paragraph (own_lines ls)) (last_ending ls)
 paragraph_some [] some = absurd (omega arith)
 paragraph_some (line ∷ ls) some = refl
 
@@ -67,7 +68,7 @@ and-none false = refl
 module _ (on : Constructs) (row : BlockLine) where
   -- a table of these lines, where both hold
   abbrev pub table_where : Bool → List BlockLine → Option Tree
-  table_where made ls = if made then Some (table_left (cut on ls) row) else None
+  table_where made ls = if made then Some (table_from_cut (cut on ls) row) else None
 
   columns_fit : (o : Option (List AlignKind)) (ls : List BlockLine) → HasColumns o
       → table_if on o ls row ≡ table_where (fits (unwrap_or o []) ls && is_some_line (cut on ls).left) ls
@@ -77,7 +78,8 @@ module _ (on : Constructs) (row : BlockLine) where
 
   module _ (r : Rest) where
     -- a table, where the last line has a cell for each column and some line is left
-    pub row_fits : (ls : List BlockLine) → table_if on (delimiter_row on r) ls row ≡ table_where (fits (unwrap_or (delimiter_row on r) []) ls && is_some_line (cut on ls).left) ls
+    pub row_fits : (ls : List BlockLine) → table_if on (delimiter_row on r) ls row
+        ≡ table_where (fits (unwrap_or (delimiter_row on r) []) ls && is_some_line (cut on ls).left) ls
     row_fits ls = columns_fit (delimiter_row on r) ls (row_columns on r)
 
     pub fits_not : (columns : List AlignKind) (ls : List BlockLine) → columns ≡ unwrap_or (delimiter_row on r) [] → fits columns ls ≡ false
@@ -103,4 +105,5 @@ module _ (on : Constructs) (row : BlockLine) where
     -- tables are off
     pub tables_not : (ls : List BlockLine) → on.gfm_table ≡ false → table_if on (delimiter_row on r) ls row ≡ None
     tables_not ls off =
-        ap (λ o. table_if on o ls row) (cond-false (on.gfm_table && small_indent on r) (delimiters (bytes_of (bare r))) None (ap (λ b. b && small_indent on r) off))
+        ap (λ o. table_if on o ls row) (cond-false (on.gfm_table && small_indent on r) (delimiters (bytes_of (bare r))) None
+        (ap (λ b. b && small_indent on r) off))

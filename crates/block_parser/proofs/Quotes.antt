@@ -1,20 +1,23 @@
 -- Blank lines in items and footnote definitions, which all go on.
-use Rattle.std.proofs.Common.{◌≡◌, ℕ, zero, suc, ◌+◌, ◌-◌, ◌<◌, Bool, true, false, not, List, [], ◌∷◌, ◌++◌, Some, inl, inr, refl, sym, ap, ◌∙◌, subst, length, get_or, arith}
+use Rattle.std.proofs.Common.{◌≡◌, ℕ, zero, suc, ◌+◌, ◌-◌, ◌<◌, Bool, true, false, not, List, [], ◌∷◌, ◌++◌, Some, inl, inr, refl, sym, ap, ◌∙◌, subst, length}
+use Rattle.std.proofs.Common.{get_or, arith}
 use Rattle.std.proofs.Math.Seq.{drop-nil}
 use Rattle.std.proofs.lemmas.Bool.{cases_lt, cond-true, and_parts}
 use Rattle.std.proofs.lemmas.List.{get_or_append_left, get_or_default, length-append, map-append}
 use Rattle.markdown_options.specs.declared.configuration.Constructs.{Constructs}
 use Rattle.definition_text.specs.declared.beside.Beside.{Beside}
+use Rattle.definition_text.specs.declared.beside.Kind.TheVariants.{Whitespace}
 use Rattle.definition_text.specs.Columns.{Rest, is_white, is_blank, indent}
 use Rattle.definition_block.specs.declared.container.Container.{Container as CodeContainer}
 use Rattle.definition_block.specs.Container.{Container, Quote, Item, Footnote}
+use Rattle.definition_block.specs.ContainerLine.{container_line}
 use Rattle.definition_block.specs.Containers.{continues}
-use Rattle.definition_block.specs.Tree.{Blocks, Opening, Leaf, Inside, Tree, began_blank, is_one_blank}
+use Rattle.definition_block.specs.Tree.{Blocks, Opening, Leaf, Inside, Tree, beside_in, began_blank, is_one_blank}
 use Rattle.block_starts.specs.View.{container_view, container_views}
 use Rattle.block_parser.specs.Spine.{Level, Spine, spine_at, spine_of, containers_of}
 use Rattle.block_parser.specs.Quotes.{is_quote, NoQuoteFrom, NoneBeganBlank}
-use Rattle.block_parser.specs.View.{Descent, beside_at}
-use Rattle.block_parser.proofs.Closing.{beside_more, length-containers}
+use Rattle.block_parser.specs.View.{Descent}
+use Rattle.block_parser.proofs.Closing.{length-containers}
 use Rattle.block_parser.proofs.Descending.{get-append, goes_inside, and-swap}
 
 pub empty_rest : (r : Rest) → is_blank r ≡ true → 0 ≡ indent r → r ≡ []
@@ -40,12 +43,14 @@ no_quote_before n cs is h = λ k from to. elim (cases_lt n k) [
   | inr past ↦ let here : k ≡ n = omega (arith, from, past) in ap (λ i. is_quote (get_or cs i Quote)) here ∙ is
 ]
 
-pub popped : (n : ℕ) (old new : List CodeContainer) (c : CodeContainer) → old ≡ new ++ c ∷ [] → NoQuoteFrom n (container_views old) → NoQuoteFrom n (container_views new)
+pub popped : (n : ℕ) (old new : List CodeContainer) (c : CodeContainer) → old ≡ new ++ c ∷ [] → NoQuoteFrom n (container_views old)
+    → NoQuoteFrom n (container_views new)
 popped n old new c is h =
     no_quote_less n (container_views new) (container_view c)
     (subst (λ (cs : List Container). NoQuoteFrom n cs) (ap container_views is ∙ map-append container_view new (c ∷ [])) h)
 
-pub pushed : (n : ℕ) (old new : List CodeContainer) (c : CodeContainer) → new ≡ old ++ c ∷ [] → NoQuoteFrom n (container_views old ++ container_view c ∷ []) → NoQuoteFrom n (container_views new)
+pub pushed : (n : ℕ) (old new : List CodeContainer) (c : CodeContainer) → new ≡ old ++ c ∷ [] → NoQuoteFrom n (container_views old ++ container_view c ∷ [])
+    → NoQuoteFrom n (container_views new)
 pushed n old new c is h = subst (λ (cs : List Container). NoQuoteFrom n cs) (sym (ap container_views is ∙ map-append container_view old (c ∷ []))) h
 
 pub not_true : (b : Bool) → not b ≡ true → b ≡ false
@@ -55,7 +60,8 @@ not_true false h = refl
 -- ---- only the innermost container can have begun with a blank line
 
 pub none_began : (t : Tree) (containers : List Container) → containers ≡ containers_of (spine_of t).around
-    → ((around : List Level) (kids inner_kids : Blocks) (c : Container) (inner : Opening) → length containers ≡ length around + 1 → spine_at around kids (Inside c inner_kids inner) ≡ spine_of t → began_blank inner_kids inner ≡ false)
+    → ((around : List Level) (kids inner_kids : Blocks) (c : Container) (inner : Opening) → length containers ≡ length around + 1
+    → spine_at around kids (Inside c inner_kids inner) ≡ spine_of t → began_blank inner_kids inner ≡ false)
     → NoneBeganBlank t
 none_began t containers opened last around kids inner_kids c (Leaf leaf) same =
     last around kids inner_kids c (Leaf leaf)
@@ -64,32 +70,42 @@ none_began t containers opened last around kids inner_kids c (Inside inner_c oth
 
 -- ---- an empty rest in containers without quotes
 
-module _ (on : Constructs) (beside : Beside) (line : Rest) (t : Tree) (containers : List Container) (opened : containers ≡ containers_of (spine_of t).around) (none : NoneBeganBlank t) where
-  goes-on : (c : Container) → is_quote c ≡ false → continues on c false [] ≡ Some []
+module _ (on : Constructs) (beside : Beside) (line : Rest) (t : Tree) (containers : List Container) (opened : containers ≡ containers_of (spine_of t).around)
+    (none : NoneBeganBlank t) where
+  goes-on : (c : Container) → is_quote c ≡ false → continues on c false [] ≡ Some (container_line [] Whitespace)
   goes-on Quote h = let wrong : true ≡ false = h in cc
-  goes-on (Item item) h = ap (λ r. Some r) (drop-nil item.size)
+  goes-on (Item item) h = ap (λ r. Some (container_line r Whitespace)) (drop-nil item.size)
   goes-on (Footnote label) h = refl
 
-  one-more : (depth : ℕ) (outer : Rest) → depth < length containers → NoQuoteFrom depth containers
-      → Descent on beside line t 0 depth [] (beside_at containers depth outer beside) → Descent on beside line t 0 (depth + 1) [] (beside_at containers (depth + 1) [] beside)
-  one-more depth outer lt quotes d =
+  one-more : (depth : ℕ) (here : Beside) → depth < length containers → NoQuoteFrom depth containers
+      → Descent on beside line t 0 depth [] here → Descent on beside line t 0 (depth + 1) [] (beside_in Whitespace here)
+  one-more depth here lt quotes d =
       let c = get_or containers depth Quote in
-      subst (λ (b : Beside). Descent on beside line t 0 (depth + 1) [] b) (beside_more containers depth c outer [] beside refl)
-      (goes_inside on beside line t depth [] (beside_at containers depth outer beside) containers opened lt c (get_or_default containers depth Quote c lt) false
+      goes_inside on beside line t depth [] here containers opened lt c (get_or_default containers depth Quote c lt) false
       (λ around kids inner_kids holder inner deep same. sym (none around kids inner_kids holder inner same))
-      [] (goes-on c (quotes depth (omega arith) lt)) d)
+      (container_line [] Whitespace) (goes-on c (quotes depth (omega arith) lt)) d
 
-  all-from : (n depth : ℕ) → depth + n ≡ length containers → NoQuoteFrom depth containers
-      → Descent on beside line t 0 depth [] (beside_at containers depth [] beside) → Descent on beside line t 0 (length containers) [] (beside_at containers (length containers) [] beside)
-  all-from zero depth e quotes d =
+  all-from : (n depth : ℕ) (here : Beside) → depth + n ≡ length containers → NoQuoteFrom depth containers
+      → Descent on beside line t 0 depth [] (beside_in Whitespace here) → Descent on beside line t 0 (length containers) [] (beside_in Whitespace here)
+  all-from zero depth here e quotes d =
       let same : depth ≡ length containers = omega (arith, e) in
-      subst (λ m. Descent on beside line t 0 m [] (beside_at containers m [] beside)) same d
-  all-from (suc n) depth e quotes d =
-      all-from n (depth + 1) (omega (arith, e)) (λ k from to. quotes k (omega (arith, from)) to) (one-more depth [] (omega (arith, e)) quotes d)
+      subst (λ m. Descent on beside line t 0 m [] (beside_in Whitespace here)) same d
+  all-from (suc n) depth here e quotes d =
+      all-from n (depth + 1) here (omega (arith, e)) (λ k from to. quotes k (omega (arith, from)) to)
+      (one-more depth (beside_in Whitespace here) (omega (arith, e)) quotes d)
 
-  pub all_go_on : (depth : ℕ) (outer : Rest) → depth < length containers → NoQuoteFrom depth containers
-      → Descent on beside line t 0 depth [] (beside_at containers depth outer beside)
-      → Descent on beside line t (length containers) (length containers) [] (beside_at containers (length containers) [] beside)
-  all_go_on depth outer lt quotes d =
-      let all = all-from (length containers - (depth + 1)) (depth + 1) (omega (arith, lt)) (λ k from to. quotes k (omega (arith, from)) to) (one-more depth outer lt quotes d) in
-      record { around = all.around; kids = all.kids; now = all.now; deep = all.deep; same = all.same; grows = all.grows; stuck = λ wrong. absurd (omega (arith, wrong)) }
+  pub all_go_on : (depth : ℕ) (here : Beside) → depth < length containers → NoQuoteFrom depth containers
+      → Descent on beside line t 0 depth [] here
+      → Descent on beside line t (length containers) (length containers) [] (beside_in Whitespace here)
+  all_go_on depth here lt quotes d =
+      let all = all-from (length containers - (depth + 1)) (depth + 1) here (omega (arith, lt)) (λ k from to. quotes k (omega (arith, from)) to)
+      (one-more depth here lt quotes d) in
+      record {
+        around = all.around;
+        kids = all.kids;
+        now = all.now;
+        deep = all.deep;
+        same = all.same;
+        grows = all.grows;
+        stuck = λ wrong. absurd (omega (arith, wrong));
+      }

@@ -11,7 +11,8 @@ use Rattle.definition_text.specs.Columns.{bytes_of}
 use Rattle.definition_text.specs.BlockLines.{BlockLine, own_lines}
 use Rattle.definition_block.specs.Tree.{Paragraph, Heading, IndentedCode, FencedCode, Html, Table}
 use Rattle.block_parser.specs.Shows.{lone}
-use Rattle.block_rows.specs.Rows.{whole_lines, definition_on, definition_value, BlockRow, Single, RowsValue, rows_value, value_with, show_row, row_value, row_size, rows_size, piece_line, piece_lines}
+use Rattle.block_rows.specs.Rows.{whole_lines, definition_on, definition_value, BlockRow, Single, RowsValue, rows_value, value_with, show_row, row_value}
+use Rattle.block_rows.specs.Rows.{row_size, rows_size, piece_line, piece_lines}
 
 -- ---- more lines beside the rows
 
@@ -90,22 +91,26 @@ pool_more rows pool s l le h = shown_longer rows [] pool (l ∷ []) le ∙ ap (�
 
 -- ---- more rows
 
-pub one_row_shown : (rows : List Row) (pool : List BlockLine) (r : Row) (s : RowsValue) → rows_value rows pool ≡ s → rows_value (rows ++ r ∷ []) pool ≡ show_row s r
+pub one_row_shown : (rows : List Row) (pool : List BlockLine) (r : Row) (s : RowsValue) → rows_value rows pool ≡ s
+    → rows_value (rows ++ r ∷ []) pool ≡ show_row s r
 one_row_shown rows pool r s h = fold_push show_row (value_with [] pool) rows r ∙ ap (λ x. show_row x r) h
 
 -- a row that takes no lines shows the same whatever is left
 none_taken : (r : Row) (left : List BlockLine) → row_size r ≡ 0 → row_value r left ≡ lone r
-none_taken (row.Paragraph n) left h = ap (λ (k : ℕ). Single (Paragraph (own_lines (take k left)))) h ∙ sym (ap (λ (k : ℕ). Single (Paragraph (own_lines (take k [])))) h)
+none_taken (row.Paragraph n) left h =
+    ap (λ (k : ℕ). Single (Paragraph (own_lines (take k left)))) h ∙ sym (ap (λ (k : ℕ). Single (Paragraph (own_lines (take k [])))) h)
 none_taken (row.Heading rank) left h = absurd (omega (arith, h))
 none_taken (row.WholeParagraph n) left h = absurd (omega (arith, h))
-none_taken (row.SetextHeading rank n) left h = ap (λ (k : ℕ). Single (Heading rank (own_lines (take k left)))) h ∙ sym (ap (λ (k : ℕ). Single (Heading rank (own_lines (take k [])))) h)
+none_taken (row.SetextHeading rank n) left h =
+    ap (λ (k : ℕ). Single (Heading rank (own_lines (take k left)))) h ∙ sym (ap (λ (k : ℕ). Single (Heading rank (own_lines (take k [])))) h)
 none_taken (row.Html n) left h = ap (λ (k : ℕ). Single (Html (own_lines (take k left)))) h ∙ sym (ap (λ (k : ℕ). Single (Html (own_lines (take k [])))) h)
 none_taken (row.Table n) left h = ap (λ (k : ℕ). Single (Table (own_lines (take k left)))) h ∙ sym (ap (λ (k : ℕ). Single (Table (own_lines (take k [])))) h)
 none_taken (row.Definition n) left h =
     ap (λ (k : ℕ). Single (definition_value (definition_on (take k left)))) h
     ∙ sym (ap (λ (k : ℕ). Single (definition_value (definition_on (take k [])))) h)
 none_taken row.Break left h = refl
-none_taken (row.IndentedCode n) left h = ap (λ (k : ℕ). Single (IndentedCode (own_lines (take k left)))) h ∙ sym (ap (λ (k : ℕ). Single (IndentedCode (own_lines (take k [])))) h)
+none_taken (row.IndentedCode n) left h =
+    ap (λ (k : ℕ). Single (IndentedCode (own_lines (take k left)))) h ∙ sym (ap (λ (k : ℕ). Single (IndentedCode (own_lines (take k [])))) h)
 none_taken (row.FencedCode n) left h = absurd (omega (arith, h))
 none_taken (row.UnclosedCode n) left h = absurd (omega (arith, h))
 none_taken row.EnterQuote left h = refl
@@ -127,7 +132,8 @@ lone_shown (r ∷ rs) s h =
     ∙ ap (λ k. value_with ((s.rows ++ lone r ∷ []) ++ map lone rs) (drop k s.left)) first
     ∙ ap (λ out. value_with out s.left) (append_assoc s.rows (lone r ∷ []) (map lone rs))
 
-pub more_lone : (rows more : List Row) (pool : List BlockLine) (s : RowsValue) → rows_value rows pool ≡ s → rows_size more ≡ 0 → rows_value (rows ++ more) pool ≡ value_with (s.rows ++ map lone more) s.left
+pub more_lone : (rows more : List Row) (pool : List BlockLine) (s : RowsValue) → rows_value rows pool ≡ s → rows_size more ≡ 0
+    → rows_value (rows ++ more) pool ≡ value_with (s.rows ++ map lone more) s.left
 more_lone rows more pool s h none = fold-append show_row (value_with [] pool) rows more ∙ ap (λ x. fold show_row x more) h ∙ lone_shown more s none
 
 -- the lines that no row takes are cut off
@@ -145,5 +151,6 @@ cut_shown rows pool s le h =
     ap (λ out. value_with out (rows_value rows front).left) same ∙ ap (value_with s.rows) none
 
 -- one more piece
-pub piece_pushed : (old : List Piece) (p : Piece) (new : List Piece) (l : BlockLine) → new ≡ old ++ p ∷ [] → piece_line p ≡ l → piece_lines new ≡ piece_lines old ++ l ∷ []
+pub piece_pushed : (old : List Piece) (p : Piece) (new : List Piece) (l : BlockLine) → new ≡ old ++ p ∷ [] → piece_line p ≡ l
+    → piece_lines new ≡ piece_lines old ++ l ∷ []
 piece_pushed old p new l pushed is = ap piece_lines pushed ∙ map-append piece_line old (p ∷ []) ∙ ap (λ x. piece_lines old ++ x ∷ []) is

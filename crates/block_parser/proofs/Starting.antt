@@ -1,5 +1,6 @@
 -- Containers that start on a line.
-use Rattle.std.proofs.Common.{◌≡◌, ℕ, zero, suc, ◌+◌, ◌≤◌, ◌<◌, Bool, true, false, if◌then◌else◌, ◌&&◌, ◌||◌, ◌==◌, not, leb, List, [], ◌∷◌, Option, None, Some, refl, sym, ap, ◌∙◌, subst, length, drop, take, arith}
+use Rattle.std.proofs.Common.{◌≡◌, ℕ, zero, suc, ◌+◌, ◌≤◌, ◌<◌, Bool, true, false, if◌then◌else◌, ◌&&◌, ◌||◌, ◌==◌, not, leb, List, [], ◌∷◌, Option, None, Some}
+use Rattle.std.proofs.Common.{refl, sym, ap, ◌∙◌, subst, length, drop, take, arith}
 use Rattle.std.proofs.lemmas.List.{length-drop}
 use Rattle.std.specs.Prelude.{min}
 use Rattle.std.specs.List.{prefix_len}
@@ -8,15 +9,19 @@ use Rattle.definition_text.specs.declared.beside.Beside.{Beside}
 use Rattle.definition_block.specs.Container.{Container}
 use Rattle.definition_text.specs.Columns.{Rest, bare, indent}
 use Rattle.definition_text.specs.Indents.{small_indent}
-use Rattle.definition_block.specs.Started.{Started}
+use Rattle.definition_block.specs.ContainerLine.{ContainerLine}
+use Rattle.definition_block.specs.ContainerStart.{ContainerStart}
 use Rattle.definition_block.specs.ThematicBreak.{is_break}
 use Rattle.definition_block.specs.BlockQuote.{after_byte, after_mark, quote_prefix}
-use Rattle.definition_block.specs.ListItem.{Marker, marker_of, is_digit, number_of, bullet, delimiter, ordered, marker, gap, is_item, item, item_after, item_start}
+use Rattle.definition_block.specs.ListItem.{Marker, marker_of, is_digit, number_of, bullet, delimiter, ordered_marker, marker, gap, is_item, item, item_after}
+use Rattle.definition_block.specs.ListItem.{item_start}
 use Rattle.definition_text.specs.Content.{Part, may_escape, closed_by}
 use Rattle.definition_inline.specs.Label.{ends_label, label_end}
-use Rattle.definition_block.specs.GfmFootnoteDefinition.{is_footnote_label, label_before, with_colon, after_open, after_bracket, footnote_mark, footnote_of, footnote_start}
+use Rattle.definition_block.specs.GfmFootnoteDefinition.{is_footnote_label, label_before, with_colon, after_open, after_bracket, footnote_mark, footnote_of}
+use Rattle.definition_block.specs.GfmFootnoteDefinition.{footnote_start}
 use Rattle.definition_block.specs.Containers.{quote_or, footnote_or, starts}
-use Rattle.definition_block.specs.Tree.{Blocks, Nil, join, Opening, Inside, Tree, tree, nothing, after, has_text, leaf_line, beside_in, start, new, with_paragraph}
+use Rattle.definition_block.specs.Tree.{Blocks, Nil, join, Opening, Inside, Tree, tree, nothing, after, has_text, leaf_line, beside_in, start, new}
+use Rattle.definition_block.specs.Tree.{with_paragraph}
 use Rattle.definition_block.specs.Definitions.{cut_into, cut_most}
 use Rattle.block_parser.specs.Spine.{Level, level, spine_at, spine_after}
 use Rattle.block_parser.specs.View.{new_inside}
@@ -28,11 +33,15 @@ abbrev RestShorter : ℕ → Option Rest → Type 0
 RestShorter n None = Unit {0}
 RestShorter n (Some rest) = length rest < n
 
+abbrev LineShorter : ℕ → Option ContainerLine → Type 0
+LineShorter n None = Unit {0}
+LineShorter n (Some line) = length line.rest < n
+
 abbrev MarkerShorter : ℕ → Option Marker → Type 0
 MarkerShorter n None = Unit {0}
 MarkerShorter n (Some m) = length m.rest < n
 
-abbrev Shorter : ℕ → Option Started → Type 0
+abbrev Shorter : ℕ → Option ContainerStart → Type 0
 Shorter n None = Unit {0}
 Shorter n (Some s) = length s.rest < n
 
@@ -59,13 +68,13 @@ byte-shorter : (n byte : ℕ) (rest : Rest) → length rest ≤ n → RestShorte
 byte-shorter n byte [] le = tt
 byte-shorter n byte (code ∷ codes) le = choose_if (RestShorter n) (code == byte) (Some codes) None (λ h. omega (arith, le)) (λ h. tt)
 
-mark-shorter : (n : ℕ) (o : Option Rest) → RestShorter n o → RestShorter n (after_mark o)
+mark-shorter : (n : ℕ) (o : Option Rest) → RestShorter n o → LineShorter n (after_mark o)
 mark-shorter n None h = h
 mark-shorter n (Some rest) h = omega (arith, h, length-drop (min 1 (indent rest)) rest)
 
-quote-shorter : (on : Constructs) (rest : Rest) → RestShorter (length rest) (quote_prefix on rest)
+quote-shorter : (on : Constructs) (rest : Rest) → LineShorter (length rest) (quote_prefix on rest)
 quote-shorter on rest =
-    choose_if (RestShorter (length rest)) (on.block_quote && small_indent on rest) (after_mark (after_byte 62 (bare rest))) None
+    choose_if (LineShorter (length rest)) (on.block_quote && small_indent on rest) (after_mark (after_byte 62 (bare rest))) None
     (λ h. mark-shorter (length rest) (after_byte 62 (bare rest)) (byte-shorter (length rest) 62 (bare rest) (bare-shorter rest))) (λ h. tt)
 
 bullet-shorter : (n : ℕ) (rest : Rest) → length rest ≤ n → MarkerShorter n (bullet rest)
@@ -81,7 +90,7 @@ delimiter-shorter n number digits (code ∷ codes) le =
 marker-shorter : (n : ℕ) (rest : Rest) → length rest ≤ n → MarkerShorter n (marker rest)
 marker-shorter n rest le =
     let digits = prefix_len is_digit rest in
-    choose_if (MarkerShorter n) (digits == 0) (bullet rest) (ordered digits rest) (λ h. bullet-shorter n rest le)
+    choose_if (MarkerShorter n) (digits == 0) (bullet rest) (ordered_marker digits rest) (λ h. bullet-shorter n rest le)
     (λ h. choose_if (MarkerShorter n) (leb digits 9) (delimiter (number_of (take digits rest)) digits (drop digits rest)) None
     (λ k. delimiter-shorter n (number_of (take digits rest)) digits (drop digits rest) (omega (arith, le, length-drop digits rest))) (λ k. tt))
 
@@ -92,12 +101,13 @@ item-shorter n columns interrupts (Some m) h =
 
 item_start-shorter : (on : Constructs) (interrupts : Bool) (rest : Rest) → Shorter (length rest) (item_start on interrupts rest)
 item_start-shorter on interrupts rest =
-    choose_if (Shorter (length rest)) (on.list_item && small_indent on rest && not (is_break on rest)) (item_after (indent rest) interrupts (marker (bare rest))) None
+    choose_if (Shorter (length rest)) (on.list_item && small_indent on rest && not (is_break on rest))
+    (item_after (indent rest) interrupts (marker (bare rest))) None
     (λ h. item-shorter (length rest) (indent rest) interrupts (marker (bare rest)) (marker-shorter (length rest) (bare rest) (bare-shorter rest))) (λ h. tt)
 
-either-shorter : (n : ℕ) (other : Option Started) (o : Option Rest) → Shorter n other → RestShorter n o → Shorter n (quote_or other o)
+either-shorter : (n : ℕ) (other : Option ContainerStart) (o : Option ContainerLine) → Shorter n other → LineShorter n o → Shorter n (quote_or other o)
 either-shorter n other None h k = h
-either-shorter n other (Some rest) h k = k
+either-shorter n other (Some line) h k = k
 
 end-shorter : (n : ℕ) (escaped : Bool) (rest : Rest) → length rest ≤ n → RestWithin n (label_end escaped rest)
 end-shorter n escaped [] le = tt
@@ -123,7 +133,8 @@ colon-shorter n (Some label) h =
 open-shorter : (n : ℕ) (o : Option Rest) → RestShorter n o → PartShorter n (after_open o)
 open-shorter n None h = tt
 open-shorter n (Some rest) h = part-within n (length rest) (after_open (Some rest)) h
-    (colon-shorter (length rest) (closed_by rest (label_end false rest)) (closed-shorter (length rest) rest (label_end false rest) (end-shorter (length rest) false rest (omega arith))))
+    (colon-shorter (length rest) (closed_by rest (label_end false rest)) (closed-shorter (length rest) rest (label_end false rest)
+    (end-shorter (length rest) false rest (omega arith))))
 
 bracket-shorter : (n : ℕ) (o : Option Rest) → RestShorter n o → PartShorter n (after_bracket o)
 bracket-shorter n None h = tt
@@ -136,77 +147,86 @@ footnote_of-shorter n (Some mark) h = omega (arith, h, bare-shorter mark.rest)
 footnote-shorter : (on : Constructs) (rest : Rest) → Shorter (length rest) (footnote_start on rest)
 footnote-shorter on rest =
     choose_if (Shorter (length rest)) (on.gfm_footnote_definition && small_indent on rest) (footnote_of (footnote_mark (bare rest))) None
-    (λ h. footnote_of-shorter (length rest) (footnote_mark (bare rest)) (bracket-shorter (length rest) (after_byte 91 (bare rest)) (byte-shorter (length rest) 91 (bare rest) (bare-shorter rest))))
+    (λ h. footnote_of-shorter (length rest) (footnote_mark (bare rest)) (bracket-shorter (length rest) (after_byte 91 (bare rest))
+    (byte-shorter (length rest) 91 (bare rest) (bare-shorter rest))))
     (λ h. tt)
 
-footnote_or-shorter : (n : ℕ) (other o : Option Started) → Shorter n other → Shorter n o → Shorter n (footnote_or other o)
+footnote_or-shorter : (n : ℕ) (other o : Option ContainerStart) → Shorter n other → Shorter n o → Shorter n (footnote_or other o)
 footnote_or-shorter n other None h k = h
 footnote_or-shorter n other (Some footnote) h k = k
 
 starts-shorter : (on : Constructs) (interrupts : Bool) (rest : Rest) → Shorter (length rest) (starts on interrupts rest)
 starts-shorter on interrupts rest =
     either-shorter (length rest) (footnote_or (item_start on interrupts rest) (footnote_start on rest)) (quote_prefix on rest)
-    (footnote_or-shorter (length rest) (item_start on interrupts rest) (footnote_start on rest) (item_start-shorter on interrupts rest) (footnote-shorter on rest))
+    (footnote_or-shorter (length rest) (item_start on interrupts rest) (footnote_start on rest) (item_start-shorter on interrupts rest)
+    (footnote-shorter on rest))
     (quote-shorter on rest)
 
-pub start-shorter : (on : Constructs) (interrupts : Bool) (rest : Rest) (s : Started) → starts on interrupts rest ≡ Some s → length s.rest < length rest
+pub start-shorter : (on : Constructs) (interrupts : Bool) (rest : Rest) (s : ContainerStart) → starts on interrupts rest ≡ Some s → length s.rest < length rest
 start-shorter on interrupts rest s is = subst (Shorter (length rest)) is (starts-shorter on interrupts rest)
 
-starts-none : (on : Constructs) (interrupts : Bool) (o : Option Started) → Shorter 0 o → o ≡ None
+starts-none : (on : Constructs) (interrupts : Bool) (o : Option ContainerStart) → Shorter 0 o → o ≡ None
 starts-none on interrupts None h = refl
 starts-none on interrupts (Some s) h = absurd (omega (arith, h))
 
 -- ---- enough containers may start
 
 module _ (on : Constructs) where
-  start-same : (n : ℕ) (o : Option Started) (away : Opening) (other : Tree) (f g : Started → Tree) → Shorter n o
-      → ((s : Started) → length s.rest < n → f s ≡ g s) → start on o away other f ≡ start on o away other g
+  start-same : (n : ℕ) (o : Option ContainerStart) (away : Opening) (other : Tree) (f g : ContainerStart → Tree) → Shorter n o
+      → ((s : ContainerStart) → length s.rest < n → f s ≡ g s) → start on o away other f ≡ start on o away other g
   start-same n None away other f g h same = refl
   start-same n (Some s) away other f g h same = ap (λ (t : Tree). after on away (tree Nil (Inside s.container t.done t.now))) (same s h)
 
   -- what starts in the container that starts on a rest
-  abbrev inner_new : ℕ → Beside → Rest → Started → Tree
-  inner_new n beside rest s = new n on true nothing (beside_in s.container rest beside) s.rest
+  abbrev inner_new : ℕ → Beside → ContainerStart → Tree
+  inner_new n beside s = new n on true nothing (beside_in s.before beside) s.rest
 
   new-same : (m n : ℕ) (all : Bool) (away : Opening) (beside : Beside) (rest : Rest) → length rest ≤ m → length rest ≤ n
       → new m on all away beside rest ≡ new n on all away beside rest
   new-same zero zero all away beside rest h k = refl
   new-same zero (suc n) all away beside [] h k =
-      sym (ap (λ o. start on o away (leaf_line on away [] beside) (inner_new n beside [])) (starts-none on (all && has_text away) _ (starts-shorter on (all && has_text away) [])))
+      sym (ap (λ o. start on o away (leaf_line on away [] beside) (inner_new n beside))
+      (starts-none on (all && has_text away) _ (starts-shorter on (all && has_text away) [])))
   new-same zero (suc n) all away beside (code ∷ codes) h k = absurd (omega (arith, h))
   new-same (suc m) zero all away beside [] h k =
-      ap (λ o. start on o away (leaf_line on away [] beside) (inner_new m beside [])) (starts-none on (all && has_text away) _ (starts-shorter on (all && has_text away) []))
+      ap (λ o. start on o away (leaf_line on away [] beside) (inner_new m beside))
+      (starts-none on (all && has_text away) _ (starts-shorter on (all && has_text away) []))
   new-same (suc m) zero all away beside (code ∷ codes) h k = absurd (omega (arith, k))
   new-same (suc m) (suc n) all away beside rest h k =
-      start-same (length rest) (starts on (all && has_text away) rest) away (leaf_line on away rest beside) (inner_new m beside rest) (inner_new n beside rest)
+      start-same (length rest) (starts on (all && has_text away) rest) away (leaf_line on away rest beside) (inner_new m beside) (inner_new n beside)
       (starts-shorter on (all && has_text away) rest)
-      (λ s lt. new-same m n true nothing (beside_in s.container rest beside) s.rest (omega (arith, h, lt)) (omega (arith, k, lt)))
+      (λ s lt. new-same m n true nothing (beside_in s.before beside) s.rest (omega (arith, h, lt)) (omega (arith, k, lt)))
 
 module _ (on : Constructs) (beside : Beside) where
   -- no container starts
-  pub new_none : (n : ℕ) (all : Bool) (away : Opening) (rest : Rest) → starts on (all && has_text away) rest ≡ None → new n on all away beside rest ≡ leaf_line on away rest beside
+  pub new_none : (n : ℕ) (all : Bool) (away : Opening) (rest : Rest) → starts on (all && has_text away) rest ≡ None
+      → new n on all away beside rest ≡ leaf_line on away rest beside
   new_none zero all away rest h = refl
-  new_none (suc n) all away rest h = ap (λ o. start on o away (leaf_line on away rest beside) (inner_new on n beside rest)) h
+  new_none (suc n) all away rest h = ap (λ o. start on o away (leaf_line on away rest beside) (inner_new on n beside)) h
 
   -- a container starts
-  new-some : (n : ℕ) (all : Bool) (away : Opening) (rest : Rest) (s : Started) → length rest ≤ n → starts on (all && has_text away) rest ≡ Some s
-      → let t = new_inside on (beside_in s.container rest beside) s.rest in new n on all away beside rest ≡ after on away (tree Nil (Inside s.container t.done t.now))
+  new-some : (n : ℕ) (all : Bool) (away : Opening) (rest : Rest) (s : ContainerStart) → length rest ≤ n → starts on (all && has_text away) rest ≡ Some s
+      → let t = new_inside on (beside_in s.before beside) s.rest in
+      new n on all away beside rest ≡ after on away (tree Nil (Inside s.container t.done t.now))
   new-some zero all away rest s le h = absurd (omega (arith, le, start-shorter on (all && has_text away) rest s h))
   new-some (suc n) all away rest s le h =
-      ap (λ o. start on o away (leaf_line on away rest beside) (inner_new on n beside rest)) h
+      ap (λ o. start on o away (leaf_line on away rest beside) (inner_new on n beside)) h
       ∙ ap (λ (t : Tree). after on away (tree Nil (Inside s.container t.done t.now)))
-      (new-same on n (length s.rest) true nothing (beside_in s.container rest beside) s.rest (omega (arith, le, start-shorter on (all && has_text away) rest s h)) (omega arith))
+      (new-same on n (length s.rest) true nothing (beside_in s.before beside) s.rest
+      (omega (arith, le, start-shorter on (all && has_text away) rest s h)) (omega arith))
 
-  pub new_some : (all : Bool) (away : Opening) (rest : Rest) (s : Started) → starts on (all && has_text away) rest ≡ Some s
-      → let t = new_inside on (beside_in s.container rest beside) s.rest in new (length rest) on all away beside rest ≡ after on away (tree Nil (Inside s.container t.done t.now))
+  pub new_some : (all : Bool) (away : Opening) (rest : Rest) (s : ContainerStart) → starts on (all && has_text away) rest ≡ Some s
+      → let t = new_inside on (beside_in s.before beside) s.rest in
+      new (length rest) on all away beside rest ≡ after on away (tree Nil (Inside s.container t.done t.now))
   new_some all away rest s h = new-some (length rest) all away rest s (omega arith) h
 
   -- what is new is in the container that started
-  pub grown-inside : (around : List Level) (kids : Blocks) (c : Container) (t : Tree) → spine_after around kids (tree Nil (Inside c t.done t.now)) ≡ spine_after (level c kids ∷ around) Nil t
+  pub grown-inside : (around : List Level) (kids : Blocks) (c : Container) (t : Tree)
+      → spine_after around kids (tree Nil (Inside c t.done t.now)) ≡ spine_after (level c kids ∷ around) Nil t
   grown-inside around kids c t = ap (λ (bs : Blocks). spine_at (level c bs ∷ around) t.done t.now) (join-nil kids)
 
   -- nothing is closed where nothing is open
-  closed-nothing : (b : Bool) → with_paragraph (if b then cut_most 0 [] else cut_into Nil []) ≡ Nil
+  pub closed-nothing : (b : Bool) → with_paragraph (if b then cut_most 0 [] else cut_into Nil []) ≡ Nil
   closed-nothing true = refl
   closed-nothing false = refl
 
@@ -214,8 +234,10 @@ module _ (on : Constructs) (beside : Beside) where
   after-nothing t = ap (λ (bs : Blocks). tree (join bs t.done) t.now) (closed-nothing on.definition)
 
   -- one container more
-  pub inside_more : (around : List Level) (kids : Blocks) (rest : Rest) (s : Started) → starts on false rest ≡ Some s
-      → spine_after around kids (new_inside on beside rest) ≡ spine_after (level s.container kids ∷ around) Nil (new_inside on (beside_in s.container rest beside) s.rest)
+  pub inside_more : (around : List Level) (kids : Blocks) (rest : Rest) (s : ContainerStart) → starts on false rest ≡ Some s
+      → spine_after around kids (new_inside on beside rest) ≡ spine_after (level s.container kids ∷ around) Nil
+      (new_inside on (beside_in s.before beside) s.rest)
   inside_more around kids rest s is =
-      let t = new_inside on (beside_in s.container rest beside) s.rest in
-      ap (spine_after around kids) (new_some true nothing rest s is ∙ after-nothing (tree Nil (Inside s.container t.done t.now))) ∙ grown-inside around kids s.container t
+      let t = new_inside on (beside_in s.before beside) s.rest in
+      ap (spine_after around kids) (new_some true nothing rest s is ∙ after-nothing (tree Nil (Inside s.container t.done t.now)))
+      ∙ grown-inside around kids s.container t

@@ -1,11 +1,12 @@
 -- The steps of the definition, case by case.
-use Rattle.std.proofs.Common.{◌≡◌, ℕ, List, [], ◌∷◌, ◌++◌, Option, None, Some, Bool, if◌then◌else◌, true, false, not, ◌&&◌, ◌||◌, ◌==◌, refl, sym, ap, ◌∙◌, subst, length, arith}
+use Rattle.std.proofs.Common.{◌≡◌, ℕ, List, [], ◌∷◌, ◌++◌, Option, None, Some, Bool, if◌then◌else◌, true, false, not, ◌&&◌, ◌||◌, ◌==◌, refl, sym, ap, ◌∙◌}
+use Rattle.std.proofs.Common.{subst, length, arith}
 use Rattle.std.proofs.lemmas.Bool.{cond-true, cond-false, or_left, or_from}
 use Rattle.markdown_options.specs.declared.line_ending.LineEnding.{LineEnding}
 use Rattle.markdown_options.specs.declared.configuration.Constructs.{Constructs}
 use Rattle.definition_text.specs.declared.beside.Beside.{Beside}
 use Rattle.definition_text.specs.Columns.{Rest, is_blank}
-use Rattle.definition_text.specs.Indents.{outdented}
+use Rattle.definition_text.specs.Indents.{outdent}
 use Rattle.definition_block.specs.CodeIndented.{starts_code_indented}
 use Rattle.definition_block.specs.CodeFenced.{Fence, fence_start, is_fence_end, fence_line}
 use Rattle.definition_block.specs.MathFlow.{math_start}
@@ -18,10 +19,13 @@ use Rattle.definition_block.specs.ThematicBreak.{is_break}
 use Rattle.definition_block.specs.Definitions.{cut, cut_into, cut_most}
 use Rattle.block_rows.specs.ParagraphLines.{AreLines}
 use Rattle.definition_text.specs.BlockLines.{BlockLine, spaced_line, own_lines}
-use Rattle.definition_block.specs.Tree.{Heading, Break, FencedCode, Blank, Blocks, Nil, join, one, ended, OpenLeaf, Text, Indented, Fenced, OpenHtml, OpenTable, Opening, Leaf, Inside, Tree, tree, nothing, close, after, leaf_text, open_text, text_here, is_some_line, has_text, is_table_leaf, has_table, makes_table, with_line, rest_line, leaf_line, begun, or_fence, or_html, or_heading, html_with, break_or_text, text_line_of, taken, turns, underlined, heading_of, new}
+use Rattle.definition_block.specs.Tree.{Heading, Break, FencedCode, Blank, Blocks, Nil, join, one, block_and_ending, OpenLeaf, Text, Indented, Fenced, OpenHtml}
+use Rattle.definition_block.specs.Tree.{OpenTable, Opening, Leaf, Inside, Tree, tree, nothing, close, after, leaf_text, open_text, text_here, is_some_line}
+use Rattle.definition_block.specs.Tree.{has_text, is_table_leaf, has_table, makes_table, with_line, rest_line, leaf_line, begun, or_fence, or_html, or_heading}
+use Rattle.definition_block.specs.Tree.{html_with, break_or_text, text_line_of, tree_or, turns, heading_if, heading_of, new}
 use Rattle.block_parser.specs.Spine.{Level, level, Spine, spine, spine_at, spine_after}
 use Rattle.block_parser.specs.HeadingSetext.{IsText, heading_blocks, heading_tree}
-use Rattle.block_parser.specs.GfmTable.{table_left}
+use Rattle.block_parser.specs.GfmTable.{table_from_cut}
 use Rattle.block_parser.specs.View.{leaf_grown}
 use Rattle.block_parser.proofs.Trees.{join-nil}
 use Rattle.block_parser.proofs.Closing.{after_added, opening_depth}
@@ -33,46 +37,48 @@ module _ (on : Constructs) (e : Beside) (r : Rest) where
   other_line leaf = new (length r) on true (Leaf leaf) e r
 
   pub indented_blank : (ls pending : List BlockLine) → is_blank r ≡ true
-      → leaf_grown on e r (Leaf (Indented ls pending)) ≡ tree Nil (Leaf (Indented ls (pending ++ rest_line (outdented 4 r) e ∷ [])))
-  indented_blank ls pending h = ap (λ o. taken o (other_line (Indented ls pending))) (cond-true (is_blank r) _ _ h)
+      → leaf_grown on e r (Leaf (Indented ls pending)) ≡ tree Nil (Leaf (Indented ls (pending ++ rest_line (outdent 4 r) e ∷ [])))
+  indented_blank ls pending h = ap (λ o. tree_or o (other_line (Indented ls pending))) (cond-true (is_blank r) _ _ h)
 
   pub indented_code : (ls pending : List BlockLine) → is_blank r ≡ false → starts_code_indented on r ≡ true
-      → leaf_grown on e r (Leaf (Indented ls pending)) ≡ tree Nil (Leaf (Indented (ls ++ pending ++ rest_line (outdented 4 r) e ∷ []) []))
+      → leaf_grown on e r (Leaf (Indented ls pending)) ≡ tree Nil (Leaf (Indented (ls ++ pending ++ rest_line (outdent 4 r) e ∷ []) []))
   indented_code ls pending h k =
-      ap (λ o. taken o (other_line (Indented ls pending))) (cond-false (is_blank r) _ _ h ∙ cond-true (starts_code_indented on r) _ _ k)
+      ap (λ o. tree_or o (other_line (Indented ls pending))) (cond-false (is_blank r) _ _ h ∙ cond-true (starts_code_indented on r) _ _ k)
 
   pub indented_other : (ls pending : List BlockLine) → is_blank r ≡ false → starts_code_indented on r ≡ false
       → leaf_grown on e r (Leaf (Indented ls pending)) ≡ new (length r) on true (Leaf (Indented ls pending)) e r
   indented_other ls pending h k =
-      ap (λ o. taken o (other_line (Indented ls pending))) (cond-false (is_blank r) _ _ h ∙ cond-false (starts_code_indented on r) _ _ k)
+      ap (λ o. tree_or o (other_line (Indented ls pending))) (cond-false (is_blank r) _ _ h ∙ cond-false (starts_code_indented on r) _ _ k)
 
   pub fenced_end : (f : Fence) (opening : Option LineEnding) (ls : List BlockLine) → is_fence_end on f r ≡ true
-      → leaf_grown on e r (Leaf (Fenced f opening ls)) ≡ tree (ended (FencedCode f.info true ls) e.ending) nothing
-  fenced_end f opening ls h = ap (λ o. taken o (other_line (Fenced f opening ls))) (cond-true (is_fence_end on f r) _ _ h)
+      → leaf_grown on e r (Leaf (Fenced f opening ls)) ≡ tree (block_and_ending (FencedCode f.info true ls) e.ending) nothing
+  fenced_end f opening ls h = ap (λ o. tree_or o (other_line (Fenced f opening ls))) (cond-true (is_fence_end on f r) _ _ h)
 
   pub fenced_goes_on : (f : Fence) (opening : Option LineEnding) (ls : List BlockLine) → is_fence_end on f r ≡ false
       → leaf_grown on e r (Leaf (Fenced f opening ls)) ≡ tree Nil (Leaf (Fenced f opening (ls ++ rest_line (fence_line f r) e ∷ [])))
-  fenced_goes_on f opening ls h = ap (λ o. taken o (other_line (Fenced f opening ls))) (cond-false (is_fence_end on f r) _ _ h)
+  fenced_goes_on f opening ls h = ap (λ o. tree_or o (other_line (Fenced f opening ls))) (cond-false (is_fence_end on f r) _ _ h)
 
 -- ---- an HTML block takes a line
 
 module _ (on : Constructs) (e : Beside) (r : Rest) (kind : ℕ) (ls : List BlockLine) where
   pub html_goes_on : (ends_before_blank kind && is_blank r) ≡ false → leaf_grown on e r (Leaf (OpenHtml kind ls)) ≡ html_with kind ls r e
-  html_goes_on h = ap (λ o. taken o (new (length r) on true (Leaf (OpenHtml kind ls)) e r)) (cond-false (ends_before_blank kind && is_blank r) _ _ h)
+  html_goes_on h = ap (λ o. tree_or o (new (length r) on true (Leaf (OpenHtml kind ls)) e r)) (cond-false (ends_before_blank kind && is_blank r) _ _ h)
 
-  pub html_stops : (ends_before_blank kind && is_blank r) ≡ true → leaf_grown on e r (Leaf (OpenHtml kind ls)) ≡ new (length r) on true (Leaf (OpenHtml kind ls)) e r
-  html_stops h = ap (λ o. taken o (new (length r) on true (Leaf (OpenHtml kind ls)) e r)) (cond-true (ends_before_blank kind && is_blank r) _ _ h)
+  pub html_stops : (ends_before_blank kind && is_blank r) ≡ true → leaf_grown on e r (Leaf (OpenHtml kind ls))
+      ≡ new (length r) on true (Leaf (OpenHtml kind ls)) e r
+  html_stops h = ap (λ o. tree_or o (new (length r) on true (Leaf (OpenHtml kind ls)) e r)) (cond-true (ends_before_blank kind && is_blank r) _ _ h)
 
 -- ---- a line that the open leaf doesn't take
 
 -- a fence, or else another
-either_fence : (ending : Option LineEnding) (o p : Option Fence) (other : Option Tree) → or_fence ending o (or_fence ending p other) ≡ or_fence ending (option_or o p) other
+either_fence : (ending : Option LineEnding) (o p : Option Fence) (other : Option Tree)
+    → or_fence ending o (or_fence ending p other) ≡ or_fence ending (option_or o p) other
 either_fence ending None p other = refl
 either_fence ending (Some f) p other = refl
 
 module _ (on : Constructs) (away : Opening) (r : Rest) (e : Beside) where
   abbrev rest_of_leaves : Option Tree → Tree
-  rest_of_leaves o = begun on o away (taken (turns on away r e.ending) (break_or_text on away r e))
+  rest_of_leaves o = begun on o away (tree_or (turns on away r e.ending) (break_or_text on away r e))
 
   abbrev html_or_heading : Option ℕ → Option Tree
   html_or_heading o = or_html r e o (or_heading e.ending (heading_atx on r))
@@ -82,7 +88,7 @@ module _ (on : Constructs) (away : Opening) (r : Rest) (e : Beside) where
 
   module _ (h : is_blank r ≡ false) where
     pub indented_leaf : (starts_code_indented on r && not (has_text away)) ≡ true
-        → leaf_line on away r e ≡ after on away (tree Nil (Leaf (Indented (rest_line (outdented 4 r) e ∷ []) [])))
+        → leaf_line on away r e ≡ after on away (tree Nil (Leaf (Indented (rest_line (outdent 4 r) e ∷ []) [])))
     indented_leaf k = cond-false (is_blank r) _ _ h ∙ ap rest_of_leaves (cond-true (starts_code_indented on r && not (has_text away)) _ _ k)
 
     module _ (k : (starts_code_indented on r && not (has_text away)) ≡ false) where
@@ -90,7 +96,8 @@ module _ (on : Constructs) (away : Opening) (r : Rest) (e : Beside) where
       other_leaf : leaf_line on away r e ≡ rest_of_leaves (or_fence e.ending (opening_fence on r) (html_or_heading (html_start on (has_text away) r)))
       other_leaf =
           cond-false (is_blank r) _ _ h
-          ∙ ap rest_of_leaves (cond-false (starts_code_indented on r && not (has_text away)) _ _ k ∙ either_fence e.ending (fence_start on r) (math_start on r) _)
+          ∙ ap rest_of_leaves (cond-false (starts_code_indented on r && not (has_text away)) _ _ k
+          ∙ either_fence e.ending (fence_start on r) (math_start on r) _)
 
       pub fenced_leaf : (f : Fence) → opening_fence on r ≡ Some f → leaf_line on away r e ≡ after on away (tree Nil (Leaf (Fenced f e.ending [])))
       fenced_leaf f fence = other_leaf ∙ ap (λ o. rest_of_leaves (or_fence e.ending o (html_or_heading (html_start on (has_text away) r)))) fence
@@ -109,31 +116,31 @@ module _ (on : Constructs) (away : Opening) (r : Rest) (e : Beside) where
           heading_leaves = html_leaves ∙ ap (λ o. rest_of_leaves (html_or_heading o)) html
 
           pub heading_leaf : (atx : Atx) → heading_atx on r ≡ Some atx
-              → leaf_line on away r e ≡ after on away (tree (ended (Heading atx.rank (spaced_line atx.content None ∷ [])) e.ending) nothing)
+              → leaf_line on away r e ≡ after on away (tree (block_and_ending (Heading atx.rank (spaced_line atx.content None ∷ [])) e.ending) nothing)
           heading_leaf atx heading = heading_leaves ∙ ap (λ o. rest_of_leaves (or_heading e.ending o)) heading
 
           module _ (heading : heading_atx on r ≡ None) where
             -- and no heading
-            last_leaves : leaf_line on away r e ≡ taken (turns on away r e.ending) (break_or_text on away r e)
+            last_leaves : leaf_line on away r e ≡ tree_or (turns on away r e.ending) (break_or_text on away r e)
             last_leaves = heading_leaves ∙ ap (λ o. rest_of_leaves (or_heading e.ending o)) heading
 
             pub turned_leaf : (t : Tree) → turns on away r e.ending ≡ Some t → leaf_line on away r e ≡ t
-            turned_leaf t turned = last_leaves ∙ ap (λ o. taken o (break_or_text on away r e)) turned
+            turned_leaf t turned = last_leaves ∙ ap (λ o. tree_or o (break_or_text on away r e)) turned
 
             module _ (unturned : turns on away r e.ending ≡ None) where
-              pub break_leaf : is_break on r ≡ true → leaf_line on away r e ≡ after on away (tree (ended Break e.ending) nothing)
-              break_leaf b = last_leaves ∙ ap (λ o. taken o (break_or_text on away r e)) unturned ∙ cond-true (is_break on r) _ _ b
+              pub break_leaf : is_break on r ≡ true → leaf_line on away r e ≡ after on away (tree (block_and_ending Break e.ending) nothing)
+              break_leaf b = last_leaves ∙ ap (λ o. tree_or o (break_or_text on away r e)) unturned ∙ cond-true (is_break on r) _ _ b
 
               module _ (unbroken : is_break on r ≡ false) where
                 -- and no break
-                table_or_text : leaf_line on away r e ≡ taken (makes_table on away r e) (text_line_of on away r e)
-                table_or_text = last_leaves ∙ ap (λ o. taken o (break_or_text on away r e)) unturned ∙ cond-false (is_break on r) _ _ unbroken
+                table_or_text : leaf_line on away r e ≡ tree_or (makes_table on away r e) (text_line_of on away r e)
+                table_or_text = last_leaves ∙ ap (λ o. tree_or o (break_or_text on away r e)) unturned ∙ cond-false (is_break on r) _ _ unbroken
 
                 pub table_leaf : (t : Tree) → makes_table on away r e ≡ Some t → leaf_line on away r e ≡ t
-                table_leaf t made = table_or_text ∙ ap (λ o. taken o (text_line_of on away r e)) made
+                table_leaf t made = table_or_text ∙ ap (λ o. tree_or o (text_line_of on away r e)) made
 
                 pub text_leaf : makes_table on away r e ≡ None → leaf_line on away r e ≡ text_line_of on away r e
-                text_leaf unmade = table_or_text ∙ ap (λ o. taken o (text_line_of on away r e)) unmade
+                text_leaf unmade = table_or_text ∙ ap (λ o. tree_or o (text_line_of on away r e)) unmade
 
 -- ---- an underline
 
@@ -148,30 +155,31 @@ module _ (on : Constructs) (r : Rest) (e : Option LineEnding) where
   not_headed rank definitions (l ∷ ls) none = let wrong : true ≡ false = none in cc
 
   is_headed : (rank : ℕ) (definitions : Blocks) (left : List BlockLine) → is_some_line left ≡ true
-      → heading_of rank definitions left e ≡ Some (tree (join definitions (ended (Heading rank (own_lines left)) e)) nothing)
+      → heading_of rank definitions left e ≡ Some (tree (join definitions (block_and_ending (Heading rank (own_lines left)) e)) nothing)
   is_headed rank definitions [] some = let wrong : false ≡ true = some in cc
   is_headed rank definitions (l ∷ ls) some = refl
 
-  none_here : (o : Option ℕ) → underlined on o [] e ≡ None
+  none_here : (o : Option ℕ) → heading_if on o [] e ≡ None
   none_here None = refl
   none_here (Some rank) = not_headed rank (cut on []).definitions (cut on []).left (ap is_some_line (none_cut on.definition))
 
   pub turns_nothing : (away : Opening) → text_here away ≡ [] → turns on away r e ≡ None
-  turns_nothing away none = ap (λ ls. underlined on (underline on r) ls e) none ∙ none_here (underline on r)
+  turns_nothing away none = ap (λ ls. heading_if on (underline on r) ls e) none ∙ none_here (underline on r)
 
   pub turns_not : (away : Opening) → underline on r ≡ None → turns on away r e ≡ None
-  turns_not away is = ap (λ o. underlined on o (text_here away) e) is
+  turns_not away is = ap (λ o. heading_if on o (text_here away) e) is
 
   -- the definitions take the whole of it, or a heading of what is left
   pub turns_none : (ls : List BlockLine) (rank : ℕ) → underline on r ≡ Some rank → is_some_line (cut on ls).left ≡ false → turns on (Leaf (Text ls)) r e ≡ None
-  turns_none ls rank is none = ap (λ o. underlined on o ls e) is ∙ not_headed rank (cut on ls).definitions (cut on ls).left none
+  turns_none ls rank is none = ap (λ o. heading_if on o ls e) is ∙ not_headed rank (cut on ls).definitions (cut on ls).left none
 
   pub turns_some : (ls : List BlockLine) (rank : ℕ) → underline on r ≡ Some rank → is_some_line (cut on ls).left ≡ true
       → turns on (Leaf (Text ls)) r e ≡ heading_tree on (Some rank) (Leaf (Text ls)) e
-  turns_some ls rank is some = ap (λ o. underlined on o ls e) is ∙ is_headed rank (cut on ls).definitions (cut on ls).left some
+  turns_some ls rank is some = ap (λ o. heading_if on o ls e) is ∙ is_headed rank (cut on ls).definitions (cut on ls).left some
 
 -- whether a paragraph is open where all containers are
-pub here_or_not : (depth count : ℕ) (away : Opening) → (opening_depth away ≡ 0 → (depth == count) ≡ true) → ((depth == count) && has_text away) ≡ false → text_here away ≡ []
+pub here_or_not : (depth count : ℕ) (away : Opening) → (opening_depth away ≡ 0 → (depth == count) ≡ true) → ((depth == count) && has_text away) ≡ false
+    → text_here away ≡ []
 here_or_not depth count (Leaf leaf) last h = no_text (leaf_text leaf) (sym (ap (λ b. b && has_text (Leaf leaf)) (last refl)) ∙ h)
   where
     no_text : (ls : List BlockLine) → is_some_line ls ≡ false → ls ≡ []
@@ -179,7 +187,8 @@ here_or_not depth count (Leaf leaf) last h = no_text (leaf_text leaf) (sym (ap (
     no_text (l ∷ ls) k = let wrong : true ≡ false = k in cc
 here_or_not depth count (Inside c kids inner) last h = refl
 
-pub text_leaf_here : (P : Opening → Type 0) (away : Opening) → opening_depth away ≡ 0 → has_text away ≡ true → ((l : BlockLine) (ls : List BlockLine) → P (Leaf (Text (l ∷ ls)))) → P away
+pub text_leaf_here : (P : Opening → Type 0) (away : Opening) → opening_depth away ≡ 0 → has_text away ≡ true
+    → ((l : BlockLine) (ls : List BlockLine) → P (Leaf (Text (l ∷ ls)))) → P away
 text_leaf_here P (Leaf (Text [])) none some k = let wrong : false ≡ true = some in cc
 text_leaf_here P (Leaf (Text (l ∷ ls))) none some k = k l ls
 text_leaf_here P (Leaf (Indented ls pending)) none some k = let wrong : false ≡ true = some in cc
@@ -198,8 +207,10 @@ pub has_text_at : (around : List Level) (kids : Blocks) (away : Opening) → is_
 has_text_at around kids away = ap is_some_line (text_at around kids away)
 
 -- it goes on the paragraph that is open, in whatever containers
-module _ (P Q : Spine → Type 0) (l : BlockLine) (more : (around : List Level) (kids : Blocks) (ls : List BlockLine) → P (spine around kids (Text ls)) → Q (spine around kids (Text (ls ++ l ∷ [])))) where
-  longer_at : (around : List Level) (kids : Blocks) (away : Opening) → has_text away ≡ true → P (spine_at around kids away) → Q (spine_at around kids (with_line l away))
+module _ (P Q : Spine → Type 0) (l : BlockLine) (more : (around : List Level) (kids : Blocks) (ls : List BlockLine) → P (spine around kids (Text ls))
+    → Q (spine around kids (Text (ls ++ l ∷ [])))) where
+  longer_at : (around : List Level) (kids : Blocks) (away : Opening) → has_text away ≡ true → P (spine_at around kids away)
+      → Q (spine_at around kids (with_line l away))
   longer_at around kids (Leaf (Text ls)) some h = more around kids ls h
   longer_at around kids (Leaf (Indented ls pending)) some h = let wrong : false ≡ true = some in cc
   longer_at around kids (Leaf (Fenced f opening ls)) some h = let wrong : false ≡ true = some in cc
@@ -209,18 +220,23 @@ module _ (P Q : Spine → Type 0) (l : BlockLine) (more : (around : List Level) 
 
 pub goes_longer : (on : Constructs) (P Q : Spine → Type 0) (r : Rest) (e : Beside)
     → ((around : List Level) (kids : Blocks) (ls : List BlockLine) → P (spine around kids (Text ls)) → Q (spine around kids (Text (ls ++ rest_line r e ∷ []))))
-    → (around : List Level) (kids : Blocks) (away : Opening) → has_text away ≡ true → P (spine_at around kids away) → Q (spine_after around kids (text_line_of on away r e))
+    → (around : List Level) (kids : Blocks) (away : Opening) → has_text away ≡ true → P (spine_at around kids away)
+    → Q (spine_after around kids (text_line_of on away r e))
 goes_longer on P Q r e more around kids away some h =
     subst (λ (t : Tree). Q (spine_after around kids t)) (sym (cond-true (has_text away || has_table away) _ _ (or_left (has_text away) (has_table away) some)))
-    (subst (λ (bs : Blocks). Q (spine_at around bs (with_line (rest_line r e) away))) (sym (join-nil kids)) (longer_at P Q (rest_line r e) more around kids away some h))
+    (subst (λ (bs : Blocks). Q (spine_at around bs (with_line (rest_line r e) away))) (sym (join-nil kids))
+    (longer_at P Q (rest_line r e) more around kids away some h))
 
 -- or it is the first of one
-pub starts_text : (on : Constructs) (Q : Spine → Type 0) (r : Rest) (e : Beside) (around : List Level) (kids : Blocks) (away : Opening) → has_text away ≡ false → has_table away ≡ false
+pub starts_text : (on : Constructs) (Q : Spine → Type 0) (r : Rest) (e : Beside) (around : List Level) (kids : Blocks) (away : Opening) → has_text away ≡ false
+    → has_table away ≡ false
     → Q (spine around (join kids (close on away)) (Text (rest_line r e ∷ []))) → Q (spine_after around kids (text_line_of on away r e))
 starts_text on Q r e around kids away none no_table h =
     let t = tree Nil (Leaf (Text (rest_line r e ∷ []))) in
-    subst (λ (more : Tree). Q (spine_after around kids more)) (sym (cond-false (has_text away || has_table away) _ _ (or_from (has_text away) (has_table away) none no_table)))
-    (after_added on Q around kids away t (subst (λ (bs : Blocks). Q (spine around bs (Text (rest_line r e ∷ [])))) (sym (join-nil (join kids (close on away)))) h))
+    subst (λ (more : Tree). Q (spine_after around kids more))
+    (sym (cond-false (has_text away || has_table away) _ _ (or_from (has_text away) (has_table away) none no_table)))
+    (after_added on Q around kids away t (subst (λ (bs : Blocks). Q (spine around bs (Text (rest_line r e ∷ []))))
+    (sym (join-nil (join kids (close on away)))) h))
 
 -- whether a table is open where all containers are
 pub table_at : (around : List Level) (kids : Blocks) (away : Opening) → opening_depth away ≡ 0 → is_table_leaf (spine_at around kids away).leaf ≡ has_table away
@@ -233,8 +249,10 @@ no_table_at (Inside c kids inner) deeper = refl
 
 -- or a row of a table
 pub goes_row : (on : Constructs) (P Q : Spine → Type 0) (r : Rest) (e : Beside)
-    → ((around : List Level) (kids : Blocks) (ls : List BlockLine) → P (spine around kids (OpenTable ls)) → Q (spine_after around kids (tree Nil (Leaf (OpenTable (ls ++ rest_line r e ∷ []))))))
-    → (around : List Level) (kids : Blocks) (away : Opening) → has_table away ≡ true → P (spine_at around kids away) → Q (spine_after around kids (text_line_of on away r e))
+    → ((around : List Level) (kids : Blocks) (ls : List BlockLine) → P (spine around kids (OpenTable ls))
+    → Q (spine_after around kids (tree Nil (Leaf (OpenTable (ls ++ rest_line r e ∷ []))))))
+    → (around : List Level) (kids : Blocks) (away : Opening) → has_table away ≡ true → P (spine_at around kids away)
+    → Q (spine_after around kids (text_line_of on away r e))
 goes_row on P Q r e more around kids (Leaf (Text ls)) some h = let wrong : false ≡ true = some in cc
 goes_row on P Q r e more around kids (Leaf (Indented ls pending)) some h = let wrong : false ≡ true = some in cc
 goes_row on P Q r e more around kids (Leaf (Fenced f opening ls)) some h = let wrong : false ≡ true = some in cc
@@ -244,8 +262,10 @@ goes_row on P Q r e more around kids (Inside c inner_kids inner) some h = let wr
 
 -- a paragraph becomes a table
 pub tabled_here : (on : Constructs) (P Q : Spine → Type 0) (row : BlockLine)
-    → ((around : List Level) (kids : Blocks) (ls : List BlockLine) → AreLines ls → P (spine around kids (Text ls)) → Q (spine_after around kids (table_left (cut on ls) row)))
-    → (around : List Level) (kids : Blocks) (away : Opening) → IsText away → AreLines (open_text away) → P (spine_at around kids away) → Q (spine_after around kids (table_left (cut on (text_here away)) row))
+    → ((around : List Level) (kids : Blocks) (ls : List BlockLine) → AreLines ls → P (spine around kids (Text ls))
+    → Q (spine_after around kids (table_from_cut (cut on ls) row)))
+    → (around : List Level) (kids : Blocks) (away : Opening) → IsText away → AreLines (open_text away) → P (spine_at around kids away)
+    → Q (spine_after around kids (table_from_cut (cut on (text_here away)) row))
 tabled_here on P Q row reads around kids (Leaf (Text ls)) is clean h = reads around kids ls clean h
 tabled_here on P Q row reads around kids (Leaf (Indented ls pending)) is clean h = absurd is
 tabled_here on P Q row reads around kids (Leaf (Fenced f opening ls)) is clean h = absurd is
@@ -255,8 +275,10 @@ tabled_here on P Q row reads around kids (Inside c inner_kids inner) is clean h 
 
 -- a paragraph becomes a heading
 pub turned_here : (on : Constructs) (P Q : Spine → Type 0) (rank : ℕ) (e : Option LineEnding)
-    → ((around : List Level) (kids : Blocks) (ls : List BlockLine) → AreLines ls → P (spine around kids (Text ls)) → Q (spine around (join kids (heading_blocks on rank ls e)) (Text [])))
-    → (around : List Level) (kids : Blocks) (away : Opening) → IsText away → AreLines (open_text away) → P (spine_at around kids away) → Q (spine_after around kids (tree (heading_blocks on rank (text_here away) e) nothing))
+    → ((around : List Level) (kids : Blocks) (ls : List BlockLine) → AreLines ls → P (spine around kids (Text ls))
+    → Q (spine around (join kids (heading_blocks on rank ls e)) (Text [])))
+    → (around : List Level) (kids : Blocks) (away : Opening) → IsText away → AreLines (open_text away) → P (spine_at around kids away)
+    → Q (spine_after around kids (tree (heading_blocks on rank (text_here away) e) nothing))
 turned_here on P Q rank e reads around kids (Leaf (Text ls)) is clean h = reads around kids ls clean h
 turned_here on P Q rank e reads around kids (Leaf (Indented ls pending)) is clean h = absurd is
 turned_here on P Q rank e reads around kids (Leaf (Fenced f opening ls)) is clean h = absurd is

@@ -89,7 +89,8 @@ module _ (rows waiting : List Row) (bare : Bool) (pool : List BlockLine) (around
     }
 
 -- the end of a container
-pub with_exit : (rows waiting : List Row) (bare : Bool) (pool : List BlockLine) (around : List Level) (c : Container) (before kids : Blocks) (left : List BlockLine)
+pub with_exit : (rows waiting : List Row) (bare : Bool) (pool : List BlockLine) (around : List Level) (c : Container) (before kids : Blocks)
+    (left : List BlockLine)
     → Written rows waiting bare pool (level c before ∷ around) kids left → rows_size (inside c waiting) ≡ 0
     → Written ((rows ++ inside c waiting) ++ row.Exit ∷ []) (outside c waiting) false pool around (join before (holds c kids)) left
 with_exit rows waiting bare pool around c before kids left h none =
@@ -99,7 +100,8 @@ with_exit rows waiting bare pool around c before kids left h none =
       rows_stand =
           one_row_shown (rows ++ inside c waiting) pool row.Exit _ (more_lone rows (inside c waiting) pool _ h.rows_stand none)
           ∙ ap (λ out. value_with out left)
-          (ap (λ x. x ++ Exit ∷ []) (append_assoc (outer ++ start_row c ∷ []) (rows_of (front kids)) in_it ∙ append_assoc outer (start_row c ∷ []) (rows_of (front kids) ++ in_it))
+          (ap (λ x. x ++ Exit ∷ []) (append_assoc (outer ++ start_row c ∷ []) (rows_of (front kids)) in_it
+          ∙ append_assoc outer (start_row c ∷ []) (rows_of (front kids) ++ in_it))
           ∙ append_assoc outer (start_row c ∷ (rows_of (front kids) ++ in_it)) (Exit ∷ [])
           ∙ append_assoc (rows_around around) (rows_of before) (start_row c ∷ ((rows_of (front kids) ++ in_it) ++ Exit ∷ []))
           ∙ ap (λ x. rows_around around ++ x)

@@ -13,9 +13,9 @@ fits [] ls = false
 fits (align ∷ aligns) ls = is_head (length (align ∷ aligns)) ls
 
 -- a table, where a paragraph was cut after its definitions
-abbrev pub table_left : Cut → BlockLine → Tree
-table_left parts row = table_of parts.definitions parts.left row
+abbrev pub table_from_cut : Cut → BlockLine → Tree
+table_from_cut parts row = table_of parts.definitions parts.left row
 
 -- a table of the open paragraph, if it is one
 abbrev pub table_tree : Constructs → Bool → Opening → BlockLine → Option Tree
-table_tree on made away row = if made then Some (table_left (cut on (text_here away)) row) else None
+table_tree on made away row = if made then Some (table_from_cut (cut on (text_here away)) row) else None

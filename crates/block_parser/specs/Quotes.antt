@@ -15,4 +15,5 @@ NoQuoteFrom depth containers = (k : ℕ) → depth ≤ k → k < length containe
 
 -- no open container began with a blank line, and has nothing else
 abbrev pub NoneBeganBlank : Tree → Type 0
-NoneBeganBlank t = (around : List Level) (kids inner_kids : Blocks) (c : Container) (inner : Opening) → spine_at around kids (Inside c inner_kids inner) ≡ spine_of t → began_blank inner_kids inner ≡ false
+NoneBeganBlank t = (around : List Level) (kids inner_kids : Blocks) (c : Container) (inner : Opening)
+    → spine_at around kids (Inside c inner_kids inner) ≡ spine_of t → began_blank inner_kids inner ≡ false

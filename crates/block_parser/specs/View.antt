@@ -1,13 +1,12 @@
 -- What a parser has read.
-use Rattle.std.specs.Prelude.{◌≡◌, ℕ, zero, suc, ◌<◌, true, false, List, [], ◌∷◌, length, slice_index_or}
+use Rattle.std.specs.Prelude.{◌≡◌, ℕ, ◌<◌, true, false, List, [], ◌∷◌, length}
 use Rattle.markdown_options.specs.declared.configuration.Constructs.{Constructs}
 use Rattle.definition_text.specs.declared.beside.Beside.{Beside}
 use Rattle.definition_text.specs.declared.beside.Kind.{Kind}
 use Rattle.definition_text.specs.declared.beside.Kind.TheVariants.{Whitespace}
 use Rattle.definition_text.specs.Lines.{TextLine}
 use Rattle.definition_text.specs.Columns.{Rest}
-use Rattle.definition_block.specs.Container.{Container, Quote}
-use Rattle.definition_block.specs.Tree.{beside_in, Blocks, Nil, OpenLeaf, Text, Opening, Leaf, Inside, Tree, tree, nothing, open_text, new, leaf_line, grow}
+use Rattle.definition_block.specs.Tree.{Blocks, Nil, OpenLeaf, Text, Opening, Leaf, Inside, Tree, tree, nothing, open_text, new, leaf_line, grow}
 use Rattle.block_rows.specs.ParagraphLines.{AreLines}
 use Rattle.block_rows.specs.Rows.{piece_lines}
 use Rattle.block_starts.specs.View.{container_views}
@@ -47,11 +46,6 @@ Grows old new depth becomes =
 abbrev pub leaf_grown : Constructs → Beside → Rest → Opening → Tree
 leaf_grown on beside rest (Leaf leaf) = grow on beside (Leaf leaf) rest
 leaf_grown on beside rest (Inside c kids inner) = tree Nil (Inside c kids inner)
-
--- what stands beside a rest that so many of these containers leave, the last one of a rest that is given
-abbrev pub beside_at : List Container → ℕ → Rest → Beside → Beside
-beside_at containers zero outer beside = beside
-beside_at containers (suc depth) outer beside = beside_in (slice_index_or containers depth Quote) outer beside
 
 -- how far a line is in the containers that are open
 pub record Descent (on : Constructs) (beside : Beside) (line : Rest) (t : Tree) (count depth : ℕ) (rest : Rest) (here : Beside) : Type 0 where

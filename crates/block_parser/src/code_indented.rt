@@ -17,7 +17,7 @@ use std::alloc::{AllocError, Allocator};
 impl<'a, A: Allocator> Parser<'a, A> {
     ghost use Rattle.std.specs.Prelude.{◌≡◌, OnOk, List, Option, ◌≤◌, ◌+◌, ◌∷◌, [], length, vec_len};
     ghost use Rattle.markdown_options.specs.declared.line_ending.LineEnding.{LineEnding};
-    ghost use Rattle.definition_text.specs.Indents.{outdented};
+    ghost use Rattle.definition_text.specs.Indents.{outdent};
     ghost use Rattle.definition_text.specs.BlockLines.{BlockLine, last_ending};
     ghost use Rattle.definition_block.specs.Tree.{tree, Nil, close_leaf, Leaf as OpenedLeaf, Indented as IndentedLeaf, rest_line};
     ghost use Rattle.block_parser.specs.View.{Becomes, Closes, Adds, leaf_grown};
@@ -56,7 +56,7 @@ impl<'a, A: Allocator> Parser<'a, A> {
         rest: Cursor<'a>,
         beside: Beside,
     ) -> Result<(), AllocError>
-        ensures { OnOk result (Adds self.old self.new (tree Nil (OpenedLeaf (IndentedLeaf (rest_line (outdented 4 (rest_of rest.entry)) beside ∷ []) [])))) }
+        ensures { OnOk result (Adds self.old self.new (tree Nil (OpenedLeaf (IndentedLeaf (rest_line (outdent 4 (rest_of rest.entry)) beside ∷ []) [])))) }
     {
         self.pieces.push(piece(rest.outdented(4), beside))?;
         self.leaf = OpenLeaf::Indented {

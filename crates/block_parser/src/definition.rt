@@ -17,7 +17,7 @@ use std::alloc::{AllocError, Allocator};
 impl<'a, A: Allocator> Parser<'a, A> {
     ghost use Rattle.std.specs.Prelude.{◌≡◌, ◌≤◌, ◌+◌, ◌∷◌, [], true, false, List, OnOk, IfOk, drop, take, vec_len};
     ghost use Rattle.definition_text.specs.BlockLines.{BlockLine, last_ending};
-    ghost use Rattle.definition_block.specs.Tree.{Blocks, Block, Nil, Leaf as OpenedLeaf, tree, ended, is_ending, is_some_line, Text as TextLeaf};
+    ghost use Rattle.definition_block.specs.Tree.{Blocks, Block, Nil, Leaf as OpenedLeaf, tree, block_and_ending, is_ending, is_some_line, Text as TextLeaf};
     ghost use Rattle.definition_block.specs.Definitions.{cut, cut_into};
     ghost use Rattle.block_rows.specs.ParagraphLines.{AreLines};
     ghost use Rattle.block_rows.specs.declared.row.Row.TheVariants as row_variant;

@@ -31,7 +31,7 @@ impl<'a, A: Allocator> Parser<'a, A> {
     ghost use Rattle.definition_block.specs.Tree.{table_if, is_table_leaf, has_table};
     ghost use Rattle.block_rows.specs.ParagraphLines.{AreLines};
     ghost use Rattle.block_rows.specs.Rows.{piece_lines};
-    ghost use Rattle.block_parser.specs.GfmTable.{fits, table_left, table_tree};
+    ghost use Rattle.block_parser.specs.GfmTable.{fits, table_from_cut, table_tree};
     ghost use Rattle.block_parser.specs.HeadingSetext.{IsText};
     ghost use Rattle.block_parser.specs.Shows.{leaf_lines};
     ghost use Rattle.block_parser.specs.Spine.{Level, Spine, spine_at};
@@ -85,7 +85,7 @@ impl<'a, A: Allocator> Parser<'a, A> {
         beside: Beside,
     ) -> Result<(), AllocError>
         ensures { OnOk result ((ls : List BlockLine) → AreLines ls →
-            Becomes self.old self.new (TextLeaf ls) (table_left (cut on.now ls) (rest_line (rest_of rest.entry) beside))) }
+            Becomes self.old self.new (TextLeaf ls) (table_from_cut (cut on.now ls) (rest_line (rest_of rest.entry) beside))) }
     {
         self.cut_definitions(on)?;
         self.close_before_head()?;

@@ -24,11 +24,11 @@ const WHOLE_LINES_MIN: usize = 8;
 impl<'a, A: Allocator> Parser<'a, A> {
     ghost use Rattle.std.specs.Prelude.{◌≡◌, OnOk, List, true, false, drop, ◌+◌, ◌-◌, ◌++◌, ◌∷◌, [], length};
     ghost use Rattle.definition_text.specs.BlockLines.{BlockLine, own_lines};
-    ghost use Rattle.definition_block.specs.Tree.{Blocks, ended, close_leaf, paragraph_of, Paragraph as ParagraphBlock, Text as TextLeaf, rest_line};
+    ghost use Rattle.definition_block.specs.Tree.{Blocks, block_and_ending, close_leaf, paragraph_of, Paragraph as ParagraphBlock, Text as TextLeaf, rest_line};
     ghost use Rattle.block_rows.specs.ParagraphLines.{AreLines};
     ghost use Rattle.block_parser.specs.Spine.{Level, spine};
     ghost use Rattle.block_parser.specs.View.{Closes, HasRead};
-    ghost use Rattle.block_rows.specs.Rows.{piece_lines, whole_lines};
+    ghost use Rattle.block_rows.specs.Rows.{piece_line, piece_lines, whole_lines};
     ghost use Rattle.block_starts.specs.View.{rest_of};
 
     /// A line of text goes on the paragraph, or is its first.
@@ -36,10 +36,18 @@ impl<'a, A: Allocator> Parser<'a, A> {
         ensures { OnOk result ((around : List Level) (kids : Blocks) (ls : List BlockLine) → HasRead self.old (spine around kids (TextLeaf ls)) →
             HasRead self.new (spine around kids (TextLeaf (ls ++ rest_line (rest_of rest.entry) beside ∷ [])))) }
     {
+        self.add_line(piece(rest, beside))
+    }
+
+    /// The same of a line of a block.
+    pub(crate) fn add_line(&mut self, line: Piece<'a>) -> Result<(), AllocError>
+        ensures { OnOk result ((around : List Level) (kids : Blocks) (ls : List BlockLine) → HasRead self.old (spine around kids (TextLeaf ls)) →
+            HasRead self.new (spine around kids (TextLeaf (ls ++ piece_line line.entry ∷ [])))) }
+    {
         if !self.has_text() {
             self.paragraph = self.rest;
         }
-        self.pieces.push(piece(rest, beside))?;
+        self.pieces.push(line)?;
         Ok(())
     }
 
@@ -86,7 +94,7 @@ impl<'a, A: Allocator> Parser<'a, A> {
         ending: Option<LineEnding>,
     ) -> Result<(), AllocError>
         ensures read { OnOk result ((ls : List BlockLine) → ls ≡ whole_lines count self.old.paragraph.now →
-            Closes self.old self.new (TextLeaf ls) (ended (ParagraphBlock (own_lines ls)) ending)) }
+            Closes self.old self.new (TextLeaf ls) (block_and_ending (ParagraphBlock (own_lines ls)) ending)) }
         ensures containers { self.new.open ≡ self.old.open }
     {
         self.leaf = NOTHING;

@@ -1,5 +1,6 @@
 //! Blocks, line by line (CommonMark 4, 5 and appendix, phase 1).
 ghost use Rattle.std.specs.Prelude.{◌≡◌, ◌≤◌, ◌<◌, ◌+◌, true, false, ◌^◌, [], IfOk, length, vec_len};
+ghost use Rattle.definition_text.specs.Columns.{whole};
 ghost use Rattle.definition_text.specs.Lines.{lines};
 ghost use Rattle.definition_block.specs.Tree.{blocks, children, rest_line};
 ghost use Rattle.block_rows.specs.Rows.{rows_size, piece_line, piece_lines, rows_of, rows_value, value_with};
@@ -16,8 +17,9 @@ use crate::leaf::OpenLeaf;
 use crate::rows::Rows;
 use block_rows::{Piece, Row};
 use block_starts::Cursor;
-use block_starts::container::{continues, kind_after, starts};
+use block_starts::container::{continues, starts};
 use block_starts::heading_atx::heading_atx;
+use block_starts::plain::{is_plain, is_plain_line};
 use block_starts::thematic_break::is_break;
 use definition_block::{AlignKind, Container};
 use definition_text::{Beside, Kind};
@@ -66,24 +68,25 @@ impl<'a, A: Allocator> Parser<'a, A> {
     ghost use Rattle.std.specs.Prelude.{◌≡◌, ◌==◌, ◌&&◌, OnOk, IfOk, List, Option, true, false};
     ghost use Rattle.markdown_options.specs.declared.line_ending.LineEnding.{LineEnding};
     ghost use Rattle.definition_text.specs.Lines.{text_line};
-    ghost use Rattle.definition_block.specs.Tree.{Tree, Block, Blocks, tree, nothing, Nil, one, ended, step, new, close, close_leaf, is_ending};
+    ghost use Rattle.definition_block.specs.Tree.{Tree, Block, Blocks, tree, nothing, Nil, one, block_and_ending, step, new, close, close_leaf, is_ending};
     ghost use Rattle.definition_block.specs.Tree.{is_nothing, is_some_line, leaf_text, open_text, began_blank, OpenLeaf as OpenLeafOf};
     ghost use Rattle.block_rows.specs.ParagraphLines.{AreLines};
-    ghost use Rattle.definition_block.specs.Tree.{Opening, leaf_line as line_of_leaf, has_text as is_text_open};
+    ghost use Rattle.definition_block.specs.Tree.{Opening, after, leaf_line as line_of_leaf, text_line_of, has_text as is_text_open};
     ghost use Rattle.definition_block.specs.Tree.{Blank as BlankBlock, Leaf as OpenedLeaf, Inside, Text as TextLeaf};
     ghost use Rattle.block_rows.specs.Rows.{block_rows, row_value, row_size};
+    ghost use Rattle.block_parser.specs.HeadingSetext.{IsText};
     ghost use Rattle.block_parser.specs.Spine.{Level, Spine, level, spine, spine_at, spine_of, without_innermost};
     ghost use Rattle.block_parser.specs.Quotes.{NoQuoteFrom, NoneBeganBlank};
     ghost use Rattle.block_parser.specs.Shows.{leaf_lines};
-    ghost use Rattle.block_parser.specs.View.{Becomes, Closes, HasRead, Adds, Grows, Descent, Entered, beside_at};
+    ghost use Rattle.block_parser.specs.View.{Becomes, Closes, HasRead, Adds, Grows, Descent, Entered};
     ghost use Rattle.definition_block.specs.Container.{Container as Holder};
     ghost use Rattle.definition_text.specs.BlockLines.{BlockLine, last_ending};
     ghost use Rattle.block_parser.specs.Waits.{enter_row};
     ghost use Rattle.std.specs.Prelude.{◌≤◌, ◌<◌, ◌+◌, ◌-◌, ◌∷◌, ◌++◌, [], length, vec_len, take, drop};
     ghost use Rattle.block_starts.specs.View.{rest_of, container_view, container_views};
 
-    /// Reads a line after a character of a kind: the containers that go on, then the leaf that takes
-    /// the rest, or what is new.
+    /// Reads a line after a character of a kind. Where no container is open and no leaf but a paragraph,
+    /// an empty line is blank and a plain one is of a paragraph, so neither asks any construct.
     pub(crate) fn line(
         &mut self,
         on: &Constructs,
@@ -94,6 +97,48 @@ impl<'a, A: Allocator> Parser<'a, A> {
             HasRead self.new (spine_of (step on.now before t (text_line line.entry.content.now line.entry.ending)))) }
     {
         self.rest = line.text;
+        if !self.is_alone() {
+            return self.any_line(on, before, line);
+        }
+        if line.content.is_empty() {
+            return self.empty_line(on, line.ending);
+        }
+        if !is_plain_line(line.content) {
+            return self.any_line(on, before, line);
+        }
+        let beside = Beside {
+            before,
+            ending: line.ending,
+        };
+        self.add_line(whole_piece(line.content, beside))
+    }
+
+    /// Whether no container is open, and no leaf but a paragraph.
+    fn is_alone(&self) -> bool
+        ensures { result ≡ true → (t : Tree) → HasRead self.now (spine_of t) → IsText t.now }
+    {
+        match self.leaf {
+            OpenLeaf::Text => self.open.is_empty(),
+            OpenLeaf::Indented { .. } => false,
+            OpenLeaf::Fenced { .. } => false,
+            OpenLeaf::Html { .. } => false,
+            OpenLeaf::Table { .. } => false,
+        }
+    }
+
+    /// A line with nothing in it, which is in no container.
+    fn empty_line(&mut self, on: &Constructs, ending: Option<LineEnding>) -> Result<(), AllocError>
+        ensures { OnOk result (Grows self.old self.new 0 (λ away. after on.now away (tree (one (BlankBlock ending)) nothing))) }
+    {
+        self.close_to(on, 0)?;
+        self.blank_line(ending)
+    }
+
+    /// Reads any line: the containers that go on, then the leaf that takes the rest, or what is new.
+    fn any_line(&mut self, on: &Constructs, before: Kind, line: Line<'a>) -> Result<(), AllocError>
+        ensures { OnOk result ((t : Tree) → AreLines (open_text t.now) → HasRead self.old (spine_of t) →
+            HasRead self.new (spine_of (step on.now before t (text_line line.entry.content.now line.entry.ending)))) }
+    {
         let beside = Beside {
             before,
             ending: line.ending,
@@ -124,22 +169,21 @@ impl<'a, A: Allocator> Parser<'a, A> {
             Descent on.now beside (rest_of line.entry) t (vec_len self.now.open) result.0 (rest_of result.1) result.2 }
     {
         let mut rest = line;
-        let mut outer = line;
+        let mut here = beside;
         for depth in 0..self.open.len() {
             if self.all_go_on(depth, rest) {
-                let all = self.open.len();
-                return (all, rest, self.beside_at(all, rest, beside));
+                here.before = Kind::Whitespace;
+                return (self.open.len(), rest, here);
             }
             match continues(on, self.open[depth], self.began_blank(depth), rest) {
-                Some(after) => {
-                    outer = rest;
-                    rest = after;
+                Some(inside) => {
+                    rest = inside.rest;
+                    here.before = inside.before;
                 }
-                None => return (depth, rest, self.beside_at(depth, outer, beside)),
+                None => return (depth, rest, here),
             }
         }
-        let depth = self.open.len();
-        (depth, rest, self.beside_at(depth, outer, beside))
+        (self.open.len(), rest, here)
     }
 
     /// Whether all containers from a depth on go on because nothing is left of the line: they are no
@@ -158,20 +202,6 @@ impl<'a, A: Allocator> Parser<'a, A> {
             return false;
         }
         !self.began_blank(self.open.len() - 1)
-    }
-
-    /// What stands beside a rest that so many containers leave, the last of them of this one.
-    fn beside_at(&self, depth: usize, outer: Cursor<'a>, beside: Beside) -> Beside
-        requires { depth ≤ vec_len self.now.open }
-        ensures { result ≡ beside_at (container_views self.now.open.items) depth (rest_of outer.entry) beside }
-    {
-        if depth == 0 {
-            return beside;
-        }
-        Beside {
-            before: kind_after(self.open[depth - 1], outer),
-            ending: beside.ending,
-        }
     }
 
     /// Whether a container, at a depth, began with a blank line, and nothing followed.
@@ -232,16 +262,16 @@ impl<'a, A: Allocator> Parser<'a, A> {
         ensures { OnOk result (Grows self.old self.new depth
             (λ away. new (length (rest_of rest.entry)) on.now (depth == vec_len self.old.open) away beside (rest_of rest.entry))) }
     {
-        let Some((container, after)) = starts(on, self.interrupts(depth), rest) else {
+        let Some((container, line)) = starts(on, self.interrupts(depth), rest) else {
             return self.leaf_line(on, depth, rest, beside);
         };
         self.close_to(on, depth)?;
         self.enter(container)?;
         let inner = Beside {
-            before: kind_after(container, rest),
+            before: line.before,
             ending: beside.ending,
         };
-        let (inside, here) = self.enter_all(on, after, inner)?;
+        let (inside, here) = self.enter_all(on, line.rest, inner)?;
         let depth = self.open.len();
         self.leaf_line(on, depth, inside, here)
     }
@@ -258,16 +288,34 @@ impl<'a, A: Allocator> Parser<'a, A> {
     {
         let mut inside = rest;
         let mut here = beside;
-        while let Some((container, after)) = starts(on, false, inside) {
+        while let Some((container, line)) = starts(on, false, inside) {
             self.enter(container)?;
-            here.before = kind_after(container, inside);
-            inside = after;
+            inside = line.rest;
+            here.before = line.before;
         }
         Ok((inside, here))
     }
 
-    /// Reads a rest that starts no container: a blank one, or a leaf that starts.
+    /// Reads a rest that starts no container. A plain one is text, and asks no construct.
     fn leaf_line(
+        &mut self,
+        on: &Constructs,
+        depth: usize,
+        rest: Cursor<'a>,
+        beside: Beside,
+    ) -> Result<(), AllocError>
+        requires depth { depth ≤ vec_len self.old.open }
+        ensures { OnOk result (Grows self.old self.new depth (λ away. line_of_leaf on.now away (rest_of rest.entry) beside)) }
+    {
+        if is_plain(rest) {
+            self.more_text(on, depth, rest, beside)
+        } else {
+            self.any_leaf_line(on, depth, rest, beside)
+        }
+    }
+
+    /// Reads any rest that starts no container: a blank one, a leaf that starts, or text.
+    fn any_leaf_line(
         &mut self,
         on: &Constructs,
         depth: usize,
@@ -308,7 +356,22 @@ impl<'a, A: Allocator> Parser<'a, A> {
         if self.makes_table(on, depth, rest)? {
             return self.start_table(on, rest, beside);
         }
-        if paragraph {
+        self.more_text(on, depth, rest, beside)
+    }
+
+    /// A line of text: one more of the open paragraph or of the open table, or the first of a
+    /// paragraph.
+    fn more_text(
+        &mut self,
+        on: &Constructs,
+        depth: usize,
+        rest: Cursor<'a>,
+        beside: Beside,
+    ) -> Result<(), AllocError>
+        requires depth { depth ≤ vec_len self.old.open }
+        ensures { OnOk result (Grows self.old self.new depth (λ away. text_line_of on.now away (rest_of rest.entry) beside)) }
+    {
+        if self.has_text() {
             return self.text_line(rest, beside);
         }
         if self.is_row(depth) {
@@ -407,7 +470,7 @@ impl<'a, A: Allocator> Parser<'a, A> {
         requires size { row_size row ≡ count }
         requires within { self.old.lines_in_rows + count ≤ vec_len self.old.pieces }
         ensures read { OnOk result ((ls : List BlockLine) (b : Block) → block_rows b ≡ row_value row ls ∷ [] → is_ending b ≡ false →
-            Becomes self.old self.new (TextLeaf ls) (tree (ended b (last_ending (take count ls))) (OpenedLeaf (TextLeaf (drop count ls))))) }
+            Becomes self.old self.new (TextLeaf ls) (tree (block_and_ending b (last_ending (take count ls))) (OpenedLeaf (TextLeaf (drop count ls))))) }
         ensures containers { self.new.open ≡ self.old.open }
         ensures content { self.new.content ≡ self.old.content }
         ensures pieces { self.new.pieces ≡ self.old.pieces }
@@ -428,7 +491,7 @@ impl<'a, A: Allocator> Parser<'a, A> {
     ) -> Result<(), AllocError>
         requires { self.old.lines_in_rows + row_size row ≡ vec_len self.old.pieces }
         ensures read { OnOk result ((leaf : OpenLeafOf) (b : Block) → block_rows b ≡ row_value row (leaf_lines leaf) ∷ [] → is_ending b ≡ false →
-            Closes self.old self.new leaf (ended b ending)) }
+            Closes self.old self.new leaf (block_and_ending b ending)) }
         ensures containers { self.new.open ≡ self.old.open }
     {
         self.rows.block(row)?;
@@ -477,6 +540,18 @@ pub(crate) fn piece<'a>(rest: Cursor<'a>, beside: Beside) -> Piece<'a>
     Piece {
         text: rest.text(),
         owed: rest.owed(),
+        ending: beside.ending,
+        before: beside.before,
+    }
+}
+
+/// The line of a block that a whole line is.
+fn whole_piece<'a>(content: &'a str, beside: Beside) -> Piece<'a>
+    ensures { piece_line result ≡ rest_line (whole content.now) beside }
+{
+    Piece {
+        text: content,
+        owed: 0,
         ending: beside.ending,
         before: beside.before,
     }

@@ -1,5 +1,6 @@
 -- The lines of a definition: what is cut from a paragraph, and what is read off those lines again.
-use Rattle.std.proofs.Common.{◌≡◌, ℕ, ◌+◌, ◌<◌, ◌≤◌, suc, zero, true, false, cond, List, [], ◌∷◌, ◌++◌, take, drop, length, Option, None, Some, refl, sym, ap, ◌∙◌, subst, ◌⊎◌, inl, inr, arith, append_assoc}
+use Rattle.std.proofs.Common.{◌≡◌, ℕ, ◌+◌, ◌<◌, ◌≤◌, suc, zero, true, false, cond, List, [], ◌∷◌, ◌++◌, take, drop, length, Option, None, Some, refl, sym, ap}
+use Rattle.std.proofs.Common.{◌∙◌, subst, ◌⊎◌, inl, inr, arith, append_assoc}
 use Rattle.std.proofs.lemmas.Bool.{true≢false, cond-true, cond-false}
 use Rattle.std.proofs.lemmas.Option.{none-some}
 use Rattle.std.proofs.lemmas.List.{append-nil, length-drop, length-append}
@@ -13,7 +14,7 @@ use Rattle.definition_block.specs.Blocks.{Nil, join}
 use Rattle.definition_text.specs.Content.{is_eol, line_ending_code, ending_code, content_of}
 use Rattle.block_rows.specs.ParagraphLines.{HaveNoEnding, AreLines}
 use Rattle.definition_inline.specs.Definition.{Definition as LinkDefinition, definition, definition_at}
-use Rattle.definition_block.specs.Definitions.{Cut, cut_into, cut_after, cut_most, defined, line_count, lines_before}
+use Rattle.definition_block.specs.Definitions.{Cut, cut_into, cut_after, cut_most, definition_lines, line_count, lines_before}
 use Rattle.definition_inline.proofs.DefinitionAlone.{definition_alone}
 
 is_ending_code : (e : LineEnding) → is_eol (line_ending_code e) ≡ true
@@ -56,7 +57,8 @@ no_endings [] h = refl
 no_endings (c ∷ cs) h =
     sum_by-cons weight c cs ∙ ap (λ n. n + count_by is_eol cs) (light c h.0) ∙ ap (λ n. 0 + n) (no_endings cs h.1)
 
-endings_between : (line : BlockLine) (others : List BlockLine) → AreLines (line ∷ others) → count_by is_eol (content_of (own_lines (line ∷ others))) ≡ length others
+endings_between : (line : BlockLine) (others : List BlockLine) → AreLines (line ∷ others)
+    → count_by is_eol (content_of (own_lines (line ∷ others))) ≡ length others
 endings_between line [] h = ap (count_by is_eol) (last_content line) ∙ no_endings line.codes h.0
 endings_between line (next ∷ others) h =
     let e = h.2.0 in
@@ -199,11 +201,12 @@ no_lines zero = refl
 no_lines (suc most) = refl
 
 same_cuts : (some other : List BlockLine → Cut) (ls : List BlockLine) (o : Option LinkDefinition)
-    → ((d : LinkDefinition) → definition_at (content_of (own_lines ls)) ≡ Some d → some (drop (lines_before d.rest ls) ls) ≡ other (drop (lines_before d.rest ls) ls))
+    → ((d : LinkDefinition) → definition_at (content_of (own_lines ls)) ≡ Some d
+    → some (drop (lines_before d.rest ls) ls) ≡ other (drop (lines_before d.rest ls) ls))
     → definition_at (content_of (own_lines ls)) ≡ o → cut_after o ls some ≡ cut_after o ls other
 same_cuts some other ls None same e = refl
 same_cuts some other ls (Some d) same e =
-    ap (λ others. cut_into (join (defined d (take (lines_before d.rest ls) ls)) others.definitions) others.left) (same d e)
+    ap (λ others. cut_into (join (definition_lines d (take (lines_before d.rest ls) ls)) others.definitions) others.left) (same d e)
 
 pub cut_enough : (most more : ℕ) (ls : List BlockLine) → AreLines ls → length ls ≤ most → length ls ≤ more → cut_most most ls ≡ cut_most more ls
 cut_enough zero more [] h p q = sym (no_lines more)

@@ -1,5 +1,6 @@
 -- The open paragraph has the lines of a paragraph, after any lines of a text.
-use Rattle.std.proofs.Common.{◌≡◌, ℕ, ◌+◌, ◌<◌, suc, zero, Bool, true, false, not, ◌&&◌, ◌||◌, leb, min, List, [], ◌∷◌, ◌++◌, Option, None, Some, length, take, drop, replicate, get_or, eqb, refl, sym, subst, inl, inr, arith}
+use Rattle.std.proofs.Common.{◌≡◌, ℕ, ◌+◌, ◌<◌, suc, zero, Bool, true, false, not, ◌&&◌, ◌||◌, leb, min, List, [], ◌∷◌, ◌++◌, Option, None, Some, length, take}
+use Rattle.std.proofs.Common.{drop, replicate, get_or, eqb, refl, sym, subst, inl, inr, arith}
 use Rattle.std.specs.List.{filter, prefix_len}
 use Rattle.std.proofs.lemmas.Bool.{true≢false, both_ways, cond_both, and_cases, or_from, or_right, ne_eqb, not-false}
 use Rattle.std.proofs.lemmas.List.{length-append}
@@ -11,12 +12,15 @@ use Rattle.definition_block.specs.Container.{Container, Quote, Item, Footnote}
 use Rattle.definition_text.specs.declared.beside.Kind.{Kind}
 use Rattle.definition_text.specs.declared.beside.Kind.TheVariants.{Whitespace}
 use Rattle.definition_text.specs.Lines.{TextLine, text_line, in_first_line, after_return, lines}
-use Rattle.definition_text.specs.Columns.{Rest, tab_column, columns_after_tab, codes_from, whole, is_white, is_blank, indent, bare, is_tab_column, is_byte, bytes_of, block_codes}
+use Rattle.definition_text.specs.Columns.{Rest, tab_column, columns_after_tab, codes_from, whole, is_white, is_blank, indent, bare, is_tab_column, is_byte}
+use Rattle.definition_text.specs.Columns.{bytes_of, block_codes}
 use Rattle.definition_text.specs.Indents.{small_indent}
-use Rattle.definition_block.specs.Started.{Started}
+use Rattle.definition_block.specs.ContainerLine.{ContainerLine}
+use Rattle.definition_block.specs.ContainerStart.{ContainerStart}
 use Rattle.definition_block.specs.BlockQuote.{after_byte, after_mark, quote_prefix}
 use Rattle.definition_block.specs.ListItem.{Marker, is_digit, number_of, bullet, delimiter, marker, gap, is_item, item_after, item_start, is_inside}
-use Rattle.definition_block.specs.GfmFootnoteDefinition.{is_footnote_label, label_before, with_colon, after_open, after_bracket, footnote_mark, footnote_of, footnote_start}
+use Rattle.definition_block.specs.GfmFootnoteDefinition.{is_footnote_label, label_before, with_colon, after_open, after_bracket, footnote_mark, footnote_of}
+use Rattle.definition_block.specs.GfmFootnoteDefinition.{footnote_start}
 use Rattle.definition_block.specs.Containers.{continues, quote_or, footnote_or, starts}
 use Rattle.definition_block.specs.CodeIndented.{starts_code_indented}
 use Rattle.definition_block.specs.CodeFenced.{Fence, fence_start, is_fence_end}
@@ -32,7 +36,10 @@ use Rattle.definition_block.specs.declared.align_kind.AlignKind.{AlignKind}
 use Rattle.definition_block.specs.GfmTable.{delimiter_row, is_head}
 use Rattle.block_rows.specs.ParagraphLines.{HaveNoEnding, AreLines}
 use Rattle.definition_text.specs.BlockLines.{BlockLine}
-use Rattle.definition_block.specs.Tree.{Blocks, OpenLeaf, Text, Indented, Fenced, OpenHtml, OpenTable, Opening, Leaf, Inside, Tree, nothing, empty_tree, open_text, has_text, has_table, is_some_line, table_if, makes_table, with_line, rest_line, takes, html_with, or_heading, or_fence, or_html, begins, text_line_of, break_or_text, text_here, heading_of, underlined, turns, begun, taken, leaf_line, start, new, began_blank, goes_on, grow, beside_in, beside_line, step, steps}
+use Rattle.definition_block.specs.Tree.{Blocks, OpenLeaf, Text, Indented, Fenced, OpenHtml, OpenTable, Opening, Leaf, Inside, Tree, nothing, empty_tree}
+use Rattle.definition_block.specs.Tree.{open_text, has_text, has_table, is_some_line, table_if, makes_table, with_line, rest_line, takes, html_with, or_heading}
+use Rattle.definition_block.specs.Tree.{or_fence, or_html, begins, text_line_of, break_or_text, text_here, heading_of, heading_if, turns, begun, tree_or}
+use Rattle.definition_block.specs.Tree.{leaf_line, start, new, began_blank, goes_on, grow, beside_in, beside_line, step, steps}
 
 -- ---- codes without a line ending
 
@@ -152,12 +159,17 @@ one_more e (line ∷ next ∷ others) last clear some h = (h.0, h.1, h.2, one_mo
 
 -- ---- rests
 
--- the rest after what goes on or starts, if anything does, has no line ending
-abbrev pub SomeClear : Option Rest → Type 0
+-- the rest that is left, if any, has no line ending
+abbrev SomeClear : Option Rest → Type 0
 SomeClear None = Unit {0}
 SomeClear (Some rest) = HaveNoEnding rest
 
-abbrev pub StartedClear : Option Started → Type 0
+-- the same of the rest after what goes on or starts
+abbrev pub LineClear : Option ContainerLine → Type 0
+LineClear None = Unit {0}
+LineClear (Some line) = HaveNoEnding line.rest
+
+abbrev pub StartedClear : Option ContainerStart → Type 0
 StartedClear None = Unit {0}
 StartedClear (Some s) = HaveNoEnding s.rest
 
@@ -172,13 +184,13 @@ clear_after_byte : (byte : ℕ) (rest : Rest) → HaveNoEnding rest → SomeClea
 clear_after_byte byte [] h = tt
 clear_after_byte byte (c ∷ cs) h = cond_both (eqb c byte) _ _ SomeClear (λ _. h.1) (λ _. tt)
 
-clear_after_mark : (o : Option Rest) → SomeClear o → SomeClear (after_mark o)
+clear_after_mark : (o : Option Rest) → SomeClear o → LineClear (after_mark o)
 clear_after_mark None h = tt
 clear_after_mark (Some rest) h = clear-drop (min 1 (indent rest)) rest h
 
-clear_quote : (on : Constructs) (rest : Rest) → HaveNoEnding rest → SomeClear (quote_prefix on rest)
+clear_quote : (on : Constructs) (rest : Rest) → HaveNoEnding rest → LineClear (quote_prefix on rest)
 clear_quote on rest h =
-    cond_both (on.block_quote && small_indent on rest) _ _ SomeClear
+    cond_both (on.block_quote && small_indent on rest) _ _ LineClear
     (λ _. clear_after_mark (after_byte 62 (bare rest)) (clear_after_byte 62 (bare rest) (clear_bare rest h))) (λ _. tt)
 
 clear_bullet : (rest : Rest) → HaveNoEnding rest → MarkerClear (bullet rest)
@@ -206,9 +218,9 @@ clear_item on interrupts rest h =
     cond_both (on.list_item && small_indent on rest && not (is_break on rest)) _ _ StartedClear
     (λ _. clear_item_after (indent rest) interrupts (marker (bare rest)) (clear_marker (bare rest) (clear_bare rest h))) (λ _. tt)
 
-clear_quote_or : (other : Option Started) (o : Option Rest) → StartedClear other → SomeClear o → StartedClear (quote_or other o)
+clear_quote_or : (other : Option ContainerStart) (o : Option ContainerLine) → StartedClear other → LineClear o → StartedClear (quote_or other o)
 clear_quote_or other None h k = h
-clear_quote_or other (Some rest) h k = k
+clear_quote_or other (Some line) h k = k
 
 -- ---- footnote definitions
 
@@ -254,7 +266,7 @@ clear_footnote on rest h =
     cond_both (on.gfm_footnote_definition && small_indent on rest) _ _ StartedClear
     (λ _. clear_footnote_of (footnote_mark marked) (clear_bracket (after_byte 91 marked) (clear_after_byte 91 marked (clear_bare rest h)))) (λ _. tt)
 
-clear_footnote_or : (other o : Option Started) → StartedClear other → StartedClear o → StartedClear (footnote_or other o)
+clear_footnote_or : (other o : Option ContainerStart) → StartedClear other → StartedClear o → StartedClear (footnote_or other o)
 clear_footnote_or other None h k = h
 clear_footnote_or other (Some footnote) h k = k
 
@@ -264,12 +276,12 @@ clear_start on interrupts rest h =
     (clear_footnote_or (item_start on interrupts rest) (footnote_start on rest) (clear_item on interrupts rest h) (clear_footnote on rest h))
     (clear_quote on rest h)
 
-pub clear_continue : (on : Constructs) (c : Container) (began_blank : Bool) (rest : Rest) → HaveNoEnding rest → SomeClear (continues on c began_blank rest)
+pub clear_continue : (on : Constructs) (c : Container) (began_blank : Bool) (rest : Rest) → HaveNoEnding rest → LineClear (continues on c began_blank rest)
 clear_continue on Quote began_blank rest h = clear_quote on rest h
 clear_continue on (Item item) began_blank rest h =
-    cond_both (is_inside item.size began_blank rest) _ _ SomeClear (λ _. clear-drop item.size rest h) (λ _. tt)
+    cond_both (is_inside item.size began_blank rest) _ _ LineClear (λ _. clear-drop item.size rest h) (λ _. tt)
 clear_continue on (Footnote label) began_blank rest h =
-    cond_both (is_inside 4 false rest) _ _ SomeClear (λ _. clear-drop 4 rest h) (λ _. tt)
+    cond_both (is_inside 4 false rest) _ _ LineClear (λ _. clear-drop 4 rest h) (λ _. tt)
 
 -- ---- what is open after a line
 
@@ -283,7 +295,7 @@ module _ (on : Constructs) (e : LineEnding) (beside : Beside) where
   SomeOpenTo None = Unit {0}
   SomeOpenTo (Some t) = OpenTo t
 
-  open_taken : (o : Option Tree) (other : Tree) → SomeOpenTo o → OpenTo other → OpenTo (taken o other)
+  open_taken : (o : Option Tree) (other : Tree) → SomeOpenTo o → OpenTo other → OpenTo (tree_or o other)
   open_taken None other p q = q
   open_taken (Some t) other p q = p
 
@@ -326,7 +338,7 @@ module _ (on : Constructs) (e : LineEnding) (beside : Beside) where
   open_heading rank definitions [] = tt
   open_heading rank definitions (line ∷ others) = tt
 
-  open_underlined : (o : Option ℕ) (ls : List BlockLine) → SomeOpenTo (underlined on o ls beside.ending)
+  open_underlined : (o : Option ℕ) (ls : List BlockLine) → SomeOpenTo (heading_if on o ls beside.ending)
   open_underlined None ls = tt
   open_underlined (Some rank) ls = open_heading rank (cut on ls).definitions (cut on ls).left
 
@@ -355,7 +367,8 @@ module _ (on : Constructs) (e : LineEnding) (beside : Beside) where
   open_break_or_text : (away : Opening) (rest : Rest) → HaveNoEnding rest → is_blank rest ≡ false → AreLinesTo (Some e) (open_text away)
       → OpenTo (break_or_text on away rest beside)
   open_break_or_text away rest clear some h = cond_both (is_break on rest) _ _ OpenTo (λ _. tt)
-      (λ _. open_taken (makes_table on away rest beside) _ (open_table (delimiter_row on rest) (text_here away) (rest_line rest beside)) (open_text_line away rest clear some h))
+      (λ _. open_taken (makes_table on away rest beside) _ (open_table (delimiter_row on rest) (text_here away) (rest_line rest beside))
+      (open_text_line away rest clear some h))
 
   open_leaf_line : (away : Opening) (rest : Rest) → HaveNoEnding rest → AreLinesTo (Some e) (open_text away) → OpenTo (leaf_line on away rest beside)
   open_leaf_line away rest clear h =
@@ -366,8 +379,9 @@ module _ (on : Constructs) (e : LineEnding) (beside : Beside) where
 
 -- what is open after containers that start, and after those that go on
 module _ (on : Constructs) (e : LineEnding) where
-  open_start : (beside : Beside) (o : Option Started) (away : Opening) (other : Tree) (more : Started → Tree) → StartedClear o → OpenTo on e beside other
-      → ((s : Started) → HaveNoEnding s.rest → OpenTo on e beside (more s)) → OpenTo on e beside (start on o away other more)
+  open_start : (beside : Beside) (o : Option ContainerStart) (away : Opening) (other : Tree) (more : ContainerStart → Tree) → StartedClear o
+      → OpenTo on e beside other
+      → ((s : ContainerStart) → HaveNoEnding s.rest → OpenTo on e beside (more s)) → OpenTo on e beside (start on o away other more)
   open_start beside None away other more p q m = q
   open_start beside (Some s) away other more p q m = m s p
 
@@ -377,21 +391,21 @@ module _ (on : Constructs) (e : LineEnding) where
   open_new beside (suc most) all away rest clear h =
       open_start beside (starts on (all && has_text away) rest) away (leaf_line on away rest beside) _
       (clear_start on (all && has_text away) rest clear) (open_leaf_line on e beside away rest clear h)
-      (λ s k. open_new (beside_in s.container rest beside) most true nothing s.rest k tt)
+      (λ s k. open_new (beside_in s.before beside) most true nothing s.rest k tt)
 
-  open_goes_on : (beside : Beside) (o : Option Rest) (c : Container) (kids : Blocks) (inner : Opening) (rest : Rest) (more : Rest → Tree)
-      → SomeClear o → HaveNoEnding rest → AreLinesTo (Some e) (open_text inner)
-      → ((others : Rest) → HaveNoEnding others → OpenTo on e beside (more others)) → OpenTo on e beside (goes_on o on c kids inner beside rest more)
+  open_goes_on : (beside : Beside) (o : Option ContainerLine) (c : Container) (kids : Blocks) (inner : Opening) (rest : Rest) (more : ContainerLine → Tree)
+      → LineClear o → HaveNoEnding rest → AreLinesTo (Some e) (open_text inner)
+      → ((line : ContainerLine) → HaveNoEnding line.rest → OpenTo on e beside (more line)) → OpenTo on e beside (goes_on o on c kids inner beside rest more)
   open_goes_on beside None c kids inner rest more p clear h m = open_new beside (length rest) false (Inside c kids inner) rest clear h
-  open_goes_on beside (Some others) c kids inner rest more p clear h m = m others p
+  open_goes_on beside (Some line) c kids inner rest more p clear h m = m line p
 
-  open_grow : (beside : Beside) (now : Opening) (rest : Rest) → HaveNoEnding rest → AreLinesTo (Some e) (open_text now) → OpenTo on e beside (grow on beside now rest)
+  open_grow : (beside : Beside) (now : Opening) (rest : Rest) → HaveNoEnding rest → AreLinesTo (Some e) (open_text now)
+      → OpenTo on e beside (grow on beside now rest)
   open_grow beside (Leaf leaf) rest clear h =
       open_taken on e beside (takes on leaf rest beside) _ (open_takes on e beside leaf rest) (open_new beside (length rest) true (Leaf leaf) rest clear h)
   open_grow beside (Inside c kids inner) rest clear h =
-      let beside_inner = beside_in c rest beside in
-      open_goes_on beside (continues on c (began_blank kids inner) rest) c kids inner rest (grow on beside_inner inner)
-      (clear_continue on c (began_blank kids inner) rest clear) clear h (λ others k. open_grow beside_inner inner others k h)
+      open_goes_on beside (continues on c (began_blank kids inner) rest) c kids inner rest (λ line. grow on (beside_in line.before beside) inner line.rest)
+      (clear_continue on c (began_blank kids inner) rest clear) clear h (λ line k. open_grow (beside_in line.before beside) inner line.rest k h)
 
 -- ---- the lines of a text, one by one
 

@@ -9,12 +9,14 @@ use Rattle.block_rows.specs.declared.row.Piece.{Piece}
 use Rattle.definition_text.specs.Lines.{TextLine, lines}
 use Rattle.definition_text.specs.Columns.{bytes_of, code_byte, tab_column}
 use Rattle.definition_text.specs.BlockLines.{BlockLine, block_line, spaced_line, own_lines}
-use Rattle.definition_block.specs.Tree.{Block, Paragraph, Heading, Break, IndentedCode, FencedCode, Html, Table, Definition, Holds, Items, Ending, Blank, Blocks, Nil, Cons}
+use Rattle.definition_block.specs.Tree.{Block, Paragraph, Heading, Break, IndentedCode, FencedCode, Html, Table, Definition, Holds, Items, Ending, Blank}
+use Rattle.definition_block.specs.Tree.{Blocks, Nil, Cons}
 use Rattle.definition_text.specs.Content.{content_codes, content_text}
 use Rattle.definition_block.specs.Definitions.{block_definitions}
 use Rattle.definition_inline.specs.Definition.{Definition as LinkDefinition, definition_at}
 
--- a block that holds no other, or an ending; the start of a quote; the start of an item, with the byte of its marker and its number; the start of a footnote definition, with its label; the end of the innermost container
+-- a block that holds no other, or an ending; the start of a quote; the start of an item, with the byte of its marker and its number; the start of a footnote
+-- definition, with its label; the end of the innermost container
 pub data BlockRow : Type 0 where
   Single : Block → BlockRow
   EnterQuote : BlockRow

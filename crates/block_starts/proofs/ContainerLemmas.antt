@@ -15,7 +15,8 @@ first_dark column text lt =
     let n = prefix_len is_white text in
     let byte = get_or text n 0 in
     ap (λ bytes. may_start (codes_from column bytes)) (drop_more text n 0 lt)
-    ∙ ap may_start (cond-false (eqb byte 9) _ _ (or_parts (eqb byte 32) (eqb byte 9) (or_parts (eqb byte 32 || eqb byte 9) (eqb byte 256) (prefix_len_stops is_white text 0 lt)).0).1)
+    ∙ ap may_start (cond-false (eqb byte 9) _ _ (or_parts (eqb byte 32) (eqb byte 9)
+    (or_parts (eqb byte 32 || eqb byte 9) (eqb byte 256) (prefix_len_stops is_white text 0 lt)).0).1)
 
 pub nothing_dark : (column : ℕ) (text : List ℕ) (n : ℕ) → length text ≤ n → may_start (codes_from column (drop n text)) ≡ false
 nothing_dark column text n le = ap (λ bytes. may_start (codes_from column bytes)) (drop_of_length-le text le)

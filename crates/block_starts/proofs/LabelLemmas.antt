@@ -1,12 +1,12 @@
 -- Where the label of a footnote definition ends.
-use Rattle.std.proofs.Common.{◌≡◌, ℕ, zero, ◌+◌, ◌-◌, ◌<◌, ◌≤◌, ◌≢◌, suc, Bool, if◌then◌else◌, ◌==◌, true, false, ◌&&◌, ◌||◌, not, List, [], ◌∷◌, ◌++◌, Option, None, Some, inl, inr, eqb, refl, sym, ap, ◌∙◌, length, get_or, take, drop, arith, nat_le, subst}
+use Rattle.std.proofs.Common.{◌≡◌, ℕ, zero, ◌+◌, ◌-◌, ◌<◌, ◌≤◌, ◌≢◌, suc, Bool, if◌then◌else◌, ◌==◌, true, false, ◌&&◌, ◌||◌, not, List, [], ◌∷◌, ◌++◌, Option}
+use Rattle.std.proofs.Common.{None, Some, inl, inr, eqb, refl, sym, ap, ◌∙◌, length, get_or, take, drop, arith, nat_le, subst}
 use Rattle.std.specs.List.{list_any}
 use Rattle.std.specs.Option.{option_map}
 use Rattle.std.proofs.lemmas.Bool.{cases_Bool, cond-true, cond-false, eqb-true, eq-eqb, ne_eqb, or_parts, or_from}
-use Rattle.std.proofs.lemmas.Bool.Decides.{nat_tests}
 use Rattle.std.proofs.lemmas.List.{take_at, length-append, drop_more, drop_all}
 use Rattle.definition_text.specs.Columns.{Rest, codes_from, is_white}
-use Rattle.definition_text.specs.Content.{Part, part, is_eol, is_space, may_escape, before, closed_by}
+use Rattle.definition_text.specs.Content.{part, is_eol, is_space, may_escape, before, closed_by}
 use Rattle.definition_inline.specs.Label.{ends_label, label_end, has_text, label_size, is_label}
 use Rattle.definition_block.specs.BlockQuote.{after_byte}
 use Rattle.definition_block.specs.GfmFootnoteDefinition.{is_footnote_label, label_before, with_colon}
@@ -244,17 +244,20 @@ module _ (bs : List ℕ) (i : ℕ) (escaped : Bool) (lt : i < length bs) (h : La
   at_space white = sym (first ∙ ap (option_map (λ n. i + n)) (cond-true (is_space (get_or bs i 0)) _ _ white))
 
   module _ (dark : is_space (get_or bs i 0) ≡ false) where
-    second : label_len false bs ≡ option_map (λ n. i + n) (if ends_label escaped (get_or bs i 0) then (if get_or bs i 0 == 93 then Some 0 else None) else option_map suc (label_len (may_escape escaped (get_or bs i 0)) (drop (i + 1) bs)))
+    second : label_len false bs ≡ option_map (λ n. i + n) (if ends_label escaped (get_or bs i 0) then (if get_or bs i 0 == 93 then Some 0 else None)
+        else option_map suc (label_len (may_escape escaped (get_or bs i 0)) (drop (i + 1) bs)))
     second = first ∙ ap (option_map (λ n. i + n)) (cond-false (is_space (get_or bs i 0)) _ _ dark)
 
     pub at_close : ends_label escaped (get_or bs i 0) ≡ true → get_or bs i 0 ≡ 93 → Some i ≡ label_len false bs
     at_close ends is =
         let same : i + 0 ≡ i = omega arith in
-        sym (second ∙ ap (option_map (λ n. i + n)) (cond-true (ends_label escaped (get_or bs i 0)) _ _ ends ∙ cond-true (get_or bs i 0 == 93) _ _ (eq-eqb (get_or bs i 0) 93 is)) ∙ ap Some same)
+        sym (second ∙ ap (option_map (λ n. i + n)) (cond-true (ends_label escaped (get_or bs i 0)) _ _ ends
+        ∙ cond-true (get_or bs i 0 == 93) _ _ (eq-eqb (get_or bs i 0) 93 is)) ∙ ap Some same)
 
     pub at_open : ends_label escaped (get_or bs i 0) ≡ true → get_or bs i 0 ≢ 93 → None ≡ label_len false bs
     at_open ends not =
-        sym (second ∙ ap (option_map (λ n. i + n)) (cond-true (ends_label escaped (get_or bs i 0)) _ _ ends ∙ cond-false (get_or bs i 0 == 93) _ _ (ne_eqb (get_or bs i 0) 93 not)))
+        sym (second ∙ ap (option_map (λ n. i + n)) (cond-true (ends_label escaped (get_or bs i 0)) _ _ ends
+        ∙ cond-false (get_or bs i 0 == 93) _ _ (ne_eqb (get_or bs i 0) 93 not)))
 
     pub at_other : ends_label escaped (get_or bs i 0) ≡ false → LabelFrom bs (i + 1) (may_escape escaped (get_or bs i 0))
     at_other other =

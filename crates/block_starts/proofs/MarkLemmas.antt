@@ -1,14 +1,15 @@
 -- Rests without a marker, and lines of items.
-use Rattle.std.proofs.Common.{◌≡◌, ℕ, ◌<◌, ◌≤◌, ◌^◌, ◌+◌, [], ◌∷◌, Bool, true, false, ◌&&◌, ◌||◌, not, Option, None, Some, inl, inr, eqb, leb, refl, sym, ap, ◌∙◌, length, drop, min, arith}
+use Rattle.std.proofs.Common.{◌≡◌, ℕ, ◌<◌, ◌≤◌, ◌^◌, ◌+◌, [], ◌∷◌, Bool, true, false, ◌&&◌, ◌||◌, not, Option, None, Some, inl, inr, eqb, leb, refl, sym, ap}
+use Rattle.std.proofs.Common.{◌∙◌, length, drop, min, arith}
 use Rattle.std.specs.List.{list_all, prefix_len}
 use Rattle.std.proofs.Math.Nat.{pow-le-pow_right}
 use Rattle.std.proofs.lemmas.Bool.{cases_Bool, cond-true, cond-false, cond_both, eq-eqb, ne_eqb, and_parts, or_parts, or_from, leb-true}
 use Rattle.std.proofs.lemmas.List.{drop_min}
 use Rattle.markdown_options.specs.declared.configuration.Constructs.{Constructs}
 use Rattle.definition_text.specs.Columns.{Rest, bare, indent, is_white, is_blank}
-use Rattle.definition_text.specs.Indents.{outdented, small_indent}
+use Rattle.definition_text.specs.Indents.{outdent, small_indent}
 use Rattle.definition_block.specs.BlockQuote.{after_byte, after_mark, quote_prefix}
-use Rattle.definition_block.specs.Started.{Started}
+use Rattle.definition_block.specs.ContainerStart.{ContainerStart}
 use Rattle.definition_block.specs.ThematicBreak.{is_break}
 use Rattle.definition_block.specs.ListItem.{is_digit, bullet, delimiter, marker, item_after, item_start, is_inside}
 use Rattle.definition_block.specs.GfmFootnoteDefinition.{after_bracket, footnote_mark, footnote_of, footnote_start}
@@ -36,7 +37,8 @@ bullet_none [] never = refl
 bullet_none (b ∷ bs) never =
     let none = never b bs refl in
     cond-false (eqb b 45 || eqb b 43 || eqb b 42) _ _
-    (or_from (eqb b 45 || eqb b 43) (eqb b 42) (or_from (eqb b 45) (eqb b 43) (other_byte b 45 none refl) (other_byte b 43 none refl)) (other_byte b 42 none refl))
+    (or_from (eqb b 45 || eqb b 43) (eqb b 42) (or_from (eqb b 45) (eqb b 43) (other_byte b 45 none refl) (other_byte b 43 none refl))
+    (other_byte b 42 none refl))
 
 pub delimiter_none : (number digits : ℕ) (rest : Rest) → NoMark rest → delimiter number digits rest ≡ None
 delimiter_none number digits [] never = refl
@@ -54,7 +56,7 @@ indent_blank (b ∷ bs) h =
     let more = indent_blank bs parts.1 in
     cond-true (is_white b) (1 + indent bs) 0 parts.0 ∙ omega (arith, more)
 
-pub outdented_inside : (size : ℕ) (began_blank : Bool) (rest : Rest) → is_inside size began_blank rest ≡ true → outdented size rest ≡ drop size rest
+pub outdented_inside : (size : ℕ) (began_blank : Bool) (rest : Rest) → is_inside size began_blank rest ≡ true → outdent size rest ≡ drop size rest
 outdented_inside size began_blank rest h =
     elim (cases_Bool (is_blank rest)) [
       | inl blank ↦ ap (λ n. drop (min size n) rest) (indent_blank rest blank) ∙ drop_min size rest
@@ -113,7 +115,7 @@ only_footnote on interrupts rest h =
     sym (ap (quote_or (footnote_or (item_start on interrupts rest) (footnote_start on rest))) no_quote
     ∙ ap (λ o. footnote_or o (footnote_start on rest)) no_item ∙ alone (footnote_start on rest))
   where
-    alone : (o : Option Started) → footnote_or None o ≡ o
+    alone : (o : Option ContainerStart) → footnote_or None o ≡ o
     alone None = refl
     alone (Some s) = refl
 

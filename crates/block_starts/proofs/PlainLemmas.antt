@@ -1,21 +1,21 @@
 -- Nothing begins with a plain rest but text: a lemma for each construct.
-use Rattle.std.proofs.Common.{inl, inr, ◌≡◌, ℕ, ◌+◌, ◌-◌, Bool, true, false, cond, not, ◌&&◌, ◌||◌, List, [], ◌∷◌, Option, None, refl, sym, ap, ◌∙◌, subst, length, drop, take, zero, suc, arith}
+use Rattle.std.proofs.Common.{inl, inr, ◌≡◌, ℕ, ◌+◌, ◌-◌, Bool, true, false, cond, not, ◌&&◌, ◌||◌, List, [], ◌∷◌, Option, None, refl, sym, ap, ◌∙◌, subst}
+use Rattle.std.proofs.Common.{length, drop, take, zero, suc, arith}
 use Rattle.std.specs.Prelude.{◌==◌, leb, codes}
 use Rattle.std.specs.List.{list_any, prefix_len, suffix_len}
-use Rattle.std.proofs.lemmas.Bool.{cases_Bool, cond-true, cond-false, cond_both, and_parts, or_parts, or_from, ne_eqb, eqb-true, leb-true}
+use Rattle.std.proofs.lemmas.Bool.{cases_Bool, cond-true, cond-false, cond_both, or_parts, or_from, ne_eqb, leb-true}
 use Rattle.std.proofs.Math.ListN.{drop_of_length-le}
 use Rattle.markdown_options.specs.declared.configuration.Constructs.{Constructs}
 use Rattle.definition_text.specs.declared.beside.Kind.{Kind}
 use Rattle.definition_text.specs.declared.beside.Kind.TheVariants.{Whitespace}
-use Rattle.definition_text.specs.Columns.{Rest, is_white, is_blank, indent, bare, is_byte, bytes_of, trimmed}
+use Rattle.definition_text.specs.Columns.{Rest, is_white, is_blank, indent, bare, is_byte, bytes_of, trim}
 use Rattle.definition_text.specs.Content.{may_escape}
 use Rattle.definition_text.specs.Indents.{small_indent}
 use Rattle.definition_text.specs.Bytes.{begins_with}
 use Rattle.definition_text.specs.Runs.{run}
 use Rattle.definition_inline.specs.HtmlTags.{open_tag, closing_tag}
-use Rattle.definition_block.specs.declared.align_kind.AlignKind.{AlignKind}
 use Rattle.definition_block.specs.ListItem.{is_digit}
-use Rattle.definition_block.specs.GfmFootnoteDefinition.{after_bracket, footnote_mark, footnote_of, footnote_start}
+use Rattle.definition_block.specs.GfmFootnoteDefinition.{after_bracket, footnote_mark, footnote_of}
 use Rattle.definition_block.specs.Containers.{starts}
 use Rattle.definition_block.specs.CodeIndented.{starts_code_indented}
 use Rattle.definition_block.specs.CodeFenced.{fence_of, fence_start}
@@ -24,7 +24,8 @@ use Rattle.definition_block.specs.HtmlFlow.{starts_raw, starts_declaration, star
 use Rattle.definition_block.specs.HeadingAtx.{atx_of, heading_atx}
 use Rattle.definition_block.specs.HeadingSetext.{underline_of, underline}
 use Rattle.definition_block.specs.ThematicBreak.{is_break_text, is_break}
-use Rattle.definition_block.specs.GfmTable.{Cell, cell, in_first_cell, is_bar, parts, without_blank_first, without_blank_last, cells, after_dashes, delimiter, and_alignment, alignments_of, is_bar_or_colon, some_alignments, delimiters, delimiter_row}
+use Rattle.definition_block.specs.GfmTable.{Cell, cell, in_first_cell, is_bar, parts, without_blank_first, without_blank_last, delimiter}
+use Rattle.definition_block.specs.GfmTable.{and_alignment, alignments_of, is_bar_or_colon, some_alignments, delimiters, delimiter_row}
 use Rattle.block_starts.specs.Marks.{may_start}
 use Rattle.block_starts.specs.Plain.{begins_block, is_plain_byte, begins_plain}
 use Rattle.block_starts.proofs.MarkLemmas.{only_footnote, indent_blank}
@@ -72,7 +73,8 @@ first_code P [] plain k = let wrong : false ≡ true = plain in cc
 first_code P (c ∷ cs) plain k =
     elim (cases_Bool (is_white c)) [
       | inl white ↦
-          let more : prefix_len is_white (c ∷ cs) ≡ suc (prefix_len is_white cs) = let one = cond-true (is_white c) (1 + prefix_len is_white cs) 0 white in omega arith in
+          let more : prefix_len is_white (c ∷ cs) ≡ suc (prefix_len is_white cs) = let one = cond-true (is_white c) (1 + prefix_len is_white cs) 0 white in
+          omega arith in
           let same : bare (c ∷ cs) ≡ bare cs = ap (λ n. drop n (c ∷ cs)) more in
           subst P (sym same) (first_code P cs (ap (λ bs. begins_plain (bytes_of bs)) (sym same) ∙ plain) k)
       | inr dark ↦
@@ -91,7 +93,8 @@ no_container on interrupts r none =
 no_first : (c : ℕ) (cs : Rest) → is_plain_byte c ≡ true → (may_start (c ∷ cs) ≡ false) × (footnote_mark (c ∷ cs) ≡ None)
 no_first c cs plain = (
   or_from ((c == 62) || (c == 45) || (c == 43) || (c == 42)) _
-      (or_from ((c == 62) || (c == 45) || (c == 43)) _ (or_from ((c == 62) || (c == 45)) _ (or_from (c == 62) _ (other c 62 plain refl) (other c 45 plain refl)) (other c 43 plain refl)) (other c 42 plain refl))
+      (or_from ((c == 62) || (c == 45) || (c == 43)) _ (or_from ((c == 62) || (c == 45)) _ (or_from (c == 62) _ (other c 62 plain refl) (other c 45 plain refl))
+      (other c 43 plain refl)) (other c 42 plain refl))
       (no_digit c plain),
   ap after_bracket (cond-false (c == 91) _ _ (other c 91 plain refl)),
 )
@@ -180,7 +183,7 @@ no_break_text (b ∷ bs) plain =
 -- ---- rows of delimiters
 
 -- a cell that begins with such a byte is no delimiter
-no_delimiter : (b : ℕ) (bs : List ℕ) → is_plain_byte b ≡ true → delimiter (trimmed (b ∷ bs)) ≡ None
+no_delimiter : (b : ℕ) (bs : List ℕ) → is_plain_byte b ≡ true → delimiter (trim (b ∷ bs)) ≡ None
 no_delimiter b bs plain =
     let same : drop (prefix_len is_white (b ∷ bs)) (b ∷ bs) ≡ b ∷ bs = ap (λ n. drop n (b ∷ bs)) (cond-false (is_white b) _ 0 (no_white b plain)) in
     ap (λ rest. delimiter (take (length rest - suffix_len is_white rest) rest)) same ∙ front (length (b ∷ bs) - suffix_len is_white (b ∷ bs))
@@ -192,16 +195,19 @@ no_delimiter b bs plain =
         ∙ cond-true (run 45 (b ∷ take n bs) == 0) _ _ (ap (λ k. k == 0) (no_run 45 b (take n bs) plain refl))
 
 -- nor is the first of some cells
-no_alignment : (b : ℕ) (bs : List ℕ) (after : Kind) (others : List Cell) → is_plain_byte b ≡ true → some_alignments (alignments_of (cell (b ∷ bs) Whitespace after ∷ others)) ≡ None
+no_alignment : (b : ℕ) (bs : List ℕ) (after : Kind) (others : List Cell) → is_plain_byte b ≡ true
+    → some_alignments (alignments_of (cell (b ∷ bs) Whitespace after ∷ others)) ≡ None
 no_alignment b bs after others plain = ap (λ o. some_alignments (and_alignment o (alignments_of others))) (no_delimiter b bs plain)
 
 without_last : (b : ℕ) (bs : List ℕ) (after : Kind) (others : List Cell) → is_plain_byte b ≡ true
     → some_alignments (alignments_of (without_blank_last (cell (b ∷ bs) Whitespace after ∷ others))) ≡ None
 without_last b bs after [] plain =
-    ap (λ cs. some_alignments (alignments_of cs)) (cond-false (is_blank (b ∷ bs)) _ _ (no_and (is_white b) _ (no_white b plain))) ∙ no_alignment b bs after [] plain
+    ap (λ cs. some_alignments (alignments_of cs)) (cond-false (is_blank (b ∷ bs)) _ _ (no_and (is_white b) _ (no_white b plain)))
+    ∙ no_alignment b bs after [] plain
 without_last b bs after (c ∷ cs) plain = no_alignment b bs after (without_blank_last (c ∷ cs)) plain
 
-in_first : (b : ℕ) (others : List Cell) → is_plain_byte b ≡ true → some_alignments (alignments_of (without_blank_last (without_blank_first (in_first_cell b Whitespace others)))) ≡ None
+in_first : (b : ℕ) (others : List Cell) → is_plain_byte b ≡ true
+    → some_alignments (alignments_of (without_blank_last (without_blank_first (in_first_cell b Whitespace others)))) ≡ None
 in_first b [] plain = refl
 in_first b (c ∷ cs) plain =
     ap (λ all. some_alignments (alignments_of (without_blank_last all))) (cond-false (is_blank (b ∷ c.codes)) _ _ (no_and (is_white b) _ (no_white b plain)))

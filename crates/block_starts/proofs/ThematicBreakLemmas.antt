@@ -1,5 +1,6 @@
 -- Ends of a text that are no breaks.
-use Rattle.std.proofs.Common.{◌≡◌, ℕ, zero, suc, ◌+◌, ◌-◌, ◌<◌, ◌≤◌, List, [], ◌∷◌, Bool, true, false, ◌||◌, inl, inr, eqb, sym, ap, ◌∙◌, length, drop, get_or, arith}
+use Rattle.std.proofs.Common.{◌≡◌, ℕ, zero, suc, ◌+◌, ◌-◌, ◌<◌, ◌≤◌, List, [], ◌∷◌, Bool, true, false, ◌||◌, inl, inr, eqb, sym, ap, ◌∙◌, length, drop, get_or}
+use Rattle.std.proofs.Common.{arith}
 use Rattle.std.specs.Prelude.{leb}
 use Rattle.std.specs.List.{list_all, count_by}
 use Rattle.std.proofs.lemmas.Bool.{and_parts, or_cases, eqb-true}

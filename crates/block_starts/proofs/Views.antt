@@ -1,5 +1,6 @@
 -- What cursors stand for.
-use Rattle.std.proofs.Common.{◌≡◌, ℕ, ◌+◌, ◌-◌, ◌*◌, ◌<◌, ◌≤◌, suc, zero, List, [], ◌∷◌, ◌++◌, true, false, inl, inr, eqb, leb, refl, sym, ap, ◌∙◌, length, get_or, replicate, take, drop, arith}
+use Rattle.std.proofs.Common.{◌≡◌, ℕ, ◌+◌, ◌-◌, ◌*◌, ◌<◌, ◌≤◌, suc, zero, List, [], ◌∷◌, ◌++◌, true, false, inl, inr, eqb, leb, refl, sym, ap, ◌∙◌, length}
+use Rattle.std.proofs.Common.{get_or, replicate, take, drop, arith}
 use Rattle.std.specs.List.{list_all, prefix_len}
 use Rattle.std.proofs.lemmas.List.{length-replicate, take_at}
 use Rattle.std.proofs.lemmas.List.Sums.{prefix_len-le-length}
@@ -71,7 +72,8 @@ pub codes_view : (c : Cursor) → ((k : ℕ) → get_or c.text.now k 0 < 256) �
 unfolding rest_of
 codes_view c bytes =
     ap (λ n. take n (rest_of c) ++ bytes_of (rest_of c)) (owed_view c bytes)
-    ∙ ap (λ front. front ++ bytes_of (rest_of c)) (take_at (replicate c.owed tab_column) (codes_from c.column c.text.now) c.owed (length-replicate c.owed tab_column))
+    ∙ ap (λ front. front ++ bytes_of (rest_of c)) (take_at (replicate c.owed tab_column) (codes_from c.column c.text.now) c.owed
+    (length-replicate c.owed tab_column))
 
 pub indent_view : (c : Cursor) → indent (rest_of c) ≡ c.owed + indent (codes_from c.column c.text.now)
 unfolding rest_of

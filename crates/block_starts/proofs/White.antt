@@ -1,5 +1,6 @@
 -- Columns of spaces and tabs at the front of a rest.
-use Rattle.std.proofs.Common.{◌≡◌, ℕ, ◌+◌, ◌-◌, ◌*◌, ◌<◌, ◌≤◌, suc, zero, List, [], ◌∷◌, ◌++◌, true, false, eqb, inl, inr, refl, sym, ap, ◌∙◌, length, drop, get_or, replicate, arith}
+use Rattle.std.proofs.Common.{◌≡◌, ℕ, ◌+◌, ◌-◌, ◌*◌, ◌<◌, ◌≤◌, suc, zero, List, [], ◌∷◌, ◌++◌, true, false, eqb, inl, inr, refl, sym, ap, ◌∙◌, length, drop}
+use Rattle.std.proofs.Common.{get_or, replicate, arith}
 use Rattle.std.specs.Prelude.{if◌then◌else◌, ◌==◌}
 use Rattle.std.specs.List.{list_all, prefix_len}
 use Rattle.std.proofs.lemmas.Bool.{cases_Bool, cond-true, cond-false, and_parts, and_from, eqb-true, eqb-false, cond_both}
@@ -34,7 +35,8 @@ codes_first : (column b : ℕ) (bs : List ℕ) → codes_from column (b ∷ bs) 
 codes_first column b bs =
     elim (cases_Bool (eqb b 9)) [
       | inl h ↦
-          let after : column + 1 + columns_after_tab column ≡ column + width column b = let e = cond-true (eqb b 9) (1 + columns_after_tab column) 1 h in omega arith in
+          let after : column + 1 + columns_after_tab column ≡ column + width column b = let e = cond-true (eqb b 9) (1 + columns_after_tab column) 1 h in
+          omega arith in
           cond-true (eqb b 9) _ _ h
           ∙ ap (λ n. 9 ∷ (replicate (columns_after_tab column) tab_column ++ codes_from n bs)) after
           ∙ sym (ap (λ c. c ++ codes_from (column + width column b) bs) (cond-true (eqb b 9) (9 ∷ replicate (columns_after_tab column) tab_column) (b ∷ []) h))
@@ -91,7 +93,8 @@ width_bounds column b = (
 
 -- ---- one byte more
 
-indent_byte : (column b : ℕ) (bs : List ℕ) → is_white b ≡ true → indent (codes_from column (b ∷ bs)) ≡ width column b + indent (codes_from (column + width column b) bs)
+indent_byte : (column b : ℕ) (bs : List ℕ) → is_white b ≡ true → indent (codes_from column (b ∷ bs))
+    ≡ width column b + indent (codes_from (column + width column b) bs)
 indent_byte column b bs white =
     ap indent (codes_first column b bs)
     ∙ indent_front (codes_of column b) (codes_from (column + width column b) bs) (white_codes column b white)

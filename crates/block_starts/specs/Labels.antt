@@ -1,6 +1,7 @@
 -- Where the label of a footnote definition ends.
 use Rattle.std.specs.Prelude.{◌≡◌, ℕ, suc, Bool, false, not, if◌then◌else◌, ◌==◌, ◌&&◌, nat_le, List, [], ◌∷◌, Option, None, Some, length}
 use Rattle.std.specs.Option.{option_map}
+use Rattle.definition_text.specs.Ascii.{colon, right_bracket}
 use Rattle.definition_text.specs.Columns.{Rest}
 use Rattle.definition_text.specs.Content.{is_space, may_escape, closed_by}
 use Rattle.definition_inline.specs.Label.{ends_label, label_end}
@@ -12,7 +13,7 @@ abbrev pub label_len : Bool → List ℕ → Option ℕ
 label_len escaped [] = None
 label_len escaped (b ∷ bs) =
     if is_space b then None
-    else if ends_label escaped b then (if b == 93 then Some 0 else None)
+    else if ends_label escaped b then (if b == right_bracket then Some 0 else None)
     else option_map suc (label_len (may_escape escaped b) bs)
 
 -- at least one byte, and at most 999
@@ -26,4 +27,4 @@ NoLabel rest = with_colon (closed_by rest (label_end false rest)) ≡ None
 -- if any are, this is the label, and what follows its `]`
 abbrev pub IsLabelBefore : Rest → List ℕ → Rest → Type 0
 IsLabelBefore rest label after =
-    with_colon (closed_by rest (label_end false rest)) ≡ (if is_short label then label_before label (after_byte 58 after) else None)
+    with_colon (closed_by rest (label_end false rest)) ≡ (if is_short label then label_before label (after_byte colon after) else None)

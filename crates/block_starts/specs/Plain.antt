@@ -1,13 +1,16 @@
 -- Rests with which nothing begins but text.
 use Rattle.std.specs.Prelude.{ℕ, Bool, false, not, ◌==◌, ◌&&◌, ◌||◌, leb, List, [], ◌∷◌}
+use Rattle.definition_text.specs.Ascii.{number_sign, dollar, asterisk, plus, hyphen, colon, less_than, equals, greater_than, left_bracket, underscore, backtick}
+use Rattle.definition_text.specs.Ascii.{vertical_bar, tilde}
 use Rattle.definition_block.specs.ListItem.{is_digit}
 use Rattle.definition_text.specs.Columns.{Rest, is_white, indent, bare, bytes_of}
 
 -- a byte that a block other than a paragraph may begin with: `#`, `$`, `*`, `+`, `-`, `:`, `<`, `=`, `>`, `[`, `_`, `` ` ``, `|`, `~` or a digit
 abbrev pub begins_block : ℕ → Bool
 begins_block b =
-    (b == 35) || (b == 36) || (b == 42) || (b == 43) || (b == 45) || (b == 58) || (b == 60) || (b == 61) || (b == 62) || (b == 91)
-    || (b == 95) || (b == 96) || (b == 124) || (b == 126) || is_digit b
+    (b == number_sign) || (b == dollar) || (b == asterisk) || (b == plus) || (b == hyphen) || (b == colon) || (b == less_than) || (b == equals)
+    || (b == greater_than) || (b == left_bracket)
+    || (b == underscore) || (b == backtick) || (b == vertical_bar) || (b == tilde) || is_digit b
 
 -- another, and no white space
 abbrev pub is_plain_byte : ℕ → Bool

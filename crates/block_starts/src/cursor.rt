@@ -4,7 +4,7 @@
 ghost use Rattle.std.specs.Prelude.{◌≡◌, ◌+◌, ◌*◌, ◌/◌, ◌^◌, ◌<◌, ◌≤◌, ◌∷◌, ◌++◌, false, length, replicate, take, drop, slice_index, MatchOption, ℕ};
 ghost use Rattle.std.specs.List.{prefix_len};
 ghost use Rattle.definition_text.specs.Columns.{whole, codes_from, indent, bare, bytes_of, block_codes, is_blank, is_tab_column, tab_column, is_white};
-ghost use Rattle.definition_text.specs.Indents.{outdented};
+ghost use Rattle.definition_text.specs.Indents.{outdent};
 ghost use Rattle.definition_block.specs.ListItem.{is_digit};
 ghost use Rattle.definition_block.specs.ThematicBreak.{is_break_text};
 ghost use Rattle.block_starts.specs.Marks.{NoMark, begins_container, is_mark, may_start};
@@ -148,7 +148,7 @@ impl<'a> Cursor<'a> {
 
     /// The rest without its first columns of spaces and tabs, at most so many.
     pub fn outdented(self, most: usize) -> Cursor<'a>
-        ensures { rest_of result ≡ outdented most (rest_of self.entry) }
+        ensures { rest_of result ≡ outdent most (rest_of self.entry) }
     {
         if most >= self.indent() {
             return self.bare();

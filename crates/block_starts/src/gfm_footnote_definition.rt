@@ -4,21 +4,19 @@
 //!     label     ::= ('\' ('[' | ']' | '\') | byte without brackets and white space){1,999}
 //!     continues ::= column_of_space{4}, or a blank rest
 ghost use Rattle.std.specs.Prelude.{◌≡◌, true};
-ghost use Rattle.definition_text.specs.Columns.{bare};
 ghost use Rattle.definition_block.specs.BlockQuote.{after_byte as rest_after};
 ghost use Rattle.definition_block.specs.GfmFootnoteDefinition.{footnote_mark as footnote_mark_of, footnote_start as footnote_starts};
 ghost use Rattle.definition_block.specs.GfmFootnoteDefinition.{footnote_continues as footnote_goes_on};
-ghost use Rattle.definition_block.specs.Tree.{kind_after_label};
 ghost use Rattle.block_starts.specs.Labels.{is_short};
 ghost use Rattle.block_starts.specs.Marks.{is_mark};
 ghost use Rattle.block_starts.specs.GfmFootnoteDefinition.{mark_if};
-ghost use Rattle.block_starts.specs.View.{rest_of, rest_if, started_if};
+ghost use Rattle.block_starts.specs.View.{rest_of, rest_if, line_if, started_if};
 
+use crate::container_line::{ContainerLine, kind_before_content};
 use crate::cursor::Cursor;
 use crate::indent::is_small;
 use crate::list_item::item_continues;
 use definition_block::Container;
-use definition_text::Kind;
 use markdown_options::Constructs;
 use markdown_options::constants::{LINK_REFERENCE_SIZE_MAX, TAB_SIZE};
 
@@ -29,11 +27,11 @@ pub(crate) struct Mark<'a> {
     rest: Cursor<'a>,
 }
 
-/// The footnote definition that starts here, and the rest after what starts it.
+/// The footnote definition that starts here, and what it leaves of the line.
 pub(crate) fn footnote_start<'a>(
     on: &Constructs,
     rest: Cursor<'a>,
-) -> Option<(Container<'a>, Cursor<'a>)>
+) -> Option<(Container<'a>, ContainerLine<'a>)>
     ensures { started_if result ≡ footnote_starts on.now (rest_of rest.entry) }
 {
     if !on.gfm_footnote_definition {
@@ -45,7 +43,11 @@ pub(crate) fn footnote_start<'a>(
     }
     let mark = footnote_mark(bare)?;
     let (_, content) = mark.rest.split_bare();
-    Some((Container::Footnote(mark.label), content))
+    let line = ContainerLine {
+        rest: content,
+        before: kind_before_content(mark.rest),
+    };
+    Some((Container::Footnote(mark.label), line))
 }
 
 /// The marker that a rest begins with.
@@ -80,25 +82,9 @@ fn after_byte(byte: u8, rest: Cursor<'_>) -> Option<Cursor<'_>>
     if first == byte { Some(after) } else { None }
 }
 
-/// The rest after four columns, where it goes on.
-pub(crate) fn footnote_continues(rest: Cursor<'_>) -> Option<Cursor<'_>>
-    ensures { rest_if result ≡ footnote_goes_on (rest_of rest.entry) }
+/// What is left after four columns, where it goes on.
+pub(crate) fn footnote_continues(rest: Cursor<'_>) -> Option<ContainerLine<'_>>
+    ensures { line_if result ≡ footnote_goes_on (rest_of rest.entry) }
 {
     item_continues(TAB_SIZE, false, rest)
-}
-
-/// The kind of the character before the content: white space, or the colon of a label with none
-/// after it.
-pub(crate) fn kind_after_label(rest: Cursor<'_>) -> Kind
-    ensures { result ≡ kind_after_label (footnote_mark_of (bare (rest_of rest.entry))) }
-{
-    let (_, bare) = rest.split_bare();
-    let Some(mark) = footnote_mark(bare) else {
-        return Kind::Whitespace;
-    };
-    if mark.rest.indent() > 0 {
-        Kind::Whitespace
-    } else {
-        Kind::Punctuation
-    }
 }

@@ -5,6 +5,7 @@ pub mod block_quote;
 pub mod code_fenced;
 pub mod code_indented;
 pub mod container;
+pub mod container_line;
 pub mod cursor;
 pub mod gfm_footnote_definition;
 pub mod heading_atx;
@@ -16,4 +17,5 @@ pub mod math_flow;
 pub mod plain;
 pub mod thematic_break;
 
+pub use container_line::ContainerLine;
 pub use cursor::Cursor;

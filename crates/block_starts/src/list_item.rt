@@ -10,14 +10,16 @@ ghost use Rattle.definition_block.specs.ListItem.{is_digit, number_of as number_
 ghost use Rattle.definition_block.specs.ListItem.{gap as gap_of, is_first as is_first_number};
 ghost use Rattle.definition_block.specs.ListItem.{is_item as is_item_after, item as item_of, item_start as item_starts};
 ghost use Rattle.definition_block.specs.ListItem.{is_inside as is_inside_item, item_continues as item_goes_on};
-ghost use Rattle.block_starts.specs.View.{rest_of, rest_if, container_view, started_if};
+ghost use Rattle.block_starts.specs.View.{rest_of, line_if, container_view, started_if};
 ghost use Rattle.block_starts.specs.ListItem.{marker_view, marker_if};
-ghost use Rattle.definition_block.specs.Started.{started};
+ghost use Rattle.definition_block.specs.ContainerStart.{container_start};
 
+use crate::container_line::ContainerLine;
 use crate::cursor::Cursor;
 use crate::indent::is_small;
 use crate::thematic_break::is_break;
 use definition_block::{Container, Item};
+use definition_text::Kind;
 use markdown_options::Constructs;
 use markdown_options::constants::LIST_ITEM_VALUE_SIZE_MAX;
 
@@ -30,13 +32,13 @@ struct Marker<'a> {
     rest: Cursor<'a>,
 }
 
-/// The item that starts here, and the rest after what starts it. `interrupts` says that it would
+/// The item that starts here, and what it leaves of the line. `interrupts` says that it would
 /// interrupt a paragraph.
 pub fn item_start<'a>(
     on: &Constructs,
     interrupts: bool,
     rest: Cursor<'a>,
-) -> Option<(Container<'a>, Cursor<'a>)>
+) -> Option<(Container<'a>, ContainerLine<'a>)>
     ensures { started_if result ≡ item_starts on.now interrupts (rest_of rest.entry) }
 {
     let (columns, bare) = rest.split_bare();
@@ -148,11 +150,11 @@ fn is_first(number: Option<u32>) -> bool
     }
 }
 
-/// The item of a marker after so many columns.
-fn make_item<'a>(columns: usize, marker: Marker<'a>) -> (Container<'a>, Cursor<'a>)
+/// The item of a marker after so many columns, and what it leaves of the line.
+fn make_item<'a>(columns: usize, marker: Marker<'a>) -> (Container<'a>, ContainerLine<'a>)
     requires columns { columns < 2 ^ 63 }
     requires size { marker.size ≤ 10 }
-    ensures { started (container_view result.0) (rest_of result.1) ≡ item_of columns (marker_view marker.entry) }
+    ensures { container_start (container_view result.0) (rest_of result.1.rest) result.1.before ≡ item_of columns (marker_view marker.entry) }
 {
     let gap = gap(marker.rest);
     let item = Item {
@@ -160,7 +162,11 @@ fn make_item<'a>(columns: usize, marker: Marker<'a>) -> (Container<'a>, Cursor<'
         number: marker.number,
         size: columns + marker.size + gap,
     };
-    (Container::Item(item), marker.rest.outdented(gap))
+    let line = ContainerLine {
+        rest: marker.rest.outdented(gap),
+        before: Kind::Whitespace,
+    };
+    (Container::Item(item), line)
 }
 
 /// The columns between a marker and the content.
@@ -176,13 +182,20 @@ fn gap(after: Cursor<'_>) -> usize
     }
 }
 
-/// The rest after an item's columns, where it goes on. `began_blank` says that it began with a
+/// What is left after an item's columns, where it goes on. `began_blank` says that it began with a
 /// blank rest on the line before.
-pub fn item_continues<'a>(size: usize, began_blank: bool, rest: Cursor<'a>) -> Option<Cursor<'a>>
-    ensures { rest_if result ≡ item_goes_on size began_blank (rest_of rest.entry) }
+pub fn item_continues<'a>(
+    size: usize,
+    began_blank: bool,
+    rest: Cursor<'a>,
+) -> Option<ContainerLine<'a>>
+    ensures { line_if result ≡ item_goes_on size began_blank (rest_of rest.entry) }
 {
     if is_inside(size, began_blank, rest) {
-        Some(rest.outdented(size))
+        Some(ContainerLine {
+            rest: rest.outdented(size),
+            before: Kind::Whitespace,
+        })
     } else {
         None
     }

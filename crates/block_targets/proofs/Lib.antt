@@ -1,2 +1,4 @@
 pub mod Leads
 mod Notes
+mod NoDefinition
+mod NoFootnote

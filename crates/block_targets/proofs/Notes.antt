@@ -8,7 +8,8 @@ use Rattle.std.proofs.lemmas.List.Sums.{fold-append}
 use Rattle.definition_text.specs.Columns.{tab_column}
 use Rattle.definition_text.specs.Content.{is_space, content_codes}
 use Rattle.definition_block.specs.Container.{Quote, Item, Footnote}
-use Rattle.definition_block.specs.Blocks.{Block, Paragraph, Heading, Break, IndentedCode, FencedCode, Html, Table, Definition, Holds, Items, Ending, Blank, Blocks, Nil, Cons}
+use Rattle.definition_block.specs.Blocks.{Block, Paragraph, Heading, Break, IndentedCode, FencedCode, Html, Table, Definition, Holds, Items, Ending, Blank}
+use Rattle.definition_block.specs.Blocks.{Blocks, Nil, Cons}
 use Rattle.definition_block.specs.Definitions.{block_footnotes, footnotes}
 use Rattle.block_rows.specs.Rows.{Exit, block_rows, rows_of}
 use Rattle.block_targets.specs.GfmFootnoteDefinition.{Noted, noted, note_row}
@@ -17,7 +18,8 @@ nothing_more : (ended : List (List ℕ)) (containers : _) → noted ended contai
 nothing_more ended containers = ap (λ x. noted x containers) (sym (append-nil ended))
 
 mutual
-  notes_in : (b : Block) (ended : List (List ℕ)) (containers : _) → fold note_row (noted ended containers) (block_rows b) ≡ noted (ended ++ block_footnotes b) containers
+  notes_in : (b : Block) (ended : List (List ℕ)) (containers : _) → fold note_row (noted ended containers) (block_rows b)
+      ≡ noted (ended ++ block_footnotes b) containers
   notes_in (Paragraph ls) ended containers = nothing_more ended containers
   notes_in (Heading rank ls) ended containers = nothing_more ended containers
   notes_in Break ended containers = nothing_more ended containers
@@ -42,7 +44,8 @@ mutual
   notes_in (Ending ending) ended containers = nothing_more ended containers
   notes_in (Blank ending) ended containers = nothing_more ended containers
 
-  pub notes_of : (bs : Blocks) (ended : List (List ℕ)) (containers : _) → fold note_row (noted ended containers) (rows_of bs) ≡ noted (ended ++ footnotes bs) containers
+  pub notes_of : (bs : Blocks) (ended : List (List ℕ)) (containers : _) → fold note_row (noted ended containers) (rows_of bs)
+      ≡ noted (ended ++ footnotes bs) containers
   notes_of Nil ended containers = nothing_more ended containers
   notes_of (Cons b bs) ended containers =
       fold-append note_row (noted ended containers) (block_rows b) (rows_of bs)
@@ -65,6 +68,7 @@ not_true : (a : Bool) → not a ≡ true → a ≡ false
 not_true true e = sym e
 not_true false e = refl
 
-pub bare_codes : (owed : ℕ) (text : List ℕ) → not (list_any is_space (replicate owed tab_column ++ text)) ≡ true → content_codes text ≡ replicate owed tab_column ++ text
+pub bare_codes : (owed : ℕ) (text : List ℕ) → not (list_any is_space (replicate owed tab_column ++ text)) ≡ true
+    → content_codes text ≡ replicate owed tab_column ++ text
 bare_codes zero text h = text_codes text (not_true (list_any is_space text) h)
 bare_codes (suc owed) text h = absurd (false≢true h)

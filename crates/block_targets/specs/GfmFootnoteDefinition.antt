@@ -1,11 +1,33 @@
 -- The footnote definitions whose rows were read so far.
-use Rattle.std.specs.Prelude.{◌≡◌, ℕ, Bool, true, not, List, [], ◌∷◌, ◌++◌, Option, None, Some, map, reverse}
+use Rattle.std.specs.Prelude.{◌≡◌, ℕ, Bool, true, false, not, List, [], ◌∷◌, ◌++◌, Option, None, Some, map, reverse}
 use Rattle.std.specs.List.{fold, list_all, list_any}
 use Rattle.std.specs.Option.{option_map}
 use Rattle.definition_text.specs.Content.{is_space, content_codes}
+use Rattle.block_rows.specs.declared.row.Row.{Row}
+use Rattle.block_rows.specs.declared.row.Row.TheVariants as row
 use Rattle.block_rows.specs.Rows.{BlockRow, Single, EnterQuote, EnterItem, EnterFootnote, Exit}
 use Rattle.inline_labels.specs.Table.{HasLabels}
 use Rattle.block_targets.specs.declared.gfm_footnote_definition.Footnotes.{Footnotes}
+
+-- whether a row starts a footnote definition
+abbrev pub starts_footnote : Row → Bool
+starts_footnote (row.Paragraph count) = false
+starts_footnote (row.WholeParagraph count) = false
+starts_footnote (row.Heading rank) = false
+starts_footnote (row.SetextHeading rank count) = false
+starts_footnote row.Break = false
+starts_footnote (row.IndentedCode count) = false
+starts_footnote (row.FencedCode count) = false
+starts_footnote (row.UnclosedCode count) = false
+starts_footnote (row.Html count) = false
+starts_footnote (row.Table count) = false
+starts_footnote (row.Definition count) = false
+starts_footnote row.EnterQuote = false
+starts_footnote (row.EnterItem marker number) = false
+starts_footnote row.EnterFootnote = true
+starts_footnote row.Exit = false
+starts_footnote (row.Ending ending) = false
+starts_footnote (row.Blank ending) = false
 
 -- the labels of those that ended, and for each container that is open its label, if it has one, the innermost first
 pub record Noted : Type 0 where

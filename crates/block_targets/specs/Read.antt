@@ -1,15 +1,37 @@
 -- The definitions that were read so far.
-use Rattle.std.specs.Prelude.{◌≡◌, List, [], Option, None, Some, String, map, string_bytes}
+use Rattle.std.specs.Prelude.{◌≡◌, Bool, true, false, List, [], Option, None, Some, String, map, string_bytes}
 use Rattle.std.specs.Option.{option_map}
 use Rattle.definition_text.specs.Content.{content_codes}
 use Rattle.definition_inline.specs.Inline.{Linked, linked}
 use Rattle.definition_inline.specs.Definition.{Definition, definition, definition_at}
 use Rattle.definition_page.specs.Targets.{labels_of, no_definition}
+use Rattle.block_rows.specs.declared.row.Row.{Row}
+use Rattle.block_rows.specs.declared.row.Row.TheVariants as row
 use Rattle.inline_labels.specs.Table.{HasLabels}
 use Rattle.inline_links.specs.declared.text.TextDefinition.{TextDefinition}
 use Rattle.inline_rows.specs.View.{linked_view}
 use Rattle.block_targets.specs.declared.contents.DefinitionContents.{DefinitionContents}
 use Rattle.block_targets.specs.declared.definitions.Definitions.{Definitions}
+
+-- whether a row is a definition
+abbrev pub is_definition : Row → Bool
+is_definition (row.Paragraph count) = false
+is_definition (row.WholeParagraph count) = false
+is_definition (row.Heading rank) = false
+is_definition (row.SetextHeading rank count) = false
+is_definition row.Break = false
+is_definition (row.IndentedCode count) = false
+is_definition (row.FencedCode count) = false
+is_definition (row.UnclosedCode count) = false
+is_definition (row.Html count) = false
+is_definition (row.Table count) = false
+is_definition (row.Definition count) = true
+is_definition row.EnterQuote = false
+is_definition (row.EnterItem marker number) = false
+is_definition row.EnterFootnote = false
+is_definition row.Exit = false
+is_definition (row.Ending ending) = false
+is_definition (row.Blank ending) = false
 
 -- a definition with nothing after it, if there is one
 abbrev pub alone : Option Definition → Definition

@@ -1,10 +1,11 @@
 //! The contents of a document's link reference definitions (CommonMark 4.7).
 ghost use Rattle.std.specs.Prelude.{◌≡◌, ◌≤◌, ◌++◌, ◌∷◌, [], List, IfOk, OnOk, length};
+ghost use Rattle.std.specs.List.{list_any};
 ghost use Rattle.definition_block.specs.Blocks.{Blocks};
 ghost use Rattle.definition_inline.specs.Definition.{Definition};
 ghost use Rattle.block_rows.specs.Rows.{rows_size, definition_on, row_size, piece_lines, row_definitions, row_value, rows_of, rows_value};
 ghost use Rattle.definition_page.specs.Targets.{document_definitions};
-ghost use Rattle.block_targets.specs.Read.{HasContents, alone};
+ghost use Rattle.block_targets.specs.Read.{HasContents, alone, is_definition};
 
 use block_rows::{Piece, Row, join_lines};
 use std::alloc::{AllocError, Allocator};
@@ -28,12 +29,22 @@ pub fn definition_contents<A: Allocator + Clone>(
         IfOk result (λ contents. HasContents contents (document_definitions bs)) }
 {
     let mut contents = DefinitionContents::new(alloc)?;
+    if !has_definitions(rows) {
+        return Ok(contents);
+    }
     let mut at = 0;
     for row in rows {
         contents.row(*row, &pieces[at..])?;
         at += row.size();
     }
     Ok(contents)
+}
+
+/// Whether some row is a definition.
+fn has_definitions(rows: &[Row]) -> bool
+    ensures { result ≡ list_any is_definition rows.now }
+{
+    rows.iter().any(|row| matches!(row, Row::Definition(_)))
 }
 
 impl<A: Allocator + Clone> DefinitionContents<A> {

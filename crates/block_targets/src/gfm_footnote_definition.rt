@@ -1,11 +1,13 @@
 //! The labels of a document's footnote definitions (in neither standard).
 ghost use Rattle.std.specs.Prelude.{◌≡◌, ◌≤◌, ◌++◌, ◌∷◌, [], ℕ, List, true, length, IfOk, OnOk};
+ghost use Rattle.std.specs.List.{list_any};
 ghost use Rattle.std.specs.Option.{option_map};
 ghost use Rattle.definition_text.specs.Content.{content_codes};
 ghost use Rattle.definition_block.specs.Blocks.{Blocks};
 ghost use Rattle.definition_block.specs.Definitions.{footnotes};
 ghost use Rattle.block_rows.specs.Rows.{rows_size, row_size, piece_lines, row_value, rows_of, rows_value};
 ghost use Rattle.block_targets.specs.GfmFootnoteDefinition.{HasEnded, HasNoted, Noted, are_bare_rows, is_bare_row, note_exit, note_row, noted, nothing_noted};
+ghost use Rattle.block_targets.specs.GfmFootnoteDefinition.{starts_footnote};
 
 use block_rows::{Piece, Row};
 use inline_labels::LabelTable;
@@ -35,12 +37,22 @@ pub fn document_footnotes<'a, A: Allocator + Clone>(
         IfOk result (λ found. HasNoted found (noted (footnotes bs) [])) }
 {
     let mut found = Footnotes::new(alloc)?;
+    if !has_footnotes(rows) {
+        return Ok(found);
+    }
     let mut at = 0;
     for row in rows {
         found.row(*row, &pieces[at..])?;
         at += row.size();
     }
     Ok(found)
+}
+
+/// Whether a footnote definition starts in some row.
+fn has_footnotes(rows: &[Row]) -> bool
+    ensures { result ≡ list_any starts_footnote rows.now }
+{
+    rows.iter().any(|row| matches!(row, Row::EnterFootnote))
 }
 
 impl<'a, A: Allocator + Clone> Footnotes<'a, A> {

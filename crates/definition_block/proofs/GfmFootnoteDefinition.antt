@@ -1,5 +1,5 @@
 -- What the start of a footnote definition leaves of a rest: an end of it, and so what holds of each end of a rest that it holds of.
-use Rattle.std.proofs.Common.{◌≡◌, ℕ, Bool, false, ◌&&◌, eqb, List, [], ◌∷◌, Option, None, Some, drop}
+use Rattle.std.proofs.Common.{ℕ, Bool, false, ◌&&◌, eqb, List, [], ◌∷◌, Option, None, Some, drop}
 use Rattle.std.specs.Prelude.{IfSome, if◌then◌else◌, ◌==◌}
 use Rattle.std.proofs.lemmas.Bool.{cond_both}
 use Rattle.markdown_options.specs.declared.configuration.Constructs.{Constructs}
@@ -7,9 +7,10 @@ use Rattle.definition_text.specs.Columns.{Rest, indent, bare}
 use Rattle.definition_text.specs.Indents.{small_indent}
 use Rattle.definition_text.specs.Content.{Part, may_escape, closed_by}
 use Rattle.definition_inline.specs.Label.{ends_label, label_end}
-use Rattle.definition_block.specs.Started.{Started}
+use Rattle.definition_block.specs.ContainerStart.{ContainerStart}
 use Rattle.definition_block.specs.BlockQuote.{after_byte}
-use Rattle.definition_block.specs.GfmFootnoteDefinition.{is_footnote_label, label_before, with_colon, after_open, after_bracket, footnote_mark, footnote_of, footnote_start}
+use Rattle.definition_block.specs.GfmFootnoteDefinition.{is_footnote_label, label_before, with_colon, after_open, after_bracket, footnote_mark, footnote_of}
+use Rattle.definition_block.specs.GfmFootnoteDefinition.{footnote_start}
 use Rattle.definition_block.specs.Containers.{footnote_or}
 
 module _ (Fine : Rest → Type 0) (dropped : (n : ℕ) (rest : Rest) → Fine rest → Fine (drop n rest)) where
@@ -19,7 +20,7 @@ module _ (Fine : Rest → Type 0) (dropped : (n : ℕ) (rest : Rest) → Fine re
   abbrev FinePart : Option Part → Type 0
   FinePart o = IfSome o (λ part. Fine part.rest)
 
-  abbrev FineStarted : Option Started → Type 0
+  abbrev FineStarted : Option ContainerStart → Type 0
   FineStarted o = IfSome o (λ s. Fine s.rest)
 
   -- what follows the first code of a rest
@@ -75,6 +76,6 @@ module _ (Fine : Rest → Type 0) (dropped : (n : ℕ) (rest : Rest) → Fine re
       (λ _. of_fine mark (bracket_fine (after_byte 91 (bare rest)) (byte_fine 91 (bare rest) h))) (λ _. tt)
 
 -- what holds of one of two starts
-pub footnote_either : (P : Option Started → Type 0) (other o : Option Started) → P other → P o → P (footnote_or other o)
+pub footnote_either : (P : Option ContainerStart → Type 0) (other o : Option ContainerStart) → P other → P o → P (footnote_or other o)
 footnote_either P other None h k = h
 footnote_either P other (Some footnote) h k = k

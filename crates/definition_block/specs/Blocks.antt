@@ -1,10 +1,13 @@
 -- The blocks of a text (CommonMark 3).
-use Rattle.std.specs.Prelude.{ℕ, Bool, List, [], ◌∷◌, Option, None}
+use Rattle.std.specs.Prelude.{ℕ, Bool, List, Option}
 use Rattle.definition_text.specs.BlockLines.{BlockLine}
 use Rattle.markdown_options.specs.declared.line_ending.LineEnding.{LineEnding}
 use Rattle.definition_block.specs.Container.{Container}
 
--- A child of a container: a paragraph; a heading of a rank; a thematic break; indented code; fenced code with its info, and whether it was closed; an HTML block; a table of its lines, the head, the row of delimiters and the rows of its body; a link reference definition with its label, its destination and its title, as they are written; a container with its children; a list with its items and the endings between them, which is made after the lines are read; the ending of a block's last line; the ending of a blank line.
+-- A child of a container: a paragraph; a heading of a rank; a thematic break; indented code; fenced code with its info, and whether it was closed; an HTML
+-- block; a table of its lines, the head, the row of delimiters and the rows of its body; a link reference definition with its label, its destination and its
+-- title, as they are written; a container with its children; a list with its items and the endings between them, which is made after the lines are read; the
+-- ending of a block's last line; the ending of a blank line.
 mutual
   pub data Block : Type 0 where
     Paragraph : List BlockLine → Block
@@ -32,5 +35,5 @@ abbrev pub one : Block → Blocks
 one b = Cons b Nil
 
 -- a block, and the ending of its last line
-abbrev pub ended : Block → Option LineEnding → Blocks
-ended b ending = Cons b (one (Ending ending))
+abbrev pub block_and_ending : Block → Option LineEnding → Blocks
+block_and_ending b ending = Cons b (one (Ending ending))

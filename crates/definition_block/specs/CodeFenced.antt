@@ -2,8 +2,9 @@
 use Rattle.std.specs.Prelude.{ℕ, Bool, not, if◌then◌else◌, ◌==◌, ◌&&◌, leb, List, Option, None, Some, take}
 use Rattle.std.specs.List.{position_or_len, list_all}
 use Rattle.markdown_options.specs.declared.configuration.Constructs.{Constructs}
-use Rattle.definition_text.specs.Columns.{Rest, bare, bytes_of, indent, is_white, trimmed}
-use Rattle.definition_text.specs.Indents.{small_indent, outdented}
+use Rattle.definition_text.specs.Ascii.{backtick, tilde}
+use Rattle.definition_text.specs.Columns.{Rest, bare, bytes_of, indent, is_white, trim}
+use Rattle.definition_text.specs.Indents.{small_indent, outdent}
 use Rattle.definition_text.specs.Runs.{run, after_run, is_run}
 
 -- an opening fence: its byte, how many there are, the columns before it, and the word after it
@@ -15,7 +16,7 @@ pub record Fence : Type 0 where
 
 -- the first word of a text
 abbrev pub first_word : List ℕ → List ℕ
-first_word text = take (position_or_len is_white (trimmed text)) (trimmed text)
+first_word text = take (position_or_len is_white (trim text)) (trim text)
 
 abbrev pub fence_by : ℕ → ℕ → ℕ → List ℕ → Fence
 fence_by byte run columns after = record { byte = byte; run = run; indent = columns; info = first_word after }
@@ -23,8 +24,9 @@ fence_by byte run columns after = record { byte = byte; run = run; indent = colu
 -- at least three backticks with none in what follows them, or at least three tildes
 abbrev pub fence_of : ℕ → List ℕ → Option Fence
 fence_of columns text =
-    if leb 3 (run 96 text) && list_all (λ b. not (b == 96)) (after_run 96 text) then Some (fence_by 96 (run 96 text) columns (after_run 96 text))
-    else (if leb 3 (run 126 text) then Some (fence_by 126 (run 126 text) columns (after_run 126 text)) else None)
+    if leb 3 (run backtick text) && list_all (λ b. not (b == backtick)) (after_run backtick text)
+    then Some (fence_by backtick (run backtick text) columns (after_run backtick text))
+    else (if leb 3 (run tilde text) then Some (fence_by tilde (run tilde text) columns (after_run tilde text)) else None)
 
 -- the fence that opens here (CommonMark 4.5)
 abbrev pub fence_start : Constructs → Rest → Option Fence
@@ -36,4 +38,4 @@ is_fence_end on fence rest = small_indent on rest && is_run fence.run fence.byte
 
 -- a line of the content, which loses up to the fence's indent (CommonMark 4.5)
 abbrev pub fence_line : Fence → Rest → Rest
-fence_line fence rest = outdented fence.indent rest
+fence_line fence rest = outdent fence.indent rest

@@ -4,7 +4,8 @@ use Rattle.std.specs.List.{count_by}
 use Rattle.markdown_options.specs.declared.configuration.Constructs.{Constructs}
 use Rattle.definition_text.specs.BlockLines.{BlockLine, last_ending, own_lines}
 use Rattle.definition_block.specs.Container.{Container, Quote, Item, Footnote}
-use Rattle.definition_block.specs.Blocks.{Block, Paragraph, Heading, Break, IndentedCode, FencedCode, Html, Table, Definition, Holds, Items, Ending, Blank, Blocks, Nil, Cons, join, ended}
+use Rattle.definition_block.specs.Blocks.{Block, Paragraph, Heading, Break, IndentedCode, FencedCode, Html, Table, Definition, Holds, Items, Ending, Blank}
+use Rattle.definition_block.specs.Blocks.{Blocks, Nil, Cons, join, block_and_ending}
 use Rattle.definition_text.specs.Content.{is_eol, content_of}
 use Rattle.definition_inline.specs.Definition.{Definition as LinkDefinition, definition, definition_at}
 
@@ -26,8 +27,8 @@ abbrev pub lines_before : List ℕ → List BlockLine → ℕ
 lines_before rest ls = length ls - line_count rest
 
 -- a definition on these lines, and the ending of the last one
-abbrev pub defined : LinkDefinition → List BlockLine → Blocks
-defined d ls = ended (Definition d.label d.destination d.title) (last_ending ls)
+abbrev pub definition_lines : LinkDefinition → List BlockLine → Blocks
+definition_lines d ls = block_and_ending (Definition d.label d.destination d.title) (last_ending ls)
 
 -- a definition before what more cuts of the lines after it give
 abbrev pub cut_after : Option LinkDefinition → List BlockLine → (List BlockLine → Cut) → Cut
@@ -35,7 +36,7 @@ cut_after None ls more = cut_into Nil ls
 cut_after (Some d) ls more =
     let count = lines_before d.rest ls in
     let others = more (drop count ls) in
-    cut_into (join (defined d (take count ls)) others.definitions) others.left
+    cut_into (join (definition_lines d (take count ls)) others.definitions) others.left
 
 -- at most so many definitions, one after another
 abbrev pub cut_most : ℕ → List BlockLine → Cut

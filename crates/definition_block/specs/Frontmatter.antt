@@ -2,6 +2,7 @@
 use Rattle.std.specs.Prelude.{ℕ, Bool, if◌then◌else◌, ◌==◌, ◌&&◌, List, [], ◌∷◌, Option, None, Some}
 use Rattle.std.specs.List.{list_all}
 use Rattle.markdown_options.specs.declared.configuration.Constructs.{Constructs}
+use Rattle.definition_text.specs.Ascii.{plus, hyphen}
 use Rattle.definition_text.specs.Columns.{is_white}
 use Rattle.definition_text.specs.Lines.{TextLine}
 use Rattle.definition_text.specs.Runs.{run, after_run}
@@ -19,5 +20,5 @@ after_metadata_fence byte (line ∷ others) = if is_metadata_fence byte line.con
 abbrev pub after_frontmatter : Constructs → List TextLine → Option (List TextLine)
 after_frontmatter on [] = None
 after_frontmatter on (line ∷ others) =
-    if on.frontmatter && is_metadata_fence 45 line.content then after_metadata_fence 45 others
-    else (if on.frontmatter && is_metadata_fence 43 line.content then after_metadata_fence 43 others else None)
+    if on.frontmatter && is_metadata_fence hyphen line.content then after_metadata_fence hyphen others
+    else (if on.frontmatter && is_metadata_fence plus line.content then after_metadata_fence plus others else None)

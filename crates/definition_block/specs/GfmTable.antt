@@ -3,10 +3,11 @@ use Rattle.std.specs.Prelude.{ℕ, Bool, true, false, not, if◌then◌else◌, 
 use Rattle.std.specs.List.{list_any}
 use Rattle.std.specs.Option.{option_map}
 use Rattle.markdown_options.specs.declared.configuration.Constructs.{Constructs}
+use Rattle.definition_text.specs.Ascii.{hyphen, colon, vertical_bar}
 use Rattle.definition_text.specs.declared.beside.Kind.{Kind}
 use Rattle.definition_text.specs.declared.beside.Kind.TheVariants.{Whitespace, Punctuation}
 use Rattle.definition_text.specs.BlockLines.{BlockLine}
-use Rattle.definition_text.specs.Columns.{Rest, is_blank, trimmed, bare, bytes_of}
+use Rattle.definition_text.specs.Columns.{Rest, is_blank, trim, bare, bytes_of}
 use Rattle.definition_text.specs.Indents.{small_indent}
 use Rattle.definition_text.specs.Runs.{run, after_run}
 use Rattle.definition_text.specs.Bytes.{begins_with}
@@ -32,7 +33,7 @@ in_first_cell code before (first ∷ others) = cell (code ∷ first.codes) befor
 
 -- a bar that divides cells, where it is given whether a backslash escapes it
 abbrev pub is_bar : Bool → ℕ → Bool
-is_bar escaped code = (code == 124) && not escaped
+is_bar escaped code = (code == vertical_bar) && not escaped
 
 -- the parts of a line between its bars, after a character of this kind, and after a backslash that escapes or not
 abbrev pub parts : Kind → Bool → List ℕ → List Cell
@@ -70,12 +71,12 @@ alignment false false = align.None
 -- a colon alone, or nothing, which says whether there is a colon
 abbrev pub right_colon : List ℕ → Option Bool
 right_colon [] = Some false
-right_colon (c ∷ []) = if c == 58 then Some true else None
+right_colon (c ∷ []) = if c == colon then Some true else None
 right_colon (c ∷ d ∷ cs) = None
 
 -- dashes, at least one, and then a colon or not
 abbrev pub after_dashes : Bool → List ℕ → Option AlignKind
-after_dashes left text = if run 45 text == 0 then None else option_map (alignment left) (right_colon (after_run 45 text))
+after_dashes left text = if run hyphen text == 0 then None else option_map (alignment left) (right_colon (after_run hyphen text))
 
 -- how a column is aligned, where this is a delimiter: dashes, at least one, with a colon at either end or not (GFM 4.10)
 abbrev pub delimiter : List ℕ → Option AlignKind
@@ -89,10 +90,10 @@ and_alignment (Some first) others = option_map (λ more. first ∷ more) others
 -- how columns are aligned, where all these cells are delimiters
 abbrev pub alignments_of : List Cell → Option (List AlignKind)
 alignments_of [] = Some []
-alignments_of (c ∷ cs) = and_alignment (delimiter (trimmed c.codes)) (alignments_of cs)
+alignments_of (c ∷ cs) = and_alignment (delimiter (trim c.codes)) (alignments_of cs)
 
 abbrev pub is_bar_or_colon : ℕ → Bool
-is_bar_or_colon code = (code == 124) || (code == 58)
+is_bar_or_colon code = (code == vertical_bar) || (code == colon)
 
 -- the alignments, if there are any
 abbrev pub some_alignments : Option (List AlignKind) → Option (List AlignKind)

@@ -1,7 +1,8 @@
 -- Where HTML blocks start and end (CommonMark 4.6). A line is given by its bytes after the spaces and tabs ahead.
 use Rattle.std.specs.Prelude.{ℕ, Bool, true, false, not, if◌then◌else◌, ◌==◌, ◌&&◌, ◌||◌, leb, List, [], ◌∷◌, Option, None, Some, drop, codes}
-use Rattle.std.specs.List.{take_while, list_all}
+use Rattle.std.specs.List.{take_while}
 use Rattle.markdown_options.specs.declared.configuration.Constructs.{Constructs}
+use Rattle.definition_text.specs.Ascii.{greater_than}
 use Rattle.definition_text.specs.Columns.{Rest, bare, bytes_of, is_white, is_blank}
 use Rattle.definition_text.specs.Indents.{small_indent}
 use Rattle.definition_text.specs.Bytes.{is_letter_or_digit, begins_with, begins_with_letter, after_all, without_slash, somewhere, holds}
@@ -19,7 +20,7 @@ after_element_name bytes = after_all is_letter_or_digit bytes
 -- a space, a tab, `>` or the end of the line
 abbrev pub ends_name : List ℕ → Bool
 ends_name [] = true
-ends_name (b ∷ bs) = is_white b || (b == 62)
+ends_name (b ∷ bs) = is_white b || (b == greater_than)
 
 -- kind 1: `<`, one of the raw names, and what ends a name
 abbrev pub starts_raw : List ℕ → Bool

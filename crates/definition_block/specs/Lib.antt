@@ -1,5 +1,6 @@
 pub mod Container
-pub mod Started
+pub mod ContainerLine
+pub mod ContainerStart
 pub mod BlockQuote
 pub mod ThematicBreak
 pub mod ListItem

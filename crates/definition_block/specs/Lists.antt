@@ -1,14 +1,15 @@
 -- Lists: neighbouring items are put together after the lines are read (CommonMark 5.3).
 use Rattle.std.specs.Prelude.{ℕ, suc, Bool, false, if◌then◌else◌, ◌==◌, ◌&&◌, ◌||◌, not, leb}
 use Rattle.definition_block.specs.Container.{Container, Quote, Item, Footnote}
-use Rattle.definition_block.specs.Tree.{Block, Paragraph, Heading, Break, IndentedCode, FencedCode, Html, Table, Definition, Holds, Items, Ending, Blank, Blocks, Nil, Cons, join, one, is_ending}
+use Rattle.definition_block.specs.Tree.{Block, Paragraph, Heading, Break, IndentedCode, FencedCode, Html, Table, Definition, Holds, Items, Ending, Blank}
+use Rattle.definition_block.specs.Tree.{Blocks, Nil, Cons, join, one, is_ending}
 
 -- ---- neighbours
 
 -- how many endings stand at the front
-abbrev pub leading : Blocks → ℕ
-leading Nil = 0
-leading (Cons b bs) = if is_ending b then suc (leading bs) else 0
+abbrev pub endings_at_front : Blocks → ℕ
+endings_at_front Nil = 0
+endings_at_front (Cons b bs) = if is_ending b then suc (endings_at_front bs) else 0
 
 -- the endings at the front, and what follows them
 abbrev pub endings_of : Blocks → Blocks
@@ -23,10 +24,11 @@ abbrev pub is_some_block : Blocks → Bool
 is_some_block Nil = false
 is_some_block (Cons b bs) = not (is_ending b) || is_some_block bs
 
--- whether some two neighbouring children have a line between them: two endings or more stand between, that of the first one's last line and those of the lines between
+-- whether some two neighbouring children have a line between them: two endings or more stand between, that of the first one's last line and those of the lines
+-- between
 abbrev pub has_gap : Blocks → Bool
 has_gap Nil = false
-has_gap (Cons b bs) = (not (is_ending b) && leb 2 (leading bs) && is_some_block bs) || has_gap bs
+has_gap (Cons b bs) = (not (is_ending b) && leb 2 (endings_at_front bs) && is_some_block bs) || has_gap bs
 
 -- whether some two neighbouring children of one of these items have a line between them
 abbrev pub has_gap_inside : Blocks → Bool
@@ -85,11 +87,11 @@ abbrev mutual
   grouped_block (Html ls) = Html ls
   grouped_block (Table ls) = Table ls
   grouped_block (Definition label destination title) = Definition label destination title
-  grouped_block (Holds c kids) = Holds c (grouped kids)
+  grouped_block (Holds c kids) = Holds c (group_items kids)
   grouped_block (Items kids) = Items kids
   grouped_block (Ending ending) = Ending ending
   grouped_block (Blank ending) = Blank ending
 
-  pub grouped : Blocks → Blocks
-  grouped Nil = Nil
-  grouped (Cons b bs) = before (grouped_block b) (grouped bs)
+  pub group_items : Blocks → Blocks
+  group_items Nil = Nil
+  group_items (Cons b bs) = before (grouped_block b) (group_items bs)

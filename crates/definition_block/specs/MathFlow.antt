@@ -1,7 +1,8 @@
 -- Blocks of math: fenced code with two dollars or more in place of backticks, and no info of its own (in neither standard).
-use Rattle.std.specs.Prelude.{ℕ, Bool, not, if◌then◌else◌, ◌==◌, ◌&&◌, leb, List, Option, None, Some, codes}
+use Rattle.std.specs.Prelude.{ℕ, not, if◌then◌else◌, ◌==◌, ◌&&◌, leb, List, Option, None, Some, codes}
 use Rattle.std.specs.List.{list_all}
 use Rattle.markdown_options.specs.declared.configuration.Constructs.{Constructs}
+use Rattle.definition_text.specs.Ascii.{dollar}
 use Rattle.definition_text.specs.Columns.{Rest, bare, bytes_of, indent}
 use Rattle.definition_text.specs.Indents.{small_indent}
 use Rattle.definition_text.specs.Runs.{run, after_run}
@@ -14,8 +15,8 @@ math_info = codes "math math-display"
 -- at least two dollars with none in what follows them, which says nothing
 abbrev pub math_fence_of : ℕ → List ℕ → Option Fence
 math_fence_of columns text =
-    if leb 2 (run 36 text) && list_all (λ b. not (b == 36)) (after_run 36 text)
-    then Some (record { byte = 36; run = run 36 text; indent = columns; info = math_info })
+    if leb 2 (run dollar text) && list_all (λ b. not (b == dollar)) (after_run dollar text)
+    then Some (record { byte = dollar; run = run dollar text; indent = columns; info = math_info })
     else None
 
 -- the fence of math that opens here

@@ -2,12 +2,13 @@
 use Rattle.std.specs.Prelude.{ℕ, Bool, false, ◌==◌, ◌&&◌, ◌||◌, leb, List, [], ◌∷◌}
 use Rattle.std.specs.List.{list_all, count_by}
 use Rattle.markdown_options.specs.declared.configuration.Constructs.{Constructs}
+use Rattle.definition_text.specs.Ascii.{asterisk, hyphen, underscore}
 use Rattle.definition_text.specs.Columns.{Rest, bare, bytes_of, is_white}
 use Rattle.definition_text.specs.Indents.{small_indent}
 
 -- `*`, `-` or `_`
 abbrev pub is_break_marker : ℕ → Bool
-is_break_marker byte = (byte == 42) || (byte == 45) || (byte == 95)
+is_break_marker byte = (byte == asterisk) || (byte == hyphen) || (byte == underscore)
 
 -- this byte, spaces and tabs, and the byte at least three times
 abbrev pub is_break_by : ℕ → List ℕ → Bool

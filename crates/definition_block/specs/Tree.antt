@@ -4,18 +4,17 @@ use Rattle.markdown_options.specs.declared.line_ending.LineEnding.{LineEnding}
 use Rattle.markdown_options.specs.declared.configuration.Constructs.{Constructs}
 use Rattle.definition_text.specs.declared.beside.Beside.{Beside}
 use Rattle.definition_text.specs.declared.beside.Kind.{Kind}
-use Rattle.definition_text.specs.declared.beside.Kind.TheVariants.{Whitespace, Punctuation}
+use Rattle.definition_text.specs.declared.beside.Kind.TheVariants.{Whitespace}
 use Rattle.definition_block.specs.Container.{Container, Quote, Item, Footnote}
 use Rattle.definition_text.specs.Lines.{TextLine, lines}
 pub use Rattle.definition_text.specs.BlockLines.{BlockLine, block_line, spaced_line, last_ending_or, last_ending, own_lines}
-pub use Rattle.definition_block.specs.Blocks.{Block, Paragraph, Heading, Break, IndentedCode, FencedCode, Html, Table, Definition, Holds, Items, Ending, Blank, Blocks, Nil, Cons, join, one, ended}
-use Rattle.definition_text.specs.Content.{Part}
-use Rattle.definition_text.specs.Columns.{Rest, whole, is_white, is_blank, bare, block_codes}
-use Rattle.definition_text.specs.Indents.{outdented}
-use Rattle.definition_block.specs.Started.{Started}
-use Rattle.definition_block.specs.BlockQuote.{after_byte}
+pub use Rattle.definition_block.specs.Blocks.{Block, Paragraph, Heading, Break, IndentedCode, FencedCode, Html, Table, Definition, Holds, Items, Ending, Blank}
+pub use Rattle.definition_block.specs.Blocks.{Blocks, Nil, Cons, join, one, block_and_ending}
+use Rattle.definition_text.specs.Columns.{Rest, whole, is_blank, block_codes}
+use Rattle.definition_text.specs.Indents.{outdent}
+use Rattle.definition_block.specs.ContainerLine.{ContainerLine}
+use Rattle.definition_block.specs.ContainerStart.{ContainerStart}
 use Rattle.definition_block.specs.Containers.{continues, starts}
-use Rattle.definition_block.specs.GfmFootnoteDefinition.{footnote_mark}
 use Rattle.definition_block.specs.CodeIndented.{starts_code_indented}
 use Rattle.definition_block.specs.CodeFenced.{Fence, fence_start, is_fence_end, fence_line}
 use Rattle.definition_block.specs.MathFlow.{math_start}
@@ -30,7 +29,9 @@ use Rattle.definition_block.specs.GfmTable.{delimiter_row, is_head}
 
 -- ---- what is open
 
--- A leaf block that is open: a paragraph with its lines, none where no leaf is open; indented code with its lines, and the blank lines after them, which may turn out to be no part of it; fenced code with its fence, the ending of the fence's line, and its lines; an HTML block with its kind and its lines; a table with its lines.
+-- A leaf block that is open: a paragraph with its lines, none where no leaf is open; indented code with its lines, and the blank lines after them, which may
+-- turn out to be no part of it; fenced code with its fence, the ending of the fence's line, and its lines; an HTML block with its kind and its lines; a table
+-- with its lines.
 pub data OpenLeaf : Type 0 where
   Text : List BlockLine → OpenLeaf
   Indented : List BlockLine → List BlockLine → OpenLeaf
@@ -67,7 +68,7 @@ blanks (line ∷ others) = Cons (Blank line.ending) (blanks others)
 -- a paragraph of these lines, if there are any
 abbrev pub paragraph_of : List BlockLine → Blocks
 paragraph_of [] = Nil
-paragraph_of (line ∷ others) = ended (Paragraph (own_lines (line ∷ others))) (last_ending (line ∷ others))
+paragraph_of (line ∷ others) = block_and_ending (Paragraph (own_lines (line ∷ others))) (last_ending (line ∷ others))
 
 -- a paragraph after the definitions at its front, which are none of its lines (CommonMark 4.7)
 abbrev pub with_paragraph : Cut → Blocks
@@ -76,10 +77,10 @@ with_paragraph parts = join parts.definitions (paragraph_of parts.left)
 -- the children that are finished where this leaf is closed
 abbrev pub close_leaf : Constructs → OpenLeaf → Blocks
 close_leaf on (Text ls) = with_paragraph (cut on ls)
-close_leaf on (Indented ls pending) = join (ended (IndentedCode (own_lines ls)) (last_ending ls)) (blanks pending)
-close_leaf on (Fenced fence ending ls) = ended (FencedCode fence.info false ls) (last_ending_or ending ls)
-close_leaf on (OpenHtml kind ls) = ended (Html (own_lines ls)) (last_ending ls)
-close_leaf on (OpenTable ls) = ended (Table (own_lines ls)) (last_ending ls)
+close_leaf on (Indented ls pending) = join (block_and_ending (IndentedCode (own_lines ls)) (last_ending ls)) (blanks pending)
+close_leaf on (Fenced fence ending ls) = block_and_ending (FencedCode fence.info false ls) (last_ending_or ending ls)
+close_leaf on (OpenHtml kind ls) = block_and_ending (Html (own_lines ls)) (last_ending ls)
+close_leaf on (OpenTable ls) = block_and_ending (Table (own_lines ls)) (last_ending ls)
 
 abbrev pub is_ending : Block → Bool
 is_ending (Ending ending) = true
@@ -110,7 +111,8 @@ last_of Nil = Nil
 last_of (Cons b Nil) = if is_ending b then one b else Nil
 last_of (Cons b (Cons c bs)) = last_of (Cons c bs)
 
--- A container ends right before the ending of its last line. Each line of a quote has its marker; blank lines at the end of an item or a footnote definition are not its own.
+-- A container ends right before the ending of its last line. Each line of a quote has its marker; blank lines at the end of an item or a footnote definition
+-- are not its own.
 abbrev pub holds : Container → Blocks → Blocks
 holds Quote kids = Cons (Holds Quote (without_last kids)) (last_of kids)
 holds (Item item) kids = Cons (Holds (Item item) (front kids)) (trailing kids)
@@ -171,21 +173,21 @@ rest_line rest beside = block_line (block_codes rest) beside.ending beside.befor
 -- indented code goes on where the rest is indented 4 columns, and may go on over a blank one (CommonMark 4.4)
 abbrev pub indented_takes : Constructs → List BlockLine → List BlockLine → Rest → Beside → Option Tree
 indented_takes on ls pending rest beside =
-    if is_blank rest then Some (tree Nil (Leaf (Indented ls (pending ++ rest_line (outdented 4 rest) beside ∷ []))))
-    else (if starts_code_indented on rest then Some (tree Nil (Leaf (Indented (ls ++ pending ++ rest_line (outdented 4 rest) beside ∷ []) [])))
+    if is_blank rest then Some (tree Nil (Leaf (Indented ls (pending ++ rest_line (outdent 4 rest) beside ∷ []))))
+    else (if starts_code_indented on rest then Some (tree Nil (Leaf (Indented (ls ++ pending ++ rest_line (outdent 4 rest) beside ∷ []) [])))
     else None)
 
 -- fenced code takes every line up to its closing fence (CommonMark 4.5)
 abbrev pub fenced_takes : Constructs → Fence → Option LineEnding → List BlockLine → Rest → Beside → Option Tree
 fenced_takes on fence opening ls rest beside =
-    if is_fence_end on fence rest then Some (tree (ended (FencedCode fence.info true ls) beside.ending) nothing)
+    if is_fence_end on fence rest then Some (tree (block_and_ending (FencedCode fence.info true ls) beside.ending) nothing)
     else Some (tree Nil (Leaf (Fenced fence opening (ls ++ rest_line (fence_line fence rest) beside ∷ []))))
 
 -- an HTML block with one more line, which may end it (CommonMark 4.6)
 abbrev pub html_with : ℕ → List BlockLine → Rest → Beside → Tree
 html_with kind ls rest beside =
     let more = ls ++ rest_line rest beside ∷ [] in
-    if html_ends_here kind rest then tree (ended (Html (own_lines more)) beside.ending) nothing else tree Nil (Leaf (OpenHtml kind more))
+    if html_ends_here kind rest then tree (block_and_ending (Html (own_lines more)) beside.ending) nothing else tree Nil (Leaf (OpenHtml kind more))
 
 -- an HTML block takes every line up to its end, which may come before a blank one (CommonMark 4.6)
 abbrev pub html_takes : ℕ → List BlockLine → Rest → Beside → Option Tree
@@ -201,7 +203,7 @@ takes on (OpenTable ls) rest beside = None
 
 abbrev pub or_heading : Option LineEnding → Option Atx → Option Tree
 or_heading ending None = None
-or_heading ending (Some atx) = Some (tree (ended (Heading atx.rank (spaced_line atx.content None ∷ [])) ending) nothing)
+or_heading ending (Some atx) = Some (tree (block_and_ending (Heading atx.rank (spaced_line atx.content None ∷ [])) ending) nothing)
 
 abbrev pub or_fence : Option LineEnding → Option Fence → Option Tree → Option Tree
 or_fence ending None other = other
@@ -212,10 +214,11 @@ abbrev pub or_html : Rest → Beside → Option ℕ → Option Tree → Option T
 or_html rest beside None other = other
 or_html rest beside (Some kind) other = Some (html_with kind [] rest beside)
 
--- the leaf that a rest begins, other than a paragraph or a break: indented code, which can't interrupt a paragraph, fenced code, math, an HTML block, or an ATX heading, in this order
+-- the leaf that a rest begins, other than a paragraph or a break: indented code, which can't interrupt a paragraph, fenced code, math, an HTML block, or an ATX
+-- heading, in this order
 abbrev pub begins : Constructs → Bool → Rest → Beside → Option Tree
 begins on paragraph rest beside =
-    if starts_code_indented on rest && not paragraph then Some (tree Nil (Leaf (Indented (rest_line (outdented 4 rest) beside ∷ []) [])))
+    if starts_code_indented on rest && not paragraph then Some (tree Nil (Leaf (Indented (rest_line (outdent 4 rest) beside ∷ []) [])))
     else or_fence beside.ending (fence_start on rest)
     (or_fence beside.ending (math_start on rest)
     (or_html rest beside (html_start on paragraph rest)
@@ -225,7 +228,8 @@ begins on paragraph rest beside =
 abbrev pub after : Constructs → Opening → Tree → Tree
 after on away t = tree (join (close on away) t.done) t.now
 
--- a line of text goes on the open paragraph, also where it isn't in all of its containers, or is a row of the open table, or starts a paragraph (CommonMark 4.8 and GFM 4.10)
+-- a line of text goes on the open paragraph, also where it isn't in all of its containers, or is a row of the open table, or starts a paragraph (CommonMark 4.8
+-- and GFM 4.10)
 abbrev pub text_line_of : Constructs → Opening → Rest → Beside → Tree
 text_line_of on away rest beside =
     if has_text away || has_table away then tree Nil (with_line (rest_line rest beside) away)
@@ -240,16 +244,16 @@ text_here (Inside c kids inner) = []
 abbrev pub heading_of : ℕ → Blocks → List BlockLine → Option LineEnding → Option Tree
 heading_of rank definitions [] ending = None
 heading_of rank definitions (line ∷ others) ending =
-    Some (tree (join definitions (ended (Heading rank (own_lines (line ∷ others))) ending)) nothing)
+    Some (tree (join definitions (block_and_ending (Heading rank (own_lines (line ∷ others))) ending)) nothing)
 
 -- the same for an underline of a rank, where there is one
-abbrev pub underlined : Constructs → Option ℕ → List BlockLine → Option LineEnding → Option Tree
-underlined on None ls ending = None
-underlined on (Some rank) ls ending = let parts = cut on ls in heading_of rank parts.definitions parts.left ending
+abbrev pub heading_if : Constructs → Option ℕ → List BlockLine → Option LineEnding → Option Tree
+heading_if on None ls ending = None
+heading_if on (Some rank) ls ending = let parts = cut on ls in heading_of rank parts.definitions parts.left ending
 
 -- what an underline makes of the open paragraph: a heading (CommonMark 4.3)
 abbrev pub turns : Constructs → Opening → Rest → Option LineEnding → Option Tree
-turns on away rest ending = underlined on (underline on rest) (text_here away) ending
+turns on away rest ending = heading_if on (underline on rest) (text_here away) ending
 
 -- the definitions and the lines before the last one of a paragraph, and an open table with that one as its head
 abbrev pub table_of : Blocks → List BlockLine → BlockLine → Tree
@@ -257,7 +261,8 @@ table_of definitions ls row =
     let head = length ls - 1 in
     tree (join definitions (paragraph_of (take head ls))) (Leaf (OpenTable (drop head ls ++ row ∷ [])))
 
--- what a row of delimiters makes of a paragraph's lines, where there is one, and something is left of them after their definitions, of which the last has as many cells
+-- what a row of delimiters makes of a paragraph's lines, where there is one, and something is left of them after their definitions, of which the last has as
+-- many cells
 abbrev pub table_if : Constructs → Option (List AlignKind) → List BlockLine → BlockLine → Option Tree
 table_if on None ls row = None
 table_if on (Some columns) ls row =
@@ -273,49 +278,28 @@ begun on None away other = other
 begun on (Some t) away other = after on away t
 
 -- what takes the line, or something other
-abbrev pub taken : Option Tree → Tree → Tree
-taken None other = other
-taken (Some t) other = t
+abbrev pub tree_or : Option Tree → Tree → Tree
+tree_or None other = other
+tree_or (Some t) other = t
 
 -- a rest in which no other leaf begins: a break, a table, or text
 abbrev pub break_or_text : Constructs → Opening → Rest → Beside → Tree
 break_or_text on away rest beside =
-    if is_break on rest then after on away (tree (ended Break beside.ending) nothing)
-    else taken (makes_table on away rest beside) (text_line_of on away rest beside)
+    if is_break on rest then after on away (tree (block_and_ending Break beside.ending) nothing)
+    else tree_or (makes_table on away rest beside) (text_line_of on away rest beside)
 
 -- the rest of a line that starts no container, where `away` is what the line isn't in: a blank one closes it (CommonMark 4.9)
 abbrev pub leaf_line : Constructs → Opening → Rest → Beside → Tree
 leaf_line on away rest beside =
     if is_blank rest then after on away (tree (one (Blank beside.ending)) nothing)
-    else begun on (begins on (has_text away) rest beside) away (taken (turns on away rest beside.ending) (break_or_text on away rest beside))
+    else begun on (begins on (has_text away) rest beside) away (tree_or (turns on away rest beside.ending) (break_or_text on away rest beside))
 
--- whether a space or tab comes first
-abbrev pub begins_with_white : Rest → Bool
-begins_with_white [] = false
-begins_with_white (code ∷ codes) = is_white code
-
--- the kind of the character before what is left after a quote's `>`: that byte, or the space or tab that belongs to it
-abbrev pub kind_after_mark : Option Rest → Kind
-kind_after_mark None = Punctuation
-kind_after_mark (Some rest) = if begins_with_white rest then Whitespace else Punctuation
-
--- the kind of the character before the content of a footnote definition: white space, or the colon after its label
-abbrev pub kind_after_label : Option Part → Kind
-kind_after_label None = Whitespace
-kind_after_label (Some mark) = if begins_with_white mark.rest then Whitespace else Punctuation
-
--- the kind of the character before what a container leaves of a rest: white space stands before the content of an item (CommonMark 5.1 and 5.2)
-abbrev pub kind_after : Container → Rest → Kind
-kind_after Quote rest = kind_after_mark (after_byte 62 (bare rest))
-kind_after (Item item) rest = Whitespace
-kind_after (Footnote label) rest = kind_after_label (footnote_mark (bare rest))
-
--- what stands beside that
-abbrev pub beside_in : Container → Rest → Beside → Beside
-beside_in c rest beside = record { before = kind_after c rest; ending = beside.ending }
+-- what stands beside the rest that a container leaves of a line, after a character of this kind
+abbrev pub beside_in : Kind → Beside → Beside
+beside_in before beside = record { before = before; ending = beside.ending }
 
 -- a container starts, or none
-abbrev pub start : Constructs → Option Started → Opening → Tree → (Started → Tree) → Tree
+abbrev pub start : Constructs → Option ContainerStart → Opening → Tree → (ContainerStart → Tree) → Tree
 start on None away other more = other
 start on (Some s) away other more = let t = more s in after on away (tree Nil (Inside s.container t.done t.now))
 
@@ -324,7 +308,7 @@ abbrev pub new : ℕ → Constructs → Bool → Opening → Beside → Rest →
 new zero on all away beside rest = leaf_line on away rest beside
 new (suc most) on all away beside rest =
     start on (starts on (all && has_text away) rest) away (leaf_line on away rest beside)
-    (λ s. new most on true nothing (beside_in s.container rest beside) s.rest)
+    (λ s. new most on true nothing (beside_in s.before beside) s.rest)
 
 abbrev pub in_container : Container → Blocks → Tree → Tree
 in_container c kids t = tree Nil (Inside c (join kids t.done) t.now)
@@ -342,15 +326,15 @@ abbrev pub began_blank : Blocks → Opening → Bool
 began_blank kids inner = is_one_blank kids && is_nothing inner
 
 -- a container goes on, or not
-abbrev pub goes_on : Option Rest → Constructs → Container → Blocks → Opening → Beside → Rest → (Rest → Tree) → Tree
+abbrev pub goes_on : Option ContainerLine → Constructs → Container → Blocks → Opening → Beside → Rest → (ContainerLine → Tree) → Tree
 goes_on None on c kids inner beside rest more = new (length rest) on false (Inside c kids inner) beside rest
-goes_on (Some after) on c kids inner beside rest more = in_container c kids (more after)
+goes_on (Some line) on c kids inner beside rest more = in_container c kids (more line)
 
 -- a line: the containers that go on, then the leaf that takes it, or what is new
 abbrev pub grow : Constructs → Beside → Opening → Rest → Tree
-grow on beside (Leaf leaf) rest = taken (takes on leaf rest beside) (new (length rest) on true (Leaf leaf) beside rest)
+grow on beside (Leaf leaf) rest = tree_or (takes on leaf rest beside) (new (length rest) on true (Leaf leaf) beside rest)
 grow on beside (Inside c kids inner) rest =
-    goes_on (continues on c (began_blank kids inner) rest) on c kids inner beside rest (grow on (beside_in c rest beside) inner)
+    goes_on (continues on c (began_blank kids inner) rest) on c kids inner beside rest (λ line. grow on (beside_in line.before beside) inner line.rest)
 
 -- what stands beside a line of the text, after a character of this kind
 abbrev pub beside_line : Kind → TextLine → Beside
@@ -366,12 +350,12 @@ steps on before t [] = t
 steps on before t (line ∷ others) = steps on Whitespace (step on before t line) others
 
 -- the end of the text closes what is open
-abbrev pub closed : Constructs → Tree → Blocks
-closed on t = join t.done (close on t.now)
+abbrev pub blocks_at_end : Constructs → Tree → Blocks
+blocks_at_end on t = join t.done (close on t.now)
 
 -- the children of a document of these lines, the first after a character of this kind
 abbrev pub children : Constructs → Kind → List TextLine → Blocks
-children on before ls = closed on (steps on before empty_tree ls)
+children on before ls = blocks_at_end on (steps on before empty_tree ls)
 
 -- the children of the document, where the lines after its frontmatter are given if it has one
 abbrev pub children_after : Constructs → Kind → List TextLine → Option (List TextLine) → Blocks

@@ -3,35 +3,36 @@ use Rattle.std.proofs.Common.{inl, inr, ◌≡◌, ℕ, zero, suc, ◌-◌, ◌<
 use Rattle.std.specs.Prelude.{◌==◌}
 use Rattle.std.proofs.lemmas.Grind.{common_steps}
 use Rattle.std.proofs.lemmas.Bool.{cases_lt, eq-eqb, ne_eqb}
-use Rattle.definition_inline.specs.Pairing.{Placed, Pairing, is_eligible, taken_by, without, opened, paired, up_to_nearest, nearest, paired_or_opened, close, next_run}
+use Rattle.definition_inline.specs.Pairing.{OpenRun, Pairing, is_eligible, taken_by, without, with_opener, with_pair, up_to_nearest, nearest, pair_or_open}
+use Rattle.definition_inline.specs.Pairing.{close, next_run}
 use Rattle.definition_inline.proofs.NearestOpener.{nearest_eligible}
 
 -- an eligible pair takes something, and no more than is left
-pub takes_some : (o c : Placed) → is_eligible o c ≡ true → 0 < taken_by o c
+pub takes_some : (o c : OpenRun) → is_eligible o c ≡ true → 0 < taken_by o c
 takes_some o c h = grind (arith, common_steps)
 
-pub takes_left : (o c : Placed) → is_eligible o c ≡ true → taken_by o c ≤ c.run.left
+pub takes_left : (o c : OpenRun) → is_eligible o c ≡ true → taken_by o c ≤ c.run.left
 takes_left o c h = grind (arith, common_steps)
 
-pub takes_opener : (o c : Placed) → is_eligible o c ≡ true → taken_by o c ≤ o.run.left
+pub takes_opener : (o c : OpenRun) → is_eligible o c ≡ true → taken_by o c ≤ o.run.left
 takes_opener o c h = grind (arith, common_steps)
 
 -- a run that closes nothing
-pub stops : (n : ℕ) (s : Pairing) (c : Placed) → up_to_nearest s.openers c ≤ 0 → close n s c ≡ opened s c
+pub stops : (n : ℕ) (s : Pairing) (c : OpenRun) → up_to_nearest s.openers c ≤ 0 → close n s c ≡ with_opener s c
 stops zero s c none = refl
 stops (suc n) s c none =
     let e : (up_to_nearest s.openers c == 0) ≡ true = eq-eqb _ 0 (omega arith) in
-    ap (λ b. paired_or_opened b s (nearest s.openers c) c (close n)) e
+    ap (λ b. pair_or_open b s (nearest s.openers c) c (close n)) e
 
 -- a run that closes something
-pub goes_on : (n : ℕ) (s : Pairing) (c : Placed) → 0 < up_to_nearest s.openers c
-    → close (suc n) s c ≡ close n (paired s (nearest s.openers c) c) (without (taken_by (nearest s.openers c) c) c)
+pub goes_on : (n : ℕ) (s : Pairing) (c : OpenRun) → 0 < up_to_nearest s.openers c
+    → close (suc n) s c ≡ close n (with_pair s (nearest s.openers c) c) (without (taken_by (nearest s.openers c) c) c)
 goes_on n s c some =
     let e : (up_to_nearest s.openers c == 0) ≡ false = ne_eqb _ 0 (λ z. omega arith) in
-    ap (λ b. paired_or_opened b s (nearest s.openers c) c (close n)) e
+    ap (λ b. pair_or_open b s (nearest s.openers c) c (close n)) e
 
 -- enough for a run is what is left of it
-close_enough : (n m : ℕ) (s : Pairing) (c : Placed) → c.run.left ≤ n → c.run.left ≤ m → close n s c ≡ close m s c
+close_enough : (n m : ℕ) (s : Pairing) (c : OpenRun) → c.run.left ≤ n → c.run.left ≤ m → close n s c ≡ close m s c
 close_enough zero m s c h k =
     elim (cases_lt 0 (up_to_nearest s.openers c)) [
       | inl some ↦
@@ -57,12 +58,12 @@ close_enough (suc n) (suc m) s c h k =
           let yes = nearest_eligible s.openers c some in
           let some_taken = takes_some o c yes in
           let within = takes_left o c yes in
-          goes_on n s c some ∙ close_enough n m (paired s o c) (without (taken_by o c) c) (omega arith) (omega arith) ∙ sym (goes_on m s c some)
+          goes_on n s c some ∙ close_enough n m (with_pair s o c) (without (taken_by o c) c) (omega arith) (omega arith) ∙ sym (goes_on m s c some)
       | inr none ↦ stops (suc n) s c none ∙ sym (stops (suc m) s c none)
     ]
 
-step_on : (n : ℕ) (s : Pairing) (c : Placed) → c.run.left ≡ n → 0 < up_to_nearest s.openers c
-    → next_run s c ≡ next_run (paired s (nearest s.openers c) c) (without (taken_by (nearest s.openers c) c) c)
+step_on : (n : ℕ) (s : Pairing) (c : OpenRun) → c.run.left ≡ n → 0 < up_to_nearest s.openers c
+    → next_run s c ≡ next_run (with_pair s (nearest s.openers c) c) (without (taken_by (nearest s.openers c) c) c)
 step_on zero s c left some =
     let yes = nearest_eligible s.openers c some in
     let some_taken = takes_some (nearest s.openers c) c yes in
@@ -73,13 +74,14 @@ step_on (suc n) s c left some =
     let yes = nearest_eligible s.openers c some in
     let some_taken = takes_some o c yes in
     let within = takes_left o c yes in
-    ap (λ k. close k s c) left ∙ goes_on n s c some ∙ close_enough n (c.run.left - taken_by o c) (paired s o c) (without (taken_by o c) c) (omega arith) (omega arith)
+    ap (λ k. close k s c) left ∙ goes_on n s c some ∙ close_enough n (c.run.left - taken_by o c) (with_pair s o c) (without (taken_by o c) c) (omega arith)
+    (omega arith)
 
 -- a run that closes something, pair by pair
-pub next_run_pairs : (s : Pairing) (c : Placed) → 0 < up_to_nearest s.openers c
-    → next_run s c ≡ next_run (paired s (nearest s.openers c) c) (without (taken_by (nearest s.openers c) c) c)
+pub next_run_pairs : (s : Pairing) (c : OpenRun) → 0 < up_to_nearest s.openers c
+    → next_run s c ≡ next_run (with_pair s (nearest s.openers c) c) (without (taken_by (nearest s.openers c) c) c)
 next_run_pairs s c some = step_on c.run.left s c refl some
 
 -- a run that closes nothing more
-pub next_run_opens : (s : Pairing) (c : Placed) → up_to_nearest s.openers c ≡ 0 → next_run s c ≡ opened s c
+pub next_run_opens : (s : Pairing) (c : OpenRun) → up_to_nearest s.openers c ≡ 0 → next_run s c ≡ with_opener s c
 next_run_opens s c none = stops c.run.left s c (omega arith)

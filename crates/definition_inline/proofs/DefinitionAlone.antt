@@ -1,5 +1,6 @@
 -- A definition at the front of a content is the same without what follows it.
-use Rattle.std.proofs.Common.{◌≡◌, ℕ, Bool, true, false, cond, ◌||◌, eqb, List, [], ◌∷◌, ◌++◌, Option, None, Some, refl, sym, ap, ◌∙◌, ◌⊎◌, inl, inr, append_assoc}
+use Rattle.std.proofs.Common.{◌≡◌, ℕ, Bool, true, false, cond, ◌||◌, eqb, List, [], ◌∷◌, ◌++◌, Option, None, Some, refl, sym, ap, ◌∙◌, ◌⊎◌, inl, inr}
+use Rattle.std.proofs.Common.{append_assoc}
 use Rattle.std.proofs.lemmas.Bool.{cases_Bool, cond-true}
 use Rattle.std.proofs.lemmas.Option.{none-some, cond_some}
 use Rattle.definition_text.specs.Columns.{is_white}
@@ -8,8 +9,10 @@ use Rattle.definition_inline.specs.Space.{after_spaces, after_ending, after_whit
 use Rattle.definition_inline.specs.Label.{label_at}
 use Rattle.definition_inline.specs.Destination.{destination_at}
 use Rattle.definition_inline.specs.Title.{title_at}
-use Rattle.definition_inline.specs.Definition.{Definition, definition, next_line_after, next_line, definition_before, with_title, titled, untitled, or_untitled, with_destination, with_colon, with_label, definition_at}
-use Rattle.definition_inline.proofs.DefinitionParts.{the_same, EndsHere, Whatever, label_reads, title_reads, destination_reads, cons_nil, spaces_pass, spaces_stop, spaces_leave, white_leaves}
+use Rattle.definition_inline.specs.Definition.{Definition, definition, next_line_after, next_line, definition_before, with_title, definition_with_title}
+use Rattle.definition_inline.specs.Definition.{definition_without_title, or_definition_without_title, with_destination, with_colon, with_label, definition_at}
+use Rattle.definition_inline.proofs.DefinitionParts.{the_same, EndsHere, Whatever, label_reads, title_reads, destination_reads, cons_nil, spaces_pass}
+use Rattle.definition_inline.proofs.DefinitionParts.{spaces_stop, spaces_leave, white_leaves}
 
 -- these codes, and then nothing, or a line ending and the rest
 abbrev pub EndsLine : List ℕ → List ℕ → List ℕ → Type 0
@@ -49,7 +52,7 @@ none_either : {A : Type 0} (b : Bool) (o : Option A) → o ≡ None → cond b o
 none_either true o h = h
 none_either false o h = refl
 
-blank_untitled : (label text own : List ℕ) → after_spaces own ≡ [] → titled label (part text own) ≡ None
+blank_untitled : (label text own : List ℕ) → after_spaces own ≡ [] → definition_with_title label (part text own) ≡ None
 blank_untitled label text own h =
     none_either (begins_with_space own) (with_title label text (title_at (after_white own)))
     (ap (λ l. with_title label text (title_at (after_ending l))) h)
@@ -83,8 +86,8 @@ if_there : {A : Type 0} (b : Bool) (o : Option A) (x : A) → cond b o None ≡ 
 if_there true o x h = (refl, h)
 if_there false o x h = absurd (none-some x h)
 
-without_title : (label text cs : List ℕ) (d : Definition) → untitled label (part text cs) ≡ Some d
-    → Again (λ own. or_untitled label (part text own) (titled label (part text own))) EndsHere cs d
+without_title : (label text cs : List ℕ) (d : Definition) → definition_without_title label (part text cs) ≡ Some d
+    → Again (λ own. or_definition_without_title label (part text own) (definition_with_title label (part text own))) EndsHere cs d
 without_title label text cs d h =
     let found = before_found label text None (next_line cs) d h in
     let over = line_over cs d.rest found.0 in
@@ -92,7 +95,7 @@ without_title label text cs d h =
       own = over.own;
       fits = blank_ends over.own over.blank;
       found =
-          ap (or_untitled label (part text over.own)) (blank_untitled label text over.own over.blank)
+          ap (or_definition_without_title label (part text over.own)) (blank_untitled label text over.own over.blank)
           ∙ ap (λ l. definition_before label text None (next_line_after l)) over.blank
           ∙ ap (λ x. Some (definition x.label x.destination x.title [])) found.1;
       ends = over.ends;
@@ -103,7 +106,8 @@ title_found : (label text : List ℕ) (o : Option Part) (d : Definition) → wit
 title_found label text None d h = absurd (none-some d h)
 title_found label text (Some title) d h = (title, refl, h)
 
-with_its_title : (label text cs : List ℕ) (d : Definition) → titled label (part text cs) ≡ Some d → Again (λ own. titled label (part text own)) EndsHere cs d
+with_its_title : (label text cs : List ℕ) (d : Definition) → definition_with_title label (part text cs) ≡ Some d
+    → Again (λ own. definition_with_title label (part text own)) EndsHere cs d
 with_its_title label text cs d h =
     let both = if_there (begins_with_space cs) (with_title label text (title_at (after_white cs))) d h in
     let there = title_found label text (title_at (after_white cs)) d both.1 in
@@ -130,18 +134,20 @@ with_its_title label text cs d h =
           (ends_after (reads.first ∷ reads.more) title.rest over.own d.rest over.ends));
     }
 
-after_destination : (label text cs : List ℕ) (d : Definition) → or_untitled label (part text cs) (titled label (part text cs)) ≡ Some d
-    → Again (λ own. or_untitled label (part text own) (titled label (part text own))) EndsHere cs d
-after_destination label text cs d h = go (titled label (part text cs)) refl
+after_destination : (label text cs : List ℕ) (d : Definition) → or_definition_without_title label (part text cs) (definition_with_title label (part text cs))
+    ≡ Some d
+    → Again (λ own. or_definition_without_title label (part text own) (definition_with_title label (part text own))) EndsHere cs d
+after_destination label text cs d h = go (definition_with_title label (part text cs)) refl
   where
-    go : (o : Option Definition) → titled label (part text cs) ≡ o → Again (λ own. or_untitled label (part text own) (titled label (part text own))) EndsHere cs d
-    go None e = without_title label text cs d (sym (ap (or_untitled label (part text cs)) e) ∙ h)
+    go : (o : Option Definition) → definition_with_title label (part text cs) ≡ o
+        → Again (λ own. or_definition_without_title label (part text own) (definition_with_title label (part text own))) EndsHere cs d
+    go None e = without_title label text cs d (sym (ap (or_definition_without_title label (part text cs)) e) ∙ h)
     go (Some x) e =
-        let more = with_its_title label text cs d (e ∙ sym (ap (or_untitled label (part text cs)) e) ∙ h) in
-        record { own = more.own; fits = more.fits; found = ap (or_untitled label (part text more.own)) more.found; ends = more.ends }
+        let more = with_its_title label text cs d (e ∙ sym (ap (or_definition_without_title label (part text cs)) e) ∙ h) in
+        record { own = more.own; fits = more.fits; found = ap (or_definition_without_title label (part text more.own)) more.found; ends = more.ends }
 
 destination_found : (label : List ℕ) (o : Option Part) (d : Definition) → with_destination label o ≡ Some d
-    → (destination : Part) × (o ≡ Some destination) × (or_untitled label destination (titled label destination) ≡ Some d)
+    → (destination : Part) × (o ≡ Some destination) × (or_definition_without_title label destination (definition_with_title label destination) ≡ Some d)
 destination_found label None d h = absurd (none-some d h)
 destination_found label (Some destination) d h = (destination, refl, h)
 

@@ -1,5 +1,6 @@
 -- The parts of a definition are read the same whatever follows them.
-use Rattle.std.proofs.Common.{◌≡◌, ℕ, ◌+◌, ◌-◌, suc, Bool, true, false, cond, not, ◌&&◌, ◌||◌, eqb, List, [], ◌∷◌, ◌++◌, take, drop, length, Option, None, Some, refl, sym, ap, ◌∙◌, ◌⊎◌, inl, inr, arith, append_assoc}
+use Rattle.std.proofs.Common.{◌≡◌, ℕ, ◌+◌, ◌-◌, suc, Bool, true, false, cond, not, ◌&&◌, ◌||◌, eqb, List, [], ◌∷◌, ◌++◌, take, drop, length, Option, None, Some}
+use Rattle.std.proofs.Common.{refl, sym, ap, ◌∙◌, ◌⊎◌, inl, inr, arith, append_assoc}
 use Rattle.std.proofs.lemmas.Bool.{cases_Bool, cond-true, cond-false, eqb-true}
 use Rattle.std.proofs.lemmas.Option.{none-some, cond_some}
 use Rattle.std.proofs.Math.Seq.{take-append_seam}
@@ -35,37 +36,39 @@ pub record TakesOff (f : List ℕ → Option (List ℕ)) (k : ℕ) (cs rest : Li
 
 module _ (S : Type 0) (f : S → List ℕ → Option (List ℕ)) (ends bad : S → ℕ → Bool) (next : S → ℕ → S) (k : ℕ)
     (over : (st : S) → f st [] ≡ None)
-    (step : (st : S) (c : ℕ) (cs : List ℕ) → f st (c ∷ cs) ≡ cond (ends st c) (cond (eqb c k) (Some (c ∷ cs)) None) (cond (bad st c) None (f (next st c) cs))) where
-  pub takes_off : (st : S) (cs rest : List ℕ) → f st cs ≡ Some rest → TakesOff (f st) k cs rest
-  takes_off st [] rest h = absurd (none-some rest (sym (over st) ∙ h))
-  takes_off st (c ∷ cs) rest h = elim (cases_Bool (ends st c)) [
-    | inl e ↦ elim (cases_Bool (eqb c k)) [
-      | inl i ↦
-          let same : c ≡ k = eqb-true c k i in
-          let found : f st (c ∷ cs) ≡ Some (c ∷ cs) = step st c cs ∙ cond-true (ends st c) _ _ e ∙ cond-true (eqb c k) _ _ i in
-          record {
-            front = [];
-            after = cs;
-            here = ap (λ x. x ∷ cs) same;
-            same = sym (the_same (c ∷ cs) rest (sym found ∙ h)) ∙ ap (λ x. x ∷ cs) same;
-            anywhere = λ s. ap (λ x. f st (x ∷ s)) (sym same) ∙ step st c s ∙ cond-true (ends st c) _ _ e ∙ cond-true (eqb c k) _ _ i ∙ ap (λ x. Some (x ∷ s)) same;
-          }
-      | inr i ↦ absurd (none-some rest (sym (step st c cs ∙ cond-true (ends st c) _ _ e ∙ cond-false (eqb c k) _ _ i) ∙ h))
+    (step : (st : S) (c : ℕ) (cs : List ℕ) → f st (c ∷ cs) ≡ cond (ends st c) (cond (eqb c k) (Some (c ∷ cs)) None) (cond (bad st c) None (f (next st c) cs)))
+  where
+    pub takes_off : (st : S) (cs rest : List ℕ) → f st cs ≡ Some rest → TakesOff (f st) k cs rest
+    takes_off st [] rest h = absurd (none-some rest (sym (over st) ∙ h))
+    takes_off st (c ∷ cs) rest h = elim (cases_Bool (ends st c)) [
+      | inl e ↦ elim (cases_Bool (eqb c k)) [
+        | inl i ↦
+            let same : c ≡ k = eqb-true c k i in
+            let found : f st (c ∷ cs) ≡ Some (c ∷ cs) = step st c cs ∙ cond-true (ends st c) _ _ e ∙ cond-true (eqb c k) _ _ i in
+            record {
+              front = [];
+              after = cs;
+              here = ap (λ x. x ∷ cs) same;
+              same = sym (the_same (c ∷ cs) rest (sym found ∙ h)) ∙ ap (λ x. x ∷ cs) same;
+              anywhere = λ s. ap (λ x. f st (x ∷ s)) (sym same) ∙ step st c s ∙ cond-true (ends st c) _ _ e ∙ cond-true (eqb c k) _ _ i
+                  ∙ ap (λ x. Some (x ∷ s)) same;
+            }
+        | inr i ↦ absurd (none-some rest (sym (step st c cs ∙ cond-true (ends st c) _ _ e ∙ cond-false (eqb c k) _ _ i) ∙ h))
+      ]
+      | inr e ↦ elim (cases_Bool (bad st c)) [
+        | inl i ↦ absurd (none-some rest (sym (step st c cs ∙ cond-false (ends st c) _ _ e ∙ cond-true (bad st c) _ _ i) ∙ h))
+        | inr i ↦
+            let on : (s : List ℕ) → f st (c ∷ s) ≡ f (next st c) s = λ s. step st c s ∙ cond-false (ends st c) _ _ e ∙ cond-false (bad st c) _ _ i in
+            let more = takes_off (next st c) cs rest (sym (on cs) ∙ h) in
+            record {
+              front = c ∷ more.front;
+              after = more.after;
+              here = ap (λ xs. c ∷ xs) more.here;
+              same = more.same;
+              anywhere = λ s. on (more.front ++ k ∷ s) ∙ more.anywhere s;
+            }
+      ]
     ]
-    | inr e ↦ elim (cases_Bool (bad st c)) [
-      | inl i ↦ absurd (none-some rest (sym (step st c cs ∙ cond-false (ends st c) _ _ e ∙ cond-true (bad st c) _ _ i) ∙ h))
-      | inr i ↦
-          let on : (s : List ℕ) → f st (c ∷ s) ≡ f (next st c) s = λ s. step st c s ∙ cond-false (ends st c) _ _ e ∙ cond-false (bad st c) _ _ i in
-          let more = takes_off (next st c) cs rest (sym (on cs) ∙ h) in
-          record {
-            front = c ∷ more.front;
-            after = more.after;
-            here = ap (λ xs. c ∷ xs) more.here;
-            same = more.same;
-            anywhere = λ s. on (more.front ++ k ∷ s) ∙ more.anywhere s;
-          }
-    ]
-  ]
 
 -- ---- the three texts that are closed by a code
 

@@ -5,7 +5,8 @@ use Rattle.std.proofs.lemmas.Bool.{cond_both, cond-false}
 use Rattle.markdown_options.specs.declared.configuration.Constructs.{Constructs}
 use Rattle.definition_text.specs.InlineCode.{InlineCode, codes_of}
 use Rattle.definition_inline.specs.Inline.{LiteralKind, Www, Protocol, Literal, Leaf, leaf}
-use Rattle.definition_inline.specs.GfmAutolinkLiteral.{LiteralStart, literal_start, or_start, begins_caselessly, may_precede_www, may_precede_protocol, literal_start_at, literal_name, named_literal, literal_after, literal_at}
+use Rattle.definition_inline.specs.GfmAutolinkLiteral.{LiteralStart, literal_start, or_start, begins_caselessly, may_precede_www, may_precede_protocol}
+use Rattle.definition_inline.specs.GfmAutolinkLiteral.{literal_start_at, literal_name, named_literal, literal_after, literal_at}
 
 -- what holds where there is none, and of every leaf with one literal where they are on
 pub any_literal : (P : Option Leaf → Type 0) (on : Constructs) (content : List InlineCode) → P None
@@ -44,7 +45,8 @@ no_start_at previous content h =
     ∙ ap (start false false) h.https
     ∙ all (may_precede_www previous) (may_precede_protocol previous)
   where
-    all : (a b : Bool) → or_start (cond (a && false) (Some (literal_start Www 4)) None) (cond (not b) None (cond false (Some (literal_start Protocol 7)) (cond false (Some (literal_start Protocol 8)) None))) ≡ None
+    all : (a b : Bool) → or_start (cond (a && false) (Some (literal_start Www 4)) None)
+        (cond (not b) None (cond false (Some (literal_start Protocol 7)) (cond false (Some (literal_start Protocol 8)) None))) ≡ None
     all true true = refl
     all true false = refl
     all false true = refl

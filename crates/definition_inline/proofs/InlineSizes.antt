@@ -1,5 +1,6 @@
 -- No construct takes a code past the end of the content, and those that hold no other take one at least.
-use Rattle.std.proofs.Common.{◌≡◌, ℕ, zero, suc, ◌+◌, ◌-◌, ◌<◌, ◌≤◌, Bool, true, false, cond, not, ◌&&◌, ◌||◌, List, [], ◌∷◌, map, Option, None, Some, sym, ap, length, drop, take, arith, subst, length-drop}
+use Rattle.std.proofs.Common.{◌≡◌, ℕ, zero, suc, ◌+◌, ◌-◌, ◌<◌, ◌≤◌, Bool, true, false, cond, not, ◌&&◌, ◌||◌, List, [], ◌∷◌, map, Option, None, Some, sym, ap}
+use Rattle.std.proofs.Common.{length, drop, take, arith, subst, length-drop}
 use Rattle.std.specs.Prelude.{◌==◌, ◌++◌, nat_le, codes, reverse, slice_index_or}
 use Rattle.std.specs.List.{prefix_len}
 use Rattle.std.specs.Option.{option_or}
@@ -15,19 +16,26 @@ use Rattle.definition_text.specs.Bytes.{begins_with, after_all, begins_with_lett
 use Rattle.definition_text.specs.InlineCode.{InlineCode, codes_of}
 use Rattle.definition_text.specs.Runs.{run, after_run}
 use Rattle.definition_text.specs.Content.{Part, part, before, up_to}
-use Rattle.definition_inline.specs.HtmlTags.{followed_by, is_tag_space, tag_space, is_tag_name_byte, after_tag_name, begins_attribute, is_attribute_byte, is_unquoted, quoted, unquoted, value, value_or, specification, attribute, has_attribute, attributes, tag_end, open_end, closing_end, open_rest, closing_rest, open_tag, closing_tag}
+use Rattle.definition_inline.specs.HtmlTags.{followed_by, is_tag_space, tag_space, is_tag_name_byte, after_tag_name, begins_attribute, is_attribute_byte}
+use Rattle.definition_inline.specs.HtmlTags.{is_unquoted, quoted_value, unquoted_value, value, value_or, specification, attribute, has_attribute, attributes}
+use Rattle.definition_inline.specs.HtmlTags.{tag_end, open_end, closing_end, open_rest, closing_rest, open_tag, closing_tag}
 use Rattle.definition_inline.specs.Inline.{Reference, Escape, Autolink, Literal, Www, Protocol, EscapedBreak, LineEnd, Leaf, leaf, or_else}
 use Rattle.definition_inline.specs.CharacterEscape.{escape_at}
-use Rattle.definition_inline.specs.CharacterReference.{CharacterReference, before_semicolon, terminated, numbered, named, number_reference, reference_after, reference_form, reference_text, reference_leaf, reference_of, reference_at}
+use Rattle.definition_inline.specs.CharacterReference.{CharacterReference, before_semicolon, part_to_semicolon, reference_by_number, reference_by_name}
+use Rattle.definition_inline.specs.CharacterReference.{number_reference, reference_after, reference_form, reference_text, reference_leaf, reference_of}
+use Rattle.definition_inline.specs.CharacterReference.{reference_at}
 use Rattle.definition_inline.specs.CodeText.{run_of, raw_leaf, raw_at, code_text_at}
 use Rattle.definition_inline.specs.MathText.{may_open_math, math_text_at}
-use Rattle.definition_inline.specs.Autolink.{is_scheme_byte, is_uri_byte, begins_with_scheme, after_uri, uri_end, is_email_byte, is_domain_byte, domain_end, email_end, closed_autolink, autolink_after, autolink_at}
+use Rattle.definition_inline.specs.Autolink.{is_scheme_byte, is_uri_byte, begins_with_scheme, after_uri, uri_end, is_email_byte, is_domain_byte, domain_end}
+use Rattle.definition_inline.specs.Autolink.{email_end, closed_autolink, autolink_after, autolink_at}
 use Rattle.definition_inline.specs.HtmlText.{html_byte, after_first, comment_rest, comment, instruction, declaration, cdata, html_end, html_leaf, html_text_at}
 use Rattle.definition_inline.specs.HardBreak.{ends_here, line_end_at, escaped_break_at, line_spaces_at}
 use Rattle.definition_inline.specs.Label.{label_at}
 use Rattle.definition_inline.specs.Resource.{LinkResource, resource_at}
-use Rattle.definition_inline.specs.LabelEnd.{Ended, ended, is_label_text, by_text, by_label, by_resource, label_end_at}
-use Rattle.definition_inline.specs.GfmAutolinkLiteral.{LiteralStart, literal_start, or_start, www_start, protocol_start, begins_caselessly, may_precede_www, may_precede_protocol, begins_name, has_low_line, domain, is_cut, cut_more, without_tail, ends_literal, literal_run, literal_name, named_literal, literal_after, literal_start_at, literal_at}
+use Rattle.definition_inline.specs.LabelEnd.{LinkTail, link_tail, is_label_text, by_text, by_label, by_resource, label_end_at}
+use Rattle.definition_inline.specs.GfmAutolinkLiteral.{LiteralStart, literal_start, or_start, www_start, protocol_start, begins_caselessly, may_precede_www}
+use Rattle.definition_inline.specs.GfmAutolinkLiteral.{may_precede_protocol, begins_name, has_low_line, domain, is_cut, cut_more, without_tail, ends_literal}
+use Rattle.definition_inline.specs.GfmAutolinkLiteral.{literal_run, literal_name, named_literal, literal_after, literal_start_at, literal_at}
 use Rattle.definition_inline.specs.Scan.{InlineContext, leaf_at, leaf_here}
 
 -- what holds of a value, where there is one
@@ -73,17 +81,17 @@ less_before : (most : ℕ) (name rest : List ℕ) → length rest ≤ most → L
 less_before most name [] le = tt
 less_before most name (c ∷ cs) le = cond_both (c == 59) (Some (part name cs)) None (LeavesLess most) (λ _. omega arith) (λ _. tt)
 
-less_terminated : (test : ℕ → Bool) (longest : ℕ) (content : List ℕ) → LeavesLess (length content) (terminated test longest content)
+less_terminated : (test : ℕ → Bool) (longest : ℕ) (content : List ℕ) → LeavesLess (length content) (part_to_semicolon test longest content)
 less_terminated test longest content =
     let size = prefix_len test content in
     cond_both (nat_le 1 size && nat_le size longest) (before_semicolon (take size content) (drop size content)) None (LeavesLess (length content))
     (λ _. less_before (length content) (take size content) (drop size content) (omega (arith, length-drop size content))) (λ _. tt)
 
-less_numbered : (most base : ℕ) (o : Option Part) → LeavesLess most o → ReferenceLeavesLess most (numbered base o)
+less_numbered : (most base : ℕ) (o : Option Part) → LeavesLess most o → ReferenceLeavesLess most (reference_by_number base o)
 less_numbered most base None p = tt
 less_numbered most base (Some digits) p = p
 
-less_named : (most : ℕ) (o : Option Part) → LeavesLess most o → ReferenceLeavesLess most (named o)
+less_named : (most : ℕ) (o : Option Part) → LeavesLess most o → ReferenceLeavesLess most (reference_by_name o)
 less_named most None p = tt
 less_named most (Some name) p = p
 
@@ -94,18 +102,19 @@ less_more few most (Some r) le p = omega arith
 less_number : (content : List ℕ) → ReferenceLeavesLess (length content) (number_reference content)
 less_number [] = tt
 less_number (c ∷ cs) =
-    cond_both ((c == 120) || (c == 88)) (numbered 16 (terminated is_ascii_hexdigit 6 cs)) (numbered 10 (terminated is_ascii_digit 7 (c ∷ cs)))
+    cond_both ((c == 120) || (c == 88)) (reference_by_number 16 (part_to_semicolon is_ascii_hexdigit 6 cs))
+    (reference_by_number 10 (part_to_semicolon is_ascii_digit 7 (c ∷ cs)))
     (ReferenceLeavesLess (length (c ∷ cs)))
-    (λ _. less_more (length cs) (length (c ∷ cs)) (numbered 16 (terminated is_ascii_hexdigit 6 cs)) (omega arith)
-    (less_numbered (length cs) 16 (terminated is_ascii_hexdigit 6 cs) (less_terminated is_ascii_hexdigit 6 cs)))
-    (λ _. less_numbered (length (c ∷ cs)) 10 (terminated is_ascii_digit 7 (c ∷ cs)) (less_terminated is_ascii_digit 7 (c ∷ cs)))
+    (λ _. less_more (length cs) (length (c ∷ cs)) (reference_by_number 16 (part_to_semicolon is_ascii_hexdigit 6 cs)) (omega arith)
+    (less_numbered (length cs) 16 (part_to_semicolon is_ascii_hexdigit 6 cs) (less_terminated is_ascii_hexdigit 6 cs)))
+    (λ _. less_numbered (length (c ∷ cs)) 10 (part_to_semicolon is_ascii_digit 7 (c ∷ cs)) (less_terminated is_ascii_digit 7 (c ∷ cs)))
 
 less_after : (content : List ℕ) → ReferenceLeavesLess (length content) (reference_after content)
 less_after [] = tt
 less_after (c ∷ cs) =
-    cond_both (c == 35) (number_reference cs) (named (terminated is_ascii_alphanumeric 31 (c ∷ cs))) (ReferenceLeavesLess (length (c ∷ cs)))
+    cond_both (c == 35) (number_reference cs) (reference_by_name (part_to_semicolon is_ascii_alphanumeric 31 (c ∷ cs))) (ReferenceLeavesLess (length (c ∷ cs)))
     (λ _. less_more (length cs) (length (c ∷ cs)) (number_reference cs) (omega arith) (less_number cs))
-    (λ _. less_named (length (c ∷ cs)) (terminated is_ascii_alphanumeric 31 (c ∷ cs)) (less_terminated is_ascii_alphanumeric 31 (c ∷ cs)))
+    (λ _. less_named (length (c ∷ cs)) (part_to_semicolon is_ascii_alphanumeric 31 (c ∷ cs)) (less_terminated is_ascii_alphanumeric 31 (c ∷ cs)))
 
 less_form : (content : List ℕ) → ReferenceLeavesLess (length content) (reference_form content)
 less_form [] = tt
@@ -256,23 +265,23 @@ leaves_after : (most : ℕ) (o : Option (List ℕ)) (next : List ℕ → Option 
 leaves_after most None next p q = tt
 leaves_after most (Some rest) next p q = leaves_more (length rest) most (next rest) p (q rest)
 
-leaves_quoted : (quote : ℕ) (bytes : List ℕ) → Leaves (length bytes) (quoted quote bytes)
+leaves_quoted : (quote : ℕ) (bytes : List ℕ) → Leaves (length bytes) (quoted_value quote bytes)
 leaves_quoted quote [] = tt
 leaves_quoted quote (b ∷ bs) =
-    cond_both (b == quote) (Some bs) (quoted quote bs) (Leaves (length (b ∷ bs))) (λ _. omega arith)
-    (λ _. leaves_more (length bs) (length (b ∷ bs)) (quoted quote bs) (omega arith) (leaves_quoted quote bs))
+    cond_both (b == quote) (Some bs) (quoted_value quote bs) (Leaves (length (b ∷ bs))) (λ _. omega arith)
+    (λ _. leaves_more (length bs) (length (b ∷ bs)) (quoted_value quote bs) (omega arith) (leaves_quoted quote bs))
 
-leaves_unquoted : (bytes : List ℕ) → Leaves (length bytes) (unquoted bytes)
+leaves_unquoted : (bytes : List ℕ) → Leaves (length bytes) (unquoted_value bytes)
 leaves_unquoted [] = tt
 leaves_unquoted (b ∷ bs) = leaves_if (length (b ∷ bs)) (is_unquoted b) (Some (after_all is_unquoted bs)) (omega (arith, after_test is_unquoted bs))
 
 leaves_value : (bytes : List ℕ) → Leaves (length bytes) (value bytes)
 leaves_value [] = tt
 leaves_value (b ∷ bs) =
-    let more : (quote : ℕ) → Leaves (length (b ∷ bs)) (quoted quote bs) =
-    λ quote. leaves_more (length bs) (length (b ∷ bs)) (quoted quote bs) (omega arith) (leaves_quoted quote bs) in
-    cond_both (b == 34) (quoted 34 bs) (cond (b == 39) (quoted 39 bs) (unquoted (b ∷ bs))) (Leaves (length (b ∷ bs))) (λ _. more 34)
-    (λ _. cond_both (b == 39) (quoted 39 bs) (unquoted (b ∷ bs)) (Leaves (length (b ∷ bs))) (λ _. more 39) (λ _. leaves_unquoted (b ∷ bs)))
+    let more : (quote : ℕ) → Leaves (length (b ∷ bs)) (quoted_value quote bs) =
+    λ quote. leaves_more (length bs) (length (b ∷ bs)) (quoted_value quote bs) (omega arith) (leaves_quoted quote bs) in
+    cond_both (b == 34) (quoted_value 34 bs) (cond (b == 39) (quoted_value 39 bs) (unquoted_value (b ∷ bs))) (Leaves (length (b ∷ bs))) (λ _. more 34)
+    (λ _. cond_both (b == 39) (quoted_value 39 bs) (unquoted_value (b ∷ bs)) (Leaves (length (b ∷ bs))) (λ _. more 39) (λ _. leaves_unquoted (b ∷ bs)))
 
 leaves_value_or : (most : ℕ) (other bytes : List ℕ) → length other ≤ most → length bytes ≤ most → Leaves most (value_or other bytes)
 leaves_value_or most other [] p q = p
@@ -317,7 +326,8 @@ leaves_open_end bytes =
     leaves_more (length rest) (length bytes) (tag_end rest) (omega (arith, slash (tag_space bytes), after_test is_tag_space bytes)) (leaves_tag_end rest)
 
 leaves_closing_end : (bytes : List ℕ) → Leaves (length bytes) (closing_end bytes)
-leaves_closing_end bytes = leaves_more (length (tag_space bytes)) (length bytes) (tag_end (tag_space bytes)) (after_test is_tag_space bytes) (leaves_tag_end (tag_space bytes))
+leaves_closing_end bytes = leaves_more (length (tag_space bytes)) (length bytes) (tag_end (tag_space bytes)) (after_test is_tag_space bytes)
+    (leaves_tag_end (tag_space bytes))
 
 leaves_open : (bytes : List ℕ) → Leaves (length bytes) (open_rest bytes)
 leaves_open bytes =
@@ -376,7 +386,8 @@ leaves_html bytes =
     (λ e. leaves_marked 9 bytes (after_first (codes "]]>") (drop 9 bytes)) (omega arith) (not_empty 60 (codes "![CDATA[") bytes e)
     (leaves_first (codes "]]>") (drop 9 bytes))))))))
 
-fit_html_leaf : (content : List ℕ) (found : Option (List ℕ)) → 0 < length content → Leaves (length content - 1) found → MayFit (length content) (html_leaf content found)
+fit_html_leaf : (content : List ℕ) (found : Option (List ℕ)) → 0 < length content → Leaves (length content - 1) found
+    → MayFit (length content) (html_leaf content found)
 fit_html_leaf content None some p = tt
 fit_html_leaf content (Some rest) some p = record { some = omega arith; within = omega arith }
 
@@ -402,7 +413,8 @@ fit_leaf context content =
     (fit_or most (math_text_at context.options content) _ (fit_raw 36 math content)
     (fit_or most (autolink_at context.options.constructs content) _ (fit_autolink context.options.constructs content)
     (fit_or most (html_text_at context.options.constructs content) _ (fit_html context.options.constructs content)
-    (fit_or most (line_end_at content) (line_spaces_at context.options.constructs content) (fit_line_end content) (fit_line_spaces context.options.constructs content))))))))
+    (fit_or most (line_end_at content) (line_spaces_at context.options.constructs content) (fit_line_end content)
+    (fit_line_spaces context.options.constructs content))))))))
 
 -- a construct takes a code at least, and none past the end of the content
 pub leaf_fits : (context : InlineContext) (content : List ℕ) (l : Leaf) → leaf_at context content ≡ Some l → Fits (length content) l
@@ -478,7 +490,8 @@ fit_literal on [] = tt
 fit_literal on (c ∷ cs) =
     cond_both on.gfm_autolink_literal (literal_after c cs (literal_start_at c.previous (codes_of (c ∷ cs)))) None (MayFit (length (c ∷ cs)))
     (λ _. fit_after c cs (literal_start_at c.previous (codes_of (c ∷ cs)))
-    (subst (λ n. StartFits n (literal_start_at c.previous (codes_of (c ∷ cs)))) (length-map (c ∷ cs) (λ (k : InlineCode). k.code)) (start_fits c.previous (codes_of (c ∷ cs)))))
+    (subst (λ n. StartFits n (literal_start_at c.previous (codes_of (c ∷ cs)))) (length-map (c ∷ cs) (λ (k : InlineCode). k.code))
+    (start_fits c.previous (codes_of (c ∷ cs)))))
     (λ _. tt)
 
 -- a construct that holds no other, or a literal, takes a code at least, and none past the end of the content
@@ -496,26 +509,27 @@ two_brackets [] e = absurd (true≢false (sym e))
 two_brackets (a ∷ []) e = absurd (true≢false (sym (and_parts (91 == a) false e).1))
 two_brackets (a ∷ b ∷ rest) e = omega arith
 
-abbrev MayEnd : ℕ → Option Ended → Type 0
-MayEnd most o = WhereSome (λ (e : Ended). e.size ≤ most) o
+abbrev MayEnd : ℕ → Option LinkTail → Type 0
+MayEnd most o = WhereSome (λ (e : LinkTail). e.size ≤ most) o
 
-end_if : (most : ℕ) (test : Bool) (e : Ended) → e.size ≤ most → MayEnd most (cond test (Some e) None)
+end_if : (most : ℕ) (test : Bool) (e : LinkTail) → e.size ≤ most → MayEnd most (cond test (Some e) None)
 end_if most test e p = cond_both test (Some e) None (MayEnd most) (λ _. p) (λ _. tt)
 
 end_by_text : (is_defined : List ℕ → Bool) (text rest : List ℕ) → MayEnd (length rest) (by_text is_defined text rest)
 end_by_text is_defined text rest =
-    end_if (length rest) (is_label_text text && is_defined text) (ended (Reference text) (cond (begins_with (codes "[]") rest) 2 0))
+    end_if (length rest) (is_label_text text && is_defined text) (link_tail (Reference text) (cond (begins_with (codes "[]") rest) 2 0))
     (cond_both (begins_with (codes "[]") rest) 2 0 (λ n. n ≤ length rest) (two_brackets rest) (λ _. omega arith))
 
 end_by_label : (is_defined : List ℕ → Bool) (text rest : List ℕ) (label : Option Part) → MayEnd (length rest) (by_label is_defined text rest label)
 end_by_label is_defined text rest None = end_by_text is_defined text rest
 end_by_label is_defined text rest (Some label) =
-    end_if (length rest) (is_defined label.text) (ended (Reference label.text) (length rest - length label.rest)) (omega arith)
+    end_if (length rest) (is_defined label.text) (link_tail (Reference label.text) (length rest - length label.rest)) (omega arith)
 
-end_by_resource : (is_defined : List ℕ → Bool) (text rest : List ℕ) (found : Option LinkResource) → MayEnd (length rest) (by_resource is_defined text rest found)
+end_by_resource : (is_defined : List ℕ → Bool) (text rest : List ℕ) (found : Option LinkResource)
+    → MayEnd (length rest) (by_resource is_defined text rest found)
 end_by_resource is_defined text rest None = end_by_label is_defined text rest (label_at rest)
 end_by_resource is_defined text rest (Some found) = omega arith
 
 -- what a `]` forms takes no code past the end of the content
-pub ended_fits : (is_defined : List ℕ → Bool) (text rest : List ℕ) (e : Ended) → label_end_at is_defined text rest ≡ Some e → e.size ≤ length rest
+pub ended_fits : (is_defined : List ℕ → Bool) (text rest : List ℕ) (e : LinkTail) → label_end_at is_defined text rest ≡ Some e → e.size ≤ length rest
 ended_fits is_defined text rest e is = subst (MayEnd (length rest)) is (end_by_resource is_defined text rest (resource_at rest))

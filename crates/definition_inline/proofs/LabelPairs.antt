@@ -1,5 +1,6 @@
 -- The scan of a content reads by the grammar of label pairs.
-use Rattle.std.proofs.Common.{◌≡◌, ℕ, zero, suc, ◌+◌, ◌-◌, ◌<◌, ◌≤◌, Bool, true, false, cond, ◌&&◌, List, [], ◌∷◌, ◌++◌, Option, None, Some, refl, sym, ap, ◌∙◌, subst, length, drop, map, arith, append_assoc, length-drop, inl, inr}
+use Rattle.std.proofs.Common.{◌≡◌, ℕ, zero, suc, ◌+◌, ◌-◌, ◌<◌, ◌≤◌, Bool, true, false, cond, ◌&&◌, List, [], ◌∷◌, ◌++◌, Option, None, Some, refl, sym, ap, ◌∙◌}
+use Rattle.std.proofs.Common.{subst, length, drop, map, arith, append_assoc, length-drop, inl, inr}
 use Rattle.std.specs.Prelude.{◌==◌}
 use Rattle.std.specs.List.{fold, prefix_len}
 use Rattle.std.proofs.lemmas.Bool.{cases_Bool, cond_both, cond-true, cond-false, eq-eqb}
@@ -10,9 +11,13 @@ use Rattle.definition_text.specs.InlineCode.{InlineCode, codes_of}
 use Rattle.definition_inline.specs.Inline.{Data, Leaf}
 use Rattle.definition_inline.specs.Attention.{Run, run_size, run_at, is_marker}
 use Rattle.definition_inline.specs.Spans.{Token, Item, Delimiters}
-use Rattle.definition_inline.specs.LabelEnd.{Formed, formed_size}
-use Rattle.definition_inline.specs.Scan.{InlineContext, leaf_here, LabelStart, label_start_at, start_more, OpenLabel, Text, text, Reading, reading, read_tokens, with_tokens, unformed, ended_by, ended_step, label_end_step, data_step, last_step, Step, Next, step, scan, whole_text}
-use Rattle.definition_inline.specs.LabelPairs.{Stretch, Plain, Start, End, is_label_end, ended_size, IsBare, AreStretches, AtEnd, AtLeaf, AtRun, AtLabelStart, AtLabelEnd, AtByte, open_label, ended_text, IsText, Nothing, More, Pair, LeftOver, IsRest, Last, OneMore, IsWhole, AllMatched, SomeLeft, Reads}
+use Rattle.definition_inline.specs.LabelEnd.{LinkOrCall, formed_size}
+use Rattle.definition_inline.specs.Scan.{InlineContext, leaf_here, LabelStart, label_start_at, start_more, OpenLabel, Text, text, Reading, reading, read_tokens}
+use Rattle.definition_inline.specs.Scan.{with_tokens, with_plain_start, ended_by, ended_step, label_end_step, data_step, last_step, Step, Next, step, scan}
+use Rattle.definition_inline.specs.Scan.{whole_text}
+use Rattle.definition_inline.specs.LabelPairs.{Stretch, Plain, Start, End, is_label_end, ended_size, IsBare, AreStretches, AtEnd, AtLeaf, AtRun, AtLabelStart}
+use Rattle.definition_inline.specs.LabelPairs.{AtLabelEnd, AtByte, open_label, ended_text, IsText, Nothing, More, Pair, LeftOver, IsRest, Last, OneMore}
+use Rattle.definition_inline.specs.LabelPairs.{IsWhole, AllMatched, SomeLeft, Reads}
 use Rattle.definition_inline.proofs.InlineSizes.{here_fits}
 use Rattle.definition_inline.proofs.Scanning.{scan_step, step_leaf, step_run, step_start, step_last}
 
@@ -39,7 +44,8 @@ more_open context (label ∷ others) t ss tokens (outer, inner, is, around, here
   More false inner t tokens here,
 )
 
-pair_open : (context : InlineContext) (labels : List OpenLabel) (label : OpenLabel) (ss between : List Stretch) (content : List ℕ) (inner : Text) (end : Option Formed)
+pair_open : (context : InlineContext) (labels : List OpenLabel) (label : OpenLabel) (ss between : List Stretch) (content : List ℕ) (inner : Text)
+    (end : Option LinkOrCall)
     → IsOpen context labels label.outer ss → IsText context false between inner → end ≡ ended_by context content label inner
     → IsOpen context labels (ended_text label inner end) (ss ++ Start label.start label.from ∷ (between ++ End content end ∷ []))
 pair_open context [] label ss between content inner end h here is = Pair true ss between label.start label.from content label.outer inner h here end is
@@ -64,7 +70,8 @@ Shorter context most = (content : List InlineCode) (r : Reading) (ss : List Stre
 
 one_place : (context : InlineContext) (most : ℕ) (c : InlineCode) (cs : List InlineCode) (r next : Reading) (ss : List Stretch) (more : ℕ) (stretch : Stretch)
     → Shorter context most → length cs ≤ most → step context r c cs ≡ Next more next → IsSo context next (ss ++ stretch ∷ [])
-    → ((others : List Stretch) → AreStretches context (drop (1 + more) (c ∷ cs)) others → AreStretches context (c ∷ cs) (stretch ∷ others)) → After context (c ∷ cs) r ss
+    → ((others : List Stretch) → AreStretches context (drop (1 + more) (c ∷ cs)) others → AreStretches context (c ∷ cs) (stretch ∷ others))
+    → After context (c ∷ cs) r ss
 one_place context most c cs r next ss more stretch shorter le is so put =
     let (others, stand, now) = shorter (drop (1 + more) (c ∷ cs)) next (ss ++ stretch ∷ []) (omega (arith, length-drop (1 + more) (c ∷ cs))) so in (
       stretch ∷ others,
@@ -85,7 +92,8 @@ run_takes options c cs = cond_both (is_marker options c.code) (Some _) None Take
     some true e = omega arith
     some false e = absurd (true≢false (sym e))
 
-module _ (context : InlineContext) (most : ℕ) (c : InlineCode) (cs : List InlineCode) (r : Reading) (ss : List Stretch) (shorter : Shorter context most) (le : length cs ≤ most)
+module _ (context : InlineContext) (most : ℕ) (c : InlineCode) (cs : List InlineCode) (r : Reading) (ss : List Stretch) (shorter : Shorter context most)
+    (le : length cs ≤ most)
     (so : IsSo context r ss) where
   abbrev Here : Type 0
   Here = After context (c ∷ cs) r ss
@@ -98,7 +106,8 @@ module _ (context : InlineContext) (most : ℕ) (c : InlineCode) (cs : List Inli
       let fits = here_fits context (c ∷ cs) found is in
       let some = fits.some in
       let size : 1 + (found.size - 1) ≡ found.size = omega arith in
-      one_place context most c cs r (read_tokens (map Item found.parts) r) ss (found.size - 1) (Plain (map Item found.parts)) shorter le (step_leaf context r c cs found is)
+      one_place context most c cs r (read_tokens (map Item found.parts) r) ss (found.size - 1) (Plain (map Item found.parts)) shorter le
+      (step_leaf context r c cs found is)
       (more_open context r.open_labels r.now ss (map Item found.parts) so)
       (λ others stand. AtLeaf c cs found others is (subst (λ n. AreStretches context (drop n (c ∷ cs)) others) size stand))
 
@@ -106,7 +115,8 @@ module _ (context : InlineContext) (most : ℕ) (c : InlineCode) (cs : List Inli
   run_place run none is =
       let some : 0 < run.left = subst TakesSome is (run_takes context.options c cs) in
       let size : 1 + (run.left - 1) ≡ run.left = omega arith in
-      one_place context most c cs r (read_tokens (Delimiters run ∷ []) r) ss (run.left - 1) (Plain (Delimiters run ∷ [])) shorter le (step_run context r c cs run none is)
+      one_place context most c cs r (read_tokens (Delimiters run ∷ []) r) ss (run.left - 1) (Plain (Delimiters run ∷ [])) shorter le
+      (step_run context r c cs run none is)
       (more_open context r.open_labels r.now ss (Delimiters run ∷ []) so)
       (λ others stand. AtRun c cs run others none is (subst (λ n. AreStretches context (drop n (c ∷ cs)) others) size stand))
 
@@ -114,7 +124,13 @@ module _ (context : InlineContext) (most : ℕ) (c : InlineCode) (cs : List Inli
   start_place start bare is =
       let from = drop (1 + start_more start) content in
       one_place context most c cs r (reading (text [] false) (open_label start from r.now ∷ r.open_labels)) ss (start_more start) (Start start from) shorter le
-      (step_start context r c cs start bare.no_leaf bare.no_run is) (ss, [], refl, so, Nothing false) (λ others stand. AtLabelStart c cs start others bare is stand)
+      (step_start context r c cs start bare.no_leaf bare.no_run is) (
+        ss,
+        [],
+        refl,
+        so,
+        Nothing false,
+      ) (λ others stand. AtLabelStart c cs start others bare is stand)
 
   byte_place : IsBare context (c ∷ cs) → label_start_at context.options.constructs content ≡ None → is_label_end context c.code ≡ false → Here
   byte_place bare no_start is =
@@ -126,20 +142,23 @@ module _ (context : InlineContext) (most : ℕ) (c : InlineCode) (cs : List Inli
   ended_place : (labels : List OpenLabel) → r.open_labels ≡ labels → IsBare context (c ∷ cs) → label_start_at context.options.constructs content ≡ None
       → is_label_end context c.code ≡ true → step context r c cs ≡ label_end_step context content r.now labels → IsOpen context labels r.now ss → Here
   ended_place [] are bare no_start is steps opened =
-      one_place context most c cs r (reading (with_tokens r.now (Item (Data 93) ∷ [])) []) ss 0 (End content None) shorter le steps (LeftOver ss r.now content opened)
+      one_place context most c cs r (reading (with_tokens r.now (Item (Data 93) ∷ [])) []) ss 0 (End content None) shorter le steps
+      (LeftOver ss r.now content opened)
       (λ others stand. AtLabelEnd c cs None others bare no_start is stand)
   ended_place (label ∷ others) are bare no_start is steps (outer, inner, same, around, here) =
       ended (ended_by context content label r.now) refl
     where
-      there : (end : Option Formed) → end ≡ ended_by context content label r.now → IsOpen context others (ended_text label r.now end) (ss ++ End content end ∷ [])
+      there : (end : Option LinkOrCall) → end ≡ ended_by context content label r.now
+          → IsOpen context others (ended_text label r.now end) (ss ++ End content end ∷ [])
       there end e =
           subst (λ xs. IsOpen context others (ended_text label r.now end) xs)
           (sym (ap (λ xs. xs ++ End content end ∷ []) same ∙ append_assoc outer (Start label.start label.from ∷ inner) (End content end ∷ [])))
           (pair_open context others label outer inner content r.now end around here e)
 
-      ended : (end : Option Formed) → end ≡ ended_by context content label r.now → Here
+      ended : (end : Option LinkOrCall) → end ≡ ended_by context content label r.now → Here
       ended None e =
-          one_place context most c cs r (reading (ended_text label r.now None) others) ss 0 (End content None) shorter le (steps ∙ ap (ended_step label others r.now) (sym e)) (there None e)
+          one_place context most c cs r (reading (ended_text label r.now None) others) ss 0 (End content None) shorter le
+          (steps ∙ ap (ended_step label others r.now) (sym e)) (there None e)
           (λ rest stand. AtLabelEnd c cs None rest bare no_start is stand)
       ended (Some found) e =
           one_place context most c cs r (reading (ended_text label r.now (Some found)) others) ss (formed_size found) (End content (Some found)) shorter le
@@ -147,7 +166,8 @@ module _ (context : InlineContext) (most : ℕ) (c : InlineCode) (cs : List Inli
 
   end_place : IsBare context (c ∷ cs) → label_start_at context.options.constructs content ≡ None → is_label_end context c.code ≡ true → Here
   end_place bare no_start is =
-      ended_place r.open_labels refl bare no_start is (step_last context r c cs bare.no_leaf bare.no_run no_start ∙ cond-true (is_label_end context c.code) _ _ is) so
+      ended_place r.open_labels refl bare no_start is (step_last context r c cs bare.no_leaf bare.no_run no_start
+      ∙ cond-true (is_label_end context c.code) _ _ is) so
 
   last_place : IsBare context (c ∷ cs) → label_start_at context.options.constructs content ≡ None → Here
   last_place bare no_start = elim (cases_Bool (is_label_end context c.code)) [
@@ -175,24 +195,28 @@ read zero context (c ∷ cs) r ss le so = absurd (omega arith)
 read (suc most) context (c ∷ cs) r ss le so = any_place context most c cs r ss (read most context) (omega arith) so (leaf_here context (c ∷ cs)) refl
 
 -- label starts that are open at the end are text
-left_over : (context : InlineContext) (label : OpenLabel) (labels : List OpenLabel) (ss others : List Stretch) (inner : Text) → IsOpen context labels label.outer ss
-    → IsRest context others inner → IsWhole context (ss ++ Start label.start label.from ∷ others) (fold (λ t l. unformed l t) (unformed label inner) labels)
+left_over : (context : InlineContext) (label : OpenLabel) (labels : List OpenLabel) (ss others : List Stretch) (inner : Text)
+    → IsOpen context labels label.outer ss
+    → IsRest context others inner → IsWhole context (ss ++ Start label.start label.from ∷ others)
+    (fold (λ t l. with_plain_start l t) (with_plain_start label inner) labels)
 left_over context label [] ss others inner h rest = SomeLeft ss others label.start label.from label.outer inner h rest
 left_over context label (l ∷ labels) ss others inner (outer, before, same, around, there) rest =
     let more = Start label.start label.from ∷ others in
-    subst (λ xs. IsWhole context xs (fold (λ t k. unformed k t) (unformed l (unformed label inner)) labels))
+    subst (λ xs. IsWhole context xs (fold (λ t k. with_plain_start k t) (with_plain_start l (with_plain_start label inner)) labels))
     (sym (ap (λ xs. xs ++ more) same ∙ append_assoc outer (Start l.start l.from ∷ before) more))
-    (left_over context l labels outer (before ++ more) (unformed label inner) around (OneMore before others label.start label.from label.outer inner there rest))
+    (left_over context l labels outer (before ++ more) (with_plain_start label inner) around
+    (OneMore before others label.start label.from label.outer inner there rest))
 
 at_end : (context : InlineContext) (labels : List OpenLabel) (t : Text) (ss : List Stretch) → IsOpen context labels t ss
-    → IsWhole context ss (fold (λ inner label. unformed label inner) t labels)
+    → IsWhole context ss (fold (λ inner label. with_plain_start label inner) t labels)
 at_end context [] t ss h = AllMatched ss t h
 at_end context (label ∷ labels) t ss (outer, inner, same, around, here) =
-    subst (λ xs. IsWhole context xs (fold (λ s l. unformed l s) (unformed label t) labels)) (sym same)
+    subst (λ xs. IsWhole context xs (fold (λ s l. with_plain_start l s) (with_plain_start label t) labels)) (sym same)
     (left_over context label labels outer inner t around (Last inner t here))
 
 -- the scan of a content reads the text that its stretches stand for
-pub scan_reads : (context : InlineContext) (content : List InlineCode) → Reads context content (whole_text (scan context 0 (reading (text [] false) []) content))
+pub scan_reads : (context : InlineContext) (content : List InlineCode)
+    → Reads context content (whole_text (scan context 0 (reading (text [] false) []) content))
 scan_reads context content =
     let start = reading (text [] false) [] in
     let (stretches, stand, now) = read (length content) context content start [] (omega arith) (Nothing true) in

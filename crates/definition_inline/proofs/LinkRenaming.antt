@@ -1,5 +1,6 @@
 -- No part of a link looks at which space, tab or line ending a code is: where each stands for another of its kind, the parts do so too.
-use Rattle.std.proofs.Common.{◌≡◌, ℕ, ◌+◌, ◌-◌, Bool, true, false, cond, not, ◌&&◌, ◌||◌, eqb, List, [], ◌∷◌, map, take, drop, length, Option, None, Some, refl, sym, ap, ◌∙◌, inl, inr}
+use Rattle.std.proofs.Common.{◌≡◌, ℕ, ◌+◌, ◌-◌, Bool, true, false, cond, not, ◌&&◌, ◌||◌, eqb, List, [], ◌∷◌, map, take, drop, length, Option, None, Some, refl}
+use Rattle.std.proofs.Common.{sym, ap, ◌∙◌, inl, inr}
 use Rattle.std.proofs.lemmas.Bool.{cases_Bool, cond-true, cond-false, eqb-true, ne_eqb, or_from, true≢false}
 use Rattle.std.proofs.lemmas.List.{length-map, take-map, drop-map}
 use Rattle.std.specs.List.{prefix_len}
@@ -9,9 +10,11 @@ use Rattle.definition_text.specs.Columns.{is_white, code_byte}
 use Rattle.definition_text.specs.Content.{Part, part, is_eol, is_space, may_escape, at_line_start, before, up_to, closed_by}
 use Rattle.definition_inline.specs.Space.{after_spaces, after_ending, after_white, begins_with_space}
 use Rattle.definition_inline.specs.Label.{ends_label, label_end, has_text, label_size, is_label, if_label, label_at}
-use Rattle.definition_inline.specs.Destination.{ends_angle, angle_end, is_control, open_after, is_too_deep, ends_bare, bare_end, unless_empty, if_any, destination_at}
+use Rattle.definition_inline.specs.Destination.{ends_angle, angle_end, is_control, open_after, is_too_deep, ends_bare, bare_end, unless_empty, if_any}
+use Rattle.definition_inline.specs.Destination.{destination_at}
 use Rattle.definition_inline.specs.Title.{ends_title, ends_blank_line, title_end, title_close, title_until, title_at}
-use Rattle.definition_inline.specs.Definition.{Definition, definition, next_line_after, next_line, definition_before, with_title, titled, untitled, or_untitled, with_destination, with_colon, with_label, definition_at}
+use Rattle.definition_inline.specs.Definition.{Definition, definition, next_line_after, next_line, definition_before, with_title, definition_with_title}
+use Rattle.definition_inline.specs.Definition.{definition_without_title, or_definition_without_title, with_destination, with_colon, with_label, definition_at}
 
 -- a function that puts spaces, tabs and line endings for others of their kind, and keeps all else
 pub record Renames (f : ℕ → ℕ) : Type 0 where
@@ -63,12 +66,15 @@ module _ (f : ℕ → ℕ) (renames : Renames f) where
   rest_renamed [] = refl
   rest_renamed (c ∷ cs) = refl
 
-  closed_renamed : (content : List ℕ) (rest : Option (List ℕ)) → closed_by (map f content) (option_map (map f) rest) ≡ option_map (renamed_part f) (closed_by content rest)
+  closed_renamed : (content : List ℕ) (rest : Option (List ℕ)) → closed_by (map f content) (option_map (map f) rest)
+      ≡ option_map (renamed_part f) (closed_by content rest)
   closed_renamed content None = refl
   closed_renamed content (Some rest) =
-      ap (λ text. Some (part text (drop 1 (map f rest)))) (before_renamed content rest) ∙ ap (λ r. Some (part (map f (before content rest)) r)) (rest_renamed rest)
+      ap (λ text. Some (part text (drop 1 (map f rest)))) (before_renamed content rest)
+      ∙ ap (λ r. Some (part (map f (before content rest)) r)) (rest_renamed rest)
 
-  up_to_renamed : (content : List ℕ) (rest : Option (List ℕ)) → up_to (map f content) (option_map (map f) rest) ≡ option_map (renamed_part f) (up_to content rest)
+  up_to_renamed : (content : List ℕ) (rest : Option (List ℕ)) → up_to (map f content) (option_map (map f) rest)
+      ≡ option_map (renamed_part f) (up_to content rest)
   up_to_renamed content None = refl
   up_to_renamed content (Some rest) = ap (λ text. Some (part text (map f rest))) (before_renamed content rest)
 
@@ -117,17 +123,20 @@ module _ (f : ℕ → ℕ) (renames : Renames f) where
       ap (λ b. cond b 0 1 + label_size b (map f cs)) (start_same s c) ∙ ap (λ n. cond (at_line_start s c) 0 1 + n) (label_size_same (at_line_start s c) cs)
 
   is_label_same : (cs : List ℕ) → is_label (map f cs) ≡ is_label cs
-  is_label_same cs = ap (λ b. b && nat_le (label_size false (map f cs)) 999) (has_text_same cs) ∙ ap (λ n. has_text cs && nat_le n 999) (label_size_same false cs)
+  is_label_same cs = ap (λ b. b && nat_le (label_size false (map f cs)) 999) (has_text_same cs)
+      ∙ ap (λ n. has_text cs && nat_le n 999) (label_size_same false cs)
 
   if_label_renamed : (p : Option Part) → if_label (option_map (renamed_part f) p) ≡ option_map (renamed_part f) (if_label p)
   if_label_renamed None = refl
-  if_label_renamed (Some p) = cond_same _ _ _ _ _ _ (is_label_same p.text) refl refl ∙ sym (map_cond (option_map (renamed_part f)) (is_label p.text) (Some p) None)
+  if_label_renamed (Some p) = cond_same _ _ _ _ _ _ (is_label_same p.text) refl refl
+      ∙ sym (map_cond (option_map (renamed_part f)) (is_label p.text) (Some p) None)
 
   pub label_renamed : (cs : List ℕ) → label_at (map f cs) ≡ option_map (renamed_part f) (label_at cs)
   label_renamed [] = refl
   label_renamed (c ∷ cs) =
       cond_same _ _ _ _ _ _ (same_at 91 c refl)
-      (ap (λ r. if_label (closed_by (map f cs) r)) (label_end_renamed false cs) ∙ ap if_label (closed_renamed cs (label_end false cs)) ∙ if_label_renamed (closed_by cs (label_end false cs)))
+      (ap (λ r. if_label (closed_by (map f cs) r)) (label_end_renamed false cs) ∙ ap if_label (closed_renamed cs (label_end false cs))
+      ∙ if_label_renamed (closed_by cs (label_end false cs)))
       refl
       ∙ sym (map_cond (option_map (renamed_part f)) (eqb c 91) (if_label (closed_by cs (label_end false cs))) None)
 
@@ -165,7 +174,8 @@ module _ (f : ℕ → ℕ) (renames : Renames f) where
   deep_step false none true c cs more = refl
   deep_step false none false c cs more = refl
 
-  bare_end_renamed : (depth : Option ℕ) (e : Bool) (opened : ℕ) (cs : List ℕ) → bare_end depth e opened (map f cs) ≡ option_map (map f) (bare_end depth e opened cs)
+  bare_end_renamed : (depth : Option ℕ) (e : Bool) (opened : ℕ) (cs : List ℕ)
+      → bare_end depth e opened (map f cs) ≡ option_map (map f) (bare_end depth e opened cs)
   bare_end_renamed depth e opened [] = sym (map_cond (option_map (map f)) (eqb opened 0) (Some []) None)
   bare_end_renamed depth e opened (c ∷ cs) =
       let next = open_after e opened c in
@@ -191,16 +201,19 @@ module _ (f : ℕ → ℕ) (renames : Renames f) where
       let bare = up_to (c ∷ cs) (bare_end depth false 0 (c ∷ cs)) in
       cond_same _ _ _ _ _ _ (same_at 60 c refl)
       (ap (closed_by (map f cs)) (angle_end_renamed false cs) ∙ closed_renamed cs (angle_end false cs))
-      (ap (λ r. if_any (up_to (map f (c ∷ cs)) r)) (bare_end_renamed depth false 0 (c ∷ cs)) ∙ ap if_any (up_to_renamed (c ∷ cs) (bare_end depth false 0 (c ∷ cs))) ∙ if_any_renamed bare)
+      (ap (λ r. if_any (up_to (map f (c ∷ cs)) r)) (bare_end_renamed depth false 0 (c ∷ cs))
+      ∙ ap if_any (up_to_renamed (c ∷ cs) (bare_end depth false 0 (c ∷ cs))) ∙ if_any_renamed bare)
       ∙ sym (map_cond (option_map (renamed_part f)) (eqb c 60) angle (if_any bare))
 
-  title_end_renamed : (close : ℕ) → is_space close ≡ false → (e s : Bool) (cs : List ℕ) → title_end close e s (map f cs) ≡ option_map (map f) (title_end close e s cs)
+  title_end_renamed : (close : ℕ) → is_space close ≡ false → (e s : Bool) (cs : List ℕ)
+      → title_end close e s (map f cs) ≡ option_map (map f) (title_end close e s cs)
   title_end_renamed close plain e s [] = refl
   title_end_renamed close plain e s (c ∷ cs) =
       let ends : ends_title close e (f c) ≡ ends_title close e c =
       ap (λ b. (b || (eqb close 41 && eqb (f c) 40)) && not e) (same_at close c plain)
       ∙ ap (λ b. (eqb c close || (eqb close 41 && b)) && not e) (same_at 40 c refl) in
-      let more : title_end close (may_escape e (f c)) (at_line_start s (f c)) (map f cs) ≡ option_map (map f) (title_end close (may_escape e c) (at_line_start s c) cs) =
+      let more : title_end close (may_escape e (f c)) (at_line_start s (f c)) (map f cs)
+      ≡ option_map (map f) (title_end close (may_escape e c) (at_line_start s c) cs) =
       ap (λ b. title_end close b (at_line_start s (f c)) (map f cs)) (escape_same e c)
       ∙ ap (λ b. title_end close (may_escape e c) b (map f cs)) (start_same s c)
       ∙ title_end_renamed close plain (may_escape e c) (at_line_start s c) cs in
@@ -208,12 +221,14 @@ module _ (f : ℕ → ℕ) (renames : Renames f) where
       (cond_same _ _ _ _ _ _ (ap (λ b. s && b) (renames.ending c)) refl more)
       ∙ deep_step (ends_title close e c) (eqb c close) (ends_blank_line s c) c cs (title_end close (may_escape e c) (at_line_start s c) cs)
 
-  title_until_renamed : (close : ℕ) → is_space close ≡ false → (cs : List ℕ) → title_until (Some close) (map f cs) ≡ option_map (renamed_part f) (title_until (Some close) cs)
+  title_until_renamed : (close : ℕ) → is_space close ≡ false → (cs : List ℕ)
+      → title_until (Some close) (map f cs) ≡ option_map (renamed_part f) (title_until (Some close) cs)
   title_until_renamed close plain cs =
       ap (closed_by (map f cs)) (title_end_renamed close plain false false cs) ∙ closed_renamed cs (title_end close false false cs)
 
   -- what closes a title is no space
-  title_from_close : (c : ℕ) → is_space c ≡ false → (cs : List ℕ) → title_until (title_close c) (map f cs) ≡ option_map (renamed_part f) (title_until (title_close c) cs)
+  title_from_close : (c : ℕ) → is_space c ≡ false → (cs : List ℕ) → title_until (title_close c) (map f cs)
+      ≡ option_map (renamed_part f) (title_until (title_close c) cs)
   title_from_close c plain cs = elim (cases_Bool (eqb c 34 || eqb c 39)) [
     | inl h ↦
         let e : title_close c ≡ Some c = cond-true (eqb c 34 || eqb c 39) _ _ h in
@@ -231,12 +246,14 @@ module _ (f : ℕ → ℕ) (renames : Renames f) where
   -- a space opens no title
   no_title : (c : ℕ) → is_space c ≡ true → title_close c ≡ None
   no_title c h =
-      cond-false (eqb c 34 || eqb c 39) _ _ (or_from (eqb c 34) (eqb c 39) (no_space 34 c refl h) (no_space 39 c refl h)) ∙ cond-false (eqb c 40) _ _ (no_space 40 c refl h)
+      cond-false (eqb c 34 || eqb c 39) _ _ (or_from (eqb c 34) (eqb c 39) (no_space 34 c refl h) (no_space 39 c refl h))
+      ∙ cond-false (eqb c 40) _ _ (no_space 40 c refl h)
 
   pub title_renamed : (cs : List ℕ) → title_at (map f cs) ≡ option_map (renamed_part f) (title_at cs)
   title_renamed [] = refl
   title_renamed (c ∷ cs) = elim (cases_Bool (is_space c)) [
-    | inl h ↦ ap (λ o. title_until o (map f cs)) (no_title (f c) (space_same c ∙ h)) ∙ sym (ap (λ o. option_map (renamed_part f) (title_until o cs)) (no_title c h))
+    | inl h ↦ ap (λ o. title_until o (map f cs)) (no_title (f c) (space_same c ∙ h))
+        ∙ sym (ap (λ o. option_map (renamed_part f) (title_until o cs)) (no_title c h))
     | inr h ↦ ap (λ x. title_until (title_close x) (map f cs)) (renames.other c h) ∙ title_from_close c h cs
   ]
 
@@ -254,13 +271,15 @@ module _ (f : ℕ → ℕ) (renames : Renames f) where
   definition_before_renamed label destination title (Some rest) = refl
 
   with_title_renamed : (label destination : List ℕ) (title : Option Part)
-      → with_title (map f label) (map f destination) (option_map (renamed_part f) title) ≡ option_map (renamed_definition f) (with_title label destination title)
+      → with_title (map f label) (map f destination) (option_map (renamed_part f) title)
+      ≡ option_map (renamed_definition f) (with_title label destination title)
   with_title_renamed label destination None = refl
   with_title_renamed label destination (Some title) =
       ap (definition_before (map f label) (map f destination) (Some (map f title.text))) (line_renamed title.rest)
       ∙ definition_before_renamed label destination (Some title.text) (next_line title.rest)
 
-  titled_renamed : (label : List ℕ) (destination : Part) → titled (map f label) (renamed_part f destination) ≡ option_map (renamed_definition f) (titled label destination)
+  titled_renamed : (label : List ℕ) (destination : Part) → definition_with_title (map f label) (renamed_part f destination)
+      ≡ option_map (renamed_definition f) (definition_with_title label destination)
   titled_renamed label destination =
       let title = title_at (after_white destination.rest) in
       cond_same _ _ _ _ _ _ (begins_same destination.rest)
@@ -270,13 +289,15 @@ module _ (f : ℕ → ℕ) (renames : Renames f) where
       refl
       ∙ sym (map_cond (option_map (renamed_definition f)) (begins_with_space destination.rest) (with_title label destination.text title) None)
 
-  untitled_renamed : (label : List ℕ) (destination : Part) → untitled (map f label) (renamed_part f destination) ≡ option_map (renamed_definition f) (untitled label destination)
+  untitled_renamed : (label : List ℕ) (destination : Part) → definition_without_title (map f label) (renamed_part f destination)
+      ≡ option_map (renamed_definition f) (definition_without_title label destination)
   untitled_renamed label destination =
       ap (definition_before (map f label) (map f destination.text) None) (line_renamed destination.rest)
       ∙ definition_before_renamed label destination.text None (next_line destination.rest)
 
   or_untitled_renamed : (label : List ℕ) (destination : Part) (found : Option Definition)
-      → or_untitled (map f label) (renamed_part f destination) (option_map (renamed_definition f) found) ≡ option_map (renamed_definition f) (or_untitled label destination found)
+      → or_definition_without_title (map f label) (renamed_part f destination) (option_map (renamed_definition f) found)
+      ≡ option_map (renamed_definition f) (or_definition_without_title label destination found)
   or_untitled_renamed label destination None = untitled_renamed label destination
   or_untitled_renamed label destination (Some found) = refl
 
@@ -284,7 +305,8 @@ module _ (f : ℕ → ℕ) (renames : Renames f) where
       → with_destination (map f label) (option_map (renamed_part f) destination) ≡ option_map (renamed_definition f) (with_destination label destination)
   with_destination_renamed label None = refl
   with_destination_renamed label (Some destination) =
-      ap (or_untitled (map f label) (renamed_part f destination)) (titled_renamed label destination) ∙ or_untitled_renamed label destination (titled label destination)
+      ap (or_definition_without_title (map f label) (renamed_part f destination)) (titled_renamed label destination)
+      ∙ or_untitled_renamed label destination (definition_with_title label destination)
 
   with_colon_renamed : (label cs : List ℕ) → with_colon (map f label) (map f cs) ≡ option_map (renamed_definition f) (with_colon label cs)
   with_colon_renamed label [] = refl

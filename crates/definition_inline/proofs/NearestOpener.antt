@@ -4,10 +4,10 @@ use Rattle.std.specs.List.{suffix_len}
 use Rattle.std.proofs.lemmas.Bool.{not-false, not-true}
 use Rattle.std.proofs.lemmas.List.{get_or-reverse, length-reverse}
 use Rattle.std.proofs.lemmas.List.Sums.{suffix_len_is, suffix_len-le-length, prefix_len_stops, prefix_len_passes}
-use Rattle.definition_inline.specs.Pairing.{Placed, is_eligible, up_to_nearest, nearest}
+use Rattle.definition_inline.specs.Pairing.{OpenRun, is_eligible, up_to_nearest, nearest}
 
 -- a place from which on no opener is eligible, and right before which one is
-pub up_to_nearest_is : (openers : List Placed) (c : Placed) (n : ℕ) → n ≤ length openers
+pub up_to_nearest_is : (openers : List OpenRun) (c : OpenRun) (n : ℕ) → n ≤ length openers
     → ((k : ℕ) → n ≤ k → k < length openers → is_eligible (get_or openers k c) c ≡ false)
     → (0 < n → is_eligible (get_or openers (n - 1) c) c ≡ true) → n ≡ up_to_nearest openers c
 up_to_nearest_is openers c n le none found =
@@ -16,9 +16,9 @@ up_to_nearest_is openers c n le none found =
     omega arith
 
 -- the last of the openers up to the nearest is eligible
-pub nearest_eligible : (openers : List Placed) (c : Placed) → 0 < up_to_nearest openers c → is_eligible (nearest openers c) c ≡ true
+pub nearest_eligible : (openers : List OpenRun) (c : OpenRun) → 0 < up_to_nearest openers c → is_eligible (nearest openers c) c ≡ true
 nearest_eligible openers c some =
-    let p : Placed → Bool = λ o. not (is_eligible o c) in
+    let p : OpenRun → Bool = λ o. not (is_eligible o c) in
     let n = suffix_len p openers in
     let lt : n < length openers = omega arith in
     let lt2 : n < length (reverse openers) = omega (arith, length-reverse openers) in
@@ -28,9 +28,9 @@ nearest_eligible openers c some =
     ap (λ o. is_eligible o c) (sym there) ∙ not-false _ stops
 
 -- no opener from there on is eligible
-pub none_after : (openers : List Placed) (c : Placed) (j : ℕ) → up_to_nearest openers c ≤ j → j < length openers → is_eligible (get_or openers j c) c ≡ false
+pub none_after : (openers : List OpenRun) (c : OpenRun) (j : ℕ) → up_to_nearest openers c ≤ j → j < length openers → is_eligible (get_or openers j c) c ≡ false
 none_after openers c j le lt =
-    let p : Placed → Bool = λ o. not (is_eligible o c) in
+    let p : OpenRun → Bool = λ o. not (is_eligible o c) in
     let n = suffix_len p openers in
     let k = length openers - 1 - j in
     let early : k < n = omega (arith, suffix_len-le-length p openers) in

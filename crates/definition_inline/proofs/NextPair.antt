@@ -1,5 +1,6 @@
 -- The pairs that the definition computes: each is the next one.
-use Rattle.std.proofs.Common.{inl, inr, ◌≡◌, ℕ, zero, suc, ◌+◌, ◌-◌, ◌<◌, ◌≤◌, List, [], ◌∷◌, ◌++◌, Bool, true, false, not, ◌&&◌, ◌||◌, refl, sym, ap, ◌∙◌, length, get_or, take, arith, subst, append_assoc}
+use Rattle.std.proofs.Common.{inl, inr, ◌≡◌, ℕ, zero, suc, ◌+◌, ◌-◌, ◌<◌, ◌≤◌, List, [], ◌∷◌, ◌++◌, Bool, true, false, not, ◌&&◌, ◌||◌, refl, sym, ap, ◌∙◌}
+use Rattle.std.proofs.Common.{length, get_or, take, arith, subst, append_assoc}
 use Rattle.std.specs.List.{fold}
 use Rattle.std.specs.Prelude.{nat_lt, ◌==◌}
 use Rattle.std.proofs.lemmas.Bool.{cases_lt, cases_Bool, cond-true, cond-false, both_ways, or_from, ne_eqb, lt-ltb, le-ltb}
@@ -7,16 +8,18 @@ use Rattle.std.proofs.lemmas.Grind.{common_steps}
 use Rattle.std.proofs.Math.Seq.{get_or-append_seam}
 use Rattle.std.proofs.lemmas.List.{append-nil, get_or-take, get_or_append_left, get_or-append-add, length-take, length-append, get_or_default, get_or_past}
 use Rattle.definition_inline.specs.Attention.{Run}
-use Rattle.definition_inline.specs.Pairing.{Pair, Placed, placed, Pairing, pairing, is_eligible, taken_by, without, openers_of, pair_of, opened, paired, up_to_nearest, nearest, close, next_run, placed_from, pairs}
-use Rattle.definition_inline.specs.NextPair.{no_run, run_of, taken_at, used, left_at, is_inside, last_closer, IsEligiblePair, IsNextPair, AreNext, NoMore, NextIs}
+use Rattle.definition_inline.specs.Pairing.{Pair, OpenRun, open_run, Pairing, pairing, is_eligible, taken_by, without, openers_of, pair_of, with_opener}
+use Rattle.definition_inline.specs.Pairing.{with_pair, up_to_nearest, nearest, close, next_run, placed_from, pairs}
+use Rattle.definition_inline.specs.NextPair.{no_run, run_of, taken_at, used, left_at, is_inside, last_closer, IsEligiblePair, IsNextPair, AreNext, NoMore}
+use Rattle.definition_inline.specs.NextPair.{NextIs}
 use Rattle.definition_inline.proofs.NearestOpener.{nearest_eligible, none_after}
 use Rattle.definition_inline.proofs.ClosingRuns.{takes_some, takes_left, stops, goes_on}
 
 -- a run that has something left and may open
-abbrev is_open : Placed → Bool
+abbrev is_open : OpenRun → Bool
 is_open q = q.run.may_open && not (q.run.left == 0)
 
-eligible_is_open : (o c : Placed) → is_eligible o c ≡ true → is_open o ≡ true
+eligible_is_open : (o c : OpenRun) → is_eligible o c ≡ true → is_open o ≡ true
 eligible_is_open o c h = grind (arith, common_steps)
 
 neither : (x y : Bool) → y ≡ false → (x && y) ≡ false
@@ -28,7 +31,7 @@ neither false y e = refl
 -- a run that it takes nothing of
 left_same : (runs : List Run) (p : Pair) (ps : List Pair) (place : ℕ) → taken_at place p ≡ 0 → left_at runs (p ∷ ps) place ≡ left_at runs ps place
 left_same runs p ps place none =
-    let e : taken_at place p + used ps place ≡ used ps place = omega (arith, none) in ap (λ n. without n (placed (run_of runs place) place)) e
+    let e : taken_at place p + used ps place ≡ used ps place = omega (arith, none) in ap (λ n. without n (open_run (run_of runs place) place)) e
 
 -- a run that it takes some of
 left_less : (runs : List Run) (p : Pair) (ps : List Pair) (place : ℕ) → taken_at place p ≡ p.taken
@@ -36,7 +39,7 @@ left_less : (runs : List Run) (p : Pair) (ps : List Pair) (place : ℕ) → take
 left_less runs p ps place some =
     let r = run_of runs place in
     let e : r.left - (taken_at place p + used ps place) ≡ r.left - used ps place - p.taken = omega (arith, some) in
-    ap (λ n. placed (record r { left = n }) place) e
+    ap (λ n. open_run (record r { left = n }) place) e
 
 other_place : (p : Pair) (place : ℕ) → (p.opener ≡ place → ⊥) → (p.closer ≡ place → ⊥) → taken_at place p ≡ 0
 other_place p place h k = cond-false _ _ _ (or_from (p.opener == place) (p.closer == place) (ne_eqb p.opener place h) (ne_eqb p.closer place k))
@@ -50,13 +53,13 @@ closer_place p = grind (arith, common_steps)
 -- ---- the openers
 
 -- openers stand for the runs before a place that may open, are inside of no pair and have something left, in order
-record Covers (runs : List Run) (ps : List Pair) (end : ℕ) (xs : List Placed) : Type 0 where
-  early : (k : ℕ) (d : Placed) → k < length xs → (get_or xs k d).place < end
-  shown : (k : ℕ) (d : Placed) → k < length xs → get_or xs k d ≡ left_at runs ps (get_or xs k d).place
-  uncrossed : (k : ℕ) (d : Placed) → k < length xs → is_inside ps (get_or xs k d).place ≡ false
-  sorted : (j k : ℕ) (d : Placed) → j < k → k < length xs → (get_or xs j d).place < (get_or xs k d).place
+record Covers (runs : List Run) (ps : List Pair) (end : ℕ) (xs : List OpenRun) : Type 0 where
+  early : (k : ℕ) (d : OpenRun) → k < length xs → (get_or xs k d).place < end
+  shown : (k : ℕ) (d : OpenRun) → k < length xs → get_or xs k d ≡ left_at runs ps (get_or xs k d).place
+  uncrossed : (k : ℕ) (d : OpenRun) → k < length xs → is_inside ps (get_or xs k d).place ≡ false
+  sorted : (j k : ℕ) (d : OpenRun) → j < k → k < length xs → (get_or xs j d).place < (get_or xs k d).place
   complete : (i : ℕ) → i < end → is_inside ps i ≡ false → is_open (left_at runs ps i) ≡ true
-      → (k : ℕ) × (k < length xs) × ((d : Placed) → get_or xs k d ≡ left_at runs ps i)
+      → (k : ℕ) × (k < length xs) × ((d : OpenRun) → get_or xs k d ≡ left_at runs ps i)
 
 none_at_first : (runs : List Run) → Covers runs [] 0 []
 none_at_first runs =
@@ -69,31 +72,31 @@ none_at_first runs =
     }
 
 -- the openers before one of them
-cut_at : (runs : List Run) (ps : List Pair) (end : ℕ) (xs : List Placed) (k : ℕ) (o : Placed) → Covers runs ps end xs → k < length xs
-    → ((d : Placed) → get_or xs k d ≡ o) → Covers runs ps o.place (take k xs)
+cut_at : (runs : List Run) (ps : List Pair) (end : ℕ) (xs : List OpenRun) (k : ℕ) (o : OpenRun) → Covers runs ps end xs → k < length xs
+    → ((d : OpenRun) → get_or xs k d ≡ o) → Covers runs ps o.place (take k xs)
 cut_at runs ps end xs k o h lt there =
     let size : length (take k xs) ≡ k = omega (arith, length-take k xs) in
     record {
       early = λ j d under.
           let below : j < k = omega arith in
-          subst (λ (x : Placed). x.place < o.place) (sym (get_or-take k xs j d below))
-          (subst (λ (y : Placed). (get_or xs j d).place < y.place) (there d) (h.sorted j k d below lt));
+          subst (λ (x : OpenRun). x.place < o.place) (sym (get_or-take k xs j d below))
+          (subst (λ (y : OpenRun). (get_or xs j d).place < y.place) (there d) (h.sorted j k d below lt));
       shown = λ j d under.
           let below : j < k = omega arith in
-          subst (λ (x : Placed). x ≡ left_at runs ps x.place) (sym (get_or-take k xs j d below)) (h.shown j d (omega arith));
+          subst (λ (x : OpenRun). x ≡ left_at runs ps x.place) (sym (get_or-take k xs j d below)) (h.shown j d (omega arith));
       uncrossed = λ j d under.
           let below : j < k = omega arith in
-          subst (λ (x : Placed). is_inside ps x.place ≡ false) (sym (get_or-take k xs j d below)) (h.uncrossed j d (omega arith));
+          subst (λ (x : OpenRun). is_inside ps x.place ≡ false) (sym (get_or-take k xs j d below)) (h.uncrossed j d (omega arith));
       sorted = λ i j d before under.
           let below : j < k = omega arith in
           let lower : i < k = omega arith in
-          subst (λ (x : Placed). x.place < (get_or (take k xs) j d).place) (sym (get_or-take k xs i d lower))
-          (subst (λ (y : Placed). (get_or xs i d).place < y.place) (sym (get_or-take k xs j d below)) (h.sorted i j d before (omega arith)));
+          subst (λ (x : OpenRun). x.place < (get_or (take k xs) j d).place) (sym (get_or-take k xs i d lower))
+          (subst (λ (y : OpenRun). (get_or xs i d).place < y.place) (sym (get_or-take k xs j d below)) (h.sorted i j d before (omega arith)));
       complete = λ i under outside opens.
-          let last : (get_or xs k o).place ≡ o.place = ap (λ (x : Placed). x.place) (there o) in
+          let last : (get_or xs k o).place ≡ o.place = ap (λ (x : OpenRun). x.place) (there o) in
           let inside : o.place < end = omega (arith, h.early k o lt, last) in
           let found = h.complete i (omega arith) outside opens in
-          let here : (get_or xs found.0 o).place ≡ i = ap (λ (x : Placed). x.place) (found.2 o) in
+          let here : (get_or xs found.0 o).place ≡ i = ap (λ (x : OpenRun). x.place) (found.2 o) in
           elim (cases_lt found.0 k) [
             | inl below ↦ (found.0, omega arith, λ d. get_or-take k xs found.0 d below ∙ found.2 d)
             | inr above ↦
@@ -108,7 +111,7 @@ cut_at runs ps end xs k o h lt there =
     }
 
 -- pairs that change nothing before a place
-same_before : (runs : List Run) (ps qs : List Pair) (end : ℕ) (xs : List Placed) → Covers runs ps end xs
+same_before : (runs : List Run) (ps qs : List Pair) (end : ℕ) (xs : List OpenRun) → Covers runs ps end xs
     → ((i : ℕ) → i < end → left_at runs qs i ≡ left_at runs ps i) → ((i : ℕ) → i < end → is_inside qs i ≡ is_inside ps i) → Covers runs qs end xs
 same_before runs ps qs end xs h same inside =
     record {
@@ -122,12 +125,12 @@ same_before runs ps qs end xs h same inside =
     }
 
 -- a run that goes on the openers if it may open
-pushed : (runs : List Run) (ps : List Pair) (end : ℕ) (xs : List Placed) → Covers runs ps end xs → is_inside ps end ≡ false
+pushed : (runs : List Run) (ps : List Pair) (end : ℕ) (xs : List OpenRun) → Covers runs ps end xs → is_inside ps end ≡ false
     → is_open (left_at runs ps end) ≡ true → Covers runs ps (end + 1) (xs ++ left_at runs ps end ∷ [])
 pushed runs ps end xs h outside opens =
     let q = left_at runs ps end in
     let size : length (xs ++ q ∷ []) ≡ length xs + 1 = length-append xs (q ∷ []) in
-    let last : (d : Placed) → get_or (xs ++ q ∷ []) (length xs) d ≡ q =
+    let last : (d : OpenRun) → get_or (xs ++ q ∷ []) (length xs) d ≡ q =
     λ d. let e : length xs ≡ length xs + 0 = omega arith in ap (λ n. get_or (xs ++ q ∷ []) n d) e ∙ get_or-append-add xs (q ∷ []) 0 d in
     record {
       early = λ k d lt.
@@ -135,39 +138,39 @@ pushed runs ps end xs h outside opens =
             | inl below ↦
                 let there = get_or_append_left xs (q ∷ []) d k below in
                 let old = h.early k d below in
-                subst (λ (x : Placed). x.place < end + 1) (sym there) (omega arith)
+                subst (λ (x : OpenRun). x.place < end + 1) (sym there) (omega arith)
             | inr above ↦
                 let is : length xs ≡ k = omega arith in
-                subst (λ n. (get_or (xs ++ q ∷ []) n d).place < end + 1) is (subst (λ (x : Placed). x.place < end + 1) (sym (last d)) (omega arith))
+                subst (λ n. (get_or (xs ++ q ∷ []) n d).place < end + 1) is (subst (λ (x : OpenRun). x.place < end + 1) (sym (last d)) (omega arith))
           ];
       shown = λ k d lt.
           elim (cases_lt k (length xs)) [
-            | inl below ↦ subst (λ (x : Placed). x ≡ left_at runs ps x.place) (sym (get_or_append_left xs (q ∷ []) d k below)) (h.shown k d below)
+            | inl below ↦ subst (λ (x : OpenRun). x ≡ left_at runs ps x.place) (sym (get_or_append_left xs (q ∷ []) d k below)) (h.shown k d below)
             | inr above ↦
                 let is : length xs ≡ k = omega arith in
                 subst (λ n. get_or (xs ++ q ∷ []) n d ≡ left_at runs ps (get_or (xs ++ q ∷ []) n d).place) is
-                (subst (λ (x : Placed). x ≡ left_at runs ps x.place) (sym (last d)) refl)
+                (subst (λ (x : OpenRun). x ≡ left_at runs ps x.place) (sym (last d)) refl)
           ];
       uncrossed = λ k d lt.
           elim (cases_lt k (length xs)) [
-            | inl below ↦ subst (λ (x : Placed). is_inside ps x.place ≡ false) (sym (get_or_append_left xs (q ∷ []) d k below)) (h.uncrossed k d below)
+            | inl below ↦ subst (λ (x : OpenRun). is_inside ps x.place ≡ false) (sym (get_or_append_left xs (q ∷ []) d k below)) (h.uncrossed k d below)
             | inr above ↦
                 let is : length xs ≡ k = omega arith in
                 subst (λ n. is_inside ps (get_or (xs ++ q ∷ []) n d).place ≡ false) is
-                (subst (λ (x : Placed). is_inside ps x.place ≡ false) (sym (last d)) outside)
+                (subst (λ (x : OpenRun). is_inside ps x.place ≡ false) (sym (last d)) outside)
           ];
       sorted = λ j k d before lt.
           let low : j < length xs = omega arith in
           let first = get_or_append_left xs (q ∷ []) d j low in
           elim (cases_lt k (length xs)) [
             | inl below ↦
-                subst (λ (x : Placed). x.place < (get_or (xs ++ q ∷ []) k d).place) (sym first)
-                (subst (λ (x : Placed). (get_or xs j d).place < x.place) (sym (get_or_append_left xs (q ∷ []) d k below)) (h.sorted j k d before below))
+                subst (λ (x : OpenRun). x.place < (get_or (xs ++ q ∷ []) k d).place) (sym first)
+                (subst (λ (x : OpenRun). (get_or xs j d).place < x.place) (sym (get_or_append_left xs (q ∷ []) d k below)) (h.sorted j k d before below))
             | inr above ↦
                 let is : length xs ≡ k = omega arith in
-                subst (λ (x : Placed). x.place < (get_or (xs ++ q ∷ []) k d).place) (sym first)
+                subst (λ (x : OpenRun). x.place < (get_or (xs ++ q ∷ []) k d).place) (sym first)
                 (subst (λ n. (get_or xs j d).place < (get_or (xs ++ q ∷ []) n d).place) is
-                (subst (λ (x : Placed). (get_or xs j d).place < x.place) (sym (last d)) (h.early j d low)))
+                (subst (λ (x : OpenRun). (get_or xs j d).place < x.place) (sym (last d)) (h.early j d low)))
           ];
       complete = λ i lt out open_there.
           elim (cases_lt i end) [
@@ -181,7 +184,7 @@ pushed runs ps end xs h outside opens =
     }
 
 -- a run that may not open leaves the openers
-not_pushed : (runs : List Run) (ps : List Pair) (end : ℕ) (xs : List Placed) → Covers runs ps end xs
+not_pushed : (runs : List Run) (ps : List Pair) (end : ℕ) (xs : List OpenRun) → Covers runs ps end xs
     → is_open (left_at runs ps end) ≡ false → Covers runs ps (end + 1) xs
 not_pushed runs ps end xs h shut =
     record {
@@ -198,7 +201,7 @@ not_pushed runs ps end xs h shut =
           ];
     }
 
-push : (runs : List Run) (ps : List Pair) (end : ℕ) (xs : List Placed) → Covers runs ps end xs → is_inside ps end ≡ false
+push : (runs : List Run) (ps : List Pair) (end : ℕ) (xs : List OpenRun) → Covers runs ps end xs → is_inside ps end ≡ false
     → Covers runs ps (end + 1) (xs ++ openers_of (left_at runs ps end))
 push runs ps end xs h outside =
     elim (cases_Bool (is_open (left_at runs ps end))) [
@@ -211,7 +214,7 @@ push runs ps end xs h outside =
     ]
 
 -- places inside of a pair are no openers
-widen : (runs : List Run) (ps : List Pair) (end later : ℕ) (xs : List Placed) → Covers runs ps end xs → end ≤ later
+widen : (runs : List Run) (ps : List Pair) (end later : ℕ) (xs : List OpenRun) → Covers runs ps end xs → end ≤ later
     → ((i : ℕ) → end ≤ i → i < later → is_inside ps i ≡ true) → Covers runs ps later xs
 widen runs ps end later xs h le inside =
     record {
@@ -229,7 +232,7 @@ widen runs ps end later xs h le inside =
 -- ---- the pairs so far
 
 -- what is known before the run at a place has closed what it can
-record Knows (runs : List Run) (ps : List Pair) (place : ℕ) (xs : List Placed) : Type 0 where
+record Knows (runs : List Run) (ps : List Pair) (place : ℕ) (xs : List OpenRun) : Type 0 where
   covers : Covers runs ps place xs
   untouched : (j : ℕ) → place < j → used ps j ≡ 0
   outside : (j : ℕ) → place ≤ j → is_inside ps j ≡ false
@@ -237,14 +240,14 @@ record Knows (runs : List Run) (ps : List Pair) (place : ℕ) (xs : List Placed)
   none : (i j : ℕ) → last_closer ps ≤ j → j < place → IsEligiblePair runs ps i j → ⊥
 
 -- an eligible opener of the run at this place stands among the openers
-found_at : (runs : List Run) (ps : List Pair) (place : ℕ) (xs : List Placed) → Knows runs ps place xs → (i : ℕ) → IsEligiblePair runs ps i place
-    → (k : ℕ) × (k < length xs) × ((d : Placed) → get_or xs k d ≡ left_at runs ps i)
+found_at : (runs : List Run) (ps : List Pair) (place : ℕ) (xs : List OpenRun) → Knows runs ps place xs → (i : ℕ) → IsEligiblePair runs ps i place
+    → (k : ℕ) × (k < length xs) × ((d : OpenRun) → get_or xs k d ≡ left_at runs ps i)
 found_at runs ps place xs h i pair =
     h.covers.complete i pair.ordered pair.uncrossed (eligible_is_open (left_at runs ps i) (left_at runs ps place) pair.eligible)
 
 -- and no later than the nearest
-found_early : (runs : List Run) (ps : List Pair) (place : ℕ) (xs : List Placed) → Knows runs ps place xs → (i : ℕ) → IsEligiblePair runs ps i place
-    → (k : ℕ) → k < length xs → ((d : Placed) → get_or xs k d ≡ left_at runs ps i) → k < up_to_nearest xs (left_at runs ps place)
+found_early : (runs : List Run) (ps : List Pair) (place : ℕ) (xs : List OpenRun) → Knows runs ps place xs → (i : ℕ) → IsEligiblePair runs ps i place
+    → (k : ℕ) → k < length xs → ((d : OpenRun) → get_or xs k d ≡ left_at runs ps i) → k < up_to_nearest xs (left_at runs ps place)
 found_early runs ps place xs h i pair k lt there =
     let c = left_at runs ps place in
     elim (cases_lt k (up_to_nearest xs c)) [
@@ -255,7 +258,7 @@ found_early runs ps place xs h i pair k lt there =
           absurd (both_ways (is_eligible (get_or xs k c) c) no yes)
     ]
 
-none_here : (runs : List Run) (ps : List Pair) (place : ℕ) (xs : List Placed) → Knows runs ps place xs → up_to_nearest xs (left_at runs ps place) ≤ 0
+none_here : (runs : List Run) (ps : List Pair) (place : ℕ) (xs : List OpenRun) → Knows runs ps place xs → up_to_nearest xs (left_at runs ps place) ≤ 0
     → (i : ℕ) → IsEligiblePair runs ps i place → ⊥
 none_here runs ps place xs h none i pair =
     let found = found_at runs ps place xs h i pair in
@@ -263,7 +266,7 @@ none_here runs ps place xs h none i pair =
     absurd (omega arith)
 
 -- a run that closes nothing more
-knows_after : (runs : List Run) (ps : List Pair) (place : ℕ) (xs : List Placed) → Knows runs ps place xs → up_to_nearest xs (left_at runs ps place) ≤ 0
+knows_after : (runs : List Run) (ps : List Pair) (place : ℕ) (xs : List OpenRun) → Knows runs ps place xs → up_to_nearest xs (left_at runs ps place) ≤ 0
     → Knows runs ps (place + 1) (xs ++ openers_of (left_at runs ps place))
 knows_after runs ps place xs h none =
     record {
@@ -280,15 +283,15 @@ knows_after runs ps place xs h none =
     }
 
 -- a pair of the run at this place and the nearest opener
-module _ (runs : List Run) (ps : List Pair) (place : ℕ) (xs : List Placed) (h : Knows runs ps place xs)
+module _ (runs : List Run) (ps : List Pair) (place : ℕ) (xs : List OpenRun) (h : Knows runs ps place xs)
     (some : 0 < up_to_nearest xs (left_at runs ps place)) where
-  abbrev c : Placed
+  abbrev c : OpenRun
   c = left_at runs ps place
 
   abbrev k : ℕ
   k = up_to_nearest xs c - 1
 
-  abbrev o : Placed
+  abbrev o : OpenRun
   o = nearest xs c
 
   abbrev p : Pair
@@ -297,7 +300,7 @@ module _ (runs : List Run) (ps : List Pair) (place : ℕ) (xs : List Placed) (h 
   within : k < length xs
   within = let tail : up_to_nearest xs c ≤ length xs = omega arith in omega arith
 
-  there : (d : Placed) → get_or xs k d ≡ o
+  there : (d : OpenRun) → get_or xs k d ≡ o
   there d = get_or_default xs k d c within
 
   before_place : o.place < place
@@ -318,7 +321,7 @@ module _ (runs : List Run) (ps : List Pair) (place : ℕ) (xs : List Placed) (h 
   no_nearer i past pair =
       let found = found_at runs ps place xs h i pair in
       let early = found_early runs ps place xs h i pair found.0 found.1 found.2 in
-      let at_i : (get_or xs found.0 c).place ≡ i = ap (λ (x : Placed). x.place) (found.2 c) in
+      let at_i : (get_or xs found.0 c).place ≡ i = ap (λ (x : OpenRun). x.place) (found.2 c) in
       elim (cases_lt found.0 k) [
         | inl below ↦ let order = h.covers.sorted found.0 k c below within in absurd (omega arith)
         | inr above ↦
@@ -393,7 +396,7 @@ passes : (n : ℕ) (runs : List Run) (ps : List Pair) (place : ℕ) (s : Pairing
     → up_to_nearest s.openers (left_at runs ps place) ≤ 0 → After runs ps place s (close n s (left_at runs ps place))
 passes n runs ps place s h none =
     let c = left_at runs ps place in
-    let is : close n s c ≡ opened s c = stops n s c none in
+    let is : close n s c ≡ with_opener s c = stops n s c none in
     record {
       added = [];
       same = ap (λ (t : Pairing). t.pairs) is ∙ sym (append-nil s.pairs);
@@ -416,19 +419,19 @@ closes zero runs ps place s h fuel =
       | inr none ↦ passes zero runs ps place s h none
     ]
 closes (suc n) runs ps place s h fuel =
-    let c : Placed = left_at runs ps place in
+    let c : OpenRun = left_at runs ps place in
     elim (cases_lt 0 (up_to_nearest s.openers c)) [
       | inl some ↦
-          let o : Placed = nearest s.openers c in
+          let o : OpenRun = nearest s.openers c in
           let p : Pair = pair_of o c in
           let e = nearest_eligible s.openers c some in
           let a = takes_some o c e in
           let left : left_at runs (p ∷ ps) place ≡ without (taken_by o c) c = closer_left runs ps place s.openers h some in
-          let less : (left_at runs (p ∷ ps) place).run.left ≡ c.run.left - taken_by o c = ap (λ (x : Placed). x.run.left) left in
-          let is : close (suc n) s c ≡ close n (paired s o c) (left_at runs (p ∷ ps) place) =
-          goes_on n s c some ∙ ap (close n (paired s o c)) (sym left) in
-          let more : After runs (p ∷ ps) place (paired s o c) (close n (paired s o c) (left_at runs (p ∷ ps) place)) =
-          closes n runs (p ∷ ps) place (paired s o c) (knows_more runs ps place s.openers h some) (omega arith) in
+          let less : (left_at runs (p ∷ ps) place).run.left ≡ c.run.left - taken_by o c = ap (λ (x : OpenRun). x.run.left) left in
+          let is : close (suc n) s c ≡ close n (with_pair s o c) (left_at runs (p ∷ ps) place) =
+          goes_on n s c some ∙ ap (close n (with_pair s o c)) (sym left) in
+          let more : After runs (p ∷ ps) place (with_pair s o c) (close n (with_pair s o c) (left_at runs (p ∷ ps) place)) =
+          closes n runs (p ∷ ps) place (with_pair s o c) (knows_more runs ps place s.openers h some) (omega arith) in
           record {
             added = p ∷ more.added;
             same = ap (λ (t : Pairing). t.pairs) is ∙ more.same ∙ append_assoc s.pairs (p ∷ []) more.added;
@@ -441,12 +444,12 @@ closes (suc n) runs ps place s h fuel =
     ]
 
 -- a run of which nothing was taken
-left_fresh : (runs : List Run) (ps : List Pair) (place : ℕ) (r : Run) → used ps place ≡ 0 → run_of runs place ≡ r → left_at runs ps place ≡ placed r place
+left_fresh : (runs : List Run) (ps : List Pair) (place : ℕ) (r : Run) → used ps place ≡ 0 → run_of runs place ≡ r → left_at runs ps place ≡ open_run r place
 left_fresh runs ps place r none there =
     let e : r.left - used ps place ≡ r.left = omega arith in
-    ap (λ (x : Run). without (used ps place) (placed x place)) there ∙ ap (λ n. placed (record r { left = n }) place) e
+    ap (λ (x : Run). without (used ps place) (open_run x place)) there ∙ ap (λ n. open_run (record r { left = n }) place) e
 
-eligible_may_close : (o c : Placed) → is_eligible o c ≡ true → c.run.may_close ≡ true
+eligible_may_close : (o c : OpenRun) → is_eligible o c ≡ true → c.run.may_close ≡ true
 eligible_may_close o c h = grind (arith, common_steps)
 
 -- past the runs nothing closes
@@ -469,14 +472,18 @@ rest done [] runs place ps s e size h fresh =
     record {
       added = [];
       same = sym (append-nil s.pairs);
-      next = NoMore ps (λ i j after pair. elim (cases_lt j place) [ inl below ↦ h.none i j after below pair | inr past ↦ none_past runs ps i j (omega arith) pair ]);
+      next = NoMore ps (λ i j after pair. elim (cases_lt j place) [
+        | inl below ↦ h.none i j after below pair
+        | inr past ↦ none_past runs ps i j
+            (omega arith) pair
+      ]);
     }
 rest done (r ∷ others) runs place ps s e size h fresh =
     let there : run_of runs place ≡ r =
     ap (λ n. get_or runs n no_run) (sym size) ∙ ap (λ xs. get_or xs (length done) no_run) e ∙ get_or-append_seam done r others no_run in
-    let left : left_at runs ps place ≡ placed r place = left_fresh runs ps place r fresh there in
-    let bound : (left_at runs ps place).run.left ≡ r.left = ap (λ (x : Placed). x.run.left) left in
-    let t = next_run s (placed r place) in
+    let left : left_at runs ps place ≡ open_run r place = left_fresh runs ps place r fresh there in
+    let bound : (left_at runs ps place).run.left ≡ r.left = ap (λ (x : OpenRun). x.run.left) left in
+    let t = next_run s (open_run r place) in
     let here : After runs ps place s (close r.left s (left_at runs ps place)) = closes r.left runs ps place s h (omega arith) in
     let is : close r.left s (left_at runs ps place) ≡ t = ap (close r.left s) left in
     let now : After runs ps place s t = subst (After runs ps place s) is here in

@@ -6,18 +6,19 @@ use Rattle.std.proofs.lemmas.Bool.{cases_lt}
 use Rattle.std.proofs.lemmas.List.{append-nil}
 use Rattle.std.proofs.lemmas.List.Sums.{suffix_len-le-length}
 use Rattle.definition_inline.specs.Attention.{Run}
-use Rattle.definition_inline.specs.Pairing.{Pair, Placed, Pairing, pairing, is_eligible, taken_by, without, pair_of, paired, up_to_nearest, nearest, close, next_run, placed_from, pairs}
+use Rattle.definition_inline.specs.Pairing.{Pair, OpenRun, Pairing, pairing, is_eligible, taken_by, without, pair_of, with_pair, up_to_nearest, nearest, close}
+use Rattle.definition_inline.specs.Pairing.{next_run, placed_from, pairs}
 use Rattle.definition_inline.specs.RunPairs.{ArePairs, NoRuns, Opens, Closes}
 use Rattle.definition_inline.proofs.NearestOpener.{nearest_eligible, none_after}
 use Rattle.definition_inline.proofs.ClosingRuns.{takes_some, takes_left, stops, goes_on}
 
 -- more pairs, and what they leave to the runs behind
-record More (s t : Pairing) (runs others : List Placed) (rest : List Pair) : Type 0 where
+record More (s t : Pairing) (runs others : List OpenRun) (rest : List Pair) : Type 0 where
   added : List Pair
   same : t.pairs ≡ s.pairs ++ added
   are_pairs : ArePairs s.openers runs (added ++ rest)
 
-passes : (n : ℕ) (s : Pairing) (c : Placed) (others : List Placed) (rest : List Pair) → up_to_nearest s.openers c ≤ 0
+passes : (n : ℕ) (s : Pairing) (c : OpenRun) (others : List OpenRun) (rest : List Pair) → up_to_nearest s.openers c ≤ 0
     → ArePairs (close n s c).openers others rest → More s (close n s c) (c ∷ others) others rest
 passes n s c others rest none h =
     let is = stops n s c none in
@@ -29,7 +30,7 @@ passes n s c others rest none h =
           (subst (λ (t : Pairing). ArePairs t.openers others rest) is h);
     }
 
-closes : (n : ℕ) (s : Pairing) (c : Placed) (others : List Placed) (rest : List Pair) → c.run.left ≤ n
+closes : (n : ℕ) (s : Pairing) (c : OpenRun) (others : List OpenRun) (rest : List Pair) → c.run.left ≤ n
     → ArePairs (close n s c).openers others rest → More s (close n s c) (c ∷ others) others rest
 closes zero s c others rest fuel h =
     elim (cases_lt 0 (up_to_nearest s.openers c)) [
@@ -49,8 +50,8 @@ closes (suc n) s c others rest fuel h =
           let b = takes_left o c e in
           let is = goes_on n s c some in
           let i = up_to_nearest s.openers c - 1 in
-          let more : More (paired s o c) (close n (paired s o c) (without (taken_by o c) c)) (without (taken_by o c) c ∷ others) others rest =
-          closes n (paired s o c) (without (taken_by o c) c) others rest (omega arith)
+          let more : More (with_pair s o c) (close n (with_pair s o c) (without (taken_by o c) c)) (without (taken_by o c) c ∷ others) others rest =
+          closes n (with_pair s o c) (without (taken_by o c) c) others rest (omega arith)
           (subst (λ (t : Pairing). ArePairs t.openers others rest) is h) in
           record {
             added = pair_of o c ∷ more.added;
@@ -63,12 +64,12 @@ closes (suc n) s c others rest fuel h =
       | inr none ↦ passes (suc n) s c others rest none h
     ]
 
-record All (s : Pairing) (runs : List Placed) : Type 0 where
+record All (s : Pairing) (runs : List OpenRun) : Type 0 where
   added : List Pair
   same : (fold next_run s runs).pairs ≡ s.pairs ++ added
   are_pairs : ArePairs s.openers runs added
 
-all : (s : Pairing) (runs : List Placed) → All s runs
+all : (s : Pairing) (runs : List OpenRun) → All s runs
 all s [] = record { added = []; same = sym (append-nil s.pairs); are_pairs = NoRuns s.openers }
 all s (c ∷ others) =
     let rest : All (next_run s c) others = all (next_run s c) others in

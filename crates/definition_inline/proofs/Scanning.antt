@@ -6,7 +6,8 @@ use Rattle.definition_text.specs.InlineCode.{InlineCode, codes_of}
 use Rattle.definition_inline.specs.Inline.{Data, Leaf}
 use Rattle.definition_inline.specs.Attention.{Run, run_at}
 use Rattle.definition_inline.specs.Spans.{Item, Delimiters}
-use Rattle.definition_inline.specs.Scan.{InlineContext, leaf_here, LabelStart, label_start_at, start_more, text, Reading, reading, read_tokens, Next, last_step, leaf_step, run_step, label_step, step, and_then, scan}
+use Rattle.definition_inline.specs.Scan.{InlineContext, leaf_here, LabelStart, label_start_at, start_more, text, Reading, reading, read_tokens, Next, last_step}
+use Rattle.definition_inline.specs.Scan.{leaf_step, run_step, label_step, step, and_then, scan}
 use Rattle.definition_inline.specs.Strings.{string_leaf_at, or_byte, string_parts}
 
 -- the codes of what is left of a content

@@ -2,6 +2,7 @@
 use Rattle.std.specs.Prelude.{ℕ, ◌-◌, Bool, true, false, not, if◌then◌else◌, ◌==◌, ◌&&◌, ◌||◌, List, [], ◌∷◌, Option, None, Some, slice_index_or}
 use Rattle.std.specs.List.{prefix_len}
 use Rattle.markdown_options.specs.declared.configuration.ParseOptions.{ParseOptions}
+use Rattle.definition_text.specs.Ascii.{asterisk, underscore}
 use Rattle.definition_text.specs.declared.beside.Kind.{Kind}
 use Rattle.definition_text.specs.declared.beside.Kind.TheVariants.{Whitespace, Punctuation, Other}
 use Rattle.definition_text.specs.InlineCode.{InlineCode}
@@ -37,7 +38,7 @@ is_right_flanking before after = is_left_flanking after before
 -- a left-flanking run may open; of `_` only if it isn't right-flanking too, or punctuation stands before (CommonMark 6.2)
 abbrev pub opens : ℕ → Kind → Kind → Bool
 opens marker before after =
-    is_left_flanking before after && (not (marker == 95) || (not (is_right_flanking before after) || is_punctuation_kind before))
+    is_left_flanking before after && (not (marker == underscore) || (not (is_right_flanking before after) || is_punctuation_kind before))
 
 -- the same the other way round (CommonMark 6.2)
 abbrev pub closes : ℕ → Kind → Kind → Bool
@@ -46,7 +47,7 @@ closes marker before after = opens marker after before
 -- a byte whose runs may form spans: `*` or `_` (CommonMark 6.2), or `~` (GFM 6.5)
 abbrev pub is_marker : ParseOptions → ℕ → Bool
 is_marker options code =
-    (options.constructs.attention && ((code == 42) || (code == 95))) || (options.constructs.gfm_strikethrough && is_tilde code)
+    (options.constructs.attention && ((code == asterisk) || (code == underscore))) || (options.constructs.gfm_strikethrough && is_tilde code)
 
 -- a run of so many of this byte between these kinds
 abbrev pub run_between : ParseOptions → ℕ → ℕ → Kind → Kind → Run

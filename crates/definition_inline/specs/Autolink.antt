@@ -1,18 +1,20 @@
 -- Autolinks (CommonMark 6.5): an absolute URI or an email address between `<` and `>`.
-use Rattle.std.specs.Prelude.{ℕ, ◌+◌, ◌-◌, Bool, true, false, if◌then◌else◌, not, ◌==◌, ◌&&◌, ◌||◌, nat_le, nat_lt, List, [], ◌∷◌, Option, None, Some, codes, drop, length, slice_index}
+use Rattle.std.specs.Prelude.{ℕ, ◌+◌, ◌-◌, Bool, true, false, if◌then◌else◌, not, ◌==◌, ◌&&◌, ◌||◌, nat_le, nat_lt, List, [], ◌∷◌, Option, None, Some, codes}
+use Rattle.std.specs.Prelude.{drop, length, slice_index}
 use Rattle.std.specs.List.{prefix_len, take_while, list_all, list_any}
 use Rattle.markdown_options.specs.declared.configuration.Constructs.{Constructs}
+use Rattle.definition_text.specs.Ascii.{plus, hyphen, dot, less_than, greater_than, delete}
 use Rattle.definition_text.specs.Bytes.{is_letter_or_digit, after_all, begins_with_letter, begins_with}
 use Rattle.definition_text.specs.Content.{before}
 use Rattle.definition_inline.specs.Inline.{Leaf, leaf, Autolink, or_else}
 
 -- a byte of a scheme: a letter, a digit, `+`, `.` or `-` (CommonMark 6.5)
 abbrev pub is_scheme_byte : ℕ → Bool
-is_scheme_byte b = is_letter_or_digit b || ((b == 43) || ((b == 46) || (b == 45)))
+is_scheme_byte b = is_letter_or_digit b || ((b == plus) || ((b == dot) || (b == hyphen)))
 
 -- a byte of a URI after its scheme: no control character, space, `<` or `>` (CommonMark 6.5)
 abbrev pub is_uri_byte : ℕ → Bool
-is_uri_byte b = (nat_lt 32 b && nat_lt b 256) && not ((b == 60) || ((b == 62) || (b == 127)))
+is_uri_byte b = (nat_lt 32 b && nat_lt b 256) && not ((b == less_than) || ((b == greater_than) || (b == delete)))
 
 -- a scheme of 2 to 32 bytes, the first a letter (CommonMark 6.5)
 abbrev pub begins_with_scheme : List ℕ → Bool
@@ -36,7 +38,7 @@ is_email_byte b = is_letter_or_digit b || list_any (λ other. b == other) (codes
 
 -- a byte of a domain: a letter, a digit, `-`, or `.` between its labels (CommonMark 6.5)
 abbrev pub is_domain_byte : ℕ → Bool
-is_domain_byte b = is_letter_or_digit b || ((b == 45) || (b == 46))
+is_domain_byte b = is_letter_or_digit b || ((b == hyphen) || (b == dot))
 
 -- a byte before the first of these parts of a text
 abbrev pub in_first : ℕ → List (List ℕ) → List (List ℕ)
@@ -46,13 +48,13 @@ in_first b (first ∷ others) = (b ∷ first) ∷ others
 -- the parts of a text between its dots
 abbrev pub between_dots : List ℕ → List (List ℕ)
 between_dots [] = [] ∷ []
-between_dots (b ∷ bs) = if b == 46 then [] ∷ between_dots bs else in_first b (between_dots bs)
+between_dots (b ∷ bs) = if b == dot then [] ∷ between_dots bs else in_first b (between_dots bs)
 
 -- a label of a domain: 1 to 63 bytes, no `-` at either end (CommonMark 6.5)
 abbrev pub is_domain_label : List ℕ → Bool
 is_domain_label label =
     (nat_le 1 (length label) && nat_le (length label) 63)
-    && not ((slice_index label 0 == 45) || (slice_index label (length label - 1) == 45))
+    && not ((slice_index label 0 == hyphen) || (slice_index label (length label - 1) == hyphen))
 
 -- labels with dots between (CommonMark 6.5)
 abbrev pub is_domain : List ℕ → Bool

@@ -2,6 +2,7 @@
 use Rattle.std.specs.Prelude.{ℕ, if◌then◌else◌, ◌==◌, ◌&&◌, List, [], ◌∷◌, Option, None, Some}
 use Rattle.std.specs.Char.{is_ascii_punctuation}
 use Rattle.markdown_options.specs.declared.configuration.Constructs.{Constructs}
+use Rattle.definition_text.specs.Ascii.{backslash}
 use Rattle.definition_inline.specs.Inline.{Leaf, leaf, Escape}
 
 -- a backslash and the ASCII punctuation after it (CommonMark 2.4)
@@ -9,4 +10,4 @@ abbrev pub escape_at : Constructs → List ℕ → Option Leaf
 escape_at on [] = None
 escape_at on (c ∷ []) = None
 escape_at on (c ∷ next ∷ cs) =
-    if on.character_escape && ((c == 92) && is_ascii_punctuation next) then Some (leaf (Escape next ∷ []) 2) else None
+    if on.character_escape && ((c == backslash) && is_ascii_punctuation next) then Some (leaf (Escape next ∷ []) 2) else None

@@ -4,6 +4,7 @@ use Rattle.std.specs.Char.{is_ascii_digit, is_ascii_hexdigit, is_ascii_alphanume
 use Rattle.std.specs.Int.{is_in_range}
 use Rattle.std.specs.List.{prefix_len, fold}
 use Rattle.markdown_options.specs.declared.configuration.Constructs.{Constructs}
+use Rattle.definition_text.specs.Ascii.{number_sign, ampersand, semicolon, capital_x, small_x}
 use Rattle.definition_text.specs.Content.{Part, part}
 use Rattle.definition_inline.specs.Inline.{Leaf, leaf, Character}
 
@@ -23,11 +24,11 @@ character_reference name rest = record { name = name; rest = rest }
 -- a text before a `;`
 abbrev pub before_semicolon : List ℕ → List ℕ → Option Part
 before_semicolon text [] = None
-before_semicolon text (c ∷ cs) = if c == 59 then Some (part text cs) else None
+before_semicolon text (c ∷ cs) = if c == semicolon then Some (part text cs) else None
 
 -- the codes ahead that pass a test, from 1 to so many of them, before a `;`
-abbrev pub terminated : (ℕ → Bool) → ℕ → List ℕ → Option Part
-terminated test most content =
+abbrev pub part_to_semicolon : (ℕ → Bool) → ℕ → List ℕ → Option Part
+part_to_semicolon test most content =
     let size = prefix_len test content in
     if nat_le 1 size && nat_le size most then before_semicolon (take size content) (drop size content) else None
 
@@ -36,34 +37,35 @@ abbrev pub number_of : ℕ → List ℕ → ℕ
 number_of base digits = fold (λ n digit. n * base + digit_value digit) 0 digits
 
 -- a reference by number, with the digits of this base
-abbrev pub numbered : ℕ → Option Part → Option CharacterReference
-numbered base None = None
-numbered base (Some digits) = Some (character_reference (Numbered (number_of base digits.text)) digits.rest)
+abbrev pub reference_by_number : ℕ → Option Part → Option CharacterReference
+reference_by_number base None = None
+reference_by_number base (Some digits) = Some (character_reference (Numbered (number_of base digits.text)) digits.rest)
 
 -- a reference by name
-abbrev pub named : Option Part → Option CharacterReference
-named None = None
-named (Some name) = Some (character_reference (Named name.text) name.rest)
+abbrev pub reference_by_name : Option Part → Option CharacterReference
+reference_by_name None = None
+reference_by_name (Some name) = Some (character_reference (Named name.text) name.rest)
 
 -- a reference by number after its `&#` (CommonMark 2.5)
 abbrev pub number_reference : List ℕ → Option CharacterReference
 number_reference [] = None
 number_reference (c ∷ cs) =
-    if (c == 120) || (c == 88) then numbered 16 (terminated is_ascii_hexdigit 6 cs)
-    else numbered 10 (terminated is_ascii_digit 7 (c ∷ cs))
+    if (c == small_x) || (c == capital_x) then reference_by_number 16 (part_to_semicolon is_ascii_hexdigit 6 cs)
+    else reference_by_number 10 (part_to_semicolon is_ascii_digit 7 (c ∷ cs))
 
 -- a reference after its `&` (CommonMark 2.5)
 abbrev pub reference_after : List ℕ → Option CharacterReference
 reference_after [] = None
 reference_after (c ∷ cs) =
-    if c == 35 then number_reference cs else named (terminated is_ascii_alphanumeric 31 (c ∷ cs))
+    if c == number_sign then number_reference cs else reference_by_name (part_to_semicolon is_ascii_alphanumeric 31 (c ∷ cs))
 
 -- a reference by its form alone: names aren't looked up (CommonMark 2.5)
 abbrev pub reference_form : List ℕ → Option CharacterReference
 reference_form [] = None
-reference_form (c ∷ cs) = if c == 38 then reference_after cs else None
+reference_form (c ∷ cs) = if c == ampersand then reference_after cs else None
 
--- a number that stands for no character of a text: NUL, the control characters but tab, line feed, form feed and return, surrogates, noncharacters, and all above U+10FFFF
+-- a number that stands for no character of a text: NUL, the control characters but tab, line feed, form feed and return, surrogates, noncharacters, and all
+-- above U+10FFFF
 abbrev pub is_replaced : ℕ → Bool
 is_replaced number =
     nat_le number 8 || (number == 11) || is_in_range 14 31 number || is_in_range 127 159 number

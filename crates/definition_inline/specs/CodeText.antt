@@ -1,7 +1,9 @@
 -- Code spans (CommonMark 6.1): a run of n backticks, a text, and the next run of exactly n. Math is the same with dollars.
-use Rattle.std.specs.Prelude.{ℕ, ◌+◌, ◌-◌, Bool, false, if◌then◌else◌, not, ◌==◌, ◌&&◌, ◌||◌, List, [], ◌∷◌, Option, None, Some, map, take, drop, length, slice_index}
+use Rattle.std.specs.Prelude.{ℕ, ◌+◌, ◌-◌, Bool, false, if◌then◌else◌, not, ◌==◌, ◌&&◌, ◌||◌, List, [], ◌∷◌, Option, None, Some, map, take, drop, length}
+use Rattle.std.specs.Prelude.{slice_index}
 use Rattle.std.specs.List.{list_any}
 use Rattle.markdown_options.specs.declared.configuration.Constructs.{Constructs}
+use Rattle.definition_text.specs.Ascii.{space, dollar, backtick}
 use Rattle.definition_text.specs.Columns.{is_tab_column}
 use Rattle.definition_text.specs.Runs.{run, after_run}
 use Rattle.definition_text.specs.Content.{is_eol, Part, up_to}
@@ -15,23 +17,23 @@ run_of marker n within (c ∷ cs) =
 
 -- a line ending is a space in code, and so is a column that is left of a tab (CommonMark 6.1)
 abbrev pub code_space : ℕ → ℕ
-code_space code = if is_eol code || is_tab_column code then 32 else code
+code_space code = if is_eol code || is_tab_column code then space else code
 
 -- a space at each end, and not only spaces (CommonMark 6.1)
 abbrev pub is_padded : List ℕ → Bool
-is_padded text = (slice_index text 0 == 32) && ((slice_index text (length text - 1) == 32) && list_any (λ b. not (b == 32)) text)
+is_padded text = (slice_index text 0 == space) && ((slice_index text (length text - 1) == space) && list_any (λ b. not (b == space)) text)
 
 -- without one space at each end, where there are both and something between (CommonMark 6.1)
-abbrev pub unpadded : List ℕ → List ℕ
-unpadded text = if is_padded text then take (length text - 2) (drop 1 text) else text
+abbrev pub without_padding : List ℕ → List ℕ
+without_padding text = if is_padded text then take (length text - 2) (drop 1 text) else text
 
 -- the text of a code span (CommonMark 6.1)
 abbrev pub code_text : List ℕ → List ℕ
-code_text text = unpadded (map code_space text)
+code_text text = without_padding (map code_space text)
 
 -- what runs of this byte hold: math between dollars, otherwise code (CommonMark 6.1)
 abbrev pub raw_part : ℕ → List ℕ → Inline
-raw_part marker text = if marker == 36 then Math (code_text text) else Code (code_text text)
+raw_part marker text = if marker == dollar then Math (code_text text) else Code (code_text text)
 
 -- the span between a run of n of this byte and its end, where that is found; otherwise these bytes are text (CommonMark 6.1)
 abbrev pub raw_leaf : ℕ → ℕ → List ℕ → Option Part → Leaf
@@ -47,4 +49,4 @@ raw_at marker may_open content =
 
 -- a run of backticks, which may open a code span (CommonMark 6.1)
 abbrev pub code_text_at : Constructs → List ℕ → Option Leaf
-code_text_at on content = raw_at 96 on.code_text content
+code_text_at on content = raw_at backtick on.code_text content

@@ -13,16 +13,16 @@ abbrev pub known_at : Names → List ℕ → Option Part
 known_at names text = option_and_then (known_text names) (reference_form text)
 
 -- a byte that begins no known reference stays; the bytes of a known one are left out
-abbrev pub replaced : ℕ → List ℕ → Option Part → (ℕ → List ℕ) → List ℕ
-replaced b bs None others = b ∷ others 0
-replaced b bs (Some known) others = known.text ++ others (length bs - length known.rest)
+abbrev pub replace_reference : ℕ → List ℕ → Option Part → (ℕ → List ℕ) → List ℕ
+replace_reference b bs None others = b ∷ others 0
+replace_reference b bs (Some known) others = known.text ++ others (length bs - length known.rest)
 
 -- the text after leaving out so many bytes
 abbrev pub decoded_after : Names → ℕ → List ℕ → List ℕ
 decoded_after names skipped [] = []
 decoded_after names (suc skipped) (b ∷ bs) = decoded_after names skipped bs
-decoded_after names zero (b ∷ bs) = replaced b bs (known_at names (b ∷ bs)) (λ size. decoded_after names size bs)
+decoded_after names zero (b ∷ bs) = replace_reference b bs (known_at names (b ∷ bs)) (λ size. decoded_after names size bs)
 
 -- a text with the text of each known reference in place of it
-abbrev pub decoded : Names → List ℕ → List ℕ
-decoded names text = decoded_after names 0 text
+abbrev pub decode : Names → List ℕ → List ℕ
+decode names text = decoded_after names 0 text

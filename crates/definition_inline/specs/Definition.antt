@@ -1,5 +1,6 @@
 -- Link reference definitions (CommonMark 4.7).
 use Rattle.std.specs.Prelude.{ℕ, if◌then◌else◌, ◌==◌, List, [], ◌∷◌, Option, None, Some}
+use Rattle.definition_text.specs.Ascii.{colon}
 use Rattle.definition_text.specs.Content.{Part, is_eol}
 use Rattle.definition_inline.specs.Space.{after_spaces, after_white, begins_with_space}
 use Rattle.definition_inline.specs.Label.{label_at}
@@ -36,28 +37,28 @@ with_title label destination None = None
 with_title label destination (Some title) = definition_before label destination (Some title.text) (next_line title.rest)
 
 -- a title is set off by white space, and only spaces and tabs follow it on its line (CommonMark 4.7)
-abbrev pub titled : List ℕ → Part → Option Definition
-titled label destination =
+abbrev pub definition_with_title : List ℕ → Part → Option Definition
+definition_with_title label destination =
     if begins_with_space destination.rest then with_title label destination.text (title_at (after_white destination.rest)) else None
 
 -- without a title only spaces and tabs follow the destination on its line (CommonMark 4.7)
-abbrev pub untitled : List ℕ → Part → Option Definition
-untitled label destination = definition_before label destination.text None (next_line destination.rest)
+abbrev pub definition_without_title : List ℕ → Part → Option Definition
+definition_without_title label destination = definition_before label destination.text None (next_line destination.rest)
 
 -- the definition with a title that was found, or one without
-abbrev pub or_untitled : List ℕ → Part → Option Definition → Option Definition
-or_untitled label destination None = untitled label destination
-or_untitled label destination (Some found) = Some found
+abbrev pub or_definition_without_title : List ℕ → Part → Option Definition → Option Definition
+or_definition_without_title label destination None = definition_without_title label destination
+or_definition_without_title label destination (Some found) = Some found
 
 -- with a title where there is one, and otherwise without (CommonMark 4.7)
 abbrev pub with_destination : List ℕ → Option Part → Option Definition
 with_destination label None = None
-with_destination label (Some destination) = or_untitled label destination (titled label destination)
+with_destination label (Some destination) = or_definition_without_title label destination (definition_with_title label destination)
 
 -- a definition after its label: `:`, and a destination after optional white space (CommonMark 4.7)
 abbrev pub with_colon : List ℕ → List ℕ → Option Definition
 with_colon label [] = None
-with_colon label (c ∷ cs) = if c == 58 then with_destination label (destination_at None (after_white cs)) else None
+with_colon label (c ∷ cs) = if c == colon then with_destination label (destination_at None (after_white cs)) else None
 
 -- a definition with this label, if there is one
 abbrev pub with_label : Option Part → Option Definition

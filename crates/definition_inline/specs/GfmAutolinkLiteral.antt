@@ -1,15 +1,19 @@
 -- Links with no brackets (GFM 6.9): addresses after `www.`, `http://` and `https://`, and email addresses.
-use Rattle.std.specs.Prelude.{ℕ, zero, suc, ◌+◌, ◌-◌, Bool, true, false, if◌then◌else◌, not, ◌==◌, ◌&&◌, ◌||◌, nat_le, nat_lt, List, [], ◌∷◌, ◌++◌, Option, None, Some, codes, map, take, drop, length, reverse, slice_index, slice_index_or}
+use Rattle.std.specs.Prelude.{ℕ, zero, suc, ◌+◌, ◌-◌, Bool, true, false, if◌then◌else◌, not, ◌==◌, ◌&&◌, ◌||◌, nat_le, nat_lt, List, [], ◌∷◌, ◌++◌, Option}
+use Rattle.std.specs.Prelude.{None, Some, codes, map, take, drop, length, reverse, slice_index, slice_index_or}
 use Rattle.std.specs.List.{prefix_len, suffix_len, filter, list_any}
 use Rattle.std.specs.Str.{bytes_eq}
 use Rattle.markdown_options.specs.declared.configuration.Constructs.{Constructs}
+use Rattle.definition_text.specs.Ascii.{left_parenthesis, right_parenthesis, dot, slash, semicolon, less_than, at_sign, left_bracket, right_bracket, underscore}
+use Rattle.definition_text.specs.Ascii.{delete}
 use Rattle.definition_text.specs.declared.beside.Kind.{Kind}
 use Rattle.definition_text.specs.Bytes.{is_letter, is_letter_or_digit, same_caselessly, begins_with}
 use Rattle.definition_text.specs.Columns.{is_white}
 use Rattle.definition_text.specs.Content.{is_eol, is_space}
 use Rattle.definition_text.specs.InlineCode.{InlineCode, codes_of, is_continuation}
 use Rattle.definition_inline.specs.Attention.{is_other}
-use Rattle.definition_inline.specs.Inline.{LiteralKind, Www, Protocol, Email, Inline, Data, Literal, Emphasis, Strong, Strikethrough, Link, Image, Inlines, Nil, Cons, Leaf, leaf}
+use Rattle.definition_inline.specs.Inline.{LiteralKind, Www, Protocol, Email, Inline, Data, Literal, Emphasis, Strong, Strikethrough, Link, Image, Inlines, Nil}
+use Rattle.definition_inline.specs.Inline.{Cons, Leaf, leaf}
 
 -- ---- where a literal begins
 
@@ -61,7 +65,7 @@ literal_start_at previous content = or_start (www_start previous content) (proto
 
 -- a control character of ASCII, or a line ending
 abbrev pub is_control : ℕ → Bool
-is_control code = nat_lt code 32 || ((code == 127) || is_eol code)
+is_control code = nat_lt code 32 || ((code == delete) || is_eol code)
 
 -- a character of this kind comes first, which is no whitespace, punctuation or control character
 abbrev pub begins_name : Kind → List InlineCode → Bool
@@ -73,11 +77,11 @@ begins_name kind (c ∷ cs) = is_other kind && not (is_control c.code)
 -- nothing, white space, `(` or `[` comes first
 abbrev pub ends_label : List ℕ → Bool
 ends_label [] = true
-ends_label (c ∷ cs) = is_space c || ((c == 40) || (c == 91))
+ends_label (c ∷ cs) = is_space c || ((c == left_parenthesis) || (c == left_bracket))
 
 -- white space or `<`, or a `]` that may end a label
 abbrev pub ends_literal : ℕ → List ℕ → Bool
-ends_literal code after = is_space code || ((code == 60) || ((code == 93) && ends_label after))
+ends_literal code after = is_space code || ((code == less_than) || ((code == right_bracket) && ends_label after))
 
 -- the codes up to there (GFM 6.9)
 abbrev pub literal_run : List ℕ → List ℕ
@@ -94,11 +98,11 @@ count_of byte text = length (filter (λ b. b == byte) text)
 
 -- a text has more `)` than `(`
 abbrev pub has_more_closed : List ℕ → Bool
-has_more_closed text = nat_lt (count_of 40 text) (count_of 41 text)
+has_more_closed text = nat_lt (count_of left_parenthesis text) (count_of right_parenthesis text)
 
 -- the last code is cut from a text: one that no literal ends with, or a `)` where there are more of them than `(` (GFM 6.9)
 abbrev pub is_cut : ℕ → List ℕ → Bool
-is_cut code before = is_trailing code || ((code == 41) && has_more_closed (code ∷ before))
+is_cut code before = is_trailing code || ((code == right_parenthesis) && has_more_closed (code ∷ before))
 
 -- how many codes of a text, backwards, what looks like a character reference has before its `;`
 abbrev pub name_size : List ℕ → ℕ
@@ -108,7 +112,7 @@ name_size backwards =
 
 -- what is cut with this code besides: before a `;` what looks like a character reference (GFM 6.9)
 abbrev pub cut_more : ℕ → List ℕ → ℕ
-cut_more code before = if code == 59 then name_size before else 0
+cut_more code before = if code == semicolon then name_size before else 0
 
 -- a text backwards without what is cut from its end, where so many codes are cut already
 abbrev pub without_tail : ℕ → List ℕ → List ℕ
@@ -133,8 +137,8 @@ abbrev pub low_line_in : ℕ → List ℕ → Bool
 low_line_in zero backwards = false
 low_line_in (suc n) [] = false
 low_line_in (suc n) (c ∷ cs) =
-    if c == 95 then true
-    else (if c == 46 then low_line_in n cs else low_line_in (suc n) cs)
+    if c == underscore then true
+    else (if c == dot then low_line_in n cs else low_line_in (suc n) cs)
 
 -- `_` stands in one of the last two parts (GFM 6.9)
 abbrev pub has_low_line : List ℕ → Bool
@@ -203,7 +207,7 @@ begins_with_letter_or_digit (c ∷ cs) = is_letter_or_digit c
 abbrev pub is_host_code : Bool → ℕ → List ℕ → Bool
 is_host_code is_xmpp code after =
     is_letter_or_digit code
-    || (is_among (codes "-_") code || (((code == 46) && begins_with_letter_or_digit after) || (is_xmpp && (code == 47))))
+    || (is_among (codes "-_") code || (((code == dot) && begins_with_letter_or_digit after) || (is_xmpp && (code == slash))))
 
 -- how many of them come first
 abbrev pub host_size : Bool → List ℕ → ℕ
@@ -212,7 +216,7 @@ host_size is_xmpp (c ∷ cs) = if is_host_code is_xmpp c cs then 1 + host_size i
 
 -- with a dot, and a letter at the end (GFM 6.9)
 abbrev pub is_host : List ℕ → Bool
-is_host text = list_any (λ c. c == 46) text && is_letter (slice_index text (length text - 1))
+is_host text = list_any (λ c. c == dot) text && is_letter (slice_index text (length text - 1))
 
 -- an email address around an `@`: its kind, and how many codes it has before and after that
 pub record Address : Type 0 where
@@ -243,18 +247,18 @@ address_at before after =
 abbrev pub address_parts : List ℕ → List ℕ → Address → List Inline
 address_parts before after found =
     map Data (without_last found.before before)
-    ++ Literal found.kind (drop (length before - found.before) before ++ 64 ∷ take found.after after) ∷ []
+    ++ Literal found.kind (drop (length before - found.before) before ++ at_sign ∷ take found.after after) ∷ []
 
 -- the parts of a run of text from an `@` on
 abbrev pub address_or_text : List ℕ → List ℕ → Option Address → (ℕ → List ℕ → List Inline) → List Inline
-address_or_text before after None rest = rest 0 (before ++ 64 ∷ [])
+address_or_text before after None rest = rest 0 (before ++ at_sign ∷ [])
 address_or_text before after (Some found) rest = address_parts before after found ++ rest found.after []
 
 -- the parts of a run of text, given the text since the last address, and how many codes of that come next (GFM 6.9)
 abbrev pub parts_from : ℕ → List ℕ → List ℕ → List Inline
 parts_from k before [] = map Data before
 parts_from zero before (c ∷ cs) =
-    if c == 64 then address_or_text before cs (address_at before cs) (λ more next. parts_from more next cs)
+    if c == at_sign then address_or_text before cs (address_at before cs) (λ more next. parts_from more next cs)
     else parts_from 0 (before ++ c ∷ []) cs
 parts_from (suc k) before (c ∷ cs) = parts_from k before cs
 
@@ -265,15 +269,15 @@ with_addresses run = parts_from 0 [] run
 -- ---- the inline structure of a content, once its spans are paired
 
 -- parts before others
-abbrev pub followed : List Inline → Inlines → Inlines
-followed [] others = others
-followed (i ∷ is) others = Cons i (followed is others)
+abbrev pub parts_before : List Inline → Inlines → Inlines
+parts_before [] others = others
+parts_before (i ∷ is) others = Cons i (parts_before is others)
 
 abbrev mutual
   -- the text of a link holds no link: a literal in it is text (CommonMark 6.3)
   pub without_literals : Inlines → Inlines
   without_literals Nil = Nil
-  without_literals (Cons i is) = followed (part_without i) (without_literals is)
+  without_literals (Cons i is) = parts_before (part_without i) (without_literals is)
 
   pub part_without : Inline → List Inline
   part_without (Literal kind text) = map Data text
@@ -287,9 +291,9 @@ abbrev mutual
 abbrev mutual
   -- email addresses in the longest runs of text outside links, where a run stands before (GFM 6.9)
   pub with_literals : List ℕ → Inlines → Inlines
-  with_literals run Nil = followed (with_addresses run) Nil
+  with_literals run Nil = parts_before (with_addresses run) Nil
   with_literals run (Cons (Data b) is) = with_literals (run ++ b ∷ []) is
-  with_literals run (Cons i is) = followed (with_addresses run) (Cons (part_with i) (with_literals [] is))
+  with_literals run (Cons i is) = parts_before (with_addresses run) (Cons (part_with i) (with_literals [] is))
 
   pub part_with : Inline → Inline
   part_with (Emphasis kids) = Emphasis (with_literals [] kids)

@@ -2,6 +2,7 @@
 use Rattle.std.specs.Prelude.{ℕ, ◌+◌, Bool, true, false, if◌then◌else◌, ◌==◌, ◌&&◌, nat_le, List, [], ◌∷◌, Option, None, Some}
 use Rattle.std.specs.List.{list_all, take_while}
 use Rattle.markdown_options.specs.declared.configuration.Constructs.{Constructs}
+use Rattle.definition_text.specs.Ascii.{space, backslash}
 use Rattle.definition_text.specs.Columns.{is_white, indent, bare}
 use Rattle.definition_text.specs.Content.{is_eol}
 use Rattle.definition_inline.specs.Inline.{Leaf, leaf, EscapedBreak, TrailingBreak, LineEnd}
@@ -26,12 +27,12 @@ line_end_at (c ∷ cs) = if is_eol c then Some (leaf (LineEnd c ∷ []) (1 + ind
 abbrev pub escaped_break_at : Constructs → List ℕ → Option Leaf
 escaped_break_at on [] = None
 escaped_break_at on (c ∷ cs) =
-    if on.hard_break_escape && ((c == 92) && ends_inner_line cs) then Some (leaf (EscapedBreak ∷ []) 1) else None
+    if on.hard_break_escape && ((c == backslash) && ends_inner_line cs) then Some (leaf (EscapedBreak ∷ []) 1) else None
 
 -- two spaces or more and no tab, before a line ending that isn't the last code (CommonMark 6.7)
 abbrev pub is_trailing_break : List ℕ → Bool
 is_trailing_break content =
-    nat_le 2 (indent content) && (list_all (λ c. c == 32) (take_while is_white content) && ends_inner_line (bare content))
+    nat_le 2 (indent content) && (list_all (λ c. c == space) (take_while is_white content) && ends_inner_line (bare content))
 
 -- spaces and tabs at the end of a line or of the content aren't printed, but they may be a hard line break (CommonMark 6.7 and 6.8)
 abbrev pub line_spaces_at : Constructs → List ℕ → Option Leaf

@@ -1,6 +1,7 @@
 -- The tags of HTML (CommonMark 6.6). The code 10 stands for a line ending. A part of a tag is given by what follows it, where bytes begin with such a part.
 use Rattle.std.specs.Prelude.{ℕ, suc, zero, Bool, false, not, if◌then◌else◌, ◌==◌, ◌&&◌, ◌||◌, List, [], ◌∷◌, Option, None, Some, drop, length, codes}
 use Rattle.std.specs.List.{take_while}
+use Rattle.definition_text.specs.Ascii.{line_feed, double_quote, single_quote, hyphen, dot, colon, less_than, equals, greater_than, underscore, backtick}
 use Rattle.definition_text.specs.Columns.{is_white}
 use Rattle.definition_text.specs.Bytes.{is_letter, is_letter_or_digit, begins_with, after_all, without_slash}
 
@@ -11,7 +12,7 @@ followed_by (Some rest) part = part rest
 
 -- white space in a tag: spaces, tabs and a line ending
 abbrev pub is_tag_space : ℕ → Bool
-is_tag_space b = is_white b || (b == 10)
+is_tag_space b = is_white b || (b == line_feed)
 
 -- what follows optional white space
 abbrev pub tag_space : List ℕ → List ℕ
@@ -23,7 +24,7 @@ begins_with_tag_space (b ∷ bs) = is_tag_space b
 
 -- a byte of a tag name after its first, which is a letter: a letter, a digit or `-`
 abbrev pub is_tag_name_byte : ℕ → Bool
-is_tag_name_byte b = is_letter_or_digit b || (b == 45)
+is_tag_name_byte b = is_letter_or_digit b || (b == hyphen)
 
 -- the tag name that bytes begin with
 abbrev pub tag_name : List ℕ → List ℕ
@@ -36,35 +37,37 @@ after_tag_name (b ∷ bs) = if is_letter b then Some (after_all is_tag_name_byte
 
 -- the first byte of an attribute name: a letter, `_` or `:`
 abbrev pub begins_attribute : ℕ → Bool
-begins_attribute b = is_letter b || (b == 95) || (b == 58)
+begins_attribute b = is_letter b || (b == underscore) || (b == colon)
 
 -- a later byte of an attribute name: a letter, a digit, `_`, `.`, `:` or `-`
 abbrev pub is_attribute_byte : ℕ → Bool
-is_attribute_byte b = is_letter_or_digit b || (b == 95) || (b == 46) || (b == 58) || (b == 45)
+is_attribute_byte b = is_letter_or_digit b || (b == underscore) || (b == dot) || (b == colon) || (b == hyphen)
 
 -- a byte of an unquoted attribute value: no white space, `"`, `'`, `=`, `<`, `>` or backtick
 abbrev pub is_unquoted : ℕ → Bool
-is_unquoted b = not (is_tag_space b || (b == 34) || (b == 39) || (b == 61) || (b == 60) || (b == 62) || (b == 96))
+is_unquoted b =
+    not (is_tag_space b || (b == double_quote) || (b == single_quote) || (b == equals) || (b == less_than) || (b == greater_than) || (b == backtick))
 
 -- the rest of a quoted value, up to the quote that closes it
-abbrev pub quoted : ℕ → List ℕ → Option (List ℕ)
-quoted quote [] = None
-quoted quote (b ∷ bs) = if b == quote then Some bs else quoted quote bs
+abbrev pub quoted_value : ℕ → List ℕ → Option (List ℕ)
+quoted_value quote [] = None
+quoted_value quote (b ∷ bs) = if b == quote then Some bs else quoted_value quote bs
 
 -- an unquoted value, which isn't empty
-abbrev pub unquoted : List ℕ → Option (List ℕ)
-unquoted [] = None
-unquoted (b ∷ bs) = if is_unquoted b then Some (after_all is_unquoted bs) else None
+abbrev pub unquoted_value : List ℕ → Option (List ℕ)
+unquoted_value [] = None
+unquoted_value (b ∷ bs) = if is_unquoted b then Some (after_all is_unquoted bs) else None
 
 -- an attribute value
 abbrev pub value : List ℕ → Option (List ℕ)
 value [] = None
-value (b ∷ bs) = if b == 34 then quoted 34 bs else (if b == 39 then quoted 39 bs else unquoted (b ∷ bs))
+value (b ∷ bs) = if b == double_quote then quoted_value double_quote bs else (if b == single_quote then quoted_value single_quote bs
+    else unquoted_value (b ∷ bs))
 
 -- `=`, optional white space and a value; without a `=` what follows is given
 abbrev pub value_or : List ℕ → List ℕ → Option (List ℕ)
 value_or other [] = Some other
-value_or other (b ∷ bs) = if b == 61 then value (tag_space bs) else Some other
+value_or other (b ∷ bs) = if b == equals then value (tag_space bs) else Some other
 
 -- an optional value specification: optional white space and the rest of it
 abbrev pub specification : List ℕ → Option (List ℕ)
@@ -91,7 +94,7 @@ attributes (suc most) bytes = if has_attribute bytes then followed_by (attribute
 -- `>`
 abbrev pub tag_end : List ℕ → Option (List ℕ)
 tag_end [] = None
-tag_end (b ∷ bs) = if b == 62 then Some bs else None
+tag_end (b ∷ bs) = if b == greater_than then Some bs else None
 
 -- the end of an open tag: optional white space, an optional `/` and `>`
 abbrev pub open_end : List ℕ → Option (List ℕ)

@@ -2,6 +2,7 @@
 use Rattle.std.specs.Prelude.{ℕ, ◌-◌, if◌then◌else◌, ◌&&◌, List, [], ◌∷◌, Option, None, Some, codes, map, take, drop, length}
 use Rattle.std.specs.Option.{option_or}
 use Rattle.markdown_options.specs.declared.configuration.Constructs.{Constructs}
+use Rattle.definition_text.specs.Ascii.{line_feed}
 use Rattle.definition_text.specs.Columns.{code_byte}
 use Rattle.definition_text.specs.Bytes.{begins_with, begins_with_letter}
 use Rattle.definition_inline.specs.HtmlTags.{open_tag, closing_tag}
@@ -10,7 +11,7 @@ use Rattle.definition_inline.specs.Inline.{Leaf, leaf, Html}
 
 -- a code as the grammar of tags reads it: a line ending is 10, and a column that is left of a tab a space
 abbrev pub html_byte : ℕ → ℕ
-html_byte code = if is_eol code then 10 else code_byte code
+html_byte code = if is_eol code then line_feed else code_byte code
 
 -- what follows the first place at which a text stands
 abbrev pub after_first : List ℕ → List ℕ → Option (List ℕ)

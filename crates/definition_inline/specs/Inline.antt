@@ -20,7 +20,10 @@ pub data LiteralKind : Type 0 where
   Protocol : LiteralKind
   Email : LiteralKind
 
--- A part of a text: a byte; a byte after the backslash that escapes it; the text that a character reference stands for; the text of a code span; that of math; an autolink to an email address or not, with what stands between its brackets; a literal; raw HTML by its codes; a hard line break by a backslash; one by spaces; the code of a line ending; emphasis; strong emphasis; strikethrough; a link; an image with its description; a call of a footnote, with the label between its brackets as it is written.
+-- A part of a text: a byte; a byte after the backslash that escapes it; the text that a character reference stands for; the text of a code span; that of math;
+-- an autolink to an email address or not, with what stands between its brackets; a literal; raw HTML by its codes; a hard line break by a backslash; one by
+-- spaces; the code of a line ending; emphasis; strong emphasis; strikethrough; a link; an image with its description; a call of a footnote, with the label
+-- between its brackets as it is written.
 mutual
   pub data Inline : Type 0 where
     Data : ℕ → Inline

@@ -1,17 +1,18 @@
 -- Link labels (CommonMark 6.3).
 use Rattle.std.specs.Prelude.{ℕ, ◌+◌, Bool, false, if◌then◌else◌, not, ◌==◌, ◌&&◌, ◌||◌, nat_le, List, [], ◌∷◌, Option, None, Some}
 use Rattle.std.specs.List.{list_any}
+use Rattle.definition_text.specs.Ascii.{left_bracket, right_bracket}
 use Rattle.definition_text.specs.Content.{Part, is_space, at_line_start, may_escape, closed_by}
 
 -- a bracket that no backslash escapes (CommonMark 6.3)
 abbrev pub ends_label : Bool → ℕ → Bool
-ends_label escaped code = ((code == 91) || (code == 93)) && not escaped
+ends_label escaped code = ((code == left_bracket) || (code == right_bracket)) && not escaped
 
 -- the rest from the bracket on that closes a label, after its text, in which a backslash escapes a bracket or a backslash (CommonMark 6.3)
 abbrev pub label_end : Bool → List ℕ → Option (List ℕ)
 label_end escaped [] = None
 label_end escaped (c ∷ cs) =
-    if ends_label escaped c then (if c == 93 then Some (c ∷ cs) else None)
+    if ends_label escaped c then (if c == right_bracket then Some (c ∷ cs) else None)
     else label_end (may_escape escaped c) cs
 
 -- something other than spaces, tabs and line endings (CommonMark 6.3)
@@ -35,4 +36,4 @@ if_label (Some label) = if is_label label.text then Some label else None
 -- a label, with its text between the brackets (CommonMark 6.3)
 abbrev pub label_at : List ℕ → Option Part
 label_at [] = None
-label_at (c ∷ cs) = if c == 91 then if_label (closed_by cs (label_end false cs)) else None
+label_at (c ∷ cs) = if c == left_bracket then if_label (closed_by cs (label_end false cs)) else None

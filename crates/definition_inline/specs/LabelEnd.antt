@@ -8,12 +8,12 @@ use Rattle.definition_inline.specs.Inline.{Target, Resource, Reference}
 use Rattle.definition_inline.specs.Resource.{LinkResource, resource_at}
 
 -- what leads somewhere, and how many codes after the `]` belong to it
-pub record Ended : Type 0 where
+pub record LinkTail : Type 0 where
   pub target : Target
   pub size : ℕ
 
-abbrev pub ended : Target → ℕ → Ended
-ended target size = record { target = target; size = size }
+abbrev pub link_tail : Target → ℕ → LinkTail
+link_tail target size = record { target = target; size = size }
 
 -- no bracket but after a backslash that escapes it (CommonMark 6.3)
 abbrev pub has_no_bracket : Bool → List ℕ → Bool
@@ -25,38 +25,38 @@ abbrev pub is_label_text : List ℕ → Bool
 is_label_text text = has_no_bracket false text && is_label text
 
 -- a collapsed or a shortcut reference: the text is the label of a definition (CommonMark 6.3)
-abbrev pub by_text : (List ℕ → Bool) → List ℕ → List ℕ → Option Ended
+abbrev pub by_text : (List ℕ → Bool) → List ℕ → List ℕ → Option LinkTail
 by_text is_defined text rest =
     if is_label_text text && is_defined text
-    then Some (ended (Reference text) (if begins_with (codes "[]") rest then 2 else 0))
+    then Some (link_tail (Reference text) (if begins_with (codes "[]") rest then 2 else 0))
     else None
 
 -- a full reference, where a label follows, and otherwise a collapsed one or a shortcut (CommonMark 6.3)
-abbrev pub by_label : (List ℕ → Bool) → List ℕ → List ℕ → Option Part → Option Ended
+abbrev pub by_label : (List ℕ → Bool) → List ℕ → List ℕ → Option Part → Option LinkTail
 by_label is_defined text rest None = by_text is_defined text rest
 by_label is_defined text rest (Some label) =
-    if is_defined label.text then Some (ended (Reference label.text) (length rest - length label.rest)) else None
+    if is_defined label.text then Some (link_tail (Reference label.text) (length rest - length label.rest)) else None
 
 -- a resource, where one follows, and otherwise a reference (CommonMark 6.3)
-abbrev pub by_resource : (List ℕ → Bool) → List ℕ → List ℕ → Option LinkResource → Option Ended
+abbrev pub by_resource : (List ℕ → Bool) → List ℕ → List ℕ → Option LinkResource → Option LinkTail
 by_resource is_defined text rest None = by_label is_defined text rest (label_at rest)
 by_resource is_defined text rest (Some resource) =
-    Some (ended (Resource resource.destination resource.title) (length rest - length resource.rest))
+    Some (link_tail (Resource resource.destination resource.title) (length rest - length resource.rest))
 
 -- what stands behind a text between brackets, given what follows the `]` and which labels are defined (CommonMark 6.3)
-abbrev pub label_end_at : (List ℕ → Bool) → List ℕ → List ℕ → Option Ended
+abbrev pub label_end_at : (List ℕ → Bool) → List ℕ → List ℕ → Option LinkTail
 label_end_at is_defined text rest = by_resource is_defined text rest (resource_at rest)
 
 -- what a `]` forms with the label start before it: a link or an image, which leads somewhere, or a call of the footnote with this label
-pub data Formed : Type 0 where
-  Leads : Ended → Formed
-  Calls : List ℕ → Formed
+pub data LinkOrCall : Type 0 where
+  Leads : LinkTail → LinkOrCall
+  Calls : List ℕ → LinkOrCall
 
 -- how many codes after the `]` belong to it
-abbrev pub formed_size : Formed → ℕ
+abbrev pub formed_size : LinkOrCall → ℕ
 formed_size (Leads end) = end.size
 formed_size (Calls label) = 0
 
 -- a link or an image, where one stands there (CommonMark 6.3 and 6.4)
-abbrev pub leading : (List ℕ → Bool) → List ℕ → List ℕ → Option Formed
-leading is_defined text rest = option_map Leads (label_end_at is_defined text rest)
+abbrev pub link_or_image : (List ℕ → Bool) → List ℕ → List ℕ → Option LinkOrCall
+link_or_image is_defined text rest = option_map Leads (label_end_at is_defined text rest)

@@ -4,6 +4,7 @@ use Rattle.std.specs.List.{filter, join_by, position, slice_split}
 use Rattle.std.specs.Str.{bytes_eq, chars, encode_utf8_all}
 use Rattle.std.specs.Str.Lossy.{utf8_lossy}
 use Rattle.caseless.specs.Caseless.{default_case_fold}
+use Rattle.definition_text.specs.Ascii.{space}
 use Rattle.definition_text.specs.Content.{is_space}
 
 -- what stands between two spaces, tabs or line endings is a word if it isn't empty
@@ -16,16 +17,16 @@ abbrev pub words : List ℕ → List (List ℕ)
 words content = filter is_word (slice_split is_space content)
 
 -- the bytes of a text with its case folded in full (CommonMark 6.3)
-abbrev pub case_folded : List ℕ → List ℕ
-case_folded text = encode_utf8_all (default_case_fold (chars text))
+abbrev pub case_fold : List ℕ → List ℕ
+case_fold text = encode_utf8_all (default_case_fold (chars text))
 
 -- a word with its case folded; bytes that are no text, which no label has, count as U+FFFD
-abbrev pub word_folded : List ℕ → List ℕ
-word_folded word = case_folded (utf8_lossy word)
+abbrev pub fold_word : List ℕ → List ℕ
+fold_word word = case_fold (utf8_lossy word)
 
 -- the bytes of a label as it is matched: its case folded, no white space at the ends, and one space for white space inside (CommonMark 6.3)
 abbrev pub normal_label : List ℕ → List ℕ
-normal_label label = join_by word_folded (32 ∷ []) (words label)
+normal_label label = join_by fold_word (space ∷ []) (words label)
 
 -- the place of the first label with these bytes, among labels as they are matched
 abbrev pub place_of : List ℕ → List (List ℕ) → Option ℕ

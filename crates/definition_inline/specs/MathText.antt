@@ -1,6 +1,7 @@
 -- Math in a text: a code span with dollars in place of backticks (in neither standard).
 use Rattle.std.specs.Prelude.{ℕ, Bool, not, ◌==◌, ◌&&◌, ◌||◌, List, Option}
 use Rattle.markdown_options.specs.declared.configuration.ParseOptions.{ParseOptions}
+use Rattle.definition_text.specs.Ascii.{dollar}
 use Rattle.definition_text.specs.Runs.{run}
 use Rattle.definition_inline.specs.Inline.{Leaf}
 use Rattle.definition_inline.specs.CodeText.{raw_at}
@@ -11,4 +12,4 @@ may_open_math options n = options.constructs.math_text && (options.math_text_sin
 
 -- a run of dollars, which may open math
 abbrev pub math_text_at : ParseOptions → List ℕ → Option Leaf
-math_text_at options content = raw_at 36 (may_open_math options (run 36 content)) content
+math_text_at options content = raw_at dollar (may_open_math options (run dollar content)) content

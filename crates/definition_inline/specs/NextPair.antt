@@ -1,7 +1,7 @@
 -- Which pair of runs comes next, from the pairs so far (CommonMark 6.2).
 use Rattle.std.specs.Prelude.{◌≡◌, ◌<◌, ◌≤◌, ◌+◌, ℕ, Bool, true, false, if◌then◌else◌, ◌==◌, ◌&&◌, ◌||◌, nat_lt, List, [], ◌∷◌, slice_index_or}
 use Rattle.definition_inline.specs.Attention.{Run}
-use Rattle.definition_inline.specs.Pairing.{Pair, Placed, placed, is_eligible, taken_by, without}
+use Rattle.definition_inline.specs.Pairing.{Pair, OpenRun, open_run, is_eligible, taken_by, without}
 
 -- The pairs so far are given with the last one first.
 
@@ -22,8 +22,8 @@ used [] place = 0
 used (p ∷ ps) place = taken_at place p + used ps place
 
 -- what is left of the run at a place
-abbrev pub left_at : List Run → List Pair → ℕ → Placed
-left_at runs so_far place = without (used so_far place) (placed (run_of runs place) place)
+abbrev pub left_at : List Run → List Pair → ℕ → OpenRun
+left_at runs so_far place = without (used so_far place) (open_run (run_of runs place) place)
 
 -- a place strictly inside of a pair
 abbrev pub is_within : ℕ → Pair → Bool

@@ -10,6 +10,7 @@ use Rattle.std.specs.List.{list_all, filter_map, find, before_first, after_first
 use Rattle.std.specs.Option.{option_map, option_and_then}
 use Rattle.std.specs.Str.{bytes_eq}
 use Rattle.std.specs.Str.Parse.{digits_value}
+use Rattle.definition_text.specs.Ascii.{plus, equals}
 use Rattle.definition_text.specs.Bytes.{after_all}
 use Rattle.definition_text.specs.Lines.{lines}
 
@@ -39,7 +40,7 @@ code_text digits = if is_code digits then Some (encode_utf8 (digits_value 16 dig
 -- what follows the first code: nothing, or `+` and a code
 abbrev pub second_text : List ℕ → Option (List ℕ)
 second_text [] = Some []
-second_text (b ∷ bs) = if b == 43 then code_text bs else None
+second_text (b ∷ bs) = if b == plus then code_text bs else None
 
 -- the characters of one or two codes
 abbrev pub codes_text : List ℕ → Option (List ℕ)
@@ -50,8 +51,8 @@ codes_text bytes =
 -- the row that a line is
 abbrev pub row_of : List ℕ → Option Row
 row_of line =
-    let name = before_first (λ b. b == 61) line in
-    if is_name name then option_map (row name) (codes_text (after_first (λ b. b == 61) line)) else None
+    let name = before_first (λ b. b == equals) line in
+    if is_name name then option_map (row name) (codes_text (after_first (λ b. b == equals) line)) else None
 
 -- the rows of a text
 abbrev pub rows : List ℕ → List Row

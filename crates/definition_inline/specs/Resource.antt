@@ -1,5 +1,6 @@
 -- The resource of a link or an image (CommonMark 6.3): `(`, an optional destination with an optional title, `)`, with white space between.
 use Rattle.std.specs.Prelude.{ℕ, Bool, false, if◌then◌else◌, ◌==◌, ◌&&◌, ◌||◌, List, [], ◌∷◌, Option, None, Some}
+use Rattle.definition_text.specs.Ascii.{space, double_quote, single_quote, left_parenthesis, right_parenthesis}
 use Rattle.definition_text.specs.Content.{Part}
 use Rattle.definition_inline.specs.Space.{after_white, begins_with_space}
 use Rattle.definition_inline.specs.Destination.{destination_at}
@@ -15,7 +16,7 @@ pub record LinkResource : Type 0 where
 abbrev pub resource_end : List ℕ → Option (List ℕ) → List ℕ → Option LinkResource
 resource_end destination title [] = None
 resource_end destination title (c ∷ cs) =
-    if c == 41 then Some (record { destination = destination; title = title; rest = cs }) else None
+    if c == right_parenthesis then Some (record { destination = destination; title = title; rest = cs }) else None
 
 -- a resource with this title, if there is one
 abbrev pub with_title : List ℕ → Option Part → Option LinkResource
@@ -25,7 +26,7 @@ with_title destination (Some title) = resource_end destination (Some title.text)
 -- whether a title is opened here
 abbrev pub opens_title : List ℕ → Bool
 opens_title [] = false
-opens_title (c ∷ cs) = (c == 34) || ((c == 39) || (c == 40))
+opens_title (c ∷ cs) = (c == double_quote) || ((c == single_quote) || (c == left_parenthesis))
 
 -- a title is set off from the destination by white space (CommonMark 6.3)
 abbrev pub after_destination : Part → Option LinkResource
@@ -43,9 +44,9 @@ with_destination (Some destination) = after_destination destination
 abbrev pub resource_inside : List ℕ → Option LinkResource
 resource_inside [] = None
 resource_inside (c ∷ cs) =
-    if c == 41 then resource_end [] None (c ∷ cs) else with_destination (destination_at (Some 32) (c ∷ cs))
+    if c == right_parenthesis then resource_end [] None (c ∷ cs) else with_destination (destination_at (Some space) (c ∷ cs))
 
 -- a resource, whose destination has parentheses at most 32 deep (CommonMark 6.3)
 abbrev pub resource_at : List ℕ → Option LinkResource
 resource_at [] = None
-resource_at (c ∷ cs) = if c == 40 then resource_inside (after_white cs) else None
+resource_at (c ∷ cs) = if c == left_parenthesis then resource_inside (after_white cs) else None

@@ -1,8 +1,10 @@
 -- The inline structure of a content, from left to right (CommonMark 6 and appendix, phase 2).
-use Rattle.std.specs.Prelude.{ℕ, zero, suc, ◌+◌, ◌-◌, Bool, true, false, not, if◌then◌else◌, ◌==◌, ◌&&◌, ◌||◌, List, [], ◌∷◌, ◌++◌, Option, None, Some, codes, map, drop}
+use Rattle.std.specs.Prelude.{ℕ, zero, suc, ◌+◌, ◌-◌, Bool, true, false, not, if◌then◌else◌, ◌==◌, ◌&&◌, ◌||◌, List, [], ◌∷◌, ◌++◌, Option, None, Some, codes}
+use Rattle.std.specs.Prelude.{map, drop}
 use Rattle.std.specs.List.{fold, prefix_len}
 use Rattle.markdown_options.specs.declared.configuration.Constructs.{Constructs}
 use Rattle.markdown_options.specs.declared.configuration.ParseOptions.{ParseOptions}
+use Rattle.definition_text.specs.Ascii.{right_bracket}
 use Rattle.definition_text.specs.Columns.{is_white}
 use Rattle.definition_text.specs.Bytes.{begins_with}
 use Rattle.definition_text.specs.Content.{before}
@@ -16,12 +18,13 @@ use Rattle.definition_inline.specs.Autolink.{autolink_at}
 use Rattle.definition_inline.specs.HtmlText.{html_text_at}
 use Rattle.definition_inline.specs.HardBreak.{escaped_break_at, line_end_at, line_spaces_at}
 use Rattle.definition_inline.specs.GfmAutolinkLiteral.{literal_at, linked_literals}
-use Rattle.definition_inline.specs.LabelEnd.{Formed, Leads, Calls, formed_size, leading}
-use Rattle.definition_inline.specs.GfmLabelStartFootnote.{starts_call, starts_marked_call, called, call_or_link}
+use Rattle.definition_inline.specs.LabelEnd.{LinkOrCall, Leads, Calls, formed_size, link_or_image}
+use Rattle.definition_inline.specs.GfmLabelStartFootnote.{starts_call, starts_marked_call, called_label, call_or_link}
 use Rattle.definition_inline.specs.Attention.{Run, run_at}
-use Rattle.definition_inline.specs.Spans.{Token, Item, Delimiters, emphasized}
+use Rattle.definition_inline.specs.Spans.{Token, Item, Delimiters, with_spans}
 
--- what a content is read by: the options, the texts of named characters, and whether a label is that of a link reference definition, and of a footnote definition, of the document
+-- what a content is read by: the options, the texts of named characters, and whether a label is that of a link reference definition, and of a footnote
+-- definition, of the document
 pub record InlineContext : Type 0 where
   pub options : ParseOptions
   pub names : Names
@@ -30,7 +33,8 @@ pub record InlineContext : Type 0 where
 
 -- ---- constructs that hold no other
 
--- the construct that a content begins with, if it holds no other; two of them begin with one byte only where the first of them goes first: an escape and a break, an autolink and HTML
+-- the construct that a content begins with, if it holds no other; two of them begin with one byte only where the first of them goes first: an escape and a
+-- break, an autolink and HTML
 abbrev pub leaf_at : InlineContext → List ℕ → Option Leaf
 leaf_at context content =
     or_else (escape_at context.options.constructs content)
@@ -96,8 +100,8 @@ makes_link LinkStart holds_link = true
 makes_link ImageStart holds_link = holds_link
 
 -- what is formed of a text; a call prints a number in place of its own
-abbrev pub formed_part : LabelStart → Formed → List Token → Inline
-formed_part start (Leads end) tokens = label_part start end.target (emphasized tokens)
+abbrev pub formed_part : LabelStart → LinkOrCall → List Token → Inline
+formed_part start (Leads end) tokens = label_part start end.target (with_spans tokens)
 formed_part start (Calls label) tokens = Call label
 
 -- ---- what is read so far
@@ -132,12 +136,12 @@ abbrev pub read_tokens : List Token → Reading → Reading
 read_tokens more r = reading (with_tokens r.now more) r.open_labels
 
 -- a label start that forms nothing, and the text after it
-abbrev pub unformed : OpenLabel → Text → Text
-unformed label inner = text (label.outer.tokens ++ (start_tokens label.start ++ inner.tokens)) (label.outer.holds_link || inner.holds_link)
+abbrev pub with_plain_start : OpenLabel → Text → Text
+with_plain_start label inner = text (label.outer.tokens ++ (start_tokens label.start ++ inner.tokens)) (label.outer.holds_link || inner.holds_link)
 
 -- a link, an image or a call of the text after its start (CommonMark 6.3 and 6.4)
-abbrev pub formed : OpenLabel → Formed → Text → Text
-formed label found inner =
+abbrev pub with_link_or_call : OpenLabel → LinkOrCall → Text → Text
+with_link_or_call label found inner =
     text (label.outer.tokens ++ Item (formed_part label.start found inner.tokens) ∷ [])
     (label.outer.holds_link || makes_link label.start inner.holds_link)
 
@@ -152,30 +156,30 @@ abbrev pub data_step : ℕ → Reading → Step
 data_step code r = Next 0 (read_tokens (Item (Data code) ∷ []) r)
 
 -- a `]` after the innermost label start that is open: that one is used up, and both are text where nothing is formed (CommonMark 6.3)
-abbrev pub ended_step : OpenLabel → List OpenLabel → Text → Option Formed → Step
-ended_step label others inner None = Next 0 (read_tokens (Item (Data 93) ∷ []) (reading (unformed label inner) others))
-ended_step label others inner (Some found) = Next (formed_size found) (reading (formed label found inner) others)
+abbrev pub ended_step : OpenLabel → List OpenLabel → Text → Option LinkOrCall → Step
+ended_step label others inner None = Next 0 (read_tokens (Item (Data right_bracket) ∷ []) (reading (with_plain_start label inner) others))
+ended_step label others inner (Some found) = Next (formed_size found) (reading (with_link_or_call label found inner) others)
 
 -- what the text between a label start and a `]` forms, given what follows that
-abbrev pub formed_at : InlineContext → LabelStart → List ℕ → List ℕ → Option Formed
+abbrev pub formed_at : InlineContext → LabelStart → List ℕ → List ℕ → Option LinkOrCall
 formed_at context LinkStart between rest =
-    call_or_link context.options.constructs context.is_defined between rest (called context.options.constructs context.is_footnote between)
-formed_at context ImageStart between rest = leading context.is_defined between rest
+    call_or_link context.options.constructs context.is_defined between rest (called_label context.options.constructs context.is_footnote between)
+formed_at context ImageStart between rest = link_or_image context.is_defined between rest
 
 -- what a `]` forms with a label start that is open (CommonMark 6.3)
-abbrev pub ended_by : InlineContext → List ℕ → OpenLabel → Text → Option Formed
+abbrev pub ended_by : InlineContext → List ℕ → OpenLabel → Text → Option LinkOrCall
 ended_by context content label inner =
     if may_form label.start inner.holds_link then formed_at context label.start (before label.from content) (drop 1 content) else None
 
 -- a `]`, where these label starts are open
 abbrev pub label_end_step : InlineContext → List ℕ → Text → List OpenLabel → Step
-label_end_step context content inner [] = data_step 93 (reading inner [])
+label_end_step context content inner [] = data_step right_bracket (reading inner [])
 label_end_step context content inner (label ∷ others) = ended_step label others inner (ended_by context content label inner)
 
 -- a place at which nothing starts: a `]`, or a byte of text
 abbrev pub last_step : InlineContext → ℕ → List ℕ → Reading → Step
 last_step context code content r =
-    if context.options.constructs.label_end && (code == 93) then label_end_step context content r.now r.open_labels else data_step code r
+    if context.options.constructs.label_end && (code == right_bracket) then label_end_step context content r.now r.open_labels else data_step code r
 
 -- a label start, or another place
 abbrev pub label_step : InlineContext → ℕ → List ℕ → Reading → Option LabelStart → Step
@@ -214,20 +218,20 @@ scan context (suc k) r (c ∷ cs) = scan context k r cs
 
 -- the text where no `]` is left: label starts that are open form nothing
 abbrev pub whole_text : Reading → Text
-whole_text r = fold (λ inner label. unformed label inner) r.now r.open_labels
+whole_text r = fold (λ inner label. with_plain_start label inner) r.now r.open_labels
 
 -- what the scan of a content finds that begins here, with its runs paired, where links may still hold literals, and addresses are text
 abbrev pub spans_from : InlineContext → List InlineCode → Inlines
-spans_from context content = emphasized (whole_text (scan context 0 (reading (text [] false) []) content)).tokens
+spans_from context content = with_spans (whole_text (scan context 0 (reading (text [] false) []) content)).tokens
 
 -- the inline structure of a content that begins here, without the spaces and tabs at its end (CommonMark 6)
 abbrev pub inlines_from : InlineContext → List InlineCode → Inlines
 inlines_from context content = linked_literals context.options.constructs (spans_from context content)
 
 -- a content without the spaces and tabs at its start
-abbrev pub unindented : List InlineCode → List InlineCode
-unindented content = drop (prefix_len (λ (c : InlineCode). is_white c.code) content) content
+abbrev pub without_indent : List InlineCode → List InlineCode
+without_indent content = drop (prefix_len (λ (c : InlineCode). is_white c.code) content) content
 
 -- the inline structure of a content, without the spaces and tabs at its ends (CommonMark 6)
 abbrev pub inlines : InlineContext → List InlineCode → Inlines
-inlines context content = inlines_from context (unindented content)
+inlines context content = inlines_from context (without_indent content)

@@ -70,15 +70,15 @@ abbrev pub nest : Inlines → List OpenSpan → Nest
 nest now around = record { now = now; around = around }
 
 -- a span and what it holds
-abbrev pub spanned : Span → Inlines → Inline
-spanned IsEmphasis kids = Emphasis kids
-spanned IsStrong kids = Strong kids
-spanned IsStrikethrough kids = Strikethrough kids
+abbrev pub span_part : Span → Inlines → Inline
+span_part IsEmphasis kids = Emphasis kids
+span_part IsStrong kids = Strong kids
+span_part IsStrikethrough kids = Strikethrough kids
 
 -- the innermost span ends
 abbrev pub leave : Inlines → List OpenSpan → Nest
 leave now [] = nest now []
-leave now (innermost ∷ others) = nest (followed_by innermost.before (spanned innermost.span now)) others
+leave now (innermost ∷ others) = nest (followed_by innermost.before (span_part innermost.span now)) others
 
 -- one more row
 abbrev pub nest_row : Nest → SpanRow → Nest
@@ -87,9 +87,9 @@ nest_row n (Opens span) = nest Nil (record { span = span; before = n.now } ∷ n
 nest_row n Closes = leave n.now n.around
 
 -- the parts that rows stand for
-abbrev pub nested : List SpanRow → Inlines
-nested rows = (fold nest_row (nest Nil []) rows).now
+abbrev pub nest_spans : List SpanRow → Inlines
+nest_spans rows = (fold nest_row (nest Nil []) rows).now
 
 -- the inline structure of one container: its tokens, with the spans that its runs form (CommonMark 6.2)
-abbrev pub emphasized : List Token → Inlines
-emphasized tokens = nested (rows_from (pairs (runs_of tokens)) 0 tokens)
+abbrev pub with_spans : List Token → Inlines
+with_spans tokens = nest_spans (rows_from (pairs (runs_of tokens)) 0 tokens)

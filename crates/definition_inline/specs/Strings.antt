@@ -2,8 +2,9 @@
 use Rattle.std.specs.Prelude.{ℕ, zero, suc, ◌-◌, Bool, false, if◌then◌else◌, ◌==◌, ◌&&◌, nat_le, List, [], ◌∷◌, ◌++◌, Option, None, Some}
 use Rattle.std.specs.List.{flat_map}
 use Rattle.markdown_options.specs.declared.configuration.Constructs.{Constructs}
+use Rattle.definition_text.specs.Ascii.{line_feed, carriage_return}
 use Rattle.definition_text.specs.Columns.{indent, bare}
-use Rattle.definition_text.specs.Content.{is_eol}
+use Rattle.definition_text.specs.Content.{return_and_feed, is_eol}
 use Rattle.definition_inline.specs.Inline.{Inline, Data, Escape, Character, LineEnd, Leaf, leaf, or_else}
 use Rattle.definition_inline.specs.CharacterEscape.{escape_at}
 use Rattle.definition_inline.specs.CharacterReference.{Names, reference_at}
@@ -37,7 +38,7 @@ string_parts on names (suc k) (c ∷ cs) = string_parts on names k cs
 
 -- the bytes of a line ending by its code
 abbrev pub eol_bytes : ℕ → List ℕ
-eol_bytes code = if code == 257 then 13 ∷ 10 ∷ [] else code ∷ []
+eol_bytes code = if code == return_and_feed then carriage_return ∷ line_feed ∷ [] else code ∷ []
 
 -- the bytes of a part of a string
 abbrev pub string_bytes : Inline → List ℕ

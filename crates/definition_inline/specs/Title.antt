@@ -1,16 +1,18 @@
 -- Link titles (CommonMark 6.3).
 use Rattle.std.specs.Prelude.{ℕ, Bool, false, if◌then◌else◌, not, ◌==◌, ◌&&◌, ◌||◌, List, [], ◌∷◌, Option, None, Some}
+use Rattle.definition_text.specs.Ascii.{double_quote, single_quote, left_parenthesis, right_parenthesis}
 use Rattle.definition_text.specs.Content.{Part, is_eol, at_line_start, may_escape, closed_by}
 
 -- what closes a title, or a `(` between parentheses, where no backslash escapes it (CommonMark 6.3)
 abbrev pub ends_title : ℕ → Bool → ℕ → Bool
-ends_title close escaped code = ((code == close) || ((close == 41) && (code == 40))) && not escaped
+ends_title close escaped code = ((code == close) || ((close == right_parenthesis) && (code == left_parenthesis))) && not escaped
 
 -- a line ending that ends a blank line (CommonMark 4.9)
 abbrev pub ends_blank_line : Bool → ℕ → Bool
 ends_blank_line start code = start && is_eol code
 
--- the rest from the code on that closes a title, after its text without a blank line; whether only spaces and tabs stand since the last line ending is given (CommonMark 6.3)
+-- the rest from the code on that closes a title, after its text without a blank line; whether only spaces and tabs stand since the last line ending is given
+-- (CommonMark 6.3)
 abbrev pub title_end : ℕ → Bool → Bool → List ℕ → Option (List ℕ)
 title_end close escaped start [] = None
 title_end close escaped start (c ∷ cs) =
@@ -21,8 +23,8 @@ title_end close escaped start (c ∷ cs) =
 -- what closes a title that this code opens: `"`, `'` or `)` (CommonMark 6.3)
 abbrev pub title_close : ℕ → Option ℕ
 title_close code =
-    if (code == 34) || (code == 39) then Some code
-    else (if code == 40 then Some 41 else None)
+    if (code == double_quote) || (code == single_quote) then Some code
+    else (if code == left_parenthesis then Some right_parenthesis else None)
 
 -- a title up to the code that closes it, if it is opened
 abbrev pub title_until : Option ℕ → List ℕ → Option Part

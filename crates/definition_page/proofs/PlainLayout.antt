@@ -35,4 +35,6 @@ plain_laid options default (NoteEnd ∷ ps) are l = absurd are.0
 
 -- a page of such pieces has no section of footnotes
 pub plain_page : (options : CompileOptions) (default : List ℕ) (ps : List Piece) → ArePlain ps → page_layout options default ps ≡ layout default ps
-plain_page options default ps are = ap (λ (l : Laid). fold (print default) l.text (section_pieces options (map (note_of l.notes) l.called))) (plain_laid options default ps are (laid [] [] [] []))
+plain_page options default ps are =
+    ap (λ (l : Laid). fold (print default) l.text (section_pieces options (map (note_of l.notes) l.called)))
+    (plain_laid options default ps are (laid [] [] [] []))

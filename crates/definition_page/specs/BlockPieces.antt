@@ -10,7 +10,8 @@ use Rattle.definition_page.specs.Tags.{Said, Words, Number, Attribute, attribute
 use Rattle.definition_page.specs.Pieces.{Piece, Void, Says, Eol, Fresh, NoteStart, NoteEnd}
 use Rattle.definition_page.specs.InlinePieces.{Meaning, raw_html, element, inline_pieces}
 use Rattle.definition_page.specs.GfmTable.{table_pieces}
-use Rattle.definition_page.specs.Page.{Page, Block, Paragraph, Heading, Break, IndentedCode, FencedCode, Html, Table, Definition, Quote, ItemList, Item, Footnote, Ending, Blank, Blocks, Nil, Cons}
+use Rattle.definition_page.specs.Page.{Page, Block, Paragraph, Heading, Break, IndentedCode, FencedCode, Html, Table, Definition, Quote, ItemList, Item}
+use Rattle.definition_page.specs.Page.{Footnote, Ending, Blank, Blocks, Nil, Cons}
 
 -- where a block stands: at the top of the document or in a container, and whether in an item of a tight list, whose paragraphs have no tags (CommonMark 5.3)
 pub record Place : Type 0 where
@@ -83,13 +84,13 @@ is_silent place (Some (Footnote label kids)) = true
 is_silent place b = false
 
 -- the last of these siblings that prints something of its own, or the one before them
-abbrev pub last_shown : Option Block → Blocks → Option Block
-last_shown before Nil = before
-last_shown before (Cons Definition bs) = last_shown before bs
-last_shown before (Cons (Footnote label kids) bs) = last_shown before bs
-last_shown before (Cons (Ending ending) bs) = last_shown before bs
-last_shown before (Cons (Blank ending) bs) = last_shown before bs
-last_shown before (Cons b bs) = last_shown (Some b) bs
+abbrev pub last_visible : Option Block → Blocks → Option Block
+last_visible before Nil = before
+last_visible before (Cons Definition bs) = last_visible before bs
+last_visible before (Cons (Footnote label kids) bs) = last_visible before bs
+last_visible before (Cons (Ending ending) bs) = last_visible before bs
+last_visible before (Cons (Blank ending) bs) = last_visible before bs
+last_visible before (Cons b bs) = last_visible (Some b) bs
 
 -- an item whose last child is a tight paragraph, or that has none, ends on the same line
 abbrev pub ends_plainly : Bool → Option Block → Bool
@@ -130,7 +131,7 @@ abbrev mutual
       Fresh ∷ element (list_tag number) (children_pieces m (inside (not loose)) None items ++ Eol ∷ [])
   block_pieces m place before (Item kids) =
       Fresh ∷ element (bare_tag (codes "li"))
-      (children_pieces m (inside place.tight) None kids ++ fresh_unless (ends_plainly place.tight (last_shown None kids)))
+      (children_pieces m (inside place.tight) None kids ++ fresh_unless (ends_plainly place.tight (last_visible None kids)))
   block_pieces m place before (Footnote label kids) = NoteStart ∷ children_pieces m (inside false) None kids ++ NoteEnd ∷ []
   block_pieces m place before (Ending ending) = if is_silent place before then [] else Says (Words (ending_bytes ending)) ∷ []
   block_pieces m place before (Blank ending) = []

@@ -2,9 +2,11 @@
 use Rattle.std.specs.Prelude.{ℕ, Bool, if◌then◌else◌, ◌==◌, ◌&&◌, List, [], ◌∷◌, ◌++◌, Option, None, codes, drop, slice_index, slice_index_or, unwrap_or}
 use Rattle.std.specs.List.{flat_map}
 use Rattle.markdown_options.specs.declared.line_ending.LineEnding.{LineEnding}
+use Rattle.definition_text.specs.Ascii.{backslash, vertical_bar}
 use Rattle.definition_text.specs.BlockLines.{BlockLine, spaced_line}
 use Rattle.definition_text.specs.Lines.{ending_text}
-use Rattle.definition_inline.specs.Inline.{Inline, Data, Escape, Character, Code, Math, Autolink, Literal, Html, EscapedBreak, TrailingBreak, LineEnd, Emphasis, Strong, Strikethrough, Link, Image, Call, Inlines, Nil, Cons}
+use Rattle.definition_inline.specs.Inline.{Inline, Data, Escape, Character, Code, Math, Autolink, Literal, Html, EscapedBreak, TrailingBreak, LineEnd, Emphasis}
+use Rattle.definition_inline.specs.Inline.{Strong, Strikethrough, Link, Image, Call, Inlines, Nil, Cons}
 use Rattle.definition_block.specs.declared.align_kind.AlignKind.{AlignKind}
 use Rattle.definition_block.specs.declared.align_kind.AlignKind.TheVariants as align
 use Rattle.definition_block.specs.GfmTable.{delimiters}
@@ -46,7 +48,7 @@ line_aligns line = unwrap_or (delimiters line.codes) []
 
 -- a backslash right before a bar, by that byte and those after it
 abbrev pub escapes_bar : ℕ → List ℕ → Bool
-escapes_bar c cs = (c == 92) && (slice_index cs 0 == 124)
+escapes_bar c cs = (c == backslash) && (slice_index cs 0 == vertical_bar)
 
 -- the code of a cell: a bar stands in it without the backslash right before it
 abbrev pub cell_code : List ℕ → List ℕ

@@ -6,15 +6,18 @@ use Rattle.markdown_options.specs.declared.configuration.CompileOptions.{Compile
 use Rattle.definition_text.specs.Columns.{bytes_of, bare}
 use Rattle.definition_text.specs.Content.{is_eol}
 use Rattle.definition_text.specs.Encode.{plain}
-use Rattle.definition_inline.specs.Inline.{Target, Resource, Reference, Linked, linked, LiteralKind, Www, Protocol, Email, Inline, Data, Escape, Character, Code, Math, Autolink, Literal, Html, EscapedBreak, TrailingBreak, LineEnd, Emphasis, Strong, Strikethrough, Link, Image, Call, Inlines, Nil, Cons}
+use Rattle.definition_inline.specs.Inline.{Target, Resource, Reference, Linked, linked, LiteralKind, Www, Protocol, Email, Inline, Data, Escape, Character}
+use Rattle.definition_inline.specs.Inline.{Code, Math, Autolink, Literal, Html, EscapedBreak, TrailingBreak, LineEnd, Emphasis, Strong, Strikethrough, Link}
+use Rattle.definition_inline.specs.Inline.{Image, Call, Inlines, Nil, Cons}
 use Rattle.definition_inline.specs.LabelMatch.{normal_label, first_match}
 use Rattle.definition_inline.specs.Strings.{string_text}
-use Rattle.definition_page.specs.GfmTagfilter.{filtered}
-use Rattle.definition_page.specs.Urls.{percent, sanitized, permitted, href_protocols, src_protocols}
+use Rattle.definition_page.specs.GfmTagfilter.{filter_if}
+use Rattle.definition_page.specs.Urls.{percent, sanitize, permitted, href_protocols, src_protocols}
 use Rattle.definition_page.specs.Tags.{Said, Words, AsItIs, EndOfLine, Attribute, attribute, Tag, tag, bare_tag}
 use Rattle.definition_page.specs.Pieces.{Piece, Open, Close, Void, Says, CallOf, CountOf}
 
--- what is printed by: the constructs that are on, the options, the texts of named characters, what the definition of a label leads to, and the labels of the footnote definitions, in the order in which these end
+-- what is printed by: the constructs that are on, the options, the texts of named characters, what the definition of a label leads to, and the labels of the
+-- footnote definitions, in the order in which these end
 pub record Meaning : Type 0 where
   pub on : Constructs
   pub compile : CompileOptions
@@ -26,7 +29,7 @@ pub record Meaning : Type 0 where
 
 -- raw HTML is printed as it is where that is allowed, and otherwise as text
 abbrev pub raw_html : CompileOptions → List ℕ → Said
-raw_html options html = if options.allow_dangerous_html then AsItIs (filtered options html) else Words html
+raw_html options html = if options.allow_dangerous_html then AsItIs (filter_if options html) else Words html
 
 -- the lines of raw HTML by its codes, each with the code of its ending
 pub record HtmlLine : Type 0 where
@@ -63,7 +66,7 @@ html_says options html = html_lines_say options (html_lines html)
 
 -- a URL, if it has one of these protocols or none, or all are allowed; otherwise the empty one
 abbrev pub permitted_url : Bool → List (List ℕ) → List ℕ → List ℕ
-permitted_url all protocols url = if all || permitted protocols (sanitized url) then percent url else []
+permitted_url all protocols url = if all || permitted protocols (sanitize url) then percent url else []
 
 abbrev pub link_url : CompileOptions → List ℕ → List ℕ
 link_url options url = permitted_url options.allow_dangerous_protocol href_protocols url
@@ -81,13 +84,13 @@ abbrev pub url_of : Meaning → Linked → List ℕ
 url_of m target = plain (string_text m.on m.names target.destination)
 
 -- the attribute of a title that isn't empty
-abbrev pub titled : List ℕ → List Attribute
-titled [] = []
-titled (b ∷ bs) = attribute (codes "title") (b ∷ bs) ∷ []
+abbrev pub title_attributes : List ℕ → List Attribute
+title_attributes [] = []
+title_attributes (b ∷ bs) = attribute (codes "title") (b ∷ bs) ∷ []
 
 abbrev pub title_attribute : Meaning → Option (List ℕ) → List Attribute
 title_attribute m None = []
-title_attribute m (Some title) = titled (string_text m.on m.names title)
+title_attribute m (Some title) = title_attributes (string_text m.on m.names title)
 
 -- the start tag of a link (CommonMark 6.3)
 abbrev pub link_tag : Meaning → Linked → Tag

@@ -6,38 +6,40 @@ use Rattle.definition_page.specs.Pieces.{Piece, CallOf, CountOf, NoteStart, Note
 use Rattle.definition_page.specs.GfmLabelStartFootnote.{Call, call_pieces}
 use Rattle.definition_page.specs.GfmFootnoteDefinition.{Footnote, section_pieces}
 
--- a footnote that is called: its place among the footnotes of the document, in the order in which these end, its label as labels are matched, and how many calls it has so far
-pub record Called : Type 0 where
+-- a footnote that is called: its place among the footnotes of the document, in the order in which these end, its label as labels are matched, and how many
+-- calls it has so far
+pub record NoteCalls : Type 0 where
   pub place : ℕ
   pub label : List ℕ
   pub count : ℕ
 
 -- one more call of the footnote at a place: they stand in the order of their first calls
-abbrev pub once_more : ℕ → List ℕ → List Called → List Called
+abbrev pub once_more : ℕ → List ℕ → List NoteCalls → List NoteCalls
 once_more place label [] = record { place = place; label = label; count = 1 } ∷ []
 once_more place label (c ∷ cs) =
     if c.place == place then record { place = c.place; label = c.label; count = suc c.count } ∷ cs else c ∷ once_more place label cs
 
 -- the latest call of the footnote at a place, where the first of these has this number
-abbrev pub latest_call : ℕ → ℕ → List Called → Call
+abbrev pub latest_call : ℕ → ℕ → List NoteCalls → Call
 latest_call place number [] = record { label = []; number = number; count = 0 }
 latest_call place number (c ∷ cs) =
     if c.place == place then record { label = c.label; number = number; count = c.count } else latest_call place (suc number) cs
 
--- what was laid out: the innermost text that is open, which is the page or the content of a footnote, those around it, the contents of the footnotes that have ended, and the footnotes that are called
+-- what was laid out: the innermost text that is open, which is the page or the content of a footnote, those around it, the contents of the footnotes that have
+-- ended, and the footnotes that are called
 pub record Laid : Type 0 where
   pub text : List ℕ
   pub outer : List (List ℕ)
   pub notes : List (List ℕ)
-  pub called : List Called
+  pub called : List NoteCalls
 
-abbrev pub laid : List ℕ → List (List ℕ) → List (List ℕ) → List Called → Laid
+abbrev pub laid : List ℕ → List (List ℕ) → List (List ℕ) → List NoteCalls → Laid
 laid text outer notes called = record { text = text; outer = outer; notes = notes; called = called }
 
 -- where the innermost text ends, which is the content of a footnote, the one around it goes on
-abbrev pub note_ended : List ℕ → List (List ℕ) → List (List ℕ) → List Called → Laid
-note_ended text [] notes called = laid text [] notes called
-note_ended text (around ∷ others) notes called = laid around others (notes ++ text ∷ []) called
+abbrev pub note_end : List ℕ → List (List ℕ) → List (List ℕ) → List NoteCalls → Laid
+note_end text [] notes called = laid text [] notes called
+note_end text (around ∷ others) notes called = laid around others (notes ++ text ∷ []) called
 
 -- one more piece, where the default ending is given
 abbrev pub lay : CompileOptions → List ℕ → Laid → Piece → Laid
@@ -46,11 +48,11 @@ lay options default l (CallOf place label) =
     laid (fold (print default) l.text (call_pieces options (latest_call place 1 called))) l.outer l.notes called
 lay options default l (CountOf place label) = laid l.text l.outer l.notes (once_more place label l.called)
 lay options default l NoteStart = laid [] (l.text ∷ l.outer) l.notes l.called
-lay options default l NoteEnd = note_ended l.text l.outer l.notes l.called
+lay options default l NoteEnd = note_end l.text l.outer l.notes l.called
 lay options default l piece = laid (print default l.text piece) l.outer l.notes l.called
 
 -- a footnote that is called, with its content
-abbrev pub note_of : List (List ℕ) → Called → Footnote
+abbrev pub note_of : List (List ℕ) → NoteCalls → Footnote
 note_of notes c = record { label = c.label; calls = c.count; html = slice_index_or notes c.place [] }
 
 -- a page, and after it the footnotes that are called

@@ -1,9 +1,12 @@
 -- What is printed, piece by piece, and how it is laid out.
 use Rattle.std.specs.Prelude.{ℕ, Bool, true, if◌then◌else◌, ◌==◌, ◌||◌, List, [], ◌++◌, Option, None, Some, slice_get, length, ◌-◌}
 use Rattle.std.specs.List.{fold}
+use Rattle.definition_text.specs.Ascii.{line_feed, carriage_return}
 use Rattle.definition_page.specs.Tags.{Said, said_bytes, Tag, start_tag, end_tag, void_tag}
 
--- a start tag, an end tag by its name, the tag of an element that holds nothing, a part of a text or of raw HTML, the default ending, or that ending unless nothing, CR or LF stands before; and what footnotes need: a call, and one that isn't printed but counts, each with the place of its footnote, in the order in which these end, and with its label as labels are matched; the start and the end of a footnote definition
+-- a start tag, an end tag by its name, the tag of an element that holds nothing, a part of a text or of raw HTML, the default ending, or that ending unless
+-- nothing, CR or LF stands before; and what footnotes need: a call, and one that isn't printed but counts, each with the place of its footnote, in the order in
+-- which these end, and with its label as labels are matched; the start and the end of a footnote definition
 pub data Piece : Type 0 where
   Open : Tag → Piece
   Close : List ℕ → Piece
@@ -19,7 +22,7 @@ pub data Piece : Type 0 where
 -- whether this last byte is none, CR or LF
 abbrev pub ends_a_line : Option ℕ → Bool
 ends_a_line None = true
-ends_a_line (Some b) = (b == 10) || (b == 13)
+ends_a_line (Some b) = (b == line_feed) || (b == carriage_return)
 
 -- whether nothing, CR or LF stands at the end
 abbrev pub is_fresh : List ℕ → Bool

@@ -9,12 +9,12 @@ use Rattle.definition_text.specs.InlineCode.{InlineCode, codes_of, inline_conten
 use Rattle.definition_text.specs.Lines.{without_mark, kind_before_text}
 use Rattle.definition_inline.specs.Inline.{Inlines}
 use Rattle.definition_inline.specs.GfmTaskListItem.{check_at, check_size}
-use Rattle.definition_inline.specs.Scan.{InlineContext, inlines, inlines_from, unindented}
+use Rattle.definition_inline.specs.Scan.{InlineContext, inlines, inlines_from, without_indent}
 use Rattle.definition_inline.specs.Strings.{string_text}
 use Rattle.definition_block.specs.Container.{Container, Quote, Item, Footnote}
 use Rattle.definition_block.specs.Blocks as tree
 use Rattle.definition_block.specs.Tree.{is_ending, blocks}
-use Rattle.definition_block.specs.Lists.{grouped, is_loose}
+use Rattle.definition_block.specs.Lists.{group_items, is_loose}
 use Rattle.definition_block.specs.GfmTable.{Cell, line_cells}
 use Rattle.definition_page.specs.GfmTable.{Table, TableRow, head_line, delimiter_line, body_lines, line_aligns, in_cell}
 use Rattle.definition_page.specs.Targets.{Targets, document_targets, is_label_of, is_footnote_of}
@@ -71,7 +71,7 @@ checked_paragraph r content (Some done) = page.Paragraph (Some done) (inlines_fr
 -- a paragraph, which may be the first block of an item (CommonMark 4.8 and GFM 5.3)
 abbrev pub read_paragraph : Reading → Bool → List BlockLine → page.Block
 read_paragraph r first ls =
-    let content = unindented (text_content r ls) in checked_paragraph r content (check_at r.options.constructs first (codes_of content))
+    let content = without_indent (text_content r ls) in checked_paragraph r content (check_at r.options.constructs first (codes_of content))
 
 -- that of a cell of a table, which ends where its bar stands (GFM 4.10)
 abbrev pub read_cell : Reading → Cell → Inlines
@@ -97,7 +97,8 @@ abbrev pub info_text : Reading → List ℕ → Option (List ℕ)
 info_text r [] = None
 info_text r (b ∷ bs) = Some (string_text r.options.constructs r.tables.names (b ∷ bs))
 
--- Fenced code that isn't closed ends with its container or the text. In a container the ending of its last line stands outside; at the top it is one of its content, and is said there alone (CommonMark 4.5).
+-- Fenced code that isn't closed ends with its container or the text. In a container the ending of its last line stands outside; at the top it is one of its
+-- content, and is said there alone (CommonMark 4.5).
 abbrev pub code_lines : Bool → Bool → List BlockLine → List BlockLine
 code_lines top is_closed ls = if top || is_closed then ls else own_lines ls
 
@@ -155,7 +156,12 @@ ends_blank before (tree.Cons b bs) = ends_blank (is_blank_ending b) bs
 -- the page of these children of a document, whose labels lead to these targets
 abbrev pub page_with : TextTables → ParseOptions → Targets → tree.Blocks → Page
 page_with tables options t bs =
-    record { blocks = read_blocks (reading tables options t) on_page (grouped bs); definitions = t.definitions; footnotes = t.footnotes; ends_blank = ends_blank false bs }
+    record {
+      blocks = read_blocks (reading tables options t) on_page (group_items bs);
+      definitions = t.definitions;
+      footnotes = t.footnotes;
+      ends_blank = ends_blank false bs;
+    }
 
 -- the page of the children of a document: items are grouped to lists, and contents read by all of its definitions
 abbrev pub page_of : TextTables → ParseOptions → tree.Blocks → Page

@@ -9,12 +9,12 @@ use Rattle.definition_inline.specs.LabelMatch.{first_match}
 use Rattle.definition_inline.specs.Inline.{Linked, linked}
 
 -- a definition whose columns that are left of a tab are spaces
-abbrev pub spaced : Definition → Definition
-spaced d = definition (map code_byte d.label) (map code_byte d.destination) (option_map (map code_byte) d.title) (map code_byte d.rest)
+abbrev pub with_spaces : Definition → Definition
+with_spaces d = definition (map code_byte d.label) (map code_byte d.destination) (option_map (map code_byte) d.title) (map code_byte d.rest)
 
 -- the definitions of a document, in the order of the text, repeats kept (CommonMark 4.7)
 abbrev pub document_definitions : Blocks → List Definition
-document_definitions bs = map spaced (definitions bs)
+document_definitions bs = map with_spaces (definitions bs)
 
 -- the labels of definitions
 abbrev pub labels_of : List Definition → List (List ℕ)
@@ -35,7 +35,8 @@ linked_by ds label = option_map (linked_at ds) (first_match label (labels_of ds)
 abbrev pub is_label_of : List Definition → List ℕ → Bool
 is_label_of ds label = is_some (first_match label (labels_of ds))
 
--- what the labels of a document lead to: its link reference definitions, in the order of the text, and the labels of its footnote definitions, in the order in which these end; repeats kept
+-- what the labels of a document lead to: its link reference definitions, in the order of the text, and the labels of its footnote definitions, in the order in
+-- which these end; repeats kept
 pub record Targets : Type 0 where
   pub definitions : List Definition
   pub footnotes : List (List ℕ)

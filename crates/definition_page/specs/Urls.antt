@@ -5,6 +5,7 @@ use Rattle.std.specs.Fmt.{digit_glyph}
 use Rattle.std.specs.Int.{is_in_range}
 use Rattle.std.specs.List.{list_any, take_while}
 use Rattle.std.specs.Str.{bytes_eq}
+use Rattle.definition_text.specs.Ascii.{number_sign, percent_sign, slash, colon, question_mark}
 use Rattle.definition_text.specs.Encode.{encode}
 use Rattle.definition_text.specs.Bytes.{after_all, lower}
 
@@ -22,11 +23,11 @@ ends_escape (a ∷ b ∷ bs) = is_ascii_alphanumeric a && is_ascii_alphanumeric 
 
 -- `%` and the two upper case hexadecimal digits of a byte
 abbrev pub escape : ℕ → List ℕ
-escape b = 37 ∷ digit_glyph true (b / 16) ∷ digit_glyph true (b % 16) ∷ []
+escape b = percent_sign ∷ digit_glyph true (b / 16) ∷ digit_glyph true (b % 16) ∷ []
 
 -- a byte that stays, given those after it
 abbrev pub is_kept : ℕ → List ℕ → Bool
-is_kept b after = is_url_byte b || ((b == 37) && ends_escape after)
+is_kept b after = is_url_byte b || ((b == percent_sign) && ends_escape after)
 
 abbrev pub percent_byte : ℕ → List ℕ → List ℕ
 percent_byte b after = if is_kept b after then b ∷ [] else escape b
@@ -37,19 +38,19 @@ percent [] = []
 percent (b ∷ bs) = percent_byte b bs ++ percent bs
 
 -- a URL as it is printed
-abbrev pub sanitized : List ℕ → List ℕ
-sanitized url = encode (percent url)
+abbrev pub sanitize : List ℕ → List ℕ
+sanitize url = encode (percent url)
 
 -- what ends a protocol: `:`, and `?`, `#` and `/`, after which there is none
 abbrev pub ends_protocol : ℕ → Bool
-ends_protocol b = (b == 58) || (b == 63) || (b == 35) || (b == 47)
+ends_protocol b = (b == colon) || (b == question_mark) || (b == number_sign) || (b == slash)
 
 abbrev pub in_protocol : ℕ → Bool
 in_protocol b = not (ends_protocol b)
 
 abbrev pub begins_with_colon : List ℕ → Bool
 begins_with_colon [] = false
-begins_with_colon (b ∷ bs) = b == 58
+begins_with_colon (b ∷ bs) = b == colon
 
 -- what stands before the first `:` of a URL, if no `?`, `#` or `/` stands before it
 abbrev pub protocol : List ℕ → Option (List ℕ)
@@ -65,7 +66,7 @@ permitted protocols url = is_permitted protocols (protocol url)
 
 -- a URL as it is printed where only these protocols are permitted: nothing with another one
 abbrev pub sanitized_with : List (List ℕ) → List ℕ → List ℕ
-sanitized_with protocols url = if permitted protocols (sanitized url) then sanitized url else []
+sanitized_with protocols url = if permitted protocols (sanitize url) then sanitize url else []
 
 -- the protocols that are permitted for links
 unfoldable pub href_protocols : List (List ℕ)

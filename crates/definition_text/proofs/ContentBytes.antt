@@ -53,5 +53,6 @@ content_codes_of (line ∷ others) h =
     let rest = flat_map block_line_bytes others in
     ap content_codes (append_assoc line.codes (ending_text line.ending) rest)
     ∙ codes_in_line line.codes (ending_text line.ending ++ rest) h.0
-    ∙ ap (λ x. line.codes ++ x) (codes_of_ending line.ending rest (return_before_lines others h.2) ∙ ap (λ x. ending_code line.ending ++ x) (content_codes_of others h.2))
+    ∙ ap (λ x. line.codes ++ x) (codes_of_ending line.ending rest (return_before_lines others h.2)
+    ∙ ap (λ x. ending_code line.ending ++ x) (content_codes_of others h.2))
     ∙ sym (append_assoc line.codes (ending_code line.ending) (content_of others))

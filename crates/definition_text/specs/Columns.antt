@@ -1,8 +1,10 @@
 -- The columns of a line, and what its rest begins with (CommonMark 2.2).
 use Rattle.std.specs.Prelude.{ℕ, ◌+◌, ◌-◌, ◌%◌, Bool, not, if◌then◌else◌, ◌==◌, ◌||◌, List, [], ◌∷◌, ◌++◌, drop, take, length, replicate}
 use Rattle.std.specs.List.{prefix_len, suffix_len, list_all, filter}
+use Rattle.definition_text.specs.Ascii.{tab, space}
 
--- A rest of a line is a list of codes, one for each column: a byte, or 256 for each column of a tab after its first. Where a prefix ends inside a tab, the rest begins with the columns that are left of it.
+-- A rest of a line is a list of codes, one for each column: a byte, or 256 for each column of a tab after its first. Where a prefix ends inside a tab, the rest
+-- begins with the columns that are left of it.
 abbrev pub Rest : Type 0
 Rest = List ℕ
 
@@ -18,7 +20,7 @@ columns_after_tab column = 3 - column % 4
 abbrev pub codes_from : ℕ → List ℕ → Rest
 codes_from column [] = []
 codes_from column (b ∷ bs) =
-    if b == 9 then 9 ∷ (replicate (columns_after_tab column) tab_column ++ codes_from (column + 1 + columns_after_tab column) bs)
+    if b == tab then tab ∷ (replicate (columns_after_tab column) tab_column ++ codes_from (column + 1 + columns_after_tab column) bs)
     else b ∷ codes_from (column + 1) bs
 
 -- a line before anything of it is read
@@ -27,7 +29,7 @@ whole content = codes_from 0 content
 
 -- a space, a tab, or a column of a tab
 abbrev pub is_white : ℕ → Bool
-is_white code = (code == 32) || (code == 9) || (code == tab_column)
+is_white code = (code == space) || (code == tab) || (code == tab_column)
 
 -- only spaces and tabs
 abbrev pub is_blank : Rest → Bool
@@ -53,14 +55,14 @@ bytes_of rest = filter is_byte rest
 
 -- a column that is left of a tab as a byte: a space
 abbrev pub code_byte : ℕ → ℕ
-code_byte code = if is_tab_column code then 32 else code
+code_byte code = if is_tab_column code then space else code
 
 -- a rest as it stands in a block: the columns left of a tab that a prefix ended in, and the bytes
 abbrev pub block_codes : Rest → List ℕ
 block_codes rest = take (prefix_len is_tab_column rest) rest ++ bytes_of rest
 
 -- without the spaces and tabs at both ends
-abbrev pub trimmed : List ℕ → List ℕ
-trimmed text =
+abbrev pub trim : List ℕ → List ℕ
+trim text =
     let rest = drop (prefix_len is_white text) text in
     take (length rest - suffix_len is_white rest) rest

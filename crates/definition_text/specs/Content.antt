@@ -3,21 +3,26 @@ use Rattle.std.specs.Prelude.{ℕ, ◌-◌, Bool, if◌then◌else◌, not, ◌=
 use Rattle.std.specs.List.{flat_map}
 use Rattle.markdown_options.specs.declared.line_ending.LineEnding.{LineEnding}
 use Rattle.markdown_options.specs.declared.line_ending.LineEnding.TheVariants.{CarriageReturnLineFeed, CarriageReturn, LineFeed}
+use Rattle.definition_text.specs.Ascii.{line_feed, carriage_return, backslash}
 use Rattle.definition_text.specs.Lines.{ending_text}
 use Rattle.definition_text.specs.Columns.{is_white, code_byte}
 use Rattle.definition_text.specs.BlockLines.{BlockLine, own_lines}
 
 -- A code of a content is a byte, 256 for a column that is left of a tab, or the one code of a line ending.
 
+-- the one code of CR LF
+abbrev pub return_and_feed : ℕ
+return_and_feed = 257
+
 -- the code of a line ending (CommonMark 2.1)
 abbrev pub line_ending_code : LineEnding → ℕ
-line_ending_code LineFeed = 10
-line_ending_code CarriageReturn = 13
-line_ending_code CarriageReturnLineFeed = 257
+line_ending_code LineFeed = line_feed
+line_ending_code CarriageReturn = carriage_return
+line_ending_code CarriageReturnLineFeed = return_and_feed
 
 -- a line ending, whichever it is (CommonMark 2.1)
 abbrev pub is_eol : ℕ → Bool
-is_eol code = (code == 10) || (code == 13) || (code == 257)
+is_eol code = (code == line_feed) || (code == carriage_return) || (code == return_and_feed)
 
 -- a space, a tab or a line ending (CommonMark 2.1)
 abbrev pub is_space : ℕ → Bool
@@ -25,13 +30,13 @@ is_space code = is_white code || is_eol code
 
 -- a CR stands before these bytes, whose codes are given: with an LF right after it, it is one code
 abbrev pub after_return_code : List ℕ → List ℕ → List ℕ
-after_return_code [] codes = 13 ∷ codes
-after_return_code (b ∷ bs) codes = if b == 10 then 257 ∷ drop 1 codes else 13 ∷ codes
+after_return_code [] codes = carriage_return ∷ codes
+after_return_code (b ∷ bs) codes = if b == line_feed then return_and_feed ∷ drop 1 codes else carriage_return ∷ codes
 
 -- the codes of bytes, in which CR LF is one (CommonMark 2.1)
 abbrev pub content_codes : List ℕ → List ℕ
 content_codes [] = []
-content_codes (b ∷ bs) = if b == 13 then after_return_code bs (content_codes bs) else b ∷ content_codes bs
+content_codes (b ∷ bs) = if b == carriage_return then after_return_code bs (content_codes bs) else b ∷ content_codes bs
 
 -- the code of an ending, if there is one
 abbrev pub ending_code : Option LineEnding → List ℕ
@@ -78,7 +83,7 @@ closed_by content (Some rest) = Some (part (before content rest) (drop 1 rest))
 
 -- whether this code is a backslash that may escape the next one, given whether the code before it was (CommonMark 2.4)
 abbrev pub may_escape : Bool → ℕ → Bool
-may_escape escaped code = (code == 92) && not escaped
+may_escape escaped code = (code == backslash) && not escaped
 
 -- whether only spaces and tabs stand between the last line ending and the place after this code, given the same for the place before it
 abbrev pub at_line_start : Bool → ℕ → Bool

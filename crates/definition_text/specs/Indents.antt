@@ -8,5 +8,5 @@ abbrev pub small_indent : Constructs → Rest → Bool
 small_indent on rest = leb (indent rest) 3 || not on.code_indented
 
 -- the rest without its first columns of spaces and tabs, at most so many (CommonMark 2.2)
-abbrev pub outdented : ℕ → Rest → Rest
-outdented most rest = drop (min most (indent rest)) rest
+abbrev pub outdent : ℕ → Rest → Rest
+outdent most rest = drop (min most (indent rest)) rest

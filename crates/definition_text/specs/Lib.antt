@@ -1,3 +1,4 @@
+pub mod Ascii
 pub mod BlockLines
 pub mod Lines
 pub mod Columns

@@ -3,6 +3,7 @@ use Rattle.std.specs.Prelude.{ℕ, Bool, false, if◌then◌else◌, ◌==◌, �
 use Rattle.markdown_options.specs.declared.line_ending.LineEnding.{LineEnding}
 use Rattle.markdown_options.specs.declared.line_ending.LineEnding.TheVariants.{CarriageReturnLineFeed, CarriageReturn, LineFeed}
 use Rattle.markdown_options.specs.LineEndings.{ending_bytes}
+use Rattle.definition_text.specs.Ascii.{line_feed, carriage_return}
 use Rattle.definition_text.specs.declared.beside.Kind.{Kind}
 use Rattle.definition_text.specs.declared.beside.Kind.TheVariants.{Whitespace, Other}
 
@@ -23,19 +24,19 @@ in_first_line b (line ∷ others) = text_line (b ∷ line.content) line.ending �
 abbrev pub after_return : List ℕ → List TextLine → List TextLine
 after_return [] others = text_line [] (Some CarriageReturn) ∷ others
 after_return (b ∷ bs) others =
-    if b == 10 then text_line [] (Some CarriageReturnLineFeed) ∷ drop 1 others
+    if b == line_feed then text_line [] (Some CarriageReturnLineFeed) ∷ drop 1 others
     else text_line [] (Some CarriageReturn) ∷ others
 
 -- the lines of a text: an ending is CR LF, a CR without LF after it, or LF, and no line follows a last ending
 abbrev pub lines : List ℕ → List TextLine
 lines [] = []
 lines (b ∷ bs) =
-    if b == 10 then text_line [] (Some LineFeed) ∷ lines bs
-    else (if b == 13 then after_return bs (lines bs) else in_first_line b (lines bs))
+    if b == line_feed then text_line [] (Some LineFeed) ∷ lines bs
+    else (if b == carriage_return then after_return bs (lines bs) else in_first_line b (lines bs))
 
 -- a byte that begins an ending
 abbrev pub ends_line : ℕ → Bool
-ends_line b = (b == 10) || (b == 13)
+ends_line b = (b == line_feed) || (b == carriage_return)
 
 -- the bytes of an ending, if there is one
 abbrev pub ending_text : Option LineEnding → List ℕ

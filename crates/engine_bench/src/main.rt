@@ -20,7 +20,7 @@ fn main(rt: HostRuntime) -> io::Result<()> {
         return Err(ErrorKind::OutOfMemory.into());
     };
     let state = State::Next(Name::Inline(Inline::DataInside));
-    if tokenizer.whole(state) != State::Ok {
+    if tokenizer.read_at_once(state) != State::Ok {
         return Err(ErrorKind::OutOfMemory.into());
     }
     let calls = tokenizer.machine.calls;

@@ -5,10 +5,10 @@ use Rattle.engine_events.specs.declared.event.Link.{Link}
 use Rattle.engine_events.specs.Events.{link_of, previous_of, with_link}
 
 -- the events, one of them changed
-abbrev pub updated : (Event → Event) → ℕ → List Event → List Event
-updated f i [] = []
-updated f zero (e ∷ es) = f e ∷ es
-updated f (suc i) (e ∷ es) = e ∷ updated f i es
+abbrev pub update_at : (Event → Event) → ℕ → List Event → List Event
+update_at f i [] = []
+update_at f zero (e ∷ es) = f e ∷ es
+update_at f (suc i) (e ∷ es) = e ∷ update_at f i es
 
 abbrev pub next_in : ℕ → Event → Option Link → Event
 next_in k e None = e
@@ -27,8 +27,8 @@ abbrev pub with_previous : ℕ → Event → Event
 with_previous k e = previous_in k e (link_of e)
 
 -- two chunks name one another
-abbrev pub joined : ℕ → ℕ → List Event → List Event
-joined previous next events = updated (with_previous previous) next (updated (with_next next) previous events)
+abbrev pub link_to : ℕ → ℕ → List Event → List Event
+link_to previous next events = update_at (with_previous previous) next (update_at (with_next next) previous events)
 
 abbrev pub is_that : ℕ → Option ℕ → Bool
 is_that k None = false
@@ -49,10 +49,10 @@ with_next_if None e = e
 with_next_if (Some next) e = with_next next e
 
 -- these events, the first of which is at an index, each with the last of others that names it as the one before
-abbrev pub joined_from : List Event → ℕ → List Event → List Event
-joined_from others k [] = []
-joined_from others k (e ∷ es) = with_next_if (last_after k 0 others None) e ∷ joined_from others (k + 1) es
+abbrev pub link_from : List Event → ℕ → List Event → List Event
+link_from others k [] = []
+link_from others k (e ∷ es) = with_next_if (last_after k 0 others None) e ∷ link_from others (k + 1) es
 
 -- each chunk that events name as the one before them names the last of these as the next
-abbrev pub all_joined : List Event → List Event
-all_joined events = joined_from events 0 events
+abbrev pub link_all : List Event → List Event
+link_all events = link_from events 0 events

@@ -3,11 +3,11 @@ ghost use Rattle.std.specs.Prelude.{◌≡◌, ◌++◌, OnOk, IfOk, IfErr, leng
 ghost use Rattle.markdown_options.specs.Messages.{IsOutOfMemory};
 ghost use Rattle.engine_edits.specs.Edits.{edits_of};
 ghost use Rattle.engine_chunks.specs.Chunks.{chunks};
-ghost use Rattle.engine_chunks.specs.Parts.{places_of, counts, divided, divided_at};
+ghost use Rattle.engine_chunks.specs.Parts.{places_of, counts, with_division, with_division_at};
 
 use crate::chunks::{chunks, part_size};
 use engine_edits::EditMap;
-use engine_edits::relink::{push_kept, push_relinked};
+use engine_edits::relink::{push_places_from, push_with_new_links};
 use engine_events::Event;
 use markdown_options::Message;
 use std::alloc::{AllocError, Allocator};
@@ -25,7 +25,7 @@ pub fn divide_events<A: Allocator + Clone>(
     child_events: &[Event],
     acc_before: (usize, usize),
 ) -> Result<(usize, usize), Message>
-    ensures edits { OnOk result (edits_of map.new ≡ divided events.now link_index child_events.now acc_before (edits_of map.old)) }
+    ensures edits { OnOk result (edits_of map.new ≡ with_division events.now link_index child_events.now acc_before (edits_of map.old)) }
     ensures counts { IfOk result (λ after. after ≡ counts events.now (chunks events.now link_index) child_events.now 0 acc_before.0 acc_before.1) }
     ensures memory { IfErr result (λ message. IsOutOfMemory message) }
 {
@@ -57,7 +57,7 @@ fn push_places<A: Allocator>(
             .checked_add(added)
             .ok_or(AllocError)?;
         first.checked_add(size).ok_or(AllocError)?;
-        push_kept(places, first, size)?;
+        push_places_from(places, first, size)?;
         from += size;
         removed = removed.checked_add(2).ok_or(AllocError)?;
         added = added.checked_add(size).ok_or(AllocError)?;
@@ -74,14 +74,14 @@ fn add_parts<A: Allocator + Clone>(
     children: &[Event],
     places: &[Option<usize>],
 ) -> Result<(), Message>
-    ensures edits { OnOk result (edits_of map.new ≡ divided_at events.now chain.now children.now places.now 0 (edits_of map.old)) }
+    ensures edits { OnOk result (edits_of map.new ≡ with_division_at events.now chain.now children.now places.now 0 (edits_of map.old)) }
     ensures memory { IfErr result (λ message. IsOutOfMemory message) }
 {
     let mut from = 0;
     for chunk in chain {
         let size = part_size(events, *chunk, children, from);
         let mut part = Vec::new(alloc.clone()?);
-        push_relinked(&mut part, &children[from..from + size], places)?;
+        push_with_new_links(&mut part, &children[from..from + size], places)?;
         map.add(*chunk, 2, part)?;
         from += size;
     }

@@ -1,7 +1,7 @@
 //! Chunks joined to chains.
 ghost use Rattle.std.specs.Prelude.{◌≡◌, ◌≤◌, ◌<◌, ◌-◌, length};
 ghost use Rattle.engine_events.specs.Events.{link_of, previous_of};
-ghost use Rattle.engine_chunks.specs.Joins.{all_joined, joined, updated, with_next, with_previous};
+ghost use Rattle.engine_chunks.specs.Joins.{link_all, link_to, update_at, with_next, with_previous};
 
 use engine_events::{Event, Link};
 
@@ -9,7 +9,7 @@ use engine_events::{Event, Link};
 pub fn link(events: &mut [Event], index: usize)
     requires after { 2 ≤ index }
     requires within { index < length events.old }
-    ensures { events.new ≡ joined (index - 2) index events.old }
+    ensures { events.new ≡ link_to (index - 2) index events.old }
 {
     link_to(events, index - 2, index);
 }
@@ -18,7 +18,7 @@ pub fn link(events: &mut [Event], index: usize)
 pub fn link_to(events: &mut [Event], previous: usize, next: usize)
     requires previous { previous < length events.old }
     requires next { next < length events.old }
-    ensures { events.new ≡ joined previous next events.old }
+    ensures { events.new ≡ link_to previous next events.old }
 {
     join_next(events, previous, next);
     join_previous(events, next, previous);
@@ -30,7 +30,7 @@ pub fn link_to(events: &mut [Event], previous: usize, next: usize)
 /// States add events and change none, so a chunk that they add names only the one before it, and an
 /// attempt that fails leaves no link to what is gone. A resolver joins the chunks at the end.
 pub fn link_all(events: &mut [Event])
-    ensures { events.new ≡ all_joined events.old }
+    ensures { events.new ≡ link_all events.old }
 {
     for index in 0..events.len() {
         if let Some(previous) = previous_chunk(&events[index]) {
@@ -51,7 +51,7 @@ fn previous_chunk(event: &Event) -> Option<usize>
 /// Gives the chunk at an index another one after it.
 fn join_next(events: &mut [Event], index: usize, next: usize)
     requires { index < length events.old }
-    ensures { events.new ≡ updated (with_next next) index events.old }
+    ensures { events.new ≡ update_at (with_next next) index events.old }
 {
     let event = events[index];
     events[index] = with_next(&event, next);
@@ -60,7 +60,7 @@ fn join_next(events: &mut [Event], index: usize, next: usize)
 /// Gives the chunk at an index another one before it.
 fn join_previous(events: &mut [Event], index: usize, previous: usize)
     requires { index < length events.old }
-    ensures { events.new ≡ updated (with_previous previous) index events.old }
+    ensures { events.new ≡ update_at (with_previous previous) index events.old }
 {
     let event = events[index];
     events[index] = with_previous(&event, previous);

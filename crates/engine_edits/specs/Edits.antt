@@ -7,46 +7,46 @@ use Rattle.engine_edits.specs.declared.edit.Edit.{Edit}
 use Rattle.engine_edits.specs.declared.edit_map.EditMap.{EditMap}
 
 -- an edit: at a place so many events go, and these come
-pub record Placed : Type 0 where
+pub record EditAt : Type 0 where
   pub at : ℕ
   pub remove : ℕ
   pub add : List Event
 
-abbrev pub placed : ℕ → ℕ → List Event → Placed
-placed at remove add = record { at = at; remove = remove; add = add }
+abbrev pub edit_at : ℕ → ℕ → List Event → EditAt
+edit_at at remove add = record { at = at; remove = remove; add = add }
 
 module _ {A : Type 0} where
-  abbrev pub placed_of : ℕ × Edit A → Placed
-  placed_of e = placed e.0 e.1.remove e.1.add.items
+  abbrev pub edit_of : ℕ × Edit A → EditAt
+  edit_of e = edit_at e.0 e.1.remove e.1.add.items
 
   -- the edits by their places
-  abbrev pub edits_of : EditMap A → List Placed
-  edits_of m = map placed_of m.edits.entries
+  abbrev pub edits_of : EditMap A → List EditAt
+  edits_of m = map edit_of m.edits.entries
 
 -- what comes with other events, before or after those there
-abbrev pub both_added : Bool → List Event → List Event → List Event
-both_added before add there = if before then add ++ there else there ++ add
+abbrev pub both_additions : Bool → List Event → List Event → List Event
+both_additions before add there = if before then add ++ there else there ++ add
 
 -- two edits of one place as one: removals add up, and additions go after or before those there
-abbrev pub merged : Bool → ℕ → List Event → Placed → Placed
-merged before remove add e = placed e.at (together e.remove remove) (both_added before add e.add)
+abbrev pub merge : Bool → ℕ → List Event → EditAt → EditAt
+merge before remove add e = edit_at e.at (together e.remove remove) (both_additions before add e.add)
 
 -- the edits, with the one of this place merged
-abbrev pub with_merged : Bool → ℕ → ℕ → List Event → List Placed → List Placed
-with_merged before at remove add [] = []
-with_merged before at remove add (e ∷ es) =
-    if at == e.at then merged before remove add e ∷ es else e ∷ with_merged before at remove add es
+abbrev pub with_merge : Bool → ℕ → ℕ → List Event → List EditAt → List EditAt
+with_merge before at remove add [] = []
+with_merge before at remove add (e ∷ es) =
+    if at == e.at then merge before remove add e ∷ es else e ∷ with_merge before at remove add es
 
 -- the edits, with a new one before those of later places
-abbrev pub with_new : ℕ → ℕ → List Event → List Placed → List Placed
-with_new at remove add [] = placed at remove add ∷ []
+abbrev pub with_new : ℕ → ℕ → List Event → List EditAt → List EditAt
+with_new at remove add [] = edit_at at remove add ∷ []
 with_new at remove add (e ∷ es) =
-    if nat_lt at e.at then placed at remove add ∷ e ∷ es else e ∷ with_new at remove add es
+    if nat_lt at e.at then edit_at at remove add ∷ e ∷ es else e ∷ with_new at remove add es
 
-abbrev pub has_place : ℕ → List Placed → Bool
+abbrev pub has_place : ℕ → List EditAt → Bool
 has_place at = list_any (λ e. at == e.at)
 
 -- the edits with another one
-abbrev pub with_edit : Bool → ℕ → ℕ → List Event → List Placed → List Placed
+abbrev pub with_edit : Bool → ℕ → ℕ → List Event → List EditAt → List EditAt
 with_edit before at remove add es =
-    if has_place at es then with_merged before at remove add es else with_new at remove add es
+    if has_place at es then with_merge before at remove add es else with_new at remove add es

@@ -1,7 +1,7 @@
 //! One edit: events that go, and events that come in their place.
 ghost use Rattle.std.specs.Prelude.{◌≡◌, ◌+◌, ◌≤◌, ◌↔◌, IsTrue, OnOk, OnErr};
 ghost use Rattle.engine_edits.specs.Counts.{together};
-ghost use Rattle.engine_edits.specs.Edits.{both_added};
+ghost use Rattle.engine_edits.specs.Edits.{both_additions};
 
 use engine_events::Event;
 use std::alloc::{AllocError, Allocator};
@@ -23,7 +23,7 @@ impl<A: Allocator> Edit<A> {
         remove: usize,
         add: Vec<Event, A>,
     ) -> Result<(), AllocError>
-        ensures add { OnOk result (self.new.add.items ≡ both_added before add.items self.old.add.items) }
+        ensures add { OnOk result (self.new.add.items ≡ both_additions before add.items self.old.add.items) }
         ensures remove { OnOk result (self.new.remove ≡ together self.old.remove remove) }
         ensures err_add { OnErr result (self.new.add.items ≡ self.old.add.items) }
         ensures err_remove { OnErr result (self.new.remove ≡ self.old.remove) }

@@ -1,6 +1,6 @@
 //! Edits of a list of events, made as one replacement.
 use crate::edit::Edit;
-use crate::relink::{push_gone, push_kept, push_relinked};
+use crate::relink::{push_no_places, push_places_from, push_with_new_links};
 use engine_events::Event;
 use markdown_options::Message;
 use std::alloc::{AllocError, Allocator};
@@ -92,7 +92,7 @@ impl<A: Allocator + Clone> EditMap<A> {
 impl<A: Allocator> EditMap<A> {
     ghost use Rattle.std.specs.Prelude.{◌≡◌, ◌+◌, ◌<◌, ◌^◌, IfOk, map, length, true, false};
     ghost use Rattle.engine_edits.specs.Edits.{edits_of};
-    ghost use Rattle.engine_edits.specs.Replacement.{IsOrdered, places, added, replaced, with_new_links};
+    ghost use Rattle.engine_edits.specs.Replacement.{IsOrdered, places, arrivals, replacement, with_new_links};
 
     /// Whether the ranges that go stand one after another, within a list of so many events.
     pub fn is_ordered(&self, count: usize) -> bool
@@ -115,25 +115,25 @@ impl<A: Allocator> EditMap<A> {
     /// Where the events of a list stand after the edits.
     fn places(&self, alloc: A, count: usize) -> Result<Vec<Option<usize>, A>, AllocError>
         requires ordered { IsOrdered 0 (edits_of self.now) count }
-        requires fits { count + added (edits_of self.now) < 2 ^ 64 }
+        requires fits { count + arrivals (edits_of self.now) < 2 ^ 64 }
         ensures { IfOk result (λ found. found.items ≡ places (edits_of self.now) count) }
     {
         let mut places = Vec::with_capacity(alloc, count)?;
         let mut from = 0;
         let mut to = 0;
         'edits: for (at, edit) in &self.edits {
-            push_kept(&mut places, to, *at - from)?;
-            push_gone(&mut places, edit.remove)?;
+            push_places_from(&mut places, to, *at - from)?;
+            push_no_places(&mut places, edit.remove)?;
             to += *at - from + edit.add.len();
             from = *at + edit.remove;
         }
-        push_kept(&mut places, to, count - from)?;
+        push_places_from(&mut places, to, count - from)?;
         Ok(places)
     }
 
     /// How many events there are after the edits, or more; no memory has room for more than fit.
     fn room(&self, count: usize) -> Result<usize, AllocError>
-        ensures { IfOk result (λ room. room ≡ count + added (edits_of self.now)) }
+        ensures { IfOk result (λ room. room ≡ count + arrivals (edits_of self.now)) }
     {
         let mut room = count;
         'edits: for (_, edit) in &self.edits {
@@ -143,7 +143,7 @@ impl<A: Allocator> EditMap<A> {
     }
 
     /// The events with the edits made.
-    fn replaced(
+    fn replacement(
         &self,
         alloc: A,
         events: &[Event],
@@ -151,16 +151,16 @@ impl<A: Allocator> EditMap<A> {
         room: usize,
     ) -> Result<Vec<Event, A>, AllocError>
         requires { IsOrdered 0 (edits_of self.now) (length events.now) }
-        ensures { IfOk result (λ all. all.items ≡ replaced 0 (edits_of self.now) (map (with_new_links places.now) events.now)) }
+        ensures { IfOk result (λ all. all.items ≡ replacement 0 (edits_of self.now) (map (with_new_links places.now) events.now)) }
     {
         let mut all = Vec::with_capacity(alloc, room)?;
         let mut from = 0;
         'edits: for (at, edit) in &self.edits {
-            push_relinked(&mut all, &events[from..*at], places)?;
+            push_with_new_links(&mut all, &events[from..*at], places)?;
             all.extend_from_slice(&edit.add)?;
             from = *at + edit.remove;
         }
-        push_relinked(&mut all, &events[from..], places)?;
+        push_with_new_links(&mut all, &events[from..], places)?;
         Ok(all)
     }
 }
@@ -183,20 +183,20 @@ impl<A: Allocator + Clone> EditMap<A> {
         ensures err_edits { OnErr result (edits_of self.new ≡ edits_of self.old) }
         ensures memory { IfErr result (λ message. IsOutOfMemory message) }
     {
-        let all = self.made(events)?;
+        let all = self.events_after(events)?;
         *events = all;
         self.edits.clear();
         Ok(())
     }
 
     /// The events with all edits made.
-    fn made(&self, events: &Vec<Event, A>) -> Result<Vec<Event, A>, AllocError>
+    fn events_after(&self, events: &Vec<Event, A>) -> Result<Vec<Event, A>, AllocError>
         requires { IsOrdered 0 (edits_of self.now) (vec_len events.now) }
         ensures { IfOk result (λ all. all.items ≡ events_after (edits_of self.now) events.now.items) }
     {
         let alloc = events.allocator();
         let room = self.room(events.len())?;
         let places = self.places(alloc.clone()?, events.len())?;
-        self.replaced(alloc.clone()?, events, &places, room)
+        self.replacement(alloc.clone()?, events, &places, room)
     }
 }

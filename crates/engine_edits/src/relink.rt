@@ -6,7 +6,7 @@ use engine_events::{Event, Link};
 use std::alloc::{AllocError, Allocator};
 
 /// Adds the places of events that stay, from a place on.
-pub fn push_kept<A: Allocator>(
+pub fn push_places_from<A: Allocator>(
     places: &mut Vec<Option<usize>, A>,
     first: usize,
     count: usize,
@@ -21,7 +21,7 @@ pub fn push_kept<A: Allocator>(
 }
 
 /// Adds that events are gone.
-pub fn push_gone<A: Allocator>(
+pub fn push_no_places<A: Allocator>(
     places: &mut Vec<Option<usize>, A>,
     count: usize,
 ) -> Result<(), AllocError>
@@ -34,7 +34,7 @@ pub fn push_gone<A: Allocator>(
 }
 
 /// Adds events that stay, with their links to where the others stand now.
-pub fn push_relinked<A: Allocator>(
+pub fn push_with_new_links<A: Allocator>(
     all: &mut Vec<Event, A>,
     events: &[Event],
     places: &[Option<usize>],
@@ -42,13 +42,13 @@ pub fn push_relinked<A: Allocator>(
     ensures { OnOk result (all.new.items ≡ all.old.items ++ map (with_new_links places.now) events.now) }
 {
     for event in events {
-        all.push(relinked(event, places))?;
+        all.push(with_new_links(event, places))?;
     }
     Ok(())
 }
 
 /// An event with its link to where the others stand now.
-fn relinked(event: &Event, places: &[Option<usize>]) -> Event
+fn with_new_links(event: &Event, places: &[Option<usize>]) -> Event
     ensures { result ≡ with_new_links places.now event.now }
 {
     let mut event = *event;

@@ -42,7 +42,8 @@ point_of e = record { line = e.line; column = e.column; index = e.index; vs = e.
 
 abbrev pub link_with : Event → Option Content → Option Link
 link_with e None = None
-link_with e (Some content) = let l : Link = record { previous = present e.has_previous e.previous; next = present e.has_next e.next; content = content } in Some l
+link_with e (Some content) = let l : Link = record { previous = present e.has_previous e.previous; next = present e.has_next e.next; content = content } in
+    Some l
 
 -- the neighbours of a chunk
 abbrev pub link_of : Event → Option Link

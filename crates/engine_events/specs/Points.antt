@@ -9,7 +9,7 @@ abbrev pub unist_point : Point → unist.Point
 unist_point p = record { line = p.line; column = p.column; offset = p.index }
 
 -- the place at a later index of the same line; a byte order mark at the text's start has no columns
-abbrev pub shifted : List ℕ → ℕ → Point → Point
-shifted bytes index p =
+abbrev pub shift_to : List ℕ → ℕ → Point → Point
+shift_to bytes index p =
     if index == p.index then p
     else record { line = p.line; column = column_past (between (max p.index (mark_size bytes)) index bytes) p.column; index = index; vs = 0 }

@@ -14,12 +14,12 @@ IsOver states.Ok = Unit {0}
 IsOver states.Nok = ⊥
 
 -- memory was refused
-abbrev pub Refused : State → Type 0
-Refused (states.Error m) = IsOutOfMemory m.now
-Refused (states.Next n) = ⊥
-Refused (states.Retry n) = ⊥
-Refused states.Ok = ⊥
-Refused states.Nok = ⊥
+abbrev pub IsRefused : State → Type 0
+IsRefused (states.Error m) = IsOutOfMemory m.now
+IsRefused (states.Next n) = ⊥
+IsRefused (states.Retry n) = ⊥
+IsRefused states.Ok = ⊥
+IsRefused states.Nok = ⊥
 
 -- an error is answered as it is
 abbrev pub HasResult : State → Result Unit Message → Type 0

@@ -31,7 +31,7 @@ impl Point {
     ghost use Rattle.std.specs.Prelude.{◌≡◌, ◌≤◌, ◌<◌, ◌^◌, length, IsTrue};
     ghost use Rattle.std.specs.List.{list_all};
     ghost use Rattle.engine_events.specs.Columns.{ends_no_line, between};
-    ghost use Rattle.engine_events.specs.Points.{unist_point, shifted};
+    ghost use Rattle.engine_events.specs.Points.{unist_point, shift_to};
 
     /// The place without the columns of a tab; its offset is the index.
     pub fn to_unist(&self) -> unist::Point
@@ -45,8 +45,8 @@ impl Point {
         requires after { self.now.index ≤ index }
         requires within { index ≤ length bytes.now }
         requires line { IsTrue (list_all ends_no_line (between self.now.index index bytes.now)) }
-        requires fits { (shifted bytes.now index self.now).column < 2 ^ 64 }
-        ensures { result ≡ shifted bytes.now index self.now }
+        requires fits { (shift_to bytes.now index self.now).column < 2 ^ 64 }
+        ensures { result ≡ shift_to bytes.now index self.now }
     {
         if index == self.index {
             return *self;

@@ -363,11 +363,11 @@ const REFUSED: Message = Message {
 };
 
 impl State {
-    ghost use Rattle.engine_events.specs.States.{IsOver, Refused, HasResult};
+    ghost use Rattle.engine_events.specs.States.{IsOver, IsRefused, HasResult};
 
     /// Memory was refused.
     pub fn out_of_memory() -> State
-        ensures { Refused result }
+        ensures { IsRefused result }
     {
         State::Error(&REFUSED)
     }

@@ -10,7 +10,8 @@ use Rattle.markdown_engine.specs.Machine.{past_byte, with_enter, with_exit, to_r
 use Rattle.markdown_engine.specs.Reading.{Config, Effect}
 use Rattle.markdown_engine.specs.StepLaws.{same_place}
 use Rattle.markdown_engine.specs.VirtualText.{is_feed}
-use Rattle.engine_programs.specs.Bodies.{Token, Body, Answer, Consume, Enter, EnterLink, Exit, Keep, Hold, Flag, Register, RegisterFirst, Tries, Byte, On, AfterFeed, Test, flagging, has, holding, keeping, named, run, step_by}
+use Rattle.engine_programs.specs.Bodies.{Token, Body, Answer, Consume, Enter, EnterLink, Exit, Keep, Hold, Flag, Register, RegisterFirst, Tries, Byte, On}
+use Rattle.engine_programs.specs.Bodies.{AfterFeed, Test, flagging, has, holding, keeping, name_of, run, step_by}
 use Rattle.engine_programs.specs.Sorts.{Sort, Sight, exited_sight, first_sight, fits, fits_from, leads, nok_fits, ok_fits, attempt_fits}
 use Rattle.engine_programs.specs.Stacks.{program_valid}
 use Rattle.engine_programs.specs.NameLaws.{by_byte_each, either_way, has_some, not_true}
@@ -36,13 +37,20 @@ module _ {M : Type 0} where
   -- Places
 
   still_on : (c d e : Config M) → IsStill c d → IsStill d e → IsStill c e
-  still_on c d e h k = record { point = k.point ∙ h.point; next = k.next ∙ h.next; line_start = k.line_start ∙ h.line_start; previous = k.previous ∙ h.previous; current = k.current ∙ h.current }
+  still_on c d e h k = record {
+    point = k.point ∙ h.point;
+    next = k.next ∙ h.next;
+    line_start = k.line_start ∙ h.line_start;
+    previous = k.previous ∙ h.previous;
+    current = k.current ∙ h.current;
+  }
 
   over_still : (c d : Config M) → IsStill c d → IsStill (past_byte c) (past_byte d)
   over_still c d h = record {
     point = h.next;
     next = h.next;
-    line_start = ap (λ (v : Option ℕ). if is_feed v then d.next else d.line_start) h.current ∙ (ap (λ (p : Point). if is_feed c.current then p else d.line_start) h.next ∙ ap (λ (p : Point). if is_feed c.current then c.next else p) h.line_start);
+    line_start = ap (λ (v : Option ℕ). if is_feed v then d.next else d.line_start) h.current
+        ∙ (ap (λ (p : Point). if is_feed c.current then p else d.line_start) h.next ∙ ap (λ (p : Point). if is_feed c.current then c.next else p) h.line_start);
     previous = h.current;
     current = refl;
   }
@@ -85,8 +93,10 @@ module _ {M : Type 0} where
     fed : z.fed ≡ true → (b : ℕ) × (d.current ≡ Some b)
 
   -- what else changes doesn't matter
-  since_same : (z : Sight) (c d e : Config M) → Since z c d → Since z c (record e { point = d.point; next = d.next; line_start = d.line_start; previous = d.previous; current = d.current })
-  since_same z c d e h = record { once = once_on z.spent c d _ (record { point = refl; next = refl; line_start = refl; previous = refl; current = refl }) h.once; fed = h.fed }
+  since_same : (z : Sight) (c d e : Config M) → Since z c d
+      → Since z c (record e { point = d.point; next = d.next; line_start = d.line_start; previous = d.previous; current = d.current })
+  since_same z c d e h =
+      record { once = once_on z.spent c d _ (record { point = refl; next = refl; line_start = refl; previous = refl; current = refl }) h.once; fed = h.fed }
 
   since_enter : (z : Sight) (t : Token) (c d : Config M) → Since z c d → Since (record z { open_tokens = t ∷ z.open_tokens; exits = false }) c d
   since_enter z t c d h = record { once = h.once; fed = h.fed }
@@ -96,7 +106,8 @@ module _ {M : Type 0} where
   since_exit sorts z (t ∷ ts) c d h = record { once = h.once; fed = h.fed }
 
   -- more is known
-  since_seen : (z : Sight) (c d : Config M) (fed feed inline : Bool) → (fed ≡ true → (b : ℕ) × (d.current ≡ Some b)) → Since z c d → Since (record z { fed = fed; feed = feed; inline = inline }) c d
+  since_seen : (z : Sight) (c d : Config M) (fed feed inline : Bool) → (fed ≡ true → (b : ℕ) × (d.current ≡ Some b)) → Since z c d
+      → Since (record z { fed = fed; feed = feed; inline = inline }) c d
   since_seen z c d fed feed inline k h = record { once = h.once; fed = k }
 
   -- what the law asks of a call
@@ -111,7 +122,8 @@ module _ {M : Type 0} where
     answer_once states.Ok n z c d h i = may_consume z.spent c d i.once
     answer_once states.Nok n z c d h i = may_consume z.spent c d i.once
 
-    tried_once : (s : State) (n : Name) (z : Sight) (check : Bool) (ok nok : State) (c d : Config M) → attempt_fits sorts n z check ok nok s ≡ true → Since z c d → Consumes s c d
+    tried_once : (s : State) (n : Name) (z : Sight) (check : Bool) (ok nok : State) (c d : Config M) → attempt_fits sorts n z check ok nok s ≡ true
+        → Since z c d → Consumes s c d
     tried_once (states.Error m) n z check ok nok c d h i = tt
     tried_once (states.Next m) n z check ok nok c d h i = once_spent z.spent c d (and_parts _ _ h).0 i.once
     tried_once (states.Retry m) n z check ok nok c d h i = once_unspent z.spent c d (not_true _ (and_parts _ _ h).0) i.once
@@ -125,10 +137,12 @@ module _ {M : Type 0} where
         let p = and_parts _ _ h in
         let v = i.fed p.0 in
         run_once b n _ c (past_byte d) p.1 (record { once = once_over z.spent c d v.0 v.1 i.once; fed = λ w. absurd (let f : false ≡ true = w in cc) })
-    run_once (Enter t b) n z c d h i = let e = with_enter (named d.tokenize_state t) None d in run_once b n _ c e h (since_enter z t c e (since_same z c d e i))
-    run_once (EnterLink t f b) n z c d h i = let e = with_enter (named d.tokenize_state t) (f d) d in run_once b n _ c e h (since_enter z t c e (since_same z c d e i))
+    run_once (Enter t b) n z c d h i = let e = with_enter (name_of d.tokenize_state t) None d in run_once b n _ c e h
+        (since_enter z t c e (since_same z c d e i))
+    run_once (EnterLink t f b) n z c d h i = let e = with_enter (name_of d.tokenize_state t) (f d) d in
+        run_once b n _ c e h (since_enter z t c e (since_same z c d e i))
     run_once (Exit t b) n z c d h i =
-        let e = with_exit (named d.tokenize_state t) d in
+        let e = with_exit (name_of d.tokenize_state t) d in
         run_once b n _ c e (and_parts _ _ (and_parts _ _ h).1).1 (since_exit sorts z z.open_tokens c e (since_same z c d e i))
     run_once (Keep f same b) n z c d h i = run_once b n z c (keeping f d) h (since_same z c d (keeping f d) i)
     run_once (Hold j name b) n z c d h i = run_once b n z c (holding j name d) (and_parts _ _ (and_parts _ _ h).1).1 (since_same z c d (holding j name d) i)
@@ -142,7 +156,8 @@ module _ {M : Type 0} where
         (tried_once s n z check ok nok c d p.0 i, (may_consume z.spent c d i.once, ok_moves sorts ok n z check q.0, nok_moves sorts nok n z r.0, tt))
     run_once (Byte a b) n z c d h i =
         let p = and_parts _ _ h in
-        by_byte_each (ConsumesOnce c) d.current (run a d) (run b d) (run_once a n z c d p.0 i) (λ v e. run_once b n _ c d p.1 (since_seen z c d true z.feed z.inline (λ w. (v, e)) i))
+        by_byte_each (ConsumesOnce c) d.current (run a d) (run b d) (run_once a n z c d p.0 i)
+        (λ v e. run_once b n _ c d p.1 (since_seen z c d true z.feed z.inline (λ w. (v, e)) i))
     run_once (On q a b) n z c d h i =
         let p = and_parts _ _ h in
         either_way (ConsumesOnce c) (has q d.current) (run a d) (run b d)
@@ -150,13 +165,15 @@ module _ {M : Type 0} where
         (λ e. run_once b n _ c d p.1 (since_seen z c d z.fed (z.feed && not (q 10)) z.inline i.fed i))
     run_once (AfterFeed a b) n z c d h i =
         let p = and_parts _ _ h in
-        either_way (ConsumesOnce c) (is_feed d.previous) (run a d) (run b d) (λ e. run_once a n z c d p.0 i) (λ e. run_once b n _ c d p.1 (since_seen z c d z.fed z.feed true i.fed i))
+        either_way (ConsumesOnce c) (is_feed d.previous) (run a d) (run b d) (λ e. run_once a n z c d p.0 i)
+        (λ e. run_once b n _ c d p.1 (since_seen z c d z.fed z.feed true i.fed i))
     run_once (Test t a b) n z c d h i =
         let p = and_parts _ _ h in
         either_way (ConsumesOnce c) (t d) (run a d) (run b d) (λ e. run_once a n z c d p.0 i) (λ e. run_once b n z c d p.1 i)
 
 -- next comes a byte after exactly one was consumed, and the same byte after none; at the end at most one was
-pub program_consumes : {M : Type 0} (sorts : Name → Sort) (most size : ℕ) (bodies : Name → Body M) → ((n : Name) → fits sorts most n (bodies n) ≡ true) → ConsumesAt (program_valid sorts most size) (step_by bodies)
+pub program_consumes : {M : Type 0} (sorts : Name → Sort) (most size : ℕ) (bodies : Name → Body M) → ((n : Name) → fits sorts most n (bodies n) ≡ true)
+    → ConsumesAt (program_valid sorts most size) (step_by bodies)
 unfolding ConsumesOnce Once
 program_consumes sorts most size bodies fit c stack n h =
     run_once sorts (bodies n) n (first_sight sorts n) c c (and_parts _ _ (fit n)).1 (record { once = same_place c; fed = h.stands.2 })

@@ -1,18 +1,19 @@
 -- Tests that hold, the names of events, and places of exits.
-use Rattle.std.proofs.Common.{◌≡◌, ℕ, ◌∙◌, Bool, true, false, not, ◌==◌, ◌&&◌, ◌||◌, if◌then◌else◌, List, [], ◌∷◌, ◌++◌, Option, None, Some, refl, sym, ap, append-nil, append_assoc}
+use Rattle.std.proofs.Common.{◌≡◌, ℕ, ◌∙◌, Bool, true, false, not, ◌==◌, ◌&&◌, ◌||◌, if◌then◌else◌, List, [], ◌∷◌, ◌++◌, Option, None, Some, refl, sym, ap}
+use Rattle.std.proofs.Common.{append-nil, append_assoc}
 use Rattle.std.proofs.lemmas.Bool.{and_parts, eqb-true}
 use denote.Enum.Bare.{same_true}
 use Rattle.engine_events.specs.contracts.event.Name.{the_type}
 use Rattle.engine_events.specs.declared.event.Event.{Event}
 use Rattle.engine_events.specs.declared.event.Name.{Name as EventName}
 use Rattle.engine_events.specs.declared.place.Point.{Point}
-use Rattle.markdown_engine.specs.Kept.{Kept}
-use Rattle.markdown_engine.specs.Laws.{IsFront, Nested}
+use Rattle.markdown_engine.specs.KeptState.{KeptState}
+use Rattle.markdown_engine.specs.Laws.{IsFront, AreNested}
 use Rattle.markdown_engine.specs.Order.{AreTidy, Reaches}
 use Rattle.markdown_engine.specs.OrderLaws.{reaches_on, stays, tidy_on}
 use Rattle.markdown_engine.specs.Reading.{Effect, Frame}
 use Rattle.markdown_engine.specs.VirtualText.{is_feed}
-use Rattle.engine_programs.specs.Bodies.{Token, Fixed, Held, by_byte, has, held, named_all}
+use Rattle.engine_programs.specs.Bodies.{Token, FixedName, HeldName, by_byte, has, held_name, names_of}
 use Rattle.engine_programs.specs.Sorts.{all_fixed, are_none, implies, same_token, same_tokens}
 
 -- ---- tests
@@ -57,10 +58,12 @@ has_some p (Some b) h = (b, refl)
 no_feed : (f : Bool) (p : ℕ → Bool) (b : ℕ) (e : Bool) → (b == 10) ≡ e → p b ≡ true → (f ≡ false → (b == 10) ≡ false) → (f && p 10) ≡ false → (b == 10) ≡ false
 no_feed f p b false q h k r = q
 no_feed false p b true q h k r = k refl
-no_feed true p b true q h k r = absurd (let g : p 10 ≡ true = ap p (sym (eqb-true b 10 q)) ∙ h in let s : p 10 ≡ false = r in let f : true ≡ false = sym g ∙ s in cc)
+no_feed true p b true q h k r = absurd (let g : p 10 ≡ true = ap p (sym (eqb-true b 10 q)) ∙ h in let s : p 10 ≡ false = r in
+    let f : true ≡ false = sym g ∙ s in cc)
 
 -- a byte that is known to be one of some is no line feed unless that is one of them
-pub feed_among : (f : Bool) (p : ℕ → Bool) (v : Option ℕ) → ((b : ℕ) → v ≡ Some b → p b ≡ true) → (f ≡ false → is_feed v ≡ false) → (f && p 10) ≡ false → is_feed v ≡ false
+pub feed_among : (f : Bool) (p : ℕ → Bool) (v : Option ℕ) → ((b : ℕ) → v ≡ Some b → p b ≡ true) → (f ≡ false → is_feed v ≡ false) → (f && p 10) ≡ false
+    → is_feed v ≡ false
 feed_among f p None h k r = refl
 feed_among f p (Some b) h k r = no_feed f p b (b == 10) refl (h b refl) k r
 
@@ -76,30 +79,30 @@ by_byte_each P (Some b) x y h k = k b refl
 
 -- ---- names
 
-pub names_same : (k k2 : Kept) → ((i : ℕ) → held k2 i ≡ held k i) → (ts : List Token) → named_all k2 ts ≡ named_all k ts
+pub names_same : (k k2 : KeptState) → ((i : ℕ) → held_name k2 i ≡ held_name k i) → (ts : List Token) → names_of k2 ts ≡ names_of k ts
 names_same k k2 h [] = refl
-names_same k k2 h (Fixed n ∷ ts) = ap (λ (z : List EventName). n ∷ z) (names_same k k2 h ts)
-names_same k k2 h (Held i ∷ ts) = ap (λ (z : EventName). z ∷ named_all k2 ts) (h i) ∙ ap (λ (z : List EventName). held k i ∷ z) (names_same k k2 h ts)
+names_same k k2 h (FixedName n ∷ ts) = ap (λ (z : List EventName). n ∷ z) (names_same k k2 h ts)
+names_same k k2 h (HeldName i ∷ ts) = ap (λ (z : EventName). z ∷ names_of k2 ts) (h i) ∙ ap (λ (z : List EventName). held_name k i ∷ z) (names_same k k2 h ts)
 
-pub fixed_same : (k k2 : Kept) (ts : List Token) → all_fixed ts ≡ true → named_all k2 ts ≡ named_all k ts
+pub fixed_same : (k k2 : KeptState) (ts : List Token) → all_fixed ts ≡ true → names_of k2 ts ≡ names_of k ts
 fixed_same k k2 [] h = refl
-fixed_same k k2 (Fixed n ∷ ts) h = ap (λ (z : List EventName). n ∷ z) (fixed_same k k2 ts h)
-fixed_same k k2 (Held i ∷ ts) h = absurd (let f : false ≡ true = h in cc)
+fixed_same k k2 (FixedName n ∷ ts) h = ap (λ (z : List EventName). n ∷ z) (fixed_same k k2 ts h)
+fixed_same k k2 (HeldName i ∷ ts) h = absurd (let f : false ≡ true = h in cc)
 
-pub names_both : (k : Kept) (ts us : List Token) → named_all k (ts ++ us) ≡ named_all k ts ++ named_all k us
+pub names_both : (k : KeptState) (ts us : List Token) → names_of k (ts ++ us) ≡ names_of k ts ++ names_of k us
 names_both k [] us = refl
-names_both k (Fixed n ∷ ts) us = ap (λ (z : List EventName). n ∷ z) (names_both k ts us)
-names_both k (Held i ∷ ts) us = ap (λ (z : List EventName). held k i ∷ z) (names_both k ts us)
+names_both k (FixedName n ∷ ts) us = ap (λ (z : List EventName). n ∷ z) (names_both k ts us)
+names_both k (HeldName i ∷ ts) us = ap (λ (z : List EventName). held_name k i ∷ z) (names_both k ts us)
 
 pub none_is : (ts : List Token) → are_none ts ≡ true → ts ≡ []
 none_is [] h = refl
 none_is (t ∷ ts) h = absurd (let f : false ≡ true = h in cc)
 
 pub token_is : (t u : Token) → same_token t u ≡ true → t ≡ u
-token_is (Fixed a) (Fixed b) h = ap Fixed (same_true the_type tt a b h)
-token_is (Fixed a) (Held j) h = absurd (let f : false ≡ true = h in cc)
-token_is (Held i) (Fixed b) h = absurd (let f : false ≡ true = h in cc)
-token_is (Held i) (Held j) h = ap Held (eqb-true i j h)
+token_is (FixedName a) (FixedName b) h = ap FixedName (same_true the_type tt a b h)
+token_is (FixedName a) (HeldName j) h = absurd (let f : false ≡ true = h in cc)
+token_is (HeldName i) (FixedName b) h = absurd (let f : false ≡ true = h in cc)
+token_is (HeldName i) (HeldName j) h = ap HeldName (eqb-true i j h)
 
 pub tokens_are : (ts us : List Token) → same_tokens ts us ≡ true → ts ≡ us
 tokens_are [] [] h = refl
@@ -117,7 +120,7 @@ same_front a = ([], sym (append-nil a))
 pub front_on : (a b c : List Event) → IsFront a b → IsFront b c → IsFront a c
 front_on a b c h k = (h.0 ++ k.0, k.1 ∙ (ap (λ (z : List Event). z ++ k.0) h.1 ∙ append_assoc a h.0 k.0))
 
-pub nested_on : {M : Type 0} (a b : List Event) (fs : List (Frame M)) (d : List Event) → IsFront a b → Nested b fs d → Nested a fs d
+pub nested_on : {M : Type 0} (a b : List Event) (fs : List (Frame M)) (d : List Event) → IsFront a b → AreNested b fs d → AreNested a fs d
 nested_on a b [] d h k = front_on a b d h k
 nested_on a b (f ∷ fs) d h k = (front_on a b f.start.events h k.0, k.1)
 
@@ -127,7 +130,8 @@ pub exit_place : (b : Bool) (p line : Point) → (if b then (if b then p else li
 exit_place true p line = refl
 exit_place false p line = refl
 
-pub exit_on : (b : Bool) (line from to : Point) (es : List Event) → Reaches from to → (let p = if b then line else from in AreTidy es p × Reaches p from) → (let p = if b then line else to in AreTidy es p × Reaches p to)
+pub exit_on : (b : Bool) (line from to : Point) (es : List Event) → Reaches from to → (let p = if b then line else from in AreTidy es p × Reaches p from)
+    → (let p = if b then line else to in AreTidy es p × Reaches p to)
 exit_on true line from to es k h = (h.0, reaches_on line from to h.1 k)
 exit_on false line from to es k h = (tidy_on es from to h.0 k, stays to)
 

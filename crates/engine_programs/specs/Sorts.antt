@@ -5,7 +5,9 @@ use Rattle.engine_events.specs.contracts.event.Name.{the_type}
 use Rattle.engine_events.specs.declared.state.Name.{Name}
 use Rattle.engine_events.specs.declared.state.State.{State}
 use Rattle.engine_events.specs.declared.state.State.TheVariants as states
-use Rattle.engine_programs.specs.Bodies.{Token, Fixed, Held, Body, Answer, Consume, Enter, EnterLink, Exit, Keep, Hold, Flag, Register, RegisterFirst, Tries, Byte, On, AfterFeed, Test}
+use Rattle.engine_programs.specs.Bodies.{Token, FixedName, HeldName, Body, Answer, Consume, Enter, EnterLink, Exit}
+use Rattle.engine_programs.specs.Bodies.{Keep, Hold, Flag, Register, RegisterFirst, Tries}
+use Rattle.engine_programs.specs.Bodies.{Byte, On, AfterFeed, Test}
 
 -- How a state may stand.
 pub record Sort : Type 0 where
@@ -35,10 +37,10 @@ abbrev pub implies : Bool → Bool → Bool
 implies a b = not a || b
 
 abbrev pub same_token : Token → Token → Bool
-same_token (Fixed a) (Fixed b) = sameb the_type a b
-same_token (Fixed a) (Held j) = false
-same_token (Held i) (Fixed b) = false
-same_token (Held i) (Held j) = i == j
+same_token (FixedName a) (FixedName b) = sameb the_type a b
+same_token (FixedName a) (HeldName j) = false
+same_token (HeldName i) (FixedName b) = false
+same_token (HeldName i) (HeldName j) = i == j
 
 abbrev pub same_tokens : List Token → List Token → Bool
 same_tokens [] [] = true
@@ -47,8 +49,8 @@ same_tokens (t ∷ ts) [] = false
 same_tokens (t ∷ ts) (u ∷ us) = same_token t u && same_tokens ts us
 
 abbrev pub is_fixed : Token → Bool
-is_fixed (Fixed name) = true
-is_fixed (Held i) = false
+is_fixed (FixedName name) = true
+is_fixed (HeldName i) = false
 
 abbrev pub all_fixed : List Token → Bool
 all_fixed [] = true
@@ -58,7 +60,8 @@ abbrev pub are_none : List Token → Bool
 are_none [] = true
 are_none (t ∷ ts) = false
 
--- what is known within a body: what is open, whether a byte was read since the attempt, whether one is at hand, whether it may be a line feed, whether one was read in this call, whether an event may end here, and whether this isn't right after a line ending
+-- what is known within a body: what is open, whether a byte was read since the attempt, whether one is at hand, whether it may be a line feed, whether one was
+-- read in this call, whether an event may end here, and whether this isn't right after a line ending
 pub record Sight : Type 0 where
   pub open_tokens : List Token
   pub moved : Bool
@@ -80,12 +83,23 @@ is_nok states.Nok = true
 
 module _ (sorts : Name → Sort) where
   abbrev pub first_sight : Name → Sight
-  first_sight n = record { open_tokens = (sorts n).open_tokens; moved = (sorts n).moved; fed = (sorts n).byte; feed = true; spent = false; exits = (sorts n).exits; inline = false }
+  first_sight n = record {
+    open_tokens = (sorts n).open_tokens;
+    moved = (sorts n).moved;
+    fed = (sorts n).byte;
+    feed = true;
+    spent = false;
+    exits = (sorts n).exits;
+    inline = false;
+  }
 
   -- another state of the same run, with these events open of its own
   abbrev pub onward : Name → Sight → List Token → Bool → Bool → Name → Bool
   onward n z tokens moved exits m =
-      same_tokens tokens z.open_tokens && (implies (sorts m).moved moved && (implies (sorts n).yields (sorts m).yields && (implies (sorts n).sure (sorts m).sure && (implies (sorts m).plain (sorts n).plain && (implies (sorts m).exits exits && (implies (sorts n).firm (sorts m).firm && same_tokens (sorts m).leaves (sorts n).leaves))))))
+      same_tokens tokens z.open_tokens
+      && (implies (sorts m).moved moved && (implies (sorts n).yields (sorts m).yields
+      && (implies (sorts n).sure (sorts m).sure && (implies (sorts m).plain (sorts n).plain
+      && (implies (sorts m).exits exits && (implies (sorts n).firm (sorts m).firm && same_tokens (sorts m).leaves (sorts n).leaves))))))
 
   abbrev pub falls_to : Name → Sight → Name → Bool
   falls_to n z m = z.spent || nat_lt (sorts m).height (sorts n).height
@@ -155,7 +169,9 @@ module _ (sorts : Name → Sort) where
 
   abbrev pub ok_fits : Name → Sight → Bool → State → Bool
   ok_fits n z check (states.Error m) = false
-  ok_fits n z check (states.Next m) = onward n z (drop (sorts m).given (sorts m).open_tokens) (z.moved || (sorts m).after) (not check || may_end z) m && (implies check ((sorts m).given == 0) && not (sorts m).byte)
+  ok_fits n z check (states.Next m) =
+      onward n z (drop (sorts m).given (sorts m).open_tokens) (z.moved || (sorts m).after) (not check || may_end z) m
+      && (implies check ((sorts m).given == 0) && not (sorts m).byte)
   ok_fits n z check (states.Retry m) = false
   ok_fits n z check states.Ok = implies check (are_none (sorts n).leaves) && implies (sorts n).yields z.moved
   ok_fits n z check states.Nok = not (sorts n).sure
@@ -170,8 +186,12 @@ module _ (sorts : Name → Sort) where
   -- what is attempted may begin here
   abbrev pub begins : Name → Sight → Bool → State → State → Name → Bool
   begins n z check ok nok m =
-      are_none (sorts m).open_tokens && (not (sorts m).moved && (falls_to n z m && (implies (after_of ok) ((sorts m).yields && not check) && (implies (is_nok nok && (sorts n).sure) (sorts m).sure
-      && (implies (sorts m).plain ((sorts n).plain && all_fixed z.open_tokens) && (implies (not check && wants_end ok (sorts n).firm) (sorts m).firm && (same_tokens (sorts m).leaves (left_open ok (sorts n).leaves) && implies (sorts m).exits (may_end z))))))))
+      are_none (sorts m).open_tokens &&
+      (not (sorts m).moved && (falls_to n z m && (implies (after_of ok) ((sorts m).yields && not check)
+      && (implies (is_nok nok && (sorts n).sure) (sorts m).sure
+      && (implies (sorts m).plain ((sorts n).plain && all_fixed z.open_tokens)
+      && (implies (not check && wants_end ok (sorts n).firm) (sorts m).firm
+      && (same_tokens (sorts m).leaves (left_open ok (sorts n).leaves) && implies (sorts m).exits (may_end z))))))))
 
   abbrev pub attempt_fits : Name → Sight → Bool → State → State → State → Bool
   attempt_fits n z check ok nok (states.Error m) = false
@@ -185,7 +205,8 @@ module _ (sorts : Name → Sort) where
 
   -- reading may go back to where the attempt began
   abbrev pub goes_back : Name → Sight → Bool → State → State → Bool
-  goes_back n z check ok nok = same_tokens (open_around ok nok) z.open_tokens && implies (wants_end nok (sorts n).firm || (check && wants_end ok (sorts n).firm)) (may_end z)
+  goes_back n z check ok nok = same_tokens (open_around ok nok) z.open_tokens
+      && implies (wants_end nok (sorts n).firm || (check && wants_end ok (sorts n).firm)) (may_end z)
 
   abbrev pub exited_sight : Sight → List Token → Sight
   exited_sight z [] = z
@@ -206,7 +227,8 @@ module _ (sorts : Name → Sort) where
   fits_from n (Flag f b) z = fits_from n b z
   fits_from n (Register r b) z = fits_from n b z
   fits_from n (RegisterFirst r b) z = fits_from n b z
-  fits_from n (Tries check ok nok s) z = goes_back n z check ok nok && (attempt_fits n z check ok nok s && (ok_fits n z check ok && (nok_fits n z nok && waits_lower n z ok nok)))
+  fits_from n (Tries check ok nok s) z =
+      goes_back n z check ok nok && (attempt_fits n z check ok nok s && (ok_fits n z check ok && (nok_fits n z nok && waits_lower n z ok nok)))
   fits_from n (Byte a b) z = fits_from n a z && fits_from n b (record z { fed = true })
   fits_from n (On p a b) z = fits_from n a (record z { fed = true; feed = z.feed && p 10 }) && fits_from n b (record z { feed = z.feed && not (p 10) })
   fits_from n (AfterFeed a b) z = fits_from n a z && fits_from n b (record z { inline = true })

@@ -1,5 +1,6 @@
 -- What holds where a state is next, of the configuration and of the attempts that wait.
-use Rattle.std.specs.Prelude.{◌≡◌, ℕ, ◌+◌, ◌*◌, ◌<◌, ◌≤◌, Bool, true, false, not, ◌&&◌, ◌||◌, if◌then◌else◌, List, [], ◌∷◌, ◌++◌, length, take, reverse, Option, Some}
+use Rattle.std.specs.Prelude.{◌≡◌, ℕ, ◌+◌, ◌*◌, ◌<◌, ◌≤◌, Bool, true, false, not, ◌&&◌, ◌||◌, if◌then◌else◌, List, [], ◌∷◌, ◌++◌, length, take, reverse, Option}
+use Rattle.std.specs.Prelude.{Some}
 use Rattle.engine_events.specs.declared.event.Event.{Event}
 use Rattle.engine_events.specs.declared.event.Name.{Name as EventName}
 use Rattle.engine_events.specs.declared.place.Point.{Point}
@@ -9,13 +10,13 @@ use Rattle.engine_events.specs.declared.state.State.TheVariants as states
 use Rattle.markdown_engine.specs.declared.attempt.Attempt.{Attempt}
 use Rattle.markdown_engine.specs.declared.tokenizer.Tokenizer.{Tokenizer}
 use Rattle.markdown_engine.specs.Descent.{descent}
-use Rattle.markdown_engine.specs.Kept.{Kept, kept}
+use Rattle.markdown_engine.specs.KeptState.{KeptState, kept_state}
 use Rattle.markdown_engine.specs.Laws.{remaining}
 use Rattle.markdown_engine.specs.Machine.{Answers, config}
 use Rattle.markdown_engine.specs.Order.{AreTidy, IsTidy, LeadsOn, Reaches, open_after}
 use Rattle.markdown_engine.specs.Reading.{Config}
 use Rattle.markdown_engine.specs.VirtualText.{is_feed}
-use Rattle.engine_programs.specs.Bodies.{Token, Body, named_all, run}
+use Rattle.engine_programs.specs.Bodies.{Token, Body, names_of, run}
 use Rattle.engine_programs.specs.Sorts.{Sort, all_fixed, after_of, is_nok, left_open, nok_height, ok_height, open_around, wants_end}
 
 module _ (sorts : Name → Sort) (size : ℕ) where
@@ -24,9 +25,9 @@ module _ (sorts : Name → Sort) (size : ℕ) where
   around_of a = open_around sorts a.ok a.nok
 
   -- what is open around the innermost attempt; of the attempts the innermost is the first
-  abbrev pub below : Kept → List Attempt → List EventName
+  abbrev pub below : KeptState → List Attempt → List EventName
   below k [] = []
-  below k (a ∷ st) = named_all k (around_of a) ++ below k st
+  below k (a ∷ st) = names_of k (around_of a) ++ below k st
 
   -- what is to be left open where it goes well
   abbrev pub left_by : List Attempt → List Token
@@ -89,7 +90,7 @@ module _ (sorts : Name → Sort) (size : ℕ) where
   NokGoes a st states.Ok = (left_by st ≡ around_of a) × Far st (remaining size a.point) (needs_byte st)
   NokGoes a st states.Nok = Unit {0}
 
-  pub record Mark (k : Kept) (events : List Event) (a : Attempt) (st : List Attempt) : Type 0 where
+  pub record Mark (k : KeptState) (events : List Event) (a : Attempt) (st : List Attempt) : Type 0 where
     pub low : a.events ≤ length events
     pub tidy : AreTidy (take a.events events) a.point
     pub exits : ends_back a st ≡ true → Ends a.previous a.line_start a.point (take a.events events)
@@ -97,7 +98,7 @@ module _ (sorts : Name → Sort) (size : ℕ) where
     pub ok : OkGoes a st a.ok
     pub nok : NokGoes a st a.nok
 
-  abbrev pub Marks : Kept → List Event → List Attempt → Type 0
+  abbrev pub Marks : KeptState → List Event → List Attempt → Type 0
   Marks k events [] = Unit {0}
   Marks k events (a ∷ st) = Mark k events a st × Marks k (take a.events events) st
 
@@ -114,7 +115,7 @@ module _ (sorts : Name → Sort) (size : ℕ) where
 
     pub record At (n : Name) (st : List Attempt) (c : Config M) : Type 0 where
       pub suits : Suits st n
-      pub names : open_after [] c.events ≡ named_all c.tokenize_state (sorts n).open_tokens ++ below c.tokenize_state st
+      pub names : open_after [] c.events ≡ names_of c.tokenize_state (sorts n).open_tokens ++ below c.tokenize_state st
       pub far : Far st (remaining size c.point) (sorts n).moved
       pub exits : (sorts n).exits ≡ true → MayExit c
 
@@ -122,7 +123,8 @@ module _ (sorts : Name → Sort) (size : ℕ) where
     Stands (states.Error m) st c = ⊥
     Stands (states.Next n) st c = At n st c × ((sorts n).byte ≡ false)
     Stands (states.Retry n) st c = At n st c × Ahead c × ((sorts n).byte ≡ true → HasByte c)
-    Stands states.Ok st c = (open_after [] c.events ≡ named_all c.tokenize_state (left_by st) ++ below c.tokenize_state st) × Far st (remaining size c.point) (needs_byte st) × (needs_end st ≡ true → MayExit c)
+    Stands states.Ok st c = (open_after [] c.events ≡ names_of c.tokenize_state (left_by st) ++ below c.tokenize_state st)
+        × Far st (remaining size c.point) (needs_byte st) × (needs_end st ≡ true → MayExit c)
     Stands states.Nok st c = must_go_well st ≡ false
 
     pub record IsValid (s : State) (st : List Attempt) (c : Config M) : Type 0 where
@@ -160,4 +162,4 @@ module _ {M T A : Type 0} where
 
   -- these are the innermost open events
   abbrev pub IsOpen : List Token → Tokenizer M T A → Type 0
-  IsOpen ts t = (rest : List EventName) × (open_after [] t.events.items ≡ named_all (kept t.tokenize_state) ts ++ rest)
+  IsOpen ts t = (rest : List EventName) × (open_after [] t.events.items ≡ names_of (kept_state t.tokenize_state) ts ++ rest)

@@ -1,7 +1,7 @@
 //! An event round the byte at hand.
 ghost use Rattle.std.specs.Prelude.{◌≡◌, [], ◌∷◌, OnOk, IfErr, None};
 ghost use Rattle.markdown_options.specs.Messages.{IsOutOfMemory};
-ghost use Rattle.markdown_engine.specs.Kept.{kept};
+ghost use Rattle.markdown_engine.specs.KeptState.{kept_state};
 ghost use Rattle.markdown_engine.specs.Machine.{Became, config, past_byte, with_enter, with_exit};
 ghost use Rattle.markdown_engine.specs.Order.{IsInnermost, open_after, outer};
 
@@ -48,7 +48,7 @@ pub fn leave<M, T, A: Allocator>(
     requires { IsInnermost name tokenizer.old.events.items }
     ensures became { OnOk result (Became (with_exit name (config tokenizer.old)) tokenizer.old tokenizer.new) }
     ensures open_events { OnOk result (open_after [] tokenizer.new.events.items ≡ outer (open_after [] tokenizer.old.events.items)) }
-    ensures kept { OnOk result (kept tokenizer.new.tokenize_state ≡ kept tokenizer.old.tokenize_state) }
+    ensures kept { OnOk result (kept_state tokenizer.new.tokenize_state ≡ kept_state tokenizer.old.tokenize_state) }
     ensures parse_state { tokenizer.new.parse_state ≡ tokenizer.old.parse_state }
     ensures skips { tokenizer.new.skips ≡ tokenizer.old.skips }
     ensures memory { IfErr result (λ message. IsOutOfMemory message) }

@@ -1,7 +1,7 @@
 //! The last calls of states: each says how reading goes on.
 ghost use Rattle.markdown_engine.specs.Machine.{config};
 ghost use Rattle.markdown_engine.specs.Order.{IsInnermost};
-ghost use Rattle.engine_programs.specs.Bodies.{Answer, Consume, Enter, Exit, Fixed, Tries, around};
+ghost use Rattle.engine_programs.specs.Bodies.{Answer, Consume, Enter, Exit, FixedName, Tries, around};
 ghost use Rattle.engine_programs.specs.Stacks.{Does};
 ghost use Rattle.std.specs.Prelude.{true, false};
 
@@ -25,7 +25,7 @@ pub fn enter_to<M, T, A: Allocator>(
     name: Name,
     state: State,
 ) -> State
-    ensures { Does (Enter (Fixed name) (Consume (Answer state))) tokenizer.old tokenizer.new result }
+    ensures { Does (Enter (FixedName name) (Consume (Answer state))) tokenizer.old tokenizer.new result }
 {
     if tokenizer.enter(name).is_err() {
         return State::out_of_memory();
@@ -40,7 +40,7 @@ pub fn around_to<M, T, A: Allocator>(
     name: Name,
     state: State,
 ) -> State
-    ensures { Does (around (Fixed name) (Answer state)) tokenizer.old tokenizer.new result }
+    ensures { Does (around (FixedName name) (Answer state)) tokenizer.old tokenizer.new result }
 {
     match around::around(tokenizer, name) {
         Ok(()) => state,
@@ -55,7 +55,7 @@ pub fn exit_to<M, T, A: Allocator>(
     state: State,
 ) -> State
     requires { IsInnermost name tokenizer.old.events.items }
-    ensures { Does (Exit (Fixed name) (Answer state)) tokenizer.old tokenizer.new result }
+    ensures { Does (Exit (FixedName name) (Answer state)) tokenizer.old tokenizer.new result }
 {
     match tokenizer.exit(name) {
         Ok(()) => state,

@@ -1,5 +1,6 @@
 -- Where lines start: the starts rise, and those up to an offset are the first ones.
-use Rattle.std.proofs.Common.{◌≡◌, ◌≤◌, ◌<◌, ◌+◌, ◌-◌, ◌∙◌, ℕ, Bool, true, false, if◌then◌else◌, nat_le, List, [], ◌∷◌, length, take, get_or, zero, suc, slice_get, slice_index_or, arith, refl, sym, ap}
+use Rattle.std.proofs.Common.{◌≡◌, ◌≤◌, ◌<◌, ◌+◌, ◌-◌, ◌∙◌, ℕ, Bool, true, false, if◌then◌else◌, nat_le, List, [], ◌∷◌, length, take, get_or, zero, suc}
+use Rattle.std.proofs.Common.{slice_get, slice_index_or, arith, refl, sym, ap}
 use Rattle.std.proofs.lemmas.Bool.{le-leb, leb-true}
 use Rattle.std.specs.List.{filter}
 use Rattle.std.specs.List.Sorted.{IsNonDecreasing, IsPartitionedBy}
@@ -51,13 +52,16 @@ starts_rise (b ∷ bs) at =
     (starts_rise bs (at + 1))
 
 -- elements that pass before those that fail: the first n are those that pass
-pub first_pass : (p : ℕ → Bool) (xs : List ℕ) (n : ℕ) → n ≤ length xs → ((k d : ℕ) → k < n → p (get_or xs k d) ≡ true) → ((k d : ℕ) → n ≤ k → k < length xs → p (get_or xs k d) ≡ false) → take n xs ≡ filter p xs
+pub first_pass : (p : ℕ → Bool) (xs : List ℕ) (n : ℕ) → n ≤ length xs → ((k d : ℕ) → k < n → p (get_or xs k d) ≡ true)
+    → ((k d : ℕ) → n ≤ k → k < length xs → p (get_or xs k d) ≡ false) → take n xs ≡ filter p xs
 first_pass p [] zero l h k = refl
 first_pass p [] (suc n) l h k = absurd (omega arith)
 first_pass p (x ∷ xs) zero l h k =
-    rw (k 0 0 (omega arith) (omega arith)) (first_pass p xs zero (omega arith) (λ j d m. absurd (omega arith)) (λ j d m o. k (suc j) d (omega arith) (omega arith)))
+    rw (k 0 0 (omega arith) (omega arith)) (first_pass p xs zero (omega arith) (λ j d m. absurd (omega arith))
+    (λ j d m o. k (suc j) d (omega arith) (omega arith)))
 first_pass p (x ∷ xs) (suc n) l h k =
-    rw (h 0 0 (omega arith)) (ap (λ (z : List ℕ). x ∷ z) (first_pass p xs n (omega arith) (λ j d m. h (suc j) d (omega arith)) (λ j d m o. k (suc j) d (omega arith) (omega arith))))
+    rw (h 0 0 (omega arith)) (ap (λ (z : List ℕ). x ∷ z) (first_pass p xs n (omega arith) (λ j d m. h (suc j) d (omega arith))
+    (λ j d m o. k (suc j) d (omega arith) (omega arith))))
 
 -- the last of the first elements
 pub last_of_first : (xs : List ℕ) (n start d : ℕ) → n < length xs → last_or start (take (suc n) xs) ≡ get_or xs n d
@@ -69,7 +73,8 @@ last_below : (offset start : ℕ) (xs : List ℕ) → start ≤ offset → last_
 last_below offset start [] h = h
 last_below offset start (x ∷ xs) h = pick (nat_le x offset) refl (last_below offset x xs) (last_below offset start xs h)
   where
-    pick : (t : Bool) → nat_le x offset ≡ t → (x ≤ offset → last_or x (filter (before_or_at offset) xs) ≤ offset) → last_or start (filter (before_or_at offset) xs) ≤ offset
+    pick : (t : Bool) → nat_le x offset ≡ t → (x ≤ offset → last_or x (filter (before_or_at offset) xs) ≤ offset)
+        → last_or start (filter (before_or_at offset) xs) ≤ offset
         → last_or start (filter (before_or_at offset) (x ∷ xs)) ≤ offset
     pick true e k m = rw e (k (leb-true x offset e))
     pick false e k m = rw e m

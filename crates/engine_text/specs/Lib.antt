@@ -2,8 +2,8 @@ pub mod Lines
 pub mod Locations
 pub mod Stops
 pub mod Slices
-pub mod Serialized
+pub mod Serialization
 pub mod Skips
 pub mod Bytes
 pub mod Characters
-pub mod Shown
+pub mod CharacterTexts

@@ -13,7 +13,8 @@ starts_to bytes offset = filter (before_or_at offset) (line_starts 0 bytes)
 abbrev pub point_at : List ℕ → ℕ → Option Point
 point_at bytes offset =
     if nat_le offset (length bytes)
-    then (let p : Point = record { line = length (starts_to bytes offset) + 1; column = (offset - last_or 0 (starts_to bytes offset)) + 1; offset = offset } in Some p)
+    then (let p : Point = record { line = length (starts_to bytes offset) + 1; column = (offset - last_or 0 (starts_to bytes offset)) + 1; offset = offset } in
+    Some p)
     else None
 
 -- a location is that of this text

@@ -9,13 +9,13 @@ use Rattle.engine_events.specs.declared.place.Point.{Point}
 use Rattle.engine_events.specs.Names.{same_name}
 use Rattle.engine_events.specs.Columns.{tab_size}
 
-abbrev pub named : Kind → Bool → Bool
-named Enter same = same
-named Exit same = false
+abbrev pub enters_if : Kind → Bool → Bool
+enters_if Enter same = same
+enters_if Exit same = false
 
 -- whether an event enters something of a name
 abbrev pub enters : Name → Event → Bool
-enters name e = named e.kind (same_name e.name name)
+enters name e = enters_if e.kind (same_name e.name name)
 
 -- the last enter of a name
 abbrev pub last_enter : Name → List Event → Option Event

@@ -3,7 +3,7 @@ ghost use Rattle.std.specs.Prelude.{◌≡◌, ◌<◌, ◌^◌, ◌++◌, [], �
 ghost use Rattle.std.specs.Str.{IsCharBoundary, chars};
 ghost use Rattle.markdown_options.specs.Messages.{IsOutOfMemory};
 ghost use Rattle.engine_text.specs.Characters.{IsLast, kind_of, kind_of_any};
-ghost use Rattle.engine_text.specs.Shown.{hex_digit, code_text, character_text, text_or_end};
+ghost use Rattle.engine_text.specs.CharacterTexts.{hex_digit, code_text, character_text, text_or_end};
 
 use markdown_options::{Message, Tables};
 use std::alloc::{AllocError, Allocator};

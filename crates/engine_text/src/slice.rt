@@ -65,7 +65,7 @@ impl<'a> Slice<'a> {
     ghost use Rattle.markdown_options.specs.Messages.{IsOutOfMemory};
     ghost use Rattle.engine_events.specs.Columns.{between};
     ghost use Rattle.engine_text.specs.Slices.{index_past, spaces_before, spaces_after};
-    ghost use Rattle.engine_text.specs.Serialized.{serialized};
+    ghost use Rattle.engine_text.specs.Serialization.{serialization};
 
     /// The part between two places.
     ///
@@ -110,7 +110,7 @@ impl<'a> Slice<'a> {
 
     /// The size in bytes of what [`Slice::serialize`] gives.
     pub fn len(&self) -> usize
-        ensures { result ≡ length (serialized self.now) }
+        ensures { result ≡ length (serialization self.now) }
     {
         self.before + self.bytes.len() + self.after
     }
@@ -126,7 +126,7 @@ impl<'a> Slice<'a> {
     /// The bytes, between the columns of tabs that are cut at the ends, as spaces.
     pub fn serialize<A: Allocator>(&self, alloc: A) -> Result<String<A>, Message>
         requires { IsUtf8 self.now.bytes.now }
-        ensures text { IfOk result (λ text. string_bytes text ≡ serialized self.now) }
+        ensures text { IfOk result (λ text. string_bytes text ≡ serialization self.now) }
         ensures memory { IfErr result (λ message. IsOutOfMemory message) }
     {
         let mut text = String::new(alloc);

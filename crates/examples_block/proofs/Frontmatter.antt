@@ -32,13 +32,16 @@ row_2 = refl
 row_3 : html small (codes "+++" ++ (10 ∷ []) ++ codes "x" ++ (10 ∷ []) ++ codes "+++" ++ (10 ∷ []) ++ codes "a") on ≡ codes "<p>a</p>"
 row_3 = refl
 
-row_4 : html small (codes "---" ++ (10 ∷ []) ++ codes "x" ++ (10 ∷ []) ++ codes "+++" ++ (10 ∷ []) ++ codes "a") on ≡ codes "<hr />" ++ (10 ∷ []) ++ codes "<p>x" ++ (10 ∷ []) ++ codes "+++" ++ (10 ∷ []) ++ codes "a</p>"
+row_4 : html small (codes "---" ++ (10 ∷ []) ++ codes "x" ++ (10 ∷ []) ++ codes "+++" ++ (10 ∷ []) ++ codes "a") on
+    ≡ codes "<hr />" ++ (10 ∷ []) ++ codes "<p>x" ++ (10 ∷ []) ++ codes "+++" ++ (10 ∷ []) ++ codes "a</p>"
 row_4 = refl
 
-row_5 : html small (codes "----" ++ (10 ∷ []) ++ codes "x" ++ (10 ∷ []) ++ codes "----" ++ (10 ∷ []) ++ codes "a") on ≡ codes "<hr />" ++ (10 ∷ []) ++ codes "<h2>x</h2>" ++ (10 ∷ []) ++ codes "<p>a</p>"
+row_5 : html small (codes "----" ++ (10 ∷ []) ++ codes "x" ++ (10 ∷ []) ++ codes "----" ++ (10 ∷ []) ++ codes "a") on
+    ≡ codes "<hr />" ++ (10 ∷ []) ++ codes "<h2>x</h2>" ++ (10 ∷ []) ++ codes "<p>a</p>"
 row_5 = refl
 
-row_6 : html small (codes " ---" ++ (10 ∷ []) ++ codes "x" ++ (10 ∷ []) ++ codes "---" ++ (10 ∷ []) ++ codes "a") on ≡ codes "<hr />" ++ (10 ∷ []) ++ codes "<h2>x</h2>" ++ (10 ∷ []) ++ codes "<p>a</p>"
+row_6 : html small (codes " ---" ++ (10 ∷ []) ++ codes "x" ++ (10 ∷ []) ++ codes "---" ++ (10 ∷ []) ++ codes "a") on
+    ≡ codes "<hr />" ++ (10 ∷ []) ++ codes "<h2>x</h2>" ++ (10 ∷ []) ++ codes "<p>a</p>"
 row_6 = refl
 
 row_7 : html small (codes "---" ++ (10 ∷ []) ++ codes "---" ++ (10 ∷ []) ++ codes "a") on ≡ codes "<p>a</p>"
@@ -47,8 +50,10 @@ row_7 = refl
 row_8 : html small (codes "---" ++ (10 ∷ []) ++ codes "x" ++ (10 ∷ []) ++ codes "---" ++ (10 ∷ [])) on ≡ []
 row_8 = refl
 
-row_9 : html small (codes "---" ++ (10 ∷ []) ++ codes "x" ++ (10 ∷ []) ++ codes " ---" ++ (10 ∷ []) ++ codes "---" ++ (10 ∷ []) ++ codes "- a") on ≡ codes "<ul>" ++ (10 ∷ []) ++ codes "<li>a</li>" ++ (10 ∷ []) ++ codes "</ul>"
+row_9 : html small (codes "---" ++ (10 ∷ []) ++ codes "x" ++ (10 ∷ []) ++ codes " ---" ++ (10 ∷ []) ++ codes "---" ++ (10 ∷ []) ++ codes "- a") on
+    ≡ codes "<ul>" ++ (10 ∷ []) ++ codes "<li>a</li>" ++ (10 ∷ []) ++ codes "</ul>"
 row_9 = refl
 
-row_10 : html small ((10 ∷ []) ++ codes "---" ++ (10 ∷ []) ++ codes "x" ++ (10 ∷ []) ++ codes "---" ++ (10 ∷ []) ++ codes "a") on ≡ codes "<hr />" ++ (10 ∷ []) ++ codes "<h2>x</h2>" ++ (10 ∷ []) ++ codes "<p>a</p>"
+row_10 : html small ((10 ∷ []) ++ codes "---" ++ (10 ∷ []) ++ codes "x" ++ (10 ∷ []) ++ codes "---" ++ (10 ∷ []) ++ codes "a") on
+    ≡ codes "<hr />" ++ (10 ∷ []) ++ codes "<h2>x</h2>" ++ (10 ∷ []) ++ codes "<p>a</p>"
 row_10 = refl

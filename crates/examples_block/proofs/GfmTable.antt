@@ -47,20 +47,34 @@ delimiters_4 = refl
 abbrev with_tables : Bool → Options
 with_tables on = record default_options { parse = record default_parse_options { constructs = record default_constructs { gfm_table = on } } }
 
-page_0 : html small (codes "a" ++ (10 ∷ []) ++ codes "|-|") (with_tables true) ≡ codes "<table>" ++ (10 ∷ []) ++ codes "<thead>" ++ (10 ∷ []) ++ codes "<tr>" ++ (10 ∷ []) ++ codes "<th>a</th>" ++ (10 ∷ []) ++ codes "</tr>" ++ (10 ∷ []) ++ codes "</thead>" ++ (10 ∷ []) ++ codes "</table>"
+page_0 : html small (codes "a" ++ (10 ∷ []) ++ codes "|-|") (with_tables true)
+    ≡ codes "<table>" ++ (10 ∷ []) ++ codes "<thead>" ++ (10 ∷ []) ++ codes "<tr>" ++ (10 ∷ []) ++ codes "<th>a</th>" ++ (10 ∷ []) ++ codes "</tr>" ++ (10 ∷ [])
+    ++ codes "</thead>" ++ (10 ∷ []) ++ codes "</table>"
 page_0 = refl
 
 page_1 : html small (codes "a" ++ (10 ∷ []) ++ codes "|-|") (with_tables false) ≡ codes "<p>a" ++ (10 ∷ []) ++ codes "|-|</p>"
 page_1 = refl
 
-page_2 : html small (codes "|a|b|" ++ (10 ∷ []) ++ codes "|:-|-|" ++ (10 ∷ []) ++ codes "|c|") (with_tables true) ≡ codes "<table>" ++ (10 ∷ []) ++ codes "<thead>" ++ (10 ∷ []) ++ codes "<tr>" ++ (10 ∷ []) ++ codes "<th align=\"left\">a</th>" ++ (10 ∷ []) ++ codes "<th>b</th>" ++ (10 ∷ []) ++ codes "</tr>" ++ (10 ∷ []) ++ codes "</thead>" ++ (10 ∷ []) ++ codes "<tbody>" ++ (10 ∷ []) ++ codes "<tr>" ++ (10 ∷ []) ++ codes "<td align=\"left\">c</td>" ++ (10 ∷ []) ++ codes "<td></td>" ++ (10 ∷ []) ++ codes "</tr>" ++ (10 ∷ []) ++ codes "</tbody>" ++ (10 ∷ []) ++ codes "</table>"
+page_2 : html small (codes "|a|b|" ++ (10 ∷ []) ++ codes "|:-|-|" ++ (10 ∷ []) ++ codes "|c|") (with_tables true)
+    ≡ codes "<table>" ++ (10 ∷ []) ++ codes "<thead>" ++ (10 ∷ []) ++ codes "<tr>" ++ (10 ∷ []) ++ codes "<th align=\"left\">a</th>" ++ (10 ∷ [])
+    ++ codes "<th>b</th>" ++ (10 ∷ []) ++ codes "</tr>" ++ (10 ∷ []) ++ codes "</thead>" ++ (10 ∷ []) ++ codes "<tbody>" ++ (10 ∷ []) ++ codes "<tr>"
+    ++ (10 ∷ []) ++ codes "<td align=\"left\">c</td>" ++ (10 ∷ []) ++ codes "<td></td>" ++ (10 ∷ []) ++ codes "</tr>" ++ (10 ∷ []) ++ codes "</tbody>"
+    ++ (10 ∷ []) ++ codes "</table>"
 page_2 = refl
 
-page_3 : html small (codes "a" ++ (10 ∷ []) ++ codes "|-|" ++ (10 ∷ []) ++ codes "b|c" ++ (10 ∷ []) ++ (10 ∷ []) ++ codes "d") (with_tables true) ≡ codes "<table>" ++ (10 ∷ []) ++ codes "<thead>" ++ (10 ∷ []) ++ codes "<tr>" ++ (10 ∷ []) ++ codes "<th>a</th>" ++ (10 ∷ []) ++ codes "</tr>" ++ (10 ∷ []) ++ codes "</thead>" ++ (10 ∷ []) ++ codes "<tbody>" ++ (10 ∷ []) ++ codes "<tr>" ++ (10 ∷ []) ++ codes "<td>b</td>" ++ (10 ∷ []) ++ codes "</tr>" ++ (10 ∷ []) ++ codes "</tbody>" ++ (10 ∷ []) ++ codes "</table>" ++ (10 ∷ []) ++ codes "<p>d</p>"
+page_3 : html small (codes "a" ++ (10 ∷ []) ++ codes "|-|" ++ (10 ∷ []) ++ codes "b|c" ++ (10 ∷ []) ++ (10 ∷ []) ++ codes "d") (with_tables true)
+    ≡ codes "<table>" ++ (10 ∷ []) ++ codes "<thead>" ++ (10 ∷ []) ++ codes "<tr>" ++ (10 ∷ []) ++ codes "<th>a</th>" ++ (10 ∷ []) ++ codes "</tr>" ++ (10 ∷ [])
+    ++ codes "</thead>" ++ (10 ∷ []) ++ codes "<tbody>" ++ (10 ∷ []) ++ codes "<tr>" ++ (10 ∷ []) ++ codes "<td>b</td>" ++ (10 ∷ []) ++ codes "</tr>"
+    ++ (10 ∷ []) ++ codes "</tbody>" ++ (10 ∷ []) ++ codes "</table>" ++ (10 ∷ []) ++ codes "<p>d</p>"
 page_3 = refl
 
-page_4 : html small (codes "> a" ++ (10 ∷ []) ++ codes "> |-|" ++ (10 ∷ []) ++ codes "b") (with_tables true) ≡ codes "<blockquote>" ++ (10 ∷ []) ++ codes "<table>" ++ (10 ∷ []) ++ codes "<thead>" ++ (10 ∷ []) ++ codes "<tr>" ++ (10 ∷ []) ++ codes "<th>a</th>" ++ (10 ∷ []) ++ codes "</tr>" ++ (10 ∷ []) ++ codes "</thead>" ++ (10 ∷ []) ++ codes "</table>" ++ (10 ∷ []) ++ codes "</blockquote>" ++ (10 ∷ []) ++ codes "<p>b</p>"
+page_4 : html small (codes "> a" ++ (10 ∷ []) ++ codes "> |-|" ++ (10 ∷ []) ++ codes "b") (with_tables true)
+    ≡ codes "<blockquote>" ++ (10 ∷ []) ++ codes "<table>" ++ (10 ∷ []) ++ codes "<thead>" ++ (10 ∷ []) ++ codes "<tr>" ++ (10 ∷ []) ++ codes "<th>a</th>"
+    ++ (10 ∷ []) ++ codes "</tr>" ++ (10 ∷ []) ++ codes "</thead>" ++ (10 ∷ []) ++ codes "</table>" ++ (10 ∷ []) ++ codes "</blockquote>" ++ (10 ∷ [])
+    ++ codes "<p>b</p>"
 page_4 = refl
 
-page_5 : html small (codes "`\\|`" ++ (10 ∷ []) ++ codes "|-|") (with_tables true) ≡ codes "<table>" ++ (10 ∷ []) ++ codes "<thead>" ++ (10 ∷ []) ++ codes "<tr>" ++ (10 ∷ []) ++ codes "<th><code>|</code></th>" ++ (10 ∷ []) ++ codes "</tr>" ++ (10 ∷ []) ++ codes "</thead>" ++ (10 ∷ []) ++ codes "</table>"
+page_5 : html small (codes "`\\|`" ++ (10 ∷ []) ++ codes "|-|") (with_tables true)
+    ≡ codes "<table>" ++ (10 ∷ []) ++ codes "<thead>" ++ (10 ∷ []) ++ codes "<tr>" ++ (10 ∷ []) ++ codes "<th><code>|</code></th>" ++ (10 ∷ []) ++ codes "</tr>"
+    ++ (10 ∷ []) ++ codes "</thead>" ++ (10 ∷ []) ++ codes "</table>"
 page_5 = refl

@@ -8,7 +8,8 @@ row_0 : page (codes "<http://foo.bar.baz>") ≡ codes "<p><a href=\"http://foo.b
 unfolding pages
 row_0 = refl
 
-row_1 : page (codes "<https://foo.bar.baz/test?q=hello&id=22&boolean>") ≡ codes "<p><a href=\"https://foo.bar.baz/test?q=hello&amp;id=22&amp;boolean\">https://foo.bar.baz/test?q=hello&amp;id=22&amp;boolean</a></p>"
+row_1 : page (codes "<https://foo.bar.baz/test?q=hello&id=22&boolean>")
+    ≡ codes "<p><a href=\"https://foo.bar.baz/test?q=hello&amp;id=22&amp;boolean\">https://foo.bar.baz/test?q=hello&amp;id=22&amp;boolean</a></p>"
 unfolding pages
 row_1 = refl
 

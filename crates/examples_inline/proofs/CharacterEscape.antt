@@ -4,15 +4,18 @@ use Rattle.std.proofs.Common.{refl}
 use Rattle.examples_inline.proofs.Computing.{pages}
 use Rattle.examples_inline.specs.Pages.{page}
 
-row_0 : page (codes "\\!\\\"\\#\\$\\%\\&\\'\\(\\)\\*\\+\\,\\-\\.\\/\\:\\;\\<\\=\\>\\?\\@\\[\\\\\\]\\^\\_\\`\\{\\|\\}\\~") ≡ codes "<p>!&quot;#$%&amp;'()*+,-./:;&lt;=&gt;?@[\\]^_`{|}~</p>"
+row_0 : page (codes "\\!\\\"\\#\\$\\%\\&\\'\\(\\)\\*\\+\\,\\-\\.\\/\\:\\;\\<\\=\\>\\?\\@\\[\\\\\\]\\^\\_\\`\\{\\|\\}\\~")
+    ≡ codes "<p>!&quot;#$%&amp;'()*+,-./:;&lt;=&gt;?@[\\]^_`{|}~</p>"
 unfolding pages
 row_0 = refl
 
-row_1 : page (codes "\\" ++ (9 ∷ []) ++ codes "\\A\\a\\ \\3\\" ++ (207 ∷ 134 ∷ []) ++ codes "\\" ++ (194 ∷ 171 ∷ [])) ≡ codes "<p>\\" ++ (9 ∷ []) ++ codes "\\A\\a\\ \\3\\" ++ (207 ∷ 134 ∷ []) ++ codes "\\" ++ (194 ∷ 171 ∷ []) ++ codes "</p>"
+row_1 : page (codes "\\" ++ (9 ∷ []) ++ codes "\\A\\a\\ \\3\\" ++ (207 ∷ 134 ∷ []) ++ codes "\\" ++ (194 ∷ 171 ∷ []))
+    ≡ codes "<p>\\" ++ (9 ∷ []) ++ codes "\\A\\a\\ \\3\\" ++ (207 ∷ 134 ∷ []) ++ codes "\\" ++ (194 ∷ 171 ∷ []) ++ codes "</p>"
 unfolding pages
 row_1 = refl
 
-row_2 : page (codes "\\*not emphasized*\n\\<br/> not a tag\n\\[not a link](/foo)\n\\`not code`\n1\\. not a list\n\\* not a list\n\\# not a heading\n\\[foo]: /url \"not a reference\"\n\\&ouml; not a character entity") ≡ codes "<p>*not emphasized*\n&lt;br/&gt; not a tag\n[not a link](/foo)\n`not code`\n1. not a list\n* not a list\n# not a heading\n[foo]: /url &quot;not a reference&quot;\n&amp;ouml; not a character entity</p>"
+row_2 : page
+    (codes "\\*not emphasized*\n\\<br/> not a tag\n\\[not a link](/foo)\n\\`not code`\n1\\. not a list\n\\* not a list\n\\# not a heading\n\\[foo]: /url \"not a reference\"\n\\&ouml; not a character entity") ≡ codes "<p>*not emphasized*\n&lt;br/&gt; not a tag\n[not a link](/foo)\n`not code`\n1. not a list\n* not a list\n# not a heading\n[foo]: /url &quot;not a reference&quot;\n&amp;ouml; not a character entity</p>"
 unfolding pages
 row_2 = refl
 

@@ -28,7 +28,8 @@ row_5 : page (codes "` a`") ≡ codes "<p><code> a</code></p>"
 unfolding pages
 row_5 = refl
 
-row_6 : page (codes "`" ++ (194 ∷ 160 ∷ []) ++ codes "b" ++ (194 ∷ 160 ∷ []) ++ codes "`") ≡ codes "<p><code>" ++ (194 ∷ 160 ∷ []) ++ codes "b" ++ (194 ∷ 160 ∷ []) ++ codes "</code></p>"
+row_6 : page (codes "`" ++ (194 ∷ 160 ∷ []) ++ codes "b" ++ (194 ∷ 160 ∷ []) ++ codes "`")
+    ≡ codes "<p><code>" ++ (194 ∷ 160 ∷ []) ++ codes "b" ++ (194 ∷ 160 ∷ []) ++ codes "</code></p>"
 unfolding pages
 row_6 = refl
 

@@ -24,11 +24,14 @@ row_4 : page (codes "- a\n- b\n\n  [ref]: /url\n- d") ≡ codes "<ul>\n<li>\n<p>
 unfolding pages
 row_4 = refl
 
-row_5 : page (codes "`Foo\n----\n`\n\n<a title=\"a lot\n---\nof dashes\"/>") ≡ codes "<h2>`Foo</h2>\n<p>`</p>\n<h2>&lt;a title=&quot;a lot</h2>\n<p>of dashes&quot;/&gt;</p>"
+row_5 : page (codes "`Foo\n----\n`\n\n<a title=\"a lot\n---\nof dashes\"/>")
+    ≡ codes "<h2>`Foo</h2>\n<p>`</p>\n<h2>&lt;a title=&quot;a lot</h2>\n<p>of dashes&quot;/&gt;</p>"
 unfolding pages
 row_5 = refl
 
-row_6 : page (codes "[" ++ (206 ∷ 145 ∷ 206 ∷ 147 ∷ 206 ∷ 169 ∷ []) ++ codes "]: /" ++ (207 ∷ 134 ∷ 206 ∷ 191 ∷ 207 ∷ 133 ∷ []) ++ codes "\n\n[" ++ (206 ∷ 177 ∷ 206 ∷ 179 ∷ 207 ∷ 137 ∷ []) ++ codes "]") ≡ codes "<p><a href=\"/%CF%86%CE%BF%CF%85\">" ++ (206 ∷ 177 ∷ 206 ∷ 179 ∷ 207 ∷ 137 ∷ []) ++ codes "</a></p>"
+row_6 : page (codes "[" ++ (206 ∷ 145 ∷ 206 ∷ 147 ∷ 206 ∷ 169 ∷ []) ++ codes "]: /" ++ (207 ∷ 134 ∷ 206 ∷ 191 ∷ 207 ∷ 133 ∷ []) ++ codes "\n\n["
+    ++ (206 ∷ 177 ∷ 206 ∷ 179 ∷ 207 ∷ 137 ∷ []) ++ codes "]") ≡ codes "<p><a href=\"/%CF%86%CE%BF%CF%85\">" ++ (206 ∷ 177 ∷ 206 ∷ 179 ∷ 207 ∷ 137 ∷ [])
+    ++ codes "</a></p>"
 unfolding pages
 row_6 = refl
 
@@ -92,15 +95,18 @@ row_21 : page (codes "- a  \n  b\n- c\\\n  d") ≡ codes "<ul>\n<li>a<br />\nb</
 unfolding pages
 row_21 = refl
 
-row_22 : page (codes "> *a\n> b*\n\n- > `c\n  > d`") ≡ codes "<blockquote>\n<p><em>a\nb</em></p>\n</blockquote>\n<ul>\n<li>\n<blockquote>\n<p><code>c d</code></p>\n</blockquote>\n</li>\n</ul>"
+row_22 : page (codes "> *a\n> b*\n\n- > `c\n  > d`")
+    ≡ codes "<blockquote>\n<p><em>a\nb</em></p>\n</blockquote>\n<ul>\n<li>\n<blockquote>\n<p><code>c d</code></p>\n</blockquote>\n</li>\n</ul>"
 unfolding pages
 row_22 = refl
 
-row_23 : page (codes "1. ![a *b*]\n\n   [c][A *B*]\n\n> - [a *b*]: d.png \"e & f\"") ≡ codes "<ol>\n<li>\n<p><img src=\"d.png\" alt=\"a b\" title=\"e &amp; f\" /></p>\n<p><a href=\"d.png\" title=\"e &amp; f\">c</a></p>\n</li>\n</ol>\n<blockquote>\n<ul>\n<li></li>\n</ul>\n</blockquote>"
+row_23 : page (codes "1. ![a *b*]\n\n   [c][A *B*]\n\n> - [a *b*]: d.png \"e & f\"")
+    ≡ codes "<ol>\n<li>\n<p><img src=\"d.png\" alt=\"a b\" title=\"e &amp; f\" /></p>\n<p><a href=\"d.png\" title=\"e &amp; f\">c</a></p>\n</li>\n</ol>\n<blockquote>\n<ul>\n<li></li>\n</ul>\n</blockquote>"
 unfolding pages
 row_23 = refl
 
-row_24 : page (codes "# *a* [b]\n\n> [B]: /c 'd'\n\n~~~ e\\*f\n~~~") ≡ codes "<h1><em>a</em> <a href=\"/c\" title=\"d\">b</a></h1>\n<blockquote>\n</blockquote>\n<pre><code class=\"language-e*f\"></code></pre>"
+row_24 : page (codes "# *a* [b]\n\n> [B]: /c 'd'\n\n~~~ e\\*f\n~~~")
+    ≡ codes "<h1><em>a</em> <a href=\"/c\" title=\"d\">b</a></h1>\n<blockquote>\n</blockquote>\n<pre><code class=\"language-e*f\"></code></pre>"
 unfolding pages
 row_24 = refl
 
@@ -108,6 +114,8 @@ row_25 : page (codes "~~~ a\\*b `c`\nd\n~~~\n***\n*e*") ≡ codes "<pre><code cl
 unfolding pages
 row_25 = refl
 
-row_26 : page (codes "a" ++ (13 ∷ []) ++ codes "\n- *b*" ++ (13 ∷ []) ++ codes "\n" ++ (13 ∷ []) ++ codes "\n  c" ++ (13 ∷ []) ++ codes "\nd") ≡ codes "<p>a</p>" ++ (13 ∷ []) ++ codes "\n<ul>" ++ (13 ∷ []) ++ codes "\n<li>" ++ (13 ∷ []) ++ codes "\n<p><em>b</em></p>" ++ (13 ∷ []) ++ codes "\n<p>c" ++ (13 ∷ []) ++ codes "\nd</p>" ++ (13 ∷ []) ++ codes "\n</li>" ++ (13 ∷ []) ++ codes "\n</ul>"
+row_26 : page (codes "a" ++ (13 ∷ []) ++ codes "\n- *b*" ++ (13 ∷ []) ++ codes "\n" ++ (13 ∷ []) ++ codes "\n  c" ++ (13 ∷ []) ++ codes "\nd")
+    ≡ codes "<p>a</p>" ++ (13 ∷ []) ++ codes "\n<ul>" ++ (13 ∷ []) ++ codes "\n<li>" ++ (13 ∷ []) ++ codes "\n<p><em>b</em></p>" ++ (13 ∷ []) ++ codes "\n<p>c"
+    ++ (13 ∷ []) ++ codes "\nd</p>" ++ (13 ∷ []) ++ codes "\n</li>" ++ (13 ∷ []) ++ codes "\n</ul>"
 unfolding pages
 row_26 = refl

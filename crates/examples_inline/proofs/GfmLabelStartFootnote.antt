@@ -26,15 +26,21 @@ section notes =
     codes "<section data-footnotes=\"\" class=\"footnotes\"><h2 id=\"footnote-label\" class=\"sr-only\">Footnotes</h2>\n<ol>\n" ++ notes
     ++ codes "</ol>\n</section>\n"
 
-row_0 : page_with with_footnotes (codes "[^a]\n\n[^a]: b") ≡ codes "<p>" ++ call (codes "a") (codes "a") (codes "1") ++ codes "</p>\n" ++ section (note (codes "a") (codes "<p>b " ++ back (codes "a") (codes "") ++ codes "</p>\n"))
+row_0 : page_with with_footnotes (codes "[^a]\n\n[^a]: b") ≡ codes "<p>" ++ call (codes "a") (codes "a") (codes "1") ++ codes "</p>\n"
+    ++ section (note (codes "a") (codes "<p>b " ++ back (codes "a") (codes "") ++ codes "</p>\n"))
 unfolding pages
 row_0 = refl
 
-row_1 : page_with with_footnotes (codes "[^a] [^a]\n\n[^a]: b") ≡ codes "<p>" ++ call (codes "a") (codes "a") (codes "1") ++ codes " " ++ call (codes "a") (codes "a-2") (codes "1") ++ codes "</p>\n" ++ section (note (codes "a") (codes "<p>b " ++ back (codes "a") (codes "") ++ codes " " ++ back (codes "a-2") (codes "<sup>2</sup>") ++ codes "</p>\n"))
+row_1 : page_with with_footnotes (codes "[^a] [^a]\n\n[^a]: b") ≡ codes "<p>" ++ call (codes "a") (codes "a") (codes "1") ++ codes " "
+    ++ call (codes "a") (codes "a-2") (codes "1") ++ codes "</p>\n" ++ section
+    (note (codes "a") (codes "<p>b " ++ back (codes "a") (codes "") ++ codes " " ++ back (codes "a-2") (codes "<sup>2</sup>") ++ codes "</p>\n"))
 unfolding pages
 row_1 = refl
 
-row_2 : page_with with_footnotes (codes "[^a] [^b]\n\n[^b]: c\n\n[^a]: d") ≡ codes "<p>" ++ call (codes "a") (codes "a") (codes "1") ++ codes " " ++ call (codes "b") (codes "b") (codes "2") ++ codes "</p>\n" ++ section (note (codes "a") (codes "<p>d " ++ back (codes "a") (codes "") ++ codes "</p>\n") ++ note (codes "b") (codes "<p>c " ++ back (codes "b") (codes "") ++ codes "</p>\n"))
+row_2 : page_with with_footnotes (codes "[^a] [^b]\n\n[^b]: c\n\n[^a]: d")
+    ≡ codes "<p>" ++ call (codes "a") (codes "a") (codes "1") ++ codes " " ++ call (codes "b") (codes "b") (codes "2") ++ codes "</p>\n"
+    ++ section (note (codes "a") (codes "<p>d " ++ back (codes "a") (codes "") ++ codes "</p>\n")
+    ++ note (codes "b") (codes "<p>c " ++ back (codes "b") (codes "") ++ codes "</p>\n"))
 unfolding pages
 row_2 = refl
 
@@ -42,11 +48,13 @@ row_3 : page_with with_footnotes (codes "[^a]") ≡ codes "<p>[^a]</p>"
 unfolding pages
 row_3 = refl
 
-row_4 : page_with with_footnotes (codes "[^A]\n\n[^a]: b") ≡ codes "<p>" ++ call (codes "a") (codes "a") (codes "1") ++ codes "</p>\n" ++ section (note (codes "a") (codes "<p>b " ++ back (codes "a") (codes "") ++ codes "</p>\n"))
+row_4 : page_with with_footnotes (codes "[^A]\n\n[^a]: b") ≡ codes "<p>" ++ call (codes "a") (codes "a") (codes "1") ++ codes "</p>\n"
+    ++ section (note (codes "a") (codes "<p>b " ++ back (codes "a") (codes "") ++ codes "</p>\n"))
 unfolding pages
 row_4 = refl
 
-row_5 : page_with with_footnotes (codes "[^ a ]\n\n[^a]: b") ≡ codes "<p>" ++ call (codes "a") (codes "a") (codes "1") ++ codes "</p>\n" ++ section (note (codes "a") (codes "<p>b " ++ back (codes "a") (codes "") ++ codes "</p>\n"))
+row_5 : page_with with_footnotes (codes "[^ a ]\n\n[^a]: b") ≡ codes "<p>" ++ call (codes "a") (codes "a") (codes "1") ++ codes "</p>\n"
+    ++ section (note (codes "a") (codes "<p>b " ++ back (codes "a") (codes "") ++ codes "</p>\n"))
 unfolding pages
 row_5 = refl
 
@@ -58,27 +66,34 @@ row_7 : page_with with_footnotes (codes "[^]\n\n[^]: b") ≡ codes "<p><a href=\
 unfolding pages
 row_7 = refl
 
-row_8 : page_with with_footnotes (codes "![^a]\n\n[^a]: b") ≡ codes "<p>!" ++ call (codes "a") (codes "a") (codes "1") ++ codes "</p>\n" ++ section (note (codes "a") (codes "<p>b " ++ back (codes "a") (codes "") ++ codes "</p>\n"))
+row_8 : page_with with_footnotes (codes "![^a]\n\n[^a]: b") ≡ codes "<p>!" ++ call (codes "a") (codes "a") (codes "1") ++ codes "</p>\n"
+    ++ section (note (codes "a") (codes "<p>b " ++ back (codes "a") (codes "") ++ codes "</p>\n"))
 unfolding pages
 row_8 = refl
 
-row_9 : page_with with_footnotes (codes "![b [^a]](c)\n\n[^a]: d") ≡ codes "<p><img src=\"c\" alt=\"b \" /></p>\n" ++ section (note (codes "a") (codes "<p>d " ++ back (codes "a") (codes "") ++ codes "</p>\n"))
+row_9 : page_with with_footnotes (codes "![b [^a]](c)\n\n[^a]: d") ≡ codes "<p><img src=\"c\" alt=\"b \" /></p>\n"
+    ++ section (note (codes "a") (codes "<p>d " ++ back (codes "a") (codes "") ++ codes "</p>\n"))
 unfolding pages
 row_9 = refl
 
-row_10 : page_with with_footnotes (codes "![b [^a]](c) [^a]\n\n[^a]: d") ≡ codes "<p><img src=\"c\" alt=\"b \" /> " ++ call (codes "a") (codes "a-2") (codes "1") ++ codes "</p>\n" ++ section (note (codes "a") (codes "<p>d " ++ back (codes "a") (codes "") ++ codes " " ++ back (codes "a-2") (codes "<sup>2</sup>") ++ codes "</p>\n"))
+row_10 : page_with with_footnotes (codes "![b [^a]](c) [^a]\n\n[^a]: d") ≡ codes "<p><img src=\"c\" alt=\"b \" /> "
+    ++ call (codes "a") (codes "a-2") (codes "1") ++ codes "</p>\n" ++ section
+    (note (codes "a") (codes "<p>d " ++ back (codes "a") (codes "") ++ codes " " ++ back (codes "a-2") (codes "<sup>2</sup>") ++ codes "</p>\n"))
 unfolding pages
 row_10 = refl
 
-row_11 : page_with with_footnotes (codes "[b [^a]](c)\n\n[^a]: d") ≡ codes "<p>[b " ++ call (codes "a") (codes "a") (codes "1") ++ codes "](c)</p>\n" ++ section (note (codes "a") (codes "<p>d " ++ back (codes "a") (codes "") ++ codes "</p>\n"))
+row_11 : page_with with_footnotes (codes "[b [^a]](c)\n\n[^a]: d") ≡ codes "<p>[b " ++ call (codes "a") (codes "a") (codes "1") ++ codes "](c)</p>\n"
+    ++ section (note (codes "a") (codes "<p>d " ++ back (codes "a") (codes "") ++ codes "</p>\n"))
 unfolding pages
 row_11 = refl
 
-row_12 : page_with with_footnotes (codes "[x][^a]\n\n[x]: y\n\n[^a]: b") ≡ codes "<p>[x]" ++ call (codes "a") (codes "a") (codes "1") ++ codes "</p>\n" ++ section (note (codes "a") (codes "<p>b " ++ back (codes "a") (codes "") ++ codes "</p>\n"))
+row_12 : page_with with_footnotes (codes "[x][^a]\n\n[x]: y\n\n[^a]: b") ≡ codes "<p>[x]" ++ call (codes "a") (codes "a") (codes "1") ++ codes "</p>\n"
+    ++ section (note (codes "a") (codes "<p>b " ++ back (codes "a") (codes "") ++ codes "</p>\n"))
 unfolding pages
 row_12 = refl
 
-row_13 : page_with with_footnotes (codes "[^a][x]\n\n[x]: y\n\n[^a]: b") ≡ codes "<p>" ++ call (codes "a") (codes "a") (codes "1") ++ codes "<a href=\"y\">x</a></p>\n" ++ section (note (codes "a") (codes "<p>b " ++ back (codes "a") (codes "") ++ codes "</p>\n"))
+row_13 : page_with with_footnotes (codes "[^a][x]\n\n[x]: y\n\n[^a]: b") ≡ codes "<p>" ++ call (codes "a") (codes "a") (codes "1")
+    ++ codes "<a href=\"y\">x</a></p>\n" ++ section (note (codes "a") (codes "<p>b " ++ back (codes "a") (codes "") ++ codes "</p>\n"))
 unfolding pages
 row_13 = refl
 
@@ -86,11 +101,13 @@ row_14 : page_with with_footnotes (codes "[^a](b)") ≡ codes "<p><a href=\"b\">
 unfolding pages
 row_14 = refl
 
-row_15 : page_with with_footnotes (codes "[^a](b)\n\n[^a]: c") ≡ codes "<p>" ++ call (codes "a") (codes "a") (codes "1") ++ codes "(b)</p>\n" ++ section (note (codes "a") (codes "<p>c " ++ back (codes "a") (codes "") ++ codes "</p>\n"))
+row_15 : page_with with_footnotes (codes "[^a](b)\n\n[^a]: c") ≡ codes "<p>" ++ call (codes "a") (codes "a") (codes "1") ++ codes "(b)</p>\n"
+    ++ section (note (codes "a") (codes "<p>c " ++ back (codes "a") (codes "") ++ codes "</p>\n"))
 unfolding pages
 row_15 = refl
 
-row_16 : page_with with_footnotes (codes "*[^a]*\n\n[^a]: b") ≡ codes "<p><em>" ++ call (codes "a") (codes "a") (codes "1") ++ codes "</em></p>\n" ++ section (note (codes "a") (codes "<p>b " ++ back (codes "a") (codes "") ++ codes "</p>\n"))
+row_16 : page_with with_footnotes (codes "*[^a]*\n\n[^a]: b") ≡ codes "<p><em>" ++ call (codes "a") (codes "a") (codes "1") ++ codes "</em></p>\n"
+    ++ section (note (codes "a") (codes "<p>b " ++ back (codes "a") (codes "") ++ codes "</p>\n"))
 unfolding pages
 row_16 = refl
 
@@ -102,19 +119,27 @@ row_18 : page_with with_footnotes (codes "`[^a]`\n\n[^a]: b") ≡ codes "<p><cod
 unfolding pages
 row_18 = refl
 
-row_19 : page_with with_footnotes (codes "| [^a] |\n| - |\n| b | [^c] |\n\n[^a]: d\n\n[^c]: e") ≡ codes "<table>\n<thead>\n<tr>\n<th>" ++ call (codes "a") (codes "a") (codes "1") ++ codes "</th>\n</tr>\n</thead>\n<tbody>\n<tr>\n<td>b</td>\n</tr>\n</tbody>\n</table>\n" ++ section (note (codes "a") (codes "<p>d " ++ back (codes "a") (codes "") ++ codes "</p>\n") ++ note (codes "c") (codes "<p>e " ++ back (codes "c") (codes "") ++ codes "</p>\n"))
+row_19 : page_with with_footnotes (codes "| [^a] |\n| - |\n| b | [^c] |\n\n[^a]: d\n\n[^c]: e")
+    ≡ codes "<table>\n<thead>\n<tr>\n<th>" ++ call (codes "a") (codes "a") (codes "1")
+    ++ codes "</th>\n</tr>\n</thead>\n<tbody>\n<tr>\n<td>b</td>\n</tr>\n</tbody>\n</table>\n"
+    ++ section (note (codes "a") (codes "<p>d " ++ back (codes "a") (codes "") ++ codes "</p>\n")
+    ++ note (codes "c") (codes "<p>e " ++ back (codes "c") (codes "") ++ codes "</p>\n"))
 unfolding pages
 row_19 = refl
 
-row_20 : page_with with_footnotes (codes "[^a&b]\n\n[^a&b]: c") ≡ codes "<p>" ++ call (codes "a&amp;b") (codes "a&amp;b") (codes "1") ++ codes "</p>\n" ++ section (note (codes "a&amp;b") (codes "<p>c " ++ back (codes "a&amp;b") (codes "") ++ codes "</p>\n"))
+row_20 : page_with with_footnotes (codes "[^a&b]\n\n[^a&b]: c") ≡ codes "<p>" ++ call (codes "a&amp;b") (codes "a&amp;b") (codes "1") ++ codes "</p>\n"
+    ++ section (note (codes "a&amp;b") (codes "<p>c " ++ back (codes "a&amp;b") (codes "") ++ codes "</p>\n"))
 unfolding pages
 row_20 = refl
 
-row_21 : page_with with_footnotes (codes "[^" ++ (195 ∷ 169 ∷ []) ++ codes "]\n\n[^" ++ (195 ∷ 169 ∷ []) ++ codes "]: b") ≡ codes "<p>" ++ call (codes "%C3%A9") (codes "%C3%A9") (codes "1") ++ codes "</p>\n" ++ section (note (codes "%C3%A9") (codes "<p>b " ++ back (codes "%C3%A9") (codes "") ++ codes "</p>\n"))
+row_21 : page_with with_footnotes (codes "[^" ++ (195 ∷ 169 ∷ []) ++ codes "]\n\n[^" ++ (195 ∷ 169 ∷ []) ++ codes "]: b")
+    ≡ codes "<p>" ++ call (codes "%C3%A9") (codes "%C3%A9") (codes "1") ++ codes "</p>\n"
+    ++ section (note (codes "%C3%A9") (codes "<p>b " ++ back (codes "%C3%A9") (codes "") ++ codes "</p>\n"))
 unfolding pages
 row_21 = refl
 
-row_22 : page_with with_footnotes (codes "[^a]\n\n[^a]: [b]\n\n[b]: c") ≡ codes "<p>" ++ call (codes "a") (codes "a") (codes "1") ++ codes "</p>\n" ++ section (note (codes "a") (codes "<p><a href=\"c\">b</a> " ++ back (codes "a") (codes "") ++ codes "</p>\n"))
+row_22 : page_with with_footnotes (codes "[^a]\n\n[^a]: [b]\n\n[b]: c") ≡ codes "<p>" ++ call (codes "a") (codes "a") (codes "1") ++ codes "</p>\n"
+    ++ section (note (codes "a") (codes "<p><a href=\"c\">b</a> " ++ back (codes "a") (codes "") ++ codes "</p>\n"))
 unfolding pages
 row_22 = refl
 

@@ -8,7 +8,8 @@ row_0 : page (codes "![foo](/url \"title\")") ≡ codes "<p><img src=\"/url\" al
 unfolding pages
 row_0 = refl
 
-row_1 : page (codes "![foo *bar*]\n\n[foo *bar*]: train.jpg \"train & tracks\"") ≡ codes "<p><img src=\"train.jpg\" alt=\"foo bar\" title=\"train &amp; tracks\" /></p>\n"
+row_1 : page (codes "![foo *bar*]\n\n[foo *bar*]: train.jpg \"train & tracks\"")
+    ≡ codes "<p><img src=\"train.jpg\" alt=\"foo bar\" title=\"train &amp; tracks\" /></p>\n"
 unfolding pages
 row_1 = refl
 
@@ -20,11 +21,13 @@ row_3 : page (codes "![foo [bar](/url)](/url2)") ≡ codes "<p><img src=\"/url2\
 unfolding pages
 row_3 = refl
 
-row_4 : page (codes "![foo *bar*][]\n\n[foo *bar*]: train.jpg \"train & tracks\"") ≡ codes "<p><img src=\"train.jpg\" alt=\"foo bar\" title=\"train &amp; tracks\" /></p>\n"
+row_4 : page (codes "![foo *bar*][]\n\n[foo *bar*]: train.jpg \"train & tracks\"")
+    ≡ codes "<p><img src=\"train.jpg\" alt=\"foo bar\" title=\"train &amp; tracks\" /></p>\n"
 unfolding pages
 row_4 = refl
 
-row_5 : page (codes "![foo *bar*][foobar]\n\n[FOOBAR]: train.jpg \"train & tracks\"") ≡ codes "<p><img src=\"train.jpg\" alt=\"foo bar\" title=\"train &amp; tracks\" /></p>\n"
+row_5 : page (codes "![foo *bar*][foobar]\n\n[FOOBAR]: train.jpg \"train & tracks\"")
+    ≡ codes "<p><img src=\"train.jpg\" alt=\"foo bar\" title=\"train &amp; tracks\" /></p>\n"
 unfolding pages
 row_5 = refl
 

@@ -92,7 +92,8 @@ row_21 : page (codes "[link](\"title\")") ≡ codes "<p><a href=\"%22title%22\">
 unfolding pages
 row_21 = refl
 
-row_22 : page (codes "[link](/url \"title\")\n[link](/url 'title')\n[link](/url (title))") ≡ codes "<p><a href=\"/url\" title=\"title\">link</a>\n<a href=\"/url\" title=\"title\">link</a>\n<a href=\"/url\" title=\"title\">link</a></p>"
+row_22 : page (codes "[link](/url \"title\")\n[link](/url 'title')\n[link](/url (title))")
+    ≡ codes "<p><a href=\"/url\" title=\"title\">link</a>\n<a href=\"/url\" title=\"title\">link</a>\n<a href=\"/url\" title=\"title\">link</a></p>"
 unfolding pages
 row_22 = refl
 
@@ -176,7 +177,8 @@ row_42 : page (codes "[foo`](/uri)`") ≡ codes "<p>[foo<code>](/uri)</code></p>
 unfolding pages
 row_42 = refl
 
-row_43 : page (codes "[foo<https://example.com/?search=](uri)>") ≡ codes "<p>[foo<a href=\"https://example.com/?search=%5D(uri)\">https://example.com/?search=](uri)</a></p>"
+row_43 : page (codes "[foo<https://example.com/?search=](uri)>")
+    ≡ codes "<p>[foo<a href=\"https://example.com/?search=%5D(uri)\">https://example.com/?search=](uri)</a></p>"
 unfolding pages
 row_43 = refl
 
@@ -192,7 +194,8 @@ row_46 : page (codes "[link \\[bar][ref]\n\n[ref]: /uri") ≡ codes "<p><a href=
 unfolding pages
 row_46 = refl
 
-row_47 : page (codes "[link *foo **bar** `#`*][ref]\n\n[ref]: /uri") ≡ codes "<p><a href=\"/uri\">link <em>foo <strong>bar</strong> <code>#</code></em></a></p>\n"
+row_47 : page (codes "[link *foo **bar** `#`*][ref]\n\n[ref]: /uri")
+    ≡ codes "<p><a href=\"/uri\">link <em>foo <strong>bar</strong> <code>#</code></em></a></p>\n"
 unfolding pages
 row_47 = refl
 
@@ -224,7 +227,8 @@ row_54 : page (codes "[foo`][ref]`\n\n[ref]: /uri") ≡ codes "<p>[foo<code>][re
 unfolding pages
 row_54 = refl
 
-row_55 : page (codes "[foo<https://example.com/?search=][ref]>\n\n[ref]: /uri") ≡ codes "<p>[foo<a href=\"https://example.com/?search=%5D%5Bref%5D\">https://example.com/?search=][ref]</a></p>\n"
+row_55 : page (codes "[foo<https://example.com/?search=][ref]>\n\n[ref]: /uri")
+    ≡ codes "<p>[foo<a href=\"https://example.com/?search=%5D%5Bref%5D\">https://example.com/?search=][ref]</a></p>\n"
 unfolding pages
 row_55 = refl
 

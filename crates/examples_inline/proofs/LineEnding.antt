@@ -16,7 +16,8 @@ row_2 : page (codes "hello $.;'there") ≡ codes "<p>hello $.;'there</p>"
 unfolding pages
 row_2 = refl
 
-row_3 : page (codes "Foo " ++ (207 ∷ 135 ∷ 207 ∷ 129 ∷ 225 ∷ 191 ∷ 134 ∷ 206 ∷ 189 ∷ [])) ≡ codes "<p>Foo " ++ (207 ∷ 135 ∷ 207 ∷ 129 ∷ 225 ∷ 191 ∷ 134 ∷ 206 ∷ 189 ∷ []) ++ codes "</p>"
+row_3 : page (codes "Foo " ++ (207 ∷ 135 ∷ 207 ∷ 129 ∷ 225 ∷ 191 ∷ 134 ∷ 206 ∷ 189 ∷ []))
+    ≡ codes "<p>Foo " ++ (207 ∷ 135 ∷ 207 ∷ 129 ∷ 225 ∷ 191 ∷ 134 ∷ 206 ∷ 189 ∷ []) ++ codes "</p>"
 unfolding pages
 row_3 = refl
 

@@ -52,11 +52,14 @@ row_11 : page (codes "  \n] !title") ≡ codes "<p>] !title</p>"
 unfolding pages
 row_11 = refl
 
-row_12 : page (codes "&amp;]</>" ++ (226 ∷ 128 ∷ 166 ∷ []) ++ codes "</a>a@<?a?>mailto:>") ≡ codes "<p>&amp;]&lt;/&gt;" ++ (226 ∷ 128 ∷ 166 ∷ []) ++ codes "&lt;/a&gt;a@&lt;?a?&gt;mailto:&gt;</p>"
+row_12 : page (codes "&amp;]</>" ++ (226 ∷ 128 ∷ 166 ∷ []) ++ codes "</a>a@<?a?>mailto:>")
+    ≡ codes "<p>&amp;]&lt;/&gt;" ++ (226 ∷ 128 ∷ 166 ∷ []) ++ codes "&lt;/a&gt;a@&lt;?a?&gt;mailto:&gt;</p>"
 unfolding pages
 row_12 = refl
 
-row_13 : page (codes "[^/>=aamp;***" ++ (194 ∷ 160 ∷ []) ++ codes "<?a?>a@b.c" ++ (0 ∷ []) ++ codes "$" ++ (195 ∷ 169 ∷ 239 ∷ 187 ∷ 191 ∷ [])) ≡ codes "<p>[^/&gt;=aamp;***" ++ (194 ∷ 160 ∷ []) ++ codes "&lt;?a?&gt;a@b.c" ++ (239 ∷ 191 ∷ 189 ∷ []) ++ codes "$" ++ (195 ∷ 169 ∷ 239 ∷ 187 ∷ 191 ∷ []) ++ codes "</p>"
+row_13 : page (codes "[^/>=aamp;***" ++ (194 ∷ 160 ∷ []) ++ codes "<?a?>a@b.c" ++ (0 ∷ []) ++ codes "$" ++ (195 ∷ 169 ∷ 239 ∷ 187 ∷ 191 ∷ []))
+    ≡ codes "<p>[^/&gt;=aamp;***" ++ (194 ∷ 160 ∷ []) ++ codes "&lt;?a?&gt;a@b.c" ++ (239 ∷ 191 ∷ 189 ∷ []) ++ codes "$" ++ (195 ∷ 169 ∷ 239 ∷ 187 ∷ 191 ∷ [])
+    ++ codes "</p>"
 unfolding pages
 row_13 = refl
 
@@ -72,7 +75,8 @@ row_16 : page (codes "``<***[__\n\n[^a]: b\n\n") ≡ codes "<p>``&lt;***[__</p>\
 unfolding pages
 row_16 = refl
 
-row_17 : page (codes "  \n***" ++ (195 ∷ 169 ∷ []) ++ codes "]x``" ++ (0 ∷ []) ++ codes "*[]") ≡ codes "<p>**<em>" ++ (195 ∷ 169 ∷ []) ++ codes "]x``" ++ (239 ∷ 191 ∷ 189 ∷ []) ++ codes "</em>[]</p>"
+row_17 : page (codes "  \n***" ++ (195 ∷ 169 ∷ []) ++ codes "]x``" ++ (0 ∷ []) ++ codes "*[]")
+    ≡ codes "<p>**<em>" ++ (195 ∷ 169 ∷ []) ++ codes "]x``" ++ (239 ∷ 191 ∷ 189 ∷ []) ++ codes "</em>[]</p>"
 unfolding pages
 row_17 = refl
 
@@ -84,7 +88,8 @@ row_19 : page (codes "&amp;!](!") ≡ codes "<p>&amp;!](!</p>"
 unfolding pages
 row_19 = refl
 
-row_20 : page (codes ")" ++ (194 ∷ 160 ∷ []) ++ codes "$(/u 't')a@b.c[^a]\n\n[^a]: b\n\n'](&==`\n\n[a]: /u\n\n==") ≡ codes "<p>)" ++ (194 ∷ 160 ∷ []) ++ codes "$(/u 't')a@b.c<a href=\"b\">^a</a></p>\n<p>'](&amp;==`</p>\n<p>==</p>"
+row_20 : page (codes ")" ++ (194 ∷ 160 ∷ []) ++ codes "$(/u 't')a@b.c[^a]\n\n[^a]: b\n\n'](&==`\n\n[a]: /u\n\n==")
+    ≡ codes "<p>)" ++ (194 ∷ 160 ∷ []) ++ codes "$(/u 't')a@b.c<a href=\"b\">^a</a></p>\n<p>'](&amp;==`</p>\n<p>==</p>"
 unfolding pages
 row_20 = refl
 
@@ -104,7 +109,8 @@ row_24 : page (codes "](x)xa@b.c") ≡ codes "<p>](x)xa@b.c</p>"
 unfolding pages
 row_24 = refl
 
-row_25 : page ((226 ∷ 128 ∷ 166 ∷ []) ++ codes " b=(>[^a]``&#10;<title>[~~xmpp:") ≡ codes "<p>" ++ (226 ∷ 128 ∷ 166 ∷ []) ++ codes " b=(&gt;[^a]``\n&lt;title&gt;[~~xmpp:</p>"
+row_25 : page ((226 ∷ 128 ∷ 166 ∷ []) ++ codes " b=(>[^a]``&#10;<title>[~~xmpp:")
+    ≡ codes "<p>" ++ (226 ∷ 128 ∷ 166 ∷ []) ++ codes " b=(&gt;[^a]``\n&lt;title&gt;[~~xmpp:</p>"
 unfolding pages
 row_25 = refl
 
@@ -116,7 +122,8 @@ row_27 : page (codes "mailto:` mailto:]~") ≡ codes "<p>mailto:` mailto:]~</p>"
 unfolding pages
 row_27 = refl
 
-row_28 : page (codes "\n\n[^a]: b\n\n.\na<a b='c'http://\n\n[a]: /u\n\n" ++ (239 ∷ 187 ∷ 191 ∷ []) ++ codes "$a") ≡ codes "<p>.\na&lt;a b='c'http://</p>\n<p>" ++ (239 ∷ 187 ∷ 191 ∷ []) ++ codes "$a</p>"
+row_28 : page (codes "\n\n[^a]: b\n\n.\na<a b='c'http://\n\n[a]: /u\n\n" ++ (239 ∷ 187 ∷ 191 ∷ []) ++ codes "$a")
+    ≡ codes "<p>.\na&lt;a b='c'http://</p>\n<p>" ++ (239 ∷ 187 ∷ 191 ∷ []) ++ codes "$a</p>"
 unfolding pages
 row_28 = refl
 
@@ -124,7 +131,8 @@ row_29 : page (codes "(/u 't')~(/u 't')~~\"(/u 't')\n") ≡ codes "<p>(/u 't')~(
 unfolding pages
 row_29 = refl
 
-row_30 : page (codes "b_\n***" ++ (195 ∷ 169 ∷ []) ++ codes "a " ++ (195 ∷ 169 ∷ [])) ≡ codes "<p>b_\n***" ++ (195 ∷ 169 ∷ []) ++ codes "a " ++ (195 ∷ 169 ∷ []) ++ codes "</p>"
+row_30 : page (codes "b_\n***" ++ (195 ∷ 169 ∷ []) ++ codes "a " ++ (195 ∷ 169 ∷ []))
+    ≡ codes "<p>b_\n***" ++ (195 ∷ 169 ∷ []) ++ codes "a " ++ (195 ∷ 169 ∷ []) ++ codes "</p>"
 unfolding pages
 row_30 = refl
 
@@ -132,7 +140,8 @@ row_31 : page (codes "__***\\\n_" ++ (194 ∷ 160 ∷ []) ++ codes "_b**") ≡ c
 unfolding pages
 row_31 = refl
 
-row_32 : page (codes "_.\\_*__" ++ (226 ∷ 128 ∷ 166 ∷ 195 ∷ 169 ∷ 226 ∷ 128 ∷ 166 ∷ []) ++ codes "bb__**") ≡ codes "<p>_._*<strong>" ++ (226 ∷ 128 ∷ 166 ∷ 195 ∷ 169 ∷ 226 ∷ 128 ∷ 166 ∷ []) ++ codes "bb</strong>**</p>"
+row_32 : page (codes "_.\\_*__" ++ (226 ∷ 128 ∷ 166 ∷ 195 ∷ 169 ∷ 226 ∷ 128 ∷ 166 ∷ []) ++ codes "bb__**")
+    ≡ codes "<p>_._*<strong>" ++ (226 ∷ 128 ∷ 166 ∷ 195 ∷ 169 ∷ 226 ∷ 128 ∷ 166 ∷ []) ++ codes "bb</strong>**</p>"
 unfolding pages
 row_32 = refl
 
@@ -140,7 +149,8 @@ row_33 : page (codes "_* \\*a____._" ++ (194 ∷ 160 ∷ [])) ≡ codes "<p><em>
 unfolding pages
 row_33 = refl
 
-row_34 : page (codes ".__b\\ " ++ (195 ∷ 169 ∷ []) ++ codes "* " ++ (195 ∷ 169 ∷ []) ++ codes ".*__") ≡ codes "<p>.<strong>b\\ " ++ (195 ∷ 169 ∷ []) ++ codes "* " ++ (195 ∷ 169 ∷ []) ++ codes ".*</strong></p>"
+row_34 : page (codes ".__b\\ " ++ (195 ∷ 169 ∷ []) ++ codes "* " ++ (195 ∷ 169 ∷ []) ++ codes ".*__")
+    ≡ codes "<p>.<strong>b\\ " ++ (195 ∷ 169 ∷ []) ++ codes "* " ++ (195 ∷ 169 ∷ []) ++ codes ".*</strong></p>"
 unfolding pages
 row_34 = refl
 
@@ -152,7 +162,8 @@ row_36 : page ((226 ∷ 128 ∷ 166 ∷ []) ++ codes "_.__**_a") ≡ codes "<p>"
 unfolding pages
 row_36 = refl
 
-row_37 : page (codes "a*." ++ (195 ∷ 169 ∷ []) ++ codes "." ++ (195 ∷ 169 ∷ []) ++ codes "_\n\\" ++ (194 ∷ 160 ∷ []) ++ codes ".\\") ≡ codes "<p>a*." ++ (195 ∷ 169 ∷ []) ++ codes "." ++ (195 ∷ 169 ∷ []) ++ codes "_\n\\" ++ (194 ∷ 160 ∷ []) ++ codes ".\\</p>"
+row_37 : page (codes "a*." ++ (195 ∷ 169 ∷ []) ++ codes "." ++ (195 ∷ 169 ∷ []) ++ codes "_\n\\" ++ (194 ∷ 160 ∷ []) ++ codes ".\\")
+    ≡ codes "<p>a*." ++ (195 ∷ 169 ∷ []) ++ codes "." ++ (195 ∷ 169 ∷ []) ++ codes "_\n\\" ++ (194 ∷ 160 ∷ []) ++ codes ".\\</p>"
 unfolding pages
 row_37 = refl
 
@@ -160,11 +171,13 @@ row_38 : page (codes "\n" ++ (194 ∷ 160 ∷ []) ++ codes ".a\n*_") ≡ codes "
 unfolding pages
 row_38 = refl
 
-row_39 : page (codes "__***" ++ (194 ∷ 160 ∷ []) ++ codes "**" ++ (194 ∷ 160 ∷ []) ++ codes "****a_ \\*") ≡ codes "<p>_<em>***" ++ (194 ∷ 160 ∷ []) ++ codes "**" ++ (194 ∷ 160 ∷ []) ++ codes "****a</em> *</p>"
+row_39 : page (codes "__***" ++ (194 ∷ 160 ∷ []) ++ codes "**" ++ (194 ∷ 160 ∷ []) ++ codes "****a_ \\*")
+    ≡ codes "<p>_<em>***" ++ (194 ∷ 160 ∷ []) ++ codes "**" ++ (194 ∷ 160 ∷ []) ++ codes "****a</em> *</p>"
 unfolding pages
 row_39 = refl
 
-row_40 : page (codes "***" ++ (195 ∷ 169 ∷ []) ++ codes " " ++ (194 ∷ 160 ∷ []) ++ codes "**b__") ≡ codes "<p>***" ++ (195 ∷ 169 ∷ []) ++ codes " " ++ (194 ∷ 160 ∷ []) ++ codes "**b__</p>"
+row_40 : page (codes "***" ++ (195 ∷ 169 ∷ []) ++ codes " " ++ (194 ∷ 160 ∷ []) ++ codes "**b__")
+    ≡ codes "<p>***" ++ (195 ∷ 169 ∷ []) ++ codes " " ++ (194 ∷ 160 ∷ []) ++ codes "**b__</p>"
 unfolding pages
 row_40 = refl
 
@@ -172,19 +185,23 @@ row_41 : page ((195 ∷ 169 ∷ []) ++ codes "\\.___***\n") ≡ codes "<p>" ++ (
 unfolding pages
 row_41 = refl
 
-row_42 : page (codes "\n_***a_. *.***_" ++ (226 ∷ 128 ∷ 166 ∷ 226 ∷ 128 ∷ 166 ∷ [])) ≡ codes "<p><em>***a</em>. <em>.</em>**_" ++ (226 ∷ 128 ∷ 166 ∷ 226 ∷ 128 ∷ 166 ∷ []) ++ codes "</p>"
+row_42 : page (codes "\n_***a_. *.***_" ++ (226 ∷ 128 ∷ 166 ∷ 226 ∷ 128 ∷ 166 ∷ []))
+    ≡ codes "<p><em>***a</em>. <em>.</em>**_" ++ (226 ∷ 128 ∷ 166 ∷ 226 ∷ 128 ∷ 166 ∷ []) ++ codes "</p>"
 unfolding pages
 row_42 = refl
 
-row_43 : page (codes "****" ++ (194 ∷ 160 ∷ []) ++ codes "***___**.***\n_") ≡ codes "<p>****" ++ (194 ∷ 160 ∷ []) ++ codes "<em><strong>___</strong>.</em>**\n_</p>"
+row_43 : page (codes "****" ++ (194 ∷ 160 ∷ []) ++ codes "***___**.***\n_")
+    ≡ codes "<p>****" ++ (194 ∷ 160 ∷ []) ++ codes "<em><strong>___</strong>.</em>**\n_</p>"
 unfolding pages
 row_43 = refl
 
-row_44 : page (codes "*aa\\.***" ++ (226 ∷ 128 ∷ 166 ∷ []) ++ codes "\n" ++ (226 ∷ 128 ∷ 166 ∷ []) ++ codes ".b") ≡ codes "<p><em>aa.</em>**" ++ (226 ∷ 128 ∷ 166 ∷ []) ++ codes "\n" ++ (226 ∷ 128 ∷ 166 ∷ []) ++ codes ".b</p>"
+row_44 : page (codes "*aa\\.***" ++ (226 ∷ 128 ∷ 166 ∷ []) ++ codes "\n" ++ (226 ∷ 128 ∷ 166 ∷ []) ++ codes ".b")
+    ≡ codes "<p><em>aa.</em>**" ++ (226 ∷ 128 ∷ 166 ∷ []) ++ codes "\n" ++ (226 ∷ 128 ∷ 166 ∷ []) ++ codes ".b</p>"
 unfolding pages
 row_44 = refl
 
-row_45 : page (codes "*a*" ++ (226 ∷ 128 ∷ 166 ∷ []) ++ codes "***" ++ (226 ∷ 128 ∷ 166 ∷ []) ++ codes "__") ≡ codes "<p><em>a</em>" ++ (226 ∷ 128 ∷ 166 ∷ []) ++ codes "***" ++ (226 ∷ 128 ∷ 166 ∷ []) ++ codes "__</p>"
+row_45 : page (codes "*a*" ++ (226 ∷ 128 ∷ 166 ∷ []) ++ codes "***" ++ (226 ∷ 128 ∷ 166 ∷ []) ++ codes "__")
+    ≡ codes "<p><em>a</em>" ++ (226 ∷ 128 ∷ 166 ∷ []) ++ codes "***" ++ (226 ∷ 128 ∷ 166 ∷ []) ++ codes "__</p>"
 unfolding pages
 row_45 = refl
 
@@ -192,15 +209,19 @@ row_46 : page (codes "*****.b") ≡ codes "<p>*****.b</p>"
 unfolding pages
 row_46 = refl
 
-row_47 : page (codes "\n__*" ++ (226 ∷ 128 ∷ 166 ∷ []) ++ codes "*****a" ++ (194 ∷ 160 ∷ []) ++ codes "__\n." ++ (195 ∷ 169 ∷ [])) ≡ codes "<p>__*" ++ (226 ∷ 128 ∷ 166 ∷ []) ++ codes "*****a" ++ (194 ∷ 160 ∷ []) ++ codes "__\n." ++ (195 ∷ 169 ∷ []) ++ codes "</p>"
+row_47 : page (codes "\n__*" ++ (226 ∷ 128 ∷ 166 ∷ []) ++ codes "*****a" ++ (194 ∷ 160 ∷ []) ++ codes "__\n." ++ (195 ∷ 169 ∷ []))
+    ≡ codes "<p>__*" ++ (226 ∷ 128 ∷ 166 ∷ []) ++ codes "*****a" ++ (194 ∷ 160 ∷ []) ++ codes "__\n." ++ (195 ∷ 169 ∷ []) ++ codes "</p>"
 unfolding pages
 row_47 = refl
 
-row_48 : page (codes "\\__***" ++ (226 ∷ 128 ∷ 166 ∷ []) ++ codes "*a*\n_._*") ≡ codes "<p>__**<em>" ++ (226 ∷ 128 ∷ 166 ∷ []) ++ codes "<em>a</em>\n<em>.</em></em></p>"
+row_48 : page (codes "\\__***" ++ (226 ∷ 128 ∷ 166 ∷ []) ++ codes "*a*\n_._*")
+    ≡ codes "<p>__**<em>" ++ (226 ∷ 128 ∷ 166 ∷ []) ++ codes "<em>a</em>\n<em>.</em></em></p>"
 unfolding pages
 row_48 = refl
 
-row_49 : page ((226 ∷ 128 ∷ 166 ∷ []) ++ codes "\\**" ++ (194 ∷ 160 ∷ []) ++ codes "***_a\n" ++ (195 ∷ 169 ∷ []) ++ codes "\n" ++ (194 ∷ 160 ∷ []) ++ codes "****") ≡ codes "<p>" ++ (226 ∷ 128 ∷ 166 ∷ []) ++ codes "**" ++ (194 ∷ 160 ∷ []) ++ codes "***_a\n" ++ (195 ∷ 169 ∷ []) ++ codes "\n" ++ (194 ∷ 160 ∷ []) ++ codes "****</p>"
+row_49 : page ((226 ∷ 128 ∷ 166 ∷ []) ++ codes "\\**" ++ (194 ∷ 160 ∷ []) ++ codes "***_a\n" ++ (195 ∷ 169 ∷ []) ++ codes "\n" ++ (194 ∷ 160 ∷ [])
+    ++ codes "****") ≡ codes "<p>" ++ (226 ∷ 128 ∷ 166 ∷ []) ++ codes "**" ++ (194 ∷ 160 ∷ []) ++ codes "***_a\n" ++ (195 ∷ 169 ∷ []) ++ codes "\n"
+    ++ (194 ∷ 160 ∷ []) ++ codes "****</p>"
 unfolding pages
 row_49 = refl
 
@@ -212,7 +233,9 @@ row_51 : page (codes "____\\*******a") ≡ codes "<p>____*******a</p>"
 unfolding pages
 row_51 = refl
 
-row_52 : page ((226 ∷ 128 ∷ 166 ∷ []) ++ codes "_" ++ (194 ∷ 160 ∷ []) ++ codes "____" ++ (194 ∷ 160 ∷ []) ++ codes " b" ++ (194 ∷ 160 ∷ []) ++ codes "a") ≡ codes "<p>" ++ (226 ∷ 128 ∷ 166 ∷ []) ++ codes "_" ++ (194 ∷ 160 ∷ []) ++ codes "____" ++ (194 ∷ 160 ∷ []) ++ codes " b" ++ (194 ∷ 160 ∷ []) ++ codes "a</p>"
+row_52 : page ((226 ∷ 128 ∷ 166 ∷ []) ++ codes "_" ++ (194 ∷ 160 ∷ []) ++ codes "____" ++ (194 ∷ 160 ∷ []) ++ codes " b" ++ (194 ∷ 160 ∷ []) ++ codes "a")
+    ≡ codes "<p>" ++ (226 ∷ 128 ∷ 166 ∷ []) ++ codes "_" ++ (194 ∷ 160 ∷ []) ++ codes "____" ++ (194 ∷ 160 ∷ []) ++ codes " b" ++ (194 ∷ 160 ∷ [])
+    ++ codes "a</p>"
 unfolding pages
 row_52 = refl
 
@@ -228,7 +251,8 @@ row_55 : page (codes "**a" ++ (194 ∷ 160 ∷ []) ++ codes "****b\\**_*") ≡ c
 unfolding pages
 row_55 = refl
 
-row_56 : page (codes "***a" ++ (195 ∷ 169 ∷ []) ++ codes "_*" ++ (226 ∷ 128 ∷ 166 ∷ [])) ≡ codes "<p>**<em>a" ++ (195 ∷ 169 ∷ []) ++ codes "_</em>" ++ (226 ∷ 128 ∷ 166 ∷ []) ++ codes "</p>"
+row_56 : page (codes "***a" ++ (195 ∷ 169 ∷ []) ++ codes "_*" ++ (226 ∷ 128 ∷ 166 ∷ []))
+    ≡ codes "<p>**<em>a" ++ (195 ∷ 169 ∷ []) ++ codes "_</em>" ++ (226 ∷ 128 ∷ 166 ∷ []) ++ codes "</p>"
 unfolding pages
 row_56 = refl
 
@@ -236,7 +260,8 @@ row_57 : page (codes "___\\" ++ (194 ∷ 160 ∷ []) ++ codes "_.***** _____") �
 unfolding pages
 row_57 = refl
 
-row_58 : page (codes "*_**" ++ (194 ∷ 160 ∷ []) ++ codes " \\_ " ++ (194 ∷ 160 ∷ 194 ∷ 160 ∷ 194 ∷ 160 ∷ [])) ≡ codes "<p><em>_</em>*" ++ (194 ∷ 160 ∷ []) ++ codes " _ " ++ (194 ∷ 160 ∷ 194 ∷ 160 ∷ 194 ∷ 160 ∷ []) ++ codes "</p>"
+row_58 : page (codes "*_**" ++ (194 ∷ 160 ∷ []) ++ codes " \\_ " ++ (194 ∷ 160 ∷ 194 ∷ 160 ∷ 194 ∷ 160 ∷ []))
+    ≡ codes "<p><em>_</em>*" ++ (194 ∷ 160 ∷ []) ++ codes " _ " ++ (194 ∷ 160 ∷ 194 ∷ 160 ∷ 194 ∷ 160 ∷ []) ++ codes "</p>"
 unfolding pages
 row_58 = refl
 
@@ -484,7 +509,8 @@ row_119 : page (codes "\na='b'--<<![CDATA[->\"/>") ≡ codes "<p>a='b'--&lt;&lt;
 unfolding pages
 row_119 = refl
 
-row_120 : page (codes "*<a>&#32; [a](b)" ++ (13 ∷ []) ++ codes "\n<a> " ++ (13 ∷ []) ++ codes "\n  &#32;a" ++ (13 ∷ []) ++ codes "\n\n") ≡ codes "<p>*&lt;a&gt;  <a href=\"b\">a</a>" ++ (13 ∷ []) ++ codes "\n&lt;a&gt;" ++ (13 ∷ []) ++ codes "\n a</p>" ++ (13 ∷ []) ++ codes "\n"
+row_120 : page (codes "*<a>&#32; [a](b)" ++ (13 ∷ []) ++ codes "\n<a> " ++ (13 ∷ []) ++ codes "\n  &#32;a" ++ (13 ∷ []) ++ codes "\n\n")
+    ≡ codes "<p>*&lt;a&gt;  <a href=\"b\">a</a>" ++ (13 ∷ []) ++ codes "\n&lt;a&gt;" ++ (13 ∷ []) ++ codes "\n a</p>" ++ (13 ∷ []) ++ codes "\n"
 unfolding pages
 row_120 = refl
 
@@ -492,7 +518,8 @@ row_121 : page (codes "\\\n    a\\") ≡ codes "<p><br />\na\\</p>"
 unfolding pages
 row_121 = refl
 
-row_122 : page (codes "b  \n<a>" ++ (194 ∷ 160 ∷ 13 ∷ []) ++ codes "\n`<a>" ++ (13 ∷ []) ++ codes "\n") ≡ codes "<p>b<br />\n&lt;a&gt;" ++ (194 ∷ 160 ∷ 13 ∷ []) ++ codes "\n`&lt;a&gt;</p>" ++ (13 ∷ []) ++ codes "\n"
+row_122 : page (codes "b  \n<a>" ++ (194 ∷ 160 ∷ 13 ∷ []) ++ codes "\n`<a>" ++ (13 ∷ []) ++ codes "\n")
+    ≡ codes "<p>b<br />\n&lt;a&gt;" ++ (194 ∷ 160 ∷ 13 ∷ []) ++ codes "\n`&lt;a&gt;</p>" ++ (13 ∷ []) ++ codes "\n"
 unfolding pages
 row_122 = refl
 
@@ -508,23 +535,28 @@ row_125 : page (codes "`*\n") ≡ codes "<p>`*</p>\n"
 unfolding pages
 row_125 = refl
 
-row_126 : page (codes "&#32;[a](b)" ++ (13 ∷ []) ++ codes "\n[a](b)  \n\\\nb" ++ (9 ∷ []) ++ codes "  " ++ (13 ∷ 9 ∷ 13 ∷ []) ++ codes "\n\n\n") ≡ codes "<p> <a href=\"b\">a</a>" ++ (13 ∷ []) ++ codes "\n<a href=\"b\">a</a><br />\n<br />\nb</p>" ++ (13 ∷ [])
+row_126 : page (codes "&#32;[a](b)" ++ (13 ∷ []) ++ codes "\n[a](b)  \n\\\nb" ++ (9 ∷ []) ++ codes "  " ++ (13 ∷ 9 ∷ 13 ∷ []) ++ codes "\n\n\n")
+    ≡ codes "<p> <a href=\"b\">a</a>" ++ (13 ∷ []) ++ codes "\n<a href=\"b\">a</a><br />\n<br />\nb</p>" ++ (13 ∷ [])
 unfolding pages
 row_126 = refl
 
-row_127 : page (codes "a" ++ (13 ∷ []) ++ codes "\n" ++ (9 ∷ []) ++ codes "\n  \n" ++ (13 ∷ []) ++ codes " b&#32;\n*") ≡ codes "<p>a</p>" ++ (13 ∷ []) ++ codes "\n<p>b \n*</p>"
+row_127 : page (codes "a" ++ (13 ∷ []) ++ codes "\n" ++ (9 ∷ []) ++ codes "\n  \n" ++ (13 ∷ []) ++ codes " b&#32;\n*")
+    ≡ codes "<p>a</p>" ++ (13 ∷ []) ++ codes "\n<p>b \n*</p>"
 unfolding pages
 row_127 = refl
 
-row_128 : page (codes "   \\\n<a>" ++ (9 ∷ []) ++ codes "`" ++ (194 ∷ 160 ∷ []) ++ codes "\n\\\n\\\nab" ++ (13 ∷ []) ++ codes "*") ≡ codes "<p><br />\n&lt;a&gt;" ++ (9 ∷ []) ++ codes "`" ++ (194 ∷ 160 ∷ []) ++ codes "\n<br />\n<br />\nab" ++ (13 ∷ []) ++ codes "*</p>"
+row_128 : page (codes "   \\\n<a>" ++ (9 ∷ []) ++ codes "`" ++ (194 ∷ 160 ∷ []) ++ codes "\n\\\n\\\nab" ++ (13 ∷ []) ++ codes "*")
+    ≡ codes "<p><br />\n&lt;a&gt;" ++ (9 ∷ []) ++ codes "`" ++ (194 ∷ 160 ∷ []) ++ codes "\n<br />\n<br />\nab" ++ (13 ∷ []) ++ codes "*</p>"
 unfolding pages
 row_128 = refl
 
-row_129 : page (codes "\\\\\n`" ++ (194 ∷ 160 ∷ []) ++ codes "\\" ++ (9 ∷ 13 ∷ []) ++ codes "\n\\  " ++ (194 ∷ 160 ∷ []) ++ codes "  \n") ≡ codes "<p>\\\n`" ++ (194 ∷ 160 ∷ []) ++ codes "\\" ++ (13 ∷ []) ++ codes "\n\\  " ++ (194 ∷ 160 ∷ []) ++ codes "</p>\n"
+row_129 : page (codes "\\\\\n`" ++ (194 ∷ 160 ∷ []) ++ codes "\\" ++ (9 ∷ 13 ∷ []) ++ codes "\n\\  " ++ (194 ∷ 160 ∷ []) ++ codes "  \n")
+    ≡ codes "<p>\\\n`" ++ (194 ∷ 160 ∷ []) ++ codes "\\" ++ (13 ∷ []) ++ codes "\n\\  " ++ (194 ∷ 160 ∷ []) ++ codes "</p>\n"
 unfolding pages
 row_129 = refl
 
-row_130 : page ((194 ∷ 160 ∷ []) ++ codes "\n" ++ (194 ∷ 160 ∷ []) ++ codes "\\\n`[a](b)&#32;" ++ (13 ∷ 13 ∷ []) ++ codes "  ") ≡ codes "<p>" ++ (194 ∷ 160 ∷ []) ++ codes "\n" ++ (194 ∷ 160 ∷ []) ++ codes "<br />\n`<a href=\"b\">a</a> </p>" ++ (13 ∷ [])
+row_130 : page ((194 ∷ 160 ∷ []) ++ codes "\n" ++ (194 ∷ 160 ∷ []) ++ codes "\\\n`[a](b)&#32;" ++ (13 ∷ 13 ∷ []) ++ codes "  ")
+    ≡ codes "<p>" ++ (194 ∷ 160 ∷ []) ++ codes "\n" ++ (194 ∷ 160 ∷ []) ++ codes "<br />\n`<a href=\"b\">a</a> </p>" ++ (13 ∷ [])
 unfolding pages
 row_130 = refl
 
@@ -536,7 +568,8 @@ row_132 : page ((13 ∷ []) ++ codes "b  \n" ++ (13 ∷ []) ++ codes "\n\n\\<a>\
 unfolding pages
 row_132 = refl
 
-row_133 : page (codes "  " ++ (194 ∷ 160 ∷ []) ++ codes "  \na\\\\a b" ++ (194 ∷ 160 ∷ [])) ≡ codes "<p>" ++ (194 ∷ 160 ∷ []) ++ codes "<br />\na\\a b" ++ (194 ∷ 160 ∷ []) ++ codes "</p>"
+row_133 : page (codes "  " ++ (194 ∷ 160 ∷ []) ++ codes "  \na\\\\a b" ++ (194 ∷ 160 ∷ []))
+    ≡ codes "<p>" ++ (194 ∷ 160 ∷ []) ++ codes "<br />\na\\a b" ++ (194 ∷ 160 ∷ []) ++ codes "</p>"
 unfolding pages
 row_133 = refl
 
@@ -544,11 +577,13 @@ row_134 : page (codes "  \n  \\\n<a>\\\n&#32;\\\nb") ≡ codes "<p><br />\n&lt;a
 unfolding pages
 row_134 = refl
 
-row_135 : page (codes "\\   \n\n`[a](b)  *" ++ (194 ∷ 160 ∷ []) ++ codes "\n  ") ≡ codes "<p>\\</p>\n<p>`<a href=\"b\">a</a>  *" ++ (194 ∷ 160 ∷ []) ++ codes "</p>\n"
+row_135 : page (codes "\\   \n\n`[a](b)  *" ++ (194 ∷ 160 ∷ []) ++ codes "\n  ")
+    ≡ codes "<p>\\</p>\n<p>`<a href=\"b\">a</a>  *" ++ (194 ∷ 160 ∷ []) ++ codes "</p>\n"
 unfolding pages
 row_135 = refl
 
-row_136 : page ((194 ∷ 160 ∷ []) ++ codes "&#32;  <a>\\\n&#32;\\\n\n` \n*[a](b)") ≡ codes "<p>" ++ (194 ∷ 160 ∷ []) ++ codes "   &lt;a&gt;<br />\n \\</p>\n<p>`\n*<a href=\"b\">a</a></p>"
+row_136 : page ((194 ∷ 160 ∷ []) ++ codes "&#32;  <a>\\\n&#32;\\\n\n` \n*[a](b)")
+    ≡ codes "<p>" ++ (194 ∷ 160 ∷ []) ++ codes "   &lt;a&gt;<br />\n \\</p>\n<p>`\n*<a href=\"b\">a</a></p>"
 unfolding pages
 row_136 = refl
 
@@ -564,7 +599,8 @@ row_139 : page (codes "  \na`\\[a](b)") ≡ codes "<p>a`[a](b)</p>"
 unfolding pages
 row_139 = refl
 
-row_140 : page (codes "\\\n\\\n" ++ (13 ∷ []) ++ codes "  \n" ++ (194 ∷ 160 ∷ []) ++ codes "\\\n" ++ (13 ∷ 9 ∷ []) ++ codes "\n\\\n") ≡ codes "<p><br />\n\\</p>\n<p>" ++ (194 ∷ 160 ∷ []) ++ codes "\\</p>\n<p>\\</p>\n"
+row_140 : page (codes "\\\n\\\n" ++ (13 ∷ []) ++ codes "  \n" ++ (194 ∷ 160 ∷ []) ++ codes "\\\n" ++ (13 ∷ 9 ∷ []) ++ codes "\n\\\n")
+    ≡ codes "<p><br />\n\\</p>\n<p>" ++ (194 ∷ 160 ∷ []) ++ codes "\\</p>\n<p>\\</p>\n"
 unfolding pages
 row_140 = refl
 
@@ -588,11 +624,13 @@ row_145 : page (codes "<a>\\\n  <a>   ") ≡ codes "<p>&lt;a&gt;<br />\n&lt;a&gt
 unfolding pages
 row_145 = refl
 
-row_146 : page ((13 ∷ 13 ∷ []) ++ codes "\nb[a](b)\n  \n[a](b)   \n" ++ (194 ∷ 160 ∷ []) ++ codes "  \n" ++ (13 ∷ [])) ≡ codes "<p>b<a href=\"b\">a</a></p>\n<p><a href=\"b\">a</a><br />\n" ++ (194 ∷ 160 ∷ []) ++ codes "</p>\n"
+row_146 : page ((13 ∷ 13 ∷ []) ++ codes "\nb[a](b)\n  \n[a](b)   \n" ++ (194 ∷ 160 ∷ []) ++ codes "  \n" ++ (13 ∷ []))
+    ≡ codes "<p>b<a href=\"b\">a</a></p>\n<p><a href=\"b\">a</a><br />\n" ++ (194 ∷ 160 ∷ []) ++ codes "</p>\n"
 unfolding pages
 row_146 = refl
 
-row_147 : page (codes "b  \n" ++ (194 ∷ 160 ∷ 194 ∷ 160 ∷ []) ++ codes "\n" ++ (13 ∷ [])) ≡ codes "<p>b<br />\n" ++ (194 ∷ 160 ∷ 194 ∷ 160 ∷ []) ++ codes "</p>\n"
+row_147 : page (codes "b  \n" ++ (194 ∷ 160 ∷ 194 ∷ 160 ∷ []) ++ codes "\n" ++ (13 ∷ []))
+    ≡ codes "<p>b<br />\n" ++ (194 ∷ 160 ∷ 194 ∷ 160 ∷ []) ++ codes "</p>\n"
 unfolding pages
 row_147 = refl
 
@@ -600,7 +638,8 @@ row_148 : page ((194 ∷ 160 ∷ []) ++ codes "<a>\\\n\n \\\n") ≡ codes "<p>" 
 unfolding pages
 row_148 = refl
 
-row_149 : page (codes "&#32;<a>\\  " ++ (194 ∷ 160 ∷ 13 ∷ []) ++ codes "\n" ++ (9 ∷ 194 ∷ 160 ∷ []) ++ codes "[a](b)``") ≡ codes "<p> &lt;a&gt;\\  " ++ (194 ∷ 160 ∷ 13 ∷ []) ++ codes "\n" ++ (194 ∷ 160 ∷ []) ++ codes "<a href=\"b\">a</a>``</p>"
+row_149 : page (codes "&#32;<a>\\  " ++ (194 ∷ 160 ∷ 13 ∷ []) ++ codes "\n" ++ (9 ∷ 194 ∷ 160 ∷ []) ++ codes "[a](b)``")
+    ≡ codes "<p> &lt;a&gt;\\  " ++ (194 ∷ 160 ∷ 13 ∷ []) ++ codes "\n" ++ (194 ∷ 160 ∷ []) ++ codes "<a href=\"b\">a</a>``</p>"
 unfolding pages
 row_149 = refl
 
@@ -648,7 +687,8 @@ row_160 : page (codes "ampamp0a*acopy&copy;") ≡ codes "<p>ampamp0a*acopy" ++ (
 unfolding pages
 row_160 = refl
 
-row_161 : page (codes "0&#x&#0;00copy*D800A`;X&copy;") ≡ codes "<p>0&amp;#x" ++ (239 ∷ 191 ∷ 189 ∷ []) ++ codes "00copy*D800A`;X" ++ (194 ∷ 169 ∷ []) ++ codes "</p>"
+row_161 : page (codes "0&#x&#0;00copy*D800A`;X&copy;") ≡ codes "<p>0&amp;#x" ++ (239 ∷ 191 ∷ 189 ∷ []) ++ codes "00copy*D800A`;X" ++ (194 ∷ 169 ∷ [])
+    ++ codes "</p>"
 unfolding pages
 row_161 = refl
 
@@ -664,7 +704,8 @@ row_164 : page (codes "x&copy;X&#amp1#aD800X12345670&#X22;1234567") ≡ codes "<
 unfolding pages
 row_164 = refl
 
-row_165 : page (codes "#xD800\\&#&&copy; &#x;&copy;") ≡ codes "<p>#xD800&amp;#&amp;" ++ (194 ∷ 169 ∷ []) ++ codes " &amp;#x;" ++ (194 ∷ 169 ∷ []) ++ codes "</p>"
+row_165 : page (codes "#xD800\\&#&&copy; &#x;&copy;") ≡ codes "<p>#xD800&amp;#&amp;" ++ (194 ∷ 169 ∷ []) ++ codes " &amp;#x;" ++ (194 ∷ 169 ∷ [])
+    ++ codes "</p>"
 unfolding pages
 row_165 = refl
 
@@ -676,7 +717,8 @@ row_167 : page (codes "&#X22;12copy") ≡ codes "<p>&quot;12copy</p>"
 unfolding pages
 row_167 = refl
 
-row_168 : page (codes " a&copy;XA\\D800*&amp;&#0;#*1&#X22;") ≡ codes "<p>a" ++ (194 ∷ 169 ∷ []) ++ codes "XA\\D800*&amp;" ++ (239 ∷ 191 ∷ 189 ∷ []) ++ codes "#*1&quot;</p>"
+row_168 : page (codes " a&copy;XA\\D800*&amp;&#0;#*1&#X22;") ≡ codes "<p>a" ++ (194 ∷ 169 ∷ []) ++ codes "XA\\D800*&amp;" ++ (239 ∷ 191 ∷ 189 ∷ [])
+    ++ codes "#*1&quot;</p>"
 unfolding pages
 row_168 = refl
 

@@ -41,7 +41,8 @@ row_8 : line_between Whitespace Whitespace ((194 ∷ 171 ∷ []) ++ codes "*a*" 
 unfolding pages
 row_8 = refl
 
-row_9 : line_between Whitespace Whitespace (codes "a*" ++ (194 ∷ 171 ∷ []) ++ codes "b" ++ (194 ∷ 187 ∷ []) ++ codes "*c") ≡ codes "a*" ++ (194 ∷ 171 ∷ []) ++ codes "b" ++ (194 ∷ 187 ∷ []) ++ codes "*c"
+row_9 : line_between Whitespace Whitespace (codes "a*" ++ (194 ∷ 171 ∷ []) ++ codes "b" ++ (194 ∷ 187 ∷ []) ++ codes "*c")
+    ≡ codes "a*" ++ (194 ∷ 171 ∷ []) ++ codes "b" ++ (194 ∷ 187 ∷ []) ++ codes "*c"
 unfolding pages
 row_9 = refl
 
@@ -49,7 +50,8 @@ row_10 : line_between Whitespace Whitespace ((195 ∷ 169 ∷ []) ++ codes "_b_"
 unfolding pages
 row_10 = refl
 
-row_11 : line_between Whitespace Whitespace ((226 ∷ 130 ∷ 172 ∷ []) ++ codes "_b_" ++ (226 ∷ 130 ∷ 172 ∷ [])) ≡ (226 ∷ 130 ∷ 172 ∷ []) ++ codes "<em>b</em>" ++ (226 ∷ 130 ∷ 172 ∷ [])
+row_11 : line_between Whitespace Whitespace ((226 ∷ 130 ∷ 172 ∷ []) ++ codes "_b_" ++ (226 ∷ 130 ∷ 172 ∷ []))
+    ≡ (226 ∷ 130 ∷ 172 ∷ []) ++ codes "<em>b</em>" ++ (226 ∷ 130 ∷ 172 ∷ [])
 unfolding pages
 row_11 = refl
 
@@ -59,10 +61,12 @@ row_12 = refl
 
 -- a quote's marker stands before a run where no space belongs to it
 
-row_marker_0 : page (codes "> *a" ++ (10 ∷ []) ++ codes ">*.") ≡ codes "<blockquote>" ++ (10 ∷ []) ++ codes "<p><em>a" ++ (10 ∷ []) ++ codes "</em>.</p>" ++ (10 ∷ []) ++ codes "</blockquote>"
+row_marker_0 : page (codes "> *a" ++ (10 ∷ []) ++ codes ">*.") ≡ codes "<blockquote>" ++ (10 ∷ []) ++ codes "<p><em>a" ++ (10 ∷ []) ++ codes "</em>.</p>"
+    ++ (10 ∷ []) ++ codes "</blockquote>"
 unfolding pages
 row_marker_0 = refl
 
-row_marker_1 : page (codes "> *a" ++ (10 ∷ []) ++ codes "> *.") ≡ codes "<blockquote>" ++ (10 ∷ []) ++ codes "<p>*a" ++ (10 ∷ []) ++ codes "*.</p>" ++ (10 ∷ []) ++ codes "</blockquote>"
+row_marker_1 : page (codes "> *a" ++ (10 ∷ []) ++ codes "> *.") ≡ codes "<blockquote>" ++ (10 ∷ []) ++ codes "<p>*a" ++ (10 ∷ []) ++ codes "*.</p>" ++ (10 ∷ [])
+    ++ codes "</blockquote>"
 unfolding pages
 row_marker_1 = refl

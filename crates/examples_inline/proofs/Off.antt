@@ -14,28 +14,34 @@ abbrev without_autolink : Options
 without_autolink = record default_options { parse = record default_parse_options { constructs = record default_constructs { autolink = false } } }
 
 abbrev without_character_escape : Options
-without_character_escape = record default_options { parse = record default_parse_options { constructs = record default_constructs { character_escape = false } } }
+without_character_escape =
+    record default_options { parse = record default_parse_options { constructs = record default_constructs { character_escape = false } } }
 
 abbrev without_character_reference : Options
-without_character_reference = record default_options { parse = record default_parse_options { constructs = record default_constructs { character_reference = false } } }
+without_character_reference =
+    record default_options { parse = record default_parse_options { constructs = record default_constructs { character_reference = false } } }
 
 abbrev without_code_text : Options
 without_code_text = record default_options { parse = record default_parse_options { constructs = record default_constructs { code_text = false } } }
 
 abbrev without_hard_break_escape : Options
-without_hard_break_escape = record default_options { parse = record default_parse_options { constructs = record default_constructs { hard_break_escape = false } } }
+without_hard_break_escape =
+    record default_options { parse = record default_parse_options { constructs = record default_constructs { hard_break_escape = false } } }
 
 abbrev without_hard_break_trailing : Options
-without_hard_break_trailing = record default_options { parse = record default_parse_options { constructs = record default_constructs { hard_break_trailing = false } } }
+without_hard_break_trailing =
+    record default_options { parse = record default_parse_options { constructs = record default_constructs { hard_break_trailing = false } } }
 
 abbrev without_html_text : Options
 without_html_text = record default_options { parse = record default_parse_options { constructs = record default_constructs { html_text = false } } }
 
 abbrev without_label_start_image : Options
-without_label_start_image = record default_options { parse = record default_parse_options { constructs = record default_constructs { label_start_image = false } } }
+without_label_start_image =
+    record default_options { parse = record default_parse_options { constructs = record default_constructs { label_start_image = false } } }
 
 abbrev without_label_start_link : Options
-without_label_start_link = record default_options { parse = record default_parse_options { constructs = record default_constructs { label_start_link = false } } }
+without_label_start_link =
+    record default_options { parse = record default_parse_options { constructs = record default_constructs { label_start_link = false } } }
 
 abbrev without_label_end : Options
 without_label_end = record default_options { parse = record default_parse_options { constructs = record default_constructs { label_end = false } } }
@@ -79,7 +85,8 @@ row_2 : page_with without_attention (codes "a\\\nb  \nc") ≡ codes "<p>a<br />\
 unfolding pages
 row_2 = refl
 
-row_3 : page_with without_attention (codes "![a](b) [c](d) [e]\n\n[e]: f") ≡ codes "<p><img src=\"b\" alt=\"a\" /> <a href=\"d\">c</a> <a href=\"f\">e</a></p>\n"
+row_3 : page_with without_attention (codes "![a](b) [c](d) [e]\n\n[e]: f")
+    ≡ codes "<p><img src=\"b\" alt=\"a\" /> <a href=\"d\">c</a> <a href=\"f\">e</a></p>\n"
 unfolding pages
 row_3 = refl
 
@@ -127,7 +134,8 @@ row_14 : page_with without_character_escape (codes "a\\\nb  \nc") ≡ codes "<p>
 unfolding pages
 row_14 = refl
 
-row_15 : page_with without_character_escape (codes "![a](b) [c](d) [e]\n\n[e]: f") ≡ codes "<p><img src=\"b\" alt=\"a\" /> <a href=\"d\">c</a> <a href=\"f\">e</a></p>\n"
+row_15 : page_with without_character_escape (codes "![a](b) [c](d) [e]\n\n[e]: f")
+    ≡ codes "<p><img src=\"b\" alt=\"a\" /> <a href=\"d\">c</a> <a href=\"f\">e</a></p>\n"
 unfolding pages
 row_15 = refl
 
@@ -151,7 +159,8 @@ row_20 : page_with without_character_reference (codes "a\\\nb  \nc") ≡ codes "
 unfolding pages
 row_20 = refl
 
-row_21 : page_with without_character_reference (codes "![a](b) [c](d) [e]\n\n[e]: f") ≡ codes "<p><img src=\"b\" alt=\"a\" /> <a href=\"d\">c</a> <a href=\"f\">e</a></p>\n"
+row_21 : page_with without_character_reference (codes "![a](b) [c](d) [e]\n\n[e]: f")
+    ≡ codes "<p><img src=\"b\" alt=\"a\" /> <a href=\"d\">c</a> <a href=\"f\">e</a></p>\n"
 unfolding pages
 row_21 = refl
 
@@ -175,7 +184,8 @@ row_26 : page_with without_code_text (codes "a\\\nb  \nc") ≡ codes "<p>a<br />
 unfolding pages
 row_26 = refl
 
-row_27 : page_with without_code_text (codes "![a](b) [c](d) [e]\n\n[e]: f") ≡ codes "<p><img src=\"b\" alt=\"a\" /> <a href=\"d\">c</a> <a href=\"f\">e</a></p>\n"
+row_27 : page_with without_code_text (codes "![a](b) [c](d) [e]\n\n[e]: f")
+    ≡ codes "<p><img src=\"b\" alt=\"a\" /> <a href=\"d\">c</a> <a href=\"f\">e</a></p>\n"
 unfolding pages
 row_27 = refl
 
@@ -199,7 +209,8 @@ row_32 : page_with without_hard_break_escape (codes "a\\\nb  \nc") ≡ codes "<p
 unfolding pages
 row_32 = refl
 
-row_33 : page_with without_hard_break_escape (codes "![a](b) [c](d) [e]\n\n[e]: f") ≡ codes "<p><img src=\"b\" alt=\"a\" /> <a href=\"d\">c</a> <a href=\"f\">e</a></p>\n"
+row_33 : page_with without_hard_break_escape (codes "![a](b) [c](d) [e]\n\n[e]: f")
+    ≡ codes "<p><img src=\"b\" alt=\"a\" /> <a href=\"d\">c</a> <a href=\"f\">e</a></p>\n"
 unfolding pages
 row_33 = refl
 
@@ -223,7 +234,8 @@ row_38 : page_with without_hard_break_trailing (codes "a\\\nb  \nc") ≡ codes "
 unfolding pages
 row_38 = refl
 
-row_39 : page_with without_hard_break_trailing (codes "![a](b) [c](d) [e]\n\n[e]: f") ≡ codes "<p><img src=\"b\" alt=\"a\" /> <a href=\"d\">c</a> <a href=\"f\">e</a></p>\n"
+row_39 : page_with without_hard_break_trailing (codes "![a](b) [c](d) [e]\n\n[e]: f")
+    ≡ codes "<p><img src=\"b\" alt=\"a\" /> <a href=\"d\">c</a> <a href=\"f\">e</a></p>\n"
 unfolding pages
 row_39 = refl
 
@@ -247,7 +259,8 @@ row_44 : page_with without_html_text (codes "a\\\nb  \nc") ≡ codes "<p>a<br />
 unfolding pages
 row_44 = refl
 
-row_45 : page_with without_html_text (codes "![a](b) [c](d) [e]\n\n[e]: f") ≡ codes "<p><img src=\"b\" alt=\"a\" /> <a href=\"d\">c</a> <a href=\"f\">e</a></p>\n"
+row_45 : page_with without_html_text (codes "![a](b) [c](d) [e]\n\n[e]: f")
+    ≡ codes "<p><img src=\"b\" alt=\"a\" /> <a href=\"d\">c</a> <a href=\"f\">e</a></p>\n"
 unfolding pages
 row_45 = refl
 
@@ -271,7 +284,8 @@ row_50 : page_with without_label_start_image (codes "a\\\nb  \nc") ≡ codes "<p
 unfolding pages
 row_50 = refl
 
-row_51 : page_with without_label_start_image (codes "![a](b) [c](d) [e]\n\n[e]: f") ≡ codes "<p>!<a href=\"b\">a</a> <a href=\"d\">c</a> <a href=\"f\">e</a></p>\n"
+row_51 : page_with without_label_start_image (codes "![a](b) [c](d) [e]\n\n[e]: f")
+    ≡ codes "<p>!<a href=\"b\">a</a> <a href=\"d\">c</a> <a href=\"f\">e</a></p>\n"
 unfolding pages
 row_51 = refl
 

@@ -32,7 +32,8 @@ row_6 : page (codes "[a]: x\n[a]: y\n\n[a]") ≡ codes "<p><a href=\"x\">a</a></
 unfolding pages
 row_6 = refl
 
-row_7 : page (codes "<https://a" ++ (240 ∷ 159 ∷ 145 ∷ 141 ∷ []) ++ codes "b%>") ≡ codes "<p><a href=\"https://a%F0%9F%91%8Db%25\">https://a" ++ (240 ∷ 159 ∷ 145 ∷ 141 ∷ []) ++ codes "b%</a></p>"
+row_7 : page (codes "<https://a" ++ (240 ∷ 159 ∷ 145 ∷ 141 ∷ []) ++ codes "b%>")
+    ≡ codes "<p><a href=\"https://a%F0%9F%91%8Db%25\">https://a" ++ (240 ∷ 159 ∷ 145 ∷ 141 ∷ []) ++ codes "b%</a></p>"
 unfolding pages
 row_7 = refl
 
@@ -192,15 +193,18 @@ row_46 : page (codes "[a] [b]\n\n[a]: x\n[b]: y") ≡ codes "<p><a href=\"x\">a<
 unfolding pages
 row_46 = refl
 
-row_47 : page (codes "[a]" ++ (13 ∷ []) ++ codes "[b]" ++ (13 ∷ 13 ∷ []) ++ codes "[a]: x" ++ (13 ∷ []) ++ codes "[b]: y") ≡ codes "<p><a href=\"x\">a</a>" ++ (13 ∷ []) ++ codes "<a href=\"y\">b</a></p>" ++ (13 ∷ [])
+row_47 : page (codes "[a]" ++ (13 ∷ []) ++ codes "[b]" ++ (13 ∷ 13 ∷ []) ++ codes "[a]: x" ++ (13 ∷ []) ++ codes "[b]: y")
+    ≡ codes "<p><a href=\"x\">a</a>" ++ (13 ∷ []) ++ codes "<a href=\"y\">b</a></p>" ++ (13 ∷ [])
 unfolding pages
 row_47 = refl
 
-row_48 : page (codes "a  " ++ (13 ∷ []) ++ codes "\nb\\" ++ (13 ∷ []) ++ codes "c") ≡ codes "<p>a<br />" ++ (13 ∷ []) ++ codes "\nb<br />" ++ (13 ∷ []) ++ codes "c</p>"
+row_48 : page (codes "a  " ++ (13 ∷ []) ++ codes "\nb\\" ++ (13 ∷ []) ++ codes "c")
+    ≡ codes "<p>a<br />" ++ (13 ∷ []) ++ codes "\nb<br />" ++ (13 ∷ []) ++ codes "c</p>"
 unfolding pages
 row_48 = refl
 
-row_49 : page (codes "[a][b" ++ (13 ∷ []) ++ codes "\n  c]" ++ (13 ∷ []) ++ codes "\n" ++ (13 ∷ []) ++ codes "\n[b c]: x") ≡ codes "<p><a href=\"x\">a</a></p>" ++ (13 ∷ []) ++ codes "\n"
+row_49 : page (codes "[a][b" ++ (13 ∷ []) ++ codes "\n  c]" ++ (13 ∷ []) ++ codes "\n" ++ (13 ∷ []) ++ codes "\n[b c]: x")
+    ≡ codes "<p><a href=\"x\">a</a></p>" ++ (13 ∷ []) ++ codes "\n"
 unfolding pages
 row_49 = refl
 
@@ -240,11 +244,13 @@ row_58 : page (codes "![a") ≡ codes "<p>![a</p>"
 unfolding pages
 row_58 = refl
 
-row_59 : page (codes "[a](((((((((((((((((((((((((((((((((b)))))))))))))))))))))))))))))))))") ≡ codes "<p><a href=\"((((((((((((((((((((((((((((((((b))))))))))))))))))))))))))))))))\">a</a></p>"
+row_59 : page (codes "[a](((((((((((((((((((((((((((((((((b)))))))))))))))))))))))))))))))))")
+    ≡ codes "<p><a href=\"((((((((((((((((((((((((((((((((b))))))))))))))))))))))))))))))))\">a</a></p>"
 unfolding pages
 row_59 = refl
 
-row_60 : page (codes "[a]((((((((((((((((((((((((((((((((b))))))))))))))))))))))))))))))))") ≡ codes "<p><a href=\"(((((((((((((((((((((((((((((((b)))))))))))))))))))))))))))))))\">a</a></p>"
+row_60 : page (codes "[a]((((((((((((((((((((((((((((((((b))))))))))))))))))))))))))))))))")
+    ≡ codes "<p><a href=\"(((((((((((((((((((((((((((((((b)))))))))))))))))))))))))))))))\">a</a></p>"
 unfolding pages
 row_60 = refl
 

@@ -1,23 +1,23 @@
 -- URLs, and what the definition prints for them.
 use Rattle.std.specs.Prelude.{◌≡◌, [], ◌∷◌, ◌++◌, codes}
 use Rattle.std.proofs.Common.{refl}
-use Rattle.definition_page.specs.GfmTagfilter.{filtered_names, tags_filtered}
-use Rattle.definition_page.specs.Urls.{sanitized, sanitized_with, href_protocols, src_protocols}
+use Rattle.definition_page.specs.GfmTagfilter.{filtered_names, filter_tags}
+use Rattle.definition_page.specs.Urls.{sanitize, sanitized_with, href_protocols, src_protocols}
 
-row_0 : sanitized (codes "javascript:alert(1)") ≡ codes "javascript:alert(1)"
+row_0 : sanitize (codes "javascript:alert(1)") ≡ codes "javascript:alert(1)"
 row_0 = refl
 
 -- U+1F44D after `a`, and a last `%`
-row_1 : sanitized (codes "https://a" ++ (240 ∷ 159 ∷ 145 ∷ 141 ∷ []) ++ codes "b.c/%20/%") ≡ codes "https://a%F0%9F%91%8Db.c/%20/%25"
+row_1 : sanitize (codes "https://a" ++ (240 ∷ 159 ∷ 145 ∷ 141 ∷ []) ++ codes "b.c/%20/%") ≡ codes "https://a%F0%9F%91%8Db.c/%20/%25"
 row_1 = refl
 
-row_2 : sanitized (codes "a&b\"c<d>e`f{|}g\\h[i]j^k l") ≡ codes "a&amp;b%22c%3Cd%3Ee%60f%7B%7C%7Dg%5Ch%5Bi%5Dj%5Ek%20l"
+row_2 : sanitize (codes "a&b\"c<d>e`f{|}g\\h[i]j^k l") ≡ codes "a&amp;b%22c%3Cd%3Ee%60f%7B%7C%7Dg%5Ch%5Bi%5Dj%5Ek%20l"
 row_2 = refl
 
-row_3 : sanitized (codes "%zz%4%%41%-1!#$'()*+,-./:;=?@_~") ≡ codes "%zz%254%25%41%25-1!#$'()*+,-./:;=?@_~"
+row_3 : sanitize (codes "%zz%4%%41%-1!#$'()*+,-./:;=?@_~") ≡ codes "%zz%254%25%41%25-1!#$'()*+,-./:;=?@_~"
 row_3 = refl
 
-row_4 : sanitized (0 ∷ 127 ∷ 195 ∷ 164 ∷ []) ≡ codes "%00%7F%C3%A4"
+row_4 : sanitize (0 ∷ 127 ∷ 195 ∷ 164 ∷ []) ≡ codes "%00%7F%C3%A4"
 row_4 = refl
 
 row_5 : sanitized_with src_protocols (codes "javascript:alert(1)") ≡ []
@@ -46,6 +46,6 @@ row_11 : sanitized_with href_protocols (codes "MAILTO:a@b") ≡ codes "MAILTO:a@
 unfolding href_protocols
 row_11 = refl
 
-row_12 : tags_filtered (codes "<iframe> </XMP><titles> <script") ≡ codes "&lt;iframe> &lt;/XMP><titles> &lt;script"
+row_12 : filter_tags (codes "<iframe> </XMP><titles> <script") ≡ codes "&lt;iframe> &lt;/XMP><titles> &lt;script"
 unfolding filtered_names
 row_12 = refl

@@ -1,5 +1,6 @@
 -- Blocks printed as pieces are the blocks printed as bytes.
-use Rattle.std.proofs.Common.{◌≡◌, ℕ, Bool, true, false, cond, ◌&&◌, not, List, [], ◌∷◌, ◌++◌, Option, None, Some, refl, sym, ap, ◌∙◌, append_assoc, codes, map, eqb, drop}
+use Rattle.std.proofs.Common.{◌≡◌, ℕ, Bool, true, false, cond, ◌&&◌, not, List, [], ◌∷◌, ◌++◌, Option, None, Some, refl, sym, ap, ◌∙◌, append_assoc, codes, map}
+use Rattle.std.proofs.Common.{eqb, drop}
 use Rattle.std.specs.Fmt.{decimal}
 use Rattle.std.specs.List.{fold, flat_map}
 use Rattle.std.proofs.lemmas.List.{append-nil}
@@ -17,7 +18,7 @@ use Rattle.definition_text.specs.Lines.{ending_text}
 use Rattle.definition_text.specs.InlineCode.{InlineCode, codes_of}
 use Rattle.definition_inline.specs.Inline.{Inlines}
 use Rattle.definition_inline.specs.GfmTaskListItem.{check_at, check_size}
-use Rattle.definition_inline.specs.Scan.{inlines_from, unindented}
+use Rattle.definition_inline.specs.Scan.{inlines_from, without_indent}
 use Rattle.definition_block.specs.Container.{Quote, Item, Footnote}
 use Rattle.definition_block.specs.declared.container.Item.{Item as ItemOf}
 use Rattle.definition_block.specs.Blocks as tree
@@ -29,8 +30,12 @@ use Rattle.definition_page.specs.Pieces.{Piece, Close, Void, Says, Eol, Fresh, N
 use Rattle.definition_page.specs.Layout.{Laid, laid, lay}
 use Rattle.definition_page.specs.InlinePieces.{Meaning, element, inline_pieces}
 use Rattle.definition_page.specs.Page as page
-use Rattle.definition_page.specs.Read.{Reading, reading, context_of, Standing, on_page, in_container, in_item, next_standing, text_content, read_text, checked_paragraph, read_paragraph, read_blocks, read_table, info_text, code_lines, without_ending, after_code, list_number}
-use Rattle.definition_page.specs.BlockPieces.{Place, says, checkable_attributes, done_attributes, check_tag, code_line, html_line, heading_name, info_attributes, list_tag, is_silent, last_shown, ends_plainly, fresh_unless, fenced_pieces, block_pieces, children_pieces}
+use Rattle.definition_page.specs.Read.{Reading, reading, context_of, Standing, on_page, in_container, in_item, next_standing, text_content, read_text}
+use Rattle.definition_page.specs.Read.{checked_paragraph, read_paragraph, read_blocks, read_table, info_text, code_lines, without_ending, after_code}
+use Rattle.definition_page.specs.Read.{list_number}
+use Rattle.definition_page.specs.BlockPieces.{Place, says, checkable_attributes, done_attributes, check_tag, code_line, html_line, heading_name}
+use Rattle.definition_page.specs.BlockPieces.{info_attributes, list_tag, is_silent, last_visible, ends_plainly, fresh_unless, fenced_pieces, block_pieces}
+use Rattle.definition_page.specs.BlockPieces.{children_pieces}
 use Rattle.html_bytes.specs.RawHtml.{raw_html}
 use Rattle.html_bytes.specs.Document.{Document, document, meaning_of, text_of, checked_text, info_of}
 use Rattle.html_bytes.specs.InlineHtml as bytes_inline
@@ -39,7 +44,8 @@ use Rattle.html_bytes.specs.Layout as bytes_layout
 use Rattle.html_bytes.specs.Pieces as bytes
 use Rattle.html_bytes.specs.Html as old
 use Rattle.html_bytes.proofs.SameTable.{table_same}
-use Rattle.html_bytes.proofs.SameLayout.{Same, Adds, add, fresh, add_nil, add_add, none_same, joined, after_fresh, after_added, element_same, element_with, says_added}
+use Rattle.html_bytes.proofs.SameLayout.{Same, Adds, add, fresh, add_nil, add_add, none_same, joined, after_fresh, after_added, element_same, element_with}
+use Rattle.html_bytes.proofs.SameLayout.{says_added}
 use Rattle.html_bytes.proofs.SameText.{one_attribute, piece_meaning, raw_said, text_same}
 
 -- ---- lines
@@ -195,7 +201,8 @@ module _ (default : List ℕ) (options : Options) (tables : TextTables) (ds : Ta
   check_same : (done : Bool) → void_tag (check_tag options.compile done) ≡ check_html options.compile done
   check_same done = by_case options.compile.gfm_task_list_item_checkable done
     where
-      by_case : (checkable done : Bool) → void_tag (tag (codes "input") (attribute (codes "type") (codes "checkbox") ∷ checkable_attributes checkable ++ done_attributes done))
+      by_case : (checkable done : Bool)
+          → void_tag (tag (codes "input") (attribute (codes "type") (codes "checkbox") ∷ checkable_attributes checkable ++ done_attributes done))
           ≡ codes "<input type=\"checkbox\"" ++ cond checkable [] (codes " disabled=\"\"") ++ cond done (codes " checked=\"\"") [] ++ codes " />"
       by_case true true = refl
       by_case true false = refl
@@ -212,7 +219,8 @@ module _ (default : List ℕ) (options : Options) (tables : TextTables) (ds : Ta
       (add l (check_html options.compile done))
 
   -- what holds of each paragraph holds of one with this check
-  by_check : (P : page.Block → Type 0) → ((check : Option Bool) (is : Inlines) → P (page.Paragraph check is)) → (content : List InlineCode) (found : Option Bool)
+  by_check : (P : page.Block → Type 0) → ((check : Option Bool) (is : Inlines) → P (page.Paragraph check is))
+      → (content : List InlineCode) (found : Option Bool)
       → P (checked_paragraph r content found)
   by_check P each content None = each None (inlines_from (context_of r) content)
   by_check P each content (Some done) = each (Some done) (inlines_from (context_of r) (drop check_size content))
@@ -220,7 +228,7 @@ module _ (default : List ℕ) (options : Options) (tables : TextTables) (ds : Ta
   of_paragraph : (P : page.Block → Type 0) → ((check : Option Bool) (is : Inlines) → P (page.Paragraph check is)) → (first : Bool) (ls : List BlockLine)
       → P (read_paragraph r first ls)
   of_paragraph P each first ls =
-      let content = unindented (text_content r ls) in by_check P each content (check_at options.parse.constructs first (codes_of content))
+      let content = without_indent (text_content r ls) in by_check P each content (check_at options.parse.constructs first (codes_of content))
 
   -- a text alone or between the tags of a paragraph
   tight_same : (text : List Piece) (shown : List bytes.Piece) → Alike text shown → (tight : Bool)
@@ -238,14 +246,15 @@ module _ (default : List ℕ) (options : Options) (tables : TextTables) (ds : Ta
       tight_same (inline_pieces m (inlines_from (context_of r) content)) (checked_text d content None)
       (structure_same (inlines_from (context_of r) content)) place.tight
   checked_same place before content (Some done) =
-      tight_same (Void (check_tag options.compile done) ∷ inline_pieces m (inlines_from (context_of r) (drop check_size content))) (checked_text d content (Some done))
+      tight_same (Void (check_tag options.compile done) ∷ inline_pieces m (inlines_from (context_of r) (drop check_size content)))
+      (checked_text d content (Some done))
       (done_same content done) place.tight
 
   paragraph_same : (s : Standing) (tight silent : Bool) (before : Option page.Block) (ls : List BlockLine)
       → Alike (block_pieces m (place_in s tight) before (read_paragraph r s.first ls))
       (old.block_pieces d s tight silent (tree.Paragraph ls))
   paragraph_same s tight silent before ls =
-      let content = unindented (text_content r ls) in
+      let content = without_indent (text_content r ls) in
       checked_same (place_in s tight) before content (check_at options.parse.constructs s.first (codes_of content))
 
   class_same : (info : List ℕ) → start_tag (tag (codes "code") (info_attributes (info_text r info))) ≡ codes "<code" ++ old.class_of d info ++ codes ">"
@@ -299,28 +308,37 @@ module _ (default : List ℕ) (options : Options) (tables : TextTables) (ds : Ta
   and_false false = refl
 
   plain_same : (first tight : Bool) (before : Option page.Block) (said : Bool) (bs : tree.Blocks) → ends_plainly tight before ≡ said
-      → ends_plainly tight (last_shown before (read_blocks r (record { top = false; first = first }) bs)) ≡ old.ends_tight tight said bs
+      → ends_plainly tight (last_visible before (read_blocks r (record { top = false; first = first }) bs)) ≡ old.ends_tight tight said bs
   plain_same first tight before said tree.Nil h = h
   plain_same first tight before said (tree.Cons (tree.Paragraph ls) bs) h =
       let others = read_blocks r (record { top = false; first = first && false }) bs in
-      ap (λ b. ends_plainly tight b) (of_paragraph (λ b. last_shown before (page.Cons b others) ≡ last_shown (Some b) others) (λ check is. refl) first ls)
+      ap (λ b. ends_plainly tight b) (of_paragraph (λ b. last_visible before (page.Cons b others) ≡ last_visible (Some b) others) (λ check is. refl) first ls)
       ∙ plain_same (first && false) tight (Some (read_paragraph r first ls)) tight bs
       (of_paragraph (λ b. ends_plainly tight (Some b) ≡ tight) (λ check is. refl) first ls)
   plain_same first tight before said (tree.Cons (tree.Definition label destination title) bs) h = plain_same (first && false) tight before said bs h
-  plain_same first tight before said (tree.Cons (tree.Heading rank ls) bs) h = plain_same (first && false) tight (Some (page.Heading rank (read_text r ls))) (said && false) bs (and_false said)
+  plain_same first tight before said (tree.Cons (tree.Heading rank ls) bs) h =
+      plain_same (first && false) tight (Some (page.Heading rank (read_text r ls))) (said && false) bs (and_false said)
   plain_same first tight before said (tree.Cons tree.Break bs) h = plain_same (first && false) tight (Some page.Break) (said && false) bs (and_false said)
-  plain_same first tight before said (tree.Cons (tree.IndentedCode ls) bs) h = plain_same (first && false) tight (Some (page.IndentedCode ls)) (said && false) bs (and_false said)
+  plain_same first tight before said (tree.Cons (tree.IndentedCode ls) bs) h =
+      plain_same (first && false) tight (Some (page.IndentedCode ls)) (said && false) bs (and_false said)
   plain_same first tight before said (tree.Cons (tree.FencedCode info is_closed ls) bs) h =
-      plain_same (first && false) tight (Some (page.FencedCode (info_text r info) is_closed (code_lines false is_closed ls))) (said && false) bs (and_false said)
-  plain_same first tight before said (tree.Cons (tree.Html ls) bs) h = plain_same (first && false) tight (Some (page.Html ls)) (said && false) bs (and_false said)
-  plain_same first tight before said (tree.Cons (tree.Table ls) bs) h = plain_same (first && false) tight (Some (page.Table (read_table r ls))) (said && false) bs (and_false said)
-  plain_same first tight before said (tree.Cons (tree.Holds Quote kids) bs) h = plain_same (first && false) tight (Some (page.Quote (read_blocks r in_container kids))) (said && false) bs (and_false said)
-  plain_same first tight before said (tree.Cons (tree.Holds (Item item) kids) bs) h = plain_same (first && false) tight (Some (page.Item (read_blocks r in_item kids))) (said && false) bs (and_false said)
+      plain_same (first && false) tight (Some (page.FencedCode (info_text r info) is_closed (code_lines false is_closed ls))) (said && false) bs
+      (and_false said)
+  plain_same first tight before said (tree.Cons (tree.Html ls) bs) h =
+      plain_same (first && false) tight (Some (page.Html ls)) (said && false) bs (and_false said)
+  plain_same first tight before said (tree.Cons (tree.Table ls) bs) h =
+      plain_same (first && false) tight (Some (page.Table (read_table r ls))) (said && false) bs (and_false said)
+  plain_same first tight before said (tree.Cons (tree.Holds Quote kids) bs) h =
+      plain_same (first && false) tight (Some (page.Quote (read_blocks r in_container kids))) (said && false) bs (and_false said)
+  plain_same first tight before said (tree.Cons (tree.Holds (Item item) kids) bs) h =
+      plain_same (first && false) tight (Some (page.Item (read_blocks r in_item kids))) (said && false) bs (and_false said)
   plain_same first tight before said (tree.Cons (tree.Holds (Footnote label) kids) bs) h = plain_same (first && false) tight before said bs h
   plain_same first tight before said (tree.Cons (tree.Items items) bs) h =
-      plain_same (first && false) tight (Some (page.ItemList (list_number items) (is_loose items) (read_blocks r in_container items))) (said && false) bs (and_false said)
+      plain_same (first && false) tight (Some (page.ItemList (list_number items) (is_loose items) (read_blocks r in_container items))) (said && false) bs
+      (and_false said)
   plain_same first tight before said (tree.Cons (tree.Ending None) bs) h = plain_same (first && true) tight before (said && true) bs (h ∙ and_true said)
-  plain_same first tight before said (tree.Cons (tree.Ending (Some ending)) bs) h = plain_same (first && true) tight before (said && true) bs (h ∙ and_true said)
+  plain_same first tight before said (tree.Cons (tree.Ending (Some ending)) bs) h =
+      plain_same (first && true) tight before (said && true) bs (h ∙ and_true said)
   plain_same first tight before said (tree.Cons (tree.Blank None) bs) h = plain_same (first && true) tight before (said && true) bs (h ∙ and_true said)
   plain_same first tight before said (tree.Cons (tree.Blank (Some ending)) bs) h = plain_same (first && true) tight before (said && true) bs (h ∙ and_true said)
 
@@ -338,7 +356,7 @@ module _ (default : List ℕ) (options : Options) (tables : TextTables) (ds : Ta
 
   -- what an item ends with
   item_last : (tight : Bool) (kids : tree.Blocks)
-      → Alike (fresh_unless (ends_plainly tight (last_shown None (read_blocks r in_item kids)))) (old.fresh_unless (old.ends_tight tight true kids))
+      → Alike (fresh_unless (ends_plainly tight (last_visible None (read_blocks r in_item kids)))) (old.fresh_unless (old.ends_tight tight true kids))
   item_last tight kids l =
       ap (λ t. fold (lay options.compile default) l (fresh_unless t)) (plain_same true tight None true kids refl)
       ∙ fresh_same options.compile default (old.ends_tight tight true kids) l
@@ -352,7 +370,7 @@ module _ (default : List ℕ) (options : Options) (tables : TextTables) (ds : Ta
       let shown = old.children_pieces d in_item tight false kids in
       let last = old.fresh_unless (old.ends_tight tight true kids) in
       element_with options.compile default (bare_tag (codes "li")) (codes "<li>") (codes "</li>") inside
-      (fresh_unless (ends_plainly tight (last_shown None (read_blocks r in_item kids)))) shown last refl refl same (item_last tight kids) (fresh default l)
+      (fresh_unless (ends_plainly tight (last_visible None (read_blocks r in_item kids)))) shown last refl refl same (item_last tight kids) (fresh default l)
       ∙ ap (λ x. fold (bytes_layout.lay options.compile default) (add (fresh default l) (codes "<li>")) x)
       (sym (append_assoc shown last (bytes.Bytes (codes "</li>") ∷ [])))
 
@@ -461,7 +479,8 @@ module _ (default : List ℕ) (options : Options) (tables : TextTables) (ds : Ta
       let each : EachSame s tight (tree.Cons (tree.FencedCode info is_closed ls) bs) = λ silent before l.
       siblings (place_in s tight) before (page.FencedCode (info_text r info) is_closed (code_lines s.top is_closed ls))
       (after_code s.top is_closed (read_blocks r (next_standing s (tree.FencedCode info is_closed ls)) bs))
-      (old.block_pieces d s tight silent (tree.FencedCode info is_closed ls)) (old.children_pieces d (next_standing s (tree.FencedCode info is_closed ls)) tight (s.top && not is_closed) bs)
+      (old.block_pieces d s tight silent (tree.FencedCode info is_closed ls))
+      (old.children_pieces d (next_standing s (tree.FencedCode info is_closed ls)) tight (s.top && not is_closed) bs)
       (fence_same s tight silent before info is_closed ls)
       (after_same (s.first && false) s.top tight is_closed bs (twice (next_standing s (tree.FencedCode info is_closed ls)) tight bs).0
       (twice (next_standing s (tree.FencedCode info is_closed ls)) tight bs).1
@@ -484,7 +503,8 @@ module _ (default : List ℕ) (options : Options) (tables : TextTables) (ds : Ta
   twice s tight (tree.Cons (tree.Definition label destination title) bs) =
       let each : EachSame s tight (tree.Cons (tree.Definition label destination title) bs) = λ silent before l.
       siblings (place_in s tight) before (page.Definition) (read_blocks r (next_standing s (tree.Definition label destination title)) bs)
-      (old.block_pieces d s tight silent (tree.Definition label destination title)) (old.children_pieces d (next_standing s (tree.Definition label destination title)) tight true bs)
+      (old.block_pieces d s tight silent (tree.Definition label destination title))
+      (old.children_pieces d (next_standing s (tree.Definition label destination title)) tight true bs)
       (λ o. refl)
       ((twice (next_standing s (tree.Definition label destination title)) tight bs).0 true (Some (page.Definition)) refl) l in
       each_twice s tight (tree.Definition label destination title) bs each (λ before h l. each true before l)

@@ -1,5 +1,6 @@
 -- Footnotes printed as pieces are the footnotes printed as bytes.
-use Rattle.std.proofs.Common.{◌≡◌, ℕ, zero, suc, leb, List, [], ◌∷◌, ◌++◌, Option, None, Some, String, refl, sym, ap, ◌∙◌, append_assoc, codes, take, drop, inl, inr, string_bytes}
+use Rattle.std.proofs.Common.{◌≡◌, ℕ, zero, suc, leb, List, [], ◌∷◌, ◌++◌, Option, None, Some, String, refl, sym, ap, ◌∙◌, append_assoc, codes, take, drop, inl}
+use Rattle.std.proofs.Common.{inr, string_bytes}
 use Rattle.std.specs.List.{fold}
 use Rattle.std.specs.Fmt.{decimal}
 use Rattle.std.proofs.lemmas.Bool.{cases_Bool, cond-true, cond-false}
@@ -14,7 +15,8 @@ use Rattle.definition_page.specs.GfmLabelStartFootnote as call
 use Rattle.definition_page.specs.GfmFootnoteDefinition as note
 use Rattle.html_bytes.specs.Pieces as bytes
 use Rattle.html_bytes.specs.GfmLabelStartFootnote.{footnote_id, call_id}
-use Rattle.html_bytes.specs.GfmFootnoteDefinition.{count_html, back_html, space_after, backs_html, with_backs, item_tag, footnote_pieces, footnotes_pieces, heading_html, section_pieces}
+use Rattle.html_bytes.specs.GfmFootnoteDefinition.{count_html, back_html, space_after, backs_html, with_backs, item_tag, footnote_pieces, footnotes_pieces}
+use Rattle.html_bytes.specs.GfmFootnoteDefinition.{heading_html, section_pieces}
 use Rattle.html_bytes.proofs.SamePrint.{element_printed, Same, joined, after_fresh, element_with}
 use Rattle.html_bytes.proofs.SameCalls.{footnote_id_same, call_id_same}
 
@@ -113,7 +115,8 @@ footnotes_same options (n ∷ ns) default out =
 -- ---- the section
 
 attributes_same : {A : Type 0} (name : List ℕ) (attributes : Option (String A))
-    → start_tag (note.heading_tag name attributes) ≡ codes "<" ++ name ++ codes " id=\"footnote-label\" " ++ call.text_or attributes (codes "class=\"sr-only\"") ++ codes ">"
+    → start_tag (note.heading_tag name attributes) ≡ codes "<" ++ name ++ codes " id=\"footnote-label\" " ++ call.text_or attributes (codes "class=\"sr-only\"")
+    ++ codes ">"
 attributes_same name None = moved name (codes " id=\"footnote-label\" ") (codes "class=\"sr-only\"") (codes ">")
   where
     moved : (a b c d : List ℕ) → (codes "<" ++ (a ++ (b ++ c))) ++ d ≡ codes "<" ++ a ++ b ++ c ++ d
@@ -129,7 +132,8 @@ heading_same options default out =
     (attributes_same (note.heading_name options) options.gfm_footnote_label_attributes)
     ∙ simp append_assoc
 
-pub section_same : (options : CompileOptions) (ns : List note.Footnote) (default : List ℕ) → Same default (note.section_pieces options ns) (section_pieces options ns)
+pub section_same : (options : CompileOptions) (ns : List note.Footnote) (default : List ℕ)
+    → Same default (note.section_pieces options ns) (section_pieces options ns)
 section_same options [] default out = refl
 section_same options (n ∷ ns) default out =
     let all = note.footnotes_pieces options (n ∷ ns) in
@@ -139,16 +143,22 @@ section_same options (n ∷ ns) default out =
     let inside = note.heading_pieces options ++ Fresh ∷ list in
     let inside_bytes = bytes.Bytes (heading_html options) ∷ bytes.Fresh ∷ list_bytes in
     let section = element note.section_tag (inside ++ Fresh ∷ []) in
-    let section_bytes = bytes.Bytes (codes "<section data-footnotes=\"\" class=\"footnotes\">") ∷ (inside_bytes ++ bytes.Fresh ∷ bytes.Bytes (codes "</section>") ∷ []) in
+    let section_bytes = bytes.Bytes (codes "<section data-footnotes=\"\" class=\"footnotes\">") ∷
+    (inside_bytes ++ bytes.Fresh ∷ bytes.Bytes (codes "</section>") ∷ []) in
     let listed : Same default list list_bytes =
-    element_with default (bare_tag (codes "ol")) (codes "<ol>") (codes "</ol>") all (Fresh ∷ []) shown (bytes.Fresh ∷ []) refl refl (footnotes_same options (n ∷ ns) default) (λ out. refl) in
+    element_with default (bare_tag (codes "ol")) (codes "<ol>") (codes "</ol>") all (Fresh ∷ []) shown (bytes.Fresh ∷ []) refl refl
+    (footnotes_same options (n ∷ ns) default) (λ out. refl) in
     let held : Same default inside inside_bytes =
-    joined default (note.heading_pieces options) (Fresh ∷ list) (bytes.Bytes (heading_html options) ∷ []) (bytes.Fresh ∷ list_bytes) (heading_same options default)
+    joined default (note.heading_pieces options) (Fresh ∷ list) (bytes.Bytes (heading_html options) ∷ []) (bytes.Fresh ∷ list_bytes)
+    (heading_same options default)
     (after_fresh default list list_bytes listed) in
     let whole : Same default section section_bytes =
-    element_with default note.section_tag (codes "<section data-footnotes=\"\" class=\"footnotes\">") (codes "</section>") inside (Fresh ∷ []) inside_bytes (bytes.Fresh ∷ []) refl refl held (λ out. refl) in
+    element_with default note.section_tag (codes "<section data-footnotes=\"\" class=\"footnotes\">") (codes "</section>") inside (Fresh ∷ []) inside_bytes
+    (bytes.Fresh ∷ []) refl refl held (λ out. refl) in
     joined default section (Fresh ∷ []) section_bytes (bytes.Fresh ∷ []) whole (λ out. refl) (bytes.print default out bytes.Fresh)
-    ∙ ap (λ l. fold (bytes.print default) (bytes.print default out bytes.Fresh) (bytes.Bytes (codes "<section data-footnotes=\"\" class=\"footnotes\">") ∷ bytes.Bytes (heading_html options) ∷ bytes.Fresh ∷ bytes.Bytes (codes "<ol>") ∷ l))
+    ∙ ap (λ l. fold (bytes.print default) (bytes.print default out bytes.Fresh)
+    (bytes.Bytes (codes "<section data-footnotes=\"\" class=\"footnotes\">") ∷ bytes.Bytes (heading_html options) ∷ bytes.Fresh ∷ bytes.Bytes
+    (codes "<ol>") ∷ l))
     (ends shown (bytes.Fresh ∷ bytes.Bytes (codes "</ol>") ∷ []) (bytes.Fresh ∷ bytes.Bytes (codes "</section>") ∷ []) (bytes.Fresh ∷ []))
   where
     ends : (a b c d : List bytes.Piece) → ((a ++ b) ++ c) ++ d ≡ a ++ (b ++ c ++ d)

@@ -4,7 +4,7 @@ use Rattle.std.specs.List.{fold}
 use Rattle.markdown_options.specs.declared.configuration.CompileOptions.{CompileOptions}
 use Rattle.markdown_options.specs.declared.configuration.Options.{Options}
 use Rattle.definition_text.specs.Lines.{without_mark, kind_before_text}
-use Rattle.definition_block.specs.Lists.{grouped}
+use Rattle.definition_block.specs.Lists.{group_items}
 use Rattle.definition_block.specs.Tree.{blocks}
 use Rattle.definition_page.specs.TextTables.{TextTables}
 use Rattle.definition_page.specs.Targets.{document_targets}
@@ -44,8 +44,8 @@ html_is tables text options =
     let bs = blocks options.parse.constructs (kind_before_text text) (without_mark text) in
     let ds = document_targets bs in
     let blank = ends_blank false bs in
-    let kids = children_pieces (m default options tables ds) at_top None (read_blocks (r default options tables ds) on_page (grouped bs)) in
-    let shown = old.children_pieces (document options tables ds) on_page false false (grouped bs) in
+    let kids = children_pieces (m default options tables ds) at_top None (read_blocks (r default options tables ds) on_page (group_items bs)) in
+    let shown = old.children_pieces (document options tables ds) on_page false false (group_items bs) in
     page_same options.compile default (kids ++ fresh_unless (not blank)) (shown ++ old.last_piece blank)
     (joined options.compile default kids (fresh_unless (not blank)) shown (old.last_piece blank)
-    (document_same default options tables ds (grouped bs)) (last_same options.compile default blank))
+    (document_same default options tables ds (group_items bs)) (last_same options.compile default blank))

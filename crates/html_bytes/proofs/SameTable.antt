@@ -18,7 +18,8 @@ use Rattle.definition_page.specs.Tags.{tag, bare_tag, start_tag}
 use Rattle.definition_page.specs.Pieces.{Piece, Fresh}
 use Rattle.definition_page.specs.InlinePieces.{Meaning, element, inline_counts, inline_pieces}
 use Rattle.definition_page.specs.Read.{Reading, reading, read_cell, read_row, read_table}
-use Rattle.definition_page.specs.GfmTable.{head_line, delimiter_line, body_lines, line_aligns, align_attributes, cell_pieces, cells_pieces, row_pieces, ending_piece, body_row_pieces, head_pieces, body_pieces, table_pieces}
+use Rattle.definition_page.specs.GfmTable.{head_line, delimiter_line, body_lines, line_aligns, align_attributes, cell_pieces, cells_pieces, row_pieces}
+use Rattle.definition_page.specs.GfmTable.{ending_piece, body_row_pieces, head_pieces, body_pieces, table_pieces}
 use Rattle.html_bytes.specs.Document.{Document, document, meaning_of, cell_of, cell_counts}
 use Rattle.html_bytes.specs.Pieces as bytes
 use Rattle.html_bytes.specs.GfmTable as old

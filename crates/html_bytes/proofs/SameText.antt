@@ -7,17 +7,19 @@ use Rattle.markdown_options.specs.declared.configuration.Constructs.{Constructs}
 use Rattle.markdown_options.specs.declared.configuration.CompileOptions.{CompileOptions}
 use Rattle.definition_text.specs.Columns.{bytes_of, bare}
 use Rattle.definition_text.specs.Encode.{encode, encoded_byte, plain}
-use Rattle.definition_inline.specs.Inline.{Linked, Inline, Data, Escape, Character, Code, Math, Autolink, Literal, Html, EscapedBreak, TrailingBreak, LineEnd, Emphasis, Strong, Strikethrough, Link, Image, Call, Inlines, Nil, Cons}
+use Rattle.definition_inline.specs.Inline.{Linked, Inline, Data, Escape, Character, Code, Math, Autolink, Literal, Html, EscapedBreak, TrailingBreak, LineEnd}
+use Rattle.definition_inline.specs.Inline.{Emphasis, Strong, Strikethrough, Link, Image, Call, Inlines, Nil, Cons}
 use Rattle.definition_inline.specs.Strings.{string_text, eol_bytes}
-use Rattle.definition_page.specs.Urls.{percent, sanitized, permitted, href_protocols, src_protocols}
-use Rattle.definition_page.specs.GfmTagfilter.{filtered}
+use Rattle.definition_page.specs.Urls.{percent, sanitize, permitted, href_protocols, src_protocols}
+use Rattle.definition_page.specs.GfmTagfilter.{filter_if}
 use Rattle.definition_page.specs.Tags.{Said, Words, AsItIs, EndOfLine, said_bytes, attribute, attribute_bytes, tag, bare_tag, start_tag, end_tag, void_tag}
 use Rattle.definition_inline.specs.LabelMatch.{first_match, normal_label}
 use Rattle.definition_page.specs.Layout.{laid, lay, once_more, latest_call}
 use Rattle.definition_page.specs.Pieces.{Says}
 use Rattle.definition_page.specs.InlinePieces as page
 use Rattle.definition_page.specs.InlinePieces.{Meaning, HtmlLine, html_lines, leads_to, address, literal_address, element, part_says}
-use Rattle.html_bytes.specs.InlineHtml.{html_line_bytes, later_line_bytes, html_lines_bytes, html_text_bytes, title_attribute, titled, link_tag, image_tag, part_description, description, InlineMeaning, call_at, count_at, part_counts, inline_counts, part_pieces, inline_pieces}
+use Rattle.html_bytes.specs.InlineHtml.{html_line_bytes, later_line_bytes, html_lines_bytes, html_text_bytes, title_attribute, title_html, link_tag, image_tag}
+use Rattle.html_bytes.specs.InlineHtml.{part_description, description, InlineMeaning, call_at, count_at, part_counts, inline_counts, part_pieces, inline_pieces}
 use Rattle.html_bytes.specs.Pieces.{Bytes}
 use Rattle.html_bytes.specs.Meaning.{inline_meaning, link_url, image_url}
 use Rattle.html_bytes.specs.RawHtml.{raw_html}
@@ -29,7 +31,8 @@ use Rattle.html_bytes.proofs.SameLayout.{Same, Adds, add, none_same, joined, ele
 pub raw_said : (options : CompileOptions) (html : List ℕ) → said_bytes (page.raw_html options html) ≡ raw_html options html
 raw_said options html = by_case options.allow_dangerous_html
   where
-    by_case : (allowed : Bool) → said_bytes (cond allowed (AsItIs (filtered options html)) (Words html)) ≡ cond allowed (plain (filtered options html)) (encode html)
+    by_case : (allowed : Bool) → said_bytes (cond allowed (AsItIs (filter_if options html)) (Words html))
+        ≡ cond allowed (plain (filter_if options html)) (encode html)
     by_case true = refl
     by_case false = refl
 
@@ -37,12 +40,14 @@ endings_said : (ending : List ℕ) → flat_map said_bytes (map EndOfLine ending
 endings_said [] = refl
 endings_said (c ∷ cs) = ap (λ x. eol_bytes c ++ x) (endings_said cs)
 
-line_said : (options : CompileOptions) (line ending : List ℕ) → flat_map said_bytes (page.html_line_says options line ending) ≡ html_line_bytes options line ending
+line_said : (options : CompileOptions) (line ending : List ℕ) → flat_map said_bytes (page.html_line_says options line ending)
+    ≡ html_line_bytes options line ending
 line_said options line ending =
     ap (λ x. x ++ flat_map said_bytes (map EndOfLine ending)) (raw_said options (bytes_of line))
     ∙ ap (λ x. raw_html options (bytes_of line) ++ x) (endings_said ending)
 
-later_said : (options : CompileOptions) (ls : List HtmlLine) → flat_map said_bytes (flat_map (page.later_line_says options) ls) ≡ flat_map (later_line_bytes options) ls
+later_said : (options : CompileOptions) (ls : List HtmlLine) → flat_map said_bytes (flat_map (page.later_line_says options) ls)
+    ≡ flat_map (later_line_bytes options) ls
 later_said options [] = refl
 later_said options (l ∷ ls) =
     flat_map-append said_bytes (page.later_line_says options l) (flat_map (page.later_line_says options) ls)
@@ -62,11 +67,11 @@ html_said options html = lines_said options (html_lines html)
 -- ---- links
 
 url_said : (all : Bool) (protocols : List (List ℕ)) (url : List ℕ)
-    → encode (page.permitted_url all protocols url) ≡ cond all (sanitized url) (cond (permitted protocols (sanitized url)) (sanitized url) [])
+    → encode (page.permitted_url all protocols url) ≡ cond all (sanitize url) (cond (permitted protocols (sanitize url)) (sanitize url) [])
 url_said true protocols url = refl
-url_said false protocols url = by_case (permitted protocols (sanitized url))
+url_said false protocols url = by_case (permitted protocols (sanitize url))
   where
-    by_case : (t : Bool) → encode (cond t (percent url) []) ≡ cond t (sanitized url) []
+    by_case : (t : Bool) → encode (cond t (percent url) []) ≡ cond t (sanitize url) []
     by_case true = refl
     by_case false = refl
 
@@ -76,7 +81,7 @@ url_said false protocols url = by_case (permitted protocols (sanitized url))
 pub one_attribute : (start v quote : List ℕ) → start ++ (v ++ []) ++ quote ++ [] ≡ start ++ v ++ quote
 one_attribute start v quote = append-nil (start ++ (v ++ []) ++ quote) ∙ ap (λ x. start ++ x ++ quote) (append-nil v)
 
-titled_said : (text : List ℕ) → flat_map attribute_bytes (page.titled text) ≡ titled text
+titled_said : (text : List ℕ) → flat_map attribute_bytes (page.title_attributes text) ≡ title_html text
 titled_said [] = refl
 titled_said (b ∷ bs) = one_attribute (codes " title=\"") (encode (b ∷ bs)) (codes "\"")
 

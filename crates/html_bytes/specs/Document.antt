@@ -6,7 +6,7 @@ use Rattle.definition_text.specs.BlockLines.{BlockLine}
 use Rattle.definition_text.specs.InlineCode.{InlineCode, codes_of, inline_content, with_kinds}
 use Rattle.definition_inline.specs.Inline.{Inlines}
 use Rattle.definition_inline.specs.GfmTaskListItem.{check_at, check_size}
-use Rattle.definition_inline.specs.Scan.{InlineContext, inlines, inlines_from, unindented}
+use Rattle.definition_inline.specs.Scan.{InlineContext, inlines, inlines_from, without_indent}
 use Rattle.definition_text.specs.Columns.{code_byte}
 use Rattle.definition_block.specs.GfmTable.{Cell}
 use Rattle.definition_page.specs.GfmTable.{in_cell}
@@ -47,12 +47,13 @@ text_of d ls = inline_pieces (meaning_of d) (inlines (context_of d) (inline_cont
 -- the text of a paragraph of a content with this check
 abbrev pub checked_text : Document → List InlineCode → Option Bool → List Piece
 checked_text d content None = inline_pieces (meaning_of d) (inlines_from (context_of d) content)
-checked_text d content (Some done) = Bytes (check_html d.options.compile done) ∷ inline_pieces (meaning_of d) (inlines_from (context_of d) (drop check_size content))
+checked_text d content (Some done) =
+    Bytes (check_html d.options.compile done) ∷ inline_pieces (meaning_of d) (inlines_from (context_of d) (drop check_size content))
 
 -- the text of a paragraph, which may be the first block of an item (CommonMark 4.8 and GFM 5.3)
 abbrev pub paragraph_of : Document → Bool → List BlockLine → List Piece
 paragraph_of d first ls =
-    let content = unindented (inline_content d.tables.is_punctuation Whitespace ls) in
+    let content = without_indent (inline_content d.tables.is_punctuation Whitespace ls) in
     checked_text d content (check_at d.options.parse.constructs first (codes_of content))
 
 -- the inline structure of a cell of a table (GFM 4.10)

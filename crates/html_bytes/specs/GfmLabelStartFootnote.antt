@@ -3,12 +3,12 @@ use Rattle.std.specs.Prelude.{ℕ, if◌then◌else◌, nat_le, List, [], ◌++�
 use Rattle.std.specs.Fmt.{decimal}
 use Rattle.markdown_options.specs.declared.configuration.CompileOptions.{CompileOptions}
 use Rattle.definition_text.specs.Encode.{encode}
-use Rattle.definition_page.specs.Urls.{sanitized}
+use Rattle.definition_page.specs.Urls.{sanitize}
 use Rattle.definition_page.specs.GfmLabelStartFootnote.{Call, id_prefix}
 
 -- the id of a footnote
 abbrev pub footnote_id : CompileOptions → List ℕ → List ℕ
-footnote_id options label = encode (id_prefix options) ++ codes "fn-" ++ sanitized label
+footnote_id options label = encode (id_prefix options) ++ codes "fn-" ++ sanitize label
 
 -- what tells the calls of one footnote apart
 abbrev pub count_of : ℕ → List ℕ
@@ -16,7 +16,7 @@ count_of count = if nat_le count 1 then [] else codes "-" ++ decimal count
 
 -- the id of a call
 abbrev pub call_id : CompileOptions → List ℕ → ℕ → List ℕ
-call_id options label count = encode (id_prefix options) ++ codes "fnref-" ++ sanitized label ++ count_of count
+call_id options label count = encode (id_prefix options) ++ codes "fnref-" ++ sanitize label ++ count_of count
 
 -- the start tags of a call
 abbrev pub call_tag : CompileOptions → Call → List ℕ

@@ -13,8 +13,9 @@ use Rattle.definition_text.specs.Columns.{code_byte, bytes_of}
 use Rattle.definition_text.specs.Encode.{encode}
 use Rattle.html_bytes.specs.RawHtml.{raw_html}
 use Rattle.definition_text.specs.BlockLines.{BlockLine, own_lines}
-use Rattle.definition_block.specs.Tree.{Block, Paragraph, Heading, Break, IndentedCode, FencedCode, Html, Table, Definition, Holds, Items, Ending, Blank, Blocks, Nil, Cons, is_ending, blocks}
-use Rattle.definition_block.specs.Lists.{grouped, is_loose}
+use Rattle.definition_block.specs.Tree.{Block, Paragraph, Heading, Break, IndentedCode, FencedCode, Html, Table, Definition, Holds, Items, Ending, Blank}
+use Rattle.definition_block.specs.Tree.{Blocks, Nil, Cons, is_ending, blocks}
+use Rattle.definition_block.specs.Lists.{group_items, is_loose}
 use Rattle.definition_page.specs.Targets.{document_targets}
 use Rattle.definition_page.specs.TextTables.{TextTables}
 use Rattle.definition_page.specs.Read.{Standing, on_page, in_container, in_item, next_standing, list_number, ends_blank}
@@ -66,7 +67,8 @@ number_end (Some number) = codes "</ol>"
 
 -- ---- pieces
 
--- Fenced code that isn't closed has the ending of its last line, too: at the top that is one of its content, inside a container it stands outside and the default one is printed.
+-- Fenced code that isn't closed has the ending of its last line, too: at the top that is one of its content, inside a container it stands outside and the
+-- default one is printed.
 abbrev pub fenced_lines : Bool → Bool → List BlockLine → List Piece
 fenced_lines top closed ls =
     if top || closed then Bytes (code_of ls) ∷ [] else Bytes (code_of (own_lines ls)) ∷ Eol ∷ []
@@ -78,7 +80,8 @@ fenced_content top closed (line ∷ others) = fenced_lines top closed (line ∷ 
 abbrev pub fresh_unless : Bool → List Piece
 fresh_unless said = if said then [] else Fresh ∷ []
 
--- whether the ending after this child prints nothing: after a tight paragraph, after fenced code at the top that isn't closed, and after a definition of a link or a footnote; an ending that isn't there changes nothing
+-- whether the ending after this child prints nothing: after a tight paragraph, after fenced code at the top that isn't closed, and after a definition of a link
+-- or a footnote; an ending that isn't there changes nothing
 abbrev pub silences : Bool → Bool → Bool → Block → Bool
 silences top tight silent (Paragraph ls) = tight
 silences top tight silent (FencedCode info closed ls) = top && not closed
@@ -126,14 +129,15 @@ abbrev mutual
 
   pub children_pieces : Document → Standing → Bool → Bool → Blocks → List Piece
   children_pieces d standing tight silent Nil = []
-  children_pieces d standing tight silent (Cons b bs) = block_pieces d standing tight silent b ++ children_pieces d (next_standing standing b) tight (silences standing.top tight silent b) bs
+  children_pieces d standing tight silent (Cons b bs) =
+      block_pieces d standing tight silent b ++ children_pieces d (next_standing standing b) tight (silences standing.top tight silent b) bs
 
 -- the ending of a blank line asks for a fresh line where it is the very last
 abbrev pub last_piece : Bool → List Piece
 last_piece blank = if blank then Fresh ∷ [] else []
 
 abbrev pub document_pieces : Document → Blocks → List Piece
-document_pieces d bs = children_pieces d on_page false false (grouped bs) ++ last_piece (ends_blank false bs)
+document_pieces d bs = children_pieces d on_page false false (group_items bs) ++ last_piece (ends_blank false bs)
 
 -- ---- the whole
 

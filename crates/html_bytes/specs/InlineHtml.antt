@@ -9,10 +9,12 @@ use Rattle.definition_page.specs.InlinePieces.{HtmlLine, html_lines, leads_to, a
 use Rattle.html_bytes.specs.RawHtml.{raw_html}
 use Rattle.html_bytes.specs.Pieces.{Piece, Bytes, CallOf, CountOf}
 use Rattle.definition_inline.specs.LabelMatch.{first_match, normal_label}
-use Rattle.definition_inline.specs.Inline.{Linked, Inline, Data, Escape, Character, Code, Math, Autolink, Literal, Html, EscapedBreak, TrailingBreak, LineEnd, Emphasis, Strong, Strikethrough, Link, Image, Call, Inlines, Nil, Cons}
+use Rattle.definition_inline.specs.Inline.{Linked, Inline, Data, Escape, Character, Code, Math, Autolink, Literal, Html, EscapedBreak, TrailingBreak, LineEnd}
+use Rattle.definition_inline.specs.Inline.{Emphasis, Strong, Strikethrough, Link, Image, Call, Inlines, Nil, Cons}
 use Rattle.definition_inline.specs.Strings.{string_text, eol_bytes}
 
--- what is printed is given by: the options, the texts of named characters, what the definition of a label leads to, the labels of footnotes in the order in which these end, and how the URL of a link and of an image is printed as a value of its attribute
+-- what is printed is given by: the options, the texts of named characters, what the definition of a label leads to, the labels of footnotes in the order in
+-- which these end, and how the URL of a link and of an image is printed as a value of its attribute
 pub record InlineMeaning : Type 0 where
   pub on : Constructs
   pub compile : CompileOptions
@@ -27,13 +29,13 @@ abbrev pub url_of : InlineMeaning → Linked → List ℕ
 url_of meaning target = plain (string_text meaning.on meaning.names target.destination)
 
 -- the attribute of a title that isn't empty
-abbrev pub titled : List ℕ → List ℕ
-titled [] = []
-titled (b ∷ bs) = codes " title=\"" ++ encode (b ∷ bs) ++ codes "\""
+abbrev pub title_html : List ℕ → List ℕ
+title_html [] = []
+title_html (b ∷ bs) = codes " title=\"" ++ encode (b ∷ bs) ++ codes "\""
 
 abbrev pub title_attribute : InlineMeaning → Option (List ℕ) → List ℕ
 title_attribute meaning None = []
-title_attribute meaning (Some title) = titled (string_text meaning.on meaning.names title)
+title_attribute meaning (Some title) = title_html (string_text meaning.on meaning.names title)
 
 -- ---- raw HTML
 

@@ -2,7 +2,7 @@
 use Rattle.std.specs.Prelude.{ℕ, List, [], ◌∷◌, ◌++◌, map}
 use Rattle.std.specs.List.{fold}
 use Rattle.markdown_options.specs.declared.configuration.CompileOptions.{CompileOptions}
-use Rattle.definition_page.specs.Layout.{once_more, latest_call, Laid, laid, note_ended, note_of}
+use Rattle.definition_page.specs.Layout.{once_more, latest_call, Laid, laid, note_end, note_of}
 use Rattle.html_bytes.specs.Pieces.{Piece, Bytes, Eol, Fresh, CallOf, CountOf, NoteStart, NoteEnd, print}
 use Rattle.html_bytes.specs.GfmLabelStartFootnote.{call_html}
 use Rattle.html_bytes.specs.GfmFootnoteDefinition.{section_pieces}
@@ -20,15 +20,15 @@ lay options default l (CallOf place label) =
     let called = once_more place label l.called in laid (l.text ++ call_html options (latest_call place 1 called)) l.outer l.notes called
 lay options default l (CountOf place label) = laid l.text l.outer l.notes (once_more place label l.called)
 lay options default l NoteStart = laid [] (l.text ∷ l.outer) l.notes l.called
-lay options default l NoteEnd = note_ended l.text l.outer l.notes l.called
+lay options default l NoteEnd = note_end l.text l.outer l.notes l.called
 
 -- a page on which nothing is laid out
 abbrev pub nothing_laid : Laid
 nothing_laid = laid [] [] [] []
 
 -- a page, and after it the footnotes that are called
-abbrev pub finished : CompileOptions → List ℕ → Laid → List ℕ
-finished options default l = fold (print default) l.text (section_pieces options (map (note_of l.notes) l.called))
+abbrev pub with_footnotes : CompileOptions → List ℕ → Laid → List ℕ
+with_footnotes options default l = fold (print default) l.text (section_pieces options (map (note_of l.notes) l.called))
 
 abbrev pub page_layout : CompileOptions → List ℕ → List Piece → List ℕ
-page_layout options default pieces = finished options default (fold (lay options default) nothing_laid pieces)
+page_layout options default pieces = with_footnotes options default (fold (lay options default) nothing_laid pieces)

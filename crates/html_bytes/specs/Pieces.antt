@@ -2,7 +2,9 @@
 use Rattle.std.specs.Prelude.{ℕ, if◌then◌else◌, List, ◌++◌}
 use Rattle.definition_page.specs.Pieces.{is_fresh}
 
--- bytes, the default ending, or that ending unless nothing, CR or LF stands before; and what footnotes need: a call, and one that isn't printed but counts, each with the place of its footnote, in the order in which these end, and with its label as labels are matched; the start and the end of a footnote definition
+-- bytes, the default ending, or that ending unless nothing, CR or LF stands before; and what footnotes need: a call, and one that isn't printed but counts,
+-- each with the place of its footnote, in the order in which these end, and with its label as labels are matched; the start and the end of a footnote
+-- definition
 pub data Piece : Type 0 where
   Bytes : List ℕ → Piece
   Eol : Piece

@@ -8,7 +8,8 @@ use Rattle.html_bytes.specs.InlineHtml.{inline_pieces, check_html}
 use Rattle.html_bytes.specs.Pieces.{Bytes}
 
 module _ (d : Document) (first : Bool) (content here : List InlineCode) (codes : List ℕ) (is : here ≡ content) (read : codes_of here ≡ codes) where
-  check_is : (found : Option Bool) → found ≡ check_at d.options.parse.constructs first codes → found ≡ check_at d.options.parse.constructs first (codes_of content)
+  check_is : (found : Option Bool) → found ≡ check_at d.options.parse.constructs first codes
+      → found ≡ check_at d.options.parse.constructs first (codes_of content)
   check_is found e = e ∙ ap (check_at d.options.parse.constructs first) (sym read ∙ ap codes_of is)
 
   pub text_alone : None ≡ check_at d.options.parse.constructs first codes

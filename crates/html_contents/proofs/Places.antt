@@ -12,12 +12,13 @@ use Rattle.inline_rows.specs.declared.row.InlineRow.{InlineRow}
 use Rattle.inline_rows.specs.declared.row.InlineRow.TheVariants.{Text, Leaf, EnterSpan, EnterLink, EnterImage, Call, Exit}
 use Rattle.inline_rows.specs.View.{linked_view, target_linked, row_view, rows_view}
 use Rattle.inline_rows.specs.InlineRows as rows
-use Rattle.html_inline.specs.Opens.{nowhere, place_linked}
+use Rattle.html_inline.specs.Opens.{nowhere, place_target}
 
 abbrev leads_to_one : Definition → inline.Linked
 leads_to_one d = inline.linked d.destination d.title
 
-pub same_place : (links : List Linked) (ds : List Definition) → map linked_view links ≡ map leads_to_one ds → (place : ℕ) → place_linked links place ≡ linked_at ds place
+pub same_place : (links : List Linked) (ds : List Definition) → map linked_view links ≡ map leads_to_one ds → (place : ℕ)
+    → place_target links place ≡ linked_at ds place
 same_place links ds is place = ap (λ l. slice_index_or l place nowhere) is ∙ get_or-map leads_to_one ds place no_definition
 
 module _ (at beside : ℕ → inline.Linked) (same : (place : ℕ) → at place ≡ beside place) where
@@ -36,4 +37,5 @@ module _ (at beside : ℕ → inline.Linked) (same : (place : ℕ) → at place 
 
   pub same_rows : (rs : List InlineRow) → rows_view at rs ≡ rows_view beside rs
   same_rows [] = refl
-  same_rows (r ∷ rs) = flat_map-cons (row_view at) r rs ∙ ap (λ x. x ++ rows_view at rs) (same_row r) ∙ ap (λ x. row_view beside r ++ x) (same_rows rs) ∙ sym (flat_map-cons (row_view beside) r rs)
+  same_rows (r ∷ rs) = flat_map-cons (row_view at) r rs ∙ ap (λ x. x ++ rows_view at rs) (same_row r) ∙ ap (λ x. row_view beside r ++ x) (same_rows rs)
+      ∙ sym (flat_map-cons (row_view beside) r rs)

@@ -27,8 +27,7 @@ impl<'a, T: Tables, A: Allocator + Clone> Texts<'a, T, A> {
             let d = document_by T.Tables self.now ds in LaysOut d result out.old out.new (cell_of d (cell_view cell.now)) }
     {
         let lines = [cell.line];
-        buffers.content.join(&lines)?;
-        let content = buffers.content.content(cell.after);
+        let content = buffers.content.content_of(&lines, cell.after)?;
         self.push_content(out, &mut buffers.scratch, &mut buffers.room, true, content)
     }
     /// Counts the calls of footnotes in a cell that isn't printed, since it stands beyond the columns
@@ -43,8 +42,7 @@ impl<'a, T: Tables, A: Allocator + Clone> Texts<'a, T, A> {
             let d = document_by T.Tables self.now ds in LaysOut d result out.old out.new (cell_counts d (cell_view cell.now)) }
     {
         let lines = [cell.line];
-        buffers.content.join(&lines)?;
-        let content = buffers.content.content(cell.after);
+        let content = buffers.content.content_of(&lines, cell.after)?;
         self.count_content(out, &mut buffers.scratch, &mut buffers.room, content)
     }
 }

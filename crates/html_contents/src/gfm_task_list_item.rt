@@ -2,7 +2,7 @@
 ghost use Rattle.std.specs.Prelude.{List};
 ghost use Rattle.definition_page.specs.Targets.{Targets};
 ghost use Rattle.definition_inline.specs.GfmTaskListItem.{check_at};
-ghost use Rattle.definition_inline.specs.Scan.{unindented};
+ghost use Rattle.definition_inline.specs.Scan.{without_indent};
 ghost use Rattle.definition_text.specs.InlineCode.{codes_of};
 ghost use Rattle.html_bytes.specs.Document.{checked_text};
 ghost use Rattle.inline_content.specs.View.{content_view};
@@ -31,7 +31,7 @@ impl<'a, T: Tables, A: Allocator + Clone> Texts<'a, T, A> {
     ) -> Result<(), AllocError>
         ensures { (ds : Targets) → KnowsTargets self.now ds →
             let d = document_by T.Tables self.now ds in
-            let codes = unindented (content_view (T.punctuation_of self.now.tables.now) content.entry) in
+            let codes = without_indent (content_view (T.punctuation_of self.now.tables.now) content.entry) in
             let text = checked_text d codes (check_at self.now.options.now.parse.constructs first (codes_of codes)) in
             LaysOut d result out.old out.new text }
     {

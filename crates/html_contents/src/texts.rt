@@ -10,16 +10,16 @@ ghost use Rattle.definition_inline.specs.Scan.{inlines, inlines_from};
 ghost use Rattle.definition_text.specs.BlockLines.{own_lines};
 ghost use Rattle.inline_content.specs.View.{content_view, view_at};
 ghost use Rattle.inline_parser.specs.Scanned.{IsPlace};
-ghost use Rattle.html_inline.specs.GfmTable.{shown};
+ghost use Rattle.html_inline.specs.GfmTable.{parts_in_cell};
 
 use crate::buffers::TextBuffers;
 use block_rows::Piece;
 use definition_text::Kind;
 use html_footnotes::Output;
-use html_inline::{Printing, Scratch, count_rows, push_encoded_string, push_rows};
-use inline_content::{Content, whole_content};
+use html_inline::{Printing, Scratch, count_rows, push_encoded_string, push_plain, push_rows};
+use inline_content::{Content, line_content, whole_content};
 use inline_labels::LabelTable;
-use inline_parser::{Room, content_start, inline_rows};
+use inline_parser::{Room, content_start, inline_rows, is_plain};
 use inline_rows::Linked;
 use markdown_options::{Options, Tables};
 use std::alloc::{AllocError, Allocator};
@@ -50,6 +50,9 @@ impl<'a, T: Tables, A: Allocator + Clone> Texts<'a, T, A> {
         ensures { (ds : Targets) → KnowsTargets self.now ds → AreLines (piece_lines lines.now) →
             let d = document_by T.Tables self.now ds in LaysOut d result out.old out.new (text_of d (own_lines (piece_lines lines.now))) }
     {
+        if let Some(content) = line_content(lines, Kind::Whitespace) {
+            return self.push_content(out, &mut buffers.scratch, &mut buffers.room, false, content);
+        }
         buffers.content.join(lines)?;
         let content = buffers.content.content(Kind::Whitespace);
         self.push_content(out, &mut buffers.scratch, &mut buffers.room, false, content)
@@ -68,6 +71,9 @@ impl<'a, T: Tables, A: Allocator + Clone> Texts<'a, T, A> {
             let d = document_by T.Tables self.now ds in
             LaysOut d result out.old out.new (paragraph_of d first (own_lines (piece_lines lines.now))) }
     {
+        if let Some(content) = line_content(lines, Kind::Whitespace) {
+            return self.push_checked(out, &mut buffers.scratch, &mut buffers.room, first, content);
+        }
         buffers.content.join(lines)?;
         let content = buffers.content.content(Kind::Whitespace);
         self.push_checked(out, &mut buffers.scratch, &mut buffers.room, first, content)
@@ -84,8 +90,7 @@ impl<'a, T: Tables, A: Allocator + Clone> Texts<'a, T, A> {
             let d = document_by T.Tables self.now ds in LaysOut d result out.old out.new (text_of d (own_lines (piece_line line.now ∷ []))) }
     {
         let lines = [*line];
-        buffers.content.join(&lines)?;
-        let content = buffers.content.content(Kind::Whitespace);
+        let content = buffers.content.content_of(&lines, Kind::Whitespace)?;
         self.push_content(out, &mut buffers.scratch, &mut buffers.room, false, content)
     }
 
@@ -127,7 +132,7 @@ impl<'a, T: Tables, A: Allocator + Clone> Texts<'a, T, A> {
         ensures { (ds : Targets) → KnowsTargets self.now ds →
             let d = document_by T.Tables self.now ds in
             let structure = inlines (context_of d) (content_view (T.punctuation_of self.now.tables.now) content.entry) in
-            LaysOut d result out.old out.new (inline_pieces (meaning_of d) (shown cell structure)) }
+            LaysOut d result out.old out.new (inline_pieces (meaning_of d) (parts_in_cell cell structure)) }
     {
         self.push_from(out, scratch, room, cell, content, content_start(content))
     }
@@ -146,9 +151,12 @@ impl<'a, T: Tables, A: Allocator + Clone> Texts<'a, T, A> {
         ensures { (ds : Targets) → KnowsTargets self.now ds →
             let d = document_by T.Tables self.now ds in
             let structure = inlines_from (context_of d) (view_at (T.punctuation_of self.now.tables.now) content.entry start.now) in
-            LaysOut d result out.old out.new (inline_pieces (meaning_of d) (shown cell structure)) }
+            LaysOut d result out.old out.new (inline_pieces (meaning_of d) (parts_in_cell cell structure)) }
     {
         let parse = &self.options.parse;
+        if is_plain(parse, start) {
+            return push_plain(out, start);
+        }
         let rows = inline_rows(
             room,
             parse,
@@ -179,7 +187,7 @@ impl<'a, T: Tables, A: Allocator + Clone> Texts<'a, T, A> {
         ensures { (ds : Targets) → KnowsTargets self.now ds →
             let d = document_by T.Tables self.now ds in
             let structure = inlines (context_of d) (content_view (T.punctuation_of self.now.tables.now) content.entry) in
-            LaysOut d result out.old out.new (inline_counts (meaning_of d) (shown true structure)) }
+            LaysOut d result out.old out.new (inline_counts (meaning_of d) (parts_in_cell true structure)) }
     {
         let parse = &self.options.parse;
         let definitions = self.links;

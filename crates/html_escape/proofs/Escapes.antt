@@ -1,11 +1,12 @@
 -- What the bytes of URLs are printed as.
-use Rattle.std.proofs.Common.{◌≡◌, ◌≢◌, ℕ, ◌<◌, ◌≤◌, ◌+◌, ◌-◌, get_or, length, drop, ◌/◌, ◌%◌, Bool, true, false, true≢false, not, ◌&&◌, Fits, w8, eqb, ltb, List, [], ◌∷◌, ◌++◌, refl, sym, ap, ◌∙◌, inl, inr, arith}
+use Rattle.std.proofs.Common.{◌≡◌, ◌≢◌, ℕ, ◌<◌, ◌≤◌, ◌+◌, ◌-◌, get_or, length, drop, ◌/◌, ◌%◌, Bool, true, false, true≢false, not, ◌&&◌, Fits, w8, eqb, ltb}
+use Rattle.std.proofs.Common.{List, [], ◌∷◌, ◌++◌, refl, sym, ap, ◌∙◌, inl, inr, arith}
 use Rattle.std.specs.Fmt.{digit_glyph}
 use Rattle.std.proofs.lemmas.Bool.{agree_below_at, and_parts, cases_Bool, cond-false, cond-true, ne_eqb, ltb-true, ltb-false, or_left}
 use Rattle.std.proofs.lemmas.List.Concat.{flat_map-append}
 use Rattle.percent_encoding.specs.Percent.{percent_encode_byte}
 use Rattle.definition_text.specs.Encode.{encode, encoded_byte}
-use Rattle.definition_page.specs.Urls.{escape, percent, percent_byte, sanitized, is_kept, is_url_byte}
+use Rattle.definition_page.specs.Urls.{escape, percent, percent_byte, sanitize, is_kept, is_url_byte}
 use Rattle.std.specs.List.{prefix_len}
 use Rattle.std.proofs.lemmas.List.{get_or-drop, length-drop}
 use Rattle.std.proofs.lemmas.List.Sums.{prefix_len_passes, prefix_len-le-length}
@@ -53,7 +54,7 @@ pub escaped_byte : (b : ℕ) (after : List ℕ) → b < 256 → is_kept b after 
 escaped_byte b after small h = ap encode (cond-false _ (b ∷ []) (escape b) h) ∙ encode-escape b small ∙ sym (library_escape b small)
 
 -- a URL, byte by byte
-pub sanitized_more : (b : ℕ) (bs : List ℕ) → sanitized (b ∷ bs) ≡ url_byte b bs ++ sanitized bs
+pub sanitized_more : (b : ℕ) (bs : List ℕ) → sanitize (b ∷ bs) ≡ url_byte b bs ++ sanitize bs
 sanitized_more b bs = flat_map-append encoded_byte (percent_byte b bs) (percent bs)
 
 -- a byte that needs no look at those after it
@@ -82,13 +83,18 @@ module _ (url : List ℕ) (fits : (k : ℕ) → Fits w8 (get_or url k 0)) (i : �
   passes : (k : ℕ) → i ≤ k → k < i + run → is_plain_byte (get_or url k 0) ≡ true
   passes k from to =
       let place : i + (k - i) ≡ k = omega arith in
-      ap is_plain_byte (sym (get_or-drop i url (k - i) 0 ∙ ap (λ j. get_or url j 0) place)) ∙ prefix_len_passes is_plain_byte (drop i url) (k - i) 0 (omega arith)
+      ap is_plain_byte (sym (get_or-drop i url (k - i) 0 ∙ ap (λ j. get_or url j 0) place))
+      ∙ prefix_len_passes is_plain_byte (drop i url) (k - i) 0 (omega arith)
 
   pub run_ascii : (k : ℕ) → i ≤ k → k < i + run → get_or url k 0 < 128
   run_ascii k from to = plain_byte_ascii (get_or url k 0) (fits k) (passes k from to)
 
-  pub run_waits : (before out : List ℕ) (start : ℕ) → i ≤ length url → start ≤ i → IsPrintedAt sanitized url before out start i
-      → IsPrintedAt sanitized url before out start (i + run)
+  pub run_waits : (before out : List ℕ) (start : ℕ) → i ≤ length url → start ≤ i → IsPrintedAt sanitize url before out start i
+      → IsPrintedAt sanitize url before out start (i + run)
   run_waits before out start le waits same =
-      all_wait sanitized url_byte sanitized_more url before out start run i (omega (arith, length-drop i url, prefix_len-le-length is_plain_byte (drop i url))) waits same
+      all_wait sanitize url_byte sanitized_more url before out start run i (omega (
+        arith,
+        length-drop i url,
+        prefix_len-le-length is_plain_byte (drop i url),
+      )) waits same
       (λ k after from to. plain_byte_stays (get_or url k 0) after (passes k from to))

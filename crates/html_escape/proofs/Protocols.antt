@@ -32,7 +32,8 @@ same_lower (p ∷ ps) (n ∷ ns) =
     let upper = list_any is_ascii_uppercase ps in
     elim (cases_Bool (is_ascii_uppercase p)) [
       | inl h ↦
-          let other : eqb p (to_ascii_lowercase n) ≡ false = ne_eqb p (to_ascii_lowercase n) (λ e. let no : true ≡ false = sym h ∙ ap is_ascii_uppercase e ∙ lower_not_upper n in cc) in
+          let other : eqb p (to_ascii_lowercase n) ≡ false =
+          ne_eqb p (to_ascii_lowercase n) (λ e. let no : true ≡ false = sym h ∙ ap is_ascii_uppercase e ∙ lower_not_upper n in cc) in
           ap (λ u. same_caselessly (p ∷ ps) (n ∷ ns) && not (u || upper)) h
           ∙ and_false (same_caselessly (p ∷ ps) (n ∷ ns))
           ∙ sym (ap (λ e. e && bytes_eq ps (lower ns)) other)

@@ -1,5 +1,6 @@
 -- One more byte of a text in which some bytes are printed as something else.
-use Rattle.std.proofs.Common.{◌≡◌, ℕ, zero, suc, subst, ◌+◌, ◌-◌, ◌<◌, ◌≤◌, Bool, false, not, List, [], ◌∷◌, ◌++◌, sym, ap, ◌∙◌, get_or, length, drop, take, arith, append_assoc}
+use Rattle.std.proofs.Common.{◌≡◌, ℕ, zero, suc, subst, ◌+◌, ◌-◌, ◌<◌, ◌≤◌, Bool, false, not, List, [], ◌∷◌, ◌++◌, sym, ap, ◌∙◌, get_or, length, drop, take}
+use Rattle.std.proofs.Common.{arith, append_assoc}
 use Rattle.std.proofs.lemmas.List.Sums.{fails_before_first, prefix_len-le-length}
 use Rattle.std.specs.List.{position_or_len}
 use Rattle.text_search.specs.declared.set.ByteSet.{ByteSet}
@@ -7,7 +8,8 @@ use Rattle.text_search.specs.Sets.{holds}
 use Rattle.std.proofs.lemmas.List.{take_more, take_rest, drop_more, append-nil, get_or-drop, length-drop}
 
 -- Bytes are printed as `whole`, each of them as `at`, given those after it. The bytes from `start` to the place wait to be printed as they are.
-module _ (whole : List ℕ → List ℕ) (at : ℕ → List ℕ → List ℕ) (more : (b : ℕ) (bs : List ℕ) → whole (b ∷ bs) ≡ at b bs ++ whole bs) (text before out : List ℕ) (start i : ℕ) where
+module _ (whole : List ℕ → List ℕ) (at : ℕ → List ℕ → List ℕ) (more : (b : ℕ) (bs : List ℕ)
+    → whole (b ∷ bs) ≡ at b bs ++ whole bs) (text before out : List ℕ) (start i : ℕ) where
   -- what was printed, and the bytes that wait
   abbrev so_far : List ℕ
   so_far = out ++ take (i - start) (drop start text)
@@ -65,7 +67,8 @@ abbrev pub IsPrintedAt : (List ℕ → List ℕ) → List ℕ → List ℕ → L
 IsPrintedAt whole text before out start i = (out ++ take (i - start) (drop start text)) ++ whole (drop i text) ≡ before ++ whole text
 
 -- bytes that are printed as they are wait
-pub all_wait : (whole : List ℕ → List ℕ) (at : ℕ → List ℕ → List ℕ) (more : (b : ℕ) (bs : List ℕ) → whole (b ∷ bs) ≡ at b bs ++ whole bs) (text before out : List ℕ) (start n i : ℕ)
+pub all_wait : (whole : List ℕ → List ℕ) (at : ℕ → List ℕ → List ℕ) (more : (b : ℕ) (bs : List ℕ)
+    → whole (b ∷ bs) ≡ at b bs ++ whole bs) (text before out : List ℕ) (start n i : ℕ)
     → i + n ≤ length text → start ≤ i → IsPrintedAt whole text before out start i
     → ((k : ℕ) (after : List ℕ) → i ≤ k → k < i + n → at (get_or text k 0) after ≡ get_or text k 0 ∷ []) → IsPrintedAt whole text before out start (i + n)
 all_wait whole at more text before out start zero i room le same as_is = subst (IsPrintedAt whole text before out start) (omega arith) same
@@ -80,11 +83,13 @@ pub is_within : (p : ℕ → Bool) (text : List ℕ) (i next : ℕ) → i ≤ le
 is_within p text i next le is = omega (arith, is, length-drop i text, prefix_len-le-length (λ x. not (p x)) (drop i text))
 
 -- the bytes before the next one of a set wait, where none but those of the set are printed as something else
-pub passed_over : (set : ByteSet) (whole : List ℕ → List ℕ) (at : ℕ → List ℕ → List ℕ) (more : (b : ℕ) (bs : List ℕ) → whole (b ∷ bs) ≡ at b bs ++ whole bs) (text before out : List ℕ) (start i next : ℕ)
+pub passed_over : (set : ByteSet) (whole : List ℕ → List ℕ) (at : ℕ → List ℕ → List ℕ) (more : (b : ℕ) (bs : List ℕ)
+    → whole (b ∷ bs) ≡ at b bs ++ whole bs) (text before out : List ℕ) (start i next : ℕ)
     → ((b : ℕ) (after : List ℕ) → holds set b ≡ false → at b after ≡ b ∷ []) → i ≤ length text → start ≤ i → next ≡ position_or_len (holds set) (drop i text)
     → IsPrintedAt whole text before out start i → IsPrintedAt whole text before out start (i + next)
 passed_over set whole at more text before out start i next others le waits is same =
     all_wait whole at more text before out start next i (is_within (holds set) text i next le is) waits same (λ k after from to.
     let place : i + (k - i) ≡ k = omega arith in
     others (get_or text k 0) after
-    (ap (holds set) (sym (get_or-drop i text (k - i) 0 ∙ ap (λ j. get_or text j 0) place)) ∙ fails_before_first (holds set) (drop i text) (k - i) 0 (omega (arith, is))))
+    (ap (holds set) (sym (get_or-drop i text (k - i) 0 ∙ ap (λ j. get_or text j 0) place))
+    ∙ fails_before_first (holds set) (drop i text) (k - i) 0 (omega (arith, is))))

@@ -2,6 +2,6 @@
 use Rattle.std.specs.Prelude.{ℕ, List, [], ◌∷◌, ◌++◌}
 
 -- a text, each byte as `at` says, given those after it
-abbrev pub replaced : (ℕ → List ℕ → List ℕ) → List ℕ → List ℕ
-replaced at [] = []
-replaced at (b ∷ bs) = at b bs ++ replaced at bs
+abbrev pub replace_bytes : (ℕ → List ℕ → List ℕ) → List ℕ → List ℕ
+replace_bytes at [] = []
+replace_bytes at (b ∷ bs) = at b bs ++ replace_bytes at bs

@@ -9,7 +9,7 @@ ghost use Rattle.markdown_options.specs.Messages.{IsOutOfMemory};
 ghost use Rattle.definition_text.specs.Encode.{plain};
 ghost use Rattle.definition_block.specs.HtmlNames.{is_one_of};
 ghost use Rattle.definition_text.specs.Bytes.{is_letter, after_all};
-ghost use Rattle.definition_page.specs.GfmTagfilter.{begins_with_filtered_name, ends_filtered_name, filtered_names, is_filtered, tags_filtered};
+ghost use Rattle.definition_page.specs.GfmTagfilter.{begins_with_filtered_name, ends_filtered_name, filtered_names, is_filtered, filter_tags};
 ghost use Rattle.html_escape.specs.Tools.{filtered_if};
 
 use crate::replaced::{Replacement, push_replaced};
@@ -73,7 +73,7 @@ impl Replacement for RawHtml {
 
 /// HTML in which the `<` of each filtered tag is a reference (GFM 6.11).
 pub fn gfm_tagfilter<A: Allocator>(alloc: A, value: &str) -> Result<String<A>, Message>
-    ensures text { IfOk result (λ text. string_bytes text ≡ tags_filtered value.now) }
+    ensures text { IfOk result (λ text. string_bytes text ≡ filter_tags value.now) }
     ensures memory { IfErr result IsOutOfMemory }
 {
     let mut out = String::with_capacity(alloc, value.len())?;
@@ -83,7 +83,7 @@ pub fn gfm_tagfilter<A: Allocator>(alloc: A, value: &str) -> Result<String<A>, M
 
 /// Prints HTML with a reference for the `<` of each filtered tag (GFM 6.11).
 pub fn push_filtered<A: Allocator>(out: &mut String<A>, html: &str) -> Result<(), AllocError>
-    ensures { OnOk result (string_bytes out.new ≡ string_bytes out.old ++ tags_filtered html.now) }
+    ensures { OnOk result (string_bytes out.new ≡ string_bytes out.old ++ filter_tags html.now) }
 {
     push_replaced(&Tags, out, html)
 }

@@ -1,6 +1,6 @@
 //! Texts in which some bytes are printed as something else.
 ghost use Rattle.std.specs.Prelude.{◌≡◌, ◌++◌, ℕ, List, [], ◌∷◌, ◌<◌, OnOk, OnSome, MatchOption, false, string_bytes};
-ghost use Rattle.html_escape.specs.Replaced.{replaced};
+ghost use Rattle.html_escape.specs.Replaced.{replace_bytes};
 ghost use Rattle.text_search.specs.Sets.{holds};
 
 use std::alloc::{AllocError, Allocator};
@@ -28,7 +28,7 @@ pub(crate) fn push_replaced<R: Replacement, A: Allocator>(
     out: &mut String<A>,
     text: &str,
 ) -> Result<(), AllocError>
-    ensures { OnOk result (string_bytes out.new ≡ string_bytes out.old ++ replaced (R.printed tool.now) text.now) }
+    ensures { OnOk result (string_bytes out.new ≡ string_bytes out.old ++ replace_bytes (R.printed tool.now) text.now) }
 {
     let bytes = text.as_bytes();
     let candidates = tool.candidates();

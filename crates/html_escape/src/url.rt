@@ -10,7 +10,7 @@ ghost use Rattle.std.specs.Option.{option_copied};
 ghost use Rattle.std.specs.Str.{IsCharBoundary, bytes_eq};
 ghost use Rattle.markdown_options.specs.Messages.{IsOutOfMemory};
 ghost use Rattle.definition_text.specs.Bytes.{lower};
-ghost use Rattle.definition_page.specs.Urls.{is_kept, is_url_byte, ends_escape, sanitized, sanitized_with, in_protocol, ends_protocol, protocol, permitted};
+ghost use Rattle.definition_page.specs.Urls.{is_kept, is_url_byte, ends_escape, sanitize, sanitized_with, in_protocol, ends_protocol, protocol, permitted};
 ghost use Rattle.html_escape.specs.Tools.{is_plain_byte, url_byte};
 
 use markdown_options::Message;
@@ -29,7 +29,7 @@ const PLAIN: ByteClass = ByteClass {
 
 /// A URL as it is printed, whatever its protocol.
 pub fn sanitize<A: Allocator>(alloc: A, value: &str) -> Result<String<A>, Message>
-    ensures text { IfOk result (λ text. string_bytes text ≡ sanitized value.now) }
+    ensures text { IfOk result (λ text. string_bytes text ≡ sanitize value.now) }
     ensures memory { IfErr result IsOutOfMemory }
 {
     let mut out = String::with_capacity(alloc, value.len())?;
@@ -126,7 +126,7 @@ fn has_uppercase(bytes: &[u8]) -> bool
 
 /// Prints a URL, whatever its protocol.
 pub fn push_sanitized<A: Allocator>(out: &mut String<A>, url: &str) -> Result<(), AllocError>
-    ensures { OnOk result (string_bytes out.new ≡ string_bytes out.old ++ sanitized url.now) }
+    ensures { OnOk result (string_bytes out.new ≡ string_bytes out.old ++ sanitize url.now) }
 {
     let bytes = url.as_bytes();
     let mut start = 0;

@@ -35,7 +35,7 @@ impl<A: Allocator> Model for Calls<A> {
     ghost use Rattle.std.specs.Prelude.{List, map};
     ghost use Rattle.definition_page.specs.Layout as layout;
 
-    ghost Value = { List layout.Called };
+    ghost Value = { List layout.NoteCalls };
 
     ghost use Rattle.html_footnotes.specs.Calls.{AreNumbers, called_view};
 

@@ -2,7 +2,7 @@
 ghost use Rattle.std.specs.Prelude.{◌≡◌, ℕ, List, IfOk, string_bytes};
 ghost use Rattle.markdown_options.specs.declared.configuration.CompileOptions.{CompileOptions};
 ghost use Rattle.markdown_options.specs.LineEndings.{ending_bytes};
-ghost use Rattle.html_bytes.specs.Layout.{finished, nothing_laid};
+ghost use Rattle.html_bytes.specs.Layout.{with_footnotes, nothing_laid};
 ghost use Rattle.html_bytes.specs.Pieces.{CallOf, CountOf, NoteEnd, NoteStart};
 ghost use Rattle.html_footnotes.specs.Output.{Lays, output_view};
 
@@ -86,7 +86,7 @@ impl<A: Allocator + Clone> Output<A> {
         compile: &CompileOptions,
         ending: LineEnding,
     ) -> Result<String<A>, AllocError>
-        ensures { IfOk result (λ html. string_bytes html ≡ finished compile.now (ending_bytes ending) (output_view self)) }
+        ensures { IfOk result (λ html. string_bytes html ≡ with_footnotes compile.now (ending_bytes ending) (output_view self)) }
     {
         let Output {
             mut html,

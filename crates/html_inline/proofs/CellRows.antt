@@ -3,14 +3,15 @@ use Rattle.std.proofs.Common.{◌≡◌, Bool, true, false, List, [], ◌∷◌,
 use Rattle.std.specs.Prelude.{map}
 use Rattle.std.specs.List.{fold}
 use Rattle.std.proofs.lemmas.List.{map-append}
-use Rattle.definition_inline.specs.Inline.{Target, Linked, Inline, Data, Escape, Character, Code, Math, Autolink, Literal, Html, EscapedBreak, TrailingBreak, LineEnd, Emphasis, Strong, Strikethrough, Link, Image, Call, Inlines, Nil, Cons}
+use Rattle.definition_inline.specs.Inline.{Target, Linked, Inline, Data, Escape, Character, Code, Math, Autolink, Literal, Html, EscapedBreak, TrailingBreak}
+use Rattle.definition_inline.specs.Inline.{LineEnd, Emphasis, Strong, Strikethrough, Link, Image, Call, Inlines, Nil, Cons}
 use Rattle.definition_page.specs.GfmTable.{part_in_cell, in_cell}
 use Rattle.html_bytes.specs.InlineHtml.{InlineMeaning}
 use Rattle.inline_rows.specs.InlineRows.{InlineRow, Part, EnterSpan, EnterLink, EnterImage, Leave, part_rows, inline_rows}
-use Rattle.html_inline.specs.Printed.{Printed, row_printed}
-use Rattle.html_inline.specs.GfmTable.{shown, part_shown, row_shown, row_printed_in}
+use Rattle.html_inline.specs.Printed.{Printed, with_row}
+use Rattle.html_inline.specs.GfmTable.{parts_in_cell, inline_in_cell, row_in_cell, row_printed_in}
 
-part_unshown : (i : Inline) → part_shown false i ≡ i
+part_unshown : (i : Inline) → inline_in_cell false i ≡ i
 part_unshown (Data b) = refl
 part_unshown (Escape b) = refl
 part_unshown (Character text) = refl
@@ -29,25 +30,25 @@ part_unshown (Link target kids) = refl
 part_unshown (Image target kids) = refl
 part_unshown (Call label) = refl
 
-row_unshown : (r : InlineRow) → row_shown false r ≡ r
+row_unshown : (r : InlineRow) → row_in_cell false r ≡ r
 row_unshown (Part i) = ap Part (part_unshown i)
 row_unshown (EnterSpan span) = refl
 row_unshown (EnterLink target) = refl
 row_unshown (EnterImage target) = refl
 row_unshown Leave = refl
 
-rows_unshown : (rows : List InlineRow) → map (row_shown false) rows ≡ rows
+rows_unshown : (rows : List InlineRow) → map (row_in_cell false) rows ≡ rows
 rows_unshown [] = refl
-rows_unshown (r ∷ rs) = ap (λ x. x ∷ map (row_shown false) rs) (row_unshown r) ∙ ap (λ l. r ∷ l) (rows_unshown rs)
+rows_unshown (r ∷ rs) = ap (λ x. x ∷ map (row_in_cell false) rs) (row_unshown r) ∙ ap (λ l. r ∷ l) (rows_unshown rs)
 
 module _ (leads : Target → Linked) where
   -- where a part starts, its kids stand, and it ends
-  around : (first : InlineRow) (kids : Inlines) → map (row_shown true) (inline_rows leads kids) ≡ inline_rows leads (in_cell kids)
-      → first ∷ map (row_shown true) (inline_rows leads kids ++ Leave ∷ []) ≡ first ∷ (inline_rows leads (in_cell kids) ++ Leave ∷ [])
-  around first kids h = ap (λ l. first ∷ l) (map-append (row_shown true) (inline_rows leads kids) (Leave ∷ []) ∙ ap (λ l. l ++ Leave ∷ []) h)
+  around : (first : InlineRow) (kids : Inlines) → map (row_in_cell true) (inline_rows leads kids) ≡ inline_rows leads (in_cell kids)
+      → first ∷ map (row_in_cell true) (inline_rows leads kids ++ Leave ∷ []) ≡ first ∷ (inline_rows leads (in_cell kids) ++ Leave ∷ [])
+  around first kids h = ap (λ l. first ∷ l) (map-append (row_in_cell true) (inline_rows leads kids) (Leave ∷ []) ∙ ap (λ l. l ++ Leave ∷ []) h)
 
   mutual
-    part_cell_rows : (i : Inline) → map (row_shown true) (part_rows leads i) ≡ part_rows leads (part_in_cell i)
+    part_cell_rows : (i : Inline) → map (row_in_cell true) (part_rows leads i) ≡ part_rows leads (part_in_cell i)
     part_cell_rows (Data b) = refl
     part_cell_rows (Escape b) = refl
     part_cell_rows (Character text) = refl
@@ -66,19 +67,19 @@ module _ (leads : Target → Linked) where
     part_cell_rows (Image target kids) = around _ kids (cell_rows kids)
     part_cell_rows (Call label) = refl
 
-    cell_rows : (is : Inlines) → map (row_shown true) (inline_rows leads is) ≡ inline_rows leads (in_cell is)
+    cell_rows : (is : Inlines) → map (row_in_cell true) (inline_rows leads is) ≡ inline_rows leads (in_cell is)
     cell_rows Nil = refl
     cell_rows (Cons i is) =
-        map-append (row_shown true) (part_rows leads i) (inline_rows leads is)
-        ∙ ap (λ l. l ++ map (row_shown true) (inline_rows leads is)) (part_cell_rows i)
+        map-append (row_in_cell true) (part_rows leads i) (inline_rows leads is)
+        ∙ ap (λ l. l ++ map (row_in_cell true) (inline_rows leads is)) (part_cell_rows i)
         ∙ ap (λ l. part_rows leads (part_in_cell i) ++ l) (cell_rows is)
 
-  pub rows_shown : (cell : Bool) (is : Inlines) → map (row_shown cell) (inline_rows leads is) ≡ inline_rows leads (shown cell is)
+  pub rows_shown : (cell : Bool) (is : Inlines) → map (row_in_cell cell) (inline_rows leads is) ≡ inline_rows leads (parts_in_cell cell is)
   rows_shown true is = cell_rows is
   rows_shown false is = rows_unshown (inline_rows leads is)
 
 -- rows that are shown one by one
 pub fold_shown : (cell : Bool) (meaning : InlineMeaning) (p : Printed) (rows : List InlineRow)
-    → fold (row_printed_in cell meaning) p rows ≡ fold (row_printed meaning) p (map (row_shown cell) rows)
+    → fold (row_printed_in cell meaning) p rows ≡ fold (with_row meaning) p (map (row_in_cell cell) rows)
 fold_shown cell meaning p [] = refl
 fold_shown cell meaning p (r ∷ rs) = fold_shown cell meaning (row_printed_in cell meaning p r) rs

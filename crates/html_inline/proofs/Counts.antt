@@ -6,7 +6,8 @@ use Rattle.std.proofs.lemmas.List.{append-nil, take_more}
 use Rattle.std.proofs.lemmas.List.Concat.{flat_map-append}
 use Rattle.std.proofs.lemmas.List.Sums.{fold-append}
 use Rattle.definition_inline.specs.Inline as inline
-use Rattle.definition_inline.specs.Inline.{Target, Linked, Inline, Data, Escape, Character, Code, Math, Autolink, Literal, Html, EscapedBreak, TrailingBreak, LineEnd, Emphasis, Strong, Strikethrough, Link, Image, Call, Inlines, Nil, Cons}
+use Rattle.definition_inline.specs.Inline.{Target, Linked, Inline, Data, Escape, Character, Code, Math, Autolink, Literal, Html, EscapedBreak, TrailingBreak}
+use Rattle.definition_inline.specs.Inline.{LineEnd, Emphasis, Strong, Strikethrough, Link, Image, Call, Inlines, Nil, Cons}
 use Rattle.definition_page.specs.GfmTable.{part_in_cell, in_cell}
 use Rattle.definition_page.specs.Layout.{Laid}
 use Rattle.html_bytes.specs.InlineHtml.{InlineMeaning, part_counts, inline_counts}
@@ -19,7 +20,7 @@ use Rattle.definition_inline.specs.Spans.{IsEmphasis, IsStrong, IsStrikethrough}
 use Rattle.inline_rows.specs.declared.row.InlineRow as row
 use Rattle.inline_rows.specs.View.{data_rows, row_view, rows_view}
 use Rattle.html_inline.specs.Counts.{row_counts, rows_counts}
-use Rattle.html_inline.specs.GfmTable.{shown}
+use Rattle.html_inline.specs.GfmTable.{parts_in_cell}
 
 module _ (meaning : InlineMeaning) where
   -- ---- the rows of inline structure
@@ -87,7 +88,7 @@ module _ (meaning : InlineMeaning) where
     in_cell_counts (Cons i is) =
         ap (λ x. x ++ inline_counts meaning (in_cell is)) (part_in_cell_counts i) ∙ ap (λ x. part_counts meaning i ++ x) (in_cell_counts is)
 
-  pub shown_counts : (cell : Bool) (is : Inlines) → inline_counts meaning (shown cell is) ≡ inline_counts meaning is
+  pub shown_counts : (cell : Bool) (is : Inlines) → inline_counts meaning (parts_in_cell cell is) ≡ inline_counts meaning is
   shown_counts true is = in_cell_counts is
   shown_counts false is = refl
 

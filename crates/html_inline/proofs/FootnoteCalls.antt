@@ -8,7 +8,8 @@ use Rattle.html_bytes.specs.Pieces.{CallOf, CountOf}
 use Rattle.html_inline.specs.Printed.{call_row, laid_out}
 
 -- a label of no footnote lays nothing
-pub uncalled : (meaning : InlineMeaning) (described : Bool) (label : List ℕ) (l : Laid) → first_match label meaning.footnotes ≡ None → l ≡ laid_out meaning l (call_row meaning described label)
+pub uncalled : (meaning : InlineMeaning) (described : Bool) (label : List ℕ) (l : Laid) → first_match label meaning.footnotes ≡ None
+    → l ≡ laid_out meaning l (call_row meaning described label)
 uncalled meaning described label l none = by_case described
   where
     by_case : (d : Bool) → l ≡ laid_out meaning l (call_row meaning d label)
@@ -16,7 +17,8 @@ uncalled meaning described label l none = by_case described
     by_case false = sym (ap (λ (o : Option ℕ). laid_out meaning l (call_at o (normal_label label))) none)
 
 -- a call in a description counts
-pub counted : (meaning : InlineMeaning) (described : Bool) (label : List ℕ) (l : Laid) (place : ℕ) (normal : List ℕ) → described ≡ true → normal ≡ normal_label label
+pub counted : (meaning : InlineMeaning) (described : Bool) (label : List ℕ) (l : Laid) (place : ℕ) (normal : List ℕ) → described ≡ true
+    → normal ≡ normal_label label
     → first_match label meaning.footnotes ≡ Some place → lay meaning.compile [] l (CountOf place normal) ≡ laid_out meaning l (call_row meaning described label)
 counted meaning described label l place normal is normalized found =
     ap (λ n. lay meaning.compile [] l (CountOf place n)) normalized
@@ -24,7 +26,8 @@ counted meaning described label l place normal is normalized found =
     ∙ sym (ap (λ d. laid_out meaning l (call_row meaning d label)) is)
 
 -- any other prints its number
-pub called : (meaning : InlineMeaning) (described : Bool) (label : List ℕ) (l : Laid) (place : ℕ) (normal : List ℕ) → described ≡ false → normal ≡ normal_label label
+pub called : (meaning : InlineMeaning) (described : Bool) (label : List ℕ) (l : Laid) (place : ℕ) (normal : List ℕ) → described ≡ false
+    → normal ≡ normal_label label
     → first_match label meaning.footnotes ≡ Some place → lay meaning.compile [] l (CallOf place normal) ≡ laid_out meaning l (call_row meaning described label)
 called meaning described label l place normal is normalized found =
     ap (λ n. lay meaning.compile [] l (CallOf place n)) normalized

@@ -3,14 +3,15 @@ use Rattle.std.proofs.Common.{◌≡◌, ℕ, List, [], ◌∷◌, ◌++◌, ref
 use Rattle.std.proofs.lemmas.List.Concat.{flat_map-append}
 use Rattle.html_inline.specs.declared.form.Form.{Form}
 use Rattle.html_inline.specs.declared.form.Form.TheVariants.{Bytes}
-use Rattle.html_inline.specs.Forms.{form_byte, formed}
+use Rattle.html_inline.specs.Forms.{form_byte, form_bytes}
 
-pub formed_bytes : (text : List ℕ) → formed Bytes text ≡ text
+pub formed_bytes : (text : List ℕ) → form_bytes Bytes text ≡ text
 formed_bytes [] = refl
 formed_bytes (b ∷ bs) = ap (λ s. b ∷ s) (formed_bytes bs)
 
 -- a text and another one after it
-pub formed_both : (form : Form) (out front rest whole : List ℕ) → whole ≡ front ++ rest → (out ++ formed form front) ++ formed form rest ≡ out ++ formed form whole
+pub formed_both : (form : Form) (out front rest whole : List ℕ) → whole ≡ front ++ rest
+    → (out ++ form_bytes form front) ++ form_bytes form rest ≡ out ++ form_bytes form whole
 formed_both form out front rest whole e =
-    append_assoc out (formed form front) (formed form rest)
-    ∙ ap (λ s. out ++ s) (sym (flat_map-append (form_byte form) front rest) ∙ ap (formed form) (sym e))
+    append_assoc out (form_bytes form front) (form_bytes form rest)
+    ∙ ap (λ s. out ++ s) (sym (flat_map-append (form_byte form) front rest) ∙ ap (form_bytes form) (sym e))

@@ -1,5 +1,6 @@
 -- Raw HTML, line by line.
-use Rattle.std.proofs.Common.{◌≡◌, ◌||◌, ℕ, zero, suc, ◌+◌, ◌<◌, ◌≤◌, List, [], ◌∷◌, ◌++◌, Bool, true, false, cond, eqb, refl, sym, ap, ◌∙◌, get_or, length, drop, take, arith, inl, inr, append_assoc}
+use Rattle.std.proofs.Common.{◌≡◌, ◌||◌, ℕ, zero, suc, ◌+◌, ◌<◌, ◌≤◌, List, [], ◌∷◌, ◌++◌, Bool, true, false, cond, eqb, refl, sym, ap, ◌∙◌, get_or, length}
+use Rattle.std.proofs.Common.{drop, take, arith, inl, inr, append_assoc}
 use Rattle.std.specs.List.{flat_map, prefix_len}
 use Rattle.std.proofs.lemmas.Bool.{cases_Bool, cond-false, cond-true, eqb-true, ne_eqb, not_from_false, or_cases, true≢false}
 use Rattle.std.proofs.lemmas.List.{append-nil, length-drop}
@@ -14,7 +15,7 @@ use Rattle.html_bytes.specs.RawHtml.{raw_html}
 use Rattle.definition_page.specs.InlinePieces.{HtmlLine, html_text_line, in_first_line, html_lines}
 use Rattle.html_bytes.specs.InlineHtml.{html_line_bytes, html_lines_bytes, later_line_bytes}
 use Rattle.definition_inline.specs.Strings.{begins_with_eol, eol_bytes}
-use Rattle.definition_page.specs.GfmTagfilter.{tags_filtered}
+use Rattle.definition_page.specs.GfmTagfilter.{filter_tags}
 use Rattle.html_inline.specs.CodeBytes.{is_in_line}
 use Rattle.html_inline.specs.HtmlBytes.{PrintsEnding, ends, goes_on, first_bytes}
 use Rattle.html_inline.proofs.InLine.{in_line_eol, line_codes, line_left}
@@ -77,7 +78,7 @@ lines_alone (suc n) (x ∷ xs) bytes le = elim (cases_Bool (is_in_line x)) [
 raw_nothing : (options : CompileOptions) → raw_html options [] ≡ []
 raw_nothing options = by_case options.allow_dangerous_html options.gfm_tagfilter
   where
-    by_case : (t u : Bool) → cond t (plain (cond u (tags_filtered []) [])) (encode []) ≡ []
+    by_case : (t u : Bool) → cond t (plain (cond u (filter_tags []) [])) (encode []) ≡ []
     by_case true true = refl
     by_case true false = refl
     by_case false u = refl
@@ -190,10 +191,12 @@ later_printed options (c ∷ cs) = elim (cases_Bool (is_white c)) [
       elim (cases_Bool (is_eol c)) [
         | inl e ↦
             ap (later options) (cond-true (is_eol c) _ _ e)
-            ∙ ap (λ ls. first_bytes options ls ++ later options (drop 1 ls)) (sym (cond-true (is_eol c) (html_text_line [] (c ∷ []) ∷ html_lines cs) (in_first_line c (html_lines cs)) e))
+            ∙ ap (λ ls. first_bytes options ls ++ later options (drop 1 ls)) (sym
+            (cond-true (is_eol c) (html_text_line [] (c ∷ []) ∷ html_lines cs) (in_first_line c (html_lines cs)) e))
         | inr e ↦
             ap (later options) (cond-false (is_eol c) _ _ e) ∙ other_later options c (html_lines cs) h
-            ∙ ap (λ ls. first_bytes options ls ++ later options (drop 1 ls)) (sym (cond-false (is_eol c) (html_text_line [] (c ∷ []) ∷ html_lines cs) (in_first_line c (html_lines cs)) e))
+            ∙ ap (λ ls. first_bytes options ls ++ later options (drop 1 ls)) (sym
+            (cond-false (is_eol c) (html_text_line [] (c ∷ []) ∷ html_lines cs) (in_first_line c (html_lines cs)) e))
       ]
       ∙ ap (λ s. first_bytes options (html_lines s) ++ later options (drop 1 (html_lines s))) (sym (other_bare c cs h))
 ]

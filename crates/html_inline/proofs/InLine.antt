@@ -1,8 +1,10 @@
 -- The bytes before a line ending.
-use Rattle.std.proofs.Common.{◌≡◌, ℕ, zero, suc, ◌+◌, ◌<◌, ◌≤◌, List, [], ◌∷◌, ◌++◌, Bool, true, false, not, ◌&&◌, ◌||◌, eqb, refl, sym, ap, ◌∙◌, get_or, length, drop, take, map, arith, inl, inr, subst}
+use Rattle.std.proofs.Common.{◌≡◌, ℕ, zero, suc, ◌+◌, ◌<◌, ◌≤◌, List, [], ◌∷◌, ◌++◌, Bool, true, false, not, ◌&&◌, ◌||◌, eqb, refl, sym, ap, ◌∙◌, get_or}
+use Rattle.std.proofs.Common.{length, drop, take, map, arith, inl, inr, subst}
 use Rattle.std.specs.List.{prefix_len}
 use Rattle.std.specs.Str.{IsCharBoundary}
-use Rattle.std.proofs.lemmas.Bool.{cases_Bool, cond-false, cond-true, eqb-true, eqb-false, ne_eqb, or_from, and_parts, and_cases, not-true, not-false, false≢true, cases_lt}
+use Rattle.std.proofs.lemmas.Bool.{cases_Bool, cond-false, cond-true, eqb-true, eqb-false, ne_eqb, or_from, and_parts, and_cases, not-true, not-false}
+use Rattle.std.proofs.lemmas.Bool.{false≢true, cases_lt}
 use Rattle.std.proofs.lemmas.List.Sums.{prefix_len_stops, prefix_len-le-length}
 use Rattle.std.proofs.lemmas.Str.{IsCharBoundary-before_ascii, IsCharBoundary-end}
 use Rattle.markdown_options.specs.declared.line_ending.LineEnding.{LineEnding}
@@ -12,7 +14,7 @@ use Rattle.definition_text.specs.Columns.{is_tab_column}
 use Rattle.definition_text.specs.Content.{content_codes, is_eol, line_ending_code}
 use Rattle.definition_inline.specs.Strings.{begins_with_eol}
 use Rattle.inline_leaves.proofs.Codes.{at_return, plain_code}
-use Rattle.html_inline.specs.CodeBytes.{is_in_line, spaced}
+use Rattle.html_inline.specs.CodeBytes.{is_in_line, spaces_for_endings}
 use Rattle.html_inline.proofs.KeptText.{AreBytes}
 
 -- no ending, and no column of a tab
@@ -25,7 +27,8 @@ in_line_eol x byte h =
     or_from (eqb x 10 || eqb x 13) (eqb x 257) (or_from (eqb x 10) (eqb x 13) is.0 is.1) (ne_eqb x 257 (λ e. omega arith))
 
 in_line_space : (x : ℕ) → x < 256 → is_in_line x ≡ true → code_space x ≡ x
-in_line_space x byte h = cond-false (is_eol x || is_tab_column x) 32 x (or_from (is_eol x) (is_tab_column x) (in_line_eol x byte h) (ne_eqb x 256 (λ e. omega arith)))
+in_line_space x byte h =
+    cond-false (is_eol x || is_tab_column x) 32 x (or_from (is_eol x) (is_tab_column x) (in_line_eol x byte h) (ne_eqb x 256 (λ e. omega arith)))
 
 pub line_codes : (n : ℕ) (xs : List ℕ) → n ≤ prefix_len is_in_line xs → content_codes xs ≡ take n xs ++ content_codes (drop n xs)
 line_codes zero xs le = refl
@@ -37,14 +40,15 @@ line_codes (suc n) (x ∷ xs) le = elim (cases_Bool (is_in_line x)) [
   | inr h ↦ let none : prefix_len is_in_line (x ∷ xs) ≡ 0 = cond-false (is_in_line x) _ _ h in absurd (omega arith)
 ]
 
-pub line_spaced : (n : ℕ) (xs : List ℕ) → AreBytes xs → n ≤ prefix_len is_in_line xs → spaced xs ≡ take n xs ++ spaced (drop n xs)
+pub line_spaced : (n : ℕ) (xs : List ℕ) → AreBytes xs → n ≤ prefix_len is_in_line xs
+    → spaces_for_endings xs ≡ take n xs ++ spaces_for_endings (drop n xs)
 line_spaced zero xs bytes le = refl
 line_spaced (suc n) [] bytes le = refl
 line_spaced (suc n) (x ∷ xs) bytes le = elim (cases_Bool (is_in_line x)) [
   | inl h ↦
       let more : prefix_len is_in_line (x ∷ xs) ≡ 1 + prefix_len is_in_line xs = cond-true (is_in_line x) _ _ h in
       ap (map code_space) (plain_code x xs (eqb-false x 13 (in_line x h).1))
-      ∙ ap (λ y. y ∷ spaced xs) (in_line_space x (bytes zero) h)
+      ∙ ap (λ y. y ∷ spaces_for_endings xs) (in_line_space x (bytes zero) h)
       ∙ ap (λ c. x ∷ c) (line_spaced n xs (λ k. bytes (suc k)) (omega arith))
   | inr h ↦ let none : prefix_len is_in_line (x ∷ xs) ≡ 0 = cond-false (is_in_line x) _ _ h in absurd (omega arith)
 ]
@@ -55,8 +59,9 @@ ending_space CarriageReturn = refl
 ending_space CarriageReturnLineFeed = refl
 
 -- a line ending comes first
-pub ending_spaced : (xs rest : List ℕ) (ending : LineEnding) → content_codes xs ≡ line_ending_code ending ∷ content_codes rest → spaced xs ≡ 32 ∷ spaced rest
-ending_spaced xs rest ending e = ap (map code_space) e ∙ ap (λ y. y ∷ spaced rest) (ending_space ending)
+pub ending_spaced : (xs rest : List ℕ) (ending : LineEnding) → content_codes xs ≡ line_ending_code ending ∷ content_codes rest
+    → spaces_for_endings xs ≡ 32 ∷ spaces_for_endings rest
+ending_spaced xs rest ending e = ap (map code_space) e ∙ ap (λ y. y ∷ spaces_for_endings rest) (ending_space ending)
 
 -- no line ending comes first
 pub first_in_line : (x : ℕ) (xs : List ℕ) → begins_with_eol (content_codes (x ∷ xs)) ≡ false → is_in_line x ≡ true

@@ -1,9 +1,11 @@
 -- The bytes of a string that stand for themselves.
-use Rattle.std.proofs.Common.{◌≡◌, ℕ, zero, suc, ◌+◌, ◌-◌, ◌<◌, ◌≤◌, List, [], ◌∷◌, ◌++◌, Bool, true, false, cond, ◌||◌, ◌&&◌, eqb, leb, Option, None, Some, refl, sym, ap, ◌∙◌, get_or, length, drop, take, arith, inl, inr, subst}
+use Rattle.std.proofs.Common.{◌≡◌, ℕ, zero, suc, ◌+◌, ◌-◌, ◌<◌, ◌≤◌, List, [], ◌∷◌, ◌++◌, Bool, true, false, cond, ◌||◌, ◌&&◌, eqb, leb, Option, None, Some}
+use Rattle.std.proofs.Common.{refl, sym, ap, ◌∙◌, get_or, length, drop, take, arith, inl, inr, subst}
 use Rattle.std.specs.Char.{is_ascii_punctuation}
 use Rattle.std.specs.Str.{IsCharBoundary, IsUtf8}
 use Rattle.std.specs.List.{flat_map, prefix_len}
-use Rattle.std.proofs.lemmas.Bool.{cases_Bool, cond-false, cond-true, cond_both, cases_lt, and_cases, leb-false, not-false, eqb-true, eqb-false, ne_eqb, or_cases, or_parts, or_from, and_left, and_right, not-true, true≢false}
+use Rattle.std.proofs.lemmas.Bool.{cases_Bool, cond-false, cond-true, cond_both, cases_lt, and_cases, leb-false, not-false, eqb-true, eqb-false, ne_eqb}
+use Rattle.std.proofs.lemmas.Bool.{or_cases, or_parts, or_from, and_left, and_right, not-true, true≢false}
 use Rattle.std.proofs.lemmas.List.{get_or-drop, length-drop}
 use Rattle.std.proofs.lemmas.List.Concat.{flat_map-append}
 use Rattle.std.proofs.lemmas.List.Sums.{prefix_len_passes, prefix_len_stops, prefix_len-le-length}
@@ -212,7 +214,8 @@ ink_within xs some = omega (arith, some, prefix_len-le-length is_ink (drop 1 xs)
 
 pub kept_within : (xs : List ℕ) → 0 < length xs → kept_size xs ≤ length xs
 kept_within xs some =
-    cond_both (eqb (indent xs) 0) (1 + prefix_len is_ink (drop 1 xs)) (indent xs) (λ n. n ≤ length xs) (λ e. ink_within xs some) (λ e. prefix_len-le-length is_white xs)
+    cond_both (eqb (indent xs) 0) (1 + prefix_len is_ink (drop 1 xs)) (indent xs) (λ n. n ≤ length xs) (λ e. ink_within xs some)
+    (λ e. prefix_len-le-length is_white xs)
 
 pub kept_some : (xs : List ℕ) → 0 < kept_size xs
 kept_some xs =
@@ -261,7 +264,8 @@ ink_text : (on : Constructs) (names : List ℕ → Option (List ℕ)) (xs : List
     → text_of on names xs ≡ take (1 + prefix_len is_ink (drop 1 xs)) xs ++ text_of on names (drop (1 + prefix_len is_ink (drop 1 xs)) xs)
 ink_text on names [] bytes some none = absurd (omega arith)
 ink_text on names (x ∷ xs) bytes some none =
-    let apart : x ≡ 13 → ⊥ = λ e. no_return xs (ap (λ y. line_end_at (content_codes (y ∷ xs))) (sym e) ∙ (no_leaf on names (content_codes (x ∷ xs)) none).line_end) in
+    let apart : x ≡ 13 → ⊥ = λ e. no_return xs (ap (λ y. line_end_at (content_codes (y ∷ xs))) (sym e)
+    ∙ (no_leaf on names (content_codes (x ∷ xs)) none).line_end) in
     let plain = plain_code x xs apart in
     let n = prefix_len is_ink xs in
     let next : 1 + n ≡ suc n = omega arith in

@@ -22,7 +22,8 @@ exceeds n h = omega (arith, leb-false n greatest h)
 
 large_replaced : (n : ℕ) → 0x10_FFFF < n → is_replaced n ≡ true
 large_replaced n large =
-    let front = nat_le n 8 || (n == 11) || is_in_range 14 31 n || is_in_range 127 159 n || is_in_range 0xD800 0xDFFF n || is_in_range 0xFDD0 0xFDEF n || nat_le 0xFFFE (n % 0x1_0000) in
+    let front = nat_le n 8 || (n == 11) || is_in_range 14 31 n || is_in_range 127 159 n || is_in_range 0xD800 0xDFFF n || is_in_range 0xFDD0 0xFDEF n
+    || nat_le 0xFFFE (n % 0x1_0000) in
     ap (λ t. front || t) (le-leb 0x11_0000 n (omega arith)) ∙ or_true front
   where
     or_true : (t : Bool) → (t || true) ≡ true

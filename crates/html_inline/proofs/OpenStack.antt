@@ -22,14 +22,15 @@ use Rattle.inline_rows.specs.declared.row.InlineRow.{InlineRow}
 use Rattle.inline_rows.specs.View.{data_rows, row_view, rows_view}
 use Rattle.html_inline.specs.declared.stack.OpenPart.{OpenPart}
 use Rattle.html_inline.specs.declared.stack.OpenPart.TheVariants.{Silent}
-use Rattle.html_inline.specs.GfmTable.{part_shown, row_printed_in}
-use Rattle.html_inline.specs.Printed.{Opened, opened, Printed, printed_at, is_described, part_printed, parts_printed, enter, leave, with_more}
+use Rattle.html_inline.specs.GfmTable.{inline_in_cell, row_printed_in}
+use Rattle.html_inline.specs.Printed.{Opened, new_part, Printed, printed_at, is_described, html_of_part, parts_html, enter, leave, with_more}
 
 -- one more stands on the stack
-pub stack_more : (view : OpenPart → Opened) (items : List OpenPart) (part : OpenPart) → map view (reverse (items ++ part ∷ [])) ≡ view part ∷ map view (reverse items)
+pub stack_more : (view : OpenPart → Opened) (items : List OpenPart) (part : OpenPart)
+    → map view (reverse (items ++ part ∷ [])) ≡ view part ∷ map view (reverse items)
 stack_more view items part = ap (map view) (reverse-append items (part ∷ []))
 
-pub entered_silent : (view : OpenPart → Opened) (start : List ℕ) (o : Opened) (l : Laid) (items after : List OpenPart) → view Silent ≡ opened true []
+pub entered_silent : (view : OpenPart → Opened) (start : List ℕ) (o : Opened) (l : Laid) (items after : List OpenPart) → view Silent ≡ new_part true []
     → after ≡ items ++ Silent ∷ [] → is_described (map view (reverse items)) ≡ true
     → printed_at l (map view (reverse after)) ≡ enter start o (printed_at l (map view (reverse items)))
 entered_silent view start o l items after silent pushed h =
@@ -37,7 +38,8 @@ entered_silent view start o l items after silent pushed h =
     ∙ ap (printed_at l) (stack_more view items Silent ∙ ap (λ s. s ∷ map view (reverse items)) silent)
     ∙ sym (cond-true (is_described (map view (reverse items))) _ _ h)
 
-pub entered : (view : OpenPart → Opened) (start : List ℕ) (o : Opened) (l : Laid) (text : List ℕ) (items after : List OpenPart) (part : OpenPart) → view part ≡ o
+pub entered : (view : OpenPart → Opened) (start : List ℕ) (o : Opened) (l : Laid) (text : List ℕ) (items after : List OpenPart) (part : OpenPart)
+    → view part ≡ o
     → after ≡ items ++ part ∷ [] → is_described (map view (reverse items)) ≡ false → text ≡ l.text ++ start
     → printed_at (with_text l text) (map view (reverse after)) ≡ enter start o (printed_at l (map view (reverse items)))
 entered view start o l text items after part is pushed h e =
@@ -63,11 +65,12 @@ pub more_after : (l : Laid) (a b : List ℕ) → with_more (with_more l a) b ≡
 more_after l a b = ap (with_text l) (append_assoc l.text a b)
 
 module _ (cell : Bool) (meaning : InlineMeaning) (stack : List Opened) where
-  data_either : (described : Bool) (b : ℕ) → part_printed meaning described (inline.Data b) ≡ encoded_byte b
+  data_either : (described : Bool) (b : ℕ) → html_of_part meaning described (inline.Data b) ≡ encoded_byte b
   data_either true b = refl
   data_either false b = refl
 
-  pub text_printed : (l : Laid) (text : List ℕ) → fold (row_printed_in cell meaning) (printed_at l stack) (data_rows text) ≡ printed_at (with_more l (encode text)) stack
+  pub text_printed : (l : Laid) (text : List ℕ) → fold (row_printed_in cell meaning) (printed_at l stack) (data_rows text)
+      ≡ printed_at (with_more l (encode text)) stack
   text_printed l [] = ap (λ x. printed_at x stack) (no_more l)
   text_printed l (b ∷ bs) =
       ap (λ s. fold (row_printed_in cell meaning) (printed_at (with_more l s) stack) (data_rows bs)) (data_either (is_described stack) b)
@@ -76,20 +79,22 @@ module _ (cell : Bool) (meaning : InlineMeaning) (stack : List Opened) where
 
   -- what parts print in a cell or elsewhere
   abbrev shown_parts : List inline.Inline → List ℕ
-  shown_parts parts = parts_printed meaning (is_described stack) (map (part_shown cell) parts)
+  shown_parts parts = parts_html meaning (is_described stack) (map (inline_in_cell cell) parts)
 
   -- parts that are printed as they should be
   abbrev ArePrinted : List inline.Inline → Type 0
-  ArePrinted parts = (l : Laid) → fold (row_printed_in cell meaning) (printed_at l stack) (map rows_of.Part parts) ≡ printed_at (with_more l (shown_parts parts)) stack
+  ArePrinted parts = (l : Laid) → fold (row_printed_in cell meaning) (printed_at l stack) (map rows_of.Part parts)
+      ≡ printed_at (with_more l (shown_parts parts)) stack
 
   none_printed : ArePrinted []
   none_printed l = ap (λ x. printed_at x stack) (no_more l)
 
   more_parts : (i : inline.Inline) (is : List inline.Inline)
-      → ((l : Laid) → row_printed_in cell meaning (printed_at l stack) (rows_of.Part i) ≡ printed_at (with_more l (part_printed meaning (is_described stack) (part_shown cell i))) stack)
+      → ((l : Laid) → row_printed_in cell meaning (printed_at l stack) (rows_of.Part i)
+      ≡ printed_at (with_more l (html_of_part meaning (is_described stack) (inline_in_cell cell i))) stack)
       → ArePrinted is → ArePrinted (i ∷ is)
   more_parts i is first are l =
-      let text = part_printed meaning (is_described stack) (part_shown cell i) in
+      let text = html_of_part meaning (is_described stack) (inline_in_cell cell i) in
       ap (λ p. fold (row_printed_in cell meaning) p (map rows_of.Part is)) (first l)
       ∙ are (with_more l text)
       ∙ ap (λ x. printed_at x stack) (more_after l text (shown_parts is))
@@ -103,7 +108,8 @@ module _ (cell : Bool) (meaning : InlineMeaning) (stack : List Opened) where
   bytes_printed (b ∷ bs) = more_parts (inline.Data b) (map inline.Data bs) (λ l. refl) (bytes_printed bs)
 
   pub leaf_printed : (part : LeafPart) (l : Laid)
-      → fold (row_printed_in cell meaning) (printed_at l stack) (map rows_of.Part (parts_of part)) ≡ printed_at (with_more l (parts_printed meaning (is_described stack) (map (part_shown cell) (parts_of part)))) stack
+      → fold (row_printed_in cell meaning) (printed_at l stack) (map rows_of.Part (parts_of part))
+      ≡ printed_at (with_more l (parts_html meaning (is_described stack) (map (inline_in_cell cell) (parts_of part)))) stack
   leaf_printed (leaf.Escape text) = escapes_printed text.now
   leaf_printed (leaf.Character text) = more_parts (inline.Character text.now) [] (λ l. refl) none_printed
   leaf_printed (leaf.Number radix digits) = more_parts (inline.Character (numbered_text (number_of radix digits.now))) [] (λ l. refl) none_printed
@@ -119,16 +125,20 @@ module _ (cell : Bool) (meaning : InlineMeaning) (stack : List Opened) where
   leaf_printed leaf.Spaces = none_printed
 
 -- one more row
-pub rows_more : (cell : Bool) (meaning : InlineMeaning) (at : ℕ → inline.Linked) (start : Printed) (rows : List InlineRow) (i : ℕ) (d : InlineRow) → i < length rows
+pub rows_more : (cell : Bool) (meaning : InlineMeaning) (at : ℕ → inline.Linked) (start : Printed) (rows : List InlineRow) (i : ℕ) (d : InlineRow)
+    → i < length rows
     → fold (row_printed_in cell meaning) start (rows_view at (take (i + 1) rows))
     ≡ fold (row_printed_in cell meaning) (fold (row_printed_in cell meaning) start (rows_view at (take i rows))) (row_view at (get_or rows i d))
 rows_more cell meaning at start rows i d lt =
     ap (λ s. fold (row_printed_in cell meaning) start (rows_view at s)) (take_more rows i d lt)
-    ∙ ap (fold (row_printed_in cell meaning) start) (flat_map-append (row_view at) (take i rows) (get_or rows i d ∷ []) ∙ ap (λ s. rows_view at (take i rows) ++ s) (append-nil (row_view at (get_or rows i d))))
+    ∙ ap (fold (row_printed_in cell meaning) start) (flat_map-append (row_view at) (take i rows) (get_or rows i d ∷ [])
+    ∙ ap (λ s. rows_view at (take i rows) ++ s) (append-nil (row_view at (get_or rows i d))))
     ∙ fold-append (row_printed_in cell meaning) start (rows_view at (take i rows)) (row_view at (get_or rows i d))
 
-pub rows_step : (cell : Bool) (meaning : InlineMeaning) (at : ℕ → inline.Linked) (start before after : Printed) (rows : List InlineRow) (i : ℕ) (d : InlineRow) → i < length rows
-    → before ≡ fold (row_printed_in cell meaning) start (rows_view at (take i rows)) → after ≡ fold (row_printed_in cell meaning) before (row_view at (get_or rows i d))
+pub rows_step : (cell : Bool) (meaning : InlineMeaning) (at : ℕ → inline.Linked) (start before after : Printed) (rows : List InlineRow) (i : ℕ) (d : InlineRow)
+    → i < length rows
+    → before ≡ fold (row_printed_in cell meaning) start (rows_view at (take i rows))
+    → after ≡ fold (row_printed_in cell meaning) before (row_view at (get_or rows i d))
     → after ≡ fold (row_printed_in cell meaning) start (rows_view at (take (i + 1) rows))
 rows_step cell meaning at start before after rows i d lt e f =
     f ∙ ap (λ (q : Printed). fold (row_printed_in cell meaning) q (row_view at (get_or rows i d))) e ∙ sym (rows_more cell meaning at start rows i d lt)

@@ -4,18 +4,21 @@ use Rattle.std.specs.List.{fold}
 use Rattle.std.proofs.lemmas.List.{append-nil}
 use Rattle.std.proofs.lemmas.List.Sums.{fold-append}
 use Rattle.definition_inline.specs.LabelMatch.{first_match, normal_label}
-use Rattle.definition_inline.specs.Inline.{Linked, Inline, Data, Escape, Character, Code, Math, Autolink, Literal, Html, EscapedBreak, TrailingBreak, LineEnd, Emphasis, Strong, Strikethrough, Link, Image, Call, Inlines, Nil, Cons}
+use Rattle.definition_inline.specs.Inline.{Linked, Inline, Data, Escape, Character, Code, Math, Autolink, Literal, Html, EscapedBreak, TrailingBreak, LineEnd}
+use Rattle.definition_inline.specs.Inline.{Emphasis, Strong, Strikethrough, Link, Image, Call, Inlines, Nil, Cons}
 use Rattle.definition_page.specs.InlinePieces.{leads_to}
 use Rattle.definition_page.specs.Layout.{Laid}
-use Rattle.html_bytes.specs.InlineHtml.{InlineMeaning, title_attribute, link_tag, image_tag, description, part_description, part_html, call_at, count_at, part_counts, inline_counts, part_pieces, inline_pieces}
+use Rattle.html_bytes.specs.InlineHtml.{InlineMeaning, title_attribute, link_tag, image_tag, description, part_description, part_html, call_at, count_at}
+use Rattle.html_bytes.specs.InlineHtml.{part_counts, inline_counts, part_pieces, inline_pieces}
 use Rattle.html_bytes.specs.Layout.{lay, with_text}
 use Rattle.html_bytes.specs.Pieces.{Piece, Bytes}
 use Rattle.inline_rows.specs.InlineRows.{InlineRow, Leave, part_rows, inline_rows}
-use Rattle.html_inline.specs.Printed.{Opened, opened, printed_at, is_described, image_start, image_end, with_more, call_row, laid_out, enter, row_printed}
+use Rattle.html_inline.specs.Printed.{Opened, new_part, printed_at, is_described, image_start, image_end, with_more, call_row, laid_out, enter, with_row}
 use Rattle.html_inline.proofs.OpenStack.{no_more}
 
 -- what the description of an image stands between
-image_parts : (meaning : InlineMeaning) (target : Linked) (text : List ℕ) → image_tag meaning target text ≡ image_start meaning target ++ (text ++ image_end meaning target)
+image_parts : (meaning : InlineMeaning) (target : Linked) (text : List ℕ)
+    → image_tag meaning target text ≡ image_start meaning target ++ (text ++ image_end meaning target)
 image_parts meaning target text =
     let start = image_start meaning target in
     let title = title_attribute meaning target.title in
@@ -42,16 +45,19 @@ module _ (meaning : InlineMeaning) (default : List ℕ) where
 
   -- parts that are printed as they should be, wherever they stand
   abbrev ArePrinted : Inlines → Type 0
-  ArePrinted is = (l : Laid) (stack : List Opened) → fold (row_printed meaning) (printed_at l stack) (rows_of is) ≡ printed_at (all_after (is_described stack) is l) stack
+  ArePrinted is = (l : Laid) (stack : List Opened) → fold (with_row meaning) (printed_at l stack) (rows_of is)
+      ≡ printed_at (all_after (is_described stack) is l) stack
 
   -- ---- calls that count don't see the text
 
-  count_beside : (label : List ℕ) (place : Option ℕ) (l : Laid) (text : List ℕ) → laid_by (with_text l text) (count_at place label) ≡ with_text (laid_by l (count_at place label)) text
+  count_beside : (label : List ℕ) (place : Option ℕ) (l : Laid) (text : List ℕ)
+      → laid_by (with_text l text) (count_at place label) ≡ with_text (laid_by l (count_at place label)) text
   count_beside label None l text = refl
   count_beside label (Some place) l text = refl
 
   mutual
-    part_counts_beside : (i : Inline) (l : Laid) (text : List ℕ) → laid_by (with_text l text) (part_counts meaning i) ≡ with_text (laid_by l (part_counts meaning i)) text
+    part_counts_beside : (i : Inline) (l : Laid) (text : List ℕ) → laid_by (with_text l text) (part_counts meaning i)
+        ≡ with_text (laid_by l (part_counts meaning i)) text
     part_counts_beside (Data b) l text = refl
     part_counts_beside (Escape b) l text = refl
     part_counts_beside (Character bytes) l text = refl
@@ -70,7 +76,8 @@ module _ (meaning : InlineMeaning) (default : List ℕ) where
     part_counts_beside (Image target kids) l text = counts_beside kids l text
     part_counts_beside (Call label) l text = count_beside (normal_label label) (first_match label meaning.footnotes) l text
 
-    counts_beside : (is : Inlines) (l : Laid) (text : List ℕ) → laid_by (with_text l text) (inline_counts meaning is) ≡ with_text (laid_by l (inline_counts meaning is)) text
+    counts_beside : (is : Inlines) (l : Laid) (text : List ℕ) → laid_by (with_text l text) (inline_counts meaning is)
+        ≡ with_text (laid_by l (inline_counts meaning is)) text
     counts_beside Nil l text = refl
     counts_beside (Cons i is) l text =
         fold-append (lay meaning.compile default) (with_text l text) (part_counts meaning i) (inline_counts meaning is)
@@ -82,26 +89,27 @@ module _ (meaning : InlineMeaning) (default : List ℕ) where
 
   -- rows between a start and an end
   nested : (start : List ℕ) (o : Opened) (kids : Inlines) → ArePrinted kids → (l : Laid) (stack : List Opened)
-      → fold (row_printed meaning) (enter start o (printed_at l stack)) (rows_of kids ++ Leave ∷ [])
+      → fold (with_row meaning) (enter start o (printed_at l stack)) (rows_of kids ++ Leave ∷ [])
       ≡ printed_at (cond (is_described stack) (all_after true kids l) (with_more (all_after o.described kids (with_more l start)) o.ending)) stack
   nested start o kids are l stack = by_case (is_described stack)
     where
-      by_case : (t : Bool) → fold (row_printed meaning) (cond t (printed_at l (opened true [] ∷ stack)) (printed_at (with_more l start) (o ∷ stack))) (rows_of kids ++ Leave ∷ [])
+      by_case : (t : Bool) → fold (with_row meaning) (cond t (printed_at l (new_part true [] ∷ stack)) (printed_at (with_more l start) (o ∷ stack)))
+          (rows_of kids ++ Leave ∷ [])
           ≡ printed_at (cond t (all_after true kids l) (with_more (all_after o.described kids (with_more l start)) o.ending)) stack
       by_case true =
-          fold-append (row_printed meaning) (printed_at l (opened true [] ∷ stack)) (rows_of kids) (Leave ∷ [])
-          ∙ ap (λ p. row_printed meaning p Leave) (are l (opened true [] ∷ stack))
+          fold-append (with_row meaning) (printed_at l (new_part true [] ∷ stack)) (rows_of kids) (Leave ∷ [])
+          ∙ ap (λ p. with_row meaning p Leave) (are l (new_part true [] ∷ stack))
           ∙ ap (λ x. printed_at x stack) (sym (no_more (all_after true kids l)))
       by_case false =
-          fold-append (row_printed meaning) (printed_at (with_more l start) (o ∷ stack)) (rows_of kids) (Leave ∷ [])
-          ∙ ap (λ p. row_printed meaning p Leave) (are (with_more l start) (o ∷ stack))
+          fold-append (with_row meaning) (printed_at (with_more l start) (o ∷ stack)) (rows_of kids) (Leave ∷ [])
+          ∙ ap (λ p. with_row meaning p Leave) (are (with_more l start) (o ∷ stack))
 
   -- a span or a link, which prints its content between two tags
   between : (start ending : List ℕ) (kids : Inlines) → ArePrinted kids → (l : Laid) (stack : List Opened)
-      → fold (row_printed meaning) (enter start (opened false ending) (printed_at l stack)) (rows_of kids ++ Leave ∷ [])
+      → fold (with_row meaning) (enter start (new_part false ending) (printed_at l stack)) (rows_of kids ++ Leave ∷ [])
       ≡ printed_at (cond (is_described stack) (all_after true kids l) (laid_by l (Bytes start ∷ inline_pieces meaning kids ++ Bytes ending ∷ []))) stack
   between start ending kids are l stack =
-      nested start (opened false ending) kids are l stack
+      nested start (new_part false ending) kids are l stack
       ∙ ap (λ x. printed_at (cond (is_described stack) (all_after true kids l) x) stack)
       (sym (fold-append (lay meaning.compile default) (with_more l start) (inline_pieces meaning kids) (Bytes ending ∷ [])))
 
@@ -119,10 +127,12 @@ module _ (meaning : InlineMeaning) (default : List ℕ) where
       ∙ sym (counts_beside kids l (l.text ++ image_tag meaning target says))
 
   image_printed : (target : Linked) (kids : Inlines) → ArePrinted kids → (l : Laid) (stack : List Opened)
-      → fold (row_printed meaning) (enter (image_start meaning target) (opened true (image_end meaning target)) (printed_at l stack)) (rows_of kids ++ Leave ∷ [])
-      ≡ printed_at (cond (is_described stack) (all_after true kids l) (laid_by (with_more l (image_tag meaning target (description meaning.compile kids))) (inline_counts meaning kids))) stack
+      → fold (with_row meaning) (enter (image_start meaning target) (new_part true (image_end meaning target)) (printed_at l stack))
+      (rows_of kids ++ Leave ∷ [])
+      ≡ printed_at (cond (is_described stack) (all_after true kids l) (laid_by (with_more l (image_tag meaning target (description meaning.compile kids)))
+      (inline_counts meaning kids))) stack
   image_printed target kids are l stack =
-      nested (image_start meaning target) (opened true (image_end meaning target)) kids are l stack
+      nested (image_start meaning target) (new_part true (image_end meaning target)) kids are l stack
       ∙ ap (λ x. printed_at (cond (is_described stack) (all_after true kids l) x) stack) (described_between target kids l)
 
   -- ---- all parts
@@ -132,7 +142,8 @@ module _ (meaning : InlineMeaning) (default : List ℕ) where
   either true l says html = refl
   either false l says html = refl
 
-  counted_either : (label : List ℕ) (place : Option ℕ) (l : Laid) → laid_out meaning l (count_at place label) ≡ with_text (laid_by l (count_at place label)) (l.text ++ [])
+  counted_either : (label : List ℕ) (place : Option ℕ) (l : Laid) → laid_out meaning l (count_at place label)
+      ≡ with_text (laid_by l (count_at place label)) (l.text ++ [])
   counted_either label None l = no_more l
   counted_either label (Some place) l = ap (with_text (laid_by l (count_at (Some place) label))) (sym (append-nil l.text))
 
@@ -145,12 +156,14 @@ module _ (meaning : InlineMeaning) (default : List ℕ) where
   call_either label false l = called_either (normal_label label) (first_match label meaning.footnotes) l
 
   -- a part, and parts after it
-  more_printed : (described : Bool) (i : Inline) (is : Inlines) (l : Laid) → all_after described is (part_after described i l) ≡ all_after described (Cons i is) l
+  more_printed : (described : Bool) (i : Inline) (is : Inlines) (l : Laid)
+      → all_after described is (part_after described i l) ≡ all_after described (Cons i is) l
   more_printed true i is l =
       let says = part_description meaning.compile i in
       let others = description meaning.compile is in
       ap (λ x. with_text x ((l.text ++ says) ++ others)) (counts_beside is (laid_by l (part_counts meaning i)) (l.text ++ says))
-      ∙ ap (λ x. with_text x ((l.text ++ says) ++ others)) (sym (fold-append (lay meaning.compile default) l (part_counts meaning i) (inline_counts meaning is)))
+      ∙ ap (λ x. with_text x ((l.text ++ says) ++ others))
+      (sym (fold-append (lay meaning.compile default) l (part_counts meaning i) (inline_counts meaning is)))
       ∙ ap (with_text (laid_by l (part_counts meaning i ++ inline_counts meaning is))) (append_assoc l.text says others)
   more_printed false i is l = sym (fold-append (lay meaning.compile default) l (part_pieces meaning i) (inline_pieces meaning is))
 
@@ -160,19 +173,23 @@ module _ (meaning : InlineMeaning) (default : List ℕ) where
 
   -- a part that holds no other
   said_or_printed : (says html : List ℕ) (l : Laid) (stack : List Opened)
-      → printed_at (with_more l (cond (is_described stack) says html)) stack ≡ printed_at (cond (is_described stack) (with_more l says) (with_more l html)) stack
+      → printed_at (with_more l (cond (is_described stack) says html)) stack
+      ≡ printed_at (cond (is_described stack) (with_more l says) (with_more l html)) stack
   said_or_printed says html l stack = ap (λ x. printed_at x stack) (either (is_described stack) l says html)
 
   mutual
     part_rows_printed : (i : Inline) (l : Laid) (stack : List Opened)
-        → fold (row_printed meaning) (printed_at l stack) (part_rows (leads_to meaning.definition) i) ≡ printed_at (part_after (is_described stack) i l) stack
+        → fold (with_row meaning) (printed_at l stack) (part_rows (leads_to meaning.definition) i) ≡ printed_at (part_after (is_described stack) i l) stack
     part_rows_printed (Data b) l stack = said_or_printed (part_description meaning.compile (Data b)) (part_html meaning (Data b)) l stack
     part_rows_printed (Escape b) l stack = said_or_printed (part_description meaning.compile (Escape b)) (part_html meaning (Escape b)) l stack
-    part_rows_printed (Character bytes) l stack = said_or_printed (part_description meaning.compile (Character bytes)) (part_html meaning (Character bytes)) l stack
+    part_rows_printed (Character bytes) l stack =
+        said_or_printed (part_description meaning.compile (Character bytes)) (part_html meaning (Character bytes)) l stack
     part_rows_printed (Code bytes) l stack = said_or_printed (part_description meaning.compile (Code bytes)) (part_html meaning (Code bytes)) l stack
     part_rows_printed (Math bytes) l stack = said_or_printed (part_description meaning.compile (Math bytes)) (part_html meaning (Math bytes)) l stack
-    part_rows_printed (Autolink is_email bytes) l stack = said_or_printed (part_description meaning.compile (Autolink is_email bytes)) (part_html meaning (Autolink is_email bytes)) l stack
-    part_rows_printed (Literal kind bytes) l stack = said_or_printed (part_description meaning.compile (Literal kind bytes)) (part_html meaning (Literal kind bytes)) l stack
+    part_rows_printed (Autolink is_email bytes) l stack =
+        said_or_printed (part_description meaning.compile (Autolink is_email bytes)) (part_html meaning (Autolink is_email bytes)) l stack
+    part_rows_printed (Literal kind bytes) l stack =
+        said_or_printed (part_description meaning.compile (Literal kind bytes)) (part_html meaning (Literal kind bytes)) l stack
     part_rows_printed (Html text) l stack = said_or_printed (part_description meaning.compile (Html text)) (part_html meaning (Html text)) l stack
     part_rows_printed EscapedBreak l stack = said_or_printed (part_description meaning.compile EscapedBreak) (part_html meaning EscapedBreak) l stack
     part_rows_printed TrailingBreak l stack = said_or_printed (part_description meaning.compile TrailingBreak) (part_html meaning TrailingBreak) l stack
@@ -180,20 +197,22 @@ module _ (meaning : InlineMeaning) (default : List ℕ) where
     part_rows_printed (Emphasis kids) l stack = between (codes "<em>") (codes "</em>") kids (rows_printed kids) l stack
     part_rows_printed (Strong kids) l stack = between (codes "<strong>") (codes "</strong>") kids (rows_printed kids) l stack
     part_rows_printed (Strikethrough kids) l stack = between (codes "<del>") (codes "</del>") kids (rows_printed kids) l stack
-    part_rows_printed (Link target kids) l stack = between (link_tag meaning (leads_to meaning.definition target)) (codes "</a>") kids (rows_printed kids) l stack
+    part_rows_printed (Link target kids) l stack =
+        between (link_tag meaning (leads_to meaning.definition target)) (codes "</a>") kids (rows_printed kids) l stack
     part_rows_printed (Image target kids) l stack = image_printed (leads_to meaning.definition target) kids (rows_printed kids) l stack
     part_rows_printed (Call label) l stack = ap (λ x. printed_at x stack) (call_either label (is_described stack) l)
 
     rows_printed : (is : Inlines) (l : Laid) (stack : List Opened)
-        → fold (row_printed meaning) (printed_at l stack) (inline_rows (leads_to meaning.definition) is) ≡ printed_at (all_after (is_described stack) is l) stack
+        → fold (with_row meaning) (printed_at l stack) (inline_rows (leads_to meaning.definition) is) ≡ printed_at (all_after (is_described stack) is l) stack
     rows_printed Nil l stack = ap (λ x. printed_at x stack) (nothing_printed (is_described stack) l)
     rows_printed (Cons i is) l stack =
-        fold-append (row_printed meaning) (printed_at l stack) (part_rows (leads_to meaning.definition) i) (rows_of is)
-        ∙ ap (λ p. fold (row_printed meaning) p (rows_of is)) (part_rows_printed i l stack)
+        fold-append (with_row meaning) (printed_at l stack) (part_rows (leads_to meaning.definition) i) (rows_of is)
+        ∙ ap (λ p. fold (with_row meaning) p (rows_of is)) (part_rows_printed i l stack)
         ∙ rows_printed is (part_after (is_described stack) i l) stack
         ∙ ap (λ x. printed_at x stack) (more_printed (is_described stack) i is l)
 
   -- a whole content
   pub content_printed : (is : Inlines) (l : Laid)
-      → fold (row_printed meaning) (printed_at l []) (inline_rows (leads_to meaning.definition) is) ≡ printed_at (fold (lay meaning.compile default) l (inline_pieces meaning is)) []
+      → fold (with_row meaning) (printed_at l []) (inline_rows (leads_to meaning.definition) is)
+      ≡ printed_at (fold (lay meaning.compile default) l (inline_pieces meaning is)) []
   content_printed is l = rows_printed is l []

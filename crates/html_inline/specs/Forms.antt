@@ -10,5 +10,5 @@ form_byte Bytes b = b ∷ []
 form_byte Plain b = plain_byte b
 form_byte Encoded b = encoded_byte b
 
-abbrev pub formed : Form → List ℕ → List ℕ
-formed form text = flat_map (form_byte form) text
+abbrev pub form_bytes : Form → List ℕ → List ℕ
+form_bytes form text = flat_map (form_byte form) text

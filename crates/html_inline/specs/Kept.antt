@@ -2,13 +2,14 @@
 use Rattle.std.specs.Prelude.{ℕ, ◌+◌, Bool, not, if◌then◌else◌, ◌==◌, ◌||◌, List, Option, drop}
 use Rattle.std.specs.List.{prefix_len}
 use Rattle.markdown_options.specs.declared.configuration.Constructs.{Constructs}
+use Rattle.definition_text.specs.Ascii.{tab, line_feed, carriage_return, space, ampersand, backslash}
 use Rattle.definition_text.specs.Columns.{is_white}
 use Rattle.definition_text.specs.Content.{content_codes}
 use Rattle.definition_inline.specs.Strings.{string_text}
 
 -- a byte that begins nothing: no `\`, `&`, CR, LF, space or tab
 abbrev pub is_ink : ℕ → Bool
-is_ink b = not ((b == 92) || (b == 38) || (b == 10) || (b == 13) || (b == 32) || (b == 9))
+is_ink b = not ((b == backslash) || (b == ampersand) || (b == line_feed) || (b == carriage_return) || (b == space) || (b == tab))
 
 -- all spaces and tabs, or a byte and those after it that begin nothing
 abbrev pub kept_size : List ℕ → ℕ

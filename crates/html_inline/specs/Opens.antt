@@ -10,31 +10,31 @@ use Rattle.inline_rows.specs.declared.row.InlineRow.TheVariants.{Text, Leaf, Ent
 use Rattle.inline_rows.specs.View.{linked_view, target_linked}
 use Rattle.html_inline.specs.declared.stack.OpenPart.{OpenPart}
 use Rattle.html_inline.specs.declared.stack.OpenPart.TheVariants as open_part
-use Rattle.html_inline.specs.Printed.{Opened, opened, Printed, printed_at, span_end, image_end}
+use Rattle.html_inline.specs.Printed.{Opened, new_part, Printed, printed_at, span_end, image_end}
 
 abbrev pub nowhere : inline.Linked
 nowhere = inline.linked [] None
 
 -- where the definition at a place leads
-abbrev pub place_linked : List Linked → ℕ → inline.Linked
-place_linked definitions place = slice_index_or (map linked_view definitions) place nowhere
+abbrev pub place_target : List Linked → ℕ → inline.Linked
+place_target definitions place = slice_index_or (map linked_view definitions) place nowhere
 
 -- where the image leads that a row starts
-abbrev pub image_linked : (ℕ → inline.Linked) → InlineRow → inline.Linked
-image_linked at (Text text) = nowhere
-image_linked at (Leaf part) = nowhere
-image_linked at (EnterSpan span) = nowhere
-image_linked at (EnterLink target) = nowhere
-image_linked at (EnterImage target) = target_linked at target
-image_linked at (Call label) = nowhere
-image_linked at Exit = nowhere
+abbrev pub image_target : (ℕ → inline.Linked) → InlineRow → inline.Linked
+image_target at (Text text) = nowhere
+image_target at (Leaf part) = nowhere
+image_target at (EnterSpan span) = nowhere
+image_target at (EnterLink target) = nowhere
+image_target at (EnterImage target) = target_linked at target
+image_target at (Call label) = nowhere
+image_target at Exit = nowhere
 
 module _ (meaning : InlineMeaning) (at : ℕ → inline.Linked) (rows : List InlineRow) where
   abbrev pub opened_view : OpenPart → Opened
-  opened_view (open_part.Span span) = opened false (span_end (span_view span))
-  opened_view open_part.Link = opened false (codes "</a>")
-  opened_view (open_part.Image place) = opened true (image_end meaning (image_linked at (slice_index_or rows place Exit)))
-  opened_view open_part.Silent = opened true []
+  opened_view (open_part.Span span) = new_part false (span_end (span_view span))
+  opened_view open_part.Link = new_part false (codes "</a>")
+  opened_view (open_part.Image place) = new_part true (image_end meaning (image_target at (slice_index_or rows place Exit)))
+  opened_view open_part.Silent = new_part true []
 
   -- what was laid out, and what is open, the innermost last
   abbrev pub printed_of : Laid → List OpenPart → Printed

@@ -15,8 +15,8 @@ pub record Opened : Type 0 where
   pub described : Bool
   pub ending : List ℕ
 
-abbrev pub opened : Bool → List ℕ → Opened
-opened described ending = record { described = described; ending = ending }
+abbrev pub new_part : Bool → List ℕ → Opened
+new_part described ending = record { described = described; ending = ending }
 
 -- what was laid out, and what is open, the innermost first
 pub record Printed : Type 0 where
@@ -53,11 +53,11 @@ abbrev pub image_end : InlineMeaning → Linked → List ℕ
 image_end meaning target = codes "\"" ++ title_attribute meaning target.title ++ codes " />"
 
 -- the HTML of a part, or what it says in a description
-abbrev pub part_printed : InlineMeaning → Bool → Inline → List ℕ
-part_printed meaning described i = if described then part_description meaning.compile i else part_html meaning i
+abbrev pub html_of_part : InlineMeaning → Bool → Inline → List ℕ
+html_of_part meaning described i = if described then part_description meaning.compile i else part_html meaning i
 
-abbrev pub parts_printed : InlineMeaning → Bool → List Inline → List ℕ
-parts_printed meaning described parts = flat_map (part_printed meaning described) parts
+abbrev pub parts_html : InlineMeaning → Bool → List Inline → List ℕ
+parts_html meaning described parts = flat_map (html_of_part meaning described) parts
 
 -- a call of a footnote, or one in a description, which counts and prints nothing
 abbrev pub call_row : InlineMeaning → Bool → List ℕ → List Piece
@@ -67,9 +67,9 @@ call_row meaning described label =
     else call_at (first_match label meaning.footnotes) (normal_label label)
 
 -- what a part lays that holds no other
-abbrev pub part_laid : InlineMeaning → Bool → Inline → List Piece
-part_laid meaning described (Call label) = call_row meaning described label
-part_laid meaning described i = Bytes (part_printed meaning described i) ∷ []
+abbrev pub part_pieces : InlineMeaning → Bool → Inline → List Piece
+part_pieces meaning described (Call label) = call_row meaning described label
+part_pieces meaning described i = Bytes (html_of_part meaning described i) ∷ []
 
 -- pieces of inline structure, none of which is the default ending
 abbrev pub laid_out : InlineMeaning → Laid → List Piece → Laid
@@ -79,7 +79,7 @@ laid_out meaning l pieces = fold (lay meaning.compile []) l pieces
 abbrev pub enter : List ℕ → Opened → Printed → Printed
 enter start o p =
     if is_described p.stack
-    then printed_at p.laid (opened true [] ∷ p.stack)
+    then printed_at p.laid (new_part true [] ∷ p.stack)
     else printed_at (with_more p.laid start) (o ∷ p.stack)
 
 -- the innermost one ends
@@ -87,9 +87,9 @@ abbrev pub leave : Laid → List Opened → Printed
 leave l [] = printed_at l []
 leave l (o ∷ others) = printed_at (with_more l o.ending) others
 
-abbrev pub row_printed : InlineMeaning → Printed → InlineRow → Printed
-row_printed meaning p (Part i) = printed_at (laid_out meaning p.laid (part_laid meaning (is_described p.stack) i)) p.stack
-row_printed meaning p (EnterSpan span) = enter (span_start span) (opened false (span_end span)) p
-row_printed meaning p (EnterLink target) = enter (link_tag meaning target) (opened false (codes "</a>")) p
-row_printed meaning p (EnterImage target) = enter (image_start meaning target) (opened true (image_end meaning target)) p
-row_printed meaning p Leave = leave p.laid p.stack
+abbrev pub with_row : InlineMeaning → Printed → InlineRow → Printed
+with_row meaning p (Part i) = printed_at (laid_out meaning p.laid (part_pieces meaning (is_described p.stack) i)) p.stack
+with_row meaning p (EnterSpan span) = enter (span_start span) (new_part false (span_end span)) p
+with_row meaning p (EnterLink target) = enter (link_tag meaning target) (new_part false (codes "</a>")) p
+with_row meaning p (EnterImage target) = enter (image_start meaning target) (new_part true (image_end meaning target)) p
+with_row meaning p Leave = leave p.laid p.stack

@@ -2,7 +2,7 @@
 ghost use Rattle.std.specs.Prelude.{◌≡◌, ◌^◌, ◌-◌, min};
 ghost use Rattle.std.specs.Char.{digit_value};
 ghost use Rattle.definition_inline.specs.CharacterReference.{number_of, numbered_text};
-ghost use Rattle.html_inline.specs.Forms.{formed};
+ghost use Rattle.html_inline.specs.Forms.{form_bytes};
 ghost use Rattle.html_inline.specs.Prints.{Prints};
 
 use crate::form::{Form, push_formed};
@@ -18,7 +18,7 @@ pub(crate) fn push_number<A: Allocator>(
     radix: u32,
     digits: &str,
 ) -> Result<(), AllocError>
-    ensures { Prints result out.old out.new (formed form (numbered_text (number_of radix digits.now))) }
+    ensures { Prints result out.old out.new (form_bytes form (numbered_text (number_of radix digits.now))) }
 {
     let mut bytes = [0; 4];
     let text = character_of(number_of(radix, digits.as_bytes())).encode_utf8(&mut bytes);

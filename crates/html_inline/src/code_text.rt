@@ -4,11 +4,11 @@
 //! between.
 ghost use Rattle.std.specs.Prelude.{◌≡◌, ◌==◌, ◌++◌, ◌<◌, IfOk, codes, length, not, string_bytes};
 ghost use Rattle.std.specs.List.{list_any, prefix_len};
-ghost use Rattle.definition_inline.specs.CodeText.{code_text, is_padded, unpadded};
+ghost use Rattle.definition_inline.specs.CodeText.{code_text, is_padded, without_padding};
 ghost use Rattle.definition_text.specs.Content.{content_codes};
 ghost use Rattle.definition_text.specs.Encode.{encode};
-ghost use Rattle.html_inline.specs.CodeBytes.{is_in_line, spaced};
-ghost use Rattle.html_inline.specs.GfmTable.{code_shown};
+ghost use Rattle.html_inline.specs.CodeBytes.{is_in_line, spaces_for_endings};
+ghost use Rattle.html_inline.specs.GfmTable.{code_in_cell};
 ghost use Rattle.html_inline.specs.Prints.{Prints};
 
 use crate::gfm_table::push_cell_code;
@@ -24,7 +24,7 @@ pub(crate) fn push_code_span<A: Allocator>(
     cell: bool,
     code: &str,
 ) -> Result<(), AllocError>
-    ensures { Prints result out.old out.new (codes "<code>" ++ encode (code_shown cell (code_text (content_codes code.now))) ++ codes "</code>") }
+    ensures { Prints result out.old out.new (codes "<code>" ++ encode (code_in_cell cell (code_text (content_codes code.now))) ++ codes "</code>") }
 {
     out.push_str("<code>")?;
     push_code(out, room, cell, code)?;
@@ -38,7 +38,7 @@ pub(crate) fn push_code<A: Allocator>(
     cell: bool,
     code: &str,
 ) -> Result<(), AllocError>
-    ensures { Prints result out.old out.new (encode (code_shown cell (code_text (content_codes code.now)))) }
+    ensures { Prints result out.old out.new (encode (code_in_cell cell (code_text (content_codes code.now)))) }
 {
     spaces.clear();
     push_spaced(spaces, code)?;
@@ -52,7 +52,7 @@ pub(crate) fn push_code<A: Allocator>(
 
 /// Prints a text with a space for each line ending.
 fn push_spaced<A: Allocator>(out: &mut String<A>, code: &str) -> Result<(), AllocError>
-    ensures { Prints result out.old out.new (spaced code.now) }
+    ensures { Prints result out.old out.new (spaces_for_endings code.now) }
 {
     let mut rest = code;
     while !rest.is_empty() {
@@ -67,7 +67,7 @@ fn push_spaced_piece<'a, A: Allocator>(
     code: &'a str,
 ) -> Result<&'a str, AllocError>
     requires { 0 < length code.now }
-    ensures printed { IfOk result (λ rest. string_bytes out.new ++ spaced rest.now ≡ string_bytes out.old ++ spaced code.now) }
+    ensures printed { IfOk result (λ rest. string_bytes out.new ++ spaces_for_endings rest.now ≡ string_bytes out.old ++ spaces_for_endings code.now) }
     ensures shorter { IfOk result (λ rest. length rest.now < length code.now) }
 {
     if let Some(found) = ending_at(code.as_bytes()) {
@@ -94,7 +94,7 @@ fn is_in_line(byte: u8) -> bool
 
 /// A text without one space at each end, where there are both and something between.
 fn unpadded(text: &str) -> &str
-    ensures { result.now ≡ unpadded text.now }
+    ensures { result.now ≡ without_padding text.now }
 {
     if text.len() > 1 && is_padded(text.as_bytes()) {
         &text[1..text.len() - 1]

@@ -13,8 +13,8 @@ ghost use Rattle.inline_labels.specs.Table.{HasLabels};
 ghost use Rattle.inline_rows.specs.InlineRows as rows_of;
 ghost use Rattle.inline_rows.specs.View.{row_view, rows_view};
 ghost use Rattle.html_inline.specs.Counts.{rows_counts};
-ghost use Rattle.html_inline.specs.GfmTable.{shown};
-ghost use Rattle.html_inline.specs.Opens.{place_linked};
+ghost use Rattle.html_inline.specs.GfmTable.{parts_in_cell};
+ghost use Rattle.html_inline.specs.Opens.{place_target};
 ghost use Rattle.html_inline.specs.Prints.{meaning_by, Definitions};
 
 use crate::printing::{Printing, Scratch};
@@ -34,9 +34,9 @@ pub fn count_rows<A: Allocator + Clone, T: Tables>(
     ensures { (definition : Definitions) (footnotes : List (List ℕ)) (default : List ℕ) (is : inline.Inlines) →
         let meaning = meaning_by (T.reference_of printing.now.tables.now) printing.now definition footnotes in
         HasLabels printing.now.footnotes.now footnotes →
-        rows_view (place_linked printing.now.definitions.now) rows.now ≡ rows_of.inline_rows (leads_to definition) is →
+        rows_view (place_target printing.now.definitions.now) rows.now ≡ rows_of.inline_rows (leads_to definition) is →
         OnOk result (output_view out.new
-        ≡ fold (lay printing.now.compile.now default) (output_view out.old) (inline_counts meaning (shown printing.now.cell is))) }
+        ≡ fold (lay printing.now.compile.now default) (output_view out.old) (inline_counts meaning (parts_in_cell printing.now.cell is))) }
 {
     for row in rows {
         count_row(out, &mut scratch.text, printing.footnotes, *row)?;

@@ -1,5 +1,5 @@
 //! How a text is printed.
-ghost use Rattle.html_inline.specs.Forms.{formed};
+ghost use Rattle.html_inline.specs.Forms.{form_bytes};
 ghost use Rattle.html_inline.specs.Prints.{Prints};
 
 use html_escape::{push_encoded, push_raw};
@@ -22,7 +22,7 @@ pub(crate) fn push_formed<A: Allocator>(
     form: Form,
     text: &str,
 ) -> Result<(), AllocError>
-    ensures { Prints result out.old out.new (formed form text.now) }
+    ensures { Prints result out.old out.new (form_bytes form text.now) }
 {
     match form {
         Form::Bytes => out.push_str(text),

@@ -7,7 +7,7 @@ ghost use Rattle.definition_text.specs.Content.{content_codes};
 ghost use Rattle.html_footnotes.specs.Output.{output_view};
 ghost use Rattle.inline_labels.specs.Table.{HasLabels};
 ghost use Rattle.inline_rows.specs.declared.row.InlineRow.{InlineRow};
-ghost use Rattle.html_inline.specs.Opens.{opened_view, place_linked};
+ghost use Rattle.html_inline.specs.Opens.{opened_view, place_target};
 ghost use Rattle.html_inline.specs.Printed.{call_row, is_described, laid_out};
 ghost use Rattle.html_inline.specs.Prints.{meaning_by, Definitions};
 
@@ -28,7 +28,7 @@ pub(crate) fn push_call<A: Allocator + Clone, T: Tables>(
     ensures stack { scratch.new.stack ≡ scratch.old.stack }
     ensures laid { (definition : Definitions) (footnotes : List (List ℕ)) (rows : List InlineRow) →
         let meaning = meaning_by (T.reference_of printing.now.tables.now) printing.now definition footnotes in
-        let stack = map (opened_view meaning (place_linked printing.now.definitions.now) rows) (reverse scratch.old.stack.items) in
+        let stack = map (opened_view meaning (place_target printing.now.definitions.now) rows) (reverse scratch.old.stack.items) in
         HasLabels printing.now.footnotes.now footnotes →
         OnOk result (output_view out.new ≡ laid_out meaning (output_view out.old) (call_row meaning (is_described stack) (content_codes label.now))) }
 {

@@ -1,11 +1,11 @@
 //! The tags of links and images (CommonMark 6.3 and 6.4).
 ghost use Rattle.std.specs.Prelude.{◌≡◌, ℕ, List, OnOk, string_bytes};
 ghost use Rattle.definition_text.specs.Encode.{plain};
-ghost use Rattle.html_bytes.specs.InlineHtml.{link_tag, title_attribute, titled};
+ghost use Rattle.html_bytes.specs.InlineHtml.{link_tag, title_attribute, title_html};
 ghost use Rattle.inline_rows.specs.View.{linked_view, target_linked};
 ghost use Rattle.html_inline.specs.Kept.{text_of};
 ghost use Rattle.html_inline.specs.Printed.{image_end, image_start};
-ghost use Rattle.html_inline.specs.Opens.{place_linked};
+ghost use Rattle.html_inline.specs.Opens.{place_target};
 ghost use Rattle.html_inline.specs.Prints.{meaning_by, Definitions, Prints};
 
 use crate::form::Form;
@@ -19,7 +19,7 @@ use std::alloc::{AllocError, Allocator};
 
 /// Where a link or an image leads. A place past the last definition leads nowhere.
 pub(crate) fn linked_at<'a>(definitions: &'a [Linked<'a>], target: LinkTarget<'a>) -> Linked<'a>
-    ensures { linked_view result ≡ target_linked (place_linked definitions.now) target.entry }
+    ensures { linked_view result ≡ target_linked (place_target definitions.now) target.entry }
 {
     match target {
         LinkTarget::Resource(linked) => linked,
@@ -123,7 +123,7 @@ fn push_title<A: Allocator + Clone, T: Tables>(
 
 /// Prints the attribute of a title's text that isn't empty.
 fn push_titled<A: Allocator>(out: &mut String<A>, title: &str) -> Result<(), AllocError>
-    ensures { Prints result out.old out.new (titled title.now) }
+    ensures { Prints result out.old out.new (title_html title.now) }
 {
     if title.is_empty() {
         return Ok(());

@@ -3,7 +3,7 @@ ghost use Rattle.std.specs.List.{flat_map};
 ghost use Rattle.html_bytes.specs.InlineHtml.{part_description, part_html};
 ghost use Rattle.inline_leaves.specs.Leaves.{parts_of};
 ghost use Rattle.std.specs.Prelude.{ℕ, List, map};
-ghost use Rattle.html_inline.specs.GfmTable.{part_shown};
+ghost use Rattle.html_inline.specs.GfmTable.{inline_in_cell};
 ghost use Rattle.html_inline.specs.Prints.{meaning_by, Definitions, Prints};
 
 use crate::autolink::push_autolink;
@@ -28,7 +28,7 @@ pub(crate) fn push_description<A: Allocator>(
     cell: bool,
     part: LeafPart<'_>,
 ) -> Result<(), AllocError>
-    ensures { Prints result out.old out.new (flat_map (part_description compile.now) (map (part_shown cell) (parts_of part.entry))) }
+    ensures { Prints result out.old out.new (flat_map (part_description compile.now) (map (inline_in_cell cell) (parts_of part.entry))) }
 {
     match part {
         LeafPart::Escape(text) => push_encoded(out, text),
@@ -56,7 +56,7 @@ pub(crate) fn push_leaf<A: Allocator + Clone, T: Tables>(
 ) -> Result<(), AllocError>
     ensures { (definition : Definitions) (footnotes : List (List ℕ)) →
         Prints result out.old out.new (flat_map (part_html (meaning_by (T.reference_of printing.now.tables.now) printing.now definition footnotes))
-        (map (part_shown printing.now.cell) (parts_of part.entry))) }
+        (map (inline_in_cell printing.now.cell) (parts_of part.entry))) }
 {
     match part {
         LeafPart::Escape(text) => push_encoded(out, text),

@@ -2,7 +2,7 @@
 //!
 //! In the description of an image no tag is printed, and nothing for the URL and the title of a
 //! link or an image (CommonMark 6.4). The title of an image comes after its description.
-ghost use Rattle.std.specs.Prelude.{◌≡◌, ℕ, List, OnOk, map, reverse, slice_index_or};
+ghost use Rattle.std.specs.Prelude.{◌≡◌, ℕ, Bool, List, OnOk, map, reverse, slice_index_or};
 ghost use Rattle.std.specs.List.{fold};
 ghost use Rattle.definition_inline.specs.Inline as inline;
 ghost use Rattle.definition_page.specs.InlinePieces.{leads_to};
@@ -13,12 +13,12 @@ ghost use Rattle.inline_labels.specs.Table.{HasLabels};
 ghost use Rattle.inline_rows.specs.InlineRows as rows_of;
 ghost use Rattle.inline_runs.specs.View.{span_view};
 ghost use Rattle.inline_leaves.specs.Leaves.{parts_of};
-ghost use Rattle.inline_rows.specs.View.{linked_view, row_view, rows_view, target_linked};
+ghost use Rattle.inline_rows.specs.View.{data_rows, linked_view, row_view, rows_view, target_linked};
 ghost use Rattle.inline_rows.specs.declared.row.InlineRow.{InlineRow};
 ghost use Rattle.inline_rows.specs.declared.row.InlineRow.TheVariants.{Exit};
-ghost use Rattle.html_inline.specs.GfmTable.{shown, part_shown, row_printed_in};
-ghost use Rattle.html_inline.specs.Opens.{image_linked, opened_view, place_linked, printed_of};
-ghost use Rattle.html_inline.specs.Printed.{is_described, parts_printed, row_printed, span_end, span_start};
+ghost use Rattle.html_inline.specs.GfmTable.{parts_in_cell, inline_in_cell, row_printed_in};
+ghost use Rattle.html_inline.specs.Opens.{image_target, opened_view, place_target, printed_of};
+ghost use Rattle.html_inline.specs.Printed.{is_described, parts_html, with_row, span_end, span_start};
 ghost use Rattle.html_inline.specs.Prints.{meaning_by, Definitions, Prints};
 
 use crate::gfm_label_start_footnote::push_call;
@@ -45,15 +45,26 @@ pub fn push_rows<A: Allocator + Clone, T: Tables>(
     ensures { (definition : Definitions) (footnotes : List (List ℕ)) (default : List ℕ) (is : inline.Inlines) →
         let meaning = meaning_by (T.reference_of printing.now.tables.now) printing.now definition footnotes in
         HasLabels printing.now.footnotes.now footnotes →
-        rows_view (place_linked printing.now.definitions.now) rows.now ≡ rows_of.inline_rows (leads_to definition) is →
+        rows_view (place_target printing.now.definitions.now) rows.now ≡ rows_of.inline_rows (leads_to definition) is →
         OnOk result (output_view out.new
-        ≡ fold (lay printing.now.compile.now default) (output_view out.old) (inline_pieces meaning (shown printing.now.cell is))) }
+        ≡ fold (lay printing.now.compile.now default) (output_view out.old) (inline_pieces meaning (parts_in_cell printing.now.cell is))) }
 {
     scratch.stack.clear();
     for (place, row) in rows.iter().enumerate() {
         push_row(out, scratch, printing, rows, place, *row)?;
     }
     Ok(())
+}
+
+/// Prints a content that is text alone: where its bytes are the rows of some inline structure, what
+/// that prints, in a cell of a table or not.
+pub fn push_plain<A: Allocator + Clone>(out: &mut Output<A>, text: &str) -> Result<(), AllocError>
+    ensures { (meaning : InlineMeaning) (default : List ℕ) (cell : Bool) (is : inline.Inlines) →
+        data_rows text.now ≡ rows_of.inline_rows (leads_to meaning.definition) is →
+        OnOk result (output_view out.new
+        ≡ fold (lay meaning.compile default) (output_view out.old) (inline_pieces meaning (parts_in_cell cell is))) }
+{
+    push_encoded(&mut out.html, text)
 }
 
 /// Prints a row, which stands at a place.
@@ -68,7 +79,7 @@ fn push_row<A: Allocator + Clone, T: Tables>(
     requires { slice_index_or rows.now place Exit ≡ row }
     ensures { (definition : Definitions) (footnotes : List (List ℕ)) →
         let meaning = meaning_by (T.reference_of printing.now.tables.now) printing.now definition footnotes in
-        let at = place_linked printing.now.definitions.now in
+        let at = place_target printing.now.definitions.now in
         HasLabels printing.now.footnotes.now footnotes →
         OnOk result (printed_of meaning at rows.now (output_view out.new) scratch.new.stack.items
         ≡ fold (row_printed_in printing.now.cell meaning) (printed_of meaning at rows.now (output_view out.old) scratch.old.stack.items)
@@ -95,9 +106,9 @@ fn push_part<A: Allocator + Clone, T: Tables>(
     ensures stack { scratch.new.stack ≡ scratch.old.stack }
     ensures printed { (definition : Definitions) (footnotes : List (List ℕ)) (rows : List InlineRow) →
         let meaning = meaning_by (T.reference_of printing.now.tables.now) printing.now definition footnotes in
-        let at = place_linked printing.now.definitions.now in
-        Prints result out.old out.new (parts_printed meaning (is_described (map (opened_view meaning at rows) (reverse scratch.old.stack.items)))
-        (map (part_shown printing.now.cell) (parts_of part.entry))) }
+        let at = place_target printing.now.definitions.now in
+        Prints result out.old out.new (parts_html meaning (is_described (map (opened_view meaning at rows) (reverse scratch.old.stack.items)))
+        (map (inline_in_cell printing.now.cell) (parts_of part.entry))) }
 {
     if is_described(scratch.stack.as_slice()) {
         push_description(
@@ -120,7 +131,7 @@ fn enter_span<A: Allocator + Clone>(
 ) -> Result<(), AllocError>
     ensures { (meaning : InlineMeaning) (at : ℕ → inline.Linked) (rows : List InlineRow) →
         OnOk result (printed_of meaning at rows (output_view out.new) scratch.new.stack.items
-        ≡ row_printed meaning (printed_of meaning at rows (output_view out.old) scratch.old.stack.items) (rows_of.EnterSpan (span_view span))) }
+        ≡ with_row meaning (printed_of meaning at rows (output_view out.old) scratch.old.stack.items) (rows_of.EnterSpan (span_view span))) }
 {
     if is_described(scratch.stack.as_slice()) {
         scratch.stack.push(OpenPart::Silent)?;
@@ -140,9 +151,9 @@ fn enter_link<A: Allocator + Clone, T: Tables>(
 ) -> Result<(), AllocError>
     ensures { (definition : Definitions) (footnotes : List (List ℕ)) (rows : List InlineRow) →
         let meaning = meaning_by (T.reference_of printing.now.tables.now) printing.now definition footnotes in
-        let at = place_linked printing.now.definitions.now in
+        let at = place_target printing.now.definitions.now in
         OnOk result (printed_of meaning at rows (output_view out.new) scratch.new.stack.items
-        ≡ row_printed meaning (printed_of meaning at rows (output_view out.old) scratch.old.stack.items) (rows_of.EnterLink (target_linked at target.entry))) }
+        ≡ with_row meaning (printed_of meaning at rows (output_view out.old) scratch.old.stack.items) (rows_of.EnterLink (target_linked at target.entry))) }
 {
     if is_described(scratch.stack.as_slice()) {
         scratch.stack.push(OpenPart::Silent)?;
@@ -164,10 +175,10 @@ fn enter_image<A: Allocator + Clone, T: Tables>(
 ) -> Result<(), AllocError>
     ensures { (definition : Definitions) (footnotes : List (List ℕ)) (rows : List InlineRow) →
         let meaning = meaning_by (T.reference_of printing.now.tables.now) printing.now definition footnotes in
-        let at = place_linked printing.now.definitions.now in
-        image_linked at (slice_index_or rows place Exit) ≡ target_linked at target.entry →
+        let at = place_target printing.now.definitions.now in
+        image_target at (slice_index_or rows place Exit) ≡ target_linked at target.entry →
         OnOk result (printed_of meaning at rows (output_view out.new) scratch.new.stack.items
-        ≡ row_printed meaning (printed_of meaning at rows (output_view out.old) scratch.old.stack.items)
+        ≡ with_row meaning (printed_of meaning at rows (output_view out.old) scratch.old.stack.items)
         (rows_of.EnterImage (target_linked at target.entry))) }
 {
     if is_described(scratch.stack.as_slice()) {
@@ -189,9 +200,9 @@ fn exit<A: Allocator + Clone, T: Tables>(
 ) -> Result<(), AllocError>
     ensures { (definition : Definitions) (footnotes : List (List ℕ)) →
         let meaning = meaning_by (T.reference_of printing.now.tables.now) printing.now definition footnotes in
-        let at = place_linked printing.now.definitions.now in
+        let at = place_target printing.now.definitions.now in
         OnOk result (printed_of meaning at rows.now (output_view out.new) scratch.new.stack.items
-        ≡ row_printed meaning (printed_of meaning at rows.now (output_view out.old) scratch.old.stack.items) rows_of.Leave) }
+        ≡ with_row meaning (printed_of meaning at rows.now (output_view out.old) scratch.old.stack.items) rows_of.Leave) }
 {
     match scratch.stack.pop() {
         None => Ok(()),
@@ -209,7 +220,7 @@ fn push_end<A: Allocator + Clone, T: Tables>(
 ) -> Result<(), AllocError>
     ensures { (definition : Definitions) (footnotes : List (List ℕ)) →
         let meaning = meaning_by (T.reference_of printing.now.tables.now) printing.now definition footnotes in
-        let at = place_linked printing.now.definitions.now in
+        let at = place_target printing.now.definitions.now in
         Prints result out.old out.new ((opened_view meaning at rows.now part).ending) }
 {
     match part {
@@ -229,7 +240,7 @@ fn image_linked<'a, A: Allocator + Clone, T>(
     rows: &[InlineRow<'a>],
     place: usize,
 ) -> Linked<'a>
-    ensures { linked_view result ≡ image_linked (place_linked printing.now.definitions.now) (slice_index_or rows.now place Exit) }
+    ensures { linked_view result ≡ image_target (place_target printing.now.definitions.now) (slice_index_or rows.now place Exit) }
 {
     if place < rows.len() {
         if let InlineRow::EnterImage(target) = rows[place] {

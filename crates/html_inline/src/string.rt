@@ -9,7 +9,7 @@ ghost use Rattle.std.specs.List.{flat_map, prefix_len};
 ghost use Rattle.definition_text.specs.Content.{content_codes};
 ghost use Rattle.definition_inline.specs.Strings.{spaces_at, string_bytes as part_bytes, string_leaf_at, string_text};
 ghost use Rattle.inline_leaves.specs.Leaves.{IsAfter, found_leaf, parts_of};
-ghost use Rattle.html_inline.specs.Forms.{formed};
+ghost use Rattle.html_inline.specs.Forms.{form_bytes};
 ghost use Rattle.html_inline.specs.Kept.{is_ink, kept_size, text_of};
 ghost use Rattle.html_inline.specs.Prints.{Prints};
 
@@ -67,7 +67,7 @@ pub(crate) fn push_formed_string<A: Allocator, T: Tables>(
     form: Form,
     string: &str,
 ) -> Result<(), AllocError>
-    ensures { Prints result out.old out.new (formed form (text_of on.now (T.reference_of tables.now) string.now)) }
+    ensures { Prints result out.old out.new (form_bytes form (text_of on.now (T.reference_of tables.now) string.now)) }
 {
     let mut rest = string;
     while !rest.is_empty() {
@@ -85,8 +85,8 @@ fn push_piece<'a, A: Allocator, T: Tables>(
     string: &'a str,
 ) -> Result<&'a str, AllocError>
     requires { 0 < length string.now }
-    ensures printed { IfOk result (λ rest. string_bytes out.new ++ formed form (text_of on.now (T.reference_of tables.now) rest.now)
-        ≡ string_bytes out.old ++ formed form (text_of on.now (T.reference_of tables.now) string.now)) }
+    ensures printed { IfOk result (λ rest. string_bytes out.new ++ form_bytes form (text_of on.now (T.reference_of tables.now) rest.now)
+        ≡ string_bytes out.old ++ form_bytes form (text_of on.now (T.reference_of tables.now) string.now)) }
     ensures shorter { IfOk result (λ rest. length rest.now < length string.now) }
 {
     if let Some(found) = string_leaf_at(on, tables, string) {
@@ -145,7 +145,7 @@ fn push_part<A: Allocator>(
     form: Form,
     part: LeafPart<'_>,
 ) -> Result<(), AllocError>
-    ensures { Prints result out.old out.new (formed form (flat_map part_bytes (parts_of part.entry))) }
+    ensures { Prints result out.old out.new (form_bytes form (flat_map part_bytes (parts_of part.entry))) }
 {
     match part {
         LeafPart::Escape(text) => push_formed(out, form, text),

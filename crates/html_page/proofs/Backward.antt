@@ -34,7 +34,8 @@ same_without_lines p (row.UnclosedCode count) ls = refl
 same_without_lines p (row.Html count) ls = refl
 same_without_lines p (row.Table count) ls = refl
 same_without_lines p (row.Definition count) ls =
-    ap (λ ending. pass_at (before_if ending p.ahead) p.outer p.places) (no_ending (definition_on (take count ls)) ∙ sym (no_ending (definition_on (take count []))))
+    ap (λ ending. pass_at (before_if ending p.ahead) p.outer p.places) (no_ending (definition_on (take count ls))
+    ∙ sym (no_ending (definition_on (take count []))))
 same_without_lines p row.EnterQuote ls = refl
 same_without_lines p (row.EnterItem marker number) ls = refl
 same_without_lines p row.EnterFootnote ls = refl
@@ -73,7 +74,8 @@ same_places p row.Exit ls h = refl
 same_places p (row.Ending ending) ls h = refl
 same_places p (row.Blank ending) ls h = refl
 
-no_places : (p : PassView) (rows : List Row) (ls : List BlockLine) → list_any starts_item rows ≡ false → (pass_rows p (rows_value rows ls).rows).places ≡ p.places
+no_places : (p : PassView) (rows : List Row) (ls : List BlockLine) → list_any starts_item rows ≡ false
+    → (pass_rows p (rows_value rows ls).rows).places ≡ p.places
 no_places p [] ls h = refl
 no_places p (r ∷ rows) ls h =
     let left = drop (row_size r) ls in

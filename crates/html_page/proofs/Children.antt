@@ -1,12 +1,14 @@
 -- What the rows of blocks print, in each container and list.
-use Rattle.std.proofs.Common.{◌≡◌, ℕ, ◌≤◌, Bool, true, false, not, ◌==◌, List, [], ◌∷◌, ◌++◌, Option, refl, sym, ap, ◌∙◌, subst, append_assoc, codes, None, Some}
+use Rattle.std.proofs.Common.{◌≡◌, ℕ, ◌≤◌, Bool, true, false, not, ◌==◌, List, [], ◌∷◌, ◌++◌, Option, refl, sym, ap, ◌∙◌, subst, append_assoc, codes, None}
+use Rattle.std.proofs.Common.{Some}
 use Rattle.std.specs.List.{fold}
 use Rattle.std.proofs.lemmas.Bool.{eqb-true}
 use Rattle.std.proofs.lemmas.List.Sums.{fold-append}
 use Rattle.definition_block.specs.declared.container.Item.{Item as ItemOf}
-use Rattle.definition_block.specs.Container.{Container, Quote, Item, Footnote}
-use Rattle.definition_block.specs.Tree.{Block, Paragraph, Heading, Break, IndentedCode, FencedCode, Html, Table, Definition, Holds, Items, Ending, Blank, Blocks, Nil, Cons}
-use Rattle.definition_block.specs.Lists.{after_endings, has_gap, is_loose, list_marker, before, grouped, grouped_block}
+use Rattle.definition_block.specs.Container.{Quote, Item, Footnote}
+use Rattle.definition_block.specs.Tree.{Block, Paragraph, Heading, Break, IndentedCode, FencedCode, Html, Table, Definition, Holds, Items, Ending, Blank}
+use Rattle.definition_block.specs.Tree.{Blocks, Nil, Cons}
+use Rattle.definition_block.specs.Lists.{after_endings, has_gap, is_loose, list_marker, before, group_items, grouped_block}
 use Rattle.html_bytes.specs.Pieces.{Piece, Bytes, Eol, Fresh, NoteStart, NoteEnd, print}
 use Rattle.html_bytes.specs.Layout.{lay as lay_piece, with_text}
 use Rattle.definition_page.specs.Layout.{Laid}
@@ -40,7 +42,8 @@ module _ (d : Document) (default : List ℕ) where
 
   -- the end of an item is text
   item_end : (said : Bool) (out : Laid)
-      → with_text out (fold (print default) out.text (fresh_unless said ++ Bytes (codes "</li>") ∷ [])) ≡ lay out (fresh_unless said ++ Bytes (codes "</li>") ∷ [])
+      → with_text out (fold (print default) out.text (fresh_unless said ++ Bytes (codes "</li>") ∷ []))
+      ≡ lay out (fresh_unless said ++ Bytes (codes "</li>") ∷ [])
   item_end true out = refl
   item_end false out = refl
 
@@ -54,7 +57,7 @@ module _ (d : Document) (default : List ℕ) where
   abbrev pub ChildrenPrinted : Blocks → Type 0
   ChildrenPrinted bs = (l : Level) (out : Laid) (outer : List Level) (places : List Place) → is_list l.holder ≡ false
       → print_all d default (printer_at out l outer (places_within bs ++ places)) (rows_of bs)
-      ≡ printer_at (lay out (at_level l (grouped bs))) (level_past l (grouped bs)) outer places
+      ≡ printer_at (lay out (at_level l (group_items bs))) (level_past l (group_items bs)) outer places
 
   -- on a list that is open in a level
   abbrev on_list_at : Laid → Option ℕ → Bool → Bool → Level → List Level → List Place → PrinterView
@@ -63,18 +66,20 @@ module _ (d : Document) (default : List ℕ) where
   -- after the rest of a list, and what follows it
   abbrev list_then : Laid → Option ℕ → Bool → Level → Blocks → Blocks → List Level → List Place → PrinterView
   list_then out number tight l items others outer places =
-      printer_at (lay (lay out (children_pieces d in_container tight false items ++ Eol ∷ Bytes (number_end number) ∷ [])) (at_level l others)) (level_past l others) outer places
+      printer_at (lay (lay out (children_pieces d in_container tight false items ++ Eol ∷ Bytes (number_end number) ∷ [])) (at_level l others))
+      (level_past l others) outer places
 
   abbrev pub ListPrinted : Blocks → Type 0
   ListPrinted bs = (number : Option ℕ) (tight plain : Bool) (l : Level) (out : Laid) (outer : List Level) (places : List Place)
-      → is_list l.holder ≡ false → 1 ≤ list_marker (after_endings (grouped bs))
+      → is_list l.holder ≡ false → 1 ≤ list_marker (after_endings (group_items bs))
       → print_all d default (on_list_at out number tight plain l outer (places_within bs ++ places)) (rows_of bs)
-      ≡ list_then out number tight l (list_ahead (grouped bs)) (after_list (grouped bs)) outer places
+      ≡ list_then out number tight l (list_ahead (group_items bs)) (after_list (group_items bs)) outer places
 
   -- ---- an item
 
   -- the end of an item
-  item_left : (number : Option ℕ) (tight last : Bool) (l inner : Level) (out : Laid) (outer : List Level) (places : List Place) → inner.holder ≡ holder.Item last
+  item_left : (number : Option ℕ) (tight last : Bool) (l inner : Level) (out : Laid) (outer : List Level) (places : List Place)
+      → inner.holder ≡ holder.Item last
       → print_row d default (printer_at out inner (level_of (holder.List number) tight false false false ∷ l ∷ outer) places) Exit
       ≡ leave_list_if default last (on_list_at (lay out (fresh_unless inner.plain ++ Bytes (codes "</li>") ∷ [])) number tight false l outer places)
   item_left number tight last l inner out outer places is =
@@ -82,12 +87,14 @@ module _ (d : Document) (default : List ℕ) where
       ∙ ap (λ x. leave_list_if default last (on_list_at x number tight false l outer places)) (item_end inner.plain out)
 
   -- an item on a list that is open
-  item_printed : (item : ItemOf) (kids : Blocks) (place : Place) (number : Option ℕ) (tight plain : Bool) (l : Level) (out : Laid) (outer : List Level) (places : List Place)
+  item_printed : (item : ItemOf) (kids : Blocks) (place : Place) (number : Option ℕ) (tight plain : Bool) (l : Level) (out : Laid) (outer : List Level)
+      (places : List Place)
       → ChildrenPrinted kids
       → print_all d default (on_list_at out number tight plain l outer (place ∷ (places_within kids ++ places))) (block_rows (Holds (Item item) kids))
-      ≡ leave_list_if default (not place.goes_on) (on_list_at (lay out (block_pieces d in_container tight false (Holds (Item item) (grouped kids)))) number tight false l outer places)
+      ≡ leave_list_if default (not place.goes_on)
+      (on_list_at (lay out (block_pieces d in_container tight false (Holds (Item item) (group_items kids)))) number tight false l outer places)
   item_printed item kids place number tight plain l out outer places k =
-      let gs = grouped kids in
+      let gs = group_items kids in
       let start : List Piece = Fresh ∷ Bytes (codes "<li>") ∷ [] in
       let new = new_level (holder.Item (not place.goes_on)) tight in
       let inner = level_past new gs in
@@ -97,17 +104,20 @@ module _ (d : Document) (default : List ℕ) where
       fold-append (print_row d default) (printer_at (lay out start) new around (places_within kids ++ places)) (rows_of kids) (Exit ∷ [])
       ∙ ap (λ (p : PrinterView). print_row d default p Exit) (k new (lay out start) around places refl)
       ∙ item_left number tight (not place.goes_on) l inner (lay (lay out start) body) outer places (past_kind new gs)
-      ∙ ap (λ x. leave_list_if default (not place.goes_on) (on_list_at (lay (lay (lay out start) body) (fresh_unless x ++ end)) number tight false l outer places)) (sym (past_plain new gs))
-      ∙ ap (λ x. leave_list_if default (not place.goes_on) (on_list_at x number tight false l outer places)) (lay_more (lay out start) body (fresh_unless (ends_tight tight true gs) ++ end)
+      ∙ ap (λ x. leave_list_if default (not place.goes_on)
+      (on_list_at (lay (lay (lay out start) body) (fresh_unless x ++ end)) number tight false l outer places)) (sym (past_plain new gs))
+      ∙ ap (λ x. leave_list_if default (not place.goes_on) (on_list_at x number tight false l outer places))
+      (lay_more (lay out start) body (fresh_unless (ends_tight tight true gs) ++ end)
       ∙ ap (λ ps. lay (lay out start) ps) (sym (append_assoc body (fresh_unless (ends_tight tight true gs)) end)))
 
   -- what follows an item that is printed: more of its list, or what stands after it
   item_then : (goes_on : Bool) (bs : Blocks) (number : Option ℕ) (tight : Bool) (l : Level) (out : Laid) (outer : List Level) (places : List Place)
-      → is_list l.holder ≡ false → (goes_on ≡ true → 1 ≤ list_marker (after_endings (grouped bs))) → ChildrenPrinted bs → ListPrinted bs
+      → is_list l.holder ≡ false → (goes_on ≡ true → 1 ≤ list_marker (after_endings (group_items bs))) → ChildrenPrinted bs → ListPrinted bs
       → print_all d default (leave_list_if default (not goes_on) (on_list_at out number tight false l outer (places_within bs ++ places))) (rows_of bs)
-      ≡ list_then out number tight l (on_list goes_on (grouped bs)) (off_list goes_on (grouped bs)) outer places
+      ≡ list_then out number tight l (on_list goes_on (group_items bs)) (off_list goes_on (group_items bs)) outer places
   item_then true bs number tight l out outer places no_list some children list = list number tight false l out outer places no_list (some refl)
-  item_then false bs number tight l out outer places no_list some children list = children l (lay out (Eol ∷ Bytes (number_end number) ∷ [])) outer places no_list
+  item_then false bs number tight l out outer places no_list some children list =
+      children l (lay out (Eol ∷ Bytes (number_end number) ∷ [])) outer places no_list
 
   -- the pieces of an item, of what follows it on its list, and of what follows the list
   split_list : (out : Laid) (item more end others : List Piece) → lay (lay (lay out item) (more ++ end)) others ≡ lay (lay out ((item ++ more) ++ end)) others
@@ -119,18 +129,19 @@ module _ (d : Document) (default : List ℕ) where
   -- a block, and those after it
   abbrev StepPrinted : Block → Blocks → Type 0
   StepPrinted b bs = (l : Level) (out : Laid) (outer : List Level) (places : List Place) → is_list l.holder ≡ false
-      → print_all d default (print_all d default (printer_at out l outer (places_in b (grouped bs) ++ (places_within bs ++ places))) (block_rows b)) (rows_of bs)
-      ≡ printer_at (lay out (at_level l (before (grouped_block b) (grouped bs)))) (level_past l (before (grouped_block b) (grouped bs))) outer places
+      → print_all d default (print_all d default (printer_at out l outer (places_in b (group_items bs) ++ (places_within bs ++ places))) (block_rows b))
+      (rows_of bs)
+      ≡ printer_at (lay out (at_level l (before (grouped_block b) (group_items bs)))) (level_past l (before (grouped_block b) (group_items bs))) outer places
 
   -- a block that is a row
   leaf_step : (b : Block) (bs : Blocks) → ChildrenPrinted bs → (l : Level) (out : Laid) (outer : List Level) (places : List Place) → is_list l.holder ≡ false
       → print_all d default (print_row d default (printer_at out l outer (places_within bs ++ places)) (Single b)) (rows_of bs)
-      ≡ printer_at (lay out (at_level l (Cons b (grouped bs)))) (level_past l (Cons b (grouped bs))) outer places
+      ≡ printer_at (lay out (at_level l (Cons b (group_items bs)))) (level_past l (Cons b (group_items bs))) outer places
   leaf_step b bs children l out outer places no_list =
       let own = block_pieces d (standing_of l) l.tight l.silent b in
       let after = level_after l (Single b) in
       children after (lay out own) outer places no_list
-      ∙ ap (λ x. printer_at x (level_past after (grouped bs)) outer places) (lay_more out own (at_level after (grouped bs)))
+      ∙ ap (λ x. printer_at x (level_past after (group_items bs)) outer places) (lay_more out own (at_level after (group_items bs)))
 
   quote_left : (l inner : Level) (out : Laid) (outer : List Level) (places : List Place) → inner.holder ≡ holder.Quote
       → print_row d default (printer_at out inner (l ∷ outer) places) Exit ≡ printer_at (lay out (Fresh ∷ Bytes (codes "</blockquote>") ∷ [])) l outer places
@@ -138,7 +149,7 @@ module _ (d : Document) (default : List ℕ) where
 
   quote_step : (kids bs : Blocks) → ChildrenPrinted kids → ChildrenPrinted bs → StepPrinted (Holds Quote kids) bs
   quote_step kids bs k children l out outer places no_list =
-      let gs = grouped kids in
+      let gs = group_items kids in
       let start : List Piece = Fresh ∷ Bytes (codes "<blockquote>") ∷ [] in
       let new = new_level holder.Quote false in
       let body = children_pieces d in_container false false gs in
@@ -150,7 +161,8 @@ module _ (d : Document) (default : List ℕ) where
       ∙ quote_left (after_block l) (level_past new gs) (lay (lay out start) body) outer left (past_kind new gs)
       ∙ ap (λ x. printer_at x (after_block l) outer left) (lay_more (lay out start) body end))
       ∙ children (after_block l) (lay (lay out start) (body ++ end)) outer places no_list
-      ∙ ap (λ x. printer_at x (level_past (after_block l) (grouped bs)) outer places) (lay_more out (start ++ (body ++ end)) (at_level (after_block l) (grouped bs)))
+      ∙ ap (λ x. printer_at x (level_past (after_block l) (group_items bs)) outer places)
+      (lay_more out (start ++ (body ++ end)) (at_level (after_block l) (group_items bs)))
 
   footnote_left : (l inner : Level) (out : Laid) (outer : List Level) (places : List Place) → inner.holder ≡ holder.Footnote
       → print_row d default (printer_at out inner (l ∷ outer) places) Exit ≡ printer_at (lay out (NoteEnd ∷ [])) l outer places
@@ -158,7 +170,7 @@ module _ (d : Document) (default : List ℕ) where
 
   footnote_step : (label : List ℕ) (kids bs : Blocks) → ChildrenPrinted kids → ChildrenPrinted bs → StepPrinted (Holds (Footnote label) kids) bs
   footnote_step label kids bs k children l out outer places no_list =
-      let gs = grouped kids in
+      let gs = group_items kids in
       let start : List Piece = NoteStart ∷ [] in
       let new = new_level holder.Footnote false in
       let body = children_pieces d in_container false false gs in
@@ -170,14 +182,17 @@ module _ (d : Document) (default : List ℕ) where
       ∙ footnote_left (after_footnote l) (level_past new gs) (lay (lay out start) body) outer left (past_kind new gs)
       ∙ ap (λ x. printer_at x (after_footnote l) outer left) (lay_more (lay out start) body end))
       ∙ children (after_footnote l) (lay (lay out start) (body ++ end)) outer places no_list
-      ∙ ap (λ x. printer_at x (level_past (after_footnote l) (grouped bs)) outer places) (lay_more out (start ++ (body ++ end)) (at_level (after_footnote l) (grouped bs)))
+      ∙ ap (λ x. printer_at x (level_past (after_footnote l) (group_items bs)) outer places)
+      (lay_more out (start ++ (body ++ end)) (at_level (after_footnote l) (group_items bs)))
 
   -- the list that an item starts, if none is open
   list_started : (item : ItemOf) (kids : Blocks) (place : Place) (l : Level) (out : Laid) (outer : List Level) (places : List Place) → is_list l.holder ≡ false
       → print_all d default (printer_at out l outer (place ∷ places)) (block_rows (Holds (Item item) kids))
-      ≡ print_all d default (on_list_at (lay out (Fresh ∷ Bytes (number_tag item.number) ∷ [])) item.number (not place.loose) true (after_block l) outer (place ∷ places)) (block_rows (Holds (Item item) kids))
+      ≡ print_all d default (on_list_at (lay out (Fresh ∷ Bytes (number_tag item.number) ∷ [])) item.number (not place.loose) true (after_block l) outer
+      (place ∷ places)) (block_rows (Holds (Item item) kids))
   list_started item kids place l out outer places no_list =
-      ap (λ x. print_all d default (start_item default (not place.goes_on) (in_list default x item.number (not place.loose) (printer_at out l outer places))) (rows_of kids ++ Exit ∷ [])) no_list
+      ap (λ x. print_all d default (start_item default (not place.goes_on) (in_list default x item.number (not place.loose) (printer_at out l outer places)))
+      (rows_of kids ++ Exit ∷ [])) no_list
 
   -- where a list goes on, its next item has a marker
   next_marker : (item : ItemOf) (gs : Blocks) → 1 ≤ item.marker → (list_marker (after_endings gs) == item.marker) ≡ true → 1 ≤ list_marker (after_endings gs)
@@ -189,12 +204,13 @@ module _ (d : Document) (default : List ℕ) where
       ≡ is_loose (Cons (Holds (Item item) kids) (on_list (list_marker (after_endings gs) == item.marker) gs))
   place_loose item kids gs some = sym (ap (λ (a : Ahead). a.loose) (ahead_of_item item kids gs some))
 
-  item_step : (item : ItemOf) (kids bs : Blocks) → 1 ≤ item.marker → ChildrenPrinted kids → ChildrenPrinted bs → ListPrinted bs → StepPrinted (Holds (Item item) kids) bs
+  item_step : (item : ItemOf) (kids bs : Blocks) → 1 ≤ item.marker → ChildrenPrinted kids → ChildrenPrinted bs → ListPrinted bs
+      → StepPrinted (Holds (Item item) kids) bs
   item_step item kids bs some k children list l out outer places no_list =
-      let gs = grouped bs in
-      let b = Holds (Item item) (grouped kids) in
+      let gs = group_items bs in
+      let b = Holds (Item item) (group_items kids) in
       let goes_on = list_marker (after_endings gs) == item.marker in
-      let place = place_at (ahead_of gs) item.marker (has_gap (grouped kids)) in
+      let place = place_at (ahead_of gs) item.marker (has_gap (group_items kids)) in
       let left = places_within bs ++ places in
       let start : List Piece = Fresh ∷ Bytes (number_tag item.number) ∷ [] in
       let end : List Piece = Eol ∷ Bytes (number_end item.number) ∷ [] in
@@ -209,36 +225,42 @@ module _ (d : Document) (default : List ℕ) where
       ∙ item_printed item kids place item.number tight true (after_block l) (lay out start) outer left k)
       ∙ item_then goes_on bs item.number tight (after_block l) (lay (lay out start) own) outer places no_list (next_marker item gs some) children list
       ∙ ap at (split_list (lay out start) own (children_pieces d in_container tight false items) end (at_level (after_block l) others))
-      ∙ ap (λ (loose : Bool). at (lay (lay (lay out start) (body (not loose) ++ end)) (at_level (after_block l) others))) (place_loose item (grouped kids) gs some)
+      ∙ ap (λ (loose : Bool). at (lay (lay (lay out start) (body (not loose) ++ end)) (at_level (after_block l) others)))
+      (place_loose item (group_items kids) gs some)
       ∙ ap at (lay_more out (start ++ (body (not (is_loose (Cons b items))) ++ end)) (at_level (after_block l) others))
-      ∙ ap (λ (cs : Blocks). printer_at (lay out (at_level l cs)) (level_past l cs) outer places) (sym (before_item_is item (grouped kids) gs some))
+      ∙ ap (λ (cs : Blocks). printer_at (lay out (at_level l cs)) (level_past l cs) outer places) (sym (before_item_is item (group_items kids) gs some))
 
   -- ---- blocks on a list
 
   abbrev OnListPrinted : Block → Blocks → Type 0
   OnListPrinted b bs = (number : Option ℕ) (tight plain : Bool) (l : Level) (out : Laid) (outer : List Level) (places : List Place)
-      → is_list l.holder ≡ false → 1 ≤ list_marker (after_endings (before (grouped_block b) (grouped bs)))
-      → print_all d default (print_all d default (on_list_at out number tight plain l outer (places_in b (grouped bs) ++ (places_within bs ++ places))) (block_rows b)) (rows_of bs)
-      ≡ list_then out number tight l (list_ahead (before (grouped_block b) (grouped bs))) (after_list (before (grouped_block b) (grouped bs))) outer places
+      → is_list l.holder ≡ false → 1 ≤ list_marker (after_endings (before (grouped_block b) (group_items bs)))
+      → print_all d default (print_all d default (on_list_at out number tight plain l outer (places_in b (group_items bs) ++ (places_within bs ++ places)))
+      (block_rows b)) (rows_of bs)
+      ≡ list_then out number tight l (list_ahead (before (grouped_block b) (group_items bs)))
+      (after_list (before (grouped_block b) (group_items bs))) outer places
 
   -- an ending, by what it prints
-  ending_on_list : (own : List Piece) (bs : Blocks) → ListPrinted bs → (number : Option ℕ) (tight plain : Bool) (l : Level) (out : Laid) (outer : List Level) (places : List Place)
-      → is_list l.holder ≡ false → 1 ≤ list_marker (after_endings (grouped bs))
+  ending_on_list : (own : List Piece) (bs : Blocks) → ListPrinted bs
+      → (number : Option ℕ) (tight plain : Bool) (l : Level) (out : Laid) (outer : List Level) (places : List Place)
+      → is_list l.holder ≡ false → 1 ≤ list_marker (after_endings (group_items bs))
       → print_all d default (on_list_at (lay out own) number tight plain l outer (places_within bs ++ places)) (rows_of bs)
-      ≡ printer_at (lay (lay out ((own ++ children_pieces d in_container tight false (list_ahead (grouped bs))) ++ Eol ∷ Bytes (number_end number) ∷ [])) (at_level l (after_list (grouped bs))))
-      (level_past l (after_list (grouped bs))) outer places
+      ≡ printer_at (lay (lay out ((own ++ children_pieces d in_container tight false (list_ahead (group_items bs))) ++ Eol ∷ Bytes (number_end number) ∷ []))
+      (at_level l (after_list (group_items bs))))
+      (level_past l (after_list (group_items bs))) outer places
   ending_on_list own bs list number tight plain l out outer places no_list some =
-      let others = after_list (grouped bs) in
+      let others = after_list (group_items bs) in
       list number tight plain l (lay out own) outer places no_list some
       ∙ ap (λ x. printer_at x (level_past l others) outer places)
-      (split_list out own (children_pieces d in_container tight false (list_ahead (grouped bs))) (Eol ∷ Bytes (number_end number) ∷ []) (at_level l others))
+      (split_list out own (children_pieces d in_container tight false (list_ahead (group_items bs))) (Eol ∷ Bytes (number_end number) ∷ []) (at_level l others))
 
-  item_on_list : (item : ItemOf) (kids bs : Blocks) → 1 ≤ item.marker → ChildrenPrinted kids → ChildrenPrinted bs → ListPrinted bs → OnListPrinted (Holds (Item item) kids) bs
+  item_on_list : (item : ItemOf) (kids bs : Blocks) → 1 ≤ item.marker → ChildrenPrinted kids → ChildrenPrinted bs → ListPrinted bs
+      → OnListPrinted (Holds (Item item) kids) bs
   item_on_list item kids bs some k children list number tight plain l out outer places no_list listed_ahead =
-      let gs = grouped bs in
-      let b = Holds (Item item) (grouped kids) in
+      let gs = group_items bs in
+      let b = Holds (Item item) (group_items kids) in
       let goes_on = list_marker (after_endings gs) == item.marker in
-      let place = place_at (ahead_of gs) item.marker (has_gap (grouped kids)) in
+      let place = place_at (ahead_of gs) item.marker (has_gap (group_items kids)) in
       let left = places_within bs ++ places in
       let own = block_pieces d in_container tight false b in
       let items = on_list goes_on gs in
@@ -247,7 +269,7 @@ module _ (d : Document) (default : List ℕ) where
       ∙ item_then goes_on bs number tight l (lay out own) outer places no_list (next_marker item gs some) children list
       ∙ ap (λ x. printer_at x (level_past l others) outer places)
       (split_list out own (children_pieces d in_container tight false items) (Eol ∷ Bytes (number_end number) ∷ []) (at_level l others))
-      ∙ ap (λ (cs : Blocks). list_then out number tight l (list_ahead cs) (after_list cs) outer places) (sym (before_item_is item (grouped kids) gs some))
+      ∙ ap (λ (cs : Blocks). list_then out number tight l (list_ahead cs) (after_list cs) outer places) (sym (before_item_is item (group_items kids) gs some))
 
   -- ---- all blocks
 
@@ -293,15 +315,15 @@ module _ (d : Document) (default : List ℕ) where
   more_printed : (b : Block) (bs : Blocks) → IsPrintable b → KidsPrinted b → BlocksPrinted bs → BlocksPrinted (Cons b bs)
   more_printed b bs h k others =
       let rows = λ (p : PrinterView). fold-append (print_row d default) p (block_rows b) (rows_of bs) in
-      let split = λ (places : List Place). append_assoc (places_in b (grouped bs)) (places_within bs) places in
+      let split = λ (places : List Place). append_assoc (places_in b (group_items bs)) (places_within bs) places in
       record {
         children = λ l out outer places no_list.
             ap (λ ps. print_all d default (printer_at out l outer ps) (rows_of (Cons b bs))) (split places)
-            ∙ rows (printer_at out l outer (places_in b (grouped bs) ++ (places_within bs ++ places)))
+            ∙ rows (printer_at out l outer (places_in b (group_items bs) ++ (places_within bs ++ places)))
             ∙ step b bs h k others.children others.list l out outer places no_list;
         list = λ number tight plain l out outer places no_list some.
             ap (λ ps. print_all d default (on_list_at out number tight plain l outer ps) (rows_of (Cons b bs))) (split places)
-            ∙ rows (on_list_at out number tight plain l outer (places_in b (grouped bs) ++ (places_within bs ++ places)))
+            ∙ rows (on_list_at out number tight plain l outer (places_in b (group_items bs) ++ (places_within bs ++ places)))
             ∙ list_step b bs h k others.children others.list number tight plain l out outer places no_list some;
       }
 

@@ -1,5 +1,6 @@
 -- Fenced code, and what it takes from the lines.
-use Rattle.std.proofs.Common.{Option, Some, ◌≡◌, ℕ, ◌+◌, ◌-◌, ◌<◌, ◌≤◌, take, drop, List, [], ◌∷◌, ◌++◌, Bool, true, false, ◌==◌, codes, sym, refl, ap, ◌∙◌, length, get_or, arith, append_assoc}
+use Rattle.std.proofs.Common.{Option, Some, ◌≡◌, ℕ, ◌+◌, ◌-◌, ◌<◌, ◌≤◌, take, drop, List, [], ◌∷◌, ◌++◌, Bool, true, false, ◌==◌, codes, sym, refl, ap, ◌∙◌}
+use Rattle.std.proofs.Common.{length, get_or, arith, append_assoc}
 use Rattle.std.specs.Prelude.{map, if◌then◌else◌, ◌||◌}
 use Rattle.std.specs.List.{list_all}
 use Rattle.std.proofs.lemmas.List.{take-map, drop-map, take_rest}
@@ -27,7 +28,8 @@ use Rattle.html_page.proofs.Owed.{none_owed}
 use Rattle.block_rows.proofs.OwnLines.{with_last_ending}
 
 -- the class of an info that isn't empty
-pub class_some : (d : Document) (info : List ℕ) → (length info == 0) ≡ false → class_of d info ≡ codes " class=\"language-" ++ encode (info_of d info) ++ codes "\""
+pub class_some : (d : Document) (info : List ℕ) → (length info == 0) ≡ false
+    → class_of d info ≡ codes " class=\"language-" ++ encode (info_of d info) ++ codes "\""
 class_some d [] some = let wrong : true ≡ false = some in cc
 class_some d (b ∷ bs) some = refl
 
@@ -60,7 +62,8 @@ end_laid options e out content = sym (fold-append (lay options (ending_bytes e))
 
 -- the start tag, step by step
 tag_laid : (d : Document) (e : LineEnding) (info : List ℕ) (out fresh tag class start : Laid)
-    → fresh ≡ with_fresh (ending_bytes e) out → tag ≡ with_bytes (codes "<pre><code") fresh → class ≡ with_bytes (class_of d info) tag → start ≡ with_bytes (codes ">") class
+    → fresh ≡ with_fresh (ending_bytes e) out → tag ≡ with_bytes (codes "<pre><code") fresh → class ≡ with_bytes (class_of d info) tag
+    → start ≡ with_bytes (codes ">") class
     → start ≡ with_bytes (codes "<pre><code" ++ class_of d info ++ codes ">") (with_fresh (ending_bytes e) out)
 tag_laid d e info out fresh tag class start is_fresh is_tag is_class is_start =
     let line = with_fresh (ending_bytes e) out in
@@ -71,12 +74,15 @@ tag_laid d e info out fresh tag class start is_fresh is_tag is_class is_start =
     ∙ ap (with_text out) (append_assoc t (codes "<pre><code" ++ class_of d info) (codes ">"))
 
 -- code that isn't closed, step by step
-pub open_laid : (d : Document) (e inner after : LineEnding) (info : List ℕ) (top closed : Bool) (ls : List BlockLine) (out fresh tag class start content end : Laid)
+pub open_laid : (d : Document) (e inner after : LineEnding) (info : List ℕ) (top closed : Bool) (ls : List BlockLine)
+    (out fresh tag class start content end : Laid)
     → closed ≡ false → inner ≡ e → after ≡ e
-    → fresh ≡ with_fresh (ending_bytes e) out → tag ≡ with_bytes (codes "<pre><code") fresh → class ≡ with_bytes (class_of d info) tag → start ≡ with_bytes (codes ">") class
+    → fresh ≡ with_fresh (ending_bytes e) out → tag ≡ with_bytes (codes "<pre><code") fresh → class ≡ with_bytes (class_of d info) tag
+    → start ≡ with_bytes (codes ">") class
     → content ≡ layout_after d.options.compile inner start (fenced_content top closed ls) → end ≡ with_bytes (codes "</code></pre>") content
     → with_fresh (ending_bytes after) end ≡ layout_after d.options.compile e out (block_pieces d (standing_at top) false false (FencedCode info closed ls))
-open_laid d e inner after info top closed ls out fresh tag class start content end not_closed same_inner same_after is_fresh is_tag is_class is_start is_content is_end =
+open_laid d e inner after info top closed ls out fresh tag class start content end not_closed same_inner same_after is_fresh is_tag is_class is_start is_content
+    is_end =
     let o = d.options.compile in
     let first = with_bytes (codes "<pre><code" ++ class_of d info ++ codes ">") (with_fresh (ending_bytes e) out) in
     let body = fenced_content top closed ls in
@@ -89,7 +95,8 @@ open_laid d e inner after info top closed ls out fresh tag class start content e
 -- code that is closed
 pub closed_laid : (d : Document) (e inner : LineEnding) (info : List ℕ) (top closed : Bool) (ls : List BlockLine) (out fresh tag class start content end : Laid)
     → closed ≡ true → inner ≡ e
-    → fresh ≡ with_fresh (ending_bytes e) out → tag ≡ with_bytes (codes "<pre><code") fresh → class ≡ with_bytes (class_of d info) tag → start ≡ with_bytes (codes ">") class
+    → fresh ≡ with_fresh (ending_bytes e) out → tag ≡ with_bytes (codes "<pre><code") fresh → class ≡ with_bytes (class_of d info) tag
+    → start ≡ with_bytes (codes ">") class
     → content ≡ layout_after d.options.compile inner start (fenced_content top closed ls) → end ≡ with_bytes (codes "</code></pre>") content
     → end ≡ layout_after d.options.compile e out (block_pieces d (standing_at top) false false (FencedCode info closed ls))
 closed_laid d e inner info top closed ls out fresh tag class start content end is_closed same_inner is_fresh is_tag is_class is_start is_content is_end =
@@ -119,8 +126,10 @@ content_is count pieces =
 
 pub fenced_laid : (d : Document) (e : LineEnding) (out : Laid) (s : Standing) (tight silent closed : Bool) (count : ℕ) (pieces : List Piece)
     → 1 + count ≤ length pieces → list_all is_byte (first_codes (piece_lines pieces)) ≡ true
-    → layout_after d.options.compile e out (block_pieces d (standing_at s.top) false false (FencedCode (get_or pieces 0 no_piece).text.now closed (piece_lines (take count (take (length pieces - 1) (drop 1 pieces))))))
-    ≡ layout_after d.options.compile e out (block_pieces d s tight silent (FencedCode (first_codes (piece_lines pieces)) closed (take count (drop 1 (piece_lines pieces)))))
+    → layout_after d.options.compile e out (block_pieces d (standing_at s.top) false false
+    (FencedCode (get_or pieces 0 no_piece).text.now closed (piece_lines (take count (take (length pieces - 1) (drop 1 pieces))))))
+    ≡ layout_after d.options.compile e out
+    (block_pieces d s tight silent (FencedCode (first_codes (piece_lines pieces)) closed (take count (drop 1 (piece_lines pieces)))))
 fenced_laid d e out s tight silent closed count pieces enough h =
     let info = (get_or pieces 0 no_piece).text.now in
     ap (λ ls. layout_after d.options.compile e out (block_pieces d s tight silent (FencedCode info closed ls))) (content_is count pieces)

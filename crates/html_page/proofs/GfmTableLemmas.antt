@@ -1,5 +1,6 @@
 -- Tables, laid out piece by piece.
-use Rattle.std.proofs.Common.{◌≡◌, ℕ, zero, suc, ◌≤◌, Bool, false, List, [], ◌∷◌, ◌++◌, Option, None, Some, refl, sym, ap, ◌∙◌, drop, length, get_or, arith, ◌<◌, subst}
+use Rattle.std.proofs.Common.{◌≡◌, ℕ, zero, suc, ◌≤◌, Bool, false, List, [], ◌∷◌, ◌++◌, Option, None, Some, refl, sym, ap, ◌∙◌, drop, length, get_or, arith}
+use Rattle.std.proofs.Common.{◌<◌, subst}
 use Rattle.std.specs.Prelude.{codes}
 use Rattle.std.specs.List.{fold, flat_map}
 use Rattle.std.specs.Option.{MatchOption}
@@ -92,7 +93,8 @@ module _ (default : List ℕ) (d : Document) (aligns : List AlignKind) where
       ∙ sym (one_row l (past out (body_row_pieces d aligns a)))
       ∙ sym (fold-append one_more out (body_row_pieces d aligns a) (rows (own_lines (l ∷ []))))
   rows_more (a ∷ b ∷ bs) l out =
-      ap (λ x. past (with_bytes (ending_text (last_ending (b ∷ bs))) x) (body l)) (fold-append one_more out (body_row_pieces d aligns a) (rows (own_lines (b ∷ bs))))
+      ap (λ x. past (with_bytes (ending_text (last_ending (b ∷ bs))) x) (body l))
+      (fold-append one_more out (body_row_pieces d aligns a) (rows (own_lines (b ∷ bs))))
       ∙ rows_more (b ∷ bs) l (past out (body_row_pieces d aligns a))
       ∙ sym (fold-append one_more out (body_row_pieces d aligns a) (rows (own_lines ((b ∷ bs) ++ l ∷ []))))
 
@@ -125,7 +127,8 @@ module _ (default : List ℕ) (d : Document) (head delimiters : BlockLine) (ls :
   -- printed in turn
   pub table_laid : (out : Laid)
       → (let start = with_fresh default (with_bytes (codes "<table>") (with_fresh default out)) in
-      with_bytes (codes "</table>") (with_fresh default (laid (laid start (head_pieces d columns head)) (body_pieces d columns delimiters.ending (own_lines ls)))))
+      with_bytes (codes "</table>") (with_fresh default (laid (laid start (head_pieces d columns head))
+      (body_pieces d columns delimiters.ending (own_lines ls)))))
       ≡ laid out (table_pieces d (own_lines (head ∷ delimiters ∷ ls)))
   table_laid out =
       let first = head_pieces d columns head in
@@ -147,14 +150,17 @@ module _ (default : List ℕ) (d : Document) (aligns : List AlignKind) (line : B
 
   -- a row
   pub row_laid : (name : List ℕ) (out : Laid)
-      → with_bytes (codes "</tr>") (with_fresh default (after (with_bytes (codes "<tr>") (with_fresh default out)) (cells_pieces d name aligns (line_cells line))))
+      → with_bytes (codes "</tr>") (with_fresh default (after (with_bytes (codes "<tr>") (with_fresh default out))
+      (cells_pieces d name aligns (line_cells line))))
       ≡ after out (row_pieces d name aligns line)
   row_laid name out =
-      sym (fold-append piece_after (with_bytes (codes "<tr>") (with_fresh default out)) (cells_pieces d name aligns (line_cells line)) (Fresh ∷ Bytes (codes "</tr>") ∷ []))
+      sym (fold-append piece_after (with_bytes (codes "<tr>") (with_fresh default out)) (cells_pieces d name aligns (line_cells line))
+      (Fresh ∷ Bytes (codes "</tr>") ∷ []))
 
   -- a head
   pub head_laid : (out : Laid)
-      → with_bytes (codes "</thead>") (with_fresh default (with_bytes (ending_text line.ending) (after (with_bytes (codes "<thead>") out) (row_pieces d (codes "th") aligns line))))
+      → with_bytes (codes "</thead>")
+      (with_fresh default (with_bytes (ending_text line.ending) (after (with_bytes (codes "<thead>") out) (row_pieces d (codes "th") aligns line))))
       ≡ after out (head_pieces d aligns line)
   head_laid out =
       sym (fold-append piece_after (with_bytes (codes "<thead>") out) (row_pieces d (codes "th") aligns line)
@@ -163,11 +169,13 @@ module _ (default : List ℕ) (d : Document) (aligns : List AlignKind) (line : B
 -- a body
 some_body : (default : List ℕ) (d : Document) (aligns : List AlignKind) (ending : Option LineEnding) (ls : List BlockLine) (out : Laid) → 0 < length ls
     → with_bytes (codes "</tbody>")
-    (with_fresh default (fold (lay d.options.compile default) (with_bytes (codes "<tbody>") (with_bytes (ending_text ending) out)) (flat_map (body_row_pieces d aligns) ls)))
+    (with_fresh default (fold (lay d.options.compile default) (with_bytes (codes "<tbody>") (with_bytes (ending_text ending) out))
+    (flat_map (body_row_pieces d aligns) ls)))
     ≡ fold (lay d.options.compile default) out (body_pieces d aligns ending ls)
 some_body default d aligns ending [] out some = absurd (omega arith)
 some_body default d aligns ending (l ∷ ls) out some =
-    sym (fold-append (lay d.options.compile default) (with_bytes (codes "<tbody>") (with_bytes (ending_text ending) out)) (flat_map (body_row_pieces d aligns) (l ∷ ls))
+    sym (fold-append (lay d.options.compile default) (with_bytes (codes "<tbody>") (with_bytes (ending_text ending) out))
+    (flat_map (body_row_pieces d aligns) (l ∷ ls))
     (Fresh ∷ Bytes (codes "</tbody>") ∷ []))
 
 own_some : (ls : List BlockLine) → 0 < length ls → 0 < length (own_lines ls)
@@ -177,22 +185,28 @@ own_some (a ∷ b ∷ others) some = omega arith
 
 pub body_laid : (default : List ℕ) (d : Document) (aligns : List AlignKind) (ending : Option LineEnding) (ls : List BlockLine) (out : Laid) → 0 < length ls
     → with_bytes (codes "</tbody>")
-    (with_fresh default (fold (lay d.options.compile default) (with_bytes (codes "<tbody>") (with_bytes (ending_text ending) out)) (flat_map (body_row_pieces d aligns) (own_lines ls))))
+    (with_fresh default (fold (lay d.options.compile default) (with_bytes (codes "<tbody>") (with_bytes (ending_text ending) out))
+    (flat_map (body_row_pieces d aligns) (own_lines ls))))
     ≡ fold (lay d.options.compile default) out (body_pieces d aligns ending (own_lines ls))
 body_laid default d aligns ending ls out some = some_body default d aligns ending (own_lines ls) out (own_some ls some)
 
 -- a cell after those so far
-pub cells_more : (default : List ℕ) (d : Document) (name : List ℕ) (align : AlignKind) (aligns : List AlignKind) (cs left : List Cell) (cell : Option CellOf) (out : Laid)
+pub cells_more : (default : List ℕ) (d : Document) (name : List ℕ) (align : AlignKind) (aligns : List AlignKind) (cs left : List Cell) (cell : Option CellOf)
+    (out : Laid)
     → MatchOption cell ((cs ≡ []) × (left ≡ [])) (λ c. cs ≡ cell_view c ∷ left)
-    → fold (lay d.options.compile default) out (cells_pieces d name (align ∷ aligns) cs) ≡ fold (lay d.options.compile default) (fold (lay d.options.compile default) out (next_cell_pieces d name align cell)) (cells_pieces d name aligns left)
+    → fold (lay d.options.compile default) out (cells_pieces d name (align ∷ aligns) cs)
+    ≡ fold (lay d.options.compile default) (fold (lay d.options.compile default) out (next_cell_pieces d name align cell)) (cells_pieces d name aligns left)
 cells_more default d name align aligns cs left cell out h = takes_more cs left cell h
   where
     takes_more : (cs left : List Cell) (cell : Option CellOf) → MatchOption cell ((cs ≡ []) × (left ≡ [])) (λ c. cs ≡ cell_view c ∷ left)
-        → fold (lay d.options.compile default) out (cells_pieces d name (align ∷ aligns) cs) ≡ fold (lay d.options.compile default) (fold (lay d.options.compile default) out (next_cell_pieces d name align cell)) (cells_pieces d name aligns left)
+        → fold (lay d.options.compile default) out (cells_pieces d name (align ∷ aligns) cs)
+        ≡ fold (lay d.options.compile default) (fold (lay d.options.compile default) out (next_cell_pieces d name align cell))
+        (cells_pieces d name aligns left)
     takes_more cs left None h =
         ap (λ x. fold (lay d.options.compile default) out (cells_pieces d name (align ∷ aligns) x)) h.0
         ∙ fold-append (lay d.options.compile default) out (missing_pieces name align) (cells_pieces d name aligns [])
-        ∙ ap (λ x. fold (lay d.options.compile default) (fold (lay d.options.compile default) out (missing_pieces name align)) (cells_pieces d name aligns x)) (sym h.1)
+        ∙ ap (λ x. fold (lay d.options.compile default) (fold (lay d.options.compile default) out (missing_pieces name align)) (cells_pieces d name aligns x))
+        (sym h.1)
     takes_more cs left (Some c) h =
         ap (λ x. fold (lay d.options.compile default) out (cells_pieces d name (align ∷ aligns) x)) h
         ∙ fold-append (lay d.options.compile default) out (cell_pieces d name align (cell_view c)) (cells_pieces d name aligns left)
@@ -217,7 +231,8 @@ counts_more default d cs left c out is =
     ∙ ap (λ x. fold (lay d.options.compile default) out (flat_map (cell_counts d) x)) (sym is)
 
 -- a line among clear ones
-pub clear_at : (pieces : List LinePiece) (i : ℕ) (p : LinePiece) → i < length pieces → AreClear (piece_lines pieces) → HaveNoEnding (piece_line (get_or pieces i p)).codes
+pub clear_at : (pieces : List LinePiece) (i : ℕ) (p : LinePiece) → i < length pieces → AreClear (piece_lines pieces)
+    → HaveNoEnding (piece_line (get_or pieces i p)).codes
 clear_at [] i p lt h = absurd (omega (arith, lt))
 clear_at (a ∷ others) zero p lt h = h.0
 clear_at (a ∷ others) (suc i) p lt h = clear_at others i p (omega (arith, lt)) h.1

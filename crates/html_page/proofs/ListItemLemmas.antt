@@ -1,5 +1,6 @@
 -- Items that start have markers, and footnote definitions labels.
-use Rattle.std.proofs.Common.{◌≡◌, ℕ, ◌+◌, ◌≤◌, lit≤, inl, inr, List, [], ◌∷◌, Option, None, Some, Bool, true, false, not, ◌&&◌, ◌||◌, ◌==◌, leb, sym, subst, take, drop}
+use Rattle.std.proofs.Common.{◌≡◌, ℕ, ◌+◌, ◌≤◌, lit≤, inl, inr, List, [], ◌∷◌, Option, None, Some, Bool, true, false, not, ◌&&◌, ◌||◌, ◌==◌, leb, sym, subst}
+use Rattle.std.proofs.Common.{take, drop}
 use Rattle.std.specs.Option.{IfSome}
 use Rattle.std.specs.List.{prefix_len}
 use Rattle.std.proofs.lemmas.Bool.{or_cases, eqb-true}
@@ -7,12 +8,14 @@ use Rattle.markdown_options.specs.declared.configuration.Constructs.{Constructs}
 use Rattle.definition_text.specs.Columns.{Rest, bare, indent}
 use Rattle.definition_text.specs.Indents.{small_indent}
 use Rattle.definition_block.specs.ThematicBreak.{is_break}
-use Rattle.definition_block.specs.Started.{Started}
+use Rattle.definition_block.specs.ContainerLine.{ContainerLine}
+use Rattle.definition_block.specs.ContainerStart.{ContainerStart}
 use Rattle.definition_block.specs.BlockQuote.{after_byte, quote_prefix}
 use Rattle.definition_block.specs.ListItem.{Marker, marker_of, is_digit, number_of, bullet, delimiter, marker, is_item, item, item_after, item_start}
 use Rattle.definition_text.specs.Content.{Part, closed_by}
 use Rattle.definition_inline.specs.Label.{label_end}
-use Rattle.definition_block.specs.GfmFootnoteDefinition.{is_footnote_label, label_before, with_colon, after_open, after_bracket, footnote_mark, footnote_of, footnote_start}
+use Rattle.definition_block.specs.GfmFootnoteDefinition.{is_footnote_label, label_before, with_colon, after_open, after_bracket, footnote_mark, footnote_of}
+use Rattle.definition_block.specs.GfmFootnoteDefinition.{footnote_start}
 use Rattle.definition_block.specs.Containers.{quote_or, footnote_or, starts}
 use Rattle.html_page.specs.Printable.{IsPrintableContainer}
 use Rattle.html_page.proofs.Choose.{choose_if, choose}
@@ -62,7 +65,7 @@ marker_fits rest =
     (choose MarkerFits (leb digits 9) _ _ (delimiter_fits (number_of (take digits rest)) digits (drop digits rest)) no_marker)
 
 -- a container that starts
-pub record StartFits (o : Option Started) : Type 0 where
+pub record StartFits (o : Option ContainerStart) : Type 0 where
   pub container : IfSome o (λ s. IsPrintableContainer s.container)
 
 none_starts : StartFits None
@@ -72,9 +75,9 @@ item_after_fits : (columns : ℕ) (interrupts : Bool) (o : Option Marker) → Ma
 item_after_fits columns interrupts None h = none_starts
 item_after_fits columns interrupts (Some m) h = choose StartFits (is_item interrupts m) (Some (item columns m)) None record { container = h.byte } none_starts
 
-quote_or_fits : (other : Option Started) (o : Option Rest) → StartFits other → StartFits (quote_or other o)
+quote_or_fits : (other : Option ContainerStart) (o : Option ContainerLine) → StartFits other → StartFits (quote_or other o)
 quote_or_fits other None h = h
-quote_or_fits other (Some rest) h = record { container = tt }
+quote_or_fits other (Some line) h = record { container = tt }
 
 abbrev LabelFits : Option Part → Type 0
 LabelFits o = IfSome o (λ mark. is_footnote_label mark.text ≡ true)
@@ -100,12 +103,15 @@ footnote_of_fits : (o : Option Part) → LabelFits o → StartFits (footnote_of 
 footnote_of_fits None h = none_starts
 footnote_of_fits (Some mark) h = record { container = h }
 
-footnote_or_fits : (other o : Option Started) → StartFits other → StartFits o → StartFits (footnote_or other o)
+footnote_or_fits : (other o : Option ContainerStart) → StartFits other → StartFits o → StartFits (footnote_or other o)
 footnote_or_fits other None h k = h
 footnote_or_fits other (Some footnote) h k = k
 
 pub starts_fits : (on : Constructs) (interrupts : Bool) (rest : Rest) → StartFits (starts on interrupts rest)
 starts_fits on interrupts rest =
     quote_or_fits (footnote_or (item_start on interrupts rest) (footnote_start on rest)) (quote_prefix on rest)
-    (footnote_or_fits (item_start on interrupts rest) (footnote_start on rest) (choose StartFits (on.list_item && small_indent on rest && not (is_break on rest)) _ _ (item_after_fits (indent rest) interrupts (marker (bare rest)) (marker_fits (bare rest))) none_starts)
-    (choose StartFits (on.gfm_footnote_definition && small_indent on rest) _ _ (footnote_of_fits (footnote_mark (bare rest)) (mark_fits (after_byte 91 (bare rest)))) none_starts))
+    (footnote_or_fits (item_start on interrupts rest) (footnote_start on rest)
+    (choose StartFits (on.list_item && small_indent on rest && not (is_break on rest)) _ _
+    (item_after_fits (indent rest) interrupts (marker (bare rest)) (marker_fits (bare rest))) none_starts)
+    (choose StartFits (on.gfm_footnote_definition && small_indent on rest) _ _
+    (footnote_of_fits (footnote_mark (bare rest)) (mark_fits (after_byte 91 (bare rest)))) none_starts))

@@ -2,7 +2,7 @@
 use Rattle.std.proofs.Common.{◌≡◌, ℕ, ◌+◌, ◌-◌, ◌<◌, zero, suc, List, ◌∷◌, ◌++◌, true, false, refl, ap, ◌∙◌, take, drop, length, get_or, arith}
 use Rattle.std.specs.Prelude.{map, replicate}
 use Rattle.std.specs.List.{prefix_len, suffix_len, list_all}
-use Rattle.definition_text.specs.Columns.{code_byte, tab_column, is_byte, bytes_of, is_white, trimmed}
+use Rattle.definition_text.specs.Columns.{code_byte, tab_column, is_byte, bytes_of, is_white, trim}
 use Rattle.definition_text.specs.Encode.{encode}
 use Rattle.block_rows.proofs.Pieces.{only_bytes}
 use Rattle.definition_text.proofs.CodeBytes.{code_bytes}
@@ -17,7 +17,7 @@ dropped (suc n) text =
     let more : 1 + prefix_len is_white rest ≡ suc (prefix_len is_white rest) = omega arith in
     ap (λ k. drop k (tab_column ∷ rest)) more ∙ dropped n text
 
-pub trimmed_owed : (n : ℕ) (text : List ℕ) → trimmed (replicate n tab_column ++ text) ≡ trimmed text
+pub trimmed_owed : (n : ℕ) (text : List ℕ) → trim (replicate n tab_column ++ text) ≡ trim text
 trimmed_owed n text = ap (λ rest. take (length rest - suffix_len is_white rest) rest) (dropped n text)
 
 -- ---- in code they are spaces

@@ -1,8 +1,9 @@
 -- What the pass over the rows of blocks finds.
 use Rattle.std.proofs.Common.{◌≡◌, List, [], ◌∷◌, ◌++◌, refl, sym, ap, ◌∙◌, append_assoc}
 use Rattle.definition_block.specs.Container.{Container, Quote, Item, Footnote}
-use Rattle.definition_block.specs.Tree.{Block, Paragraph, Heading, Break, IndentedCode, FencedCode, Html, Table, Definition, Holds, Items, Ending, Blank, Blocks, Nil, Cons}
-use Rattle.definition_block.specs.Lists.{has_gap, before, grouped, grouped_block}
+use Rattle.definition_block.specs.Tree.{Block, Paragraph, Heading, Break, IndentedCode, FencedCode, Html, Table, Definition, Holds, Items, Ending, Blank}
+use Rattle.definition_block.specs.Tree.{Blocks, Nil, Cons}
+use Rattle.definition_block.specs.Lists.{has_gap, before, group_items, grouped_block}
 use Rattle.block_rows.specs.Rows.{BlockRow, Exit, start_row, rows_of, block_rows}
 use Rattle.html_page.specs.declared.loose.Place.{Place}
 use Rattle.html_page.specs.declared.loose.Ahead.{Ahead}
@@ -15,7 +16,7 @@ use Rattle.html_page.proofs.Ahead.{ahead_of, ahead_of_ending, ahead_of_blank, ah
 abbrev pub own_place : Container → Blocks → Blocks → List Place
 own_place Quote kids gs = []
 own_place (Footnote label) kids gs = []
-own_place (Item item) kids gs = place_at (ahead_of gs) item.marker (has_gap (grouped kids)) ∷ []
+own_place (Item item) kids gs = place_at (ahead_of gs) item.marker (has_gap (group_items kids)) ∷ []
 
 -- those of a block before these, and of blocks
 abbrev mutual
@@ -35,7 +36,7 @@ abbrev mutual
 
   pub places_within : Blocks → List Place
   places_within Nil = []
-  places_within (Cons b bs) = places_in b (grouped bs) ++ places_within bs
+  places_within (Cons b bs) = places_in b (group_items bs) ++ places_within bs
 
 -- ---- the pass
 
@@ -46,7 +47,7 @@ pass_rows-append p (x ∷ xs) ys = ap (λ q. pass_row q x) (pass_rows-append p x
 -- the pass over what a container holds
 abbrev KidsPassed : Blocks → Type 0
 KidsPassed kids = (outer : List Ahead) (places : List Place)
-    → pass_rows (pass_at nothing_ahead outer places) (rows_of kids) ≡ pass_at (ahead_of (grouped kids)) outer (places_within kids ++ places)
+    → pass_rows (pass_at nothing_ahead outer places) (rows_of kids) ≡ pass_at (ahead_of (group_items kids)) outer (places_within kids ++ places)
 
 abbrev BlockPassed : Block → Type 0
 BlockPassed b = (gs : Blocks) (outer : List Ahead) (places : List Place)
@@ -56,16 +57,18 @@ holds_passed : (c : Container) (kids : Blocks) → IsPrintableContainer c → Ki
 holds_passed Quote kids some k gs outer places =
     ap (λ p. pass_row p (start_row Quote)) (pass_rows-append (pass_at (ahead_of gs) outer places) (rows_of kids) (Exit ∷ []) ∙ k (ahead_of gs ∷ outer) places)
 holds_passed (Footnote label) kids some k gs outer places =
-    ap (λ p. pass_row p (start_row (Footnote label))) (pass_rows-append (pass_at (ahead_of gs) outer places) (rows_of kids) (Exit ∷ []) ∙ k (ahead_of gs ∷ outer) places)
+    ap (λ p. pass_row p (start_row (Footnote label))) (pass_rows-append (pass_at (ahead_of gs) outer places) (rows_of kids) (Exit ∷ [])
+    ∙ k (ahead_of gs ∷ outer) places)
 holds_passed (Item item) kids some k gs outer places =
-    let at = λ (a : Ahead). pass_at a outer (place_at (ahead_of gs) item.marker (has_gap (grouped kids)) ∷ (places_within kids ++ places)) in
-    ap (λ p. pass_row p (start_row (Item item))) (pass_rows-append (pass_at (ahead_of gs) outer places) (rows_of kids) (Exit ∷ []) ∙ k (ahead_of gs ∷ outer) places)
-    ∙ ap at (sym (ahead_of_item item (grouped kids) gs some))
-    ∙ ap (λ (bs : Blocks). at (ahead_of bs)) (sym (before_item_is item (grouped kids) gs some))
+    let at = λ (a : Ahead). pass_at a outer (place_at (ahead_of gs) item.marker (has_gap (group_items kids)) ∷ (places_within kids ++ places)) in
+    ap (λ p. pass_row p (start_row (Item item))) (pass_rows-append (pass_at (ahead_of gs) outer places) (rows_of kids) (Exit ∷ [])
+    ∙ k (ahead_of gs ∷ outer) places)
+    ∙ ap at (sym (ahead_of_item item (group_items kids) gs some))
+    ∙ ap (λ (bs : Blocks). at (ahead_of bs)) (sym (before_item_is item (group_items kids) gs some))
 
 more_passed : (b : Block) (bs : Blocks) → BlockPassed b → KidsPassed bs → KidsPassed (Cons b bs)
 more_passed b bs h k outer places =
-    let gs = grouped bs in
+    let gs = group_items bs in
     pass_rows-append (pass_at nothing_ahead outer places) (block_rows b) (rows_of bs)
     ∙ ap (λ p. pass_rows p (block_rows b)) (k outer places)
     ∙ h gs outer (places_within bs ++ places)

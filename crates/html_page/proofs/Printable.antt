@@ -1,5 +1,6 @@
 -- The blocks of a text can be printed: paragraphs have lines of the text, the ranks of headings are from 1 to 6, infos are bytes, and items have markers.
-use Rattle.std.proofs.Common.{◌≡◌, ℕ, zero, suc, ◌-◌, ◌<◌, ◌≤◌, get_or, lit≤, List, [], ◌∷◌, ◌++◌, Option, None, Some, Bool, true, false, ◌&&◌, ◌||◌, ◌==◌, not, leb, refl, sym, subst, ap, take, drop, length, arith}
+use Rattle.std.proofs.Common.{◌≡◌, ℕ, zero, suc, ◌-◌, ◌<◌, ◌≤◌, get_or, lit≤, List, [], ◌∷◌, ◌++◌, Option, None, Some, Bool, true, false, ◌&&◌, ◌||◌, ◌==◌, not}
+use Rattle.std.proofs.Common.{leb, refl, sym, subst, ap, take, drop, length, arith}
 use Rattle.std.specs.Prelude.{if◌then◌else◌}
 use Rattle.std.specs.Option.{IfSome}
 use Rattle.std.specs.List.{list_all, prefix_len, suffix_len, position_or_len}
@@ -12,9 +13,10 @@ use Rattle.definition_text.specs.declared.beside.Kind.TheVariants.{Whitespace}
 use Rattle.definition_block.specs.Container.{Container, Quote, Item, Footnote}
 use Rattle.definition_text.specs.Lines.{TextLine, lines}
 use Rattle.definition_text.specs.Content.{is_eol}
-use Rattle.definition_text.specs.Columns.{Rest, whole, bare, bytes_of, indent, is_byte, is_white, is_blank, trimmed}
+use Rattle.definition_text.specs.Columns.{Rest, whole, bare, bytes_of, indent, is_byte, is_white, is_blank, trim}
 use Rattle.definition_text.specs.Runs.{run, after_run, is_run}
-use Rattle.definition_block.specs.Started.{Started}
+use Rattle.definition_block.specs.ContainerLine.{ContainerLine}
+use Rattle.definition_block.specs.ContainerStart.{ContainerStart}
 use Rattle.definition_block.specs.Containers.{continues, starts}
 use Rattle.definition_block.specs.CodeFenced.{Fence, first_word, fence_of, fence_start, is_fence_end}
 use Rattle.definition_block.specs.MathFlow.{math_info, math_start}
@@ -29,13 +31,20 @@ use Rattle.definition_block.specs.HeadingSetext.{underline_of, underline}
 use Rattle.definition_block.specs.HtmlFlow.{html_start, html_ends_here, ends_before_blank}
 use Rattle.definition_text.specs.Content.{content_of}
 use Rattle.definition_inline.specs.Definition.{Definition as LinkDefinition, definition_at}
-use Rattle.definition_block.specs.Definitions.{Cut, cut_into, cut_after, cut_most, cut, defined, lines_before}
+use Rattle.definition_block.specs.Definitions.{Cut, cut_into, cut_after, cut_most, cut, definition_lines, lines_before}
 use Rattle.block_rows.specs.ParagraphLines.{HaveNoEnding, AreLines}
-use Rattle.block_rows.proofs.OpenLines.{AreTextLines, AreLinesTo, SomeClear, StartedClear, clear-take, clear-drop, clear-filter, clear_codes, clear_block, clear_bare, clear_start, clear_continue, lines_of_text, are_lines, open_step}
+use Rattle.block_rows.proofs.OpenLines.{AreTextLines, AreLinesTo, LineClear, StartedClear, clear-take, clear-drop, clear-filter, clear_codes, clear_block}
+use Rattle.block_rows.proofs.OpenLines.{clear_bare, clear_start, clear_continue, lines_of_text, are_lines, open_step}
 use Rattle.markdown_options.specs.declared.line_ending.LineEnding.{LineEnding}
 use Rattle.markdown_options.specs.declared.line_ending.LineEnding.TheVariants.{LineFeed}
 use Rattle.definition_text.specs.BlockLines.{BlockLine, spaced_line, own_lines}
-use Rattle.definition_block.specs.Tree.{leaf_text, open_text, beside_in, beside_line, in_container, Block, Paragraph, Heading, Break, IndentedCode, FencedCode, Html, Table, Definition, Holds, Items, Ending, Blank, Blocks, Nil, Cons, join, one, ended, OpenLeaf, Text, Indented, Fenced, OpenHtml, OpenTable, Opening, Leaf, Inside, Tree, tree, nothing, empty_tree, paragraph_of, close_leaf, close, blanks, is_ending, all_endings, front, trailing, without_last, last_of, holds, has_text, has_table, is_some_line, table_of, table_if, makes_table, with_line, rest_line, html_with, takes, taken, or_heading, or_fence, or_html, begins, text_here, heading_of, underlined, turns, after, text_line_of, break_or_text, begun, leaf_line, start, new, began_blank, goes_on, grow, step, steps, closed, children_after, blocks}
+use Rattle.definition_block.specs.Tree.{leaf_text, open_text, beside_in, beside_line, in_container, Block, Paragraph, Heading, Break, IndentedCode, FencedCode}
+use Rattle.definition_block.specs.Tree.{Html, Table, Definition, Holds, Items, Ending, Blank, Blocks, Nil, Cons, join, one, block_and_ending, OpenLeaf, Text}
+use Rattle.definition_block.specs.Tree.{Indented, Fenced, OpenHtml, OpenTable, Opening, Leaf, Inside, Tree, tree, nothing, empty_tree, paragraph_of, close_leaf}
+use Rattle.definition_block.specs.Tree.{close, blanks, is_ending, all_endings, front, trailing, without_last, last_of, holds, has_text, has_table, is_some_line}
+use Rattle.definition_block.specs.Tree.{table_of, table_if, makes_table, with_line, rest_line, html_with, takes, tree_or, or_heading, or_fence, or_html, begins}
+use Rattle.definition_block.specs.Tree.{text_here, heading_of, heading_if, turns, after, text_line_of, break_or_text, begun, leaf_line, start, new, began_blank}
+use Rattle.definition_block.specs.Tree.{goes_on, grow, step, steps, blocks_at_end, children_after, blocks}
 use Rattle.block_rows.specs.Rows.{RowsValue, rows_value, value_with, rows_of}
 use Rattle.block_rows.specs.declared.row.Row.{Row}
 use Rattle.html_page.specs.Printable.{IsPrintableContainer, AreClear, IsTable, IsPrintable, ArePrintable, CanBePrinted}
@@ -62,9 +71,10 @@ bytes_after (suc n) (b ∷ bs) h = bytes_after n bs (and_parts (is_byte b) (list
 bytes_are_bytes : (rest : Rest) → AreBytes (bytes_of rest)
 bytes_are_bytes [] = refl
 bytes_are_bytes (code ∷ codes) =
-    choose_if AreBytes (is_byte code) (code ∷ bytes_of codes) (bytes_of codes) (λ h. and_from (is_byte code) _ h (bytes_are_bytes codes)) (bytes_are_bytes codes)
+    choose_if AreBytes (is_byte code) (code ∷ bytes_of codes) (bytes_of codes) (λ h. and_from (is_byte code) _ h (bytes_are_bytes codes))
+    (bytes_are_bytes codes)
 
-trimmed_bytes : (text : List ℕ) → AreBytes text → AreBytes (trimmed text)
+trimmed_bytes : (text : List ℕ) → AreBytes text → AreBytes (trim text)
 trimmed_bytes text h =
     let rest = drop (prefix_len is_white text) text in
     bytes_front (length rest - suffix_len is_white rest) rest (bytes_after (prefix_len is_white text) text h)
@@ -72,16 +82,16 @@ trimmed_bytes text h =
 bare_clear : (rest : Rest) → HaveNoEnding rest → HaveNoEnding (bytes_of (bare rest))
 bare_clear rest h = clear-filter is_byte (bare rest) (clear_bare rest h)
 
-trimmed_clear : (text : List ℕ) → HaveNoEnding text → HaveNoEnding (trimmed text)
+trimmed_clear : (text : List ℕ) → HaveNoEnding text → HaveNoEnding (trim text)
 trimmed_clear text h =
     let rest = drop (prefix_len is_white text) text in
     clear-take (length rest - suffix_len is_white rest) rest (clear-drop (prefix_len is_white text) text h)
 
 word_clear : (text : List ℕ) → HaveNoEnding text → HaveNoEnding (first_word text)
-word_clear text h = clear-take (position_or_len is_white (trimmed text)) (trimmed text) (trimmed_clear text h)
+word_clear text h = clear-take (position_or_len is_white (trim text)) (trim text) (trimmed_clear text h)
 
 word_bytes : (text : List ℕ) → AreBytes text → AreBytes (first_word text)
-word_bytes text h = bytes_front (position_or_len is_white (trimmed text)) (trimmed text) (trimmed_bytes text h)
+word_bytes text h = bytes_front (position_or_len is_white (trim text)) (trim text) (trimmed_bytes text h)
 
 abbrev IsInfo : List ℕ → Type 0
 IsInfo text = AreBytes text × HaveNoEnding text
@@ -100,7 +110,8 @@ fence_of_fits columns text h k =
 
 fence_start_fits : (on : Constructs) (rest : Rest) → HaveNoEnding rest → FenceFits (fence_start on rest)
 fence_start_fits on rest clear =
-    choose FenceFits (on.code_fenced && small_indent on rest) _ _ (fence_of_fits (indent rest) (bytes_of (bare rest)) (bytes_are_bytes (bare rest)) (bare_clear rest clear)) record { info = tt }
+    choose FenceFits (on.code_fenced && small_indent on rest) _ _ (fence_of_fits (indent rest) (bytes_of (bare rest)) (bytes_are_bytes (bare rest))
+    (bare_clear rest clear)) record { info = tt }
 
 -- the info of math
 clear_test : (b : Bool) → not b ≡ true → b ≡ false
@@ -115,7 +126,8 @@ math_start_fits : (on : Constructs) (rest : Rest) → FenceFits (math_start on r
 math_start_fits on rest =
     let text = bytes_of (bare rest) in
     choose FenceFits (on.math_flow && small_indent on rest) _ _
-    (choose FenceFits (leb 2 (run 36 text) && list_all (λ b. not (b == 36)) (after_run 36 text)) _ _ record { info = (refl, clear_text math_info refl) } record { info = tt })
+    (choose FenceFits (leb 2 (run 36 text) && list_all (λ b. not (b == 36)) (after_run 36 text)) _ _ record { info = (refl, clear_text math_info refl) } record
+    { info = tt })
     record { info = tt }
 
 -- ---- ranks are from 1 to 6
@@ -142,7 +154,7 @@ atx_of_fits text clear =
     let after = after_run 35 text in
     record {
       rank = (leb-true 1 rank both.0, leb-true rank 6 both.1);
-      content = without_closing_clear (trimmed after) (trimmed_clear after (clear-drop rank text clear));
+      content = without_closing_clear (trim after) (trimmed_clear after (clear-drop rank text clear));
     })
     no_atx
 
@@ -159,7 +171,8 @@ underline_of_fits text =
 
 underline_fits : (on : Constructs) (rest : Rest) → RankFits (underline on rest)
 underline_fits on rest =
-    choose RankFits (on.heading_setext && small_indent on rest) (underline_of (bytes_of (bare rest))) None (underline_of_fits (bytes_of (bare rest))) record { rank = tt }
+    choose RankFits (on.heading_setext && small_indent on rest) (underline_of (bytes_of (bare rest))) None (underline_of_fits (bytes_of (bare rest))) record
+    { rank = tt }
 
 -- ---- blocks
 
@@ -172,7 +185,7 @@ ending_printable (Paragraph ls) h = let wrong : false ≡ true = h in cc
 ending_printable (Heading rank ls) h = let wrong : false ≡ true = h in cc
 ending_printable Break h = tt
 ending_printable (IndentedCode ls) h = tt
-ending_printable (FencedCode info closed ls) h = let wrong : false ≡ true = h in cc
+ending_printable (FencedCode info blocks_at_end ls) h = let wrong : false ≡ true = h in cc
 ending_printable (Html ls) h = let wrong : false ≡ true = h in cc
 ending_printable (Table ls) h = let wrong : false ≡ true = h in cc
 ending_printable (Definition label destination title) h = let wrong : false ≡ true = h in cc
@@ -222,14 +235,15 @@ cut_after_printable : (o : Option LinkDefinition) (ls : List BlockLine) (more : 
 cut_after_printable None ls more h = tt
 cut_after_printable (Some d) ls more h =
     let count = lines_before d.rest ls in
-    joined (defined d (take count ls)) (more (drop count ls)).definitions (tt, (tt, tt)) (h (drop count ls))
+    joined (definition_lines d (take count ls)) (more (drop count ls)).definitions (tt, (tt, tt)) (h (drop count ls))
 
 cut_most_printable : (most : ℕ) (ls : List BlockLine) → CanBePrinted (cut_most most ls).definitions
 cut_most_printable zero ls = tt
 cut_most_printable (suc most) ls = cut_after_printable (definition_at (content_of (own_lines ls))) ls (cut_most most) (cut_most_printable most)
 
 cut_printable : (on : Constructs) (ls : List BlockLine) → CanBePrinted (cut on ls).definitions
-cut_printable on ls = choose (λ (c : Cut). CanBePrinted c.definitions) on.definition (cut_most (length ls) ls) (cut_into Nil ls) (cut_most_printable (length ls) ls) tt
+cut_printable on ls = choose (λ (c : Cut). CanBePrinted c.definitions) on.definition (cut_most (length ls) ls) (cut_into Nil ls)
+    (cut_most_printable (length ls) ls) tt
 
 -- the lines that are left of a paragraph
 lines_left : (n : ℕ) (ls : List BlockLine) → AreLines ls → AreLines (drop n ls)
@@ -349,7 +363,7 @@ with_line_fits line (Leaf (OpenHtml kind ls)) clear h = tt
 with_line_fits line (Leaf (OpenTable ls)) clear h = longer_table ls line h clear
 with_line_fits line (Inside c kids inner) clear h = (h.0, h.1, with_line_fits line inner clear h.2)
 
-taken_fits : (o : Option Tree) (other : Tree) → OptionFits o → TreeFits other → TreeFits (taken o other)
+taken_fits : (o : Option Tree) (other : Tree) → OptionFits o → TreeFits other → TreeFits (tree_or o other)
 taken_fits None other h k = k
 taken_fits (Some t) other h k = h.tree
 
@@ -359,12 +373,13 @@ module _ (on : Constructs) (e : Beside) (r : Rest) where
   html_with_fits : (kind : ℕ) (ls : List BlockLine) → TreeFits (html_with kind ls r e)
   html_with_fits kind ls =
       let more = ls ++ rest_line r e ∷ [] in
-      choose TreeFits (html_ends_here kind r) (tree (ended (Html (own_lines more)) e.ending) nothing) (tree Nil (Leaf (OpenHtml kind more)))
-      (fits (tree (ended (Html (own_lines more)) e.ending) nothing) (tt, (tt, tt)) tt) (fits (tree Nil (Leaf (OpenHtml kind more))) tt tt)
+      choose TreeFits (html_ends_here kind r) (tree (block_and_ending (Html (own_lines more)) e.ending) nothing) (tree Nil (Leaf (OpenHtml kind more)))
+      (fits (tree (block_and_ending (Html (own_lines more)) e.ending) nothing) (tt, (tt, tt)) tt) (fits (tree Nil (Leaf (OpenHtml kind more))) tt tt)
 
   takes_fits : (leaf : OpenLeaf) → LeafFits leaf → OptionFits (takes on leaf r e)
   takes_fits (Text ls) h = record { tree = tt }
-  takes_fits (Indented ls pending) h = choose OptionFits (is_blank r) _ _ (some_fits _ tt tt) (choose OptionFits (starts_code_indented on r) _ _ (some_fits _ tt tt) record { tree = tt })
+  takes_fits (Indented ls pending) h =
+      choose OptionFits (is_blank r) _ _ (some_fits _ tt tt) (choose OptionFits (starts_code_indented on r) _ _ (some_fits _ tt tt) record { tree = tt })
   takes_fits (Fenced fence opening ls) h = choose OptionFits (is_fence_end on fence r) _ _ (some_fits _ (h, (tt, tt)) tt) (some_fits _ tt h)
   takes_fits (OpenTable ls) h = record { tree = tt }
   takes_fits (OpenHtml kind ls) h =
@@ -372,7 +387,8 @@ module _ (on : Constructs) (e : Beside) (r : Rest) where
 
   or_heading_fits : (o : Option Atx) → AtxFits o → OptionFits (or_heading e.ending o)
   or_heading_fits None h = record { tree = tt }
-  or_heading_fits (Some atx) h = some_fits (tree (ended (Heading atx.rank (spaced_line atx.content None ∷ [])) e.ending) nothing) ((h.rank, h.content), (tt, tt)) tt
+  or_heading_fits (Some atx) h = some_fits (tree (block_and_ending (Heading atx.rank (spaced_line atx.content None ∷ [])) e.ending) nothing)
+      ((h.rank, h.content), (tt, tt)) tt
 
   or_fence_fits : (o : Option Fence) (other : Option Tree) → FenceFits o → OptionFits other → OptionFits (or_fence e.ending o other)
   or_fence_fits None other h k = k
@@ -389,13 +405,14 @@ module _ (on : Constructs) (e : Beside) (r : Rest) where
       (or_fence_fits (math_start on r) (or_html r e (html_start on paragraph r) (or_heading e.ending (heading_atx on r))) (math_start_fits on r)
       (or_html_fits (html_start on paragraph r) (or_heading e.ending (heading_atx on r)) (or_heading_fits (heading_atx on r) (heading_fits on r clear)))))
 
-  heading_of_fits : (rank : ℕ) (definitions : Blocks) (ls : List BlockLine) → (1 ≤ rank) × (rank ≤ 6) → CanBePrinted definitions → AreLines ls → OptionFits (heading_of rank definitions ls e.ending)
+  heading_of_fits : (rank : ℕ) (definitions : Blocks) (ls : List BlockLine) → (1 ≤ rank) × (rank ≤ 6) → CanBePrinted definitions → AreLines ls
+      → OptionFits (heading_of rank definitions ls e.ending)
   heading_of_fits rank definitions [] h k clean = record { tree = tt }
   heading_of_fits rank definitions (l ∷ ls) h k clean =
-      let heading = ended (Heading rank (own_lines (l ∷ ls))) e.ending in
+      let heading = block_and_ending (Heading rank (own_lines (l ∷ ls))) e.ending in
       some_fits (tree (join definitions heading) nothing) (joined definitions heading k ((h, heading_lines (l ∷ ls) clean), (tt, tt))) tt
 
-  underlined_fits : (o : Option ℕ) (ls : List BlockLine) → RankFits o → AreLines ls → OptionFits (underlined on o ls e.ending)
+  underlined_fits : (o : Option ℕ) (ls : List BlockLine) → RankFits o → AreLines ls → OptionFits (heading_if on o ls e.ending)
   underlined_fits None ls h clean = record { tree = tt }
   underlined_fits (Some rank) ls h clean = heading_of_fits rank (cut on ls).definitions (cut on ls).left h.rank (cut_printable on ls) (cut_left on ls clean)
 
@@ -428,9 +445,10 @@ module _ (on : Constructs) (e : Beside) (r : Rest) where
 
   break_fits : (away : Opening) → HaveNoEnding r → CanClose away → TreeFits (break_or_text on away r e)
   break_fits away clear h =
-      let t = tree (ended Break e.ending) nothing in
+      let t = tree (block_and_ending Break e.ending) nothing in
       choose TreeFits (is_break on r) _ _ (after_fits on away t h (fits t (tt, (tt, tt)) tt))
-      (taken_fits (makes_table on away r e) (text_line_of on away r e) (table_if_fits (delimiter_row on r) (text_here away) clear (lines_here away h.lines)) (text_fits away clear h))
+      (taken_fits (makes_table on away r e) (text_line_of on away r e) (table_if_fits (delimiter_row on r) (text_here away) clear (lines_here away h.lines))
+      (text_fits away clear h))
 
   begun_fits : (o : Option Tree) (away : Opening) (other : Tree) → CanClose away → OptionFits o → TreeFits other → TreeFits (begun on o away other)
   begun_fits None away other h k l = l
@@ -440,10 +458,11 @@ module _ (on : Constructs) (e : Beside) (r : Rest) where
   leaf_line_fits away clear h =
       let t = tree (one (Blank e.ending)) nothing in
       choose TreeFits (is_blank r) _ _ (after_fits on away t h (fits t (tt, tt) tt))
-      (begun_fits (begins on (has_text away) r e) away (taken (turns on away r e.ending) (break_or_text on away r e)) h (begins_fits (has_text away) clear)
+      (begun_fits (begins on (has_text away) r e) away (tree_or (turns on away r e.ending) (break_or_text on away r e)) h (begins_fits (has_text away) clear)
       (taken_fits (turns on away r e.ending) (break_or_text on away r e) (turns_fits away h.lines) (break_fits away clear h)))
 
-  start_fits : (o : Option Started) (away : Opening) (other : Tree) (more : Started → Tree) → StartFits o → StartedClear o → CanClose away → TreeFits other → ((s : Started) → HaveNoEnding s.rest → TreeFits (more s)) → TreeFits (start on o away other more)
+  start_fits : (o : Option ContainerStart) (away : Opening) (other : Tree) (more : ContainerStart → Tree) → StartFits o → StartedClear o → CanClose away
+      → TreeFits other → ((s : ContainerStart) → HaveNoEnding s.rest → TreeFits (more s)) → TreeFits (start on o away other more)
   start_fits None away other more s clear h k l = k
   start_fits (Some s) away other more c clear h k l =
       let t = tree Nil (Inside s.container (more s).done (more s).now) in
@@ -454,26 +473,29 @@ module _ (on : Constructs) (e : Beside) (r : Rest) where
   in_container_fits c kids t h k f = fits (in_container c kids t) tt (h, joined kids t.done k f.done, f.now)
 
 -- containers that start, and a leaf
-new_fits : (on : Constructs) (e : Beside) (most : ℕ) (all : Bool) (away : Opening) (r : Rest) → HaveNoEnding r → CanClose away → TreeFits (new most on all away e r)
+new_fits : (on : Constructs) (e : Beside) (most : ℕ) (all : Bool) (away : Opening) (r : Rest) → HaveNoEnding r → CanClose away
+    → TreeFits (new most on all away e r)
 new_fits on e zero all away r clear h = leaf_line_fits on e r away clear h
 new_fits on e (suc most) all away r clear h =
     let interrupts = all && has_text away in
-    start_fits on e r (starts on interrupts r) away (leaf_line on away r e) _ (starts_fits on interrupts r) (clear_start on interrupts r clear) h (leaf_line_fits on e r away clear h)
-    (λ s k. new_fits on (beside_in s.container r e) most true nothing s.rest k record { fits = tt; lines = tt })
+    start_fits on e r (starts on interrupts r) away (leaf_line on away r e) _ (starts_fits on interrupts r) (clear_start on interrupts r clear) h
+    (leaf_line_fits on e r away clear h)
+    (λ s k. new_fits on (beside_in s.before e) most true nothing s.rest k record { fits = tt; lines = tt })
 
-goes_on_fits : (on : Constructs) (e : Beside) (r : Rest) (o : Option Rest) (c : Container) (kids : Blocks) (inner : Opening) (more : Rest → Tree)
-    → HaveNoEnding r → SomeClear o → CanClose (Inside c kids inner)
-    → ((rest : Rest) → HaveNoEnding rest → TreeFits (more rest)) → TreeFits (goes_on o on c kids inner e r more)
+goes_on_fits : (on : Constructs) (e : Beside) (r : Rest) (o : Option ContainerLine) (c : Container) (kids : Blocks) (inner : Opening)
+    (more : ContainerLine → Tree) → HaveNoEnding r → LineClear o → CanClose (Inside c kids inner)
+    → ((line : ContainerLine) → HaveNoEnding line.rest → TreeFits (more line)) → TreeFits (goes_on o on c kids inner e r more)
 goes_on_fits on e r None c kids inner more clear some h k = new_fits on e (length r) false (Inside c kids inner) r clear h
-goes_on_fits on e r (Some rest) c kids inner more clear some h k = in_container_fits on e r c kids (more rest) h.fits.0 h.fits.1 (k rest some)
+goes_on_fits on e r (Some line) c kids inner more clear some h k = in_container_fits on e r c kids (more line) h.fits.0 h.fits.1 (k line some)
 
 grow_fits : (on : Constructs) (e : Beside) (now : Opening) (r : Rest) → HaveNoEnding r → CanClose now → TreeFits (grow on e now r)
 grow_fits on e (Leaf leaf) r clear h =
-    taken_fits (takes on leaf r e) (new (length r) on true (Leaf leaf) e r) (takes_fits on e r leaf h.fits) (new_fits on e (length r) true (Leaf leaf) r clear h)
+    taken_fits (takes on leaf r e) (new (length r) on true (Leaf leaf) e r) (takes_fits on e r leaf h.fits)
+    (new_fits on e (length r) true (Leaf leaf) r clear h)
 grow_fits on e (Inside c kids inner) r clear h =
-    goes_on_fits on e r (continues on c (began_blank kids inner) r) c kids inner (grow on (beside_in c r e) inner) clear
+    goes_on_fits on e r (continues on c (began_blank kids inner) r) c kids inner (λ line. grow on (beside_in line.before e) inner line.rest) clear
     (clear_continue on c (began_blank kids inner) r clear) h
-    (λ rest k. grow_fits on (beside_in c r e) inner rest k record { fits = h.fits.2; lines = h.lines })
+    (λ line k. grow_fits on (beside_in line.before e) inner line.rest k record { fits = h.fits.2; lines = h.lines })
 
 -- ---- the whole
 
@@ -484,12 +506,12 @@ step_fits on before t line clear clean h =
     let more = grow_fits on beside t.now (whole line.content) (clear_codes 0 line.content clear) record { fits = h.now; lines = clean } in
     record { done = joined t.done (grow on beside t.now (whole line.content)).done h.done more.done; now = more.now }
 
-closed_printable : (on : Constructs) (t : Tree) → TreeFits t → AreLines (open_text t.now) → CanBePrinted (closed on t)
+closed_printable : (on : Constructs) (t : Tree) → TreeFits t → AreLines (open_text t.now) → CanBePrinted (blocks_at_end on t)
 closed_printable on t h clean = joined t.done (close on t.now) h.done (close_printable on t.now h.now clean)
 
 -- after a line that ended with `e`
 steps_printable : (on : Constructs) (before : Kind) (e : LineEnding) (t : Tree) (ls : List TextLine) → AreTextLines ls → AreLinesTo (Some e) (open_text t.now)
-    → TreeFits t → CanBePrinted (closed on (steps on before t ls))
+    → TreeFits t → CanBePrinted (blocks_at_end on (steps on before t ls))
 steps_printable on before e t [] p k h = closed_printable on t h (are_lines (Some e) (open_text t.now) k)
 steps_printable on before e t (line ∷ []) p k h =
     let more = step on before t line in

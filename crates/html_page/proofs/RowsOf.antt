@@ -1,12 +1,13 @@
 -- The rows of blocks print what the blocks print.
-use Rattle.std.proofs.Common.{◌≡◌, ℕ, Bool, true, false, List, [], ◌∷◌, ◌++◌, refl, sym, ap, ◌∙◌}
+use Rattle.std.proofs.Common.{◌≡◌, ℕ, Bool, false, List, [], ◌∷◌, ◌++◌, refl, sym, ap, ◌∙◌}
 use Rattle.std.specs.List.{fold, All}
 use Rattle.std.proofs.lemmas.List.Sums.{fold-append}
 use Rattle.std.proofs.lemmas.List.Elements.{All-nil, All-cons, All-head, All-tail}
 use Rattle.definition_block.specs.Container.{Container, Quote, Item, Footnote}
-use Rattle.definition_block.specs.Tree.{Block, Paragraph, Heading, Break, IndentedCode, FencedCode, Html, Table, Definition, Holds, Items, Ending, Blank, Blocks, Nil, Cons}
-use Rattle.definition_block.specs.Lists.{grouped}
-use Rattle.html_bytes.specs.Layout.{finished, lay, nothing_laid, page_layout}
+use Rattle.definition_block.specs.Tree.{Block, Paragraph, Heading, Break, IndentedCode, FencedCode, Html, Table, Definition, Holds, Items, Ending, Blank}
+use Rattle.definition_block.specs.Tree.{Blocks, Nil, Cons}
+use Rattle.definition_block.specs.Lists.{group_items}
+use Rattle.html_bytes.specs.Layout.{with_footnotes, lay, nothing_laid, page_layout}
 use Rattle.definition_page.specs.Layout.{Laid}
 use Rattle.html_bytes.specs.Document.{Document}
 use Rattle.definition_page.specs.Read.{ends_blank, is_blank_ending}
@@ -51,17 +52,19 @@ rows_end_blank (Cons b bs) blank h =
 
 -- ---- the page
 
-pub rows_html_of : (d : Document) (default : List ℕ) (bs : Blocks) → CanBePrinted bs → rows_html d default (rows_of bs) ≡ page_layout d.options.compile default (document_pieces d bs)
+pub rows_html_of : (d : Document) (default : List ℕ) (bs : Blocks) → CanBePrinted bs
+    → rows_html d default (rows_of bs) ≡ page_layout d.options.compile default (document_pieces d bs)
 rows_html_of d default bs h =
-    let pieces = children_pieces d on_page false false (grouped bs) in
+    let pieces = children_pieces d on_page false false (group_items bs) in
     let start = new_level holder.Document false in
     let o = d.options.compile in
-    let last = λ (out : Laid) (blank : Bool). finished o default (fold (lay o default) out (last_piece blank)) in
+    let last = λ (out : Laid) (blank : Bool). with_footnotes o default (fold (lay o default) out (last_piece blank)) in
     let blank = ends_blank_rows (rows_of bs) in
-    ap (λ (ps : List Place). last (print_all d default (printer_at nothing_laid start [] ps) (rows_of bs)).out blank) (ap (λ (p : PassView). p.places) (blocks_passed bs h [] []))
+    ap (λ (ps : List Place). last (print_all d default (printer_at nothing_laid start [] ps) (rows_of bs)).out blank)
+    (ap (λ (p : PassView). p.places) (blocks_passed bs h [] []))
     ∙ ap (λ (p : PrinterView). last p.out blank) ((blocks_printed d default bs h).children start nothing_laid [] [] refl)
     ∙ ap (last (fold (lay o default) nothing_laid pieces)) (rows_end_blank bs false h)
-    ∙ sym (ap (finished o default) (fold-append (lay o default) nothing_laid pieces (last_piece (ends_blank false bs))))
+    ∙ sym (ap (with_footnotes o default) (fold-append (lay o default) nothing_laid pieces (last_piece (ends_blank false bs))))
 
 -- ---- what can be printed
 
@@ -88,7 +91,8 @@ mutual
   printable_block (Table ls) h = all_one (Single (Table ls)) h
   printable_block (Definition label destination title) h = all_one (Single (spaced_definition label destination title)) h
   printable_block (Holds c kids) h =
-      All-cons IsPrintableRow (start_row c) (rows_of kids ++ Exit ∷ []) (entered_printable c h.0) (all_append IsPrintableRow (rows_of kids) (Exit ∷ []) (printable_rows_of kids h.1) (all_one Exit tt))
+      All-cons IsPrintableRow (start_row c) (rows_of kids ++ Exit ∷ []) (entered_printable c h.0)
+      (all_append IsPrintableRow (rows_of kids) (Exit ∷ []) (printable_rows_of kids h.1) (all_one Exit tt))
   printable_block (Items items) h = absurd h
   printable_block (Ending ending) h = all_one (Single (Ending ending)) h
   printable_block (Blank ending) h = all_one (Single (Blank ending)) h

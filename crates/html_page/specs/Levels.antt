@@ -1,7 +1,8 @@
 -- What holds a row, and what a block prints in it.
 use Rattle.std.specs.Prelude.{Bool, true, false, ◌&&◌, List, []}
 use Rattle.definition_block.specs.Container.{Quote, Item, Footnote}
-use Rattle.definition_block.specs.Tree.{Block, Paragraph, Heading, Break, IndentedCode, FencedCode, Html, Table, Definition, Holds, Items, Ending, Blank, is_ending}
+use Rattle.definition_block.specs.Tree.{Block, Paragraph, Heading, Break, IndentedCode, FencedCode, Html, Table, Definition, Holds, Items, Ending, Blank}
+use Rattle.definition_block.specs.Tree.{is_ending}
 use Rattle.definition_page.specs.Read.{Standing}
 use Rattle.html_bytes.specs.Pieces.{Piece}
 use Rattle.html_bytes.specs.Document.{Document}
@@ -76,7 +77,8 @@ plain_after tight before (Ending ending) = before
 plain_after tight before (Blank ending) = before
 
 abbrev pub level_after : Level → BlockRow → Level
-level_after l (Single b) = level_of l.holder l.tight (plain_after l.tight l.plain b) (silences (is_document l.holder) l.tight l.silent b) (l.first && is_ending b)
+level_after l (Single b) = level_of l.holder l.tight (plain_after l.tight l.plain b) (silences (is_document l.holder) l.tight l.silent b)
+    (l.first && is_ending b)
 level_after l EnterQuote = after_block l
 level_after l (EnterItem marker number) = after_block l
 level_after l (EnterFootnote label) = after_footnote l

@@ -6,7 +6,8 @@ use Rattle.definition_block.specs.GfmFootnoteDefinition.{is_footnote_label}
 use Rattle.definition_text.specs.Columns.{is_byte}
 use Rattle.block_rows.specs.ParagraphLines.{HaveNoEnding, AreLines}
 use Rattle.definition_text.specs.BlockLines.{BlockLine}
-use Rattle.definition_block.specs.Tree.{Block, Paragraph, Heading, Break, IndentedCode, FencedCode, Html, Table, Definition, Holds, Items, Ending, Blank, Blocks, Nil, Cons}
+use Rattle.definition_block.specs.Tree.{Block, Paragraph, Heading, Break, IndentedCode, FencedCode, Html, Table, Definition, Holds, Items, Ending, Blank}
+use Rattle.definition_block.specs.Tree.{Blocks, Nil, Cons}
 use Rattle.block_rows.specs.Rows.{BlockRow, Single, EnterQuote, EnterItem, EnterFootnote, Exit}
 
 -- whether a container can be printed: an item has a marker, and a footnote definition a label
@@ -30,7 +31,8 @@ AreClear (line ∷ others) = HaveNoEnding line.codes × AreClear others
 abbrev pub IsTable : List BlockLine → Type 0
 IsTable ls = (2 ≤ length ls) × AreClear ls
 
--- Whether blocks can all be printed: a paragraph has lines of a text, a heading has a rank from 1 to 6 and such lines, an info is made of bytes and has no line ending, a table has such lines, and so it is in each container. Lists are made when they are printed.
+-- Whether blocks can all be printed: a paragraph has lines of a text, a heading has a rank from 1 to 6 and such lines, an info is made of bytes and has no line
+-- ending, a table has such lines, and so it is in each container. Lists are made when they are printed.
 abbrev mutual
   pub IsPrintable : Block → Type 0
   IsPrintable (Paragraph ls) = AreLines ls

@@ -3,7 +3,7 @@ use Rattle.std.specs.Prelude.{ℕ, Bool, true, false, not, List, [], ◌∷◌, 
 use Rattle.std.specs.List.{fold}
 use Rattle.html_bytes.specs.Document.{Document}
 use Rattle.html_bytes.specs.Pieces.{Piece, Bytes, Eol, Fresh, print}
-use Rattle.html_bytes.specs.Layout.{finished, lay, nothing_laid, with_text}
+use Rattle.html_bytes.specs.Layout.{with_footnotes, lay, nothing_laid, with_text}
 use Rattle.definition_page.specs.Layout.{Laid}
 use Rattle.definition_page.specs.Read.{is_blank_ending}
 use Rattle.html_bytes.specs.Html.{number_tag, number_end, fresh_unless, last_piece}
@@ -155,4 +155,4 @@ blank_page rows = printer_at nothing_laid (new_level holder.Document false) [] (
 abbrev pub rows_html : Document → List ℕ → List BlockRow → List ℕ
 rows_html d default rows =
     let options = d.options.compile in
-    finished options default (fold (lay options default) (print_all d default (blank_page rows) rows).out (last_piece (ends_blank_rows rows)))
+    with_footnotes options default (fold (lay options default) (print_all d default (blank_page rows) rows).out (last_piece (ends_blank_rows rows)))

@@ -4,7 +4,7 @@ use Rattle.std.specs.List.{fold}
 use Rattle.markdown_options.specs.declared.configuration.CompileOptions.{CompileOptions}
 use Rattle.markdown_options.specs.declared.line_ending.LineEnding.{LineEnding}
 use Rattle.markdown_options.specs.LineEndings.{ending_bytes}
-use Rattle.definition_page.specs.Layout.{Laid, laid, note_ended}
+use Rattle.definition_page.specs.Layout.{Laid, laid, note_end}
 use Rattle.html_bytes.specs.Layout.{lay, with_text}
 use Rattle.html_bytes.specs.Pieces.{Piece, Fresh, print}
 use Rattle.html_footnotes.specs.Output.{output_view}
@@ -26,7 +26,7 @@ abbrev pub footnote_text_started : Laid → Laid
 footnote_text_started l = laid [] (l.text ∷ l.outer) l.notes l.called
 
 abbrev pub footnote_text_left : Laid → Laid
-footnote_text_left l = note_ended l.text l.outer l.notes l.called
+footnote_text_left l = note_end l.text l.outer l.notes l.called
 
 -- a page after more pieces
 abbrev pub layout_after : CompileOptions → LineEnding → Laid → List Piece → Laid

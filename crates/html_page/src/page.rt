@@ -3,8 +3,9 @@ ghost use Rattle.std.specs.Prelude.{◌≡◌, ◌≤◌, ◌<◌, List, OnOk, l
 ghost use Rattle.markdown_options.specs.LineEndings.{ending_bytes};
 ghost use Rattle.definition_text.specs.Lines.{ending_text};
 ghost use Rattle.definition_page.specs.Targets.{Targets};
-ghost use Rattle.definition_block.specs.Tree.{Paragraph, Break};
-ghost use Rattle.block_rows.specs.Rows.{row_size, piece_lines, row_value};
+ghost use Rattle.definition_block.specs.Tree.{Paragraph, Break, Ending};
+ghost use Rattle.block_rows.specs.Rows.{row_size, piece_lines, row_value, Single};
+ghost use Rattle.html_bytes.specs.Document.{Document};
 ghost use Rattle.html_contents.specs.Texts.{KnowsTargets, document_by};
 ghost use Rattle.html_page.specs.Levels.{row_pieces};
 ghost use Rattle.html_page.specs.Printable.{IsPrintableRow};
@@ -66,8 +67,7 @@ impl<A: Allocator + Clone> Page<A> {
             }
             Row::Html(count) => self.html_block(&texts.options.compile, &lines[..count]),
             Row::Table(count) => self.table(texts, &lines[..count]),
-            Row::Ending(_) if level.silent => Ok(()),
-            Row::Ending(ending) => self.push_ending(ending),
+            Row::Ending(ending) => self.line_ending(level, ending),
             Row::Definition(_)
             | Row::Blank(_)
             | Row::EnterQuote
@@ -75,6 +75,21 @@ impl<A: Allocator + Clone> Page<A> {
             | Row::EnterFootnote
             | Row::Exit => Ok(()),
         }
+    }
+
+    /// Prints the ending of a line, unless it follows what says nothing.
+    pub(crate) fn line_ending(
+        &mut self,
+        level: Level,
+        ending: Option<LineEnding>,
+    ) -> Result<(), AllocError>
+        ensures default { self.new.default_ending ≡ self.old.default_ending }
+        ensures printed { (d : Document) → OnOk result (LaysOut d.options.compile self.old self.new (row_pieces d level (Single (Ending ending)))) }
+    {
+        if level.silent {
+            return Ok(());
+        }
+        self.push_ending(ending)
     }
 
     /// Prints an ending, if there is one.

@@ -47,6 +47,15 @@ impl<A: Allocator + Clone> Printer<A> {
             OnOk result (printer_view self.new ≡ print_row d (ending_bytes self.old.page.default_ending) (printer_view self.old) value) }
     {
         match row {
+            Row::Ending(ending) => {
+                self.page.line_ending(self.level, ending)?;
+                self.level = self.level.after(row);
+                Ok(())
+            }
+            Row::Blank(_) => {
+                self.level = self.level.after(row);
+                Ok(())
+            }
             Row::EnterQuote => self.enter_quote(),
             Row::EnterFootnote => self.enter_footnote(),
             Row::EnterItem { number, .. } => self.enter_item(number),

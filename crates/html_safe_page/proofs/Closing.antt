@@ -3,7 +3,8 @@ use Rattle.std.proofs.Common.{◌≡◌, ℕ, List, [], ◌∷◌, ◌++◌, tru
 use Rattle.std.proofs.lemmas.Bool.{cases_Bool, cond-false, and_parts, and_from, eqb-true}
 use Rattle.definition_text.specs.Encode.{encode, encoded_byte, plain, plain_byte, replacement_character}
 use Rattle.html_safe_page.specs.Table.{start_rows, void_rows}
-use Rattle.html_safe_page.specs.SafePage.{Plain, kind, spelled, spell_letter, spell_text, Tag, spell_tag, Items, End, Letter, Void, Element, void_end, spell_before, spell, join, is_tag_of, is_safe, IsSafePage}
+use Rattle.html_safe_page.specs.SafePage.{Plain, kind, spell_kind, spell_letter, spell_text, Tag, spell_tag, Items, End, Letter, Void, Element, void_end}
+use Rattle.html_safe_page.specs.SafePage.{spell_before, spell, join, is_tag_of, is_safe, IsSafePage}
 use Rattle.html_safe_page.specs.Closed.{element, void, Closed}
 use Rattle.html_safe_page.proofs.Text.{by_kind, plain_other}
 use Rattle.html_safe_page.proofs.Inserted.{spelled_append, put_in}
@@ -12,7 +13,8 @@ spell_join : (a b : Items) (after : List ℕ) → spell_before (join a b) after 
 spell_join End b after = refl
 spell_join (Letter c items) b after = ap (λ x. spell_letter c ++ x) (spell_join items b after)
 spell_join (Void tag items) b after = ap (λ x. 60 ∷ spell_tag tag (void_end ++ (62 ∷ x))) (spell_join items b after)
-spell_join (Element tag inside items) b after = ap (λ x. 60 ∷ spell_tag tag (62 ∷ spell_before inside (60 ∷ 47 ∷ (tag.name ++ (62 ∷ x))))) (spell_join items b after)
+spell_join (Element tag inside items) b after =
+    ap (λ x. 60 ∷ spell_tag tag (62 ∷ spell_before inside (60 ∷ 47 ∷ (tag.name ++ (62 ∷ x))))) (spell_join items b after)
 
 join_safe : (a b : Items) → is_safe a ≡ true → is_safe b ≡ true → is_safe (join a b) ≡ true
 join_safe End b h k = k
@@ -23,7 +25,8 @@ join_safe (Void tag items) b h k =
 join_safe (Element tag inside items) b h k =
     let parts = and_parts (is_tag_of start_rows tag) (is_safe inside && is_safe items) h in
     let both = and_parts (is_safe inside) (is_safe items) parts.1 in
-    and_from (is_tag_of start_rows tag) (is_safe inside && is_safe (join items b)) parts.0 (and_from (is_safe inside) (is_safe (join items b)) both.0 (join_safe items b both.1 k))
+    and_from (is_tag_of start_rows tag) (is_safe inside && is_safe (join items b)) parts.0
+    (and_from (is_safe inside) (is_safe (join items b)) both.0 (join_safe items b both.1 k))
 
 letters : List ℕ → Items
 letters [] = End
@@ -56,7 +59,7 @@ encoded_plain b k =
           ∙ cond-false (eqb b 38) (codes "&amp;") _ (plain_other b 38 k refl)
           ∙ cond-false (eqb b 60) (codes "&lt;") _ (plain_other b 60 k refl)
           ∙ cond-false (eqb b 62) (codes "&gt;") (b ∷ []) (plain_other b 62 k refl)
-          ∙ ap (λ kind. spelled kind b ++ []) (sym k)
+          ∙ ap (λ kind. spell_kind kind b ++ []) (sym k)
           ∙ ap (λ x. spell_text x []) (sym (cond-false (eqb b 0) replacement_character (b ∷ []) e))
     ]
 

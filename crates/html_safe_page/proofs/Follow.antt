@@ -1,5 +1,6 @@
 -- The test goes on from tag to tag.
-use Rattle.std.proofs.Common.{◌≡◌, ℕ, ◌-◌, ◌<◌, List, [], ◌∷◌, ◌++◌, Bool, true, false, ◌&&◌, cond, eqb, Option, None, Some, Bor, length, take, drop, refl, sym, ap, ◌∙◌, subst, inl, inr, arith}
+use Rattle.std.proofs.Common.{◌≡◌, ℕ, ◌-◌, ◌<◌, List, [], ◌∷◌, ◌++◌, Bool, true, false, ◌&&◌, cond, eqb, Option, None, Some, Bor, length, take, drop, refl, sym}
+use Rattle.std.proofs.Common.{ap, ◌∙◌, subst, inl, inr, arith}
 use Rattle.std.specs.Prelude.{◌==◌}
 use Rattle.std.specs.List.{starts_with}
 use Rattle.std.specs.Option.{IfSome, is_some, option_map, option_copied}
@@ -8,8 +9,8 @@ use Rattle.std.proofs.lemmas.Bool.{cases_Bool, cond-true, cond-false, true≢fal
 use Rattle.std.proofs.lemmas.List.{take_rest}
 use Rattle.html_safe_page.specs.Table.{start_rows, void_rows}
 use Rattle.html_safe_page.specs.SafePage.{Tag, End, void_end}
-use Rattle.html_safe_page.specs.Reader.{Quoted, longer, read_tag, Last, read}
-use Rattle.html_safe_page.specs.Machine.{split_tag, close, opened, follows, followed}
+use Rattle.html_safe_page.specs.Reader.{QuotedText, longer, read_tag, Last, read}
+use Rattle.html_safe_page.specs.Machine.{split_tag, close, with_open_tag, follows, if_goes_on}
 use Rattle.html_safe_page.specs.Views.{onto, open_names}
 use Rattle.html_safe_page.proofs.Options.{map_if}
 use Rattle.html_safe_page.proofs.Text.{split}
@@ -31,7 +32,7 @@ slash (b ∷ bs) ns h =
     cond-true (eqb b 47) (close bs ns) _ (eq-eqb b 47 e) ∙ ap (λ x. close x ns) (sym (take_rest (b ∷ bs) 1))
 
 pub closed : (tag : List ℕ) (name : Bor (List ℕ)) (old new : List (Bor (List ℕ))) (t : Bool) → starts_with eqb tag (47 ∷ []) ≡ true → old ≡ new ++ name ∷ []
-    → t ≡ bytes_eq (take (length tag - 1) (drop 1 tag)) name.now → follows tag (open_names old) ≡ followed t (open_names new)
+    → t ≡ bytes_eq (take (length tag - 1) (drop 1 tag)) name.now → follows tag (open_names old) ≡ if_goes_on t (open_names new)
 closed tag name old new t h e k =
     slash tag (open_names old) h
     ∙ ap (close (take (length tag - 1) (drop 1 tag))) (ap open_names e ∙ open_push new name)
@@ -47,15 +48,17 @@ no_void : read_tag void_rows void_end [] ≡ None
 unfolding void_rows
 no_void = refl
 
-no_slash : (tag : List ℕ) (ns : List (List ℕ)) → starts_with eqb tag (47 ∷ []) ≡ false → follows tag ns ≡ opened (read_tag start_rows [] tag) (read_tag void_rows void_end tag) ns
-no_slash [] ns h = sym (ap (λ o. opened o (read_tag void_rows void_end []) ns) no_start ∙ ap (λ o. opened None o ns) no_void)
+no_slash : (tag : List ℕ) (ns : List (List ℕ)) → starts_with eqb tag (47 ∷ []) ≡ false
+    → follows tag ns ≡ with_open_tag (read_tag start_rows [] tag) (read_tag void_rows void_end tag) ns
+no_slash [] ns h = sym (ap (λ o. with_open_tag o (read_tag void_rows void_end []) ns) no_start ∙ ap (λ o. with_open_tag None o ns) no_void)
 no_slash (b ∷ bs) ns h =
     cond-false (eqb b 47) (close bs ns) _ (ne_eqb b 47 (λ e. true≢false (sym (ap (λ x. x && true) (eq-eqb 47 b (sym e))) ∙ h)))
 
 name_of : Tag → List ℕ
 name_of t = t.name
 
-opened_start : (start void : Option Tag) (n : List ℕ) (ns : List (List ℕ)) → Some n ≡ option_map (λ (t : Tag). t.name) start → opened start void ns ≡ Some (n ∷ ns)
+opened_start : (start void : Option Tag) (n : List ℕ) (ns : List (List ℕ)) → Some n ≡ option_map (λ (t : Tag). t.name) start
+    → with_open_tag start void ns ≡ Some (n ∷ ns)
 opened_start None void n ns h = absurd (true≢false (ap is_some h))
 opened_start (Some tag) void n ns h = ap (λ o. Some (get o ∷ ns)) (sym h)
   where
@@ -64,12 +67,12 @@ opened_start (Some tag) void n ns h = ap (λ o. Some (get o ∷ ns)) (sym h)
     get (Some x) = x
 
 opened_void : (start void : Option Tag) (r : Option (Bor (List ℕ))) (t : Bool) (ns : List (List ℕ)) → None ≡ option_map (λ (t : Tag). t.name) start
-    → option_copied r ≡ option_map (λ (t : Tag). t.name) void → t ≡ is_some r → opened start void ns ≡ followed t ns
+    → option_copied r ≡ option_map (λ (t : Tag). t.name) void → t ≡ is_some r → with_open_tag start void ns ≡ if_goes_on t ns
 opened_void (Some tag) void r t ns h k e = absurd (false≢true (ap is_some h))
-opened_void None None None t ns h k e = ap (λ t. followed t ns) (sym e)
+opened_void None None None t ns h k e = ap (λ t. if_goes_on t ns) (sym e)
 opened_void None None (Some x) t ns h k e = absurd (true≢false (ap is_some k))
 opened_void None (Some tag) None t ns h k e = absurd (false≢true (ap is_some k))
-opened_void None (Some tag) (Some x) t ns h k e = ap (λ t. followed t ns) (sym e)
+opened_void None (Some tag) (Some x) t ns h k e = ap (λ t. if_goes_on t ns) (sym e)
 
 pub started : (tag : List ℕ) (name : Bor (List ℕ)) (old new : List (Bor (List ℕ))) → starts_with eqb tag (47 ∷ []) ≡ false → new ≡ old ++ name ∷ []
     → Some name.now ≡ option_map (λ (t : Tag). t.name) (read_tag start_rows [] tag) → follows tag (open_names old) ≡ Some (open_names new)
@@ -79,19 +82,21 @@ started tag name old new h e k =
     ∙ ap (λ x. Some x) (sym (ap open_names e ∙ open_push old name))
 
 pub stayed : (tag : List ℕ) (r : Option (Bor (List ℕ))) (t : Bool) (ns : List (List ℕ)) → starts_with eqb tag (47 ∷ []) ≡ false
-    → None ≡ option_map (λ (t : Tag). t.name) (read_tag start_rows [] tag) → option_copied r ≡ option_map (λ (t : Tag). t.name) (read_tag void_rows void_end tag) → t ≡ is_some r
-    → follows tag ns ≡ followed t ns
+    → None ≡ option_map (λ (t : Tag). t.name) (read_tag start_rows [] tag) → option_copied r
+    ≡ option_map (λ (t : Tag). t.name) (read_tag void_rows void_end tag) → t ≡ is_some r
+    → follows tag ns ≡ if_goes_on t ns
 stayed tag r t ns h k l e = no_slash tag ns h ∙ opened_void (read_tag start_rows [] tag) (read_tag void_rows void_end tag) r t ns k l e
 
 -- ---- pages
 
-pub at_less : (rest : List ℕ) (first : ℕ) (after : List ℕ) (ns : List (List ℕ)) → rest ≡ first ∷ after → first ≡ 60 → closes (read rest) ns ≡ closes (read (60 ∷ after)) ns
+pub at_less : (rest : List ℕ) (first : ℕ) (after : List ℕ) (ns : List (List ℕ)) → rest ≡ first ∷ after → first ≡ 60
+    → closes (read rest) ns ≡ closes (read (60 ∷ after)) ns
 at_less rest first after ns e k = ap (λ x. closes (read x) ns) e ∙ ap (λ b. closes (read (b ∷ after)) ns) k
 
 split_shorter : (bytes : List ℕ) → IfSome (split_tag bytes) (λ q. length q.rest < length bytes)
 split_shorter [] = tt
 split_shorter (b ∷ bs) =
-    let P = λ (q : Quoted). length q.rest < length (b ∷ bs) in
+    let P = λ (q : QuotedText). length q.rest < length (b ∷ bs) in
     let more = option_map (longer b) (split_tag bs) in
     let other = cond (eqb b 60) None more in
     elim (cases_Bool (eqb b 62)) [
@@ -106,7 +111,7 @@ split_shorter (b ∷ bs) =
           ])
     ]
 
-pub shorter : (bytes : List ℕ) (q : Quoted) → Some q ≡ split_tag bytes → length q.rest < length bytes
+pub shorter : (bytes : List ℕ) (q : QuotedText) → Some q ≡ split_tag bytes → length q.rest < length bytes
 shorter bytes q h = subst (λ o. IfSome o (λ q. length q.rest < length bytes)) (sym h) (split_shorter bytes)
 
 still_open : (xs : List (Bor (List ℕ))) (n : List ℕ) (ns : List (List ℕ)) → are_ends (Last End) (onto xs (n ∷ ns)) ≡ false

@@ -1,9 +1,11 @@
 -- A page stays safe where another safe one is put in before one of its tags.
-use Rattle.std.proofs.Common.{◌≡◌, ℕ, zero, suc, ◌≤◌, ◌<◌, List, [], ◌∷◌, ◌++◌, Bool, true, false, ◌||◌, cond, eqb, Option, None, Some, codes, length, refl, sym, ap, ◌∙◌, subst, inl, inr, append_assoc, arith}
+use Rattle.std.proofs.Common.{◌≡◌, ℕ, zero, suc, ◌≤◌, ◌<◌, List, [], ◌∷◌, ◌++◌, Bool, true, false, ◌||◌, cond, eqb, Option, None, Some, codes, length, refl}
+use Rattle.std.proofs.Common.{sym, ap, ◌∙◌, subst, inl, inr, append_assoc, arith}
 use Rattle.std.specs.Option.{IfSome, is_some, option_map}
 use Rattle.std.proofs.lemmas.Bool.{cases_Bool, cond_both, cond-true, cond-false, false≢true, and_parts, and_from, or_left, or_right, eqb-true}
-use Rattle.html_safe_page.specs.SafePage.{Kind, And, Quote, Less, Greater, Plain, kind, spell_letter, spell_tag, Items, End, Letter, Void, Element, void_end, spell_before, spell, join, is_safe, IsSafePage}
-use Rattle.html_safe_page.specs.Reader.{strip, Quoted, longer, Rest, Reading, Nowhere, Outside, Inside, read}
+use Rattle.html_safe_page.specs.SafePage.{Kind, And, Quote, Less, Greater, Plain, kind, spell_letter, spell_tag, Items, End, Letter, Void, Element, void_end}
+use Rattle.html_safe_page.specs.SafePage.{spell_before, spell, join, is_safe, IsSafePage}
+use Rattle.html_safe_page.specs.Reader.{strip, QuotedText, longer, Rest, Reading, Nowhere, Outside, Inside, read}
 use Rattle.html_safe_page.specs.Machine.{begins_reference, stands, may_stand, split_tag, follows}
 use Rattle.html_safe_page.proofs.Options.{map_if}
 use Rattle.html_safe_page.proofs.Text.{is_plain, split}
@@ -82,10 +84,10 @@ stands_kept Plain bytes after others h = refl
 -- ---- tags before a tag end before it
 
 -- more bytes after what follows a tag
-abbrev with_more : List ℕ → Quoted → Quoted
+abbrev with_more : List ℕ → QuotedText → QuotedText
 with_more more q = split q.inside (q.rest ++ more)
 
-split_step : (b : ℕ) (bs more : List ℕ) (ends begins : Bool) (o : Option Quoted)
+split_step : (b : ℕ) (bs more : List ℕ) (ends begins : Bool) (o : Option QuotedText)
     → cond ends (Some (split [] (bs ++ more))) (cond begins None (option_map (longer b) (option_map (with_more more) o)))
     ≡ option_map (with_more more) (cond ends (Some (split [] bs)) (cond begins None (option_map (longer b) o)))
 split_step b bs more true begins o = refl
@@ -102,7 +104,7 @@ split_before (b ∷ bs) after =
 split_more : (bytes more : List ℕ) → IfSome (split_tag bytes) (λ q. split_tag (bytes ++ more) ≡ Some (with_more more q))
 split_more [] more = tt
 split_more (b ∷ bs) more =
-    let P = λ (q : Quoted). split_tag ((b ∷ bs) ++ more) ≡ Some (with_more more q) in
+    let P = λ (q : QuotedText). split_tag ((b ∷ bs) ++ more) ≡ Some (with_more more q) in
     let later = option_map (longer b) (split_tag bs) in
     let later_more = option_map (longer b) (split_tag (bs ++ more)) in
     cond_both (eqb b 62) (Some (split [] bs)) (cond (eqb b 60) None later) (λ o. IfSome o P)
@@ -113,7 +115,7 @@ split_more (b ∷ bs) more =
     cond-false (eqb b 62) (Some (split [] (bs ++ more))) (cond (eqb b 60) None later_more) e
     ∙ cond-false (eqb b 60) None later_more k ∙ ap (option_map (longer b)) h)))
 
-split_found : (bytes more : List ℕ) (q : Quoted) → split_tag bytes ≡ Some q → split_tag (bytes ++ more) ≡ Some (with_more more q)
+split_found : (bytes more : List ℕ) (q : QuotedText) → split_tag bytes ≡ Some q → split_tag (bytes ++ more) ≡ Some (with_more more q)
 split_found bytes more q e = subst (λ o. IfSome o (λ q. split_tag (bytes ++ more) ≡ Some (with_more more q))) e (split_more bytes more)
 
 -- ---- parting a page before a tag
@@ -128,14 +130,14 @@ IsParted before after ns =
 module _ (bs after : List ℕ) (ns : List (List ℕ))
     (more : (before : List ℕ) (ms : List (List ℕ)) → length before < length bs → closes (read (before ++ 60 ∷ after)) ms ≡ true → IsParted before after ms)
     (h : closes (read (60 ∷ (bs ++ 60 ∷ after))) ns ≡ true) where
-  parted_followed : (q : Quoted) → split_tag bs ≡ Some q → (o : Option (List (List ℕ))) → follows q.inside ns ≡ o → IsParted (60 ∷ bs) after ns
+  parted_followed : (q : QuotedText) → split_tag bs ≡ Some q → (o : Option (List (List ℕ))) → follows q.inside ns ≡ o → IsParted (60 ∷ bs) after ns
   parted_followed q e None k = absurd (false≢true (sym (bad_tag (bs ++ 60 ∷ after) ns (with_more (60 ∷ after) q) (split_found bs (60 ∷ after) q e) k) ∙ h))
   parted_followed q e (Some ms) k =
       let goes_on = good_tag (bs ++ 60 ∷ after) ns ms (with_more (60 ∷ after) q) (split_found bs (60 ∷ after) q e) k in
       let rest = more q.rest ms (shorter bs q (sym e)) (sym goes_on ∙ h) in
       (rest.0, rest.1, λ others c. good_tag (bs ++ others) ns ms (with_more others q) (split_found bs others q e) k ∙ rest.2 others c)
 
-  parted_tag : (o : Option Quoted) → split_tag bs ≡ o → IsParted (60 ∷ bs) after ns
+  parted_tag : (o : Option QuotedText) → split_tag bs ≡ o → IsParted (60 ∷ bs) after ns
   parted_tag None e = absurd (false≢true (sym (no_tag (bs ++ 60 ∷ after) ns (split_before bs after ∙ ap (option_map (with_more (60 ∷ after))) e)) ∙ h))
   parted_tag (Some q) e = parted_followed q e (follows q.inside ns) refl
 

@@ -3,7 +3,8 @@ use Rattle.std.proofs.Common.{Option, None, Some}
 use Rattle.std.specs.Option.{IfSome, option_map}
 use Rattle.html_safe_page.specs.Reader.{and_then, or_else}
 
-pub then_if : {A B : Type 0} (o : Option A) (f : A → Option B) (Q : A → Type 0) (P : B → Type 0) → IfSome o Q → ((a : A) → Q a → IfSome (f a) P) → IfSome (and_then o f) P
+pub then_if : {A B : Type 0} (o : Option A) (f : A → Option B) (Q : A → Type 0) (P : B → Type 0) → IfSome o Q → ((a : A) → Q a → IfSome (f a) P)
+    → IfSome (and_then o f) P
 then_if None f Q P h k = tt
 then_if (Some a) f Q P h k = k a h
 

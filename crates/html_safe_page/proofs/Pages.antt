@@ -7,10 +7,14 @@ use Rattle.std.proofs.lemmas.Bool.{cond-true, cond-false, true≢false, false≢
 use Rattle.std.proofs.lemmas.List.{append-nil}
 use Rattle.std.proofs.lemmas.List.Folds.{list_all-append}
 use Rattle.html_safe_page.specs.Table.{start_rows, void_rows}
-use Rattle.html_safe_page.specs.SafePage.{Kind, And, Quote, Less, Greater, Plain, kind, spelled, spell_letter, spell_text, Attribute, Tag, Items, End, Letter, Void, Element, attribute_start, spell_attributes, spell_tag, void_end, spell_before, spell, join, is_of_row, is_tag_of, is_safe, OneReading}
-use Rattle.html_safe_page.specs.Reader.{read_tag, Rest, Last, Then, Reading, Outside, Inside, at_first, outside, open_tag, open_or, read_opening, read_mark, step, read, whole, read_page}
+use Rattle.html_safe_page.specs.SafePage.{Kind, And, Quote, Less, Greater, Plain, kind, spell_kind, spell_letter, spell_text, Attribute, Tag, Items, End}
+use Rattle.html_safe_page.specs.SafePage.{Letter, Void, Element, attribute_start, spell_attributes, spell_tag, void_end, spell_before, spell, join, is_of_row}
+use Rattle.html_safe_page.specs.SafePage.{is_tag_of, is_safe, OneReading}
+use Rattle.html_safe_page.specs.Reader.{read_tag, Rest, Last, Then, Reading, Outside, Inside, at_first, outside, open_tag, open_or, read_opening, read_mark}
+use Rattle.html_safe_page.specs.Reader.{step, read, whole, read_page}
 use Rattle.html_safe_page.proofs.Text.{by_kind, is_plain}
-use Rattle.html_safe_page.proofs.Spelled.{is_word_byte, is_word, starts_word, is_worded_row, is_worded_list, is_worded, all_values, bytes_same, IsRead, tag_sound, tag_spelled, tags_same, listed_worded, weaker}
+use Rattle.html_safe_page.proofs.Spelled.{is_word_byte, is_word, starts_word, is_worded_row, is_worded_list, is_worded, all_values, bytes_same, IsRead}
+use Rattle.html_safe_page.proofs.Spelled.{tag_sound, tag_spelled, tags_same, listed_worded, weaker}
 
 -- ---- the bytes of a tag
 
@@ -40,7 +44,7 @@ inner_read (b ∷ bs) x bytes r h e =
 letter_inner : (b : ℕ) → all_inner (spell_letter b) ≡ true
 letter_inner b =
     by_kind (λ b. all_inner (spell_letter b) ≡ true) refl refl refl refl
-    (λ b h. ap (λ k. all_inner (spelled k b)) h ∙ ap (λ k. is_inner k && true) h) b
+    (λ b h. ap (λ k. all_inner (spell_kind k b)) h ∙ ap (λ k. is_inner k && true) h) b
 
 plain_inner : (k : Kind) → is_plain k ≡ true → is_inner k ≡ true
 plain_inner And h = refl
@@ -134,7 +138,8 @@ void_not_start : (tag : Tag) → is_worded tag ≡ true → read_tag start_rows 
 void_not_start tag h =
     nothing (read_tag start_rows [] (spell_tag tag void_end))
     (weaker (read_tag start_rows [] (spell_tag tag void_end)) (IsRead start_rows [] (spell_tag tag void_end)) (λ _. ⊥)
-    (λ other read. true≢false (ap is_empty (tags_same other tag [] void_end (listed_worded start_rows other start_words read.listed) h refl refl refl refl read.spelling).1))
+    (λ other read. true≢false (ap is_empty (tags_same other tag [] void_end
+    (listed_worded start_rows other start_words read.listed) h refl refl refl refl read.spelling).1))
     (tag_sound start_rows [] (spell_tag tag void_end)))
 
 void_opens : (tag : Tag) (r : Rest) → is_tag_of void_rows tag ≡ true → read_opening (spell_tag tag void_end) r ≡ Some (at_first (Void tag) r)
@@ -154,11 +159,11 @@ letter_read : (b : ℕ) (x : List ℕ) (r : Rest) → read x ≡ Outside r → r
 letter_read b x (Last items) e =
     by_kind (λ b. read (spell_letter b ++ x) ≡ Outside (Last (Letter b items)))
     (ap (steps (codes "&amp;")) e) (ap (steps (codes "&quot;")) e) (ap (steps (codes "&lt;")) e) (ap (steps (codes "&gt;")) e)
-    (λ b h. ap (λ k. read (spelled k b ++ x)) h ∙ (ap (λ k. step k b (read x)) h ∙ ap (step Plain b) e)) b
+    (λ b h. ap (λ k. read (spell_kind k b ++ x)) h ∙ (ap (λ k. step k b (read x)) h ∙ ap (step Plain b) e)) b
 letter_read b x (Then items name r) e =
     by_kind (λ b. read (spell_letter b ++ x) ≡ Outside (Then (Letter b items) name r))
     (ap (steps (codes "&amp;")) e) (ap (steps (codes "&quot;")) e) (ap (steps (codes "&lt;")) e) (ap (steps (codes "&gt;")) e)
-    (λ b h. ap (λ k. read (spelled k b ++ x)) h ∙ (ap (λ k. step k b (read x)) h ∙ ap (step Plain b) e)) b
+    (λ b h. ap (λ k. read (spell_kind k b ++ x)) h ∙ (ap (λ k. step k b (read x)) h ∙ ap (step Plain b) e)) b
 
 void_read : (tag : Tag) (x : List ℕ) (r : Rest) → is_tag_of void_rows tag ≡ true → read x ≡ Outside r
     → read (60 ∷ spell_tag tag (void_end ++ (62 ∷ x))) ≡ Outside (at_first (Void tag) r)
@@ -199,7 +204,8 @@ first_twice : (f g : Items → Items) (r : Rest) → at_first f (at_first g r) �
 first_twice f g (Last items) = refl
 first_twice f g (Then items name r) = refl
 
-pub items_read : (items : Items) (x : List ℕ) (r : Rest) → is_safe items ≡ true → read x ≡ Outside r → read (spell_before items x) ≡ Outside (at_first (join items) r)
+pub items_read : (items : Items) (x : List ℕ) (r : Rest) → is_safe items ≡ true → read x ≡ Outside r
+    → read (spell_before items x) ≡ Outside (at_first (join items) r)
 items_read End x r h e = e ∙ ap Outside (sym (first_end r))
 items_read (Letter b items) x r h e =
     letter_read b (spell_before items x) (at_first (join items) r) (items_read items x r h e) ∙ ap Outside (first_twice (Letter b) (join items) r)

@@ -5,8 +5,11 @@ use Rattle.std.specs.Option.{IfSome, option_map}
 use Rattle.std.specs.Str.{bytes_eq}
 use Rattle.std.proofs.lemmas.Bool.{cases_Bool, cond-true, cond-false, eqb-true, and_parts, and_from}
 use Rattle.html_safe_page.specs.Table.{Row, start_rows, void_rows}
-use Rattle.html_safe_page.specs.SafePage.{Kind, And, Quote, Less, Greater, Plain, kind, spelled, spell_letter, spell_text, Attribute, Tag, Items, End, Letter, Void, Element, attribute_start, spell_attributes, spell_tag, void_end, spell_before, is_of_row, is_tag_of, is_safe, IsReading}
-use Rattle.html_safe_page.specs.Reader.{read_tag, Rest, Last, Then, Reading, Nowhere, Outside, Inside, at_first, strip_letters, replace_letters, join_letters, outside, join_rest, open_tag, open_or, read_opening, read_mark, step, read, whole, read_page}
+use Rattle.html_safe_page.specs.SafePage.{Kind, And, Quote, Less, Greater, Plain, kind, spell_kind, spell_letter, spell_text, Attribute, Tag, Items, End}
+use Rattle.html_safe_page.specs.SafePage.{Letter, Void, Element, attribute_start, spell_attributes, spell_tag, void_end, spell_before, is_of_row, is_tag_of}
+use Rattle.html_safe_page.specs.SafePage.{is_safe, IsReading}
+use Rattle.html_safe_page.specs.Reader.{read_tag, Rest, Last, Then, Reading, Nowhere, Outside, Inside, at_first, strip_letters, replace_letters, join_letters}
+use Rattle.html_safe_page.specs.Reader.{outside, join_rest, open_tag, open_or, read_opening, read_mark, step, read, whole, read_page}
 use Rattle.html_safe_page.proofs.Options.{else_if, map_if}
 use Rattle.html_safe_page.proofs.Text.{by_kind}
 use Rattle.html_safe_page.proofs.Spelled.{all_values, same_bytes, IsRead, tag_sound}
@@ -74,7 +77,8 @@ replaced c name items same safe =
 joined : (items : Items) → IfSome (join_letters items) (IsJoined items)
 joined items =
     else_if (replace_letters 38 (strip_letters (codes "amp;") items)) _ (IsJoined items) (replaced 38 (codes "amp;") items (λ rest after. refl) (λ rest. refl))
-    (else_if (replace_letters 34 (strip_letters (codes "quot;") items)) _ (IsJoined items) (replaced 34 (codes "quot;") items (λ rest after. refl) (λ rest. refl))
+    (else_if (replace_letters 34 (strip_letters (codes "quot;") items)) _ (IsJoined items)
+    (replaced 34 (codes "quot;") items (λ rest after. refl) (λ rest. refl))
     (else_if (replace_letters 60 (strip_letters (codes "lt;") items)) _ (IsJoined items) (replaced 60 (codes "lt;") items (λ rest after. refl) (λ rest. refl))
     (replaced 62 (codes "gt;") items (λ rest after. refl) (λ rest. refl))))
 
@@ -96,9 +100,9 @@ and_sound bytes (Then items name r) h =
 
 plain_sound : (b : ℕ) (bytes : List ℕ) (r : Rest) → kind b ≡ Plain → IsRest bytes r → IsRest (b ∷ bytes) (at_first (Letter b) r)
 plain_sound b bytes (Last items) k h =
-    record { spelling = ap (λ k. spelled k b ++ spell_before items []) k ∙ ap (λ x. b ∷ x) h.spelling; safe = h.safe }
+    record { spelling = ap (λ k. spell_kind k b ++ spell_before items []) k ∙ ap (λ x. b ∷ x) h.spelling; safe = h.safe }
 plain_sound b bytes (Then items name r) k h =
-    record { spelling = ap (λ k. spelled k b ++ spell_before items (60 ∷ 47 ∷ (name ++ (62 ∷ spell_rest r)))) k ∙ ap (λ x. b ∷ x) h.spelling; safe = h.safe }
+    record { spelling = ap (λ k. spell_kind k b ++ spell_before items (60 ∷ 47 ∷ (name ++ (62 ∷ spell_rest r)))) k ∙ ap (λ x. b ∷ x) h.spelling; safe = h.safe }
 
 -- ---- tags
 
@@ -121,7 +125,8 @@ tag_append tag x y = ap (λ z. tag.name ++ z) (attributes_append tag.attributes 
 read_is_tag : (rows : List Row) (ending bytes : List ℕ) (tag : Tag) → IsRead rows ending bytes tag → is_tag_of rows tag ≡ true
 read_is_tag rows ending bytes tag h = and_from (list_any (is_of_row tag) rows) (all_values tag.attributes) h.listed h.values
 
-void_sound : (bytes : List ℕ) (tag : Tag) (r : Rest) → is_safe_rest r ≡ true → IsRead void_rows void_end bytes tag → IsRest (60 ∷ (bytes ++ (62 ∷ spell_rest r))) (at_first (Void tag) r)
+void_sound : (bytes : List ℕ) (tag : Tag) (r : Rest) → is_safe_rest r ≡ true → IsRead void_rows void_end bytes tag
+    → IsRest (60 ∷ (bytes ++ (62 ∷ spell_rest r))) (at_first (Void tag) r)
 void_sound bytes tag (Last items) s h =
     record {
       spelling = ap (λ x. 60 ∷ x) (tag_append tag void_end (62 ∷ spell_before items []) ∙ ap (λ x. x ++ (62 ∷ spell_before items [])) h.spelling);
@@ -132,7 +137,8 @@ void_sound bytes tag (Then items name r) s h =
     let rest = spell_before items (60 ∷ 47 ∷ (name ++ (62 ∷ spell_rest r))) in
     record {
       spelling = ap (λ x. 60 ∷ x) (tag_append tag void_end (62 ∷ rest) ∙ ap (λ x. x ++ (62 ∷ rest)) h.spelling);
-      safe = and_from (is_tag_of void_rows tag && is_safe items) (is_safe_rest r) (and_from (is_tag_of void_rows tag) (is_safe items) (read_is_tag void_rows void_end bytes tag h) parts.0) parts.1;
+      safe = and_from (is_tag_of void_rows tag && is_safe items) (is_safe_rest r)
+          (and_from (is_tag_of void_rows tag) (is_safe items) (read_is_tag void_rows void_end bytes tag h) parts.0) parts.1;
     }
 
 filled_sound : (bytes : List ℕ) (tag : Tag) (inside : Items) (r : Rest) → is_safe inside ≡ true → is_safe_rest r ≡ true → IsRead start_rows [] bytes tag
@@ -141,7 +147,8 @@ filled_sound bytes tag inside (Last items) si s h =
     let rest = spell_before inside (60 ∷ 47 ∷ (tag.name ++ (62 ∷ spell_before items []))) in
     record {
       spelling = ap (λ x. 60 ∷ x) (tag_append tag [] (62 ∷ rest) ∙ ap (λ x. x ++ (62 ∷ rest)) h.spelling);
-      safe = and_from (is_tag_of start_rows tag) (is_safe inside && is_safe items) (read_is_tag start_rows [] bytes tag h) (and_from (is_safe inside) (is_safe items) si s);
+      safe = and_from (is_tag_of start_rows tag) (is_safe inside && is_safe items) (read_is_tag start_rows [] bytes tag h)
+          (and_from (is_safe inside) (is_safe items) si s);
     }
 filled_sound bytes tag inside (Then items name r) si s h =
     let parts = and_parts (is_safe items) (is_safe_rest r) s in
@@ -150,11 +157,13 @@ filled_sound bytes tag inside (Then items name r) si s h =
       spelling = ap (λ x. 60 ∷ x) (tag_append tag [] (62 ∷ rest) ∙ ap (λ x. x ++ (62 ∷ rest)) h.spelling);
       safe =
           and_from (is_tag_of start_rows tag && (is_safe inside && is_safe items)) (is_safe_rest r)
-          (and_from (is_tag_of start_rows tag) (is_safe inside && is_safe items) (read_is_tag start_rows [] bytes tag h) (and_from (is_safe inside) (is_safe items) si parts.0))
+          (and_from (is_tag_of start_rows tag) (is_safe inside && is_safe items) (read_is_tag start_rows [] bytes tag h)
+          (and_from (is_safe inside) (is_safe items) si parts.0))
           parts.1;
     }
 
-start_sound : (bytes : List ℕ) (tag : Tag) (r : Rest) → is_safe_rest r ≡ true → IsRead start_rows [] bytes tag → IfSome (open_tag tag r) (IsRest (60 ∷ (bytes ++ (62 ∷ spell_rest r))))
+start_sound : (bytes : List ℕ) (tag : Tag) (r : Rest) → is_safe_rest r ≡ true → IsRead start_rows [] bytes tag
+    → IfSome (open_tag tag r) (IsRest (60 ∷ (bytes ++ (62 ∷ spell_rest r))))
 start_sound bytes tag (Last items) s h = tt
 start_sound bytes tag (Then inside name r) s h =
     let P = IsRest (60 ∷ (bytes ++ (62 ∷ spell_rest (Then inside name r)))) in
@@ -163,11 +172,13 @@ start_sound bytes tag (Then inside name r) s h =
     elim (cases_Bool (bytes_eq name tag.name)) [
       | inl e ↦
           subst (λ o. IfSome o P) (sym (cond-true (bytes_eq name tag.name) (Some here) None e))
-          (subst (λ n. IsRest (60 ∷ (bytes ++ (62 ∷ spell_rest (Then inside n r)))) here) (sym (same_bytes name tag.name e)) (filled_sound bytes tag inside r parts.0 parts.1 h))
+          (subst (λ n. IsRest (60 ∷ (bytes ++ (62 ∷ spell_rest (Then inside n r)))) here) (sym (same_bytes name tag.name e))
+          (filled_sound bytes tag inside r parts.0 parts.1 h))
       | inr e ↦ subst (λ o. IfSome o P) (sym (cond-false (bytes_eq name tag.name) (Some here) None e)) tt
     ]
 
-open_sound : (bytes : List ℕ) (start void : Option Tag) (r : Rest) → is_safe_rest r ≡ true → IfSome start (IsRead start_rows [] bytes) → IfSome void (IsRead void_rows void_end bytes)
+open_sound : (bytes : List ℕ) (start void : Option Tag) (r : Rest) → is_safe_rest r ≡ true → IfSome start (IsRead start_rows [] bytes)
+    → IfSome void (IsRead void_rows void_end bytes)
     → IfSome (open_or start void r) (IsRest (60 ∷ (bytes ++ (62 ∷ spell_rest r))))
 open_sound bytes (Some tag) void r s h k = start_sound bytes tag r s h
 open_sound bytes None (Some tag) r s h k = void_sound bytes tag r s k

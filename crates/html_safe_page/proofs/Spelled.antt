@@ -1,5 +1,6 @@
 -- A tag is spelled in one way, and read back.
-use Rattle.std.proofs.Common.{◌≡◌, ℕ, List, [], ◌∷◌, ◌++◌, Bool, true, false, not, ◌&&◌, ◌||◌, cond, eqb, Option, None, Some, codes, refl, sym, ap, ◌∙◌, subst, inl, inr, append_assoc}
+use Rattle.std.proofs.Common.{◌≡◌, ℕ, List, [], ◌∷◌, ◌++◌, Bool, true, false, not, ◌&&◌, ◌||◌, cond, eqb, Option, None, Some, codes, refl, sym, ap, ◌∙◌, subst}
+use Rattle.std.proofs.Common.{inl, inr, append_assoc}
 use Rattle.std.specs.List.{list_any, list_all}
 use Rattle.std.specs.Option.{IfSome, option_map}
 use Rattle.std.specs.Str.{bytes_eq}
@@ -7,7 +8,8 @@ use Rattle.std.proofs.lemmas.Bool.{cases_Bool, cond-true, cond-false, true≢fal
 use Rattle.std.proofs.lemmas.Slice.Eq.{bytes_eq-Decides}
 use Rattle.html_safe_page.specs.Table.{Row}
 use Rattle.html_safe_page.specs.SafePage.{kind, spell_text, Attribute, Tag, attribute_start, spell_attributes, spell_tag, are_named, is_of_row, is_value}
-use Rattle.html_safe_page.specs.Reader.{and_then, or_else, strip, read_text, Quoted, quoted, read_value, attribute, read_attributes, tag_of, read_row, read_tag}
+use Rattle.html_safe_page.specs.Reader.{and_then, or_else, strip, read_text, QuotedText, before_quote, read_value, attribute, read_attributes, tag_of, read_row}
+use Rattle.html_safe_page.specs.Reader.{read_tag}
 use Rattle.html_safe_page.proofs.Options.{then_if, else_if, map_if}
 use Rattle.html_safe_page.proofs.Text.{is_plain, read_spelled, strip_sound, text_sound, split, quoted_spelled, quoted_sound, spell_text-append}
 
@@ -38,7 +40,8 @@ pub record IsRead (rows : List Row) (ending bytes : List ℕ) (tag : Tag) : Type
 
 value_sound : (name bytes : List ℕ) → IfSome (read_value name bytes) (λ v. (spell_text v [] ≡ bytes) × (is_value name v ≡ true))
 value_sound name bytes =
-    then_if (read_text bytes) (λ v. cond (is_value name v) (Some v) None) (λ v. spell_text v [] ≡ bytes) (λ v. (spell_text v [] ≡ bytes) × (is_value name v ≡ true)) (text_sound bytes)
+    then_if (read_text bytes) (λ v. cond (is_value name v) (Some v) None) (λ v. spell_text v [] ≡ bytes) (λ v. (spell_text v [] ≡ bytes)
+    × (is_value name v ≡ true)) (text_sound bytes)
     (λ v h.
     let P = λ (v : List ℕ). (spell_text v [] ≡ bytes) × (is_value name v ≡ true) in
     elim (cases_Bool (is_value name v)) [
@@ -49,11 +52,11 @@ value_sound name bytes =
 abbrev after_value : List ℕ → List (List ℕ) → List ℕ → List ℕ → List ℕ → Option (List Attribute)
 after_value n ns ending rest v = option_map (λ others. attribute n v ∷ others) (read_attributes ns ending rest)
 
-abbrev after_quoted : List ℕ → List (List ℕ) → List ℕ → Quoted → Option (List Attribute)
+abbrev after_quoted : List ℕ → List (List ℕ) → List ℕ → QuotedText → Option (List Attribute)
 after_quoted n ns ending q = and_then (read_value n q.inside) (λ v. after_value n ns ending q.rest v)
 
 abbrev after_start : List ℕ → List (List ℕ) → List ℕ → List ℕ → Option (List Attribute)
-after_start n ns ending start = and_then (quoted start) (λ q. after_quoted n ns ending q)
+after_start n ns ending start = and_then (before_quote start) (λ q. after_quoted n ns ending q)
 
 pub attributes_sound : (names : List (List ℕ)) (ending bytes : List ℕ) → IfSome (read_attributes names ending bytes) (AreRead names ending bytes)
 attributes_sound [] ending bytes =
@@ -65,9 +68,11 @@ attributes_sound [] ending bytes =
     ]
 attributes_sound (n ∷ ns) ending bytes =
     let P = AreRead (n ∷ ns) ending bytes in
-    then_if (strip (attribute_start n) bytes) (after_start n ns ending) (λ start. attribute_start n ++ start ≡ bytes) P (strip_sound (attribute_start n) bytes) (λ start from_start.
-    then_if (quoted start) (after_quoted n ns ending) (λ q. q.inside ++ (34 ∷ q.rest) ≡ start) P (quoted_sound start) (λ q from_quoted.
-    then_if (read_value n q.inside) (after_value n ns ending q.rest) (λ v. (spell_text v [] ≡ q.inside) × (is_value n v ≡ true)) P (value_sound n q.inside) (λ v from_value.
+    then_if (strip (attribute_start n) bytes) (after_start n ns ending) (λ start. attribute_start n ++ start ≡ bytes) P (strip_sound (attribute_start n) bytes)
+    (λ start from_start.
+    then_if (before_quote start) (after_quoted n ns ending) (λ q. q.inside ++ (34 ∷ q.rest) ≡ start) P (quoted_sound start) (λ q from_quoted.
+    then_if (read_value n q.inside) (after_value n ns ending q.rest) (λ v. (spell_text v [] ≡ q.inside)
+    × (is_value n v ≡ true)) P (value_sound n q.inside) (λ v from_value.
     map_if (read_attributes ns ending q.rest) (λ others. attribute n v ∷ others) (AreRead ns ending q.rest) P (attributes_sound ns ending q.rest) (λ others h.
     record {
       spelling =
@@ -89,7 +94,8 @@ row_sound : (row : Row) (ending bytes : List ℕ) → IfSome (read_row ending by
 row_sound row ending bytes =
     then_if (strip row.name bytes) (λ rest. option_map (tag_of row.name) (read_attributes row.attributes ending rest)) (λ rest. row.name ++ rest ≡ bytes)
     (IsReadRow row ending bytes) (strip_sound row.name bytes) (λ rest from_name.
-    map_if (read_attributes row.attributes ending rest) (tag_of row.name) (AreRead row.attributes ending rest) (IsReadRow row ending bytes) (attributes_sound row.attributes ending rest)
+    map_if (read_attributes row.attributes ending rest) (tag_of row.name) (AreRead row.attributes ending rest) (IsReadRow row ending bytes)
+    (attributes_sound row.attributes ending rest)
     (λ attributes h. record {
       spelling = ap (λ x. row.name ++ x) h.spelling ∙ from_name;
       listed = and_from (bytes_eq row.name row.name) (are_named row.attributes attributes) (bytes_same row.name) h.named;
@@ -118,7 +124,8 @@ tag_sound (row ∷ rows) ending bytes =
 
 -- ---- what is spelled is read
 
-pub attributes_spelled : (names : List (List ℕ)) (attributes : List Attribute) (ending : List ℕ) → are_named names attributes ≡ true → all_values attributes ≡ true
+pub attributes_spelled : (names : List (List ℕ)) (attributes : List Attribute) (ending : List ℕ) → are_named names attributes ≡ true
+    → all_values attributes ≡ true
     → read_attributes names ending (spell_attributes attributes ending) ≡ Some attributes
 attributes_spelled [] [] ending h k = cond-true (bytes_eq ending ending) (Some []) None (bytes_same ending)
 attributes_spelled [] (a ∷ others) ending h k = absurd (false≢true h)
@@ -130,14 +137,16 @@ attributes_spelled (n ∷ ns) (a ∷ others) ending h k =
     let start = spell_text a.value (34 ∷ rest) in
     let text = spell_text a.value [] in
     let value : read_value a.name text ≡ Some a.value =
-    ap (λ o. and_then o (λ v. cond (is_value a.name v) (Some v) None)) (read_spelled a.value) ∙ cond-true (is_value a.name a.value) (Some a.value) None valued.0 in
+    ap (λ o. and_then o (λ v. cond (is_value a.name v) (Some v) None)) (read_spelled a.value)
+    ∙ cond-true (is_value a.name a.value) (Some a.value) None valued.0 in
     subst (λ m. read_attributes (m ∷ ns) ending (attribute_start a.name ++ start) ≡ Some (a ∷ others)) (sym (same_bytes n a.name named.0))
     (ap (λ o. and_then o (after_start a.name ns ending)) (strip_spelled (attribute_start a.name) start)
     ∙ (ap (λ o. and_then o (after_quoted a.name ns ending)) (quoted_spelled a.value rest)
     ∙ (ap (λ o. and_then o (after_value a.name ns ending rest)) value
     ∙ ap (λ o. option_map (λ others. attribute a.name a.value ∷ others) o) (attributes_spelled ns others ending named.1 valued.1))))
 
-row_spelled : (row : Row) (tag : Tag) (ending : List ℕ) → is_of_row tag row ≡ true → all_values tag.attributes ≡ true → read_row ending (spell_tag tag ending) row ≡ Some tag
+row_spelled : (row : Row) (tag : Tag) (ending : List ℕ) → is_of_row tag row ≡ true → all_values tag.attributes ≡ true
+    → read_row ending (spell_tag tag ending) row ≡ Some tag
 row_spelled row tag ending h k =
     let parts = and_parts (bytes_eq row.name tag.name) (are_named row.attributes tag.attributes) h in
     let rest = spell_attributes tag.attributes ending in
@@ -192,11 +201,12 @@ words_same [] (b ∷ bs) x y ha hb hx hy e =
 words_same (a ∷ others) [] x y ha hb hx hy e =
     absurd (true≢false (sym (and_parts (is_word_byte a) (list_all is_word_byte others) ha).0 ∙ ap starts_word e ∙ hy))
 words_same (a ∷ others) (b ∷ bs) x y ha hb hx hy e =
-    let more = words_same others bs x y (and_parts (is_word_byte a) (list_all is_word_byte others) ha).1 (and_parts (is_word_byte b) (list_all is_word_byte bs) hb).1 hx hy (ap tail e) in
+    let more = words_same others bs x y (and_parts (is_word_byte a) (list_all is_word_byte others) ha).1
+    (and_parts (is_word_byte b) (list_all is_word_byte bs) hb).1 hx hy (ap tail e) in
     let first : a ≡ b = ap head e in
     (ap (λ x. x ∷ others) first ∙ ap (λ x. b ∷ x) more.0, more.1)
 
-abbrev get : Option Quoted → Quoted
+abbrev get : Option QuotedText → QuotedText
 get None = split [] []
 get (Some q) = q
 
@@ -206,7 +216,7 @@ get_text (Some text) = text
 
 texts_same : (v w x y : List ℕ) → spell_text v (34 ∷ x) ≡ spell_text w (34 ∷ y) → (v ≡ w) × (x ≡ y)
 texts_same v w x y e =
-    let both : split (spell_text v []) x ≡ split (spell_text w []) y = ap get (sym (quoted_spelled v x) ∙ ap quoted e ∙ quoted_spelled w y) in
+    let both : split (spell_text v []) x ≡ split (spell_text w []) y = ap get (sym (quoted_spelled v x) ∙ ap before_quote e ∙ quoted_spelled w y) in
     (ap get_text (sym (read_spelled v) ∙ ap (λ q. read_text q.inside) both ∙ read_spelled w), ap (λ q. q.rest) both)
 
 attribute_starts : (name rest : List ℕ) → is_word name ≡ true → starts_attribute (attribute_start name ++ rest) ≡ true
@@ -256,14 +266,16 @@ tags_same t u x y ht hu wx wy ax ay e =
 
 -- ---- tags of rows of words
 
-named_worded : (names : List (List ℕ)) (attributes : List Attribute) → list_all is_word names ≡ true → are_named names attributes ≡ true → is_worded_list attributes ≡ true
+named_worded : (names : List (List ℕ)) (attributes : List Attribute) → list_all is_word names ≡ true → are_named names attributes ≡ true
+    → is_worded_list attributes ≡ true
 named_worded [] [] h k = refl
 named_worded [] (a ∷ others) h k = absurd (false≢true k)
 named_worded (n ∷ ns) [] h k = absurd (false≢true k)
 named_worded (n ∷ ns) (a ∷ others) h k =
     let words = and_parts (is_word n) (list_all is_word ns) h in
     let named = and_parts (bytes_eq n a.name) (are_named ns others) k in
-    and_from (is_word a.name) (is_worded_list others) (subst (λ m. is_word m ≡ true) (same_bytes n a.name named.0) words.0) (named_worded ns others words.1 named.1)
+    and_from (is_word a.name) (is_worded_list others) (subst (λ m. is_word m ≡ true) (same_bytes n a.name named.0) words.0)
+    (named_worded ns others words.1 named.1)
 
 pub row_worded : (row : Row) (tag : Tag) → is_worded_row row ≡ true → is_of_row tag row ≡ true → is_worded tag ≡ true
 row_worded row tag h k =

@@ -1,14 +1,18 @@
 -- The test's steps.
-use Rattle.std.proofs.Common.{◌≡◌, ℕ, List, [], ◌∷◌, ◌++◌, Bool, true, false, ◌&&◌, ◌||◌, ◌↔◌, cond, eqb, Option, None, Some, codes, refl, sym, ap, ◌∙◌, inl, inr}
+use Rattle.std.proofs.Common.{◌≡◌, ℕ, List, [], ◌∷◌, ◌++◌, Bool, true, false, ◌&&◌, ◌||◌, ◌↔◌, cond, eqb, Option, None, Some, codes, refl, sym, ap, ◌∙◌, inl}
+use Rattle.std.proofs.Common.{inr}
 use Rattle.std.specs.Prelude.{IsTrue}
 use Rattle.std.specs.List.{list_all}
 use Rattle.std.specs.Option.{IfSome, is_some, option_map}
 use Rattle.std.specs.Str.{bytes_eq}
 use Rattle.std.proofs.lemmas.Bool.{cases_Bool, cond-true, cond-false, true≢false, false≢true, and_parts, and_right, ne_eqb, eqb-true}
 use Rattle.html_safe_page.specs.Table.{start_rows, void_rows}
-use Rattle.html_safe_page.specs.SafePage.{Kind, And, Quote, Less, Greater, Plain, kind, spelled, spell_letter, spell_text, Tag, Items, End, Letter, Void, Element, void_end, spell_before, IsReading, IsSafePage}
-use Rattle.html_safe_page.specs.Reader.{and_then, or_else, strip, replace, join_reference, join_kind, read_text, Quoted, longer, read_tag, Rest, Last, Then, Reading, Nowhere, Outside, Inside, at_first, strip_letters, replace_letters, join_letters, outside, join_rest, open_or, read_mark, step, read, whole, read_page}
-use Rattle.html_safe_page.specs.Machine.{begins_reference, stands, may_stand, split_tag, close, opened, follows}
+use Rattle.html_safe_page.specs.SafePage.{Kind, And, Quote, Less, Greater, Plain, kind, spell_kind, spell_letter, spell_text, Tag, Items, End, Letter, Void}
+use Rattle.html_safe_page.specs.SafePage.{Element, void_end, spell_before, IsReading, IsSafePage}
+use Rattle.html_safe_page.specs.Reader.{and_then, or_else, strip, replace, join_reference, join_kind, read_text, QuotedText, longer, read_tag, Rest, Last, Then}
+use Rattle.html_safe_page.specs.Reader.{Reading, Nowhere, Outside, Inside, at_first, strip_letters, replace_letters, join_letters, outside, join_rest, open_or}
+use Rattle.html_safe_page.specs.Reader.{read_mark, step, read, whole, read_page}
+use Rattle.html_safe_page.specs.Machine.{begins_reference, stands, may_stand, split_tag, close, with_open_tag, follows}
 use Rattle.html_safe_page.proofs.Text.{by_kind, is_plain, plain_other, text_sound}
 use Rattle.html_safe_page.proofs.Pages.{is_inner, page_spelled}
 use Rattle.html_safe_page.proofs.Sound.{spell_rest, IsRest, IsSound, read_sound, page_sound}
@@ -50,7 +54,8 @@ strip_text (p ∷ ps) (b ∷ bs) h =
     (not_here 34 p (strip ps bs) refl parts.0 ∙ sym (not_here 38 p (strip ps (codes "quot;" ++ more)) refl parts.0))
     (not_here 60 p (strip ps bs) refl parts.0 ∙ sym (not_here 38 p (strip ps (codes "lt;" ++ more)) refl parts.0))
     (not_here 62 p (strip ps bs) refl parts.0 ∙ sym (not_here 38 p (strip ps (codes "gt;" ++ more)) refl parts.0))
-    (λ b k. same_cond (eqb b p) (strip ps bs) (strip ps more) (strip_text ps bs parts.1) ∙ ap (λ kind. is_some (strip (p ∷ ps) (spelled kind b ++ more))) (sym k))
+    (λ b k. same_cond (eqb b p) (strip ps bs) (strip ps more) (strip_text ps bs parts.1)
+    ∙ ap (λ kind. is_some (strip (p ∷ ps) (spell_kind kind b ++ more))) (sym k))
     b
 
 abbrev stops : List ℕ → Bool
@@ -66,7 +71,8 @@ strip_items : (name : List ℕ) (items : Items) (after : List ℕ) → all_plain
 strip_items [] items after h k = refl
 strip_items (p ∷ ps) End after h k = strip_stops p ps after (and_parts (is_plain (kind p)) (all_plain ps) h).0 k
 strip_items (p ∷ ps) (Void tag items) after h k = strip_stops p ps (spell_before (Void tag items) after) (and_parts (is_plain (kind p)) (all_plain ps) h).0 refl
-strip_items (p ∷ ps) (Element tag inside items) after h k = strip_stops p ps (spell_before (Element tag inside items) after) (and_parts (is_plain (kind p)) (all_plain ps) h).0 refl
+strip_items (p ∷ ps) (Element tag inside items) after h k =
+    strip_stops p ps (spell_before (Element tag inside items) after) (and_parts (is_plain (kind p)) (all_plain ps) h).0 refl
 strip_items (p ∷ ps) (Letter b items) after h k =
     let parts = and_parts (is_plain (kind p)) (all_plain ps) h in
     let more = spell_before items after in
@@ -75,22 +81,29 @@ strip_items (p ∷ ps) (Letter b items) after h k =
     (not_here 34 p (strip_letters ps items) refl parts.0 ∙ sym (not_here 38 p (strip ps (codes "quot;" ++ more)) refl parts.0))
     (not_here 60 p (strip_letters ps items) refl parts.0 ∙ sym (not_here 38 p (strip ps (codes "lt;" ++ more)) refl parts.0))
     (not_here 62 p (strip_letters ps items) refl parts.0 ∙ sym (not_here 38 p (strip ps (codes "gt;" ++ more)) refl parts.0))
-    (λ b e. same_cond (eqb b p) (strip_letters ps items) (strip ps more) (strip_items ps items after parts.1 k) ∙ ap (λ kind. is_some (strip (p ∷ ps) (spelled kind b ++ more))) (sym e))
+    (λ b e. same_cond (eqb b p) (strip_letters ps items) (strip ps more) (strip_items ps items after parts.1 k)
+    ∙ ap (λ kind. is_some (strip (p ∷ ps) (spell_kind kind b ++ more))) (sym e))
     b
 
 either : (a b c d x y z w : Bool) → a ≡ x → b ≡ y → c ≡ z → d ≡ w → (((a || b) || c) || d) ≡ (((x || y) || z) || w)
-either a b c d x y z w p q r s = ap (λ a. ((a || b) || c) || d) p ∙ ap (λ b. ((x || b) || c) || d) q ∙ ap (λ c. ((x || y) || c) || d) r ∙ ap (λ d. ((x || y) || z) || d) s
+either a b c d x y z w p q r s = ap (λ a. ((a || b) || c) || d) p ∙ ap (λ b. ((x || b) || c) || d) q ∙ ap (λ c. ((x || y) || c) || d) r
+    ∙ ap (λ d. ((x || y) || z) || d) s
 
 text_reference : (text bytes : List ℕ) → spell_text text [] ≡ bytes → is_some (join_reference text) ≡ begins_reference bytes
 text_reference text bytes e =
-    let one = λ (c : ℕ) (name : List ℕ) (h : all_plain name ≡ true). some_mapped (λ bs. c ∷ bs) (strip name text) ∙ strip_text name text h ∙ ap (λ x. is_some (strip name x)) e in
-    four (replace 38 (strip (codes "amp;") text)) (replace 34 (strip (codes "quot;") text)) (replace 60 (strip (codes "lt;") text)) (replace 62 (strip (codes "gt;") text))
+    let one = λ (c : ℕ) (name : List ℕ) (h : all_plain name ≡ true). some_mapped (λ bs. c ∷ bs) (strip name text) ∙ strip_text name text h
+    ∙ ap (λ x. is_some (strip name x)) e in
+    four (replace 38 (strip (codes "amp;") text)) (replace 34 (strip (codes "quot;") text)) (replace 60 (strip (codes "lt;") text))
+    (replace 62 (strip (codes "gt;") text))
     ∙ either _ _ _ _ _ _ _ _ (one 38 (codes "amp;") refl) (one 34 (codes "quot;") refl) (one 60 (codes "lt;") refl) (one 62 (codes "gt;") refl)
 
-items_reference : (items : Items) (after bytes : List ℕ) → stops after ≡ true → spell_before items after ≡ bytes → is_some (join_letters items) ≡ begins_reference bytes
+items_reference : (items : Items) (after bytes : List ℕ) → stops after ≡ true → spell_before items after ≡ bytes
+    → is_some (join_letters items) ≡ begins_reference bytes
 items_reference items after bytes k e =
-    let one = λ (c : ℕ) (name : List ℕ) (h : all_plain name ≡ true). some_mapped (Letter c) (strip_letters name items) ∙ strip_items name items after h k ∙ ap (λ x. is_some (strip name x)) e in
-    four (replace_letters 38 (strip_letters (codes "amp;") items)) (replace_letters 34 (strip_letters (codes "quot;") items)) (replace_letters 60 (strip_letters (codes "lt;") items)) (replace_letters 62 (strip_letters (codes "gt;") items))
+    let one = λ (c : ℕ) (name : List ℕ) (h : all_plain name ≡ true). some_mapped (Letter c) (strip_letters name items) ∙ strip_items name items after h k
+    ∙ ap (λ x. is_some (strip name x)) e in
+    four (replace_letters 38 (strip_letters (codes "amp;") items)) (replace_letters 34 (strip_letters (codes "quot;") items))
+    (replace_letters 60 (strip_letters (codes "lt;") items)) (replace_letters 62 (strip_letters (codes "gt;") items))
     ∙ either _ _ _ _ _ _ _ _ (one 38 (codes "amp;") refl) (one 34 (codes "quot;") refl) (one 60 (codes "lt;") refl) (one 62 (codes "gt;") refl)
 
 -- ---- texts
@@ -99,7 +112,8 @@ and_true : (a : Bool) → a ≡ (a && true)
 and_true true = refl
 and_true false = refl
 
-text_step : (b : ℕ) (bytes : List ℕ) (o : Option (List ℕ)) → IfSome o (λ v. spell_text v [] ≡ bytes) → is_some (and_then o (join_kind (kind b) b)) ≡ (may_stand b bytes && is_some o)
+text_step : (b : ℕ) (bytes : List ℕ) (o : Option (List ℕ)) → IfSome o (λ v. spell_text v [] ≡ bytes)
+    → is_some (and_then o (join_kind (kind b) b)) ≡ (may_stand b bytes && is_some o)
 text_step b bytes None h = sym (and_right (may_stand b bytes) false refl)
 text_step b bytes (Some v) h =
     by_kind (λ b. is_some (join_kind (kind b) b v) ≡ (may_stand b bytes && true))
@@ -132,7 +146,8 @@ ends_first f (Then items name r) (n ∷ ns) = refl
 
 -- ---- letters
 
-joined_last : (o : Option Items) (ns : List (List ℕ)) (items : Items) → closes (outside (option_map (λ i. Last i) o)) ns ≡ (is_some o && are_ends (Last items) ns)
+joined_last : (o : Option Items) (ns : List (List ℕ)) (items : Items) → closes (outside (option_map (λ i. Last i) o)) ns
+    ≡ (is_some o && are_ends (Last items) ns)
 joined_last None ns items = refl
 joined_last (Some i) ns items = ends_first (λ _. i) (Last items) ns
 
@@ -142,12 +157,14 @@ joined_then None ns items name r = refl
 joined_then (Some i) ns items name r = ends_first (λ _. i) (Then items name r) ns
 
 and_more : (bytes : List ℕ) (r : Rest) (ns : List (List ℕ)) → IsRest bytes r → closes (outside (join_rest r)) ns ≡ (begins_reference bytes && are_ends r ns)
-and_more bytes (Last items) ns h = joined_last (join_letters items) ns items ∙ ap (λ x. x && are_ends (Last items) ns) (items_reference items [] bytes refl h.spelling)
+and_more bytes (Last items) ns h =
+    joined_last (join_letters items) ns items ∙ ap (λ x. x && are_ends (Last items) ns) (items_reference items [] bytes refl h.spelling)
 and_more bytes (Then items name r) ns h =
     joined_then (join_letters items) ns items name r
     ∙ ap (λ x. x && are_ends (Then items name r) ns) (items_reference items (60 ∷ 47 ∷ (name ++ (62 ∷ spell_rest r))) bytes refl h.spelling)
 
-letter_step : (b : ℕ) (bytes : List ℕ) (s : Reading) (ns : List (List ℕ)) → IsSound bytes s → eqb b 60 ≡ false → closes (step (kind b) b s) ns ≡ (may_stand b bytes && closes s ns)
+letter_step : (b : ℕ) (bytes : List ℕ) (s : Reading) (ns : List (List ℕ)) → IsSound bytes s → eqb b 60 ≡ false
+    → closes (step (kind b) b s) ns ≡ (may_stand b bytes && closes s ns)
 letter_step b bytes Nowhere ns h e =
     by_kind (λ b. closes (step (kind b) b Nowhere) ns ≡ (may_stand b bytes && false))
     (sym (and_right (begins_reference bytes) false refl)) refl refl refl
@@ -164,7 +181,8 @@ letter_step b bytes (Outside r) ns h e =
     (λ b k. ap (λ kind. closes (step kind b (Outside r)) ns) k ∙ ends_first (Letter b) r ns ∙ ap (λ kind. stands kind bytes && are_ends r ns) (sym k))
     b
 
-pub letter_more : (b : ℕ) (bytes : List ℕ) (ns : List (List ℕ)) → eqb b 60 ≡ false → closes (read (b ∷ bytes)) ns ≡ (may_stand b bytes && closes (read bytes) ns)
+pub letter_more : (b : ℕ) (bytes : List ℕ) (ns : List (List ℕ)) → eqb b 60 ≡ false
+    → closes (read (b ∷ bytes)) ns ≡ (may_stand b bytes && closes (read bytes) ns)
 letter_more b bytes ns e = letter_step b bytes (read bytes) ns (read_sound bytes) e
 
 -- ---- tags
@@ -189,7 +207,8 @@ opens : (t : Bool) (f : Items → Items) (r : Rest) (ns : List (List ℕ)) → c
 opens true f r ns = ends_first f r ns
 opens false f r ns = refl
 
-opening_more : (start void : Option Tag) (r : Rest) (ns : List (List ℕ)) → closes (outside (open_or start void r)) ns ≡ go (opened start void ns) (Outside r)
+opening_more : (start void : Option Tag) (r : Rest) (ns : List (List ℕ)) → closes (outside (open_or start void r)) ns
+    ≡ go (with_open_tag start void ns) (Outside r)
 opening_more (Some tag) void (Last items) ns = refl
 opening_more (Some tag) void (Then inside name r) ns = opens (bytes_eq name tag.name) (Element tag inside) r ns
 opening_more None (Some tag) r ns = ends_first (Void tag) r ns
@@ -208,11 +227,11 @@ mark_more (b ∷ bs) r ns =
       | inl e ↦
           ap (λ o. closes (outside o) ns) (cond-true (eqb b 47) (Some (Then End bs r)) (open_or start void r) e)
           ∙ ending_more bs r ns
-          ∙ ap (λ o. go o (Outside r)) (sym (cond-true (eqb b 47) (close bs ns) (opened start void ns) e))
+          ∙ ap (λ o. go o (Outside r)) (sym (cond-true (eqb b 47) (close bs ns) (with_open_tag start void ns) e))
       | inr e ↦
           ap (λ o. closes (outside o) ns) (cond-false (eqb b 47) (Some (Then End bs r)) (open_or start void r) e)
           ∙ opening_more start void r ns
-          ∙ ap (λ o. go o (Outside r)) (sym (cond-false (eqb b 47) (close bs ns) (opened start void ns) e))
+          ∙ ap (λ o. go o (Outside r)) (sym (cond-false (eqb b 47) (close bs ns) (with_open_tag start void ns) e))
     ]
 
 record InTag : Type 0 where
@@ -259,7 +278,7 @@ inside_start Nowhere = refl
 inside_start (Outside r) = refl
 inside_start (Inside bytes r) = inside_outside (read_mark bytes r)
 
-abbrev tagged : Option Quoted → Option InTag
+abbrev tagged : Option QuotedText → Option InTag
 tagged None = None
 tagged (Some q) = in_tag q.inside (read q.rest)
 
@@ -268,22 +287,25 @@ in_longer b bytes Nowhere = refl
 in_longer b bytes (Outside r) = refl
 in_longer b bytes (Inside inner r) = refl
 
-tagged_longer : (b : ℕ) (o : Option Quoted) → option_map (longer_tag b) (tagged o) ≡ tagged (option_map (longer b) o)
+tagged_longer : (b : ℕ) (o : Option QuotedText) → option_map (longer_tag b) (tagged o) ≡ tagged (option_map (longer b) o)
 tagged_longer b None = refl
 tagged_longer b (Some q) = in_longer b q.inside (read q.rest)
 
 inside_is : (bytes : List ℕ) → inside_of (read bytes) ≡ tagged (split_tag bytes)
 inside_is [] = refl
 inside_is (b ∷ bs) =
-    let known : option_map (longer_tag b) (inside_of (read bs)) ≡ tagged (option_map (longer b) (split_tag bs)) = ap (option_map (longer_tag b)) (inside_is bs) ∙ tagged_longer b (split_tag bs) in
-    by_kind (λ b. option_map (longer_tag b) (inside_of (read bs)) ≡ tagged (option_map (longer b) (split_tag bs)) → inside_of (step (kind b) b (read bs)) ≡ tagged (split_tag (b ∷ bs)))
+    let known : option_map (longer_tag b) (inside_of (read bs)) ≡ tagged (option_map (longer b) (split_tag bs)) =
+    ap (option_map (longer_tag b)) (inside_is bs) ∙ tagged_longer b (split_tag bs) in
+    by_kind (λ b. option_map (longer_tag b) (inside_of (read bs)) ≡ tagged (option_map (longer b) (split_tag bs))
+    → inside_of (step (kind b) b (read bs)) ≡ tagged (split_tag (b ∷ bs)))
     (λ known. inside_more And 38 (read bs) refl ∙ known)
     (λ known. inside_more Quote 34 (read bs) refl ∙ known)
     (λ _. inside_start (read bs))
     (λ _. inside_end (read bs))
     (λ b k known.
     ap (λ kind. inside_of (step kind b (read bs))) k ∙ inside_more Plain b (read bs) refl ∙ known
-    ∙ ap tagged (sym (cond-false (eqb b 62) _ (cond (eqb b 60) None (option_map (longer b) (split_tag bs))) (plain_other b 62 k refl) ∙ cond-false (eqb b 60) None (option_map (longer b) (split_tag bs)) (plain_other b 60 k refl))))
+    ∙ ap tagged (sym (cond-false (eqb b 62) _ (cond (eqb b 60) None (option_map (longer b) (split_tag bs))) (plain_other b 62 k refl)
+    ∙ cond-false (eqb b 60) None (option_map (longer b) (split_tag bs)) (plain_other b 60 k refl))))
     b known
 
 abbrev closes_in : Option InTag → List (List ℕ) → Bool
@@ -306,13 +328,15 @@ tag_is bytes ns = less_closes (read bytes) ns ∙ ap (λ o. closes_in o ns) (ins
 pub no_tag : (bytes : List ℕ) (ns : List (List ℕ)) → split_tag bytes ≡ None → closes (read (60 ∷ bytes)) ns ≡ false
 no_tag bytes ns h = tag_is bytes ns ∙ ap (λ o. closes_in (tagged o) ns) h
 
-split_goes : (bytes : List ℕ) (ns : List (List ℕ)) (q : Quoted) → split_tag bytes ≡ Some q → closes (read (60 ∷ bytes)) ns ≡ go (follows q.inside ns) (read q.rest)
+split_goes : (bytes : List ℕ) (ns : List (List ℕ)) (q : QuotedText) → split_tag bytes ≡ Some q
+    → closes (read (60 ∷ bytes)) ns ≡ go (follows q.inside ns) (read q.rest)
 split_goes bytes ns q h = tag_is bytes ns ∙ ap (λ o. closes_in (tagged o) ns) h ∙ in_goes q.inside (read q.rest) ns
 
-pub bad_tag : (bytes : List ℕ) (ns : List (List ℕ)) (q : Quoted) → split_tag bytes ≡ Some q → follows q.inside ns ≡ None → closes (read (60 ∷ bytes)) ns ≡ false
+pub bad_tag : (bytes : List ℕ) (ns : List (List ℕ)) (q : QuotedText) → split_tag bytes ≡ Some q → follows q.inside ns ≡ None
+    → closes (read (60 ∷ bytes)) ns ≡ false
 bad_tag bytes ns q h k = split_goes bytes ns q h ∙ ap (λ o. go o (read q.rest)) k
 
-pub good_tag : (bytes : List ℕ) (ns more : List (List ℕ)) (q : Quoted) → split_tag bytes ≡ Some q → follows q.inside ns ≡ Some more
+pub good_tag : (bytes : List ℕ) (ns more : List (List ℕ)) (q : QuotedText) → split_tag bytes ≡ Some q → follows q.inside ns ≡ Some more
     → closes (read (60 ∷ bytes)) ns ≡ closes (read q.rest) more
 good_tag bytes ns more q h k = split_goes bytes ns q h ∙ ap (λ o. go o (read q.rest)) k
 

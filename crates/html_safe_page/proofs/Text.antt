@@ -2,8 +2,8 @@
 use Rattle.std.proofs.Common.{◌≡◌, ℕ, List, [], ◌∷◌, ◌++◌, Bool, true, false, eqb, Option, None, Some, codes, refl, sym, ap, ◌∙◌, subst, inl, inr, append_assoc}
 use Rattle.std.specs.Option.{IfSome, option_map}
 use Rattle.std.proofs.lemmas.Bool.{cases_Bool, cond-true, cond-false, eqb-true, ne_eqb, false≢true}
-use Rattle.html_safe_page.specs.SafePage.{Kind, And, Quote, Less, Greater, Plain, kind, spelled, spell_letter, spell_text}
-use Rattle.html_safe_page.specs.Reader.{and_then, strip, replace, join_kind, read_text, Quoted, longer, quoted}
+use Rattle.html_safe_page.specs.SafePage.{Kind, And, Quote, Less, Greater, Plain, kind, spell_kind, spell_letter, spell_text}
+use Rattle.html_safe_page.specs.Reader.{and_then, strip, replace, join_kind, read_text, QuotedText, longer, before_quote}
 use Rattle.html_safe_page.proofs.Options.{then_if, else_if, map_if}
 
 -- a fact of each byte, where it holds of the four and of the others
@@ -51,7 +51,7 @@ read_spelled (b ∷ bs) =
     (ap (feed (codes "&lt;")) known)
     (ap (feed (codes "&gt;")) known)
     (λ b h.
-    ap (λ k. read_text (spelled k b ++ more)) h
+    ap (λ k. read_text (spell_kind k b ++ more)) h
     ∙ (ap (λ k. and_then (read_text more) (join_kind k b)) h
     ∙ ap (λ o. and_then o (join_kind Plain b)) known))
     b
@@ -93,44 +93,45 @@ text_sound (b ∷ bs) =
     (reference_sound 62 (codes "gt;") v bs h (λ rest. refl)))))
     tt tt tt
     (λ b k. subst (λ kind. IfSome (join_kind kind b v) (λ w. spell_text w [] ≡ b ∷ bs)) (sym k)
-    (ap (λ kind. spelled kind b ++ spell_text v []) k ∙ ap (λ x. b ∷ x) h))
+    (ap (λ kind. spell_kind kind b ++ spell_text v []) k ∙ ap (λ x. b ∷ x) h))
     b)
 
 -- ---- quotes
 
-abbrev feed_quoted : List ℕ → Option Quoted → Option Quoted
+abbrev feed_quoted : List ℕ → Option QuotedText → Option QuotedText
 feed_quoted [] o = o
 feed_quoted (b ∷ bs) o = option_map (longer b) (feed_quoted bs o)
 
-abbrev pub split : List ℕ → List ℕ → Quoted
+abbrev pub split : List ℕ → List ℕ → QuotedText
 split inside rest = record { inside = inside; rest = rest }
 
-pub quoted_spelled : (text rest : List ℕ) → quoted (spell_text text (34 ∷ rest)) ≡ Some (split (spell_text text []) rest)
+pub quoted_spelled : (text rest : List ℕ) → before_quote (spell_text text (34 ∷ rest)) ≡ Some (split (spell_text text []) rest)
 quoted_spelled [] rest = refl
 quoted_spelled (b ∷ bs) rest =
     let more = spell_text bs (34 ∷ rest) in
-    let known : quoted more ≡ Some (split (spell_text bs []) rest) = quoted_spelled bs rest in
-    by_kind (λ b. quoted (spell_letter b ++ more) ≡ Some (split (spell_letter b ++ spell_text bs []) rest))
+    let known : before_quote more ≡ Some (split (spell_text bs []) rest) = quoted_spelled bs rest in
+    by_kind (λ b. before_quote (spell_letter b ++ more) ≡ Some (split (spell_letter b ++ spell_text bs []) rest))
     (ap (feed_quoted (codes "&amp;")) known)
     (ap (feed_quoted (codes "&quot;")) known)
     (ap (feed_quoted (codes "&lt;")) known)
     (ap (feed_quoted (codes "&gt;")) known)
     (λ b h.
-    ap (λ k. quoted (spelled k b ++ more)) h
-    ∙ (cond-false (eqb b 34) (Some (split [] more)) (option_map (longer b) (quoted more)) (plain_other b 34 h refl)
+    ap (λ k. before_quote (spell_kind k b ++ more)) h
+    ∙ (cond-false (eqb b 34) (Some (split [] more)) (option_map (longer b) (before_quote more)) (plain_other b 34 h refl)
     ∙ (ap (option_map (longer b)) known
-    ∙ ap (λ k. Some (split (spelled k b ++ spell_text bs []) rest)) (sym h))))
+    ∙ ap (λ k. Some (split (spell_kind k b ++ spell_text bs []) rest)) (sym h))))
     b
 
-pub quoted_sound : (bytes : List ℕ) → IfSome (quoted bytes) (λ q. q.inside ++ (34 ∷ q.rest) ≡ bytes)
+pub quoted_sound : (bytes : List ℕ) → IfSome (before_quote bytes) (λ q. q.inside ++ (34 ∷ q.rest) ≡ bytes)
 quoted_sound [] = tt
 quoted_sound (b ∷ bs) =
-    let P = λ (q : Quoted). q.inside ++ (34 ∷ q.rest) ≡ b ∷ bs in
+    let P = λ (q : QuotedText). q.inside ++ (34 ∷ q.rest) ≡ b ∷ bs in
     elim (cases_Bool (eqb b 34)) [
-      | inl e ↦ subst (λ o. IfSome o P) (sym (cond-true (eqb b 34) (Some (split [] bs)) (option_map (longer b) (quoted bs)) e)) (ap (λ x. x ∷ bs) (sym (eqb-true b 34 e)))
+      | inl e ↦ subst (λ o. IfSome o P) (sym (cond-true (eqb b 34) (Some (split [] bs)) (option_map (longer b) (before_quote bs)) e))
+          (ap (λ x. x ∷ bs) (sym (eqb-true b 34 e)))
       | inr e ↦
-          subst (λ o. IfSome o P) (sym (cond-false (eqb b 34) (Some (split [] bs)) (option_map (longer b) (quoted bs)) e))
-          (map_if (quoted bs) (longer b) (λ q. q.inside ++ (34 ∷ q.rest) ≡ bs) P (quoted_sound bs) (λ q h. ap (λ x. b ∷ x) h))
+          subst (λ o. IfSome o P) (sym (cond-false (eqb b 34) (Some (split [] bs)) (option_map (longer b) (before_quote bs)) e))
+          (map_if (before_quote bs) (longer b) (λ q. q.inside ++ (34 ∷ q.rest) ≡ bs) P (quoted_sound bs) (λ q h. ap (λ x. b ∷ x) h))
     ]
 
 -- a text before other bytes

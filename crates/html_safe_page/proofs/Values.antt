@@ -1,5 +1,6 @@
 -- A value is tested as it is spelled.
-use Rattle.std.proofs.Common.{◌≡◌, ℕ, ◌+◌, suc, List, [], ◌∷◌, ◌++◌, Bool, true, false, ◌&&◌, ◌||◌, cond, eqb, Option, None, Some, codes, drop, refl, sym, ap, ◌∙◌, inl, inr, arith}
+use Rattle.std.proofs.Common.{◌≡◌, ℕ, ◌+◌, suc, List, [], ◌∷◌, ◌++◌, Bool, true, false, ◌&&◌, ◌||◌, cond, eqb, Option, None, Some, codes, drop, refl, sym, ap}
+use Rattle.std.proofs.Common.{◌∙◌, inl, inr, arith}
 use Rattle.std.specs.Char.{to_ascii_lowercase}
 use Rattle.std.specs.List.{list_any, list_all, prefix_len, take_while}
 use Rattle.std.specs.Option.{IfSome, is_some, option_map}
@@ -8,8 +9,9 @@ use Rattle.std.proofs.lemmas.Bool.{cases_Bool, cond-true, cond-false, true≢fal
 use Rattle.std.proofs.lemmas.List.Sums.{take_while-cons}
 use Rattle.definition_text.specs.Bytes.{lower, after_all}
 use Rattle.definition_page.specs.Urls.{in_protocol, protocol, begins_with_colon, is_permitted, permitted, href_protocols, src_protocols}
-use Rattle.html_safe_page.specs.SafePage.{Kind, And, Quote, Less, Greater, Plain, kind, spelled, spell_letter, spell_text, is_value, Attribute, attribute_start}
-use Rattle.html_safe_page.specs.Reader.{and_then, strip, read_text, quoted, read_value, read_attributes, attribute}
+use Rattle.html_safe_page.specs.SafePage.{Kind, And, Quote, Less, Greater, Plain, kind, spell_kind, spell_letter, spell_text, is_value, Attribute}
+use Rattle.html_safe_page.specs.SafePage.{attribute_start}
+use Rattle.html_safe_page.specs.Reader.{and_then, strip, read_text, before_quote, read_value, read_attributes, attribute}
 use Rattle.html_safe_page.specs.Machine.{after_attribute}
 use Rattle.html_safe_page.proofs.Text.{by_kind, is_plain, plain_other, text_sound}
 use Rattle.html_safe_page.proofs.Steps.{some_mapped}
@@ -62,7 +64,7 @@ in_all (b ∷ bs) x h =
 letter_in : (b : ℕ) → in_protocol b ≡ true → list_all in_protocol (spell_letter b) ≡ true
 letter_in b h =
     by_kind (λ b. in_protocol b ≡ true → list_all in_protocol (spell_letter b) ≡ true) (λ _. refl) (λ _. refl) (λ _. refl) (λ _. refl)
-    (λ b k h. ap (λ kind. list_all in_protocol (spelled kind b)) k ∙ ap (λ x. x && true) h) b h
+    (λ b k h. ap (λ kind. list_all in_protocol (spell_kind kind b)) k ∙ ap (λ x. x && true) h) b h
 
 letter_ahead : (b : ℕ) (o : Option (List ℕ)) → option_map (λ n. spell_letter b ++ n) (option_map sp o) ≡ option_map sp (option_map (λ n. b ∷ n) o)
 letter_ahead b None = refl
@@ -84,7 +86,7 @@ protocol_spelled (b ∷ bs) =
       | inr h ↦
           by_kind (λ b. in_protocol b ≡ false → protocol (spell_letter b ++ sp bs) ≡ option_map sp (protocol (b ∷ bs)))
           (λ e. absurd (true≢false e)) (λ e. absurd (true≢false e)) (λ e. absurd (true≢false e)) (λ e. absurd (true≢false e))
-          (λ b k e. ap (λ kind. protocol (spelled kind b ++ sp bs)) k ∙ out b (sp bs) e ∙ empty_spelled (eqb b 58) ∙ ap (option_map sp) (sym (out b bs e)))
+          (λ b k e. ap (λ kind. protocol (spell_kind kind b ++ sp bs)) k ∙ out b (sp bs) e ∙ empty_spelled (eqb b 58) ∙ ap (option_map sp) (sym (out b bs e)))
           b h
     ]
 
@@ -102,7 +104,7 @@ name_same : (p n : List ℕ) → all_plain p ≡ true → bytes_eq p (lower (sp 
 name_same [] [] h = refl
 name_same [] (b ∷ bs) h =
     by_kind (λ b. bytes_eq [] (lower (spell_letter b ++ sp bs)) ≡ false) refl refl refl refl
-    (λ b k. ap (λ kind. bytes_eq [] (lower (spelled kind b ++ sp bs))) k) b
+    (λ b k. ap (λ kind. bytes_eq [] (lower (spell_kind kind b ++ sp bs))) k) b
 name_same (c ∷ cs) [] h = refl
 name_same (c ∷ cs) (b ∷ bs) h =
     let parts = and_parts (is_plain (kind c)) (all_plain cs) h in
@@ -112,7 +114,7 @@ name_same (c ∷ cs) (b ∷ bs) h =
     (no 38 refl (codes "quot;" ++ sp bs) ∙ sym (no 34 refl bs))
     (no 38 refl (codes "lt;" ++ sp bs) ∙ sym (no 60 refl bs))
     (no 38 refl (codes "gt;" ++ sp bs) ∙ sym (no 62 refl bs))
-    (λ b k. ap (λ kind. bytes_eq (c ∷ cs) (lower (spelled kind b ++ sp bs))) k ∙ ap (λ x. eqb c (to_ascii_lowercase b) && x) (name_same cs bs parts.1))
+    (λ b k. ap (λ kind. bytes_eq (c ∷ cs) (lower (spell_kind kind b ++ sp bs))) k ∙ ap (λ x. eqb c (to_ascii_lowercase b) && x) (name_same cs bs parts.1))
     b
 
 names_same : (protocols : List (List ℕ)) (n : List ℕ) → list_all all_plain protocols ≡ true
@@ -122,7 +124,8 @@ names_same (p ∷ ps) n h =
     let parts = and_parts (all_plain p) (list_all all_plain ps) h in
     ap (λ x. x || list_any (λ p. bytes_eq p (lower (sp n))) ps) (name_same p n parts.0) ∙ ap (λ x. bytes_eq p (lower n) || x) (names_same ps n parts.1)
 
-permitted_option : (protocols : List (List ℕ)) (o : Option (List ℕ)) → list_all all_plain protocols ≡ true → is_permitted protocols (option_map sp o) ≡ is_permitted protocols o
+permitted_option : (protocols : List (List ℕ)) (o : Option (List ℕ)) → list_all all_plain protocols ≡ true
+    → is_permitted protocols (option_map sp o) ≡ is_permitted protocols o
 permitted_option protocols None h = refl
 permitted_option protocols (Some n) h = names_same protocols n h
 
@@ -174,11 +177,12 @@ pub attribute_more : (n : List ℕ) (ns : List (List ℕ)) (ending bytes : List 
     → is_some (read_attributes (n ∷ ns) ending bytes) ≡ is_some (and_then (after_attribute n bytes) (read_attributes ns ending))
 attribute_more n ns ending bytes =
     under (strip (attribute_start n) bytes)
-    (λ start. and_then (quoted start) (λ q. and_then (read_value n q.inside) (λ v. option_map (λ others. attribute n v ∷ others) (read_attributes ns ending q.rest))))
-    (λ start. and_then (quoted start) (λ q. cond (is_some (read_value n q.inside)) (Some q.rest) None))
+    (λ start. and_then (before_quote start) (λ q. and_then (read_value n q.inside)
+    (λ v. option_map (λ others. attribute n v ∷ others) (read_attributes ns ending q.rest))))
+    (λ start. and_then (before_quote start) (λ q. cond (is_some (read_value n q.inside)) (Some q.rest) None))
     (read_attributes ns ending)
     (λ start.
-    under (quoted start)
+    under (before_quote start)
     (λ q. and_then (read_value n q.inside) (λ v. option_map (λ others. attribute n v ∷ others) (read_attributes ns ending q.rest)))
     (λ q. cond (is_some (read_value n q.inside)) (Some q.rest) None)
     (read_attributes ns ending)

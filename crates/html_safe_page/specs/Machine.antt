@@ -4,7 +4,8 @@ use Rattle.std.specs.Option.{is_some, option_map}
 use Rattle.std.specs.Str.{bytes_eq}
 use Rattle.html_safe_page.specs.Table.{start_rows, void_rows}
 use Rattle.html_safe_page.specs.SafePage.{Kind, And, Quote, Less, Greater, Plain, kind, Tag, attribute_start, void_end}
-use Rattle.html_safe_page.specs.Reader.{and_then, strip, Quoted, longer, quoted, read_value, read_tag}
+use Rattle.html_safe_page.specs.Reader.{and_then, strip, QuotedText, longer, before_quote, read_value, read_tag}
+use Rattle.definition_text.specs.Ascii.{slash, less_than, greater_than}
 
 abbrev pub begins_reference : List ℕ → Bool
 begins_reference after =
@@ -25,13 +26,14 @@ may_stand b after = stands (kind b) after
 abbrev pub after_attribute : List ℕ → List ℕ → Option (List ℕ)
 after_attribute name bytes =
     and_then (strip (attribute_start name) bytes) (λ start.
-    and_then (quoted start) (λ q.
+    and_then (before_quote start) (λ q.
     if is_some (read_value name q.inside) then Some q.rest else None))
 
 -- a tag before its `>`, and what follows that
-abbrev pub split_tag : List ℕ → Option Quoted
+abbrev pub split_tag : List ℕ → Option QuotedText
 split_tag [] = None
-split_tag (b ∷ bs) = if b == 62 then Some (record { inside = []; rest = bs }) else (if b == 60 then None else option_map (longer b) (split_tag bs))
+split_tag (b ∷ bs) = if b == greater_than then Some (record { inside = []; rest = bs })
+    else (if b == less_than then None else option_map (longer b) (split_tag bs))
 
 -- the names of open tags, the innermost first, after an end tag
 abbrev pub close : List ℕ → List (List ℕ) → Option (List (List ℕ))
@@ -39,16 +41,16 @@ close name [] = None
 close name (n ∷ names) = if bytes_eq name n then Some names else None
 
 -- after a start tag or else a void tag
-abbrev pub opened : Option Tag → Option Tag → List (List ℕ) → Option (List (List ℕ))
-opened (Some tag) other names = Some (tag.name ∷ names)
-opened None (Some tag) names = Some names
-opened None None names = None
+abbrev pub with_open_tag : Option Tag → Option Tag → List (List ℕ) → Option (List (List ℕ))
+with_open_tag (Some tag) other names = Some (tag.name ∷ names)
+with_open_tag None (Some tag) names = Some names
+with_open_tag None None names = None
 
 -- after a tag
 abbrev pub follows : List ℕ → List (List ℕ) → Option (List (List ℕ))
 follows [] names = None
-follows (b ∷ bs) names = if b == 47 then close bs names else opened (read_tag start_rows [] (b ∷ bs)) (read_tag void_rows void_end (b ∷ bs)) names
+follows (b ∷ bs) names = if b == slash then close bs names else with_open_tag (read_tag start_rows [] (b ∷ bs)) (read_tag void_rows void_end (b ∷ bs)) names
 
 -- names, if the test goes on
-abbrev pub followed : Bool → List (List ℕ) → Option (List (List ℕ))
-followed goes_on names = if goes_on then Some names else None
+abbrev pub if_goes_on : Bool → List (List ℕ) → Option (List (List ℕ))
+if_goes_on goes_on names = if goes_on then Some names else None

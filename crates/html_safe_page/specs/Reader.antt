@@ -3,7 +3,9 @@ use Rattle.std.specs.Prelude.{ℕ, if◌then◌else◌, ◌==◌, List, [], ◌�
 use Rattle.std.specs.Option.{option_map}
 use Rattle.std.specs.Str.{bytes_eq}
 use Rattle.html_safe_page.specs.Table.{Row, start_rows, void_rows}
-use Rattle.html_safe_page.specs.SafePage.{Kind, And, Quote, Less, Greater, Plain, kind, Attribute, Tag, Items, End, Letter, Void, Element, attribute_start, void_end, is_value}
+use Rattle.html_safe_page.specs.SafePage.{Kind, And, Quote, Less, Greater, Plain, kind, Attribute, Tag, Items, End, Letter, Void, Element, attribute_start}
+use Rattle.html_safe_page.specs.SafePage.{void_end, is_value}
+use Rattle.definition_text.specs.Ascii.{double_quote, slash}
 
 abbrev pub and_then : {A B : Type 0} → Option A → (A → Option B) → Option B
 and_then None f = None
@@ -48,16 +50,16 @@ read_text (b ∷ bs) = and_then (read_text bs) (join_kind (kind b) b)
 -- ---- tags
 
 -- what stands before the first `"`, and after it
-pub record Quoted : Type 0 where
+pub record QuotedText : Type 0 where
   pub inside : List ℕ
   pub rest : List ℕ
 
-abbrev pub longer : ℕ → Quoted → Quoted
+abbrev pub longer : ℕ → QuotedText → QuotedText
 longer b q = record { inside = b ∷ q.inside; rest = q.rest }
 
-abbrev pub quoted : List ℕ → Option Quoted
-quoted [] = None
-quoted (b ∷ bs) = if b == 34 then Some (record { inside = []; rest = bs }) else option_map (longer b) (quoted bs)
+abbrev pub before_quote : List ℕ → Option QuotedText
+before_quote [] = None
+before_quote (b ∷ bs) = if b == double_quote then Some (record { inside = []; rest = bs }) else option_map (longer b) (before_quote bs)
 
 abbrev pub read_value : List ℕ → List ℕ → Option (List ℕ)
 read_value name bytes = and_then (read_text bytes) (λ v. if is_value name v then Some v else None)
@@ -70,7 +72,7 @@ abbrev pub read_attributes : List (List ℕ) → List ℕ → List ℕ → Optio
 read_attributes [] ending bytes = if bytes_eq bytes ending then Some [] else None
 read_attributes (n ∷ ns) ending bytes =
     and_then (strip (attribute_start n) bytes) (λ start.
-    and_then (quoted start) (λ q.
+    and_then (before_quote start) (λ q.
     and_then (read_value n q.inside) (λ v.
     option_map (λ others. attribute n v ∷ others) (read_attributes ns ending q.rest))))
 
@@ -143,7 +145,7 @@ read_opening bytes rest = open_or (read_tag start_rows [] bytes) (read_tag void_
 
 abbrev pub read_mark : List ℕ → Rest → Option Rest
 read_mark [] rest = None
-read_mark (b ∷ bs) rest = if b == 47 then Some (Then End bs rest) else read_opening (b ∷ bs) rest
+read_mark (b ∷ bs) rest = if b == slash then Some (Then End bs rest) else read_opening (b ∷ bs) rest
 
 abbrev pub step : Kind → ℕ → Reading → Reading
 step kind b Nowhere = Nowhere

@@ -2,6 +2,7 @@
 use Rattle.std.specs.Prelude.{◌≡◌, ℕ, Bool, true, false, if◌then◌else◌, ◌==◌, ◌&&◌, List, [], ◌∷◌, ◌++◌, codes, IsTrue}
 use Rattle.std.specs.List.{list_any, list_all}
 use Rattle.std.specs.Str.{bytes_eq}
+use Rattle.definition_text.specs.Ascii.{space, double_quote, ampersand, slash, less_than, greater_than}
 use Rattle.definition_page.specs.Urls.{permitted, href_protocols, src_protocols}
 use Rattle.html_safe_page.specs.Table.{Row, start_rows, void_rows}
 
@@ -16,18 +17,19 @@ pub data Kind : Type 0 where
   Plain : Kind
 
 abbrev pub kind : ℕ → Kind
-kind b = if b == 38 then And else (if b == 34 then Quote else (if b == 60 then Less else (if b == 62 then Greater else Plain)))
+kind b = if b == ampersand then And else (if b == double_quote then Quote
+    else (if b == less_than then Less else (if b == greater_than then Greater else Plain)))
 
-abbrev pub spelled : Kind → ℕ → List ℕ
-spelled And b = codes "&amp;"
-spelled Quote b = codes "&quot;"
-spelled Less b = codes "&lt;"
-spelled Greater b = codes "&gt;"
-spelled Plain b = b ∷ []
+abbrev pub spell_kind : Kind → ℕ → List ℕ
+spell_kind And b = codes "&amp;"
+spell_kind Quote b = codes "&quot;"
+spell_kind Less b = codes "&lt;"
+spell_kind Greater b = codes "&gt;"
+spell_kind Plain b = b ∷ []
 
 -- a byte of a text, as a page spells it: one of the four as its reference, any other as itself
 abbrev pub spell_letter : ℕ → List ℕ
-spell_letter b = spelled (kind b) b
+spell_letter b = spell_kind (kind b) b
 
 -- a text, before other bytes
 abbrev pub spell_text : List ℕ → List ℕ → List ℕ
@@ -47,11 +49,11 @@ pub record Tag : Type 0 where
 
 -- what begins an attribute
 abbrev pub attribute_start : List ℕ → List ℕ
-attribute_start name = 32 ∷ (name ++ codes "=\"")
+attribute_start name = space ∷ (name ++ codes "=\"")
 
 abbrev pub spell_attributes : List Attribute → List ℕ → List ℕ
 spell_attributes [] after = after
-spell_attributes (a ∷ others) after = attribute_start a.name ++ spell_text a.value (34 ∷ spell_attributes others after)
+spell_attributes (a ∷ others) after = attribute_start a.name ++ spell_text a.value (double_quote ∷ spell_attributes others after)
 
 -- a tag after its `<` and before what ends it
 abbrev pub spell_tag : Tag → List ℕ → List ℕ
@@ -77,9 +79,9 @@ void_end = codes " /"
 abbrev pub spell_before : Items → List ℕ → List ℕ
 spell_before End after = after
 spell_before (Letter b items) after = spell_letter b ++ spell_before items after
-spell_before (Void tag items) after = 60 ∷ spell_tag tag (void_end ++ (62 ∷ spell_before items after))
+spell_before (Void tag items) after = less_than ∷ spell_tag tag (void_end ++ (greater_than ∷ spell_before items after))
 spell_before (Element tag inside items) after =
-    60 ∷ spell_tag tag (62 ∷ spell_before inside (60 ∷ 47 ∷ (tag.name ++ (62 ∷ spell_before items after))))
+    less_than ∷ spell_tag tag (greater_than ∷ spell_before inside (less_than ∷ slash ∷ (tag.name ++ (greater_than ∷ spell_before items after))))
 
 abbrev pub spell : Items → List ℕ
 spell items = spell_before items []

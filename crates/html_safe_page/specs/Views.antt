@@ -2,7 +2,7 @@
 use Rattle.std.specs.Prelude.{ℕ, List, [], ◌∷◌, Option, None, Some, map}
 use Rattle.std.proofs.Common.{Bor}
 use Rattle.html_safe_page.specs.Table as table
-use Rattle.html_safe_page.specs.Reader.{Quoted}
+use Rattle.html_safe_page.specs.Reader.{QuotedText}
 use Rattle.html_safe_page.specs.declared.tags.Row.{Row}
 
 abbrev pub names_of : List (Bor (List ℕ)) → List (List ℕ)
@@ -12,11 +12,11 @@ abbrev pub row_of : Row → table.Row
 row_of r = table.row r.0.now (names_of r.1.now)
 
 -- two parts of bytes
-abbrev pub quoted_of : Option (Bor (List ℕ) × Bor (List ℕ)) → Option Quoted
+abbrev pub quoted_of : Option (Bor (List ℕ) × Bor (List ℕ)) → Option QuotedText
 quoted_of None = None
 quoted_of (Some p) = Some (record { inside = p.0.now; rest = p.1.now })
 
-abbrev pub split_of : Option (Bor (List ℕ) × Bor (List ℕ)) → Option Quoted
+abbrev pub split_of : Option (Bor (List ℕ) × Bor (List ℕ)) → Option QuotedText
 split_of p = quoted_of p
 
 -- names in front of others, the last first

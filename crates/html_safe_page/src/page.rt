@@ -2,7 +2,7 @@
 ghost use Rattle.std.specs.Prelude.{◌≡◌, ◌↔◌, IfOk, IsTrue};
 ghost use Rattle.html_safe_page.specs.SafePage.{IsSafePage, OneReading};
 ghost use Rattle.html_safe_page.specs.Closed.{Closed};
-ghost use Rattle.html_safe_page.specs.Machine.{split_tag, follows, followed};
+ghost use Rattle.html_safe_page.specs.Machine.{split_tag, follows, if_goes_on};
 ghost use Rattle.html_safe_page.specs.Views.{split_of, open_names};
 
 use crate::letters::may_stand;
@@ -36,7 +36,7 @@ fn split_tag(bytes: &[u8]) -> Option<(&[u8], &[u8])>
 
 /// Opens or closes what a tag does, if it may stand here.
 fn follow<'a, A: Allocator>(names: &mut Vec<&'a [u8], A>, tag: &'a [u8]) -> Result<bool, AllocError>
-    ensures { IfOk result (λ goes_on. follows tag.now (open_names names.old.items) ≡ followed goes_on (open_names names.new.items)) }
+    ensures { IfOk result (λ goes_on. follows tag.now (open_names names.old.items) ≡ if_goes_on goes_on (open_names names.new.items)) }
 {
     if tag.starts_with(b"/") {
         return Ok(match names.pop() {

@@ -2,7 +2,7 @@
 ghost use Rattle.std.specs.Prelude.{◌≡◌, map, length, ◌<◌};
 ghost use Rattle.std.specs.Option.{is_some, option_map, option_copied};
 ghost use Rattle.html_safe_page.specs.SafePage.{attribute_start};
-ghost use Rattle.html_safe_page.specs.Reader.{quoted, strip, read_value, read_attributes, read_row, read_tag};
+ghost use Rattle.html_safe_page.specs.Reader.{before_quote, strip, read_value, read_attributes, read_row, read_tag};
 ghost use Rattle.html_safe_page.specs.Machine.{after_attribute};
 ghost use Rattle.html_safe_page.specs.Views.{row_of, names_of, quoted_of};
 
@@ -83,7 +83,7 @@ fn is_value(name: &str, value: &[u8]) -> bool
 
 /// What stands before the first `"`, and after it.
 fn split_quoted(bytes: &[u8]) -> Option<(&[u8], &[u8])>
-    ensures { quoted_of result ≡ quoted bytes.now }
+    ensures { quoted_of result ≡ before_quote bytes.now }
 {
     for (i, b) in bytes.iter().enumerate() {
         if *b == b'"' {

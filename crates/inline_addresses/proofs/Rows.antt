@@ -1,8 +1,9 @@
 -- Rows with literals stand for inline structure with literals.
 use Rattle.std.proofs.Common.{◌≡◌, ℕ, zero, suc, List, [], ◌∷◌, ◌++◌, refl, sym, ap, ◌∙◌, map, append_assoc}
 use Rattle.std.proofs.lemmas.List.{append-nil}
-use Rattle.definition_inline.specs.GfmAutolinkLiteral.{with_addresses, followed, without_literals, with_literals}
-use Rattle.definition_inline.specs.Inline.{Target, Linked, Inline, Data, Escape, Character, Code, Math, Autolink, Literal, Html, EscapedBreak, TrailingBreak, LineEnd, Emphasis, Strong, Strikethrough, Link, Image, Call, Inlines, Nil, Cons}
+use Rattle.definition_inline.specs.GfmAutolinkLiteral.{with_addresses, parts_before, without_literals, with_literals}
+use Rattle.definition_inline.specs.Inline.{Target, Linked, Inline, Data, Escape, Character, Code, Math, Autolink, Literal, Html, EscapedBreak, TrailingBreak}
+use Rattle.definition_inline.specs.Inline.{LineEnd, Emphasis, Strong, Strikethrough, Link, Image, Call, Inlines, Nil, Cons}
 use Rattle.definition_inline.specs.Spans.{IsEmphasis, IsStrong, IsStrikethrough}
 use Rattle.inline_rows.specs.InlineRows.{InlineRow, Part, EnterSpan, EnterLink, EnterImage, Leave, part_rows, inline_rows}
 use Rattle.inline_addresses.specs.Addresses.{parts_rows, run_parts, linked_rows}
@@ -12,19 +13,20 @@ module _ (leads : Target → Linked) where
 
   pub parts_join : (is js : List Inline) → parts_rows leads (is ++ js) ≡ parts_rows leads is ++ parts_rows leads js
   parts_join [] js = refl
-  parts_join (i ∷ is) js = ap (λ l. part_rows leads i ++ l) (parts_join is js) ∙ sym (append_assoc (part_rows leads i) (parts_rows leads is) (parts_rows leads js))
+  parts_join (i ∷ is) js = ap (λ l. part_rows leads i ++ l) (parts_join is js)
+      ∙ sym (append_assoc (part_rows leads i) (parts_rows leads is) (parts_rows leads js))
 
   pub text_parts : (text : List ℕ) → parts_rows leads (map Data text) ≡ map (λ b. Part (Data b)) text
   text_parts [] = refl
   text_parts (b ∷ bs) = ap (λ l. Part (Data b) ∷ l) (text_parts bs)
 
-  followed_rows : (parts : List Inline) (others : Inlines) → inline_rows leads (followed parts others) ≡ parts_rows leads parts ++ inline_rows leads others
+  followed_rows : (parts : List Inline) (others : Inlines) → inline_rows leads (parts_before parts others) ≡ parts_rows leads parts ++ inline_rows leads others
   followed_rows [] others = refl
   followed_rows (i ∷ is) others =
       ap (λ l. part_rows leads i ++ l) (followed_rows is others) ∙ sym (append_assoc (part_rows leads i) (parts_rows leads is) (inline_rows leads others))
 
   followed_before : (parts : List Inline) (others : Inlines) (rest : List InlineRow)
-      → inline_rows leads (followed parts others) ++ rest ≡ parts_rows leads parts ++ (inline_rows leads others ++ rest)
+      → inline_rows leads (parts_before parts others) ++ rest ≡ parts_rows leads parts ++ (inline_rows leads others ++ rest)
   followed_before parts others rest =
       ap (λ l. l ++ rest) (followed_rows parts others) ∙ append_assoc (parts_rows leads parts) (inline_rows leads others) rest
 
@@ -63,11 +65,14 @@ module _ (leads : Target → Linked) where
   leaf_inside n run first is rest h = ap (λ l. parts_rows leads (map Data run) ++ (first ∷ l)) h
 
   held_inside : (n : ℕ) (run : List ℕ) (first : InlineRow) (kids is : Inlines) (rest : List InlineRow)
-      → ((inner : List InlineRow) → linked_rows leads (suc n) run (first ∷ inner) ≡ parts_rows leads (map Data run) ++ (first ∷ linked_rows leads (suc (suc n)) [] inner))
-      → ((more : List InlineRow) → linked_rows leads (suc (suc n)) [] (inline_rows leads kids ++ Leave ∷ more) ≡ inline_rows leads (without_literals kids) ++ (Leave ∷ linked_rows leads (suc n) [] more))
+      → ((inner : List InlineRow) → linked_rows leads (suc n) run (first ∷ inner)
+      ≡ parts_rows leads (map Data run) ++ (first ∷ linked_rows leads (suc (suc n)) [] inner))
+      → ((more : List InlineRow) → linked_rows leads (suc (suc n)) [] (inline_rows leads kids ++ Leave ∷ more)
+      ≡ inline_rows leads (without_literals kids) ++ (Leave ∷ linked_rows leads (suc n) [] more))
       → linked_rows leads (suc n) [] (inline_rows leads is ++ rest) ≡ tail_rows n is rest
       → linked_rows leads (suc n) run (((first ∷ (inline_rows leads kids ++ Leave ∷ [])) ++ inline_rows leads is) ++ rest)
-      ≡ parts_rows leads (map Data run) ++ (((first ∷ (inline_rows leads (without_literals kids) ++ Leave ∷ [])) ++ inline_rows leads (without_literals is)) ++ linked_rows leads (suc n) [] rest)
+      ≡ parts_rows leads (map Data run) ++ (((first ∷ (inline_rows leads (without_literals kids) ++ Leave ∷ [])) ++ inline_rows leads (without_literals is))
+      ++ linked_rows leads (suc n) [] rest)
   held_inside n run first kids is rest opens holds h =
       let before = parts_rows leads (map Data run) in
       let inner = inline_rows leads (without_literals kids) in
@@ -81,7 +86,7 @@ module _ (leads : Target → Linked) where
   literal_inside : (n : ℕ) (run text : List ℕ) (is : Inlines) (rest : List InlineRow)
       → linked_rows leads (suc n) [] (inline_rows leads is ++ rest) ≡ tail_rows n is rest
       → parts_rows leads (map Data run) ++ (map (λ b. Part (Data b)) text ++ linked_rows leads (suc n) [] (inline_rows leads is ++ rest))
-      ≡ parts_rows leads (map Data run) ++ (inline_rows leads (followed (map Data text) (without_literals is)) ++ linked_rows leads (suc n) [] rest)
+      ≡ parts_rows leads (map Data run) ++ (inline_rows leads (parts_before (map Data text) (without_literals is)) ++ linked_rows leads (suc n) [] rest)
   literal_inside n run text is rest h =
       let before = parts_rows leads (map Data run) in
       ap (λ l. before ++ (map (λ b. Part (Data b)) text ++ l)) h
@@ -107,15 +112,20 @@ module _ (leads : Target → Linked) where
   inside n run (Cons TrailingBreak is) rest ends = leaf_inside n run (Part TrailingBreak) is rest (inside n [] is rest ends)
   inside n run (Cons (LineEnd code) is) rest ends = leaf_inside n run (Part (LineEnd code)) is rest (inside n [] is rest ends)
   inside n run (Cons (Emphasis kids) is) rest ends =
-      held_inside n run (EnterSpan IsEmphasis) kids is rest (λ inner. refl) (λ more. inside (suc n) [] kids (Leave ∷ more) (leave_ends (suc (suc n)) more)) (inside n [] is rest ends)
+      held_inside n run (EnterSpan IsEmphasis) kids is rest (λ inner. refl) (λ more. inside (suc n) [] kids (Leave ∷ more) (leave_ends (suc (suc n)) more))
+      (inside n [] is rest ends)
   inside n run (Cons (Strong kids) is) rest ends =
-      held_inside n run (EnterSpan IsStrong) kids is rest (λ inner. refl) (λ more. inside (suc n) [] kids (Leave ∷ more) (leave_ends (suc (suc n)) more)) (inside n [] is rest ends)
+      held_inside n run (EnterSpan IsStrong) kids is rest (λ inner. refl) (λ more. inside (suc n) [] kids (Leave ∷ more) (leave_ends (suc (suc n)) more))
+      (inside n [] is rest ends)
   inside n run (Cons (Strikethrough kids) is) rest ends =
-      held_inside n run (EnterSpan IsStrikethrough) kids is rest (λ inner. refl) (λ more. inside (suc n) [] kids (Leave ∷ more) (leave_ends (suc (suc n)) more)) (inside n [] is rest ends)
+      held_inside n run (EnterSpan IsStrikethrough) kids is rest (λ inner. refl) (λ more. inside (suc n) [] kids (Leave ∷ more) (leave_ends (suc (suc n)) more))
+      (inside n [] is rest ends)
   inside n run (Cons (Link target kids) is) rest ends =
-      held_inside n run (EnterLink (leads target)) kids is rest (λ inner. refl) (λ more. inside (suc n) [] kids (Leave ∷ more) (leave_ends (suc (suc n)) more)) (inside n [] is rest ends)
+      held_inside n run (EnterLink (leads target)) kids is rest (λ inner. refl) (λ more. inside (suc n) [] kids (Leave ∷ more) (leave_ends (suc (suc n)) more))
+      (inside n [] is rest ends)
   inside n run (Cons (Image target kids) is) rest ends =
-      held_inside n run (EnterImage (leads target)) kids is rest (λ inner. refl) (λ more. inside (suc n) [] kids (Leave ∷ more) (leave_ends (suc (suc n)) more)) (inside n [] is rest ends)
+      held_inside n run (EnterImage (leads target)) kids is rest (λ inner. refl) (λ more. inside (suc n) [] kids (Leave ∷ more) (leave_ends (suc (suc n)) more))
+      (inside n [] is rest ends)
   inside n run (Cons (Call label) is) rest ends = leaf_inside n run (Part (Call label)) is rest (inside n [] is rest ends)
 
   -- ---- elsewhere
@@ -123,7 +133,7 @@ module _ (leads : Target → Linked) where
   leaf_outside : (run : List ℕ) (i : Inline) (is : Inlines) (rest : List InlineRow) → part_rows leads i ≡ Part i ∷ []
       → linked_rows leads zero [] (inline_rows leads is ++ rest) ≡ inline_rows leads (with_literals [] is) ++ linked_rows leads zero [] rest
       → parts_rows leads (with_addresses run) ++ (Part i ∷ linked_rows leads zero [] (inline_rows leads is ++ rest))
-      ≡ inline_rows leads (followed (with_addresses run) (Cons i (with_literals [] is))) ++ linked_rows leads zero [] rest
+      ≡ inline_rows leads (parts_before (with_addresses run) (Cons i (with_literals [] is))) ++ linked_rows leads zero [] rest
   leaf_outside run i is rest one h =
       let before = parts_rows leads (with_addresses run) in
       let later = inline_rows leads (with_literals [] is) in
@@ -134,12 +144,14 @@ module _ (leads : Target → Linked) where
 
   held_outside : (run : List ℕ) (first : InlineRow) (made : Inline) (n : ℕ) (kids linked is : Inlines) (rest : List InlineRow)
       → part_rows leads made ≡ first ∷ (inline_rows leads linked ++ Leave ∷ [])
-      → ((inner : List InlineRow) → linked_rows leads zero run (first ∷ inner) ≡ parts_rows leads (with_addresses run) ++ (first ∷ linked_rows leads n [] inner))
-      → ((more : List InlineRow) → linked_rows leads n [] (inline_rows leads kids ++ Leave ∷ more) ≡ inline_rows leads linked ++ linked_rows leads n [] (Leave ∷ more))
+      → ((inner : List InlineRow) → linked_rows leads zero run (first ∷ inner)
+      ≡ parts_rows leads (with_addresses run) ++ (first ∷ linked_rows leads n [] inner))
+      → ((more : List InlineRow) → linked_rows leads n [] (inline_rows leads kids ++ Leave ∷ more)
+      ≡ inline_rows leads linked ++ linked_rows leads n [] (Leave ∷ more))
       → ((more : List InlineRow) → linked_rows leads n [] (Leave ∷ more) ≡ Leave ∷ linked_rows leads zero [] more)
       → linked_rows leads zero [] (inline_rows leads is ++ rest) ≡ inline_rows leads (with_literals [] is) ++ linked_rows leads zero [] rest
       → linked_rows leads zero run (((first ∷ (inline_rows leads kids ++ Leave ∷ [])) ++ inline_rows leads is) ++ rest)
-      ≡ inline_rows leads (followed (with_addresses run) (Cons made (with_literals [] is))) ++ linked_rows leads zero [] rest
+      ≡ inline_rows leads (parts_before (with_addresses run) (Cons made (with_literals [] is))) ++ linked_rows leads zero [] rest
   held_outside run first made n kids linked is rest makes opens holds leaves h =
       let before = parts_rows leads (with_addresses run) in
       let inner = inline_rows leads linked in

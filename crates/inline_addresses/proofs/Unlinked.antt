@@ -11,7 +11,8 @@ use Rattle.inline_rows.specs.InlineRows.{Part, inline_rows}
 use Rattle.inline_rows.specs.View.{data_rows, row_view, rows_view}
 use Rattle.inline_rows.specs.declared.row.InlineRow.{InlineRow}
 use Rattle.inline_rows.specs.declared.row.InlineRow.TheVariants as row
-use Rattle.inline_addresses.specs.Addresses.{has_at_sign, has_link, literal_text, no_bytes, parts_rows, row_depth, row_linked, row_may_link, row_text, run_parts, linked_rows}
+use Rattle.inline_addresses.specs.Addresses.{has_at_sign, has_link, literal_text, no_bytes, parts_rows, row_depth, row_linked, row_may_link, row_text}
+use Rattle.inline_addresses.specs.Addresses.{run_parts, linked_rows}
 use Rattle.inline_addresses.proofs.Rows.{rows_linked, text_parts}
 use Rattle.inline_addresses.proofs.Walks.{after, data_parts, outside_rows, row_after, row_in_link, text_or}
 

@@ -1,5 +1,6 @@
 -- A walk over rows, row by row.
-use Rattle.std.proofs.Common.{◌≡◌, ◌+◌, ◌<◌, ◌≤◌, ℕ, zero, suc, List, [], ◌∷◌, ◌++◌, Option, None, Some, ◌-◌, refl, sym, ap, ◌∙◌, map, take, drop, length, append_assoc, get_or, add-one, drop-cons, arith, subst}
+use Rattle.std.proofs.Common.{◌≡◌, ◌+◌, ◌<◌, ◌≤◌, ℕ, zero, suc, List, [], ◌∷◌, ◌++◌, Option, None, Some, ◌-◌, refl, sym, ap, ◌∙◌, map, take, drop, length}
+use Rattle.std.proofs.Common.{append_assoc, get_or, add-one, drop-cons, arith, subst}
 use Rattle.std.specs.List.{flat_map}
 use Rattle.std.specs.Str.{IsCharBoundary, IsUtf8}
 use Rattle.std.proofs.lemmas.List.{append-nil, drop-take, length-append, length-drop, take-append-drop, take-take}
@@ -19,7 +20,8 @@ use Rattle.inline_rows.specs.declared.row.InlineRow.{InlineRow}
 use Rattle.inline_rows.specs.declared.row.InlineRow.TheVariants as row
 use Rattle.inline_literals.specs.Addresses.{found_parts, IsFound}
 use Rattle.inline_literals.specs.declared.address.FoundAddress.{FoundAddress}
-use Rattle.inline_addresses.specs.Addresses.{literal_text, no_bytes, part_text, parts_rows, row_depth, row_linked, row_text, rows_text, run_parts, linked_rows, text_or_end, IsNext}
+use Rattle.inline_addresses.specs.Addresses.{literal_text, no_bytes, part_text, parts_rows, row_depth, row_linked, row_text, rows_text, run_parts, linked_rows}
+use Rattle.inline_addresses.specs.Addresses.{text_or_end, IsNext}
 use Rattle.inline_addresses.proofs.Rows.{parts_join, text_parts}
 
 -- text as parts, and as rows
@@ -29,7 +31,8 @@ data_parts (b ∷ bs) = ap (λ l. Part (Data b) ∷ l) (data_parts bs)
 
 module _ (leads : Target → Linked) (at : ℕ → Linked) where
   -- text makes the run longer
-  pub run_longer : (n : ℕ) (run bytes : List ℕ) (rest : List rows.InlineRow) → linked_rows leads n run (data_rows bytes ++ rest) ≡ linked_rows leads n (run ++ bytes) rest
+  pub run_longer : (n : ℕ) (run bytes : List ℕ) (rest : List rows.InlineRow)
+      → linked_rows leads n run (data_rows bytes ++ rest) ≡ linked_rows leads n (run ++ bytes) rest
   run_longer n run [] rest = ap (λ r. linked_rows leads n r rest) (sym (append-nil run))
   run_longer n run (b ∷ bs) rest = run_longer n (run ++ b ∷ []) bs rest ∙ ap (λ r. linked_rows leads n r rest) (append_assoc run (b ∷ []) bs)
 
@@ -40,7 +43,8 @@ module _ (leads : Target → Linked) (at : ℕ → Linked) where
 
   -- escaped bytes, with no run before them
   escaped : (n : ℕ) (bytes : List ℕ) (rest : List rows.InlineRow)
-      → linked_rows leads n [] (map Part (map inline.Escape bytes) ++ rest) ≡ flat_map (row_linked n) (map Part (map inline.Escape bytes)) ++ linked_rows leads n [] rest
+      → linked_rows leads n [] (map Part (map inline.Escape bytes) ++ rest) ≡ flat_map (row_linked n) (map Part (map inline.Escape bytes))
+      ++ linked_rows leads n [] rest
   escaped n [] rest = refl
   escaped zero (b ∷ bs) rest = ap (λ l. Part (inline.Escape b) ∷ l) (escaped zero bs rest)
   escaped (suc n) (b ∷ bs) rest = ap (λ l. Part (inline.Escape b) ∷ l) (escaped (suc n) bs rest)
@@ -104,7 +108,8 @@ module _ (leads : Target → Linked) (at : ℕ → Linked) where
   rows_more before r = flat_map-append (row_view at) before (r ∷ []) ∙ ap (λ l. rows_view at before ++ l) (append-nil (row_view at r))
 
   -- the first of the rows that are left
-  pub rows_left : (rs : List InlineRow) (i : ℕ) (d : InlineRow) → i < length rs → row_view at (get_or rs i d) ++ rows_view at (drop (i + 1) rs) ≡ rows_view at (drop i rs)
+  pub rows_left : (rs : List InlineRow) (i : ℕ) (d : InlineRow) → i < length rs
+      → row_view at (get_or rs i d) ++ rows_view at (drop (i + 1) rs) ≡ rows_view at (drop i rs)
   rows_left rs i d inside = ap (λ k. row_view at (get_or rs i d) ++ rows_view at (drop k rs)) (add-one i) ∙ ap (rows_view at) (sym (drop-cons rs i d inside))
 
   -- a run of text and a row after it
@@ -112,7 +117,8 @@ module _ (leads : Target → Linked) (at : ℕ → Linked) where
       → rows_view at middle ≡ rows_view at before ++ parts_rows leads (run_parts n run)
       → row_view at written ≡ flat_map (row_linked n) (row_view at r)
       → row_text r ≡ None
-      → rows_view at (middle ++ written ∷ []) ++ linked_rows leads (row_depth n r) [] rest ≡ rows_view at before ++ linked_rows leads n run (row_view at r ++ rest)
+      → rows_view at (middle ++ written ∷ []) ++ linked_rows leads (row_depth n r) [] rest
+      ≡ rows_view at before ++ linked_rows leads n run (row_view at r ++ rest)
   other_row n run r written before middle rest ended linked none =
       let b = rows_view at before in
       let p = parts_rows leads (run_parts n run) in
@@ -158,7 +164,8 @@ module _ (leads : Target → Linked) (at : ℕ → Linked) where
       ap (rows_view at) is_after ∙ rows_more middle second ∙ ap (λ l. l ++ row_view at second) (ap (rows_view at) is_middle ∙ rows_more before first)
       ∙ ap (λ l. (b ++ l) ++ row_view at second) is_first ∙ ap (λ l. (b ++ d) ++ l) is_second in
       let meant : parts_rows leads (with_addresses run) ≡ d ++ (Part literal ∷ later) =
-      ap (parts_rows leads) parts ∙ parts_join leads (map Data text) (literal ∷ with_addresses (drop found.end run)) ∙ ap (λ l. l ++ (Part literal ∷ later)) (text_parts leads text) in
+      ap (parts_rows leads) parts ∙ parts_join leads (map Data text) (literal ∷ with_addresses (drop found.end run))
+      ∙ ap (λ l. l ++ (Part literal ∷ later)) (text_parts leads text) in
       ap (λ l. rows_view at after ++ parts_rows leads (with_addresses l)) is_left
       ∙ ap (λ l. l ++ later) written
       ∙ append_assoc (b ++ d) (Part literal ∷ []) later
@@ -170,7 +177,8 @@ module _ (leads : Target → Linked) (at : ℕ → Linked) where
       → after ≡ before ++ last ∷ [] → row_view at last ≡ data_rows run → with_addresses run ≡ map Data run
       → rows_view at after ≡ rows_view at before ++ parts_rows leads (with_addresses run)
   rest_rows before after last run is_after is_last none =
-      ap (rows_view at) is_after ∙ rows_more before last ∙ ap (λ l. rows_view at before ++ l) (is_last ∙ sym (text_parts leads run) ∙ ap (parts_rows leads) (sym none))
+      ap (rows_view at) is_after ∙ rows_more before last ∙ ap (λ l. rows_view at before ++ l)
+      (is_last ∙ sym (text_parts leads run) ∙ ap (parts_rows leads) (sym none))
 
   -- ---- a row in a link
 
@@ -217,7 +225,8 @@ module _ (leads : Target → Linked) (at : ℕ → Linked) where
   row_in_link n row.Exit = refl
 
   -- the same of a row that is a literal or not
-  pub literal_linked : (n : ℕ) (r : InlineRow) (found : Option (List ℕ)) → 0 < n → literal_text r ≡ found → flat_map (row_linked n) (row_view at r) ≡ text_or (row_view at r) found
+  pub literal_linked : (n : ℕ) (r : InlineRow) (found : Option (List ℕ)) → 0 < n → literal_text r ≡ found
+      → flat_map (row_linked n) (row_view at r) ≡ text_or (row_view at r) found
   literal_linked zero r found some is = absurd (omega (arith, some))
   literal_linked (suc n) r found some is = row_in_link n r ∙ ap (text_or (row_view at r)) is
 

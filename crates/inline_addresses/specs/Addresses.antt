@@ -1,6 +1,7 @@
 -- Literals among the rows of a content.
 use Rattle.std.specs.Prelude.{◌≡◌, ◌==◌, ◌+◌, ◌≤◌, Bool, false, true, ℕ, zero, suc, List, [], ◌∷◌, ◌++◌, Option, None, Some, length, drop, map, take}
 use Rattle.std.specs.List.{flat_map, list_any}
+use Rattle.definition_text.specs.Ascii.{line_feed, at_sign}
 use Rattle.definition_inline.specs.GfmAutolinkLiteral.{with_addresses}
 use Rattle.definition_inline.specs.Inline as inline
 use Rattle.definition_inline.specs.Inline.{Target, Linked, Inline, Data}
@@ -70,7 +71,7 @@ literal_text r = None
 
 -- the bytes of a text, or a line feed for a row that is something else
 abbrev pub text_or_end : Option (List ℕ) → List ℕ
-text_or_end None = 10 ∷ []
+text_or_end None = line_feed ∷ []
 text_or_end (Some text) = text
 
 abbrev pub rows_text : List InlineRow → List ℕ
@@ -79,7 +80,7 @@ rows_text rs = flat_map (λ r. text_or_end (row_text r)) rs
 -- an `@` stands in a text, if there is one
 abbrev pub has_at_sign : Option (List ℕ) → Bool
 has_at_sign None = false
-has_at_sign (Some text) = list_any (λ b. b == 64) text
+has_at_sign (Some text) = list_any (λ b. b == at_sign) text
 
 -- there is a literal, or else a text with an `@`
 abbrev pub has_link : Option (List ℕ) → Option (List ℕ) → Bool

@@ -32,7 +32,8 @@ module _ (s : Source) (to : ℕ × ℕ) where
   stays : (p : Point) → 0 < p.column → place_in s.skips (in_line p) ≡ in_line p
   stays p h = rw (further p h) refl
 
-  is_plain : (p q : Point) (b : ℕ) → virtual_byte s.bytes p ≡ as_byte b q → is_ascii_alphanumeric b ≡ true → virtual_byte s.bytes p ≡ as_byte (slice_index s.bytes p.index) (in_line p)
+  is_plain : (p q : Point) (b : ℕ) → virtual_byte s.bytes p ≡ as_byte b q → is_ascii_alphanumeric b ≡ true
+      → virtual_byte s.bytes p ≡ as_byte (slice_index s.bytes p.index) (in_line p)
   is_plain p q b e letter =
       let v = slice_index s.bytes p.index in
       let is : is_ascii_alphanumeric (given s.bytes p v).byte ≡ true = ap (λ (g : VirtualByte). is_ascii_alphanumeric g.byte) e ∙ letter in
@@ -50,7 +51,8 @@ module _ (s : Source) (to : ℕ × ℕ) where
   stands : (p q : Point) (b : ℕ) → as_byte (slice_index s.bytes p.index) (in_line p) ≡ as_byte b q → StandsAt s.bytes (text_to s to) p q b
   stands p q b e =
       let next : in_line p ≡ q = ap (λ (v : VirtualByte). v.next) e in
-      let one : StandsAt s.bytes (text_to s to) p (in_line p) b = record { byte = ap (λ (v : VirtualByte). v.byte) e; index = refl; column = omega arith; on = stays p } in
+      let one : StandsAt s.bytes (text_to s to) p (in_line p) b =
+      record { byte = ap (λ (v : VirtualByte). v.byte) e; index = refl; column = omega arith; on = stays p } in
       subst (λ (z : Point). StandsAt s.bytes (text_to s to) p z b) next one
 
   by_end : (p q : Point) (b : ℕ) (is : Bool) → (if is then Some (virtual_byte s.bytes p) else None) ≡ Some (as_byte b q) → virtual_byte s.bytes p ≡ as_byte b q

@@ -13,7 +13,8 @@ pub record StandsAt (bytes : List ℕ) (text : Text) (p q : Point) (b : ℕ) : T
 
 -- the letters and digits of a text stand in these bytes
 abbrev pub Shows : List ℕ → Text → Type 0
-Shows bytes text = (p q : Point) (b : ℕ) → text.byte (text.start p) ≡ Some (as_byte b q) → is_ascii_alphanumeric b ≡ true → StandsAt bytes text (text.start p) q b
+Shows bytes text = (p q : Point) (b : ℕ) → text.byte (text.start p) ≡ Some (as_byte b q) → is_ascii_alphanumeric b ≡ true
+    → StandsAt bytes text (text.start p) q b
 
 -- those of a virtual text stand in the bytes that it is read from, wherever it begins its lines and ends
 abbrev pub TextBytesLaw : Type 0

@@ -1,5 +1,6 @@
 -- What the bytes of a character say (UTF-8).
-use Rattle.std.proofs.Common.{◌≡◌, ℕ, zero, suc, ◌+◌, ◌-◌, ◌*◌, ◌/◌, ◌%◌, ◌<◌, ◌≤◌, Bool, true, false, cond, eqb, ltb, leb, List, [], ◌∷◌, ◌++◌, inl, inr, refl, sym, ap, ◌∙◌, arith, ◌||◌, length, get_or}
+use Rattle.std.proofs.Common.{◌≡◌, ℕ, zero, suc, ◌+◌, ◌-◌, ◌*◌, ◌/◌, ◌%◌, ◌<◌, ◌≤◌, Bool, true, false, cond, eqb, ltb, leb, List, [], ◌∷◌, ◌++◌, inl, inr, refl}
+use Rattle.std.proofs.Common.{sym, ap, ◌∙◌, arith, ◌||◌, length, get_or}
 use Rattle.std.specs.Char.{encode_utf8}
 use Rattle.std.proofs.lemmas.Bool.{cases_lt, cond-true, cond-false, lt-ltb, le-ltb, le-leb, and_left, and_from, and_right, lt-leb, ne_eqb, or_from}
 use Rattle.definition_text.specs.declared.beside.Kind.{Kind}
@@ -7,12 +8,14 @@ use Rattle.definition_text.specs.Lines.{ends_line}
 use Rattle.definition_text.specs.Content.{is_eol}
 use Rattle.definition_text.specs.InlineCode.{first_character, first_kind, is_continuation, character_kind}
 use Rattle.inline_content.specs.declared.mark.Mark.{Mark}
-use Rattle.inline_content.specs.View.{width, line_left, kind_before, kind_between}
+use Rattle.inline_content.specs.View.{width, line_rest, kind_before, kind_between}
 
 -- ---- bytes above 127
 
 high : (x : ℕ) → 128 ≤ x → x < 257 → is_eol x ≡ false
-high x h l = or_from (eqb x 10 || eqb x 13) (eqb x 257) (or_from (eqb x 10) (eqb x 13) (ne_eqb x 10 (λ e. omega (arith, e, h))) (ne_eqb x 13 (λ e. omega (arith, e, h)))) (ne_eqb x 257 (λ e. omega (arith, e, l)))
+high x h l =
+    or_from (eqb x 10 || eqb x 13) (eqb x 257) (or_from (eqb x 10) (eqb x 13) (ne_eqb x 10 (λ e. omega (arith, e, h))) (ne_eqb x 13 (λ e. omega (arith, e, h))))
+    (ne_eqb x 257 (λ e. omega (arith, e, l)))
 
 goes_on : (x : ℕ) → 128 ≤ x → x < 192 → is_continuation x ≡ true
 goes_on x h l = and_from (leb 128 x) (ltb x 192) (le-leb 128 x h) (lt-ltb x 192 l)
@@ -23,8 +26,8 @@ starts_low x l = and_left (leb 128 x) (ltb x 192) (lt-leb 128 x l)
 starts_high : (x : ℕ) → 192 ≤ x → is_continuation x ≡ false
 starts_high x h = and_right (leb 128 x) (ltb x 192) (le-ltb x 192 h)
 
-line_more : (y : ℕ) (ys : List ℕ) → is_eol y ≡ false → line_left (y ∷ ys) ≡ y ∷ line_left ys
-line_more y ys h = ap (λ l. y ∷ l) (cond-false (is_eol y) [] (line_left ys) h)
+line_more : (y : ℕ) (ys : List ℕ) → is_eol y ≡ false → line_rest (y ∷ ys) ≡ y ∷ line_rest ys
+line_more y ys h = ap (λ l. y ∷ l) (cond-false (is_eol y) [] (line_rest ys) h)
 
 -- ---- the number of a character
 
@@ -59,41 +62,42 @@ module _ (p : ℕ → Bool) (marks : List Mark) where
 -- ---- a whole character
 
 -- the bytes of a character that ends no line
-pub first_is : (c : ℕ) (l : List ℕ) → c < 2097152 → ends_line c ≡ false → first_character (line_left (encode_utf8 c ++ l)) ≡ c
+pub first_is : (c : ℕ) (l : List ℕ) → c < 2097152 → ends_line c ≡ false → first_character (line_rest (encode_utf8 c ++ l)) ≡ c
 unfolding encode_utf8
 first_is c l small h = elim (cases_lt c 128) [
   | inl a ↦
-      ap (λ bs. first_character (line_left (bs ++ l))) (cond-true (ltb c 128) _ _ (lt-ltb c 128 a))
-      ∙ first_one c (cond (is_eol c) [] (line_left l)) a
+      ap (λ bs. first_character (line_rest (bs ++ l))) (cond-true (ltb c 128) _ _ (lt-ltb c 128 a))
+      ∙ first_one c (cond (is_eol c) [] (line_rest l)) a
   | inr a ↦ elim (cases_lt c 2048) [
     | inl b ↦
         let x = 192 + c / 64 in
         let y = 128 + c % 64 in
-        ap (λ bs. first_character (line_left (bs ++ l))) (cond-false (ltb c 128) _ _ (le-ltb c 128 a) ∙ cond-true (ltb c 2048) _ _ (lt-ltb c 2048 b))
+        ap (λ bs. first_character (line_rest (bs ++ l))) (cond-false (ltb c 128) _ _ (le-ltb c 128 a) ∙ cond-true (ltb c 2048) _ _ (lt-ltb c 2048 b))
         ∙ ap first_character (line_more x (y ∷ l) (high x (omega arith) (omega (arith, b))))
-        ∙ first_two x y (cond (is_eol y) [] (line_left l)) (omega arith) (omega (arith, b)) ∙ omega (arith, a, b)
+        ∙ first_two x y (cond (is_eol y) [] (line_rest l)) (omega arith) (omega (arith, b)) ∙ omega (arith, a, b)
     | inr b ↦ elim (cases_lt c 65536) [
       | inl d ↦
           let x = 224 + c / 4096 in
           let y = 128 + c / 64 % 64 in
           let z = 128 + c % 64 in
-          ap (λ bs. first_character (line_left (bs ++ l)))
+          ap (λ bs. first_character (line_rest (bs ++ l)))
           (cond-false (ltb c 128) _ _ (le-ltb c 128 a) ∙ cond-false (ltb c 2048) _ _ (le-ltb c 2048 b) ∙ cond-true (ltb c 65536) _ _ (lt-ltb c 65536 d))
           ∙ ap first_character
           (line_more x (y ∷ z ∷ l) (high x (omega arith) (omega (arith, d)))
           ∙ ap (λ k. x ∷ k) (line_more y (z ∷ l) (high y (omega arith) (omega arith))))
-          ∙ first_three x y z (cond (is_eol z) [] (line_left l)) (omega arith) (omega (arith, d)) ∙ omega (arith, a, b, d)
+          ∙ first_three x y z (cond (is_eol z) [] (line_rest l)) (omega arith) (omega (arith, d)) ∙ omega (arith, a, b, d)
       | inr d ↦
           let x = 240 + c / 262144 in
           let y = 128 + c / 4096 % 64 in
           let z = 128 + c / 64 % 64 in
           let w = 128 + c % 64 in
-          ap (λ bs. first_character (line_left (bs ++ l)))
+          ap (λ bs. first_character (line_rest (bs ++ l)))
           (cond-false (ltb c 128) _ _ (le-ltb c 128 a) ∙ cond-false (ltb c 2048) _ _ (le-ltb c 2048 b) ∙ cond-false (ltb c 65536) _ _ (le-ltb c 65536 d))
           ∙ ap first_character
           (line_more x (y ∷ z ∷ w ∷ l) (high x (omega arith) (omega (arith, small)))
-          ∙ ap (λ k. x ∷ k) (line_more y (z ∷ w ∷ l) (high y (omega arith) (omega arith)) ∙ ap (λ k. y ∷ k) (line_more z (w ∷ l) (high z (omega arith) (omega arith)))))
-          ∙ first_four x y z w (cond (is_eol w) [] (line_left l)) (omega arith) ∙ omega (arith, a, b, d)
+          ∙ ap (λ k. x ∷ k) (line_more y (z ∷ w ∷ l) (high y (omega arith) (omega arith))
+          ∙ ap (λ k. y ∷ k) (line_more z (w ∷ l) (high z (omega arith) (omega arith)))))
+          ∙ first_four x y z w (cond (is_eol w) [] (line_rest l)) (omega arith) ∙ omega (arith, a, b, d)
     ]
   ]
 ]
@@ -170,7 +174,7 @@ module _ (p : ℕ → Bool) (marks : List Mark) where
       → kind_between p marks place before ys cs ≡ before
   same_between place before [] cs h = refl
   same_between place before (y ∷ ys) cs h =
-      let y_more = more p marks (place + width y) before y (line_left (ys ++ cs)) (h 0 (omega arith)).0 (h 0 (omega arith)).1 in
+      let y_more = more p marks (place + width y) before y (line_rest (ys ++ cs)) (h 0 (omega arith)).0 (h 0 (omega arith)).1 in
       ap (λ b. kind_between p marks (place + width y) b ys cs) y_more
       ∙ same_between (place + width y) before ys cs (λ k lt. h (suc k) (omega (arith, lt)))
 
@@ -179,18 +183,21 @@ module _ (p : ℕ → Bool) (marks : List Mark) where
       → kind_between p marks place before (encode_utf8 c) cs ≡ character_kind p c
   between_character place before c cs small h =
       let s = spelled c small h in
-      let left = line_left (s.others ++ cs) in
+      let left = line_rest (s.others ++ cs) in
       let first : first_character (s.head ∷ left) ≡ c =
-      ap first_character (sym (line_more s.head (s.others ++ cs) s.clear)) ∙ ap (λ bs. first_character (line_left (bs ++ cs))) (sym s.same) ∙ first_is c cs small h in
+      ap first_character (sym (line_more s.head (s.others ++ cs) s.clear)) ∙ ap (λ bs. first_character (line_rest (bs ++ cs))) (sym s.same)
+      ∙ first_is c cs small h in
       ap (λ bs. kind_between p marks place before bs cs) s.same
       ∙ same_between (place + width s.head) (kind_before p marks (place + width s.head) before s.head left) s.others cs s.rest
       ∙ lead p marks (place + width s.head) before s.head left s.clear s.starts
       ∙ ap (character_kind p) first
 
 -- the kind before a character that ends no line
-pub kind_ahead : (p : ℕ → Bool) (end : Kind) (c : ℕ) (cs : List ℕ) → c < 2097152 → ends_line c ≡ false → first_kind p end (line_left (encode_utf8 c ++ cs)) ≡ character_kind p c
+pub kind_ahead : (p : ℕ → Bool) (end : Kind) (c : ℕ) (cs : List ℕ) → c < 2097152 → ends_line c ≡ false
+    → first_kind p end (line_rest (encode_utf8 c ++ cs)) ≡ character_kind p c
 kind_ahead p end c cs small h =
     let s = spelled c small h in
-    let left = line_left (s.others ++ cs) in
-    let line : line_left (encode_utf8 c ++ cs) ≡ s.head ∷ left = ap (λ bs. line_left (bs ++ cs)) s.same ∙ line_more s.head (s.others ++ cs) s.clear in
-    ap (first_kind p end) line ∙ cond-false (is_eol s.head) _ _ s.clear ∙ ap (λ l. character_kind p (first_character l)) (sym line) ∙ ap (character_kind p) (first_is c cs small h)
+    let left = line_rest (s.others ++ cs) in
+    let line : line_rest (encode_utf8 c ++ cs) ≡ s.head ∷ left = ap (λ bs. line_rest (bs ++ cs)) s.same ∙ line_more s.head (s.others ++ cs) s.clear in
+    ap (first_kind p end) line ∙ cond-false (is_eol s.head) _ _ s.clear ∙ ap (λ l. character_kind p (first_character l)) (sym line)
+    ∙ ap (character_kind p) (first_is c cs small h)

@@ -1,5 +1,6 @@
 -- The first lines of a text.
-use Rattle.std.proofs.Common.{◌≡◌, ℕ, zero, suc, ◌+◌, ◌-◌, ◌≤◌, ◌<◌, Bool, true, false, eqb, ◌==◌, List, [], ◌∷◌, ◌++◌, Option, None, Some, refl, sym, ap, ◌∙◌, length, take, drop, get_or, subst, append_assoc, arith, inl, inr}
+use Rattle.std.proofs.Common.{◌≡◌, ℕ, zero, suc, ◌+◌, ◌-◌, ◌≤◌, ◌<◌, Bool, true, false, eqb, ◌==◌, List, [], ◌∷◌, ◌++◌, Option, None, Some, refl, sym, ap, ◌∙◌}
+use Rattle.std.proofs.Common.{length, take, drop, get_or, subst, append_assoc, arith, inl, inr}
 use Rattle.std.specs.Prelude.{map}
 use Rattle.std.specs.List.{flat_map}
 use Rattle.std.specs.Str.{IsUtf8, IsCharBoundary}
@@ -20,7 +21,7 @@ use Rattle.definition_text.specs.InlineCode.{inline_content}
 use Rattle.block_rows.specs.Rows.{whole_line, whole_lines}
 use Rattle.definition_text.proofs.CodeBytes.{code_bytes}
 use Rattle.block_rows.proofs.OwnLines.{lines_more, with_last_ending}
-use Rattle.inline_content.specs.View.{marked}
+use Rattle.inline_content.specs.View.{codes_with_marks}
 use Rattle.inline_content.proofs.Lined.{AreApart, Agree, content_is, head_clear}
 
 -- ---- the lines of a text are apart
@@ -94,7 +95,8 @@ are_lines (b ∷ bs) h =
     returned : (bs : List ℕ) → AreTextLines (lines bs) → AreTextLines (after_return bs (lines bs))
     returned [] k = tt
     returned (d ∷ ds) k = elim (cases_Bool (eqb d 10)) [
-      | inl t ↦ subst AreTextLines (sym (cond-true (eqb d 10) _ _ t)) (after_empty CarriageReturnLineFeed (drop 1 (lines (d ∷ ds))) (λ e. absurd (crlf-cr e)) (others_are (lines (d ∷ ds)) k))
+      | inl t ↦ subst AreTextLines (sym (cond-true (eqb d 10) _ _ t)) (after_empty CarriageReturnLineFeed (drop 1 (lines (d ∷ ds))) (λ e. absurd (crlf-cr e))
+          (others_are (lines (d ∷ ds)) k))
       | inr u ↦ subst AreTextLines (sym (cond-false (eqb d 10) _ _ u)) (after_empty CarriageReturn (lines (d ∷ ds)) (λ _. no_feed d ds u) k)
     ]
 
@@ -107,8 +109,10 @@ first_lines (suc zero) (line ∷ next ∷ others) h = h.0
 first_lines (suc (suc n)) (line ∷ next ∷ others) h = (h.0, h.1, first_lines (suc n) (next ∷ others) h.2)
 
 -- the first byte of lines isn't LF
-no_feed_first : (line : TextLine) (others : List TextLine) → AreTextLines (line ∷ others) → (IsFeed line → ⊥) → get_or (content_text (map whole_line (line ∷ others))) 0 0 ≡ 10 → ⊥
-no_feed_first line [] h n e = alone line.content h (ap (λ l. get_or l 0 0) (sym (append-nil (map code_byte line.content ++ []) ∙ append-nil (map code_byte line.content))) ∙ e)
+no_feed_first : (line : TextLine) (others : List TextLine) → AreTextLines (line ∷ others) → (IsFeed line → ⊥)
+    → get_or (content_text (map whole_line (line ∷ others))) 0 0 ≡ 10 → ⊥
+no_feed_first line [] h n e =
+    alone line.content h (ap (λ l. get_or l 0 0) (sym (append-nil (map code_byte line.content ++ []) ∙ append-nil (map code_byte line.content))) ∙ e)
   where
     alone : (cs : List ℕ) → HaveNoEnding cs → get_or (map code_byte cs) 0 0 ≡ 10 → ⊥
     alone [] h e = omega (arith, e)
@@ -124,7 +128,8 @@ no_feed_first line (next ∷ others) h n e = go line.content refl
     empty o CarriageReturnLineFeed is apart xs e = let f = ap (λ x. get_or (ending_text x ++ xs) 0 0) (sym is) ∙ e in omega (arith, f)
 
     go : (cs : List ℕ) → line.content ≡ cs → ⊥
-    go [] is = empty line.ending h.1.0 h.1.1 (λ f. n (is, f)) (content_text (map whole_line (next ∷ others))) (ap (λ cs. get_or ((map code_byte cs ++ ending_text line.ending) ++ content_text (map whole_line (next ∷ others))) 0 0) (sym is) ∙ e)
+    go [] is = empty line.ending h.1.0 h.1.1 (λ f. n (is, f)) (content_text (map whole_line (next ∷ others)))
+        (ap (λ cs. get_or ((map code_byte cs ++ ending_text line.ending) ++ content_text (map whole_line (next ∷ others))) 0 0) (sym is) ∙ e)
     go (c ∷ cs) is =
         head_clear c (subst HaveNoEnding is h.0).0
         (ap (λ cs. get_or ((map code_byte cs ++ ending_text line.ending) ++ content_text (map whole_line (next ∷ others))) 0 0) (sym is) ∙ e)
@@ -138,7 +143,8 @@ pub whole_apart : (n : ℕ) (text : List ℕ) → ((k : ℕ) → get_or text k 0
 whole_apart n text h = apart (take n (lines text)) (first_lines n (lines text) (are_lines text h))
 
 -- without marks they are what they are in the text
-pub whole_view : (p : ℕ → Bool) (end : Kind) (n : ℕ) (text : List ℕ) → ((k : ℕ) → get_or text k 0 < 256) → marked p end [] (content_text (whole_lines n text)) ≡ inline_content p end (own_lines (whole_lines n text))
+pub whole_view : (p : ℕ → Bool) (end : Kind) (n : ℕ) (text : List ℕ) → ((k : ℕ) → get_or text k 0 < 256)
+    → codes_with_marks p end [] (content_text (whole_lines n text)) ≡ inline_content p end (own_lines (whole_lines n text))
 whole_view p end n text h = content_is p end [] (whole_lines n text) (whole_apart n text h) (agree 0 (take n (lines text)))
   where
     agree : (place : ℕ) (ls : List TextLine) → Agree p [] place (map whole_line ls)
@@ -231,7 +237,8 @@ no_bytes [] h = refl
 no_bytes (b ∷ bs) h = absurd (omega (arith, eqb-true (length (b ∷ bs)) 0 h))
 
 -- no more lines
-pub whole_end : (i count : ℕ) (text rest : List ℕ) → lines rest ≡ drop i (lines text) → (length rest == 0) ≡ true → i ≤ count → whole_lines i text ≡ whole_lines count text
+pub whole_end : (i count : ℕ) (text rest : List ℕ) → lines rest ≡ drop i (lines text) → (length rest == 0) ≡ true → i ≤ count
+    → whole_lines i text ≡ whole_lines count text
 whole_end i count text rest left none le = sym (ap (map whole_line) (nothing_after i count (lines text) (sym left ∙ no_bytes rest none) le))
 
 ending_utf8 : (o : Option LineEnding) → IsUtf8 (ending_text o)
@@ -271,22 +278,28 @@ front_more i text rest line after ending h hr hl ha u left some first =
     let k = place i (lines text) l (lines after) (sym left ∙ one) in
     let next : i + 1 ≡ suc i = omega arith in
     let before = whole_lines i text in
-    let more : whole_lines (i + 1) text ≡ before ++ whole_line l ∷ [] = ap (λ n. whole_lines n text) next ∙ ap (map whole_line) k.0 ∙ map-append whole_line (take i (lines text)) (l ∷ []) in
+    let more : whole_lines (i + 1) text ≡ before ++ whole_line l ∷ [] =
+    ap (λ n. whole_lines n text) next ∙ ap (map whole_line) k.0 ∙ map-append whole_line (take i (lines text)) (l ∷ []) in
     let so_far = flat_map line_text before in
     let split = split_text i text rest h hr left in
     let plain : map code_byte line ≡ line = code_bytes line hl in
     let is_rest : rest ≡ line ++ (ending_text ending ++ after) =
-    sym (bytes_of_lines rest hr) ∙ ap bytes one ∙ ap (λ x. (x ++ ending_text ending) ++ bytes (lines after)) plain ∙ ap (λ x. (line ++ ending_text ending) ++ x) (bytes_of_lines after ha)
+    sym (bytes_of_lines rest hr) ∙ ap bytes one ∙ ap (λ x. (x ++ ending_text ending) ++ bytes (lines after)) plain
+    ∙ ap (λ x. (line ++ ending_text ending) ++ x) (bytes_of_lines after ha)
     ∙ append_assoc line (ending_text ending) after in
     let seam : text ≡ (so_far ++ line) ++ (ending_text ending ++ after) =
     split ∙ ap (λ x. so_far ++ x) is_rest ∙ sym (append_assoc so_far line (ending_text ending ++ after)) in
     let content : content_text (whole_lines (i + 1) text) ≡ so_far ++ line =
-    ap content_text more ∙ lines_more (map code_byte) before (whole_line l) ∙ ap (λ x. x ++ map code_byte line) (sym (with_last_ending (map code_byte) before)) ∙ ap (λ x. so_far ++ x) plain in
+    ap content_text more ∙ lines_more (map code_byte) before (whole_line l) ∙ ap (λ x. x ++ map code_byte line) (sym (with_last_ending (map code_byte) before))
+    ∙ ap (λ x. so_far ++ x) plain in
     let size : length (so_far ++ line) ≡ length text - length rest + length line =
     let a = ap length split in let b = length-append so_far rest in let d = length-append so_far line in omega (arith, a, b, d) in (
       record {
-        same = ap (λ n. take n text) (sym size) ∙ ap (take (length (so_far ++ line))) seam ∙ take_at (so_far ++ line) (ending_text ending ++ after) (length (so_far ++ line)) refl ∙ sym content;
-        boundary = subst (IsCharBoundary text) size (IsCharBoundary-at_seam text (so_far ++ line) (ending_text ending ++ after) seam (IsUtf8-append (ending_text ending) after (ending_utf8 ending) u));
+        same = ap (λ n. take n text) (sym size) ∙ ap (take (length (so_far ++ line))) seam
+            ∙ take_at (so_far ++ line) (ending_text ending ++ after) (length (so_far ++ line)) refl ∙ sym content;
+        boundary =
+            subst (IsCharBoundary text) size (IsCharBoundary-at_seam text (so_far ++ line) (ending_text ending ++ after) seam
+            (IsUtf8-append (ending_text ending) after (ending_utf8 ending) u));
       },
       sym (ap (λ n. drop n (lines text)) next ∙ k.1),
     )

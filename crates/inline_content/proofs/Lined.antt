@@ -1,6 +1,7 @@
 -- The content of lines, line by line.
-use Rattle.std.proofs.Common.{◌≡◌, ℕ, ◌+◌, ◌<◌, Bool, true, false, eqb, List, [], ◌∷◌, ◌++◌, Option, None, Some, refl, sym, ap, ◌∙◌, get_or, length, append_assoc, subst, arith, inl, inr, ◌||◌}
-use Rattle.std.specs.Prelude.{map}
+use Rattle.std.proofs.Common.{◌≡◌, ℕ, ◌+◌, ◌<◌, Bool, true, false, eqb, List, [], ◌∷◌, ◌++◌, Option, None, Some, refl, sym, ap, ◌∙◌, get_or, length}
+use Rattle.std.proofs.Common.{append_assoc, subst, arith, inl, inr, ◌||◌}
+use Rattle.std.specs.Prelude.{map, replicate}
 use Rattle.std.specs.List.{flat_map}
 use Rattle.std.proofs.lemmas.Bool.{cases_Bool, cond-true, cond-false, or_parts, eq-eqb, ne_eqb, true≢false}
 use Rattle.std.proofs.lemmas.List.{append-nil, length-append, map-append}
@@ -13,14 +14,17 @@ use Rattle.definition_text.specs.Lines.{ending_text}
 use Rattle.definition_text.specs.Columns.{code_byte}
 use Rattle.definition_text.specs.BlockLines.{BlockLine, own_lines}
 use Rattle.definition_text.specs.Content.{is_eol, line_ending_code, ending_code, content_codes, content_of, content_text, line_text}
+use Rattle.block_rows.specs.declared.row.Piece.{Piece}
 use Rattle.block_rows.specs.ParagraphLines.{HaveNoEnding, AreLines}
+use Rattle.block_rows.specs.Rows.{piece_lines}
+use Rattle.definition_text.proofs.CodeBytes.{owed_bytes}
 use Rattle.definition_text.specs.InlineCode.{InlineCode, with_kinds, inline_content, inline_code, first_kind, next_kind}
 use Rattle.definition_text.proofs.ContentBytes.{codes_in_line}
 use Rattle.inline_links.proofs.Cuts.{first_code}
 use Rattle.block_definitions.proofs.Contents.{in_line}
 use Rattle.inline_content.specs.declared.mark.Mark.{Mark}
 use Rattle.inline_content.specs.Marks.{kind_at}
-use Rattle.inline_content.specs.View.{width, line_left, kind_after, kind_before, previous_after, view_from, marked}
+use Rattle.inline_content.specs.View.{width, line_rest, kind_after, kind_before, previous_after, view_from, codes_with_marks}
 use Rattle.inline_content.specs.Lines.{mark_of, marks_of, AreContentLines}
 
 -- lines without an ending in them; all but the last have one, and no CR stands before an LF
@@ -28,7 +32,8 @@ abbrev pub AreApart : List BlockLine → Type 0
 AreApart [] = Unit {0}
 AreApart (line ∷ []) = HaveNoEnding line.codes
 AreApart (line ∷ next ∷ others) =
-    HaveNoEnding line.codes × ((e : LineEnding) × (line.ending ≡ Some e) × (e ≡ CarriageReturn → get_or (content_text (next ∷ others)) 0 0 ≡ 10 → ⊥)) × AreApart (next ∷ others)
+    HaveNoEnding line.codes × ((e : LineEnding) × (line.ending ≡ Some e) × (e ≡ CarriageReturn → get_or (content_text (next ∷ others)) 0 0 ≡ 10 → ⊥))
+    × AreApart (next ∷ others)
 
 -- ---- codes of a line
 
@@ -62,7 +67,8 @@ one_byte c h = cond-false (eqb c 257) 2 1 (or_parts (eqb c 10 || eqb c 13) (eqb 
 
 -- ---- the codes of the bytes
 
-ended_codes : (e : LineEnding) (xs : List ℕ) → (e ≡ CarriageReturn → get_or xs 0 0 ≡ 10 → ⊥) → content_codes (ending_bytes e ++ xs) ≡ line_ending_code e ∷ content_codes xs
+ended_codes : (e : LineEnding) (xs : List ℕ) → (e ≡ CarriageReturn → get_or xs 0 0 ≡ 10 → ⊥)
+    → content_codes (ending_bytes e ++ xs) ≡ line_ending_code e ∷ content_codes xs
 ended_codes LineFeed xs h = refl
 ended_codes CarriageReturn xs h = first_code 13 xs (λ _. h refl)
 ended_codes CarriageReturnLineFeed xs h = refl
@@ -98,13 +104,13 @@ apart_codes (line ∷ next ∷ others) h =
 
 -- ---- what stands beside the codes of lines
 
-left_all : (cs : List ℕ) → HaveNoEnding cs → line_left cs ≡ cs
+left_all : (cs : List ℕ) → HaveNoEnding cs → line_rest cs ≡ cs
 left_all [] h = refl
-left_all (c ∷ cs) h = ap (λ l. c ∷ l) (cond-false (is_eol c) [] (line_left cs) h.0 ∙ left_all cs h.1)
+left_all (c ∷ cs) h = ap (λ l. c ∷ l) (cond-false (is_eol c) [] (line_rest cs) h.0 ∙ left_all cs h.1)
 
-left_line : (cs : List ℕ) (e : ℕ) (rest : List ℕ) → HaveNoEnding cs → is_eol e ≡ true → line_left (cs ++ e ∷ rest) ≡ cs ++ e ∷ []
-left_line [] e rest h is = ap (λ l. e ∷ l) (cond-true (is_eol e) [] (line_left rest) is)
-left_line (c ∷ cs) e rest h is = ap (λ l. c ∷ l) (cond-false (is_eol c) [] (line_left (cs ++ e ∷ rest)) h.0 ∙ left_line cs e rest h.1 is)
+left_line : (cs : List ℕ) (e : ℕ) (rest : List ℕ) → HaveNoEnding cs → is_eol e ≡ true → line_rest (cs ++ e ∷ rest) ≡ cs ++ e ∷ []
+left_line [] e rest h is = ap (λ l. e ∷ l) (cond-true (is_eol e) [] (line_rest rest) is)
+left_line (c ∷ cs) e rest h is = ap (λ l. c ∷ l) (cond-false (is_eol c) [] (line_rest (cs ++ e ∷ rest)) h.0 ∙ left_line cs e rest h.1 is)
 
 module _ (p : ℕ → Bool) (marks : List Mark) where
   -- the marks are those of lines from a place on
@@ -127,12 +133,13 @@ module _ (p : ℕ → Bool) (end : Kind) (marks : List Mark) where
 
   line_view : (place : ℕ) (previous : Option ℕ) (before : Kind) (cs : List ℕ) (e : ℕ) (rest : List ℕ) → HaveNoEnding cs → is_eol e ≡ true
       → view_from p end marks place previous before (cs ++ e ∷ rest)
-      ≡ with_kinds p previous before end (cs ++ e ∷ []) ++ view_from p end marks (place + (length cs + width e)) None (kind_at marks (place + (length cs + width e))) rest
+      ≡ with_kinds p previous before end (cs ++ e ∷ []) ++ view_from p end marks (place + (length cs + width e)) None
+      (kind_at marks (place + (length cs + width e))) rest
   line_view place previous before [] e rest h is =
       let next = place + width e in
       let here = inline_code e previous before in
       let n : next ≡ place + (0 + width e) = omega arith in
-      ap (λ k. here k ∷ view_from p end marks next (previous_after e) (kind_before p marks next before e (line_left rest)) rest) (cond-true (is_eol e) _ _ is)
+      ap (λ k. here k ∷ view_from p end marks next (previous_after e) (kind_before p marks next before e (line_rest rest)) rest) (cond-true (is_eol e) _ _ is)
       ∙ ap (λ k. here end ∷ view_from p end marks next (previous_after e) k rest) (cond-true (is_eol e) _ _ is)
       ∙ ap (λ o. here end ∷ view_from p end marks next o (kind_at marks next) rest) (cond-true (is_eol e) None (Some e) is)
       ∙ ap (λ m. here end ∷ view_from p end marks m None (kind_at marks m) rest) n
@@ -141,12 +148,16 @@ module _ (p : ℕ → Bool) (end : Kind) (marks : List Mark) where
       let line = cs ++ e ∷ [] in
       let here = inline_code c previous before in
       let n : next + (length cs + width e) ≡ place + (length (c ∷ cs) + width e) = let one = one_byte c h.0 in omega (arith, one) in
-      ap (λ l. here (kind_after p end c l) ∷ view_from p end marks next (previous_after c) (kind_before p marks next before c l) (cs ++ e ∷ rest)) (left_line cs e rest h.1 is)
-      ∙ ap (λ k. here k ∷ view_from p end marks next (previous_after c) (kind_before p marks next before c line) (cs ++ e ∷ rest)) (cond-false (is_eol c) _ _ h.0)
+      ap (λ l. here (kind_after p end c l) ∷ view_from p end marks next (previous_after c) (kind_before p marks next before c l) (cs ++ e ∷ rest))
+      (left_line cs e rest h.1 is)
+      ∙ ap (λ k. here k ∷ view_from p end marks next (previous_after c) (kind_before p marks next before c line) (cs ++ e ∷ rest))
+      (cond-false (is_eol c) _ _ h.0)
       ∙ ap (λ k. here (first_kind p end line) ∷ view_from p end marks next (previous_after c) k (cs ++ e ∷ rest)) (cond-false (is_eol c) _ _ h.0)
-      ∙ ap (λ o. here (first_kind p end line) ∷ view_from p end marks next o (next_kind p before (c ∷ line)) (cs ++ e ∷ rest)) (cond-false (is_eol c) None (Some c) h.0)
+      ∙ ap (λ o. here (first_kind p end line) ∷ view_from p end marks next o (next_kind p before (c ∷ line)) (cs ++ e ∷ rest))
+      (cond-false (is_eol c) None (Some c) h.0)
       ∙ ap (λ l. here (first_kind p end line) ∷ l) (line_view next (Some c) (next_kind p before (c ∷ line)) cs e rest h.1 is)
-      ∙ ap (λ m. here (first_kind p end line) ∷ (with_kinds p (Some c) (next_kind p before (c ∷ line)) end line ++ view_from p end marks m None (kind_at marks m) rest)) n
+      ∙ ap (λ m. here (first_kind p end line) ∷ (with_kinds p (Some c) (next_kind p before (c ∷ line)) end line
+      ++ view_from p end marks m None (kind_at marks m) rest)) n
 
   lines_view : (place : ℕ) (ls : List BlockLine) → AreApart ls → Agree p marks place ls
       → view_from p end marks place None (kind_at marks place) (map code_byte (content_of (own_lines ls))) ≡ inline_content p end (own_lines ls)
@@ -162,9 +173,11 @@ module _ (p : ℕ → Bool) (end : Kind) (marks : List Mark) where
       let bytes = map code_byte line.codes in
       let rest = map code_byte (content_of (own_lines (next ∷ others))) in
       let size : place + (length bytes + width (line_ending_code e)) ≡ place + length (line_text line) =
-      let w = ending_width e in let l = length-append bytes (ending_text line.ending) in let t = ap (λ o. length (ending_text o)) h.1.1 in omega (arith, w, l, t) in
+      let w = ending_width e in let l = length-append bytes (ending_text line.ending) in let t = ap (λ o. length (ending_text o)) h.1.1 in
+      omega (arith, w, l, t) in
       let own : map code_byte (line.codes ++ ending_code line.ending) ≡ bytes ++ line_ending_code e ∷ [] =
-      ap (λ o. map code_byte (line.codes ++ ending_code o)) h.1.1 ∙ map-append code_byte line.codes (ending_code (Some e)) ∙ ap (λ l. bytes ++ l) (ending_byte e) in
+      ap (λ o. map code_byte (line.codes ++ ending_code o)) h.1.1 ∙ map-append code_byte line.codes (ending_code (Some e))
+      ∙ ap (λ l. bytes ++ l) (ending_byte e) in
       let here : List ℕ → List InlineCode = with_kinds p None line.before end in
       ap (view_from p end marks place None (kind_at marks place)) (line_before line.codes (content_of (own_lines (next ∷ others))) line.ending e h.1.1)
       ∙ ap (λ b. view_from p end marks place None b (bytes ++ line_ending_code e ∷ rest)) k.0
@@ -174,7 +187,8 @@ module _ (p : ℕ → Bool) (end : Kind) (marks : List Mark) where
       ∙ ap (λ l. here l ++ inline_content p end (own_lines (next ∷ others))) (sym own)
 
   -- the content of lines
-  pub content_is : (ls : List BlockLine) → AreApart ls → Agree p marks 0 ls → marked p end marks (content_text ls) ≡ inline_content p end (own_lines ls)
+  pub content_is : (ls : List BlockLine) → AreApart ls → Agree p marks 0 ls
+      → codes_with_marks p end marks (content_text ls) ≡ inline_content p end (own_lines ls)
   content_is ls h k = ap (view_from p end marks 0 None (kind_at marks 0)) (apart_codes ls h) ∙ lines_view 0 ls h k
 
 -- ---- lines that are apart
@@ -186,7 +200,8 @@ some_head : (codes rest : List ℕ) → HaveNoEnding codes → 0 < length codes 
 some_head [] rest h some e = omega (arith, some)
 some_head (c ∷ cs) rest h some e = head_clear c h.0 e
 
-head_of_lines : (line : BlockLine) (others : List BlockLine) → HaveNoEnding line.codes → 0 < length line.codes → get_or (content_text (line ∷ others)) 0 0 ≡ 10 → ⊥
+head_of_lines : (line : BlockLine) (others : List BlockLine) → HaveNoEnding line.codes → 0 < length line.codes → get_or (content_text (line ∷ others)) 0 0 ≡ 10
+    → ⊥
 head_of_lines line [] h some e = some_head line.codes [] h some (ap (λ l. get_or l 0 0) (sym (append-nil (map code_byte line.codes ++ []))) ∙ e)
 head_of_lines line (next ∷ others) h some e =
     some_head line.codes (ending_text line.ending ++ content_text (next ∷ others)) h some
@@ -232,7 +247,8 @@ mark_later place at Other ms h = cond-false (eqb at place) _ _ (ne_eqb at place 
 lines_later : (place at : ℕ) (ls : List BlockLine) → place < at → kind_at (marks_of at ls) place ≡ Whitespace
 lines_later place at [] h = refl
 lines_later place at (line ∷ others) h =
-    mark_later place at line.before (marks_of (at + length (line_text line)) others) h ∙ lines_later place (at + length (line_text line)) others (omega (arith, h))
+    mark_later place at line.before (marks_of (at + length (line_text line)) others) h
+    ∙ lines_later place (at + length (line_text line)) others (omega (arith, h))
 
 mark_here : (place : ℕ) (k : Kind) (ms : List Mark) → kind_at ms place ≡ Whitespace → kind_at (mark_of place k ++ ms) place ≡ k
 mark_here place Whitespace ms h = h
@@ -250,7 +266,8 @@ ended_some bytes o e h =
     ending_some CarriageReturn = omega arith
     ending_some CarriageReturnLineFeed = omega arith
 
-agree_from : (p : ℕ → Bool) (before : List Mark) (place : ℕ) (ls : List BlockLine) → Below place before → AreApart ls → Agree p (before ++ marks_of place ls) place ls
+agree_from : (p : ℕ → Bool) (before : List Mark) (place : ℕ) (ls : List BlockLine) → Below place before → AreApart ls
+    → Agree p (before ++ marks_of place ls) place ls
 agree_from p before place [] b h = tt
 agree_from p before place (line ∷ []) b h =
     (passed place before (marks_of place (line ∷ [])) b ∙ mark_here place line.before [] refl, tt)
@@ -258,7 +275,8 @@ agree_from p before place (line ∷ next ∷ others) b h =
     let more = length (line_text line) in
     let rest = marks_of (place + more) (next ∷ others) in
     let some = ended_some (map code_byte line.codes) line.ending h.1.0 h.1.1 in (
-      passed place before (mark_of place line.before ++ rest) b ∙ mark_here place line.before rest (lines_later place (place + more) (next ∷ others) (omega (arith, some))),
+      passed place before (mark_of place line.before ++ rest) b ∙ mark_here place line.before rest
+          (lines_later place (place + more) (next ∷ others) (omega (arith, some))),
       subst (λ ms. Agree p ms (place + more) (next ∷ others)) (append_assoc before (mark_of place line.before) rest)
           (agree_from p (before ++ mark_of place line.before) (place + more) (next ∷ others) (below_more place more before line.before some b) h.2),
     )
@@ -268,10 +286,34 @@ lines_agree p ls h = agree_from p [] 0 ls tt h
 
 -- ---- one more line
 
-pub marks_more : (place : ℕ) (ls : List BlockLine) (l : BlockLine) → marks_of place (ls ++ l ∷ []) ≡ marks_of place ls ++ mark_of (place + length (flat_map line_text ls)) l.before
+pub marks_more : (place : ℕ) (ls : List BlockLine) (l : BlockLine) → marks_of place (ls ++ l ∷ [])
+    ≡ marks_of place ls ++ mark_of (place + length (flat_map line_text ls)) l.before
 marks_more place [] l = append-nil (mark_of place l.before) ∙ ap (λ n. mark_of n l.before) (omega arith)
 marks_more place (line ∷ others) l =
     let more = length (line_text line) in
-    let n : place + more + length (flat_map line_text others) ≡ place + length (flat_map line_text (line ∷ others)) = let e = length-append (line_text line) (flat_map line_text others) in omega (arith, e) in
+    let n : place + more + length (flat_map line_text others) ≡ place + length (flat_map line_text (line ∷ others)) = let e =
+    length-append (line_text line) (flat_map line_text others) in omega (arith, e) in
     ap (λ ms. mark_of place line.before ++ ms) (marks_more (place + more) others l ∙ ap (λ m. marks_of (place + more) others ++ mark_of m l.before) n)
     ∙ sym (append_assoc (mark_of place line.before) (marks_of (place + more) others) (mark_of (place + length (flat_map line_text (line ∷ others))) l.before))
+
+-- ---- one line that is its own content
+
+own_content : (p : ℕ → Bool) (end : Kind) (piece : Piece) → ((k : ℕ) → get_or piece.text.now k 0 < 256) → piece.before ≡ Whitespace → piece.owed ≡ 0
+    → AreContentLines (piece_lines (piece ∷ [])) → codes_with_marks p end [] piece.text.now ≡ inline_content p end (own_lines (piece_lines (piece ∷ [])))
+own_content p end piece bytes white none h =
+    let ls = piece_lines (piece ∷ []) in
+    let apart = content_lines_apart ls h in
+    let text : content_text ls ≡ piece.text.now =
+    append-nil _ ∙ append-nil _ ∙ owed_bytes piece.owed piece.text.now bytes ∙ ap (λ n. replicate n 32 ++ piece.text.now) none in
+    let marks : marks_of 0 ls ≡ [] = ap (λ k. mark_of 0 k ++ []) white in
+    sym (ap (codes_with_marks p end []) text)
+    ∙ sym (ap (λ ms. codes_with_marks p end ms (content_text ls)) marks)
+    ∙ content_is p end (marks_of 0 ls) ls apart (lines_agree p ls apart)
+
+pub one_line : (p : ℕ → Bool) (end : Kind) (pieces : List Piece) (none : Piece)
+    → ((k : ℕ) → get_or (get_or pieces 0 none).text.now k 0 < 256) → length pieces ≡ 1
+    → (get_or pieces 0 none).before ≡ Whitespace → (get_or pieces 0 none).owed ≡ 0
+    → AreContentLines (piece_lines pieces) → codes_with_marks p end [] (get_or pieces 0 none).text.now ≡ inline_content p end (own_lines (piece_lines pieces))
+one_line p end [] none bytes one white owes h = absurd (omega (arith, one))
+one_line p end (piece ∷ []) none bytes one white owes h = own_content p end piece bytes white owes h
+one_line p end (piece ∷ next ∷ others) none bytes one white owes h = absurd (omega (arith, one))

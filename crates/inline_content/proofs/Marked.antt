@@ -23,7 +23,8 @@ kind_found (m ∷ ms) place (suc n) d before lt is =
     kind_found ms place n d (λ k l. before (suc k) (omega (arith, l))) (omega (arith, lt)) is
     ∙ sym (cond-false (eqb m.place place) _ _ (ne_eqb m.place place (λ e. omega (arith, e, less))))
 
-pub kind_none : (marks : List Mark) (place : ℕ) (d : Mark) → ((k : ℕ) → k < length marks → (get_or marks k d).place ≡ place → ⊥) → Whitespace ≡ kind_at marks place
+pub kind_none : (marks : List Mark) (place : ℕ) (d : Mark) → ((k : ℕ) → k < length marks → (get_or marks k d).place ≡ place → ⊥)
+    → Whitespace ≡ kind_at marks place
 kind_none [] place d apart = refl
 kind_none (m ∷ ms) place d apart =
     kind_none ms place d (λ k lt. apart (suc k) (omega (arith, lt))) ∙ sym (cond-false (eqb m.place place) _ _ (ne_eqb m.place place (apart 0 (omega arith))))

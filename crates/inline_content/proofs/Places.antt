@@ -1,5 +1,6 @@
 -- The codes of a content before a place, and after it.
-use Rattle.std.proofs.Common.{◌≡◌, ℕ, zero, suc, ◌+◌, ◌<◌, ◌≤◌, Bool, true, false, eqb, List, [], ◌∷◌, ◌++◌, inl, inr, refl, sym, ap, ◌∙◌, get_or, length, take, drop, subst, arith, ◌⊎◌}
+use Rattle.std.proofs.Common.{◌≡◌, ℕ, zero, suc, ◌+◌, ◌<◌, ◌≤◌, Bool, true, false, eqb, List, [], ◌∷◌, ◌++◌, inl, inr, refl, sym, ap, ◌∙◌, get_or, length, take}
+use Rattle.std.proofs.Common.{drop, subst, arith, ◌⊎◌}
 use Rattle.std.specs.Char.{encode_utf8}
 use Rattle.std.proofs.lemmas.Bool.{cases_Bool, cases_eq, cond-true, cond-false, eqb-true, ne_eqb, or_cases, true≢false}
 use Rattle.std.proofs.lemmas.List.{append-nil, take_at, drop_at, get_or_at, length-append, drop-drop}
@@ -12,7 +13,7 @@ use Rattle.inline_links.specs.Codes.{IsCut}
 use Rattle.inline_links.proofs.Cuts.{cut_at, two_bytes}
 use Rattle.inline_content.specs.declared.mark.Mark.{Mark}
 use Rattle.inline_content.specs.Marks.{kind_at}
-use Rattle.inline_content.specs.View.{width, line_left, kind_between}
+use Rattle.inline_content.specs.View.{width, line_rest, kind_between}
 use Rattle.inline_content.proofs.Views.{widths, widths_append, between_append, between_ending}
 use Rattle.inline_content.proofs.Characters.{spelled, between_character, kind_ahead}
 
@@ -138,26 +139,32 @@ ends_with_feed (z ∷ w ∷ ws) =
 -- ---- the kinds beside a place
 
 module _ (p : ℕ → Bool) (marks : List Mark) where
-  after_ending : (front cs : List ℕ) (place : ℕ) → EndsLine front → widths front ≡ place → kind_at marks place ≡ kind_between p marks 0 (kind_at marks 0) front cs
+  after_ending : (front cs : List ℕ) (place : ℕ) → EndsLine front → widths front ≡ place
+      → kind_at marks place ≡ kind_between p marks 0 (kind_at marks 0) front cs
   after_ending front cs place h w =
-      let same : widths h.front + width h.ending ≡ place = let e = widths_append h.front (h.ending ∷ []) in let f = ap widths h.same in omega (arith, e, f, w) in
+      let same : widths h.front + width h.ending ≡ place = let e = widths_append h.front (h.ending ∷ []) in let f = ap widths h.same in
+      omega (arith, e, f, w) in
       let n : 0 + (widths h.front + width h.ending) ≡ place = omega (arith, same) in
-      sym (ap (λ x. kind_between p marks 0 (kind_at marks 0) x cs) h.same ∙ between_ending p marks 0 (kind_at marks 0) h.front h.ending cs h.is ∙ ap (kind_at marks) n)
+      sym (ap (λ x. kind_between p marks 0 (kind_at marks 0) x cs) h.same ∙ between_ending p marks 0 (kind_at marks 0) h.front h.ending cs h.is
+      ∙ ap (kind_at marks) n)
 
   -- at the start of the content
-  pub place_none : (xs cs : List ℕ) (place : ℕ) → length xs ≡ 0 → length xs ≡ place → kind_at marks place ≡ kind_between p marks 0 (kind_at marks 0) (content_codes xs) cs
+  pub place_none : (xs cs : List ℕ) (place : ℕ) → length xs ≡ 0 → length xs ≡ place
+      → kind_at marks place ≡ kind_between p marks 0 (kind_at marks 0) (content_codes xs) cs
   place_none [] cs place h w = ap (kind_at marks) (sym w)
   place_none (x ∷ xs) cs place h w = absurd (omega (arith, h))
 
   place_feed : (xs zs cs : List ℕ) (place : ℕ) → xs ≡ zs ++ encode_utf8 10 → ((k : ℕ) → get_or xs k 0 < 256) → length xs ≡ place
       → kind_at marks place ≡ kind_between p marks 0 (kind_at marks 0) (content_codes xs) cs
   unfolding encode_utf8
-  place_feed xs zs cs place e bytes w = after_ending (content_codes xs) cs place (subst (λ l. EndsLine (content_codes l)) (sym e) (ends_with_feed zs)) (all_widths xs bytes ∙ w)
+  place_feed xs zs cs place e bytes w =
+      after_ending (content_codes xs) cs place (subst (λ l. EndsLine (content_codes l)) (sym e) (ends_with_feed zs)) (all_widths xs bytes ∙ w)
 
   place_return : (xs zs cs : List ℕ) (place : ℕ) → xs ≡ zs ++ encode_utf8 13 → ((k : ℕ) → get_or xs k 0 < 256) → length xs ≡ place
       → kind_at marks place ≡ kind_between p marks 0 (kind_at marks 0) (content_codes xs) cs
   unfolding encode_utf8
-  place_return xs zs cs place e bytes w = after_ending (content_codes xs) cs place (subst (λ l. EndsLine (content_codes l)) (sym e) (ends_with_return zs)) (all_widths xs bytes ∙ w)
+  place_return xs zs cs place e bytes w =
+      after_ending (content_codes xs) cs place (subst (λ l. EndsLine (content_codes l)) (sym e) (ends_with_return zs)) (all_widths xs bytes ∙ w)
 
   pub place_ending : (xs zs cs : List ℕ) (c place : ℕ) → xs ≡ zs ++ encode_utf8 c → (c ≡ 10) ⊎ (c ≡ 13) → ((k : ℕ) → get_or xs k 0 < 256) → length xs ≡ place
       → kind_at marks place ≡ kind_between p marks 0 (kind_at marks 0) (content_codes xs) cs
@@ -171,33 +178,35 @@ module _ (p : ℕ → Bool) (marks : List Mark) where
       (ap (λ l. kind_between p marks 0 (kind_at marks 0) (content_codes l) cs) e
       ∙ ap (λ l. kind_between p marks 0 (kind_at marks 0) l cs) (before_character c zs small h)
       ∙ between_append p marks 0 (kind_at marks 0) (content_codes zs) (encode_utf8 c) cs
-      ∙ between_character p marks (0 + widths (content_codes zs)) (kind_between p marks 0 (kind_at marks 0) (content_codes zs) (encode_utf8 c ++ cs)) c cs small h)
+      ∙ between_character p marks (0 + widths (content_codes zs)) (kind_between p marks 0 (kind_at marks 0) (content_codes zs) (encode_utf8 c ++ cs)) c cs small
+      h)
 
 -- the kind of the character that a rest begins with
 pub rest_kind : (p : ℕ → Bool) (end : Kind) (rest others : List ℕ) (c : ℕ) → rest ≡ encode_utf8 c ++ others → c < 2097152
-    → character_kind p c ≡ first_kind p end (line_left (content_codes rest))
+    → character_kind p c ≡ first_kind p end (line_rest (content_codes rest))
 unfolding encode_utf8
 rest_kind p end rest others c e small = elim (cases_Bool (ends_line c)) [
   | inl h ↦ elim (or_cases (eqb c 10) (eqb c 13) h) [
     | inl f ↦
         let ten = eqb-true c 10 f in
-        ap (character_kind p) ten ∙ sym (ap (λ l. first_kind p end (line_left (content_codes l))) (e ∙ ap (λ x. encode_utf8 x ++ others) ten))
+        ap (character_kind p) ten ∙ sym (ap (λ l. first_kind p end (line_rest (content_codes l))) (e ∙ ap (λ x. encode_utf8 x ++ others) ten))
     | inr r ↦
         let thirteen = eqb-true c 13 r in
-        ap (character_kind p) thirteen ∙ sym (ap (λ l. first_kind p end (line_left (content_codes l))) (e ∙ ap (λ x. encode_utf8 x ++ others) thirteen) ∙ at_return p others)
+        ap (character_kind p) thirteen ∙ sym (ap (λ l. first_kind p end (line_rest (content_codes l))) (e ∙ ap (λ x. encode_utf8 x ++ others) thirteen)
+        ∙ at_return p others)
   ]
   | inr h ↦
       sym
-      (ap (λ l. first_kind p end (line_left (content_codes l))) e
-      ∙ ap (λ l. first_kind p end (line_left l)) (character_codes c others small h)
+      (ap (λ l. first_kind p end (line_rest (content_codes l))) e
+      ∙ ap (λ l. first_kind p end (line_rest l)) (character_codes c others small h)
       ∙ kind_ahead p end c (content_codes others) small h)
 ]
   where
-    at_return : (p : ℕ → Bool) (bs : List ℕ) → first_kind p end (line_left (content_codes (13 ∷ bs))) ≡ Whitespace
+    at_return : (p : ℕ → Bool) (bs : List ℕ) → first_kind p end (line_rest (content_codes (13 ∷ bs))) ≡ Whitespace
     at_return p [] = refl
     at_return p (b ∷ bs) = elim (cases_Bool (eqb b 10)) [
-      | inl f ↦ ap (λ l. first_kind p end (line_left l)) (cond-true (eqb b 10) _ _ f)
-      | inr n ↦ ap (λ l. first_kind p end (line_left l)) (cond-false (eqb b 10) _ _ n)
+      | inl f ↦ ap (λ l. first_kind p end (line_rest l)) (cond-true (eqb b 10) _ _ f)
+      | inr n ↦ ap (λ l. first_kind p end (line_rest l)) (cond-false (eqb b 10) _ _ n)
     ]
 
 -- ---- a rest of a content
@@ -225,7 +234,13 @@ split_codes (z ∷ zs) y ys =
             let two = two_bytes all at (omega (arith, size)) r feed in
             let past : at + 2 ≡ n + 1 = omega arith in
             let left : drop (at + 2) all ≡ ys = ap (λ k. drop k all) past ∙ sym (drop-drop 1 n all) ∙ ap (drop 1) (drop_at (z ∷ zs) (y ∷ ys) n refl) in
-            inr (content_codes (take at all), content_codes ys, cut_before_return all at r ∙ ap (λ cs. content_codes (take at all) ++ cs) (two ∙ ap (λ l. 257 ∷ content_codes l) left), ap length (plain_code y ys (λ e. omega (arith, e, f))))
+            inr (
+              content_codes (take at all),
+              content_codes ys,
+              cut_before_return all at r
+                  ∙ ap (λ cs. content_codes (take at all) ++ cs) (two ∙ ap (λ l. 257 ∷ content_codes l) left),
+              ap length (plain_code y ys (λ e. omega (arith, e, f))),
+            )
         | inr apart ↦ inl (codes_append (z ∷ zs) y ys apart)
       ]
       | inr other ↦

@@ -1,5 +1,6 @@
 -- The code before a place in its line.
-use Rattle.std.proofs.Common.{◌≡◌, ℕ, zero, suc, ◌-◌, ◌<◌, ◌≤◌, ◌||◌, false, List, [], ◌∷◌, ◌++◌, Option, None, Some, eqb, refl, sym, ap, ◌∙◌, get_or, length, take, arith, subst, inl, inr, ◌⊎◌}
+use Rattle.std.proofs.Common.{◌≡◌, ℕ, zero, suc, ◌-◌, ◌<◌, ◌≤◌, ◌||◌, false, List, [], ◌∷◌, ◌++◌, Option, None, Some, eqb, refl, sym, ap, ◌∙◌, get_or, length}
+use Rattle.std.proofs.Common.{take, arith, subst, inl, inr, ◌⊎◌}
 use Rattle.std.proofs.lemmas.Bool.{cond-true, cond-false, ne_eqb, or_from}
 use Rattle.std.proofs.Math.Seq.{take-suc}
 use Rattle.definition_text.specs.Content.{is_eol, content_codes}
@@ -25,11 +26,14 @@ pub none_first : (n : ℕ) (xs : List ℕ) → n ≡ 0 → None ≡ previous_fro
 none_first n xs none = sym (ap (λ k. previous_from None (content_codes (take k xs))) none)
 
 -- after an ending
-pub none_after : (n : ℕ) (xs : List ℕ) → 0 < n → n ≤ length xs → (get_or xs (n - 1) 0 ≡ 10) ⊎ (get_or xs (n - 1) 0 ≡ 13) → None ≡ previous_from None (content_codes (take n xs))
+pub none_after : (n : ℕ) (xs : List ℕ) → 0 < n → n ≤ length xs → (get_or xs (n - 1) 0 ≡ 10) ⊎ (get_or xs (n - 1) 0 ≡ 13)
+    → None ≡ previous_from None (content_codes (take n xs))
 none_after n xs some le (inl feed) =
-    after_line (content_codes (take n xs)) (subst (λ l. EndsLine (content_codes l)) (sym (last_byte n xs some le ∙ ap (λ b. take (n - 1) xs ++ b ∷ []) feed)) (ends_with_feed (take (n - 1) xs)))
+    after_line (content_codes (take n xs)) (subst (λ l. EndsLine (content_codes l)) (sym (last_byte n xs some le ∙ ap (λ b. take (n - 1) xs ++ b ∷ []) feed))
+    (ends_with_feed (take (n - 1) xs)))
 none_after n xs some le (inr return) =
-    after_line (content_codes (take n xs)) (subst (λ l. EndsLine (content_codes l)) (sym (last_byte n xs some le ∙ ap (λ b. take (n - 1) xs ++ b ∷ []) return)) (ends_with_return (take (n - 1) xs)))
+    after_line (content_codes (take n xs)) (subst (λ l. EndsLine (content_codes l)) (sym (last_byte n xs some le ∙ ap (λ b. take (n - 1) xs ++ b ∷ []) return))
+    (ends_with_return (take (n - 1) xs)))
 
 -- after another byte
 pub some_after : (n : ℕ) (xs : List ℕ) → 0 < n → n ≤ length xs → get_or xs (n - 1) 0 < 256 → (get_or xs (n - 1) 0 ≡ 10 → ⊥) → (get_or xs (n - 1) 0 ≡ 13 → ⊥)
@@ -37,7 +41,8 @@ pub some_after : (n : ℕ) (xs : List ℕ) → 0 < n → n ≤ length xs → get
 some_after n xs some le small feed return =
     let b = get_or xs (n - 1) 0 in
     let front = take (n - 1) xs in
-    let apart : is_eol b ≡ false = or_from (eqb b 10 || eqb b 13) (eqb b 257) (or_from (eqb b 10) (eqb b 13) (ne_eqb b 10 feed) (ne_eqb b 13 return)) (ne_eqb b 257 (λ e. omega (arith, e, small))) in
+    let apart : is_eol b ≡ false = or_from (eqb b 10 || eqb b 13) (eqb b 257) (or_from (eqb b 10) (eqb b 13) (ne_eqb b 10 feed) (ne_eqb b 13 return))
+    (ne_eqb b 257 (λ e. omega (arith, e, small))) in
     sym
     (ap (λ l. previous_from None (content_codes l)) (last_byte n xs some le)
     ∙ ap (previous_from None) (codes_append front b [] feed ∙ ap (λ cs. content_codes front ++ cs) (cond-false (eqb b 13) _ _ (ne_eqb b 13 return)))

@@ -1,5 +1,6 @@
 -- The run that a rest of a content begins with.
-use Rattle.std.proofs.Common.{◌≡◌, ℕ, zero, suc, ◌+◌, ◌-◌, ◌<◌, ◌≤◌, Bool, true, false, cond, eqb, ◌==◌, ◌||◌, ◌&&◌, ◌⊎◌, List, [], ◌∷◌, ◌++◌, Option, None, Some, inl, inr, refl, sym, ap, ◌∙◌, get_or, length, take, drop, subst, arith}
+use Rattle.std.proofs.Common.{◌≡◌, ℕ, zero, suc, ◌+◌, ◌-◌, ◌<◌, ◌≤◌, Bool, true, false, cond, eqb, ◌==◌, ◌||◌, ◌&&◌, ◌⊎◌, List, [], ◌∷◌, ◌++◌, Option, None}
+use Rattle.std.proofs.Common.{Some, inl, inr, refl, sym, ap, ◌∙◌, get_or, length, take, drop, subst, arith}
 use Rattle.std.specs.List.{prefix_len}
 use Rattle.std.proofs.lemmas.Bool.{true≢false, cases_Bool, cond-true, cond-false, eqb-true, ne_eqb, eq-eqb, or_cases, or_parts, and_parts, and_right, or_from}
 use Rattle.std.proofs.lemmas.List.{take-append-drop, drop-map, drop_at, drop_all, length-append}
@@ -14,7 +15,7 @@ use Rattle.definition_inline.specs.Attention.{is_marker, run_between, run_size, 
 use Rattle.inline_links.specs.Codes.{IsRest}
 use Rattle.inline_content.specs.declared.mark.Mark.{Mark}
 use Rattle.inline_content.specs.Marks.{kind_at}
-use Rattle.inline_content.specs.View.{line_left, kind_after, kind_between, previous_from, view_from, marked}
+use Rattle.inline_content.specs.View.{line_rest, kind_after, kind_between, previous_from, view_from, codes_with_marks}
 use Rattle.inline_content.proofs.Views.{widths, codes_from, after_at, view_is}
 use Rattle.inline_content.proofs.Places.{codes_append, split_codes}
 
@@ -64,7 +65,8 @@ within_line options b h =
 
 -- ---- no run
 
-no_run_codes : (options : ParseOptions) (v : List InlineCode) → ((c : ℕ) (cs : List ℕ) → codes_of v ≡ c ∷ cs → is_marker options c ≡ false) → run_at options v ≡ None
+no_run_codes : (options : ParseOptions) (v : List InlineCode) → ((c : ℕ) (cs : List ℕ) → codes_of v ≡ c ∷ cs → is_marker options c ≡ false)
+    → run_at options v ≡ None
 no_run_codes options [] h = refl
 no_run_codes options (c ∷ cs) h = cond-false (is_marker options c.code) _ _ (h c.code (codes_of cs) refl)
 
@@ -72,7 +74,8 @@ head_is : (c d : ℕ) (cs ds : List ℕ) → c ∷ cs ≡ d ∷ ds → c ≡ d
 head_is c d cs ds e = ap (λ l. get_or l 0 0) e
 
 -- the first code of bytes that don't begin with a marker
-first_code_is : (options : ParseOptions) (b : ℕ) (bs : List ℕ) → is_marker options b ≡ false → (c : ℕ) (cs : List ℕ) → content_codes (b ∷ bs) ≡ c ∷ cs → is_marker options c ≡ false
+first_code_is : (options : ParseOptions) (b : ℕ) (bs : List ℕ) → is_marker options b ≡ false → (c : ℕ) (cs : List ℕ) → content_codes (b ∷ bs) ≡ c ∷ cs
+    → is_marker options c ≡ false
 first_code_is options b bs h c cs e = elim (cases_Bool (eqb b 13)) [
   | inl r ↦ go bs (eqb-true b 13 r) e
   | inr o ↦ subst (λ x. is_marker options x ≡ false) (head_is b c (content_codes bs) cs (sym (cond-false (eqb b 13) _ _ o) ∙ e)) h
@@ -84,7 +87,8 @@ first_code_is options b bs h c cs e = elim (cases_Bool (eqb b 13)) [
         no_marker options c (ap may_mark (sym first))
     go (d ∷ ds) r e = elim (cases_Bool (eqb d 10)) [
       | inl f ↦
-          let first = head_is 257 c (drop 1 (content_codes (d ∷ ds))) cs (sym (cond-true (eqb d 10) _ _ f) ∙ ap (λ x. content_codes (x ∷ d ∷ ds)) (sym r) ∙ e) in
+          let first = head_is 257 c (drop 1 (content_codes (d ∷ ds))) cs (sym (cond-true (eqb d 10) _ _ f) ∙ ap (λ x. content_codes (x ∷ d ∷ ds)) (sym r)
+          ∙ e) in
           no_marker options c (ap may_mark (sym first))
       | inr n ↦
           let first = head_is 13 c (content_codes (d ∷ ds)) cs (sym (cond-false (eqb d 10) _ _ n) ∙ ap (λ x. content_codes (x ∷ d ∷ ds)) (sym r) ∙ e) in
@@ -96,23 +100,26 @@ pub text_is : (text rest : List ℕ) → IsRest text rest → text ≡ take (len
 text_is text rest h = let n = length text - length rest in sym (take-append-drop n text) ∙ ap (λ l. take n text ++ l) (sym h.place)
 
 module _ (p : ℕ → Bool) (end : Kind) (marks : List Mark) (options : ParseOptions) where
-  pub rest_of_view : (text rest : List ℕ) → codes_of (drop (length (content_codes text) - length (content_codes rest)) (marked p end marks text)) ≡ drop (length (content_codes text) - length (content_codes rest)) (content_codes text)
+  pub rest_of_view : (text rest : List ℕ) → codes_of (drop (length (content_codes text) - length (content_codes rest)) (codes_with_marks p end marks text))
+      ≡ drop (length (content_codes text) - length (content_codes rest)) (content_codes text)
   rest_of_view text rest =
       let n = length (content_codes text) - length (content_codes rest) in
-      sym (drop-map (λ (c : InlineCode). c.code) n (marked p end marks text)) ∙ ap (drop n) (codes_from p end marks 0 None (kind_at marks 0) (content_codes text))
+      sym (drop-map (λ (c : InlineCode). c.code) n (codes_with_marks p end marks text))
+      ∙ ap (drop n) (codes_from p end marks 0 None (kind_at marks 0) (content_codes text))
 
   pub no_run : (text rest : List ℕ) → IsRest text rest → (0 < length rest → is_marker options (get_or rest 0 0) ≡ false)
-      → None ≡ run_at options (drop (length (content_codes text) - length (content_codes rest)) (marked p end marks text))
+      → None ≡ run_at options (drop (length (content_codes text) - length (content_codes rest)) (codes_with_marks p end marks text))
   no_run text [] r h =
       let n = length (content_codes text) in
-      sym (no_run_codes options (drop (n - 0) (marked p end marks text)) (λ c cs e. absurd (omega (arith, ap length (sym e ∙ rest_of_view text [] ∙ drop_all (n - 0) (content_codes text) (omega arith))))))
+      sym (no_run_codes options (drop (n - 0) (codes_with_marks p end marks text))
+      (λ c cs e. absurd (omega (arith, ap length (sym e ∙ rest_of_view text [] ∙ drop_all (n - 0) (content_codes text) (omega arith))))))
   no_run text (y ∷ ys) r h =
       let codes = content_codes text in
       let n = length codes - length (content_codes (y ∷ ys)) in
       let zs = take (length text - length (y ∷ ys)) text in
       let whole = ap content_codes (text_is text (y ∷ ys) r) in
       sym
-      (no_run_codes options (drop n (marked p end marks text))
+      (no_run_codes options (drop n (codes_with_marks p end marks text))
       (λ c cs e.
       let here : drop n codes ≡ c ∷ cs = sym (rest_of_view text (y ∷ ys)) ∙ e in
       elim (split_codes zs y ys) [
@@ -121,13 +128,15 @@ module _ (p : ℕ → Bool) (end : Kind) (marks : List Mark) (options : ParseOpt
             let size = ap length all ∙ length-append (content_codes zs) (content_codes (y ∷ ys)) in
             let at : n ≡ length (content_codes zs) = omega (arith, size) in
             first_code_is options y ys (h (omega arith)) c cs
-            (sym (drop_at (content_codes zs) (content_codes (y ∷ ys)) (length (content_codes zs)) refl) ∙ ap (drop (length (content_codes zs))) (sym all) ∙ ap (λ k. drop k codes) (sym at) ∙ here)
+            (sym (drop_at (content_codes zs) (content_codes (y ∷ ys)) (length (content_codes zs)) refl) ∙ ap (drop (length (content_codes zs))) (sym all)
+            ∙ ap (λ k. drop k codes) (sym at) ∙ here)
         | inr inside ↦
             let all = whole ∙ inside.2 in
             let size = ap length all ∙ length-append inside.0 (257 ∷ inside.1) in
             let long = inside.3 in
             let at : n ≡ length inside.0 = omega (arith, size, long) in
-            let first = head_is 257 c inside.1 cs (sym (drop_at inside.0 (257 ∷ inside.1) (length inside.0) refl) ∙ ap (drop (length inside.0)) (sym all) ∙ ap (λ k. drop k codes) (sym at) ∙ here) in
+            let first = head_is 257 c inside.1 cs (sym (drop_at inside.0 (257 ∷ inside.1) (length inside.0) refl) ∙ ap (drop (length inside.0)) (sym all)
+            ∙ ap (λ k. drop k codes) (sym at) ∙ here) in
             no_marker options c (ap may_mark (sym first))
       ]))
 
@@ -143,7 +152,8 @@ module _ (p : ℕ → Bool) (end : Kind) (marks : List Mark) (options : ParseOpt
   size_bytes m (x ∷ xs) a b = elim (cases_Bool (eqb x 13)) [
     | inl h ↦
         let r = eqb-true x 13 h in
-        ap (λ y. prefix_len (λ b. b == m) (content_codes (y ∷ xs))) r ∙ none xs ∙ sym (cond-false (eqb x m) (1 + prefix_len (λ b. b == m) xs) 0 (ne_eqb x m (λ e. a (sym e ∙ r))))
+        ap (λ y. prefix_len (λ b. b == m) (content_codes (y ∷ xs))) r ∙ none xs
+        ∙ sym (cond-false (eqb x m) (1 + prefix_len (λ b. b == m) xs) 0 (ne_eqb x m (λ e. a (sym e ∙ r))))
     | inr o ↦ ap (prefix_len (λ b. b == m)) (cond-false (eqb x 13) _ _ o) ∙ ap (λ k. cond (eqb x m) (1 + k) 0) (size_bytes m xs a b)
   ]
     where
@@ -171,7 +181,7 @@ module _ (p : ℕ → Bool) (end : Kind) (marks : List Mark) (options : ParseOpt
 
   -- a run of codes
   run_of_codes : (place : ℕ) (previous : Option ℕ) (kind : Kind) (b : ℕ) (bs : List ℕ) (size : ℕ) (before after : Kind) → is_marker options b ≡ true
-      → size ≡ prefix_len (λ x. x == b) (b ∷ bs) → before ≡ kind → after ≡ first_kind p end (line_left (content_codes (drop size (b ∷ bs))))
+      → size ≡ prefix_len (λ x. x == b) (b ∷ bs) → before ≡ kind → after ≡ first_kind p end (line_rest (content_codes (drop size (b ∷ bs))))
       → Some (run_between options b size before after) ≡ run_at options (view_from p end marks place previous kind (b ∷ content_codes bs))
   run_of_codes place previous kind b bs size before after h sized is_before is_after =
       let v = view_from p end marks place previous kind (b ∷ content_codes bs) in
@@ -180,29 +190,33 @@ module _ (p : ℕ → Bool) (end : Kind) (marks : List Mark) (options : ParseOpt
       let both : b ≡ 257 → ⊥ = marker_at options b 257 h refl in
       let plain : content_codes (b ∷ bs) ≡ codes = cond-false (eqb b 13) _ _ (ne_eqb b 13 return) in
       let count : size ≡ run_size b v =
-      sized ∙ sym (size_bytes b (b ∷ bs) return both) ∙ ap (prefix_len (λ x. x == b)) (plain ∙ sym (codes_from p end marks place previous kind codes)) ∙ sym (size_codes b v) in
+      sized ∙ sym (size_bytes b (b ∷ bs) return both) ∙ ap (prefix_len (λ x. x == b)) (plain ∙ sym (codes_from p end marks place previous kind codes))
+      ∙ sym (size_codes b v) in
       let first : prefix_len (λ x. x == b) (b ∷ bs) ≡ 1 + prefix_len (λ x. x == b) bs = cond-true (eqb b b) _ 0 (eq-eqb b b refl) in
       let in_codes : size ≡ prefix_len (λ x. x == b) codes = sized ∙ sym (size_bytes b (b ∷ bs) return both) ∙ ap (prefix_len (λ x. x == b)) plain in
       let le = prefix_len-le-length (λ x. x == b) codes in
-      let at_end : get_or codes (size - 1) 0 ≡ b = eqb-true (get_or codes (size - 1) 0) b (prefix_len_passes (λ x. x == b) codes (size - 1) 0 (omega (arith, in_codes, sized, first))) in
-      let d = inline_code b previous kind (kind_after p end b (line_left (content_codes bs))) in
+      let at_end : get_or codes (size - 1) 0 ≡ b =
+      eqb-true (get_or codes (size - 1) 0) b (prefix_len_passes (λ x. x == b) codes (size - 1) 0 (omega (arith, in_codes, sized, first))) in
+      let d = inline_code b previous kind (kind_after p end b (line_rest (content_codes bs))) in
       let next : suc (size - 1) ≡ size = omega (arith, sized, first) in
       let past : drop (suc (size - 1)) codes ≡ content_codes (drop size (b ∷ bs)) =
       ap (λ k. drop k codes) next ∙ ap (drop size) (sym plain) ∙ drop_bytes b size (b ∷ bs) return (omega (arith, sized)) in
       let last : after ≡ (get_or v (size - 1) d).after =
       is_after
       ∙ sym (cond-false (is_eol b) end _ (within_line options b h))
-      ∙ ap (λ l. kind_after p end b (line_left l)) (sym past)
-      ∙ ap (λ x. kind_after p end x (line_left (drop (suc (size - 1)) codes))) (sym at_end)
+      ∙ ap (λ l. kind_after p end b (line_rest l)) (sym past)
+      ∙ ap (λ x. kind_after p end x (line_rest (drop (suc (size - 1)) codes))) (sym at_end)
       ∙ sym (after_at p end marks place previous kind codes (size - 1) d (omega (arith, in_codes, le, sized, first))) in
-      ap Some (same_run b size (run_size b v) before kind after (get_or v (run_size b v - 1) d).after count is_before (last ∙ ap (λ k. (get_or v (k - 1) d).after) count))
+      ap Some (same_run b size (run_size b v) before kind after (get_or v (run_size b v - 1) d).after count is_before
+      (last ∙ ap (λ k. (get_or v (k - 1) d).after) count))
       ∙ sym (cond-true (is_marker options b) _ None h)
 
   pub a_run : (text rest : List ℕ) (size : ℕ) (before after : Kind) → IsRest text rest → 0 < length rest → is_marker options (get_or rest 0 0) ≡ true
       → size ≡ prefix_len (λ x. x == get_or rest 0 0) rest
       → before ≡ kind_between p marks 0 (kind_at marks 0) (content_codes (take (length text - length rest) text)) (content_codes rest)
-      → after ≡ first_kind p end (line_left (content_codes (drop size rest)))
-      → Some (run_between options (get_or rest 0 0) size before after) ≡ run_at options (drop (length (content_codes text) - length (content_codes rest)) (marked p end marks text))
+      → after ≡ first_kind p end (line_rest (content_codes (drop size rest)))
+      → Some (run_between options (get_or rest 0 0) size before after) ≡ run_at options
+      (drop (length (content_codes text) - length (content_codes rest)) (codes_with_marks p end marks text))
   a_run text [] size before after r some h sized is_before is_after = absurd (omega (arith, some))
   a_run text (b ∷ bs) size before after r some h sized is_before is_after =
       let rest = b ∷ bs in
@@ -211,16 +225,20 @@ module _ (p : ℕ → Bool) (end : Kind) (marks : List Mark) (options : ParseOpt
       let plain : content_codes rest ≡ b ∷ content_codes bs = cond-false (eqb b 13) _ _ (ne_eqb b 13 (marker_at options b 13 h refl)) in
       let whole : content_codes text ≡ front ++ content_codes rest =
       ap content_codes (text_is text rest r) ∙ codes_append zs b bs (marker_at options b 10 h refl) in
-      run_of_codes (widths front) (previous_from None front) (kind_between p marks 0 (kind_at marks 0) front (content_codes rest)) b bs size before after h sized is_before is_after
-      ∙ ap (λ cs. run_at options (view_from p end marks (widths front) (previous_from None front) (kind_between p marks 0 (kind_at marks 0) front (content_codes rest)) cs)) (sym plain)
+      run_of_codes (widths front) (previous_from None front) (kind_between p marks 0 (kind_at marks 0) front (content_codes rest)) b bs size before after h
+      sized is_before is_after
+      ∙ ap (λ cs. run_at options (view_from p end marks (widths front) (previous_from None front)
+      (kind_between p marks 0 (kind_at marks 0) front (content_codes rest)) cs)) (sym plain)
       ∙ ap (run_at options) (sym (view_is p end marks text rest front whole))
 
 -- a text may be cut after a run
-pub run_boundary : (options : ParseOptions) (rest : List ℕ) (size : ℕ) → IsUtf8 rest → is_marker options (get_or rest 0 0) ≡ true → size ≡ prefix_len (λ x. x == get_or rest 0 0) rest → 0 < size → IsCharBoundary rest size
+pub run_boundary : (options : ParseOptions) (rest : List ℕ) (size : ℕ) → IsUtf8 rest → is_marker options (get_or rest 0 0) ≡ true
+    → size ≡ prefix_len (λ x. x == get_or rest 0 0) rest → 0 < size → IsCharBoundary rest size
 run_boundary options rest size u h sized some =
     let m = get_or rest 0 0 in
     let le = prefix_len-le-length (λ x. x == m) rest in
-    let is : get_or rest (size - 1) 0 ≡ m = eqb-true (get_or rest (size - 1) 0) m (prefix_len_passes (λ x. x == m) rest (size - 1) 0 (omega (arith, sized, some))) in
+    let is : get_or rest (size - 1) 0 ≡ m =
+    eqb-true (get_or rest (size - 1) 0) m (prefix_len_passes (λ x. x == m) rest (size - 1) 0 (omega (arith, sized, some))) in
     let low : m < 128 = marker_ascii options m h in
     let e : size - 1 + 1 ≡ size = omega (arith, some) in
     subst (IsCharBoundary rest) e (IsCharBoundary-after_ascii rest (size - 1) u (omega (arith, sized, le, some)) (omega (arith, is, low)))

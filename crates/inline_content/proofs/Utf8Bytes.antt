@@ -24,13 +24,16 @@ unfolding encode_utf8
 character_bytes c small = elim (cases_lt c 128) [
   | inl a ↦ subst AreBytes (sym (cond-true (ltb c 128) _ _ (lt-ltb c 128 a))) (omega (arith, a), tt)
   | inr a ↦ elim (cases_lt c 2048) [
-    | inl b ↦ subst AreBytes (sym (cond-false (ltb c 128) _ _ (le-ltb c 128 a) ∙ cond-true (ltb c 2048) _ _ (lt-ltb c 2048 b))) (omega (arith, b), (omega arith, tt))
+    | inl b ↦ subst AreBytes (sym (cond-false (ltb c 128) _ _ (le-ltb c 128 a) ∙ cond-true (ltb c 2048) _ _ (lt-ltb c 2048 b)))
+        (omega (arith, b), (omega arith, tt))
     | inr b ↦ elim (cases_lt c 65536) [
       | inl d ↦
-          subst AreBytes (sym (cond-false (ltb c 128) _ _ (le-ltb c 128 a) ∙ cond-false (ltb c 2048) _ _ (le-ltb c 2048 b) ∙ cond-true (ltb c 65536) _ _ (lt-ltb c 65536 d)))
+          subst AreBytes (sym (cond-false (ltb c 128) _ _ (le-ltb c 128 a) ∙ cond-false (ltb c 2048) _ _ (le-ltb c 2048 b)
+          ∙ cond-true (ltb c 65536) _ _ (lt-ltb c 65536 d)))
           (omega (arith, d), (omega arith, (omega arith, tt)))
       | inr d ↦
-          subst AreBytes (sym (cond-false (ltb c 128) _ _ (le-ltb c 128 a) ∙ cond-false (ltb c 2048) _ _ (le-ltb c 2048 b) ∙ cond-false (ltb c 65536) _ _ (le-ltb c 65536 d)))
+          subst AreBytes (sym (cond-false (ltb c 128) _ _ (le-ltb c 128 a) ∙ cond-false (ltb c 2048) _ _ (le-ltb c 2048 b)
+          ∙ cond-false (ltb c 65536) _ _ (le-ltb c 65536 d)))
           (omega (arith, small), (omega arith, (omega arith, (omega arith, tt))))
     ]
   ]

@@ -1,5 +1,6 @@
 -- The codes of a content, cut between two of them, and what stands beside them.
-use Rattle.std.proofs.Common.{◌≡◌, ℕ, zero, suc, ◌+◌, ◌-◌, ◌<◌, Bool, true, List, [], ◌∷◌, ◌++◌, Option, None, refl, ap, ◌∙◌, get_or, length, drop, append_assoc, arith}
+use Rattle.std.proofs.Common.{◌≡◌, ℕ, zero, suc, ◌+◌, ◌-◌, ◌<◌, Bool, true, List, [], ◌∷◌, ◌++◌, Option, None, refl, ap, ◌∙◌, get_or, length, drop}
+use Rattle.std.proofs.Common.{append_assoc, arith}
 use Rattle.std.proofs.lemmas.Bool.{cond-true}
 use Rattle.std.proofs.lemmas.List.{length-append}
 use Rattle.definition_text.specs.declared.beside.Kind.{Kind}
@@ -8,7 +9,8 @@ use Rattle.definition_text.specs.InlineCode.{InlineCode, codes_of}
 use Rattle.inline_content.specs.declared.mark.Mark.{Mark}
 use Rattle.inline_content.specs.declared.content.Content.{Content}
 use Rattle.inline_content.specs.Marks.{kind_at}
-use Rattle.inline_content.specs.View.{width, line_left, kind_after, kind_before, kind_between, previous_after, previous_from, view_from, marked, content_view}
+use Rattle.inline_content.specs.View.{width, line_rest, kind_after, kind_before, kind_between, previous_after, previous_from, view_from, codes_with_marks}
+use Rattle.inline_content.specs.View.{content_view}
 
 -- how many bytes codes are
 abbrev pub widths : List ℕ → ℕ
@@ -19,7 +21,8 @@ module _ (p : ℕ → Bool) (end : Kind) (marks : List Mark) where
   -- the codes are those of the text
   pub codes_from : (place : ℕ) (previous : Option ℕ) (before : Kind) (cs : List ℕ) → codes_of (view_from p end marks place previous before cs) ≡ cs
   codes_from place previous before [] = refl
-  codes_from place previous before (c ∷ cs) = ap (λ x. c ∷ x) (codes_from (place + width c) (previous_after c) (kind_before p marks (place + width c) before c (line_left cs)) cs)
+  codes_from place previous before (c ∷ cs) =
+      ap (λ x. c ∷ x) (codes_from (place + width c) (previous_after c) (kind_before p marks (place + width c) before c (line_rest cs)) cs)
 
   -- ---- what is left after some codes
 
@@ -28,18 +31,18 @@ module _ (p : ℕ → Bool) (end : Kind) (marks : List Mark) where
       ≡ view_from p end marks (place + widths front) (previous_from previous front) (kind_between p marks place before front cs) cs
   view_drop place previous before [] cs = ap (λ n. view_from p end marks n previous before cs) (omega arith)
   view_drop place previous before (c ∷ front) cs =
-      let next = kind_before p marks (place + width c) before c (line_left (front ++ cs)) in
+      let next = kind_before p marks (place + width c) before c (line_rest (front ++ cs)) in
       let e : place + width c + widths front ≡ place + (width c + widths front) = omega arith in
       view_drop (place + width c) (previous_after c) next front cs
       ∙ ap (λ n. view_from p end marks n (previous_from (previous_after c) front) (kind_between p marks (place + width c) next front cs) cs) e
 
   -- the character after a code
   pub after_at : (place : ℕ) (previous : Option ℕ) (before : Kind) (cs : List ℕ) (n : ℕ) (d : InlineCode) → n < length cs
-      → (get_or (view_from p end marks place previous before cs) n d).after ≡ kind_after p end (get_or cs n 0) (line_left (drop (suc n) cs))
+      → (get_or (view_from p end marks place previous before cs) n d).after ≡ kind_after p end (get_or cs n 0) (line_rest (drop (suc n) cs))
   after_at place previous before [] n d h = absurd (omega (arith, h))
   after_at place previous before (c ∷ cs) zero d h = refl
   after_at place previous before (c ∷ cs) (suc n) d h =
-      after_at (place + width c) (previous_after c) (kind_before p marks (place + width c) before c (line_left cs)) cs n d (omega (arith, h))
+      after_at (place + width c) (previous_after c) (kind_before p marks (place + width c) before c (line_rest cs)) cs n d (omega (arith, h))
 
 module _ (p : ℕ → Bool) (marks : List Mark) where
   -- ---- the character before a place
@@ -48,13 +51,14 @@ module _ (p : ℕ → Bool) (marks : List Mark) where
       → kind_between p marks place before (xs ++ ys) cs ≡ kind_between p marks (place + widths xs) (kind_between p marks place before xs (ys ++ cs)) ys cs
   between_append place before [] ys cs = ap (λ n. kind_between p marks n before ys cs) (omega arith)
   between_append place before (c ∷ xs) ys cs =
-      let left = line_left ((xs ++ ys) ++ cs) in
+      let left = line_rest ((xs ++ ys) ++ cs) in
       let next = kind_before p marks (place + width c) before c left in
-      let same = line_left (xs ++ (ys ++ cs)) in
-      let is : left ≡ same = ap line_left (append_assoc xs ys cs) in
+      let same = line_rest (xs ++ (ys ++ cs)) in
+      let is : left ≡ same = ap line_rest (append_assoc xs ys cs) in
       let e : place + width c + widths xs ≡ place + (width c + widths xs) = omega arith in
       between_append (place + width c) next xs ys cs
-      ∙ ap (λ l. kind_between p marks (place + width c + widths xs) (kind_between p marks (place + width c) (kind_before p marks (place + width c) before c l) xs (ys ++ cs)) ys cs) is
+      ∙ ap (λ l. kind_between p marks (place + width c + widths xs) (kind_between p marks (place + width c)
+      (kind_before p marks (place + width c) before c l) xs (ys ++ cs)) ys cs) is
       ∙ ap (λ n. kind_between p marks n (kind_between p marks (place + width c) (kind_before p marks (place + width c) before c same) xs (ys ++ cs)) ys cs) e
 
   -- after a line ending a line starts
@@ -75,12 +79,13 @@ codes_of_view p content = codes_from p content.after content.marks.now 0 None (k
 
 -- the codes from a rest on, and what stands before them
 pub view_is : (p : ℕ → Bool) (end : Kind) (marks : List Mark) (text rest front : List ℕ) → content_codes text ≡ front ++ content_codes rest
-    → drop (length (content_codes text) - length (content_codes rest)) (marked p end marks text)
+    → drop (length (content_codes text) - length (content_codes rest)) (codes_with_marks p end marks text)
     ≡ view_from p end marks (widths front) (previous_from None front) (kind_between p marks 0 (kind_at marks 0) front (content_codes rest)) (content_codes rest)
 view_is p end marks text rest front e =
     let sizes : length (content_codes text) ≡ length front + length (content_codes rest) = ap length e ∙ length-append front (content_codes rest) in
     let n : length (content_codes text) - length (content_codes rest) ≡ length front = omega (arith, sizes) in
-    ap (λ k. drop k (marked p end marks text)) n
+    ap (λ k. drop k (codes_with_marks p end marks text)) n
     ∙ ap (λ cs. drop (length front) (view_from p end marks 0 None (kind_at marks 0) cs)) e
     ∙ view_drop p end marks 0 None (kind_at marks 0) front (content_codes rest)
-    ∙ ap (λ k. view_from p end marks k (previous_from None front) (kind_between p marks 0 (kind_at marks 0) front (content_codes rest)) (content_codes rest)) (omega arith)
+    ∙ ap (λ k. view_from p end marks k (previous_from None front) (kind_between p marks 0 (kind_at marks 0) front (content_codes rest)) (content_codes rest))
+    (omega arith)

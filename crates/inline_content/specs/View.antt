@@ -15,9 +15,9 @@ abbrev pub width : ℕ → ℕ
 width code = if code == 257 then 2 else 1
 
 -- what is left of a line, with its ending
-abbrev pub line_left : List ℕ → List ℕ
-line_left [] = []
-line_left (c ∷ cs) = c ∷ (if is_eol c then [] else line_left cs)
+abbrev pub line_rest : List ℕ → List ℕ
+line_rest [] = []
+line_rest (c ∷ cs) = c ∷ (if is_eol c then [] else line_rest cs)
 
 -- the kind of the character after a code, before what is left of its line, given that after the content
 abbrev pub kind_after : (ℕ → Bool) → Kind → ℕ → List ℕ → Kind
@@ -36,16 +36,16 @@ previous_after c = if is_eol c then None else Some c
 abbrev pub view_from : (ℕ → Bool) → Kind → List Mark → ℕ → Option ℕ → Kind → List ℕ → List InlineCode
 view_from is_punctuation end marks place previous before [] = []
 view_from is_punctuation end marks place previous before (c ∷ cs) =
-    inline_code c previous before (kind_after is_punctuation end c (line_left cs))
-    ∷ view_from is_punctuation end marks (place + width c) (previous_after c) (kind_before is_punctuation marks (place + width c) before c (line_left cs)) cs
+    inline_code c previous before (kind_after is_punctuation end c (line_rest cs))
+    ∷ view_from is_punctuation end marks (place + width c) (previous_after c) (kind_before is_punctuation marks (place + width c) before c (line_rest cs)) cs
 
 -- the codes of a text with their neighbours, by the kind of the character after it and these marks
-abbrev pub marked : (ℕ → Bool) → Kind → List Mark → List ℕ → List InlineCode
-marked is_punctuation end marks text = view_from is_punctuation end marks 0 None (kind_at marks 0) (content_codes text)
+abbrev pub codes_with_marks : (ℕ → Bool) → Kind → List Mark → List ℕ → List InlineCode
+codes_with_marks is_punctuation end marks text = view_from is_punctuation end marks 0 None (kind_at marks 0) (content_codes text)
 
 -- the codes that a content stands for
 abbrev pub content_view : (ℕ → Bool) → Content → List InlineCode
-content_view is_punctuation content = marked is_punctuation content.after content.marks.now content.text.now
+content_view is_punctuation content = codes_with_marks is_punctuation content.after content.marks.now content.text.now
 
 -- those from a rest of it on
 abbrev pub view_at : (ℕ → Bool) → Content → List ℕ → List InlineCode
@@ -61,7 +61,7 @@ previous_from previous (c ∷ front) = previous_from (previous_after c) front
 abbrev pub kind_between : (ℕ → Bool) → List Mark → ℕ → Kind → List ℕ → List ℕ → Kind
 kind_between is_punctuation marks place before [] cs = before
 kind_between is_punctuation marks place before (c ∷ front) cs =
-    kind_between is_punctuation marks (place + width c) (kind_before is_punctuation marks (place + width c) before c (line_left (front ++ cs))) front cs
+    kind_between is_punctuation marks (place + width c) (kind_before is_punctuation marks (place + width c) before c (line_rest (front ++ cs))) front cs
 
 -- the kind of the character before a place of a content, where these codes stand from there on
 abbrev pub kind_at_place : (ℕ → Bool) → Content → ℕ → List ℕ → Kind

@@ -3,6 +3,7 @@
 
 pub mod buffer;
 pub mod content;
+pub mod line;
 pub mod mark;
 pub mod previous;
 pub mod run;
@@ -10,5 +11,6 @@ pub mod whole;
 
 pub use buffer::ContentBuffer;
 pub use content::Content;
+pub use line::line_content;
 pub use run::first_kind;
 pub use whole::whole_content;

@@ -12,7 +12,7 @@ ghost use Rattle.inline_links.specs.Codes.{IsRest};
 ghost use Rattle.inline_runs.specs.View.{run_view};
 ghost use Rattle.inline_content.specs.Ends.{EndsWith};
 ghost use Rattle.inline_content.specs.Fronts.{StartsRun};
-ghost use Rattle.inline_content.specs.View.{line_left, kind_at_place, view_at};
+ghost use Rattle.inline_content.specs.View.{line_rest, kind_at_place, view_at};
 
 use crate::content::Content;
 use definition_text::Kind;
@@ -87,7 +87,7 @@ fn last_character(text: &str) -> Option<char>
 
 /// The kind of the character that a rest of a content begins with, given that after the content.
 pub fn first_kind<T: Tables>(tables: &T, after: Kind, rest: &str) -> Kind
-    ensures { result ≡ first_kind (T.punctuation_of tables.now) after (line_left (content_codes rest.now)) }
+    ensures { result ≡ first_kind (T.punctuation_of tables.now) after (line_rest (content_codes rest.now)) }
 {
     match rest.chars().next() {
         None => after,

@@ -4,7 +4,7 @@ use Rattle.std.proofs.lemmas.Bool.{cases_Bool, eqb-true}
 use Rattle.markdown_options.specs.declared.configuration.Constructs.{Constructs}
 use Rattle.definition_text.specs.Content.{content_codes}
 use Rattle.definition_inline.specs.LabelEnd.{is_label_text}
-use Rattle.definition_inline.specs.GfmLabelStartFootnote.{called}
+use Rattle.definition_inline.specs.GfmLabelStartFootnote.{called_label}
 use Rattle.inline_label_ends.proofs.Rests.{first_byte}
 
 and_false : (a : Bool) → (a && false) ≡ false
@@ -12,7 +12,7 @@ and_false true = refl
 and_false false = refl
 
 module _ (on : Constructs) (is_footnote : List ℕ → Bool) where
-  codes_called : (xs cs : List ℕ) → ((ys : List ℕ) → xs ≡ 94 ∷ ys → ⊥) → content_codes xs ≡ cs → called on is_footnote cs ≡ None
+  codes_called : (xs cs : List ℕ) → ((ys : List ℕ) → xs ≡ 94 ∷ ys → ⊥) → content_codes xs ≡ cs → called_label on is_footnote cs ≡ None
   codes_called xs [] none is = refl
   codes_called xs (c ∷ label) none is = elim (cases_Bool (eqb c 94)) [
     | inl h ↦
@@ -24,5 +24,5 @@ module _ (on : Constructs) (is_footnote : List ℕ → Bool) where
   ]
 
   -- a text that doesn't begin with `^` calls none
-  pub none_called : (xs : List ℕ) → ((ys : List ℕ) → xs ≡ 94 ∷ ys → ⊥) → called on is_footnote (content_codes xs) ≡ None
+  pub none_called : (xs : List ℕ) → ((ys : List ℕ) → xs ≡ 94 ∷ ys → ⊥) → called_label on is_footnote (content_codes xs) ≡ None
   none_called xs none = codes_called xs (content_codes xs) none refl

@@ -20,7 +20,8 @@ target_leads ds (Place place) (inline.Resource destination title) e = absurd e
 target_leads ds (Place place) (inline.Reference label) e = sym (ap (λ o. unwrap_or (option_map (linked_at ds) o) (linked [] None)) e)
 
 -- the same, where the labels and where the definitions lead are given by equations
-pub target_leads_at : (ds : List Definition) (ls : List (List ℕ)) (at : ℕ → Linked) (found : LinkTarget) (target : Target) → ls ≡ labels_of ds → at ≡ linked_at ds
+pub target_leads_at : (ds : List Definition) (ls : List (List ℕ)) (at : ℕ → Linked) (found : LinkTarget) (target : Target) → ls ≡ labels_of ds
+    → at ≡ linked_at ds
     → IsTarget ls found target → target_linked at found ≡ leads_to (linked_by ds) target
 target_leads_at ds ls at found target labels leads h =
     ap (λ f. target_linked f found) leads ∙ target_leads ds found target (subst (λ l. IsTarget l found target) labels h)

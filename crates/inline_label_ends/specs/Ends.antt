@@ -3,7 +3,7 @@ use Rattle.std.specs.Prelude.{◌≡◌, ◌-◌, ℕ, ⊤, Bool, if◌then◌el
 use Rattle.definition_text.specs.Content.{content_codes}
 use Rattle.definition_inline.specs.Inline.{Target, linked}
 use Rattle.definition_inline.specs.Inline as inline
-use Rattle.definition_inline.specs.LabelEnd.{Ended, is_label_text, label_end_at}
+use Rattle.definition_inline.specs.LabelEnd.{LinkTail, is_label_text, label_end_at}
 use Rattle.definition_inline.specs.LabelEnd as ends
 use Rattle.definition_inline.specs.LabelMatch.{first_match}
 use Rattle.inline_links.specs.Codes.{IsCut, IsRest}
@@ -31,13 +31,13 @@ IsTarget ls (Definition place) (inline.Resource destination title) = ⊥
 IsTarget ls (Definition place) (inline.Reference label) = first_match label ls ≡ Some place
 
 -- an end of the definition: its target, and how many codes belong to it
-pub record IsEnd (ls : List (List ℕ)) (rest : List ℕ) (found : LabelEnd) (end : Ended) : Type 0 where
+pub record IsEnd (ls : List (List ℕ)) (rest : List ℕ) (found : LabelEnd) (end : LinkTail) : Type 0 where
   pub target : IsTarget ls found.target end.target
   pub size : end.size ≡ size_before rest found.after.now
   pub after : content_codes found.after.now ≡ drop end.size (content_codes rest)
 
 -- the end that the definition has, if it has one
-abbrev pub IsEnded : List (List ℕ) → List ℕ → Option LabelEnd → Option Ended → Type 0
+abbrev pub IsEnded : List (List ℕ) → List ℕ → Option LabelEnd → Option LinkTail → Type 0
 IsEnded ls rest None None = ⊤
 IsEnded ls rest None (Some end) = ⊥
 IsEnded ls rest (Some found) None = ⊥
@@ -64,7 +64,7 @@ IsReference ls label None = first_match label ls ≡ None
 IsReference ls label (Some found) = IsTarget ls found.target (inline.Reference label)
 
 -- the same thing is formed as in the definition, where these are the labels of the link reference definitions
-abbrev pub IsFormed : List (List ℕ) → List ℕ → Option Formed → Option ends.Formed → Type 0
+abbrev pub IsFormed : List (List ℕ) → List ℕ → Option Formed → Option ends.LinkOrCall → Type 0
 IsFormed ls rest None None = ⊤
 IsFormed ls rest None (Some formed) = ⊥
 IsFormed ls rest (Some found) None = ⊥

@@ -7,8 +7,8 @@
 ghost use Rattle.std.specs.Prelude.{◌≡◌, ℕ, List, IfOk, IfSome};
 ghost use Rattle.std.specs.Option.{option_map};
 ghost use Rattle.definition_text.specs.Content.{content_codes};
-ghost use Rattle.definition_inline.specs.GfmLabelStartFootnote.{called, call_or_link};
-ghost use Rattle.definition_inline.specs.LabelEnd.{leading};
+ghost use Rattle.definition_inline.specs.GfmLabelStartFootnote.{called_label, call_or_link};
+ghost use Rattle.definition_inline.specs.LabelEnd.{link_or_image};
 ghost use Rattle.inline_labels.specs.Table.{HasLabels};
 ghost use Rattle.inline_label_ends.specs.Ends.{IsAfterFormed, IsFormed, is_among, label_among};
 
@@ -39,7 +39,7 @@ pub fn call_or_link<'a, A: Allocator + Clone>(
 ) -> Result<Option<Formed<'a>>, AllocError>
     ensures read { (ls notes : List (List ℕ)) → HasLabels labels.now ls → HasLabels footnotes.now notes →
         let text = content_codes text.now in
-        let label = called on.now (is_among notes) text in
+        let label = called_label on.now (is_among notes) text in
         IfOk result (λ found. IsFormed ls rest.now found (call_or_link on.now (is_among ls) text (content_codes rest.now) label)) }
     ensures place { IfOk result (λ found. IfSome found (λ formed. IsAfterFormed rest.now formed)) }
 {
@@ -61,7 +61,7 @@ pub fn link_or_image<'a, A: Allocator + Clone>(
     rest: &'a str,
 ) -> Result<Option<Formed<'a>>, AllocError>
     ensures read { (ls : List (List ℕ)) → HasLabels labels.now ls →
-        IfOk result (λ found. IsFormed ls rest.now found (leading (is_among ls) (content_codes text.now) (content_codes rest.now))) }
+        IfOk result (λ found. IsFormed ls rest.now found (link_or_image (is_among ls) (content_codes text.now) (content_codes rest.now))) }
     ensures place { IfOk result (λ found. IfSome found (λ formed. IsAfterFormed rest.now formed)) }
 {
     match label_end(labels, text, rest)? {
@@ -77,7 +77,7 @@ fn called<'a, A: Allocator + Clone>(
     text: &'a str,
 ) -> Result<Option<&'a str>, AllocError>
     ensures { (notes : List (List ℕ)) → HasLabels footnotes.now notes →
-        IfOk result (λ label. option_map (λ l. content_codes l.now) label ≡ called on.now (is_among notes) (content_codes text.now)) }
+        IfOk result (λ label. option_map (λ l. content_codes l.now) label ≡ called_label on.now (is_among notes) (content_codes text.now)) }
 {
     if !on.gfm_label_start_footnote {
         return Ok(None);

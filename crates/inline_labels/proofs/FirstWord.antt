@@ -89,5 +89,6 @@ some_word (b ∷ bs) bare some = elim (cases_Bool (is_space b)) [
 ]
 
 -- the first word, and what follows it
-pub first_word : (bs rest : List ℕ) → rest ≡ drop (prefix_len is_space bs) bs → 0 < length rest → words bs ≡ take (word_end rest) rest ∷ words (drop (word_end rest) rest)
+pub first_word : (bs rest : List ℕ) → rest ≡ drop (prefix_len is_space bs) bs → 0 < length rest
+    → words bs ≡ take (word_end rest) rest ∷ words (drop (word_end rest) rest)
 first_word bs rest is some = sym (words-bare bs) ∙ ap words (sym is) ∙ some_word rest (ap (prefix_len is_space) is ∙ bare_first bs) some

@@ -11,7 +11,7 @@ use Rattle.caseless.specs.Caseless.{default_case_fold}
 use Rattle.caseless.proofs.CaselessLemmas.{default_case_fold-append}
 use Rattle.caseless.proofs.Computing.{caseless}
 use Rattle.definition_text.specs.Content.{is_space, content_codes, after_return_code}
-use Rattle.definition_inline.specs.LabelMatch.{is_word, words, case_folded, word_folded, normal_label, place_of, first_match}
+use Rattle.definition_inline.specs.LabelMatch.{is_word, words, case_fold, fold_word, normal_label, place_of, first_match}
 use Rattle.definition_inline.proofs.LinkRenaming.{Renames, space_same}
 
 -- ---- spaces, tabs and line endings for others of their kind
@@ -22,20 +22,22 @@ split_renamed f renames (c ∷ cs) = elim (cases_Bool (is_space c)) [
   | inl h ↦
       cond-true (is_space (f c)) _ _ (space_same f renames c ∙ h) ∙ ap (λ parts. [] ∷ parts) (split_renamed f renames cs) ∙ sym (cond-true (is_space c) _ _ h)
   | inr h ↦
-      cond-false (is_space (f c)) _ _ (space_same f renames c ∙ h) ∙ ap₂ onto_first (renames.other c h) (split_renamed f renames cs) ∙ sym (cond-false (is_space c) _ _ h)
+      cond-false (is_space (f c)) _ _ (space_same f renames c ∙ h) ∙ ap₂ onto_first (renames.other c h) (split_renamed f renames cs)
+      ∙ sym (cond-false (is_space c) _ _ h)
 ]
 
 pub words_renamed : (f : ℕ → ℕ) → Renames f → (cs : List ℕ) → words (map f cs) ≡ words cs
 words_renamed f renames cs = ap (filter is_word) (split_renamed f renames cs)
 
 pub normal_renamed : (f : ℕ → ℕ) → Renames f → (cs : List ℕ) → normal_label (map f cs) ≡ normal_label cs
-normal_renamed f renames cs = ap (join_by word_folded (32 ∷ [])) (words_renamed f renames cs)
+normal_renamed f renames cs = ap (join_by fold_word (32 ∷ [])) (words_renamed f renames cs)
 
 pub normals_renamed : (f : ℕ → ℕ) → Renames f → (labels : List (List ℕ)) → map normal_label (map (map f) labels) ≡ map normal_label labels
 normals_renamed f renames [] = refl
 normals_renamed f renames (label ∷ labels) = ap₂ ◌∷◌ (normal_renamed f renames label) (normals_renamed f renames labels)
 
-pub first_match-renamed : (f : ℕ → ℕ) → Renames f → (label : List ℕ) (labels : List (List ℕ)) → first_match (map f label) (map (map f) labels) ≡ first_match label labels
+pub first_match-renamed : (f : ℕ → ℕ) → Renames f → (label : List ℕ) (labels : List (List ℕ))
+    → first_match (map f label) (map (map f) labels) ≡ first_match label labels
 first_match-renamed f renames label labels = ap₂ place_of (normal_renamed f renames label) (normals_renamed f renames labels)
 
 -- ---- CR LF as one code or as two bytes
@@ -96,7 +98,8 @@ same_pair : (b : ℕ) (bs : List ℕ) → eqb b 10 ≡ true → HaveSameWords (c
     → HaveSameWords (slice_split is_space (after_return_code (b ∷ bs) (content_codes (b ∷ bs)))) ([] ∷ bytes_split (b ∷ bs))
 same_pair b bs feed h =
     let is : b ≡ 10 = eqb-true b 10 feed in
-    let pair : after_return_code (b ∷ bs) (content_codes (b ∷ bs)) ≡ 257 ∷ content_codes bs = ap (λ c. after_return_code (c ∷ bs) (content_codes (c ∷ bs))) is in
+    let pair : after_return_code (b ∷ bs) (content_codes (b ∷ bs)) ≡ 257 ∷ content_codes bs =
+    ap (λ c. after_return_code (c ∷ bs) (content_codes (c ∷ bs))) is in
     let here : HaveSameWords ([] ∷ codes_split bs) ([] ∷ [] ∷ bytes_split bs) = record {
       first = [];
       left = codes_split bs;
@@ -118,7 +121,8 @@ same_return (b ∷ bs) h more = elim (cases_Bool (eqb b 10)) [
       (same_after (codes_split (b ∷ bs)) (bytes_split (b ∷ bs)) h)
 ]
 
-same_byte : (b : ℕ) (bs : List ℕ) → eqb b 13 ≡ false → HaveSameWords (codes_split bs) (bytes_split bs) → HaveSameWords (codes_split (b ∷ bs)) (bytes_split (b ∷ bs))
+same_byte : (b : ℕ) (bs : List ℕ) → eqb b 13 ≡ false → HaveSameWords (codes_split bs) (bytes_split bs)
+    → HaveSameWords (codes_split (b ∷ bs)) (bytes_split (b ∷ bs))
 same_byte b bs other h =
     let code : codes_split (b ∷ bs) ≡ slice_split is_space (b ∷ content_codes bs) = ap (slice_split is_space) (cond-false (eqb b 13) _ _ other) in
     elim (cases_Bool (is_space b)) [
@@ -126,7 +130,8 @@ same_byte b bs other h =
           same_at _ _ ([] ∷ codes_split bs) ([] ∷ bytes_split bs) (code ∙ cond-true (is_space b) _ _ white) (cond-true (is_space b) _ _ white)
           (same_after (codes_split bs) (bytes_split bs) h)
       | inr black ↦
-          same_at _ _ (onto_first b (codes_split bs)) (onto_first b (bytes_split bs)) (code ∙ cond-false (is_space b) _ _ black) (cond-false (is_space b) _ _ black)
+          same_at _ _ (onto_first b (codes_split bs)) (onto_first b (bytes_split bs)) (code ∙ cond-false (is_space b) _ _ black)
+          (cond-false (is_space b) _ _ black)
           (same_onto b (codes_split bs) (bytes_split bs) h)
     ]
 
@@ -150,7 +155,7 @@ words-content_codes bs = same_words (codes_split bs) (bytes_split bs) (same_spli
 
 -- ---- words folded one by one, or the whole label
 
-pub case_folded-append : (xs ys : List ℕ) → IsUtf8 xs → case_folded (xs ++ ys) ≡ case_folded xs ++ case_folded ys
+pub case_folded-append : (xs ys : List ℕ) → IsUtf8 xs → case_fold (xs ++ ys) ≡ case_fold xs ++ case_fold ys
 case_folded-append xs ys text =
     ap (λ cs. encode_utf8_all (default_case_fold cs)) (chars-append xs ys text)
     ∙ ap encode_utf8_all (default_case_fold-append (chars xs) (chars ys))
@@ -164,34 +169,34 @@ pub space_is_text : IsUtf8 (32 ∷ [])
 unfolding is_utf8 chars encode
 space_is_text = IsUtf8-from_is_utf8 (32 ∷ []) refl
 
-nothing_folded : case_folded [] ≡ []
+nothing_folded : case_fold [] ≡ []
 unfolding default_case_fold chars
 nothing_folded = refl
 
-space_folded : case_folded (32 ∷ []) ≡ 32 ∷ []
+space_folded : case_fold (32 ∷ []) ≡ 32 ∷ []
 unfolding caseless chars encode
 space_folded = refl
 
-text_folded : (word : List ℕ) → IsUtf8 word → word_folded word ≡ case_folded word
-text_folded word text = ap case_folded (utf8_lossy-IsUtf8 word text)
+text_folded : (word : List ℕ) → IsUtf8 word → fold_word word ≡ case_fold word
+text_folded word text = ap case_fold (utf8_lossy-IsUtf8 word text)
 
-others_folded : (ws : List (List ℕ)) → AllByRecursion IsUtf8 ws → flat_map (λ w. (32 ∷ []) ++ word_folded w) ws ≡ case_folded (flat_map (λ w. (32 ∷ []) ++ w) ws)
+others_folded : (ws : List (List ℕ)) → AllByRecursion IsUtf8 ws → flat_map (λ w. (32 ∷ []) ++ fold_word w) ws ≡ case_fold (flat_map (λ w. (32 ∷ []) ++ w) ws)
 others_folded [] all = sym nothing_folded
 others_folded (w ∷ ws) all =
     let more = flat_map (λ w. (32 ∷ []) ++ w) ws in
     ap₂ (λ first left. (32 ∷ first) ++ left) (text_folded w all.0) (others_folded ws all.1)
     ∙ ap (λ t. 32 ∷ t) (sym (case_folded-append w more all.0))
-    ∙ ap (λ t. t ++ case_folded (w ++ more)) (sym space_folded)
+    ∙ ap (λ t. t ++ case_fold (w ++ more)) (sym space_folded)
     ∙ sym (case_folded-append (32 ∷ []) (w ++ more) space_is_text)
 
 -- it is the same to collapse white space first and then to fold the case
-pub folded_collapsed : (ws : List (List ℕ)) → AllByRecursion IsUtf8 ws → join_by word_folded (32 ∷ []) ws ≡ case_folded (join_by (λ word. word) (32 ∷ []) ws)
+pub folded_collapsed : (ws : List (List ℕ)) → AllByRecursion IsUtf8 ws → join_by fold_word (32 ∷ []) ws ≡ case_fold (join_by (λ word. word) (32 ∷ []) ws)
 folded_collapsed [] all = sym nothing_folded
 folded_collapsed (w ∷ ws) all =
     ap₂ ◌++◌ (text_folded w all.0) (others_folded ws all.1)
     ∙ sym (case_folded-append w (flat_map (λ w. (32 ∷ []) ++ w) ws) all.0)
 
-pub normal_label-collapsed : (label : List ℕ) → AllByRecursion IsUtf8 (words label) → normal_label label ≡ case_folded (collapsed label)
+pub normal_label-collapsed : (label : List ℕ) → AllByRecursion IsUtf8 (words label) → normal_label label ≡ case_fold (collapsed label)
 normal_label-collapsed label all = folded_collapsed (words label) all
 
 -- ---- worked labels

@@ -1,5 +1,6 @@
 -- The places of labels, with one label more.
-use Rattle.std.proofs.Common.{◌≡◌, ℕ, ◌+◌, Bool, true, false, cond, List, [], ◌∷◌, ◌++◌, map, length, Option, None, Some, refl, sym, ap, ap₂, ◌∙◌, inl, inr, add-zero, arith}
+use Rattle.std.proofs.Common.{◌≡◌, ℕ, ◌+◌, Bool, true, false, cond, List, [], ◌∷◌, ◌++◌, map, length, Option, None, Some, refl, sym, ap, ap₂, ◌∙◌, inl, inr}
+use Rattle.std.proofs.Common.{add-zero, arith}
 use Rattle.std.specs.List.{position_from}
 use Rattle.std.specs.Option.{is_some}
 use Rattle.std.specs.Str.{bytes_eq}
@@ -42,7 +43,8 @@ from-push test i (x ∷ xs) y = elim (cases_Bool (test x)) [
       ∙ ap₂ (λ place n. or_else place (cond (test y) (Some n) None)) (sym (cond-false (test x) _ _ not_here)) (omega arith)
 ]
 
-place_of-push : (q : List ℕ) (xs : List (List ℕ)) (y : List ℕ) → place_of q (xs ++ y ∷ []) ≡ or_else (place_of q xs) (cond (bytes_eq q y) (Some (length xs)) None)
+place_of-push : (q : List ℕ) (xs : List (List ℕ)) (y : List ℕ) → place_of q (xs ++ y ∷ [])
+    ≡ or_else (place_of q xs) (cond (bytes_eq q y) (Some (length xs)) None)
 place_of-push q xs y =
     position_from-zero (bytes_eq q) (xs ++ y ∷ [])
     ∙ from-push (bytes_eq q) 0 xs y
@@ -61,7 +63,8 @@ place_of-kept found xs y held some q = elim (cases_Bool (bytes_eq q y)) [
 ]
 
 -- a label that is new
-pub place_of-added : (found more : List ℕ → Option ℕ) (xs : List (List ℕ)) (y : List ℕ) (place : ℕ) → ((q : List ℕ) → found q ≡ place_of q xs) → is_some (found y) ≡ false → place ≡ length xs
+pub place_of-added : (found more : List ℕ → Option ℕ) (xs : List (List ℕ)) (y : List ℕ) (place : ℕ) → ((q : List ℕ) → found q ≡ place_of q xs)
+    → is_some (found y) ≡ false → place ≡ length xs
     → ((q : List ℕ) → more q ≡ cond (bytes_eq y q) (Some place) (found q)) → (q : List ℕ) → more q ≡ place_of q (xs ++ y ∷ [])
 place_of-added found more xs y place held none last step q = elim (cases_Bool (bytes_eq y q)) [
   | inl here ↦
@@ -73,7 +76,8 @@ place_of-added found more xs y place held none last step q = elim (cases_Bool (b
       ∙ sym (cond-true (bytes_eq q y) _ _ back)
       ∙ sym (place_of-push q xs y ∙ or_else-left (place_of q xs) _ (ap is_some (sym (held q) ∙ ap found (sym is)) ∙ none))
   | inr not_here ↦
-      let back : bytes_eq q y ≡ false = false_from_ne_true (bytes_eq q y) (λ e. true≢false (sym ((bytes_eq-Decides y q).1 (sym ((bytes_eq-Decides q y).0 e))) ∙ not_here)) in
+      let back : bytes_eq q y ≡ false =
+      false_from_ne_true (bytes_eq q y) (λ e. true≢false (sym ((bytes_eq-Decides y q).1 (sym ((bytes_eq-Decides q y).0 e))) ∙ not_here)) in
       step q
       ∙ cond-false (bytes_eq y q) _ _ not_here
       ∙ held q
@@ -81,5 +85,6 @@ place_of-added found more xs y place held none last step q = elim (cases_Bool (b
 ]
 
 -- a table has labels that are matched alike, too
-pub HasLabels-same : {A : Type 0} (table : LabelTable A) (labels others : List (List ℕ)) → map normal_label labels ≡ map normal_label others → HasLabels table labels → HasLabels table others
+pub HasLabels-same : {A : Type 0} (table : LabelTable A) (labels others : List (List ℕ)) → map normal_label labels ≡ map normal_label others
+    → HasLabels table labels → HasLabels table others
 HasLabels-same table labels others same held = record { places = λ q. held.places q ∙ ap (place_of q) same }

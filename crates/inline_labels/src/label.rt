@@ -4,7 +4,7 @@
 ghost use Rattle.std.specs.Prelude.{◌≡◌, ◌++◌, IfErr, IfOk, IsAscii, OnOk, string_bytes};
 ghost use Rattle.markdown_options.specs.Messages.{IsOutOfMemory};
 ghost use Rattle.definition_text.specs.Content.{content_codes};
-ghost use Rattle.definition_inline.specs.LabelMatch.{case_folded, word_folded, normal_label};
+ghost use Rattle.definition_inline.specs.LabelMatch.{case_fold, fold_word, normal_label};
 ghost use Rattle.inline_labels.specs.Chunks.{replacement_of};
 
 use crate::words::Words;
@@ -42,7 +42,7 @@ pub fn normalize_identifier<A: Allocator>(alloc: A, value: &str) -> Result<Strin
 
 /// Adds a word with its case folded; bytes that are no text count as U+FFFD.
 fn push_word<A: Allocator>(normal: &mut String<A>, word: &[u8]) -> Result<(), AllocError>
-    ensures { OnOk result (string_bytes normal.new ≡ string_bytes normal.old ++ word_folded word.now) }
+    ensures { OnOk result (string_bytes normal.new ≡ string_bytes normal.old ++ fold_word word.now) }
 {
     if word.is_ascii() {
         return push_ascii(normal, word);
@@ -56,7 +56,7 @@ fn push_word<A: Allocator>(normal: &mut String<A>, word: &[u8]) -> Result<(), Al
 /// Adds a word of ASCII with its case folded.
 fn push_ascii<A: Allocator>(normal: &mut String<A>, word: &[u8]) -> Result<(), AllocError>
     requires { IsAscii word.now }
-    ensures { OnOk result (string_bytes normal.new ≡ string_bytes normal.old ++ word_folded word.now) }
+    ensures { OnOk result (string_bytes normal.new ≡ string_bytes normal.old ++ fold_word word.now) }
 {
     for byte in word {
         normal.push(char::from(byte.to_ascii_lowercase()))?;
@@ -70,7 +70,7 @@ fn push_chunk<A: Allocator>(
     text: &str,
     no_text: &[u8],
 ) -> Result<(), AllocError>
-    ensures { OnOk result (string_bytes normal.new ≡ string_bytes normal.old ++ (case_folded text.now ++ replacement_of no_text.now)) }
+    ensures { OnOk result (string_bytes normal.new ≡ string_bytes normal.old ++ (case_fold text.now ++ replacement_of no_text.now)) }
 {
     push_folded(normal, text)?;
     if no_text.is_empty() {
@@ -82,7 +82,7 @@ fn push_chunk<A: Allocator>(
 
 /// Adds a text with its case folded in full.
 fn push_folded<A: Allocator>(normal: &mut String<A>, text: &str) -> Result<(), AllocError>
-    ensures { OnOk result (string_bytes normal.new ≡ string_bytes normal.old ++ case_folded text.now) }
+    ensures { OnOk result (string_bytes normal.new ≡ string_bytes normal.old ++ case_fold text.now) }
 {
     normal.extend(text.chars().default_case_fold())
 }

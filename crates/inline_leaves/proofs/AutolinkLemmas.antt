@@ -1,5 +1,6 @@
 -- Autolinks in codes and in bytes.
-use Rattle.std.proofs.Common.{◌≡◌, ℕ, ◌+◌, ◌-◌, ◌≤◌, List, [], ◌∷◌, Bool, true, false, cond, ◌&&◌, eqb, leb, Option, None, Some, refl, sym, ap, ◌∙◌, get_or, length, drop, take, arith, inl, inr}
+use Rattle.std.proofs.Common.{◌≡◌, ℕ, ◌+◌, ◌-◌, ◌≤◌, List, [], ◌∷◌, Bool, true, false, cond, ◌&&◌, eqb, leb, Option, None, Some, refl, sym, ap, ◌∙◌, get_or}
+use Rattle.std.proofs.Common.{length, drop, take, arith, inl, inr}
 use Rattle.std.specs.Prelude.{codes}
 use Rattle.std.specs.List.{prefix_len, take_while}
 use Rattle.std.specs.Option.{option_map}
@@ -10,11 +11,13 @@ use Rattle.markdown_options.specs.declared.configuration.Constructs.{Constructs}
 use Rattle.definition_text.specs.Content.{before, content_codes}
 use Rattle.definition_text.specs.Bytes.{after_all, begins_with, begins_with_letter}
 use Rattle.definition_inline.specs.Inline.{leaf, Autolink}
-use Rattle.definition_inline.specs.Autolink.{is_scheme_byte, is_uri_byte, begins_with_scheme, after_uri, uri_end, is_email_byte, is_domain_byte, is_domain, domain_end, email_end, closed_autolink, autolink_after, autolink_at}
+use Rattle.definition_inline.specs.Autolink.{is_scheme_byte, is_uri_byte, begins_with_scheme, after_uri, uri_end, is_email_byte, is_domain_byte, is_domain}
+use Rattle.definition_inline.specs.Autolink.{domain_end, email_end, closed_autolink, autolink_after, autolink_at}
 use Rattle.inline_leaves.specs.Leaves.{IsAddress, IsEnd, IsPlain, is_of, size_before}
 use Rattle.inline_leaves.specs.declared.byte_class.ByteClass.{ByteClass}
 use Rattle.inline_leaves.specs.declared.byte_class.ByteClass.TheVariants.{Scheme, Uri, Email, Domain}
-use Rattle.inline_leaves.proofs.Codes.{at_return, plain_code, plain_take, plain_size, size_plain, prefix_codes, prefix_plain, after_codes, while_codes, end_after}
+use Rattle.inline_leaves.proofs.Codes.{at_return, plain_code, plain_take, plain_size, size_plain, prefix_codes, prefix_plain, after_codes, while_codes}
+use Rattle.inline_leaves.proofs.Codes.{end_after}
 use Rattle.inline_leaves.proofs.Fronts.{begun}
 
 -- no class has CR
@@ -61,7 +64,8 @@ letter_codes (b ∷ bs) = elim (cases_Bool (eqb b 13)) [
 -- a byte, and a part after it
 after_byte : (c : ℕ) (t : Bool) (xs : List ℕ) (part : List ℕ → Option (List ℕ)) → eqb c 13 ≡ false → eqb c 257 ≡ false
     → part (content_codes (drop 1 xs)) ≡ option_map content_codes (part (drop 1 xs))
-    → cond (t && begins_with (c ∷ []) (content_codes xs)) (part (drop 1 (content_codes xs))) None ≡ option_map content_codes (cond (t && begins_with (c ∷ []) xs) (part (drop 1 xs)) None)
+    → cond (t && begins_with (c ∷ []) (content_codes xs)) (part (drop 1 (content_codes xs))) None
+    ≡ option_map content_codes (cond (t && begins_with (c ∷ []) xs) (part (drop 1 xs)) None)
 after_byte c t xs part return both natural =
     ap (λ u. cond (t && u) (part (drop 1 (content_codes xs))) None) (one_code c xs return both)
     ∙ elim (cases_Bool (begins_with (c ∷ []) xs)) [
@@ -73,7 +77,8 @@ after_byte c t xs part return both natural =
           ∙ ap (option_map content_codes) (sym (cond-false (t && begins_with (c ∷ []) xs) (part (drop 1 xs)) None (and_right t _ h)))
     ]
   where
-    by_case : (u : Bool) → part (content_codes (drop 1 xs)) ≡ option_map content_codes (part (drop 1 xs)) → cond u (part (content_codes (drop 1 xs))) None ≡ option_map content_codes (cond u (part (drop 1 xs)) None)
+    by_case : (u : Bool) → part (content_codes (drop 1 xs)) ≡ option_map content_codes (part (drop 1 xs))
+        → cond u (part (content_codes (drop 1 xs))) None ≡ option_map content_codes (cond u (part (drop 1 xs)) None)
     by_case true e = e
     by_case false e = refl
 
@@ -81,8 +86,11 @@ pub uri_codes : (xs : List ℕ) → uri_end (content_codes xs) ≡ option_map co
 uri_codes xs =
     let part = λ (r : List ℕ). Some (after_all is_uri_byte r) in
     let rest = after_all is_scheme_byte xs in
-    ap (λ n. cond ((begins_with_letter (content_codes xs) && (leb 2 n && leb n 32)) && begins_with (codes ":") (after_all is_scheme_byte (content_codes xs))) (after_part (after_all is_scheme_byte (content_codes xs))) None) (prefix_codes is_scheme_byte refl refl xs)
-    ∙ ap (λ t. cond ((t && (leb 2 (prefix_len is_scheme_byte xs) && leb (prefix_len is_scheme_byte xs) 32)) && begins_with (codes ":") (after_all is_scheme_byte (content_codes xs))) (after_part (after_all is_scheme_byte (content_codes xs))) None) (letter_codes xs)
+    ap (λ n. cond ((begins_with_letter (content_codes xs) && (leb 2 n && leb n 32)) && begins_with (codes ":") (after_all is_scheme_byte (content_codes xs)))
+    (after_part (after_all is_scheme_byte (content_codes xs))) None) (prefix_codes is_scheme_byte refl refl xs)
+    ∙ ap (λ t. cond ((t && (leb 2 (prefix_len is_scheme_byte xs) && leb (prefix_len is_scheme_byte xs) 32))
+    && begins_with (codes ":") (after_all is_scheme_byte (content_codes xs))) (after_part (after_all is_scheme_byte (content_codes xs))) None)
+    (letter_codes xs)
     ∙ ap (λ r. cond (begins_with_scheme xs && begins_with (codes ":") r) (after_part r) None) (after_codes is_scheme_byte refl refl xs)
     ∙ after_byte 58 (begins_with_scheme xs) rest part refl refl (ap Some (after_codes is_uri_byte refl refl (drop 1 rest)))
   where
@@ -95,14 +103,16 @@ domain_codes xs =
     ∙ ap (λ r. cond (is_domain (take_while is_domain_byte xs)) (Some r) None) (after_codes is_domain_byte refl refl xs)
     ∙ by_case (is_domain (take_while is_domain_byte xs))
   where
-    by_case : (t : Bool) → cond t (Some (content_codes (after_all is_domain_byte xs))) None ≡ option_map content_codes (cond t (Some (after_all is_domain_byte xs)) None)
+    by_case : (t : Bool) → cond t (Some (content_codes (after_all is_domain_byte xs))) None
+        ≡ option_map content_codes (cond t (Some (after_all is_domain_byte xs)) None)
     by_case true = refl
     by_case false = refl
 
 pub email_codes : (xs : List ℕ) → email_end (content_codes xs) ≡ option_map content_codes (email_end xs)
 email_codes xs =
     let rest = after_all is_email_byte xs in
-    ap (λ n. cond (leb 1 n && begins_with (codes "@") (after_all is_email_byte (content_codes xs))) (domain_end (drop 1 (after_all is_email_byte (content_codes xs)))) None) (prefix_codes is_email_byte refl refl xs)
+    ap (λ n. cond (leb 1 n && begins_with (codes "@") (after_all is_email_byte (content_codes xs)))
+    (domain_end (drop 1 (after_all is_email_byte (content_codes xs)))) None) (prefix_codes is_email_byte refl refl xs)
     ∙ ap (λ r. cond (leb 1 (prefix_len is_email_byte xs) && begins_with (codes "@") r) (domain_end (drop 1 r)) None) (after_codes is_email_byte refl refl xs)
     ∙ after_byte 64 (leb 1 (prefix_len is_email_byte xs)) rest domain_end refl refl (domain_codes (drop 1 rest))
 
@@ -113,7 +123,8 @@ plain_join xs n m first second = record {
   within = omega (arith, first.within, second.within, length-drop n xs);
   plain = λ k lt. elim (cases_lt k n) [
     | inl here ↦ first.plain k here
-    | inr there ↦ let place : n + (k - n) ≡ k = omega arith in λ e. second.plain (k - n) (omega arith) (get_or-drop n xs (k - n) 0 ∙ ap (λ j. get_or xs j 0) place ∙ e)
+    | inr there ↦ let place : n + (k - n) ≡ k = omega arith in
+        λ e. second.plain (k - n) (omega arith) (get_or-drop n xs (k - n) 0 ∙ ap (λ j. get_or xs j 0) place ∙ e)
   ];
 }
 
@@ -151,7 +162,8 @@ plain_address xs n plain there =
 pub autolink_off : (on : Constructs) (xs : List ℕ) → on.autolink ≡ false → autolink_at on (content_codes xs) ≡ None
 autolink_off on xs off = cond-false _ _ _ (and_left on.autolink _ off)
 
-pub autolink_is : (on : Constructs) (xs : List ℕ) → on.autolink ≡ true → begins_with (codes "<") xs ≡ true → autolink_at on (content_codes xs) ≡ autolink_after (content_codes (drop 1 xs))
+pub autolink_is : (on : Constructs) (xs : List ℕ) → on.autolink ≡ true → begins_with (codes "<") xs ≡ true
+    → autolink_at on (content_codes xs) ≡ autolink_after (content_codes (drop 1 xs))
 autolink_is on xs is_on less =
     cond-true _ _ _ (and_from on.autolink _ is_on (one_code 60 xs refl refl ∙ less)) ∙ ap autolink_after (after_one 60 xs refl less)
 
@@ -174,13 +186,15 @@ autolink_end xs n less there =
     let last : get_or xs (1 + n + 1 - 1) 0 ≡ 62 = ap (λ k. get_or xs k 0) (sym place) ∙ sym (get_or-drop 1 xs n 0) ∙ there.greater in
     end_after xs (1 + n + 1) (omega arith) (omega (arith, there.within, length-drop 1 xs)) (omega arith) (λ e. omega arith)
 
-pub autolink_size : (xs rest : List ℕ) (n : ℕ) → begins_with (codes "<") xs ≡ true → IsAddress (drop 1 xs) n → rest ≡ drop (1 + n + 1) xs → n + 2 ≡ size_before xs rest
+pub autolink_size : (xs rest : List ℕ) (n : ℕ) → begins_with (codes "<") xs ≡ true → IsAddress (drop 1 xs) n → rest ≡ drop (1 + n + 1) xs
+    → n + 2 ≡ size_before xs rest
 autolink_size xs rest n less there after =
     let plain = shifted xs n less there in
     let e : 1 + n + 1 ≡ n + 2 = omega arith in
     sym (size_plain (1 + n + 1) xs rest after plain.within plain.plain ∙ e)
 
-pub uri_is : (xs : List ℕ) (n m : ℕ) → n ≡ prefix_len is_scheme_byte xs → 2 ≤ n → n ≤ 32 → begins_with_letter xs ≡ true → begins_with (codes ":") (drop n xs) ≡ true
+pub uri_is : (xs : List ℕ) (n m : ℕ) → n ≡ prefix_len is_scheme_byte xs → 2 ≤ n → n ≤ 32 → begins_with_letter xs ≡ true
+    → begins_with (codes ":") (drop n xs) ≡ true
     → m ≡ prefix_len is_uri_byte (drop 1 (drop n xs)) → Some (drop (n + 1 + m) xs) ≡ uri_end xs
 uri_is xs n m e few most letter colon f =
     let ys = drop n xs in
@@ -204,9 +218,11 @@ mapped xs (Some n) = refl
 
 -- both kinds, in codes
 pub uri_found : (email : Bool) (xs : List ℕ) (size : Option ℕ) → option_map (λ n. drop n xs) size ≡ uri_end xs
-    → closed_autolink email (content_codes xs) (option_map (λ n. content_codes (drop n xs)) size) ≡ closed_autolink email (content_codes xs) (uri_end (content_codes xs))
+    → closed_autolink email (content_codes xs) (option_map (λ n. content_codes (drop n xs)) size)
+    ≡ closed_autolink email (content_codes xs) (uri_end (content_codes xs))
 uri_found email xs size e = ap (closed_autolink email (content_codes xs)) (mapped xs size ∙ ap (option_map content_codes) e ∙ sym (uri_codes xs))
 
 pub email_found : (email : Bool) (xs : List ℕ) (size : Option ℕ) → option_map (λ n. drop n xs) size ≡ email_end xs
-    → closed_autolink email (content_codes xs) (option_map (λ n. content_codes (drop n xs)) size) ≡ closed_autolink email (content_codes xs) (email_end (content_codes xs))
+    → closed_autolink email (content_codes xs) (option_map (λ n. content_codes (drop n xs)) size)
+    ≡ closed_autolink email (content_codes xs) (email_end (content_codes xs))
 email_found email xs size e = ap (closed_autolink email (content_codes xs)) (mapped xs size ∙ ap (option_map content_codes) e ∙ sym (email_codes xs))

@@ -1,5 +1,6 @@
 -- Character references in codes and in bytes.
-use Rattle.std.proofs.Common.{◌≡◌, ℕ, suc, ◌+◌, ◌-◌, List, [], ◌∷◌, ◌++◌, Bool, true, false, cond, ◌&&◌, ◌||◌, eqb, leb, Option, None, Some, refl, sym, ap, ◌∙◌, append_assoc, get_or, length, length-append, drop, take, arith, inl, inr}
+use Rattle.std.proofs.Common.{◌≡◌, ℕ, suc, ◌+◌, ◌-◌, List, [], ◌∷◌, ◌++◌, Bool, true, false, cond, ◌&&◌, ◌||◌, eqb, leb, Option, None, Some, refl, sym, ap, ◌∙◌}
+use Rattle.std.proofs.Common.{append_assoc, get_or, length, length-append, drop, take, arith, inl, inr}
 use Rattle.std.proofs.lemmas.Bool.{cases_Bool, cond-true, cond-false, eqb-true, eqb-false, ne_eqb}
 use Rattle.std.proofs.lemmas.List.Sums.{prefix_len-le-length}
 use Rattle.std.proofs.lemmas.List.{drop-drop, take-append-drop}
@@ -9,7 +10,9 @@ use Rattle.std.specs.List.{prefix_len}
 use Rattle.std.specs.Option.{option_map}
 use Rattle.markdown_options.specs.declared.configuration.Constructs.{Constructs}
 use Rattle.definition_text.specs.Content.{Part, part, content_codes}
-use Rattle.definition_inline.specs.CharacterReference.{CharacterReference, character_reference, Names, before_semicolon, terminated, numbered, named, number_reference, reference_after, reference_form, reference_text, reference_leaf, reference_of, reference_at}
+use Rattle.definition_inline.specs.CharacterReference.{CharacterReference, character_reference, Names, before_semicolon, part_to_semicolon, reference_by_number}
+use Rattle.definition_inline.specs.CharacterReference.{reference_by_name, number_reference, reference_after, reference_form, reference_text, reference_leaf}
+use Rattle.definition_inline.specs.CharacterReference.{reference_of, reference_at}
 use Rattle.inline_references.specs.Markers.{marker_size}
 use Rattle.inline_references.specs.Places.{IsCutFrom}
 use Rattle.inline_references.specs.declared.reference.CharacterReference.{CharacterReference as TextReference}
@@ -39,7 +42,8 @@ semicolon_codes text (c ∷ cs) = elim (cases_Bool (eqb c 13)) [
     by_case true = refl
     by_case false = refl
 
-terminated_codes : (test : ℕ → Bool) (most : ℕ) (xs : List ℕ) → test 13 ≡ false → test 257 ≡ false → terminated test most (content_codes xs) ≡ option_map coded (terminated test most xs)
+terminated_codes : (test : ℕ → Bool) (most : ℕ) (xs : List ℕ) → test 13 ≡ false → test 257 ≡ false
+    → part_to_semicolon test most (content_codes xs) ≡ option_map coded (part_to_semicolon test most xs)
 terminated_codes test most xs return both =
     let n = prefix_len test xs in
     let codes = content_codes xs in
@@ -50,17 +54,18 @@ terminated_codes test most xs return both =
     ∙ ap (λ rest. cond (leb 1 n && leb n most) (before_semicolon (take n xs) rest) None) (plain_drop n xs le plain)
     ∙ by_case (leb 1 n && leb n most) (semicolon_codes (take n xs) (drop n xs))
   where
-    by_case : (t : Bool) → before_semicolon (take (prefix_len test xs) xs) (content_codes (drop (prefix_len test xs) xs)) ≡ option_map coded (before_semicolon (take (prefix_len test xs) xs) (drop (prefix_len test xs) xs))
+    by_case : (t : Bool) → before_semicolon (take (prefix_len test xs) xs) (content_codes (drop (prefix_len test xs) xs))
+        ≡ option_map coded (before_semicolon (take (prefix_len test xs) xs) (drop (prefix_len test xs) xs))
         → cond t (before_semicolon (take (prefix_len test xs) xs) (content_codes (drop (prefix_len test xs) xs))) None
         ≡ option_map coded (cond t (before_semicolon (take (prefix_len test xs) xs) (drop (prefix_len test xs) xs)) None)
     by_case true e = e
     by_case false e = refl
 
-numbered_coded : (base : ℕ) (o : Option Part) → numbered base (option_map coded o) ≡ option_map coded_reference (numbered base o)
+numbered_coded : (base : ℕ) (o : Option Part) → reference_by_number base (option_map coded o) ≡ option_map coded_reference (reference_by_number base o)
 numbered_coded base None = refl
 numbered_coded base (Some p) = refl
 
-named_coded : (o : Option Part) → named (option_map coded o) ≡ option_map coded_reference (named o)
+named_coded : (o : Option Part) → reference_by_name (option_map coded o) ≡ option_map coded_reference (reference_by_name o)
 named_coded None = refl
 named_coded (Some p) = refl
 
@@ -74,12 +79,16 @@ number_codes (c ∷ cs) = elim (cases_Bool (eqb c 13)) [
   | inr h ↦
       let codes = plain_code c cs (eqb-false c 13 h) in
       ap number_reference codes
-      ∙ by_case _ _ (numbered 16 (terminated is_ascii_hexdigit 6 cs)) (numbered 10 (terminated is_ascii_digit 7 (c ∷ cs))) (eqb c 120 || eqb c 88)
-      (ap (numbered 16) (terminated_codes is_ascii_hexdigit 6 cs refl refl) ∙ numbered_coded 16 (terminated is_ascii_hexdigit 6 cs))
-      (ap (λ x. numbered 10 (terminated is_ascii_digit 7 x)) (sym codes) ∙ ap (numbered 10) (terminated_codes is_ascii_digit 7 (c ∷ cs) refl refl) ∙ numbered_coded 10 (terminated is_ascii_digit 7 (c ∷ cs)))
+      ∙ by_case _ _ (reference_by_number 16 (part_to_semicolon is_ascii_hexdigit 6 cs)) (reference_by_number 10 (part_to_semicolon is_ascii_digit 7 (c ∷ cs)))
+      (eqb c 120 || eqb c 88)
+      (ap (reference_by_number 16) (terminated_codes is_ascii_hexdigit 6 cs refl refl) ∙ numbered_coded 16 (part_to_semicolon is_ascii_hexdigit 6 cs))
+      (ap (λ x. reference_by_number 10 (part_to_semicolon is_ascii_digit 7 x)) (sym codes)
+      ∙ ap (reference_by_number 10) (terminated_codes is_ascii_digit 7 (c ∷ cs) refl refl)
+      ∙ numbered_coded 10 (part_to_semicolon is_ascii_digit 7 (c ∷ cs)))
 ]
   where
-    by_case : (a b x y : Option CharacterReference) (t : Bool) → a ≡ option_map coded_reference x → b ≡ option_map coded_reference y → cond t a b ≡ option_map coded_reference (cond t x y)
+    by_case : (a b x y : Option CharacterReference) (t : Bool) → a ≡ option_map coded_reference x → b ≡ option_map coded_reference y
+        → cond t a b ≡ option_map coded_reference (cond t x y)
     by_case a b x y true e f = e
     by_case a b x y false e f = f
 
@@ -93,12 +102,15 @@ after_codes (c ∷ cs) = elim (cases_Bool (eqb c 13)) [
   | inr h ↦
       let codes = plain_code c cs (eqb-false c 13 h) in
       ap reference_after codes
-      ∙ by_case _ _ (number_reference cs) (named (terminated is_ascii_alphanumeric 31 (c ∷ cs))) (eqb c 35)
+      ∙ by_case _ _ (number_reference cs) (reference_by_name (part_to_semicolon is_ascii_alphanumeric 31 (c ∷ cs))) (eqb c 35)
       (number_codes cs)
-      (ap (λ x. named (terminated is_ascii_alphanumeric 31 x)) (sym codes) ∙ ap named (terminated_codes is_ascii_alphanumeric 31 (c ∷ cs) refl refl) ∙ named_coded (terminated is_ascii_alphanumeric 31 (c ∷ cs)))
+      (ap (λ x. reference_by_name (part_to_semicolon is_ascii_alphanumeric 31 x)) (sym codes)
+      ∙ ap reference_by_name (terminated_codes is_ascii_alphanumeric 31 (c ∷ cs) refl refl)
+      ∙ named_coded (part_to_semicolon is_ascii_alphanumeric 31 (c ∷ cs)))
 ]
   where
-    by_case : (a b x y : Option CharacterReference) (t : Bool) → a ≡ option_map coded_reference x → b ≡ option_map coded_reference y → cond t a b ≡ option_map coded_reference (cond t x y)
+    by_case : (a b x y : Option CharacterReference) (t : Bool) → a ≡ option_map coded_reference x → b ≡ option_map coded_reference y
+        → cond t a b ≡ option_map coded_reference (cond t x y)
     by_case a b x y true e f = e
     by_case a b x y false e f = f
 
@@ -125,7 +137,8 @@ by_form on names xs is_on = cond-true _ _ _ is_on ∙ ap (reference_of names (co
 
 pub reference_other : (on : Constructs) (names : Names) (xs : List ℕ) → on.character_reference ≡ true → ((rest : List ℕ) → xs ≡ 38 ∷ rest → ⊥)
     → reference_at on names (content_codes xs) ≡ None
-reference_other on names xs is_on other = by_form on names xs is_on ∙ ap (λ o. reference_of names (content_codes xs) (option_map coded_reference o)) (no_form xs other)
+reference_other on names xs is_on other =
+    by_form on names xs is_on ∙ ap (λ o. reference_of names (content_codes xs) (option_map coded_reference o)) (no_form xs other)
   where
     no_form : (xs : List ℕ) → ((rest : List ℕ) → xs ≡ 38 ∷ rest → ⊥) → reference_form xs ≡ None
     no_form [] other = refl
@@ -148,8 +161,10 @@ after_byte xs front rest b is apart =
     let last : get_or xs (length front) 0 ≡ b = ap (λ x. get_or x (length front) 0) is ∙ get_or-append_seam front b rest 0 in
     let first : suc (length front) - 1 ≡ length front = omega arith in
     let place : rest ≡ drop (suc (length front)) xs =
-    sym (ap (drop 1) (ap (drop (length front)) is ∙ drop-append_seam front (b ∷ rest))) ∙ drop-drop 1 (length front) xs ∙ ap (λ n. drop n xs) (add_one (length front)) in
-    is_after xs rest (suc (length front)) place (omega arith) (omega arith) (cut_after_byte xs (suc (length front)) (omega arith) (λ e. apart (sym last ∙ ap (λ k. get_or xs k 0) (sym first) ∙ e)))
+    sym (ap (drop 1) (ap (drop (length front)) is ∙ drop-append_seam front (b ∷ rest))) ∙ drop-drop 1 (length front) xs
+    ∙ ap (λ n. drop n xs) (add_one (length front)) in
+    is_after xs rest (suc (length front)) place (omega arith) (omega arith)
+    (cut_after_byte xs (suc (length front)) (omega arith) (λ e. apart (sym last ∙ ap (λ k. get_or xs k 0) (sym first) ∙ e)))
   where
     add_one : (n : ℕ) → n + 1 ≡ suc n
     add_one n = omega arith
@@ -159,7 +174,8 @@ pub after_reference : (xs after : List ℕ) (r : TextReference) → xs ≡ 38 �
 after_reference xs after r is cut =
     let front = 38 ∷ take (marker_size r.marker) after in
     let parts : xs ≡ (front ++ r.value.now) ++ 59 ∷ r.rest.now =
-    is ∙ ap (λ x. 38 ∷ x) (sym (take-append-drop (marker_size r.marker) after)) ∙ ap (λ x. front ++ x) cut.parts ∙ sym (append_assoc front r.value.now (59 ∷ r.rest.now)) in
+    is ∙ ap (λ x. 38 ∷ x) (sym (take-append-drop (marker_size r.marker) after)) ∙ ap (λ x. front ++ x) cut.parts
+    ∙ sym (append_assoc front r.value.now (59 ∷ r.rest.now)) in
     after_byte xs (front ++ r.value.now) r.rest.now 59 parts (λ e. omega arith)
 
 -- a reference whose text is known or not
@@ -167,6 +183,7 @@ pub unknown_leaf : (size : ℕ) (text : Option (List ℕ)) → None ≡ option_m
 unknown_leaf size None h = refl
 unknown_leaf size (Some text) h = absurd (none-some _ h)
 
-pub known_leaf : (size : ℕ) (text : Option (List ℕ)) (parts : List Inline) → Some parts ≡ option_map character_parts text → reference_leaf size text ≡ Some (leaf parts size)
+pub known_leaf : (size : ℕ) (text : Option (List ℕ)) (parts : List Inline) → Some parts ≡ option_map character_parts text
+    → reference_leaf size text ≡ Some (leaf parts size)
 known_leaf size None parts h = absurd (none-some _ (sym h))
 known_leaf size (Some text) parts h = ap (λ p. Some (leaf p size)) (sym (same_Some _ _ h))

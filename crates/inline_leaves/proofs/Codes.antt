@@ -1,5 +1,6 @@
 -- The codes of a content and its bytes.
-use Rattle.std.proofs.Common.{◌≡◌, ℕ, zero, suc, ◌+◌, ◌-◌, ◌<◌, ◌≤◌, List, [], ◌∷◌, ◌++◌, Bool, false, cond, eqb, refl, sym, ap, ◌∙◌, get_or, length, drop, take, arith, inl, inr, subst}
+use Rattle.std.proofs.Common.{◌≡◌, ℕ, zero, suc, ◌+◌, ◌-◌, ◌<◌, ◌≤◌, List, [], ◌∷◌, ◌++◌, Bool, false, cond, eqb, refl, sym, ap, ◌∙◌, get_or, length, drop}
+use Rattle.std.proofs.Common.{take, arith, inl, inr, subst}
 use Rattle.std.proofs.lemmas.Bool.{cases_Bool, cond-false, cond-true, eqb-true, ne_eqb, false≢true}
 use Rattle.std.proofs.lemmas.List.{drop_at, take_at, length-take-le, length-append, length-drop}
 use Rattle.std.proofs.lemmas.List.Sums.{prefix_len_passes, prefix_len-le-length}
@@ -48,7 +49,8 @@ plain_take n xs le apart = ap (take n) (plain_codes n xs le apart) ∙ take_at (
 pub plain_size : (n : ℕ) (xs : List ℕ) → n ≤ length xs → ((k : ℕ) → k < n → get_or xs k 0 ≡ 13 → ⊥)
     → length (content_codes xs) ≡ n + length (content_codes (drop n xs))
 plain_size n xs le apart =
-    ap length (plain_codes n xs le apart) ∙ length-append (take n xs) (content_codes (drop n xs)) ∙ ap (λ k. k + length (content_codes (drop n xs))) (length-take-le n xs le)
+    ap length (plain_codes n xs le apart) ∙ length-append (take n xs) (content_codes (drop n xs))
+    ∙ ap (λ k. k + length (content_codes (drop n xs))) (length-take-le n xs le)
 
 -- ---- codes that pass a test, which line endings fail
 
@@ -111,7 +113,8 @@ cut_plain xs n le apart = plain_codes n xs le apart ∙ ap (λ c. c ++ content_c
     plain_text : (n : ℕ) (xs : List ℕ) → n ≤ length xs → ((k : ℕ) → k < n → get_or xs k 0 ≡ 13 → ⊥) → content_codes (take n xs) ≡ take n xs
     plain_text zero xs le apart = refl
     plain_text (suc n) [] le apart = refl
-    plain_text (suc n) (x ∷ xs) le apart = plain_code x (take n xs) (apart zero (omega arith)) ∙ ap (λ c. x ∷ c) (plain_text n xs (omega arith) (λ k lt. apart (suc k) (omega arith)))
+    plain_text (suc n) (x ∷ xs) le apart =
+        plain_code x (take n xs) (apart zero (omega arith)) ∙ ap (λ c. x ∷ c) (plain_text n xs (omega arith) (λ k lt. apart (suc k) (omega arith)))
 
 pub size_plain : (n : ℕ) (xs rest : List ℕ) → rest ≡ drop n xs → n ≤ length xs → ((k : ℕ) → k < n → get_or xs k 0 ≡ 13 → ⊥) → size_before xs rest ≡ n
 size_plain n xs rest e le apart =

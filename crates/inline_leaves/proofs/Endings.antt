@@ -20,13 +20,15 @@ no_ending b bs feed return byte =
     ∙ or_from (eqb b 10 || eqb b 13) (eqb b 257) (or_from (eqb b 10) (eqb b 13) (ne_eqb b 10 feed) (ne_eqb b 13 return)) (ne_eqb b 257 (λ e. omega arith))
 
 -- a line ending before something
-pub inner_line : (codes : List ℕ) (ending : LineEnding) (rest : List ℕ) → codes ≡ line_ending_code ending ∷ content_codes rest → 0 < length rest → ends_inner_line codes ≡ true
+pub inner_line : (codes : List ℕ) (ending : LineEnding) (rest : List ℕ) → codes ≡ line_ending_code ending ∷ content_codes rest → 0 < length rest
+    → ends_inner_line codes ≡ true
 inner_line codes ending [] e some = absurd (omega arith)
 inner_line codes ending (b ∷ bs) e some =
     let more = codes_some b bs in
     ap ends_inner_line (e ∙ ap (λ cs. line_ending_code ending ∷ cs) more.2) ∙ ending_is_eol ending
 
-pub last_line : (codes : List ℕ) (ending : LineEnding) (rest : List ℕ) → codes ≡ line_ending_code ending ∷ content_codes rest → length rest ≡ 0 → ends_inner_line codes ≡ false
+pub last_line : (codes : List ℕ) (ending : LineEnding) (rest : List ℕ) → codes ≡ line_ending_code ending ∷ content_codes rest → length rest ≡ 0
+    → ends_inner_line codes ≡ false
 last_line codes ending [] e none = ap ends_inner_line e
 last_line codes ending (b ∷ bs) e none = absurd (omega arith)
 

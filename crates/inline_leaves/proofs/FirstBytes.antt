@@ -54,7 +54,8 @@ module _ (options : ParseOptions) (names : List ℕ → Option (List ℕ)) (xs :
       (λ c cs other. cond-false _ _ _ (and_right on.hard_break_escape _ (and_left (eqb c 92) _ (ne_eqb c 92 other)))) xs p
 
   no_reference : IsNot 38 (get_or xs 0 0) → reference_at on names (content_codes xs) ≡ None
-  no_reference p = skip (reference_at on names) None (IsNot 38) (λ e. omega arith) (λ e. omega arith) (none [] refl) (λ c cs other. none (c ∷ cs) (cond-false (eqb c 38) _ _ (ne_eqb c 38 other))) xs p
+  no_reference p = skip (reference_at on names) None (IsNot 38) (λ e. omega arith) (λ e. omega arith) (none [] refl)
+      (λ c cs other. none (c ∷ cs) (cond-false (eqb c 38) _ _ (ne_eqb c 38 other))) xs p
     where
       none : (codes : List ℕ) → reference_form codes ≡ None → reference_at on names codes ≡ None
       none codes form = elim (cases_Bool on.character_reference) [
@@ -63,13 +64,15 @@ module _ (options : ParseOptions) (names : List ℕ → Option (List ℕ)) (xs :
       ]
 
   no_code : IsNot 96 (get_or xs 0 0) → code_text_at on (content_codes xs) ≡ None
-  no_code p = skip (code_text_at on) None (IsNot 96) (λ e. omega arith) (λ e. omega arith) (none [] refl) (λ c cs other. none (c ∷ cs) (cond-false (eqb c 96) _ _ (ne_eqb c 96 other))) xs p
+  no_code p = skip (code_text_at on) None (IsNot 96) (λ e. omega arith) (λ e. omega arith) (none [] refl)
+      (λ c cs other. none (c ∷ cs) (cond-false (eqb c 96) _ _ (ne_eqb c 96 other))) xs p
     where
       none : (codes : List ℕ) → run 96 codes ≡ 0 → code_text_at on codes ≡ None
       none codes size = cond-false _ _ _ (and_right on.code_text _ (ap (λ n. not (eqb n 0)) size))
 
   no_math : IsNot 36 (get_or xs 0 0) → math_text_at options (content_codes xs) ≡ None
-  no_math p = skip (math_text_at options) None (IsNot 36) (λ e. omega arith) (λ e. omega arith) (none [] refl) (λ c cs other. none (c ∷ cs) (cond-false (eqb c 36) _ _ (ne_eqb c 36 other))) xs p
+  no_math p = skip (math_text_at options) None (IsNot 36) (λ e. omega arith) (λ e. omega arith) (none [] refl)
+      (λ c cs other. none (c ∷ cs) (cond-false (eqb c 36) _ _ (ne_eqb c 36 other))) xs p
     where
       none : (codes : List ℕ) → run 36 codes ≡ 0 → math_text_at options codes ≡ None
       none codes size = cond-false _ _ _ (and_right (may_open_math options (run 36 codes)) _ (ap (λ n. not (eqb n 0)) size))
@@ -137,12 +140,14 @@ module _ (options : ParseOptions) (names : List ℕ → Option (List ℕ)) (xs :
 
   pub by_backslash : get_or xs 0 0 ≡ 92 → leaf_in options names codes_here ≡ or_else (escape_at on codes_here) (escaped_break_at on codes_here)
   by_backslash e =
-      let none : references ≡ None = from_ticks (λ f. omega arith) ∙ from_dollars (λ f. omega arith) ∙ from_angles (λ f. omega arith) ∙ from_ends (λ f. omega arith) ∙ no_ends (λ f. omega arith) (ap is_eol e) (ap is_white e) in
+      let none : references ≡ None = from_ticks (λ f. omega arith) ∙ from_dollars (λ f. omega arith) ∙ from_angles (λ f. omega arith)
+      ∙ from_ends (λ f. omega arith) ∙ no_ends (λ f. omega arith) (ap is_eol e) (ap is_white e) in
       ap (or_else (escape_at on codes_here)) (alone (escaped_break_at on codes_here) references none)
 
   pub by_ampersand : get_or xs 0 0 ≡ 38 → leaf_in options names codes_here ≡ reference_at on names codes_here
   by_ampersand e =
-      let none : ticks ≡ None = from_dollars (λ f. omega arith) ∙ from_angles (λ f. omega arith) ∙ from_ends (λ f. omega arith) ∙ no_ends (λ f. omega arith) (ap is_eol e) (ap is_white e) in
+      let none : ticks ≡ None = from_dollars (λ f. omega arith) ∙ from_angles (λ f. omega arith) ∙ from_ends (λ f. omega arith)
+      ∙ no_ends (λ f. omega arith) (ap is_eol e) (ap is_white e) in
       from_references (λ f. omega arith) ∙ alone (reference_at on names codes_here) ticks none
 
   pub by_backtick : get_or xs 0 0 ≡ 96 → leaf_in options names codes_here ≡ code_text_at on codes_here
@@ -167,18 +172,23 @@ module _ (options : ParseOptions) (names : List ℕ → Option (List ℕ)) (xs :
 
   pub by_line_end : (get_or xs 0 0 ≡ 10) ⊎ (get_or xs 0 0 ≡ 13) → leaf_in options names codes_here ≡ line_end_at codes_here
   by_line_end (inl e) =
-      past_marks (λ f. omega arith) (λ f. omega arith) (λ f. omega arith) (λ f. omega arith) (λ f. omega arith) ∙ alone (line_end_at codes_here) _ (no_spaces (ap is_white e))
+      past_marks (λ f. omega arith) (λ f. omega arith) (λ f. omega arith) (λ f. omega arith) (λ f. omega arith)
+      ∙ alone (line_end_at codes_here) _ (no_spaces (ap is_white e))
   by_line_end (inr e) =
-      past_marks (λ f. omega arith) (λ f. omega arith) (λ f. omega arith) (λ f. omega arith) (λ f. omega arith) ∙ alone (line_end_at codes_here) _ (no_spaces (ap is_white e))
+      past_marks (λ f. omega arith) (λ f. omega arith) (λ f. omega arith) (λ f. omega arith) (λ f. omega arith)
+      ∙ alone (line_end_at codes_here) _ (no_spaces (ap is_white e))
 
   pub by_white : (get_or xs 0 0 ≡ 9) ⊎ (get_or xs 0 0 ≡ 32) → leaf_in options names codes_here ≡ line_spaces_at on codes_here
   by_white (inl e) =
-      past_marks (λ f. omega arith) (λ f. omega arith) (λ f. omega arith) (λ f. omega arith) (λ f. omega arith) ∙ later _ _ (no_line_end (λ f. omega arith) (ap is_eol e))
+      past_marks (λ f. omega arith) (λ f. omega arith) (λ f. omega arith) (λ f. omega arith) (λ f. omega arith)
+      ∙ later _ _ (no_line_end (λ f. omega arith) (ap is_eol e))
   by_white (inr e) =
-      past_marks (λ f. omega arith) (λ f. omega arith) (λ f. omega arith) (λ f. omega arith) (λ f. omega arith) ∙ later _ _ (no_line_end (λ f. omega arith) (ap is_eol e))
+      past_marks (λ f. omega arith) (λ f. omega arith) (λ f. omega arith) (λ f. omega arith) (λ f. omega arith)
+      ∙ later _ _ (no_line_end (λ f. omega arith) (ap is_eol e))
 
   pub by_other : get_or xs 0 0 < 256 → IsNot 92 (get_or xs 0 0) → IsNot 38 (get_or xs 0 0) → IsNot 96 (get_or xs 0 0) → IsNot 36 (get_or xs 0 0)
-      → IsNot 60 (get_or xs 0 0) → IsNot 10 (get_or xs 0 0) → IsNot 13 (get_or xs 0 0) → IsNot 32 (get_or xs 0 0) → IsNot 9 (get_or xs 0 0) → leaf_in options names codes_here ≡ None
+      → IsNot 60 (get_or xs 0 0) → IsNot 10 (get_or xs 0 0) → IsNot 13 (get_or xs 0 0) → IsNot 32 (get_or xs 0 0) → IsNot 9 (get_or xs 0 0)
+      → leaf_in options names codes_here ≡ None
   by_other byte a b c d e feed return space tab =
       let x = get_or xs 0 0 in
       past_marks a b c d e

@@ -1,5 +1,6 @@
 -- White space after a check, by bytes and by codes; and where a check ends.
-use Rattle.std.proofs.Common.{◌≡◌, ℕ, zero, suc, ◌+◌, ◌-◌, ◌<◌, List, [], ◌∷◌, Bool, true, false, cond, eqb, refl, sym, ap, ◌∙◌, length, drop, get_or, arith, inl, inr}
+use Rattle.std.proofs.Common.{◌≡◌, ℕ, zero, suc, ◌+◌, ◌-◌, ◌<◌, List, [], ◌∷◌, Bool, true, false, cond, eqb, refl, sym, ap, ◌∙◌, length, drop, get_or, arith}
+use Rattle.std.proofs.Common.{inl, inr}
 use Rattle.std.specs.Prelude.{not, ◌&&◌}
 use Rattle.std.specs.List.{list_all}
 use Rattle.std.proofs.lemmas.Bool.{cases_Bool, cases_lt, cond-false, cond-true, eqb-true}
@@ -86,7 +87,8 @@ pub check_end : (bytes : List ℕ) (opening mark at second third : ℕ) → cont
     → content_codes (drop second bytes) ≡ mark ∷ content_codes (drop at bytes) → content_codes (drop at bytes) ≡ 93 ∷ content_codes (drop third bytes)
     → IsCheckEnd bytes (at + 1)
 check_end bytes opening mark at second third first next last =
-    let byte : get_or bytes at 0 ≡ 93 = sym (get_or-drop at bytes 0 0 ∙ ap (λ k. get_or bytes k 0) (omega arith)) ∙ bytes_are (drop at bytes) (content_codes (drop third bytes)) last in
+    let byte : get_or bytes at 0 ≡ 93 =
+    sym (get_or-drop at bytes 0 0 ∙ ap (λ k. get_or bytes k 0) (omega arith)) ∙ bytes_are (drop at bytes) (content_codes (drop third bytes)) last in
     let within : at < length bytes = elim (cases_lt at (length bytes)) [
       | inl lt ↦ lt
       | inr ge ↦ absurd (omega (arith, byte, get_or_past bytes at 0 ge))

@@ -1,5 +1,6 @@
 -- Spaces and tabs at the end of a line, in codes and in bytes.
-use Rattle.std.proofs.Common.{◌≡◌, ℕ, zero, suc, ◌+◌, ◌-◌, ◌<◌, ◌≤◌, List, true, false, ◌&&◌, eqb, leb, refl, sym, ap, ◌∙◌, get_or, length, drop, take, arith, subst}
+use Rattle.std.proofs.Common.{◌≡◌, ℕ, zero, suc, ◌+◌, ◌-◌, ◌<◌, ◌≤◌, List, true, false, ◌&&◌, eqb, leb, refl, sym, ap, ◌∙◌, get_or, length, drop, take, arith}
+use Rattle.std.proofs.Common.{subst}
 use Rattle.std.proofs.lemmas.Bool.{false≢true, and_left, and_right, lt-leb, le-leb}
 use Rattle.std.proofs.lemmas.List.{length-drop, get_or-drop}
 use Rattle.std.proofs.lemmas.List.Sums.{prefix_len_passes, prefix_len-le-length}
@@ -36,7 +37,8 @@ is_white_size xs n e = record {
 pub trailing_is : (xs : List ℕ) (n : ℕ) → n ≡ indent xs
     → is_trailing_break (content_codes xs) ≡ (leb 2 n && (list_all (λ b. eqb b 32) (take n xs) && ends_inner_line (content_codes (drop n xs))))
 trailing_is xs n e =
-    ap (λ k. leb 2 k && (list_all (λ b. eqb b 32) (take_while is_white (content_codes xs)) && ends_inner_line (bare (content_codes xs)))) (indent_codes xs ∙ sym e)
+    ap (λ k. leb 2 k && (list_all (λ b. eqb b 32) (take_while is_white (content_codes xs)) && ends_inner_line (bare (content_codes xs))))
+    (indent_codes xs ∙ sym e)
     ∙ ap (λ s. leb 2 n && (list_all (λ b. eqb b 32) s && ends_inner_line (bare (content_codes xs)))) (spaces_codes xs ∙ ap (λ k. take k xs) (sym e))
     ∙ ap (λ s. leb 2 n && (list_all (λ b. eqb b 32) (take n xs) && ends_inner_line s)) (bare_codes xs ∙ ap (λ k. content_codes (drop k xs)) (sym e))
 

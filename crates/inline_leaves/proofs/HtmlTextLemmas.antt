@@ -1,18 +1,24 @@
 -- Raw HTML in codes and in bytes.
-use Rattle.std.proofs.Common.{◌≡◌, ℕ, zero, suc, ◌+◌, ◌-◌, ◌<◌, ◌≤◌, List, [], ◌∷◌, Bool, true, false, not, cond, ◌&&◌, ◌||◌, eqb, Option, None, Some, refl, sym, ap, ◌∙◌, get_or, length, drop, take, map, arith, inl, inr}
+use Rattle.std.proofs.Common.{◌≡◌, ℕ, zero, suc, ◌+◌, ◌-◌, ◌<◌, ◌≤◌, List, [], ◌∷◌, Bool, true, false, not, cond, ◌&&◌, ◌||◌, eqb, Option, None, Some, refl}
+use Rattle.std.proofs.Common.{sym, ap, ◌∙◌, get_or, length, drop, take, map, arith, inl, inr}
 use Rattle.std.specs.Prelude.{codes}
 use Rattle.std.specs.List.{list_all}
 use Rattle.std.specs.Option.{option_map, option_or}
-use Rattle.std.proofs.lemmas.Bool.{cases_Bool, cond-false, cond-true, eqb-true, eqb-false, ne_eqb, and_parts, and_left, or_from, and_from, and_right, true≢false, false≢true, not-true}
+use Rattle.std.proofs.lemmas.Bool.{cases_Bool, cond-false, cond-true, eqb-true, eqb-false, ne_eqb, and_parts, and_left, or_from, and_from, and_right}
+use Rattle.std.proofs.lemmas.Bool.{true≢false, false≢true, not-true}
 use Rattle.std.proofs.lemmas.List.{drop-drop, drop_more, length-drop, length-append, length-map, get_or-drop, get_or_append_left, take_at}
 use Rattle.markdown_options.specs.declared.configuration.Constructs.{Constructs}
 use Rattle.definition_text.specs.Content.{content_codes, is_eol}
 use Rattle.definition_text.specs.Columns.{code_byte}
 use Rattle.definition_text.specs.Bytes.{begins_with, begins_with_letter, is_letter}
 use Rattle.definition_inline.specs.Inline.{leaf, Html}
-use Rattle.definition_inline.specs.HtmlTags.{is_tag_space, is_tag_name_byte, begins_attribute, is_attribute_byte, is_unquoted, open_tag, closing_tag, open_rest, closing_rest}
-use Rattle.definition_inline.specs.HtmlText.{html_byte, after_first, comment, comment_rest, instruction, declaration, cdata, marked_html, html_end, html_leaf, html_text_at}
-use Rattle.inline_tags.specs.Places.{Place, NameStart, Name, Space, Attribute, AttributeSpace, Equals, Unquoted, DoubleQuoted, SingleQuoted, Quoted, Slash, ClosingStart, ClosingName, ClosingSpace, End, Nowhere, next, at_end, after_part, after_attribute, after_closing_name, tag_rest, rest_after}
+use Rattle.definition_inline.specs.HtmlTags.{is_tag_space, is_tag_name_byte, begins_attribute, is_attribute_byte, is_unquoted, open_tag, closing_tag, open_rest}
+use Rattle.definition_inline.specs.HtmlTags.{closing_rest}
+use Rattle.definition_inline.specs.HtmlText.{html_byte, after_first, comment, comment_rest, instruction, declaration, cdata, marked_html, html_end, html_leaf}
+use Rattle.definition_inline.specs.HtmlText.{html_text_at}
+use Rattle.inline_tags.specs.Places.{Place, NameStart, Name, Space, Attribute, AttributeSpace, Equals, Unquoted, DoubleQuoted, SingleQuoted, Quoted, Slash}
+use Rattle.inline_tags.specs.Places.{ClosingStart, ClosingName, ClosingSpace, End, Nowhere, next, at_end, after_part, after_attribute, after_closing_name}
+use Rattle.inline_tags.specs.Places.{tag_rest, rest_after}
 use Rattle.inline_tags.proofs.Grammar.{open_reads, closing_reads}
 use Rattle.inline_leaves.specs.Leaves.{IsEnd, size_before}
 use Rattle.inline_leaves.specs.HtmlText.{html_bytes, line_feed, is_end, tag_after, open_after, closing_after, html_after, IsClosed, ClosesText}
@@ -34,7 +40,8 @@ plain_byte : (b : ℕ) → (b ≡ 13 → ⊥) → b < 256 → html_byte b ≡ b
 plain_byte b apart byte = elim (cases_Bool (eqb b 10)) [
   | inl h ↦ ap html_byte (eqb-true b 10 h) ∙ sym (eqb-true b 10 h)
   | inr h ↦
-      cond-false (is_eol b) 10 (code_byte b) (or_from (eqb b 10 || eqb b 13) (eqb b 257) (or_from (eqb b 10) (eqb b 13) h (ne_eqb b 13 apart)) (ne_eqb b 257 (λ e. omega arith)))
+      cond-false (is_eol b) 10 (code_byte b) (or_from (eqb b 10 || eqb b 13) (eqb b 257) (or_from (eqb b 10) (eqb b 13) h (ne_eqb b 13 apart))
+      (ne_eqb b 257 (λ e. omega arith)))
       ∙ cond-false (eqb b 256) 32 b (ne_eqb b 256 (λ e. omega arith))
 ]
 
@@ -85,7 +92,8 @@ begins_html (t ∷ ts) (x ∷ xs) ink bytes =
           ∙ ap (λ b. eqb t x && b) (begins_html ts xs parts.1 bytes.1)
     ]
 
-pub drop_html : (text xs : List ℕ) → is_ink text ≡ true → AreBytes xs → begins_with text xs ≡ true → drop (length text) (html_bytes xs) ≡ html_bytes (drop (length text) xs)
+pub drop_html : (text xs : List ℕ) → is_ink text ≡ true → AreBytes xs → begins_with text xs ≡ true
+    → drop (length text) (html_bytes xs) ≡ html_bytes (drop (length text) xs)
 drop_html [] xs ink bytes there = refl
 drop_html (t ∷ ts) [] ink bytes there = refl
 drop_html (t ∷ ts) (x ∷ xs) ink bytes there =
@@ -111,7 +119,8 @@ first_plain t ts b bs apart ink bytes later =
     let text = t ∷ ts in
     let same = html_plain b bs apart bytes.0 in
     ap (after_first text) same
-    ∙ ap (λ x. cond x (Some (drop (length text) (b ∷ html_bytes bs))) (after_first text (html_bytes bs))) (ap (begins_with text) (sym same) ∙ begins_html text (b ∷ bs) ink bytes)
+    ∙ ap (λ x. cond x (Some (drop (length text) (b ∷ html_bytes bs))) (after_first text (html_bytes bs)))
+    (ap (begins_with text) (sym same) ∙ begins_html text (b ∷ bs) ink bytes)
     ∙ elim (cases_Bool (begins_with text (b ∷ bs))) [
       | inl h ↦
           cond-true _ _ _ h ∙ ap Some (ap (drop (length text)) (sym same) ∙ drop_html text (b ∷ bs) ink bytes h)
@@ -121,7 +130,8 @@ first_plain t ts b bs apart ink bytes later =
           ∙ ap (option_map html_bytes) (sym (cond-false (begins_with text (b ∷ bs)) (Some (drop (length text) (b ∷ bs))) (after_first text bs) h))
     ]
 
-pub first_html : (t : ℕ) (ts xs : List ℕ) → is_ink (t ∷ ts) ≡ true → AreBytes xs → after_first (t ∷ ts) (html_bytes xs) ≡ option_map html_bytes (after_first (t ∷ ts) xs)
+pub first_html : (t : ℕ) (ts xs : List ℕ) → is_ink (t ∷ ts) ≡ true → AreBytes xs
+    → after_first (t ∷ ts) (html_bytes xs) ≡ option_map html_bytes (after_first (t ∷ ts) xs)
 unfolding after_feed
 first_html t ts [] ink bytes = refl
 first_html t ts (b ∷ []) ink bytes = elim (cases_Bool (eqb b 13)) [
@@ -167,7 +177,8 @@ map_cond false a x e = refl
 -- a text first, and then a part, which is another in bytes
 after_text : (text xs : List ℕ) (part other : List ℕ → Option (List ℕ)) → is_ink text ≡ true → AreBytes xs
     → part (html_bytes (drop (length text) xs)) ≡ option_map html_bytes (other (drop (length text) xs))
-    → cond (begins_with text (html_bytes xs)) (part (drop (length text) (html_bytes xs))) None ≡ option_map html_bytes (cond (begins_with text xs) (other (drop (length text) xs)) None)
+    → cond (begins_with text (html_bytes xs)) (part (drop (length text) (html_bytes xs))) None
+    ≡ option_map html_bytes (cond (begins_with text xs) (other (drop (length text) xs)) None)
 after_text text xs part other ink bytes reads =
     ap (λ t. cond t (part (drop (length text) (html_bytes xs))) None) (begins_html text xs ink bytes)
     ∙ elim (cases_Bool (begins_with text xs)) [
@@ -179,7 +190,8 @@ after_text text xs part other ink bytes reads =
 
 -- a text first, or else a part
 text_or : (text xs : List ℕ) (a x : Option (List ℕ)) → is_ink text ≡ true → AreBytes xs → a ≡ option_map html_bytes x
-    → cond (begins_with text (html_bytes xs)) (Some (drop (length text) (html_bytes xs))) a ≡ option_map html_bytes (cond (begins_with text xs) (Some (drop (length text) xs)) x)
+    → cond (begins_with text (html_bytes xs)) (Some (drop (length text) (html_bytes xs))) a
+    ≡ option_map html_bytes (cond (begins_with text xs) (Some (drop (length text) xs)) x)
 text_or text xs a x ink bytes reads =
     ap (λ t. cond t (Some (drop (length text) (html_bytes xs))) a) (begins_html text xs ink bytes)
     ∙ elim (cases_Bool (begins_with text xs)) [
@@ -197,10 +209,12 @@ comment_reads xs bytes =
     (text_or (codes ">") rest _ _ refl more (text_or (codes "->") rest _ _ refl more (first_html 45 (codes "->") rest refl more)))
 
 instruction_reads : (xs : List ℕ) → AreBytes xs → Reads instruction xs
-instruction_reads xs bytes = after_text (codes "<?") xs (after_first (codes "?>")) (after_first (codes "?>")) refl bytes (first_html 63 (codes ">") (drop 2 xs) refl (dropped_bytes 2 xs bytes))
+instruction_reads xs bytes = after_text (codes "<?") xs (after_first (codes "?>")) (after_first (codes "?>")) refl bytes
+    (first_html 63 (codes ">") (drop 2 xs) refl (dropped_bytes 2 xs bytes))
 
 cdata_reads : (xs : List ℕ) → AreBytes xs → Reads cdata xs
-cdata_reads xs bytes = after_text (codes "<![CDATA[") xs (after_first (codes "]]>")) (after_first (codes "]]>")) refl bytes (first_html 93 (codes "]>") (drop 9 xs) refl (dropped_bytes 9 xs bytes))
+cdata_reads xs bytes = after_text (codes "<![CDATA[") xs (after_first (codes "]]>")) (after_first (codes "]]>")) refl bytes
+    (first_html 93 (codes "]>") (drop 9 xs) refl (dropped_bytes 9 xs bytes))
 
 letter_html : (xs : List ℕ) → AreBytes xs → begins_with_letter (html_bytes xs) ≡ begins_with_letter xs
 letter_html [] bytes = refl
@@ -217,13 +231,15 @@ declaration_reads xs bytes =
     elim (cases_Bool (begins_with (codes "<!") xs)) [
       | inl h ↦
           let rest = drop_html (codes "<!") xs refl bytes h in
-          ap (λ t. cond (t && begins_with_letter (drop 2 (html_bytes xs))) (after_first (codes ">") (drop 2 (html_bytes xs))) None) (begins_html (codes "<!") xs refl bytes)
+          ap (λ t. cond (t && begins_with_letter (drop 2 (html_bytes xs))) (after_first (codes ">") (drop 2 (html_bytes xs))) None)
+          (begins_html (codes "<!") xs refl bytes)
           ∙ ap (λ r. cond (begins_with (codes "<!") xs && begins_with_letter r) (after_first (codes ">") r) None) rest
           ∙ ap (λ t. cond (begins_with (codes "<!") xs && t) (after_first (codes ">") (html_bytes (drop 2 xs))) None) (letter_html (drop 2 xs) more)
           ∙ map_cond (begins_with (codes "<!") xs && begins_with_letter (drop 2 xs)) _ _ (first_html 62 [] (drop 2 xs) refl more)
       | inr h ↦
           cond-false _ _ _ (and_left _ _ (begins_html (codes "<!") xs refl bytes ∙ h))
-          ∙ ap (option_map html_bytes) (sym (cond-false (begins_with (codes "<!") xs && begins_with_letter (drop 2 xs)) (after_first (codes ">") (drop 2 xs)) None (and_left _ _ h)))
+          ∙ ap (option_map html_bytes) (sym (cond-false (begins_with (codes "<!") xs && begins_with_letter (drop 2 xs))
+          (after_first (codes ">") (drop 2 xs)) None (and_left _ _ h)))
     ]
 
 or_reads : (a b x y : Option (List ℕ)) → a ≡ option_map html_bytes x → b ≡ option_map html_bytes y → option_or a b ≡ option_map html_bytes (option_or x y)
@@ -233,12 +249,14 @@ or_reads a b (Some x) y e f = ap (λ o. option_or o b) e
 marked_reads : (xs : List ℕ) → AreBytes xs → Reads marked_html xs
 marked_reads xs bytes =
     or_reads _ _ (comment xs) _ (comment_reads xs bytes)
-    (or_reads _ _ (instruction xs) _ (instruction_reads xs bytes) (or_reads _ _ (declaration xs) (cdata xs) (declaration_reads xs bytes) (cdata_reads xs bytes)))
+    (or_reads _ _ (instruction xs) _ (instruction_reads xs bytes) (or_reads _ _ (declaration xs) (cdata xs) (declaration_reads xs bytes)
+    (cdata_reads xs bytes)))
 
 -- ---- tags
 
 -- a place after a byte, with what follows read either way
-tag_maps : (place : Place) (bs : List ℕ) (a x : Option (List ℕ)) → (is_end place ≡ false → a ≡ option_map html_bytes x) → tag_rest place (html_bytes bs) a ≡ option_map html_bytes (tag_rest place bs x)
+tag_maps : (place : Place) (bs : List ℕ) (a x : Option (List ℕ)) → (is_end place ≡ false → a ≡ option_map html_bytes x)
+    → tag_rest place (html_bytes bs) a ≡ option_map html_bytes (tag_rest place bs x)
 tag_maps NameStart bs a x h = h refl
 tag_maps Name bs a x h = h refl
 tag_maps Space bs a x h = h refl
@@ -339,7 +357,8 @@ after_two place ds h =
     ∙ rest_of_goes_on q (10 ∷ ds) ds (tag_rest q ds (tag_after q ds)) on
     ∙ twice_rest q ds (tag_after q ds) on
 
-pub tag_reads : (xs : List ℕ) (place : Place) → AreBytes xs → is_end place ≡ false → rest_after place (html_bytes xs) ≡ option_map html_bytes (tag_after place xs)
+pub tag_reads : (xs : List ℕ) (place : Place) → AreBytes xs → is_end place ≡ false
+    → rest_after place (html_bytes xs) ≡ option_map html_bytes (tag_after place xs)
 unfolding after_feed
 tag_reads [] place bytes goes_on = refl
 tag_reads (b ∷ []) place bytes goes_on = elim (cases_Bool (eqb b 13)) [
@@ -380,14 +399,17 @@ tag_reads (b ∷ d ∷ ds) place bytes goes_on = elim (cases_Bool (eqb b 13)) [
 
 open_tag_html : (xs : List ℕ) → AreBytes xs → open_tag (html_bytes xs) ≡ option_map html_bytes (open_after xs)
 open_tag_html xs bytes =
-    after_text (codes "<") xs open_rest (tag_after NameStart) refl bytes (sym (open_reads (html_bytes (drop 1 xs))) ∙ tag_reads (drop 1 xs) NameStart (dropped_bytes 1 xs bytes) refl)
+    after_text (codes "<") xs open_rest (tag_after NameStart) refl bytes (sym (open_reads (html_bytes (drop 1 xs)))
+    ∙ tag_reads (drop 1 xs) NameStart (dropped_bytes 1 xs bytes) refl)
 
 closing_tag_html : (xs : List ℕ) → AreBytes xs → closing_tag (html_bytes xs) ≡ option_map html_bytes (closing_after xs)
 closing_tag_html xs bytes =
-    after_text (codes "</") xs closing_rest (tag_after ClosingStart) refl bytes (sym (closing_reads (html_bytes (drop 2 xs))) ∙ tag_reads (drop 2 xs) ClosingStart (dropped_bytes 2 xs bytes) refl)
+    after_text (codes "</") xs closing_rest (tag_after ClosingStart) refl bytes
+    (sym (closing_reads (html_bytes (drop 2 xs))) ∙ tag_reads (drop 2 xs) ClosingStart (dropped_bytes 2 xs bytes) refl)
 
 pub html_reads : (xs : List ℕ) → AreBytes xs → html_end (html_bytes xs) ≡ option_map html_bytes (html_after xs)
-html_reads xs bytes = or_reads _ _ (open_after xs) _ (open_tag_html xs bytes) (or_reads _ _ (closing_after xs) (marked_html xs) (closing_tag_html xs bytes) (marked_reads xs bytes))
+html_reads xs bytes = or_reads _ _ (open_after xs) _ (open_tag_html xs bytes)
+    (or_reads _ _ (closing_after xs) (marked_html xs) (closing_tag_html xs bytes) (marked_reads xs bytes))
 
 -- ---- where raw HTML ends
 
@@ -403,7 +425,8 @@ part_no : (b : ℕ) → eqb b 62 ≡ false → is_end (after_part b) ≡ false
 part_no b h = choose (is_tag_space b) Space (cond (eqb b 47) Slash (at_end b)) refl (choose (eqb b 47) Slash (at_end b) refl (end_no b h))
 
 attribute_no : (b : ℕ) → eqb b 62 ≡ false → is_end (after_attribute b) ≡ false
-attribute_no b h = choose (is_tag_space b) AttributeSpace (cond (eqb b 61) Equals (after_part b)) refl (choose (eqb b 61) Equals (after_part b) refl (part_no b h))
+attribute_no b h = choose (is_tag_space b) AttributeSpace (cond (eqb b 61) Equals (after_part b)) refl
+    (choose (eqb b 61) Equals (after_part b) refl (part_no b h))
 
 closing_no : (b : ℕ) → eqb b 62 ≡ false → is_end (after_closing_name b) ≡ false
 closing_no b h = choose (is_tag_space b) ClosingSpace (at_end b) refl (end_no b h)
@@ -450,7 +473,8 @@ closed_at text xs i le closes there =
     let n = length text - 1 in
     let place : i + n ≡ i + length text - 1 = omega (arith, closes.some) in
     let last : get_or xs (i + length text - 1) 0 ≡ get_or text n 0 =
-    ap (λ k. get_or xs k 0) (sym place) ∙ sym (get_or-drop i xs n 0) ∙ ap (λ zs. get_or zs n 0) e ∙ get_or_append_left text (drop (length text) ys) 0 n (omega (arith, closes.some)) in
+    ap (λ k. get_or xs k 0) (sym place) ∙ sym (get_or-drop i xs n 0) ∙ ap (λ zs. get_or zs n 0) e
+    ∙ get_or_append_left text (drop (length text) ys) 0 n (omega (arith, closes.some)) in
     record {
       some = omega (arith, closes.some);
       within = omega (arith, length-drop i xs);
@@ -458,7 +482,8 @@ closed_at text xs i le closes there =
     }
 
 -- the search goes on
-pub first_later : (text xs : List ℕ) (i : ℕ) → i < length xs → begins_with text (drop i xs) ≡ false → after_first text (drop (i + 1) xs) ≡ after_first text (drop i xs)
+pub first_later : (text xs : List ℕ) (i : ℕ) → i < length xs → begins_with text (drop i xs) ≡ false
+    → after_first text (drop (i + 1) xs) ≡ after_first text (drop i xs)
 first_later text xs i lt h =
     let e : drop i xs ≡ get_or xs i 0 ∷ drop (i + 1) xs = drop_more xs i 0 lt in
     sym (ap (after_first text) e ∙ cond-false _ _ _ (ap (begins_with text) (sym e) ∙ h))
@@ -466,7 +491,8 @@ first_later text xs i lt h =
 pub short_comment : (xs : List ℕ) → begins_with (codes "<!--") xs ≡ true → begins_with (codes ">") (drop 4 xs) ≡ true → Some (drop 5 xs) ≡ comment xs
 short_comment xs opens closes = sym (cond-true _ _ _ opens ∙ cond-true _ _ _ closes ∙ ap Some (drop-drop 1 4 xs))
 
-pub dash_comment : (xs : List ℕ) → begins_with (codes "<!--") xs ≡ true → begins_with (codes ">") (drop 4 xs) ≡ false → begins_with (codes "->") (drop 4 xs) ≡ true → Some (drop 6 xs) ≡ comment xs
+pub dash_comment : (xs : List ℕ) → begins_with (codes "<!--") xs ≡ true → begins_with (codes ">") (drop 4 xs) ≡ false
+    → begins_with (codes "->") (drop 4 xs) ≡ true → Some (drop 6 xs) ≡ comment xs
 dash_comment xs opens other closes = sym (cond-true _ _ _ opens ∙ cond-false _ _ _ other ∙ cond-true _ _ _ closes ∙ ap Some (drop-drop 2 4 xs))
 
 -- ---- the whole
@@ -487,12 +513,14 @@ html_off on xs off = cond-false _ _ _ (and_left on.html_text _ off)
 pub html_other : (on : Constructs) (xs : List ℕ) → begins_with (codes "<") xs ≡ false → html_text_at on (content_codes xs) ≡ None
 html_other on xs other = cond-false _ _ _ (and_right on.html_text _ (less_codes xs ∙ other))
 
-pub html_none : (on : Constructs) (xs : List ℕ) → AreBytes xs → on.html_text ≡ true → begins_with (codes "<") xs ≡ true → None ≡ html_after xs → html_text_at on (content_codes xs) ≡ None
+pub html_none : (on : Constructs) (xs : List ℕ) → AreBytes xs → on.html_text ≡ true → begins_with (codes "<") xs ≡ true → None ≡ html_after xs
+    → html_text_at on (content_codes xs) ≡ None
 html_none on xs bytes is_on less none =
     cond-true _ _ _ (and_from on.html_text _ is_on (less_codes xs ∙ less))
     ∙ ap (html_leaf (content_codes xs)) (html_reads xs bytes ∙ ap (option_map html_bytes) (sym none))
 
-pub html_some : (on : Constructs) (xs rest : List ℕ) (n : ℕ) → AreBytes xs → on.html_text ≡ true → begins_with (codes "<") xs ≡ true → IsEnd xs n → rest ≡ drop n xs
+pub html_some : (on : Constructs) (xs rest : List ℕ) (n : ℕ) → AreBytes xs → on.html_text ≡ true → begins_with (codes "<") xs ≡ true → IsEnd xs n
+    → rest ≡ drop n xs
     → Some (drop n xs) ≡ html_after xs → Some (leaf (Html (content_codes (take n xs)) ∷ []) (size_before xs rest)) ≡ html_text_at on (content_codes xs)
 html_some on xs rest n bytes is_on less end after found =
     let all = content_codes xs in
@@ -502,7 +530,8 @@ html_some on xs rest n bytes is_on less end after found =
     ap (λ k. length all - k) (length-map back html_byte ∙ ap (λ r. length (content_codes r)) (sym after)) in
     let fronts : size_before xs rest ≡ length front =
     ap (λ r. length all - length (content_codes r)) after ∙ omega (arith, ap length end.cut, length-append front back) in
-    let text : take (size_before xs rest) all ≡ front = ap (λ k. take k all) fronts ∙ ap (take (length front)) end.cut ∙ take_at front back (length front) refl in
+    let text : take (size_before xs rest) all ≡ front =
+    ap (λ k. take k all) fronts ∙ ap (take (length front)) end.cut ∙ take_at front back (length front) refl in
     sym (cond-true _ _ _ (and_from on.html_text _ is_on (less_codes xs ∙ less))
     ∙ ap (html_leaf all) (html_reads xs bytes ∙ ap (option_map html_bytes) (sym found))
     ∙ ap (λ k. Some (leaf (Html (take k all) ∷ []) k)) size

@@ -8,7 +8,8 @@ use Rattle.inline_leaves.proofs.Codes.{end_after}
 use Rattle.inline_leaves.proofs.HardBreakTrailingLemmas.{white_byte}
 
 -- a line ending, and white bytes or none
-pub ending_white_end : (xs : List ℕ) (found : Ending) (n : ℕ) → ReadsEnding xs found → IsWhite (drop found.size xs) n → ((k : ℕ) → get_or xs k 0 < 256) → IsEnd xs (found.size + n)
+pub ending_white_end : (xs : List ℕ) (found : Ending) (n : ℕ) → ReadsEnding xs found → IsWhite (drop found.size xs) n → ((k : ℕ) → get_or xs k 0 < 256)
+    → IsEnd xs (found.size + n)
 ending_white_end xs found zero ends white bytes =
     let e : found.size ≡ found.size + 0 = omega arith in
     subst (IsEnd xs) e (record { some = ends.some; within = ends.within; ascii = ends.ascii; cut = ends.cut })

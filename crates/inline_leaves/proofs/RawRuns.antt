@@ -1,5 +1,6 @@
 -- The last run of each size.
-use Rattle.std.proofs.Common.{◌≡◌, ℕ, zero, suc, ◌+◌, ◌-◌, ◌<◌, ◌≤◌, List, [], ◌∷◌, ◌++◌, set, true, false, cond, eqb, nat_lt, refl, sym, ap, ◌∙◌, get_or, length, drop, take, arith, inl, inr}
+use Rattle.std.proofs.Common.{◌≡◌, ℕ, zero, suc, ◌+◌, ◌-◌, ◌<◌, ◌≤◌, List, [], ◌∷◌, ◌++◌, set, true, false, cond, eqb, nat_lt, refl, sym, ap, ◌∙◌, get_or}
+use Rattle.std.proofs.Common.{length, drop, take, arith, inl, inr}
 use Rattle.std.proofs.lemmas.Bool.{cases_Bool, cases_order, cond-false, cond-true, ne_eqb, eq-eqb, lt-ltb, le-ltb, ltb-true, ltb-false}
 use Rattle.std.proofs.lemmas.List.Sums.{prefix_len-le-length}
 use Rattle.std.specs.List.{prefix_len}
@@ -35,7 +36,8 @@ place_here : (x : LastRun) (rs : List LastRun) (n : ℕ) → nat_lt x.size n ≡
 place_here x rs n h = cond-false (nat_lt x.size n) _ _ h
 
 -- the run at that place tells
-pub end_there : (rs : List LastRun) (n place : ℕ) (r : LastRun) → place ≡ place_of rs n → place < length rs → r ≡ get_or rs place r → last_end rs n ≡ cond (eqb r.size n) r.end 0
+pub end_there : (rs : List LastRun) (n place : ℕ) (r : LastRun) → place ≡ place_of rs n → place < length rs → r ≡ get_or rs place r
+    → last_end rs n ≡ cond (eqb r.size n) r.end 0
 end_there [] n place r e lt there = absurd (omega arith)
 end_there (x ∷ rs) n place r e lt there = elim (cases_Bool (nat_lt x.size n)) [
   | inl h ↦
@@ -67,7 +69,8 @@ kept_other : (rs : List LastRun) (r : LastRun) (n : ℕ) → (r.size ≡ n → �
 kept_other rs r n other = cond-false (eqb r.size n) _ _ (ne_eqb r.size n other)
 
 -- behind a smaller run
-behind : (x : LastRun) (rs new : List LastRun) (r : LastRun) (n : ℕ) → x.size < r.size → last_end new n ≡ after_kept rs r n → last_end (x ∷ new) n ≡ after_kept (x ∷ rs) r n
+behind : (x : LastRun) (rs new : List LastRun) (r : LastRun) (n : ℕ) → x.size < r.size → last_end new n ≡ after_kept rs r n
+    → last_end (x ∷ new) n ≡ after_kept (x ∷ rs) r n
 behind x rs new r n lt e = elim (cases_Bool (nat_lt x.size n)) [
   | inl h ↦ less x new n (ltb-true x.size n h) ∙ e ∙ ap (λ k. cond (eqb r.size n) r.end k) (sym (less x rs n (ltb-true x.size n h)))
   | inr h ↦
@@ -91,7 +94,8 @@ end_set (x ∷ rs) r d lt there n = elim (cases_Bool (nat_lt x.size r.size)) [
   | inl h ↦
       let e = place_past x rs r.size h in
       let there' : (get_or rs (place_of rs r.size) d).size ≡ r.size = ap (λ k. (get_or (x ∷ rs) k d).size) (sym e) ∙ there in
-      ap (λ k. last_end (set (x ∷ rs) k r) n) e ∙ behind x rs (set rs (place_of rs r.size) r) r n (ltb-true x.size r.size h) (end_set rs r d (omega arith) there' n)
+      ap (λ k. last_end (set (x ∷ rs) k r) n) e ∙ behind x rs (set rs (place_of rs r.size) r) r n (ltb-true x.size r.size h)
+      (end_set rs r d (omega arith) there' n)
   | inr h ↦
       let e = place_here x rs r.size h in
       let there' : x.size ≡ r.size = ap (λ k. (get_or (x ∷ rs) k d).size) (sym e) ∙ there in
@@ -129,7 +133,8 @@ module _ (m : ℕ) where
   -- what the runs before a place say
   abbrev pub AreLastBefore : List ℕ → List LastRun → ℕ → Type 0
   AreLastBefore content runs to =
-      (size at : ℕ) → 0 < size → at ≤ to → run m (drop at content) ≡ 0 → last_end runs size ≤ at → run_of m size false (drop at content) ≡ run_of m size false (drop to content)
+      (size at : ℕ) → 0 < size → at ≤ to → run m (drop at content) ≡ 0 → last_end runs size ≤ at
+      → run_of m size false (drop at content) ≡ run_of m size false (drop to content)
 
   -- such a byte begins a run
   marker_begins : (xs : List ℕ) (at : ℕ) → at < length xs → get_or xs at 0 ≡ m → run m (drop at xs) ≡ 0 → ⊥

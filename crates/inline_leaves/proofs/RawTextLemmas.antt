@@ -1,5 +1,6 @@
 -- Raw text in codes and in bytes.
-use Rattle.std.proofs.Common.{◌≡◌, ℕ, zero, suc, ◌+◌, ◌-◌, ◌<◌, ◌≤◌, List, [], ◌∷◌, Bool, true, false, not, cond, ◌&&◌, eqb, None, Some, refl, sym, ap, ◌∙◌, get_or, length, drop, take, map, arith, inl, inr}
+use Rattle.std.proofs.Common.{◌≡◌, ℕ, zero, suc, ◌+◌, ◌-◌, ◌<◌, ◌≤◌, List, [], ◌∷◌, Bool, true, false, not, cond, ◌&&◌, eqb, None, Some, refl, sym, ap, ◌∙◌}
+use Rattle.std.proofs.Common.{get_or, length, drop, take, map, arith, inl, inr}
 use Rattle.std.proofs.lemmas.Bool.{true≢false, cases_Bool, cond-false, cond-true, eqb-true, ne_eqb, eqb-false, eq-eqb, and_left, and_right, and_from}
 use Rattle.std.proofs.lemmas.List.{drop-drop, length-drop, get_or-drop, take_at, length-append}
 use Rattle.std.proofs.lemmas.List.Sums.{prefix_len_passes, prefix_len-le-length}
@@ -81,7 +82,8 @@ module _ (m : ℕ) where
   pub run_here : (xs : List ℕ) (n : ℕ) → n ≡ run m xs → IsRun m xs 0 n
   run_here xs n e = record {
     within = omega (arith, prefix_len-le-length (λ b. eqb b m) xs);
-    markers = λ k lt. let place : 0 + k ≡ k = omega arith in ap (λ j. get_or xs j 0) place ∙ eqb-true _ m (prefix_len_passes (λ b. eqb b m) xs k 0 (omega arith));
+    markers = λ k lt. let place : 0 + k ≡ k = omega arith in
+        ap (λ j. get_or xs j 0) place ∙ eqb-true _ m (prefix_len_passes (λ b. eqb b m) xs k 0 (omega arith));
   }
 
   pub run_there : (xs : List ℕ) (at n : ℕ) → at ≤ length xs → IsRun m (drop at xs) 0 n → IsRun m xs at n
@@ -152,8 +154,10 @@ module _ (m : ℕ) (is : IsRaw m) where
         ∙ by_case (not within && eqb (run m (b ∷ bs)) n) codes (run_of_codes n (eqb b m) bs some)
   ]
     where
-      by_case : (t : Bool) → content_codes (b ∷ bs) ≡ b ∷ content_codes bs → run_of m n (eqb b m) (content_codes bs) ≡ option_map content_codes (run_of m n (eqb b m) bs)
-          → cond t (Some (b ∷ content_codes bs)) (run_of m n (eqb b m) (content_codes bs)) ≡ option_map content_codes (cond t (Some (b ∷ bs)) (run_of m n (eqb b m) bs))
+      by_case : (t : Bool) → content_codes (b ∷ bs) ≡ b ∷ content_codes bs → run_of m n (eqb b m) (content_codes bs)
+          ≡ option_map content_codes (run_of m n (eqb b m) bs)
+          → cond t (Some (b ∷ content_codes bs)) (run_of m n (eqb b m) (content_codes bs))
+          ≡ option_map content_codes (cond t (Some (b ∷ bs)) (run_of m n (eqb b m) bs))
       by_case true codes later = ap Some (sym codes)
       by_case false codes later = later
 
@@ -167,7 +171,8 @@ module _ (m : ℕ) (is : IsRaw m) where
       let tick : get_or xs (suc at) 0 ≡ m = ap (λ k. get_or xs k 0) (sym place) ∙ there.markers 0 some in
       cut_at xs (suc at) at (omega arith) (λ return feed. is.feed (sym tick ∙ feed))
 
-  pub before_cut : (xs : List ℕ) (at : ℕ) → IsCut xs at → up_to (content_codes xs) (Some (content_codes (drop at xs))) ≡ Some (part (content_codes (take at xs)) (content_codes (drop at xs)))
+  pub before_cut : (xs : List ℕ) (at : ℕ) → IsCut xs at → up_to (content_codes xs) (Some (content_codes (drop at xs)))
+      ≡ Some (part (content_codes (take at xs)) (content_codes (drop at xs)))
   before_cut xs at cut =
       let front = content_codes (take at xs) in
       let back = content_codes (drop at xs) in
@@ -176,11 +181,13 @@ module _ (m : ℕ) (is : IsRaw m) where
 
   raw_text_is : (may_open : Bool) (xs : List ℕ) (n : ℕ) → n ≡ run m xs
       → raw_at m may_open (content_codes xs)
-      ≡ cond (may_open && not (eqb n 0)) (Some (raw_leaf m n (content_codes xs) (up_to (content_codes (drop n xs)) (run_of m n false (content_codes (drop n xs)))))) None
+      ≡ cond (may_open && not (eqb n 0))
+      (Some (raw_leaf m n (content_codes xs) (up_to (content_codes (drop n xs)) (run_of m n false (content_codes (drop n xs)))))) None
   raw_text_is may_open xs n e =
       let codes = content_codes xs in
       let size : run m codes ≡ n = prefix_codes (λ c. eqb c m) is.return is.both xs ∙ sym e in
-      let rest : after_run m codes ≡ content_codes (drop n xs) = after_codes (λ c. eqb c m) is.return is.both xs ∙ ap (λ k. content_codes (drop k xs)) (sym e) in
+      let rest : after_run m codes ≡ content_codes (drop n xs) =
+      after_codes (λ c. eqb c m) is.return is.both xs ∙ ap (λ k. content_codes (drop k xs)) (sym e) in
       ap (λ k. cond (may_open && not (eqb k 0)) (Some (raw_leaf m k codes (up_to (after_run m codes) (run_of m k false (after_run m codes))))) None) size
       ∙ ap (λ r. cond (may_open && not (eqb n 0)) (Some (raw_leaf m n codes (up_to r (run_of m n false r)))) None) rest
 
@@ -191,7 +198,8 @@ module _ (m : ℕ) (is : IsRaw m) where
   raw_none may_open xs n e none = raw_text_is may_open xs n e ∙ cond-false _ _ _ (and_right may_open _ (ap not (eq-eqb n 0 none)))
 
   raw_some : (may_open : Bool) (xs : List ℕ) (n : ℕ) → n ≡ run m xs → may_open ≡ true → 0 < n
-      → raw_at m may_open (content_codes xs) ≡ Some (raw_leaf m n (content_codes xs) (up_to (content_codes (drop n xs)) (option_map content_codes (run_of m n false (drop n xs)))))
+      → raw_at m may_open (content_codes xs)
+      ≡ Some (raw_leaf m n (content_codes xs) (up_to (content_codes (drop n xs)) (option_map content_codes (run_of m n false (drop n xs)))))
   raw_some may_open xs n e is_on some =
       raw_text_is may_open xs n e ∙ cond-true _ _ _ (and_from may_open (not (eqb n 0)) is_on (ap not (ne_eqb n 0 (λ none. omega arith))))
       ∙ ap (λ o. Some (raw_leaf m n (content_codes xs) (up_to (content_codes (drop n xs)) o))) (run_of_codes n false (drop n xs) some)
@@ -222,7 +230,14 @@ module _ (m : ℕ) (is : IsRaw m) where
       let last : drop n zs ≡ rest =
       ap (drop n) (drop-drop at n xs) ∙ drop-drop n (n + at) xs ∙ sym after in
       let size : size_before xs rest ≡ n + length text + n =
-      omega (arith, plain_size n xs plain.0 plain.1, ap length cut, length-append text (content_codes zs), plain_size n zs room ticks, ap (λ r. length (content_codes r)) last) in
+      omega (
+        arith,
+        plain_size n xs plain.0 plain.1,
+        ap length cut,
+        length-append text (content_codes zs),
+        plain_size n zs room ticks,
+        ap (λ r. length (content_codes r)) last,
+      ) in
       sym (raw_some may_open xs n e is_on some
       ∙ ap (λ o. Some (raw_leaf m n (content_codes xs) (up_to (content_codes ys) (option_map content_codes o)))) (sym found)
       ∙ ap (λ o. Some (raw_leaf m n (content_codes xs) o)) (before_cut ys at cut)

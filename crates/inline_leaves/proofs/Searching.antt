@@ -36,7 +36,8 @@ now_known text content rest place none = ap (after_first text) (sym place.place)
 
 -- ---- raw HTML that nothing closes
 
-pub no_comment_end : (xs : List ℕ) → begins_with (codes "<!--") xs ≡ true → begins_with (codes ">") (drop 4 xs) ≡ false → begins_with (codes "->") (drop 4 xs) ≡ false
+pub no_comment_end : (xs : List ℕ) → begins_with (codes "<!--") xs ≡ true → begins_with (codes ">") (drop 4 xs) ≡ false
+    → begins_with (codes "->") (drop 4 xs) ≡ false
     → after_first (codes "-->") (drop 4 xs) ≡ None → html_after xs ≡ None
 no_comment_end xs opens short dash none =
     let e = begun (codes "<!--") xs opens in
@@ -49,14 +50,17 @@ no_instruction_end xs opens none = ap html_after (begun (codes "<?") xs opens) �
 pub no_cdata_end : (xs : List ℕ) → begins_with (codes "<![CDATA[") xs ≡ true → after_first (codes "]]>") (drop 9 xs) ≡ None → html_after xs ≡ None
 no_cdata_end xs opens none = ap html_after (begun (codes "<![CDATA[") xs opens) ∙ none
 
-pub no_declaration_end : (xs : List ℕ) → begins_with (codes "<!") xs ≡ true → begins_with_letter (drop 2 xs) ≡ true → after_first (codes ">") (drop 2 xs) ≡ None → html_after xs ≡ None
+pub no_declaration_end : (xs : List ℕ) → begins_with (codes "<!") xs ≡ true → begins_with_letter (drop 2 xs) ≡ true → after_first (codes ">") (drop 2 xs) ≡ None
+    → html_after xs ≡ None
 no_declaration_end xs opens letter none =
     let e = begun (codes "<!") xs opens in
     by_rest (drop 2 xs) letter none (ap html_after e)
   where
-    by_rest : (ys : List ℕ) → begins_with_letter ys ≡ true → after_first (codes ">") ys ≡ None → html_after xs ≡ html_after (60 ∷ 33 ∷ ys) → html_after xs ≡ None
+    by_rest : (ys : List ℕ) → begins_with_letter ys ≡ true → after_first (codes ">") ys ≡ None → html_after xs ≡ html_after (60 ∷ 33 ∷ ys)
+        → html_after xs ≡ None
     by_rest ys letter none e =
-        e ∙ ap (λ o. option_or o (option_or (cond (begins_with_letter ys) (after_first (codes ">") ys) None) (cdata (60 ∷ 33 ∷ ys)))) (cond-false _ _ _ (not_comment ys letter))
+        e ∙ ap (λ o. option_or o (option_or (cond (begins_with_letter ys) (after_first (codes ">") ys) None) (cdata (60 ∷ 33 ∷ ys))))
+        (cond-false _ _ _ (not_comment ys letter))
         ∙ ap (λ o. option_or o (cdata (60 ∷ 33 ∷ ys))) (cond-true (begins_with_letter ys) _ _ letter ∙ none)
         ∙ cond-false _ _ _ (not_cdata ys letter)
       where
@@ -91,7 +95,8 @@ rest_of_rest content bytes rest n place le e =
       place = e ∙ ap (drop n) place.place ∙ drop-drop n (length content - length bytes) content ∙ ap (λ k. drop k content) there;
     }
 
-pub rest_after_text : (content text bytes rest : List ℕ) → IsRest content bytes → begins_with text bytes ≡ true → rest ≡ drop (length text) bytes → IsRest content rest
+pub rest_after_text : (content text bytes rest : List ℕ) → IsRest content bytes → begins_with text bytes ≡ true → rest ≡ drop (length text) bytes
+    → IsRest content rest
 rest_after_text content text bytes rest place there e =
     let size : length bytes ≡ length text + length (drop (length text) bytes) =
     ap length (begun text bytes there) ∙ length-append text (drop (length text) bytes) in

@@ -1,5 +1,6 @@
 -- How a destination without `<` ends.
-use Rattle.std.proofs.Common.{◌≡◌, ℕ, zero, suc, ◌+◌, ◌-◌, ◌<◌, ◌≤◌, List, [], ◌∷◌, Bool, true, false, not, ◌||◌, ◌&&◌, Option, None, Some, refl, sym, ap, ◌∙◌, length, take, drop, get_or, arith, eqb, inl, inr, subst}
+use Rattle.std.proofs.Common.{◌≡◌, ℕ, zero, suc, ◌+◌, ◌-◌, ◌<◌, ◌≤◌, List, [], ◌∷◌, Bool, true, false, not, ◌||◌, ◌&&◌, Option, None, Some, refl, sym, ap, ◌∙◌}
+use Rattle.std.proofs.Common.{length, take, drop, get_or, arith, eqb, inl, inr, subst}
 use Rattle.std.specs.List.{prefix_len}
 use Rattle.std.proofs.lemmas.Bool.{cases_Bool, cond_both, cond-false, cond-true, eq-eqb, le-ltb, ne_eqb, or_parts, true≢false}
 use Rattle.definition_text.specs.Content.{Part, content_codes, is_space, may_escape}
@@ -14,7 +15,8 @@ use Rattle.inline_links.proofs.Cuts.{codes_some, first_code, cut_at}
 pub ends_before : (depth : Option ℕ) (escaped : Bool) (opened c : ℕ) (cs codes : List ℕ) → codes ≡ c ∷ cs → opened ≡ 0
     → ends_bare escaped opened c ≡ true → bare_end depth escaped opened codes ≡ Some codes
 ends_before depth escaped opened c cs codes e none ends =
-    ap (bare_end depth escaped opened) e ∙ cond-true (ends_bare escaped opened c) _ _ ends ∙ cond-true (eqb opened 0) _ _ (eq-eqb opened 0 none) ∙ ap Some (sym e)
+    ap (bare_end depth escaped opened) e ∙ cond-true (ends_bare escaped opened c) _ _ ends ∙ cond-true (eqb opened 0) _ _ (eq-eqb opened 0 none)
+    ∙ ap Some (sym e)
 
 -- at the end of the content
 pub ends_with : (depth : Option ℕ) (escaped : Bool) (opened : ℕ) (codes : List ℕ) → codes ≡ [] → opened ≡ 0
@@ -23,7 +25,8 @@ ends_with depth escaped opened codes e none =
     ap (bare_end depth escaped opened) e ∙ cond-true (eqb opened 0) _ _ (eq-eqb opened 0 none) ∙ ap Some (sym e)
 
 -- a text of some bytes isn't empty
-pub any_there : (read : Part) (end : ℕ) (content : List ℕ) → 0 < end → end ≤ length content → read.text ≡ content_codes (take end content) → if_any (Some read) ≡ Some read
+pub any_there : (read : Part) (end : ℕ) (content : List ℕ) → 0 < end → end ≤ length content → read.text ≡ content_codes (take end content)
+    → if_any (Some read) ≡ Some read
 any_there read end [] some within e = absurd (omega arith)
 any_there read zero (b ∷ bs) some within e = absurd (omega arith)
 any_there read (suc n) (b ∷ bs) some within e =
@@ -116,7 +119,8 @@ run_passed depth escaped opened (b ∷ bs) shallow = elim (cases_Bool (is_plain 
     both false = refl
 
 -- a cut after a run of bytes of which none is CR is a cut, too
-pub cut_after_run : (p : ℕ → Bool) → p 13 ≡ false → (bytes : List ℕ) (at : ℕ) → at ≤ length bytes → IsCut bytes at → IsCut bytes (at + prefix_len p (drop at bytes))
+pub cut_after_run : (p : ℕ → Bool) → p 13 ≡ false → (bytes : List ℕ) (at : ℕ) → at ≤ length bytes → IsCut bytes at
+    → IsCut bytes (at + prefix_len p (drop at bytes))
 cut_after_run p no_return bytes at within cut = by_size (prefix_len p (drop at bytes)) (omega arith)
   where
     by_size : (n : ℕ) → n ≤ prefix_len p (drop at bytes) → IsCut bytes (at + n)
@@ -137,12 +141,14 @@ code_passed : (depth : Option ℕ) (escaped : Bool) (opened c : ℕ) (cs codes :
     → is_too_deep depth (open_after escaped opened c) ≡ false
     → bare_end depth escaped opened codes ≡ bare_end depth (may_escape escaped c) (open_after escaped opened c) cs
 code_passed depth escaped opened c cs codes e goes_on shallow =
-    ap (bare_end depth escaped opened) e ∙ cond-false (ends_bare escaped opened c) _ _ goes_on ∙ cond-false (is_too_deep depth (open_after escaped opened c)) _ _ shallow
+    ap (bare_end depth escaped opened) e ∙ cond-false (ends_bare escaped opened c) _ _ goes_on
+    ∙ cond-false (is_too_deep depth (open_after escaped opened c)) _ _ shallow
 
 -- and the run after it
 pub next_passed : (depth : Option ℕ) (escaped : Bool) (opened c : ℕ) (content codes : List ℕ) (next end : ℕ) → codes ≡ c ∷ content_codes (drop next content)
     → ends_bare escaped opened c ≡ false → is_too_deep depth (open_after escaped opened c) ≡ false → end ≡ next + prefix_len is_plain (drop next content)
-    → bare_end depth (may_escape escaped c && eqb (end - next) 0) (open_after escaped opened c) (content_codes (drop end content)) ≡ bare_end depth escaped opened codes
+    → bare_end depth (may_escape escaped c && eqb (end - next) 0) (open_after escaped opened c) (content_codes (drop end content))
+    ≡ bare_end depth escaped opened codes
 next_passed depth escaped opened c content codes next end e goes_on shallow is =
     let rest = drop next content in
     let n = prefix_len is_plain rest in
@@ -158,4 +164,5 @@ next_passed depth escaped opened c content codes next end e goes_on shallow is =
 pub open_more : (escaped : Bool) (opened c : ℕ) → open_after escaped opened c ≤ opened + 1
 open_more true opened c = omega arith
 open_more false opened c =
-    cond_both (eqb c 40) _ _ (λ n. n ≤ opened + 1) (λ _. omega arith) (λ _. cond_both (eqb c 41) _ _ (λ n. n ≤ opened + 1) (λ _. omega arith) (λ _. omega arith))
+    cond_both (eqb c 40) _ _ (λ n. n ≤ opened + 1) (λ _. omega arith) (λ _. cond_both (eqb c 41) _ _ (λ n. n ≤ opened + 1) (λ _. omega arith)
+    (λ _. omega arith))

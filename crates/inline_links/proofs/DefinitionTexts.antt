@@ -8,7 +8,8 @@ use Rattle.definition_inline.specs.Space.{after_spaces, after_white, begins_with
 use Rattle.definition_inline.specs.Label.{label_at}
 use Rattle.definition_inline.specs.Destination.{destination_at}
 use Rattle.definition_inline.specs.Title.{title_at}
-use Rattle.definition_inline.specs.Definition.{Definition, definition, definition_before, next_line, with_title, titled, or_untitled, with_destination, with_colon, with_label, definition_at}
+use Rattle.definition_inline.specs.Definition.{Definition, definition, definition_before, next_line, with_title, definition_with_title}
+use Rattle.definition_inline.specs.Definition.{or_definition_without_title, with_destination, with_colon, with_label, definition_at}
 use Rattle.inline_links.specs.Texts.{IsText}
 use Rattle.inline_links.proofs.Splits.{from_some, is_ascii_code}
 use Rattle.inline_links.proofs.Texts.{around, destination_text, label_text, spaces_text, title_text, white_text}
@@ -29,16 +30,18 @@ title_texts : (label destination : List ℕ) (o : Option Part) (d : Definition) 
 title_texts label destination None d t h e = absurd (none-some d e)
 title_texts label destination (Some p) d t h e = before_texts label destination (Some p.text) (next_line p.rest) d t (h p refl) e
 
-titled_texts : (label : List ℕ) (p : Part) (d : Definition) → IsText p.text → IsText p.rest → titled label p ≡ Some d → DefinitionTexts d
+titled_texts : (label : List ℕ) (p : Part) (d : Definition) → IsText p.text → IsText p.rest → definition_with_title label p ≡ Some d → DefinitionTexts d
 titled_texts label p d t rest e = elim (cases_Bool (begins_with_space p.rest)) [
   | inl h ↦
       let next = after_white p.rest in
-      title_texts label p.text (title_at next) d t (λ q f. (title_text next q (white_text p.rest rest).text f).text) (sym (cond-true (begins_with_space p.rest) _ _ h) ∙ e)
+      title_texts label p.text (title_at next) d t (λ q f. (title_text next q (white_text p.rest rest).text f).text)
+      (sym (cond-true (begins_with_space p.rest) _ _ h) ∙ e)
   | inr h ↦ absurd (none-some d (sym (cond-false (begins_with_space p.rest) _ _ h) ∙ e))
 ]
 
-or_untitled_texts : (label : List ℕ) (p : Part) (o : Option Definition) (d : Definition) → IsText p.text → ((found : Definition) → o ≡ Some found → DefinitionTexts found)
-    → or_untitled label p o ≡ Some d → DefinitionTexts d
+or_untitled_texts : (label : List ℕ) (p : Part) (o : Option Definition) (d : Definition) → IsText p.text
+    → ((found : Definition) → o ≡ Some found → DefinitionTexts found)
+    → or_definition_without_title label p o ≡ Some d → DefinitionTexts d
 or_untitled_texts label p None d t h e = before_texts label p.text None (next_line p.rest) d t tt e
 or_untitled_texts label p (Some found) d t h e = h d e
 
@@ -47,7 +50,7 @@ destination_texts : (label : List ℕ) (o : Option Part) (d : Definition) → ((
 destination_texts label None d h e = absurd (none-some d e)
 destination_texts label (Some p) d h e =
     let k = h p refl in
-    or_untitled_texts label p (titled label p) d k.0 (λ found f. titled_texts label p found k.0 k.1 f) e
+    or_untitled_texts label p (definition_with_title label p) d k.0 (λ found f. titled_texts label p found k.0 k.1 f) e
 
 colon_texts : (label cs : List ℕ) (d : Definition) → IsText cs → with_colon label cs ≡ Some d → DefinitionTexts d
 colon_texts label [] d t e = absurd (none-some d e)

@@ -48,7 +48,8 @@ return_feed : (x y : ℕ) (ys : List ℕ) → x ≡ 13 → y ≡ 10 → content_
 return_feed x y ys e f = ap₂ (λ a b. content_codes (a ∷ b ∷ ys)) e f
 
 -- past a byte that is a code
-past_code : (n x : ℕ) (xs p : List ℕ) → (x ≡ 13 → get_or xs 0 0 ≡ 10 → ⊥) → ((q : List ℕ) → content_codes xs ≡ q ++ content_codes (drop n xs) → content_codes (take n xs) ≡ q)
+past_code : (n x : ℕ) (xs p : List ℕ) → (x ≡ 13 → get_or xs 0 0 ≡ 10 → ⊥)
+    → ((q : List ℕ) → content_codes xs ≡ q ++ content_codes (drop n xs) → content_codes (take n xs) ≡ q)
     → content_codes (x ∷ xs) ≡ p ++ content_codes (drop n xs) → content_codes (x ∷ take n xs) ≡ p
 past_code n x xs p apart later e =
     let front = front_of p x (content_codes xs) (content_codes (drop n xs)) (sym (first_code x xs apart) ∙ e) (fewer n xs) in

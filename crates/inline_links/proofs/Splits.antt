@@ -1,5 +1,6 @@
 -- What stands before and after the parts of a content, in codes.
-use Rattle.std.proofs.Common.{◌≡◌, ℕ, ◌-◌, List, [], ◌∷◌, ◌++◌, Bool, true, false, cond, ◌&&◌, ◌||◌, eqb, nat_le, ◌⊎◌, Option, None, Some, refl, sym, ap, ◌∙◌, length, drop, arith, inl, inr, nat_lt}
+use Rattle.std.proofs.Common.{◌≡◌, ℕ, ◌-◌, List, [], ◌∷◌, ◌++◌, Bool, true, false, cond, ◌&&◌, ◌||◌, eqb, nat_le, ◌⊎◌, Option, None, Some, refl, sym, ap, ◌∙◌}
+use Rattle.std.proofs.Common.{length, drop, arith, inl, inr, nat_lt}
 use Rattle.std.specs.Option.{unwrap_or}
 use Rattle.std.proofs.lemmas.Bool.{cases_Bool, cond-false, cond-true, eqb-true, or_cases, and_parts, lt-ltb, leb-true}
 use Rattle.std.proofs.lemmas.List.{take_at, length-append}
@@ -7,7 +8,8 @@ use Rattle.std.proofs.lemmas.Option.{none-some, cond_some}
 use Rattle.definition_text.specs.Columns.{is_white}
 use Rattle.definition_text.specs.Content.{Part, is_eol, is_space, may_escape, at_line_start, before, closed_by, up_to}
 use Rattle.definition_inline.specs.Label.{ends_label, label_end, is_label, if_label, label_at}
-use Rattle.definition_inline.specs.Destination.{ends_angle, angle_end, is_control, open_after, is_too_deep, ends_bare, bare_end, unless_empty, if_any, destination_at}
+use Rattle.definition_inline.specs.Destination.{ends_angle, angle_end, is_control, open_after, is_too_deep, ends_bare, bare_end, unless_empty, if_any}
+use Rattle.definition_inline.specs.Destination.{destination_at}
 use Rattle.definition_inline.specs.Title.{ends_title, ends_blank_line, title_end, title_close, title_until, title_at}
 
 pub from_some : {A : Type 0} (x y : A) → Some x ≡ Some y → x ≡ y
@@ -57,7 +59,8 @@ title_closes close escaped start (c ∷ cs) r e = elim (cases_Bool (ends_title c
       let f = sym (cond-false (ends_title close escaped c) _ _ h) ∙ e in
       elim (cases_Bool (ends_blank_line start c)) [
         | inl k ↦ absurd (none-some r (sym (cond-true (ends_blank_line start c) _ _ k) ∙ f))
-        | inr k ↦ closes_later close c cs r (title_closes close (may_escape escaped c) (at_line_start start c) cs r (sym (cond-false (ends_blank_line start c) _ _ k) ∙ f))
+        | inr k ↦ closes_later close c cs r (title_closes close (may_escape escaped c) (at_line_start start c) cs r
+            (sym (cond-false (ends_blank_line start c) _ _ k) ∙ f))
       ]
 ]
 
@@ -85,7 +88,8 @@ label_whole [] p e = absurd (none-some p e)
 label_whole (c ∷ cs) p e = elim (cases_Bool (eqb c 91)) [
   | inl h ↦
       let f = sym (cond-true (eqb c 91) _ _ h) ∙ e in
-      ap (λ x. x ∷ cs) (eqb-true c 91 h) ∙ ap (λ x. 91 ∷ x) (closed_whole 93 cs (label_end false cs) p (label_closes false cs) (of_label (closed_by cs (label_end false cs)) f))
+      ap (λ x. x ∷ cs) (eqb-true c 91 h)
+      ∙ ap (λ x. 91 ∷ x) (closed_whole 93 cs (label_end false cs) p (label_closes false cs) (of_label (closed_by cs (label_end false cs)) f))
   | inr h ↦ absurd (none-some p (sym (cond-false (eqb c 91) _ _ h) ∙ e))
 ]
   where
@@ -195,7 +199,8 @@ bare_ends depth escaped opened (c ∷ cs) r e = elim (cases_Bool (ends_bare esca
       elim (cases_Bool (is_too_deep depth (open_after escaped opened c))) [
         | inl k ↦ absurd (none-some r (sym (cond-true (is_too_deep depth (open_after escaped opened c)) _ _ k) ∙ f))
         | inr k ↦
-            let rest = bare_ends depth (may_escape escaped c) (open_after escaped opened c) cs r (sym (cond-false (is_too_deep depth (open_after escaped opened c)) _ _ k) ∙ f) in
+            let rest = bare_ends depth (may_escape escaped c) (open_after escaped opened c) cs r
+            (sym (cond-false (is_too_deep depth (open_after escaped opened c)) _ _ k) ∙ f) in
             record { front = c ∷ rest.front; whole = ap (λ x. c ∷ x) rest.whole; ascii = rest.ascii }
       ]
 ]

@@ -1,19 +1,22 @@
 -- What is read of a text is a text.
-use Rattle.std.proofs.Common.{◌≡◌, ℕ, ◌+◌, ◌<◌, suc, List, [], ◌∷◌, ◌++◌, true, false, ◌&&◌, ◌||◌, eqb, Option, None, Some, refl, sym, ap, ◌∙◌, get_or, length, drop, arith, inl, inr, subst, zero, append_assoc, append-nil, nat_lt, flat_map, rules}
+use Rattle.std.proofs.Common.{◌≡◌, ℕ, ◌+◌, ◌<◌, suc, List, [], ◌∷◌, ◌++◌, true, false, ◌&&◌, ◌||◌, eqb, Option, None, Some, refl, sym, ap, ◌∙◌, get_or, length}
+use Rattle.std.proofs.Common.{drop, arith, inl, inr, subst, zero, append_assoc, append-nil, nat_lt, flat_map, rules}
 use Rattle.std.specs.List.{prefix_len}
 use Rattle.std.specs.Option.{IfSome}
 use Rattle.std.specs.Str.{IsUtf8}
 use Rattle.std.proofs.lemmas.Bool.{cases_Bool, cond-false, cond-true, eqb-true, ne_eqb, or_cases, false≢true, ltb-true}
 use Rattle.std.proofs.lemmas.List.{take_at, drop_at, get_or_at, length-append}
 use Rattle.std.proofs.lemmas.Option.{none-some, cond_some}
-use Rattle.std.proofs.lemmas.Str.{IsUtf8-append, IsUtf8-take, IsUtf8-drop, IsUtf8-nil, IsUtf8-from_ascii, IsCharBoundary-before_ascii, IsCharBoundary-after_ascii}
+use Rattle.std.proofs.lemmas.Str.{IsUtf8-append, IsUtf8-take, IsUtf8-drop, IsUtf8-nil, IsUtf8-from_ascii, IsCharBoundary-before_ascii}
+use Rattle.std.proofs.lemmas.Str.{IsCharBoundary-after_ascii}
 use Rattle.definition_text.specs.Columns.{is_white, code_byte}
 use Rattle.definition_text.specs.Content.{Part, content_codes, is_eol}
 use Rattle.definition_inline.specs.Space.{after_spaces, after_ending, after_white, begins_with_space}
 use Rattle.definition_inline.specs.Label.{label_at}
 use Rattle.definition_inline.specs.Destination.{destination_at}
 use Rattle.definition_inline.specs.Title.{title_at}
-use Rattle.definition_inline.specs.Resource.{LinkResource, resource_at, resource_inside, resource_end, with_title, with_destination, after_destination, opens_title}
+use Rattle.definition_inline.specs.Resource.{LinkResource, resource_at, resource_inside, resource_end, with_title, with_destination, after_destination}
+use Rattle.definition_inline.specs.Resource.{opens_title}
 use Rattle.inline_links.specs.Texts.{IsText, code_text}
 use Rattle.inline_links.proofs.Splits.{is_ascii_code, begins_ascii, white_ascii, eol_ascii, label_whole, title_whole, destination_whole}
 
@@ -70,7 +73,8 @@ around_byte front after b ascii u =
     let rest : drop (length front + 1) bs ≡ after =
     ap (drop (length front + 1)) (sym (append_assoc front (b ∷ []) after))
     ∙ drop_at (front ++ b ∷ []) after (length front + 1) (length-append front (b ∷ [])) in (
-      subst IsUtf8 (take_at front (b ∷ after) (length front) refl) (IsUtf8-take bs (length front) u (IsCharBoundary-before_ascii bs (length front) within small)),
+      subst IsUtf8 (take_at front (b ∷ after) (length front) refl) (IsUtf8-take bs (length front) u
+          (IsCharBoundary-before_ascii bs (length front) within small)),
       subst IsUtf8 rest (IsUtf8-drop bs (length front + 1) u (IsCharBoundary-after_ascii bs (length front) u within small)),
     )
 
@@ -252,7 +256,8 @@ titled destination next None r d h e = absurd (none-some r e)
 titled destination next (Some p) r d h e =
     let k = h p refl in
     let w = white_text p.rest k.rest in
-    further next k.front p.rest r k.whole (further p.rest w.front (after_white p.rest) r w.whole (resource_ends destination (Some p.text) (after_white p.rest) r d k.text w.text e))
+    further next k.front p.rest r k.whole (further p.rest w.front (after_white p.rest) r w.whole
+    (resource_ends destination (Some p.text) (after_white p.rest) r d k.text w.text e))
 
 destined : (p : Part) (r : LinkResource) → IsText p.text → IsText p.rest → after_destination p ≡ Some r → ResourceText p.rest r
 destined p r d t e =
@@ -273,7 +278,8 @@ inside_text : (cs : List ℕ) (r : LinkResource) → IsText cs → resource_insi
 inside_text [] r t e = absurd (none-some r e)
 inside_text (c ∷ cs) r t e = elim (cases_Bool (eqb c 41)) [
   | inl h ↦ resource_ends [] None (c ∷ cs) r IsUtf8-nil tt t (sym (cond-true (eqb c 41) _ _ h) ∙ e)
-  | inr h ↦ with_destined (c ∷ cs) (destination_at (Some 32) (c ∷ cs)) r (λ p f. destination_text (Some 32) (c ∷ cs) p t f) (sym (cond-false (eqb c 41) _ _ h) ∙ e)
+  | inr h ↦ with_destined (c ∷ cs) (destination_at (Some 32) (c ∷ cs)) r (λ p f. destination_text (Some 32) (c ∷ cs) p t f)
+      (sym (cond-false (eqb c 41) _ _ h) ∙ e)
 ]
 
 pub resource_text : (cs : List ℕ) (r : LinkResource) → IsText cs → resource_at cs ≡ Some r → ResourceText cs r

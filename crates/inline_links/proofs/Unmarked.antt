@@ -1,5 +1,6 @@
 -- What reads the codes of a label's text, past bytes that mark nothing.
-use Rattle.std.proofs.Common.{◌≡◌, ℕ, suc, ◌+◌, ◌-◌, ◌≤◌, List, [], ◌∷◌, Bool, true, false, not, ◌||◌, ◌&&◌, refl, sym, ap, ◌∙◌, length, drop, arith, eqb, inl, inr}
+use Rattle.std.proofs.Common.{◌≡◌, ℕ, suc, ◌+◌, ◌-◌, ◌≤◌, List, [], ◌∷◌, Bool, true, false, not, ◌||◌, ◌&&◌, refl, sym, ap, ◌∙◌, length, drop, arith, eqb, inl}
+use Rattle.std.proofs.Common.{inr}
 use Rattle.std.specs.List.{prefix_len}
 use Rattle.std.proofs.lemmas.Bool.{cases_Bool, cond-false, cond-true, eq-eqb, eqb-true, ne_eqb, or_parts, true≢false}
 use Rattle.std.proofs.lemmas.List.{drop-drop}
@@ -35,7 +36,8 @@ no_end escaped b p =
     ∙ ap (λ t. t && not escaped) p.closing
 
 -- a reader of codes that goes on after each code that ends no label, and keeps only whether it escapes the next one
-module _ (A : Type 0) (f : Bool → List ℕ → A) (goes_on : (escaped : Bool) (c : ℕ) (cs : List ℕ) → ends_label escaped c ≡ false → f escaped (c ∷ cs) ≡ f (may_escape escaped c) cs) where
+module _ (A : Type 0) (f : Bool → List ℕ → A) (goes_on : (escaped : Bool) (c : ℕ) (cs : List ℕ) → ends_label escaped c ≡ false
+    → f escaped (c ∷ cs) ≡ f (may_escape escaped c) cs) where
   one_passed : (escaped : Bool) (b : ℕ) (bs : List ℕ) → is_unmarked b ≡ true → f escaped (content_codes (b ∷ bs)) ≡ f false (content_codes bs)
   one_passed escaped b bs h =
       let p = passed b h in
@@ -102,7 +104,8 @@ module _ (A : Type 0) (f : Bool → List ℕ → A) (goes_on : (escaped : Bool) 
 pub end_goes_on : (escaped : Bool) (c : ℕ) (cs : List ℕ) → ends_label escaped c ≡ false → label_end escaped (c ∷ cs) ≡ label_end (may_escape escaped c) cs
 end_goes_on escaped c cs h = cond-false (ends_label escaped c) _ _ h
 
-pub test_goes_on : (escaped : Bool) (c : ℕ) (cs : List ℕ) → ends_label escaped c ≡ false → has_no_bracket escaped (c ∷ cs) ≡ has_no_bracket (may_escape escaped c) cs
+pub test_goes_on : (escaped : Bool) (c : ℕ) (cs : List ℕ) → ends_label escaped c ≡ false
+    → has_no_bracket escaped (c ∷ cs) ≡ has_no_bracket (may_escape escaped c) cs
 test_goes_on escaped c cs h = ap (λ t. not t && has_no_bracket (may_escape escaped c) cs) h
 
 -- ---- how many bytes of a label count

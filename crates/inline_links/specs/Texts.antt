@@ -3,6 +3,7 @@ use Rattle.std.specs.Prelude.{◌≡◌, ◌<◌, ◌-◌, ℕ, if◌then◌else
 use Rattle.std.specs.List.{flat_map}
 use Rattle.std.specs.Option.{option_map}
 use Rattle.std.specs.Str.{IsUtf8}
+use Rattle.definition_text.specs.Ascii.{line_feed, carriage_return}
 use Rattle.definition_text.specs.Columns.{code_byte}
 use Rattle.definition_text.specs.Content.{content_codes, part}
 use Rattle.definition_text.specs.Content as content
@@ -16,7 +17,7 @@ use Rattle.inline_links.specs.declared.text.TextResource.{TextResource}
 
 -- the bytes of a code
 abbrev pub code_text : ℕ → List ℕ
-code_text code = if code == 257 then 13 ∷ 10 ∷ [] else code_byte code ∷ []
+code_text code = if code == 257 then carriage_return ∷ line_feed ∷ [] else code_byte code ∷ []
 
 -- codes of a text
 abbrev pub IsText : List ℕ → Type 0
@@ -31,7 +32,11 @@ found_text_part (Some read) = Some (text_part read)
 
 abbrev pub text_resource : TextResource → resource.LinkResource
 text_resource read =
-    record { destination = content_codes read.destination.now; title = option_map (λ text. content_codes text.now) read.title; rest = content_codes read.rest.now }
+    record {
+      destination = content_codes read.destination.now;
+      title = option_map (λ text. content_codes text.now) read.title;
+      rest = content_codes read.rest.now;
+    }
 
 abbrev pub found_text_resource : Option TextResource → Option resource.LinkResource
 found_text_resource None = None
@@ -39,7 +44,8 @@ found_text_resource (Some read) = Some (text_resource read)
 
 abbrev pub text_definition : TextDefinition → link_definition.Definition
 text_definition read =
-    definition (content_codes read.label.now) (content_codes read.destination.now) (option_map (λ text. content_codes text.now) read.title) (content_codes read.rest.now)
+    definition (content_codes read.label.now) (content_codes read.destination.now) (option_map (λ text. content_codes text.now) read.title)
+    (content_codes read.rest.now)
 
 abbrev pub found_text_definition : Option TextDefinition → Option link_definition.Definition
 found_text_definition None = None

@@ -8,7 +8,7 @@ ghost use Rattle.std.specs.Prelude.{◌≡◌, IfSome};
 ghost use Rattle.std.specs.Option.{option_map};
 ghost use Rattle.definition_text.specs.Content.{content_codes};
 ghost use Rattle.definition_inline.specs.Space.{begins_with_space};
-ghost use Rattle.definition_inline.specs.Definition.{next_line, titled, untitled, with_destination, definition_at};
+ghost use Rattle.definition_inline.specs.Definition.{next_line, definition_with_title, definition_without_title, with_destination, definition_at};
 ghost use Rattle.inline_links.specs.Codes.{IsShorterRest, IsRest};
 ghost use Rattle.inline_links.specs.View.{part_of, found_definition};
 
@@ -53,7 +53,7 @@ pub fn definition(content: &[u8]) -> Option<LinkDefinition<'_>>
 
 /// With a title after the destination.
 fn titled<'a>(label: &'a [u8], destination: Part<'a>) -> Option<LinkDefinition<'a>>
-    ensures read { found_definition result ≡ titled (content_codes label.now) (part_of destination.entry) }
+    ensures read { found_definition result ≡ definition_with_title (content_codes label.now) (part_of destination.entry) }
     ensures place { IfSome result (λ read. IsRest destination.entry.rest.now read.rest.now) }
 {
     if !begins_with_space(destination.rest) {
@@ -71,7 +71,7 @@ fn titled<'a>(label: &'a [u8], destination: Part<'a>) -> Option<LinkDefinition<'
 
 /// Without a title after the destination.
 fn untitled<'a>(label: &'a [u8], destination: Part<'a>) -> Option<LinkDefinition<'a>>
-    ensures read { found_definition result ≡ untitled (content_codes label.now) (part_of destination.entry) }
+    ensures read { found_definition result ≡ definition_without_title (content_codes label.now) (part_of destination.entry) }
     ensures place { IfSome result (λ read. IsRest destination.entry.rest.now read.rest.now) }
 {
     let rest = next_line(destination.rest)?;

@@ -1,5 +1,6 @@
 -- Email addresses in a run of text.
-use Rattle.std.proofs.Common.{◌≡◌, ℕ, zero, suc, ◌+◌, ◌-◌, ◌<◌, ◌≤◌, List, [], ◌∷◌, ◌++◌, eqb, None, Some, refl, sym, ap, ◌∙◌, get_or, length, drop, take, map, arith, append_assoc, subst}
+use Rattle.std.proofs.Common.{◌≡◌, ℕ, zero, suc, ◌+◌, ◌-◌, ◌<◌, ◌≤◌, List, [], ◌∷◌, ◌++◌, eqb, None, Some, refl, sym, ap, ◌∙◌, get_or, length, drop, take, map}
+use Rattle.std.proofs.Common.{arith, append_assoc, subst}
 use Rattle.std.proofs.lemmas.Bool.{cond-false, cond-true, eq-eqb, ne_eqb}
 use Rattle.std.proofs.lemmas.List.{drop_all, take_all, drop-drop, drop-append-le, take-append-le, take-append-drop, length-take-le, length-drop, get_or-take}
 use Rattle.std.proofs.Math.Seq.{drop-cons, take-suc, take-append-add}
@@ -61,7 +62,8 @@ found_address n xs found h is le at =
     let whole : xs ≡ front ++ 64 ∷ back =
     sym (take-append-drop n xs) ∙ ap (λ l. front ++ l) (drop-cons xs n 0 h) ∙ ap (λ x. front ++ x ∷ back) is in
     let before : take (length front - found.before) front ≡ take (n - found.before) xs =
-    sym (take-append-le (length front - found.before) front (64 ∷ back) (omega arith)) ∙ ap (take (length front - found.before)) (sym whole) ∙ ap (λ k. take (k - found.before) xs) size in
+    sym (take-append-le (length front - found.before) front (64 ∷ back) (omega arith)) ∙ ap (take (length front - found.before)) (sym whole)
+    ∙ ap (λ k. take (k - found.before) xs) size in
     let text : drop (length front - found.before) front ++ 64 ∷ take found.after back ≡ take (found.before + (1 + found.after)) (drop (n - found.before) xs) =
     sym (around front back 64 found.before found.after (omega (arith, size)))
     ∙ ap (λ l. take (found.before + (1 + found.after)) (drop (length front - found.before) l)) (sym whole)
@@ -69,7 +71,8 @@ found_address n xs found h is le at =
     let after : drop found.after back ≡ drop (n + (1 + found.after)) xs = drop-drop found.after (suc n) xs ∙ ap (λ k. drop k xs) (omega arith) in
     at_sign n xs h is
     ∙ ap (λ o. address_or_text front back o rest) (ap (λ m. address_at front (drop m xs)) (one_more n) ∙ at)
-    ∙ append_assoc (map Data (take (length front - found.before) front)) (Literal found.kind (drop (length front - found.before) front ++ 64 ∷ take found.after back) ∷ []) (rest found.after [])
+    ∙ append_assoc (map Data (take (length front - found.before) front)) (Literal found.kind
+    (drop (length front - found.before) front ++ 64 ∷ take found.after back) ∷ []) (rest found.after [])
     ∙ ap (λ l. map Data l ++ Literal found.kind (drop (length front - found.before) front ++ 64 ∷ take found.after back) ∷ rest found.after []) before
     ∙ ap (λ l. map Data (take (n - found.before) xs) ++ Literal found.kind l ∷ rest found.after []) text
     ∙ ap (λ l. map Data (take (n - found.before) xs) ++ Literal found.kind (take (found.before + (1 + found.after)) (drop (n - found.before) xs)) ∷ l)
@@ -102,5 +105,6 @@ first_byte before user (suc n) within some last first =
     let size : length (take (length before - user) before) ≡ length before - user = length-take-le (length before - user) before (omega arith) in
     let e : length (take (length before - user) before) - suc n ≡ length before - (user + suc n) = omega (arith, size) in
     subst (λ b. b < 128)
-    (ap (λ k. get_or (take (length before - user) before) k 0) e ∙ get_or-take (length before - user) before (length before - (user + suc n)) 0 (omega (arith, within)))
+    (ap (λ k. get_or (take (length before - user) before) k 0) e ∙ get_or-take (length before - user) before (length before - (user + suc n)) 0
+    (omega (arith, within)))
     (first (omega arith))

@@ -5,7 +5,8 @@ use Rattle.std.proofs.Math.Seq.{drop-cons}
 use Rattle.inline_literals.specs.Literals.{begins_domain, domain_size}
 
 module _ (p : ℕ → Bool) where
-  here : (n i : ℕ) (xs : List ℕ) → i < n → i < length xs → domain_size p (n - i) (drop i xs) ≡ domain_size p (suc (n - (i + 1))) (get_or xs i 0 ∷ drop (i + 1) xs)
+  here : (n i : ℕ) (xs : List ℕ) → i < n → i < length xs → domain_size p (n - i) (drop i xs)
+      ≡ domain_size p (suc (n - (i + 1))) (get_or xs i 0 ∷ drop (i + 1) xs)
   here n i xs less within =
       let count : n - i ≡ suc (n - (i + 1)) = omega (arith, less) in
       let one : suc i ≡ i + 1 = omega arith in
@@ -16,5 +17,6 @@ module _ (p : ℕ → Bool) where
       → domain_size p (n - i) (drop i xs) ≡ 1 + domain_size p (n - (i + 1)) (drop (i + 1) xs)
   domain_goes_on n i xs less within is = here n i xs less within ∙ cond-true (begins_domain p (get_or xs i 0) (drop (i + 1) xs)) _ 0 is
 
-  pub domain_ends : (n i : ℕ) (xs : List ℕ) → i < n → i < length xs → begins_domain p (get_or xs i 0) (drop (i + 1) xs) ≡ false → domain_size p (n - i) (drop i xs) ≡ 0
+  pub domain_ends : (n i : ℕ) (xs : List ℕ) → i < n → i < length xs → begins_domain p (get_or xs i 0) (drop (i + 1) xs) ≡ false
+      → domain_size p (n - i) (drop i xs) ≡ 0
   domain_ends n i xs less within other = here n i xs less within ∙ cond-false (begins_domain p (get_or xs i 0) (drop (i + 1) xs)) _ 0 other

@@ -1,8 +1,10 @@
 -- A literal at a place of a content, in bytes and in codes.
-use Rattle.std.proofs.Common.{◌≡◌, ℕ, zero, suc, ◌+◌, ◌-◌, ◌<◌, ◌≤◌, List, [], ◌∷◌, ◌++◌, Bool, true, false, cond, not, ◌&&◌, ◌||◌, eqb, Option, None, Some, refl, sym, ap, ◌∙◌, get_or, length, take, drop, arith, inl, inr}
+use Rattle.std.proofs.Common.{◌≡◌, ℕ, zero, suc, ◌+◌, ◌-◌, ◌<◌, ◌≤◌, List, [], ◌∷◌, ◌++◌, Bool, true, false, cond, not, ◌&&◌, ◌||◌, eqb, Option, None, Some}
+use Rattle.std.proofs.Common.{refl, sym, ap, ◌∙◌, get_or, length, take, drop, arith, inl, inr}
 use Rattle.std.specs.Prelude.{codes, slice_index_or, reverse, nat_lt, is_some}
 use Rattle.std.specs.Char.{to_ascii_lowercase}
-use Rattle.std.proofs.lemmas.Bool.{cases_Bool, cond_both, cond-true, cond-false, eqb-true, eqb-false, ne_eqb, or_cases, or_from, or_parts, and_left, and_parts, ltb-true, ltb-false, true≢false}
+use Rattle.std.proofs.lemmas.Bool.{cases_Bool, cond_both, cond-true, cond-false, eqb-true, eqb-false, ne_eqb, or_cases, or_from, or_parts, and_left, and_parts}
+use Rattle.std.proofs.lemmas.Bool.{ltb-true, ltb-false, true≢false}
 use Rattle.std.proofs.lemmas.List.{length-take-le, length-reverse, drop-map, get_or-take}
 use Rattle.std.proofs.Math.Seq.{take-add}
 use Rattle.markdown_options.specs.declared.configuration.Constructs.{Constructs}
@@ -13,10 +15,12 @@ use Rattle.definition_text.specs.InlineCode.{InlineCode, codes_of, first_kind, i
 use Rattle.definition_inline.specs.Attention.{is_other}
 use Rattle.definition_inline.specs.Inline.{Leaf, leaf, Literal, Www, Protocol}
 use Rattle.definition_inline.specs.GfmAutolinkLiteral as literal
-use Rattle.definition_inline.specs.GfmAutolinkLiteral.{LiteralStart, literal_start, or_start, may_precede_www, may_precede_protocol, begins_caselessly, is_control, domain, ends_literal, has_low_line, is_cut, cut_more, without_tail, literal_run, literal_name, literal_start_at, named_literal, literal_after, literal_at}
+use Rattle.definition_inline.specs.GfmAutolinkLiteral.{LiteralStart, literal_start, or_start, may_precede_www, may_precede_protocol, begins_caselessly}
+use Rattle.definition_inline.specs.GfmAutolinkLiteral.{is_control, domain, ends_literal, has_low_line, is_cut, cut_more, without_tail, literal_run}
+use Rattle.definition_inline.specs.GfmAutolinkLiteral.{literal_name, literal_start_at, named_literal, literal_after, literal_at}
 use Rattle.definition_inline.proofs.GfmAutolinkLiteral.{no_start_at}
 use Rattle.inline_content.specs.declared.mark.Mark.{Mark}
-use Rattle.inline_content.specs.View.{width, line_left, kind_after, kind_before, kind_between, previous_after, previous_from, view_from, marked}
+use Rattle.inline_content.specs.View.{width, line_rest, kind_after, kind_before, kind_between, previous_after, previous_from, view_from, codes_with_marks}
 use Rattle.inline_content.specs.Marks.{kind_at}
 use Rattle.inline_content.proofs.Places.{codes_append}
 use Rattle.inline_content.proofs.Runs.{text_is}
@@ -68,13 +72,13 @@ name_plain xs =
 module _ (p : ℕ → Bool) (end : Kind) (marks : List Mark) where
   -- the kind of the character that bytes begin with
   abbrev kind_of : List ℕ → Kind
-  kind_of xs = first_kind p end (line_left (content_codes xs))
+  kind_of xs = first_kind p end (line_rest (content_codes xs))
 
   -- of bytes, of which there is one, whatever stands after the content
-  same_kind : (b : ℕ) (bs : List ℕ) → kind_of (b ∷ bs) ≡ first_kind p Whitespace (line_left (content_codes (b ∷ bs)))
+  same_kind : (b : ℕ) (bs : List ℕ) → kind_of (b ∷ bs) ≡ first_kind p Whitespace (line_rest (content_codes (b ∷ bs)))
   same_kind b bs =
       let first = codes_some b bs in
-      ap (λ l. first_kind p end (line_left l)) first.2 ∙ sym (ap (λ l. first_kind p Whitespace (line_left l)) first.2)
+      ap (λ l. first_kind p end (line_rest l)) first.2 ∙ sym (ap (λ l. first_kind p Whitespace (line_rest l)) first.2)
 
   -- no line ending belongs to a domain
   no_ending : (b : ℕ) (bs : List ℕ) → (b ≡ 13 → ⊥) → is_eol b ≡ true → begins_domain p b bs ≡ false
@@ -93,19 +97,21 @@ module _ (p : ℕ → Bool) (end : Kind) (marks : List Mark) where
   domains (suc n) [] place previous before plain = absurd (omega (arith, plain.within))
   domains (suc n) (b ∷ bs) place previous before plain =
       let cs = content_codes bs in
-      let next : List ℕ → List InlineCode = view_from p end marks (place + width b) (previous_after b) (kind_before p marks (place + width b) before b (line_left cs)) in
+      let next : List ℕ → List InlineCode =
+      view_from p end marks (place + width b) (previous_after b) (kind_before p marks (place + width b) before b (line_rest cs)) in
       let apart : b ≡ 13 → ⊥ = plain.plain 0 (omega arith) in
       let code : content_codes (b ∷ bs) ≡ b ∷ cs = plain_code b bs apart in
       let later : IsPlain bs n = record { within = omega (arith, plain.within); plain = λ k lt. plain.plain (suc k) (omega (arith, lt)) } in
       ap (λ k. domain k (take (suc n) (view_from p end marks place previous before (content_codes (b ∷ bs))))) (same_kind b bs)
-      ∙ ap (λ l. domain (first_kind p Whitespace (line_left (content_codes (b ∷ bs)))) (take (suc n) (view_from p end marks place previous before l))) code
+      ∙ ap (λ l. domain (first_kind p Whitespace (line_rest (content_codes (b ∷ bs)))) (take (suc n) (view_from p end marks place previous before l))) code
       ∙ elim (cases_Bool (begins_domain p b bs)) [
-        | inr none ↦ cond-false (begins_domain p b bs) _ _ none ∙ ap (λ k. take k (b ∷ bs)) (sym (cond-false (begins_domain p b bs) (1 + domain_size p n bs) 0 none))
+        | inr none ↦ cond-false (begins_domain p b bs) _ _ none ∙ ap (λ k. take k (b ∷ bs))
+            (sym (cond-false (begins_domain p b bs) (1 + domain_size p n bs) 0 none))
         | inl some ↦
             let line : is_eol b ≡ false = no_line b bs apart some in
             cond-true (begins_domain p b bs) _ _ some
-            ∙ ap (λ k. b ∷ domain k (take n (next cs))) (cond-false (is_eol b) end (first_kind p end (line_left cs)) line)
-            ∙ ap (λ l. b ∷ l) (domains n bs (place + width b) (previous_after b) (kind_before p marks (place + width b) before b (line_left cs)) later)
+            ∙ ap (λ k. b ∷ domain k (take n (next cs))) (cond-false (is_eol b) end (first_kind p end (line_rest cs)) line)
+            ∙ ap (λ l. b ∷ l) (domains n bs (place + width b) (previous_after b) (kind_before p marks (place + width b) before b (line_rest cs)) later)
             ∙ ap (λ k. take k (b ∷ bs)) (one (domain_size p n bs) ∙ sym (cond-true (begins_domain p b bs) (1 + domain_size p n bs) 0 some))
       ]
     where
@@ -123,8 +129,8 @@ module _ (p : ℕ → Bool) (end : Kind) (marks : List Mark) where
       → literal.begins_name (kind_of xs) (view_from p end marks place previous before (content_codes xs)) ≡ begins_name p xs
   names_begin [] place previous before = refl
   names_begin (b ∷ bs) place previous before =
-      let codes_side : List ℕ → Bool = λ cs. literal.begins_name (first_kind p end (line_left cs)) (view_from p end marks place previous before cs) in
-      let bytes_side : ℕ → List ℕ → Bool = λ c cs. is_other (first_kind p Whitespace (line_left cs)) && not (is_control c) in
+      let codes_side : List ℕ → Bool = λ cs. literal.begins_name (first_kind p end (line_rest cs)) (view_from p end marks place previous before cs) in
+      let bytes_side : ℕ → List ℕ → Bool = λ c cs. is_other (first_kind p Whitespace (line_rest cs)) && not (is_control c) in
       elim (cases_Bool (eqb b 13)) [
         | inl h ↦
             let e = eqb-true b 13 h in
@@ -143,21 +149,24 @@ module _ (p : ℕ → Bool) (end : Kind) (marks : List Mark) where
       let some : size - 1 < size = omega (arith, s.some) in
       let long = plain_size size xs s.plain.within s.plain.plain in
       let byte : get_or cs (size - 1) 0 ≡ get_or xs (size - 1) 0 =
-      sym (get_or-take size cs (size - 1) 0 some) ∙ ap (λ l. get_or l (size - 1) 0) (plain_take size xs s.plain.within s.plain.plain) ∙ get_or-take size xs (size - 1) 0 some in
+      sym (get_or-take size cs (size - 1) 0 some) ∙ ap (λ l. get_or l (size - 1) 0) (plain_take size xs s.plain.within s.plain.plain)
+      ∙ get_or-take size xs (size - 1) 0 some in
       let b = get_or xs (size - 1) 0 in
       let line : is_eol b ≡ false =
-      or_from (eqb b 10 || eqb b 13) (eqb b 257) (or_from (eqb b 10) (eqb b 13) (ne_eqb b 10 s.inside) (ne_eqb b 13 (s.plain.plain (size - 1) some))) (ne_eqb b 257 (λ e. omega (arith, e, s.ascii))) in
+      or_from (eqb b 10 || eqb b 13) (eqb b 257) (or_from (eqb b 10) (eqb b 13) (ne_eqb b 10 s.inside) (ne_eqb b 13 (s.plain.plain (size - 1) some)))
+      (ne_eqb b 257 (λ e. omega (arith, e, s.ascii))) in
       let next : suc (size - 1) ≡ size = omega (arith, s.some) in
       after_at p end marks place previous before cs (size - 1) d (omega (arith, long, s.some))
-      ∙ ap (λ k. kind_after p end (get_or cs (size - 1) 0) (line_left (drop k cs))) next
-      ∙ ap (λ k. kind_after p end k (line_left (drop size cs))) byte
+      ∙ ap (λ k. kind_after p end (get_or cs (size - 1) 0) (line_rest (drop k cs))) next
+      ∙ ap (λ k. kind_after p end k (line_rest (drop size cs))) byte
       ∙ cond-false (is_eol b) end _ line
-      ∙ ap (λ l. first_kind p end (line_left l)) (plain_drop size xs s.plain.within s.plain.plain)
+      ∙ ap (λ l. first_kind p end (line_rest l)) (plain_drop size xs s.plain.within s.plain.plain)
 
   -- what is left after a literal's start
   left_after_start : (xs : List ℕ) (size place : ℕ) (previous : Option ℕ) (before : Kind) → StartsLiteral xs size
       → drop size (view_from p end marks place previous before (content_codes xs))
-      ≡ view_from p end marks (place + widths (take size xs)) (previous_from previous (take size xs)) (kind_between p marks place before (take size xs) (content_codes (drop size xs))) (content_codes (drop size xs))
+      ≡ view_from p end marks (place + widths (take size xs)) (previous_from previous (take size xs))
+      (kind_between p marks place before (take size xs) (content_codes (drop size xs))) (content_codes (drop size xs))
   left_after_start xs size place previous before s =
       let front = take size xs in
       let after = content_codes (drop size xs) in
@@ -175,7 +184,8 @@ module _ (p : ℕ → Bool) (end : Kind) (marks : List Mark) where
       (Some (leaf (Literal start.kind (take start.size xs ++ name) ∷ []) (start.size + length name))) None
 
   pub named : (xs : List ℕ) (start : LiteralStart) (place : ℕ) (previous : Option ℕ) (before : Kind) (d : InlineCode) → StartsLiteral xs start.size
-      → named_literal start (view_from p end marks place previous before (content_codes xs)) (slice_index_or (view_from p end marks place previous before (content_codes xs)) (start.size - 1) d)
+      → named_literal start (view_from p end marks place previous before (content_codes xs))
+      (slice_index_or (view_from p end marks place previous before (content_codes xs)) (start.size - 1) d)
       (literal_name (drop start.size (codes_of (view_from p end marks place previous before (content_codes xs)))))
       ≡ literal_of start xs
   named xs start place previous before d s =
@@ -183,37 +193,46 @@ module _ (p : ℕ → Bool) (end : Kind) (marks : List Mark) where
       let view = view_from p end marks place previous before (content_codes xs) in
       let after = drop size xs in
       let name = literal_name (content_codes after) in
-      let left = view_from p end marks (place + widths (take size xs)) (previous_from previous (take size xs)) (kind_between p marks place before (take size xs) (content_codes after)) (content_codes after) in
+      let left = view_from p end marks (place + widths (take size xs)) (previous_from previous (take size xs))
+      (kind_between p marks place before (take size xs) (content_codes after)) (content_codes after) in
       let made : Kind → List InlineCode → List ℕ → List ℕ → Option Leaf =
       λ kind rest cs named.
       cond (literal.begins_name kind rest && not (has_low_line (domain kind (take (length named) rest))))
       (Some (leaf (Literal start.kind (take size cs ++ named) ∷ []) (size + length named))) None in
       let last = slice_index_or view (size - 1) d in
       let codes_are : codes_of view ≡ content_codes xs = codes_from p end marks place previous before (content_codes xs) in
-      let name_is : literal_name (drop size (codes_of view)) ≡ name = ap (λ cs. literal_name (drop size cs)) codes_are ∙ ap literal_name (plain_drop size xs s.plain.within s.plain.plain) in
+      let name_is : literal_name (drop size (codes_of view)) ≡ name =
+      ap (λ cs. literal_name (drop size cs)) codes_are ∙ ap literal_name (plain_drop size xs s.plain.within s.plain.plain) in
       ap (λ n. made last.after (drop size view) (codes_of view) n) name_is
       ∙ ap (λ cs. made last.after (drop size view) cs name) codes_are
       ∙ ap (λ k. made k (drop size view) (content_codes xs) name) (kind_after_start xs size place previous before d s)
       ∙ ap (λ l. made (kind_of after) l (content_codes xs) name) (left_after_start xs size place previous before s)
-      ∙ ap (λ t. cond (t && not (has_low_line (domain (kind_of after) (take (length name) left)))) (Some (leaf (Literal start.kind (take size (content_codes xs) ++ name) ∷ []) (size + length name))) None)
-      (names_begin after (place + widths (take size xs)) (previous_from previous (take size xs)) (kind_between p marks place before (take size xs) (content_codes after)))
-      ∙ ap (λ l. cond (begins_name p after && not (has_low_line l)) (Some (leaf (Literal start.kind (take size (content_codes xs) ++ name) ∷ []) (size + length name))) None)
-      (domains (length name) after (place + widths (take size xs)) (previous_from previous (take size xs)) (kind_between p marks place before (take size xs) (content_codes after)) (name_plain after))
-      ∙ ap (λ l. cond (begins_name p after && not (has_low_line (take (domain_size p (length name) after) after))) (Some (leaf (Literal start.kind (l ++ name) ∷ []) (size + length name))) None)
+      ∙ ap (λ t. cond (t && not (has_low_line (domain (kind_of after) (take (length name) left))))
+      (Some (leaf (Literal start.kind (take size (content_codes xs) ++ name) ∷ []) (size + length name))) None)
+      (names_begin after (place + widths (take size xs)) (previous_from previous (take size xs))
+      (kind_between p marks place before (take size xs) (content_codes after)))
+      ∙ ap (λ l. cond (begins_name p after && not (has_low_line l))
+      (Some (leaf (Literal start.kind (take size (content_codes xs) ++ name) ∷ []) (size + length name))) None)
+      (domains (length name) after (place + widths (take size xs)) (previous_from previous (take size xs))
+      (kind_between p marks place before (take size xs) (content_codes after)) (name_plain after))
+      ∙ ap (λ l. cond (begins_name p after && not (has_low_line (take (domain_size p (length name) after) after)))
+      (Some (leaf (Literal start.kind (l ++ name) ∷ []) (size + length name))) None)
       (plain_take size xs s.plain.within s.plain.plain)
 
   -- ---- at a place
 
   -- a start that was found
-  pub found_start : (on : Constructs) (b : ℕ) (bs : List ℕ) (start : LiteralStart) (place : ℕ) (previous : Option ℕ) (before : Kind) → on.gfm_autolink_literal ≡ true
+  pub found_start : (on : Constructs) (b : ℕ) (bs : List ℕ) (start : LiteralStart) (place : ℕ) (previous : Option ℕ) (before : Kind)
+      → on.gfm_autolink_literal ≡ true
       → literal_start_at previous (b ∷ bs) ≡ Some start → StartsLiteral (b ∷ bs) start.size
       → literal_at on (view_from p end marks place previous before (content_codes (b ∷ bs))) ≡ literal_of start (b ∷ bs)
   found_start on b bs start place previous before is found s =
       let xs = b ∷ bs in
       let code : content_codes xs ≡ b ∷ content_codes bs = plain_code b bs (s.plain.plain 0 s.some) in
       let view : List ℕ → List InlineCode = view_from p end marks place previous before in
-      let c = inline_code b previous before (kind_after p end b (line_left (content_codes bs))) in
-      let cs = view_from p end marks (place + width b) (previous_after b) (kind_before p marks (place + width b) before b (line_left (content_codes bs))) (content_codes bs) in
+      let c = inline_code b previous before (kind_after p end b (line_rest (content_codes bs))) in
+      let cs = view_from p end marks (place + width b) (previous_after b) (kind_before p marks (place + width b) before b (line_rest (content_codes bs)))
+      (content_codes bs) in
       let same : codes_of (c ∷ cs) ≡ content_codes xs = codes_from p end marks place previous before (b ∷ content_codes bs) ∙ sym code in
       ap (λ l. literal_at on (view l)) code
       ∙ cond-true on.gfm_autolink_literal (literal_after c cs (literal_start_at previous (codes_of (c ∷ cs)))) None is
@@ -226,7 +245,8 @@ abbrev nothing : Option Leaf
 nothing = None
 
 -- none where no start is found
-pub none_found : (on : Constructs) (v : List InlineCode) (xs : List ℕ) → codes_of v ≡ content_codes xs → ((previous : Option ℕ) → literal_start_at previous xs ≡ None) → literal_at on v ≡ None
+pub none_found : (on : Constructs) (v : List InlineCode) (xs : List ℕ) → codes_of v ≡ content_codes xs
+    → ((previous : Option ℕ) → literal_start_at previous xs ≡ None) → literal_at on v ≡ None
 none_found on [] xs same none = refl
 none_found on (c ∷ cs) xs same none =
     ap (λ o. cond on.gfm_autolink_literal (literal_after c cs o) None) (ap (literal_start_at c.previous) same ∙ start_codes c.previous xs ∙ none c.previous)
@@ -292,26 +312,31 @@ module _ (p : ℕ → Bool) (end : Kind) (marks : List Mark) (text : List ℕ) w
   front rest = content_codes (take (length text - length rest) text)
 
   abbrev view : List ℕ → List InlineCode
-  view rest = drop (length (content_codes text) - length (content_codes rest)) (marked p end marks text)
+  view rest = drop (length (content_codes text) - length (content_codes rest)) (codes_with_marks p end marks text)
 
   pub view_codes : (rest : List ℕ) → codes_of (view rest) ≡ drop (length (content_codes text) - length (content_codes rest)) (content_codes text)
   view_codes rest =
       let n = length (content_codes text) - length (content_codes rest) in
-      sym (drop-map (λ (c : InlineCode). c.code) n (marked p end marks text)) ∙ ap (drop n) (codes_from p end marks 0 None (kind_at marks 0) (content_codes text))
+      sym (drop-map (λ (c : InlineCode). c.code) n (codes_with_marks p end marks text))
+      ∙ ap (drop n) (codes_from p end marks 0 None (kind_at marks 0) (content_codes text))
 
   view_here : (b : ℕ) (bs : List ℕ) → IsRest text (b ∷ bs) → (b ≡ 10 → ⊥)
       → view (b ∷ bs)
-      ≡ view_from p end marks (widths (front (b ∷ bs))) (previous_from None (front (b ∷ bs))) (kind_between p marks 0 (kind_at marks 0) (front (b ∷ bs)) (content_codes (b ∷ bs))) (content_codes (b ∷ bs))
+      ≡ view_from p end marks (widths (front (b ∷ bs))) (previous_from None (front (b ∷ bs)))
+      (kind_between p marks 0 (kind_at marks 0) (front (b ∷ bs)) (content_codes (b ∷ bs))) (content_codes (b ∷ bs))
   view_here b bs r apart =
-      view_is p end marks text (b ∷ bs) (front (b ∷ bs)) (ap content_codes (text_is text (b ∷ bs) r) ∙ codes_append (take (length text - length (b ∷ bs)) text) b bs apart)
+      view_is p end marks text (b ∷ bs) (front (b ∷ bs)) (ap content_codes (text_is text (b ∷ bs) r)
+      ∙ codes_append (take (length text - length (b ∷ bs)) text) b bs apart)
 
   pub at_found : (on : Constructs) (rest : List ℕ) (start : LiteralStart) → IsRest text rest → may_begin rest ≡ true → on.gfm_autolink_literal ≡ true
-      → literal_start_at (previous_from None (front rest)) rest ≡ Some start → StartsLiteral rest start.size → literal_at on (view rest) ≡ literal_of p end marks start rest
+      → literal_start_at (previous_from None (front rest)) rest ≡ Some start → StartsLiteral rest start.size
+      → literal_at on (view rest) ≡ literal_of p end marks start rest
   at_found on [] start r may is found s = absurd (true≢false (sym may))
   at_found on (b ∷ bs) start r may is found s =
       let first = letter_first b bs may in
       ap (literal_at on) (view_here b bs r (λ e. omega (arith, e, first)))
-      ∙ found_start p end marks on b bs start (widths (front (b ∷ bs))) (previous_from None (front (b ∷ bs))) (kind_between p marks 0 (kind_at marks 0) (front (b ∷ bs)) (content_codes (b ∷ bs))) is found s
+      ∙ found_start p end marks on b bs start (widths (front (b ∷ bs))) (previous_from None (front (b ∷ bs)))
+      (kind_between p marks 0 (kind_at marks 0) (front (b ∷ bs)) (content_codes (b ∷ bs))) is found s
 
   pub at_none : (on : Constructs) (rest : List ℕ) → IsRest text rest → may_begin rest ≡ true → literal_start_at (previous_from None (front rest)) rest ≡ None
       → literal_at on (view rest) ≡ None
@@ -322,8 +347,9 @@ module _ (p : ℕ → Bool) (end : Kind) (marks : List Mark) (text : List ℕ) w
       let previous = previous_from None (front (b ∷ bs)) in
       let before = kind_between p marks 0 (kind_at marks 0) (front (b ∷ bs)) (content_codes (b ∷ bs)) in
       let code : content_codes (b ∷ bs) ≡ b ∷ content_codes bs = plain_code b bs (λ e. omega (arith, e, first)) in
-      let c = inline_code b previous before (kind_after p end b (line_left (content_codes bs))) in
-      let cs = view_from p end marks (place + width b) (previous_after b) (kind_before p marks (place + width b) before b (line_left (content_codes bs))) (content_codes bs) in
+      let c = inline_code b previous before (kind_after p end b (line_rest (content_codes bs))) in
+      let cs = view_from p end marks (place + width b) (previous_after b) (kind_before p marks (place + width b) before b (line_rest (content_codes bs)))
+      (content_codes bs) in
       let same : codes_of (c ∷ cs) ≡ content_codes (b ∷ bs) = codes_from p end marks place previous before (b ∷ content_codes bs) ∙ sym code in
       ap (literal_at on) (view_here b bs r (λ e. omega (arith, e, first)) ∙ ap (view_from p end marks place previous before) code)
       ∙ ap (λ o. cond on.gfm_autolink_literal (literal_after c cs o) None) (ap (literal_start_at previous) same ∙ start_codes previous (b ∷ bs) ∙ none)
@@ -345,7 +371,8 @@ module _ (p : ℕ → Bool) (end : Kind) (marks : List Mark) (text : List ℕ) w
         | inr other ↦ cond-false test _ None other
       ]
 
-  pub with_size : (start : LiteralStart) (xs : List ℕ) (size : ℕ) → size_after p (drop start.size xs) ≡ Some size → StartsLiteral xs start.size → IsNameEnd (drop start.size xs) size
+  pub with_size : (start : LiteralStart) (xs : List ℕ) (size : ℕ) → size_after p (drop start.size xs) ≡ Some size → StartsLiteral xs start.size
+      → IsNameEnd (drop start.size xs) size
       → literal_of p end marks start xs ≡ Some (leaf (Literal start.kind (take (start.size + size) xs) ∷ []) (start.size + size))
   with_size start xs size found s end =
       let after = drop start.size xs in
@@ -365,12 +392,14 @@ module _ (p : ℕ → Bool) (end : Kind) (marks : List Mark) (text : List ℕ) w
 pub all_plain : (xs : List ℕ) (start size : ℕ) → StartsLiteral xs start → IsNameEnd (drop start xs) size → IsPlain xs (start + size)
 all_plain xs start size s end = plain_join xs start size s.plain end.plain
 
-pub after_literal : (xs rest : List ℕ) (start size : ℕ) → rest ≡ drop (start + size) xs → StartsLiteral xs start → IsNameEnd (drop start xs) size → IsAfter xs rest
+pub after_literal : (xs rest : List ℕ) (start size : ℕ) → rest ≡ drop (start + size) xs → StartsLiteral xs start → IsNameEnd (drop start xs) size
+    → IsAfter xs rest
 after_literal xs rest start size e s end =
     let plain = all_plain xs start size s end in
     is_after xs rest (start + size) e (omega (arith, s.some)) plain.within (cut_plain xs (start + size) plain.within plain.plain)
 
-pub size_of_literal : (xs rest : List ℕ) (start size : ℕ) → rest ≡ drop (start + size) xs → StartsLiteral xs start → IsNameEnd (drop start xs) size → size_before xs rest ≡ start + size
+pub size_of_literal : (xs rest : List ℕ) (start size : ℕ) → rest ≡ drop (start + size) xs → StartsLiteral xs start → IsNameEnd (drop start xs) size
+    → size_before xs rest ≡ start + size
 size_of_literal xs rest start size e s end =
     let plain = all_plain xs start size s end in
     size_plain (start + size) xs rest e plain.within plain.plain

@@ -1,12 +1,14 @@
 -- Names that begin in vain, and names that go on.
-use Rattle.std.proofs.Common.{◌≡◌, ℕ, zero, suc, ◌+◌, ◌-◌, ◌<◌, ◌≤◌, List, [], ◌∷◌, ◌++◌, Bool, true, false, not, ◌&&◌, ◌||◌, eqb, Option, None, Some, refl, sym, ap, ◌∙◌, get_or, length, take, drop, arith, append_assoc, subst, inl, inr}
+use Rattle.std.proofs.Common.{◌≡◌, ℕ, zero, suc, ◌+◌, ◌-◌, ◌<◌, ◌≤◌, List, [], ◌∷◌, ◌++◌, Bool, true, false, not, ◌&&◌, ◌||◌, eqb, Option, None, Some, refl}
+use Rattle.std.proofs.Common.{sym, ap, ◌∙◌, get_or, length, take, drop, arith, append_assoc, subst, inl, inr}
 use Rattle.std.specs.Prelude.{reverse}
 use Rattle.std.proofs.lemmas.Bool.{cases_Bool, cond-true, cond-false, or_from, or_parts, and_left, and_right, and_parts}
 use Rattle.std.proofs.lemmas.List.{length-take-le, length-reverse, length-append, reverse-append, drop-take, take-append-drop, length-drop}
 use Rattle.std.proofs.Math.Seq.{take-suc}
 use Rattle.definition_text.specs.Bytes.{is_letter_or_digit}
 use Rattle.definition_text.specs.Content.{content_codes}
-use Rattle.definition_inline.specs.GfmAutolinkLiteral.{count_of, ends_literal, has_low_line, is_cut, is_trailing, literal_name, literal_run, without_tail, has_more_closed}
+use Rattle.definition_inline.specs.GfmAutolinkLiteral.{count_of, ends_literal, has_low_line, is_cut, is_trailing, literal_name, literal_run, without_tail}
+use Rattle.definition_inline.specs.GfmAutolinkLiteral.{has_more_closed}
 use Rattle.inline_leaves.specs.Leaves.{IsPlain}
 use Rattle.inline_leaves.proofs.Codes.{plain_code}
 use Rattle.inline_literals.specs.Literals.{begins_domain, begins_name, domain_size, is_in_reference, is_kept, size_after, HasLowLineAt}
@@ -28,7 +30,8 @@ name_fits xs =
 
 -- ---- a name that begins later
 
-run_from : (k : ℕ) (xs : List ℕ) → k ≤ length (literal_run (content_codes xs)) → literal_run (content_codes xs) ≡ take k xs ++ literal_run (content_codes (drop k xs))
+run_from : (k : ℕ) (xs : List ℕ) → k ≤ length (literal_run (content_codes xs))
+    → literal_run (content_codes xs) ≡ take k xs ++ literal_run (content_codes (drop k xs))
 run_from zero xs le = refl
 run_from (suc k) [] le = absurd (omega (arith, le))
 run_from (suc k) (b ∷ bs) le = elim (cases_Bool (ends_literal b (content_codes bs))) [
@@ -108,7 +111,8 @@ module _ (p : ℕ → Bool) where
         let here = cond-true (begins_domain p b bs) (1 + domain_size p (length bs) bs) 0 is in
         let later = domain_whole n bs (omega (arith, le, here)) in
         here ∙ ap (λ k. 1 + k) later ∙ sym (cond-true (begins_domain p b bs) (1 + domain_size p n bs) 0 is)
-    | inr other ↦ cond-false (begins_domain p b bs) (1 + domain_size p (length bs) bs) 0 other ∙ sym (cond-false (begins_domain p b bs) (1 + domain_size p n bs) 0 other)
+    | inr other ↦ cond-false (begins_domain p b bs) (1 + domain_size p (length bs) bs) 0 other
+        ∙ sym (cond-false (begins_domain p b bs) (1 + domain_size p n bs) 0 other)
   ]
 
   -- one that goes on after these bytes
@@ -127,11 +131,13 @@ module _ (p : ℕ → Bool) where
 
   pub none_begins : (xs : List ℕ) → begins_name p xs ≡ false → size_after p xs ≡ None
   none_begins xs h =
-      cond-false (begins_name p xs && not (has_low_line (take (domain_size p (name_length xs) xs) xs))) (Some (name_length xs)) None (and_left (begins_name p xs) _ h)
+      cond-false (begins_name p xs && not (has_low_line (take (domain_size p (name_length xs) xs) xs))) (Some (name_length xs)) None
+      (and_left (begins_name p xs) _ h)
 
   pub none_named : (xs : List ℕ) → has_low_line (take (domain_size p (name_length xs) xs) xs) ≡ true → size_after p xs ≡ None
   none_named xs low =
-      cond-false (begins_name p xs && not (has_low_line (take (domain_size p (name_length xs) xs) xs))) (Some (name_length xs)) None (and_right (begins_name p xs) _ (ap not low))
+      cond-false (begins_name p xs && not (has_low_line (take (domain_size p (name_length xs) xs) xs))) (Some (name_length xs)) None
+      (and_right (begins_name p xs) _ (ap not low))
 
   -- a name at a later place of a domain, up to its last `_`
   pub none_later : (xs : List ℕ) (size at : ℕ) → size ≡ domain_size p (name_length xs) xs → HasLowLineAt (take size xs) at
@@ -171,7 +177,8 @@ kept_run : (c : ℕ) (ys front : List ℕ) → is_kept c ys ≡ true → length 
 kept_run c [] front h = kept_last c front (kept_uncut c [] front h)
 kept_run c (y ∷ ys) front h = elim (cases_Bool (ends_literal y (content_codes ys))) [
   | inl ends ↦
-      subst (λ l. length front < length (without_tail 0 (reverse l ++ c ∷ front))) (sym (run_ends y ys ends)) (kept_last c front (kept_uncut c (y ∷ ys) front h))
+      subst (λ l. length front < length (without_tail 0 (reverse l ++ c ∷ front))) (sym (run_ends y ys ends))
+      (kept_last c front (kept_uncut c (y ∷ ys) front h))
   | inr goes ↦
       let run = literal_run (content_codes ys) in
       let here : literal_run (content_codes (y ∷ ys)) ≡ y ∷ run =
@@ -201,7 +208,8 @@ kept_name n xs less plain so_far goes kept =
     let one : n + 1 ≡ suc n = omega arith in
     let next = run_goes_on n xs less plain so_far goes in
     let size : length front ≡ n = length-reverse (take n xs) ∙ length-take-le n xs (omega (arith, less)) in
-    let first : reverse (take (n + 1) xs) ≡ c ∷ front = ap (λ k. reverse (take k xs)) one ∙ ap reverse (take-suc xs n 0 less) ∙ reverse-append (take n xs) (c ∷ []) in
+    let first : reverse (take (n + 1) xs) ≡ c ∷ front =
+    ap (λ k. reverse (take k xs)) one ∙ ap reverse (take-suc xs n 0 less) ∙ reverse-append (take n xs) (c ∷ []) in
     let back : reverse (literal_run (content_codes xs)) ≡ reverse later ++ c ∷ front =
     ap reverse next.0 ∙ reverse-append (take (n + 1) xs) later ∙ ap (λ l. reverse later ++ l) first in
     omega (arith, size, name_is xs ∙ ap (λ l. length (without_tail 0 l)) back, kept_run c (drop (n + 1) xs) front kept)

@@ -1,14 +1,17 @@
 -- Names of literals, in bytes and backwards.
-use Rattle.std.proofs.Common.{◌≡◌, ℕ, zero, suc, ◌+◌, ◌-◌, ◌<◌, ◌≤◌, List, [], ◌∷◌, ◌++◌, true, false, cond, eqb, ◌&&◌, ◌||◌, refl, sym, ap, ap₂, ◌∙◌, get_or, length, drop, take, arith, subst, append_assoc, inl, inr}
+use Rattle.std.proofs.Common.{◌≡◌, ℕ, zero, suc, ◌+◌, ◌-◌, ◌<◌, ◌≤◌, List, [], ◌∷◌, ◌++◌, true, false, cond, eqb, ◌&&◌, ◌||◌, refl, sym, ap, ap₂, ◌∙◌, get_or}
+use Rattle.std.proofs.Common.{length, drop, take, arith, subst, append_assoc, inl, inr}
 use Rattle.std.specs.Prelude.{reverse, codes, nat_le, nat_lt}
 use Rattle.std.specs.List.{prefix_len, filter}
-use Rattle.std.proofs.lemmas.Bool.{cases_Bool, cases_lt, cond_both, cond-false, cond-true, eqb-true, eq-eqb, ne_eqb, and_left, and_right, and_parts, and_from, or_from, le-leb, lt-ltb, le-ltb, true≢false}
+use Rattle.std.proofs.lemmas.Bool.{cases_Bool, cases_lt, cond_both, cond-false, cond-true, eqb-true, eq-eqb, ne_eqb, and_left, and_right, and_parts, and_from}
+use Rattle.std.proofs.lemmas.Bool.{or_from, le-leb, lt-ltb, le-ltb, true≢false}
 use Rattle.std.proofs.lemmas.List.{length-reverse, reverse-append, length-take-le, length-drop, get_or-drop, get_or-take, take_all, drop_all}
 use Rattle.std.proofs.lemmas.List.Sums.{prefix_len_passes}
 use Rattle.std.proofs.Math.Seq.{drop-cons, take-suc}
 use Rattle.definition_text.specs.Bytes.{is_letter_or_digit, begins_with}
 use Rattle.definition_text.specs.Content.{content_codes}
-use Rattle.definition_inline.specs.GfmAutolinkLiteral.{ends_label, ends_literal, literal_run, count_of, has_more_closed, is_trailing, is_cut, name_size, cut_more, without_tail, low_line_in}
+use Rattle.definition_inline.specs.GfmAutolinkLiteral.{ends_label, ends_literal, literal_run, count_of, has_more_closed, is_trailing, is_cut, name_size}
+use Rattle.definition_inline.specs.GfmAutolinkLiteral.{cut_more, without_tail, low_line_in}
 use Rattle.inline_leaves.specs.Leaves.{IsPlain}
 use Rattle.inline_leaves.proofs.Codes.{at_return, plain_code}
 
@@ -59,7 +62,10 @@ run_goes_on n xs h plain so_far other =
     ap content_codes (drop-cons xs n 0 h) ∙ plain_code b (drop (suc n) xs) apart ∙ ap (λ k. b ∷ content_codes (drop k xs)) one in (
       so_far ∙ ap (λ cs. take n xs ++ literal_run cs) here ∙ ap (λ cs. take n xs ++ cs) (cond-false (ends_literal b rest) _ _ other)
           ∙ sym (append_assoc (take n xs) (b ∷ []) (literal_run rest)) ∙ ap (λ l. l ++ literal_run rest) (sym (take-suc xs n 0 h) ∙ ap (λ k. take k xs) one),
-      record { within = omega (arith, h); plain = λ k lt. elim (cases_lt k n) [ inl less ↦ plain.plain k less | inr more ↦ λ e. apart (ap (λ j. get_or xs j 0) (same k more lt) ∙ e) ] },
+      record {
+        within = omega (arith, h);
+        plain = λ k lt. elim (cases_lt k n) [ inl less ↦ plain.plain k less | inr more ↦ λ e. apart (ap (λ j. get_or xs j 0) (same k more lt) ∙ e) ];
+      },
     )
   where
     same : (k : ℕ) → n ≤ k → k < n + 1 → n ≡ k
@@ -125,7 +131,8 @@ named : (c : ℕ) (bs : List ℕ) → IsNamed bs (cut_more c bs)
 named c bs =
     let n = prefix_len is_letter_or_digit bs in
     cond_both (eqb c 59) (name_size bs) 0 (IsNamed bs)
-    (λ _. cond_both (nat_le 1 n && begins_with (codes "&") (drop n bs)) (n + 1) 0 (IsNamed bs) (λ e. named_some bs (and_parts (nat_le 1 n) _ e).1) (λ _. named_none bs))
+    (λ _. cond_both (nat_le 1 n && begins_with (codes "&") (drop n bs)) (n + 1) 0 (IsNamed bs) (λ e. named_some bs (and_parts (nat_le 1 n) _ e).1)
+    (λ _. named_none bs))
     (λ _. named_none bs)
 
 pub more_within : (c : ℕ) (bs : List ℕ) → cut_more c bs ≤ length bs
@@ -158,8 +165,10 @@ cut_trailing text end closed opened more now some is is_more =
     let count : end - 1 - more ≡ end - (1 + more) = omega arith in
     let left : drop (cut_more last before) before ≡ reverse (take (end - (1 + more)) text) =
     ap (λ k. drop k before) (sym is_more) ∙ drop_backwards more (end - 1) text le (omega (arith, now.within)) ∙ ap (λ k. reverse (take k text)) count in
-    let counts : (b : ℕ) → is_letter_or_digit b ≡ false → eqb 38 b ≡ false → is_trailing b ≡ false → count_of b (reverse (take end text)) ≡ count_of b (reverse (take (end - (1 + more)) text)) =
-    λ b digit amp other. ap (count_of b) here ∙ not_counted b last before (trailing_apart b last other is) ∙ sym (count_more b last before digit amp) ∙ ap (count_of b) left in
+    let counts : (b : ℕ) → is_letter_or_digit b ≡ false → eqb 38 b ≡ false → is_trailing b ≡ false
+    → count_of b (reverse (take end text)) ≡ count_of b (reverse (take (end - (1 + more)) text)) =
+    λ b digit amp other. ap (count_of b) here ∙ not_counted b last before (trailing_apart b last other is) ∙ sym (count_more b last before digit amp)
+    ∙ ap (count_of b) left in
     record {
       within = omega (arith, now.within);
       same = now.same ∙ ap (without_tail 0) here ∙ cond-true (is_cut last before) _ _ (ap (λ t. t || (eqb last 41 && has_more_closed (last ∷ before))) is)
@@ -176,7 +185,14 @@ cut_closed text end closed opened now some is more =
     let ones : closed ≡ suc (count_of 41 before) = now.closed_is ∙ ap (count_of 41) here ∙ counted 41 before in
     let twos : opened ≡ count_of 40 before = now.opened_is ∙ ap (count_of 40) here ∙ not_counted 40 41 before refl in
     let has : has_more_closed (41 ∷ before) ≡ true =
-    lt-ltb (count_of 40 (41 ∷ before)) (count_of 41 (41 ∷ before)) (omega (arith, more, ap (count_of 40) here, ap (count_of 41) here, now.closed_is, now.opened_is)) in
+    lt-ltb (count_of 40 (41 ∷ before)) (count_of 41 (41 ∷ before)) (omega (
+      arith,
+      more,
+      ap (count_of 40) here,
+      ap (count_of 41) here,
+      now.closed_is,
+      now.opened_is,
+    )) in
     record {
       within = omega (arith, now.within);
       same = now.same ∙ ap (without_tail 0) here ∙ cond-true (is_cut 41 before) _ _ has;
@@ -208,11 +224,13 @@ cut_all text end closed opened now none = sym (now.same ∙ ap (λ k. without_ta
 -- ---- a reference before a `;`
 
 amp_at : (size : ℕ) (before : List ℕ) → size < length before
-    → begins_with (codes "&") (drop size (reverse before)) ≡ begins_with (codes "&") (get_or before (length before - size - 1) 0 ∷ reverse (take (length before - size - 1) before))
+    → begins_with (codes "&") (drop size (reverse before)) ≡ begins_with (codes "&")
+    (get_or before (length before - size - 1) 0 ∷ reverse (take (length before - size - 1) before))
 amp_at size before h =
     let n = length before in
     ap (λ l. begins_with (codes "&") (drop size (reverse l))) (sym (take_all n before (omega arith)))
-    ∙ ap (begins_with (codes "&")) (drop_backwards size n before (omega (arith, h)) (omega arith) ∙ backwards_before (n - size) before (omega (arith, h)) (omega arith))
+    ∙ ap (begins_with (codes "&")) (drop_backwards size n before (omega (arith, h)) (omega arith)
+    ∙ backwards_before (n - size) before (omega (arith, h)) (omega arith))
 
 begins_amp_no : (b : ℕ) (bs : List ℕ) → (b ≡ 38 → ⊥) → begins_with (codes "&") (b ∷ bs) ≡ false
 begins_amp_no b bs other = and_left (eqb 38 b) _ (ne_eqb 38 b (λ e. other (sym e)))
@@ -229,8 +247,10 @@ more_found byte size before is sized some within amp =
     let back = reverse before in
     let n = prefix_len is_letter_or_digit back in
     let begins : begins_with (codes "&") (drop n back) ≡ true =
-    ap (λ k. begins_with (codes "&") (drop k back)) (sym sized) ∙ amp_at size before within ∙ begins_amp_yes (get_or before (length before - size - 1) 0) (reverse (take (length before - size - 1) before)) amp in
-    sym (semicolon byte back is ∙ cond-true (nat_le 1 n && begins_with (codes "&") (drop n back)) (n + 1) 0 (and_from (nat_le 1 n) _ (le-leb 1 n (omega (arith, some, sized))) begins) ∙ ap (λ k. k + 1) (sym sized))
+    ap (λ k. begins_with (codes "&") (drop k back)) (sym sized) ∙ amp_at size before within
+    ∙ begins_amp_yes (get_or before (length before - size - 1) 0) (reverse (take (length before - size - 1) before)) amp in
+    sym (semicolon byte back is ∙ cond-true (nat_le 1 n && begins_with (codes "&") (drop n back)) (n + 1) 0
+    (and_from (nat_le 1 n) _ (le-leb 1 n (omega (arith, some, sized))) begins) ∙ ap (λ k. k + 1) (sym sized))
 
 name_none : (size : ℕ) (before : List ℕ) → size ≡ prefix_len is_letter_or_digit (reverse before)
     → (nat_le 1 size && begins_with (codes "&") (drop size (reverse before))) ≡ false → name_size (reverse before) ≡ 0
@@ -239,11 +259,13 @@ name_none size before sized h =
     let n = prefix_len is_letter_or_digit back in
     cond-false (nat_le 1 n && begins_with (codes "&") (drop n back)) (n + 1) 0 (ap (λ k. nat_le 1 k && begins_with (codes "&") (drop k back)) (sym sized) ∙ h)
 
-pub none_for_size : (byte size : ℕ) (before : List ℕ) → byte ≡ 59 → size ≡ prefix_len is_letter_or_digit (reverse before) → size ≡ 0 → 0 ≡ cut_more byte (reverse before)
+pub none_for_size : (byte size : ℕ) (before : List ℕ) → byte ≡ 59 → size ≡ prefix_len is_letter_or_digit (reverse before) → size ≡ 0
+    → 0 ≡ cut_more byte (reverse before)
 none_for_size byte size before is sized none =
     sym (semicolon byte (reverse before) is ∙ name_none size before sized (and_left (nat_le 1 size) _ (ap (nat_le 1) none)))
 
-pub none_for_end : (byte size : ℕ) (before : List ℕ) → byte ≡ 59 → size ≡ prefix_len is_letter_or_digit (reverse before) → length before ≤ size → 0 ≡ cut_more byte (reverse before)
+pub none_for_end : (byte size : ℕ) (before : List ℕ) → byte ≡ 59 → size ≡ prefix_len is_letter_or_digit (reverse before) → length before ≤ size
+    → 0 ≡ cut_more byte (reverse before)
 none_for_end byte size before is sized all =
     let left : drop size (reverse before) ≡ [] = drop_all size (reverse before) (omega (arith, all, length-reverse before)) in
     sym (semicolon byte (reverse before) is ∙ name_none size before sized (and_right (nat_le 1 size) _ (ap (begins_with (codes "&")) left)))
@@ -251,7 +273,9 @@ none_for_end byte size before is sized all =
 pub none_for_other : (byte size : ℕ) (before : List ℕ) → byte ≡ 59 → size ≡ prefix_len is_letter_or_digit (reverse before) → size < length before
     → (get_or before (length before - size - 1) 0 ≡ 38 → ⊥) → 0 ≡ cut_more byte (reverse before)
 none_for_other byte size before is sized within other =
-    sym (semicolon byte (reverse before) is ∙ name_none size before sized (and_right (nat_le 1 size) _ (amp_at size before within ∙ begins_amp_no (get_or before (length before - size - 1) 0) (reverse (take (length before - size - 1) before)) other)))
+    sym (semicolon byte (reverse before) is
+    ∙ name_none size before sized (and_right (nat_le 1 size) _ (amp_at size before within
+    ∙ begins_amp_no (get_or before (length before - size - 1) 0) (reverse (take (length before - size - 1) before)) other)))
 
 -- ---- the last parts of a domain
 
@@ -269,7 +293,8 @@ low_line_at (suc parts) end xs some more within =
 
 pub low_line_found : (parts end : ℕ) (xs : List ℕ) → 0 < parts → 0 < end → end ≤ length xs → get_or xs (end - 1) 0 ≡ 95
     → low_line_in parts (reverse (take end xs)) ≡ true
-low_line_found parts end xs some more within is = low_line_at parts end xs some more within ∙ cond-true (eqb (get_or xs (end - 1) 0) 95) true _ (eq-eqb (get_or xs (end - 1) 0) 95 is)
+low_line_found parts end xs some more within is =
+    low_line_at parts end xs some more within ∙ cond-true (eqb (get_or xs (end - 1) 0) 95) true _ (eq-eqb (get_or xs (end - 1) 0) 95 is)
 
 pub low_line_dot : (parts end : ℕ) (xs : List ℕ) → 0 < parts → 0 < end → end ≤ length xs → get_or xs (end - 1) 0 ≡ 46
     → low_line_in parts (reverse (take end xs)) ≡ low_line_in (parts - 1) (reverse (take (end - 1) xs))
@@ -290,7 +315,8 @@ next_cut text end zero some le within last first = subst (λ k. get_or text k 0 
 next_cut text end (suc m) some le within last first =
     let size : length (take (end - 1) text) ≡ end - 1 = length-take-le (end - 1) text (omega (arith, le)) in
     let at : length (take (end - 1) text) - suc m ≡ end - (1 + suc m) = omega (arith, size) in
-    subst (λ b. b < 128) (ap (λ k. get_or (take (end - 1) text) k 0) at ∙ get_or-take (end - 1) text (end - (1 + suc m)) 0 (omega (arith, some, within, size))) (first (omega arith))
+    subst (λ b. b < 128) (ap (λ k. get_or (take (end - 1) text) k 0) at ∙ get_or-take (end - 1) text (end - (1 + suc m)) 0 (omega (arith, some, within, size)))
+    (first (omega arith))
 
 -- the last byte of what is left of a rest
 pub rest_last : (end k : ℕ) (xs : List ℕ) → k < end → get_or (drop k xs) (end - k - 1) 0 ≡ get_or xs (end - 1) 0

@@ -1,11 +1,13 @@
 -- What a literal begins with, in bytes and in codes.
-use Rattle.std.proofs.Common.{◌≡◌, ℕ, zero, suc, ◌+◌, ◌-◌, ◌<◌, ◌≤◌, List, [], ◌∷◌, Bool, true, false, cond, not, ◌&&◌, eqb, refl, sym, ap, ◌∙◌, get_or, length, Option, None, Some, arith, inl, inr}
+use Rattle.std.proofs.Common.{◌≡◌, ℕ, zero, suc, ◌+◌, ◌-◌, ◌<◌, ◌≤◌, List, [], ◌∷◌, Bool, true, false, cond, not, ◌&&◌, eqb, refl, sym, ap, ◌∙◌, get_or, length}
+use Rattle.std.proofs.Common.{Option, None, Some, arith, inl, inr}
 use Rattle.std.specs.Prelude.{codes, nat_lt}
 use Rattle.std.specs.List.{list_all}
 use Rattle.std.specs.Char.{to_ascii_lowercase}
 use Rattle.std.proofs.lemmas.Bool.{cases_Bool, and_parts, and_left, eqb-true, ne_eqb, ltb-true, true≢false, cond_both}
 use Rattle.definition_text.specs.Content.{content_codes}
-use Rattle.definition_inline.specs.GfmAutolinkLiteral.{begins_caselessly, may_precede_www, may_precede_protocol, literal_start_at, LiteralStart, literal_start, or_start}
+use Rattle.definition_inline.specs.GfmAutolinkLiteral.{begins_caselessly, may_precede_www, may_precede_protocol, literal_start_at, LiteralStart, literal_start}
+use Rattle.definition_inline.specs.GfmAutolinkLiteral.{or_start}
 use Rattle.definition_inline.specs.Inline.{Www, Protocol}
 use Rattle.inline_leaves.proofs.Codes.{at_return, plain_code}
 use Rattle.inline_literals.specs.Literals.{StartsLiteral}
@@ -66,9 +68,11 @@ caseless_codes (t ∷ ts) (b ∷ bs) low =
       | inl h ↦
           let e = eqb-true b 13 h in
           ap (λ x. begins_caselessly (t ∷ ts) (content_codes (x ∷ bs))) e
-          ∙ at_return (begins_caselessly (t ∷ ts)) false bs (λ cs. other t 13 lows.0 refl (begins_caselessly ts cs)) (λ cs. other t 257 lows.0 refl (begins_caselessly ts cs))
+          ∙ at_return (begins_caselessly (t ∷ ts)) false bs (λ cs. other t 13 lows.0 refl (begins_caselessly ts cs))
+          (λ cs. other t 257 lows.0 refl (begins_caselessly ts cs))
           ∙ sym (ap (λ x. begins_caselessly (t ∷ ts) (x ∷ bs)) e ∙ other t 13 lows.0 refl (begins_caselessly ts bs))
-      | inr h ↦ ap (begins_caselessly (t ∷ ts)) (plain_code b bs (apart b h)) ∙ ap (λ r. eqb (to_ascii_lowercase t) (to_ascii_lowercase b) && r) (caseless_codes ts bs lows.1)
+      | inr h ↦ ap (begins_caselessly (t ∷ ts)) (plain_code b bs (apart b h))
+          ∙ ap (λ r. eqb (to_ascii_lowercase t) (to_ascii_lowercase b) && r) (caseless_codes ts bs lows.1)
     ]
   where
     other : (t b : ℕ) → is_low t ≡ true → is_low b ≡ false → (r : Bool) → (eqb (to_ascii_lowercase t) (to_ascii_lowercase b) && r) ≡ false
@@ -82,6 +86,8 @@ start_codes previous bytes =
     let start : Bool → Bool → Bool → Option LiteralStart =
     λ www http https. or_start (cond (may_precede_www previous && www) (Some (literal_start Www 4)) None)
     (cond (not (may_precede_protocol previous)) None (cond http (Some (literal_start Protocol 7)) (cond https (Some (literal_start Protocol 8)) None))) in
-    ap (λ w. start w (begins_caselessly (codes "http://") (content_codes bytes)) (begins_caselessly (codes "https://") (content_codes bytes))) (caseless_codes (codes "www.") bytes refl)
-    ∙ ap (λ h. start (begins_caselessly (codes "www.") bytes) h (begins_caselessly (codes "https://") (content_codes bytes))) (caseless_codes (codes "http://") bytes refl)
+    ap (λ w. start w (begins_caselessly (codes "http://") (content_codes bytes)) (begins_caselessly (codes "https://") (content_codes bytes)))
+    (caseless_codes (codes "www.") bytes refl)
+    ∙ ap (λ h. start (begins_caselessly (codes "www.") bytes) h (begins_caselessly (codes "https://") (content_codes bytes)))
+    (caseless_codes (codes "http://") bytes refl)
     ∙ ap (start (begins_caselessly (codes "www.") bytes) (begins_caselessly (codes "http://") bytes)) (caseless_codes (codes "https://") bytes refl)

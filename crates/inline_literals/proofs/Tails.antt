@@ -1,5 +1,6 @@
 -- What is cut from a name's end, wherever the name begins.
-use Rattle.std.proofs.Common.{◌≡◌, ℕ, zero, suc, ◌+◌, ◌-◌, ◌<◌, ◌≤◌, List, [], ◌∷◌, ◌++◌, true, false, cond, eqb, ◌&&◌, ◌||◌, refl, sym, ap, ◌∙◌, length, drop, arith, subst, inl, inr}
+use Rattle.std.proofs.Common.{◌≡◌, ℕ, zero, suc, ◌+◌, ◌-◌, ◌<◌, ◌≤◌, List, [], ◌∷◌, ◌++◌, true, false, cond, eqb, ◌&&◌, ◌||◌, refl, sym, ap, ◌∙◌, length, drop}
+use Rattle.std.proofs.Common.{arith, subst, inl, inr}
 use Rattle.std.specs.Prelude.{codes, nat_le, nat_lt}
 use Rattle.std.specs.List.{prefix_len}
 use Rattle.std.proofs.lemmas.Bool.{cases_Bool, cond_both, cond-false, cond-true, eqb-true, eqb-false, and_right}
@@ -103,10 +104,13 @@ more_before a xs n front other =
     let size = prefix_len is_letter_or_digit (xs ++ n ∷ front) in
     let le : size ≤ length xs =
     subst (λ k. k ≤ length xs) (sym (prefix_len-append is_letter_or_digit xs (n ∷ front)))
-    (cond_both (eqb (prefix_len is_letter_or_digit xs) (length xs)) (length xs + prefix_len is_letter_or_digit (n ∷ front)) (prefix_len is_letter_or_digit xs) (λ k. k ≤ length xs)
-    (λ _. omega (arith, cond-false (is_letter_or_digit n) (1 + prefix_len is_letter_or_digit front) 0 other)) (λ _. prefix_len-le-length is_letter_or_digit xs)) in
+    (cond_both (eqb (prefix_len is_letter_or_digit xs) (length xs)) (length xs + prefix_len is_letter_or_digit (n ∷ front)) (prefix_len is_letter_or_digit xs)
+    (λ k. k ≤ length xs)
+    (λ _. omega (arith, cond-false (is_letter_or_digit n) (1 + prefix_len is_letter_or_digit front) 0 other))
+    (λ _. prefix_len-le-length is_letter_or_digit xs)) in
     cond_both (eqb a 59) (name_size (xs ++ n ∷ front)) 0 (λ k. k ≤ suc (length xs))
-    (λ _. cond_both (nat_le 1 size && begins_with (codes "&") (drop size (xs ++ n ∷ front))) (size + 1) 0 (λ k. k ≤ suc (length xs)) (λ _. omega (arith, le)) (λ _. omega arith))
+    (λ _. cond_both (nat_le 1 size && begins_with (codes "&") (drop size (xs ++ n ∷ front))) (size + 1) 0 (λ k. k ≤ suc (length xs)) (λ _. omega (arith, le))
+    (λ _. omega arith))
     (λ _. omega arith)
 
 -- before one that is neither a letter, a digit nor `;`
@@ -114,12 +118,14 @@ pub kept_before : (k : ℕ) (xs : List ℕ) (n c : ℕ) (front : List ℕ) → i
     → k ≤ suc (length xs) → length front < length (without_tail k (xs ++ n ∷ c ∷ front))
 kept_before zero [] n c front other semicolon kept le =
     cond_both (is_cut n (c ∷ front)) (without_tail (cut_more n (c ∷ front)) (c ∷ front)) (n ∷ c ∷ front) (λ (l : List ℕ). length front < length l)
-    (λ _. subst (λ k. length front < length (without_tail k (c ∷ front))) (sym (cond-false (eqb n 59) (name_size (c ∷ front)) 0 semicolon)) (kept_last c front kept))
+    (λ _. subst (λ k. length front < length (without_tail k (c ∷ front))) (sym (cond-false (eqb n 59) (name_size (c ∷ front)) 0 semicolon))
+    (kept_last c front kept))
     (λ _. omega arith)
 kept_before (suc zero) [] n c front other semicolon kept le = kept_last c front kept
 kept_before (suc (suc k)) [] n c front other semicolon kept le = absurd (omega (arith, le))
 kept_before zero (x ∷ xs) n c front other semicolon kept le =
-    cond_both (is_cut x (xs ++ n ∷ c ∷ front)) (without_tail (cut_more x (xs ++ n ∷ c ∷ front)) (xs ++ n ∷ c ∷ front)) (x ∷ xs ++ n ∷ c ∷ front) (λ (l : List ℕ). length front < length l)
+    cond_both (is_cut x (xs ++ n ∷ c ∷ front)) (without_tail (cut_more x (xs ++ n ∷ c ∷ front)) (xs ++ n ∷ c ∷ front)) (x ∷ xs ++ n ∷ c ∷ front)
+    (λ (l : List ℕ). length front < length l)
     (λ _. kept_before (cut_more x (xs ++ n ∷ c ∷ front)) xs n c front other semicolon kept (more_before x xs n (c ∷ front) other))
     (λ _. omega (arith, length-append xs (n ∷ c ∷ front)))
 kept_before (suc k) (x ∷ xs) n c front other semicolon kept le = kept_before k xs n c front other semicolon kept (omega (arith, le))

@@ -1,6 +1,8 @@
 -- What is found of literals, in bytes.
-use Rattle.std.specs.Prelude.{◌≡◌, ◌+◌, ◌-◌, ◌<◌, ◌≤◌, ℕ, zero, suc, Bool, true, false, not, ◌&&◌, ◌||◌, ◌==◌, if◌then◌else◌, List, [], ◌∷◌, Option, None, Some, codes, drop, length, slice_index, take}
+use Rattle.std.specs.Prelude.{◌≡◌, ◌+◌, ◌-◌, ◌<◌, ◌≤◌, ℕ, zero, suc, Bool, true, false, not, ◌&&◌, ◌||◌, ◌==◌, if◌then◌else◌, List, [], ◌∷◌, Option, None, Some}
+use Rattle.std.specs.Prelude.{codes, drop, length, slice_index, take}
 use Rattle.std.specs.Str.{IsCharBoundary}
+use Rattle.definition_text.specs.Ascii.{right_parenthesis, semicolon}
 use Rattle.definition_text.specs.declared.beside.Kind.TheVariants.{Whitespace}
 use Rattle.definition_text.specs.Bytes.{is_letter_or_digit}
 use Rattle.definition_text.specs.Content.{content_codes}
@@ -8,7 +10,7 @@ use Rattle.definition_text.specs.InlineCode.{first_kind, is_continuation}
 use Rattle.definition_inline.specs.Attention.{is_other}
 use Rattle.definition_inline.specs.GfmAutolinkLiteral as literal
 use Rattle.definition_inline.specs.GfmAutolinkLiteral.{begins_caselessly, has_low_line, is_among, is_control, is_trailing, literal_name, literal_start}
-use Rattle.inline_content.specs.View.{line_left}
+use Rattle.inline_content.specs.View.{line_rest}
 use Rattle.inline_leaves.specs.Leaves.{kind_view, IsPlain}
 use Rattle.inline_literals.specs.declared.gfm_autolink_literal.LiteralStart.{LiteralStart}
 use Rattle.inline_literals.specs.declared.names_in_vain.NamesInVain.{NamesInVain}
@@ -24,10 +26,10 @@ may_begin bytes = begins_caselessly (codes "ww") bytes || begins_caselessly (cod
 -- a byte that is never cut from a name's end, before these: it isn't cut alone, and ends no reference and stands in none
 abbrev pub is_in_reference : List ℕ → Bool
 is_in_reference [] = false
-is_in_reference (b ∷ bs) = is_letter_or_digit b || (b == 59)
+is_in_reference (b ∷ bs) = is_letter_or_digit b || (b == semicolon)
 
 abbrev pub is_kept : ℕ → List ℕ → Bool
-is_kept byte after = not (is_trailing byte) && (not (byte == 41) && not (is_in_reference after))
+is_kept byte after = not (is_trailing byte) && (not (byte == right_parenthesis) && not (is_in_reference after))
 
 -- a `_` at a place of a domain, for which it and each of its rests up to there is none
 pub record HasLowLineAt (domain : List ℕ) (at : ℕ) : Type 0 where
@@ -44,7 +46,7 @@ pub record StartsLiteral (bytes : List ℕ) (size : ℕ) : Type 0 where
 module _ (p : ℕ → Bool) where
   -- a character comes first that is neither whitespace nor punctuation
   abbrev pub begins_other : List ℕ → Bool
-  begins_other bytes = is_other (first_kind p Whitespace (line_left (content_codes bytes)))
+  begins_other bytes = is_other (first_kind p Whitespace (line_rest (content_codes bytes)))
 
   -- bytes after the start of a literal begin as they have to
   abbrev pub begins_name : List ℕ → Bool

@@ -1,5 +1,6 @@
 -- What a change of the rows, the runs and the label starts does to what is read.
-use Rattle.std.proofs.Common.{◌≡◌, ℕ, zero, suc, ◌+◌, ◌-◌, ◌<◌, ◌≤◌, Bool, List, [], ◌∷◌, ◌++◌, map, refl, sym, ap, ap₂, ◌∙◌, length, arith, subst, reverse, take, drop, set}
+use Rattle.std.proofs.Common.{◌≡◌, ℕ, zero, suc, ◌+◌, ◌-◌, ◌<◌, ◌≤◌, Bool, List, [], ◌∷◌, ◌++◌, map, refl, sym, ap, ap₂, ◌∙◌, length, arith, subst, reverse}
+use Rattle.std.proofs.Common.{take, drop, set}
 use Rattle.std.specs.Prelude.{◌||◌, false, true}
 use Rattle.std.proofs.lemmas.Bool.{false≢true}
 use Rattle.std.specs.Prelude.{replicate}
@@ -10,8 +11,8 @@ use Rattle.definition_inline.specs.Inline as inline
 use Rattle.inline_rows.specs.InlineRows.{part_rows}
 use Rattle.definition_inline.specs.Scan as scan
 use Rattle.definition_inline.specs.Scan.{start_bytes, label_part, makes_link}
-use Rattle.definition_inline.specs.LabelEnd.{Ended, Formed, Leads, Calls}
-use Rattle.definition_inline.specs.Spans.{Token, Item, Delimiters, emphasized}
+use Rattle.definition_inline.specs.LabelEnd.{LinkTail, LinkOrCall, Leads, Calls}
+use Rattle.definition_inline.specs.Spans.{Token, Item, Delimiters, with_spans}
 use Rattle.inline_runs.specs.View.{run_view}
 use Rattle.inline_runs.specs.declared.run.Run.{Run}
 use Rattle.inline_rows.specs.View.{rows_view, row_view, data_rows, target_linked}
@@ -20,7 +21,7 @@ use Rattle.inline_rows.specs.declared.row.InlineRow.TheVariants.{Exit}
 use Rattle.inline_rows.specs.declared.row.LinkTarget.{LinkTarget}
 use Rattle.inline_spans.specs.Container.{AreWithin, AreBytes, AreTold, text_of}
 use Rattle.inline_parser.specs.declared.label.OpenLabel.{OpenLabel}
-use Rattle.inline_parser.specs.Shows.{ShowsBy, IsOpen, AreOutside, unformed_in, formed_in, start_view, entered}
+use Rattle.inline_parser.specs.Shows.{ShowsBy, IsOpen, AreOutside, unformed_in, formed_in, start_view, enter_row}
 use Rattle.inline_parser.proofs.Readings as readings
 use Rattle.inline_parser.proofs.Sound as sound
 use Rattle.inline_parser.proofs.Formed.{IsInner}
@@ -42,7 +43,8 @@ sound_pushed rows new row runs slots opens e w o =
     }
 
 -- a run
-pub sound_run : (rows new more : List InlineRow) (r : Run) (runs new_runs : List Run) (slots new_slots : List ℕ) (opens : List OpenLabel) → new ≡ rows ++ more → length more ≡ r.size
+pub sound_run : (rows new more : List InlineRow) (r : Run) (runs new_runs : List Run) (slots new_slots : List ℕ) (opens : List OpenLabel) → new ≡ rows ++ more
+    → length more ≡ r.size
     → new_runs ≡ runs ++ r ∷ [] → new_slots ≡ slots ++ length rows ∷ []
     → AreWithin runs slots (length rows) → AreOutside opens (length rows) runs slots → AreSound new new_runs new_slots opens
 sound_run rows new more r runs new_runs slots new_slots opens e size p q w o =
@@ -63,7 +65,8 @@ pub popped : (all rest : List OpenLabel) (o : OpenLabel) → all ≡ rest ++ o �
 popped all rest o e = ap reverse e ∙ reverse-append rest (o ∷ [])
 
 -- a label start
-pub sound_start : (rows new : List InlineRow) (row : InlineRow) (runs : List Run) (slots : List ℕ) (o : OpenLabel) (opens : List OpenLabel) → new ≡ rows ++ row ∷ []
+pub sound_start : (rows new : List InlineRow) (row : InlineRow) (runs : List Run) (slots : List ℕ) (o : OpenLabel) (opens : List OpenLabel)
+    → new ≡ rows ++ row ∷ []
     → o.row ≡ length rows → o.runs ≡ length runs
     → AreWithin runs slots (length rows) → AreOutside opens (length rows) runs slots → AreSound new runs slots (o ∷ opens)
 sound_start rows new row runs slots o opens e at count w out =
@@ -78,12 +81,14 @@ sound_start rows new row runs slots o opens e at count w out =
         subst (AreWithin (take o.runs runs) (take o.runs slots)) (sym at)
             (subst (λ x. AreWithin x (take o.runs slots) (length rows)) (sym runs_are) (subst (λ x. AreWithin runs x (length rows)) (sym slots_are) w)),
         subst (λ n. AreOutside opens n (take o.runs runs) (take o.runs slots)) (sym at)
-            (subst (λ x. AreOutside opens (length rows) x (take o.runs slots)) (sym runs_are) (subst (AreOutside opens (length rows) runs) (sym slots_are) out)),
+            (subst (λ x. AreOutside opens (length rows) x (take o.runs slots)) (sym runs_are)
+            (subst (AreOutside opens (length rows) runs) (sym slots_are) out)),
       );
     }
 
 -- the same among the label starts
-pub sound_started : (rows new : List InlineRow) (row : InlineRow) (runs : List Run) (slots : List ℕ) (all more : List OpenLabel) (o : OpenLabel) → new ≡ rows ++ row ∷ [] → more ≡ all ++ o ∷ []
+pub sound_started : (rows new : List InlineRow) (row : InlineRow) (runs : List Run) (slots : List ℕ) (all more : List OpenLabel) (o : OpenLabel)
+    → new ≡ rows ++ row ∷ [] → more ≡ all ++ o ∷ []
     → o.row ≡ length rows → o.runs ≡ length runs
     → AreWithin runs slots (length rows) → AreOutside (reverse all) (length rows) runs slots → AreSound new runs slots (reverse more)
 sound_started rows new row runs slots all more o e p at count w out =
@@ -125,14 +130,16 @@ bytes_rows b (suc n) row e = ap₂ (λ x xs. x ∷ xs) e (bytes_rows b n row e)
 -- ---- what is read
 
 module _ (leads : Target → inline.Linked) (at : ℕ → inline.Linked) where
-  pub items_pushed : (rows new : List InlineRow) (row : InlineRow) (runs : List Run) (slots : List ℕ) (opens : List OpenLabel) (labels : List scan.OpenLabel) (ts : List Token) (parts : List Inline)
+  pub items_pushed : (rows new : List InlineRow) (row : InlineRow) (runs : List Run) (slots : List ℕ) (opens : List OpenLabel) (labels : List scan.OpenLabel)
+      (ts : List Token) (parts : List Inline)
       → new ≡ rows ++ row ∷ [] → ShowsBy leads at rows runs slots opens labels ts → rows_view at (row ∷ []) ≡ flat_map (part_rows leads) parts
       → ShowsBy leads at new runs slots opens labels (ts ++ map Item parts)
   items_pushed rows new row runs slots opens labels ts parts e s view =
       subst (λ rs. ShowsBy leads at rs runs slots opens labels (ts ++ map Item parts)) (sym e)
       (readings.shows_items leads at rows (row ∷ []) runs slots opens labels ts parts s view)
 
-  pub run_pushed : (rows new : List InlineRow) (row : InlineRow) (r : Run) (runs new_runs : List Run) (slots new_slots : List ℕ) (opens : List OpenLabel) (labels : List scan.OpenLabel) (ts : List Token)
+  pub run_pushed : (rows new : List InlineRow) (row : InlineRow) (r : Run) (runs new_runs : List Run) (slots new_slots : List ℕ) (opens : List OpenLabel)
+      (labels : List scan.OpenLabel) (ts : List Token)
       → new ≡ rows ++ replicate r.size row → text_of row ≡ r.marker ∷ [] → new_runs ≡ runs ++ r ∷ [] → new_slots ≡ slots ++ length rows ∷ []
       → ShowsBy leads at rows runs slots opens labels ts
       → ShowsBy leads at new new_runs new_slots opens labels (ts ++ Delimiters (run_view r) ∷ [])
@@ -143,7 +150,8 @@ module _ (leads : Target → inline.Linked) (at : ℕ → inline.Linked) where
       (subst (λ x. ShowsBy leads at (rows ++ replicate r.size row) (runs ++ r ∷ []) x opens labels (ts ++ Delimiters (run_view r) ∷ [])) (sym q)
       (readings.shows_run leads at rows (replicate r.size row) runs slots opens labels ts r s bytes)))
 
-  pub start_pushed : (rows new : List InlineRow) (row : InlineRow) (runs : List Run) (slots : List ℕ) (all more : List OpenLabel) (o : OpenLabel) (label : scan.OpenLabel) (labels : List scan.OpenLabel)
+  pub start_pushed : (rows new : List InlineRow) (row : InlineRow) (runs : List Run) (slots : List ℕ) (all more : List OpenLabel) (o : OpenLabel)
+      (label : scan.OpenLabel) (labels : List scan.OpenLabel)
       → new ≡ rows ++ row ∷ [] → more ≡ all ++ o ∷ [] → IsOpen o label (length rows) (length runs) → row_view at row ≡ data_rows (start_bytes label.start)
       → ShowsBy leads at rows runs slots (reverse all) labels label.outer.tokens
       → ShowsBy leads at new runs slots (reverse more) (label ∷ labels) []
@@ -158,7 +166,8 @@ module _ (leads : Target → inline.Linked) (at : ℕ → inline.Linked) where
     pub holds_link_is : holds_link ≡ r.now.holds_link
 
   -- the innermost label start forms nothing
-  pub last_unformed : (rows : List InlineRow) (runs : List Run) (slots : List ℕ) (all rest : List OpenLabel) (o : OpenLabel) (labels : List scan.OpenLabel) (now : scan.Text) (holds_link : Bool)
+  pub last_unformed : (rows : List InlineRow) (runs : List Run) (slots : List ℕ) (all rest : List OpenLabel) (o : OpenLabel) (labels : List scan.OpenLabel)
+      (now : scan.Text) (holds_link : Bool)
       → all ≡ rest ++ o ∷ [] → holds_link ≡ now.holds_link → ShowsBy leads at rows runs slots (reverse all) labels now.tokens
       → IsShown rows runs slots (reverse rest) (o.holds_link || holds_link) (unformed_in labels now)
   last_unformed rows runs slots all rest o labels now holds_link e same s =
@@ -173,7 +182,8 @@ module _ (leads : Target → inline.Linked) (at : ℕ → inline.Linked) where
       })
 
   -- no label start is open
-  pub none_unformed : (rows : List InlineRow) (runs : List Run) (slots : List ℕ) (all rest : List OpenLabel) (labels : List scan.OpenLabel) (now : scan.Text) (holds_link : Bool)
+  pub none_unformed : (rows : List InlineRow) (runs : List Run) (slots : List ℕ) (all rest : List OpenLabel) (labels : List scan.OpenLabel) (now : scan.Text)
+      (holds_link : Bool)
       → all ≡ [] → rest ≡ [] → holds_link ≡ now.holds_link → ShowsBy leads at rows runs slots (reverse all) labels now.tokens
       → IsShown rows runs slots (reverse rest) holds_link (unformed_in labels now)
   none_unformed rows runs slots all rest labels now holds_link e none same s =
@@ -188,15 +198,18 @@ module _ (leads : Target → inline.Linked) (at : ℕ → inline.Linked) where
       })
 
   -- the innermost label start forms a link or an image
-  pub last_formed : (rows all new : List InlineRow) (runs new_runs : List Run) (slots new_slots : List ℕ) (o : OpenLabel) (opens : List OpenLabel) (labels : List scan.OpenLabel) (now : scan.Text)
-      (target : LinkTarget) (e : Ended) (holds_link : Bool) (enter : InlineRow) (makes : Bool)
-      → (inner : IsInner leads at rows runs slots o opens labels now.tokens) → target_linked at target ≡ leads e.target → AreTold leads at inner.outer_rows now.tokens all
-      → new ≡ set all o.row enter ++ Exit ∷ [] → enter ≡ entered o.start target → new_runs ≡ take o.runs runs → new_slots ≡ take o.runs slots
+  pub last_formed : (rows all new : List InlineRow) (runs new_runs : List Run) (slots new_slots : List ℕ) (o : OpenLabel) (opens : List OpenLabel)
+      (labels : List scan.OpenLabel) (now : scan.Text)
+      (target : LinkTarget) (e : LinkTail) (holds_link : Bool) (enter : InlineRow) (makes : Bool)
+      → (inner : IsInner leads at rows runs slots o opens labels now.tokens) → target_linked at target ≡ leads e.target
+      → AreTold leads at inner.outer_rows now.tokens all
+      → new ≡ set all o.row enter ++ Exit ∷ [] → enter ≡ enter_row o.start target → new_runs ≡ take o.runs runs → new_slots ≡ take o.runs slots
       → holds_link ≡ (o.holds_link || makes) → makes ≡ makes_link (start_view o.start) now.holds_link
       → IsShown new new_runs new_slots opens holds_link (formed_in (Leads e) labels now)
-  last_formed rows all new runs new_runs slots new_slots o opens labels now target e holds_link enter makes inner there told new_is enter_is runs_are slots_are holds makes_is =
-      let more = inner.label.outer.tokens ++ Item (label_part inner.label.start e.target (emphasized now.tokens)) ∷ [] in
-      let made = set all o.row (entered o.start target) ++ Exit ∷ [] in
+  last_formed rows all new runs new_runs slots new_slots o opens labels now target e holds_link enter makes inner there told new_is enter_is runs_are slots_are
+      holds makes_is =
+      let more = inner.label.outer.tokens ++ Item (label_part inner.label.start e.target (with_spans now.tokens)) ∷ [] in
+      let made = set all o.row (enter_row o.start target) ++ Exit ∷ [] in
       subst (λ ls. IsShown new new_runs new_slots opens holds_link (formed_in (Leads e) ls now)) (sym inner.labels_are)
       (record {
         by =
@@ -209,7 +222,8 @@ module _ (leads : Target → inline.Linked) (at : ℕ → inline.Linked) where
       })
 
   -- the innermost label start forms a call
-  pub last_called : (rows new : List InlineRow) (runs new_runs : List Run) (slots new_slots : List ℕ) (o : OpenLabel) (opens : List OpenLabel) (labels : List scan.OpenLabel) (now : scan.Text)
+  pub last_called : (rows new : List InlineRow) (runs new_runs : List Run) (slots new_slots : List ℕ) (o : OpenLabel) (opens : List OpenLabel)
+      (labels : List scan.OpenLabel) (now : scan.Text)
       (call : InlineRow) (label : List ℕ) (holds_link : Bool) (makes : Bool)
       → (inner : IsInner leads at rows runs slots o opens labels now.tokens) → rows_view at (call ∷ []) ≡ flat_map (part_rows leads) (inline.Call label ∷ [])
       → new ≡ take o.row rows ++ call ∷ [] → new_runs ≡ take o.runs runs → new_slots ≡ take o.runs slots
@@ -229,7 +243,8 @@ module _ (leads : Target → inline.Linked) (at : ℕ → inline.Linked) where
             ∙ ap₂ (λ a b. a || makes_link b now.holds_link) inner.holds_link inner.start;
       })
 
-  pub none_formed : (rows : List InlineRow) (runs : List Run) (slots : List ℕ) (all rest : List OpenLabel) (labels : List scan.OpenLabel) (now : scan.Text) (found : Formed) (holds_link : Bool)
+  pub none_formed : (rows : List InlineRow) (runs : List Run) (slots : List ℕ) (all rest : List OpenLabel) (labels : List scan.OpenLabel) (now : scan.Text)
+      (found : LinkOrCall) (holds_link : Bool)
       → all ≡ [] → rest ≡ [] → holds_link ≡ now.holds_link → ShowsBy leads at rows runs slots (reverse all) labels now.tokens
       → IsShown rows runs slots (reverse rest) holds_link (formed_in found labels now)
   none_formed rows runs slots all rest labels now found holds_link e none same s =

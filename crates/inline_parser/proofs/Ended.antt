@@ -1,5 +1,6 @@
 -- What a `]` forms with the innermost label start that is open.
-use Rattle.std.proofs.Common.{◌≡◌, ℕ, zero, suc, ◌+◌, ◌-◌, ◌<◌, Bool, true, false, List, [], ◌∷◌, ◌++◌, Option, None, Some, refl, sym, ap, ap₂, ◌∙◌, get_or, length, arith, subst, reverse, take, drop}
+use Rattle.std.proofs.Common.{◌≡◌, ℕ, zero, suc, ◌+◌, ◌-◌, ◌<◌, Bool, true, false, List, [], ◌∷◌, ◌++◌, Option, None, Some, refl, sym, ap, ap₂, ◌∙◌, get_or}
+use Rattle.std.proofs.Common.{length, arith, subst, reverse, take, drop}
 use Rattle.std.specs.List.{All, slice_get}
 use Rattle.std.proofs.lemmas.Bool.{cond-true, cond-false, true≢false}
 use Rattle.std.proofs.lemmas.Option.{slice_get_within, slice_get-get_or, get_or_from_slice_get}
@@ -65,7 +66,8 @@ innermost xs o e =
     let last : drop n xs ≡ o ∷ [] = drop_more xs n o lt ∙ ap₂ (λ y ys. y ∷ ys) here after in
     changes.popped xs (take n xs) o (sym (take-append-drop n xs) ∙ ap (λ ys. take n xs ++ ys) last)
 
-pub innermost_rest : (rest : List ℕ) (xs : List OpenLabel) (o : OpenLabel) → slice_get xs (length xs - 1) ≡ Some o → All (λ (x : OpenLabel). IsRest x.from.now rest) xs
+pub innermost_rest : (rest : List ℕ) (xs : List OpenLabel) (o : OpenLabel) → slice_get xs (length xs - 1) ≡ Some o
+    → All (λ (x : OpenLabel). IsRest x.from.now rest) xs
     → IsRest o.from.now rest
 innermost_rest rest xs o e all =
     let n = length xs - 1 in
@@ -82,7 +84,8 @@ module _ (leads : Target → Linked) (at : ℕ → Linked) (context : InlineCont
       ap (λ ls. ended_here context content ls now) (readings.no_labels leads at rows runs slots labels now.tokens s2)
 
   -- the innermost may form nothing
-  pub last_may_not : (rows : List InlineRow) (runs : List Run) (slots : List ℕ) (all opens : List OpenLabel) (o : OpenLabel) (labels : List scan.OpenLabel) (now : scan.Text) (holds_link : Bool)
+  pub last_may_not : (rows : List InlineRow) (runs : List Run) (slots : List ℕ) (all opens : List OpenLabel) (o : OpenLabel) (labels : List scan.OpenLabel)
+      (now : scan.Text) (holds_link : Bool)
       → reverse all ≡ o ∷ opens → holds_link ≡ now.holds_link → may_form (start_view o.start) holds_link ≡ false
       → ShowsBy leads at rows runs slots (reverse all) labels now.tokens → ended_here context content labels now ≡ None
   last_may_not rows runs slots all opens o labels now holds_link e same not s =
@@ -93,7 +96,8 @@ module _ (leads : Target → Linked) (at : ℕ → Linked) (context : InlineCont
       ∙ cond-false (may_form there.label.start now.holds_link) (formed_at context there.label.start (before there.label.from content) (drop 1 content)) None may
 
   -- the innermost may form something
-  pub last_may : (rows : List InlineRow) (runs : List Run) (slots : List ℕ) (all opens : List OpenLabel) (o : OpenLabel) (labels : List scan.OpenLabel) (now : scan.Text) (holds_link : Bool)
+  pub last_may : (rows : List InlineRow) (runs : List Run) (slots : List ℕ) (all opens : List OpenLabel) (o : OpenLabel) (labels : List scan.OpenLabel)
+      (now : scan.Text) (holds_link : Bool)
       → reverse all ≡ o ∷ opens → holds_link ≡ now.holds_link → may_form (start_view o.start) holds_link ≡ true
       → ShowsBy leads at rows runs slots (reverse all) labels now.tokens
       → ended_here context content labels now ≡ formed_at context (start_view o.start) (before (content_codes o.from.now) content) (drop 1 content)

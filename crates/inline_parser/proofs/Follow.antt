@@ -1,5 +1,6 @@
 -- What follows what is read: one step at a place.
-use Rattle.std.proofs.Common.{◌≡◌, ℕ, zero, suc, ◌+◌, ◌-◌, ◌<◌, ◌≤◌, Bool, true, false, ◌&&◌, inl, inr, eqb, List, [], ◌∷◌, map, refl, sym, ap, ap₂, ◌∙◌, length, arith, subst, take, drop, get_or, Option, None, Some}
+use Rattle.std.proofs.Common.{◌≡◌, ℕ, zero, suc, ◌+◌, ◌-◌, ◌<◌, ◌≤◌, Bool, true, false, ◌&&◌, inl, inr, eqb, List, [], ◌∷◌, map, refl, sym, ap, ap₂, ◌∙◌}
+use Rattle.std.proofs.Common.{length, arith, subst, take, drop, get_or, Option, None, Some}
 use Rattle.std.specs.List.{prefix_len}
 use Rattle.std.specs.Str.{IsCharBoundary, IsUtf8}
 use Rattle.std.proofs.lemmas.Str.{IsCharBoundary-after_ascii}
@@ -20,7 +21,7 @@ use Rattle.definition_inline.proofs.GfmAutolinkLiteral.{literals_off}
 use Rattle.definition_inline.proofs.Scanning.{drop-codes_of}
 use Rattle.definition_inline.specs.Attention.{run_at}
 use Rattle.definition_inline.specs.Spans.{Item, Delimiters}
-use Rattle.definition_inline.specs.LabelEnd.{Ended, formed_size}
+use Rattle.definition_inline.specs.LabelEnd.{LinkTail, formed_size}
 use Rattle.definition_inline.specs.LabelEnd as ends
 use Rattle.definition_page.specs.Targets.{Targets}
 use Rattle.definition_inline.specs.Scan as scan
@@ -46,7 +47,7 @@ use Rattle.inline_parser.specs.declared.label.LabelStart.{LabelStart}
 use Rattle.inline_parser.specs.declared.label.LabelStart.TheVariants as start
 use Rattle.inline_parser.specs.Plain.{is_text_at}
 use Rattle.inline_parser.specs.Scanned.{context_by, ended_here, IsPlace, IsRunFront, IsSingle, StartsLabel}
-use Rattle.inline_parser.specs.Shows.{start_view, opened, unformed_in, formed_in}
+use Rattle.inline_parser.specs.Shows.{start_view, with_open_label, unformed_in, formed_in}
 use Rattle.inline_parser.proofs.Views.{IsNext, after_next, next_place, codes_left, view_next}
 use Rattle.inline_parser.proofs.Goes as goes
 use Rattle.inline_parser.proofs.Texts as texts
@@ -152,22 +153,25 @@ end_next rest after a = record {
 }
 
 -- the place after what was formed
-pub some_place : {rest : List ℕ} {o : Option Formed} {found : LabelEnd} → o ≡ Some (Leads found) → IfSome o (IsAfterFormed rest) → IsAfterEnd rest found.after.now
+pub some_place : {rest : List ℕ} {o : Option Formed} {found : LabelEnd} → o ≡ Some (Leads found) → IfSome o (IsAfterFormed rest)
+    → IsAfterEnd rest found.after.now
 some_place {rest} is h = subst (λ x. IfSome x (IsAfterFormed rest)) is h
 
 -- a link or an image that was found is the definition's
-pub record IsFound (ls : List (List ℕ)) (rest : List ℕ) (found : LabelEnd) (o : Option ends.Formed) : Type 0 where
-  pub end : Ended
+pub record IsFound (ls : List (List ℕ)) (rest : List ℕ) (found : LabelEnd) (o : Option ends.LinkOrCall) : Type 0 where
+  pub end : LinkTail
   pub is : o ≡ Some (ends.Leads end)
   pub as_end : IsEnd ls rest found end
 
-pub found_is : (ls : List (List ℕ)) (rest : List ℕ) (found : LabelEnd) (o : Option ends.Formed) → IsFormed ls rest (Some (Leads found)) o → IsFound ls rest found o
+pub found_is : (ls : List (List ℕ)) (rest : List ℕ) (found : LabelEnd) (o : Option ends.LinkOrCall) → IsFormed ls rest (Some (Leads found)) o
+    → IsFound ls rest found o
 found_is ls rest found (Some (ends.Leads e)) h = record { end = e; is = refl; as_end = h }
 found_is ls rest found (Some (ends.Calls label)) h = absurd h
 found_is ls rest found None h = absurd h
 
 -- and so is a call
-pub call_is : (ls : List (List ℕ)) (rest : List ℕ) (name : _) (o : Option ends.Formed) → IsFormed ls rest (Some (Calls name)) o → o ≡ Some (ends.Calls (content_codes name.now))
+pub call_is : (ls : List (List ℕ)) (rest : List ℕ) (name : _) (o : Option ends.LinkOrCall) → IsFormed ls rest (Some (Calls name)) o
+    → o ≡ Some (ends.Calls (content_codes name.now))
 call_is ls rest name (Some (ends.Calls label)) h = ap (λ l. Some (ends.Calls l)) (sym h)
 call_is ls rest name (Some (ends.Leads end)) h = absurd h
 call_is ls rest name None h = absurd h
@@ -179,7 +183,7 @@ none_after content = omega arith
 pub same_next : (content : List ℕ) → IsNext content content
 same_next content = end_next content content (after_same content)
 
-pub none_is : (ls : List (List ℕ)) (rest : List ℕ) (o : Option ends.Formed) → IsFormed ls rest None o → o ≡ None
+pub none_is : (ls : List (List ℕ)) (rest : List ℕ) (o : Option ends.LinkOrCall) → IsFormed ls rest None o → o ≡ None
 none_is ls rest None h = refl
 none_is ls rest (Some e) h = absurd h
 
@@ -192,7 +196,8 @@ single_size bytes s = omega (arith, ap length s.code)
 
 -- no literal begins in text
 no_literal : (on : Constructs) (rest : List ℕ) (view : List InlineCode) (n k : ℕ) → n ≤ length rest → k < n → ((j : ℕ) → j < n → get_or rest j 0 ≡ 13 → ⊥)
-    → codes_of view ≡ content_codes rest → (on.gfm_autolink_literal ≡ true → (j : ℕ) → j < n → may_begin (drop j rest) ≡ false) → literal_at on (drop k view) ≡ None
+    → codes_of view ≡ content_codes rest → (on.gfm_autolink_literal ≡ true → (j : ℕ) → j < n → may_begin (drop j rest) ≡ false)
+    → literal_at on (drop k view) ≡ None
 no_literal on rest view n k le lt plain codes bare = elim (cases_Bool on.gfm_autolink_literal) [
   | inl is ↦
       none_first on (drop k view) (drop k rest)
@@ -201,7 +206,8 @@ no_literal on rest view n k le lt plain codes bare = elim (cases_Bool on.gfm_aut
 ]
 
 -- where no other construct begins, a literal is what begins here
-pub with_literal : (options : ParseOptions) (names : List ℕ → Option (List ℕ)) (p : ℕ → Bool) (content : Content) (rest : List ℕ) → IsPlace content.text.now rest
+pub with_literal : (options : ParseOptions) (names : List ℕ → Option (List ℕ)) (p : ℕ → Bool) (content : Content) (rest : List ℕ)
+    → IsPlace content.text.now rest
     → leaf_in options names (content_codes rest) ≡ None
     → leaf_here (without_labels options names) (view_at p content rest) ≡ literal_at options.constructs (view_at p content rest)
 with_literal options names p content rest place none =
@@ -215,7 +221,8 @@ module _ (options : ParseOptions) (names : List ℕ → Option (List ℕ)) (p : 
   -- what is left after some codes does to what is read by then what all did
   moved : (rest after : List ℕ) (now next final : scan.Reading) (n : ℕ) → IsPlace content.text.now rest → IsNext rest after → n ≡ size_before rest after
       → scan.scan (context_by options names ds) 0 now (view_at p content rest) ≡ final
-      → scan.scan (context_by options names ds) 0 now (view_at p content rest) ≡ scan.scan (context_by options names ds) 0 next (drop n (view_at p content rest))
+      → scan.scan (context_by options names ds) 0 now (view_at p content rest)
+      ≡ scan.scan (context_by options names ds) 0 next (drop n (view_at p content rest))
       → scan.scan (context_by options names ds) 0 next (view_at p content after) ≡ final
   moved rest after now next final n place is size same goes =
       ap (scan.scan (context_by options names ds) 0 next) (sym (ap (λ k. drop k (view_at p content rest)) size ∙ view_next p content rest after place is))
@@ -230,7 +237,8 @@ module _ (options : ParseOptions) (names : List ℕ → Option (List ℕ)) (p : 
   text_follows rest n now final place le text plain bare after same =
       let codes = codes_left p content rest place in
       let bytes : take n (codes_of (view_at p content rest)) ≡ take n rest = ap (take n) codes ∙ plain_take n rest le plain in
-      moved rest (drop n rest) now (read_tokens (map Item (map Data (take n rest))) now) final n place (after_next rest (drop n rest) after) (sym (size_plain n rest (drop n rest) refl le plain)) same
+      moved rest (drop n rest) now (read_tokens (map Item (map Data (take n rest))) now) final n place (after_next rest (drop n rest) after)
+      (sym (size_plain n rest (drop n rest) refl le plain)) same
       (texts.text_steps (context_by options names ds) n now (view_at p content rest) (λ k lt. ap (λ cs. is_text_at (drop k cs)) codes ∙ text k lt)
       (λ k lt. no_literal options.constructs rest (view_at p content rest) n k le lt plain codes bare)
       ∙ ap (λ bs. scan.scan (context_by options names ds) 0 (read_tokens (map Item (map Data bs)) now) (drop n (view_at p content rest))) bytes)
@@ -253,10 +261,12 @@ module _ (options : ParseOptions) (names : List ℕ → Option (List ℕ)) (p : 
       → scan.scan (context_by options names ds) 0 (read_tokens (map Item parts) now) (view_at p content after) ≡ final
   literal_follows rest after parts now final place none found is same =
       moved rest after now (read_tokens (map Item parts) now) final (size_before rest after) place (after_next rest after is) refl same
-      (goes.leaf_goes (context_by options names ds) now (view_at p content rest) (leaf parts (size_before rest after)) (with_literal options names p content rest place none ∙ sym found))
+      (goes.leaf_goes (context_by options names ds) now (view_at p content rest) (leaf parts (size_before rest after))
+      (with_literal options names p content rest place none ∙ sym found))
 
   -- a run
-  pub run_follows : (rest : List ℕ) (run : Run) (now final : scan.Reading) → IsPlace content.text.now rest → leaf_here (without_labels options names) (view_at p content rest) ≡ None
+  pub run_follows : (rest : List ℕ) (run : Run) (now final : scan.Reading) → IsPlace content.text.now rest
+      → leaf_here (without_labels options names) (view_at p content rest) ≡ None
       → Some (run_view run) ≡ run_at options (view_at p content rest) → StartsRun options rest run
       → scan.scan (context_by options names ds) 0 now (view_at p content rest) ≡ final
       → scan.scan (context_by options names ds) 0 (read_tokens (Delimiters (run_view run) ∷ []) now) (view_at p content (drop run.size rest)) ≡ final
@@ -268,65 +278,86 @@ module _ (options : ParseOptions) (names : List ℕ → Option (List ℕ)) (p : 
       (goes.run_goes (context_by options names ds) now (view_at p content rest) (run_view run) none (sym is) front.end.some)
 
   -- a label start
-  pub start_follows : (rest : List ℕ) (s : LabelStart) (now final : scan.Reading) → IsPlace content.text.now rest → leaf_here (without_labels options names) (view_at p content rest) ≡ None
-      → run_at options (view_at p content rest) ≡ None → Some (start_view s) ≡ label_start_at options.constructs (content_codes rest) → StartsLabel rest s → 0 < length rest
+  pub start_follows : (rest : List ℕ) (s : LabelStart) (now final : scan.Reading) → IsPlace content.text.now rest
+      → leaf_here (without_labels options names) (view_at p content rest) ≡ None
+      → run_at options (view_at p content rest) ≡ None → Some (start_view s) ≡ label_start_at options.constructs (content_codes rest) → StartsLabel rest s
+      → 0 < length rest
       → scan.scan (context_by options names ds) 0 now (view_at p content rest) ≡ final
-      → scan.scan (context_by options names ds) 0 (opened s (drop (length (start_bytes (start_view s))) rest) now) (view_at p content (drop (length (start_bytes (start_view s))) rest)) ≡ final
+      → scan.scan (context_by options names ds) 0 (with_open_label s (drop (length (start_bytes (start_view s))) rest) now)
+      (view_at p content (drop (length (start_bytes (start_view s))) rest)) ≡ final
   start_follows rest s now final place none no_run is front some same =
       let k = length (start_bytes (start_view s)) in
       let plain = start_plain s rest front.first in
       let after = is_after rest (drop k rest) k refl front.end.some front.end.within front.end.cut in
       let codes = codes_left p content rest place in
       let left : drop k (codes_of (view_at p content rest)) ≡ content_codes (drop k rest) = ap (drop k) codes ∙ plain_drop k rest front.end.within plain in
-      moved rest (drop k rest) now (opened s (drop k rest) now) final k place (after_next rest (drop k rest) after) (sym (size_plain k rest (drop k rest) refl front.end.within plain)) same
-      (goes.start_view_goes (context_by options names ds) now (view_at p content rest) (start_view s) k (start_count s) (view_count rest place (omega (arith, after.fewer))) none no_run
+      moved rest (drop k rest) now (with_open_label s (drop k rest) now) final k place (after_next rest (drop k rest) after)
+      (sym (size_plain k rest (drop k rest) refl front.end.within plain)) same
+      (goes.start_view_goes (context_by options names ds) now (view_at p content rest) (start_view s) k (start_count s)
+      (view_count rest place (omega (arith, after.fewer))) none no_run
       (ap (label_start_at options.constructs) codes ∙ sym is)
-      ∙ ap (λ from. scan.scan (context_by options names ds) 0 (scan.reading (scan.text [] false) (record { start = start_view s; from = from; outer = now.now } ∷ now.open_labels)) (drop k (view_at p content rest))) left)
+      ∙ ap (λ from. scan.scan (context_by options names ds) 0 (scan.reading (scan.text [] false)
+      (record { start = start_view s; from = from; outer = now.now } ∷ now.open_labels)) (drop k (view_at p content rest))) left)
 
   -- a `]` that forms nothing
-  pub nothing_follows : (rest : List ℕ) (now final : scan.Reading) → IsPlace content.text.now rest → leaf_here (without_labels options names) (view_at p content rest) ≡ None
-      → run_at options (view_at p content rest) ≡ None → label_start_at options.constructs (content_codes rest) ≡ None → options.constructs.label_end ≡ true → get_or rest 0 0 ≡ 93 → IsSingle rest → 0 < length rest
+  pub nothing_follows : (rest : List ℕ) (now final : scan.Reading) → IsPlace content.text.now rest
+      → leaf_here (without_labels options names) (view_at p content rest) ≡ None
+      → run_at options (view_at p content rest) ≡ None → label_start_at options.constructs (content_codes rest) ≡ None → options.constructs.label_end ≡ true
+      → get_or rest 0 0 ≡ 93 → IsSingle rest → 0 < length rest
       → ended_here (context_by options names ds) (content_codes rest) now.open_labels now.now ≡ None
       → scan.scan (context_by options names ds) 0 now (view_at p content rest) ≡ final
-      → scan.scan (context_by options names ds) 0 (read_tokens (map Item (map Data (take 1 rest))) (unformed_in now.open_labels now.now)) (view_at p content (drop 1 rest)) ≡ final
+      → scan.scan (context_by options names ds) 0 (read_tokens (map Item (map Data (take 1 rest))) (unformed_in now.open_labels now.now))
+      (view_at p content (drop 1 rest)) ≡ final
   nothing_follows rest now final place none no_run no_start end bracket single some ended same =
       let codes = codes_left p content rest place in
       let first = first_code rest (view_at p content rest) single codes in
-      moved rest (drop 1 rest) now (read_tokens (map Item (map Data (take 1 rest))) (unformed_in now.open_labels now.now)) final 1 place (single_next rest single) (sym (single_size rest single)) same
+      moved rest (drop 1 rest) now (read_tokens (map Item (map Data (take 1 rest))) (unformed_in now.open_labels now.now)) final 1 place
+      (single_next rest single) (sym (single_size rest single)) same
       (goes.nothing_view_goes (context_by options names ds) now (view_at p content rest) (view_count rest place (omega (arith, single.next.fewer))) none no_run
       (ap (label_start_at options.constructs) codes ∙ no_start) end (first ∙ bracket)
       (ap (λ cs. ended_here (context_by options names ds) cs now.open_labels now.now) codes ∙ ended)
-      ∙ ap (λ bs. scan.scan (context_by options names ds) 0 (read_tokens (map Item (map Data bs)) (unformed_in now.open_labels now.now)) (drop 1 (view_at p content rest)))
+      ∙ ap (λ bs. scan.scan (context_by options names ds) 0 (read_tokens (map Item (map Data bs)) (unformed_in now.open_labels now.now))
+      (drop 1 (view_at p content rest)))
       (sym (one_byte rest some ∙ ap (λ b. b ∷ []) bracket)))
 
   -- a `]` that forms a link or an image
-  pub formed_follows : (rest after : List ℕ) (e : ends.Formed) (now final : scan.Reading) → IsPlace content.text.now rest → leaf_here (without_labels options names) (view_at p content rest) ≡ None
-      → run_at options (view_at p content rest) ≡ None → label_start_at options.constructs (content_codes rest) ≡ None → options.constructs.label_end ≡ true → get_or rest 0 0 ≡ 93 → IsSingle rest → 0 < length rest
-      → ended_here (context_by options names ds) (content_codes rest) now.open_labels now.now ≡ Some e → formed_size e ≡ size_before (drop 1 rest) after → IsNext (drop 1 rest) after
+  pub formed_follows : (rest after : List ℕ) (e : ends.LinkOrCall) (now final : scan.Reading) → IsPlace content.text.now rest
+      → leaf_here (without_labels options names) (view_at p content rest) ≡ None
+      → run_at options (view_at p content rest) ≡ None → label_start_at options.constructs (content_codes rest) ≡ None → options.constructs.label_end ≡ true
+      → get_or rest 0 0 ≡ 93 → IsSingle rest → 0 < length rest
+      → ended_here (context_by options names ds) (content_codes rest) now.open_labels now.now ≡ Some e → formed_size e ≡ size_before (drop 1 rest) after
+      → IsNext (drop 1 rest) after
       → scan.scan (context_by options names ds) 0 now (view_at p content rest) ≡ final
       → scan.scan (context_by options names ds) 0 (formed_in e now.open_labels now.now) (view_at p content after) ≡ final
   formed_follows rest after e now final place none no_run no_start end bracket single some ended size next same =
       let codes = codes_left p content rest place in
       let first = first_code rest (view_at p content rest) single codes in
       let there = next_place content.text.now rest (drop 1 rest) place (single_next rest single) in
-      let one = ap (λ n. drop n (view_at p content rest)) (sym (single_size rest single)) ∙ view_next p content rest (drop 1 rest) place (single_next rest single) in
+      let one = ap (λ n. drop n (view_at p content rest)) (sym (single_size rest single))
+      ∙ view_next p content rest (drop 1 rest) place (single_next rest single) in
       let left : drop (formed_size e) (drop 1 (view_at p content rest)) ≡ view_at p content after =
       ap (drop (formed_size e)) one ∙ ap (λ n. drop n (view_at p content (drop 1 rest))) size ∙ view_next p content (drop 1 rest) after there next in
       ap (scan.scan (context_by options names ds) 0 (formed_in e now.open_labels now.now)) (sym left)
-      ∙ sym (goes.formed_view_goes (context_by options names ds) now (view_at p content rest) e (view_count rest place (omega (arith, single.next.fewer))) none no_run
+      ∙ sym (goes.formed_view_goes (context_by options names ds) now (view_at p content rest) e
+      (view_count rest place (omega (arith, single.next.fewer))) none no_run
       (ap (label_start_at options.constructs) codes ∙ no_start) end (first ∙ bracket)
       (ap (λ cs. ended_here (context_by options names ds) cs now.open_labels now.now) codes ∙ ended))
       ∙ same
 
   -- a byte at which nothing starts
-  pub byte_follows : (rest : List ℕ) (now final : scan.Reading) → IsPlace content.text.now rest → leaf_here (without_labels options names) (view_at p content rest) ≡ None
-      → run_at options (view_at p content rest) ≡ None → label_start_at options.constructs (content_codes rest) ≡ None → (options.constructs.label_end && eqb (get_or rest 0 0) 93) ≡ false → IsSingle rest → 0 < length rest
+  pub byte_follows : (rest : List ℕ) (now final : scan.Reading) → IsPlace content.text.now rest
+      → leaf_here (without_labels options names) (view_at p content rest) ≡ None
+      → run_at options (view_at p content rest) ≡ None → label_start_at options.constructs (content_codes rest) ≡ None
+      → (options.constructs.label_end && eqb (get_or rest 0 0) 93) ≡ false → IsSingle rest → 0 < length rest
       → scan.scan (context_by options names ds) 0 now (view_at p content rest) ≡ final
       → scan.scan (context_by options names ds) 0 (read_tokens (map Item (map Data (take 1 rest))) now) (view_at p content (drop 1 rest)) ≡ final
   byte_follows rest now final place none no_run no_start no_end single some same =
       let codes = codes_left p content rest place in
       let first = first_code rest (view_at p content rest) single codes in
-      moved rest (drop 1 rest) now (read_tokens (map Item (map Data (take 1 rest))) now) final 1 place (single_next rest single) (sym (single_size rest single)) same
-      (goes.byte_view_goes (context_by options names ds) now (view_at p content rest) (get_or rest 0 0) (view_count rest place (omega (arith, single.next.fewer))) none no_run
+      moved rest (drop 1 rest) now (read_tokens (map Item (map Data (take 1 rest))) now) final 1 place (single_next rest single)
+      (sym (single_size rest single)) same
+      (goes.byte_view_goes (context_by options names ds) now (view_at p content rest) (get_or rest 0 0)
+      (view_count rest place (omega (arith, single.next.fewer))) none no_run
       (ap (label_start_at options.constructs) codes ∙ no_start) first no_end
-      ∙ ap (λ bs. scan.scan (context_by options names ds) 0 (read_tokens (map Item (map Data bs)) now) (drop 1 (view_at p content rest))) (sym (one_byte rest some)))
+      ∙ ap (λ bs. scan.scan (context_by options names ds) 0 (read_tokens (map Item (map Data bs)) now) (drop 1 (view_at p content rest)))
+      (sym (one_byte rest some)))

@@ -11,7 +11,7 @@ use Rattle.inline_rows.specs.InlineRows as rows
 use Rattle.inline_rows.specs.InlineRows.{part_rows, inline_rows}
 use Rattle.definition_inline.specs.Scan as scan
 use Rattle.definition_inline.specs.Scan.{label_part}
-use Rattle.definition_inline.specs.Spans.{Token, Item, emphasized}
+use Rattle.definition_inline.specs.Spans.{Token, Item, with_spans}
 use Rattle.inline_runs.specs.declared.run.Run.{Run}
 use Rattle.inline_rows.specs.View.{rows_view, row_view, target_linked}
 use Rattle.inline_rows.specs.declared.row.LinkTarget.{LinkTarget}
@@ -22,14 +22,14 @@ use Rattle.inline_spans.proofs.Container as container
 use Rattle.inline_parser.specs.declared.label.LabelStart.{LabelStart}
 use Rattle.inline_parser.specs.declared.label.LabelStart.TheVariants as start
 use Rattle.inline_parser.specs.declared.label.OpenLabel.{OpenLabel}
-use Rattle.inline_parser.specs.Shows.{AreOpen, NoneOpen, Inside, ShowsBy, start_view, entered}
+use Rattle.inline_parser.specs.Shows.{AreOpen, NoneOpen, Inside, ShowsBy, start_view, enter_row}
 use Rattle.inline_parser.proofs.Readings.{has_label}
 
 module _ (leads : Target → inline.Linked) (at : ℕ → inline.Linked) where
   -- the rows of what is formed
   formed_rows : (s : LabelStart) (target : LinkTarget) (t : Target) (told : List InlineRow) (kids : Inlines) → target_linked at target ≡ leads t
       → rows_view at told ≡ inline_rows leads kids
-      → rows_view at (entered s target ∷ (told ++ Exit ∷ [])) ≡ flat_map (part_rows leads) (label_part (start_view s) t kids ∷ [])
+      → rows_view at (enter_row s target ∷ (told ++ Exit ∷ [])) ≡ flat_map (part_rows leads) (label_part (start_view s) t kids ∷ [])
   formed_rows start.Link target t told kids e is =
       ap₂ (λ l xs. rows.EnterLink l ∷ xs) e (flat_map-append (row_view at) told (Exit ∷ []) ∙ ap (λ xs. xs ++ rows.Leave ∷ []) is)
       ∙ sym (append-nil (rows.EnterLink (leads t) ∷ (inline_rows leads kids ++ rows.Leave ∷ [])))
@@ -45,17 +45,19 @@ module _ (leads : Target → inline.Linked) (at : ℕ → inline.Linked) where
       (ap (λ xs. set xs (length outer) enter) (is ∙ append_assoc outer (row ∷ []) told) ∙ set-append_seam outer row told enter)
       ∙ append_assoc outer (enter ∷ told) (exit ∷ [])
 
-  form_outer : (outer_rows : List InlineRow) (outer_runs : List Run) (outer_slots : List ℕ) (o : OpenLabel) (opens : List OpenLabel) (label : scan.OpenLabel) (labels : List scan.OpenLabel)
+  form_outer : (outer_rows : List InlineRow) (outer_runs : List Run) (outer_slots : List ℕ) (o : OpenLabel) (opens : List OpenLabel) (label : scan.OpenLabel)
+      (labels : List scan.OpenLabel)
       (target : LinkTarget) (t : Target) (all : List InlineRow) (kids : Inlines)
       → AreOpen leads at outer_rows outer_runs outer_slots (o ∷ opens) (label ∷ labels) → target_linked at target ≡ leads t
       → take (length outer_rows) all ≡ outer_rows → rows_view at (drop (length outer_rows) all) ≡ inline_rows leads kids
-      → ShowsBy leads at (set all o.row (entered o.start target) ++ Exit ∷ []) outer_runs outer_slots opens labels
+      → ShowsBy leads at (set all o.row (enter_row o.start target) ++ Exit ∷ []) outer_runs outer_slots opens labels
       (label.outer.tokens ++ Item (label_part label.start t kids) ∷ [])
-  form_outer _ _ _ _ _ _ _ target t all kids (Inside rows more runs more_runs slots more_slots opens labels o label row outer inside is view) leads_there before told =
+  form_outer _ _ _ _ _ _ _ target t all kids (Inside rows more runs more_runs slots more_slots opens labels o label row outer inside is view) leads_there before
+      told =
       let inner = drop (length ((rows ++ more) ++ row ∷ [])) all in
       let split : all ≡ ((rows ++ more) ++ row ∷ []) ++ inner =
       sym (take-append-drop (length ((rows ++ more) ++ row ∷ [])) all) ∙ ap (λ xs. xs ++ inner) before in
-      let enter = entered o.start target in
+      let enter = enter_row o.start target in
       let part = label_part label.start t kids in
       let made : rows_view at (enter ∷ (inner ++ Exit ∷ [])) ≡ flat_map (part_rows leads) (part ∷ []) =
       formed_rows o.start target t inner kids leads_there told ∙ ap (λ s. flat_map (part_rows leads) (label_part s t kids ∷ [])) is.start in
@@ -76,10 +78,13 @@ module _ (leads : Target → inline.Linked) (at : ℕ → inline.Linked) where
       }
 
   -- rows up to a label start, and one in place of it and of those after it
-  call_outer : (outer_rows now_rows : List InlineRow) (outer_runs : List Run) (outer_slots : List ℕ) (o : OpenLabel) (opens : List OpenLabel) (label : scan.OpenLabel) (labels : List scan.OpenLabel)
+  call_outer : (outer_rows now_rows : List InlineRow) (outer_runs : List Run) (outer_slots : List ℕ) (o : OpenLabel) (opens : List OpenLabel)
+      (label : scan.OpenLabel) (labels : List scan.OpenLabel)
       (call : InlineRow) (name : List ℕ)
-      → AreOpen leads at outer_rows outer_runs outer_slots (o ∷ opens) (label ∷ labels) → rows_view at (call ∷ []) ≡ flat_map (part_rows leads) (inline.Call name ∷ [])
-      → ShowsBy leads at (take o.row (outer_rows ++ now_rows) ++ call ∷ []) outer_runs outer_slots opens labels (label.outer.tokens ++ Item (inline.Call name) ∷ [])
+      → AreOpen leads at outer_rows outer_runs outer_slots (o ∷ opens) (label ∷ labels)
+      → rows_view at (call ∷ []) ≡ flat_map (part_rows leads) (inline.Call name ∷ [])
+      → ShowsBy leads at (take o.row (outer_rows ++ now_rows) ++ call ∷ []) outer_runs outer_slots opens labels
+      (label.outer.tokens ++ Item (inline.Call name) ∷ [])
   call_outer _ now_rows _ _ _ _ _ _ call name (Inside rows more runs more_runs slots more_slots opens labels o label row outer inside is view) made = record {
     outer_rows = rows;
     now_rows = more ++ call ∷ [];
@@ -98,11 +103,13 @@ module _ (leads : Target → inline.Linked) (at : ℕ → inline.Linked) where
   }
 
   -- so many runs and slots stand outside
-  outer_counts : (rows : List InlineRow) (runs : List Run) (slots : List ℕ) (opens : List OpenLabel) (labels : List scan.OpenLabel) → AreOpen leads at rows runs slots opens labels
+  outer_counts : (rows : List InlineRow) (runs : List Run) (slots : List ℕ) (opens : List OpenLabel) (labels : List scan.OpenLabel)
+      → AreOpen leads at rows runs slots opens labels
       → length slots ≡ length runs
   outer_counts _ _ _ _ _ NoneOpen = refl
   outer_counts _ _ _ _ _ (Inside rows more runs more_runs slots more_slots opens labels o label row outer inside is view) =
-      length-append slots more_slots ∙ ap₂ (λ a b. a + b) (outer_counts rows runs slots opens labels outer) (container.slots_are leads at more (length rows) more_runs more_slots label.outer.tokens inside)
+      length-append slots more_slots ∙ ap₂ (λ a b. a + b) (outer_counts rows runs slots opens labels outer)
+      (container.slots_are leads at more (length rows) more_runs more_slots label.outer.tokens inside)
       ∙ sym (length-append runs more_runs)
 
   take_front : {A : Type 0} → (xs ys zs : List A) (n : ℕ) → xs ≡ ys ++ zs → n ≡ length ys → take n xs ≡ ys
@@ -112,7 +119,8 @@ module _ (leads : Target → inline.Linked) (at : ℕ → inline.Linked) where
   drop_front xs ys zs n e p = ap₂ drop p e ∙ drop_at ys zs (length ys) refl
 
   -- what is to be told apart where the innermost label start forms something
-  pub record IsInner (rows : List InlineRow) (runs : List Run) (slots : List ℕ) (o : OpenLabel) (opens : List OpenLabel) (labels : List scan.OpenLabel) (tokens : List Token) : Type 0 where
+  pub record IsInner (rows : List InlineRow) (runs : List Run) (slots : List ℕ) (o : OpenLabel) (opens : List OpenLabel) (labels : List scan.OpenLabel)
+      (tokens : List Token) : Type 0 where
     pub outer_rows : List InlineRow
     pub inner_rows : List InlineRow
     pub label : scan.OpenLabel
@@ -123,12 +131,14 @@ module _ (leads : Target → inline.Linked) (at : ℕ → inline.Linked) where
     pub rows_are : rows ≡ outer_rows ++ inner_rows
     pub inner : IsContainer leads at inner_rows (length outer_rows) (drop o.runs runs) (drop o.runs slots) tokens
     pub formed : (target : LinkTarget) (t : Target) (all : List InlineRow) → target_linked at target ≡ leads t → AreTold leads at outer_rows tokens all
-        → ShowsBy leads at (set all o.row (entered o.start target) ++ Exit ∷ []) (take o.runs runs) (take o.runs slots) opens others
-        (label.outer.tokens ++ Item (label_part label.start t (emphasized tokens)) ∷ [])
+        → ShowsBy leads at (set all o.row (enter_row o.start target) ++ Exit ∷ []) (take o.runs runs) (take o.runs slots) opens others
+        (label.outer.tokens ++ Item (label_part label.start t (with_spans tokens)) ∷ [])
     pub called : (call : InlineRow) (name : List ℕ) → rows_view at (call ∷ []) ≡ flat_map (part_rows leads) (inline.Call name ∷ [])
-        → ShowsBy leads at (take o.row rows ++ call ∷ []) (take o.runs runs) (take o.runs slots) opens others (label.outer.tokens ++ Item (inline.Call name) ∷ [])
+        → ShowsBy leads at (take o.row rows ++ call ∷ []) (take o.runs runs) (take o.runs slots) opens others
+        (label.outer.tokens ++ Item (inline.Call name) ∷ [])
 
-  pub is_inner : (rows : List InlineRow) (runs : List Run) (slots : List ℕ) (o : OpenLabel) (opens : List OpenLabel) (labels : List scan.OpenLabel) (tokens : List Token)
+  pub is_inner : (rows : List InlineRow) (runs : List Run) (slots : List ℕ) (o : OpenLabel) (opens : List OpenLabel) (labels : List scan.OpenLabel)
+      (tokens : List Token)
       → ShowsBy leads at rows runs slots (o ∷ opens) labels tokens → IsInner rows runs slots o opens labels tokens
   is_inner rows runs slots o opens labels tokens s =
       let there = has_label leads at rows runs slots o opens labels tokens s in
@@ -146,18 +156,25 @@ module _ (leads : Target → inline.Linked) (at : ℕ → inline.Linked) where
         start = there.is.start;
         rows_are = s.rows_are;
         inner =
-            subst (λ x. IsContainer leads at s.now_rows (length s.outer_rows) x (drop o.runs slots) tokens) (sym (drop_front runs s.outer_runs s.now_runs o.runs s.runs_are count))
-            (subst (λ x. IsContainer leads at s.now_rows (length s.outer_rows) s.now_runs x tokens) (sym (drop_front slots s.outer_slots s.now_slots o.runs s.slots_are count2)) s.now);
+            subst (λ x. IsContainer leads at s.now_rows (length s.outer_rows) x (drop o.runs slots) tokens)
+            (sym (drop_front runs s.outer_runs s.now_runs o.runs s.runs_are count))
+            (subst (λ x. IsContainer leads at s.now_rows (length s.outer_rows) s.now_runs x tokens)
+            (sym (drop_front slots s.outer_slots s.now_slots o.runs s.slots_are count2)) s.now);
         formed = λ target t all leads_there told.
-            let more = there.label.outer.tokens ++ Item (label_part there.label.start t (emphasized tokens)) ∷ [] in
-            let made = set all o.row (entered o.start target) ++ Exit ∷ [] in
-            subst (λ x. ShowsBy leads at made x (take o.runs slots) opens there.others more) (sym (take_front runs s.outer_runs s.now_runs o.runs s.runs_are count))
-            (subst (λ x. ShowsBy leads at made s.outer_runs x opens there.others more) (sym (take_front slots s.outer_slots s.now_slots o.runs s.slots_are count2))
-            (form_outer s.outer_rows s.outer_runs s.outer_slots o opens there.label there.others target t all (emphasized tokens) outer leads_there told.before told.told));
+            let more = there.label.outer.tokens ++ Item (label_part there.label.start t (with_spans tokens)) ∷ [] in
+            let made = set all o.row (enter_row o.start target) ++ Exit ∷ [] in
+            subst (λ x. ShowsBy leads at made x (take o.runs slots) opens there.others more)
+            (sym (take_front runs s.outer_runs s.now_runs o.runs s.runs_are count))
+            (subst (λ x. ShowsBy leads at made s.outer_runs x opens there.others more)
+            (sym (take_front slots s.outer_slots s.now_slots o.runs s.slots_are count2))
+            (form_outer s.outer_rows s.outer_runs s.outer_slots o opens there.label there.others target t all
+            (with_spans tokens) outer leads_there told.before told.told));
         called = λ call name view.
             let more = there.label.outer.tokens ++ Item (inline.Call name) ∷ [] in
             subst (λ x. ShowsBy leads at (take o.row x ++ call ∷ []) (take o.runs runs) (take o.runs slots) opens there.others more) (sym s.rows_are)
-            (subst (λ x. ShowsBy leads at (take o.row (s.outer_rows ++ s.now_rows) ++ call ∷ []) x (take o.runs slots) opens there.others more) (sym (take_front runs s.outer_runs s.now_runs o.runs s.runs_are count))
-            (subst (λ x. ShowsBy leads at (take o.row (s.outer_rows ++ s.now_rows) ++ call ∷ []) s.outer_runs x opens there.others more) (sym (take_front slots s.outer_slots s.now_slots o.runs s.slots_are count2))
+            (subst (λ x. ShowsBy leads at (take o.row (s.outer_rows ++ s.now_rows) ++ call ∷ []) x (take o.runs slots) opens there.others more)
+            (sym (take_front runs s.outer_runs s.now_runs o.runs s.runs_are count))
+            (subst (λ x. ShowsBy leads at (take o.row (s.outer_rows ++ s.now_rows) ++ call ∷ []) s.outer_runs x opens there.others more)
+            (sym (take_front slots s.outer_slots s.now_slots o.runs s.slots_are count2))
             (call_outer s.outer_rows s.now_rows s.outer_runs s.outer_slots o opens there.label there.others call name outer view)));
       }

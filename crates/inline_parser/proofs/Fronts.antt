@@ -1,6 +1,8 @@
 -- Text before the first byte at which a construct may start.
-use Rattle.std.proofs.Common.{◌≡◌, ℕ, zero, suc, ◌+◌, ◌-◌, ◌<◌, ◌≤◌, List, [], ◌∷◌, Bool, true, false, not, ◌||◌, ◌&&◌, eqb, leb, refl, sym, ap, ◌∙◌, get_or, length, drop, arith, subst, Fits, w8, ◌⊎◌, inl, inr}
-use Rattle.std.proofs.lemmas.Bool.{cases_Bool, cases_lt, cond-false, cond-true, eqb-true, false≢true, or_right, or_cases, or_from, ne_eqb, leb-false, agree_below_at}
+use Rattle.std.proofs.Common.{◌≡◌, ℕ, zero, suc, ◌+◌, ◌-◌, ◌<◌, ◌≤◌, List, [], ◌∷◌, Bool, true, false, not, ◌||◌, ◌&&◌, eqb, leb, refl, sym, ap, ◌∙◌, get_or}
+use Rattle.std.proofs.Common.{length, drop, arith, subst, Fits, w8, ◌⊎◌, inl, inr}
+use Rattle.std.proofs.lemmas.Bool.{cases_Bool, cases_lt, cond-false, cond-true, eqb-true, false≢true, or_right, or_cases, or_from, ne_eqb, leb-false}
+use Rattle.std.proofs.lemmas.Bool.{agree_below_at}
 use Rattle.std.proofs.lemmas.List.{drop_more, get_or-drop, length-drop}
 use Rattle.std.proofs.lemmas.List.Sums.{fails_before_first, passes_at_first, prefix_len-le-length}
 use Rattle.std.specs.List.{position_or_len}
@@ -99,7 +101,8 @@ free_text (b ∷ bs) (suc n) within free on =
     elim (cases_Bool (is_white b)) [
       | inl white ↦
           more_text (b ∷ bs) 1 n (suc n) (omega arith)
-          (white_one b bs white (goes_on bs n (omega (arith, within)) (λ k lt. free (suc k) (omega (arith, lt))) (after_white b bs n white (on (omega arith))))) rest
+          (white_one b bs white (goes_on bs n (omega (arith, within)) (λ k lt. free (suc k) (omega (arith, lt))) (after_white b bs n white (on (omega arith)))))
+          rest
       | inr dark ↦ more_text (b ∷ bs) 1 n (suc n) (omega arith) (byte_text b bs dark (free 0 (omega arith))) rest
     ]
 
@@ -128,15 +131,18 @@ ends_white (b ∷ bs) zero within white ending =
           ap (λ cs. ends_here (bare cs)) (cond-false (eqb b 13) _ _ h) ∙ at_dark b (content_codes bs) (started_dark b (eol_starts b eol)) ∙ eol
     ]
 ends_white (b ∷ bs) (suc n) within white ending =
-    skip_byte b bs true (white 0 (omega arith)) (ends_white bs n (omega (arith, within)) (λ k lt. white (suc k) (omega (arith, lt))) (λ lt. ending (omega (arith, lt))))
+    skip_byte b bs true (white 0 (omega arith)) (ends_white bs n (omega (arith, within)) (λ k lt. white (suc k) (omega (arith, lt)))
+    (λ lt. ending (omega (arith, lt))))
 
 -- text ends at a byte at which something starts
 pub start_stops : (bytes : List ℕ) (at : ℕ) → at < length bytes → starts (get_or bytes at 0) ≡ true → is_text_at (content_codes (drop at bytes)) ≡ false
 start_stops bytes at lt special =
-    ap (λ s. is_text_at (content_codes s)) (drop_more bytes at 0 lt) ∙ special_stop (get_or bytes at 0) (drop (at + 1) bytes) (started_dark (get_or bytes at 0) special) special
+    ap (λ s. is_text_at (content_codes s)) (drop_more bytes at 0 lt) ∙ special_stop (get_or bytes at 0) (drop (at + 1) bytes)
+    (started_dark (get_or bytes at 0) special) special
 
 -- text ends before white space at the end of its line
-pub white_stops : (bytes : List ℕ) (at end : ℕ) → at < length bytes → at ≤ end → end ≤ length bytes → ((k : ℕ) → at ≤ k → k < end → is_white (get_or bytes k 0) ≡ true)
+pub white_stops : (bytes : List ℕ) (at end : ℕ) → at < length bytes → at ≤ end → end ≤ length bytes
+    → ((k : ℕ) → at ≤ k → k < end → is_white (get_or bytes k 0) ≡ true)
     → (end < length bytes → is_eol (get_or bytes end 0) ≡ true) → is_text_at (content_codes (drop at bytes)) ≡ false
 white_stops bytes at end lt le within white ending = elim (cases_lt at end) [
   | inl some ↦
@@ -174,7 +180,8 @@ pub letter_dark : (b : ℕ) → 64 < b → b < 128 → (is_white b ≡ false) ×
 letter_dark b low high = (
   or_from (eqb b 32 || eqb b 9) (eqb b 256) (or_from (eqb b 32) (eqb b 9) (ne_eqb b 32 (λ e. omega (arith, e, low))) (ne_eqb b 9 (λ e. omega (arith, e, low))))
       (ne_eqb b 256 (λ e. omega (arith, e, high))),
-  or_from (eqb b 10 || eqb b 13) (eqb b 257) (or_from (eqb b 10) (eqb b 13) (ne_eqb b 10 (λ e. omega (arith, e, low))) (ne_eqb b 13 (λ e. omega (arith, e, low))))
+  or_from (eqb b 10 || eqb b 13) (eqb b 257) (or_from (eqb b 10) (eqb b 13) (ne_eqb b 10 (λ e. omega (arith, e, low)))
+      (ne_eqb b 13 (λ e. omega (arith, e, low))))
       (ne_eqb b 257 (λ e. omega (arith, e, high))),
 )
 

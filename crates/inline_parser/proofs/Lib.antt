@@ -11,3 +11,4 @@ pub mod Follow
 pub mod Whole
 pub mod Placed
 pub mod Ended
+pub mod PlainText

@@ -1,5 +1,6 @@
 -- Bytes before the first at which a construct or a literal may start.
-use Rattle.std.proofs.Common.{◌≡◌, ℕ, ◌+◌, ◌-◌, ◌<◌, ◌≤◌, List, [], ◌∷◌, true, false, cond, not, ◌||◌, eqb, refl, sym, ap, ◌∙◌, get_or, length, drop, arith, ◌⊎◌, inl, inr}
+use Rattle.std.proofs.Common.{◌≡◌, ℕ, ◌+◌, ◌-◌, ◌<◌, ◌≤◌, List, [], ◌∷◌, true, false, cond, not, ◌||◌, eqb, refl, sym, ap, ◌∙◌, get_or, length, drop, arith}
+use Rattle.std.proofs.Common.{◌⊎◌, inl, inr}
 use Rattle.std.specs.Prelude.{codes, nat_lt}
 use Rattle.std.specs.Char.{to_ascii_lowercase}
 use Rattle.std.specs.List.{position_or_len}
@@ -89,11 +90,13 @@ module _ (bytes : List ℕ) (at stop : ℕ) (is : IsFree bytes at) (next : stop 
 
   pub next_stops : stop < length bytes → starts_or_letter (get_or (drop stop bytes) 0 0) ≡ true
   next_stops lt =
-      ap starts_or_letter (get_or-drop stop bytes 0 0 ∙ ap (λ n. get_or bytes n 0) (omega (arith, next)) ∙ sym (get_or-drop at bytes (position_or_len starts_or_letter (drop at bytes)) 0))
+      ap starts_or_letter (get_or-drop stop bytes 0 0 ∙ ap (λ n. get_or bytes n 0) (omega (arith, next))
+      ∙ sym (get_or-drop at bytes (position_or_len starts_or_letter (drop at bytes)) 0))
       ∙ passes_at_first starts_or_letter (drop at bytes) 0 (omega (arith, next, lt, length-drop at bytes))
 
 -- a letter in vain
-pub vain_free : (bytes : List ℕ) (stop next : ℕ) → IsFree bytes stop → stop < length bytes → next ≡ stop + 1 → starts_here (drop stop bytes) ≡ false → IsFree bytes next
+pub vain_free : (bytes : List ℕ) (stop next : ℕ) → IsFree bytes stop → stop < length bytes → next ≡ stop + 1 → starts_here (drop stop bytes) ≡ false
+    → IsFree bytes next
 vain_free bytes stop next is lt e vain =
     let parts = or_parts (starts (get_or (drop stop bytes) 0 0)) (may_begin (drop stop bytes)) vain in
     let here : get_or (drop stop bytes) 0 0 ≡ get_or bytes stop 0 = get_or-drop stop bytes 0 0 ∙ ap (λ n. get_or bytes n 0) (omega arith) in

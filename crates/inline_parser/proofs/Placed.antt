@@ -70,9 +70,13 @@ begins_codes (t ∷ ts) h (b ∷ bs) =
 -- what begins with a label start begins with its bytes
 pub label_start : (s : LabelStart) (rest ys : List ℕ) → rest ≡ start_bytes (start_view s) ++ ys → StartsLabel rest s
 label_start start.Link rest ys is =
-    subst (λ xs. StartsLabel xs start.Link) (sym is) (record { end = end_after (91 ∷ ys) 1 (omega arith) (omega arith) (omega arith) (λ e. omega (arith, e)); first = refl })
+    subst (λ xs. StartsLabel xs start.Link) (sym is) (record {
+      end = end_after (91 ∷ ys) 1 (omega arith) (omega arith) (omega arith) (λ e. omega (arith, e));
+      first = refl;
+    })
 label_start start.Image rest ys is =
-    subst (λ xs. StartsLabel xs start.Image) (sym is) (record { end = end_after (33 ∷ 91 ∷ ys) 2 (omega arith) (omega arith) (omega arith) (λ e. omega (arith, e)); first = refl })
+    subst (λ xs. StartsLabel xs start.Image) (sym is)
+    (record { end = end_after (33 ∷ 91 ∷ ys) 2 (omega arith) (omega arith) (omega arith) (λ e. omega (arith, e)); first = refl })
 
 -- a content whose codes begin with this text begins with it
 pub begun_codes : (ts : List ℕ) → has_no_return ts ≡ true → (xs : List ℕ) → begins_with ts (content_codes xs) ≡ true → xs ≡ ts ++ drop (length ts) xs

@@ -6,7 +6,7 @@ use Rattle.definition_inline.specs.Inline.{Target, Inline, Data}
 use Rattle.definition_inline.specs.Inline as inline
 use Rattle.inline_rows.specs.InlineRows.{part_rows}
 use Rattle.definition_inline.specs.Scan as scan
-use Rattle.definition_inline.specs.Scan.{LinkStart, ImageStart, start_bytes, start_tokens, label_part, unformed, formed, whole_text}
+use Rattle.definition_inline.specs.Scan.{LinkStart, ImageStart, start_bytes, start_tokens, label_part, with_plain_start, with_link_or_call, whole_text}
 use Rattle.definition_inline.specs.Spans.{Token, Item, Delimiters}
 use Rattle.inline_runs.specs.View.{run_view}
 use Rattle.inline_runs.specs.declared.run.Run.{Run}
@@ -18,7 +18,8 @@ use Rattle.inline_parser.specs.declared.label.OpenLabel.{OpenLabel}
 use Rattle.inline_parser.specs.Shows.{IsOpen, AreOpen, NoneOpen, Inside, ShowsBy}
 
 -- the rows of a label start that forms nothing
-start_rows : (leads : Target → inline.Linked) (start : scan.LabelStart) → data_rows (start_bytes start) ++ [] ≡ flat_map (part_rows leads) (map Data (start_bytes start))
+start_rows : (leads : Target → inline.Linked) (start : scan.LabelStart) → data_rows (start_bytes start) ++ []
+    ≡ flat_map (part_rows leads) (map Data (start_bytes start))
 start_rows leads LinkStart = refl
 start_rows leads ImageStart = refl
 
@@ -28,7 +29,8 @@ start_items ImageStart = refl
 
 module _ (leads : Target → inline.Linked) (at : ℕ → inline.Linked) where
   -- parts that are read whole
-  pub shows_items : (rows more : List InlineRow) (runs : List Run) (slots : List ℕ) (opens : List OpenLabel) (labels : List scan.OpenLabel) (ts : List Token) (parts : List Inline)
+  pub shows_items : (rows more : List InlineRow) (runs : List Run) (slots : List ℕ) (opens : List OpenLabel) (labels : List scan.OpenLabel) (ts : List Token)
+      (parts : List Inline)
       → ShowsBy leads at rows runs slots opens labels ts → rows_view at more ≡ flat_map (part_rows leads) parts
       → ShowsBy leads at (rows ++ more) runs slots opens labels (ts ++ map Item parts)
   shows_items rows more runs slots opens labels ts parts s view = record {
@@ -46,7 +48,8 @@ module _ (leads : Target → inline.Linked) (at : ℕ → inline.Linked) where
   }
 
   -- a run
-  pub shows_run : (rows more : List InlineRow) (runs : List Run) (slots : List ℕ) (opens : List OpenLabel) (labels : List scan.OpenLabel) (ts : List Token) (r : Run)
+  pub shows_run : (rows more : List InlineRow) (runs : List Run) (slots : List ℕ) (opens : List OpenLabel) (labels : List scan.OpenLabel) (ts : List Token)
+      (r : Run)
       → ShowsBy leads at rows runs slots opens labels ts → AreBytes r.marker r.size more
       → ShowsBy leads at (rows ++ more) (runs ++ r ∷ []) (slots ++ length rows ∷ []) opens labels (ts ++ Delimiters (run_view r) ∷ [])
   shows_run rows more runs slots opens labels ts r s bytes =
@@ -63,14 +66,16 @@ module _ (leads : Target → inline.Linked) (at : ℕ → inline.Linked) where
         slots_are = ap (λ ss. ss ++ length rows ∷ []) s.slots_are ∙ append_assoc s.outer_slots s.now_slots (length rows ∷ []);
         outer = s.outer;
         now =
-            subst (λ n. IsContainer leads at (s.now_rows ++ more) (length s.outer_rows) (s.now_runs ++ r ∷ []) (s.now_slots ++ n ∷ []) (ts ++ Delimiters (run_view r) ∷ [])) place
+            subst (λ n. IsContainer leads at (s.now_rows ++ more) (length s.outer_rows) (s.now_runs ++ r ∷ []) (s.now_slots ++ n ∷ [])
+            (ts ++ Delimiters (run_view r) ∷ [])) place
             (container.run leads at s.now_rows more (length s.outer_rows) s.now_runs s.now_slots ts r s.now bytes);
       }
 
   -- a label start
   pub shows_start : (rows : List InlineRow) (row : InlineRow) (runs : List Run) (slots : List ℕ) (opens : List OpenLabel) (labels : List scan.OpenLabel)
       (o : OpenLabel) (label : scan.OpenLabel)
-      → ShowsBy leads at rows runs slots opens labels label.outer.tokens → IsOpen o label (length rows) (length runs) → row_view at row ≡ data_rows (start_bytes label.start)
+      → ShowsBy leads at rows runs slots opens labels label.outer.tokens → IsOpen o label (length rows) (length runs)
+      → row_view at row ≡ data_rows (start_bytes label.start)
       → ShowsBy leads at (rows ++ row ∷ []) runs slots (o ∷ opens) (label ∷ labels) []
   shows_start rows row runs slots opens labels o label s is view = record {
     outer_rows = (s.outer_rows ++ s.now_rows) ++ row ∷ [];
@@ -84,20 +89,27 @@ module _ (leads : Target → inline.Linked) (at : ℕ → inline.Linked) where
     slots_are = s.slots_are ∙ sym (append-nil (s.outer_slots ++ s.now_slots));
     outer =
         Inside s.outer_rows s.now_rows s.outer_runs s.now_runs s.outer_slots s.now_slots opens labels o label row s.outer s.now
-        (subst (λ n. IsOpen o label n (length (s.outer_runs ++ s.now_runs))) (ap length s.rows_are) (subst (IsOpen o label (length rows)) (ap length s.runs_are) is)) view;
+        (subst (λ n. IsOpen o label n (length (s.outer_runs ++ s.now_runs))) (ap length s.rows_are)
+        (subst (IsOpen o label (length rows)) (ap length s.runs_are) is)) view;
     now = container.none leads at (length ((s.outer_rows ++ s.now_rows) ++ row ∷ []));
   }
 
   -- the innermost label start forms nothing
-  unform_outer : (outer_rows now_rows : List InlineRow) (outer_runs now_runs : List Run) (outer_slots now_slots : List ℕ) (o : OpenLabel) (opens : List OpenLabel) (label : scan.OpenLabel) (labels : List scan.OpenLabel) (ts : List Token)
-      → AreOpen leads at outer_rows outer_runs outer_slots (o ∷ opens) (label ∷ labels) → IsContainer leads at now_rows (length outer_rows) now_runs now_slots ts
-      → ShowsBy leads at (outer_rows ++ now_rows) (outer_runs ++ now_runs) (outer_slots ++ now_slots) opens labels (label.outer.tokens ++ (start_tokens label.start ++ ts))
-  unform_outer _ now_rows _ now_runs _ now_slots _ _ _ _ ts (Inside rows more runs more_runs slots more_slots opens labels o label row outer inside is view) now =
-      let begun = container.items leads at more (row ∷ []) (length rows) more_runs more_slots label.outer.tokens (map Data (start_bytes label.start)) inside (ap (λ v. v ++ []) view ∙ start_rows leads label.start) in
+  unform_outer : (outer_rows now_rows : List InlineRow) (outer_runs now_runs : List Run) (outer_slots now_slots : List ℕ) (o : OpenLabel)
+      (opens : List OpenLabel) (label : scan.OpenLabel) (labels : List scan.OpenLabel) (ts : List Token)
+      → AreOpen leads at outer_rows outer_runs outer_slots (o ∷ opens) (label ∷ labels)
+      → IsContainer leads at now_rows (length outer_rows) now_runs now_slots ts
+      → ShowsBy leads at (outer_rows ++ now_rows) (outer_runs ++ now_runs) (outer_slots ++ now_slots) opens labels
+      (label.outer.tokens ++ (start_tokens label.start ++ ts))
+  unform_outer _ now_rows _ now_runs _ now_slots _ _ _ _ ts (Inside rows more runs more_runs slots more_slots opens labels o label row outer inside is view)
+      now =
+      let begun = container.items leads at more (row ∷ []) (length rows) more_runs more_slots label.outer.tokens (map Data (start_bytes label.start)) inside
+      (ap (λ v. v ++ []) view ∙ start_rows leads label.start) in
       let place : length ((rows ++ more) ++ row ∷ []) ≡ length rows + length (more ++ row ∷ []) =
       ap length (append_assoc rows more (row ∷ [])) ∙ length-append rows (more ++ row ∷ []) in
       let all =
-      container.join leads at (more ++ row ∷ []) now_rows (length rows) more_runs now_runs more_slots now_slots (label.outer.tokens ++ map Item (map Data (start_bytes label.start))) ts begun
+      container.join leads at (more ++ row ∷ []) now_rows (length rows) more_runs now_runs more_slots now_slots
+      (label.outer.tokens ++ map Item (map Data (start_bytes label.start))) ts begun
       (subst (λ n. IsContainer leads at now_rows n now_runs now_slots ts) place now) in
       record {
         outer_rows = rows;
@@ -116,7 +128,8 @@ module _ (leads : Target → inline.Linked) (at : ℕ → inline.Linked) where
             ∙ ap (λ xs. label.outer.tokens ++ (xs ++ ts)) (start_items label.start)) all;
       }
 
-  shows_with : (rows more : List InlineRow) (runs more_runs : List Run) (slots more_slots : List ℕ) (opens : List OpenLabel) (labels : List scan.OpenLabel) (ts : List Token)
+  shows_with : (rows more : List InlineRow) (runs more_runs : List Run) (slots more_slots : List ℕ) (opens : List OpenLabel) (labels : List scan.OpenLabel)
+      (ts : List Token)
       → rows ≡ more → runs ≡ more_runs → slots ≡ more_slots
       → ShowsBy leads at more more_runs more_slots opens labels ts → ShowsBy leads at rows runs slots opens labels ts
   shows_with rows more runs more_runs slots more_slots opens labels ts p q e s =
@@ -124,11 +137,13 @@ module _ (leads : Target → inline.Linked) (at : ℕ → inline.Linked) where
       (subst (λ x. ShowsBy leads at more x slots opens labels ts) (sym q)
       (subst (λ x. ShowsBy leads at more more_runs x opens labels ts) (sym e) s))
 
-  pub shows_unformed : (rows : List InlineRow) (runs : List Run) (slots : List ℕ) (o : OpenLabel) (opens : List OpenLabel) (label : scan.OpenLabel) (labels : List scan.OpenLabel) (ts : List Token)
+  pub shows_unformed : (rows : List InlineRow) (runs : List Run) (slots : List ℕ) (o : OpenLabel) (opens : List OpenLabel) (label : scan.OpenLabel)
+      (labels : List scan.OpenLabel) (ts : List Token)
       → ShowsBy leads at rows runs slots (o ∷ opens) (label ∷ labels) ts
       → ShowsBy leads at rows runs slots opens labels (label.outer.tokens ++ (start_tokens label.start ++ ts))
   shows_unformed rows runs slots o opens label labels ts s =
-      shows_with rows (s.outer_rows ++ s.now_rows) runs (s.outer_runs ++ s.now_runs) slots (s.outer_slots ++ s.now_slots) opens labels _ s.rows_are s.runs_are s.slots_are
+      shows_with rows (s.outer_rows ++ s.now_rows) runs (s.outer_runs ++ s.now_runs) slots
+      (s.outer_slots ++ s.now_slots) opens labels _ s.rows_are s.runs_are s.slots_are
       (unform_outer s.outer_rows s.now_rows s.outer_runs s.now_runs s.outer_slots s.now_slots o opens label labels ts s.outer s.now)
 
   -- as many label starts are open here as there
@@ -136,7 +151,8 @@ module _ (leads : Target → inline.Linked) (at : ℕ → inline.Linked) where
       → (labels ≡ []) × (rows ≡ []) × (runs ≡ []) × (slots ≡ [])
   none_there _ _ _ _ NoneOpen = (refl, refl, refl, refl)
 
-  pub no_labels : (rows : List InlineRow) (runs : List Run) (slots : List ℕ) (labels : List scan.OpenLabel) (ts : List Token) → ShowsBy leads at rows runs slots [] labels ts → labels ≡ []
+  pub no_labels : (rows : List InlineRow) (runs : List Run) (slots : List ℕ) (labels : List scan.OpenLabel) (ts : List Token)
+      → ShowsBy leads at rows runs slots [] labels ts → labels ≡ []
   no_labels rows runs slots labels ts s = (none_there s.outer_rows s.outer_runs s.outer_slots labels s.outer).0
 
   -- a label start here is one there
@@ -146,7 +162,8 @@ module _ (leads : Target → inline.Linked) (at : ℕ → inline.Linked) where
     pub labels_are : labels ≡ label ∷ others
     pub is : IsOpen o label row_count run_count
 
-  label_there : (rows : List InlineRow) (runs : List Run) (slots : List ℕ) (o : OpenLabel) (opens : List OpenLabel) (labels : List scan.OpenLabel) → AreOpen leads at rows runs slots (o ∷ opens) labels
+  label_there : (rows : List InlineRow) (runs : List Run) (slots : List ℕ) (o : OpenLabel) (opens : List OpenLabel) (labels : List scan.OpenLabel)
+      → AreOpen leads at rows runs slots (o ∷ opens) labels
       → HasLabel o labels (length rows - 1) (length runs)
   label_there _ _ _ _ _ _ (Inside rows more runs more_runs slots more_slots opens labels o label row outer inside is view) =
       let place : length (rows ++ more) ≡ length ((rows ++ more) ++ row ∷ []) - 1 = omega (arith, length-append (rows ++ more) (row ∷ [])) in
@@ -157,14 +174,15 @@ module _ (leads : Target → inline.Linked) (at : ℕ → inline.Linked) where
         is = subst (λ n. IsOpen o label n (length (runs ++ more_runs))) place is;
       }
 
-  pub has_label : (rows : List InlineRow) (runs : List Run) (slots : List ℕ) (o : OpenLabel) (opens : List OpenLabel) (labels : List scan.OpenLabel) (ts : List Token)
+  pub has_label : (rows : List InlineRow) (runs : List Run) (slots : List ℕ) (o : OpenLabel) (opens : List OpenLabel) (labels : List scan.OpenLabel)
+      (ts : List Token)
       → (s : ShowsBy leads at rows runs slots (o ∷ opens) labels ts) → HasLabel o labels (length s.outer_rows - 1) (length s.outer_runs)
   has_label rows runs slots o opens labels ts s = label_there s.outer_rows s.outer_runs s.outer_slots o opens labels s.outer
 
   -- ---- at the end
 
   abbrev pub whole_of : scan.Text → List scan.OpenLabel → scan.Text
-  whole_of now labels = fold (λ inner label. unformed label inner) now labels
+  whole_of now labels = fold (λ inner label. with_plain_start label inner) now labels
 
   pub shows_whole : (opens : List OpenLabel) (rows : List InlineRow) (runs : List Run) (slots : List ℕ) (labels : List scan.OpenLabel) (now : scan.Text)
       → ShowsBy leads at rows runs slots opens labels now.tokens → IsContainer leads at rows 0 runs slots (whole_of now labels).tokens
@@ -181,6 +199,6 @@ module _ (leads : Target → inline.Linked) (at : ℕ → inline.Linked) where
   shows_whole (o ∷ opens) rows runs slots labels now s =
       let there = has_label rows runs slots o opens labels now.tokens s in
       subst (λ ls. IsContainer leads at rows 0 runs slots (whole_of now ls).tokens) (sym there.labels_are)
-      (shows_whole opens rows runs slots there.others (unformed there.label now)
+      (shows_whole opens rows runs slots there.others (with_plain_start there.label now)
       (shows_unformed rows runs slots o opens there.label there.others now.tokens
       (subst (λ ls. ShowsBy leads at rows runs slots (o ∷ opens) ls now.tokens) there.labels_are s)))

@@ -1,7 +1,8 @@
 -- Where runs and label starts stand among the rows.
 use Rattle.std.proofs.Common.{inl, inr, ◌≡◌, ℕ, ◌+◌, ◌-◌, ◌<◌, ◌≤◌, List, [], ◌∷◌, ◌++◌, sym, ap, ◌∙◌, length, arith, get_or, subst, take, drop}
 use Rattle.std.proofs.lemmas.Bool.{cases_lt}
-use Rattle.std.proofs.lemmas.List.{length-append, get_or_append_left, get_or-append-add, get_or-take, get_or-drop, length-take-le, length-drop, take-append-le, take-take}
+use Rattle.std.proofs.lemmas.List.{length-append, get_or_append_left, get_or-append-add, get_or-take, get_or-drop, length-take-le, length-drop, take-append-le}
+use Rattle.std.proofs.lemmas.List.{take-take}
 use Rattle.inline_runs.specs.declared.run.Run.{Run}
 use Rattle.inline_spans.specs.Container.{AreWithin}
 use Rattle.inline_parser.specs.declared.label.OpenLabel.{OpenLabel}
@@ -56,7 +57,8 @@ within_drop runs slots n k w = record {
 }
 
 -- more rows inside
-pub outside_more : (opens : List OpenLabel) (rows more : ℕ) (runs : List Run) (slots : List ℕ) → AreOutside opens rows runs slots → rows ≤ more → AreOutside opens more runs slots
+pub outside_more : (opens : List OpenLabel) (rows more : ℕ) (runs : List Run) (slots : List ℕ) → AreOutside opens rows runs slots → rows ≤ more
+    → AreOutside opens more runs slots
 outside_more [] rows more runs slots o le = tt
 outside_more (x ∷ xs) rows more runs slots o le = (omega (arith, o.0, le), o.1, o.2, o.3)
 
@@ -74,7 +76,8 @@ outside_run (x ∷ xs) rows more n r runs slots same o le =
     )
 
 -- the innermost is gone
-pub outside_popped : (o : OpenLabel) (opens : List OpenLabel) (rows : ℕ) (runs : List Run) (slots : List ℕ) → AreOutside (o ∷ opens) rows runs slots → AreOutside opens rows runs slots
+pub outside_popped : (o : OpenLabel) (opens : List OpenLabel) (rows : ℕ) (runs : List Run) (slots : List ℕ) → AreOutside (o ∷ opens) rows runs slots
+    → AreOutside opens rows runs slots
 outside_popped o [] rows runs slots h = tt
 outside_popped o (x ∷ xs) rows runs slots h =
     let inner = h.3 in

@@ -1,6 +1,8 @@
 -- Text in a content: what the scan makes of it, and what stands after it.
-use Rattle.std.proofs.Common.{◌≡◌, ℕ, zero, suc, ◌+◌, ◌-◌, ◌<◌, ◌≤◌, List, [], ◌∷◌, ◌++◌, Bool, true, false, not, eqb, leb, ◌||◌, ◌&&◌, Option, None, Some, refl, sym, ap, ◌∙◌, get_or, length, drop, take, map, arith, subst, ◌⊎◌, inl, inr}
-use Rattle.std.proofs.lemmas.Bool.{cases_Bool, cond-false, cond-true, eqb-true, eq-eqb, ne_eqb, le-leb, false≢true, true≢false, not-true, not-false, or_parts, or_cases, or_from, and_left, and_right, and_from}
+use Rattle.std.proofs.Common.{◌≡◌, ℕ, zero, suc, ◌+◌, ◌-◌, ◌<◌, ◌≤◌, List, [], ◌∷◌, ◌++◌, Bool, true, false, not, eqb, leb, ◌||◌, ◌&&◌, Option, None, Some}
+use Rattle.std.proofs.Common.{refl, sym, ap, ◌∙◌, get_or, length, drop, take, map, arith, subst, ◌⊎◌, inl, inr}
+use Rattle.std.proofs.lemmas.Bool.{cases_Bool, cond-false, cond-true, eqb-true, eq-eqb, ne_eqb, le-leb, false≢true, true≢false, not-true, not-false, or_parts}
+use Rattle.std.proofs.lemmas.Bool.{or_cases, or_from, and_left, and_right, and_from}
 use Rattle.std.proofs.lemmas.List.{append-nil, append_assoc, get_or-drop, length-drop, drop-drop}
 use Rattle.markdown_options.specs.declared.configuration.Constructs.{Constructs}
 use Rattle.markdown_options.specs.declared.configuration.ParseOptions.{ParseOptions}
@@ -163,7 +165,8 @@ text_leaf context c cs h =
 pub text_run : (options : ParseOptions) (c : InlineCode) (cs : List InlineCode) → starts c.code ≡ false → run_at options (c ∷ cs) ≡ None
 text_run options c cs h =
     let o = is_other c.code h in
-    cond-false _ _ _ (no_marker options c.code (or_from (eqb c.code 42 || eqb c.code 95) (eqb c.code 126) (or_from (eqb c.code 42) (eqb c.code 95) o.star o.underscore) o.tilde))
+    cond-false _ _ _ (no_marker options c.code (or_from (eqb c.code 42 || eqb c.code 95) (eqb c.code 126)
+    (or_from (eqb c.code 42) (eqb c.code 95) o.star o.underscore) o.tilde))
 
 pub text_start : (on : Constructs) (c : ℕ) (cs : List ℕ) → starts c ≡ false → label_start_at on (c ∷ cs) ≡ None
 text_start on c cs h =
@@ -187,7 +190,8 @@ pub text_step : (context : InlineContext) (r : Reading) (c : InlineCode) (cs : L
     → literal_at context.options.constructs (c ∷ cs) ≡ None → step context r c cs ≡ Next 0 (read_tokens (Item (Data c.code) ∷ []) r)
 text_step context r c cs h no_literal =
     let free = (text_is c.code (codes_of cs) h).0 in
-    step_last context r c cs (none_here context (c ∷ cs) (text_leaf context c.code (codes_of cs) h) no_literal) (text_run context.options c cs free) (text_start context.options.constructs c.code (codes_of cs) free)
+    step_last context r c cs (none_here context (c ∷ cs) (text_leaf context c.code (codes_of cs) h) no_literal) (text_run context.options c cs free)
+    (text_start context.options.constructs c.code (codes_of cs) free)
     ∙ cond-false _ _ _ (and_right context.options.constructs.label_end _ (is_other c.code free).closing)
 
 -- tokens that are read one after another
@@ -212,7 +216,8 @@ text_steps context (suc n) r (c ∷ cs) h no_literal =
 
 -- a code at which a construct may start, but none does
 pub other_step : (context : InlineContext) (r : Reading) (c : InlineCode) (cs : List InlineCode) → leaf_here context (c ∷ cs) ≡ None
-    → run_at context.options (c ∷ cs) ≡ None → label_start_at context.options.constructs (codes_of (c ∷ cs)) ≡ None → (context.options.constructs.label_end && eqb c.code 93) ≡ false
+    → run_at context.options (c ∷ cs) ≡ None → label_start_at context.options.constructs (codes_of (c ∷ cs)) ≡ None
+    → (context.options.constructs.label_end && eqb c.code 93) ≡ false
     → scan context 0 r (c ∷ cs) ≡ scan context 0 (read_tokens (map Item (map Data (c.code ∷ []))) r) cs
 other_step context r c cs no_leaf no_run no_start no_end =
     scan_step context r (read_tokens (Item (Data c.code) ∷ []) r) c cs 0 (step_last context r c cs no_leaf no_run no_start ∙ cond-false _ _ _ no_end)
@@ -230,16 +235,19 @@ else_none : (one other : Option Leaf) → or_else one other ≡ None → other �
 else_none None other h = h
 else_none (Some found) other h = absurd (there_not (Some found) refl h)
 
-last_leaves : (context : InlineContext) (codes : List ℕ) → leaf_at context codes ≡ None → or_else (line_end_at codes) (line_spaces_at context.options.constructs codes) ≡ None
+last_leaves : (context : InlineContext) (codes : List ℕ) → leaf_at context codes ≡ None
+    → or_else (line_end_at codes) (line_spaces_at context.options.constructs codes) ≡ None
 last_leaves context codes h =
     let on = context.options.constructs in
-    else_none (html_text_at on codes) _ (else_none (autolink_at on codes) _ (else_none (math_text_at context.options codes) _ (else_none (code_text_at on codes) _
+    else_none (html_text_at on codes) _ (else_none (autolink_at on codes) _
+    (else_none (math_text_at context.options codes) _ (else_none (code_text_at on codes) _
     (else_none (reference_at on context.names codes) _ (else_none (escaped_break_at on codes) _ (else_none (escape_at on codes) _ h))))))
 
 no_leaf_no_eol : (context : InlineContext) (c : ℕ) (cs : List ℕ) → leaf_at context (c ∷ cs) ≡ None → is_eol c ≡ false
 no_leaf_no_eol context c cs h = elim (cases_Bool (is_eol c)) [
   | inl is ↦
-      absurd (there_not _ (ap (λ o. is_there (or_else o (line_spaces_at context.options.constructs (c ∷ cs)))) (cond-true (is_eol c) _ _ is)) (last_leaves context (c ∷ cs) h))
+      absurd (there_not _ (ap (λ o. is_there (or_else o (line_spaces_at context.options.constructs (c ∷ cs)))) (cond-true (is_eol c) _ _ is))
+      (last_leaves context (c ∷ cs) h))
   | inr isnt ↦ isnt
 ]
 
@@ -250,7 +258,8 @@ special_first context c cs h none = elim (cases_Bool (is_white c)) [
       let ends : ends_here (bare (c ∷ cs)) ≡ true = not-false _ (sym (cond-true (is_white c) _ _ white) ∙ h) in
       let size : indent (c ∷ cs) ≡ 1 + indent cs = cond-true (is_white c) _ _ white in
       let some : leb 1 (indent (c ∷ cs)) ≡ true = le-leb 1 (indent (c ∷ cs)) (omega arith) in
-      absurd (there_not (line_spaces_at context.options.constructs (c ∷ cs)) (ap is_there (cond-true _ _ _ (and_from (leb 1 (indent (c ∷ cs))) _ some ends))) (else_none (line_end_at (c ∷ cs)) _ (last_leaves context (c ∷ cs) none)))
+      absurd (there_not (line_spaces_at context.options.constructs (c ∷ cs)) (ap is_there (cond-true _ _ _ (and_from (leb 1 (indent (c ∷ cs))) _ some ends)))
+      (else_none (line_end_at (c ∷ cs)) _ (last_leaves context (c ∷ cs) none)))
   | inr dark ↦ (not-false _ (sym (cond-false (is_white c) _ _ dark) ∙ h), no_leaf_no_eol context c cs none)
 ]
 
@@ -296,7 +305,8 @@ more_text bytes at size next e first more = record {
     | inl after ↦
         let le : at ≤ k = grind arith in
         let there : at + (k - at) ≡ k = omega arith in
-        ap is_text_at (ap (λ n. drop n (content_codes bytes)) (sym there) ∙ sym (drop-drop (k - at) at (content_codes bytes)) ∙ ap (drop (k - at)) (plain_drop at bytes first.within first.plain))
+        ap is_text_at (ap (λ n. drop n (content_codes bytes)) (sym there) ∙ sym (drop-drop (k - at) at (content_codes bytes))
+        ∙ ap (drop (k - at)) (plain_drop at bytes first.within first.plain))
         ∙ more.text (k - at) (omega (arith, lt, e))
     | inr before ↦ first.text k (grind arith)
   ];
@@ -394,7 +404,8 @@ special_byte options names (b ∷ bs) some stop none = elim (cases_Bool (eqb b 1
     ends (c ∷ cs) stop none eol = false≢true (sym (special_first context c cs stop none).1 ∙ eol)
 
     returned : b ≡ 13 → ⊥
-    returned e = ends (content_codes (b ∷ bs)) stop none (ap (λ x. begins_with_eol (content_codes (x ∷ bs))) e ∙ at_return begins_with_eol true bs (λ cs. refl) (λ cs. refl))
+    returned e = ends (content_codes (b ∷ bs)) stop none (ap (λ x. begins_with_eol (content_codes (x ∷ bs))) e
+        ∙ at_return begins_with_eol true bs (λ cs. refl) (λ cs. refl))
 
     other : (b ≡ 13 → ⊥) → IsSpecial (b ∷ bs)
     other apart =

@@ -53,10 +53,12 @@ module _ (p : ℕ → Bool) (content : Content) where
   -- the codes of what is left
   pub codes_left : (rest : List ℕ) → IsPlace content.text.now rest → codes_of (view_at p content rest) ≡ content_codes rest
   codes_left rest place =
-      drop-codes_of (size_before content.text.now rest) (content_view p content) ∙ ap (drop (size_before content.text.now rest)) (codes_of_view p content) ∙ sym place.codes
+      drop-codes_of (size_before content.text.now rest) (content_view p content) ∙ ap (drop (size_before content.text.now rest)) (codes_of_view p content)
+      ∙ sym place.codes
 
   -- what is left after some codes of it
-  pub view_next : (rest after : List ℕ) → IsPlace content.text.now rest → IsNext rest after → drop (size_before rest after) (view_at p content rest) ≡ view_at p content after
+  pub view_next : (rest after : List ℕ) → IsPlace content.text.now rest → IsNext rest after
+      → drop (size_before rest after) (view_at p content rest) ≡ view_at p content after
   view_next rest after place n =
       let there : size_before content.text.now rest + size_before rest after ≡ size_before content.text.now after = omega (arith, place.fewer, n.fewer) in
       drop-drop (size_before rest after) (size_before content.text.now rest) (content_view p content)

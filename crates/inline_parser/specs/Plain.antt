@@ -1,6 +1,8 @@
 -- Text in a content (CommonMark 6.9).
 use Rattle.std.specs.Prelude.{◌≡◌, ◌<◌, ◌≤◌, ℕ, Bool, true, false, not, if◌then◌else◌, ◌==◌, ◌||◌, List, [], ◌∷◌, drop, length, slice_index}
 use Rattle.std.specs.Char.{to_ascii_lowercase}
+use Rattle.definition_text.specs.Ascii.{exclamation_mark, dollar, ampersand, asterisk, less_than, left_bracket, backslash, right_bracket, underscore, backtick}
+use Rattle.definition_text.specs.Ascii.{tilde}
 use Rattle.definition_text.specs.Columns.{is_white, bare}
 use Rattle.definition_text.specs.Content.{is_eol}
 use Rattle.definition_inline.specs.HardBreak.{ends_here}
@@ -9,8 +11,9 @@ use Rattle.inline_literals.specs.Literals.{may_begin}
 -- a byte that constructs begin with, or that ends one: `\`, `&`, a backtick, `$`, `<`, `*`, `_`, `~`, `!`, `[` or `]`
 abbrev pub is_special : ℕ → Bool
 is_special code =
-    (code == 92) || ((code == 38) || ((code == 96) || ((code == 36) || ((code == 60)
-    || ((code == 42) || ((code == 95) || ((code == 126) || ((code == 33) || ((code == 91) || (code == 93))))))))))
+    (code == backslash) || ((code == ampersand) || ((code == backtick) || ((code == dollar) || ((code == less_than)
+    || ((code == asterisk) || ((code == underscore)
+    || ((code == tilde) || ((code == exclamation_mark) || ((code == left_bracket) || (code == right_bracket))))))))))
 
 -- a code at which a construct may start, if it is no space or tab: one of these, or a line ending
 abbrev pub starts : ℕ → Bool

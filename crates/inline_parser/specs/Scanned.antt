@@ -3,11 +3,12 @@ use Rattle.std.specs.Prelude.{◌≡◌, ◌<◌, ◌≤◌, ◌==◌, ◌&&◌,
 use Rattle.std.specs.List.{list_all}
 use Rattle.std.specs.Str.{IsCharBoundary}
 use Rattle.markdown_options.specs.declared.configuration.ParseOptions.{ParseOptions}
+use Rattle.definition_text.specs.Ascii.{carriage_return}
 use Rattle.definition_text.specs.Content.{content_codes}
 use Rattle.definition_page.specs.InlinePieces.{leads_to}
 use Rattle.definition_inline.specs.Attention.{run_at}
 use Rattle.definition_inline.specs.Scan as scan
-use Rattle.definition_inline.specs.LabelEnd.{Formed}
+use Rattle.definition_inline.specs.LabelEnd.{LinkOrCall}
 use Rattle.definition_inline.specs.Scan.{InlineContext, ended_by, leaf_here, start_bytes}
 use Rattle.definition_page.specs.Targets.{Targets, is_label_of, is_footnote_of, labels_of, linked_at, linked_by}
 use Rattle.inline_content.specs.declared.content.Content.{Content}
@@ -31,14 +32,15 @@ pub record HasTargets {A : Type 0} (labels footnotes : LabelTable A) (ds : Targe
 
 -- none of these bytes is CR, and none the code of a line ending of two
 abbrev pub has_no_return : List ℕ → Bool
-has_no_return bytes = list_all (λ b. not (b == 13) && not (b == 257)) bytes
+has_no_return bytes = list_all (λ b. not (b == carriage_return) && not (b == 257)) bytes
 
 -- the context of a document whose labels lead to these targets
 abbrev pub context_by : ParseOptions → (List ℕ → Option (List ℕ)) → Targets → InlineContext
 context_by options names ds = record { options = options; names = names; is_defined = is_label_of ds.definitions; is_footnote = is_footnote_of ds.footnotes }
 
 -- what was read, and that the scan of what is left gives this in the end
-pub record Follows {A : Type 0} (options : ParseOptions) (names : List ℕ → Option (List ℕ)) (is_punctuation : ℕ → Bool) (ds : Targets) (content : Content) (s : Scanner A) (final : scan.Reading) : Type 0 where
+pub record Follows {A : Type 0} (options : ParseOptions) (names : List ℕ → Option (List ℕ)) (is_punctuation : ℕ
+    → Bool) (ds : Targets) (content : Content) (s : Scanner A) (final : scan.Reading) : Type 0 where
   pub now : scan.Reading
   pub shows : Shows (leads_to (linked_by ds.definitions)) (linked_at ds.definitions) s.reading now
   pub same : scan.scan (context_by options names ds) 0 now (view_at is_punctuation content s.rest.now) ≡ final
@@ -58,7 +60,7 @@ pub record IsPlaced {A : Type 0} (is_punctuation : ℕ → Bool) (content : Cont
   pub sound : IsSound s.reading
 
 -- what a `]` forms with the innermost label start that is open, if there is one
-abbrev pub ended_here : InlineContext → List ℕ → List scan.OpenLabel → scan.Text → Option Formed
+abbrev pub ended_here : InlineContext → List ℕ → List scan.OpenLabel → scan.Text → Option LinkOrCall
 ended_here context content [] inner = None
 ended_here context content (label ∷ others) inner = ended_by context content label inner
 
@@ -81,25 +83,28 @@ pub record StartsLabel (bytes : List ℕ) (start : LabelStart) : Type 0 where
   pub first : take (length (start_bytes (start_view start))) bytes ≡ start_bytes (start_view start)
 
 -- what a content is read as from a place on
-abbrev pub scanned : ParseOptions → (List ℕ → Option (List ℕ)) → (ℕ → Bool) → Targets → Content → List ℕ → scan.Reading
-scanned options names is_punctuation ds content start =
+abbrev pub scan_from : ParseOptions → (List ℕ → Option (List ℕ)) → (ℕ → Bool) → Targets → Content → List ℕ → scan.Reading
+scan_from options names is_punctuation ds content start =
     scan.scan (context_by options names ds) 0 (scan.reading (scan.text [] false) []) (view_at is_punctuation content start)
 
 -- a content that is being read from this place to this end
-pub record IsScanning {A : Type 0} (options : ParseOptions) (names : List ℕ → Option (List ℕ)) (is_punctuation : ℕ → Bool) (labels footnotes : LabelTable A) (content : Content) (start : List ℕ) (s : Scanner A) : Type 0 where
+pub record IsScanning {A : Type 0} (options : ParseOptions) (names : List ℕ → Option (List ℕ)) (is_punctuation : ℕ
+    → Bool) (labels footnotes : LabelTable A) (content : Content) (start : List ℕ) (s : Scanner A) : Type 0 where
   pub placed : IsPlaced is_punctuation content s
   pub follows : (ds : Targets) → HasTargets labels footnotes ds
-      → Follows options names is_punctuation ds content s (scanned options names is_punctuation ds content start)
+      → Follows options names is_punctuation ds content s (scan_from options names is_punctuation ds content start)
 
 -- whatever the document's definitions are and whatever is read in the end, the new state leads there as the old one did, unless memory ran out
 abbrev pub GoesOn : {T A B C : Type 0} → (List ℕ → Option (List ℕ)) → (ℕ → Bool) → Source T A → Scanner A → Result B C → Scanner A → Type 0
 GoesOn names is_punctuation source old result new =
     (ds : Targets) (final : scan.Reading) → HasTargets source.labels.now source.footnotes.now ds →
-    Follows source.options.now names is_punctuation ds source.content old final → OnOk result (Follows source.options.now names is_punctuation ds source.content new final)
+    Follows source.options.now names is_punctuation ds source.content old final
+    → OnOk result (Follows source.options.now names is_punctuation ds source.content new final)
 
 -- what is left stays a rest of the content, unless memory ran out
 abbrev pub StaysPlaced : {A B C : Type 0} → Scanner A → Result B C → Scanner A → Type 0
-StaysPlaced old result new = (is_punctuation : ℕ → Bool) (content : Content) → IsPlaced is_punctuation content old → OnOk result (IsPlaced is_punctuation content new)
+StaysPlaced old result new = (is_punctuation : ℕ → Bool) (content : Content) → IsPlaced is_punctuation content old
+    → OnOk result (IsPlaced is_punctuation content new)
 
 -- less is left, unless memory ran out
 abbrev pub Shortens : {A B C : Type 0} → Scanner A → Result B C → Scanner A → Type 0

@@ -5,8 +5,8 @@ use Rattle.definition_text.specs.Content.{content_codes}
 use Rattle.definition_inline.specs.Inline.{Target, Data}
 use Rattle.definition_inline.specs.Inline as inline
 use Rattle.definition_inline.specs.Scan as scan
-use Rattle.definition_inline.specs.Scan.{LinkStart, ImageStart, start_bytes, unformed, formed}
-use Rattle.definition_inline.specs.LabelEnd.{Formed}
+use Rattle.definition_inline.specs.Scan.{LinkStart, ImageStart, start_bytes, with_plain_start, with_link_or_call}
+use Rattle.definition_inline.specs.LabelEnd.{LinkOrCall}
 use Rattle.definition_inline.specs.Spans.{Token}
 use Rattle.inline_links.specs.Codes.{IsRest}
 use Rattle.inline_runs.specs.declared.run.Run.{Run}
@@ -25,9 +25,9 @@ start_view Link = LinkStart
 start_view Image = ImageStart
 
 -- the row that starts what is formed
-abbrev pub entered : LabelStart → LinkTarget → InlineRow
-entered Link target = EnterLink target
-entered Image target = EnterImage target
+abbrev pub enter_row : LabelStart → LinkTarget → InlineRow
+enter_row Link target = EnterLink target
+enter_row Image target = EnterImage target
 
 -- the bytes of a label start
 abbrev pub OpensAt : LabelStart → List ℕ → Type 0
@@ -36,24 +36,24 @@ OpensAt start text = text ≡ start_bytes (start_view start)
 -- ---- what the definition reads
 
 -- a label start before these bytes
-abbrev pub opened : LabelStart → List ℕ → scan.Reading → scan.Reading
-opened start from r =
+abbrev pub with_open_label : LabelStart → List ℕ → scan.Reading → scan.Reading
+with_open_label start from r =
     scan.reading (scan.text [] false) (record { start = start_view start; from = content_codes from; outer = r.now } ∷ r.open_labels)
 
 abbrev pub unformed_in : List scan.OpenLabel → scan.Text → scan.Reading
 unformed_in [] now = scan.reading now []
-unformed_in (label ∷ others) now = scan.reading (unformed label now) others
+unformed_in (label ∷ others) now = scan.reading (with_plain_start label now) others
 
 -- the innermost label start forms nothing
 abbrev pub unformed_last : scan.Reading → scan.Reading
 unformed_last r = unformed_in r.open_labels r.now
 
-abbrev pub formed_in : Formed → List scan.OpenLabel → scan.Text → scan.Reading
+abbrev pub formed_in : LinkOrCall → List scan.OpenLabel → scan.Text → scan.Reading
 formed_in found [] now = scan.reading now []
-formed_in found (label ∷ others) now = scan.reading (formed label found now) others
+formed_in found (label ∷ others) now = scan.reading (with_link_or_call label found now) others
 
 -- the innermost label start forms this
-abbrev pub formed_last : Formed → scan.Reading → scan.Reading
+abbrev pub formed_last : LinkOrCall → scan.Reading → scan.Reading
 formed_last found r = formed_in found r.open_labels r.now
 
 -- ---- how rows show it
@@ -67,7 +67,8 @@ pub record IsOpen (o : OpenLabel) (label : scan.OpenLabel) (row_count run_count 
   pub holds_link : o.holds_link ≡ label.outer.holds_link
 
 -- the rows, the runs and their slots up to the innermost label start that is open, the innermost first
-pub data AreOpen (leads : Target → inline.Linked) (at : ℕ → inline.Linked) : List InlineRow → List Run → List ℕ → List OpenLabel → List scan.OpenLabel → Type 0 where
+pub data AreOpen (leads : Target → inline.Linked) (at : ℕ → inline.Linked) : List InlineRow → List Run → List ℕ → List OpenLabel → List scan.OpenLabel
+    → Type 0 where
   NoneOpen : AreOpen leads at [] [] [] [] []
   Inside : (rows more : List InlineRow) (runs more_runs : List Run) (slots more_slots : List ℕ) (opens : List OpenLabel) (labels : List scan.OpenLabel)
       (o : OpenLabel) (label : scan.OpenLabel) (row : InlineRow)
@@ -78,7 +79,8 @@ pub data AreOpen (leads : Target → inline.Linked) (at : ℕ → inline.Linked)
       → AreOpen leads at ((rows ++ more) ++ row ∷ []) (runs ++ more_runs) (slots ++ more_slots) (o ∷ opens) (label ∷ labels)
 
 -- rows, runs, slots and open label starts that stand for those of the definition, and the tokens after the innermost
-pub record ShowsBy (leads : Target → inline.Linked) (at : ℕ → inline.Linked) (rows : List InlineRow) (runs : List Run) (slots : List ℕ) (opens : List OpenLabel) (labels : List scan.OpenLabel) (tokens : List Token) : Type 0 where
+pub record ShowsBy (leads : Target → inline.Linked) (at : ℕ → inline.Linked) (rows : List InlineRow) (runs : List Run) (slots : List ℕ) (opens : List OpenLabel)
+    (labels : List scan.OpenLabel) (tokens : List Token) : Type 0 where
   pub outer_rows : List InlineRow
   pub now_rows : List InlineRow
   pub outer_runs : List Run
@@ -97,7 +99,8 @@ pub record Shows {A : Type 0} (leads : Target → inline.Linked) (at : ℕ → i
 
 -- where the old reading shows what was read, the new one shows this, unless memory ran out
 abbrev pub ShowsThen : {A B C : Type 0} → Reading A → Result B C → Reading A → (scan.Reading → scan.Reading) → Type 0
-ShowsThen old result new next = (leads : Target → inline.Linked) (at : ℕ → inline.Linked) (r : scan.Reading) → Shows leads at old r → OnOk result (Shows leads at new (next r))
+ShowsThen old result new next = (leads : Target → inline.Linked) (at : ℕ → inline.Linked) (r : scan.Reading) → Shows leads at old r
+    → OnOk result (Shows leads at new (next r))
 
 -- ---- places
 

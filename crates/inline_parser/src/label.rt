@@ -2,7 +2,7 @@
 //!
 //!     start ::= '[' | '!' '['
 ghost use Rattle.std.specs.Prelude.{◌≡◌, ◌||◌, length};
-ghost use Rattle.inline_parser.specs.Shows.{start_view, entered};
+ghost use Rattle.inline_parser.specs.Shows.{start_view, enter_row};
 ghost use Rattle.definition_inline.specs.Scan.{makes_link, may_form, start_bytes};
 
 use inline_rows::{InlineRow, LinkTarget};
@@ -49,7 +49,7 @@ impl LabelStart {
 
     /// The row that starts what it forms.
     pub(crate) fn entered(self, target: LinkTarget<'_>) -> InlineRow<'_>
-        ensures { result ≡ entered self target.entry }
+        ensures { result ≡ enter_row self target.entry }
     {
         match self {
             LabelStart::Link => InlineRow::EnterLink(target),

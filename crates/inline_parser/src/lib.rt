@@ -9,4 +9,4 @@ pub mod room;
 pub mod scan;
 
 pub use room::Room;
-pub use scan::{content_start, inline_rows};
+pub use scan::{content_start, inline_rows, is_plain};

@@ -7,18 +7,18 @@ ghost use Rattle.std.specs.Prelude.{◌≡◌, OnOk, IfOk};
 ghost use Rattle.std.specs.Prelude.{ℕ, false, List, ◌∷◌, ◌++◌, [], length, map, replicate};
 ghost use Rattle.definition_text.specs.Content.{content_codes};
 ghost use Rattle.definition_inline.specs.Inline.{Target, Linked, Data};
-ghost use Rattle.definition_inline.specs.LabelEnd.{Ended, Leads, Calls};
+ghost use Rattle.definition_inline.specs.LabelEnd.{LinkTail, Leads, Calls};
 ghost use Rattle.inline_rows.specs.InlineRows.{inline_rows};
 ghost use Rattle.definition_inline.specs.Scan as scan;
 ghost use Rattle.definition_inline.specs.Scan.{read_tokens, whole_text};
-ghost use Rattle.definition_inline.specs.Spans.{Item, Delimiters, Token, emphasized};
+ghost use Rattle.definition_inline.specs.Spans.{Item, Delimiters, Token, with_spans};
 ghost use Rattle.inline_leaves.specs.Leaves.{parts_of};
 ghost use Rattle.inline_runs.specs.View.{run_view};
 ghost use Rattle.inline_rows.specs.View.{rows_view, target_linked};
 ghost use Rattle.inline_rows.specs.declared.row.InlineRow.{InlineRow as SeenRow};
 ghost use Rattle.inline_spans.specs.Container.{IsContainer, AreTold, AreWithin};
 ghost use Rattle.inline_links.specs.Codes.{IsRest};
-ghost use Rattle.inline_parser.specs.Shows.{Shows, ShowsThen, StartsBefore, KeepsStarts, IsSound, OpensAt, opened, formed_last, unformed_last};
+ghost use Rattle.inline_parser.specs.Shows.{Shows, ShowsThen, StartsBefore, KeepsStarts, IsSound, OpensAt, with_open_label, formed_last, unformed_last};
 
 use crate::label::{LabelStart, OpenLabel};
 use crate::room::Room;
@@ -73,7 +73,7 @@ impl<'a, A: Allocator + Clone> Reading<'a, A> {
     pub(crate) fn finish(self, room: &mut Room<A>) -> Result<Vec<InlineRow<'a>, A>, AllocError>
         requires sound { IsSound self }
         ensures read { (leads : Target → Linked) (at : ℕ → Linked) (r : scan.Reading) → Shows leads at self.entry r →
-            IfOk result (λ rows. rows_view at rows.items ≡ inline_rows leads (emphasized (whole_text r).tokens)) }
+            IfOk result (λ rows. rows_view at rows.items ≡ inline_rows leads (with_spans (whole_text r).tokens)) }
     {
         let Reading {
             mut rows,
@@ -138,7 +138,7 @@ impl<'a, A: Allocator> Reading<'a, A> {
         requires text { OpensAt start text.now }
         ensures sound { OnOk result (IsSound self.new) }
         ensures from { (rest : List ℕ) → StartsBefore rest self.old → IsRest from.now rest → OnOk result (StartsBefore rest self.new) }
-        ensures read { ShowsThen self.old result self.new (opened start from.now) }
+        ensures read { ShowsThen self.old result self.new (with_open_label start from.now) }
     {
         self.labels.push(OpenLabel {
             start,
@@ -169,7 +169,7 @@ impl<'a, A: Allocator> Reading<'a, A> {
         requires sound { IsSound self.old }
         ensures sound { OnOk result (IsSound self.new) }
         ensures from { KeepsStarts self.old result self.new }
-        ensures read { (leads : Target → Linked) (at : ℕ → Linked) (r : scan.Reading) (e : Ended) → target_linked at target.entry ≡ leads e.target →
+        ensures read { (leads : Target → Linked) (at : ℕ → Linked) (r : scan.Reading) (e : LinkTail) → target_linked at target.entry ≡ leads e.target →
             Shows leads at self.old r → OnOk result (Shows leads at self.new (formed_last (Leads e) r)) }
     {
         let Some(label) = self.labels.pop() else {

@@ -14,7 +14,7 @@ ghost use Rattle.definition_inline.specs.Inline.{Target, Linked, Data};
 ghost use Rattle.definition_page.specs.InlinePieces.{leads_to};
 ghost use Rattle.inline_rows.specs.InlineRows.{inline_rows};
 ghost use Rattle.definition_inline.specs.Scan as scan;
-ghost use Rattle.definition_inline.specs.Scan.{inlines_from, spans_from, unindented, formed_at, label_start_at, read_tokens};
+ghost use Rattle.definition_inline.specs.Scan.{inlines_from, spans_from, without_indent, formed_at, label_start_at, read_tokens};
 ghost use Rattle.definition_inline.specs.Scan.{start_bytes, starts_image, starts_link};
 ghost use Rattle.definition_inline.specs.GfmLabelStartFootnote.{starts_call, starts_marked_call};
 ghost use Rattle.definition_inline.specs.Spans.{Item, Delimiters};
@@ -22,11 +22,12 @@ ghost use Rattle.definition_page.specs.Targets.{Targets, labels_of, linked_at, l
 ghost use Rattle.inline_runs.specs.View.{run_view};
 ghost use Rattle.inline_content.specs.View.{content_view, view_at};
 ghost use Rattle.inline_leaves.specs.Leaves.{parts_of, size_before, IsAfter};
-ghost use Rattle.inline_rows.specs.View.{rows_view};
+ghost use Rattle.inline_content.specs.declared.content.Content.{Content as SeenContent};
+ghost use Rattle.inline_rows.specs.View.{data_rows, rows_view};
 ghost use Rattle.inline_label_ends.specs.Ends.{IsAfterFormed, IsFormed};
 ghost use Rattle.inline_parser.specs.Scanned.{context_by, ended_here, has_no_return, HasTargets, IsPlace, IsPlaced, IsRunFront, IsSingle, StartsLabel};
 ghost use Rattle.inline_parser.specs.Scanned.{GoesOn, HasNoLeaf, HasNoLeafHere, HasNoRun, Shortens, StaysPlaced};
-ghost use Rattle.inline_parser.specs.Shows.{opened, start_view, IsSound, Shows, ShowsThen, StartsBefore};
+ghost use Rattle.inline_parser.specs.Shows.{with_open_label, start_view, IsSound, Shows, ShowsThen, StartsBefore};
 
 use crate::gfm_autolink_literal::linked;
 use crate::label::{LabelStart, OpenLabel};
@@ -134,9 +135,23 @@ fn span_rows<'a, T: Tables, A: Allocator + Clone>(
 pub fn content_start<'a>(content: Content<'a>) -> &'a str
     ensures place { IsPlace content.entry.text.now result.now }
     ensures view { (is_punctuation : ℕ → Bool) →
-        view_at is_punctuation content.entry result.now ≡ unindented (content_view is_punctuation content.entry) }
+        view_at is_punctuation content.entry result.now ≡ without_indent (content_view is_punctuation content.entry) }
 {
     after_white(content.text())
+}
+
+/// Whether what is left of a content is text alone: nothing starts in it. While literals are on
+/// (GFM 6.9) this is said of no content, since text may hold addresses.
+pub fn is_plain(options: &ParseOptions, start: &str) -> bool
+    ensures { result ≡ true → (names : List ℕ → Option (List ℕ)) (is_punctuation : ℕ → Bool) (ds : Targets) (leads : Target → Linked)
+        (content : SeenContent) → IsPlace content.text.now start.now →
+        data_rows start.now ≡ inline_rows leads (inlines_from (context_by options.now names ds) (view_at is_punctuation content start.now)) }
+{
+    if options.constructs.gfm_autolink_literal {
+        return false;
+    }
+    let size = text_size(false, start.as_bytes());
+    size > 0 && size == start.len()
 }
 
 /// A text after its spaces and tabs.
@@ -297,7 +312,8 @@ impl<'a, A: Allocator + Clone> Scanner<'a, A> {
         requires front { StartsLabel self.old.rest.now start }
         ensures placed { StaysPlaced self.old result self.new }
         ensures rest { OnOk result (self.new.rest.now ≡ drop (length (start_bytes (start_view start))) self.old.rest.now) }
-        ensures read { ShowsThen self.old.reading result self.new.reading (opened start (drop (length (start_bytes (start_view start))) self.old.rest.now)) }
+        ensures read { ShowsThen self.old.reading result self.new.reading
+            (with_open_label start (drop (length (start_bytes (start_view start))) self.old.rest.now)) }
     {
         let size = start.size();
         let after = cut_after(self.rest, size);

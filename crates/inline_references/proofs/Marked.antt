@@ -1,5 +1,6 @@
 -- References are read by the marker of what stands after their `&`.
-use Rattle.std.proofs.Common.{◌≡◌, ℕ, suc, ◌+◌, ◌-◌, ◌<◌, List, [], ◌∷◌, ◌++◌, Bool, true, false, cond, ◌&&◌, ◌||◌, eqb, leb, Option, None, Some, refl, sym, ap, ◌∙◌, inl, inr, arith, length, take, drop, get_or}
+use Rattle.std.proofs.Common.{◌≡◌, ℕ, suc, ◌+◌, ◌-◌, ◌<◌, List, [], ◌∷◌, ◌++◌, Bool, true, false, cond, ◌&&◌, ◌||◌, eqb, leb, Option, None, Some, refl, sym, ap}
+use Rattle.std.proofs.Common.{◌∙◌, inl, inr, arith, length, take, drop, get_or}
 use Rattle.std.specs.List.{prefix_len}
 use Rattle.std.specs.Option.{option_map}
 use Rattle.std.proofs.lemmas.Bool.{cases_Bool, cond-true, cond-false, eqb-true, ne_eqb, le-leb, leb-true, leb-false}
@@ -7,9 +8,11 @@ use Rattle.std.proofs.lemmas.List.{at_drop_all, drop-drop, get_or-drop, length-d
 use Rattle.std.proofs.Math.Seq.{drop-cons}
 use Rattle.definition_text.specs.Content.{Part, part}
 use Rattle.definition_inline.specs.CharacterReference as definition
-use Rattle.definition_inline.specs.CharacterReference.{character_reference, before_semicolon, terminated, named, numbered, number_reference, reference_after}
+use Rattle.definition_inline.specs.CharacterReference.{character_reference, before_semicolon, part_to_semicolon, reference_by_name, reference_by_number}
+use Rattle.definition_inline.specs.CharacterReference.{number_reference, reference_after}
 use Rattle.inline_references.specs.declared.reference.Reference.{Reference}
-use Rattle.inline_references.specs.Markers.{name_marker, decimal_marker, hexadecimal_marker, is_value_byte, marker_of, marker_size, name_by, value_max, IsDecodable}
+use Rattle.inline_references.specs.Markers.{name_marker, decimal_marker, hexadecimal_marker, is_value_byte, marker_of, marker_size, name_by, value_max}
+use Rattle.inline_references.specs.Markers.{IsDecodable}
 use Rattle.inline_references.specs.Places.{placed_reference, value_of, IsPlaced}
 use Rattle.inline_references.proofs.Values.{decodable}
 
@@ -18,20 +21,20 @@ abbrev with_marker : ℕ → Part → definition.CharacterReference
 with_marker marker p = character_reference (name_by marker p.text) p.rest
 
 abbrev closed : ℕ → List ℕ → Option Part
-closed marker bytes = terminated (is_value_byte marker) (value_max marker) (drop (marker_size marker) bytes)
+closed marker bytes = part_to_semicolon (is_value_byte marker) (value_max marker) (drop (marker_size marker) bytes)
 
 abbrev marked : ℕ → List ℕ → Option definition.CharacterReference
 marked marker bytes = option_map (with_marker marker) (closed marker bytes)
 
-by_name : (o : Option Part) → named o ≡ option_map (with_marker name_marker) o
+by_name : (o : Option Part) → reference_by_name o ≡ option_map (with_marker name_marker) o
 by_name None = refl
 by_name (Some p) = refl
 
-by_decimal : (o : Option Part) → numbered 10 o ≡ option_map (with_marker decimal_marker) o
+by_decimal : (o : Option Part) → reference_by_number 10 o ≡ option_map (with_marker decimal_marker) o
 by_decimal None = refl
 by_decimal (Some p) = refl
 
-by_hexadecimal : (o : Option Part) → numbered 16 o ≡ option_map (with_marker hexadecimal_marker) o
+by_hexadecimal : (o : Option Part) → reference_by_number 16 o ≡ option_map (with_marker hexadecimal_marker) o
 by_hexadecimal None = refl
 by_hexadecimal (Some p) = refl
 
@@ -42,11 +45,11 @@ number_marked (c ∷ cs) =
     let all = 35 ∷ c ∷ cs in
     elim (cases_Bool x) [
       | inl h ↦
-          cond-true x (numbered 16 (closed hexadecimal_marker all)) (numbered 10 (closed decimal_marker all)) h
+          cond-true x (reference_by_number 16 (closed hexadecimal_marker all)) (reference_by_number 10 (closed decimal_marker all)) h
           ∙ by_hexadecimal (closed hexadecimal_marker all)
           ∙ ap (λ m. marked m all) (sym (cond-true x hexadecimal_marker decimal_marker h))
       | inr h ↦
-          cond-false x (numbered 16 (closed hexadecimal_marker all)) (numbered 10 (closed decimal_marker all)) h
+          cond-false x (reference_by_number 16 (closed hexadecimal_marker all)) (reference_by_number 10 (closed decimal_marker all)) h
           ∙ by_decimal (closed decimal_marker all)
           ∙ ap (λ m. marked m all) (sym (cond-false x hexadecimal_marker decimal_marker h))
     ]
@@ -54,7 +57,7 @@ number_marked (c ∷ cs) =
 reference_marked : (bytes : List ℕ) → reference_after bytes ≡ marked (marker_of bytes) bytes
 reference_marked [] = refl
 reference_marked (c ∷ cs) =
-    let name = named (closed name_marker (c ∷ cs)) in
+    let name = reference_by_name (closed name_marker (c ∷ cs)) in
     elim (cases_Bool (eqb c 35)) [
       | inl h ↦
           cond-true (eqb c 35) (number_reference cs) name h ∙ number_marked cs
@@ -82,7 +85,7 @@ by_size : (bytes : List ℕ) (marker start size : ℕ) → IsSized bytes marker 
     → reference_after bytes ≡ option_map (with_marker marker) (before_rest marker (drop start bytes) size)
 by_size bytes marker start size h =
     reference_marked bytes ∙ ap (λ m. marked m bytes) (sym h.marker_is)
-    ∙ ap (λ s. option_map (with_marker marker) (terminated (is_value_byte marker) (value_max marker) (drop s bytes))) (sym h.start_is)
+    ∙ ap (λ s. option_map (with_marker marker) (part_to_semicolon (is_value_byte marker) (value_max marker) (drop s bytes))) (sym h.start_is)
     ∙ ap (λ n. option_map (with_marker marker) (before_rest marker (drop start bytes) n)) (sym h.size_is)
 
 -- it is too short or too long
@@ -99,7 +102,8 @@ other_at text xs n other =
       | inl p ↦ at_drop_all (before_semicolon text) xs n (leb-true (length xs) n p)
       | inr p ↦
           let lt = leb-false (length xs) n p in
-          ap (before_semicolon text) (drop-cons xs n 0 lt) ∙ cond-false (eqb (get_or xs n 0) 59) (Some (part text (drop (suc n) xs))) None (ne_eqb (get_or xs n 0) 59 (other lt))
+          ap (before_semicolon text) (drop-cons xs n 0 lt) ∙ cond-false (eqb (get_or xs n 0) 59) (Some (part text (drop (suc n) xs))) None
+          (ne_eqb (get_or xs n 0) 59 (other lt))
     ]
 
 pub unclosed : (bytes : List ℕ) (marker start size : ℕ) → IsSized bytes marker start size
@@ -127,7 +131,8 @@ closed_read bytes r placed size =
     let within : n < length from = omega (arith, placed.within, placed.nonempty, length-drop r.start bytes) in
     let semicolon : get_or from n 0 ≡ 59 = get_or-drop r.start bytes n 0 ∙ ap (λ k. get_or bytes k 0) e ∙ placed.semicolon in
     let last : r.start + (n + 1) ≡ r.end + 1 = omega (arith, placed.nonempty) in
-    let fits : has_size r.marker n ≡ true = ap (λ b. b && leb n (value_max r.marker)) (le-leb 1 n (omega (arith, placed.nonempty))) ∙ le-leb n (value_max r.marker) placed.bounded in
+    let fits : has_size r.marker n ≡ true =
+    ap (λ b. b && leb n (value_max r.marker)) (le-leb 1 n (omega (arith, placed.nonempty))) ∙ le-leb n (value_max r.marker) placed.bounded in
     sym (by_size bytes r.marker r.start n sized
     ∙ ap (option_map (with_marker r.marker))
     (cond-true (has_size r.marker n) (before_semicolon (take n from) (drop n from)) None fits ∙ semicolon_at (take n from) from n within semicolon)

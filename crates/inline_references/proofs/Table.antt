@@ -1,5 +1,6 @@
 -- The groups of built-in rows are the rows of the definition.
-use Rattle.std.proofs.Common.{◌≡◌, ℕ, zero, suc, ◌+◌, ◌<◌, ◌≤◌, Bool, true, false, not, ◌&&◌, eqb, cond, List, [], ◌∷◌, ◌++◌, Option, None, Some, Bor, refl, sym, ap, ◌∙◌, inl, inr, length, get_or, arith}
+use Rattle.std.proofs.Common.{◌≡◌, ℕ, zero, suc, ◌+◌, ◌<◌, ◌≤◌, Bool, true, false, not, ◌&&◌, eqb, cond, List, [], ◌∷◌, ◌++◌, Option, None, Some, Bor, refl}
+use Rattle.std.proofs.Common.{sym, ap, ◌∙◌, inl, inr, length, get_or, arith}
 use Rattle.std.specs.Prelude.{map, is_some, nat_lt}
 use Rattle.std.specs.List.{filter_map, cons_option, find, flat_map, list_all, position_or_len, before_first, after_first}
 use Rattle.std.specs.Option.{option_and_then, option_map}
@@ -14,7 +15,8 @@ use Rattle.inline_references.specs.Groups.{group_of, is_equals, text_in_row, row
 use Rattle.inline_references.specs.declared.builtin.TheConstants.{GROUPS}
 
 -- the text behind one of several references
-pub now_at : (texts : List (Bor (List ℕ))) (i : ℕ) (other : Bor (List ℕ)) → i < length texts → (get_or texts i other).now ≡ get_or (map (λ text. text.now) texts) i []
+pub now_at : (texts : List (Bor (List ℕ))) (i : ℕ) (other : Bor (List ℕ)) → i < length texts
+    → (get_or texts i other).now ≡ get_or (map (λ text. text.now) texts) i []
 now_at [] i other lt = absurd (omega arith)
 now_at (x ∷ xs) zero other lt = refl
 now_at (x ∷ xs) (suc i) other lt = now_at xs i other (omega arith)
@@ -66,7 +68,8 @@ text_in_pieces (piece ∷ pieces) name =
     let rest = find (λ x. is_some (text_in_row x name)) pieces in
     let others = filter_map row_in pieces in
     let text : Option (List ℕ) → Option (List ℕ) = λ t. option_and_then (λ x. text_in_row x name) (cond (is_some t) (Some piece) rest) in
-    let chosen : Bool → Option (List ℕ) = λ b. option_map (λ (r : Row). r.text) (cond b (Some (row before after)) (find (λ (r : Row). bytes_eq r.name name) others)) in
+    let chosen : Bool → Option (List ℕ) =
+    λ b. option_map (λ (r : Row). r.text) (cond b (Some (row before after)) (find (λ (r : Row). bytes_eq r.name name) others)) in
     let with_row : Option Row → Option (List ℕ) = λ r. text_in (cons_option r others) name in
     elim (cases_Bool has) [
       | inl p ↦
@@ -110,7 +113,8 @@ text_in-skip (r ∷ rows) others name h =
 text_in-stop : (rows others : List Row) (name : List ℕ) → no_row name others ≡ true → text_in (rows ++ others) name ≡ text_in rows name
 text_in-stop [] others name h = text_in-none others name h
 text_in-stop (r ∷ rows) others name h =
-    let chosen : List Row → Bool → Option (List ℕ) = λ rest b. option_map (λ (x : Row). x.text) (cond b (Some r) (find (λ (x : Row). bytes_eq x.name name) rest)) in
+    let chosen : List Row → Bool → Option (List ℕ) =
+    λ rest b. option_map (λ (x : Row). x.text) (cond b (Some r) (find (λ (x : Row). bytes_eq x.name name) rest)) in
     elim (cases_Bool (bytes_eq r.name name)) [
       | inl p ↦ ap (chosen (rows ++ others)) p ∙ sym (ap (chosen rows) p)
       | inr p ↦ text_in_next r (rows ++ others) name p ∙ text_in-stop rows others name h ∙ sym (text_in_next r rows name p)

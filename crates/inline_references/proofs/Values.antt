@@ -61,22 +61,27 @@ digit_sixteen : (b : ℕ) → is_ascii_hexdigit b ≡ true → digit_value b < 1
 digit_sixteen b h = grind (arith, nat_tests)
 
 -- bytes that pass a test which digits pass alone are digits
-all_digits : (radix : ℕ) (test : ℕ → Bool) → ((b : ℕ) → test b ≡ true → digit_value b < radix) → (bytes : List ℕ) → list_all test bytes ≡ true → AllDigits radix bytes
+all_digits : (radix : ℕ) (test : ℕ → Bool) → ((b : ℕ) → test b ≡ true → digit_value b < radix) → (bytes : List ℕ) → list_all test bytes ≡ true
+    → AllDigits radix bytes
 all_digits radix test h [] all = tt
 all_digits radix test h (b ∷ bs) all = let parts = and_parts (test b) (list_all test bs) all in (h b parts.0, all_digits radix test h bs parts.1)
 
 -- so few of them that the number fits
-number : (radix most : ℕ) (digits : List ℕ) → 0 < radix → radix ^ most ≤ 2 ^ 32 → 1 ≤ length digits → length digits ≤ most → AllDigits radix digits → IsNumber radix digits
+number : (radix most : ℕ) (digits : List ℕ) → 0 < radix → radix ^ most ≤ 2 ^ 32 → 1 ≤ length digits → length digits ≤ most → AllDigits radix digits
+    → IsNumber radix digits
 number radix most digits positive fits nonempty short all = record {
   numeral = (nonempty, all);
   fits = omega (arith, digits_value-lt radix digits all, pow-le-pow_right positive short);
 }
 
 -- the value of a reference is a name, or digits of a number that fits
-pub decodable : (marker : ℕ) (value : List ℕ) → 1 ≤ length value → length value ≤ value_max marker → list_all (is_value_byte marker) value ≡ true → IsDecodable marker value
+pub decodable : (marker : ℕ) (value : List ℕ) → 1 ≤ length value → length value ≤ value_max marker → list_all (is_value_byte marker) value ≡ true
+    → IsDecodable marker value
 decodable marker value nonempty short all = record {
-  is_decimal = λ e. let most : value_max marker ≡ 7 = ap value_max e in number 10 7 value (omega arith) (lit≤ tt) nonempty (omega arith) (all_digits 10 (is_value_byte marker) (λ b p. digit_ten b (rw e at p)) value all);
-  is_hexadecimal = λ e. let most : value_max marker ≡ 6 = ap value_max e in number 16 6 value (omega arith) (lit≤ tt) nonempty (omega arith) (all_digits 16 (is_value_byte marker) (λ b p. digit_sixteen b (rw e at p)) value all);
+  is_decimal = λ e. let most : value_max marker ≡ 7 = ap value_max e in
+      number 10 7 value (omega arith) (lit≤ tt) nonempty (omega arith) (all_digits 10 (is_value_byte marker) (λ b p. digit_ten b (rw e at p)) value all);
+  is_hexadecimal = λ e. let most : value_max marker ≡ 6 = ap value_max e in
+      number 16 6 value (omega arith) (lit≤ tt) nonempty (omega arith) (all_digits 16 (is_value_byte marker) (λ b p. digit_sixteen b (rw e at p)) value all);
 }
 
 -- ---- numbers

@@ -1,5 +1,6 @@
 -- References are read as they are written.
-use Rattle.std.proofs.Common.{◌≡◌, ℕ, ◌+◌, Bool, true, false, ◌&&◌, ◌||◌, cond, eqb, leb, List, [], ◌∷◌, ◌++◌, Option, None, Some, length, take, drop, refl, sym, ap, ◌∙◌, subst, inl, inr, arith, append_assoc}
+use Rattle.std.proofs.Common.{◌≡◌, ℕ, ◌+◌, Bool, true, false, ◌&&◌, ◌||◌, cond, eqb, leb, List, [], ◌∷◌, ◌++◌, Option, None, Some, length, take, drop, refl}
+use Rattle.std.proofs.Common.{sym, ap, ◌∙◌, subst, inl, inr, arith, append_assoc}
 use Rattle.std.specs.Char.{is_ascii_digit, is_ascii_hexdigit, is_ascii_alphanumeric}
 use Rattle.std.specs.List.{list_all, prefix_len, take_while}
 use Rattle.std.proofs.lemmas.Bool.{cases_Bool, cond-true, cond-false, and_parts, or_cases, eqb-true, ne_eqb, leb-true, le-leb}
@@ -7,7 +8,9 @@ use Rattle.std.proofs.lemmas.List.{length-take-le, take-append-drop}
 use Rattle.std.proofs.lemmas.List.Sums.{prefix_len-le-length, take_while-cons}
 use Rattle.std.proofs.Math.Seq.{drop-append_seam, take-append_seam}
 use Rattle.definition_text.specs.Content.{Part, part}
-use Rattle.definition_inline.specs.CharacterReference.{CharacterName, Named, Numbered, CharacterReference, character_reference, before_semicolon, terminated, number_of, named, numbered, number_reference, reference_after, reference_form}
+use Rattle.definition_inline.specs.CharacterReference.{CharacterName, Named, Numbered, CharacterReference, character_reference, before_semicolon}
+use Rattle.definition_inline.specs.CharacterReference.{part_to_semicolon, number_of, reference_by_name, reference_by_number, number_reference, reference_after}
+use Rattle.definition_inline.specs.CharacterReference.{reference_form}
 use Rattle.inline_references.specs.Grammar.{IsValue, IsWritten, name, digits, lower_x, upper_x, WrittenIsRead, ReadIsWritten}
 
 both : (a b : Bool) → a ≡ true → b ≡ true → (a && b) ≡ true
@@ -24,11 +27,11 @@ prefix_all test (x ∷ xs) y ys h k =
 
 -- a value and its `;` are read
 value_read : (test : ℕ → Bool) (most : ℕ) (value rest : List ℕ) → IsValue test most value → test 59 ≡ false
-    → terminated test most ((value ++ 59 ∷ []) ++ rest) ≡ Some (part value rest)
+    → part_to_semicolon test most ((value ++ 59 ∷ []) ++ rest) ≡ Some (part value rest)
 value_read test most value rest h semicolon =
     let s = value ++ 59 ∷ rest in
     let found : ℕ → Option Part = λ n. cond (leb 1 n && leb n most) (before_semicolon (take n s) (drop n s)) None in
-    ap (terminated test most) (append_assoc value (59 ∷ []) rest)
+    ap (part_to_semicolon test most) (append_assoc value (59 ∷ []) rest)
     ∙ ap found (prefix_all test value 59 rest h.bytes semicolon)
     ∙ cond-true (leb 1 (length value) && leb (length value) most) _ None
     (both (leb 1 (length value)) (leb (length value) most) (le-leb 1 (length value) h.nonempty) (le-leb (length value) most h.bounded))
@@ -40,10 +43,12 @@ not_first : (test : ℕ → Bool) (b other : ℕ) (bs : List ℕ) → list_all t
 not_first test b other bs h k =
     ne_eqb b other (λ e. let yes = (and_parts (test b) (list_all test bs) h).0 in let no : false ≡ true = sym k ∙ ap test (sym e) ∙ yes in cc)
 
-name_read : (value rest : List ℕ) → IsValue is_ascii_alphanumeric 31 value → reference_form ((38 ∷ value ++ 59 ∷ []) ++ rest) ≡ Some (character_reference (Named value) rest)
+name_read : (value rest : List ℕ) → IsValue is_ascii_alphanumeric 31 value
+    → reference_form ((38 ∷ value ++ 59 ∷ []) ++ rest) ≡ Some (character_reference (Named value) rest)
 name_read [] rest h = absurd (omega (arith, h.nonempty))
 name_read (v ∷ vs) rest h =
-    cond-false (eqb v 35) _ _ (not_first is_ascii_alphanumeric v 35 vs h.bytes refl) ∙ ap named (value_read is_ascii_alphanumeric 31 (v ∷ vs) rest h refl)
+    cond-false (eqb v 35) _ _ (not_first is_ascii_alphanumeric v 35 vs h.bytes refl)
+    ∙ ap reference_by_name (value_read is_ascii_alphanumeric 31 (v ∷ vs) rest h refl)
 
 digits_read : (value rest : List ℕ) → IsValue is_ascii_digit 7 value
     → reference_form ((38 ∷ 35 ∷ value ++ 59 ∷ []) ++ rest) ≡ Some (character_reference (Numbered (number_of 10 value)) rest)
@@ -51,13 +56,14 @@ digits_read [] rest h = absurd (omega (arith, h.nonempty))
 digits_read (v ∷ vs) rest h =
     let lower = not_first is_ascii_digit v 120 vs h.bytes refl in
     let upper = not_first is_ascii_digit v 88 vs h.bytes refl in
-    cond-false (eqb v 120 || eqb v 88) _ _ (ap (λ b. b || eqb v 88) lower ∙ upper) ∙ ap (numbered 10) (value_read is_ascii_digit 7 (v ∷ vs) rest h refl)
+    cond-false (eqb v 120 || eqb v 88) _ _ (ap (λ b. b || eqb v 88) lower ∙ upper)
+    ∙ ap (reference_by_number 10) (value_read is_ascii_digit 7 (v ∷ vs) rest h refl)
 
 pub written_is_read : WrittenIsRead
 written_is_read front rest _ (name value h) = name_read value rest h
 written_is_read front rest _ (digits value h) = digits_read value rest h
-written_is_read front rest _ (lower_x value h) = ap (numbered 16) (value_read is_ascii_hexdigit 6 value rest h refl)
-written_is_read front rest _ (upper_x value h) = ap (numbered 16) (value_read is_ascii_hexdigit 6 value rest h refl)
+written_is_read front rest _ (lower_x value h) = ap (reference_by_number 16) (value_read is_ascii_hexdigit 6 value rest h refl)
+written_is_read front rest _ (upper_x value h) = ap (reference_by_number 16) (value_read is_ascii_hexdigit 6 value rest h refl)
 
 -- the bytes at the front that pass pass
 pub taken_pass : (test : ℕ → Bool) (xs : List ℕ) → list_all test (take_while test xs) ≡ true
@@ -81,7 +87,8 @@ semicolon_written text (c ∷ cs) p h =
       | inr q ↦ let e = sym (cond-false (eqb c 59) (Some (part text cs)) None q) ∙ h in cc
     ]
 
-value_written : (test : ℕ → Bool) (most : ℕ) (xs : List ℕ) (p : Part) → terminated test most xs ≡ Some p → IsValue test most p.text × (xs ≡ p.text ++ 59 ∷ p.rest)
+value_written : (test : ℕ → Bool) (most : ℕ) (xs : List ℕ) (p : Part) → part_to_semicolon test most xs ≡ Some p → IsValue test most p.text
+    × (xs ≡ p.text ++ 59 ∷ p.rest)
 value_written test most xs p h =
     let n = prefix_len test xs in
     let fits = leb 1 n && leb n most in
@@ -104,10 +111,11 @@ abbrev pub Written : List ℕ → CharacterReference → Type 0
 Written bytes r = (front : List ℕ) × IsWritten front r.name × (bytes ≡ front ++ r.rest)
 
 -- a value and its `;` after a mark
-written_by : (test : ℕ → Bool) (most : ℕ) (mark xs : List ℕ) (wrap : Option Part → Option CharacterReference) (make : List ℕ → CharacterName) (r : CharacterReference)
+written_by : (test : ℕ → Bool) (most : ℕ) (mark xs : List ℕ) (wrap : Option Part → Option CharacterReference) (make : List ℕ
+    → CharacterName) (r : CharacterReference)
     → wrap None ≡ None → ((p : Part) → wrap (Some p) ≡ Some (character_reference (make p.text) p.rest))
     → ((value : List ℕ) → IsValue test most value → IsWritten (mark ++ (value ++ 59 ∷ [])) (make value))
-    → (o : Option Part) → terminated test most xs ≡ o → wrap o ≡ Some r → Written (mark ++ xs) r
+    → (o : Option Part) → part_to_semicolon test most xs ≡ o → wrap o ≡ Some r → Written (mark ++ xs) r
 written_by test most mark xs wrap make r none some how None e h = let no : None ≡ Some r = sym none ∙ h in cc
 written_by test most mark xs wrap make r none some how (Some p) e h =
     let is : character_reference (make p.text) p.rest ≡ r = let found = sym (some p) ∙ h in cc in
@@ -125,29 +133,38 @@ number_written (c ∷ cs) r h =
     let sixteen : List ℕ → CharacterName = λ value. Numbered (number_of 16 value) in
     elim (cases_Bool x) [
       | inl p ↦
-          let read = sym (cond-true x (numbered 16 (terminated is_ascii_hexdigit 6 cs)) (numbered 10 (terminated is_ascii_digit 7 (c ∷ cs))) p) ∙ h in
+          let read =
+          sym (cond-true x (reference_by_number 16 (part_to_semicolon is_ascii_hexdigit 6 cs))
+          (reference_by_number 10 (part_to_semicolon is_ascii_digit 7 (c ∷ cs))) p) ∙ h in
           elim (or_cases (eqb c 120) (eqb c 88) p) [
             | inl q ↦
                 subst (λ (n : ℕ). Written (38 ∷ 35 ∷ n ∷ cs) r) (sym (eqb-true c 120 q))
-                (written_by is_ascii_hexdigit 6 (38 ∷ 35 ∷ 120 ∷ []) cs (numbered 16) sixteen r refl (λ p. refl) lower_x (terminated is_ascii_hexdigit 6 cs) refl read)
+                (written_by is_ascii_hexdigit 6 (38 ∷ 35 ∷ 120 ∷ []) cs (reference_by_number 16) sixteen r refl (λ p. refl) lower_x
+                (part_to_semicolon is_ascii_hexdigit 6 cs) refl read)
             | inr q ↦
                 subst (λ (n : ℕ). Written (38 ∷ 35 ∷ n ∷ cs) r) (sym (eqb-true c 88 q))
-                (written_by is_ascii_hexdigit 6 (38 ∷ 35 ∷ 88 ∷ []) cs (numbered 16) sixteen r refl (λ p. refl) upper_x (terminated is_ascii_hexdigit 6 cs) refl read)
+                (written_by is_ascii_hexdigit 6 (38 ∷ 35 ∷ 88 ∷ []) cs (reference_by_number 16) sixteen r refl (λ p. refl) upper_x
+                (part_to_semicolon is_ascii_hexdigit 6 cs) refl read)
           ]
       | inr p ↦
-          let read = sym (cond-false x (numbered 16 (terminated is_ascii_hexdigit 6 cs)) (numbered 10 (terminated is_ascii_digit 7 (c ∷ cs))) p) ∙ h in
-          written_by is_ascii_digit 7 (38 ∷ 35 ∷ []) (c ∷ cs) (numbered 10) (λ value. Numbered (number_of 10 value)) r refl (λ p. refl) digits (terminated is_ascii_digit 7 (c ∷ cs)) refl read
+          let read =
+          sym (cond-false x (reference_by_number 16 (part_to_semicolon is_ascii_hexdigit 6 cs))
+          (reference_by_number 10 (part_to_semicolon is_ascii_digit 7 (c ∷ cs))) p) ∙ h in
+          written_by is_ascii_digit 7 (38 ∷ 35 ∷ []) (c ∷ cs) (reference_by_number 10) (λ value. Numbered (number_of 10 value)) r refl (λ p. refl) digits
+          (part_to_semicolon is_ascii_digit 7 (c ∷ cs)) refl read
     ]
 
 after_written : (cs : List ℕ) (r : CharacterReference) → reference_after cs ≡ Some r → Written (38 ∷ cs) r
 after_written [] r h = cc
 after_written (c ∷ cs) r h =
-    let by_name = named (terminated is_ascii_alphanumeric 31 (c ∷ cs)) in
+    let by_name = reference_by_name (part_to_semicolon is_ascii_alphanumeric 31 (c ∷ cs)) in
     elim (cases_Bool (eqb c 35)) [
       | inl p ↦
-          subst (λ (n : ℕ). Written (38 ∷ n ∷ cs) r) (sym (eqb-true c 35 p)) (number_written cs r (sym (cond-true (eqb c 35) (number_reference cs) by_name p) ∙ h))
+          subst (λ (n : ℕ). Written (38 ∷ n ∷ cs) r) (sym (eqb-true c 35 p)) (number_written cs r
+          (sym (cond-true (eqb c 35) (number_reference cs) by_name p) ∙ h))
       | inr p ↦
-          written_by is_ascii_alphanumeric 31 (38 ∷ []) (c ∷ cs) named Named r refl (λ p. refl) name (terminated is_ascii_alphanumeric 31 (c ∷ cs)) refl
+          written_by is_ascii_alphanumeric 31 (38 ∷ []) (c ∷ cs) reference_by_name Named r refl (λ p. refl) name
+          (part_to_semicolon is_ascii_alphanumeric 31 (c ∷ cs)) refl
           (sym (cond-false (eqb c 35) (number_reference cs) by_name p) ∙ h)
     ]
 

@@ -2,8 +2,10 @@
 use Rattle.std.specs.Prelude.{◌≡◌, ℕ, ◌≤◌, Bool, List, [], ◌∷◌, ◌++◌, Some, length, IsTrue}
 use Rattle.std.specs.Char.{is_ascii_digit, is_ascii_hexdigit, is_ascii_alphanumeric}
 use Rattle.std.specs.List.{list_all}
-use Rattle.definition_inline.specs.CharacterReference.{CharacterName, Named, Numbered, CharacterReference, character_reference, Names, number_of, reference_form, reference_text}
-use Rattle.definition_inline.specs.Decoded.{decoded}
+use Rattle.definition_text.specs.Ascii.{number_sign, ampersand, semicolon, capital_x, small_x}
+use Rattle.definition_inline.specs.CharacterReference.{CharacterName, Named, Numbered, CharacterReference, character_reference, Names, number_of}
+use Rattle.definition_inline.specs.CharacterReference.{reference_form, reference_text}
+use Rattle.definition_inline.specs.Decoded.{decode}
 
 -- from one to so many bytes, all of a kind
 pub record IsValue (test : ℕ → Bool) (most : ℕ) (value : List ℕ) : Type 0 where
@@ -13,10 +15,12 @@ pub record IsValue (test : ℕ → Bool) (most : ℕ) (value : List ℕ) : Type 
 
 -- a reference: `&` and a name, `&#` and decimal digits, or `&#x` or `&#X` and hexadecimal digits, and `;`
 pub data IsWritten : List ℕ → CharacterName → Type 0 where
-  name : (value : List ℕ) → IsValue is_ascii_alphanumeric 31 value → IsWritten (38 ∷ value ++ 59 ∷ []) (Named value)
-  digits : (value : List ℕ) → IsValue is_ascii_digit 7 value → IsWritten (38 ∷ 35 ∷ value ++ 59 ∷ []) (Numbered (number_of 10 value))
-  lower_x : (value : List ℕ) → IsValue is_ascii_hexdigit 6 value → IsWritten (38 ∷ 35 ∷ 120 ∷ value ++ 59 ∷ []) (Numbered (number_of 16 value))
-  upper_x : (value : List ℕ) → IsValue is_ascii_hexdigit 6 value → IsWritten (38 ∷ 35 ∷ 88 ∷ value ++ 59 ∷ []) (Numbered (number_of 16 value))
+  name : (value : List ℕ) → IsValue is_ascii_alphanumeric 31 value → IsWritten (ampersand ∷ value ++ semicolon ∷ []) (Named value)
+  digits : (value : List ℕ) → IsValue is_ascii_digit 7 value → IsWritten (ampersand ∷ number_sign ∷ value ++ semicolon ∷ []) (Numbered (number_of 10 value))
+  lower_x : (value : List ℕ) → IsValue is_ascii_hexdigit 6 value
+      → IsWritten (ampersand ∷ number_sign ∷ small_x ∷ value ++ semicolon ∷ []) (Numbered (number_of 16 value))
+  upper_x : (value : List ℕ) → IsValue is_ascii_hexdigit 6 value
+      → IsWritten (ampersand ∷ number_sign ∷ capital_x ∷ value ++ semicolon ∷ []) (Numbered (number_of 16 value))
 
 -- what is written is read
 abbrev pub WrittenIsRead : Type 0
@@ -41,7 +45,7 @@ pub data Decodes (names : Names) : List ℕ → List ℕ → Type 0 where
 
 -- a text is decoded to this one text, and to no other
 abbrev pub DecodesDecoded : Type 0
-DecodesDecoded = (names : Names) (text : List ℕ) → Decodes names text (decoded names text)
+DecodesDecoded = (names : Names) (text : List ℕ) → Decodes names text (decode names text)
 
 abbrev pub DecodesAlone : Type 0
-DecodesAlone = (names : Names) (text out : List ℕ) → Decodes names text out → decoded names text ≡ out
+DecodesAlone = (names : Names) (text out : List ℕ) → Decodes names text out → decode names text ≡ out

@@ -4,6 +4,7 @@ use Rattle.std.specs.Char.{is_ascii_uppercase, is_ascii_lowercase}
 use Rattle.std.specs.List.{find, slice_split, position_or_len, before_first, after_first}
 use Rattle.std.specs.Option.{option_and_then}
 use Rattle.std.specs.Str.{bytes_eq}
+use Rattle.definition_text.specs.Ascii.{space, equals}
 
 -- the place of a letter: `A` to `Z`, then `a` to `z`
 abbrev pub letter_place : ℕ → Option ℕ
@@ -17,7 +18,7 @@ group_of [] = None
 group_of (b ∷ bs) = letter_place b
 
 abbrev pub is_equals : ℕ → Bool
-is_equals b = b == 61
+is_equals b = b == equals
 
 -- the text of a row, if it is this name's
 abbrev pub text_in_row : List ℕ → List ℕ → Option (List ℕ)
@@ -26,7 +27,7 @@ text_in_row row name =
     then Some (after_first is_equals row) else None
 
 abbrev pub rows_in_group : List ℕ → List (List ℕ)
-rows_in_group rows = slice_split (λ b. b == 32) rows
+rows_in_group rows = slice_split (λ b. b == space) rows
 
 -- the text of a name in a group
 abbrev pub text_in_group : List ℕ → List ℕ → Option (List ℕ)

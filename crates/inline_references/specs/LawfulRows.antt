@@ -1,5 +1,6 @@
 -- What rows of names hold: every name of a table has 1 to 31 letters and digits, and a text that isn't empty and is UTF-8.
-use Rattle.std.proofs.Common.{◌≡◌, ℕ, ◌<◌, Bool, true, ◌&&◌, cond, eqb, leb, ltb, List, [], ◌∷◌, ◌++◌, Option, None, Some, length, refl, sym, ap, ◌∙◌, subst, inl, inr, arith, length-append}
+use Rattle.std.proofs.Common.{◌≡◌, ℕ, ◌<◌, Bool, true, ◌&&◌, cond, eqb, leb, ltb, List, [], ◌∷◌, ◌++◌, Option, None, Some, length, refl, sym, ap, ◌∙◌, subst}
+use Rattle.std.proofs.Common.{inl, inr, arith, length-append}
 use Rattle.std.specs.Prelude.{nat_lt, nat_le, encode_utf8}
 use Rattle.std.specs.Char.{IsScalar, is_ascii_alphanumeric, is_ascii_hexdigit}
 use Rattle.std.specs.Int.{is_in_range}
@@ -33,7 +34,8 @@ scalar_code code h =
           let high = leb-true code 0x10FFFF parts.1 in
           elim (cases_Bool (ltb code 55296)) [
             | inl q ↦ low_scalar code (ltb-true code 55296 q)
-            | inr q ↦ cond-false (ltb code 55296) true (leb 57344 code && ltb code 1114112) q ∙ ap (λ b. b && ltb code 1114112) parts.0 ∙ lt-ltb code 1114112 (omega arith)
+            | inr q ↦ cond-false (ltb code 55296) true (leb 57344 code && ltb code 1114112) q ∙ ap (λ b. b && ltb code 1114112) parts.0
+                ∙ lt-ltb code 1114112 (omega arith)
           ]
     ]
 

@@ -2,6 +2,7 @@
 use Rattle.std.specs.Prelude.{◌≡◌, ℕ, ◌<◌, ◌^◌, Bool, if◌then◌else◌, ◌==◌, ◌||◌, List, [], ◌∷◌, Option}
 use Rattle.std.specs.Char.{is_ascii_digit, is_ascii_hexdigit, is_ascii_alphanumeric}
 use Rattle.std.specs.Str.Parse.{IsNumeral, digits_value}
+use Rattle.definition_text.specs.Ascii.{line_feed, number_sign, capital_x, small_x}
 use Rattle.definition_inline.specs.CharacterReference.{CharacterName, Named, Numbered, Names, number_of, reference_text}
 
 abbrev pub name_marker : ℕ
@@ -29,11 +30,11 @@ is_value_byte marker b =
 -- the marker of what begins with these bytes after its `&`
 abbrev pub number_marker : List ℕ → ℕ
 number_marker [] = decimal_marker
-number_marker (b ∷ bs) = if (b == 120) || (b == 88) then hexadecimal_marker else decimal_marker
+number_marker (b ∷ bs) = if (b == small_x) || (b == capital_x) then hexadecimal_marker else decimal_marker
 
 abbrev pub marker_of : List ℕ → ℕ
 marker_of [] = name_marker
-marker_of (b ∷ bs) = if b == 35 then number_marker bs else name_marker
+marker_of (b ∷ bs) = if b == number_sign then number_marker bs else name_marker
 
 -- how many bytes stand between the `&` and the value
 abbrev pub marker_size : ℕ → ℕ
@@ -50,7 +51,7 @@ abbrev pub value_text : Names → ℕ → List ℕ → Option (List ℕ)
 value_text names marker value = reference_text names (name_by marker value)
 
 abbrev pub is_radix : ℕ → Bool
-is_radix radix = (radix == 10) || (radix == 16)
+is_radix radix = (radix == line_feed) || (radix == 16)
 
 -- digits, at least one, of a number below 2^32
 pub record IsNumber (radix : ℕ) (digits : List ℕ) : Type 0 where

@@ -1,7 +1,7 @@
 //! Texts with references in them.
 ghost use Rattle.std.specs.Prelude.{◌≡◌, ◌++◌, ◌∷◌, ◌≤◌, IfOk, IfErr, OnOk, length, string_bytes};
 ghost use Rattle.markdown_options.specs.Messages.{IsOutOfMemory};
-ghost use Rattle.definition_inline.specs.Decoded.{decoded};
+ghost use Rattle.definition_inline.specs.Decoded.{decode};
 ghost use Rattle.inline_references.specs.Printed.{IsDecoded};
 
 use crate::decode::push_value;
@@ -16,7 +16,7 @@ pub fn parse<A: Allocator, T: Tables>(
     value: &str,
     tables: &T,
 ) -> Result<String<A>, Message>
-    ensures text { IfOk result (λ text. string_bytes text ≡ decoded (T.reference_of tables.now) value.now) }
+    ensures text { IfOk result (λ text. string_bytes text ≡ decode (T.reference_of tables.now) value.now) }
     ensures memory { IfErr result IsOutOfMemory }
 {
     let mut text = String::with_capacity(alloc, value.len())?;
@@ -30,7 +30,7 @@ pub fn push_decoded<A: Allocator, T: Tables>(
     value: &str,
     tables: &T,
 ) -> Result<(), AllocError>
-    ensures { OnOk result (string_bytes out.new ≡ string_bytes out.old ++ decoded (T.reference_of tables.now) value.now) }
+    ensures { OnOk result (string_bytes out.new ≡ string_bytes out.old ++ decode (T.reference_of tables.now) value.now) }
 {
     let mut rest = value;
     while let Some((before, after)) = rest.split_once('&') {

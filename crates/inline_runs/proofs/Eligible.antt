@@ -1,12 +1,13 @@
 -- What an opener has to know of a closer.
-use Rattle.std.proofs.Common.{◌≡◌, ℕ, ◌+◌, ◌-◌, ◌%◌, ◌<◌, ◌≤◌, List, Bool, true, false, cond, not, ◌&&◌, ◌||◌, map, refl, sym, ap, ◌∙◌, length, get_or, arith, subst}
+use Rattle.std.proofs.Common.{◌≡◌, ℕ, ◌+◌, ◌-◌, ◌%◌, ◌<◌, ◌≤◌, List, Bool, true, false, cond, not, ◌&&◌, ◌||◌, map, refl, sym, ap, ◌∙◌, length, get_or, arith}
+use Rattle.std.proofs.Common.{subst}
 use Rattle.std.specs.Prelude.{◌==◌, nat_le}
 use Rattle.std.proofs.lemmas.Grind.{common_steps}
 use Rattle.std.proofs.lemmas.Bool.{and_left, and_right, and_from}
 use Rattle.std.proofs.lemmas.List.{get_or-map, length-map}
 use Rattle.definition_inline.specs.Attention.{Run as RunOf}
 use Rattle.definition_inline.specs.GfmStrikethrough.{are_fitting}
-use Rattle.definition_inline.specs.Pairing.{Placed as PlacedOf, is_eligible, up_to_nearest, is_ruled_out_by_three}
+use Rattle.definition_inline.specs.Pairing.{OpenRun as PlacedOf, is_eligible, up_to_nearest, is_ruled_out_by_three}
 use Rattle.definition_inline.proofs.NearestOpener.{up_to_nearest_is}
 use Rattle.inline_runs.specs.View.{run_view}
 use Rattle.inline_runs.specs.declared.openers.Opener.{Opener}
@@ -28,7 +29,8 @@ in_other_order false b true d = refl
 in_other_order false b false d = refl
 
 -- tildes are counted of tildes alone
-fitting_is : (o c : RunOf) → ((o.marker == c.marker) && are_fitting o.marker o.left c.left) ≡ ((o.marker == c.marker) && are_fitting o.marker o.left (tilde_count c))
+fitting_is : (o c : RunOf) → ((o.marker == c.marker) && are_fitting o.marker o.left c.left)
+    ≡ ((o.marker == c.marker) && are_fitting o.marker o.left (tilde_count c))
 fitting_is o c = grind (arith, common_steps)
 
 pub eligible_is : (o : Opener) (c : PlacedOf) → is_eligible (opener_view o) c ≡ (can_close c.run && fits (run_view o.placed.run) (wanted c.run))
@@ -37,14 +39,16 @@ eligible_is o c =
     let same = (r.marker == c.run.marker) && are_fitting r.marker r.left c.run.left in
     ap (λ b. same && ((r.may_open && nat_le 1 r.left) && ((c.run.may_close && nat_le 1 c.run.left) && not b))) (ruled_out r c.run)
     ∙ ap (λ b. b && ((r.may_open && nat_le 1 r.left) && ((c.run.may_close && nat_le 1 c.run.left) && not (is_ruled_out r (wanted c.run))))) (fitting_is r c.run)
-    ∙ in_other_order ((r.marker == c.run.marker) && are_fitting r.marker r.left (tilde_count c.run)) (r.may_open && nat_le 1 r.left) (can_close c.run) (not (is_ruled_out r (wanted c.run)))
+    ∙ in_other_order ((r.marker == c.run.marker) && are_fitting r.marker r.left (tilde_count c.run)) (r.may_open && nat_le 1 r.left) (can_close c.run)
+    (not (is_ruled_out r (wanted c.run)))
 
 any_opener : PlacedOf → Opener
 any_opener c = record { placed = record { run = record { marker = 0; size = 0; may_open = false; may_close = false }; place = 0 }; since = 0 }
 
 eligible_at : (openers : List Opener) (c : PlacedOf) (k : ℕ) → k < length openers
     → is_eligible (get_or (map opener_view openers) k c) c ≡ (can_close c.run && fits (run_view (get_or openers k (any_opener c)).placed.run) (wanted c.run))
-eligible_at openers c k lt = ap (λ (o : PlacedOf). is_eligible o c) (get_or-map opener_view openers k (any_opener c) c lt) ∙ eligible_is (get_or openers k (any_opener c)) c
+eligible_at openers c k lt = ap (λ (o : PlacedOf). is_eligible o c) (get_or-map opener_view openers k (any_opener c) c lt)
+    ∙ eligible_is (get_or openers k (any_opener c)) c
 
 -- the nearest opener that fits
 pub nearest_fits : (openers : List Opener) (c : PlacedOf) (n : ℕ) → n ≤ length openers
@@ -54,15 +58,18 @@ pub nearest_fits : (openers : List Opener) (c : PlacedOf) (n : ℕ) → n ≤ le
 nearest_fits openers c n le none found can =
     let same = length-map openers opener_view in
     up_to_nearest_is (map opener_view openers) c n (omega arith)
-    (λ k h lt. eligible_at openers c k (omega arith) ∙ and_right (can_close c.run) (fits (run_view (get_or openers k (any_opener c)).placed.run) (wanted c.run)) (none k h (omega arith) (any_opener c)))
-    (λ some. eligible_at openers c (n - 1) (omega arith) ∙ and_from (can_close c.run) (fits (run_view (get_or openers (n - 1) (any_opener c)).placed.run) (wanted c.run)) can (found some (any_opener c)))
+    (λ k h lt. eligible_at openers c k (omega arith) ∙ and_right (can_close c.run) (fits (run_view (get_or openers k (any_opener c)).placed.run) (wanted c.run))
+    (none k h (omega arith) (any_opener c)))
+    (λ some. eligible_at openers c (n - 1) (omega arith) ∙ and_from (can_close c.run)
+    (fits (run_view (get_or openers (n - 1) (any_opener c)).placed.run) (wanted c.run)) can (found some (any_opener c)))
 
 -- a run that may close nothing
 pub none_for : (openers : List Opener) (c : PlacedOf) → can_close c.run ≡ false → 0 ≡ up_to_nearest (map opener_view openers) c
 none_for openers c cannot =
     let same = length-map openers opener_view in
     up_to_nearest_is (map opener_view openers) c 0 (omega arith)
-    (λ k h lt. eligible_at openers c k (omega arith) ∙ and_left (can_close c.run) (fits (run_view (get_or openers k (any_opener c)).placed.run) (wanted c.run)) cannot)
+    (λ k h lt. eligible_at openers c k (omega arith) ∙ and_left (can_close c.run)
+    (fits (run_view (get_or openers k (any_opener c)).placed.run) (wanted c.run)) cannot)
     (λ h. absurd (omega arith))
 
 -- the same, of a slice of the openers

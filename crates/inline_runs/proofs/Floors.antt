@@ -12,7 +12,8 @@ use Rattle.inline_runs.specs.declared.openers.Openers.{Openers}
 use Rattle.inline_runs.specs.Floors.{fits, FitsAt, IsFloor, IsFloorOf, Known}
 
 -- one more opener that doesn't fit
-pub one_less : (openers : List Opener) (w : Want) (n : ℕ) (e : Opener) → 0 < n → n ≤ length openers → fits (run_view (get_or openers (n - 1) e).placed.run) w ≡ false
+pub one_less : (openers : List Opener) (w : Want) (n : ℕ) (e : Opener) → 0 < n → n ≤ length openers
+    → fits (run_view (get_or openers (n - 1) e).placed.run) w ≡ false
     → ((k : ℕ) → n ≤ k → k < length openers → FitsAt openers k w false)
     → (k : ℕ) → n - 1 ≤ k → k < length openers → FitsAt openers k w false
 one_less openers w n e some le fails none k h lt d =
@@ -24,7 +25,8 @@ one_less openers w n e some le fails none k h lt d =
     ]
 
 -- an opener that is older than the floor
-pub below_floor : (openers : List Opener) (w : Want) (floor n : ℕ) (e : Opener) → 0 < n → n ≤ length openers → (get_or openers (n - 1) e).since < floor → IsFloor openers w floor
+pub below_floor : (openers : List Opener) (w : Want) (floor n : ℕ) (e : Opener) → 0 < n → n ≤ length openers → (get_or openers (n - 1) e).since < floor
+    → IsFloor openers w floor
     → ((k : ℕ) → n ≤ k → k < length openers → FitsAt openers k w false)
     → (k : ℕ) → k < length openers → FitsAt openers k w false
 below_floor openers w floor n e some le older is_floor none k lt d =
@@ -79,7 +81,8 @@ known_later o now later le known = record {
 pub known_taken : {A : Type 0} (old new : Openers A) (n now : ℕ) → new.openers.items ≡ take n old.openers.items → new.floors.items ≡ old.floors.items
     → Known old now → Known new now
 known_taken old new n now is same known = record {
-  early = subst (λ os. All (λ (p : Opener). p.placed.place < now) os) (sym is) (All-take (λ (p : Opener). p.placed.place < now) n old.openers.items known.early);
+  early = subst (λ os. All (λ (p : Opener). p.placed.place < now) os) (sym is)
+      (All-take (λ (p : Opener). p.placed.place < now) n old.openers.items known.early);
   floors =
       subst (λ os. All (IsFloorOf os now) new.floors.items) (sym is)
       (subst (λ fs. All (IsFloorOf (take n old.openers.items) now) fs) (sym same)
@@ -100,5 +103,6 @@ known_pushed old new o now later is same since le early known =
           subst (λ os. All (IsFloorOf os later) new.floors.items) (sym is)
           (subst (λ fs. All (IsFloorOf (old.openers.items ++ o ∷ []) later) fs) (sym same)
           (All-weaker (IsFloorOf old.openers.items now) (IsFloorOf (old.openers.items ++ o ∷ []) later)
-          (λ f h. let past = h.past in record { past = omega arith; floor = floor_pushed old.openers.items o f.want f.place (omega arith) h.floor }) old.floors.items known.floors));
+          (λ f h. let past = h.past in record { past = omega arith; floor = floor_pushed old.openers.items o f.want f.place (omega arith) h.floor })
+          old.floors.items known.floors));
     }

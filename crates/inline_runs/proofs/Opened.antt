@@ -19,13 +19,15 @@ pub all_opened : (place : ℕ) (ps before now : List Pair) → IsOpened place ps
 all_opened place ps before now o = sym (append-nil now) ∙ o.all
 
 -- the pair before the last one
-last_before : (place : ℕ) (ps : List Pair) (count : ℕ) (p : Pair) → AreLinked ps → 0 < count → count ≤ length ps → p ≡ get_or ps (count - 1) p → p.opener ≡ place
+last_before : (place : ℕ) (ps : List Pair) (count : ℕ) (p : Pair) → AreLinked ps → 0 < count → count ≤ length ps → p ≡ get_or ps (count - 1) p
+    → p.opener ≡ place
     → IsLast place (take (count - 1) ps) p.earlier
 last_before place ps count p linked some within is opener =
     subst (λ n. IsLast n (take (count - 1) ps) p.earlier) opener
     (subst (λ (q : Pair). IsLast q.opener (take (count - 1) ps) q.earlier) (sym is) (linked (count - 1) p (omega arith)))
 
-pub earlier_less : (place : ℕ) (ps : List Pair) (count : ℕ) (p : Pair) → AreLinked ps → 0 < count → count ≤ length ps → p ≡ get_or ps (count - 1) p → p.earlier < count
+pub earlier_less : (place : ℕ) (ps : List Pair) (count : ℕ) (p : Pair) → AreLinked ps → 0 < count → count ≤ length ps → p ≡ get_or ps (count - 1) p
+    → p.earlier < count
 earlier_less place ps count p linked some within is =
     let last = last_before p.opener ps count p linked some within is refl in
     let le = last.within in

@@ -19,15 +19,20 @@ bytes-reverse (p ∷ ps) =
     let whole : bytes (p ∷ ps) ≡ pair_bytes p + bytes ps = sum_by-cons pair_bytes p ps in
     ap bytes back ∙ one ∙ omega arith
 
-pub text_is : (ps all same opened : List Pair) (place size start left text : ℕ) (e : Ends) → IsEnds ps place e → same ≡ ps → opened ≡ all ++ reverse (opened_by place ps) → start ≡ length all
-    → left ≡ size - bytes (slice_range same e.first_closed e.closed_end) → text ≡ left - bytes (take (length opened - start) (drop start opened)) → text ≡ text_at ps place size
+pub text_is : (ps all same opened : List Pair) (place size start left text : ℕ) (e : Ends) → IsEnds ps place e → same ≡ ps
+    → opened ≡ all ++ reverse (opened_by place ps) → start ≡ length all
+    → left ≡ size - bytes (slice_range same e.first_closed e.closed_end) → text ≡ left - bytes (take (length opened - start) (drop start opened))
+    → text ≡ text_at ps place size
 text_is ps all same opened place size start left text e ends is_same is_opened is_start is_left is_text =
-    let first : bytes (slice_range same e.first_closed e.closed_end) ≡ bytes (closed_by place ps) = ap (λ qs. bytes (slice_range qs e.first_closed e.closed_end)) is_same ∙ ap bytes ends.closed in
+    let first : bytes (slice_range same e.first_closed e.closed_end) ≡ bytes (closed_by place ps) =
+    ap (λ qs. bytes (slice_range qs e.first_closed e.closed_end)) is_same ∙ ap bytes ends.closed in
     let last : bytes (take (length opened - start) (drop start opened)) ≡ bytes (opened_by place ps) =
-    ap bytes (take_rest opened start) ∙ ap (λ qs. bytes (drop start qs)) is_opened ∙ ap bytes (drop_at all (reverse (opened_by place ps)) start (sym is_start)) ∙ bytes-reverse (opened_by place ps) in
+    ap bytes (take_rest opened start) ∙ ap (λ qs. bytes (drop start qs)) is_opened ∙ ap bytes (drop_at all (reverse (opened_by place ps)) start (sym is_start))
+    ∙ bytes-reverse (opened_by place ps) in
     omega arith
 
-pub text_pushed : (ps : List Pair) (sizes : List ℕ) (laid : List Laid) (l : Laid) → l.text ≡ text_at ps (length laid) (slice_index sizes (length laid)) → AreTexts ps sizes laid
+pub text_pushed : (ps : List Pair) (sizes : List ℕ) (laid : List Laid) (l : Laid) → l.text ≡ text_at ps (length laid) (slice_index sizes (length laid))
+    → AreTexts ps sizes laid
     → AreTexts ps sizes (laid ++ l ∷ [])
 text_pushed ps sizes laid l is texts i d lt =
     elim (cases_lt i (length laid)) [

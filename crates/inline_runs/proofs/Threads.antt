@@ -1,9 +1,11 @@
 -- One more pair, and one more run that was read.
-use Rattle.std.proofs.Common.{inl, inr, ◌≡◌, ◌≢◌, ℕ, ◌+◌, ◌-◌, ◌<◌, ◌≤◌, List, [], ◌∷◌, ◌++◌, Bool, true, false, refl, sym, ap, ◌∙◌, length, get_or, set, take, drop, arith, subst}
+use Rattle.std.proofs.Common.{inl, inr, ◌≡◌, ◌≢◌, ℕ, ◌+◌, ◌-◌, ◌<◌, ◌≤◌, List, [], ◌∷◌, ◌++◌, Bool, true, false, refl, sym, ap, ◌∙◌, length, get_or, set, take}
+use Rattle.std.proofs.Common.{drop, arith, subst}
 use Rattle.std.specs.List.{All, filter}
 use Rattle.std.specs.Prelude.{◌==◌, slice_range}
 use Rattle.std.proofs.lemmas.Bool.{cases_lt, cases_Bool, cond-true, cond-false, eqb-true, eqb-false, eq-eqb, ne_eqb}
-use Rattle.std.proofs.lemmas.List.{length-append, length-set, length-drop, append-nil, get_or_append_left, get_or_push, get_or-set_same, get_or-set_other, take-append-le, drop-append-le, take_all, take_rest, drop_all}
+use Rattle.std.proofs.lemmas.List.{length-append, length-set, length-drop, append-nil, get_or_append_left, get_or_push, get_or-set_same, get_or-set_other}
+use Rattle.std.proofs.lemmas.List.{take-append-le, drop-append-le, take_all, take_rest, drop_all}
 use Rattle.std.proofs.lemmas.List.Elements.{All-push, All-weaker, All-head, All-tail, filter-append}
 use Rattle.inline_runs.specs.declared.pair.Pair.{Pair}
 use Rattle.inline_runs.specs.declared.pairs.Ends.{Ends}
@@ -65,7 +67,8 @@ closed_stays ps p place from to order within other closed =
     ∙ closed
     ∙ sym (filter_other (λ (q : Pair). q.closer == place) ps p other)
 
-ends_stay : (ps : List Pair) (p : Pair) (place : ℕ) (e : Ends) → (p.closer == place) ≡ false → (p.opener == place) ≡ false → IsEnds ps place e → IsEnds (ps ++ p ∷ []) place e
+ends_stay : (ps : List Pair) (p : Pair) (place : ℕ) (e : Ends) → (p.closer == place) ≡ false → (p.opener == place) ≡ false → IsEnds ps place e
+    → IsEnds (ps ++ p ∷ []) place e
 ends_stay ps p place e not_closed not_opened is =
     let within = is.within in
     record {
@@ -112,7 +115,8 @@ threaded_close ps es first n p e closer opener count is_e earlier t =
                 subst (IsEnds (ps ++ p ∷ []) i) (sym (get_or-set_other es p.opener i fresh d ne))
                 (ends_stay ps p i (get_or es i d) not_closed other (t.ends i d lt_es))
           ];
-      read = subst (λ m. All (IsRead m) (ps ++ p ∷ [])) (sym same) (All-push (IsRead (length es)) ps p t.read (record { opener = opener; closer = omega arith }));
+      read = subst (λ m. All (IsRead m) (ps ++ p ∷ [])) (sym same) (All-push (IsRead (length es)) ps p t.read
+          (record { opener = opener; closer = omega arith }));
       within = let within = t.within in omega (arith, length-append ps (p ∷ []));
       now =
           drop-append-le first ps (p ∷ []) t.within ∙ ap (λ xs. xs ++ p ∷ []) t.now
@@ -122,7 +126,8 @@ threaded_close ps es first n p e closer opener count is_e earlier t =
 
 -- ---- one more run
 
-new_ends : (ps : List Pair) (es : List Ends) (first : ℕ) → AreThreaded ps es first → IsEnds ps (length es) (record { first_closed = first; closed_end = length ps; last_opened = 0 })
+new_ends : (ps : List Pair) (es : List Ends) (first : ℕ) → AreThreaded ps es first
+    → IsEnds ps (length es) (record { first_closed = first; closed_end = length ps; last_opened = 0 })
 new_ends ps es first t =
     record {
       in_order = t.within;
@@ -133,7 +138,8 @@ new_ends ps es first t =
             within = omega arith;
             all =
                 sym (filter_none (λ (q : Pair). q.opener == length es) ps
-                (All-weaker (IsRead (length es)) (λ q. (q.opener == length es) ≡ false) (λ q r. ne_eqb q.opener (length es) (λ h. let lt = r.opener in omega arith)) ps t.read));
+                (All-weaker (IsRead (length es)) (λ q. (q.opener == length es) ≡ false) (λ q r. ne_eqb q.opener (length es) (λ h. let lt = r.opener in
+                omega arith)) ps t.read));
             there = λ d some. absurd (omega arith);
           };
     }

@@ -1,5 +1,6 @@
 -- Pairs as the definition has them: filtered, turned round and as rows.
-use Rattle.std.proofs.Common.{inl, inr, ◌≡◌, ℕ, ◌+◌, ◌-◌, ◌<◌, List, [], ◌∷◌, ◌++◌, Bool, map, refl, sym, ap, ap₂, ◌∙◌, length, get_or, reverse, replicate, arith}
+use Rattle.std.proofs.Common.{inl, inr, ◌≡◌, ℕ, ◌+◌, ◌-◌, ◌<◌, List, [], ◌∷◌, ◌++◌, Bool, map, refl, sym, ap, ap₂, ◌∙◌, length, get_or, reverse, replicate}
+use Rattle.std.proofs.Common.{arith}
 use Rattle.std.specs.List.{filter}
 use Rattle.std.specs.Prelude.{◌==◌, slice_range, slice_index}
 use Rattle.std.proofs.lemmas.Bool.{cases_Bool, cond-true, cond-false}
@@ -44,16 +45,19 @@ closes_view : (ps : List Pair) → map (λ (p : PairOf). Closes) (pairs_view ps)
 closes_view [] = refl
 closes_view (p ∷ ps) = ap (λ rows. Closes ∷ rows) (closes_view ps)
 
-opens_view : (marker : ℕ) (ps : List Pair) → map (λ (p : PairOf). Opens (span_of marker p)) (pairs_view ps) ≡ map (λ (p : Pair). Opens (span_of marker (pair_view p))) ps
+opens_view : (marker : ℕ) (ps : List Pair) → map (λ (p : PairOf). Opens (span_of marker p)) (pairs_view ps)
+    ≡ map (λ (p : Pair). Opens (span_of marker (pair_view p))) ps
 opens_view marker [] = refl
 opens_view marker (p ∷ ps) = ap (λ rows. Opens (span_of marker (pair_view p)) ∷ rows) (opens_view marker ps)
 
 -- ---- of runs whose pairs are known
 
-closed_of : (runs : List RunOf) (ps : List Pair) (place : ℕ) → pairs_view ps ≡ pairs runs → pairs_view (closed_by place ps) ≡ filter (λ (p : PairOf). p.closer == place) (pairs runs)
+closed_of : (runs : List RunOf) (ps : List Pair) (place : ℕ) → pairs_view ps ≡ pairs runs
+    → pairs_view (closed_by place ps) ≡ filter (λ (p : PairOf). p.closer == place) (pairs runs)
 closed_of runs ps place are = sym (filter_view (λ (p : PairOf). p.closer == place) ps) ∙ ap (filter (λ (p : PairOf). p.closer == place)) are
 
-opened_of : (runs : List RunOf) (ps : List Pair) (place : ℕ) → pairs_view ps ≡ pairs runs → pairs_view (opened_by place ps) ≡ filter (λ (p : PairOf). p.opener == place) (pairs runs)
+opened_of : (runs : List RunOf) (ps : List Pair) (place : ℕ) → pairs_view ps ≡ pairs runs
+    → pairs_view (opened_by place ps) ≡ filter (λ (p : PairOf). p.opener == place) (pairs runs)
 opened_of runs ps place are = sym (filter_view (λ (p : PairOf). p.opener == place) ps) ∙ ap (filter (λ (p : PairOf). p.opener == place)) are
 
 pub closed_is : (runs : List RunOf) (ps same : List Pair) (place : ℕ) (e : Ends) → IsEnds ps place e → same ≡ ps → pairs_view ps ≡ pairs runs
@@ -64,7 +68,8 @@ closed_is runs ps same place e ends is are =
 pub opened_is : (runs : List RunOf) (ps all same : List Pair) (place : ℕ) (l : Laid) → IsLaid ps place all l → same ≡ all → pairs_view ps ≡ pairs runs
     → pairs_view (slice_range same l.start l.end) ≡ reverse (filter (λ (p : PairOf). p.opener == place) (pairs runs))
 opened_is runs ps all same place l laid is are =
-    ap (λ qs. pairs_view (slice_range qs l.start l.end)) is ∙ ap pairs_view laid.opened ∙ reverse_view (opened_by place ps) ∙ ap reverse (opened_of runs ps place are)
+    ap (λ qs. pairs_view (slice_range qs l.start l.end)) is ∙ ap pairs_view laid.opened ∙ reverse_view (opened_by place ps)
+    ∙ ap reverse (opened_of runs ps place are)
 
 size_of : (runs : List RunOf) (i : ℕ) (d : RunOf) → i < length runs → slice_index (run_sizes runs) i ≡ (get_or runs i d).left
 size_of runs i d lt = get_or-map (λ (run : RunOf). run.left) runs i d 0 lt
@@ -76,9 +81,11 @@ size_at runs i n d is lt =
     ∙ ap (λ (run : RunOf). run.left) (get_or-map run_view runs i d (run_view d) lt))
 
 pub rows_are : (runs : List RunOf) (ps closed opened : List Pair) (place text : ℕ) (d : RunOf) → pairs_view ps ≡ pairs runs → place < length runs
-    → pairs_view closed ≡ filter (λ (p : PairOf). p.closer == place) (pairs runs) → pairs_view opened ≡ reverse (filter (λ (p : PairOf). p.opener == place) (pairs runs))
+    → pairs_view closed ≡ filter (λ (p : PairOf). p.closer == place) (pairs runs)
+    → pairs_view opened ≡ reverse (filter (λ (p : PairOf). p.opener == place) (pairs runs))
     → text ≡ text_at ps place (slice_index (run_sizes runs) place)
-    → (map (λ (p : Pair). Closes) closed ++ replicate text (Holds (Data (get_or runs place d).marker)) ++ map (λ (p : Pair). Opens (span_of (get_or runs place d).marker (pair_view p))) opened)
+    → (map (λ (p : Pair). Closes) closed ++ replicate text (Holds (Data (get_or runs place d).marker))
+    ++ map (λ (p : Pair). Opens (span_of (get_or runs place d).marker (pair_view p))) opened)
     ≡ run_rows (pairs runs) place (get_or runs place d)
 rows_are runs ps closed opened place text d are lt is_closed is_opened is_text =
     let run = get_or runs place d in

@@ -2,7 +2,7 @@
 use Rattle.std.specs.Prelude.{◌≡◌, ◌<◌, ◌≤◌, ◌+◌, ◌%◌, ℕ, Bool, false, not, if◌then◌else◌, ◌==◌, ◌&&◌, ◌||◌, nat_le, List, map, length, slice_index_or, All}
 use Rattle.definition_inline.specs.Attention.{Run as RunOf}
 use Rattle.definition_inline.specs.GfmStrikethrough.{is_tilde, are_fitting}
-use Rattle.definition_inline.specs.Pairing.{Placed as PlacedOf, placed}
+use Rattle.definition_inline.specs.Pairing.{OpenRun as PlacedOf, open_run}
 use Rattle.inline_runs.specs.View.{run_view}
 use Rattle.inline_runs.specs.declared.openers.Placed.{Placed}
 use Rattle.inline_runs.specs.declared.openers.Opener.{Opener}
@@ -11,7 +11,7 @@ use Rattle.inline_runs.specs.declared.openers.Floor.{Floor}
 use Rattle.inline_runs.specs.declared.openers.Openers.{Openers}
 
 abbrev pub placed_view : Placed → PlacedOf
-placed_view p = placed (run_view p.run) p.place
+placed_view p = open_run (run_view p.run) p.place
 
 abbrev pub opener_view : Opener → PlacedOf
 opener_view o = placed_view o.placed

@@ -5,7 +5,7 @@
 //! linear in the number of runs and their bytes.
 ghost use Rattle.std.specs.Prelude.{◌≡◌, ◌<◌, ◌+◌, List, [], length, reverse, OnOk, IfOk};
 ghost use Rattle.definition_inline.specs.Attention.{Run as RunOf};
-ghost use Rattle.definition_inline.specs.Pairing.{pairs, next_run, up_to_nearest, paired};
+ghost use Rattle.definition_inline.specs.Pairing.{pairs, next_run, up_to_nearest, with_pair};
 ghost use Rattle.inline_runs.specs.View.{runs_view, pairs_view};
 ghost use Rattle.inline_runs.specs.Floors.{placed_view, openers_view};
 ghost use Rattle.inline_runs.specs.Paired.{IsPaired, BecomesRows, closed_at, opened_at};
@@ -108,7 +108,7 @@ impl<A: Allocator> Pairing<A> {
         requires sound { IsSound self.old closer.place }
         requires nearest { count ≡ up_to_nearest (openers_view self.old.openers) (placed_view closer) }
         requires some { 0 < count }
-        ensures state { OnOk result (state self.new ≡ paired (state self.old) (nearest_opener self.old closer) (placed_view closer)) }
+        ensures state { OnOk result (state self.new ≡ with_pair (state self.old) (nearest_opener self.old closer) (placed_view closer)) }
         ensures sound { OnOk result (IsSound self.new closer.place) }
         ensures closer { IfOk result (λ rest. placed_view rest ≡ rest_of_closer self.old closer) }
         ensures less { IfOk result (λ rest. rest.run.size < closer.run.size) }

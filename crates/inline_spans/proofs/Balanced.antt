@@ -5,7 +5,8 @@ use Rattle.std.proofs.lemmas.List.{append-nil, nil_from_length}
 use Rattle.definition_inline.specs.Inline.{Target, Linked, Inline, Inlines, Nil, Cons, followed_by}
 use Rattle.inline_rows.specs.InlineRows as rows
 use Rattle.inline_rows.specs.InlineRows.{part_rows, inline_rows}
-use Rattle.definition_inline.specs.Spans.{Span, IsEmphasis, IsStrong, IsStrikethrough, SpanRow, Holds, Opens, Closes, OpenSpan, nest, spanned, nest_row, nested}
+use Rattle.definition_inline.specs.Spans.{Span, IsEmphasis, IsStrong, IsStrikethrough, SpanRow, Holds, Opens, Closes, OpenSpan, nest, span_part, nest_row}
+use Rattle.definition_inline.specs.Spans.{nest_spans}
 use Rattle.inline_spans.specs.Told.{told_rows}
 
 -- from so many open spans rows lead to so many, and none of them ends a span where none is open
@@ -26,23 +27,25 @@ module _ (leads : Target → Linked) where
 
   one_more : (is : Inlines) (i : Inline) → inline_rows leads (followed_by is i) ≡ inline_rows leads is ++ part_rows leads i
   one_more Nil i = append-nil (part_rows leads i)
-  one_more (Cons j js) i = ap (λ xs. part_rows leads j ++ xs) (one_more js i) ∙ sym (append_assoc (part_rows leads j) (inline_rows leads js) (part_rows leads i))
+  one_more (Cons j js) i = ap (λ xs. part_rows leads j ++ xs) (one_more js i)
+      ∙ sym (append_assoc (part_rows leads j) (inline_rows leads js) (part_rows leads i))
 
-  span_is : (span : Span) (kids : Inlines) → part_rows leads (spanned span kids) ≡ rows.EnterSpan span ∷ (inline_rows leads kids ++ rows.Leave ∷ [])
+  span_is : (span : Span) (kids : Inlines) → part_rows leads (span_part span kids) ≡ rows.EnterSpan span ∷ (inline_rows leads kids ++ rows.Leave ∷ [])
   span_is IsEmphasis kids = refl
   span_is IsStrong kids = refl
   span_is IsStrikethrough kids = refl
 
   -- the innermost span ends
   left : (now : Inlines) (o : OpenSpan) (others : List OpenSpan)
-      → nest_rows (followed_by o.before (spanned o.span now)) others ≡ nest_rows now (o ∷ others) ++ rows.Leave ∷ []
+      → nest_rows (followed_by o.before (span_part o.span now)) others ≡ nest_rows now (o ∷ others) ++ rows.Leave ∷ []
   left now o others =
       let a = around_rows others in
       let b = inline_rows leads o.before in
       let e : List rows.InlineRow = rows.EnterSpan o.span ∷ [] in
       let n = inline_rows leads now in
-      ap (λ xs. a ++ xs) (one_more o.before (spanned o.span now) ∙ ap (λ xs. b ++ xs) (span_is o.span now))
-      ∙ sym (append_assoc ((a ++ (b ++ e))) n (rows.Leave ∷ []) ∙ append_assoc a (b ++ e) (n ++ rows.Leave ∷ []) ∙ ap (λ xs. a ++ xs) (append_assoc b e (n ++ rows.Leave ∷ [])))
+      ap (λ xs. a ++ xs) (one_more o.before (span_part o.span now) ∙ ap (λ xs. b ++ xs) (span_is o.span now))
+      ∙ sym (append_assoc ((a ++ (b ++ e))) n (rows.Leave ∷ []) ∙ append_assoc a (b ++ e) (n ++ rows.Leave ∷ [])
+      ∙ ap (λ xs. a ++ xs) (append_assoc b e (n ++ rows.Leave ∷ [])))
 
   -- the rows of a nest after more rows, and how many spans are open then
   record After (now : Inlines) (around : List OpenSpan) (rs : List SpanRow) (after : ℕ) : Type 0 where
@@ -57,7 +60,8 @@ module _ (leads : Target → Linked) where
         count = more.count;
         same =
             more.same
-            ∙ ap (λ xs. xs ++ told_rows leads rs) (ap (λ xs. around_rows around ++ xs) (one_more now i) ∙ sym (append_assoc (around_rows around) (inline_rows leads now) (part_rows leads i)))
+            ∙ ap (λ xs. xs ++ told_rows leads rs) (ap (λ xs. around_rows around ++ xs) (one_more now i)
+            ∙ sym (append_assoc (around_rows around) (inline_rows leads now) (part_rows leads i)))
             ∙ append_assoc (nest_rows now around) (part_rows leads i) (told_rows leads rs);
       }
   read (Opens span ∷ rs) now around after nests =
@@ -75,7 +79,7 @@ module _ (leads : Target → Linked) where
   read (Closes ∷ rs) now [] after nests = absurd (omega (arith, nests.0))
   read (Closes ∷ rs) now (o ∷ others) after nests =
       let fewer : suc (length others) - 1 ≡ length others = omega arith in
-      let more = read rs (followed_by o.before (spanned o.span now)) others after (subst (λ n. Nests n rs after) fewer nests.1) in
+      let more = read rs (followed_by o.before (span_part o.span now)) others after (subst (λ n. Nests n rs after) fewer nests.1) in
       record {
         count = more.count;
         same =
@@ -84,8 +88,8 @@ module _ (leads : Target → Linked) where
       }
 
   -- rows that leave no span open
-  pub nested_rows : (rs : List SpanRow) → Nests 0 rs 0 → inline_rows leads (nested rs) ≡ told_rows leads rs
+  pub nested_rows : (rs : List SpanRow) → Nests 0 rs 0 → inline_rows leads (nest_spans rs) ≡ told_rows leads rs
   nested_rows rs nests =
       let all = read rs Nil [] 0 nests in
       let none = nil_from_length (fold nest_row (nest Nil []) rs).around all.count in
-      sym (ap (λ os. around_rows os ++ inline_rows leads (nested rs)) none) ∙ all.same
+      sym (ap (λ os. around_rows os ++ inline_rows leads (nest_spans rs)) none) ∙ all.same

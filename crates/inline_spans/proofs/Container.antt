@@ -28,14 +28,16 @@ bytes_are : (leads : Target → inline.Linked) (bytes : List ℕ) → map rows.P
 bytes_are leads [] = refl
 bytes_are leads (b ∷ bs) = ap (λ xs. rows.Part (Data b) ∷ xs) (bytes_are leads bs)
 
-pub text_rows : (leads : Target → inline.Linked) (at : ℕ → inline.Linked) (text : _) → rows_view at (Text text ∷ []) ≡ flat_map (part_rows leads) (map Data text.now)
+pub text_rows : (leads : Target → inline.Linked) (at : ℕ → inline.Linked) (text : _)
+    → rows_view at (Text text ∷ []) ≡ flat_map (part_rows leads) (map Data text.now)
 text_rows leads at text = append-nil (data_rows text.now) ∙ data_are leads text.now
 
 escapes_are : (leads : Target → inline.Linked) (bytes : List ℕ) → map rows.Part (map inline.Escape bytes) ≡ flat_map (part_rows leads) (map inline.Escape bytes)
 escapes_are leads [] = refl
 escapes_are leads (b ∷ bs) = ap (λ xs. rows.Part (inline.Escape b) ∷ xs) (escapes_are leads bs)
 
-pub leaf_rows : (leads : Target → inline.Linked) (at : ℕ → inline.Linked) (part : LeafPart) → rows_view at (Leaf part ∷ []) ≡ flat_map (part_rows leads) (parts_of part)
+pub leaf_rows : (leads : Target → inline.Linked) (at : ℕ → inline.Linked) (part : LeafPart)
+    → rows_view at (Leaf part ∷ []) ≡ flat_map (part_rows leads) (parts_of part)
 leaf_rows leads at (leaf.Escape text) = append-nil (map rows.Part (map inline.Escape text.now)) ∙ escapes_are leads text.now
 leaf_rows leads at (leaf.Character text) = refl
 leaf_rows leads at (leaf.Number radix digits) = refl
@@ -64,29 +66,35 @@ module _ (leads : Target → inline.Linked) (at : ℕ → inline.Linked) where
       subst (λ n. IsContainer leads at rows2 n runs2 slots2 ts2) same second
   join _ rows2 _ _ runs2 _ slots2 _ ts2 (Parts more rest base runs slots items tokens view first) second =
       let place : base + length (more ++ rest) ≡ base + length more + length rest = omega (arith, length-append more rest) in
-      let next = join rest rows2 (base + length more) runs runs2 slots slots2 tokens ts2 first (subst (λ n. IsContainer leads at rows2 n runs2 slots2 ts2) place second) in
+      let next = join rest rows2 (base + length more) runs runs2 slots slots2 tokens ts2 first
+      (subst (λ n. IsContainer leads at rows2 n runs2 slots2 ts2) place second) in
       subst (λ rs. IsContainer leads at rs base (runs ++ runs2) (slots ++ slots2) ((map Item items ++ tokens) ++ ts2)) (sym (append_assoc more rest rows2))
       (subst (λ ks. IsContainer leads at (more ++ (rest ++ rows2)) base (runs ++ runs2) (slots ++ slots2) ks) (sym (append_assoc (map Item items) tokens ts2))
       (Parts more (rest ++ rows2) base (runs ++ runs2) (slots ++ slots2) items (tokens ++ ts2) view next))
   join _ rows2 _ _ runs2 _ slots2 _ ts2 (Bytes more rest base run runs slots tokens bytes first) second =
       let place : base + length (more ++ rest) ≡ base + length more + length rest = omega (arith, length-append more rest) in
-      let next = join rest rows2 (base + length more) runs runs2 slots slots2 tokens ts2 first (subst (λ n. IsContainer leads at rows2 n runs2 slots2 ts2) place second) in
-      subst (λ rs. IsContainer leads at rs base (run ∷ (runs ++ runs2)) (base ∷ (slots ++ slots2)) (Delimiters (run_view run) ∷ (tokens ++ ts2))) (sym (append_assoc more rest rows2))
+      let next = join rest rows2 (base + length more) runs runs2 slots slots2 tokens ts2 first
+      (subst (λ n. IsContainer leads at rows2 n runs2 slots2 ts2) place second) in
+      subst (λ rs. IsContainer leads at rs base (run ∷ (runs ++ runs2)) (base ∷ (slots ++ slots2)) (Delimiters (run_view run) ∷ (tokens ++ ts2)))
+      (sym (append_assoc more rest rows2))
       (Bytes more (rest ++ rows2) base run (runs ++ runs2) (slots ++ slots2) (tokens ++ ts2) bytes next)
 
-  only_parts : (more : List InlineRow) (base : ℕ) (parts : List Inline) → rows_view at more ≡ flat_map (part_rows leads) parts → IsContainer leads at more base [] [] (map Item parts)
+  only_parts : (more : List InlineRow) (base : ℕ) (parts : List Inline) → rows_view at more ≡ flat_map (part_rows leads) parts
+      → IsContainer leads at more base [] [] (map Item parts)
   only_parts more base parts view =
       subst (λ rs. IsContainer leads at rs base [] [] (map Item parts)) (append-nil more)
       (subst (IsContainer leads at (more ++ []) base [] []) (append-nil (map Item parts))
       (Parts more [] base [] [] parts [] view (NoRows (base + length more))))
 
-  only_run : (more : List InlineRow) (base : ℕ) (r : Run) → AreBytes r.marker r.size more → IsContainer leads at more base (r ∷ []) (base ∷ []) (Delimiters (run_view r) ∷ [])
+  only_run : (more : List InlineRow) (base : ℕ) (r : Run) → AreBytes r.marker r.size more
+      → IsContainer leads at more base (r ∷ []) (base ∷ []) (Delimiters (run_view r) ∷ [])
   only_run more base r bytes =
       subst (λ rs. IsContainer leads at rs base (r ∷ []) (base ∷ []) (Delimiters (run_view r) ∷ [])) (append-nil more)
       (Bytes more [] base r [] [] [] bytes (NoRows (base + length more)))
 
   pub items : (rows more : List InlineRow) (base : ℕ) (runs : List Run) (slots : List ℕ) (ts : List Token) (parts : List Inline)
-      → IsContainer leads at rows base runs slots ts → rows_view at more ≡ flat_map (part_rows leads) parts → IsContainer leads at (rows ++ more) base runs slots (ts ++ map Item parts)
+      → IsContainer leads at rows base runs slots ts → rows_view at more ≡ flat_map (part_rows leads) parts
+      → IsContainer leads at (rows ++ more) base runs slots (ts ++ map Item parts)
   items rows more base runs slots ts parts c view =
       subst (λ rs. IsContainer leads at (rows ++ more) base rs slots (ts ++ map Item parts)) (append-nil runs)
       (subst (λ ss. IsContainer leads at (rows ++ more) base (runs ++ []) ss (ts ++ map Item parts)) (append-nil slots)
@@ -104,12 +112,16 @@ module _ (leads : Target → inline.Linked) (at : ℕ → inline.Linked) where
   runs_after [] ts = refl
   runs_after (i ∷ is) ts = runs_after is ts
 
-  pub runs_are : (rows : List InlineRow) (base : ℕ) (runs : List Run) (slots : List ℕ) (ts : List Token) → IsContainer leads at rows base runs slots ts → runs_of ts ≡ runs_view runs
+  pub runs_are : (rows : List InlineRow) (base : ℕ) (runs : List Run) (slots : List ℕ) (ts : List Token) → IsContainer leads at rows base runs slots ts
+      → runs_of ts ≡ runs_view runs
   runs_are _ _ _ _ _ (NoRows base) = refl
-  runs_are _ _ _ _ _ (Parts more rest base runs slots items tokens view first) = runs_after items tokens ∙ runs_are rest (base + length more) runs slots tokens first
-  runs_are _ _ _ _ _ (Bytes more rest base run runs slots tokens bytes first) = ap (λ rs. run_view run ∷ rs) (runs_are rest (base + length more) runs slots tokens first)
+  runs_are _ _ _ _ _ (Parts more rest base runs slots items tokens view first) =
+      runs_after items tokens ∙ runs_are rest (base + length more) runs slots tokens first
+  runs_are _ _ _ _ _ (Bytes more rest base run runs slots tokens bytes first) =
+      ap (λ rs. run_view run ∷ rs) (runs_are rest (base + length more) runs slots tokens first)
 
-  pub slots_are : (rows : List InlineRow) (base : ℕ) (runs : List Run) (slots : List ℕ) (ts : List Token) → IsContainer leads at rows base runs slots ts → length slots ≡ length runs
+  pub slots_are : (rows : List InlineRow) (base : ℕ) (runs : List Run) (slots : List ℕ) (ts : List Token) → IsContainer leads at rows base runs slots ts
+      → length slots ≡ length runs
   slots_are _ _ _ _ _ (NoRows base) = refl
   slots_are _ _ _ _ _ (Parts more rest base runs slots items tokens view first) = slots_are rest (base + length more) runs slots tokens first
   slots_are _ _ _ _ _ (Bytes more rest base run runs slots tokens bytes first) = ap suc (slots_are rest (base + length more) runs slots tokens first)
@@ -129,5 +141,6 @@ module _ (leads : Target → inline.Linked) (at : ℕ → inline.Linked) where
       let le = ends_are rest (base + length more) runs slots tokens first i d (omega arith) in
       omega (arith, length-append more rest)
 
-  pub within : (rows : List InlineRow) (base : ℕ) (runs : List Run) (slots : List ℕ) (ts : List Token) → IsContainer leads at rows base runs slots ts → AreWithin runs slots (base + length rows)
+  pub within : (rows : List InlineRow) (base : ℕ) (runs : List Run) (slots : List ℕ) (ts : List Token) → IsContainer leads at rows base runs slots ts
+      → AreWithin runs slots (base + length rows)
   within rows base runs slots ts c = record { same = slots_are rows base runs slots ts c; ends = ends_are rows base runs slots ts c }

@@ -1,5 +1,6 @@
 -- The rows of a container close as many spans as they open, and none too early.
-use Rattle.std.proofs.Common.{inl, inr, ◌≡◌, ℕ, zero, suc, ◌+◌, ◌-◌, ◌<◌, List, [], ◌∷◌, ◌++◌, Bool, ◌&&◌, map, refl, sym, ap, ◌∙◌, length, reverse, replicate, arith, subst}
+use Rattle.std.proofs.Common.{inl, inr, ◌≡◌, ℕ, zero, suc, ◌+◌, ◌-◌, ◌<◌, List, [], ◌∷◌, ◌++◌, Bool, ◌&&◌, map, refl, sym, ap, ◌∙◌, length, reverse, replicate}
+use Rattle.std.proofs.Common.{arith, subst}
 use Rattle.std.specs.Prelude.{◌==◌, nat_lt, nat_le, if◌then◌else◌}
 use Rattle.std.specs.List.{filter}
 use Rattle.std.proofs.lemmas.Grind.{common_steps}
@@ -9,7 +10,8 @@ use Rattle.definition_inline.specs.Attention.{Run}
 use Rattle.definition_inline.specs.Inline.{Target, Linked, Inline, Data}
 use Rattle.inline_rows.specs.InlineRows.{inline_rows}
 use Rattle.definition_inline.specs.Pairing.{Pair, pairs}
-use Rattle.definition_inline.specs.Spans.{Token, Item, Delimiters, SpanRow, Holds, Opens, Closes, span_of, bytes_taken, run_rows, rows_from, runs_of, emphasized}
+use Rattle.definition_inline.specs.Spans.{Token, Item, Delimiters, SpanRow, Holds, Opens, Closes, span_of, bytes_taken, run_rows, rows_from, runs_of}
+use Rattle.definition_inline.specs.Spans.{with_spans}
 use Rattle.inline_spans.specs.Told.{told_rows}
 use Rattle.inline_spans.proofs.Balanced.{Nests, nested_rows}
 use Rattle.inline_spans.proofs.Taken.{AreOrdered, pairs_ordered}
@@ -49,11 +51,13 @@ closes_one place p lt = grind (arith, common_steps)
 opens_one : (place : ℕ) (p : Pair) → p.opener < p.closer → one_if (is_open (place + 1) p) ≡ one_if (is_around place p) + one_if (p.opener == place)
 opens_one place p lt = grind (arith, common_steps)
 
-closes_all : (n place : ℕ) (ps : List Pair) → AreOrdered n ps → count (is_open place) ps ≡ count (λ (p : Pair). p.closer == place) ps + count (is_around place) ps
+closes_all : (n place : ℕ) (ps : List Pair) → AreOrdered n ps → count (is_open place) ps
+    ≡ count (λ (p : Pair). p.closer == place) ps + count (is_around place) ps
 closes_all n place [] ordered = refl
 closes_all n place (p ∷ ps) ordered = omega (arith, closes_one place p ordered.0, closes_all n place ps ordered.2)
 
-opens_all : (n place : ℕ) (ps : List Pair) → AreOrdered n ps → count (is_open (place + 1)) ps ≡ count (is_around place) ps + count (λ (p : Pair). p.opener == place) ps
+opens_all : (n place : ℕ) (ps : List Pair) → AreOrdered n ps → count (is_open (place + 1)) ps
+    ≡ count (is_around place) ps + count (λ (p : Pair). p.opener == place) ps
 opens_all n place [] ordered = refl
 opens_all n place (p ∷ ps) ordered = omega (arith, opens_one place p ordered.0, opens_all n place ps ordered.2)
 
@@ -92,13 +96,15 @@ opening marker (p ∷ ps) before =
     let more : before + 1 + length ps ≡ before + suc (length ps) = omega arith in
     subst (λ n. Nests (before + 1) (map (λ (p : Pair). Opens (span_of marker p)) ps) n) more (opening marker ps (before + 1))
 
-run_nests : (n : ℕ) (ps : List Pair) (place : ℕ) (run : Run) → AreOrdered n ps → Nests (count (is_open place) ps) (run_rows ps place run) (count (is_open (place + 1)) ps)
+run_nests : (n : ℕ) (ps : List Pair) (place : ℕ) (run : Run) → AreOrdered n ps
+    → Nests (count (is_open place) ps) (run_rows ps place run) (count (is_open (place + 1)) ps)
 run_nests n ps place run ordered =
     let closed = filter (λ (p : Pair). p.closer == place) ps in
     let started = filter (λ (p : Pair). p.opener == place) ps in
     let depth = count (is_around place) ps in
     let left = run.left - (bytes_taken closed + bytes_taken started) in
-    let first : length closed + depth ≡ count (is_open place) ps = omega (arith, count_is (λ (p : Pair). p.closer == place) ps, closes_all n place ps ordered) in
+    let first : length closed + depth ≡ count (is_open place) ps =
+    omega (arith, count_is (λ (p : Pair). p.closer == place) ps, closes_all n place ps ordered) in
     let last : depth + length (reverse started) ≡ count (is_open (place + 1)) ps =
     omega (arith, length-reverse started, count_is (λ (p : Pair). p.opener == place) ps, opens_all n place ps ordered) in
     let ends = map (λ (p : Pair). Closes) closed in
@@ -111,7 +117,8 @@ run_nests n ps place run ordered =
     subst (λ m. Nests m (run_rows ps place run) (count (is_open (place + 1)) ps)) first
     (subst (Nests (length closed + depth) (run_rows ps place run)) last all)
 
-rows_nest : (n : ℕ) (ps : List Pair) (place : ℕ) (ts : List Token) → AreOrdered n ps → Nests (count (is_open place) ps) (rows_from ps place ts) (count (is_open (place + length (runs_of ts))) ps)
+rows_nest : (n : ℕ) (ps : List Pair) (place : ℕ) (ts : List Token) → AreOrdered n ps
+    → Nests (count (is_open place) ps) (rows_from ps place ts) (count (is_open (place + length (runs_of ts))) ps)
 rows_nest n ps place [] ordered = ap (λ m. count (is_open m) ps) (let same : place ≡ place + 0 = omega arith in same)
 rows_nest n ps place (Item i ∷ ts) ordered = rows_nest n ps place ts ordered
 rows_nest n ps place (Delimiters run ∷ ts) ordered =
@@ -121,7 +128,7 @@ rows_nest n ps place (Delimiters run ∷ ts) ordered =
     (subst (λ m. Nests (count (is_open (place + 1)) ps) (rows_from ps (place + 1) ts) (count (is_open m) ps)) more (rows_nest n ps (place + 1) ts ordered))
 
 -- the rows of the inline structure of a container
-pub emphasized_rows : (leads : Target → Linked) (ts : List Token) → inline_rows leads (emphasized ts) ≡ told_rows leads (rows_from (pairs (runs_of ts)) 0 ts)
+pub emphasized_rows : (leads : Target → Linked) (ts : List Token) → inline_rows leads (with_spans ts) ≡ told_rows leads (rows_from (pairs (runs_of ts)) 0 ts)
 emphasized_rows leads ts =
     let ps = pairs (runs_of ts) in
     let n = length (runs_of ts) in

@@ -1,5 +1,6 @@
 -- A run has enough rows for what it becomes.
-use Rattle.std.proofs.Common.{◌≡◌, ℕ, ◌+◌, ◌-◌, ◌<◌, ◌≤◌, List, [], ◌∷◌, ◌++◌, Bool, true, false, map, refl, sym, ap, ◌∙◌, length, get_or, reverse, replicate, arith, subst}
+use Rattle.std.proofs.Common.{◌≡◌, ℕ, ◌+◌, ◌-◌, ◌<◌, ◌≤◌, List, [], ◌∷◌, ◌++◌, Bool, true, false, map, refl, sym, ap, ◌∙◌, length, get_or, reverse, replicate}
+use Rattle.std.proofs.Common.{arith, subst}
 use Rattle.std.specs.Prelude.{◌==◌}
 use Rattle.std.specs.List.{filter}
 use Rattle.std.proofs.lemmas.List.{length-append, length-map, length-replicate, length-reverse, reverse-append, get_or-map}
@@ -55,12 +56,29 @@ needed_fits runs place d spans lt is_closed is_opened rows =
     let texts2 : List SpanRow = replicate left (Holds (Data run.marker)) in
     let starts2 : List SpanRow = map (λ (p : PairOf). Opens (span_of run.marker p)) (reverse started) in
     let a : length (ends ++ texts ++ starts) ≡ length spans.closed.now + spans.text + length spans.opened.now =
-    omega (arith, count_three ends texts starts, length-map spans.closed.now (λ (p : Pair). Closes), length-replicate spans.text (Holds (Data run.marker)), length-map spans.opened.now (λ (p : Pair). Opens (span_of run.marker (pair_view p)))) in
+    omega (
+      arith,
+      count_three ends texts starts,
+      length-map spans.closed.now (λ (p : Pair). Closes),
+      length-replicate spans.text (Holds (Data run.marker)),
+      length-map spans.opened.now (λ (p : Pair). Opens (span_of run.marker (pair_view p))),
+    ) in
     let b : length (ends2 ++ texts2 ++ starts2) ≡ length closed + left + length started =
-    omega (arith, count_three ends2 texts2 starts2, length-map closed (λ (p : PairOf). Closes), length-replicate left (Holds (Data run.marker)), length-map (reverse started) (λ (p : PairOf). Opens (span_of run.marker p)), length-reverse started) in
+    omega (
+      arith,
+      count_three ends2 texts2 starts2,
+      length-map closed (λ (p : PairOf). Closes),
+      length-replicate left (Holds (Data run.marker)),
+      length-map (reverse started) (λ (p : PairOf). Opens (span_of run.marker p)),
+      length-reverse started,
+    ) in
     let same : length (ends ++ texts ++ starts) ≡ length (ends2 ++ texts2 ++ starts2) = ap length rows in
-    let few_closed : length closed ≤ bytes_taken closed = (let le = count_le spans.closed.now in let n : length spans.closed.now ≡ length closed = sym (length-map spans.closed.now pair_view) ∙ ap length is_closed in let m : bytes_taken (pairs_view spans.closed.now) ≡ bytes_taken closed = ap bytes_taken is_closed in omega arith) in
-    let few_started : length started ≤ bytes_taken started = (let le = count_le spans.opened.now in let n : length spans.opened.now ≡ length started = sym (length-map spans.opened.now pair_view) ∙ ap length is_opened ∙ length-reverse started in let m : bytes_taken (pairs_view spans.opened.now) ≡ bytes_taken started = ap bytes_taken is_opened ∙ bytes-reverse started in omega arith) in
+    let few_closed : length closed ≤ bytes_taken closed = (let le = count_le spans.closed.now in
+    let n : length spans.closed.now ≡ length closed = sym (length-map spans.closed.now pair_view) ∙ ap length is_closed in
+    let m : bytes_taken (pairs_view spans.closed.now) ≡ bytes_taken closed = ap bytes_taken is_closed in omega arith) in
+    let few_started : length started ≤ bytes_taken started = (let le = count_le spans.opened.now in
+    let n : length spans.opened.now ≡ length started = sym (length-map spans.opened.now pair_view) ∙ ap length is_opened ∙ length-reverse started in
+    let m : bytes_taken (pairs_view spans.opened.now) ≡ bytes_taken started = ap bytes_taken is_opened ∙ bytes-reverse started in omega arith) in
     omega arith
 
 -- ---- of runs as the code has them
@@ -69,7 +87,8 @@ pub rows_at : (runs : List Run) (place : ℕ) (d : Run) (spans : RunSpans) → p
     → ((e : RunOf) → rows_of (get_or (runs_view runs) place e).marker spans ≡ run_rows (pairs (runs_view runs)) place (get_or (runs_view runs) place e))
     → rows_of (get_or runs place d).marker spans ≡ run_rows (pairs (runs_view runs)) place (run_view (get_or runs place d))
 rows_at runs place d spans lt are =
-    subst (λ (r : RunOf). rows_of r.marker spans ≡ run_rows (pairs (runs_view runs)) place r) (get_or-map run_view runs place d (run_view d) lt) (are (run_view d))
+    subst (λ (r : RunOf). rows_of r.marker spans ≡ run_rows (pairs (runs_view runs)) place r) (get_or-map run_view runs place d (run_view d) lt)
+    (are (run_view d))
 
 pub needed_at : (runs : List Run) (place : ℕ) (d : Run) (spans : RunSpans) → place < length runs
     → pairs_view spans.closed.now ≡ filter (λ (p : PairOf). p.closer == place) (pairs (runs_view runs))

@@ -20,7 +20,8 @@ AreOrdered n (p ∷ ps) = (p.opener < p.closer) × (p.closer < n) × AreOrdered 
 
 -- nothing is left of what isn't a run
 none_past : (runs : List Run) (so_far : List Pair) (place : ℕ) → length runs ≤ place → (left_at runs so_far place).run.left ≡ 0
-none_past runs so_far place past = let is : run_of runs place ≡ no_run = get_or_past runs place no_run past in ap (λ (r : Run). r.left - used so_far place) is ∙ (let z : 0 - used so_far place ≡ 0 = omega arith in z)
+none_past runs so_far place past = let is : run_of runs place ≡ no_run = get_or_past runs place no_run past in
+    ap (λ (r : Run). r.left - used so_far place) is ∙ (let z : 0 - used so_far place ≡ 0 = omega arith in z)
 
 ordered : (runs : List Run) (so_far ps : List Pair) → AreNext runs so_far ps → AreOrdered (length runs) ps
 ordered runs _ _ (NoMore so_far none) = tt
@@ -56,10 +57,12 @@ filtered f p ps = elim (cases_Bool (f p)) [
       ap bytes_taken (cond-false (f p) (p ∷ filter f ps) (filter f ps) dropped) ∙ omega arith
 ]
 
-one_place : (place : ℕ) (p : Pair) → p.opener < p.closer → taken_at place p ≡ (if p.closer == place then p.taken else 0) + (if p.opener == place then p.taken else 0)
+one_place : (place : ℕ) (p : Pair) → p.opener < p.closer → taken_at place p
+    ≡ (if p.closer == place then p.taken else 0) + (if p.opener == place then p.taken else 0)
 one_place place p lt = grind (arith, common_steps)
 
-fits_at : (runs : List Run) (so_far : List Pair) (place q taken : ℕ) → q ≡ place → taken ≤ (left_at runs so_far q).run.left → used so_far place ≤ (run_of runs place).left
+fits_at : (runs : List Run) (so_far : List Pair) (place q taken : ℕ) → q ≡ place → taken ≤ (left_at runs so_far q).run.left
+    → used so_far place ≤ (run_of runs place).left
     → taken + used so_far place ≤ (run_of runs place).left
 fits_at runs so_far place q taken is le fits =
     let here : taken ≤ (left_at runs so_far place).run.left = subst (λ n. taken ≤ (left_at runs so_far n).run.left) is le in
@@ -100,7 +103,12 @@ all_fit runs _ _ place (NoMore so_far none) fits = omega arith
 all_fit runs _ _ place (NextIs so_far p others next rest) fits =
     let one = one_fits runs so_far place p next fits in
     let more = all_fit runs (p ∷ so_far) others place rest one in
-    omega (arith, one_place place p next.eligible.ordered, filtered (λ (q : Pair). q.closer == place) p others, filtered (λ (q : Pair). q.opener == place) p others)
+    omega (
+      arith,
+      one_place place p next.eligible.ordered,
+      filtered (λ (q : Pair). q.closer == place) p others,
+      filtered (λ (q : Pair). q.opener == place) p others,
+    )
 
 -- the pairs of a run take no more bytes than it has
 pub bytes_fit : (runs : List Run) (place : ℕ) (d : Run) → place < length runs → taken_here place (pairs runs) ≤ (get_or runs place d).left

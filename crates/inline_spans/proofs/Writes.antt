@@ -1,7 +1,9 @@
 -- Rows that are written over others.
-use Rattle.std.proofs.Common.{◌≡◌, ℕ, zero, suc, ◌+◌, ◌-◌, ◌<◌, ◌≤◌, List, [], ◌∷◌, ◌++◌, Bool, true, false, cond, map, refl, sym, ap, ap₂, ◌∙◌, length, get_or, set, take, drop, replicate, arith, append_assoc}
+use Rattle.std.proofs.Common.{◌≡◌, ℕ, zero, suc, ◌+◌, ◌-◌, ◌<◌, ◌≤◌, List, [], ◌∷◌, ◌++◌, Bool, true, false, cond, map, refl, sym, ap, ap₂, ◌∙◌, length, get_or}
+use Rattle.std.proofs.Common.{set, take, drop, replicate, arith, append_assoc}
 use Rattle.std.specs.Prelude.{◌==◌}
-use Rattle.std.proofs.lemmas.List.{append-nil, length-map, length-append, length-drop, length-take-le, take_more, map-append, set-append_right, drop_more, take_at, drop_at, drop_all, take-append-drop, take-map, drop-map, take-replicate, drop-replicate}
+use Rattle.std.proofs.lemmas.List.{append-nil, length-map, length-append, length-drop, length-take-le, take_more, map-append, set-append_right, drop_more}
+use Rattle.std.proofs.lemmas.List.{take_at, drop_at, drop_all, take-append-drop, take-map, drop-map, take-replicate, drop-replicate}
 use Rattle.std.proofs.lemmas.List.Concat.{flat_map-append}
 use borrow.Rule.Slice.PartMut.{put_mid}
 use Rattle.definition_inline.specs.Inline.{Target, Linked, Data}
@@ -50,7 +52,14 @@ part_size xs n size fits =
 
 pub length-over : {X : Type 0} (xs part : List X) (n size : ℕ) → n + size ≤ length xs → length part ≡ size → length (put_mid n size xs part) ≡ length xs
 length-over xs part n size fits is =
-    omega (arith, length-append (take n xs) (part ++ drop size (drop n xs)), length-append part (drop size (drop n xs)), length-take-le n xs (omega arith), length-drop size (drop n xs), length-drop n xs)
+    omega (
+      arith,
+      length-append (take n xs) (part ++ drop size (drop n xs)),
+      length-append part (drop size (drop n xs)),
+      length-take-le n xs (omega arith),
+      length-drop size (drop n xs),
+      length-drop n xs,
+    )
 
 -- the rest of a list that is written over
 over_rest : {X : Type 0} (before rest more : List X) (n size : ℕ) → length before ≡ n → size ≡ length (before ++ rest) - n
@@ -61,7 +70,8 @@ over_rest before rest more n size is_n is_size =
     ∙ ap (λ ys. before ++ (more ++ ys)) (drop_all size rest all) ∙ ap (λ ys. before ++ ys) (append-nil more)
 
 -- the first rows, the text that stays, the rows that are left over, and the last ones
-pub parts_are : {X : Type 0} (old first between last : List X) (closed text opened : ℕ) → length first ≡ closed → length last ≡ opened → closed + text + opened ≤ length old
+pub parts_are : {X : Type 0} (old first between last : List X) (closed text opened : ℕ) → length first ≡ closed → length last ≡ opened
+    → closed + text + opened ≤ length old
     → length between ≡ length old - opened - (closed + text) →
     let second = put_mid (closed + text) (length old - opened - (closed + text)) (first ++ drop closed old) between in
     put_mid (length old - opened) (length second - (length old - opened)) second last ≡ ((first ++ take text (drop closed old)) ++ between) ++ last
@@ -72,7 +82,8 @@ parts_are old first between last closed text opened is_closed is_opened fits is_
     let front = first ++ kept in
     let count : length front ≡ closed + text =
     omega (arith, length-append first kept, length-take-le text (drop closed old) (omega (arith, length-drop closed old)), length-drop closed old) in
-    let split : first ++ drop closed old ≡ front ++ rest = ap (λ xs. first ++ xs) (sym (take-append-drop text (drop closed old))) ∙ sym (append_assoc first kept rest) in
+    let split : first ++ drop closed old ≡ front ++ rest =
+    ap (λ xs. first ++ xs) (sym (take-append-drop text (drop closed old))) ∙ sym (append_assoc first kept rest) in
     let cut : rest ≡ take n rest ++ drop n rest = sym (take-append-drop n rest) in
     let there : length (take n rest) ≡ n = length-take-le n rest (omega (arith, length-drop text (drop closed old), length-drop closed old)) in
     let second : put_mid (closed + text) n (first ++ drop closed old) between ≡ (front ++ between) ++ drop n rest =
@@ -115,7 +126,8 @@ module _ (leads : Target → Linked) (at : ℕ → Linked) where
   byte_view (Call label) marker is = absurd (cons_nil marker [] (sym is))
   byte_view Exit marker is = absurd (cons_nil marker [] (sym is))
 
-  bytes_view : (kept : List InlineRow) (marker n : ℕ) → map text_of kept ≡ replicate n (marker ∷ []) → rows_view at kept ≡ told_rows leads (replicate n (Holds (Data marker)))
+  bytes_view : (kept : List InlineRow) (marker n : ℕ) → map text_of kept ≡ replicate n (marker ∷ [])
+      → rows_view at kept ≡ told_rows leads (replicate n (Holds (Data marker)))
   bytes_view [] marker zero is = refl
   bytes_view [] marker (suc n) is = let size = ap length is in absurd (omega arith)
   bytes_view (row ∷ kept) marker zero is = let size = ap length is in absurd (omega arith)
@@ -125,8 +137,10 @@ module _ (leads : Target → Linked) (at : ℕ → Linked) where
       ap₂ (λ xs ys. xs ++ ys) (byte_view row marker first) (bytes_view kept marker n others)
 
   -- what a run becomes
-  pub told_is : (old first between last : List InlineRow) (spans : RunSpans) (blank : InlineRow) (m n marker : ℕ) → rows_needed spans ≤ length old → m ≡ length spans.closed.now
-      → (((y : InlineRow) → y ≡ Exit → y ≡ Exit) → first ≡ replicate m Exit) → (((y : InlineRow) → y ≡ blank → y ≡ blank) → between ≡ replicate n blank) → last ≡ map (start_row marker) spans.opened.now
+  pub told_is : (old first between last : List InlineRow) (spans : RunSpans) (blank : InlineRow) (m n marker : ℕ) → rows_needed spans ≤ length old
+      → m ≡ length spans.closed.now
+      → (((y : InlineRow) → y ≡ Exit → y ≡ Exit) → first ≡ replicate m Exit) → (((y : InlineRow) → y ≡ blank → y ≡ blank) → between ≡ replicate n blank)
+      → last ≡ map (start_row marker) spans.opened.now
       → row_view at blank ≡ [] → AreBytes marker (length old) old
       → rows_view at (((first ++ take spans.text (drop (length spans.closed.now) old)) ++ between) ++ last) ≡ told_rows leads (rows_of marker spans)
   told_is old first between last spans blank m n marker fits is_m is_first is_between is_last none bytes =
@@ -136,11 +150,13 @@ module _ (leads : Target → Linked) (at : ℕ → Linked) where
       let texts = replicate spans.text (Holds (Data marker)) in
       let starts = map (λ (p : Pair). Opens (span_of marker (pair_view p))) spans.opened.now in
       let are_bytes : map text_of kept ≡ replicate spans.text (marker ∷ []) =
-      sym (take-map text_of spans.text (drop closed old)) ∙ ap (take spans.text) (sym (drop-map text_of closed old) ∙ ap (drop closed) bytes ∙ drop-replicate closed (length old) (marker ∷ []))
+      sym (take-map text_of spans.text (drop closed old)) ∙ ap (take spans.text)
+      (sym (drop-map text_of closed old) ∙ ap (drop closed) bytes ∙ drop-replicate closed (length old) (marker ∷ []))
       ∙ take-replicate spans.text (length old - closed) (marker ∷ []) (omega arith) in
       let front : rows_view at (first ++ kept) ≡ told_rows leads (ends ++ texts) =
       flat_map-append (row_view at) first kept
-      ∙ ap₂ (λ xs ys. xs ++ ys) (ap (rows_view at) (is_first (λ y h. h) ∙ ap (λ k. replicate k Exit) is_m) ∙ ends_view spans.closed.now) (bytes_view kept marker spans.text are_bytes)
+      ∙ ap₂ (λ xs ys. xs ++ ys) (ap (rows_view at) (is_first (λ y h. h) ∙ ap (λ k. replicate k Exit) is_m) ∙ ends_view spans.closed.now)
+      (bytes_view kept marker spans.text are_bytes)
       ∙ sym (flat_map-append (span_row_rows leads) ends texts) in
       let nothing : rows_view at between ≡ [] = ap (rows_view at) (is_between (λ y h. h)) ∙ blank_view blank n none in
       let middle : rows_view at ((first ++ kept) ++ between) ≡ told_rows leads (ends ++ texts) =

@@ -4,7 +4,7 @@ use Rattle.std.specs.List.{flat_map}
 use Rattle.definition_inline.specs.Inline.{Target, Inline}
 use Rattle.definition_inline.specs.Inline as inline
 use Rattle.inline_rows.specs.InlineRows.{part_rows, inline_rows}
-use Rattle.definition_inline.specs.Spans.{Token, Item, Delimiters, emphasized}
+use Rattle.definition_inline.specs.Spans.{Token, Item, Delimiters, with_spans}
 use Rattle.inline_runs.specs.View.{run_view}
 use Rattle.inline_runs.specs.declared.run.Run.{Run}
 use Rattle.inline_rows.specs.View.{rows_view}
@@ -41,6 +41,7 @@ pub record AreWithin (runs : List Run) (slots : List ℕ) (count : ℕ) : Type 0
   pub ends : (i : ℕ) (d : Run) → i < length runs → slice_index slots i + (slice_index_or runs i d).size ≤ count
 
 -- the rows before a container as they were, and then those of its inline structure
-pub record AreTold (leads : Target → inline.Linked) (at : ℕ → inline.Linked) (outer : List InlineRow) (tokens : List Token) (rows : List InlineRow) : Type 0 where
+pub record AreTold (leads : Target → inline.Linked) (at : ℕ → inline.Linked) (outer : List InlineRow) (tokens : List Token)
+    (rows : List InlineRow) : Type 0 where
   pub before : take (length outer) rows ≡ outer
-  pub told : rows_view at (drop (length outer) rows) ≡ inline_rows leads (emphasized tokens)
+  pub told : rows_view at (drop (length outer) rows) ≡ inline_rows leads (with_spans tokens)

@@ -10,11 +10,11 @@ use Rattle.engine_events.specs.declared.state.State.TheVariants as states
 use Rattle.markdown_engine.specs.declared.attempt.Attempt.{Attempt}
 use Rattle.markdown_engine.specs.Context.{Context}
 use Rattle.markdown_engine.specs.Laws.{LawfulAt}
-use Rattle.markdown_engine.specs.Machine.{fresh}
+use Rattle.markdown_engine.specs.Machine.{fresh_config}
 use Rattle.markdown_engine.specs.Order.{open_after}
 use Rattle.markdown_engine.specs.Reading.{Config}
 use Rattle.markdown_engine.specs.Resolving.{ResolvesAt, settles_whole}
-use Rattle.engine_programs.specs.Bodies.{named_all, step_by}
+use Rattle.engine_programs.specs.Bodies.{names_of, step_by}
 use Rattle.engine_programs.specs.Sorts.{fits, implies}
 use Rattle.engine_programs.specs.Stacks.{program_rank, program_valid}
 use Rattle.engine_programs.specs.NameLaws.{implied}
@@ -56,19 +56,26 @@ module _ {T : Type 0} (texts : List ℕ → Option (List ℕ)) (is_punctuation :
   least : 1 < 64
   least = omega arith
 
-  pub inline_lawful : LawfulAt (length x.bytes) (program_valid sorts 64 (length x.bytes)) (step_by (bodies texts is_punctuation x)) (program_rank sorts 64 (length x.bytes))
+  pub inline_lawful : LawfulAt (length x.bytes) (program_valid sorts 64 (length x.bytes)) (step_by (bodies texts is_punctuation x))
+      (program_rank sorts 64 (length x.bytes))
   inline_lawful = program_lawful sorts 64 (length x.bytes) (bodies texts is_punctuation x) least inline_fits
 
   pub inline_resolves : ResolvesAt {M = Inlines} (program_valid sorts 64 (length x.bytes)) (inline_resolved is_punctuation x) settles_whole
-  inline_resolves = resolves_whole is_punctuation x (program_valid sorts 64 (length x.bytes)) (program_resolves sorts 64 (length x.bytes) (bodies texts is_punctuation x) least inline_fits)
+  inline_resolves = resolves_whole is_punctuation x (program_valid sorts 64 (length x.bytes))
+      (program_resolves sorts 64 (length x.bytes) (bodies texts is_punctuation x) least inline_fits)
 
 -- what is open where a state is called
-pub inline_open : {T : Type 0} (texts : List ℕ → Option (List ℕ)) (is_punctuation : ℕ → Bool) (x : Context T) (c : Config Inlines) (stack : List Attempt) (n : Name) → program_valid sorts 64 (length x.bytes) c stack (states.Retry n) → (rest : List EventName) × (open_after [] c.events ≡ named_all c.tokenize_state (sorts n).open_tokens ++ rest)
-inline_open texts is_punctuation x c stack n h = program_open sorts 64 (length x.bytes) (bodies texts is_punctuation x) (least texts is_punctuation x) (inline_fits texts is_punctuation x) c stack n h
+pub inline_open : {T : Type 0} (texts : List ℕ → Option (List ℕ)) (is_punctuation : ℕ
+    → Bool) (x : Context T) (c : Config Inlines) (stack : List Attempt) (n : Name) → program_valid sorts 64 (length x.bytes) c stack (states.Retry n)
+    → (rest : List EventName) × (open_after [] c.events ≡ names_of c.tokenize_state (sorts n).open_tokens ++ rest)
+inline_open texts is_punctuation x c stack n h =
+    program_open sorts 64 (length x.bytes) (bodies texts is_punctuation x) (least texts is_punctuation x) (inline_fits texts is_punctuation x) c stack n h
 
 -- reading may begin with a text, or with a string
-pub text_begins : (size : ℕ) (machine : Inlines) (p : Point) → program_valid sorts 64 size (fresh p machine) [] (states.Next (Inline inline_states.TextStart))
+pub text_begins : (size : ℕ) (machine : Inlines) (p : Point) → program_valid sorts 64 size (fresh_config p machine) []
+    (states.Next (Inline inline_states.TextStart))
 text_begins size machine p = program_begins sorts 64 size (Inline inline_states.TextStart) machine p refl refl refl refl
 
-pub string_begins : (size : ℕ) (machine : Inlines) (p : Point) → program_valid sorts 64 size (fresh p machine) [] (states.Next (Inline inline_states.StringStart))
+pub string_begins : (size : ℕ) (machine : Inlines) (p : Point)
+    → program_valid sorts 64 size (fresh_config p machine) [] (states.Next (Inline inline_states.StringStart))
 string_begins size machine p = program_begins sorts 64 size (Inline inline_states.StringStart) machine p refl refl refl refl

@@ -7,11 +7,11 @@ use Rattle.engine_events.specs.declared.state.Inline.TheVariants as inline_state
 use Rattle.engine_events.specs.declared.state.Name.TheVariants.{Inline}
 use Rattle.engine_events.specs.declared.state.State.TheVariants as states
 use Rattle.markdown_engine.specs.Context.{Context}
-use Rattle.markdown_engine.specs.Machine.{fresh}
+use Rattle.markdown_engine.specs.Machine.{fresh_config}
 use Rattle.markdown_engine.specs.Order.{text_start}
 use Rattle.markdown_engine.specs.Reading.{Config, Runs}
 use Rattle.markdown_engine.specs.Resolving.{resolve_all}
-use Rattle.markdown_engine.specs.VirtualText.{Text, text_to, unskipped}
+use Rattle.markdown_engine.specs.VirtualText.{Text, text_to, without_skips}
 use Rattle.engine_programs.specs.Bodies.{step_by}
 use Rattle.inline_states_resolvers.specs.Resolving.{inline_resolved}
 use Rattle.inline_states.specs.declared.inlines.Inlines.{Inlines}
@@ -19,20 +19,20 @@ use Rattle.inline_states.specs.Inlines.{bodies}
 
 -- all of a text
 abbrev pub text_of : List ℕ → Text
-text_of bytes = text_to (unskipped bytes) (length bytes, 0)
+text_of bytes = text_to (without_skips bytes) (length bytes, 0)
 
 module _ {T : Type 0} (texts : List ℕ → Option (List ℕ)) (is_punctuation : ℕ → Bool) (x : Context T) where
   -- these are the events of the one reading of a text, from a state on
   pub record IsReading (first : InlineName) (machine : Inlines) (events : List Event) : Type 0 where
     pub config : Config Inlines
     pub well : Bool
-    pub runs : Runs (text_of x.bytes) (step_by (bodies texts is_punctuation x)) (fresh text_start machine) [] (states.Next (Inline first)) config well
+    pub runs : Runs (text_of x.bytes) (step_by (bodies texts is_punctuation x)) (fresh_config text_start machine) [] (states.Next (Inline first)) config well
     pub read : events ≡ config.events
 
   -- these are the events of that reading once its resolvers ran
   pub record IsResolved (first : InlineName) (machine : Inlines) (events : List Event) : Type 0 where
     pub read : Config Inlines
-    pub runs : Runs (text_of x.bytes) (step_by (bodies texts is_punctuation x)) (fresh text_start machine) [] (states.Next (Inline first)) read true
+    pub runs : Runs (text_of x.bytes) (step_by (bodies texts is_punctuation x)) (fresh_config text_start machine) [] (states.Next (Inline first)) read true
     pub are : events ≡ (resolve_all (inline_resolved is_punctuation x) read).config.events
 
   -- the events of a text, where contents that may begin with a check begin at these places

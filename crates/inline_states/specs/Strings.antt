@@ -5,6 +5,7 @@ use Rattle.engine_events.specs.declared.state.Inline.TheVariants as inline_state
 use Rattle.engine_events.specs.declared.state.State.TheVariants as states
 use Rattle.engine_programs.specs.Bodies.{Body, Answer, Keep, Register, Tries, Byte, On}
 use Rattle.inline_states_table.specs.Words.{next, retry}
+use Rattle.definition_text.specs.Ascii.{ampersand, backslash}
 
 module _ {M : Type 0} where
   -- at the first byte
@@ -16,9 +17,9 @@ module _ {M : Type 0} where
   abbrev pub string_before : Body M
   string_before =
       Byte (Register resolvers.Data (Register resolvers.String (Answer states.Ok)))
-      (On (λ b. b == 38)
+      (On (λ b. b == ampersand)
       (Tries false (next inline_states.StringBefore) (next inline_states.StringBeforeData) (retry inline_states.CharacterReferenceStart))
-      (On (λ b. b == 92)
+      (On (λ b. b == backslash)
       (Tries false (next inline_states.StringBefore) (next inline_states.StringBeforeData) (retry inline_states.CharacterEscapeStart))
       (Answer (retry inline_states.StringBeforeData))))
 

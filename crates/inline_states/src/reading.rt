@@ -30,7 +30,7 @@ pub fn read_text<T: Tables, A: Allocator + Clone>(
 {
     let machine = Inlines { starts };
     let mut tokenizer = Tokenizer::new(alloc, START, parse_state, machine)?;
-    match tokenizer.whole(State::Next(Name::Inline(Inline::TextStart))) {
+    match tokenizer.read_at_once(State::Next(Name::Inline(Inline::TextStart))) {
         State::Error(message) => Err(*message),
         _ => Ok(tokenizer.events),
     }
@@ -54,7 +54,7 @@ pub fn read_text_in_ranges<T: Tables, A: Allocator + Clone>(
 {
     let machine = Inlines { starts };
     let mut tokenizer = Tokenizer::new(alloc, START, parse_state, machine)?;
-    match tokenizer.in_ranges(cuts, State::Next(Name::Inline(Inline::TextStart))) {
+    match tokenizer.read_in_ranges(cuts, State::Next(Name::Inline(Inline::TextStart))) {
         State::Error(message) => Err(*message),
         _ => Ok(tokenizer.events),
     }
@@ -75,7 +75,7 @@ pub fn resolved_text<T: Tables, A: Allocator + Clone>(
 {
     let machine = Inlines { starts };
     let mut tokenizer = Tokenizer::new(alloc, START, parse_state, machine)?;
-    tokenizer.resolved(State::Next(Name::Inline(Inline::TextStart)))?;
+    tokenizer.read_and_resolve(State::Next(Name::Inline(Inline::TextStart)))?;
     Ok(tokenizer.events)
 }
 
@@ -93,7 +93,7 @@ pub fn read_string<T: Tables, A: Allocator + Clone>(
 {
     let machine = Inlines { starts: &[] };
     let mut tokenizer = Tokenizer::new(alloc, START, parse_state, machine)?;
-    match tokenizer.whole(State::Next(Name::Inline(Inline::StringStart))) {
+    match tokenizer.read_at_once(State::Next(Name::Inline(Inline::StringStart))) {
         State::Error(message) => Err(*message),
         _ => Ok(tokenizer.events),
     }
@@ -113,6 +113,6 @@ pub fn resolved_string<T: Tables, A: Allocator + Clone>(
 {
     let machine = Inlines { starts: &[] };
     let mut tokenizer = Tokenizer::new(alloc, START, parse_state, machine)?;
-    tokenizer.resolved(State::Next(Name::Inline(Inline::StringStart)))?;
+    tokenizer.read_and_resolve(State::Next(Name::Inline(Inline::StringStart)))?;
     Ok(tokenizer.events)
 }

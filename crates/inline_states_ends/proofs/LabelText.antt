@@ -1,8 +1,9 @@
 -- The text of a label, event by event.
-use Rattle.std.proofs.Common.{◌≡◌, ◌∙◌, ℕ, zero, suc, ◌+◌, ◌<◌, ◌≤◌, Bool, true, false, nat_lt, if◌then◌else◌, List, [], ◌∷◌, ◌++◌, ◌||◌, map, refl, sym, ap, arith, add-one}
+use Rattle.std.proofs.Common.{◌≡◌, ◌∙◌, ℕ, zero, suc, ◌+◌, ◌<◌, ◌≤◌, Bool, true, false, nat_lt, if◌then◌else◌, List, [], ◌∷◌, ◌++◌, ◌||◌, map, refl, sym, ap}
+use Rattle.std.proofs.Common.{arith, add-one}
 use Rattle.std.specs.List.{list_any}
 use Rattle.engine_events.specs.declared.event.Event.{Event}
-use Rattle.inline_states_ends.specs.Defined.{label_part, label_text}
+use Rattle.inline_states_ends.specs.Definitions.{label_part, label_text}
 
 yes : {A : Type 0} (b : Bool) (x y : A) → b ≡ true → (if b then x else y) ≡ x
 yes true x y e = refl
@@ -17,7 +18,8 @@ unfolding label_text
 label_text_start bytes es from zero h = refl
 label_text_start bytes es from (suc i) h = yes (nat_lt i from) [] _ (grind arith)
 
-pub label_text_more : (bytes : List ℕ) (es : List Event) (from i : ℕ) → from ≤ i → label_text bytes es from (i + 1) ≡ label_text bytes es from i ++ label_part bytes es i
+pub label_text_more : (bytes : List ℕ) (es : List Event) (from i : ℕ) → from ≤ i
+    → label_text bytes es from (i + 1) ≡ label_text bytes es from i ++ label_part bytes es i
 unfolding label_text
 label_text_more bytes es from i h = ap (label_text bytes es from) (add-one i) ∙ no (nat_lt i from) [] _ (grind arith)
 

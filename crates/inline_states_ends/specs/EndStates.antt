@@ -9,7 +9,11 @@ use Rattle.inline_states_table.specs.declared.Group.TheVariants as groups
 use Rattle.engine_programs.specs.Bodies.{Body, Answer}
 use Rattle.engine_programs.specs.Sorts.{fits, implies}
 use Rattle.inline_states_table.specs.Table.{is_in, sorts}
-use Rattle.inline_states_ends.specs.LabelEnd.{label_end_start, label_end_read, label_end_reference_not_full, label_end_ok, label_end_nok, label_end_resource_start, label_end_resource_before, label_end_resource_open, label_end_resource_destination_after, label_end_resource_destination_missing, label_end_resource_between, label_end_resource_title_after, label_end_resource_end, label_end_reference_full, label_end_reference_full_after, label_end_reference_full_missing, label_end_reference_collapsed, label_end_reference_collapsed_open}
+use Rattle.inline_states_ends.specs.LabelEnd.{label_end_start, label_end_read, label_end_reference_not_full, label_end_ok, label_end_nok}
+use Rattle.inline_states_ends.specs.LabelEnd.{label_end_resource_start, label_end_resource_before, label_end_resource_open}
+use Rattle.inline_states_ends.specs.LabelEnd.{label_end_resource_destination_after, label_end_resource_destination_missing, label_end_resource_between}
+use Rattle.inline_states_ends.specs.LabelEnd.{label_end_resource_title_after, label_end_resource_end, label_end_reference_full, label_end_reference_full_after}
+use Rattle.inline_states_ends.specs.LabelEnd.{label_end_reference_full_missing, label_end_reference_collapsed, label_end_reference_collapsed_open}
 
 module _ {T M : Type 0} (x : Context T) where
   abbrev pub end_body : InlineName → Body M
@@ -34,6 +38,7 @@ module _ {T M : Type 0} (x : Context T) where
   end_body n = Answer states.Nok
 
 -- they fit the table
-pub ends_fit : (M : Type 0) {T : Type 0} (x : Context T) (n : InlineName) → implies (is_in groups.Ends n) (fits sorts 64 (Inline n) (end_body {M = M} x n)) ≡ true
+pub ends_fit : (M : Type 0) {T : Type 0} (x : Context T) (n : InlineName)
+    → implies (is_in groups.Ends n) (fits sorts 64 (Inline n) (end_body {M = M} x n)) ≡ true
 ends_fit M x inline_states.LabelEndStart = refl
 ends_fit M x n = refl

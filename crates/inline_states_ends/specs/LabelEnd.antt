@@ -1,20 +1,22 @@
 -- What the states of `label_end` do.
-use Rattle.std.specs.Prelude.{is_some, ℕ, Bool, true, false, not, nat_lt, List, Option, None, Some, refl, length, take, ◌==◌, ◌&&◌, ◌||◌, ◌-◌, ◌∷◌, ◌++◌, [], if◌then◌else◌}
+use Rattle.std.specs.Prelude.{is_some, ℕ, Bool, true, false, not, nat_lt, List, Option, None, Some, refl, length, take, ◌==◌, ◌&&◌, ◌||◌, ◌-◌, ◌∷◌, ◌++◌, []}
+use Rattle.std.specs.Prelude.{if◌then◌else◌}
 use Rattle.engine_events.specs.declared.event.Name.TheVariants as names
 use Rattle.engine_events.specs.declared.resolve.Name.TheVariants as resolvers
 use Rattle.engine_events.specs.declared.state.Inline.TheVariants as inline_states
 use Rattle.engine_events.specs.declared.state.State.TheVariants as states
 use Rattle.markdown_engine.specs.Context.{Context}
 use Rattle.markdown_engine.specs.Reading.{Config}
-use Rattle.engine_programs.specs.Bodies.{Fixed, Body, Answer, Enter, Exit, Keep, Hold, RegisterFirst, Tries, Byte, On, Test, around}
+use Rattle.engine_programs.specs.Bodies.{FixedName, Body, Answer, Enter, Exit, Keep, Hold, RegisterFirst, Tries, Byte, On, Test, around}
 use Rattle.inline_states_table.specs.Words.{next, retry}
 use Rattle.engine_events.specs.contracts.label.LabelKind.{the_type}
 use Rattle.engine_events.specs.declared.label.Label.{Label}
 use Rattle.engine_events.specs.declared.label.LabelKind.TheVariants as kinds
 use Rattle.engine_events.specs.declared.label.LabelStart.{LabelStart}
 use Rattle.engine_events.specs.declared.state.Inline.{Inline as InlineName}
-use Rattle.inline_states_ends.specs.Defined.{has_kind, is_among, is_defined, label_text, last_start, plus}
+use Rattle.inline_states_ends.specs.Definitions.{has_kind, is_among, is_defined, label_text, last_start, plus}
 use denote.Enum.Bare.{sameb}
+use Rattle.definition_text.specs.Ascii.{tab, line_feed, space, double_quote, single_quote, left_parenthesis, right_parenthesis, left_bracket, right_bracket}
 
 -- ---- starts
 
@@ -52,26 +54,30 @@ module _ {M : Type 0} where
   has_start c = is_some (last_start c.tokenize_state.label_starts)
 
   -- the text after the last start is one of these
-  abbrev pub starts_defined : List ℕ → List (List ℕ) → Config M → Bool
-  starts_defined bytes labels c = is_defined bytes labels c.events c.tokenize_state.end (last_start c.tokenize_state.label_starts)
+  abbrev pub is_start_defined : List ℕ → List (List ℕ) → Config M → Bool
+  is_start_defined bytes labels c = is_defined bytes labels c.events c.tokenize_state.end (last_start c.tokenize_state.label_starts)
 
   -- what may follow a text, that is defined or not
-  abbrev pub end_followed : InlineName → Body M
-  end_followed other =
-      On (λ b. b == 40) (Tries false (next inline_states.LabelEndOk) (next other) (retry inline_states.LabelEndResourceStart))
-      (On (λ b. b == 91) (Tries false (next inline_states.LabelEndOk) (next inline_states.LabelEndReferenceNotFull) (retry inline_states.LabelEndReferenceFull))
+  abbrev pub end_follow : InlineName → Body M
+  end_follow other =
+      On (λ b. b == left_parenthesis) (Tries false (next inline_states.LabelEndOk) (next other) (retry inline_states.LabelEndResourceStart))
+      (On (λ b. b == left_bracket) (Tries false (next inline_states.LabelEndOk) (next inline_states.LabelEndReferenceNotFull)
+      (retry inline_states.LabelEndReferenceFull))
       (Answer (retry other)))
 
   abbrev pub end_after_link : List ℕ → List (List ℕ) → Body M
-  end_after_link bytes definitions = Test (starts_defined bytes definitions) (end_followed inline_states.LabelEndOk) (end_followed inline_states.LabelEndNok)
+  end_after_link bytes definitions = Test (is_start_defined bytes definitions) (end_follow inline_states.LabelEndOk) (end_follow inline_states.LabelEndNok)
 
   -- the last start is no call
-  abbrev pub end_undefined : Body M → Body M
-  end_undefined b =
-      Keep (λ c. record c.tokenize_state { label_starts = without_last c.tokenize_state.label_starts ++ undefined_start (last_start c.tokenize_state.label_starts) }) (λ c i. refl) b
+  abbrev pub end_undefine : Body M → Body M
+  end_undefine b =
+      Keep (λ c. record c.tokenize_state {
+        label_starts = without_last c.tokenize_state.label_starts
+            ++ undefined_start (last_start c.tokenize_state.label_starts);
+      }) (λ c i. refl) b
 
-  abbrev pub end_formed : Body M
-  end_formed =
+  abbrev pub end_form : Body M
+  end_form =
       Test has_start
       (Keep (λ c. record c.tokenize_state {
         label_starts = without_last c.tokenize_state.label_starts;
@@ -82,8 +88,8 @@ module _ {M : Type 0} where
       (RegisterFirst resolvers.Label (Answer states.Ok)))
       (Answer states.Nok)
 
-  abbrev pub end_loose : Body M
-  end_loose =
+  abbrev pub end_loosen : Body M
+  end_loosen =
       Keep (λ c. record c.tokenize_state {
         label_starts = without_last c.tokenize_state.label_starts;
         label_starts_loose = c.tokenize_state.label_starts_loose ++ start_list (last_start c.tokenize_state.label_starts);
@@ -92,22 +98,22 @@ module _ {M : Type 0} where
       (Answer states.Nok)
 
   -- the label of a full reference is one of these
-  abbrev pub reference_defined : List ℕ → List (List ℕ) → Config M → Bool
-  reference_defined bytes definitions c = is_among definitions (label_text bytes c.events (plus 7 c.tokenize_state.end) (length c.events - 4))
+  abbrev pub is_reference_defined : List ℕ → List (List ℕ) → Config M → Bool
+  is_reference_defined bytes definitions c = is_among definitions (label_text bytes c.events (plus 7 c.tokenize_state.end) (length c.events - 4))
 
 module _ {M : Type 0} where
   -- at a `]`
   abbrev pub label_end_start : Bool → Body M
   label_end_start on =
       Byte (Answer states.Nok)
-      (On (λ b. b == 93)
+      (On (λ b. b == right_bracket)
       (Test (λ c. on)
       (Test has_start
       (Keep (λ c. record c.tokenize_state { end = length c.events }) (λ c i. refl)
       (Test (λ c. is_inactive c.tokenize_state.start (last_start c.tokenize_state.label_starts))
       (Answer (retry inline_states.LabelEndNok))
-      (Enter (Fixed names.LabelEnd)
-      (around (Fixed names.LabelMarker) (Exit (Fixed names.LabelEnd) (Answer (next inline_states.LabelEndAfter)))))))
+      (Enter (FixedName names.LabelEnd)
+      (around (FixedName names.LabelMarker) (Exit (FixedName names.LabelEnd) (Answer (next inline_states.LabelEndAfter)))))))
       (Answer states.Nok))
       (Answer states.Nok))
       (Answer states.Nok))
@@ -116,8 +122,8 @@ module _ {M : Type 0} where
   abbrev pub label_end_after : Bool → List ℕ → List (List ℕ) → List (List ℕ) → Body M
   label_end_after links bytes definitions footnotes =
       Test (λ c. not (has_kind kinds.GfmFootnote (last_start c.tokenize_state.label_starts))) (end_after_link bytes definitions)
-      (Test (starts_defined bytes footnotes) (Answer (retry inline_states.LabelEndOk))
-      (Test (λ c. links) (end_undefined (end_after_link bytes definitions)) (Answer (retry inline_states.LabelEndNok))))
+      (Test (is_start_defined bytes footnotes) (Answer (retry inline_states.LabelEndOk))
+      (Test (λ c. links) (end_undefine (end_after_link bytes definitions)) (Answer (retry inline_states.LabelEndNok))))
 
   -- the same, by what the text is read with
   abbrev pub label_end_read : {T : Type 0} → Context T → Body M
@@ -127,52 +133,53 @@ module _ {M : Type 0} where
   abbrev pub label_end_reference_not_full : List ℕ → List (List ℕ) → Body M
   label_end_reference_not_full bytes definitions =
       Test (λ c. c.tokenize_state.seen) (Answer (retry inline_states.LabelEndNok))
-      (Test (starts_defined bytes definitions)
+      (Test (is_start_defined bytes definitions)
       (Tries false (next inline_states.LabelEndOk) (next inline_states.LabelEndOk) (retry inline_states.LabelEndReferenceCollapsed))
       (Answer (retry inline_states.LabelEndNok)))
 
   -- where a link, an image or a call ends
   abbrev pub label_end_ok : Body M
   label_end_ok =
-      end_formed
+      end_form
 
   -- where none ends
   abbrev pub label_end_nok : Body M
   label_end_nok =
-      end_loose
+      end_loosen
 
   -- at a `(`
   abbrev pub label_end_resource_start : Body M
   label_end_resource_start =
       Byte (Answer states.Nok)
-      (On (λ b. b == 40)
+      (On (λ b. b == left_parenthesis)
       (Keep (λ c. record c.tokenize_state { connect = false }) (λ c i. refl)
-      (Enter (Fixed names.Resource) (around (Fixed names.ResourceMarker) (Answer (next inline_states.LabelEndResourceBefore)))))
+      (Enter (FixedName names.Resource) (around (FixedName names.ResourceMarker) (Answer (next inline_states.LabelEndResourceBefore)))))
       (Answer states.Nok))
 
   -- after the `(`
   abbrev pub label_end_resource_before : Body M
   label_end_resource_before =
-      On (λ b. (b == 9) || (b == 10) || (b == 32))
+      On (λ b. (b == tab) || (b == line_feed) || (b == space))
       (Tries false (next inline_states.LabelEndResourceOpen) (next inline_states.LabelEndResourceOpen) (retry inline_states.SpaceOrTabEolStart))
       (Answer (retry inline_states.LabelEndResourceOpen))
 
   -- before a destination, or at the `)`
   abbrev pub label_end_resource_open : Body M
   label_end_resource_open =
-      On (λ b. b == 41) (Answer (retry inline_states.LabelEndResourceEnd))
+      On (λ b. b == right_parenthesis) (Answer (retry inline_states.LabelEndResourceEnd))
       (Hold 1 names.ResourceDestination
       (Hold 2 names.ResourceDestinationLiteral
       (Hold 3 names.ResourceDestinationLiteralMarker
       (Hold 4 names.ResourceDestinationRaw
       (Hold 5 names.ResourceDestinationString
       (Keep (λ c. record c.tokenize_state { size_b = 32 }) (λ c i. refl)
-      (Tries false (next inline_states.LabelEndResourceDestinationAfter) (next inline_states.LabelEndResourceDestinationMissing) (retry inline_states.DestinationStart))))))))
+      (Tries false (next inline_states.LabelEndResourceDestinationAfter) (next inline_states.LabelEndResourceDestinationMissing)
+      (retry inline_states.DestinationStart))))))))
 
   -- after the destination
   abbrev pub label_end_resource_destination_after : Body M
   label_end_resource_destination_after =
-      On (λ b. (b == 9) || (b == 10) || (b == 32))
+      On (λ b. (b == tab) || (b == line_feed) || (b == space))
       (Tries false (next inline_states.LabelEndResourceBetween) (next inline_states.LabelEndResourceEnd) (retry inline_states.SpaceOrTabEolStart))
       (Answer (retry inline_states.LabelEndResourceEnd))
 
@@ -184,7 +191,7 @@ module _ {M : Type 0} where
   -- after the destination and white space
   abbrev pub label_end_resource_between : Body M
   label_end_resource_between =
-      On (λ b. (b == 34) || (b == 39) || (b == 40))
+      On (λ b. (b == double_quote) || (b == single_quote) || (b == left_parenthesis))
       (Hold 1 names.ResourceTitle
       (Hold 2 names.ResourceTitleMarker
       (Hold 3 names.ResourceTitleString
@@ -194,7 +201,7 @@ module _ {M : Type 0} where
   -- after the title
   abbrev pub label_end_resource_title_after : Body M
   label_end_resource_title_after =
-      On (λ b. (b == 9) || (b == 10) || (b == 32))
+      On (λ b. (b == tab) || (b == line_feed) || (b == space))
       (Tries false (next inline_states.LabelEndResourceEnd) (next inline_states.LabelEndResourceEnd) (retry inline_states.SpaceOrTabEolStart))
       (Answer (retry inline_states.LabelEndResourceEnd))
 
@@ -202,13 +209,13 @@ module _ {M : Type 0} where
   abbrev pub label_end_resource_end : Body M
   label_end_resource_end =
       Byte (Answer states.Nok)
-      (On (λ b. b == 41) (around (Fixed names.ResourceMarker) (Exit (Fixed names.Resource) (Answer states.Ok))) (Answer states.Nok))
+      (On (λ b. b == right_parenthesis) (around (FixedName names.ResourceMarker) (Exit (FixedName names.Resource) (Answer states.Ok))) (Answer states.Nok))
 
   -- at a `[`
   abbrev pub label_end_reference_full : Body M
   label_end_reference_full =
       Byte (Answer states.Nok)
-      (On (λ b. b == 91)
+      (On (λ b. b == left_bracket)
       (Hold 1 names.Reference
       (Hold 2 names.ReferenceMarker
       (Hold 3 names.ReferenceString
@@ -219,7 +226,7 @@ module _ {M : Type 0} where
   abbrev pub label_end_reference_full_after : List ℕ → List (List ℕ) → Body M
   label_end_reference_full_after bytes definitions =
       Keep (λ c. record c.tokenize_state { seen = true }) (λ c i. refl)
-      (Test (reference_defined bytes definitions) (Answer states.Ok) (Answer states.Nok))
+      (Test (is_reference_defined bytes definitions) (Answer states.Ok) (Answer states.Nok))
 
   -- where no label is
   abbrev pub label_end_reference_full_missing : Body M
@@ -230,12 +237,12 @@ module _ {M : Type 0} where
   abbrev pub label_end_reference_collapsed : Body M
   label_end_reference_collapsed =
       Byte (Answer states.Nok)
-      (On (λ b. b == 91)
-      (Enter (Fixed names.Reference) (around (Fixed names.ReferenceMarker) (Answer (next inline_states.LabelEndReferenceCollapsedOpen))))
+      (On (λ b. b == left_bracket)
+      (Enter (FixedName names.Reference) (around (FixedName names.ReferenceMarker) (Answer (next inline_states.LabelEndReferenceCollapsedOpen))))
       (Answer states.Nok))
 
   -- at the `]`
   abbrev pub label_end_reference_collapsed_open : Body M
   label_end_reference_collapsed_open =
       Byte (Answer states.Nok)
-      (On (λ b. b == 93) (around (Fixed names.ReferenceMarker) (Exit (Fixed names.Reference) (Answer states.Ok))) (Answer states.Nok))
+      (On (λ b. b == right_bracket) (around (FixedName names.ReferenceMarker) (Exit (FixedName names.Reference) (Answer states.Ok))) (Answer states.Nok))

@@ -1,3 +1,3 @@
-pub mod Defined
+pub mod Definitions
 pub mod LabelEnd
 pub mod EndStates

@@ -15,7 +15,7 @@
 ghost use Rattle.std.specs.Prelude.{[], ◌∷◌};
 ghost use Rattle.engine_events.specs.declared.event.Name.TheVariants as names;
 ghost use Rattle.markdown_engine.specs.Machine.{config, constructs_of, bytes_of, definitions_of, read_with};
-ghost use Rattle.engine_programs.specs.Bodies.{Fixed};
+ghost use Rattle.engine_programs.specs.Bodies.{FixedName};
 ghost use Rattle.engine_programs.specs.Stacks.{Does, IsOpen};
 ghost use Rattle.inline_states_ends.specs.LabelEnd.{label_end_start, label_end_read, label_end_reference_not_full, label_end_ok};
 ghost use Rattle.inline_states_ends.specs.LabelEnd.{label_end_nok, label_end_resource_start, label_end_resource_before};
@@ -26,12 +26,12 @@ ghost use Rattle.inline_states_ends.specs.LabelEnd.{label_end_reference_full_aft
 ghost use Rattle.inline_states_ends.specs.LabelEnd.{label_end_reference_collapsed, label_end_reference_collapsed_open};
 ghost use Rattle.std.specs.Prelude.{◌≡◌, ◌++◌, Some, OnOk};
 ghost use Rattle.engine_events.specs.declared.label.LabelKind.TheVariants as kinds;
-ghost use Rattle.inline_states_ends.specs.Defined.{has_kind, last_start};
-ghost use Rattle.inline_states_ends.specs.LabelEnd.{end_after_link, end_followed, end_formed, end_loose, end_undefined, formed_start};
-ghost use Rattle.inline_states_ends.specs.LabelEnd.{has_start, is_inactive, reference_defined, starts_defined, undefined_start};
+ghost use Rattle.inline_states_ends.specs.Definitions.{has_kind, last_start};
+ghost use Rattle.inline_states_ends.specs.LabelEnd.{end_after_link, end_follow, end_form, end_loosen, end_undefine, formed_start};
+ghost use Rattle.inline_states_ends.specs.LabelEnd.{has_start, is_inactive, is_reference_defined, is_start_defined, undefined_start};
 ghost use Rattle.inline_states_ends.specs.LabelEnd.{without_last};
 
-use crate::defined::{is_call_defined, is_link_defined, is_reference_defined};
+use crate::definitions::{is_call_defined, is_link_defined, is_reference_defined};
 use engine_programs::around::{around, begin};
 use engine_programs::steps::{around_to, attempt_to, exit_to};
 use inline_states_table::{next, retry};
@@ -104,7 +104,7 @@ fn undefine<A: Allocator>(starts: &mut Vec<LabelStart, A>) -> Result<(), AllocEr
 
 /// At what follows a text: another state than a label's end where there is none.
 fn follow<M, T, A: Allocator>(tokenizer: &mut Tokenizer<'_, M, T, A>, other: Inline) -> State
-    ensures { Does (end_followed other) tokenizer.old tokenizer.new result }
+    ensures { Does (end_follow other) tokenizer.old tokenizer.new result }
 {
     match tokenizer.current {
         Some(b'(') => attempt_to(
@@ -135,8 +135,8 @@ fn after_link<M, T, A: Allocator>(tokenizer: &mut Tokenizer<'_, M, T, A>) -> Sta
 }
 
 /// At what follows the text of a footnote's start that is no call.
-fn after_undefined<M, T, A: Allocator>(tokenizer: &mut Tokenizer<'_, M, T, A>) -> State
-    ensures { Does (end_undefined (end_after_link (bytes_of tokenizer.old) (definitions_of tokenizer.old))) tokenizer.old tokenizer.new result }
+fn after_no_call<M, T, A: Allocator>(tokenizer: &mut Tokenizer<'_, M, T, A>) -> State
+    ensures { Does (end_undefine (end_after_link (bytes_of tokenizer.old) (definitions_of tokenizer.old))) tokenizer.old tokenizer.new result }
 {
     if undefine(&mut tokenizer.tokenize_state.label_starts).is_err() {
         return State::out_of_memory();
@@ -146,7 +146,7 @@ fn after_undefined<M, T, A: Allocator>(tokenizer: &mut Tokenizer<'_, M, T, A>) -
 
 /// Keeps the label that is formed.
 fn form<M, T, A: Allocator>(tokenizer: &mut Tokenizer<'_, M, T, A>) -> State
-    ensures { Does end_formed tokenizer.old tokenizer.new result }
+    ensures { Does end_form tokenizer.old tokenizer.new result }
 {
     let Some(start) = last_start(tokenizer) else {
         return State::Nok;
@@ -184,7 +184,7 @@ fn formed_start(formed: usize, start: &LabelStart) -> usize
 
 /// Keeps that the last start found no end.
 fn loosen<M, T, A: Allocator>(tokenizer: &mut Tokenizer<'_, M, T, A>) -> State
-    ensures { Does end_loose tokenizer.old tokenizer.new result }
+    ensures { Does end_loosen tokenizer.old tokenizer.new result }
 {
     if let Some(start) = last_start(tokenizer) {
         if tokenizer
@@ -238,7 +238,7 @@ pub fn after<M, T, A: Allocator>(tokenizer: &mut Tokenizer<'_, M, T, A>) -> Stat
             Ok(true) => retry(Inline::LabelEndOk),
             Ok(false) => {
                 if tokenizer.parse_state.options.constructs.label_start_link {
-                    after_undefined(tokenizer)
+                    after_no_call(tokenizer)
                 } else {
                     retry(Inline::LabelEndNok)
                 }
@@ -401,7 +401,7 @@ pub fn resource_title_after<M, T, A: Allocator>(tokenizer: &mut Tokenizer<'_, M,
 
 /// At the `)`.
 pub fn resource_end<M, T, A: Allocator>(tokenizer: &mut Tokenizer<'_, M, T, A>) -> State
-    requires { IsOpen (Fixed names.Resource ∷ []) tokenizer.old }
+    requires { IsOpen (FixedName names.Resource ∷ []) tokenizer.old }
     ensures { Does label_end_resource_end tokenizer.old tokenizer.new result }
 {
     if tokenizer.current != Some(b')') {
@@ -470,7 +470,7 @@ pub fn reference_collapsed<M, T, A: Allocator>(tokenizer: &mut Tokenizer<'_, M, 
 
 /// At the `]`.
 pub fn reference_collapsed_open<M, T, A: Allocator>(tokenizer: &mut Tokenizer<'_, M, T, A>) -> State
-    requires { IsOpen (Fixed names.Reference ∷ []) tokenizer.old }
+    requires { IsOpen (FixedName names.Reference ∷ []) tokenizer.old }
     ensures { Does label_end_reference_collapsed_open tokenizer.old tokenizer.new result }
 {
     if tokenizer.current != Some(b']') {

@@ -7,7 +7,7 @@ ghost use Rattle.engine_programs.specs.Stacks.{Does, IsOpen};
 ghost use Rattle.inline_states_table.specs.Table.{sorts};
 ghost use Rattle.inline_states_ends.specs.EndStates.{end_body};
 
-mod defined;
+mod definitions;
 pub mod label_end;
 
 use markdown_engine::state::{Inline, State};

@@ -1,5 +1,6 @@
 -- What the states of `gfm_autolink_literal` do.
-use Rattle.std.specs.Prelude.{ℕ, Bool, true, false, not, nat_le, nat_lt, is_none, if◌then◌else◌, ◌==◌, ◌&&◌, ◌||◌, List, Option, None, slice_get, take, drop, refl}
+use Rattle.std.specs.Prelude.{ℕ, Bool, true, false, not, nat_le, nat_lt, is_none, if◌then◌else◌, ◌==◌, ◌&&◌, ◌||◌, List, Option, None, slice_get, take, drop}
+use Rattle.std.specs.Prelude.{refl}
 use Rattle.std.specs.Char.{is_ascii_alphabetic, is_ascii_alphanumeric}
 use denote.Enum.Bare.{sameb}
 use Rattle.engine_events.specs.declared.event.Name.TheVariants as names
@@ -10,8 +11,11 @@ use Rattle.engine_text.specs.Characters.{kind_of_any}
 use Rattle.engine_text.specs.contracts.char.Kind.{the_type}
 use Rattle.engine_text.specs.declared.char.Kind.TheVariants.{Other}
 use Rattle.markdown_engine.specs.Reading.{Config}
-use Rattle.engine_programs.specs.Bodies.{Fixed, Body, Answer, Consume, Enter, Exit, Keep, Tries, Byte, On, Test, has}
+use Rattle.engine_programs.specs.Bodies.{FixedName, Body, Answer, Consume, Enter, Exit, Keep, Tries, Byte, On, Test, has}
 use Rattle.inline_states_table.specs.Words.{next, retry, more}
+use Rattle.definition_text.specs.Ascii.{tab, line_feed, space, exclamation_mark, double_quote, ampersand, single_quote, left_parenthesis, right_parenthesis}
+use Rattle.definition_text.specs.Ascii.{asterisk, hyphen, dot, slash, colon, semicolon, less_than, question_mark, left_bracket, right_bracket, underscore}
+use Rattle.definition_text.specs.Ascii.{tilde, delete}
 
 -- ---- characters
 
@@ -20,27 +24,29 @@ abbrev pub is_plain : (ℕ → Bool) → List ℕ → ℕ → ℕ → Bool
 is_plain is_punctuation bytes index b = sameb the_type (kind_of_any is_punctuation (first_code (take (width b) (drop index bytes)))) Other
 
 abbrev pub is_control : ℕ → Bool
-is_control b = nat_lt b 32 || (b == 127)
+is_control b = nat_lt b 32 || (b == delete)
 
 -- a literal that begins with `www.` may follow this byte
 abbrev pub is_before_www : ℕ → Bool
-is_before_www b = (b == 9) || (b == 10) || (b == 32) || (b == 40) || (b == 42) || (b == 91) || (b == 93) || (b == 95) || (b == 126)
+is_before_www b = (b == tab) || (b == line_feed) || (b == space) || (b == left_parenthesis) || (b == asterisk) || (b == left_bracket) || (b == right_bracket)
+    || (b == underscore) || (b == tilde)
 
 -- a literal ends before these
 abbrev pub is_hard_end : ℕ → Bool
-is_hard_end b = (b == 9) || (b == 10) || (b == 32) || (b == 60)
+is_hard_end b = (b == tab) || (b == line_feed) || (b == space) || (b == less_than)
 
 -- what is cut from the end of a literal, but for `)` and references
 abbrev pub is_trail : ℕ → Bool
-is_trail b = (b == 33) || (b == 34) || (b == 39) || (b == 42) || (b == 44) || (b == 46) || (b == 58) || (b == 59) || (b == 63) || (b == 95) || (b == 126)
+is_trail b = (b == exclamation_mark) || (b == double_quote) || (b == single_quote) || (b == asterisk) || (b == 44) || (b == dot) || (b == colon)
+    || (b == semicolon) || (b == question_mark) || (b == underscore) || (b == tilde)
 
 -- a trail may begin with this byte
 abbrev pub may_trail : ℕ → Bool
-may_trail b = (b == 38) || (b == 41) || (b == 93) || is_trail b
+may_trail b = (b == ampersand) || (b == right_parenthesis) || (b == right_bracket) || is_trail b
 
 -- after a `]` that a literal ends before
 abbrev pub is_after_bracket : ℕ → Bool
-is_after_bracket b = (b == 9) || (b == 10) || (b == 32) || (b == 40) || (b == 91)
+is_after_bracket b = (b == tab) || (b == line_feed) || (b == space) || (b == left_parenthesis) || (b == left_bracket)
 
 -- the byte of `https`, in either case, after so many
 abbrev pub is_scheme_byte : ℕ → ℕ → Bool
@@ -67,8 +73,8 @@ module _ {M : Type 0} where
   is_plain_here is_punctuation bytes c = has (is_plain is_punctuation bytes c.point.index) c.current
 
   -- where a domain may begin
-  abbrev pub domain_begun : (ℕ → Bool) → List ℕ → Body M
-  domain_begun is_punctuation bytes =
+  abbrev pub begin_domain : (ℕ → Bool) → List ℕ → Body M
+  begin_domain is_punctuation bytes =
       Byte (Answer states.Nok)
       (On is_control (Answer states.Nok)
       (Test (is_plain_here is_punctuation bytes)
@@ -79,20 +85,20 @@ module _ {M : Type 0} where
   abbrev pub gfm_autolink_literal_protocol_start : Bool → Body M
   gfm_autolink_literal_protocol_start on =
       Test (λ c. on && not (has is_ascii_alphabetic c.previous))
-      (Enter (Fixed names.GfmAutolinkLiteralProtocol)
+      (Enter (FixedName names.GfmAutolinkLiteralProtocol)
       (Keep (λ c. record c.tokenize_state { size = 0 }) (λ c i. refl)
       (Tries false (next inline_states.GfmAutolinkLiteralProtocolAfter) states.Nok (retry inline_states.GfmAutolinkLiteralProtocolPrefixInside))))
       (Answer states.Nok)
 
   -- after the literal
   abbrev pub gfm_autolink_literal_protocol_after : Body M
-  gfm_autolink_literal_protocol_after = Exit (Fixed names.GfmAutolinkLiteralProtocol) (Answer states.Ok)
+  gfm_autolink_literal_protocol_after = Exit (FixedName names.GfmAutolinkLiteralProtocol) (Answer states.Ok)
 
   -- in `http` or `https`
   abbrev pub gfm_autolink_literal_protocol_prefix_inside : Body M
   gfm_autolink_literal_protocol_prefix_inside =
       Byte (Answer states.Nok)
-      (On (λ b. b == 58)
+      (On (λ b. b == colon)
       (Test (λ c. (c.tokenize_state.size == 4) || (c.tokenize_state.size == 5))
       (Keep (λ c. record c.tokenize_state { size = 0 }) (λ c i. refl) (Consume (Answer (next inline_states.GfmAutolinkLiteralProtocolSlashesInside))))
       (Answer states.Nok))
@@ -105,30 +111,30 @@ module _ {M : Type 0} where
   abbrev pub gfm_autolink_literal_protocol_slashes_inside : (ℕ → Bool) → List ℕ → Body M
   gfm_autolink_literal_protocol_slashes_inside is_punctuation bytes =
       Test (λ c. nat_lt c.tokenize_state.size 2)
-      (On (λ b. b == 47)
+      (On (λ b. b == slash)
       (Keep (λ c. record c.tokenize_state { size = more c.tokenize_state.size }) (λ c i. refl)
       (Consume (Answer (next inline_states.GfmAutolinkLiteralProtocolSlashesInside))))
       (Answer states.Nok))
-      (domain_begun is_punctuation bytes)
+      (begin_domain is_punctuation bytes)
 
   -- at a `w`
   abbrev pub gfm_autolink_literal_www_start : Bool → Body M
   gfm_autolink_literal_www_start on =
       Test (λ c. on && ((is_none c.previous || has is_before_www c.previous) && not (is_known c)))
-      (Enter (Fixed names.GfmAutolinkLiteralWww)
+      (Enter (FixedName names.GfmAutolinkLiteralWww)
       (Keep (λ c. record c.tokenize_state { size = 0 }) (λ c i. refl)
       (Tries false (next inline_states.GfmAutolinkLiteralWwwAfter) states.Nok (retry inline_states.GfmAutolinkLiteralWwwPrefixInside))))
       (Answer states.Nok)
 
   -- after the literal
   abbrev pub gfm_autolink_literal_www_after : Body M
-  gfm_autolink_literal_www_after = Exit (Fixed names.GfmAutolinkLiteralWww) (Answer states.Ok)
+  gfm_autolink_literal_www_after = Exit (FixedName names.GfmAutolinkLiteralWww) (Answer states.Ok)
 
   -- in `www.`
   abbrev pub gfm_autolink_literal_www_prefix_inside : Body M
   gfm_autolink_literal_www_prefix_inside =
       Byte (Answer states.Nok)
-      (On (λ b. b == 46)
+      (On (λ b. b == dot)
       (Test (λ c. c.tokenize_state.size == 3) (Consume (Answer (next inline_states.GfmAutolinkLiteralWwwPrefixAfter))) (Answer states.Nok))
       (On (λ b. (b == 87) || (b == 119))
       (Test (λ c. nat_lt c.tokenize_state.size 3)
@@ -139,16 +145,17 @@ module _ {M : Type 0} where
 
   -- after `www.`, of which no part has a `_`
   abbrev pub gfm_autolink_literal_www_prefix_after : (ℕ → Bool) → List ℕ → Body M
-  gfm_autolink_literal_www_prefix_after is_punctuation bytes = domain_begun is_punctuation bytes
+  gfm_autolink_literal_www_prefix_after is_punctuation bytes = begin_domain is_punctuation bytes
 
   -- in a domain
   abbrev pub gfm_autolink_literal_domain_inside : (ℕ → Bool) → List ℕ → Body M
   gfm_autolink_literal_domain_inside is_punctuation bytes =
       Byte (Answer (retry inline_states.GfmAutolinkLiteralDomainAfter))
-      (On (λ b. (b == 46) || (b == 95))
+      (On (λ b. (b == dot) || (b == underscore))
       (Test is_known (Answer (retry inline_states.GfmAutolinkLiteralDomainAtPunctuation))
-      (Tries true (next inline_states.GfmAutolinkLiteralDomainAfter) (next inline_states.GfmAutolinkLiteralDomainAtPunctuation) (retry inline_states.GfmAutolinkLiteralTrail)))
-      (On (λ b. (b == 45) || goes_on b) (Consume (Answer (next inline_states.GfmAutolinkLiteralDomainInside)))
+      (Tries true (next inline_states.GfmAutolinkLiteralDomainAfter) (next inline_states.GfmAutolinkLiteralDomainAtPunctuation)
+      (retry inline_states.GfmAutolinkLiteralTrail)))
+      (On (λ b. (b == hyphen) || goes_on b) (Consume (Answer (next inline_states.GfmAutolinkLiteralDomainInside)))
       (Test (is_plain_here is_punctuation bytes)
       (Consume (Answer (next inline_states.GfmAutolinkLiteralDomainInside)))
       (Answer (retry inline_states.GfmAutolinkLiteralDomainAfter)))))
@@ -157,7 +164,7 @@ module _ {M : Type 0} where
   abbrev pub gfm_autolink_literal_domain_at_punctuation : Body M
   gfm_autolink_literal_domain_at_punctuation =
       Byte (Answer states.Nok)
-      (On (λ b. b == 95)
+      (On (λ b. b == underscore)
       (Keep (λ c. record c.tokenize_state { size_b = 0; size_c = more c.point.index }) (λ c i. refl)
       (Consume (Answer (next inline_states.GfmAutolinkLiteralDomainInside))))
       (Keep (λ c. record c.tokenize_state { size_b = more c.tokenize_state.size_b }) (λ c i. refl)
@@ -177,8 +184,9 @@ module _ {M : Type 0} where
       (On is_hard_end (Answer (retry inline_states.GfmAutolinkLiteralPathAfter))
       (On may_trail
       (Test is_known (Answer (retry inline_states.GfmAutolinkLiteralPathAtPunctuation))
-      (Tries true (next inline_states.GfmAutolinkLiteralPathAfter) (next inline_states.GfmAutolinkLiteralPathAtPunctuation) (retry inline_states.GfmAutolinkLiteralTrail)))
-      (On (λ b. b == 40)
+      (Tries true (next inline_states.GfmAutolinkLiteralPathAfter) (next inline_states.GfmAutolinkLiteralPathAtPunctuation)
+      (retry inline_states.GfmAutolinkLiteralTrail)))
+      (On (λ b. b == left_parenthesis)
       (Keep (λ c. record c.tokenize_state { size = more c.tokenize_state.size }) (λ c i. refl)
       (Consume (Answer (next inline_states.GfmAutolinkLiteralPathInside))))
       (Consume (Answer (next inline_states.GfmAutolinkLiteralPathInside))))))
@@ -187,7 +195,7 @@ module _ {M : Type 0} where
   abbrev pub gfm_autolink_literal_path_at_punctuation : Body M
   gfm_autolink_literal_path_at_punctuation =
       Byte (Answer states.Nok)
-      (On (λ b. b == 41)
+      (On (λ b. b == right_parenthesis)
       (Keep (λ c. record c.tokenize_state { size_b = more c.tokenize_state.size_b }) (λ c i. refl)
       (Consume (Answer (next inline_states.GfmAutolinkLiteralPathInside))))
       (Consume (Answer (next inline_states.GfmAutolinkLiteralPathInside))))
@@ -201,10 +209,10 @@ module _ {M : Type 0} where
   gfm_autolink_literal_trail =
       Byte (Answer states.Ok)
       (On is_hard_end (Answer states.Ok)
-      (On (λ b. b == 38) (Consume (Answer (next inline_states.GfmAutolinkLiteralTrailCharRefStart)))
-      (On (λ b. b == 41)
+      (On (λ b. b == ampersand) (Consume (Answer (next inline_states.GfmAutolinkLiteralTrailCharRefStart)))
+      (On (λ b. b == right_parenthesis)
       (Test (λ c. nat_lt c.tokenize_state.size_b c.tokenize_state.size) no_trail (Consume (Answer (next inline_states.GfmAutolinkLiteralTrail))))
-      (On (λ b. b == 93) (Consume (Answer (next inline_states.GfmAutolinkLiteralTrailBracketAfter)))
+      (On (λ b. b == right_bracket) (Consume (Answer (next inline_states.GfmAutolinkLiteralTrailBracketAfter)))
       (On is_trail (Consume (Answer (next inline_states.GfmAutolinkLiteralTrail))) no_trail)))))
 
   -- after a `]`
@@ -222,4 +230,4 @@ module _ {M : Type 0} where
   abbrev pub gfm_autolink_literal_trail_char_ref_inside : Body M
   gfm_autolink_literal_trail_char_ref_inside =
       On is_ascii_alphanumeric (Consume (Answer (next inline_states.GfmAutolinkLiteralTrailCharRefInside)))
-      (On (λ b. b == 59) (Consume (Answer (next inline_states.GfmAutolinkLiteralTrail))) no_trail)
+      (On (λ b. b == semicolon) (Consume (Answer (next inline_states.GfmAutolinkLiteralTrail))) no_trail)

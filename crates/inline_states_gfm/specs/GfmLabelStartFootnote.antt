@@ -3,19 +3,20 @@ use Rattle.std.specs.Prelude.{Bool, ◌==◌}
 use Rattle.engine_events.specs.declared.event.Name.TheVariants as names
 use Rattle.engine_events.specs.declared.state.Inline.TheVariants as inline_states
 use Rattle.engine_events.specs.declared.state.State.TheVariants as states
-use Rattle.engine_programs.specs.Bodies.{Fixed, Body, Answer, Enter, Exit, Byte, On, Test, around}
+use Rattle.engine_programs.specs.Bodies.{FixedName, Body, Answer, Enter, Exit, Byte, On, Test, around}
 use Rattle.inline_states_table.specs.Words.{next}
 use Rattle.engine_events.specs.declared.label.LabelKind.TheVariants as kinds
-use Rattle.inline_states_labels.specs.Start.{label_begun}
+use Rattle.inline_states_labels.specs.Start.{begin_label}
+use Rattle.definition_text.specs.Ascii.{left_bracket, caret}
 
 module _ {M : Type 0} where
   -- at a `[`
   abbrev pub gfm_label_start_footnote_start : Bool → Body M
   gfm_label_start_footnote_start on =
       Byte (Answer states.Nok)
-      (On (λ b. b == 91)
+      (On (λ b. b == left_bracket)
       (Test (λ c. on)
-      (Enter (Fixed names.GfmFootnoteCallLabel) (around (Fixed names.LabelMarker) (Answer (next inline_states.GfmLabelStartFootnoteOpen))))
+      (Enter (FixedName names.GfmFootnoteCallLabel) (around (FixedName names.LabelMarker) (Answer (next inline_states.GfmLabelStartFootnoteOpen))))
       (Answer states.Nok))
       (Answer states.Nok))
 
@@ -23,5 +24,5 @@ module _ {M : Type 0} where
   abbrev pub gfm_label_start_footnote_open : Body M
   gfm_label_start_footnote_open =
       Byte (Answer states.Nok)
-      (On (λ b. b == 94) (around (Fixed names.GfmFootnoteCallMarker) (Exit (Fixed names.GfmFootnoteCallLabel) (label_begun kinds.GfmFootnote 6)))
+      (On (λ b. b == caret) (around (FixedName names.GfmFootnoteCallMarker) (Exit (FixedName names.GfmFootnoteCallLabel) (begin_label kinds.GfmFootnote 6)))
       (Answer states.Nok))

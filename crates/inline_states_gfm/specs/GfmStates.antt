@@ -9,9 +9,17 @@ use Rattle.inline_states_table.specs.declared.Group.TheVariants as groups
 use Rattle.engine_programs.specs.Bodies.{Body, Answer}
 use Rattle.engine_programs.specs.Sorts.{fits, implies}
 use Rattle.inline_states_table.specs.Table.{is_in, sorts}
-use Rattle.inline_states_gfm.specs.GfmAutolinkLiteral.{gfm_autolink_literal_protocol_start, gfm_autolink_literal_protocol_after, gfm_autolink_literal_protocol_prefix_inside, gfm_autolink_literal_protocol_slashes_inside, gfm_autolink_literal_www_start, gfm_autolink_literal_www_after, gfm_autolink_literal_www_prefix_inside, gfm_autolink_literal_www_prefix_after, gfm_autolink_literal_domain_inside, gfm_autolink_literal_domain_at_punctuation, gfm_autolink_literal_domain_after, gfm_autolink_literal_path_inside, gfm_autolink_literal_path_at_punctuation, gfm_autolink_literal_path_after, gfm_autolink_literal_trail, gfm_autolink_literal_trail_bracket_after, gfm_autolink_literal_trail_char_ref_start, gfm_autolink_literal_trail_char_ref_inside}
+use Rattle.inline_states_gfm.specs.GfmAutolinkLiteral.{gfm_autolink_literal_protocol_start, gfm_autolink_literal_protocol_after}
+use Rattle.inline_states_gfm.specs.GfmAutolinkLiteral.{gfm_autolink_literal_protocol_prefix_inside, gfm_autolink_literal_protocol_slashes_inside}
+use Rattle.inline_states_gfm.specs.GfmAutolinkLiteral.{gfm_autolink_literal_www_start, gfm_autolink_literal_www_after, gfm_autolink_literal_www_prefix_inside}
+use Rattle.inline_states_gfm.specs.GfmAutolinkLiteral.{gfm_autolink_literal_www_prefix_after, gfm_autolink_literal_domain_inside}
+use Rattle.inline_states_gfm.specs.GfmAutolinkLiteral.{gfm_autolink_literal_domain_at_punctuation, gfm_autolink_literal_domain_after}
+use Rattle.inline_states_gfm.specs.GfmAutolinkLiteral.{gfm_autolink_literal_path_inside, gfm_autolink_literal_path_at_punctuation}
+use Rattle.inline_states_gfm.specs.GfmAutolinkLiteral.{gfm_autolink_literal_path_after, gfm_autolink_literal_trail, gfm_autolink_literal_trail_bracket_after}
+use Rattle.inline_states_gfm.specs.GfmAutolinkLiteral.{gfm_autolink_literal_trail_char_ref_start, gfm_autolink_literal_trail_char_ref_inside}
 use Rattle.inline_states_gfm.specs.GfmLabelStartFootnote.{gfm_label_start_footnote_start, gfm_label_start_footnote_open}
-use Rattle.inline_states_gfm.specs.GfmTaskListItemCheck.{gfm_task_list_item_check_start, gfm_task_list_item_check_inside, gfm_task_list_item_check_close, gfm_task_list_item_check_after, gfm_task_list_item_check_after_space_or_tab}
+use Rattle.inline_states_gfm.specs.GfmTaskListItemCheck.{gfm_task_list_item_check_start, gfm_task_list_item_check_inside, gfm_task_list_item_check_close}
+use Rattle.inline_states_gfm.specs.GfmTaskListItemCheck.{gfm_task_list_item_check_after, gfm_task_list_item_check_after_space_or_tab}
 
 module _ {T M : Type 0} (is_punctuation : ℕ → Bool) (x : Context T) where
   abbrev pub gfm_body : InlineName → Body M
@@ -43,6 +51,7 @@ module _ {T M : Type 0} (is_punctuation : ℕ → Bool) (x : Context T) where
   gfm_body n = Answer states.Nok
 
 -- they fit the table
-pub gfm_fits : (M : Type 0) {T : Type 0} (is_punctuation : ℕ → Bool) (x : Context T) (n : InlineName) → implies (is_in groups.Gfm n) (fits sorts 64 (Inline n) (gfm_body {M = M} is_punctuation x n)) ≡ true
+pub gfm_fits : (M : Type 0) {T : Type 0} (is_punctuation : ℕ → Bool) (x : Context T) (n : InlineName)
+    → implies (is_in groups.Gfm n) (fits sorts 64 (Inline n) (gfm_body {M = M} is_punctuation x n)) ≡ true
 gfm_fits M is_punctuation x inline_states.GfmLabelStartFootnoteStart = refl
 gfm_fits M is_punctuation x n = refl

@@ -3,48 +3,50 @@ use Rattle.std.specs.Prelude.{Bool, true, false, refl, ◌==◌, ◌||◌, ◌-�
 use Rattle.engine_events.specs.declared.event.Name.TheVariants as names
 use Rattle.engine_events.specs.declared.state.Inline.TheVariants as inline_states
 use Rattle.engine_events.specs.declared.state.State.TheVariants as states
-use Rattle.engine_programs.specs.Bodies.{Fixed, Body, Answer, Enter, Exit, Keep, Tries, Byte, On, Test, around}
+use Rattle.engine_programs.specs.Bodies.{FixedName, Body, Answer, Enter, Exit, Keep, Tries, Byte, On, Test, around}
 use Rattle.inline_states_table.specs.Words.{next, retry}
+use Rattle.definition_text.specs.Ascii.{tab, line_feed, space, capital_x, left_bracket, right_bracket, small_x}
 
 module _ {M : Type 0} where
   -- at a `[`
   abbrev pub gfm_task_list_item_check_start : Bool → Body M
   gfm_task_list_item_check_start on =
       Byte (Answer states.Nok)
-      (On (λ b. b == 91)
+      (On (λ b. b == left_bracket)
       (Test (λ c. on)
-      (Enter (Fixed names.GfmTaskListItemCheck)
-      (around (Fixed names.GfmTaskListItemMarker) (Answer (next inline_states.GfmTaskListItemCheckInside))))
+      (Enter (FixedName names.GfmTaskListItemCheck)
+      (around (FixedName names.GfmTaskListItemMarker) (Answer (next inline_states.GfmTaskListItemCheckInside))))
       (Answer states.Nok))
       (Answer states.Nok))
 
   -- after the `[`
   abbrev pub gfm_task_list_item_check_inside : Body M
   gfm_task_list_item_check_inside =
-      On (λ b. (b == 9) || (b == 10) || (b == 32))
-      (around (Fixed names.GfmTaskListItemValueUnchecked) (Answer (next inline_states.GfmTaskListItemCheckClose)))
-      (On (λ b. (b == 120) || (b == 88)) (around (Fixed names.GfmTaskListItemValueChecked) (Answer (next inline_states.GfmTaskListItemCheckClose)))
+      On (λ b. (b == tab) || (b == line_feed) || (b == space))
+      (around (FixedName names.GfmTaskListItemValueUnchecked) (Answer (next inline_states.GfmTaskListItemCheckClose)))
+      (On (λ b. (b == small_x) || (b == capital_x)) (around (FixedName names.GfmTaskListItemValueChecked)
+      (Answer (next inline_states.GfmTaskListItemCheckClose)))
       (Answer states.Nok))
 
   -- at the `]`
   abbrev pub gfm_task_list_item_check_close : Body M
   gfm_task_list_item_check_close =
       Byte (Answer states.Nok)
-      (On (λ b. b == 93)
-      (around (Fixed names.GfmTaskListItemMarker) (Exit (Fixed names.GfmTaskListItemCheck) (Answer (next inline_states.GfmTaskListItemCheckAfter))))
+      (On (λ b. b == right_bracket)
+      (around (FixedName names.GfmTaskListItemMarker) (Exit (FixedName names.GfmTaskListItemCheck) (Answer (next inline_states.GfmTaskListItemCheckAfter))))
       (Answer states.Nok))
 
   -- after the `]`: looks ahead
   abbrev pub gfm_task_list_item_check_after : Body M
   gfm_task_list_item_check_after =
-      On (λ b. b == 10) (Answer states.Ok)
-      (On (λ b. (b == 9) || (b == 32)) (Tries true states.Ok states.Nok (retry inline_states.GfmTaskListItemCheckAfterSpaceOrTab)) (Answer states.Nok))
+      On (λ b. b == line_feed) (Answer states.Ok)
+      (On (λ b. (b == tab) || (b == space)) (Tries true states.Ok states.Nok (retry inline_states.GfmTaskListItemCheckAfterSpaceOrTab)) (Answer states.Nok))
 
   -- before or after spaces and tabs, which something follows
   abbrev pub gfm_task_list_item_check_after_space_or_tab : Body M
   gfm_task_list_item_check_after_space_or_tab =
       Byte (Answer states.Nok)
-      (On (λ b. (b == 9) || (b == 32))
+      (On (λ b. (b == tab) || (b == space))
       (Keep (λ c. record c.tokenize_state { size_c = 2 ^ 64 - 1 }) (λ c i. refl)
       (Tries false (next inline_states.GfmTaskListItemCheckAfterSpaceOrTab) states.Nok (retry inline_states.SpaceOrTabStart)))
       (Answer states.Ok))

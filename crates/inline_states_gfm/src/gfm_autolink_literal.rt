@@ -12,7 +12,7 @@
 ghost use Rattle.std.specs.Prelude.{◌≡◌, [], ◌∷◌};
 ghost use Rattle.engine_events.specs.declared.event.Name.TheVariants as names;
 ghost use Rattle.markdown_engine.specs.Machine.{bytes_of, config, constructs_of, tables_of};
-ghost use Rattle.engine_programs.specs.Bodies.{Fixed};
+ghost use Rattle.engine_programs.specs.Bodies.{FixedName};
 ghost use Rattle.engine_programs.specs.Stacks.{Does, IsOpen};
 ghost use Rattle.inline_states_gfm.specs.GfmAutolinkLiteral.{gfm_autolink_literal_protocol_start, gfm_autolink_literal_protocol_after};
 ghost use Rattle.inline_states_gfm.specs.GfmAutolinkLiteral.{gfm_autolink_literal_protocol_prefix_inside};
@@ -25,7 +25,7 @@ ghost use Rattle.inline_states_gfm.specs.GfmAutolinkLiteral.{gfm_autolink_litera
 ghost use Rattle.inline_states_gfm.specs.GfmAutolinkLiteral.{gfm_autolink_literal_trail, gfm_autolink_literal_trail_bracket_after};
 ghost use Rattle.inline_states_gfm.specs.GfmAutolinkLiteral.{gfm_autolink_literal_trail_char_ref_start};
 ghost use Rattle.inline_states_gfm.specs.GfmAutolinkLiteral.{gfm_autolink_literal_trail_char_ref_inside};
-ghost use Rattle.inline_states_gfm.specs.GfmAutolinkLiteral.{domain_begun, is_after_bracket, is_before_www, is_control};
+ghost use Rattle.inline_states_gfm.specs.GfmAutolinkLiteral.{begin_domain, is_after_bracket, is_before_www, is_control};
 ghost use Rattle.inline_states_gfm.specs.GfmAutolinkLiteral.{is_domain, is_hard_end, is_known, is_plain, is_scheme_byte, is_trail};
 ghost use Rattle.inline_states_gfm.specs.GfmAutolinkLiteral.{may_trail, no_trail};
 
@@ -131,7 +131,7 @@ fn no_trail<M, T, A: Allocator>(tokenizer: &mut Tokenizer<'_, M, T, A>) -> State
 
 /// Where a domain may begin.
 fn begin_domain<M, T: Tables, A: Allocator>(tokenizer: &mut Tokenizer<'_, M, T, A>) -> State
-    ensures { Does (domain_begun (T.punctuation_of (tables_of tokenizer.old)) (bytes_of tokenizer.old)) tokenizer.old tokenizer.new result }
+    ensures { Does (begin_domain (T.punctuation_of (tables_of tokenizer.old)) (bytes_of tokenizer.old)) tokenizer.old tokenizer.new result }
 {
     let Some(byte) = tokenizer.current else {
         return State::Nok;
@@ -188,7 +188,7 @@ pub fn protocol_start<M, T, A: Allocator>(tokenizer: &mut Tokenizer<'_, M, T, A>
 
 /// After the literal.
 pub fn protocol_after<M, T, A: Allocator>(tokenizer: &mut Tokenizer<'_, M, T, A>) -> State
-    requires { IsOpen (Fixed names.GfmAutolinkLiteralProtocol ∷ []) tokenizer.old }
+    requires { IsOpen (FixedName names.GfmAutolinkLiteralProtocol ∷ []) tokenizer.old }
     ensures { Does gfm_autolink_literal_protocol_after tokenizer.old tokenizer.new result }
 {
     exit_to(tokenizer, EventName::GfmAutolinkLiteralProtocol, State::Ok)
@@ -276,7 +276,7 @@ pub fn www_start<M, T, A: Allocator>(tokenizer: &mut Tokenizer<'_, M, T, A>) -> 
 
 /// After the literal.
 pub fn www_after<M, T, A: Allocator>(tokenizer: &mut Tokenizer<'_, M, T, A>) -> State
-    requires { IsOpen (Fixed names.GfmAutolinkLiteralWww ∷ []) tokenizer.old }
+    requires { IsOpen (FixedName names.GfmAutolinkLiteralWww ∷ []) tokenizer.old }
     ensures { Does gfm_autolink_literal_www_after tokenizer.old tokenizer.new result }
 {
     exit_to(tokenizer, EventName::GfmAutolinkLiteralWww, State::Ok)

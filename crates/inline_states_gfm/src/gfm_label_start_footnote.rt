@@ -6,7 +6,7 @@
 ghost use Rattle.std.specs.Prelude.{[], ◌∷◌};
 ghost use Rattle.engine_events.specs.declared.event.Name.TheVariants as names;
 ghost use Rattle.markdown_engine.specs.Machine.{config, constructs_of};
-ghost use Rattle.engine_programs.specs.Bodies.{Fixed};
+ghost use Rattle.engine_programs.specs.Bodies.{FixedName};
 ghost use Rattle.engine_programs.specs.Stacks.{Does, IsOpen};
 ghost use Rattle.inline_states_gfm.specs.GfmLabelStartFootnote.{gfm_label_start_footnote_start, gfm_label_start_footnote_open};
 
@@ -47,7 +47,7 @@ pub fn start<M, T, A: Allocator>(tokenizer: &mut Tokenizer<'_, M, T, A>) -> Stat
 
 /// After the `[`.
 pub fn open<M, T, A: Allocator>(tokenizer: &mut Tokenizer<'_, M, T, A>) -> State
-    requires { IsOpen (Fixed names.GfmFootnoteCallLabel ∷ []) tokenizer.old }
+    requires { IsOpen (FixedName names.GfmFootnoteCallLabel ∷ []) tokenizer.old }
     ensures { Does gfm_label_start_footnote_open tokenizer.old tokenizer.new result }
 {
     if tokenizer.current != Some(b'^') {

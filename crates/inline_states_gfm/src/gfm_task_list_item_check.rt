@@ -8,7 +8,7 @@
 ghost use Rattle.std.specs.Prelude.{[], ◌∷◌};
 ghost use Rattle.engine_events.specs.declared.event.Name.TheVariants as names;
 ghost use Rattle.markdown_engine.specs.Machine.{config, constructs_of};
-ghost use Rattle.engine_programs.specs.Bodies.{Fixed};
+ghost use Rattle.engine_programs.specs.Bodies.{FixedName};
 ghost use Rattle.engine_programs.specs.Stacks.{Does, IsOpen};
 ghost use Rattle.inline_states_gfm.specs.GfmTaskListItemCheck.{gfm_task_list_item_check_start, gfm_task_list_item_check_inside};
 ghost use Rattle.inline_states_gfm.specs.GfmTaskListItemCheck.{gfm_task_list_item_check_close, gfm_task_list_item_check_after};
@@ -63,7 +63,7 @@ pub fn inside<M, T, A: Allocator>(tokenizer: &mut Tokenizer<'_, M, T, A>) -> Sta
 
 /// At the `]`.
 pub fn close<M, T, A: Allocator>(tokenizer: &mut Tokenizer<'_, M, T, A>) -> State
-    requires { IsOpen (Fixed names.GfmTaskListItemCheck ∷ []) tokenizer.old }
+    requires { IsOpen (FixedName names.GfmTaskListItemCheck ∷ []) tokenizer.old }
     ensures { Does gfm_task_list_item_check_close tokenizer.old tokenizer.new result }
 {
     if tokenizer.current != Some(b']') {

@@ -5,31 +5,33 @@ use Rattle.std.specs.Char.{is_ascii_alphabetic, is_ascii_alphanumeric}
 use Rattle.engine_events.specs.declared.event.Name.TheVariants as names
 use Rattle.engine_events.specs.declared.state.Inline.TheVariants as inline_states
 use Rattle.engine_events.specs.declared.state.State.TheVariants as states
-use Rattle.engine_programs.specs.Bodies.{Fixed, Body, Answer, Consume, Enter, Exit, Keep, Byte, On, Test, around}
+use Rattle.engine_programs.specs.Bodies.{FixedName, Body, Answer, Consume, Enter, Exit, Keep, Byte, On, Test, around}
 use Rattle.inline_states_table.specs.Words.{next, retry, more}
+use Rattle.definition_text.specs.Ascii.{exclamation_mark, asterisk, plus, hyphen, dot, colon, less_than, equals, greater_than, question_mark, at_sign, delete}
 
 -- a byte of the name of an email
 abbrev pub is_atext : ℕ → Bool
 is_atext b =
-    is_ascii_alphanumeric b || (b == 33) || is_in_range 35 39 b || (b == 42) || (b == 43) || is_in_range 45 47 b || (b == 61) || (b == 63) || is_in_range 94 96 b || is_in_range 123 126 b
+    is_ascii_alphanumeric b || (b == exclamation_mark) || is_in_range 35 39 b || (b == asterisk) || (b == plus) || is_in_range 45 47 b || (b == equals)
+    || (b == question_mark) || is_in_range 94 96 b || is_in_range 123 126 b
 
 -- a byte that can't stand in a URL
 abbrev pub ends_url : ℕ → Bool
-ends_url b = nat_le b 32 || ((b == 60) || (b == 127))
+ends_url b = nat_le b 32 || ((b == less_than) || (b == delete))
 
 -- over the `>` after an address
 abbrev pub autolink_end : {M : Type 0} → Body M
-autolink_end = Exit (Fixed names.AutolinkProtocol) (around (Fixed names.AutolinkMarker) (Exit (Fixed names.Autolink) (Answer states.Ok)))
+autolink_end = Exit (FixedName names.AutolinkProtocol) (around (FixedName names.AutolinkMarker) (Exit (FixedName names.Autolink) (Answer states.Ok)))
 
 module _ {M : Type 0} where
   -- at a `<`
   abbrev pub autolink_start : Bool → Body M
   autolink_start on =
       Byte (Answer states.Nok)
-      (On (λ b. b == 60)
+      (On (λ b. b == less_than)
       (Test (λ c. on)
-      (Enter (Fixed names.Autolink)
-      (around (Fixed names.AutolinkMarker) (Enter (Fixed names.AutolinkProtocol) (Answer (next inline_states.AutolinkOpen)))))
+      (Enter (FixedName names.Autolink)
+      (around (FixedName names.AutolinkMarker) (Enter (FixedName names.AutolinkProtocol) (Answer (next inline_states.AutolinkOpen)))))
       (Answer states.Nok))
       (Answer states.Nok))
 
@@ -38,13 +40,13 @@ module _ {M : Type 0} where
   autolink_open =
       Byte (Answer states.Nok)
       (On is_ascii_alphabetic (Consume (Answer (next inline_states.AutolinkSchemeOrEmailAtext)))
-      (On (λ b. b == 64) (Answer states.Nok) (Answer (retry inline_states.AutolinkEmailAtext))))
+      (On (λ b. b == at_sign) (Answer states.Nok) (Answer (retry inline_states.AutolinkEmailAtext))))
 
   -- after the first letter
   abbrev pub autolink_scheme_or_email_atext : Body M
   autolink_scheme_or_email_atext =
       Byte (Answer states.Nok)
-      (On (λ b. (b == 43) || (b == 45) || (b == 46) || is_ascii_alphanumeric b)
+      (On (λ b. (b == plus) || (b == hyphen) || (b == dot) || is_ascii_alphanumeric b)
       (Keep (λ c. record c.tokenize_state { size = 1 }) (λ c i. refl) (Answer (retry inline_states.AutolinkSchemeInsideOrEmailAtext)))
       (Answer (retry inline_states.AutolinkEmailAtext)))
 
@@ -52,8 +54,8 @@ module _ {M : Type 0} where
   abbrev pub autolink_scheme_inside_or_email_atext : Body M
   autolink_scheme_inside_or_email_atext =
       Byte (Answer states.Nok)
-      (On (λ b. b == 58) (Consume (Answer (next inline_states.AutolinkUrlInside)))
-      (On (λ b. (b == 43) || (b == 45) || (b == 46) || is_ascii_alphanumeric b)
+      (On (λ b. b == colon) (Consume (Answer (next inline_states.AutolinkUrlInside)))
+      (On (λ b. (b == plus) || (b == hyphen) || (b == dot) || is_ascii_alphanumeric b)
       (Test (λ c. nat_lt c.tokenize_state.size 32)
       (Keep (λ c. record c.tokenize_state { size = more c.tokenize_state.size }) (λ c i. refl)
       (Consume (Answer (next inline_states.AutolinkSchemeInsideOrEmailAtext))))
@@ -64,13 +66,13 @@ module _ {M : Type 0} where
   abbrev pub autolink_url_inside : Body M
   autolink_url_inside =
       Byte (Answer states.Nok)
-      (On (λ b. b == 62) autolink_end (On ends_url (Answer states.Nok) (Consume (Answer (next inline_states.AutolinkUrlInside)))))
+      (On (λ b. b == greater_than) autolink_end (On ends_url (Answer states.Nok) (Consume (Answer (next inline_states.AutolinkUrlInside)))))
 
   -- in the name of an email
   abbrev pub autolink_email_atext : Body M
   autolink_email_atext =
       Byte (Answer states.Nok)
-      (On (λ b. b == 64)
+      (On (λ b. b == at_sign)
       (Keep (λ c. record c.tokenize_state { size = 0 }) (λ c i. refl) (Consume (Answer (next inline_states.AutolinkEmailAtSignOrDot))))
       (On is_atext (Consume (Answer (next inline_states.AutolinkEmailAtext))) (Answer states.Nok)))
 
@@ -83,15 +85,15 @@ module _ {M : Type 0} where
   abbrev pub autolink_email_label : Body M
   autolink_email_label =
       Byte (Answer states.Nok)
-      (On (λ b. b == 46)
+      (On (λ b. b == dot)
       (Keep (λ c. record c.tokenize_state { size = 0 }) (λ c i. refl) (Consume (Answer (next inline_states.AutolinkEmailAtSignOrDot))))
-      (On (λ b. b == 62) autolink_end (Answer (retry inline_states.AutolinkEmailValue))))
+      (On (λ b. b == greater_than) autolink_end (Answer (retry inline_states.AutolinkEmailValue))))
 
   -- in a label, at any byte
   abbrev pub autolink_email_value : Body M
   autolink_email_value =
       Byte (Answer states.Nok)
-      (On (λ b. b == 45)
+      (On (λ b. b == hyphen)
       (Test (λ c. nat_lt c.tokenize_state.size 63)
       (Keep (λ c. record c.tokenize_state { size = more c.tokenize_state.size }) (λ c i. refl)
       (Consume (Answer (next inline_states.AutolinkEmailValue))))

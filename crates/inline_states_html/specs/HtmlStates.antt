@@ -9,8 +9,18 @@ use Rattle.inline_states_table.specs.declared.Group.TheVariants as groups
 use Rattle.engine_programs.specs.Bodies.{Body, Answer}
 use Rattle.engine_programs.specs.Sorts.{fits, implies}
 use Rattle.inline_states_table.specs.Table.{is_in, sorts}
-use Rattle.inline_states_html.specs.Autolink.{autolink_start, autolink_open, autolink_scheme_or_email_atext, autolink_scheme_inside_or_email_atext, autolink_url_inside, autolink_email_atext, autolink_email_at_sign_or_dot, autolink_email_label, autolink_email_value}
-use Rattle.inline_states_html.specs.HtmlText.{html_text_start, html_text_open, html_text_declaration_open, html_text_comment_open_inside, html_text_comment, html_text_comment_close, html_text_comment_end, html_text_cdata_open_inside, html_text_cdata, html_text_cdata_close, html_text_cdata_end, html_text_declaration, html_text_instruction, html_text_instruction_close, html_text_tag_close_start, html_text_tag_close, html_text_tag_close_between, html_text_tag_open, html_text_tag_open_between, html_text_tag_open_attribute_name, html_text_tag_open_attribute_name_after, html_text_tag_open_attribute_value_before, html_text_tag_open_attribute_value_quoted, html_text_tag_open_attribute_value_unquoted, html_text_tag_open_attribute_value_quoted_after, html_text_end, html_text_line_ending_before, html_text_line_ending_after, html_text_line_ending_after_prefix}
+use Rattle.inline_states_html.specs.Autolink.{autolink_start, autolink_open, autolink_scheme_or_email_atext, autolink_scheme_inside_or_email_atext}
+use Rattle.inline_states_html.specs.Autolink.{autolink_url_inside, autolink_email_atext, autolink_email_at_sign_or_dot, autolink_email_label}
+use Rattle.inline_states_html.specs.Autolink.{autolink_email_value}
+use Rattle.inline_states_html.specs.HtmlText.{html_text_start, html_text_open, html_text_declaration_open, html_text_comment_open_inside, html_text_comment}
+use Rattle.inline_states_html.specs.HtmlText.{html_text_comment_close, html_text_comment_end, html_text_cdata_open_inside, html_text_cdata}
+use Rattle.inline_states_html.specs.HtmlText.{html_text_cdata_close, html_text_cdata_end, html_text_declaration, html_text_instruction}
+use Rattle.inline_states_html.specs.HtmlText.{html_text_instruction_close, html_text_tag_close_start, html_text_tag_close, html_text_tag_close_between}
+use Rattle.inline_states_html.specs.HtmlText.{html_text_tag_open, html_text_tag_open_between, html_text_tag_open_attribute_name}
+use Rattle.inline_states_html.specs.HtmlText.{html_text_tag_open_attribute_name_after, html_text_tag_open_attribute_value_before}
+use Rattle.inline_states_html.specs.HtmlText.{html_text_tag_open_attribute_value_quoted, html_text_tag_open_attribute_value_unquoted}
+use Rattle.inline_states_html.specs.HtmlText.{html_text_tag_open_attribute_value_quoted_after, html_text_end, html_text_line_ending_before}
+use Rattle.inline_states_html.specs.HtmlText.{html_text_line_ending_after, html_text_line_ending_after_prefix}
 
 module _ {T M : Type 0} (x : Context T) where
   abbrev pub html_body : InlineName → Body M
@@ -55,6 +65,7 @@ module _ {T M : Type 0} (x : Context T) where
   html_body n = Answer states.Nok
 
 -- they fit the table
-pub html_fits : (M : Type 0) {T : Type 0} (x : Context T) (n : InlineName) → implies (is_in groups.Html n) (fits sorts 64 (Inline n) (html_body {M = M} x n)) ≡ true
+pub html_fits : (M : Type 0) {T : Type 0} (x : Context T) (n : InlineName)
+    → implies (is_in groups.Html n) (fits sorts 64 (Inline n) (html_body {M = M} x n)) ≡ true
 html_fits M x inline_states.AutolinkStart = refl
 html_fits M x n = refl

@@ -4,13 +4,16 @@ use Rattle.std.specs.Char.{is_ascii_alphabetic, is_ascii_alphanumeric}
 use Rattle.engine_events.specs.declared.event.Name.TheVariants as names
 use Rattle.engine_events.specs.declared.state.Inline.TheVariants as inline_states
 use Rattle.engine_events.specs.declared.state.State.TheVariants as states
-use Rattle.engine_programs.specs.Bodies.{Fixed, Body, Answer, Consume, Enter, Exit, Keep, Tries, Byte, On, AfterFeed, Test, around, has}
+use Rattle.engine_programs.specs.Bodies.{FixedName, Body, Answer, Consume, Enter, Exit, Keep, Tries, Byte, On, AfterFeed, Test, around, has}
 use Rattle.inline_states_table.specs.Words.{next, retry, more, at_marker}
 use Rattle.engine_events.specs.declared.state.Inline.{Inline as InlineName}
+use Rattle.definition_text.specs.Ascii.{tab, line_feed, space, exclamation_mark, double_quote, single_quote, hyphen, dot, slash, colon, less_than, equals}
+use Rattle.definition_text.specs.Ascii.{greater_than, question_mark, left_bracket, right_bracket, underscore, backtick}
 
 -- A line ending: data ends, and an attempt goes over the ending. No line is empty, so data isn't begun at a line's start only to end there.
 abbrev pub html_text_line : {M : Type 0} → InlineName → Body M
-html_text_line n = AfterFeed (Answer states.Nok) (Exit (Fixed names.HtmlTextData) (Tries false (next n) states.Nok (retry inline_states.HtmlTextLineEndingBefore)))
+html_text_line n =
+    AfterFeed (Answer states.Nok) (Exit (FixedName names.HtmlTextData) (Tries false (next n) states.Nok (retry inline_states.HtmlTextLineEndingBefore)))
 
 -- the byte of `CDATA[` at an index
 abbrev pub is_prefix_byte : ℕ → ℕ → Bool
@@ -21,8 +24,8 @@ module _ {M : Type 0} where
   abbrev pub html_text_start : Bool → Body M
   html_text_start on =
       Byte (Answer states.Nok)
-      (On (λ b. b == 60)
-      (Test (λ c. on) (Enter (Fixed names.HtmlText) (Enter (Fixed names.HtmlTextData) (Consume (Answer (next inline_states.HtmlTextOpen)))))
+      (On (λ b. b == less_than)
+      (Test (λ c. on) (Enter (FixedName names.HtmlText) (Enter (FixedName names.HtmlTextData) (Consume (Answer (next inline_states.HtmlTextOpen)))))
       (Answer states.Nok))
       (Answer states.Nok))
 
@@ -30,44 +33,44 @@ module _ {M : Type 0} where
   abbrev pub html_text_open : Body M
   html_text_open =
       Byte (Answer states.Nok)
-      (On (λ b. b == 33) (Consume (Answer (next inline_states.HtmlTextDeclarationOpen)))
-      (On (λ b. b == 47) (Consume (Answer (next inline_states.HtmlTextTagCloseStart)))
-      (On (λ b. b == 63) (Consume (Answer (next inline_states.HtmlTextInstruction)))
+      (On (λ b. b == exclamation_mark) (Consume (Answer (next inline_states.HtmlTextDeclarationOpen)))
+      (On (λ b. b == slash) (Consume (Answer (next inline_states.HtmlTextTagCloseStart)))
+      (On (λ b. b == question_mark) (Consume (Answer (next inline_states.HtmlTextInstruction)))
       (On is_ascii_alphabetic (Consume (Answer (next inline_states.HtmlTextTagOpen))) (Answer states.Nok)))))
 
   -- after `<!`
   abbrev pub html_text_declaration_open : Body M
   html_text_declaration_open =
       Byte (Answer states.Nok)
-      (On (λ b. b == 45) (Consume (Answer (next inline_states.HtmlTextCommentOpenInside)))
-      (On (λ b. b == 91)
+      (On (λ b. b == hyphen) (Consume (Answer (next inline_states.HtmlTextCommentOpenInside)))
+      (On (λ b. b == left_bracket)
       (Keep (λ c. record c.tokenize_state { size = 0 }) (λ c i. refl) (Consume (Answer (next inline_states.HtmlTextCdataOpenInside))))
       (On is_ascii_alphabetic (Consume (Answer (next inline_states.HtmlTextDeclaration))) (Answer states.Nok))))
 
   -- after `<!-`
   abbrev pub html_text_comment_open_inside : Body M
   html_text_comment_open_inside =
-      Byte (Answer states.Nok) (On (λ b. b == 45) (Consume (Answer (next inline_states.HtmlTextCommentEnd))) (Answer states.Nok))
+      Byte (Answer states.Nok) (On (λ b. b == hyphen) (Consume (Answer (next inline_states.HtmlTextCommentEnd))) (Answer states.Nok))
 
   -- in a comment
   abbrev pub html_text_comment : Body M
   html_text_comment =
       Byte (Answer states.Nok)
-      (On (λ b. b == 45) (Consume (Answer (next inline_states.HtmlTextCommentClose)))
-      (On (λ b. b == 10) (html_text_line inline_states.HtmlTextComment) (Consume (Answer (next inline_states.HtmlTextComment)))))
+      (On (λ b. b == hyphen) (Consume (Answer (next inline_states.HtmlTextCommentClose)))
+      (On (λ b. b == line_feed) (html_text_line inline_states.HtmlTextComment) (Consume (Answer (next inline_states.HtmlTextComment)))))
 
   -- in a comment, after a `-`
   abbrev pub html_text_comment_close : Body M
   html_text_comment_close =
       Byte (Answer states.Nok)
-      (On (λ b. b == 45) (Consume (Answer (next inline_states.HtmlTextCommentEnd))) (Answer (retry inline_states.HtmlTextComment)))
+      (On (λ b. b == hyphen) (Consume (Answer (next inline_states.HtmlTextCommentEnd))) (Answer (retry inline_states.HtmlTextComment)))
 
   -- in a comment, after `--`
   abbrev pub html_text_comment_end : Body M
   html_text_comment_end =
       Byte (Answer states.Nok)
-      (On (λ b. b == 62) (Answer (retry inline_states.HtmlTextEnd))
-      (On (λ b. b == 45) (Answer (retry inline_states.HtmlTextCommentClose)) (Answer (retry inline_states.HtmlTextComment))))
+      (On (λ b. b == greater_than) (Answer (retry inline_states.HtmlTextEnd))
+      (On (λ b. b == hyphen) (Answer (retry inline_states.HtmlTextCommentClose)) (Answer (retry inline_states.HtmlTextComment))))
 
   -- in `<![CDATA[`, after the first bracket
   abbrev pub html_text_cdata_open_inside : Body M
@@ -84,40 +87,40 @@ module _ {M : Type 0} where
   abbrev pub html_text_cdata : Body M
   html_text_cdata =
       Byte (Answer states.Nok)
-      (On (λ b. b == 93) (Consume (Answer (next inline_states.HtmlTextCdataClose)))
-      (On (λ b. b == 10) (html_text_line inline_states.HtmlTextCdata) (Consume (Answer (next inline_states.HtmlTextCdata)))))
+      (On (λ b. b == right_bracket) (Consume (Answer (next inline_states.HtmlTextCdataClose)))
+      (On (λ b. b == line_feed) (html_text_line inline_states.HtmlTextCdata) (Consume (Answer (next inline_states.HtmlTextCdata)))))
 
   -- in CDATA, after a `]`
   abbrev pub html_text_cdata_close : Body M
   html_text_cdata_close =
       Byte (Answer states.Nok)
-      (On (λ b. b == 93) (Consume (Answer (next inline_states.HtmlTextCdataEnd))) (Answer (retry inline_states.HtmlTextCdata)))
+      (On (λ b. b == right_bracket) (Consume (Answer (next inline_states.HtmlTextCdataEnd))) (Answer (retry inline_states.HtmlTextCdata)))
 
   -- in CDATA, after `]]`
   abbrev pub html_text_cdata_end : Body M
   html_text_cdata_end =
       Byte (Answer states.Nok)
-      (On (λ b. b == 62) (Answer (retry inline_states.HtmlTextEnd))
-      (On (λ b. b == 93) (Answer (retry inline_states.HtmlTextCdataClose)) (Answer (retry inline_states.HtmlTextCdata))))
+      (On (λ b. b == greater_than) (Answer (retry inline_states.HtmlTextEnd))
+      (On (λ b. b == right_bracket) (Answer (retry inline_states.HtmlTextCdataClose)) (Answer (retry inline_states.HtmlTextCdata))))
 
   -- in a declaration
   abbrev pub html_text_declaration : Body M
   html_text_declaration =
       Byte (Answer states.Nok)
-      (On (λ b. b == 62) (Answer (retry inline_states.HtmlTextEnd))
-      (On (λ b. b == 10) (html_text_line inline_states.HtmlTextDeclaration) (Consume (Answer (next inline_states.HtmlTextDeclaration)))))
+      (On (λ b. b == greater_than) (Answer (retry inline_states.HtmlTextEnd))
+      (On (λ b. b == line_feed) (html_text_line inline_states.HtmlTextDeclaration) (Consume (Answer (next inline_states.HtmlTextDeclaration)))))
 
   -- in an instruction
   abbrev pub html_text_instruction : Body M
   html_text_instruction =
       Byte (Answer states.Nok)
-      (On (λ b. b == 63) (Consume (Answer (next inline_states.HtmlTextInstructionClose)))
-      (On (λ b. b == 10) (html_text_line inline_states.HtmlTextInstruction) (Consume (Answer (next inline_states.HtmlTextInstruction)))))
+      (On (λ b. b == question_mark) (Consume (Answer (next inline_states.HtmlTextInstructionClose)))
+      (On (λ b. b == line_feed) (html_text_line inline_states.HtmlTextInstruction) (Consume (Answer (next inline_states.HtmlTextInstruction)))))
 
   -- in an instruction, after a `?`
   abbrev pub html_text_instruction_close : Body M
   html_text_instruction_close =
-      Byte (Answer states.Nok) (On (λ b. b == 62) (Answer (retry inline_states.HtmlTextEnd)) (Answer (retry inline_states.HtmlTextInstruction)))
+      Byte (Answer states.Nok) (On (λ b. b == greater_than) (Answer (retry inline_states.HtmlTextEnd)) (Answer (retry inline_states.HtmlTextInstruction)))
 
   -- after `</`
   abbrev pub html_text_tag_close_start : Body M
@@ -128,39 +131,39 @@ module _ {M : Type 0} where
   abbrev pub html_text_tag_close : Body M
   html_text_tag_close =
       Byte (Answer states.Nok)
-      (On (λ b. (b == 45) || is_ascii_alphanumeric b) (Consume (Answer (next inline_states.HtmlTextTagClose)))
+      (On (λ b. (b == hyphen) || is_ascii_alphanumeric b) (Consume (Answer (next inline_states.HtmlTextTagClose)))
       (Answer (retry inline_states.HtmlTextTagCloseBetween)))
 
   -- in a closing tag, after its name
   abbrev pub html_text_tag_close_between : Body M
   html_text_tag_close_between =
       Byte (Answer states.Nok)
-      (On (λ b. b == 10) (html_text_line inline_states.HtmlTextTagCloseBetween)
-      (On (λ b. (b == 9) || (b == 32)) (Consume (Answer (next inline_states.HtmlTextTagCloseBetween))) (Answer (retry inline_states.HtmlTextEnd))))
+      (On (λ b. b == line_feed) (html_text_line inline_states.HtmlTextTagCloseBetween)
+      (On (λ b. (b == tab) || (b == space)) (Consume (Answer (next inline_states.HtmlTextTagCloseBetween))) (Answer (retry inline_states.HtmlTextEnd))))
 
   -- in the name of an opening tag
   abbrev pub html_text_tag_open : Body M
   html_text_tag_open =
       Byte (Answer states.Nok)
-      (On (λ b. (b == 45) || is_ascii_alphanumeric b) (Consume (Answer (next inline_states.HtmlTextTagOpen)))
-      (On (λ b. (b == 9) || (b == 10) || (b == 32) || (b == 47) || (b == 62)) (Answer (retry inline_states.HtmlTextTagOpenBetween))
+      (On (λ b. (b == hyphen) || is_ascii_alphanumeric b) (Consume (Answer (next inline_states.HtmlTextTagOpen)))
+      (On (λ b. (b == tab) || (b == line_feed) || (b == space) || (b == slash) || (b == greater_than)) (Answer (retry inline_states.HtmlTextTagOpenBetween))
       (Answer states.Nok)))
 
   -- in an opening tag, before an attribute or the end
   abbrev pub html_text_tag_open_between : Body M
   html_text_tag_open_between =
       Byte (Answer states.Nok)
-      (On (λ b. b == 10) (html_text_line inline_states.HtmlTextTagOpenBetween)
-      (On (λ b. (b == 9) || (b == 32)) (Consume (Answer (next inline_states.HtmlTextTagOpenBetween)))
-      (On (λ b. b == 47) (Consume (Answer (next inline_states.HtmlTextEnd)))
-      (On (λ b. (b == 58) || (b == 95) || is_ascii_alphabetic b) (Consume (Answer (next inline_states.HtmlTextTagOpenAttributeName)))
+      (On (λ b. b == line_feed) (html_text_line inline_states.HtmlTextTagOpenBetween)
+      (On (λ b. (b == tab) || (b == space)) (Consume (Answer (next inline_states.HtmlTextTagOpenBetween)))
+      (On (λ b. b == slash) (Consume (Answer (next inline_states.HtmlTextEnd)))
+      (On (λ b. (b == colon) || (b == underscore) || is_ascii_alphabetic b) (Consume (Answer (next inline_states.HtmlTextTagOpenAttributeName)))
       (Answer (retry inline_states.HtmlTextEnd))))))
 
   -- in the name of an attribute
   abbrev pub html_text_tag_open_attribute_name : Body M
   html_text_tag_open_attribute_name =
       Byte (Answer states.Nok)
-      (On (λ b. (b == 45) || (b == 46) || (b == 58) || (b == 95) || is_ascii_alphanumeric b)
+      (On (λ b. (b == hyphen) || (b == dot) || (b == colon) || (b == underscore) || is_ascii_alphanumeric b)
       (Consume (Answer (next inline_states.HtmlTextTagOpenAttributeName)))
       (Answer (retry inline_states.HtmlTextTagOpenAttributeNameAfter)))
 
@@ -168,22 +171,22 @@ module _ {M : Type 0} where
   abbrev pub html_text_tag_open_attribute_name_after : Body M
   html_text_tag_open_attribute_name_after =
       Byte (Answer states.Nok)
-      (On (λ b. b == 10) (html_text_line inline_states.HtmlTextTagOpenAttributeNameAfter)
-      (On (λ b. (b == 9) || (b == 32)) (Consume (Answer (next inline_states.HtmlTextTagOpenAttributeNameAfter)))
-      (On (λ b. b == 61) (Consume (Answer (next inline_states.HtmlTextTagOpenAttributeValueBefore)))
+      (On (λ b. b == line_feed) (html_text_line inline_states.HtmlTextTagOpenAttributeNameAfter)
+      (On (λ b. (b == tab) || (b == space)) (Consume (Answer (next inline_states.HtmlTextTagOpenAttributeNameAfter)))
+      (On (λ b. b == equals) (Consume (Answer (next inline_states.HtmlTextTagOpenAttributeValueBefore)))
       (Answer (retry inline_states.HtmlTextTagOpenBetween)))))
 
   -- after the `=` of an attribute
   abbrev pub html_text_tag_open_attribute_value_before : Body M
   html_text_tag_open_attribute_value_before =
       Byte (Answer states.Nok)
-      (On (λ b. (b == 60) || (b == 61) || (b == 62) || (b == 96)) (Answer states.Nok)
-      (On (λ b. b == 10) (html_text_line inline_states.HtmlTextTagOpenAttributeValueBefore)
-      (On (λ b. (b == 9) || (b == 32)) (Consume (Answer (next inline_states.HtmlTextTagOpenAttributeValueBefore)))
-      (On (λ b. b == 34)
+      (On (λ b. (b == less_than) || (b == equals) || (b == greater_than) || (b == backtick)) (Answer states.Nok)
+      (On (λ b. b == line_feed) (html_text_line inline_states.HtmlTextTagOpenAttributeValueBefore)
+      (On (λ b. (b == tab) || (b == space)) (Consume (Answer (next inline_states.HtmlTextTagOpenAttributeValueBefore)))
+      (On (λ b. b == double_quote)
       (Keep (λ c. record c.tokenize_state { marker = 34 }) (λ c i. refl)
       (Consume (Answer (next inline_states.HtmlTextTagOpenAttributeValueQuoted))))
-      (On (λ b. b == 39)
+      (On (λ b. b == single_quote)
       (Keep (λ c. record c.tokenize_state { marker = 39 }) (λ c i. refl)
       (Consume (Answer (next inline_states.HtmlTextTagOpenAttributeValueQuoted))))
       (Consume (Answer (next inline_states.HtmlTextTagOpenAttributeValueUnquoted))))))))
@@ -194,41 +197,41 @@ module _ {M : Type 0} where
       Byte (Answer states.Nok)
       (Test at_marker (Consume (Answer (next inline_states.HtmlTextTagOpenAttributeValueQuotedAfter)))
       (Byte (Answer states.Nok)
-      (On (λ b. b == 10) (html_text_line inline_states.HtmlTextTagOpenAttributeValueQuoted)
+      (On (λ b. b == line_feed) (html_text_line inline_states.HtmlTextTagOpenAttributeValueQuoted)
       (Consume (Answer (next inline_states.HtmlTextTagOpenAttributeValueQuoted))))))
 
   -- in a value with no quotes
   abbrev pub html_text_tag_open_attribute_value_unquoted : Body M
   html_text_tag_open_attribute_value_unquoted =
       Byte (Answer states.Nok)
-      (On (λ b. (b == 34) || (b == 39) || (b == 60) || (b == 61) || (b == 96)) (Answer states.Nok)
-      (On (λ b. (b == 9) || (b == 10) || (b == 32) || (b == 62)) (Answer (retry inline_states.HtmlTextTagOpenBetween))
+      (On (λ b. (b == double_quote) || (b == single_quote) || (b == less_than) || (b == equals) || (b == backtick)) (Answer states.Nok)
+      (On (λ b. (b == tab) || (b == line_feed) || (b == space) || (b == greater_than)) (Answer (retry inline_states.HtmlTextTagOpenBetween))
       (Consume (Answer (next inline_states.HtmlTextTagOpenAttributeValueUnquoted)))))
 
   -- after a value between quotes
   abbrev pub html_text_tag_open_attribute_value_quoted_after : Body M
   html_text_tag_open_attribute_value_quoted_after =
       Byte (Answer states.Nok)
-      (On (λ b. (b == 9) || (b == 10) || (b == 32) || (b == 47) || (b == 62)) (Answer (retry inline_states.HtmlTextTagOpenBetween))
+      (On (λ b. (b == tab) || (b == line_feed) || (b == space) || (b == slash) || (b == greater_than)) (Answer (retry inline_states.HtmlTextTagOpenBetween))
       (Answer states.Nok))
 
   -- at the `>`
   abbrev pub html_text_end : Body M
   html_text_end =
       Byte (Answer states.Nok)
-      (On (λ b. b == 62) (Consume (Exit (Fixed names.HtmlTextData) (Exit (Fixed names.HtmlText) (Answer states.Ok)))) (Answer states.Nok))
+      (On (λ b. b == greater_than) (Consume (Exit (FixedName names.HtmlTextData) (Exit (FixedName names.HtmlText) (Answer states.Ok)))) (Answer states.Nok))
 
   -- at a line ending
   abbrev pub html_text_line_ending_before : Body M
   html_text_line_ending_before =
       Byte (Answer states.Nok)
-      (On (λ b. b == 10) (around (Fixed names.LineEnding) (Answer (next inline_states.HtmlTextLineEndingAfter))) (Answer states.Nok))
+      (On (λ b. b == line_feed) (around (FixedName names.LineEnding) (Answer (next inline_states.HtmlTextLineEndingAfter))) (Answer states.Nok))
 
   -- after a line ending
   abbrev pub html_text_line_ending_after : Body M
   html_text_line_ending_after =
       Byte (Answer (retry inline_states.HtmlTextLineEndingAfterPrefix))
-      (On (λ b. (b == 9) || (b == 32))
+      (On (λ b. (b == tab) || (b == space))
       (Keep (λ c. record c.tokenize_state { size_c = 2 ^ 64 - 1 }) (λ c i. refl)
       (Tries false (next inline_states.HtmlTextLineEndingAfterPrefix) states.Nok (retry inline_states.SpaceOrTabStart)))
       (Answer (retry inline_states.HtmlTextLineEndingAfterPrefix)))
@@ -236,4 +239,4 @@ module _ {M : Type 0} where
   -- after a line ending and the spaces and tabs there
   abbrev pub html_text_line_ending_after_prefix : Body M
   html_text_line_ending_after_prefix =
-      Enter (Fixed names.HtmlTextData) (Answer states.Ok)
+      Enter (FixedName names.HtmlTextData) (Answer states.Ok)

@@ -17,7 +17,8 @@ ends_one (Some e) = sameb the_type e.kind kinds.Exit
 
 -- a chunk that ends with the events so far is the one before
 unfoldable pub link_after : List Event → Link
-link_after es = let link : Link = record { previous = if ends_one (slice_get es (length es - 1)) then Some (length es - 2) else None; next = None; content = contents.String } in link
+link_after es = let link : Link =
+    record { previous = if ends_one (slice_get es (length es - 1)) then Some (length es - 2) else None; next = None; content = contents.String } in link
 
 module _ {M : Type 0} where
   -- a chunk with none before

@@ -4,81 +4,84 @@ use Rattle.std.specs.Int.{is_in_range}
 use Rattle.engine_events.specs.declared.event.Name.TheVariants as names
 use Rattle.engine_events.specs.declared.state.Inline.TheVariants as inline_states
 use Rattle.engine_events.specs.declared.state.State.TheVariants as states
-use Rattle.engine_programs.specs.Bodies.{Fixed, Held, Body, Answer, Consume, Enter, EnterLink, Exit, Keep, Byte, On, Test, around}
+use Rattle.engine_programs.specs.Bodies.{FixedName, HeldName, Body, Answer, Consume, Enter, EnterLink, Exit, Keep, Byte, On, Test, around}
 use Rattle.inline_states_table.specs.Words.{next, retry, more, less}
 use Rattle.inline_states_labels.specs.Chunk.{first_link}
 use Rattle.engine_events.specs.declared.state.State.{State}
+use Rattle.definition_text.specs.Ascii.{tab, line_feed, space, left_parenthesis, right_parenthesis, less_than, greater_than, backslash, delete}
 
 -- a byte that can't stand in a destination with no angle brackets; NUL may
 abbrev pub is_control : ℕ → Bool
-is_control b = is_in_range 1 32 b || (b == 127)
+is_control b = is_in_range 1 32 b || (b == delete)
 
 -- over a byte between angle brackets
 abbrev pub enclosed_byte : {M : Type 0} → Body M
-enclosed_byte = On (λ b. b == 92) (Consume (Answer (next inline_states.DestinationEnclosedEscape))) (Consume (Answer (next inline_states.DestinationEnclosed)))
+enclosed_byte = On (λ b. b == backslash) (Consume (Answer (next inline_states.DestinationEnclosedEscape)))
+    (Consume (Answer (next inline_states.DestinationEnclosed)))
 
 -- over a byte with none around
 abbrev pub raw_byte : {M : Type 0} → Body M
 raw_byte =
-    On (λ b. b == 40)
+    On (λ b. b == left_parenthesis)
     (Test (λ c. nat_lt c.tokenize_state.size c.tokenize_state.size_b)
     (Keep (λ c. record c.tokenize_state { size = more c.tokenize_state.size }) (λ c i. refl) (Consume (Answer (next inline_states.DestinationRaw))))
     (Answer states.Nok))
-    (On (λ b. b == 92) (Consume (Answer (next inline_states.DestinationRawEscape)))
+    (On (λ b. b == backslash) (Consume (Answer (next inline_states.DestinationRawEscape)))
     (Consume (Answer (next inline_states.DestinationRaw))))
 
 -- over the first byte between angle brackets
-abbrev pub enclosed_begun : {M : Type 0} → State → Body M
-enclosed_begun state = Enter (Held 5) (EnterLink (Fixed names.Data) first_link (Consume (Answer state)))
+abbrev pub begin_enclosed : {M : Type 0} → State → Body M
+begin_enclosed state = Enter (HeldName 5) (EnterLink (FixedName names.Data) first_link (Consume (Answer state)))
 
 -- over the first byte with none around, after which so many parentheses are open
-abbrev pub raw_begun : {M : Type 0} → ℕ → State → Body M
-raw_begun size state =
+abbrev pub begin_raw : {M : Type 0} → ℕ → State → Body M
+begin_raw size state =
     Keep (λ c. record c.tokenize_state { size = size }) (λ c i. refl)
-    (Enter (Held 1) (Enter (Held 4) (Enter (Held 5) (EnterLink (Fixed names.Data) first_link (Consume (Answer state))))))
+    (Enter (HeldName 1) (Enter (HeldName 4) (Enter (HeldName 5) (EnterLink (FixedName names.Data) first_link (Consume (Answer state))))))
 
 -- at the end of one with none around, if no parenthesis is open
 abbrev pub raw_end : {M : Type 0} → Body M
-raw_end = Test (λ c. c.tokenize_state.size == 0) (Exit (Fixed names.Data) (Exit (Held 5) (Exit (Held 4) (Exit (Held 1) (Answer states.Ok))))) (Answer states.Nok)
+raw_end = Test (λ c. c.tokenize_state.size == 0) (Exit (FixedName names.Data) (Exit (HeldName 5) (Exit (HeldName 4) (Exit (HeldName 1) (Answer states.Ok)))))
+    (Answer states.Nok)
 
 module _ {M : Type 0} where
   -- at the first byte
   abbrev pub destination_start : Body M
   destination_start =
       Byte (Answer states.Nok)
-      (On (λ b. b == 60) (Enter (Held 1) (Enter (Held 2) (around (Held 3) (Answer (next inline_states.DestinationEnclosedBefore)))))
+      (On (λ b. b == less_than) (Enter (HeldName 1) (Enter (HeldName 2) (around (HeldName 3) (Answer (next inline_states.DestinationEnclosedBefore)))))
       (On is_control (Answer states.Nok)
-      (On (λ b. b == 41) (Answer states.Nok)
-      (On (λ b. b == 40) (Test (λ c. nat_lt 0 c.tokenize_state.size_b) (raw_begun 1 (next inline_states.DestinationRaw)) (Answer states.Nok))
-      (On (λ b. b == 92) (raw_begun 0 (next inline_states.DestinationRawEscape)) (raw_begun 0 (next inline_states.DestinationRaw)))))))
+      (On (λ b. b == right_parenthesis) (Answer states.Nok)
+      (On (λ b. b == left_parenthesis) (Test (λ c. nat_lt 0 c.tokenize_state.size_b) (begin_raw 1 (next inline_states.DestinationRaw)) (Answer states.Nok))
+      (On (λ b. b == backslash) (begin_raw 0 (next inline_states.DestinationRawEscape)) (begin_raw 0 (next inline_states.DestinationRaw)))))))
 
   -- after the `<`, or at the `>`
   abbrev pub destination_enclosed_before : Body M
   destination_enclosed_before =
       Byte (Answer states.Nok)
-      (On (λ b. b == 62) (around (Held 3) (Exit (Held 2) (Exit (Held 1) (Answer states.Ok))))
-      (On (λ b. (b == 10) || (b == 60)) (Answer states.Nok)
-      (On (λ b. b == 92) (enclosed_begun (next inline_states.DestinationEnclosedEscape)) (enclosed_begun (next inline_states.DestinationEnclosed)))))
+      (On (λ b. b == greater_than) (around (HeldName 3) (Exit (HeldName 2) (Exit (HeldName 1) (Answer states.Ok))))
+      (On (λ b. (b == line_feed) || (b == less_than)) (Answer states.Nok)
+      (On (λ b. b == backslash) (begin_enclosed (next inline_states.DestinationEnclosedEscape)) (begin_enclosed (next inline_states.DestinationEnclosed)))))
 
   -- between the angle brackets
   abbrev pub destination_enclosed : Body M
   destination_enclosed =
       Byte (Answer states.Nok)
-      (On (λ b. b == 62) (Exit (Fixed names.Data) (Exit (Held 5) (Answer (retry inline_states.DestinationEnclosedBefore))))
-      (On (λ b. (b == 10) || (b == 60)) (Answer states.Nok) enclosed_byte))
+      (On (λ b. b == greater_than) (Exit (FixedName names.Data) (Exit (HeldName 5) (Answer (retry inline_states.DestinationEnclosedBefore))))
+      (On (λ b. (b == line_feed) || (b == less_than)) (Answer states.Nok) enclosed_byte))
 
   -- between the angle brackets, after a backslash
   abbrev pub destination_enclosed_escape : Body M
   destination_enclosed_escape =
-      On (λ b. (b == 60) || (b == 62) || (b == 92)) (Consume (Answer (next inline_states.DestinationEnclosed)))
+      On (λ b. (b == less_than) || (b == greater_than) || (b == backslash)) (Consume (Answer (next inline_states.DestinationEnclosed)))
       (Answer (retry inline_states.DestinationEnclosed))
 
   -- with no angle brackets around
   abbrev pub destination_raw : Body M
   destination_raw =
       Byte raw_end
-      (On (λ b. (b == 9) || (b == 10) || (b == 32)) raw_end
-      (On (λ b. b == 41)
+      (On (λ b. (b == tab) || (b == line_feed) || (b == space)) raw_end
+      (On (λ b. b == right_parenthesis)
       (Test (λ c. c.tokenize_state.size == 0) raw_end
       (Keep (λ c. record c.tokenize_state { size = less c.tokenize_state.size }) (λ c i. refl)
       (Consume (Answer (next inline_states.DestinationRaw)))))
@@ -87,5 +90,5 @@ module _ {M : Type 0} where
   -- with no angle brackets around, after a backslash
   abbrev pub destination_raw_escape : Body M
   destination_raw_escape =
-      On (λ b. (b == 40) || (b == 41) || (b == 92)) (Consume (Answer (next inline_states.DestinationRaw)))
+      On (λ b. (b == left_parenthesis) || (b == right_parenthesis) || (b == backslash)) (Consume (Answer (next inline_states.DestinationRaw)))
       (Answer (retry inline_states.DestinationRaw))

@@ -3,34 +3,40 @@ use Rattle.std.specs.Prelude.{ℕ, true, false, not, nat_lt, refl, ◌==◌, ◌
 use Rattle.engine_events.specs.declared.event.Name.TheVariants as names
 use Rattle.engine_events.specs.declared.state.Inline.TheVariants as inline_states
 use Rattle.engine_events.specs.declared.state.State.TheVariants as states
-use Rattle.engine_programs.specs.Bodies.{Fixed, Held, Body, Answer, Consume, Enter, EnterLink, Exit, Keep, Tries, Byte, On, Test, around, has}
+use Rattle.engine_programs.specs.Bodies.{FixedName, HeldName, Body, Answer, Consume, Enter, EnterLink, Exit, Keep, Tries, Byte, On, Test, around, has}
 use Rattle.inline_states_table.specs.Words.{next, retry, more, is_space_or_tab}
 use Rattle.inline_states_labels.specs.Chunk.{part_link}
 use Rattle.engine_events.specs.declared.place.Point.{Point}
+use Rattle.definition_text.specs.Ascii.{line_feed, left_bracket, backslash, right_bracket}
 
 -- the limit of bytes counts no columns of a tab but the first
-abbrev pub counted : ℕ → Point → ℕ
-counted size point = if point.vs == 0 then more size else size
+abbrev pub count_byte : ℕ → Point → ℕ
+count_byte size point = if point.vs == 0 then more size else size
 
 abbrev pub counting : {M : Type 0} → Body M → Body M
-counting b = Keep (λ c. record c.tokenize_state { size = counted c.tokenize_state.size c.point; seen = c.tokenize_state.seen || not (has is_space_or_tab c.current) }) (λ c i. refl) b
+counting b = Keep (λ c. record c.tokenize_state {
+  size = count_byte c.tokenize_state.size c.point;
+  seen = c.tokenize_state.seen || not (has is_space_or_tab c.current);
+}) (λ c i. refl) b
 
 -- over a byte of the text
 abbrev pub label_byte : {M : Type 0} → Body M
-label_byte = On (λ b. b == 92) (counting (Consume (Answer (next inline_states.LabelEscape)))) (counting (Consume (Answer (next inline_states.LabelInside))))
+label_byte = On (λ b. b == backslash) (counting (Consume (Answer (next inline_states.LabelEscape))))
+    (counting (Consume (Answer (next inline_states.LabelInside))))
 
 -- over the end of the text
 abbrev pub label_close : {M : Type 0} → Body M
-label_close = Exit (Held 3) (around (Held 2) (Exit (Held 1) (Keep (λ c. record c.tokenize_state { connect = false }) (λ c i. refl) (Answer states.Ok))))
+label_close = Exit (HeldName 3) (around (HeldName 2) (Exit (HeldName 1)
+    (Keep (λ c. record c.tokenize_state { connect = false }) (λ c i. refl) (Answer states.Ok))))
 
 module _ {M : Type 0} where
   -- at a `[`
   abbrev pub label_start : Body M
   label_start =
       Byte (Answer states.Nok)
-      (On (λ b. b == 91)
+      (On (λ b. b == left_bracket)
       (Keep (λ c. record c.tokenize_state { size = 0; seen = false; connect = true }) (λ c i. refl)
-      (Enter (Held 1) (around (Held 2) (Enter (Held 3) (Answer (next inline_states.LabelAtBreak))))))
+      (Enter (HeldName 1) (around (HeldName 2) (Enter (HeldName 3) (Answer (next inline_states.LabelAtBreak))))))
       (Answer states.Nok))
 
   -- between the parts of the text
@@ -38,10 +44,10 @@ module _ {M : Type 0} where
   label_at_break =
       Byte (Answer (retry inline_states.LabelNok))
       (Test (λ c. nat_lt 999 c.tokenize_state.size) (Answer (retry inline_states.LabelNok))
-      (On (λ b. b == 91) (Answer (retry inline_states.LabelNok))
-      (On (λ b. b == 93) (Test (λ c. c.tokenize_state.seen) label_close (Answer (retry inline_states.LabelNok)))
-      (On (λ b. b == 10) (Tries false (next inline_states.LabelEolAfter) (next inline_states.LabelNok) (retry inline_states.SpaceOrTabEolStart))
-      (EnterLink (Fixed names.Data) part_link label_byte)))))
+      (On (λ b. b == left_bracket) (Answer (retry inline_states.LabelNok))
+      (On (λ b. b == right_bracket) (Test (λ c. c.tokenize_state.seen) label_close (Answer (retry inline_states.LabelNok)))
+      (On (λ b. b == line_feed) (Tries false (next inline_states.LabelEolAfter) (next inline_states.LabelNok) (retry inline_states.SpaceOrTabEolStart))
+      (EnterLink (FixedName names.Data) part_link label_byte)))))
 
   -- after a line ending
   abbrev pub label_eol_after : Body M
@@ -56,16 +62,16 @@ module _ {M : Type 0} where
   -- in data
   abbrev pub label_inside : Body M
   label_inside =
-      Byte (Exit (Fixed names.Data) (Answer (retry inline_states.LabelAtBreak)))
-      (Test (λ c. has (λ b. (b == 10) || (b == 91) || (b == 93)) c.current || nat_lt 999 c.tokenize_state.size)
-      (Exit (Fixed names.Data) (Answer (retry inline_states.LabelAtBreak)))
+      Byte (Exit (FixedName names.Data) (Answer (retry inline_states.LabelAtBreak)))
+      (Test (λ c. has (λ b. (b == line_feed) || (b == left_bracket) || (b == right_bracket)) c.current || nat_lt 999 c.tokenize_state.size)
+      (Exit (FixedName names.Data) (Answer (retry inline_states.LabelAtBreak)))
       label_byte)
 
   -- after a backslash
   abbrev pub label_escape : Body M
   label_escape =
       Byte (Answer (retry inline_states.LabelInside))
-      (Test (λ c. has (λ b. (b == 91) || (b == 92) || (b == 93)) c.current)
-      (Keep (λ c. record c.tokenize_state { size = counted c.tokenize_state.size c.point }) (λ c i. refl)
+      (Test (λ c. has (λ b. (b == left_bracket) || (b == backslash) || (b == right_bracket)) c.current)
+      (Keep (λ c. record c.tokenize_state { size = count_byte c.tokenize_state.size c.point }) (λ c i. refl)
       (Consume (Answer (next inline_states.LabelInside))))
       (Answer (retry inline_states.LabelInside)))

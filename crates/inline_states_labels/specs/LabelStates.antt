@@ -13,9 +13,11 @@ use Rattle.inline_states_labels.specs.LabelStartImage.{label_start_image_start, 
 use Rattle.inline_states_labels.specs.LabelStartLink.{label_start_link_start}
 use Rattle.inline_states_labels.specs.Label.{label_start, label_at_break, label_eol_after, label_nok, label_inside, label_escape}
 use Rattle.inline_states_labels.specs.Title.{title_start, title_begin, title_at_break, title_after_eol, title_nok, title_inside, title_escape}
-use Rattle.inline_states_labels.specs.Destination.{destination_start, destination_enclosed_before, destination_enclosed, destination_enclosed_escape, destination_raw, destination_raw_escape}
+use Rattle.inline_states_labels.specs.Destination.{destination_start, destination_enclosed_before, destination_enclosed, destination_enclosed_escape}
+use Rattle.inline_states_labels.specs.Destination.{destination_raw, destination_raw_escape}
 use Rattle.inline_states_labels.specs.SpaceOrTab.{space_or_tab_start, space_or_tab_inside, space_or_tab_after}
-use Rattle.inline_states_labels.specs.SpaceOrTabEol.{space_or_tab_eol_start, space_or_tab_eol_after_first, space_or_tab_eol_at_eol, space_or_tab_eol_after_eol, space_or_tab_eol_after_more}
+use Rattle.inline_states_labels.specs.SpaceOrTabEol.{space_or_tab_eol_start, space_or_tab_eol_after_first, space_or_tab_eol_at_eol, space_or_tab_eol_after_eol}
+use Rattle.inline_states_labels.specs.SpaceOrTabEol.{space_or_tab_eol_after_more}
 
 module _ {T M : Type 0} (x : Context T) where
   abbrev pub label_body : InlineName → Body M
@@ -53,6 +55,7 @@ module _ {T M : Type 0} (x : Context T) where
   label_body n = Answer states.Nok
 
 -- they fit the table
-pub labels_fit : (M : Type 0) {T : Type 0} (x : Context T) (n : InlineName) → implies (is_in groups.Labels n) (fits sorts 64 (Inline n) (label_body {M = M} x n)) ≡ true
+pub labels_fit : (M : Type 0) {T : Type 0} (x : Context T) (n : InlineName)
+    → implies (is_in groups.Labels n) (fits sorts 64 (Inline n) (label_body {M = M} x n)) ≡ true
 labels_fit M x inline_states.LabelStartImageStart = refl
 labels_fit M x n = refl

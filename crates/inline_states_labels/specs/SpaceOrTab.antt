@@ -3,7 +3,7 @@ use Rattle.std.specs.Prelude.{nat_lt, refl, ◌&&◌}
 use Rattle.engine_events.specs.declared.event.Name.TheVariants as names
 use Rattle.engine_events.specs.declared.state.Inline.TheVariants as inline_states
 use Rattle.engine_events.specs.declared.state.State.TheVariants as states
-use Rattle.engine_programs.specs.Bodies.{Fixed, Body, Answer, Consume, EnterLink, Exit, Keep, Byte, Test, has}
+use Rattle.engine_programs.specs.Bodies.{FixedName, Body, Answer, Consume, EnterLink, Exit, Keep, Byte, Test, has}
 use Rattle.inline_states_table.specs.Words.{next, retry, less, is_space_or_tab}
 use Rattle.inline_states_labels.specs.Chunk.{part_link}
 
@@ -13,7 +13,7 @@ module _ {M : Type 0} where
   space_or_tab_start =
       Byte (Answer states.Nok)
       (Test (λ c. nat_lt 0 c.tokenize_state.size_c && has is_space_or_tab c.current)
-      (EnterLink (Fixed names.SpaceOrTab) part_link
+      (EnterLink (FixedName names.SpaceOrTab) part_link
       (Keep (λ c. record c.tokenize_state { size_c = less c.tokenize_state.size_c }) (λ c i. refl)
       (Consume (Answer (next inline_states.SpaceOrTabInside)))))
       (Answer states.Nok))
@@ -21,11 +21,11 @@ module _ {M : Type 0} where
   -- at the next
   abbrev pub space_or_tab_inside : Body M
   space_or_tab_inside =
-      Byte (Exit (Fixed names.SpaceOrTab) (Answer (retry inline_states.SpaceOrTabAfter)))
+      Byte (Exit (FixedName names.SpaceOrTab) (Answer (retry inline_states.SpaceOrTabAfter)))
       (Test (λ c. nat_lt 0 c.tokenize_state.size_c && has is_space_or_tab c.current)
       (Keep (λ c. record c.tokenize_state { size_c = less c.tokenize_state.size_c }) (λ c i. refl)
       (Consume (Answer (next inline_states.SpaceOrTabInside))))
-      (Exit (Fixed names.SpaceOrTab) (Answer (retry inline_states.SpaceOrTabAfter))))
+      (Exit (FixedName names.SpaceOrTab) (Answer (retry inline_states.SpaceOrTabAfter))))
 
   -- after them
   abbrev pub space_or_tab_after : Body M

@@ -3,19 +3,20 @@ use Rattle.std.specs.Prelude.{false, refl, ◌==◌, ◌||◌, ◌-◌, ◌^◌}
 use Rattle.engine_events.specs.declared.event.Name.TheVariants as names
 use Rattle.engine_events.specs.declared.state.Inline.TheVariants as inline_states
 use Rattle.engine_events.specs.declared.state.State.TheVariants as states
-use Rattle.engine_programs.specs.Bodies.{Fixed, Body, Answer, Consume, EnterLink, Exit, Keep, Tries, On}
+use Rattle.engine_programs.specs.Bodies.{FixedName, Body, Answer, Consume, EnterLink, Exit, Keep, Tries, On}
 use Rattle.inline_states_table.specs.Words.{next, retry}
 use Rattle.inline_states_labels.specs.Chunk.{part_link}
+use Rattle.definition_text.specs.Ascii.{tab, line_feed, space}
 
 -- over a line ending
 abbrev pub over_eol : {M : Type 0} → Body M
-over_eol = EnterLink (Fixed names.LineEnding) part_link (Consume (Exit (Fixed names.LineEnding) (Answer (next inline_states.SpaceOrTabEolAfterEol))))
+over_eol = EnterLink (FixedName names.LineEnding) part_link (Consume (Exit (FixedName names.LineEnding) (Answer (next inline_states.SpaceOrTabEolAfterEol))))
 
 module _ {M : Type 0} where
   -- at the first byte
   abbrev pub space_or_tab_eol_start : Body M
   space_or_tab_eol_start =
-      On (λ b. (b == 9) || (b == 32))
+      On (λ b. (b == tab) || (b == space))
       (Keep (λ c. record c.tokenize_state { size_c = 2 ^ 64 - 1 }) (λ c i. refl)
       (Tries false (next inline_states.SpaceOrTabEolAfterFirst) (next inline_states.SpaceOrTabEolAtEol) (retry inline_states.SpaceOrTabStart)))
       (Answer (retry inline_states.SpaceOrTabEolAtEol))
@@ -23,17 +24,17 @@ module _ {M : Type 0} where
   -- after spaces and tabs
   abbrev pub space_or_tab_eol_after_first : Body M
   space_or_tab_eol_after_first =
-      On (λ b. b == 10) over_eol (Answer states.Ok)
+      On (λ b. b == line_feed) over_eol (Answer states.Ok)
 
   -- where there are none
   abbrev pub space_or_tab_eol_at_eol : Body M
   space_or_tab_eol_at_eol =
-      On (λ b. b == 10) over_eol (Answer states.Nok)
+      On (λ b. b == line_feed) over_eol (Answer states.Nok)
 
   -- after the line ending
   abbrev pub space_or_tab_eol_after_eol : Body M
   space_or_tab_eol_after_eol =
-      On (λ b. (b == 9) || (b == 32))
+      On (λ b. (b == tab) || (b == space))
       (Keep (λ c. record c.tokenize_state { size_c = 2 ^ 64 - 1 }) (λ c i. refl)
       (Tries false (next inline_states.SpaceOrTabEolAfterMore) (next inline_states.SpaceOrTabEolAfterMore) (retry inline_states.SpaceOrTabStart)))
       (Answer (retry inline_states.SpaceOrTabEolAfterMore))

@@ -4,7 +4,7 @@ use Rattle.engine_events.specs.declared.label.LabelKind.{LabelKind}
 use Rattle.engine_events.specs.declared.label.LabelStart.{LabelStart}
 use Rattle.engine_events.specs.declared.resolve.Name.TheVariants as resolvers
 use Rattle.engine_events.specs.declared.state.State.TheVariants as states
-use Rattle.markdown_engine.specs.Kept.{Kept}
+use Rattle.markdown_engine.specs.KeptState.{KeptState}
 use Rattle.markdown_engine.specs.Reading.{Config}
 use Rattle.engine_programs.specs.Bodies.{Body, Answer, Keep, RegisterFirst}
 
@@ -12,7 +12,7 @@ use Rattle.engine_programs.specs.Bodies.{Body, Answer, Keep, RegisterFirst}
 abbrev pub last_start : LabelKind → ℕ → ℕ → LabelStart
 last_start kind size count = let start : LabelStart = record { kind = kind; start = (count - size, count - 1); inactive = false } in start
 
-abbrev pub label_begun : {M : Type 0} → LabelKind → ℕ → Body M
-label_begun kind size =
+abbrev pub begin_label : {M : Type 0} → LabelKind → ℕ → Body M
+begin_label kind size =
     Keep (λ c. record c.tokenize_state { label_starts = c.tokenize_state.label_starts ++ last_start kind size (length c.events) ∷ [] }) (λ c i. refl)
     (RegisterFirst resolvers.Label (Answer states.Ok))

@@ -6,7 +6,7 @@
 ghost use Rattle.std.specs.Prelude.{[], ◌∷◌};
 ghost use Rattle.engine_events.specs.declared.event.Name.TheVariants as names;
 ghost use Rattle.markdown_engine.specs.Machine.{config, constructs_of};
-ghost use Rattle.engine_programs.specs.Bodies.{Fixed};
+ghost use Rattle.engine_programs.specs.Bodies.{FixedName};
 ghost use Rattle.engine_programs.specs.Stacks.{Does, IsOpen};
 ghost use Rattle.inline_states_labels.specs.LabelStartImage.{label_start_image_start, label_start_image_open, label_start_image_after};
 
@@ -42,7 +42,7 @@ pub fn start<M, T, A: Allocator>(tokenizer: &mut Tokenizer<'_, M, T, A>) -> Stat
 
 /// After the `!`.
 pub fn open<M, T, A: Allocator>(tokenizer: &mut Tokenizer<'_, M, T, A>) -> State
-    requires { IsOpen (Fixed names.LabelImage ∷ []) tokenizer.old }
+    requires { IsOpen (FixedName names.LabelImage ∷ []) tokenizer.old }
     ensures { Does label_start_image_open tokenizer.old tokenizer.new result }
 {
     if tokenizer.current != Some(b'[') {

@@ -10,12 +10,12 @@
 ghost use Rattle.std.specs.Prelude.{[], ◌∷◌};
 ghost use Rattle.engine_events.specs.declared.event.Name.TheVariants as names;
 ghost use Rattle.markdown_engine.specs.Machine.{config};
-ghost use Rattle.engine_programs.specs.Bodies.{Fixed, Held};
+ghost use Rattle.engine_programs.specs.Bodies.{FixedName, HeldName};
 ghost use Rattle.engine_programs.specs.Stacks.{Does, IsOpen};
 ghost use Rattle.inline_states_labels.specs.Destination.{destination_start, destination_enclosed_before, destination_enclosed};
 ghost use Rattle.inline_states_labels.specs.Destination.{destination_enclosed_escape, destination_raw, destination_raw_escape};
 ghost use Rattle.std.specs.Prelude.{◌≡◌, Some};
-ghost use Rattle.inline_states_labels.specs.Destination.{enclosed_begun, enclosed_byte, is_control, raw_begun, raw_byte, raw_end};
+ghost use Rattle.inline_states_labels.specs.Destination.{begin_enclosed, enclosed_byte, is_control, begin_raw, raw_byte, raw_end};
 ghost use Rattle.inline_states_table.specs.Table.{raw_destination_tokens};
 
 use crate::chunk::FIRST;
@@ -64,7 +64,7 @@ fn over_raw<M, T, A: Allocator>(tokenizer: &mut Tokenizer<'_, M, T, A>, byte: u8
 
 /// Over the first byte between angle brackets.
 fn begin_enclosed<M, T, A: Allocator>(tokenizer: &mut Tokenizer<'_, M, T, A>, state: State) -> State
-    ensures { Does (enclosed_begun state) tokenizer.old tokenizer.new result }
+    ensures { Does (begin_enclosed state) tokenizer.old tokenizer.new result }
 {
     if tokenizer.enter(tokenizer.tokenize_state.token_5).is_err() {
         return State::out_of_memory();
@@ -81,7 +81,7 @@ fn begin_raw<M, T, A: Allocator>(
     size: usize,
     state: State,
 ) -> State
-    ensures { Does (raw_begun size state) tokenizer.old tokenizer.new result }
+    ensures { Does (begin_raw size state) tokenizer.old tokenizer.new result }
 {
     tokenizer.tokenize_state.size = size;
     if tokenizer.enter(tokenizer.tokenize_state.token_1).is_err() {
@@ -156,7 +156,7 @@ pub fn start<M, T, A: Allocator>(tokenizer: &mut Tokenizer<'_, M, T, A>) -> Stat
 
 /// After the `<`, or at the `>`.
 pub fn enclosed_before<M, T, A: Allocator>(tokenizer: &mut Tokenizer<'_, M, T, A>) -> State
-    requires { IsOpen (Held 2 ∷ Held 1 ∷ []) tokenizer.old }
+    requires { IsOpen (HeldName 2 ∷ HeldName 1 ∷ []) tokenizer.old }
     ensures { Does destination_enclosed_before tokenizer.old tokenizer.new result }
 {
     match tokenizer.current {
@@ -180,7 +180,7 @@ pub fn enclosed_before<M, T, A: Allocator>(tokenizer: &mut Tokenizer<'_, M, T, A
 
 /// Between the angle brackets.
 pub fn enclosed<M, T, A: Allocator>(tokenizer: &mut Tokenizer<'_, M, T, A>) -> State
-    requires { IsOpen (Fixed names.Data ∷ Held 5 ∷ Held 2 ∷ Held 1 ∷ []) tokenizer.old }
+    requires { IsOpen (FixedName names.Data ∷ HeldName 5 ∷ HeldName 2 ∷ HeldName 1 ∷ []) tokenizer.old }
     ensures { Does destination_enclosed tokenizer.old tokenizer.new result }
 {
     let Some(byte) = tokenizer.current else {

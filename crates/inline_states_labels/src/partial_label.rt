@@ -9,12 +9,12 @@
 ghost use Rattle.std.specs.Prelude.{[], ◌∷◌};
 ghost use Rattle.engine_events.specs.declared.event.Name.TheVariants as names;
 ghost use Rattle.markdown_engine.specs.Machine.{config};
-ghost use Rattle.engine_programs.specs.Bodies.{Fixed};
+ghost use Rattle.engine_programs.specs.Bodies.{FixedName};
 ghost use Rattle.engine_programs.specs.Stacks.{Does, IsOpen};
 ghost use Rattle.inline_states_table.specs.Table.{label_tokens};
 ghost use Rattle.inline_states_labels.specs.Label.{label_start, label_at_break, label_eol_after, label_nok, label_inside, label_escape};
 ghost use Rattle.std.specs.Prelude.{◌≡◌, Some};
-ghost use Rattle.inline_states_labels.specs.Label.{counted, label_byte, label_close};
+ghost use Rattle.inline_states_labels.specs.Label.{count_byte, label_byte, label_close};
 
 use crate::chunk::enter_part;
 use engine_programs::around::{around, leave};
@@ -28,8 +28,8 @@ use markdown_options::constants::LINK_REFERENCE_SIZE_MAX;
 use std::alloc::Allocator;
 
 /// How many bytes were counted: of a tab only the first column.
-fn counted(size: usize, point: Point) -> usize
-    ensures { result ≡ counted size point }
+fn count_byte(size: usize, point: Point) -> usize
+    ensures { result ≡ count_byte size point }
 {
     if point.vs == 0 {
         size.saturating_add(1)
@@ -43,7 +43,7 @@ fn over_byte<M, T, A: Allocator>(tokenizer: &mut Tokenizer<'_, M, T, A>, byte: u
     requires { tokenizer.old.current ≡ Some byte }
     ensures { Does label_byte tokenizer.old tokenizer.new result }
 {
-    let size = counted(tokenizer.tokenize_state.size, tokenizer.point);
+    let size = count_byte(tokenizer.tokenize_state.size, tokenizer.point);
     let seen = tokenizer.tokenize_state.seen || !matches!(byte, b'\t' | b' ');
     tokenizer.tokenize_state.size = size;
     tokenizer.tokenize_state.seen = seen;
@@ -149,7 +149,7 @@ pub fn nok<M, T, A: Allocator>(tokenizer: &mut Tokenizer<'_, M, T, A>) -> State
 
 /// In data.
 pub fn inside<M, T, A: Allocator>(tokenizer: &mut Tokenizer<'_, M, T, A>) -> State
-    requires { IsOpen (Fixed names.Data ∷ label_tokens) tokenizer.old }
+    requires { IsOpen (FixedName names.Data ∷ label_tokens) tokenizer.old }
     ensures { Does label_inside tokenizer.old tokenizer.new result }
 {
     if let Some(byte) = tokenizer.current {
@@ -168,7 +168,10 @@ pub fn escape<M, T, A: Allocator>(tokenizer: &mut Tokenizer<'_, M, T, A>) -> Sta
 {
     if let Some(byte) = tokenizer.current {
         if matches!(byte, b'[' | b'\\' | b']') {
-            tokenizer.tokenize_state.size = counted(tokenizer.tokenize_state.size, tokenizer.point);
+            tokenizer.tokenize_state.size = count_byte(
+                tokenizer.tokenize_state.size,
+                tokenizer.point,
+            );
             return consume_to(tokenizer, next(Inline::LabelInside));
         }
     }

@@ -8,7 +8,7 @@
 ghost use Rattle.std.specs.Prelude.{[], ◌∷◌};
 ghost use Rattle.engine_events.specs.declared.event.Name.TheVariants as names;
 ghost use Rattle.markdown_engine.specs.Machine.{config};
-ghost use Rattle.engine_programs.specs.Bodies.{Fixed};
+ghost use Rattle.engine_programs.specs.Bodies.{FixedName};
 ghost use Rattle.engine_programs.specs.Stacks.{Does, IsOpen};
 ghost use Rattle.inline_states_labels.specs.SpaceOrTab.{space_or_tab_start, space_or_tab_inside, space_or_tab_after};
 
@@ -39,7 +39,7 @@ pub fn start<M, T, A: Allocator>(tokenizer: &mut Tokenizer<'_, M, T, A>) -> Stat
 
 /// At the next.
 pub fn inside<M, T, A: Allocator>(tokenizer: &mut Tokenizer<'_, M, T, A>) -> State
-    requires { IsOpen (Fixed names.SpaceOrTab ∷ []) tokenizer.old }
+    requires { IsOpen (FixedName names.SpaceOrTab ∷ []) tokenizer.old }
     ensures { Does space_or_tab_inside tokenizer.old tokenizer.new result }
 {
     if let Some(byte) = tokenizer.current {

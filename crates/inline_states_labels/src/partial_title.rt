@@ -9,7 +9,7 @@
 ghost use Rattle.std.specs.Prelude.{[], ◌∷◌};
 ghost use Rattle.engine_events.specs.declared.event.Name.TheVariants as names;
 ghost use Rattle.markdown_engine.specs.Machine.{config};
-ghost use Rattle.engine_programs.specs.Bodies.{Fixed, Held};
+ghost use Rattle.engine_programs.specs.Bodies.{FixedName, HeldName};
 ghost use Rattle.engine_programs.specs.Stacks.{Does, IsOpen};
 ghost use Rattle.inline_states_table.specs.Table.{title_tokens};
 ghost use Rattle.inline_states_labels.specs.Title.{title_start, title_begin, title_at_break, title_after_eol, title_nok, title_inside, title_escape};
@@ -100,7 +100,7 @@ pub fn start<M, T, A: Allocator>(tokenizer: &mut Tokenizer<'_, M, T, A>) -> Stat
 
 /// After the first marker, or at the last.
 pub fn begin<M, T, A: Allocator>(tokenizer: &mut Tokenizer<'_, M, T, A>) -> State
-    requires { IsOpen (Held 1 ∷ []) tokenizer.old }
+    requires { IsOpen (HeldName 1 ∷ []) tokenizer.old }
     ensures { Does title_begin tokenizer.old tokenizer.new result }
 {
     let Some(byte) = tokenizer.current else {
@@ -158,7 +158,7 @@ pub fn nok<M, T, A: Allocator>(tokenizer: &mut Tokenizer<'_, M, T, A>) -> State
 
 /// In data.
 pub fn inside<M, T, A: Allocator>(tokenizer: &mut Tokenizer<'_, M, T, A>) -> State
-    requires { IsOpen (Fixed names.Data ∷ title_tokens) tokenizer.old }
+    requires { IsOpen (FixedName names.Data ∷ title_tokens) tokenizer.old }
     ensures { Does title_inside tokenizer.old tokenizer.new result }
 {
     if let Some(byte) = tokenizer.current {

@@ -1,7 +1,7 @@
 //! The starts of labels, which may find their ends.
 ghost use Rattle.markdown_engine.specs.Machine.{config};
 ghost use Rattle.engine_programs.specs.Stacks.{Does};
-ghost use Rattle.inline_states_labels.specs.Start.{label_begun};
+ghost use Rattle.inline_states_labels.specs.Start.{begin_label};
 
 use markdown_engine::label::{LabelKind, LabelStart};
 use markdown_engine::resolve;
@@ -15,7 +15,7 @@ pub fn start_label<M, T, A: Allocator>(
     kind: LabelKind,
     size: usize,
 ) -> State
-    ensures { Does (label_begun kind size) tokenizer.old tokenizer.new result }
+    ensures { Does (begin_label kind size) tokenizer.old tokenizer.new result }
 {
     let count = tokenizer.events.len();
     let start = LabelStart {

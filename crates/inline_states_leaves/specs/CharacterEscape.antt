@@ -4,17 +4,18 @@ use Rattle.std.specs.Char.{is_ascii_punctuation}
 use Rattle.engine_events.specs.declared.event.Name.TheVariants as names
 use Rattle.engine_events.specs.declared.state.Inline.TheVariants as inline_states
 use Rattle.engine_events.specs.declared.state.State.TheVariants as states
-use Rattle.engine_programs.specs.Bodies.{Fixed, Body, Answer, Enter, Exit, Byte, On, Test, around}
+use Rattle.engine_programs.specs.Bodies.{FixedName, Body, Answer, Enter, Exit, Byte, On, Test, around}
 use Rattle.inline_states_table.specs.Words.{next}
+use Rattle.definition_text.specs.Ascii.{backslash}
 
 module _ {M : Type 0} where
   -- at a backslash
   abbrev pub character_escape_start : Bool → Body M
   character_escape_start on =
       Byte (Answer states.Nok)
-      (On (λ b. b == 92)
+      (On (λ b. b == backslash)
       (Test (λ c. on)
-      (Enter (Fixed names.CharacterEscape) (around (Fixed names.CharacterEscapeMarker) (Answer (next inline_states.CharacterEscapeInside))))
+      (Enter (FixedName names.CharacterEscape) (around (FixedName names.CharacterEscapeMarker) (Answer (next inline_states.CharacterEscapeInside))))
       (Answer states.Nok))
       (Answer states.Nok))
 
@@ -22,4 +23,4 @@ module _ {M : Type 0} where
   abbrev pub character_escape_inside : Body M
   character_escape_inside =
       Byte (Answer states.Nok)
-      (On is_ascii_punctuation (around (Fixed names.CharacterEscapeValue) (Exit (Fixed names.CharacterEscape) (Answer states.Ok))) (Answer states.Nok))
+      (On is_ascii_punctuation (around (FixedName names.CharacterEscapeValue) (Exit (FixedName names.CharacterEscape) (Answer states.Ok))) (Answer states.Nok))

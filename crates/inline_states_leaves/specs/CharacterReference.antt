@@ -5,16 +5,17 @@ use Rattle.engine_events.specs.declared.event.Name.TheVariants as names
 use Rattle.engine_events.specs.declared.state.Inline.TheVariants as inline_states
 use Rattle.engine_events.specs.declared.state.State.TheVariants as states
 use Rattle.markdown_engine.specs.Reading.{Config}
-use Rattle.engine_programs.specs.Bodies.{Fixed, Body, Answer, Consume, Enter, Exit, Keep, Byte, On, Test, around, has}
+use Rattle.engine_programs.specs.Bodies.{FixedName, Body, Answer, Consume, Enter, Exit, Keep, Byte, On, Test, around, has}
 use Rattle.inline_states_table.specs.Words.{next, more}
 use Rattle.engine_events.specs.Columns.{between}
 use Rattle.std.specs.Str.{is_utf8}
+use Rattle.definition_text.specs.Ascii.{number_sign, ampersand, semicolon, capital_x, small_x}
 
 -- Whether a byte may be the next of a reference, of which a marker tells the kind and so many were read.
 abbrev pub goes_on : ℕ → ℕ → ℕ → Bool
 goes_on marker size b =
-    if marker == 38 then nat_lt size 31 && is_ascii_alphanumeric b
-    else if marker == 120 then nat_lt size 6 && is_ascii_hexdigit b
+    if marker == ampersand then nat_lt size 31 && is_ascii_alphanumeric b
+    else if marker == small_x then nat_lt size 6 && is_ascii_hexdigit b
     else nat_lt size 7 && is_ascii_digit b
 
 -- whether a name is UTF-8, and has a text
@@ -27,7 +28,7 @@ is_name texts bytes size index = nat_le index (length bytes) && has_text texts (
 
 -- Whether the value before an index stands for something: digits always do.
 abbrev pub is_known : (List ℕ → Option (List ℕ)) → List ℕ → ℕ → ℕ → ℕ → Bool
-is_known texts bytes marker size index = nat_lt 0 size && (not (marker == 38) || is_name texts bytes size index)
+is_known texts bytes marker size index = nat_lt 0 size && (not (marker == ampersand) || is_name texts bytes size index)
 
 module _ {M : Type 0} where
   -- the same of the value that is being read
@@ -38,10 +39,10 @@ module _ {M : Type 0} where
   abbrev pub character_reference_start : Bool → Body M
   character_reference_start on =
       Byte (Answer states.Nok)
-      (On (λ b. b == 38)
+      (On (λ b. b == ampersand)
       (Test (λ c. on)
-      (Enter (Fixed names.CharacterReference)
-      (around (Fixed names.CharacterReferenceMarker) (Answer (next inline_states.CharacterReferenceOpen))))
+      (Enter (FixedName names.CharacterReference)
+      (around (FixedName names.CharacterReferenceMarker) (Answer (next inline_states.CharacterReferenceOpen))))
       (Answer states.Nok))
       (Answer states.Nok))
 
@@ -49,32 +50,32 @@ module _ {M : Type 0} where
   abbrev pub character_reference_open : Body M
   character_reference_open =
       Byte (Answer states.Nok)
-      (On (λ b. b == 35) (around (Fixed names.CharacterReferenceMarkerNumeric) (Answer (next inline_states.CharacterReferenceNumeric)))
+      (On (λ b. b == number_sign) (around (FixedName names.CharacterReferenceMarkerNumeric) (Answer (next inline_states.CharacterReferenceNumeric)))
       (On is_ascii_alphanumeric
       (Keep (λ c. record c.tokenize_state { marker = 38; size = 1 }) (λ c i. refl)
-      (Enter (Fixed names.CharacterReferenceValue) (Consume (Answer (next inline_states.CharacterReferenceValue)))))
+      (Enter (FixedName names.CharacterReferenceValue) (Consume (Answer (next inline_states.CharacterReferenceValue)))))
       (Answer states.Nok)))
 
   -- after the `#`
   abbrev pub character_reference_numeric : Body M
   character_reference_numeric =
       Byte (Answer states.Nok)
-      (On (λ b. (b == 120) || (b == 88))
+      (On (λ b. (b == small_x) || (b == capital_x))
       (Keep (λ c. record c.tokenize_state { marker = 120; size = 0 }) (λ c i. refl)
-      (around (Fixed names.CharacterReferenceMarkerHexadecimal)
-      (Enter (Fixed names.CharacterReferenceValue) (Answer (next inline_states.CharacterReferenceValue)))))
+      (around (FixedName names.CharacterReferenceMarkerHexadecimal)
+      (Enter (FixedName names.CharacterReferenceValue) (Answer (next inline_states.CharacterReferenceValue)))))
       (On is_ascii_digit
       (Keep (λ c. record c.tokenize_state { marker = 35; size = 1 }) (λ c i. refl)
-      (Enter (Fixed names.CharacterReferenceValue) (Consume (Answer (next inline_states.CharacterReferenceValue)))))
+      (Enter (FixedName names.CharacterReferenceValue) (Consume (Answer (next inline_states.CharacterReferenceValue)))))
       (Answer states.Nok)))
 
   -- in the value
   abbrev pub character_reference_value : (List ℕ → Option (List ℕ)) → List ℕ → Body M
   character_reference_value texts bytes =
       Byte (Answer states.Nok)
-      (Test (λ c. has (λ b. b == 59) c.current && is_value_known texts bytes c)
-      (Exit (Fixed names.CharacterReferenceValue)
-      (around (Fixed names.CharacterReferenceMarkerSemi) (Exit (Fixed names.CharacterReference) (Answer states.Ok))))
+      (Test (λ c. has (λ b. b == semicolon) c.current && is_value_known texts bytes c)
+      (Exit (FixedName names.CharacterReferenceValue)
+      (around (FixedName names.CharacterReferenceMarkerSemi) (Exit (FixedName names.CharacterReference) (Answer states.Ok))))
       (Test (λ c. has (goes_on c.tokenize_state.marker c.tokenize_state.size) c.current)
       (Keep (λ c. record c.tokenize_state { size = more c.tokenize_state.size }) (λ c i. refl)
       (Consume (Answer (next inline_states.CharacterReferenceValue))))

@@ -11,7 +11,8 @@ use Rattle.engine_programs.specs.Sorts.{fits, implies}
 use Rattle.inline_states_table.specs.Table.{is_in, sorts}
 use Rattle.inline_states_leaves.specs.Attention.{attention_start, attention_inside}
 use Rattle.inline_states_leaves.specs.CharacterEscape.{character_escape_start, character_escape_inside}
-use Rattle.inline_states_leaves.specs.CharacterReference.{character_reference_start, character_reference_open, character_reference_numeric, character_reference_value}
+use Rattle.inline_states_leaves.specs.CharacterReference.{character_reference_start, character_reference_open, character_reference_numeric}
+use Rattle.inline_states_leaves.specs.CharacterReference.{character_reference_value}
 use Rattle.inline_states_leaves.specs.HardBreakEscape.{hard_break_escape_start, hard_break_escape_after}
 use Rattle.inline_states_leaves.specs.Data.{data_start, data_at_break, data_inside}
 use Rattle.inline_states_leaves.specs.RawText.{raw_text_start, raw_text_sequence_open, raw_text_between, raw_text_data, raw_text_sequence_close}
@@ -39,6 +40,7 @@ module _ {T M : Type 0} (texts : List ℕ → Option (List ℕ)) (x : Context T)
   leaf_body n = Answer states.Nok
 
 -- they fit the table
-pub leaves_fit : (M : Type 0) {T : Type 0} (texts : List ℕ → Option (List ℕ)) (x : Context T) (n : InlineName) → implies (is_in groups.Leaves n) (fits sorts 64 (Inline n) (leaf_body {M = M} texts x n)) ≡ true
+pub leaves_fit : (M : Type 0) {T : Type 0} (texts : List ℕ → Option (List ℕ)) (x : Context T) (n : InlineName)
+    → implies (is_in groups.Leaves n) (fits sorts 64 (Inline n) (leaf_body {M = M} texts x n)) ≡ true
 leaves_fit M texts x inline_states.AttentionStart = refl
 leaves_fit M texts x n = refl

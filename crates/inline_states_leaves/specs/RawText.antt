@@ -4,12 +4,13 @@ use Rattle.engine_events.specs.declared.event.Name.TheVariants as names
 use Rattle.engine_events.specs.declared.state.Inline.TheVariants as inline_states
 use Rattle.engine_events.specs.declared.state.State.TheVariants as states
 use Rattle.markdown_engine.specs.Reading.{Config}
-use Rattle.engine_programs.specs.Bodies.{Fixed, Held, Body, Answer, Consume, Enter, Exit, Keep, Hold, Byte, On, Test, around, has}
+use Rattle.engine_programs.specs.Bodies.{FixedName, HeldName, Body, Answer, Consume, Enter, Exit, Keep, Hold, Byte, On, Test, around, has}
 use Rattle.inline_states_table.specs.Words.{next, retry, more, at_marker}
 use Rattle.engine_events.specs.contracts.event.Name.{the_type}
 use Rattle.engine_events.specs.declared.event.Event.{Event}
 use Rattle.engine_events.specs.declared.event.Name.{Name as EventName}
 use denote.Enum.Bare.{sameb}
+use Rattle.definition_text.specs.Ascii.{line_feed, dollar, backtick}
 
 abbrev pub is_escape : Option Event → Bool
 is_escape None = false
@@ -25,7 +26,7 @@ raw_text_open marker raw sequence content =
     Test (begins_run marker)
     (Hold 1 raw (Hold 2 sequence (Hold 3 content
     (Keep (λ c. record c.tokenize_state { marker = marker; size = 1; size_b = 0 }) (λ c i. refl)
-    (Enter (Held 1) (Enter (Held 2) (Consume (Answer (next inline_states.RawTextSequenceOpen)))))))))
+    (Enter (HeldName 1) (Enter (HeldName 2) (Consume (Answer (next inline_states.RawTextSequenceOpen)))))))))
     (Answer states.Nok)
 
 module _ {M : Type 0} where
@@ -33,8 +34,8 @@ module _ {M : Type 0} where
   abbrev pub raw_text_start : Bool → Bool → Body M
   raw_text_start code math =
       Byte (Answer states.Nok)
-      (On (λ b. b == 96) (Test (λ c. code) (raw_text_open 96 names.CodeText names.CodeTextSequence names.CodeTextData) (Answer states.Nok))
-      (On (λ b. b == 36) (Test (λ c. math) (raw_text_open 36 names.MathText names.MathTextSequence names.MathTextData) (Answer states.Nok))
+      (On (λ b. b == backtick) (Test (λ c. code) (raw_text_open 96 names.CodeText names.CodeTextSequence names.CodeTextData) (Answer states.Nok))
+      (On (λ b. b == dollar) (Test (λ c. math) (raw_text_open 36 names.MathText names.MathTextSequence names.MathTextData) (Answer states.Nok))
       (Answer states.Nok)))
 
   -- in the opening run
@@ -44,37 +45,37 @@ module _ {M : Type 0} where
       (Test at_marker
       (Keep (λ c. record c.tokenize_state { size = more c.tokenize_state.size }) (λ c i. refl)
       (Consume (Answer (next inline_states.RawTextSequenceOpen))))
-      (Test (λ c. (c.tokenize_state.marker == 36) && (c.tokenize_state.size == 1) && not single) (Answer states.Nok)
-      (Exit (Held 2) (Answer (retry inline_states.RawTextBetween)))))
+      (Test (λ c. (c.tokenize_state.marker == dollar) && (c.tokenize_state.size == 1) && not single) (Answer states.Nok)
+      (Exit (HeldName 2) (Answer (retry inline_states.RawTextBetween)))))
 
   -- between the parts of the text
   abbrev pub raw_text_between : Body M
   raw_text_between =
       Byte (Answer states.Nok)
-      (On (λ b. b == 10) (around (Fixed names.LineEnding) (Answer (next inline_states.RawTextBetween)))
+      (On (λ b. b == line_feed) (around (FixedName names.LineEnding) (Answer (next inline_states.RawTextBetween)))
       (Byte (Answer states.Nok)
       (Test at_marker
       (Keep (λ c. record c.tokenize_state { size_b = 1 }) (λ c i. refl)
-      (Enter (Held 2) (Consume (Answer (next inline_states.RawTextSequenceClose)))))
-      (Enter (Held 3) (Consume (Answer (next inline_states.RawTextData)))))))
+      (Enter (HeldName 2) (Consume (Answer (next inline_states.RawTextSequenceClose)))))
+      (Enter (HeldName 3) (Consume (Answer (next inline_states.RawTextData)))))))
 
   -- in the text
   abbrev pub raw_text_data : Body M
   raw_text_data =
-      Byte (Exit (Held 3) (Answer (retry inline_states.RawTextBetween)))
-      (Test (λ c. has (λ b. (b == 10) || (b == c.tokenize_state.marker)) c.current) (Exit (Held 3) (Answer (retry inline_states.RawTextBetween)))
+      Byte (Exit (HeldName 3) (Answer (retry inline_states.RawTextBetween)))
+      (Test (λ c. has (λ b. (b == line_feed) || (b == c.tokenize_state.marker)) c.current) (Exit (HeldName 3) (Answer (retry inline_states.RawTextBetween)))
       (Consume (Answer (next inline_states.RawTextData))))
 
   -- in a run that may close the text
   abbrev pub raw_text_sequence_close : Body M
   raw_text_sequence_close =
       Byte
-      (Exit (Held 2)
-      (Test (λ c. c.tokenize_state.size == c.tokenize_state.size_b) (Exit (Held 1) (Answer states.Ok))
+      (Exit (HeldName 2)
+      (Test (λ c. c.tokenize_state.size == c.tokenize_state.size_b) (Exit (HeldName 1) (Answer states.Ok))
       (Answer (retry inline_states.RawTextBetween))))
       (Test at_marker
       (Keep (λ c. record c.tokenize_state { size_b = more c.tokenize_state.size_b }) (λ c i. refl)
       (Consume (Answer (next inline_states.RawTextSequenceClose))))
-      (Exit (Held 2)
-      (Test (λ c. c.tokenize_state.size == c.tokenize_state.size_b) (Exit (Held 1) (Answer states.Ok))
+      (Exit (HeldName 2)
+      (Test (λ c. c.tokenize_state.size == c.tokenize_state.size_b) (Exit (HeldName 1) (Answer states.Ok))
       (Answer (retry inline_states.RawTextBetween)))))

@@ -8,7 +8,7 @@
 ghost use Rattle.std.specs.Prelude.{[], ◌∷◌};
 ghost use Rattle.engine_events.specs.declared.event.Name.TheVariants as names;
 ghost use Rattle.markdown_engine.specs.Machine.{config, constructs_of};
-ghost use Rattle.engine_programs.specs.Bodies.{Fixed};
+ghost use Rattle.engine_programs.specs.Bodies.{FixedName};
 ghost use Rattle.engine_programs.specs.Stacks.{Does, IsOpen};
 ghost use Rattle.inline_states_leaves.specs.Attention.{attention_start, attention_inside};
 ghost use Rattle.inline_states_leaves.specs.Attention.{attention_open};
@@ -65,7 +65,7 @@ pub fn start<M, T, A: Allocator>(tokenizer: &mut Tokenizer<'_, M, T, A>) -> Stat
 
 /// In a run.
 pub fn inside<M, T, A: Allocator>(tokenizer: &mut Tokenizer<'_, M, T, A>) -> State
-    requires { IsOpen (Fixed names.AttentionSequence ∷ []) tokenizer.old }
+    requires { IsOpen (FixedName names.AttentionSequence ∷ []) tokenizer.old }
     ensures { Does attention_inside tokenizer.old tokenizer.new result }
 {
     if tokenizer.current == Some(tokenizer.tokenize_state.marker) {

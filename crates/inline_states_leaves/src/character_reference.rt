@@ -8,7 +8,7 @@
 ghost use Rattle.std.specs.Prelude.{[], ◌∷◌};
 ghost use Rattle.engine_events.specs.declared.event.Name.TheVariants as names;
 ghost use Rattle.markdown_engine.specs.Machine.{config, constructs_of, bytes_of, tables_of};
-ghost use Rattle.engine_programs.specs.Bodies.{Fixed};
+ghost use Rattle.engine_programs.specs.Bodies.{FixedName};
 ghost use Rattle.engine_programs.specs.Stacks.{Does, IsOpen};
 ghost use Rattle.inline_states_table.specs.Table.{reference_tokens};
 ghost use Rattle.inline_states_leaves.specs.CharacterReference.{character_reference_start, character_reference_open};
@@ -156,7 +156,7 @@ pub fn numeric<M, T, A: Allocator>(tokenizer: &mut Tokenizer<'_, M, T, A>) -> St
 
 /// In the value.
 pub fn value<M, T: Tables, A: Allocator>(tokenizer: &mut Tokenizer<'_, M, T, A>) -> State
-    requires { IsOpen (Fixed names.CharacterReferenceValue ∷ reference_tokens) tokenizer.old }
+    requires { IsOpen (FixedName names.CharacterReferenceValue ∷ reference_tokens) tokenizer.old }
     ensures { Does (character_reference_value (T.reference_of (tables_of tokenizer.old)) (bytes_of tokenizer.old)) tokenizer.old tokenizer.new result }
 {
     let Some(byte) = tokenizer.current else {

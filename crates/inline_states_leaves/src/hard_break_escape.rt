@@ -6,7 +6,7 @@
 ghost use Rattle.std.specs.Prelude.{[], ◌∷◌};
 ghost use Rattle.engine_events.specs.declared.event.Name.TheVariants as names;
 ghost use Rattle.markdown_engine.specs.Machine.{config, constructs_of};
-ghost use Rattle.engine_programs.specs.Bodies.{Fixed};
+ghost use Rattle.engine_programs.specs.Bodies.{FixedName};
 ghost use Rattle.engine_programs.specs.Stacks.{Does, IsOpen};
 ghost use Rattle.inline_states_leaves.specs.HardBreakEscape.{hard_break_escape_start, hard_break_escape_after};
 
@@ -37,7 +37,7 @@ pub fn start<M, T, A: Allocator>(tokenizer: &mut Tokenizer<'_, M, T, A>) -> Stat
 
 /// After the backslash.
 pub fn after<M, T, A: Allocator>(tokenizer: &mut Tokenizer<'_, M, T, A>) -> State
-    requires { IsOpen (Fixed names.HardBreakEscape ∷ []) tokenizer.old }
+    requires { IsOpen (FixedName names.HardBreakEscape ∷ []) tokenizer.old }
     ensures { Does hard_break_escape_after tokenizer.old tokenizer.new result }
 {
     if tokenizer.current != Some(b'\n') {

@@ -8,7 +8,7 @@
 ghost use Rattle.std.specs.Prelude.{[], ◌∷◌};
 ghost use Rattle.engine_events.specs.declared.event.Name.TheVariants as names;
 ghost use Rattle.markdown_engine.specs.Machine.{config};
-ghost use Rattle.engine_programs.specs.Bodies.{Fixed};
+ghost use Rattle.engine_programs.specs.Bodies.{FixedName};
 ghost use Rattle.engine_programs.specs.Stacks.{Does, IsOpen};
 ghost use Rattle.inline_states_leaves.specs.Data.{data_start, data_at_break, data_inside};
 ghost use Rattle.std.specs.Prelude.{◌≡◌};
@@ -77,7 +77,7 @@ pub fn at_break<M, T, A: Allocator>(tokenizer: &mut Tokenizer<'_, M, T, A>) -> S
 
 /// In data.
 pub fn inside<M, T, A: Allocator>(tokenizer: &mut Tokenizer<'_, M, T, A>) -> State
-    requires { IsOpen (Fixed names.Data ∷ []) tokenizer.old }
+    requires { IsOpen (FixedName names.Data ∷ []) tokenizer.old }
     ensures { Does data_inside tokenizer.old tokenizer.new result }
 {
     if let Some(byte) = tokenizer.current {

@@ -8,7 +8,7 @@
 //! A sequence of another size within is entered as one, too; the first and the last are the fences.
 ghost use Rattle.std.specs.Prelude.{[], ◌∷◌};
 ghost use Rattle.markdown_engine.specs.Machine.{config, read_with, constructs_of};
-ghost use Rattle.engine_programs.specs.Bodies.{Held};
+ghost use Rattle.engine_programs.specs.Bodies.{HeldName};
 ghost use Rattle.engine_programs.specs.Stacks.{Does, IsOpen};
 ghost use Rattle.inline_states_table.specs.Table.{raw_tokens};
 ghost use Rattle.inline_states_leaves.specs.RawText.{raw_text_start, raw_text_sequence_open, raw_text_between, raw_text_data, raw_text_sequence_close};
@@ -96,7 +96,7 @@ pub fn start<M, T, A: Allocator>(tokenizer: &mut Tokenizer<'_, M, T, A>) -> Stat
 
 /// In the opening run.
 pub fn sequence_open<M, T, A: Allocator>(tokenizer: &mut Tokenizer<'_, M, T, A>) -> State
-    requires { IsOpen (Held 2 ∷ raw_tokens) tokenizer.old }
+    requires { IsOpen (HeldName 2 ∷ raw_tokens) tokenizer.old }
     ensures { Does (raw_text_sequence_open (read_with tokenizer.old).options.math_text_single_dollar) tokenizer.old tokenizer.new result }
 {
     let Some(byte) = tokenizer.current else {
@@ -151,7 +151,7 @@ pub fn between<M, T, A: Allocator>(tokenizer: &mut Tokenizer<'_, M, T, A>) -> St
 
 /// In the text.
 pub fn data<M, T, A: Allocator>(tokenizer: &mut Tokenizer<'_, M, T, A>) -> State
-    requires { IsOpen (Held 3 ∷ raw_tokens) tokenizer.old }
+    requires { IsOpen (HeldName 3 ∷ raw_tokens) tokenizer.old }
     ensures { Does raw_text_data tokenizer.old tokenizer.new result }
 {
     if let Some(byte) = tokenizer.current {
@@ -168,7 +168,7 @@ pub fn data<M, T, A: Allocator>(tokenizer: &mut Tokenizer<'_, M, T, A>) -> State
 
 /// In a run that may close the text.
 pub fn sequence_close<M, T, A: Allocator>(tokenizer: &mut Tokenizer<'_, M, T, A>) -> State
-    requires { IsOpen (Held 2 ∷ raw_tokens) tokenizer.old }
+    requires { IsOpen (HeldName 2 ∷ raw_tokens) tokenizer.old }
     ensures { Does raw_text_sequence_close tokenizer.old tokenizer.new result }
 {
     if tokenizer.current == Some(tokenizer.tokenize_state.marker) {

@@ -8,7 +8,7 @@ use Rattle.definition_inline.specs.Inline.{Inline, Data, Literal}
 use Rattle.inline_leaves.specs.Leaves.{kind_view}
 use Rattle.inline_literals.specs.Addresses.{found_parts}
 use Rattle.inline_literals.specs.declared.address.FoundAddress.{FoundAddress}
-use Rattle.inline_states_resolvers.specs.GfmAutolinkLiteral.{Linking, linked, linking, with_address, with_data, with_part}
+use Rattle.inline_states_resolvers.specs.GfmAutolinkLiteral.{Linking, with_links, linking, with_address, with_data, with_part}
 
 -- bytes that are data come after those before
 held : (l : Linking) (bs : List ℕ) → fold with_part l (map Data bs) ≡ linking l.events l.point (l.run ++ bs)
@@ -17,8 +17,9 @@ held l (b ∷ bs) = held (linking l.events l.point (l.run ++ b ∷ [])) bs ∙ a
 
 -- up to an address, and after it
 pub found_linked : (l : Linking) (text : List ℕ) (found : FoundAddress) → with_addresses text ≡ found_parts text found
-    → linked l text
-    ≡ linked (with_address (kind_view found.kind) (take (found.end - found.start) (drop found.start text)) (with_data (linking l.events l.point (l.run ++ take found.start text)))) (drop found.end text)
+    → with_links l text
+    ≡ with_links (with_address (kind_view found.kind) (take (found.end - found.start) (drop found.start text))
+    (with_data (linking l.events l.point (l.run ++ take found.start text)))) (drop found.end text)
 found_linked l text found h =
     let more : List Inline = Literal (kind_view found.kind) (take (found.end - found.start) (drop found.start text)) ∷ with_addresses (drop found.end text) in
     ap (λ (parts : List Inline). with_data (fold with_part l parts)) h
@@ -26,5 +27,5 @@ found_linked l text found h =
     ∙ ap (λ (m : Linking). with_data (fold with_part m more)) (held l (take found.start text))
 
 -- where no address is left
-pub rest_linked : (l : Linking) (text : List ℕ) → with_addresses text ≡ map Data text → linked l text ≡ with_data (linking l.events l.point (l.run ++ text))
+pub rest_linked : (l : Linking) (text : List ℕ) → with_addresses text ≡ map Data text → with_links l text ≡ with_data (linking l.events l.point (l.run ++ text))
 rest_linked l text h = ap (λ (parts : List Inline). with_data (fold with_part l parts)) h ∙ ap with_data (held l text)

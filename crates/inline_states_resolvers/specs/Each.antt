@@ -15,11 +15,11 @@ place_of (Some e) = point_of e
 abbrev pub place_at : List Event → ℕ → Point
 place_at events i = place_of (slice_get events i)
 
-abbrev pub entered : Name → Point → Event
-entered name p = event Enter name p None
+abbrev pub enter_event : Name → Point → Event
+enter_event name p = event Enter name p None
 
-abbrev pub exited : Name → Point → Event
-exited name p = event Exit name p None
+abbrev pub exit_event : Name → Point → Event
+exit_event name p = event Exit name p None
 
 -- so many more, up to the most that a number of the program holds
 abbrev pub later : ℕ → ℕ → ℕ

@@ -1,7 +1,9 @@
 -- Email addresses among data outside links (GFM 6.9).
-use Rattle.std.specs.Prelude.{ℕ, zero, suc, ◌+◌, ◌-◌, Bool, false, ◌==◌, ◌&&◌, ◌||◌, if◌then◌else◌, nat_lt, List, [], ◌∷◌, ◌++◌, codes, length, slice_get, Option, None, Some}
+use Rattle.std.specs.Prelude.{ℕ, zero, suc, ◌+◌, ◌-◌, Bool, false, ◌==◌, ◌&&◌, ◌||◌, if◌then◌else◌, nat_lt, List, [], ◌∷◌, ◌++◌, codes, length, slice_get}
+use Rattle.std.specs.Prelude.{Option, None, Some}
 use Rattle.std.specs.List.{fold, list_any}
 use denote.Enum.Bare.{sameb}
+use Rattle.definition_text.specs.Ascii.{at_sign}
 use Rattle.definition_text.specs.Bytes.{begins_with}
 use Rattle.definition_inline.specs.Inline.{Inline, Data, Email, Literal, LiteralKind}
 use Rattle.definition_inline.specs.GfmAutolinkLiteral.{with_addresses}
@@ -13,7 +15,7 @@ use Rattle.engine_events.specs.declared.event.Name.{Name}
 use Rattle.engine_events.specs.declared.event.Name.TheVariants as names
 use Rattle.engine_events.specs.declared.place.Point.{Point}
 use Rattle.engine_events.specs.Names.{same_name}
-use Rattle.engine_edits.specs.Edits.{Placed, with_edit}
+use Rattle.engine_edits.specs.Edits.{EditAt, with_edit}
 use Rattle.inline_states_resolvers.specs.Data.{is_data}
 use Rattle.inline_states_resolvers.specs.Each.{later, place_at}
 use Rattle.inline_states_resolvers.specs.Whitespace.{around, around_if, data_part, place_past}
@@ -50,12 +52,12 @@ with_part l (Literal kind text) = with_address kind text (with_data l)
 with_part l i = l
 
 -- what becomes of so much of data, and the text after it
-abbrev pub linked : Linking → List ℕ → Linking
-linked l run = with_data (fold with_part l (with_addresses run))
+abbrev pub with_links : Linking → List ℕ → Linking
+with_links l run = with_data (fold with_part l (with_addresses run))
 
 -- the events in place of data at a place
 abbrev pub address_events : Point → List ℕ → List Event
-address_events p run = (linked (linking [] p []) run).events
+address_events p run = (with_links (linking [] p []) run).events
 
 -- a link, or a call, begins or ends
 abbrev pub is_link : Kind → Option Event → Bool
@@ -79,14 +81,14 @@ module _ (events : List Event) where
 module _ (bytes : List ℕ) (events : List Event) where
   -- data with an `@` stands at an index
   abbrev pub may_link : ℕ → Bool
-  may_link i = is_data_at events i && list_any (λ b. b == 64) (data_part bytes events i)
+  may_link i = is_data_at events i && list_any (λ b. b == at_sign) (data_part bytes events i)
 
   -- what an index adds to the edits, in so many links
-  abbrev pub address_edit : ℕ → ℕ → List Placed → List Placed
+  abbrev pub address_edit : ℕ → ℕ → List EditAt → List EditAt
   address_edit links i edits =
       if (links == 0) && may_link i then with_edit false i 2 (address_events (place_at events i) (data_part bytes events i)) edits else edits
 
   -- the edits of email addresses, up to an index
-  unfoldable pub address_edits : ℕ → List Placed
+  unfoldable pub address_edits : ℕ → List EditAt
   address_edits zero = []
   address_edits (suc i) = address_edit (links_before events i) i (address_edits i)

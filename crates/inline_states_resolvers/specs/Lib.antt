@@ -1,12 +1,13 @@
 pub mod Whole
 pub mod WholeLaws
-pub mod Edited
+pub mod EditedEvents
 pub mod Each
 pub mod Data
 pub mod LabelEnd
 pub mod Attention
 pub mod Whitespace
 pub mod GfmAutolinkLiteral
+pub mod Autolink
 pub mod Views
 pub mod Resolving
 pub mod ResolvingLaws

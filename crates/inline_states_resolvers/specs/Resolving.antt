@@ -6,43 +6,48 @@ use Rattle.markdown_engine.specs.Context.{Context}
 use Rattle.markdown_engine.specs.Reading.{Config}
 use Rattle.markdown_engine.specs.Resolving.{Resolves, nothing_found}
 use Rattle.inline_states_resolvers.specs.Attention.{attention_edits}
+use Rattle.inline_states_resolvers.specs.Autolink.{email_edits}
 use Rattle.inline_states_resolvers.specs.Data.{data_edits}
-use Rattle.inline_states_resolvers.specs.Edited.{with_edited}
+use Rattle.inline_states_resolvers.specs.EditedEvents.{with_edited_events}
 use Rattle.inline_states_resolvers.specs.GfmAutolinkLiteral.{address_edits}
 use Rattle.inline_states_resolvers.specs.LabelEnd.{label_edits}
 use Rattle.inline_states_resolvers.specs.Whitespace.{white_edits}
 
 module _ {M : Type 0} where
-  abbrev pub data_resolved : Config M → Config M
-  data_resolved c = with_edited (data_edits c.events (length c.events)) c
+  abbrev pub resolve_data : Config M → Config M
+  resolve_data c = with_edited_events (data_edits c.events (length c.events)) c
 
-  abbrev pub label_resolved : Config M → Config M
-  label_resolved c = with_edited (label_edits c.events c.tokenize_state) c
+  abbrev pub resolve_label : Config M → Config M
+  resolve_label c = with_edited_events (label_edits c.events c.tokenize_state) c
 
 module _ {T M : Type 0} (is_punctuation : ℕ → Bool) (x : Context T) where
-  abbrev pub attention_resolved : Config M → Config M
-  attention_resolved c = with_edited (attention_edits is_punctuation x c.events) c
+  abbrev pub resolve_attention : Config M → Config M
+  resolve_attention c = with_edited_events (attention_edits is_punctuation x c.events) c
+
+  -- email addresses in autolinks get their name
+  abbrev pub name_text : Config M → Config M
+  name_text c = with_edited_events (email_edits x.bytes c.events (length c.events)) c
 
   -- texts lose white space at their ends, too
-  abbrev pub text_trimmed : Config M → Config M
-  text_trimmed c = with_edited (white_edits true x.options.constructs.hard_break_trailing x.bytes c.events (length c.events)) c
+  abbrev pub trim_text : Config M → Config M
+  trim_text c = with_edited_events (white_edits true x.options.constructs.hard_break_trailing x.bytes c.events (length c.events)) c
 
   -- where literals are on, email addresses are found
-  abbrev pub text_linked : Config M → Config M
-  text_linked c = if x.options.constructs.gfm_autolink_literal then with_edited (address_edits x.bytes c.events (length c.events)) c else c
+  abbrev pub link_text : Config M → Config M
+  link_text c = if x.options.constructs.gfm_autolink_literal then with_edited_events (address_edits x.bytes c.events (length c.events)) c else c
 
-  abbrev pub text_resolved : Config M → Config M
-  text_resolved c = text_linked (text_trimmed c)
+  abbrev pub resolve_text : Config M → Config M
+  resolve_text c = link_text (trim_text (name_text c))
 
-  abbrev pub string_resolved : Config M → Config M
-  string_resolved c = with_edited (white_edits false false x.bytes c.events (length c.events)) c
+  abbrev pub resolve_string : Config M → Config M
+  resolve_string c = with_edited_events (white_edits false false x.bytes c.events (length c.events)) c
 
   abbrev pub resolved_config : Config M → Resolver → Config M
-  resolved_config c resolvers.Data = data_resolved c
-  resolved_config c resolvers.Label = label_resolved c
-  resolved_config c resolvers.Attention = attention_resolved c
-  resolved_config c resolvers.Text = text_resolved c
-  resolved_config c resolvers.String = string_resolved c
+  resolved_config c resolvers.Data = resolve_data c
+  resolved_config c resolvers.Label = resolve_label c
+  resolved_config c resolvers.Attention = resolve_attention c
+  resolved_config c resolvers.Text = resolve_text c
+  resolved_config c resolvers.String = resolve_string c
   resolved_config c n = c
 
   unfoldable pub inline_resolved : Resolves M

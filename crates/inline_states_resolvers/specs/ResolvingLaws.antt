@@ -4,7 +4,7 @@ use Rattle.engine_events.specs.declared.event.Event.{Event}
 use Rattle.engine_events.specs.declared.place.Point.{Point}
 use Rattle.engine_events.specs.declared.resolve.Name.{Name as Resolver}
 use Rattle.engine_events.specs.declared.resolve.Name.TheVariants as resolvers
-use Rattle.engine_edits.specs.Edits.{Placed}
+use Rattle.engine_edits.specs.Edits.{EditAt}
 use Rattle.engine_edits.specs.Replacement.{events_after}
 use Rattle.markdown_engine.specs.Context.{Context}
 use Rattle.markdown_engine.specs.Laws.{HoldsAt}
@@ -12,11 +12,12 @@ use Rattle.markdown_engine.specs.Order.{AreWhole}
 use Rattle.markdown_engine.specs.Reading.{Config}
 use Rattle.markdown_engine.specs.Resolving.{ResolvesAt, resolves_nothing, settles_whole}
 use Rattle.inline_states_resolvers.specs.Attention.{attention_edits}
+use Rattle.inline_states_resolvers.specs.Autolink.{email_edits}
 use Rattle.inline_states_resolvers.specs.Data.{data_edits}
-use Rattle.inline_states_resolvers.specs.Edited.{edited, is_ordered, with_edited}
+use Rattle.inline_states_resolvers.specs.EditedEvents.{edited_events, is_ordered, with_edited_events}
 use Rattle.inline_states_resolvers.specs.GfmAutolinkLiteral.{address_edits}
 use Rattle.inline_states_resolvers.specs.LabelEnd.{label_edits}
-use Rattle.inline_states_resolvers.specs.Resolving.{inline_resolved, resolved_config, text_trimmed}
+use Rattle.inline_states_resolvers.specs.Resolving.{inline_resolved, resolved_config, name_text, trim_text}
 use Rattle.inline_states_resolvers.specs.Whitespace.{white_edits}
 use Rattle.inline_states_resolvers.specs.Whole.{is_whole}
 use Rattle.inline_states_resolvers.specs.WholeLaws.{whole}
@@ -26,20 +27,27 @@ either true true all events to h k = h refl
 either true false all events to h k = k
 either false b all events to h k = k
 
-edited_whole : (edits : List Placed) (to : Point) (events : List Event) → AreWhole events to → AreWhole (edited edits to events) to
-unfolding edited
-edited_whole edits to events h = either (is_ordered 0 edits (length events)) (is_whole (events_after edits events) to) (events_after edits events) events to (whole (events_after edits events) to) h
+edited_whole : (edits : List EditAt) (to : Point) (events : List Event) → AreWhole events to → AreWhole (edited_events edits to events) to
+unfolding edited_events
+edited_whole edits to events h = either (is_ordered 0 edits (length events)) (is_whole (events_after edits events) to) (events_after edits events) events to
+    (whole (events_after edits events) to) h
 
 module _ {T M : Type 0} (is_punctuation : ℕ → Bool) (x : Context T) where
-  linked_settled : (b : Bool) (c : Config M) → settles_whole c [] → settles_whole (if b then with_edited (address_edits x.bytes c.events (length c.events)) c else c) []
+  linked_settled : (b : Bool) (c : Config M) → settles_whole c []
+      → settles_whole (if b then with_edited_events (address_edits x.bytes c.events (length c.events)) c else c) []
   linked_settled true c h = (h.0, edited_whole (address_edits x.bytes c.events (length c.events)) c.point c.events h.1)
   linked_settled false c h = h
+
+  trimmed_settled : (c : Config M) → settles_whole c [] → settles_whole (trim_text is_punctuation x c) []
+  trimmed_settled c h = (h.0, edited_whole (white_edits true x.options.constructs.hard_break_trailing x.bytes c.events (length c.events)) c.point c.events h.1)
 
   settled : (c : Config M) (n : Resolver) → settles_whole c [] → settles_whole (resolved_config is_punctuation x c n) []
   settled c resolvers.Data h = (h.0, edited_whole (data_edits c.events (length c.events)) c.point c.events h.1)
   settled c resolvers.Label h = (h.0, edited_whole (label_edits c.events c.tokenize_state) c.point c.events h.1)
   settled c resolvers.Attention h = (h.0, edited_whole (attention_edits is_punctuation x c.events) c.point c.events h.1)
-  settled c resolvers.Text h = linked_settled x.options.constructs.gfm_autolink_literal (text_trimmed is_punctuation x c) (h.0, edited_whole (white_edits true x.options.constructs.hard_break_trailing x.bytes c.events (length c.events)) c.point c.events h.1)
+  settled c resolvers.Text h =
+      linked_settled x.options.constructs.gfm_autolink_literal (trim_text is_punctuation x (name_text is_punctuation x c))
+      (trimmed_settled (name_text is_punctuation x c) (h.0, edited_whole (email_edits x.bytes c.events (length c.events)) c.point c.events h.1))
   settled c resolvers.String h = (h.0, edited_whole (white_edits false false x.bytes c.events (length c.events)) c.point c.events h.1)
   settled c n h = h
 

@@ -5,15 +5,15 @@ use Rattle.inline_runs.specs.View.{runs_view}
 use Rattle.inline_states_resolvers.specs.declared.attention.Search.{Search}
 use Rattle.inline_states_resolvers.specs.declared.attention.Writing.{Writing}
 use Rattle.inline_states_resolvers.specs.declared.gfm_autolink_literal.Linking.{Linking}
-use Rattle.inline_states_resolvers.specs.Attention.{Sought, Written}
+use Rattle.inline_states_resolvers.specs.Attention.{SearchState, RunEvents}
 use Rattle.inline_states_resolvers.specs.GfmAutolinkLiteral as literal
 
 module _ {A : Type 0} where
-  abbrev pub written_view : Writing A → Written
-  written_view w = record { events = w.events.items; point = w.point }
+  abbrev pub run_events_view : Writing A → RunEvents
+  run_events_view w = record { events = w.events.items; point = w.point }
 
-  abbrev pub sought_view : Search A → Sought
-  sought_view s = record { entries = s.entries.items; runs = runs_view s.runs.items; starts = s.starts.items; edits = edits_of s.edits }
+  abbrev pub search_view : Search A → SearchState
+  search_view s = record { entries = s.entries.items; runs = runs_view s.runs.items; starts = s.starts.items; edits = edits_of s.edits }
 
   -- with the bytes that come next
   abbrev pub linking_view : Linking A → List ℕ → literal.Linking

@@ -1,5 +1,6 @@
 -- Spaces and tabs of data at the ends of lines, and at the ends of a text: they aren't printed, or they are a hard break.
-use Rattle.std.specs.Prelude.{ℕ, zero, suc, ◌+◌, ◌-◌, Bool, false, not, ◌==◌, ◌&&◌, nat_le, nat_lt, is_some, if◌then◌else◌, List, [], ◌∷◌, ◌++◌, length, take, drop, slice_get, Option, None, Some}
+use Rattle.std.specs.Prelude.{ℕ, zero, suc, ◌+◌, ◌-◌, Bool, false, not, ◌==◌, ◌&&◌, nat_le, nat_lt, is_some, if◌then◌else◌, List, [], ◌∷◌, ◌++◌, length, take}
+use Rattle.std.specs.Prelude.{drop, slice_get, Option, None, Some}
 use Rattle.std.specs.List.{fold, list_all, prefix_len, suffix_len}
 use denote.Enum.Bare.{sameb}
 use Rattle.engine_events.specs.contracts.event.Kind.{the_type}
@@ -11,21 +12,27 @@ use Rattle.engine_events.specs.declared.event.Name.TheVariants as names
 use Rattle.engine_events.specs.declared.place.Point.{Point}
 use Rattle.engine_events.specs.Columns.{tab_size}
 use Rattle.engine_events.specs.Names.{same_name}
-use Rattle.engine_edits.specs.Edits.{Placed, with_edit}
+use Rattle.engine_edits.specs.Edits.{EditAt, with_edit}
+use Rattle.definition_text.specs.Ascii.{tab, space}
 use Rattle.definition_text.specs.Columns.{is_white}
 use Rattle.inline_states_resolvers.specs.Data.{is_data}
-use Rattle.inline_states_resolvers.specs.Each.{entered, exited, later, place_at}
+use Rattle.inline_states_resolvers.specs.Each.{enter_event, exit_event, later, place_at}
 
 abbrev pub is_space : ℕ → Bool
-is_space b = b == 32
+is_space b = b == space
 
 -- the column after a byte
 abbrev pub column_over : ℕ → ℕ → ℕ
-column_over column b = if b == 9 then later (tab_size column) column else later 1 column
+column_over column b = if b == tab then later (tab_size column) column else later 1 column
 
 -- the place after some bytes of a line
 abbrev pub place_past : Point → List ℕ → Point
-place_past p part = if length part == 0 then p else record { line = p.line; column = fold column_over p.column part; index = later (length part) p.index; vs = 0 }
+place_past p part = if length part == 0 then p else record {
+  line = p.line;
+  column = fold column_over p.column part;
+  index = later (length part) p.index;
+  vs = 0;
+}
 
 -- a line ending begins, or ends
 abbrev pub is_line : Kind → Option Event → Bool
@@ -49,7 +56,7 @@ are_spaces part tail = nat_le 2 tail && list_all is_space (drop (length part - t
 
 -- the events in place of data that begins and ends at these places
 abbrev pub around : Name → Point → Point → List Event
-around name from to = entered name from ∷ exited name to ∷ []
+around name from to = enter_event name from ∷ exit_event name to ∷ []
 
 abbrev pub around_if : Bool → Name → Point → Point → List Event
 around_if there name from to = if there then around name from to else []
@@ -57,8 +64,8 @@ around_if there name from to = if there then around name from to else []
 abbrev pub tail_name : Bool → Name
 tail_name breaks = if breaks then names.HardBreakTrailing else names.SpaceOrTab
 
-abbrev pub trimmed : List ℕ → ℕ → ℕ → Bool → Point → Point → List Event
-trimmed part head tail breaks from to =
+abbrev pub trimmed_data : List ℕ → ℕ → ℕ → Bool → Point → Point → List Event
+trimmed_data part head tail breaks from to =
     let first = place_past from (take head part) in
     let last = place_past from (take (length part - tail) part) in
     around_if (not (head == 0)) names.SpaceOrTab from first
@@ -80,19 +87,21 @@ abbrev pub may_break : Bool → List Event → ℕ → Bool
 may_break hard events i = hard && (is_line Enter (slice_get events (i + 2)) && is_some (slice_get events (i + 4)))
 
 -- data of these bytes, of which so many are cut
-abbrev pub white_edit : Bool → List Event → ℕ → List ℕ → ℕ → ℕ → List Placed → List Placed
+abbrev pub white_edit : Bool → List Event → ℕ → List ℕ → ℕ → ℕ → List EditAt → List EditAt
 white_edit hard events i part head tail edits =
-    if nat_lt 0 (head + tail) then with_edit false i 2 (trimmed part head tail (may_break hard events i && are_spaces part tail) (place_at events i) (place_at events (i + 1))) edits else edits
+    if nat_lt 0 (head + tail) then with_edit false i 2 (trimmed_data part head tail (may_break hard events i && are_spaces part tail) (place_at events i)
+    (place_at events (i + 1))) edits else edits
 
-abbrev pub part_edit : Bool → Bool → List Event → ℕ → List ℕ → ℕ → List Placed → List Placed
+abbrev pub part_edit : Bool → Bool → List Event → ℕ → List ℕ → ℕ → List EditAt → List EditAt
 part_edit in_text hard events i part head edits = white_edit hard events i part head (tail_size (ends in_text events i) (drop head part)) edits
 
 -- what an index adds to the edits
-abbrev pub index_edit : Bool → Bool → List ℕ → List Event → ℕ → List Placed → List Placed
+abbrev pub index_edit : Bool → Bool → List ℕ → List Event → ℕ → List EditAt → List EditAt
 index_edit in_text hard bytes events i edits =
-    if is_data Enter (slice_get events i) && is_data Exit (slice_get events (i + 1)) then part_edit in_text hard events i (data_part bytes events i) (head_size (begins in_text events i) (data_part bytes events i)) edits else edits
+    if is_data Enter (slice_get events i) && is_data Exit (slice_get events (i + 1))
+    then part_edit in_text hard events i (data_part bytes events i) (head_size (begins in_text events i) (data_part bytes events i)) edits else edits
 
 -- the edits of white space, up to an index
-unfoldable pub white_edits : Bool → Bool → List ℕ → List Event → ℕ → List Placed
+unfoldable pub white_edits : Bool → Bool → List ℕ → List Event → ℕ → List EditAt
 white_edits in_text hard bytes events zero = []
 white_edits in_text hard bytes events (suc i) = index_edit in_text hard bytes events i (white_edits in_text hard bytes events i)

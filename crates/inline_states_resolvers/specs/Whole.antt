@@ -24,9 +24,9 @@ abbrev pub may_stand : Kind → Name → List Name → Bool
 may_stand Enter name names = true
 may_stand Exit name names = is_it name (innermost names)
 
-abbrev pub opened : Kind → Name → List Name → List Name
-opened Enter name names = names ++ name ∷ []
-opened Exit name names = without_innermost names
+abbrev pub names_after : Kind → Name → List Name → List Name
+names_after Enter name names = names ++ name ∷ []
+names_after Exit name names = without_innermost names
 
 abbrev pub are_none : List Name → Bool
 are_none [] = true
@@ -34,7 +34,7 @@ are_none (n ∷ ns) = false
 
 abbrev pub is_nested : List Name → List Event → Bool
 is_nested names [] = are_none names
-is_nested names (e ∷ es) = may_stand e.kind e.name names && is_nested (opened e.kind e.name names) es
+is_nested names (e ∷ es) = may_stand e.kind e.name names && is_nested (names_after e.kind e.name names) es
 
 abbrev pub reaches : Point → Point → Bool
 reaches p q = nat_le p.index q.index && (not (p.index == q.index) || nat_le p.vs q.vs)

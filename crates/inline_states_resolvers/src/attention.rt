@@ -20,12 +20,12 @@ ghost use Rattle.inline_runs.specs.Paired.{IsPaired};
 ghost use Rattle.inline_runs.specs.View.{pair_view, pairs_view, run_view, runs_view};
 ghost use Rattle.engine_edits.specs.Edits.{edits_of, with_edit};
 ghost use Rattle.markdown_engine.specs.Context.{context};
-ghost use Rattle.inline_states_resolvers.specs.Attention.{attention_edits, beside, entered_run, is_event, last_of, moved, names_of, run_edit};
-ghost use Rattle.inline_states_resolvers.specs.Attention.{nothing_sought, run_edits, run_from, run_written, sought, span_end, span_start, told_after};
+ghost use Rattle.inline_states_resolvers.specs.Attention.{attention_edits, beside, run_of_enter, is_event, last_of, place_later, names_of, run_edit};
+ghost use Rattle.inline_states_resolvers.specs.Attention.{empty_search, run_edits, run_from, replace_run, search_to, span_end, span_start, tell_after};
 ghost use Rattle.inline_states_resolvers.specs.Attention.{with_data, with_end_of, with_event, with_run, with_start_of};
 ghost use Rattle.inline_states_resolvers.specs.Attention.{with_index, with_text_end, with_text_start};
-ghost use Rattle.inline_states_resolvers.specs.Each.{entered, exited, place_at};
-ghost use Rattle.inline_states_resolvers.specs.Views.{sought_view, written_view};
+ghost use Rattle.inline_states_resolvers.specs.Each.{enter_event, exit_event, place_at};
+ghost use Rattle.inline_states_resolvers.specs.Views.{search_view, run_events_view};
 
 use crate::label_end::{later, place_at};
 use definition_text::Kind as Beside;
@@ -82,12 +82,12 @@ fn run_from<T: Tables, A: Allocator>(
 }
 
 /// The run that is entered at an index of a list of events.
-fn entered_run<T: Tables, A: Allocator>(
+fn run_of_enter<T: Tables, A: Allocator>(
     parse_state: &ParseState<'_, T, A>,
     events: &[Event],
     index: usize,
 ) -> Run
-    ensures { run_view result ≡ entered_run (T.punctuation_of parse_state.now.tables.now) (context parse_state.now) events.now index }
+    ensures { run_view result ≡ run_of_enter (T.punctuation_of parse_state.now.tables.now) (context parse_state.now) events.now index }
 {
     let from = place_at(events, index).index;
     let to = place_at(events, later(1, index)).index;
@@ -131,8 +131,8 @@ fn names_of(marker: u8, pair: &Pair) -> SpanNames
 }
 
 /// The place so many bytes later in a line, none of them a tab.
-fn moved(size: usize, point: Point) -> Point
-    ensures { result ≡ moved size point }
+fn place_later(size: usize, point: Point) -> Point
+    ensures { result ≡ place_later size point }
 {
     Point {
         line: point.line,
@@ -142,14 +142,14 @@ fn moved(size: usize, point: Point) -> Point
     }
 }
 
-fn entered(name: Name, point: Point) -> Event
-    ensures { result ≡ entered name point }
+fn enter_event(name: Name, point: Point) -> Event
+    ensures { result ≡ enter_event name point }
 {
     Event::new(Kind::Enter, name, point, None)
 }
 
-fn exited(name: Name, point: Point) -> Event
-    ensures { result ≡ exited name point }
+fn exit_event(name: Name, point: Point) -> Event
+    ensures { result ≡ exit_event name point }
 {
     Event::new(Kind::Exit, name, point, None)
 }
@@ -166,17 +166,17 @@ impl<A: Allocator> Writing<A> {
 
     /// The span of a pair of runs of this byte ends.
     fn end(&mut self, marker: u8, pair: &Pair) -> Result<(), Message>
-        ensures written { OnOk result (written_view self.new ≡ with_end_of marker (written_view self.old) (pair_view pair.now)) }
+        ensures written { OnOk result (run_events_view self.new ≡ with_end_of marker (run_events_view self.old) (pair_view pair.now)) }
         ensures memory { IfErr result (λ message. IsOutOfMemory message) }
     {
         let names = names_of(marker, pair);
         let from = self.point;
-        let to = moved(bytes_by(pair.double), from);
+        let to = place_later(bytes_by(pair.double), from);
         self.events.extend_from_slice(&[
-            exited(names.text, from),
-            entered(names.sequence, from),
-            exited(names.sequence, to),
-            exited(names.group, to),
+            exit_event(names.text, from),
+            enter_event(names.sequence, from),
+            exit_event(names.sequence, to),
+            exit_event(names.group, to),
         ])?;
         self.point = to;
         Ok(())
@@ -184,17 +184,17 @@ impl<A: Allocator> Writing<A> {
 
     /// The span of a pair of runs of this byte begins.
     fn start(&mut self, marker: u8, pair: &Pair) -> Result<(), Message>
-        ensures written { OnOk result (written_view self.new ≡ with_start_of marker (written_view self.old) (pair_view pair.now)) }
+        ensures written { OnOk result (run_events_view self.new ≡ with_start_of marker (run_events_view self.old) (pair_view pair.now)) }
         ensures memory { IfErr result (λ message. IsOutOfMemory message) }
     {
         let names = names_of(marker, pair);
         let from = self.point;
-        let to = moved(bytes_by(pair.double), from);
+        let to = place_later(bytes_by(pair.double), from);
         self.events.extend_from_slice(&[
-            entered(names.group, from),
-            entered(names.sequence, from),
-            exited(names.sequence, to),
-            entered(names.text, to),
+            enter_event(names.group, from),
+            enter_event(names.sequence, from),
+            exit_event(names.sequence, to),
+            enter_event(names.text, to),
         ])?;
         self.point = to;
         Ok(())
@@ -202,7 +202,7 @@ impl<A: Allocator> Writing<A> {
 
     /// The spans of pairs of runs of this byte end.
     fn end_all(&mut self, marker: u8, closed: &[Pair]) -> Result<(), Message>
-        ensures written { OnOk result (written_view self.new ≡ fold (with_end_of marker) (written_view self.old) (pairs_view closed.now)) }
+        ensures written { OnOk result (run_events_view self.new ≡ fold (with_end_of marker) (run_events_view self.old) (pairs_view closed.now)) }
         ensures memory { IfErr result (λ message. IsOutOfMemory message) }
     {
         for index in 0..closed.len() {
@@ -213,7 +213,7 @@ impl<A: Allocator> Writing<A> {
 
     /// The spans of pairs of runs of this byte begin.
     fn start_all(&mut self, marker: u8, opened: &[Pair]) -> Result<(), Message>
-        ensures written { OnOk result (written_view self.new ≡ fold (with_start_of marker) (written_view self.old) (pairs_view opened.now)) }
+        ensures written { OnOk result (run_events_view self.new ≡ fold (with_start_of marker) (run_events_view self.old) (pairs_view opened.now)) }
         ensures memory { IfErr result (λ message. IsOutOfMemory message) }
     {
         for index in 0..opened.len() {
@@ -224,30 +224,32 @@ impl<A: Allocator> Writing<A> {
 
     /// So many bytes are data.
     fn hold(&mut self, size: usize) -> Result<(), Message>
-        ensures written { OnOk result (written_view self.new ≡ with_data size (written_view self.old)) }
+        ensures written { OnOk result (run_events_view self.new ≡ with_data size (run_events_view self.old)) }
         ensures memory { IfErr result (λ message. IsOutOfMemory message) }
     {
         if size == 0 {
             return Ok(());
         }
         let from = self.point;
-        let to = moved(size, from);
-        self.events
-            .extend_from_slice(&[entered(Name::Data, from), exited(Name::Data, to)])?;
+        let to = place_later(size, from);
+        self.events.extend_from_slice(&[
+            enter_event(Name::Data, from),
+            exit_event(Name::Data, to),
+        ])?;
         self.point = to;
         Ok(())
     }
 }
 
 /// The events in place of a run of this byte, which stands at a place.
-fn run_written<A: Allocator>(
+fn replace_run<A: Allocator>(
     alloc: A,
     marker: u8,
     spans: RunSpans<'_>,
     point: Point,
 ) -> Result<Vec<Event, A>, Message>
     ensures events { IfOk result (λ all. all.items
-        ≡ (run_written marker (pairs_view spans.entry.closed.now) spans.entry.text (pairs_view spans.entry.opened.now) point).events) }
+        ≡ (replace_run marker (pairs_view spans.entry.closed.now) spans.entry.text (pairs_view spans.entry.opened.now) point).events) }
     ensures memory { IfErr result (λ message. IsOutOfMemory message) }
 {
     let mut writing = Writing {
@@ -287,7 +289,7 @@ fn add_run<A: Allocator + Clone>(
 {
     let entry = entry_at(entries, place);
     let point = place_at(events, entry);
-    let all = run_written(
+    let all = replace_run(
         alloc.clone()?,
         runs[place].marker,
         pairing.spans(place),
@@ -344,7 +346,7 @@ pub struct Search<A: Allocator> {
 impl<A: Allocator + Clone> Search<A> {
     /// Nothing is found.
     fn new(alloc: &A) -> Result<Search<A>, Message>
-        ensures sought { IfOk result (λ search. sought_view search ≡ nothing_sought) }
+        ensures sought { IfOk result (λ search. search_view search ≡ empty_search) }
         ensures memory { IfErr result (λ message. IsOutOfMemory message) }
     {
         Ok(Search {
@@ -358,7 +360,7 @@ impl<A: Allocator + Clone> Search<A> {
 
     /// The runs after so many are those of a container.
     fn tell_after(&mut self, alloc: &A, events: &[Event], count: usize) -> Result<(), Message>
-        ensures sought { OnOk result (sought_view self.new ≡ told_after events.now count (sought_view self.old)) }
+        ensures sought { OnOk result (search_view self.new ≡ tell_after events.now count (search_view self.old)) }
         ensures memory { IfErr result (λ message. IsOutOfMemory message) }
     {
         add_runs(
@@ -376,7 +378,7 @@ impl<A: Allocator + Clone> Search<A> {
 
     /// A run is found.
     fn add(&mut self, entry: usize, run: Run) -> Result<(), AllocError>
-        ensures { OnOk result (sought_view self.new ≡ with_run entry (run_view run) (sought_view self.old)) }
+        ensures { OnOk result (search_view self.new ≡ with_run entry (run_view run) (search_view self.old)) }
     {
         self.entries.push(entry)?;
         self.runs.push(run)?;
@@ -385,7 +387,7 @@ impl<A: Allocator + Clone> Search<A> {
 
     /// A label's text begins.
     fn start_text(&mut self) -> Result<(), AllocError>
-        ensures { OnOk result (sought_view self.new ≡ with_text_start (sought_view self.old)) }
+        ensures { OnOk result (search_view self.new ≡ with_text_start (search_view self.old)) }
     {
         self.starts.push(self.runs.len())?;
         Ok(())
@@ -393,7 +395,7 @@ impl<A: Allocator + Clone> Search<A> {
 
     /// A label's text ends.
     fn end_text(&mut self, alloc: &A, events: &[Event]) -> Result<(), Message>
-        ensures sought { OnOk result (sought_view self.new ≡ with_text_end events.now (sought_view self.old)) }
+        ensures sought { OnOk result (search_view self.new ≡ with_text_end events.now (search_view self.old)) }
         ensures memory { IfErr result (λ message. IsOutOfMemory message) }
     {
         let innermost = self.starts.len().saturating_sub(1);
@@ -411,14 +413,14 @@ impl<A: Allocator + Clone> Search<A> {
         index: usize,
     ) -> Result<(), Message>
         requires { index < length events.now }
-        ensures sought { OnOk result (sought_view self.new
+        ensures sought { OnOk result (search_view self.new
             ≡ with_index (T.punctuation_of parse_state.now.tables.now) (context parse_state.now)
-            events.now index (slice_get events.now index) (sought_view self.old)) }
+            events.now index (slice_get events.now index) (search_view self.old)) }
         ensures memory { IfErr result (λ message. IsOutOfMemory message) }
     {
         let event = &events[index];
         if is_event(Kind::Enter, Name::AttentionSequence, event) {
-            self.add(index, entered_run(parse_state, events, index))?;
+            self.add(index, run_of_enter(parse_state, events, index))?;
             return Ok(());
         }
         if is_event(Kind::Enter, Name::LabelText, event) {

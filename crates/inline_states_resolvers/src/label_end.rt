@@ -3,7 +3,7 @@ ghost use Rattle.std.specs.Prelude.{◌≡◌, ◌∷◌, [], OnOk, IfOk, IfErr,
 ghost use Rattle.std.specs.List.{fold};
 ghost use Rattle.markdown_options.specs.Messages.{IsOutOfMemory};
 ghost use Rattle.engine_edits.specs.Edits.{edits_of, with_edit};
-ghost use Rattle.markdown_engine.specs.Kept.{kept};
+ghost use Rattle.markdown_engine.specs.KeptState.{kept_state};
 ghost use Rattle.inline_states_resolvers.specs.Each.{later, place_at};
 ghost use Rattle.inline_states_resolvers.specs.LabelEnd.{count, enters, exits, group_name, label_edits, link_start, with_end, with_label};
 ghost use Rattle.inline_states_resolvers.specs.LabelEnd.{with_link_start, with_loose, with_start};
@@ -60,7 +60,7 @@ fn group_name(kind: LabelKind) -> Name
 }
 
 /// A list of given events.
-fn listed<A: Allocator>(alloc: A, events: &[Event]) -> Result<Vec<Event, A>, Message>
+fn event_list<A: Allocator>(alloc: A, events: &[Event]) -> Result<Vec<Event, A>, Message>
     ensures events { IfOk result (λ all. all.items ≡ events.now) }
     ensures memory { IfErr result (λ message. IsOutOfMemory message) }
 {
@@ -82,9 +82,9 @@ fn add_start<A: Allocator + Clone>(
     let (from, to) = label.start;
     let group = enters(events, group_name(label.kind), from);
     let label = enters(events, Name::Label, from);
-    edits.add(from, 0, listed(alloc.clone()?, &[group, label])?)?;
+    edits.add(from, 0, event_list(alloc.clone()?, &[group, label])?)?;
     let text = enters(events, Name::LabelText, to);
-    edits.add_before(later(1, to), 0, listed(alloc.clone()?, &[text])?)?;
+    edits.add_before(later(1, to), 0, event_list(alloc.clone()?, &[text])?)?;
     Ok(())
 }
 
@@ -99,7 +99,7 @@ fn link_start<A: Allocator>(
     ensures memory { IfErr result (λ message. IsOutOfMemory message) }
 {
     let after = later(2, from);
-    listed(
+    event_list(
         alloc,
         &[
             enters(events, Name::Link, from),
@@ -142,11 +142,11 @@ fn add_end<A: Allocator + Clone>(
 {
     let (from, to) = label.end;
     let text = exits(events, Name::LabelText, from);
-    edits.add(from, 0, listed(alloc.clone()?, &[text])?)?;
+    edits.add(from, 0, event_list(alloc.clone()?, &[text])?)?;
     let inner = exits(events, Name::Label, later(3, from));
-    edits.add(later(4, from), 0, listed(alloc.clone()?, &[inner])?)?;
+    edits.add(later(4, from), 0, event_list(alloc.clone()?, &[inner])?)?;
     let group = exits(events, group_name(label.kind), to);
-    edits.add(later(1, to), 0, listed(alloc.clone()?, &[group])?)?;
+    edits.add(later(1, to), 0, event_list(alloc.clone()?, &[group])?)?;
     Ok(())
 }
 
@@ -184,7 +184,7 @@ fn add_loose<A: Allocator + Clone>(
     edits.add(
         from,
         count(from, to),
-        listed(alloc.clone()?, &[enter, exit])?,
+        event_list(alloc.clone()?, &[enter, exit])?,
     )?;
     Ok(())
 }
@@ -237,7 +237,7 @@ pub fn label_edits<A: Allocator + Clone>(
     events: &[Event],
     state: &TokenizeState<A>,
 ) -> Result<EditMap<A>, Message>
-    ensures edits { IfOk result (λ edits. edits_of edits ≡ label_edits events.now (kept state.now)) }
+    ensures edits { IfOk result (λ edits. edits_of edits ≡ label_edits events.now (kept_state state.now)) }
     ensures memory { IfErr result (λ message. IsOutOfMemory message) }
 {
     let mut edits = EditMap::new(alloc.clone()?);

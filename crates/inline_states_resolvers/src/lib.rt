@@ -2,7 +2,8 @@
 #![tactic(auto)]
 
 pub mod attention;
-pub mod edited;
+pub mod autolink;
+pub mod edited_events;
 pub mod gfm_autolink_literal;
 pub mod label_end;
 pub mod partial_data;

@@ -7,7 +7,7 @@ ghost use Rattle.engine_edits.specs.Edits.{edits_of};
 ghost use Rattle.definition_text.specs.Columns.{is_white};
 ghost use Rattle.inline_states_resolvers.specs.Whitespace.{are_spaces, around, around_if, begins, column_over, data_part, ends, ends_part};
 ghost use Rattle.inline_states_resolvers.specs.Whitespace.{head_size, index_edit, is_line, is_space, may_break, part_edit, place_past};
-ghost use Rattle.inline_states_resolvers.specs.Whitespace.{tail_name, tail_size, trimmed, white_edit, white_edits};
+ghost use Rattle.inline_states_resolvers.specs.Whitespace.{tail_name, tail_size, trimmed_data, white_edit, white_edits};
 
 use crate::label_end::{later, place_at};
 use crate::partial_data::is_data_at;
@@ -199,7 +199,7 @@ pub(crate) fn push_if<A: Allocator>(
 }
 
 /// The events in place of data that begins and ends at these places.
-fn trimmed<A: Allocator>(
+fn trimmed_data<A: Allocator>(
     alloc: A,
     part: &[u8],
     sizes: (usize, usize),
@@ -208,7 +208,7 @@ fn trimmed<A: Allocator>(
 ) -> Result<Vec<Event, A>, Message>
     requires tail { sizes.1 ≤ length part.now }
     requires head { sizes.0 ≤ length part.now }
-    ensures events { IfOk result (λ all. all.items ≡ trimmed part.now sizes.0 sizes.1 breaks ends.0 ends.1) }
+    ensures events { IfOk result (λ all. all.items ≡ trimmed_data part.now sizes.0 sizes.1 breaks ends.0 ends.1) }
     ensures memory { IfErr result (λ message. IsOutOfMemory message) }
 {
     let (head, tail) = sizes;
@@ -314,7 +314,7 @@ fn add_white<A: Allocator + Clone>(
     let breaks = may_break(hard, events, index) && are_spaces(part, tail);
     let from = place_at(events, index);
     let to = place_at(events, index + 1);
-    let all = trimmed(alloc, part, sizes, breaks, (from, to))?;
+    let all = trimmed_data(alloc, part, sizes, breaks, (from, to))?;
     edits.add(index, 2, all)?;
     Ok(())
 }

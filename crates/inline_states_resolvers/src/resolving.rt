@@ -2,11 +2,12 @@
 ghost use Rattle.std.specs.Prelude.{◌≡◌, OnOk, IfErr};
 ghost use Rattle.markdown_options.specs.Messages.{IsOutOfMemory};
 ghost use Rattle.markdown_engine.specs.Machine.{config, read_with};
-ghost use Rattle.inline_states_resolvers.specs.Resolving.{attention_resolved, data_resolved, inline_resolved, label_resolved, resolved_config};
-ghost use Rattle.inline_states_resolvers.specs.Resolving.{string_resolved, text_linked, text_resolved, text_trimmed};
+ghost use Rattle.inline_states_resolvers.specs.Resolving.{resolve_attention, resolve_data, inline_resolved, resolve_label, resolved_config};
+ghost use Rattle.inline_states_resolvers.specs.Resolving.{resolve_string, link_text, name_text, resolve_text, trim_text};
 
 use crate::attention::attention_edits;
-use crate::edited::make;
+use crate::autolink::email_edits;
+use crate::edited_events::make;
 use crate::gfm_autolink_literal::address_edits;
 use crate::label_end::label_edits;
 use crate::partial_data::data_edits;
@@ -21,7 +22,7 @@ use std::alloc::Allocator;
 pub fn resolve_data<M, T, A: Allocator + Clone>(
     tokenizer: &mut Tokenizer<'_, M, T, A>,
 ) -> Result<(), Message>
-    ensures became { OnOk result (config tokenizer.new ≡ data_resolved (config tokenizer.old)) }
+    ensures became { OnOk result (config tokenizer.new ≡ resolve_data (config tokenizer.old)) }
     ensures parse_state { tokenizer.new.parse_state ≡ tokenizer.old.parse_state }
     ensures memory { IfErr result (λ message. IsOutOfMemory message) }
 {
@@ -33,7 +34,7 @@ pub fn resolve_data<M, T, A: Allocator + Clone>(
 pub fn resolve_label<M, T, A: Allocator + Clone>(
     tokenizer: &mut Tokenizer<'_, M, T, A>,
 ) -> Result<(), Message>
-    ensures became { OnOk result (config tokenizer.new ≡ label_resolved (config tokenizer.old)) }
+    ensures became { OnOk result (config tokenizer.new ≡ resolve_label (config tokenizer.old)) }
     ensures parse_state { tokenizer.new.parse_state ≡ tokenizer.old.parse_state }
     ensures memory { IfErr result (λ message. IsOutOfMemory message) }
 {
@@ -47,7 +48,7 @@ pub fn resolve_attention<M, T: Tables, A: Allocator + Clone>(
     tokenizer: &mut Tokenizer<'_, M, T, A>,
 ) -> Result<(), Message>
     ensures became { OnOk result (config tokenizer.new
-        ≡ attention_resolved (T.punctuation_of (read_with tokenizer.old).tables) (read_with tokenizer.old) (config tokenizer.old)) }
+        ≡ resolve_attention (T.punctuation_of (read_with tokenizer.old).tables) (read_with tokenizer.old) (config tokenizer.old)) }
     ensures parse_state { tokenizer.new.parse_state ≡ tokenizer.old.parse_state }
     ensures memory { IfErr result (λ message. IsOutOfMemory message) }
 {
@@ -56,12 +57,26 @@ pub fn resolve_attention<M, T: Tables, A: Allocator + Clone>(
     make(tokenizer, edits)
 }
 
+/// Gives email addresses in autolinks their name.
+fn name_text<M, T: Tables, A: Allocator + Clone>(
+    tokenizer: &mut Tokenizer<'_, M, T, A>,
+) -> Result<(), Message>
+    ensures became { let kept = read_with tokenizer.old in
+        OnOk result (config tokenizer.new ≡ name_text (T.punctuation_of kept.tables) kept (config tokenizer.old)) }
+    ensures parse_state { tokenizer.new.parse_state ≡ tokenizer.old.parse_state }
+    ensures memory { IfErr result (λ message. IsOutOfMemory message) }
+{
+    let alloc = tokenizer.events.allocator().clone()?;
+    let edits = email_edits(&alloc, tokenizer.parse_state.bytes, &tokenizer.events)?;
+    make(tokenizer, edits)
+}
+
 /// Cuts white space off the ends of a text, and of its lines.
 fn trim_text<M, T: Tables, A: Allocator + Clone>(
     tokenizer: &mut Tokenizer<'_, M, T, A>,
 ) -> Result<(), Message>
     ensures became { let kept = read_with tokenizer.old in
-        OnOk result (config tokenizer.new ≡ text_trimmed (T.punctuation_of kept.tables) kept (config tokenizer.old)) }
+        OnOk result (config tokenizer.new ≡ trim_text (T.punctuation_of kept.tables) kept (config tokenizer.old)) }
     ensures parse_state { tokenizer.new.parse_state ≡ tokenizer.old.parse_state }
     ensures memory { IfErr result (λ message. IsOutOfMemory message) }
 {
@@ -80,7 +95,7 @@ fn link_text<M, T: Tables, A: Allocator + Clone>(
     tokenizer: &mut Tokenizer<'_, M, T, A>,
 ) -> Result<(), Message>
     ensures became { let kept = read_with tokenizer.old in
-        OnOk result (config tokenizer.new ≡ text_linked (T.punctuation_of kept.tables) kept (config tokenizer.old)) }
+        OnOk result (config tokenizer.new ≡ link_text (T.punctuation_of kept.tables) kept (config tokenizer.old)) }
     ensures parse_state { tokenizer.new.parse_state ≡ tokenizer.old.parse_state }
     ensures memory { IfErr result (λ message. IsOutOfMemory message) }
 {
@@ -97,15 +112,16 @@ fn link_text<M, T: Tables, A: Allocator + Clone>(
     make(tokenizer, edits)
 }
 
-/// Cuts white space off the ends of a text, and of its lines, and finds email addresses.
+/// Names email addresses in autolinks, cuts white space off the ends of a text, and of its lines, and finds email addresses in data.
 pub fn resolve_text<M, T: Tables, A: Allocator + Clone>(
     tokenizer: &mut Tokenizer<'_, M, T, A>,
 ) -> Result<(), Message>
     ensures became { let kept = read_with tokenizer.old in
-        OnOk result (config tokenizer.new ≡ text_resolved (T.punctuation_of kept.tables) kept (config tokenizer.old)) }
+        OnOk result (config tokenizer.new ≡ resolve_text (T.punctuation_of kept.tables) kept (config tokenizer.old)) }
     ensures parse_state { tokenizer.new.parse_state ≡ tokenizer.old.parse_state }
     ensures memory { IfErr result (λ message. IsOutOfMemory message) }
 {
+    name_text(tokenizer)?;
     trim_text(tokenizer)?;
     link_text(tokenizer)
 }
@@ -115,7 +131,7 @@ pub fn resolve_string<M, T: Tables, A: Allocator + Clone>(
     tokenizer: &mut Tokenizer<'_, M, T, A>,
 ) -> Result<(), Message>
     ensures became { let kept = read_with tokenizer.old in
-        OnOk result (config tokenizer.new ≡ string_resolved (T.punctuation_of kept.tables) kept (config tokenizer.old)) }
+        OnOk result (config tokenizer.new ≡ resolve_string (T.punctuation_of kept.tables) kept (config tokenizer.old)) }
     ensures parse_state { tokenizer.new.parse_state ≡ tokenizer.old.parse_state }
     ensures memory { IfErr result (λ message. IsOutOfMemory message) }
 {

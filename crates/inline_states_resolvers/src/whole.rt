@@ -1,7 +1,7 @@
 //! Whether events are balanced and in order of place.
 ghost use Rattle.std.specs.Prelude.{◌≡◌, [], IfOk, OnOk};
 ghost use Rattle.markdown_engine.specs.Order.{text_start};
-ghost use Rattle.inline_states_resolvers.specs.Whole.{innermost, is_in_order, is_it, is_nested, is_whole, may_stand, opened, reaches};
+ghost use Rattle.inline_states_resolvers.specs.Whole.{innermost, is_in_order, is_it, is_nested, is_whole, may_stand, names_after, reaches};
 ghost use Rattle.inline_states_resolvers.specs.Whole.{without_innermost};
 
 use markdown_engine::event::{Event, Kind, Name};
@@ -23,7 +23,7 @@ fn may_stand<A: Allocator>(names: &Vec<Name, A>, event: &Event) -> bool
 
 /// Goes over an event: its name is open, or the last that was is no more.
 fn open<A: Allocator>(names: &mut Vec<Name, A>, event: &Event) -> Result<(), AllocError>
-    ensures { OnOk result (names.new.items ≡ opened event.now.kind event.now.name names.old.items) }
+    ensures { OnOk result (names.new.items ≡ names_after event.now.kind event.now.name names.old.items) }
 {
     match event.kind {
         Kind::Enter => names.push(event.name)?,

@@ -8,7 +8,7 @@ use Rattle.engine_events.specs.declared.state.Name.{Name}
 use Rattle.engine_events.specs.declared.state.Name.TheVariants.{Inline}
 use Rattle.inline_states_table.specs.declared.Group.{Group}
 use Rattle.inline_states_table.specs.declared.Group.TheVariants as groups
-use Rattle.engine_programs.specs.Bodies.{Token, Fixed, Held}
+use Rattle.engine_programs.specs.Bodies.{Token, FixedName, HeldName}
 use Rattle.engine_programs.specs.Sorts.{Sort}
 
 pub record Row : Type 0 where
@@ -21,7 +21,20 @@ of_group g s = record { group = g; sort = s }
 -- ---- sorts
 
 abbrev pub base : List Token → ℕ → Sort
-base open_tokens height = record { open_tokens = open_tokens; leaves = []; given = 0; after = false; moved = true; yields = true; sure = false; plain = false; byte = false; exits = true; firm = true; height = height }
+base open_tokens height = record {
+  open_tokens = open_tokens;
+  leaves = [];
+  given = 0;
+  after = false;
+  moved = true;
+  yields = true;
+  sure = false;
+  plain = false;
+  byte = false;
+  exits = true;
+  firm = true;
+  height = height;
+}
 
 -- where a construct may begin
 abbrev pub first : ℕ → Sort
@@ -45,14 +58,14 @@ resumes s = record s { after = true }
 
 -- the same, in data of HTML that the attempt left open
 abbrev pub html_tokens : List Token
-html_tokens = Fixed names.HtmlTextData ∷ Fixed names.HtmlText ∷ []
+html_tokens = FixedName names.HtmlTextData ∷ FixedName names.HtmlText ∷ []
 
 abbrev pub in_html : ℕ → Sort
 in_html height = record (base html_tokens height) { given = 1; after = true; exits = false }
 
 -- over a line ending of HTML
 abbrev pub html_line : Bool → ℕ → Sort
-html_line moved height = record (base [] height) { leaves = Fixed names.HtmlTextData ∷ []; moved = moved; exits = false; firm = false }
+html_line moved height = record (base [] height) { leaves = FixedName names.HtmlTextData ∷ []; moved = moved; exits = false; firm = false }
 
 -- states of texts and strings: nothing is open, and they go well
 abbrev pub outermost : Bool → ℕ → Sort
@@ -69,36 +82,36 @@ ahead height = record (first height) { yields = false; firm = false }
 -- ---- what is open
 
 abbrev pub reference_tokens : List Token
-reference_tokens = Fixed names.CharacterReference ∷ []
+reference_tokens = FixedName names.CharacterReference ∷ []
 
 abbrev pub address_tokens : List Token
-address_tokens = Fixed names.AutolinkProtocol ∷ Fixed names.Autolink ∷ []
+address_tokens = FixedName names.AutolinkProtocol ∷ FixedName names.Autolink ∷ []
 
 abbrev pub raw_tokens : List Token
-raw_tokens = Held 1 ∷ []
+raw_tokens = HeldName 1 ∷ []
 
 abbrev pub check_tokens : List Token
-check_tokens = Fixed names.GfmTaskListItemCheck ∷ []
+check_tokens = FixedName names.GfmTaskListItemCheck ∷ []
 
 abbrev pub label_tokens : List Token
-label_tokens = Held 3 ∷ Held 1 ∷ []
+label_tokens = HeldName 3 ∷ HeldName 1 ∷ []
 
 abbrev pub title_tokens : List Token
-title_tokens = Held 3 ∷ Held 1 ∷ []
+title_tokens = HeldName 3 ∷ HeldName 1 ∷ []
 
 abbrev pub enclosed_tokens : List Token
-enclosed_tokens = Held 2 ∷ Held 1 ∷ []
+enclosed_tokens = HeldName 2 ∷ HeldName 1 ∷ []
 
 abbrev pub resource_tokens : List Token
-resource_tokens = Fixed names.Resource ∷ []
+resource_tokens = FixedName names.Resource ∷ []
 
 abbrev pub raw_destination_tokens : List Token
-raw_destination_tokens = Fixed names.Data ∷ Held 5 ∷ Held 4 ∷ Held 1 ∷ []
+raw_destination_tokens = FixedName names.Data ∷ HeldName 5 ∷ HeldName 4 ∷ HeldName 1 ∷ []
 
 abbrev pub inline_row : InlineName → Row
 -- attention
 inline_row inline_states.AttentionStart = of_group groups.Leaves (first 4)
-inline_row inline_states.AttentionInside = of_group groups.Leaves (within (Fixed names.AttentionSequence ∷ []) 1)
+inline_row inline_states.AttentionInside = of_group groups.Leaves (within (FixedName names.AttentionSequence ∷ []) 1)
 -- autolink
 inline_row inline_states.AutolinkStart = of_group groups.Html (first 4)
 inline_row inline_states.AutolinkOpen = of_group groups.Html (within address_tokens 4)
@@ -111,19 +124,19 @@ inline_row inline_states.AutolinkEmailLabel = of_group groups.Html (within addre
 inline_row inline_states.AutolinkEmailValue = of_group groups.Html (within address_tokens 1)
 -- character_escape
 inline_row inline_states.CharacterEscapeStart = of_group groups.Leaves (first 4)
-inline_row inline_states.CharacterEscapeInside = of_group groups.Leaves (within (Fixed names.CharacterEscape ∷ []) 1)
+inline_row inline_states.CharacterEscapeInside = of_group groups.Leaves (within (FixedName names.CharacterEscape ∷ []) 1)
 -- character_reference
 inline_row inline_states.CharacterReferenceStart = of_group groups.Leaves (first 4)
 inline_row inline_states.CharacterReferenceOpen = of_group groups.Leaves (within reference_tokens 1)
 inline_row inline_states.CharacterReferenceNumeric = of_group groups.Leaves (within reference_tokens 1)
-inline_row inline_states.CharacterReferenceValue = of_group groups.Leaves (within (Fixed names.CharacterReferenceValue ∷ reference_tokens) 1)
+inline_row inline_states.CharacterReferenceValue = of_group groups.Leaves (within (FixedName names.CharacterReferenceValue ∷ reference_tokens) 1)
 -- gfm_autolink_literal
 inline_row inline_states.GfmAutolinkLiteralProtocolStart = of_group groups.Gfm (first 4)
-inline_row inline_states.GfmAutolinkLiteralProtocolAfter = of_group groups.Gfm (resumes (within (Fixed names.GfmAutolinkLiteralProtocol ∷ []) 1))
+inline_row inline_states.GfmAutolinkLiteralProtocolAfter = of_group groups.Gfm (resumes (within (FixedName names.GfmAutolinkLiteralProtocol ∷ []) 1))
 inline_row inline_states.GfmAutolinkLiteralProtocolPrefixInside = of_group groups.Gfm (first 1)
 inline_row inline_states.GfmAutolinkLiteralProtocolSlashesInside = of_group groups.Gfm (within [] 7)
 inline_row inline_states.GfmAutolinkLiteralWwwStart = of_group groups.Gfm (first 4)
-inline_row inline_states.GfmAutolinkLiteralWwwAfter = of_group groups.Gfm (resumes (within (Fixed names.GfmAutolinkLiteralWww ∷ []) 1))
+inline_row inline_states.GfmAutolinkLiteralWwwAfter = of_group groups.Gfm (resumes (within (FixedName names.GfmAutolinkLiteralWww ∷ []) 1))
 inline_row inline_states.GfmAutolinkLiteralWwwPrefixInside = of_group groups.Gfm (first 1)
 inline_row inline_states.GfmAutolinkLiteralWwwPrefixAfter = of_group groups.Gfm (within [] 7)
 inline_row inline_states.GfmAutolinkLiteralDomainInside = of_group groups.Gfm (within [] 6)
@@ -138,7 +151,7 @@ inline_row inline_states.GfmAutolinkLiteralTrailCharRefStart = of_group groups.G
 inline_row inline_states.GfmAutolinkLiteralTrailCharRefInside = of_group groups.Gfm (ahead 1)
 -- gfm_label_start_footnote
 inline_row inline_states.GfmLabelStartFootnoteStart = of_group groups.Gfm (first 4)
-inline_row inline_states.GfmLabelStartFootnoteOpen = of_group groups.Gfm (within (Fixed names.GfmFootnoteCallLabel ∷ []) 1)
+inline_row inline_states.GfmLabelStartFootnoteOpen = of_group groups.Gfm (within (FixedName names.GfmFootnoteCallLabel ∷ []) 1)
 -- gfm_task_list_item_check
 inline_row inline_states.GfmTaskListItemCheckStart = of_group groups.Gfm (first 4)
 inline_row inline_states.GfmTaskListItemCheckInside = of_group groups.Gfm (within check_tokens 1)
@@ -147,7 +160,7 @@ inline_row inline_states.GfmTaskListItemCheckAfter = of_group groups.Gfm (within
 inline_row inline_states.GfmTaskListItemCheckAfterSpaceOrTab = of_group groups.Gfm (record (ahead 4) { after = true })
 -- hard_break_escape
 inline_row inline_states.HardBreakEscapeStart = of_group groups.Leaves (first 4)
-inline_row inline_states.HardBreakEscapeAfter = of_group groups.Leaves (within (Fixed names.HardBreakEscape ∷ []) 1)
+inline_row inline_states.HardBreakEscapeAfter = of_group groups.Leaves (within (FixedName names.HardBreakEscape ∷ []) 1)
 -- html_text
 inline_row inline_states.HtmlTextStart = of_group groups.Html (first 4)
 inline_row inline_states.HtmlTextOpen = of_group groups.Html (within html_tokens 1)
@@ -181,10 +194,10 @@ inline_row inline_states.HtmlTextLineEndingAfterPrefix = of_group groups.Html (h
 -- partial_data
 inline_row inline_states.DataStart = of_group groups.Leaves (record (first 3) { sure = true; byte = true })
 inline_row inline_states.DataAtBreak = of_group groups.Leaves (in_data [] 1)
-inline_row inline_states.DataInside = of_group groups.Leaves (in_data (Fixed names.Data ∷ []) 2)
+inline_row inline_states.DataInside = of_group groups.Leaves (in_data (FixedName names.Data ∷ []) 2)
 -- partial_space_or_tab
 inline_row inline_states.SpaceOrTabStart = of_group groups.Labels (first 3)
-inline_row inline_states.SpaceOrTabInside = of_group groups.Labels (within (Fixed names.SpaceOrTab ∷ []) 2)
+inline_row inline_states.SpaceOrTabInside = of_group groups.Labels (within (FixedName names.SpaceOrTab ∷ []) 2)
 inline_row inline_states.SpaceOrTabAfter = of_group groups.Labels (within [] 1)
 -- partial_space_or_tab_eol
 inline_row inline_states.SpaceOrTabEolStart = of_group groups.Labels (first 6)
@@ -194,15 +207,15 @@ inline_row inline_states.SpaceOrTabEolAfterEol = of_group groups.Labels (within 
 inline_row inline_states.SpaceOrTabEolAfterMore = of_group groups.Labels (within [] 1)
 -- label_start_image
 inline_row inline_states.LabelStartImageStart = of_group groups.Labels (first 4)
-inline_row inline_states.LabelStartImageOpen = of_group groups.Labels (within (Fixed names.LabelImage ∷ []) 1)
+inline_row inline_states.LabelStartImageOpen = of_group groups.Labels (within (FixedName names.LabelImage ∷ []) 1)
 inline_row inline_states.LabelStartImageAfter = of_group groups.Labels (within [] 1)
 -- label_start_link
 inline_row inline_states.LabelStartLinkStart = of_group groups.Labels (first 4)
 -- partial_destination
 inline_row inline_states.DestinationStart = of_group groups.Labels (first 1)
 inline_row inline_states.DestinationEnclosedBefore = of_group groups.Labels (within enclosed_tokens 1)
-inline_row inline_states.DestinationEnclosed = of_group groups.Labels (within (Fixed names.Data ∷ Held 5 ∷ enclosed_tokens) 2)
-inline_row inline_states.DestinationEnclosedEscape = of_group groups.Labels (within (Fixed names.Data ∷ Held 5 ∷ enclosed_tokens) 3)
+inline_row inline_states.DestinationEnclosed = of_group groups.Labels (within (FixedName names.Data ∷ HeldName 5 ∷ enclosed_tokens) 2)
+inline_row inline_states.DestinationEnclosedEscape = of_group groups.Labels (within (FixedName names.Data ∷ HeldName 5 ∷ enclosed_tokens) 3)
 inline_row inline_states.DestinationRaw = of_group groups.Labels (within raw_destination_tokens 1)
 inline_row inline_states.DestinationRawEscape = of_group groups.Labels (within raw_destination_tokens 2)
 -- partial_label
@@ -210,22 +223,22 @@ inline_row inline_states.LabelStart = of_group groups.Labels (first 1)
 inline_row inline_states.LabelAtBreak = of_group groups.Labels (within label_tokens 8)
 inline_row inline_states.LabelEolAfter = of_group groups.Labels (resumes (within label_tokens 9))
 inline_row inline_states.LabelNok = of_group groups.Labels (record (within label_tokens 1) { exits = false })
-inline_row inline_states.LabelInside = of_group groups.Labels (within (Fixed names.Data ∷ label_tokens) 9)
-inline_row inline_states.LabelEscape = of_group groups.Labels (within (Fixed names.Data ∷ label_tokens) 10)
+inline_row inline_states.LabelInside = of_group groups.Labels (within (FixedName names.Data ∷ label_tokens) 9)
+inline_row inline_states.LabelEscape = of_group groups.Labels (within (FixedName names.Data ∷ label_tokens) 10)
 -- partial_title
 inline_row inline_states.TitleStart = of_group groups.Labels (first 1)
-inline_row inline_states.TitleBegin = of_group groups.Labels (within (Held 1 ∷ []) 8)
+inline_row inline_states.TitleBegin = of_group groups.Labels (within (HeldName 1 ∷ []) 8)
 inline_row inline_states.TitleAtBreak = of_group groups.Labels (within title_tokens 9)
 inline_row inline_states.TitleAfterEol = of_group groups.Labels (resumes (within title_tokens 10))
 inline_row inline_states.TitleNok = of_group groups.Labels (record (within title_tokens 1) { exits = false })
-inline_row inline_states.TitleInside = of_group groups.Labels (within (Fixed names.Data ∷ title_tokens) 10)
-inline_row inline_states.TitleEscape = of_group groups.Labels (within (Fixed names.Data ∷ title_tokens) 11)
+inline_row inline_states.TitleInside = of_group groups.Labels (within (FixedName names.Data ∷ title_tokens) 10)
+inline_row inline_states.TitleEscape = of_group groups.Labels (within (FixedName names.Data ∷ title_tokens) 11)
 -- raw_text
 inline_row inline_states.RawTextStart = of_group groups.Leaves (first_plain 4)
-inline_row inline_states.RawTextSequenceOpen = of_group groups.Leaves (within (Held 2 ∷ raw_tokens) 2)
+inline_row inline_states.RawTextSequenceOpen = of_group groups.Leaves (within (HeldName 2 ∷ raw_tokens) 2)
 inline_row inline_states.RawTextBetween = of_group groups.Leaves (within raw_tokens 1)
-inline_row inline_states.RawTextData = of_group groups.Leaves (within (Held 3 ∷ raw_tokens) 2)
-inline_row inline_states.RawTextSequenceClose = of_group groups.Leaves (within (Held 2 ∷ raw_tokens) 2)
+inline_row inline_states.RawTextData = of_group groups.Leaves (within (HeldName 3 ∷ raw_tokens) 2)
+inline_row inline_states.RawTextSequenceClose = of_group groups.Leaves (within (HeldName 2 ∷ raw_tokens) 2)
 -- string
 inline_row inline_states.StringStart = of_group groups.Whole (outermost false 13)
 inline_row inline_states.StringBefore = of_group groups.Whole (outermost true 12)
@@ -255,7 +268,7 @@ inline_row inline_states.LabelEndReferenceFull = of_group groups.Ends (first_pla
 inline_row inline_states.LabelEndReferenceFullAfter = of_group groups.Ends (resumes (within_plain [] 1))
 inline_row inline_states.LabelEndReferenceFullMissing = of_group groups.Ends (first_plain 1)
 inline_row inline_states.LabelEndReferenceCollapsed = of_group groups.Ends (first 1)
-inline_row inline_states.LabelEndReferenceCollapsedOpen = of_group groups.Ends (within (Fixed names.Reference ∷ []) 1)
+inline_row inline_states.LabelEndReferenceCollapsedOpen = of_group groups.Ends (within (FixedName names.Reference ∷ []) 1)
 
 abbrev pub sorts : Name → Sort
 sorts (Inline n) = (inline_row n).sort

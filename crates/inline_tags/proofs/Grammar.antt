@@ -1,13 +1,18 @@
 -- A tag that is read place by place is one by the grammar.
-use Rattle.std.proofs.Common.{◌≡◌, ℕ, ◌+◌, ◌-◌, ◌≤◌, suc, zero, Bool, true, false, cond, ◌&&◌, ◌||◌, eqb, List, [], ◌∷◌, length, take, drop, Option, None, Some, refl, sym, ap, ◌∙◌, inl, inr, arith}
+use Rattle.std.proofs.Common.{◌≡◌, ℕ, ◌+◌, ◌-◌, ◌≤◌, suc, zero, Bool, true, false, cond, ◌&&◌, ◌||◌, eqb, List, [], ◌∷◌, length, take, drop, Option, None, Some}
+use Rattle.std.proofs.Common.{refl, sym, ap, ◌∙◌, inl, inr, arith}
 use Rattle.std.proofs.lemmas.Bool.{cases_Bool, cond-true, cond-false, ne_eqb, or_from, true≢false}
 use Rattle.std.proofs.lemmas.List.{take_rest}
 use Rattle.std.specs.Prelude.{codes}
 use Rattle.std.specs.List.{prefix_len}
 use Rattle.definition_text.specs.Columns.{tab_column}
 use Rattle.definition_text.specs.Bytes.{is_letter, begins_with, after_all, without_slash}
-use Rattle.definition_inline.specs.HtmlTags.{followed_by, is_tag_space, tag_space, is_tag_name_byte, begins_attribute, is_attribute_byte, is_unquoted, quoted, value, value_or, specification, attribute, begins_with_attribute, has_attribute, attributes, tag_end, open_end, closing_end, open_rest, closing_rest, open_tag, closing_tag}
-use Rattle.inline_tags.specs.Places.{Place, NameStart, Name, Space, Attribute, AttributeSpace, Equals, Unquoted, DoubleQuoted, SingleQuoted, Quoted, Slash, ClosingStart, ClosingName, ClosingSpace, End, Nowhere, at_end, after_part, after_attribute, after_equals, after_closing_name, tag_rest, rest_after}
+use Rattle.definition_inline.specs.HtmlTags.{followed_by, is_tag_space, tag_space, is_tag_name_byte, begins_attribute, is_attribute_byte, is_unquoted}
+use Rattle.definition_inline.specs.HtmlTags.{quoted_value, value, value_or, specification, attribute, begins_with_attribute, has_attribute, attributes, tag_end}
+use Rattle.definition_inline.specs.HtmlTags.{open_end, closing_end, open_rest, closing_rest, open_tag, closing_tag}
+use Rattle.inline_tags.specs.Places.{Place, NameStart, Name, Space, Attribute, AttributeSpace, Equals, Unquoted, DoubleQuoted, SingleQuoted, Quoted, Slash}
+use Rattle.inline_tags.specs.Places.{ClosingStart, ClosingName, ClosingSpace, End, Nowhere, at_end, after_part, after_attribute, after_equals}
+use Rattle.inline_tags.specs.Places.{after_closing_name, tag_rest, rest_after}
 
 -- what follows a tag that goes on from a place, which may be its end
 abbrev from : Place → List ℕ → Option (List ℕ)
@@ -82,7 +87,8 @@ valued_is : (most : ℕ) (other bytes : List ℕ) → followed_by (value_or othe
 valued_is most other [] = refl
 valued_is most other (b ∷ bs) = by_case (eqb b 61)
   where
-    by_case : (t : Bool) → followed_by (cond t (value (tag_space bs)) (Some other)) (tail most) ≡ cond t (followed_by (value (tag_space bs)) (tail most)) (tail most other)
+    by_case : (t : Bool) → followed_by (cond t (value (tag_space bs)) (Some other)) (tail most)
+        ≡ cond t (followed_by (value (tag_space bs)) (tail most)) (tail most other)
     by_case true = refl
     by_case false = refl
 
@@ -122,7 +128,8 @@ name_space : (b : ℕ) (bs : List ℕ) → is_tag_space b ≡ true → from (aft
 name_space b bs h = ap (λ t. from (cond t AttributeSpace (cond (eqb b 61) Equals (after_part b))) bs) h
 
 name_end : (most : ℕ) (b : ℕ) (bs : List ℕ) (other : Option (List ℕ)) → is_tag_space b ≡ false
-    → rest_after Equals bs ≡ followed_by (value (tag_space bs)) (tail most) → from (after_part b) bs ≡ other → from (after_attribute b) bs ≡ valued most other (b ∷ bs)
+    → rest_after Equals bs ≡ followed_by (value (tag_space bs)) (tail most) → from (after_part b) bs ≡ other
+    → from (after_attribute b) bs ≡ valued most other (b ∷ bs)
 name_end most b bs other h values part =
     ap (λ t. from (cond t AttributeSpace (cond (eqb b 61) Equals (after_part b))) bs) h ∙ by_case (eqb b 61)
   where
@@ -134,14 +141,14 @@ equals_space : (b : ℕ) (bs : List ℕ) → is_tag_space b ≡ true → from (a
 equals_space b bs h = ap (λ t. from (cond t Equals (cond (eqb b 34) DoubleQuoted (cond (eqb b 39) SingleQuoted (cond (is_unquoted b) Unquoted Nowhere)))) bs) h
 
 value_reads : (most : ℕ) (b : ℕ) (bs : List ℕ) → is_tag_space b ≡ false
-    → rest_after DoubleQuoted bs ≡ followed_by (quoted 34 bs) (tail most) → rest_after SingleQuoted bs ≡ followed_by (quoted 39 bs) (tail most)
+    → rest_after DoubleQuoted bs ≡ followed_by (quoted_value 34 bs) (tail most) → rest_after SingleQuoted bs ≡ followed_by (quoted_value 39 bs) (tail most)
     → rest_after Unquoted bs ≡ tail most (after_all is_unquoted bs) → from (after_equals b) bs ≡ followed_by (value (b ∷ bs)) (tail most)
 value_reads most b bs h double single bare =
     ap (λ t. from (cond t Equals (cond (eqb b 34) DoubleQuoted (cond (eqb b 39) SingleQuoted (cond (is_unquoted b) Unquoted Nowhere)))) bs) h
     ∙ by_case (eqb b 34) (eqb b 39) (is_unquoted b)
   where
     by_case : (d s u : Bool) → from (cond d DoubleQuoted (cond s SingleQuoted (cond u Unquoted Nowhere))) bs
-        ≡ followed_by (cond d (quoted 34 bs) (cond s (quoted 39 bs) (cond u (Some (after_all is_unquoted bs)) None))) (tail most)
+        ≡ followed_by (cond d (quoted_value 34 bs) (cond s (quoted_value 39 bs) (cond u (Some (after_all is_unquoted bs)) None))) (tail most)
     by_case true s u = double
     by_case false true u = single
     by_case false false true = bare
@@ -198,26 +205,26 @@ mutual
   quoted_reads (b ∷ bs) zero h = absurd (omega arith)
   quoted_reads (b ∷ bs) (suc most) h = part_reads most b bs (space_reads bs most (omega arith))
 
-  double_reads : (bytes : List ℕ) (most : ℕ) → length bytes ≤ most → rest_after DoubleQuoted bytes ≡ followed_by (quoted 34 bytes) (tail most)
+  double_reads : (bytes : List ℕ) (most : ℕ) → length bytes ≤ most → rest_after DoubleQuoted bytes ≡ followed_by (quoted_value 34 bytes) (tail most)
   double_reads [] most h = refl
   double_reads (b ∷ bs) most h = elim (cases_Bool (eqb b 34)) [
     | inl e ↦
         ap (λ p. from p bs) (cond-true (eqb b 34) Quoted DoubleQuoted e) ∙ quoted_reads bs most (omega arith)
-        ∙ sym (ap (λ o. followed_by o (tail most)) (cond-true (eqb b 34) (Some bs) (quoted 34 bs) e))
+        ∙ sym (ap (λ o. followed_by o (tail most)) (cond-true (eqb b 34) (Some bs) (quoted_value 34 bs) e))
     | inr e ↦
         ap (λ p. from p bs) (cond-false (eqb b 34) Quoted DoubleQuoted e) ∙ double_reads bs most (omega arith)
-        ∙ sym (ap (λ o. followed_by o (tail most)) (cond-false (eqb b 34) (Some bs) (quoted 34 bs) e))
+        ∙ sym (ap (λ o. followed_by o (tail most)) (cond-false (eqb b 34) (Some bs) (quoted_value 34 bs) e))
   ]
 
-  single_reads : (bytes : List ℕ) (most : ℕ) → length bytes ≤ most → rest_after SingleQuoted bytes ≡ followed_by (quoted 39 bytes) (tail most)
+  single_reads : (bytes : List ℕ) (most : ℕ) → length bytes ≤ most → rest_after SingleQuoted bytes ≡ followed_by (quoted_value 39 bytes) (tail most)
   single_reads [] most h = refl
   single_reads (b ∷ bs) most h = elim (cases_Bool (eqb b 39)) [
     | inl e ↦
         ap (λ p. from p bs) (cond-true (eqb b 39) Quoted SingleQuoted e) ∙ quoted_reads bs most (omega arith)
-        ∙ sym (ap (λ o. followed_by o (tail most)) (cond-true (eqb b 39) (Some bs) (quoted 39 bs) e))
+        ∙ sym (ap (λ o. followed_by o (tail most)) (cond-true (eqb b 39) (Some bs) (quoted_value 39 bs) e))
     | inr e ↦
         ap (λ p. from p bs) (cond-false (eqb b 39) Quoted SingleQuoted e) ∙ single_reads bs most (omega arith)
-        ∙ sym (ap (λ o. followed_by o (tail most)) (cond-false (eqb b 39) (Some bs) (quoted 39 bs) e))
+        ∙ sym (ap (λ o. followed_by o (tail most)) (cond-false (eqb b 39) (Some bs) (quoted_value 39 bs) e))
   ]
 
   equals_reads : (bytes : List ℕ) (most : ℕ) → length bytes ≤ most → rest_after Equals bytes ≡ followed_by (value (tag_space bytes)) (tail most)
@@ -231,7 +238,8 @@ mutual
         ∙ sym (ap (λ rest. followed_by (value rest) (tail most)) (fails is_tag_space b bs k))
   ]
 
-  attribute_space_reads : (bytes : List ℕ) (most : ℕ) → length bytes ≤ most → rest_after AttributeSpace bytes ≡ valued most (rest_after Space bytes) (tag_space bytes)
+  attribute_space_reads : (bytes : List ℕ) (most : ℕ) → length bytes ≤ most
+      → rest_after AttributeSpace bytes ≡ valued most (rest_after Space bytes) (tag_space bytes)
   attribute_space_reads [] most h = refl
   attribute_space_reads (b ∷ bs) most h = elim (cases_Bool (begins_attribute b)) [
     | inl e ↦
@@ -255,7 +263,8 @@ mutual
         ]
   ]
 
-  attribute_reads : (bytes : List ℕ) (most : ℕ) → length bytes ≤ most → rest_after Attribute bytes ≡ followed_by (specification (after_all is_attribute_byte bytes)) (tail most)
+  attribute_reads : (bytes : List ℕ) (most : ℕ) → length bytes ≤ most → rest_after Attribute bytes
+      ≡ followed_by (specification (after_all is_attribute_byte bytes)) (tail most)
   attribute_reads [] most h = sym (no_tail most)
   attribute_reads (b ∷ bs) zero h = absurd (omega arith)
   attribute_reads (b ∷ bs) (suc most) h = elim (cases_Bool (is_attribute_byte b)) [
@@ -285,10 +294,12 @@ open_reads [] = refl
 open_reads (b ∷ bs) = elim (cases_Bool (is_letter b)) [
   | inl e ↦
       ap (λ p. from p bs) (cond-true (is_letter b) Name Nowhere e) ∙ name_reads bs (length (b ∷ bs)) (omega arith)
-      ∙ sym (ap (λ o. followed_by (followed_by o (attributes (length (b ∷ bs)))) open_end) (cond-true (is_letter b) (Some (after_all is_tag_name_byte bs)) None e))
+      ∙ sym (ap (λ o. followed_by (followed_by o (attributes (length (b ∷ bs)))) open_end)
+      (cond-true (is_letter b) (Some (after_all is_tag_name_byte bs)) None e))
   | inr e ↦
       ap (λ p. from p bs) (cond-false (is_letter b) Name Nowhere e)
-      ∙ sym (ap (λ o. followed_by (followed_by o (attributes (length (b ∷ bs)))) open_end) (cond-false (is_letter b) (Some (after_all is_tag_name_byte bs)) None e))
+      ∙ sym (ap (λ o. followed_by (followed_by o (attributes (length (b ∷ bs)))) open_end)
+      (cond-false (is_letter b) (Some (after_all is_tag_name_byte bs)) None e))
 ]
 
 -- ---- the places of a closing tag
@@ -332,7 +343,8 @@ open_tag_reads bytes h =
     ap (rest_after NameStart) (take_rest bytes 1) ∙ open_reads (drop 1 bytes)
     ∙ sym (cond-true (begins_with (codes "<") bytes) (open_rest (drop 1 bytes)) None h)
 
-pub closing_tag_reads : (bytes : List ℕ) → begins_with (codes "</") bytes ≡ true → rest_after ClosingStart (take (length bytes - 2) (drop 2 bytes)) ≡ closing_tag bytes
+pub closing_tag_reads : (bytes : List ℕ) → begins_with (codes "</") bytes ≡ true
+    → rest_after ClosingStart (take (length bytes - 2) (drop 2 bytes)) ≡ closing_tag bytes
 closing_tag_reads bytes h =
     ap (rest_after ClosingStart) (take_rest bytes 2) ∙ closing_reads (drop 2 bytes)
     ∙ sym (cond-true (begins_with (codes "</") bytes) (closing_rest (drop 2 bytes)) None h)

@@ -1,5 +1,6 @@
 -- The places in a tag, by which it is read byte by byte.
 use Rattle.std.specs.Prelude.{ℕ, if◌then◌else◌, ◌==◌, List, [], ◌∷◌, Option, None, Some}
+use Rattle.definition_text.specs.Ascii.{double_quote, single_quote, slash, equals, greater_than}
 use Rattle.definition_text.specs.Bytes.{is_letter}
 use Rattle.definition_inline.specs.HtmlTags.{is_tag_space, is_tag_name_byte, begins_attribute, is_attribute_byte, is_unquoted}
 
@@ -30,11 +31,11 @@ pub data Place : Type 0 where
 
 -- `>` ends a tag
 abbrev pub at_end : ℕ → Place
-at_end b = if b == 62 then End else Nowhere
+at_end b = if b == greater_than then End else Nowhere
 
 -- after a name or a value of an open tag: white space, `/` or `>`
 abbrev pub after_part : ℕ → Place
-after_part b = if is_tag_space b then Space else (if b == 47 then Slash else at_end b)
+after_part b = if is_tag_space b then Space else (if b == slash then Slash else at_end b)
 
 -- after white space that follows a name or a value: an attribute, or as before
 abbrev pub after_space : ℕ → Place
@@ -42,14 +43,14 @@ after_space b = if begins_attribute b then Attribute else after_part b
 
 -- after an attribute name: white space, `=`, `/` or `>`
 abbrev pub after_attribute : ℕ → Place
-after_attribute b = if is_tag_space b then AttributeSpace else (if b == 61 then Equals else after_part b)
+after_attribute b = if is_tag_space b then AttributeSpace else (if b == equals then Equals else after_part b)
 
 -- after `=`: white space, or the first byte of a value
 abbrev pub after_equals : ℕ → Place
 after_equals b =
     if is_tag_space b then Equals
-    else (if b == 34 then DoubleQuoted
-    else (if b == 39 then SingleQuoted
+    else (if b == double_quote then DoubleQuoted
+    else (if b == single_quote then SingleQuoted
     else (if is_unquoted b then Unquoted else Nowhere)))
 
 -- after the name of a closing tag: white space or `>`
@@ -65,8 +66,8 @@ next Attribute b = if is_attribute_byte b then Attribute else after_attribute b
 next AttributeSpace b = if begins_attribute b then Attribute else after_attribute b
 next Equals b = after_equals b
 next Unquoted b = if is_unquoted b then Unquoted else after_part b
-next DoubleQuoted b = if b == 34 then Quoted else DoubleQuoted
-next SingleQuoted b = if b == 39 then Quoted else SingleQuoted
+next DoubleQuoted b = if b == double_quote then Quoted else DoubleQuoted
+next SingleQuoted b = if b == single_quote then Quoted else SingleQuoted
 next Quoted b = after_part b
 next Slash b = at_end b
 next ClosingStart b = if is_letter b then ClosingName else Nowhere

@@ -1,6 +1,8 @@
 -- The bytes of autolinks by the states and by the definition.
-use Rattle.std.proofs.Common.{◌≡◌, ◌∙◌, ℕ, ◌<◌, ◌≤◌, Bool, true, false, not, nat_le, nat_lt, ◌==◌, ◌&&◌, ◌||◌, if◌then◌else◌, List, [], ◌∷◌, inl, inr, refl, sym, ap, subst, arith}
-use Rattle.std.proofs.lemmas.Bool.{agree_below_at, and_parts, and_right, cases_Bool, cases_lt, eqb-true, le-leb, le-ltb, lt-leb, lt-ltb, ltb-true, ne_eqb, or_cases, or_from, or_parts}
+use Rattle.std.proofs.Common.{◌≡◌, ◌∙◌, ℕ, ◌<◌, ◌≤◌, Bool, true, false, not, nat_le, nat_lt, ◌==◌, ◌&&◌, ◌||◌, if◌then◌else◌, List, [], ◌∷◌, inl, inr, refl}
+use Rattle.std.proofs.Common.{sym, ap, subst, arith}
+use Rattle.std.proofs.lemmas.Bool.{agree_below_at, and_parts, and_right, cases_Bool, cases_lt, eqb-true, le-leb, le-ltb, lt-leb, lt-ltb, ltb-true, ne_eqb}
+use Rattle.std.proofs.lemmas.Bool.{or_cases, or_from, or_parts}
 use Rattle.std.specs.Prelude.{codes}
 use Rattle.std.specs.Char.{is_ascii_alphanumeric}
 use Rattle.std.specs.Int.{is_in_range}
@@ -35,7 +37,11 @@ module _ (b : ℕ) (high : 128 ≤ b) where
 
   no_name : is_atext b ≡ false
   no_name =
-      none_or (none_or (none_or (none_or (none_or (none_or (none_or (none_or (none_or no_letter (no_byte 33 (omega arith))) (no_range 35 39 (omega arith))) (no_byte 42 (omega arith))) (no_byte 43 (omega arith)))
+      none_or (none_or
+      (none_or
+      (none_or
+      (none_or (none_or (none_or (none_or (none_or no_letter (no_byte 33 (omega arith))) (no_range 35 39 (omega arith))) (no_byte 42 (omega arith)))
+      (no_byte 43 (omega arith)))
       (no_range 45 47 (omega arith))) (no_byte 61 (omega arith))) (no_byte 63 (omega arith))) (no_range 94 96 (omega arith))) (no_range 123 126 (omega arith))
 
   no_email_byte : is_email_byte b ≡ false

@@ -1,6 +1,8 @@
 -- A domain, byte by byte, is what the definition calls one.
-use Rattle.std.proofs.Common.{◌≡◌, ◌∙◌, ℕ, suc, ◌+◌, ◌-◌, ◌<◌, ◌≤◌, Bool, true, false, not, nat_le, nat_lt, ◌==◌, ◌&&◌, ◌||◌, if◌then◌else◌, List, [], ◌∷◌, length, drop, Option, Some, None, slice_index, inl, inr, refl, sym, ap, subst, arith}
-use Rattle.std.proofs.lemmas.Bool.{and_left, and_right, cases_Bool, eqb-false, eqb-true, le-leb, le-ltb, lt-leb, lt-ltb, ltb-false, ltb-true, ne_eqb, or_from, or_left}
+use Rattle.std.proofs.Common.{◌≡◌, ◌∙◌, ℕ, suc, ◌+◌, ◌-◌, ◌<◌, ◌≤◌, Bool, true, false, not, nat_le, nat_lt, ◌==◌, ◌&&◌, ◌||◌, if◌then◌else◌, List, [], ◌∷◌}
+use Rattle.std.proofs.Common.{length, drop, Option, Some, None, slice_index, inl, inr, refl, sym, ap, subst, arith}
+use Rattle.std.proofs.lemmas.Bool.{and_left, and_right, cases_Bool, eqb-false, eqb-true, le-leb, le-ltb, lt-leb, lt-ltb, ltb-false, ltb-true, ne_eqb, or_from}
+use Rattle.std.proofs.lemmas.Bool.{or_left}
 use Rattle.std.proofs.lemmas.List.Sums.{take_while-cons}
 use Rattle.std.specs.Prelude.{codes}
 use Rattle.std.specs.Char.{is_ascii_alphanumeric}
@@ -123,7 +125,8 @@ abbrev defined : Place → List ℕ → Option (List ℕ)
 defined at cs = found (labels_fit at (labels_of cs)) (after_all is_domain_byte cs)
 
 -- over a byte of a domain that is no dot
-defined_more : (c n : ℕ) (dash : Bool) (cs : List ℕ) → is_domain_byte c ≡ true → (c == 46) ≡ false → defined (within n dash) (c ∷ cs) ≡ defined (within (n + 1) (c == 45)) cs
+defined_more : (c n : ℕ) (dash : Bool) (cs : List ℕ) → is_domain_byte c ≡ true → (c == 46) ≡ false
+    → defined (within n dash) (c ∷ cs) ≡ defined (within (n + 1) (c == 45)) cs
 defined_more c n dash cs h dot =
     ap (λ (ls : List (List ℕ)). found (labels_fit (within n dash) ls) (after_all is_domain_byte (c ∷ cs))) (domain_more c cs h dot)
     ∙ (ap (λ (b : Bool). found b (after_all is_domain_byte (c ∷ cs))) (first_fits c n dash (labels_of cs))
@@ -133,9 +136,11 @@ defined_more c n dash cs h dot =
 defined_full : (c n : ℕ) (dash : Bool) (cs : List ℕ) → is_domain_byte c ≡ true → (c == 46) ≡ false → 63 ≤ n → defined (within n dash) (c ∷ cs) ≡ None
 defined_full c n dash cs h dot full =
     defined_more c n dash cs h dot
-    ∙ none_found (labels_fit (within (n + 1) (c == 45)) (labels_of cs)) (after_all is_domain_byte cs) (none_fit (labels_of cs) (n + 1) (c == 45) (omega (arith, full)))
+    ∙ none_found (labels_fit (within (n + 1) (c == 45)) (labels_of cs)) (after_all is_domain_byte cs)
+    (none_fit (labels_of cs) (n + 1) (c == 45) (omega (arith, full)))
 
-defined_start : (c : ℕ) (cs : List ℕ) → is_domain_byte c ≡ true → (c == 46) ≡ false → (c == 45) ≡ false → defined starting (c ∷ cs) ≡ defined (within 1 false) cs
+defined_start : (c : ℕ) (cs : List ℕ) → is_domain_byte c ≡ true → (c == 46) ≡ false → (c == 45) ≡ false
+    → defined starting (c ∷ cs) ≡ defined (within 1 false) cs
 defined_start c cs h dot dash =
     ap (λ (ls : List (List ℕ)). found (labels_fit starting ls) (after_all is_domain_byte (c ∷ cs))) (domain_more c cs h dot)
     ∙ (ap (λ (b : Bool). found b (after_all is_domain_byte (c ∷ cs))) (start_fits c (labels_of cs) dash)
@@ -152,11 +157,13 @@ defined_dot n cs few =
 defined_dashed : (n : ℕ) (cs : List ℕ) → defined (within n true) (46 ∷ cs) ≡ None
 defined_dashed n cs =
     none_found (labels_fit (within n true) (labels_of (46 ∷ cs))) (after_all is_domain_byte (46 ∷ cs))
-    (ap (labels_fit (within n true)) (domain_dot cs) ∙ and_left (nat_le n 63 && false) (list_all is_domain_label (labels_of cs)) (and_right (nat_le n 63) false refl))
+    (ap (labels_fit (within n true)) (domain_dot cs) ∙ and_left (nat_le n 63 && false) (list_all is_domain_label (labels_of cs))
+    (and_right (nat_le n 63) false refl))
 
 -- at another byte
 defined_none : (at : Place) (c : ℕ) (cs : List ℕ) → is_domain_byte c ≡ false → (c == 62) ≡ false → defined at (c ∷ cs) ≡ None
-defined_none at c cs h other = ap (found (labels_fit at (labels_of (c ∷ cs)))) (rest_none is_domain_byte c cs h) ∙ no_greater (labels_fit at (labels_of (c ∷ cs))) c cs other
+defined_none at c cs h other = ap (found (labels_fit at (labels_of (c ∷ cs)))) (rest_none is_domain_byte c cs h)
+    ∙ no_greater (labels_fit at (labels_of (c ∷ cs))) c cs other
 
 defined_ends : (n : ℕ) (dash : Bool) (cs : List ℕ) → n ≤ 63 → defined (within n dash) (62 ∷ cs) ≡ (if dash then None else Some cs)
 defined_ends n dash cs few =
@@ -179,7 +186,8 @@ defined_bare c cs letter = elim (cases_Bool (c == 46)) [
     | inl h ↦
         let same : c ≡ 45 = eqb-true c 45 h in
         ap (λ (b : ℕ). defined starting (b ∷ cs)) same
-        ∙ none_found (labels_fit starting (labels_of (45 ∷ cs))) (after_all is_domain_byte (45 ∷ cs)) (ap (labels_fit starting) (domain_more 45 cs refl refl) ∙ dash_first (labels_of cs))
+        ∙ none_found (labels_fit starting (labels_of (45 ∷ cs))) (after_all is_domain_byte (45 ∷ cs))
+        (ap (labels_fit starting) (domain_more 45 cs refl refl) ∙ dash_first (labels_of cs))
     | inr dash ↦
         let none : is_domain_byte c ≡ false = or_from (is_ascii_alphanumeric c) ((c == 45) || (c == 46)) letter (or_from (c == 45) (c == 46) dash dot) in
         none_found (labels_fit starting (labels_of (c ∷ cs))) (after_all is_domain_byte (c ∷ cs)) (ap (labels_fit starting) (domain_none c cs none))
@@ -212,7 +220,8 @@ domain_is [] at few = none_at_end at
 domain_is (c ∷ cs) starting few = elim (cases_Bool (is_ascii_alphanumeric c)) [
   | inl h ↦
       ap (λ (b : Bool). if b then domain_read (within 1 false) cs else None) h
-      ∙ (domain_is cs (within 1 false) (omega arith) ∙ sym (defined_start c cs (letter_in c h) (apart is_ascii_alphanumeric 46 c refl h) (apart is_ascii_alphanumeric 45 c refl h)))
+      ∙ (domain_is cs (within 1 false) (omega arith)
+      ∙ sym (defined_start c cs (letter_in c h) (apart is_ascii_alphanumeric 46 c refl h) (apart is_ascii_alphanumeric 45 c refl h)))
   | inr h ↦ ap (λ (b : Bool). if b then domain_read (within 1 false) cs else None) h ∙ sym (defined_bare c cs h)
 ]
 domain_is (c ∷ cs) (within n dash) few = elim (cases_Bool (c == 46)) [
@@ -222,16 +231,19 @@ domain_is (c ∷ cs) (within n dash) few = elim (cases_Bool (c == 46)) [
   | inr dot ↦ elim (cases_Bool (c == 62)) [
     | inl h ↦
         let same : c ≡ 62 = eqb-true c 62 h in
-        ap (λ (b : ℕ). domain_read (within n dash) (b ∷ cs)) same ∙ (sym (defined_ends n dash cs few) ∙ sym (ap (λ (b : ℕ). defined (within n dash) (b ∷ cs)) same))
+        ap (λ (b : ℕ). domain_read (within n dash) (b ∷ cs)) same ∙ (sym (defined_ends n dash cs few)
+        ∙ sym (ap (λ (b : ℕ). defined (within n dash) (b ∷ cs)) same))
     | inr greater ↦ elim (cases_Bool (c == 45)) [
       | inl h ↦
           let same : c ≡ 45 = eqb-true c 45 h in
-          ap (λ (b : ℕ). domain_read (within n dash) (b ∷ cs)) same ∙ (longer (domain_is cs) 45 true refl refl refl (nat_lt n 63) refl ∙ sym (ap (λ (b : ℕ). defined (within n dash) (b ∷ cs)) same))
+          ap (λ (b : ℕ). domain_read (within n dash) (b ∷ cs)) same ∙ (longer (domain_is cs) 45 true refl refl refl (nat_lt n 63) refl
+          ∙ sym (ap (λ (b : ℕ). defined (within n dash) (b ∷ cs)) same))
       | inr no_dash ↦ elim (cases_Bool (is_ascii_alphanumeric c)) [
         | inl h ↦ at_letter dot greater no_dash true h ∙ longer (domain_is cs) c false (letter_in c h) dot no_dash (nat_lt n 63) refl
         | inr h ↦
             at_letter dot greater no_dash false h
-            ∙ sym (defined_none (within n dash) c cs (or_from (is_ascii_alphanumeric c) ((c == 45) || (c == 46)) h (or_from (c == 45) (c == 46) no_dash dot)) greater)
+            ∙ sym (defined_none (within n dash) c cs (or_from (is_ascii_alphanumeric c) ((c == 45) || (c == 46)) h (or_from (c == 45) (c == 46) no_dash dot))
+            greater)
       ]
     ]
   ]

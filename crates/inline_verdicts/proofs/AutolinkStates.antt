@@ -17,11 +17,14 @@ use Rattle.inline_states.specs.Inlines.{bodies}
 
 -- over the `<`
 abbrev pub autolink_begun : Config Inlines → Config Inlines
-autolink_begun c = with_enter names.AutolinkProtocol None (with_exit names.AutolinkMarker (past_byte (with_enter names.AutolinkMarker None (with_enter names.Autolink None c))))
+autolink_begun c =
+    with_enter names.AutolinkProtocol None
+    (with_exit names.AutolinkMarker (past_byte (with_enter names.AutolinkMarker None (with_enter names.Autolink None c))))
 
 -- over the `>`
 abbrev pub autolink_closed : Config Inlines → Config Inlines
-autolink_closed c = with_exit names.Autolink (with_exit names.AutolinkMarker (past_byte (with_enter names.AutolinkMarker None (with_exit names.AutolinkProtocol c))))
+autolink_closed c =
+    with_exit names.Autolink (with_exit names.AutolinkMarker (past_byte (with_enter names.AutolinkMarker None (with_exit names.AutolinkProtocol c))))
 
 abbrev pub sized : ℕ → Config Inlines → Config Inlines
 sized n c = record c { tokenize_state = record c.tokenize_state { size = n } }
@@ -48,7 +51,8 @@ module _ {T : Type 0} (texts : List ℕ → Option (List ℕ)) (is_punctuation :
 
   pub open_by : (b : ℕ) (c : Config Inlines) (letter at : Bool) → c.current ≡ Some b → is_ascii_alphabetic b ≡ letter → (b == 64) ≡ at
       → does inline_states.AutolinkOpen c
-      ≡ (if letter then plain (past_byte c) (next inline_states.AutolinkSchemeOrEmailAtext) else if at then plain c states.Nok else plain c (retry inline_states.AutolinkEmailAtext))
+      ≡ (if letter then plain (past_byte c) (next inline_states.AutolinkSchemeOrEmailAtext) else if at then plain c states.Nok
+      else plain c (retry inline_states.AutolinkEmailAtext))
   unfolding bodies
   open_by b c letter at h k l = rw (h, k, l) refl
 
@@ -57,7 +61,8 @@ module _ {T : Type 0} (texts : List ℕ → Option (List ℕ)) (is_punctuation :
   second_ends c h = rw h refl
 
   pub second_by : (b : ℕ) (c : Config Inlines) (scheme : Bool) → c.current ≡ Some b → is_scheme b ≡ scheme
-      → does inline_states.AutolinkSchemeOrEmailAtext c ≡ (if scheme then plain (sized 1 c) (retry inline_states.AutolinkSchemeInsideOrEmailAtext) else plain c (retry inline_states.AutolinkEmailAtext))
+      → does inline_states.AutolinkSchemeOrEmailAtext c ≡ (if scheme then plain (sized 1 c) (retry inline_states.AutolinkSchemeInsideOrEmailAtext)
+      else plain c (retry inline_states.AutolinkEmailAtext))
   unfolding bodies
   second_by b c scheme h k = rw (h, k) refl
 
@@ -65,10 +70,12 @@ module _ {T : Type 0} (texts : List ℕ → Option (List ℕ)) (is_punctuation :
   unfolding bodies
   scheme_ends c h = rw h refl
 
-  pub scheme_by : (b : ℕ) (c : Config Inlines) (colon scheme few : Bool) → c.current ≡ Some b → (b == 58) ≡ colon → is_scheme b ≡ scheme → nat_lt c.tokenize_state.size 32 ≡ few
+  pub scheme_by : (b : ℕ) (c : Config Inlines) (colon scheme few : Bool) → c.current ≡ Some b → (b == 58) ≡ colon → is_scheme b ≡ scheme
+      → nat_lt c.tokenize_state.size 32 ≡ few
       → does inline_states.AutolinkSchemeInsideOrEmailAtext c
       ≡ (if colon then plain (past_byte c) (next inline_states.AutolinkUrlInside)
-      else if scheme then (if few then plain (counted c) (next inline_states.AutolinkSchemeInsideOrEmailAtext) else plain c (retry inline_states.AutolinkEmailAtext))
+      else if scheme then (if few then plain (counted c) (next inline_states.AutolinkSchemeInsideOrEmailAtext)
+      else plain c (retry inline_states.AutolinkEmailAtext))
       else plain c (retry inline_states.AutolinkEmailAtext))
   unfolding bodies
   scheme_by b c colon scheme few h k l m = rw (h, k, l, m) refl
@@ -78,7 +85,8 @@ module _ {T : Type 0} (texts : List ℕ → Option (List ℕ)) (is_punctuation :
   url_ends c h = rw h refl
 
   pub url_by : (b : ℕ) (c : Config Inlines) (closes ends : Bool) → c.current ≡ Some b → (b == 62) ≡ closes → ends_url b ≡ ends
-      → does inline_states.AutolinkUrlInside c ≡ (if closes then plain (autolink_closed c) states.Ok else if ends then plain c states.Nok else plain (past_byte c) (next inline_states.AutolinkUrlInside))
+      → does inline_states.AutolinkUrlInside c ≡ (if closes then plain (autolink_closed c) states.Ok else if ends then plain c states.Nok
+      else plain (past_byte c) (next inline_states.AutolinkUrlInside))
   unfolding bodies
   url_by b c closes ends h k l = rw (h, k, l) refl
 
@@ -88,7 +96,8 @@ module _ {T : Type 0} (texts : List ℕ → Option (List ℕ)) (is_punctuation :
 
   pub name_by : (b : ℕ) (c : Config Inlines) (at name : Bool) → c.current ≡ Some b → (b == 64) ≡ at → is_atext b ≡ name
       → does inline_states.AutolinkEmailAtext c
-      ≡ (if at then plain (past_byte (sized 0 c)) (next inline_states.AutolinkEmailAtSignOrDot) else if name then plain (past_byte c) (next inline_states.AutolinkEmailAtext) else plain c states.Nok)
+      ≡ (if at then plain (past_byte (sized 0 c)) (next inline_states.AutolinkEmailAtSignOrDot) else if name
+      then plain (past_byte c) (next inline_states.AutolinkEmailAtext) else plain c states.Nok)
   unfolding bodies
   name_by b c at name h k l = rw (h, k, l) refl
 
@@ -107,7 +116,8 @@ module _ {T : Type 0} (texts : List ℕ → Option (List ℕ)) (is_punctuation :
 
   pub label_by : (b : ℕ) (c : Config Inlines) (dot closes : Bool) → c.current ≡ Some b → (b == 46) ≡ dot → (b == 62) ≡ closes
       → does inline_states.AutolinkEmailLabel c
-      ≡ (if dot then plain (past_byte (sized 0 c)) (next inline_states.AutolinkEmailAtSignOrDot) else if closes then plain (autolink_closed c) states.Ok else plain c (retry inline_states.AutolinkEmailValue))
+      ≡ (if dot then plain (past_byte (sized 0 c)) (next inline_states.AutolinkEmailAtSignOrDot) else if closes then plain (autolink_closed c) states.Ok
+      else plain c (retry inline_states.AutolinkEmailValue))
   unfolding bodies
   label_by b c dot closes h k l = rw (h, k, l) refl
 
@@ -115,7 +125,8 @@ module _ {T : Type 0} (texts : List ℕ → Option (List ℕ)) (is_punctuation :
   unfolding bodies
   value_ends c h = rw h refl
 
-  pub value_by : (b : ℕ) (c : Config Inlines) (dash letter few : Bool) → c.current ≡ Some b → (b == 45) ≡ dash → is_ascii_alphanumeric b ≡ letter → nat_lt c.tokenize_state.size 63 ≡ few
+  pub value_by : (b : ℕ) (c : Config Inlines) (dash letter few : Bool) → c.current ≡ Some b → (b == 45) ≡ dash → is_ascii_alphanumeric b ≡ letter
+      → nat_lt c.tokenize_state.size 63 ≡ few
       → does inline_states.AutolinkEmailValue c
       ≡ (if dash then (if few then plain (counted c) (next inline_states.AutolinkEmailValue) else plain c states.Nok)
       else if letter then (if few then plain (counted c) (next inline_states.AutolinkEmailLabel) else plain c states.Nok)

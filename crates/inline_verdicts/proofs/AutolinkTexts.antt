@@ -1,6 +1,8 @@
 -- An autolink, byte by byte, is what the definition calls one.
-use Rattle.std.proofs.Common.{◌≡◌, ◌∙◌, ℕ, suc, ◌+◌, ◌-◌, ◌<◌, ◌≤◌, Bool, true, false, nat_le, nat_lt, ◌==◌, ◌&&◌, ◌||◌, if◌then◌else◌, List, [], ◌∷◌, length, take, drop, Option, Some, None, inl, inr, refl, sym, ap, subst, arith}
-use Rattle.std.proofs.lemmas.Bool.{and_from, and_left, and_parts, and_right, cases_Bool, eq-eqb, eqb-true, le-leb, lt-leb, ltb-false, ltb-true, ne_eqb, or_cases, or_left, or_right}
+use Rattle.std.proofs.Common.{◌≡◌, ◌∙◌, ℕ, suc, ◌+◌, ◌-◌, ◌<◌, ◌≤◌, Bool, true, false, nat_le, nat_lt, ◌==◌, ◌&&◌, ◌||◌, if◌then◌else◌, List, [], ◌∷◌, length}
+use Rattle.std.proofs.Common.{take, drop, Option, Some, None, inl, inr, refl, sym, ap, subst, arith}
+use Rattle.std.proofs.lemmas.Bool.{and_from, and_left, and_parts, and_right, cases_Bool, eq-eqb, eqb-true, le-leb, lt-leb, ltb-false, ltb-true, ne_eqb}
+use Rattle.std.proofs.lemmas.Bool.{or_cases, or_left, or_right}
 use Rattle.std.proofs.lemmas.List.{drop-drop, length-drop, length-take-le}
 use Rattle.std.proofs.lemmas.List.Sums.{prefix_len-le-length}
 use Rattle.std.specs.Prelude.{codes}
@@ -9,7 +11,8 @@ use Rattle.std.specs.Int.{is_in_range}
 use Rattle.std.specs.List.{list_any, prefix_len, take_while}
 use Rattle.definition_text.specs.Bytes.{after_all, begins_with, is_letter}
 use Rattle.definition_text.specs.Content.{before}
-use Rattle.definition_inline.specs.Autolink.{after_uri, autolink_after, begins_with_scheme, closed_autolink, domain_end, email_end, is_domain, is_domain_byte, is_email_byte, is_scheme_byte, is_uri_byte, uri_end}
+use Rattle.definition_inline.specs.Autolink.{after_uri, autolink_after, begins_with_scheme, closed_autolink, domain_end, email_end, is_domain, is_domain_byte}
+use Rattle.definition_inline.specs.Autolink.{is_email_byte, is_scheme_byte, is_uri_byte, uri_end}
 use Rattle.definition_inline.specs.Inline.{Autolink, Inline, Leaf, leaf, or_else}
 use Rattle.inline_verdicts.proofs.AutolinkDomains.{closed, domain_found, domain_read, past_greater, starting}
 use Rattle.inline_verdicts.proofs.ReferenceValues.{apart}
@@ -28,7 +31,8 @@ email_read (c ∷ cs) = if c == 64 then domain_read starting cs else if is_email
 -- in a scheme after so many bytes
 abbrev pub scheme_read : ℕ → List ℕ → Option (List ℕ)
 scheme_read n [] = None
-scheme_read n (c ∷ cs) = if c == 58 then uri_read cs else if is_scheme_byte c then (if nat_lt n 32 then scheme_read (n + 1) cs else email_read (c ∷ cs)) else email_read (c ∷ cs)
+scheme_read n (c ∷ cs) = if c == 58 then uri_read cs else if is_scheme_byte c then (if nat_lt n 32 then scheme_read (n + 1) cs else email_read (c ∷ cs))
+    else email_read (c ∷ cs)
 
 -- after a letter
 abbrev pub second_read : List ℕ → Option (List ℕ)
@@ -43,7 +47,8 @@ address_read (c ∷ cs) = if is_letter c then second_read cs else if c == 64 the
 -- ---- what begins a text
 
 begins_by : (m c : ℕ) (cs : List ℕ) (is : Bool) → (c == m) ≡ is → begins_with (m ∷ []) (c ∷ cs) ≡ is
-begins_by m c cs true h = let same : c ≡ m = eqb-true c m h in ap (λ (b : ℕ). begins_with (m ∷ []) (b ∷ cs)) same ∙ and_from (m == m) true (eq-eqb m m refl) refl
+begins_by m c cs true h = let same : c ≡ m = eqb-true c m h in
+    ap (λ (b : ℕ). begins_with (m ∷ []) (b ∷ cs)) same ∙ and_from (m == m) true (eq-eqb m m refl) refl
 begins_by m c cs false h = and_left (m == c) true (ne_eqb m c (λ e. let f : true ≡ false = sym (eq-eqb c m (sym e)) ∙ h in absurd (cc)))
 
 -- ---- emails
@@ -101,14 +106,19 @@ scheme_in c h = elim (or_cases (is_ascii_alphanumeric c) ((c == 43) || ((c == 46
   | inl letter ↦ or_left (is_ascii_alphanumeric c) (list_any (λ (other : ℕ). c == other) (codes ".!#$%&'*+/=?^_`{|}~-")) letter
   | inr other ↦ elim (or_cases (c == 43) ((c == 46) || (c == 45)) other) [
     | inl plus ↦ ap is_email_byte (eqb-true c 43 plus)
-    | inr others ↦ elim (or_cases (c == 46) (c == 45) others) [ inl dot ↦ ap is_email_byte (eqb-true c 46 dot) | inr dash ↦ ap is_email_byte (eqb-true c 45 dash) ]
+    | inr others ↦ elim (or_cases (c == 46) (c == 45) others) [
+      | inl dot ↦ ap is_email_byte (eqb-true c 46 dot)
+      | inr dash ↦ ap is_email_byte
+          (eqb-true c 45 dash)
+    ]
   ]
 ]
 
 -- what follows a scheme
 abbrev scheme_found : ℕ → List ℕ → Option (List ℕ)
 scheme_found n cs =
-    if nat_le (n + prefix_len is_scheme_byte cs) 32 && begins_with (codes ":") (after_all is_scheme_byte cs) then uri_read (drop 1 (after_all is_scheme_byte cs)) else email_read cs
+    if nat_le (n + prefix_len is_scheme_byte cs) 32 && begins_with (codes ":") (after_all is_scheme_byte cs)
+    then uri_read (drop 1 (after_all is_scheme_byte cs)) else email_read cs
 
 scheme_is : (cs : List ℕ) (n : ℕ) → n ≤ 32 → scheme_read n cs ≡ scheme_found n cs
 scheme_is [] n few = sym (by_fit (nat_le (n + 0) 32 && false))
@@ -132,20 +142,25 @@ scheme_is (c ∷ cs) n few = elim (cases_Bool (c == 58)) [
   ]
 ]
   where
-    by_scheme : (c == 58) ≡ false → (is : Bool) → is_scheme_byte c ≡ is → scheme_read n (c ∷ cs) ≡ (if is then (if nat_lt n 32 then scheme_read (n + 1) cs else email_read (c ∷ cs)) else email_read (c ∷ cs))
+    by_scheme : (c == 58) ≡ false → (is : Bool) → is_scheme_byte c ≡ is → scheme_read n (c ∷ cs)
+        ≡ (if is then (if nat_lt n 32 then scheme_read (n + 1) cs else email_read (c ∷ cs)) else email_read (c ∷ cs))
     by_scheme colon is h = rw (colon, h) refl
 
     size_more : is_scheme_byte c ≡ true → n + prefix_len is_scheme_byte (c ∷ cs) ≡ n + 1 + prefix_len is_scheme_byte cs
-    size_more h = ap (λ (b : Bool). n + (if b then 1 + prefix_len is_scheme_byte cs else 0)) h ∙ (let e : n + (1 + prefix_len is_scheme_byte cs) ≡ n + 1 + prefix_len is_scheme_byte cs = omega arith in e)
+    size_more h = ap (λ (b : Bool). n + (if b then 1 + prefix_len is_scheme_byte cs else 0)) h
+        ∙ (let e : n + (1 + prefix_len is_scheme_byte cs) ≡ n + 1 + prefix_len is_scheme_byte cs = omega arith in e)
 
     longer : ((k : ℕ) → k ≤ 32 → scheme_read k cs ≡ scheme_found k cs) → is_scheme_byte c ≡ true → (less : Bool) → nat_lt n 32 ≡ less
         → (if nat_lt n 32 then scheme_read (n + 1) cs else email_read (c ∷ cs)) ≡ scheme_found n (c ∷ cs)
     longer ih h true less =
         ap (λ (b : Bool). if b then scheme_read (n + 1) cs else email_read (c ∷ cs)) less
         ∙ (ih (n + 1) (let l = ltb-true n 32 less in omega (arith, l))
-        ∙ sym (ap (λ (k : ℕ). if nat_le k 32 && begins_with (codes ":") (after_all is_scheme_byte (c ∷ cs)) then uri_read (drop 1 (after_all is_scheme_byte (c ∷ cs))) else email_read (c ∷ cs)) (size_more h)
-        ∙ (ap (λ (l : List ℕ). if nat_le (n + 1 + prefix_len is_scheme_byte cs) 32 && begins_with (codes ":") l then uri_read (drop 1 l) else email_read (c ∷ cs)) (rest_more is_scheme_byte c cs h)
-        ∙ ap (λ (o : Option (List ℕ)). if nat_le (n + 1 + prefix_len is_scheme_byte cs) 32 && begins_with (codes ":") (after_all is_scheme_byte cs) then uri_read (drop 1 (after_all is_scheme_byte cs)) else o)
+        ∙ sym (ap (λ (k : ℕ). if nat_le k 32 && begins_with (codes ":") (after_all is_scheme_byte (c ∷ cs))
+        then uri_read (drop 1 (after_all is_scheme_byte (c ∷ cs))) else email_read (c ∷ cs)) (size_more h)
+        ∙ (ap (λ (l : List ℕ). if nat_le (n + 1 + prefix_len is_scheme_byte cs) 32 && begins_with (codes ":") l then uri_read (drop 1 l)
+        else email_read (c ∷ cs)) (rest_more is_scheme_byte c cs h)
+        ∙ ap (λ (o : Option (List ℕ)). if nat_le (n + 1 + prefix_len is_scheme_byte cs) 32 && begins_with (codes ":") (after_all is_scheme_byte cs)
+        then uri_read (drop 1 (after_all is_scheme_byte cs)) else o)
         (read_more c cs (scheme_in c h)))))
     longer ih h false less =
         ap (λ (b : Bool). if b then scheme_read (n + 1) cs else email_read (c ∷ cs)) less
@@ -175,7 +190,8 @@ letter_scheme c h = or_left (is_ascii_alphanumeric c) ((c == 43) || ((c == 46) |
 -- no address of a URI
 no_uri : (cs : List ℕ) → begins_with_scheme cs ≡ false → address_found cs ≡ closed (email_end cs)
 no_uri cs h =
-    ap (λ (b : Bool). if b then uri_read (drop 1 (after_all is_scheme_byte cs)) else closed (email_end cs)) (and_left (begins_with_scheme cs) (begins_with (codes ":") (after_all is_scheme_byte cs)) h)
+    ap (λ (b : Bool). if b then uri_read (drop 1 (after_all is_scheme_byte cs)) else closed (email_end cs))
+    (and_left (begins_with_scheme cs) (begins_with (codes ":") (after_all is_scheme_byte cs)) h)
 
 -- a first byte that is no letter
 other_found : (c : ℕ) (cs : List ℕ) → is_letter c ≡ false → (if c == 64 then None else email_read (c ∷ cs)) ≡ address_found (c ∷ cs)
@@ -192,7 +208,8 @@ other_found c cs h = elim (cases_Bool (is_email_byte c)) [
     by_at k true at = ap (λ (b : Bool). if b then None else email_read (c ∷ cs)) at
     by_at k false at = ap (λ (b : Bool). if b then None else email_read (c ∷ cs)) at ∙ read_none c cs k at
 
-prefix_first : (c : ℕ) (cs : List ℕ) (is : Bool) → is_scheme_byte c ≡ is → prefix_len is_scheme_byte (c ∷ cs) ≡ (if is then 1 + prefix_len is_scheme_byte cs else 0)
+prefix_first : (c : ℕ) (cs : List ℕ) (is : Bool) → is_scheme_byte c ≡ is → prefix_len is_scheme_byte (c ∷ cs)
+    ≡ (if is then 1 + prefix_len is_scheme_byte cs else 0)
 prefix_first c cs is h = ap (λ (b : Bool). if b then 1 + prefix_len is_scheme_byte cs else 0) h
 
 -- a letter with no scheme byte after it
@@ -201,7 +218,8 @@ short_found c cs h short =
     let scheme = letter_scheme c h in
     let size : prefix_len is_scheme_byte (c ∷ cs) ≡ 1 = prefix_first c cs true scheme ∙ ap (λ (n : ℕ). 1 + n) short in
     sym (read_more c cs (scheme_in c scheme)) ∙ (sym (email_found c cs (scheme_in c scheme))
-    ∙ sym (no_uri (c ∷ cs) (and_right (is_letter c) (nat_le 2 (prefix_len is_scheme_byte (c ∷ cs)) && nat_le (prefix_len is_scheme_byte (c ∷ cs)) 32) (ap (λ (n : ℕ). nat_le 2 n && nat_le n 32) size))))
+    ∙ sym (no_uri (c ∷ cs) (and_right (is_letter c) (nat_le 2 (prefix_len is_scheme_byte (c ∷ cs)) && nat_le (prefix_len is_scheme_byte (c ∷ cs)) 32)
+    (ap (λ (n : ℕ). nat_le 2 n && nat_le n 32) size))))
 
 -- and with one
 long_found : (c : ℕ) (cs : List ℕ) → is_letter c ≡ true → 1 ≤ prefix_len is_scheme_byte cs → scheme_found 1 cs ≡ address_found (c ∷ cs)
@@ -211,10 +229,15 @@ long_found c cs h some =
     let after = after_all is_scheme_byte cs in
     let few : nat_le 2 (1 + n) ≡ true = le-leb 2 (1 + n) (omega (arith, some)) in
     sym (
-    ap (λ (b : Bool). if (b && (nat_le 2 (prefix_len is_scheme_byte (c ∷ cs)) && nat_le (prefix_len is_scheme_byte (c ∷ cs)) 32)) && begins_with (codes ":") (after_all is_scheme_byte (c ∷ cs)) then uri_read (drop 1 (after_all is_scheme_byte (c ∷ cs))) else closed (email_end (c ∷ cs))) h
-    ∙ (ap (λ (k : ℕ). if (nat_le 2 k && nat_le k 32) && begins_with (codes ":") (after_all is_scheme_byte (c ∷ cs)) then uri_read (drop 1 (after_all is_scheme_byte (c ∷ cs))) else closed (email_end (c ∷ cs))) (prefix_first c cs true scheme)
-    ∙ (ap (λ (b : Bool). if (b && nat_le (1 + n) 32) && begins_with (codes ":") (after_all is_scheme_byte (c ∷ cs)) then uri_read (drop 1 (after_all is_scheme_byte (c ∷ cs))) else closed (email_end (c ∷ cs))) few
-    ∙ (ap (λ (l : List ℕ). if nat_le (1 + n) 32 && begins_with (codes ":") l then uri_read (drop 1 l) else closed (email_end (c ∷ cs))) (rest_more is_scheme_byte c cs scheme)
+    ap (λ (b : Bool). if (b && (nat_le 2 (prefix_len is_scheme_byte (c ∷ cs)) && nat_le (prefix_len is_scheme_byte (c ∷ cs)) 32))
+    && begins_with (codes ":") (after_all is_scheme_byte (c ∷ cs)) then uri_read (drop 1 (after_all is_scheme_byte (c ∷ cs)))
+    else closed (email_end (c ∷ cs))) h
+    ∙ (ap (λ (k : ℕ). if (nat_le 2 k && nat_le k 32) && begins_with (codes ":") (after_all is_scheme_byte (c ∷ cs))
+    then uri_read (drop 1 (after_all is_scheme_byte (c ∷ cs))) else closed (email_end (c ∷ cs))) (prefix_first c cs true scheme)
+    ∙ (ap (λ (b : Bool). if (b && nat_le (1 + n) 32) && begins_with (codes ":") (after_all is_scheme_byte (c ∷ cs))
+    then uri_read (drop 1 (after_all is_scheme_byte (c ∷ cs))) else closed (email_end (c ∷ cs))) few
+    ∙ (ap (λ (l : List ℕ). if nat_le (1 + n) 32 && begins_with (codes ":") l then uri_read (drop 1 l) else closed (email_end (c ∷ cs)))
+    (rest_more is_scheme_byte c cs scheme)
     ∙ ap (λ (o : Option (List ℕ)). if nat_le (1 + n) 32 && begins_with (codes ":") after then uri_read (drop 1 after) else o)
     (email_found c cs (scheme_in c scheme) ∙ read_more c cs (scheme_in c scheme)))))
     )
@@ -244,7 +267,8 @@ rest_rest : (cs ds es : List ℕ) → IsRest cs ds → IsRest ds es → IsRest c
 rest_rest cs ds es r s = record {
   count = s.count + r.count;
   few = (let a = r.few in let b = s.few in let e = ap length r.is in let f = length-drop r.count cs in omega (arith, a, b, e, f));
-  is = s.is ∙ (ap (drop s.count) r.is ∙ (drop-drop s.count r.count cs ∙ ap (λ (n : ℕ). drop n cs) (let e : r.count + s.count ≡ s.count + r.count = omega arith in e)));
+  is = s.is ∙ (ap (drop s.count) r.is
+      ∙ (drop-drop s.count r.count cs ∙ ap (λ (n : ℕ). drop n cs) (let e : r.count + s.count ≡ s.count + r.count = omega arith in e)));
 }
 
 -- a byte that comes first, and what follows it
@@ -252,7 +276,8 @@ rest_first : (m : ℕ) (cs : List ℕ) → begins_with (m ∷ []) cs ≡ true �
 rest_first m [] h = absurd (let f : false ≡ true = h in cc)
 rest_first m (c ∷ cs) h = record { count = 1; few = omega arith; is = refl }
 
-rest_if : (b : Bool) (cs found : List ℕ) (o : Option (List ℕ)) → (b ≡ true → o ≡ Some found → IsRest cs found) → (if b then o else None) ≡ Some found → IsRest cs found
+rest_if : (b : Bool) (cs found : List ℕ) (o : Option (List ℕ)) → (b ≡ true → o ≡ Some found → IsRest cs found) → (if b then o else None) ≡ Some found
+    → IsRest cs found
 rest_if true cs found o more e = more refl e
 rest_if false cs found o more e = absurd (let f : None ≡ Some found = e in cc)
 
@@ -261,12 +286,15 @@ uri_rest cs found e = rest_if (is_uri cs) cs found (Some (after_uri (after_all i
     let rest = after_all is_scheme_byte cs in
     let same : after_uri rest ≡ found = (let g : Some (after_uri rest) ≡ Some found = f in cc) in
     subst (IsRest cs) same (rest_rest cs rest (after_uri rest) (rest_all is_scheme_byte cs)
-    (rest_rest rest (drop 1 rest) (after_uri rest) (rest_first 58 rest (and_parts (begins_with_scheme cs) (begins_with (codes ":") rest) h).1) (rest_all is_uri_byte (drop 1 rest))))) e
+    (rest_rest rest (drop 1 rest) (after_uri rest) (rest_first 58 rest (and_parts (begins_with_scheme cs) (begins_with (codes ":") rest) h).1)
+    (rest_all is_uri_byte (drop 1 rest))))) e
 
 email_rest : (cs found : List ℕ) → email_end cs ≡ Some found → IsRest cs found
-email_rest cs found e = rest_if (nat_le 1 (prefix_len is_email_byte cs) && begins_with (codes "@") (after_all is_email_byte cs)) cs found (domain_end (drop 1 (after_all is_email_byte cs))) (λ h f.
+email_rest cs found e = rest_if (nat_le 1 (prefix_len is_email_byte cs) && begins_with (codes "@") (after_all is_email_byte cs)) cs found
+    (domain_end (drop 1 (after_all is_email_byte cs))) (λ h f.
     let rest = after_all is_email_byte cs in
-    rest_rest cs rest found (rest_all is_email_byte cs) (rest_rest rest (drop 1 rest) found (rest_first 64 rest (and_parts (nat_le 1 (prefix_len is_email_byte cs)) (begins_with (codes "@") rest) h).1)
+    rest_rest cs rest found (rest_all is_email_byte cs) (rest_rest rest (drop 1 rest) found
+    (rest_first 64 rest (and_parts (nat_le 1 (prefix_len is_email_byte cs)) (begins_with (codes "@") rest) h).1)
     (rest_if (is_domain (take_while is_domain_byte (drop 1 rest))) (drop 1 rest) found (Some (after_all is_domain_byte (drop 1 rest))) (λ k g.
     let same : after_all is_domain_byte (drop 1 rest) ≡ found = (let i : Some (after_all is_domain_byte (drop 1 rest)) ≡ Some found = g in cc) in
     subst (IsRest (drop 1 rest)) same (rest_all is_domain_byte (drop 1 rest))) f))) e
@@ -287,7 +315,8 @@ left_by cs parts c rest r =
     ∙ (ap (λ (n : ℕ). drop n (60 ∷ cs)) (let e : k + 2 ≡ suc (k + 1) = omega arith in e)
     ∙ (sym (drop-drop 1 k cs) ∙ sym (ap (drop 1) r.is)))
 
-closed_left : (is_email : Bool) (cs : List ℕ) (o : Option (List ℕ)) → ((rest : List ℕ) → o ≡ Some rest → IsRest cs rest) → left cs (closed_autolink is_email cs o) ≡ closed o
+closed_left : (is_email : Bool) (cs : List ℕ) (o : Option (List ℕ)) → ((rest : List ℕ) → o ≡ Some rest → IsRest cs rest)
+    → left cs (closed_autolink is_email cs o) ≡ closed o
 closed_left is_email cs None is = refl
 closed_left is_email cs (Some []) is = refl
 closed_left is_email cs (Some (c ∷ rest)) is = elim (cases_Bool (c == 62)) [
@@ -296,8 +325,11 @@ closed_left is_email cs (Some (c ∷ rest)) is = elim (cases_Bool (c == 62)) [
 ]
   where
     by_first : (first : Bool) → (c == 62) ≡ first
-        → left cs (closed_autolink is_email cs (Some (c ∷ rest))) ≡ left cs (if first then Some (leaf (Autolink is_email (before cs (c ∷ rest)) ∷ []) (length (before cs (c ∷ rest)) + 2)) else None)
-    by_first first h = ap (λ (b : Bool). left cs (if b then Some (leaf (Autolink is_email (before cs (c ∷ rest)) ∷ []) (length (before cs (c ∷ rest)) + 2)) else None)) (begins_by 62 c rest first h)
+        → left cs (closed_autolink is_email cs (Some (c ∷ rest))) ≡ left cs (if first
+        then Some (leaf (Autolink is_email (before cs (c ∷ rest)) ∷ []) (length (before cs (c ∷ rest)) + 2)) else None)
+    by_first first h =
+        ap (λ (b : Bool). left cs (if b then Some (leaf (Autolink is_email (before cs (c ∷ rest)) ∷ []) (length (before cs (c ∷ rest)) + 2)) else None))
+        (begins_by 62 c rest first h)
 
 or_none : (cs : List ℕ) (o : Option Leaf) → left cs (or_else o None) ≡ left cs o
 or_none cs None = refl
@@ -308,18 +340,21 @@ no_at : (cs : List ℕ) → begins_with (codes ":") (after_all is_scheme_byte cs
 no_at [] h = refl
 no_at (c ∷ cs) h = elim (cases_Bool (is_scheme_byte c)) [
   | inl k ↦
-      ap (begins_with (codes "@")) (rest_more is_email_byte c cs (scheme_in c k)) ∙ no_at cs (sym (ap (begins_with (codes ":")) (rest_more is_scheme_byte c cs k)) ∙ h)
+      ap (begins_with (codes "@")) (rest_more is_email_byte c cs (scheme_in c k))
+      ∙ no_at cs (sym (ap (begins_with (codes ":")) (rest_more is_scheme_byte c cs k)) ∙ h)
   | inr k ↦ elim (cases_Bool (c == 58)) [
     | inl colon ↦ ap (λ (b : ℕ). begins_with (codes "@") (after_all is_email_byte (b ∷ cs))) (eqb-true c 58 colon)
     | inr other ↦
-        absurd (let f : begins_with (codes ":") (c ∷ cs) ≡ true = sym (ap (begins_with (codes ":")) (rest_none is_scheme_byte c cs k)) ∙ h in let g : false ≡ true = sym (begins_by 58 c cs false other) ∙ f in cc)
+        absurd (let f : begins_with (codes ":") (c ∷ cs) ≡ true = sym (ap (begins_with (codes ":")) (rest_none is_scheme_byte c cs k)) ∙ h in
+        let g : false ≡ true = sym (begins_by 58 c cs false other) ∙ f in cc)
   ]
 ]
 
 no_email : (cs : List ℕ) → is_uri cs ≡ true → email_end cs ≡ None
 no_email cs h =
     let at = no_at cs (and_parts (begins_with_scheme cs) (begins_with (codes ":") (after_all is_scheme_byte cs)) h).1 in
-    ap (λ (b : Bool). if b then domain_end (drop 1 (after_all is_email_byte cs)) else None) (and_right (nat_le 1 (prefix_len is_email_byte cs)) (begins_with (codes "@") (after_all is_email_byte cs)) at)
+    ap (λ (b : Bool). if b then domain_end (drop 1 (after_all is_email_byte cs)) else None)
+    (and_right (nat_le 1 (prefix_len is_email_byte cs)) (begins_with (codes "@") (after_all is_email_byte cs)) at)
 
 -- what the states read after a `<` is what the definition leaves of the codes
 pub autolink_left : (cs : List ℕ) → left cs (autolink_after cs) ≡ address_read cs

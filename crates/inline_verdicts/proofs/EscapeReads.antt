@@ -18,7 +18,7 @@ use Rattle.inline_states.specs.declared.inlines.Inlines.{Inlines}
 use Rattle.inline_states.specs.Inlines.{bodies}
 use Rattle.inline_verdicts.specs.CharacterEscape.{EscapeVerdict, escape_events}
 use Rattle.inline_codes.specs.Codes.{Sees, byte, nothing, seen, tab}
-use Rattle.inline_verdicts.specs.Verdicts.{Made, Reads, Verdict}
+use Rattle.inline_verdicts.specs.Verdicts.{LeavesEvents, Reads, Verdict}
 use Rattle.inline_verdicts.proofs.Turns.{RunsOn, on_next, on_retry}
 use Rattle.inline_verdicts.proofs.Seen.{no_feed, seen_punctuation}
 
@@ -40,25 +40,32 @@ module _ {T : Type 0} (texts : List ℕ → Option (List ℕ)) (is_punctuation :
   at_second c p q v = with_byte (opened (at_mark c p q)) (text.start q) v
 
   starts : (c : Config Inlines) (p q : Point) (on : Bool) → x.options.constructs.character_escape ≡ on
-      → run (bodies texts is_punctuation x (Inline inline_states.CharacterEscapeStart)) (at_mark c p q) ≡ (if on then plain (opened (at_mark c p q)) (states.Next (Inline inline_states.CharacterEscapeInside)) else plain (at_mark c p q) states.Nok)
+      → run (bodies texts is_punctuation x (Inline inline_states.CharacterEscapeStart)) (at_mark c p q)
+      ≡ (if on then plain (opened (at_mark c p q)) (states.Next (Inline inline_states.CharacterEscapeInside)) else plain (at_mark c p q) states.Nok)
   unfolding bodies opened at_mark
   starts c p q on h = rw h refl
 
   -- where escapes are off
-  refused : (c : Config Inlines) (p q : Point) → x.options.constructs.character_escape ≡ false → Reads texts is_punctuation x text (at_mark c p q) (states.Retry (Inline inline_states.CharacterEscapeStart)) (at_mark c p q) false
-  refused c p q off = on_retry texts is_punctuation x text (Inline inline_states.CharacterEscapeStart) (at_mark c p q) (at_mark c p q) false (plain (at_mark c p q) states.Nok) (starts c p q false off) ends-nok
+  refused : (c : Config Inlines) (p q : Point) → x.options.constructs.character_escape ≡ false
+      → Reads texts is_punctuation x text (at_mark c p q) (states.Retry (Inline inline_states.CharacterEscapeStart)) (at_mark c p q) false
+  refused c p q off = on_retry texts is_punctuation x text (Inline inline_states.CharacterEscapeStart) (at_mark c p q) (at_mark c p q) false
+      (plain (at_mark c p q) states.Nok) (starts c p q false off) ends-nok
 
-  begins : (c d : Config Inlines) (p q : Point) (w : Bool) → x.options.constructs.character_escape ≡ true → Reads texts is_punctuation x text (opened (at_mark c p q)) (states.Next (Inline inline_states.CharacterEscapeInside)) d w
+  begins : (c d : Config Inlines) (p q : Point) (w : Bool) → x.options.constructs.character_escape ≡ true
+      → Reads texts is_punctuation x text (opened (at_mark c p q)) (states.Next (Inline inline_states.CharacterEscapeInside)) d w
       → Reads texts is_punctuation x text (at_mark c p q) (states.Retry (Inline inline_states.CharacterEscapeStart)) d w
   unfolding Reads
-  begins c d p q w on r = on_retry texts is_punctuation x text (Inline inline_states.CharacterEscapeStart) (at_mark c p q) d w (plain (opened (at_mark c p q)) (states.Next (Inline inline_states.CharacterEscapeInside))) (starts c p q true on) r
+  begins c d p q w on r = on_retry texts is_punctuation x text (Inline inline_states.CharacterEscapeStart) (at_mark c p q) d w
+      (plain (opened (at_mark c p q)) (states.Next (Inline inline_states.CharacterEscapeInside))) (starts c p q true on) r
 
-  none_does : (c : Config Inlines) (p q : Point) → run (bodies texts is_punctuation x (Inline inline_states.CharacterEscapeInside)) (at_second c p q None) ≡ plain (at_second c p q None) states.Nok
+  none_does : (c : Config Inlines) (p q : Point) → run (bodies texts is_punctuation x (Inline inline_states.CharacterEscapeInside)) (at_second c p q None)
+      ≡ plain (at_second c p q None) states.Nok
   unfolding bodies at_second
   none_does c p q = refl
 
   second_does : (c : Config Inlines) (p q : Point) (v : VirtualByte) (is : Bool) → is_ascii_punctuation v.byte ≡ is
-      → run (bodies texts is_punctuation x (Inline inline_states.CharacterEscapeInside)) (at_second c p q (Some v)) ≡ (if is then plain (closed (at_second c p q (Some v))) states.Ok else plain (at_second c p q (Some v)) states.Nok)
+      → run (bodies texts is_punctuation x (Inline inline_states.CharacterEscapeInside)) (at_second c p q (Some v))
+      ≡ (if is then plain (closed (at_second c p q (Some v))) states.Ok else plain (at_second c p q (Some v)) states.Nok)
   unfolding bodies at_second closed
   second_does c p q v is h = rw h refl
 
@@ -66,32 +73,43 @@ module _ {T : Type 0} (texts : List ℕ → Option (List ℕ)) (is_punctuation :
   unfolding opened at_mark
   at_place c p q = refl
 
-  goes_on : (c d : Config Inlines) (p q : Point) (v : Option VirtualByte) (w : Bool) (e : Effect Inlines) → x.options.constructs.character_escape ≡ true → text.byte (text.start q) ≡ v
+  goes_on : (c d : Config Inlines) (p q : Point) (v : Option VirtualByte) (w : Bool) (e : Effect Inlines) → x.options.constructs.character_escape ≡ true
+      → text.byte (text.start q) ≡ v
       → run (bodies texts is_punctuation x (Inline inline_states.CharacterEscapeInside)) (at_second c p q v) ≡ e → RunsOn texts is_punctuation x text e d w
       → Reads texts is_punctuation x text (at_mark c p q) (states.Retry (Inline inline_states.CharacterEscapeStart)) d w
   unfolding opened at_mark at_second
-  goes_on c d p q v w e on h k r = begins c d p q w on (on_next texts is_punctuation x text (Inline inline_states.CharacterEscapeInside) (opened (at_mark c p q)) d v w e h k r)
+  goes_on c d p q v w e on h k r =
+      begins c d p q w on (on_next texts is_punctuation x text (Inline inline_states.CharacterEscapeInside) (opened (at_mark c p q)) d v w e h k r)
 
-  fails_at_end : (c : Config Inlines) (p q : Point) → x.options.constructs.character_escape ≡ true → text.byte (text.start q) ≡ None → Reads texts is_punctuation x text (at_mark c p q) (states.Retry (Inline inline_states.CharacterEscapeStart)) (at_second c p q None) false
+  fails_at_end : (c : Config Inlines) (p q : Point) → x.options.constructs.character_escape ≡ true → text.byte (text.start q) ≡ None
+      → Reads texts is_punctuation x text (at_mark c p q) (states.Retry (Inline inline_states.CharacterEscapeStart)) (at_second c p q None) false
   fails_at_end c p q on h = goes_on c (at_second c p q None) p q None false (plain (at_second c p q None) states.Nok) on h (none_does c p q) ends-nok
 
-  fails : (c : Config Inlines) (p q : Point) (v : VirtualByte) → x.options.constructs.character_escape ≡ true → text.byte (text.start q) ≡ Some v → is_ascii_punctuation v.byte ≡ false
+  fails : (c : Config Inlines) (p q : Point) (v : VirtualByte) → x.options.constructs.character_escape ≡ true → text.byte (text.start q) ≡ Some v
+      → is_ascii_punctuation v.byte ≡ false
       → Reads texts is_punctuation x text (at_mark c p q) (states.Retry (Inline inline_states.CharacterEscapeStart)) (at_second c p q (Some v)) false
-  fails c p q v on h k = goes_on c (at_second c p q (Some v)) p q (Some v) false (plain (at_second c p q (Some v)) states.Nok) on h (second_does c p q v false k) ends-nok
+  fails c p q v on h k = goes_on c (at_second c p q (Some v)) p q (Some v) false (plain (at_second c p q (Some v)) states.Nok) on h
+      (second_does c p q v false k) ends-nok
 
-  goes : (c : Config Inlines) (p q : Point) (v : VirtualByte) → x.options.constructs.character_escape ≡ true → text.byte (text.start q) ≡ Some v → is_ascii_punctuation v.byte ≡ true
+  goes : (c : Config Inlines) (p q : Point) (v : VirtualByte) → x.options.constructs.character_escape ≡ true → text.byte (text.start q) ≡ Some v
+      → is_ascii_punctuation v.byte ≡ true
       → Reads texts is_punctuation x text (at_mark c p q) (states.Retry (Inline inline_states.CharacterEscapeStart)) (closed (at_second c p q (Some v))) true
-  goes c p q v on h k = goes_on c (closed (at_second c p q (Some v))) p q (Some v) true (plain (closed (at_second c p q (Some v))) states.Ok) on h (second_does c p q v true k) ends-ok
+  goes c p q v on h k = goes_on c (closed (at_second c p q (Some v))) p q (Some v) true (plain (closed (at_second c p q (Some v))) states.Ok) on h
+      (second_does c p q v true k) ends-ok
 
-  made : (c : Config Inlines) (p q r : Point) (b : ℕ) → (b == 10) ≡ false → Made (at_mark c p q) (closed (at_second c p q (Some (as_byte b r)))) (escape_events p q (text.start q) r) r
+  made : (c : Config Inlines) (p q r : Point) (b : ℕ) → (b == 10) ≡ false
+      → LeavesEvents (at_mark c p q) (closed (at_second c p q (Some (as_byte b r)))) (escape_events p q (text.start q) r) r
   unfolding at_mark at_second opened closed
   made c p q r b f = record { events = rw f (simp append_assoc refl); point = refl; kept = refl; map = refl; resolvers = refl }
 
   The_verdict : Config Inlines → Point → Point → List ℕ → Option Leaf → Type 0
-  The_verdict c p q cs leaf = Verdict texts is_punctuation x text (at_mark c p q) (states.Retry (Inline inline_states.CharacterEscapeStart)) (92 ∷ cs) (escape_events p q (text.start q)) (λ end. end) leaf
+  The_verdict c p q cs leaf = Verdict texts is_punctuation x text (at_mark c p q) (states.Retry (Inline inline_states.CharacterEscapeStart)) (92 ∷ cs)
+      (escape_events p q (text.start q)) (λ end. end) leaf
 
-  by_second : (c : Config Inlines) (p q r : Point) (code : ℕ) (cs : List ℕ) (on is : Bool) → x.options.constructs.character_escape ≡ on → is_ascii_punctuation code ≡ is
-      → text.byte (text.start q) ≡ Some (as_byte (seen code) r) → Sees text r cs → The_verdict c p q (code ∷ cs) (if on && is then Some (leaf (Escape code ∷ []) 2) else None)
+  by_second : (c : Config Inlines) (p q r : Point) (code : ℕ) (cs : List ℕ) (on is : Bool) → x.options.constructs.character_escape ≡ on
+      → is_ascii_punctuation code ≡ is
+      → text.byte (text.start q) ≡ Some (as_byte (seen code) r) → Sees text r cs
+      → The_verdict c p q (code ∷ cs) (if on && is then Some (leaf (Escape code ∷ []) 2) else None)
   unfolding The_verdict
   by_second c p q r code cs true true h k e s =
       let punctuation : is_ascii_punctuation (seen code) ≡ true = seen_punctuation code ∙ k in
@@ -100,12 +118,14 @@ module _ {T : Type 0} (texts : List ℕ → Option (List ℕ)) (is_punctuation :
       (_, fails c p q (as_byte (seen code) r) h e (seen_punctuation code ∙ k))
   by_second c p q r code cs false is h k e s = (_, refused c p q h)
 
-  at_end : (c : Config Inlines) (p q : Point) (on : Bool) → x.options.constructs.character_escape ≡ on → text.byte (text.start q) ≡ None → The_verdict c p q [] None
+  at_end : (c : Config Inlines) (p q : Point) (on : Bool) → x.options.constructs.character_escape ≡ on → text.byte (text.start q) ≡ None
+      → The_verdict c p q [] None
   unfolding The_verdict
   at_end c p q true h e = (_, fails_at_end c p q h e)
   at_end c p q false h e = (_, refused c p q h)
 
-  at_tab : (c : Config Inlines) (p q r : Point) (cs : List ℕ) (on : Bool) → x.options.constructs.character_escape ≡ on → text.byte (text.start q) ≡ Some (as_byte 9 r)
+  at_tab : (c : Config Inlines) (p q r : Point) (cs : List ℕ) (on : Bool) → x.options.constructs.character_escape ≡ on
+      → text.byte (text.start q) ≡ Some (as_byte 9 r)
       → The_verdict c p q (9 ∷ cs) (if on && false then Some (leaf (Escape 9 ∷ []) 2) else None)
   unfolding The_verdict
   at_tab c p q r cs true h e = (_, fails c p q (as_byte 9 r) h e refl)
@@ -113,7 +133,8 @@ module _ {T : Type 0} (texts : List ℕ → Option (List ℕ)) (is_punctuation :
 
   by_sight : (c : Config Inlines) (p q : Point) (cs : List ℕ) → Sees text q cs → The_verdict c p q cs (escape_at x.options.constructs (92 ∷ cs))
   by_sight c p q [] (nothing e) = at_end c p q x.options.constructs.character_escape refl e
-  by_sight c p q (code ∷ cs) (byte {q = r} apart e s) = by_second c p q r code cs x.options.constructs.character_escape (is_ascii_punctuation code) refl refl e s
+  by_sight c p q (code ∷ cs) (byte {q = r} apart e s) =
+      by_second c p q r code cs x.options.constructs.character_escape (is_ascii_punctuation code) refl refl e s
   by_sight c p q (code ∷ cs) (tab {q = r} few e _ s) = at_tab c p q r cs x.options.constructs.character_escape refl e
 
 pub escape_verdict : (T : Type 0) → EscapeVerdict T

@@ -44,18 +44,21 @@ stops (longer e k rest) = stops rest
 
 module _ {T : Type 0} (texts : List ℕ → Option (List ℕ)) (is_punctuation : ℕ → Bool) (x : Context T) (text : Text) where
   -- a state at the next byte is the state once that is handed in
-  pub on_fed : (n : Name) (c d : Config Inlines) (w : Bool) → Reads texts is_punctuation x text (feed text c) (states.Retry n) d w → Reads texts is_punctuation x text c (states.Next n) d w
+  pub on_fed : (n : Name) (c d : Config Inlines) (w : Bool) → Reads texts is_punctuation x text (feed text c) (states.Retry n) d w
+      → Reads texts is_punctuation x text c (states.Next n) d w
   unfolding Reads
   on_fed n c d w (retry r) = next r
 
   -- a state goes on to a state at the next byte
-  pub goes_to : (m n : Name) (c e d : Config Inlines) (w : Bool) → run (bodies texts is_punctuation x m) c ≡ plain e (states.Next n) → Reads texts is_punctuation x text (feed text e) (states.Retry n) d w
+  pub goes_to : (m n : Name) (c e d : Config Inlines) (w : Bool) → run (bodies texts is_punctuation x m) c ≡ plain e (states.Next n)
+      → Reads texts is_punctuation x text (feed text e) (states.Retry n) d w
       → Reads texts is_punctuation x text c (states.Retry m) d w
   unfolding Reads
   goes_to m n c e d w h r = on_retry texts is_punctuation x text m c d w (plain e (states.Next n)) h (on_fed n e d w r)
 
   -- a state hands the same byte to another
-  pub stays_to : (m n : Name) (c e d : Config Inlines) (w : Bool) → run (bodies texts is_punctuation x m) c ≡ plain e (states.Retry n) → Reads texts is_punctuation x text e (states.Retry n) d w
+  pub stays_to : (m n : Name) (c e d : Config Inlines) (w : Bool) → run (bodies texts is_punctuation x m) c ≡ plain e (states.Retry n)
+      → Reads texts is_punctuation x text e (states.Retry n) d w
       → Reads texts is_punctuation x text c (states.Retry m) d w
   unfolding Reads
   stays_to m n c e d w h r = on_retry texts is_punctuation x text m c d w (plain e (states.Retry n)) h r
@@ -65,11 +68,13 @@ module _ {T : Type 0} (texts : List ℕ → Option (List ℕ)) (is_punctuation :
     pub config : Config Inlines
     pub held : holds count config
     pub at : At text config q
-    pub back : (d : Config Inlines) (w : Bool) → Reads texts is_punctuation x text config (states.Retry name) d w → Reads texts is_punctuation x text c (states.Retry name) d w
+    pub back : (d : Config Inlines) (w : Bool) → Reads texts is_punctuation x text config (states.Retry name) d w
+        → Reads texts is_punctuation x text c (states.Retry name) d w
 
   -- a state that goes on at each byte of a sort, doing this, under which something holds of the count and the configuration
   module _ (name : Name) (is : ℕ → Bool) (go : Config Inlines → Config Inlines) (holds : ℕ → Config Inlines → Type 0)
-      (does : (n b : ℕ) (c : Config Inlines) → holds n c → c.current ≡ Some b → is b ≡ true → run (bodies texts is_punctuation x name) c ≡ plain (go c) (states.Next name))
+      (does : (n b : ℕ) (c : Config Inlines) → holds n c → c.current ≡ Some b → is b ≡ true
+      → run (bodies texts is_punctuation x name) c ≡ plain (go c) (states.Next name))
       (keeps : (n b : ℕ) (c : Config Inlines) → holds n c → c.current ≡ Some b → is b ≡ true → holds (n + 1) (feed text (go c)))
       (passes : (c : Config Inlines) → (go c).point ≡ c.next) where
     pub over : {k : ℕ} {q r : Point} → Stretch text is k q r → (j : ℕ) (c : Config Inlines) → holds j c → At text c q → Over name holds c (j + k) r
@@ -85,25 +90,31 @@ module _ {T : Type 0} (texts : List ℕ → Option (List ℕ)) (is_punctuation :
         }
 
   -- where a state stands once it went over a stretch, or over so many bytes of it as it takes
-  pub record Capped (name : Name) (is : ℕ → Bool) (most : ℕ) (holds : ℕ → Config Inlines → Type 0) (c : Config Inlines) (total : ℕ) (q : Point) : Type 0 where
+  pub record StretchEnd (name : Name) (is : ℕ → Bool) (most : ℕ) (holds : ℕ → Config Inlines → Type 0)
+      (c : Config Inlines) (total : ℕ) (q : Point) : Type 0 where
     pub config : Config Inlines
     pub count : ℕ
     pub place : Point
     pub held : holds count config
     pub at : At text config place
-    pub back : (d : Config Inlines) (w : Bool) → Reads texts is_punctuation x text config (states.Retry name) d w → Reads texts is_punctuation x text c (states.Retry name) d w
+    pub back : (d : Config Inlines) (w : Bool) → Reads texts is_punctuation x text config (states.Retry name) d w
+        → Reads texts is_punctuation x text c (states.Retry name) d w
     pub ends : ((total ≤ most) × (count ≡ total) × (place ≡ q)) ⊎ ((most < total) × (count ≡ most) × (has is config.current ≡ true))
 
   module _ (name : Name) (is : ℕ → Bool) (most : ℕ) (go : Config Inlines → Config Inlines) (holds : ℕ → Config Inlines → Type 0)
-      (does : (n b : ℕ) (c : Config Inlines) → holds n c → n < most → c.current ≡ Some b → is b ≡ true → run (bodies texts is_punctuation x name) c ≡ plain (go c) (states.Next name))
+      (does : (n b : ℕ) (c : Config Inlines) → holds n c → n < most → c.current ≡ Some b → is b ≡ true
+      → run (bodies texts is_punctuation x name) c ≡ plain (go c) (states.Next name))
       (keeps : (n b : ℕ) (c : Config Inlines) → holds n c → n < most → c.current ≡ Some b → is b ≡ true → holds (n + 1) (feed text (go c)))
       (passes : (c : Config Inlines) → (go c).point ≡ c.next) where
-    pub over_capped : {k : ℕ} {q r : Point} → Stretch text is k q r → (j : ℕ) (c : Config Inlines) → holds j c → At text c q → j ≤ most → Capped name is most holds c (j + k) r
-    over_capped {q = q} (ended stop) j c h at low = record { config = c; count = j; place = q; held = h; at = at; back = λ d w r. r; ends = inl (omega (arith, low), omega arith, refl) }
+    pub over_capped : {k : ℕ} {q r : Point} → Stretch text is k q r → (j : ℕ) (c : Config Inlines) → holds j c → At text c q → j ≤ most
+        → StretchEnd name is most holds c (j + k) r
+    over_capped {q = q} (ended stop) j c h at low =
+        record { config = c; count = j; place = q; held = h; at = at; back = λ d w r. r; ends = inl (omega (arith, low), omega arith, refl) }
     over_capped {r = end} (longer {n = n} {b = b} {p = p} {q = q} e k rest) j c h at low = elim (cases_lt j most) [
       | inl less ↦
           let here = byte_at at e in
-          let f = over_capped rest (j + 1) (feed text (go c)) (keeps j b c h less here k) (fed text (go c) q (passes c ∙ at.next (as_byte b q) e)) (omega (arith, less)) in
+          let f = over_capped rest (j + 1) (feed text (go c)) (keeps j b c h less here k) (fed text (go c) q (passes c ∙ at.next (as_byte b q) e))
+          (omega (arith, less)) in
           record {
             config = f.config;
             count = f.count;
@@ -111,7 +122,16 @@ module _ {T : Type 0} (texts : List ℕ → Option (List ℕ)) (is_punctuation :
             held = f.held;
             at = f.at;
             back = λ d w r. goes_to name name c (go c) d w (does j b c h less here k) (f.back d w r);
-            ends = subst (λ (i : ℕ). ((i ≤ most) × (f.count ≡ i) × (f.place ≡ end)) ⊎ ((most < i) × (f.count ≡ most) × (has is f.config.current ≡ true))) (let s : j + 1 + n ≡ j + (n + 1) = omega arith in s) f.ends;
+            ends = subst (λ (i : ℕ). ((i ≤ most) × (f.count ≡ i) × (f.place ≡ end))
+                ⊎ ((most < i) × (f.count ≡ most) × (has is f.config.current ≡ true))) (let s : j + 1 + n ≡ j + (n + 1) = omega arith in s) f.ends;
           }
-      | inr full ↦ record { config = c; count = j; place = p; held = h; at = at; back = λ d w r. r; ends = inr (omega (arith, full), omega (arith, full, low), ap (has is) (byte_at at e) ∙ k) }
+      | inr full ↦ record {
+        config = c;
+        count = j;
+        place = p;
+        held = h;
+        at = at;
+        back = λ d w r. r;
+        ends = inr (omega (arith, full), omega (arith, full, low), ap (has is) (byte_at at e) ∙ k);
+      }
     ]

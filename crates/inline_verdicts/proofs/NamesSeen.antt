@@ -1,5 +1,6 @@
 -- A name of letters and digits stands in the bytes as it stands in the codes.
-use Rattle.std.proofs.Common.{◌≡◌, ◌∙◌, ℕ, zero, suc, ◌+◌, ◌-◌, ◌<◌, ◌≤◌, Bool, true, false, ◌&&◌, ◌||◌, if◌then◌else◌, List, [], ◌∷◌, length, take, drop, get_or, is_some, Option, Some, None, inl, inr, refl, sym, ap, subst, arith}
+use Rattle.std.proofs.Common.{◌≡◌, ◌∙◌, ℕ, zero, suc, ◌+◌, ◌-◌, ◌<◌, ◌≤◌, Bool, true, false, ◌&&◌, ◌||◌, if◌then◌else◌, List, [], ◌∷◌, length, take, drop}
+use Rattle.std.proofs.Common.{get_or, is_some, Option, Some, None, inl, inr, refl, sym, ap, subst, arith}
 use Rattle.std.proofs.lemmas.Bool.{and_parts, cases_lt, le-leb, leb-true, or_cases}
 use Rattle.std.proofs.lemmas.List.{drop_more, get_or_past}
 use Rattle.std.proofs.lemmas.Str.{IsUtf8-from_ascii, is_utf8-from_IsUtf8}
@@ -22,7 +23,11 @@ in_range a z b low high h = let e = and_parts _ _ h in let f = leb-true a b e.0 
 
 letter_range : (b : ℕ) → is_ascii_alphanumeric b ≡ true → (0 < b) × (b < 128)
 letter_range b h = elim (or_cases (is_in_range 48 57 b || is_in_range 65 90 b) (is_in_range 97 122 b) h) [
-  | inl l ↦ elim (or_cases (is_in_range 48 57 b) (is_in_range 65 90 b) l) [ inl d ↦ in_range 48 57 b (omega arith) (omega arith) d | inr u ↦ in_range 65 90 b (omega arith) (omega arith) u ]
+  | inl l ↦ elim (or_cases (is_in_range 48 57 b) (is_in_range 65 90 b) l) [
+    | inl d ↦ in_range 48 57 b (omega arith) (omega arith) d
+    | inr u ↦ in_range 65 90 b
+        (omega arith) (omega arith) u
+  ]
   | inr l ↦ in_range 97 122 b (omega arith) (omega arith) l
 ]
 
@@ -48,13 +53,15 @@ module _ (bytes : List ℕ) (text : Text) (shows : Shows bytes text) where
   there : (p r : Point) (b : ℕ) → StandsAt bytes text p r b → 0 < b → p.index < length bytes
   there p r b at some = elim (cases_lt p.index (length bytes)) [
     | inl h ↦ h
-    | inr h ↦ absurd (let e : get_or bytes p.index 0 ≡ 0 = get_or_past bytes p.index 0 h in let f : get_or bytes p.index 0 ≡ b = at.byte in omega (arith, e, f, some))
+    | inr h ↦ absurd (let e : get_or bytes p.index 0 ≡ 0 = get_or_past bytes p.index 0 h in let f : get_or bytes p.index 0 ≡ b = at.byte in
+        omega (arith, e, f, some))
   ]
 
   first_of : (n : ℕ) (c : ℕ) (cs : List ℕ) → take (n + 1) (c ∷ cs) ≡ c ∷ take n cs
   first_of n c cs = ap (λ (m : ℕ). take m (c ∷ cs)) (let e : n + 1 ≡ suc n = omega arith in e)
 
-  word_more : (n b c : ℕ) (q r end : Point) (cs : List ℕ) → StandsAt bytes text (text.start q) r b → is_ascii_alphanumeric b ≡ true → c ≡ b → text.start r ≡ r → IsWord r n cs end → IsWord q (n + 1) (c ∷ cs) end
+  word_more : (n b c : ℕ) (q r end : Point) (cs : List ℕ) → StandsAt bytes text (text.start q) r b → is_ascii_alphanumeric b ≡ true → c ≡ b → text.start r ≡ r
+      → IsWord r n cs end → IsWord q (n + 1) (c ∷ cs) end
   word_more n b c q r end cs at letter code on w =
       let range = letter_range b letter in
       let i = (text.start q).index in
@@ -72,7 +79,8 @@ module _ (bytes : List ℕ) (text : Text) (shows : Shows bytes text) where
         ascii = subst IsAscii (sym (first_of n c cs)) (more_ascii c (take n cs) (let r = range.1 in omega (arith, r, code)) w.ascii);
       }
 
-  pub word : {n : ℕ} {q end : Point} → Stretch text is_ascii_alphanumeric n q end → (cs : List ℕ) → Sees text q cs → 0 < (text.start q).column → IsWord q n cs end
+  pub word : {n : ℕ} {q end : Point} → Stretch text is_ascii_alphanumeric n q end → (cs : List ℕ) → Sees text q cs → 0 < (text.start q).column
+      → IsWord q n cs end
   word (ended h) cs s column = record { index = omega arith; within = λ h. absurd (omega (arith, h)); same = refl; ascii = no_ascii }
   word {q = q} (longer {b = b} {q = r} e k rest) [] (nothing f) column = absurd (let g : Some (as_byte b r) ≡ None = sym e ∙ f in cc)
   word {end = end} (longer {n = n} {b = b} {p = q} {q = r} e k rest) (c ∷ cs) (byte {q = t} apart f s) column =
@@ -82,12 +90,14 @@ module _ (bytes : List ℕ) (text : Text) (shows : Shows bytes text) where
       let place : t ≡ r = sym (ap (λ (v : VirtualByte). v.next) same) in
       let on = at.on column in
       let further : 0 < (text.start r).column = (let one = at.column in let two = ap (λ (p : Point). p.column) on in omega (arith, one, two)) in
-      word_more n b c q r end cs at k (code_of c b (is_eol c) refl (sym (ap (λ (v : VirtualByte). v.byte) same)) k) on (word rest cs (subst (λ (p : Point). Sees text p cs) place s) further)
+      word_more n b c q r end cs at k (code_of c b (is_eol c) refl (sym (ap (λ (v : VirtualByte). v.byte) same)) k) on
+      (word rest cs (subst (λ (p : Point). Sees text p cs) place s) further)
   word (longer {b = b} {q = r} e k rest) (c ∷ cs) (tab {q = t} few f g s) column =
       absurd (let h : Some (as_byte b r) ≡ Some (as_byte 9 t) = sym e ∙ f in let same : as_byte b r ≡ as_byte 9 t = cc in
       let i : is_ascii_alphanumeric 9 ≡ true = ap is_ascii_alphanumeric (sym (ap (λ (v : VirtualByte). v.byte) same)) ∙ k in let j : false ≡ true = i in cc)
 
-  pub word_known : (texts : List ℕ → Option (List ℕ)) (q end : Point) (n : ℕ) (cs : List ℕ) → IsWord q n cs end → 0 < n → is_name texts bytes n (text.start end).index ≡ is_some (texts (take n cs))
+  pub word_known : (texts : List ℕ → Option (List ℕ)) (q end : Point) (n : ℕ) (cs : List ℕ) → IsWord q n cs end → 0 < n
+      → is_name texts bytes n (text.start end).index ≡ is_some (texts (take n cs))
   word_known texts q end n cs w some =
       let i = (text.start q).index in
       ap (is_name texts bytes n) w.index

@@ -35,14 +35,16 @@ others_begun c = past_byte (with_enter c.tokenize_state.token_3 None c)
 
 -- over the first byte of all
 abbrev pub opened : SpanNames → ℕ → Config Inlines → Config Inlines
-opened given m c = past_byte (with_enter given.sequence None (with_enter given.whole None (record c { tokenize_state = spanning given m 1 0 c.tokenize_state })))
+opened given m c =
+    past_byte (with_enter given.sequence None (with_enter given.whole None (record c { tokenize_state = spanning given m 1 0 c.tokenize_state })))
 
 module _ {T : Type 0} (texts : List ℕ → Option (List ℕ)) (is_punctuation : ℕ → Bool) (x : Context T) where
   pub between_ends : (c : Config Inlines) → c.current ≡ None → run (bodies texts is_punctuation x (Inline inline_states.RawTextBetween)) c ≡ plain c states.Nok
   unfolding bodies
   between_ends c h = rw h refl
 
-  pub between_line : (c : Config Inlines) → c.current ≡ Some 10 → run (bodies texts is_punctuation x (Inline inline_states.RawTextBetween)) c ≡ plain (line_over c) (next inline_states.RawTextBetween)
+  pub between_line : (c : Config Inlines) → c.current ≡ Some 10 → run (bodies texts is_punctuation x (Inline inline_states.RawTextBetween)) c
+      ≡ plain (line_over c) (next inline_states.RawTextBetween)
   unfolding bodies
   between_line c h = rw h refl
 
@@ -62,7 +64,8 @@ module _ {T : Type 0} (texts : List ℕ → Option (List ℕ)) (is_punctuation :
   data_longer b c h k = rw (h, k) refl
 
   pub data_ends : (c : Config Inlines) (v : Option ℕ) → c.current ≡ v → has (is_other c.tokenize_state.marker) v ≡ false
-      → run (bodies texts is_punctuation x (Inline inline_states.RawTextData)) c ≡ plain (with_exit c.tokenize_state.token_3 c) (retry inline_states.RawTextBetween)
+      → run (bodies texts is_punctuation x (Inline inline_states.RawTextData)) c
+      ≡ plain (with_exit c.tokenize_state.token_3 c) (retry inline_states.RawTextBetween)
   unfolding bodies
   data_ends c None h k = rw h refl
   data_ends c (Some b) h k = rw (h, not-false ((b == 10) || (b == c.tokenize_state.marker)) k) refl
@@ -72,9 +75,11 @@ module _ {T : Type 0} (texts : List ℕ → Option (List ℕ)) (is_punctuation :
   unfolding bodies
   close_longer b c h k = rw (h, k) refl
 
-  pub close_ends : (c : Config Inlines) (v : Option ℕ) (is : Bool) → c.current ≡ v → has (λ b. b == c.tokenize_state.marker) v ≡ false → (c.tokenize_state.size == c.tokenize_state.size_b) ≡ is
+  pub close_ends : (c : Config Inlines) (v : Option ℕ) (is : Bool) → c.current ≡ v → has (λ b. b == c.tokenize_state.marker) v ≡ false
+      → (c.tokenize_state.size == c.tokenize_state.size_b) ≡ is
       → run (bodies texts is_punctuation x (Inline inline_states.RawTextSequenceClose)) c
-      ≡ (if is then plain (with_exit c.tokenize_state.token_1 (with_exit c.tokenize_state.token_2 c)) states.Ok else plain (with_exit c.tokenize_state.token_2 c) (retry inline_states.RawTextBetween))
+      ≡ (if is then plain (with_exit c.tokenize_state.token_1 (with_exit c.tokenize_state.token_2 c)) states.Ok
+      else plain (with_exit c.tokenize_state.token_2 c) (retry inline_states.RawTextBetween))
   unfolding bodies
   close_ends c None is h k l = rw (h, l) refl
   close_ends c (Some b) is h k l = rw (h, k, l) refl
@@ -84,12 +89,14 @@ module _ {T : Type 0} (texts : List ℕ → Option (List ℕ)) (is_punctuation :
   unfolding bodies
   opening_goes b c h k = rw (h, k) refl
 
-  pub opening_none : (c : Config Inlines) → c.current ≡ None → run (bodies texts is_punctuation x (Inline inline_states.RawTextSequenceOpen)) c ≡ plain c states.Nok
+  pub opening_none : (c : Config Inlines) → c.current ≡ None → run (bodies texts is_punctuation x (Inline inline_states.RawTextSequenceOpen)) c
+      ≡ plain c states.Nok
   unfolding bodies
   opening_none c h = rw h refl
 
   pub opening_ends : (b : ℕ) (c : Config Inlines) (refused : Bool) → c.current ≡ Some b → (b == c.tokenize_state.marker) ≡ false
       → ((c.tokenize_state.marker == 36) && (c.tokenize_state.size == 1) && not x.options.math_text_single_dollar) ≡ refused
-      → run (bodies texts is_punctuation x (Inline inline_states.RawTextSequenceOpen)) c ≡ (if refused then plain c states.Nok else plain (with_exit c.tokenize_state.token_2 c) (retry inline_states.RawTextBetween))
+      → run (bodies texts is_punctuation x (Inline inline_states.RawTextSequenceOpen)) c
+      ≡ (if refused then plain c states.Nok else plain (with_exit c.tokenize_state.token_2 c) (retry inline_states.RawTextBetween))
   unfolding bodies
   opening_ends b c refused h k l = rw (h, k, l) refl

@@ -17,7 +17,8 @@ use Rattle.inline_verdicts.specs.CharacterReference.{referring}
 
 -- over the `&`
 abbrev pub reference_begun : Config Inlines → Config Inlines
-reference_begun c = with_exit names.CharacterReferenceMarker (past_byte (with_enter names.CharacterReferenceMarker None (with_enter names.CharacterReference None c)))
+reference_begun c =
+    with_exit names.CharacterReferenceMarker (past_byte (with_enter names.CharacterReferenceMarker None (with_enter names.CharacterReference None c)))
 
 -- over the `#`
 abbrev pub numeric_begun : Config Inlines → Config Inlines
@@ -48,40 +49,50 @@ value_closed c =
 
 module _ {T : Type 0} (texts : List ℕ → Option (List ℕ)) (is_punctuation : ℕ → Bool) (x : Context T) where
   pub starts : (c : Config Inlines) (on : Bool) → c.current ≡ Some 38 → x.options.constructs.character_reference ≡ on
-      → run (bodies texts is_punctuation x (Inline inline_states.CharacterReferenceStart)) c ≡ (if on then plain (reference_begun c) (next inline_states.CharacterReferenceOpen) else plain c states.Nok)
+      → run (bodies texts is_punctuation x (Inline inline_states.CharacterReferenceStart)) c
+      ≡ (if on then plain (reference_begun c) (next inline_states.CharacterReferenceOpen) else plain c states.Nok)
   unfolding bodies
   starts c on h k = rw (h, k) refl
 
-  pub open_ends : (c : Config Inlines) → c.current ≡ None → run (bodies texts is_punctuation x (Inline inline_states.CharacterReferenceOpen)) c ≡ plain c states.Nok
+  pub open_ends : (c : Config Inlines) → c.current ≡ None → run (bodies texts is_punctuation x (Inline inline_states.CharacterReferenceOpen)) c
+      ≡ plain c states.Nok
   unfolding bodies
   open_ends c h = rw h refl
 
   pub open_number : (c : Config Inlines) → c.current ≡ Some 35
-      → run (bodies texts is_punctuation x (Inline inline_states.CharacterReferenceOpen)) c ≡ plain (numeric_begun c) (next inline_states.CharacterReferenceNumeric)
+      → run (bodies texts is_punctuation x (Inline inline_states.CharacterReferenceOpen)) c
+      ≡ plain (numeric_begun c) (next inline_states.CharacterReferenceNumeric)
   unfolding bodies
   open_number c h = rw h refl
 
   pub open_by : (b : ℕ) (c : Config Inlines) (letter : Bool) → c.current ≡ Some b → (b == 35) ≡ false → is_ascii_alphanumeric b ≡ letter
-      → run (bodies texts is_punctuation x (Inline inline_states.CharacterReferenceOpen)) c ≡ (if letter then plain (value_begun 38 c) (next inline_states.CharacterReferenceValue) else plain c states.Nok)
+      → run (bodies texts is_punctuation x (Inline inline_states.CharacterReferenceOpen)) c
+      ≡ (if letter then plain (value_begun 38 c) (next inline_states.CharacterReferenceValue) else plain c states.Nok)
   unfolding bodies
   open_by b c letter h k l = rw (h, k, l) refl
 
-  pub numeric_ends : (c : Config Inlines) → c.current ≡ None → run (bodies texts is_punctuation x (Inline inline_states.CharacterReferenceNumeric)) c ≡ plain c states.Nok
+  pub numeric_ends : (c : Config Inlines) → c.current ≡ None → run (bodies texts is_punctuation x (Inline inline_states.CharacterReferenceNumeric)) c
+      ≡ plain c states.Nok
   unfolding bodies
   numeric_ends c h = rw h refl
 
-  pub numeric_by : (b : ℕ) (c : Config Inlines) (hexadecimal digit : Bool) → c.current ≡ Some b → ((b == 120) || (b == 88)) ≡ hexadecimal → is_ascii_digit b ≡ digit
+  pub numeric_by : (b : ℕ) (c : Config Inlines) (hexadecimal digit : Bool) → c.current ≡ Some b → ((b == 120) || (b == 88)) ≡ hexadecimal
+      → is_ascii_digit b ≡ digit
       → run (bodies texts is_punctuation x (Inline inline_states.CharacterReferenceNumeric)) c
-      ≡ (if hexadecimal then plain (hexadecimal_begun c) (next inline_states.CharacterReferenceValue) else if digit then plain (value_begun 35 c) (next inline_states.CharacterReferenceValue) else plain c states.Nok)
+      ≡ (if hexadecimal then plain (hexadecimal_begun c) (next inline_states.CharacterReferenceValue) else if digit
+      then plain (value_begun 35 c) (next inline_states.CharacterReferenceValue) else plain c states.Nok)
   unfolding bodies
   numeric_by b c hexadecimal digit h k l = rw (h, k, l) refl
 
-  pub value_ends : (c : Config Inlines) → c.current ≡ None → run (bodies texts is_punctuation x (Inline inline_states.CharacterReferenceValue)) c ≡ plain c states.Nok
+  pub value_ends : (c : Config Inlines) → c.current ≡ None → run (bodies texts is_punctuation x (Inline inline_states.CharacterReferenceValue)) c
+      ≡ plain c states.Nok
   unfolding bodies
   value_ends c h = rw h refl
 
-  pub value_by : (b : ℕ) (c : Config Inlines) (ends longer : Bool) → c.current ≡ Some b → ((b == 59) && is_value_known texts x.bytes c) ≡ ends → goes_on c.tokenize_state.marker c.tokenize_state.size b ≡ longer
+  pub value_by : (b : ℕ) (c : Config Inlines) (ends longer : Bool) → c.current ≡ Some b → ((b == 59) && is_value_known texts x.bytes c) ≡ ends
+      → goes_on c.tokenize_state.marker c.tokenize_state.size b ≡ longer
       → run (bodies texts is_punctuation x (Inline inline_states.CharacterReferenceValue)) c
-      ≡ (if ends then plain (value_closed c) states.Ok else if longer then plain (value_longer c) (next inline_states.CharacterReferenceValue) else plain c states.Nok)
+      ≡ (if ends then plain (value_closed c) states.Ok else if longer then plain (value_longer c) (next inline_states.CharacterReferenceValue)
+      else plain c states.Nok)
   unfolding bodies
   value_by b c ends longer h k l = rw (h, k, l) refl

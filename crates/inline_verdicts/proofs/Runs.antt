@@ -1,5 +1,6 @@
 -- Where a run of exactly so many of a code is found.
-use Rattle.std.proofs.Common.{◌≡◌, ◌∙◌, ℕ, suc, ◌+◌, ◌<◌, ◌≤◌, Bool, true, false, not, ◌&&◌, ◌==◌, if◌then◌else◌, List, [], ◌∷◌, length, drop, Option, Some, None, inl, inr, refl, sym, ap, arith}
+use Rattle.std.proofs.Common.{◌≡◌, ◌∙◌, ℕ, suc, ◌+◌, ◌<◌, ◌≤◌, Bool, true, false, not, ◌&&◌, ◌==◌, if◌then◌else◌, List, [], ◌∷◌, length, drop, Option, Some}
+use Rattle.std.proofs.Common.{None, inl, inr, refl, sym, ap, arith}
 use Rattle.std.proofs.lemmas.Bool.{cases_Bool, ne_eqb}
 use Rattle.std.specs.List.{prefix_len}
 use Rattle.definition_text.specs.Runs.{run, after_run}
@@ -20,11 +21,13 @@ module _ (m n : ℕ) (some : 0 < n) where
   past_same c cs h = rw h refl
 
   -- at the first of a run
-  pub at_run : (c : ℕ) (cs : List ℕ) (is : Bool) → (c == m) ≡ true → (run m cs + 1 == n) ≡ is → run_of m n false (c ∷ cs) ≡ (if is then Some (c ∷ cs) else run_of m n true cs)
+  pub at_run : (c : ℕ) (cs : List ℕ) (is : Bool) → (c == m) ≡ true → (run m cs + 1 == n) ≡ is
+      → run_of m n false (c ∷ cs) ≡ (if is then Some (c ∷ cs) else run_of m n true cs)
   at_run c cs is h k = rw (h, (let e : 1 + run m cs ≡ run m cs + 1 = omega arith in e), k) refl
 
   -- over codes of a sort, of which this is none
-  pub past_others : (p : ℕ → Bool) → ((c : ℕ) → p c ≡ true → (c == m) ≡ false) → (cs : List ℕ) → run_of m n false (drop (prefix_len p cs) cs) ≡ run_of m n false cs
+  pub past_others : (p : ℕ → Bool) → ((c : ℕ) → p c ≡ true → (c == m) ≡ false) → (cs : List ℕ)
+      → run_of m n false (drop (prefix_len p cs) cs) ≡ run_of m n false cs
   past_others p apart [] = refl
   past_others p apart (c ∷ cs) = elim (cases_Bool (p c)) [
     | inl h ↦ ap (run_of m n false) (rest_more p c cs h) ∙ (past_others p apart cs ∙ sym (past_other false c cs (apart c h)))
@@ -56,8 +59,10 @@ pub record IsRest (cs found : List ℕ) : Type 0 where
 pub one_further : (c : ℕ) (cs found : List ℕ) → IsRest cs found → IsRest (c ∷ cs) found
 one_further c cs found r = record { count = suc r.count; few = (let f = r.few in omega (arith, f)); is = r.is }
 
-found_by : (c : ℕ) (cs found : List ℕ) (is : Bool) (other : Option (List ℕ)) → (if is then Some (c ∷ cs) else other) ≡ Some found → (other ≡ Some found → IsRest cs found) → IsRest (c ∷ cs) found
-found_by c cs found true other e more = let f : Some (c ∷ cs) ≡ Some found = e in let g : c ∷ cs ≡ found = cc in record { count = 0; few = omega arith; is = sym g }
+found_by : (c : ℕ) (cs found : List ℕ) (is : Bool) (other : Option (List ℕ)) → (if is then Some (c ∷ cs) else other) ≡ Some found
+    → (other ≡ Some found → IsRest cs found) → IsRest (c ∷ cs) found
+found_by c cs found true other e more = let f : Some (c ∷ cs) ≡ Some found = e in let g : c ∷ cs ≡ found = cc in
+    record { count = 0; few = omega arith; is = sym g }
 found_by c cs found false other e more = one_further c cs found (more e)
 
 pub is_rest : (m n : ℕ) (within : Bool) (cs found : List ℕ) → run_of m n within cs ≡ Some found → IsRest cs found

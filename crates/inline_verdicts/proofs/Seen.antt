@@ -7,7 +7,11 @@ use Rattle.inline_codes.specs.Codes.{seen}
 
 eol_bare : (c : ℕ) → is_eol c ≡ true → is_ascii_punctuation c ≡ false
 eol_bare c h = elim (or_cases ((c == 10) || (c == 13)) (c == 257) h) [
-  | inl l ↦ elim (or_cases (c == 10) (c == 13) l) [ inl feed ↦ ap is_ascii_punctuation (eqb-true c 10 feed) | inr back ↦ ap is_ascii_punctuation (eqb-true c 13 back) ]
+  | inl l ↦ elim (or_cases (c == 10) (c == 13) l) [
+    | inl feed ↦ ap is_ascii_punctuation (eqb-true c 10 feed)
+    | inr back ↦ ap is_ascii_punctuation
+        (eqb-true c 13 back)
+  ]
   | inr both ↦ ap is_ascii_punctuation (eqb-true c 257 both)
 ]
 

@@ -1,5 +1,6 @@
 -- An attempt at code or math reads a span where the definition has one, and nothing else.
-use Rattle.std.proofs.Common.{◌≡◌, ◌∙◌, ℕ, suc, ◌+◌, ◌-◌, ◌^◌, ◌<◌, ◌≤◌, min, Bool, true, false, not, ◌==◌, ◌&&◌, if◌then◌else◌, List, [], ◌∷◌, ◌++◌, length, drop, take, Option, Some, None, refl, sym, ap, subst, arith, append_assoc}
+use Rattle.std.proofs.Common.{◌≡◌, ◌∙◌, ℕ, suc, ◌+◌, ◌-◌, ◌^◌, ◌<◌, ◌≤◌, min, Bool, true, false, not, ◌==◌, ◌&&◌, if◌then◌else◌, List, [], ◌∷◌, ◌++◌, length}
+use Rattle.std.proofs.Common.{drop, take, Option, Some, None, refl, sym, ap, subst, arith, append_assoc}
 use Rattle.std.proofs.lemmas.Bool.{eq-eqb, eqb-true, ne_eqb}
 use Rattle.std.proofs.lemmas.List.{drop-drop, length-drop, length-take}
 use Rattle.definition_text.specs.Content.{is_eol, up_to}
@@ -15,7 +16,7 @@ use Rattle.engine_events.specs.declared.state.Inline.TheVariants as inline_state
 use Rattle.engine_events.specs.declared.state.Name.TheVariants.{Inline}
 use Rattle.engine_events.specs.declared.state.State.TheVariants as states
 use Rattle.markdown_engine.specs.Context.{Context}
-use Rattle.markdown_engine.specs.Kept.{Kept}
+use Rattle.markdown_engine.specs.KeptState.{KeptState}
 use Rattle.markdown_engine.specs.Machine.{plain, with_exit}
 use Rattle.markdown_engine.specs.Reading.{Config, ends-nok, feed, with_byte}
 use Rattle.markdown_engine.specs.VirtualText.{Text, as_byte, is_feed}
@@ -29,7 +30,7 @@ use Rattle.inline_codes.specs.Codes.{Sees, byte, nothing, seen, tab}
 use Rattle.inline_verdicts.specs.RawText.{Pieces, SpanNames, SpanVerdict, is_text, of_span, spanning}
 use Rattle.inline_verdicts.specs.Verdicts.{Reads}
 use Rattle.inline_verdicts.proofs.Loops.{Over, byte_at, end_at, fed, goes_to, over, stays_to, still_at, stops}
-use Rattle.inline_verdicts.proofs.RawReads.{Found, Here, Outcome, exits, goes, stop_sort}
+use Rattle.inline_verdicts.proofs.RawReads.{GoesToRun, Here, Outcome, exits, goes, stop_sort}
 use Rattle.inline_verdicts.proofs.RawStates
 use Rattle.inline_verdicts.proofs.Runs.{IsRest, is_rest, run_within}
 use Rattle.inline_verdicts.proofs.Stretches.{Run, run_seen, seen_as_itself}
@@ -51,7 +52,8 @@ leaf_of m on content n = if on && not (n == 0) then Some (raw_leaf m n content (
 
 -- how long a run is from its first code on
 pub full_run : (m : ℕ) (cs : List ℕ) → run_length m (m ∷ cs) ≡ suc (run_length m cs)
-full_run m cs = ap (λ (b : Bool). if b then 1 + run_length m cs else 0) (eq-eqb m m refl) ∙ (let e : 1 + run_length m cs ≡ suc (run_length m cs) = omega arith in e)
+full_run m cs = ap (λ (b : Bool). if b then 1 + run_length m cs else 0) (eq-eqb m m refl)
+    ∙ (let e : 1 + run_length m cs ≡ suc (run_length m cs) = omega arith in e)
 
 opens_if : (b on : Bool) (l : Leaf) → b ≡ false → (if on && not b then Some l else None) ≡ (if on then Some l else None)
 opens_if b true l h = rw h refl
@@ -62,17 +64,20 @@ pushed true l = refl
 pushed false l = refl
 
 -- a run that may open has a span by where its end is found
-pub at_run_start : (m : ℕ) (on : Bool) (cs : List ℕ) → of_span (raw_at m on (m ∷ cs)) ≡ (if on then span_by m cs (run_of m (suc (run_length m cs)) false (after_run m cs)) else None)
+pub at_run_start : (m : ℕ) (on : Bool) (cs : List ℕ) → of_span (raw_at m on (m ∷ cs))
+    ≡ (if on then span_by m cs (run_of m (suc (run_length m cs)) false (after_run m cs)) else None)
 at_run_start m on cs =
     ap (λ (n : ℕ). of_span (leaf_of m on (m ∷ cs) n)) (full_run m cs)
-    ∙ (ap of_span (opens_if (suc (run_length m cs) == 0) on (raw_leaf m (suc (run_length m cs)) (m ∷ cs) (up_to (after_run m cs) (run_of m (suc (run_length m cs)) false (after_run m cs)))) (ne_eqb (suc (run_length m cs)) 0 (λ e. absurd (omega (arith, e)))))
+    ∙ (ap of_span (opens_if (suc (run_length m cs) == 0) on (raw_leaf m (suc (run_length m cs)) (m ∷ cs)
+    (up_to (after_run m cs) (run_of m (suc (run_length m cs)) false (after_run m cs)))) (ne_eqb (suc (run_length m cs)) 0 (λ e. absurd (omega (arith, e)))))
     ∙ pushed on (raw_leaf m (suc (run_length m cs)) (m ∷ cs) (up_to (after_run m cs) (run_of m (suc (run_length m cs)) false (after_run m cs)))))
 
 four : (l : List Event) (a b e : Event) (y : List Event) → (((l ++ a ∷ []) ++ b ∷ []) ++ e ∷ []) ++ y ≡ l ++ (a ∷ b ∷ e ∷ y)
 four l a b e y = simp append_assoc refl
 
 -- over the run, the text, and the run again
-rest_of : (n k : ℕ) (cs : List ℕ) → k ≤ length (drop n cs) → drop n (drop k (drop n cs)) ≡ drop (n + length (take (length (drop n cs) - length (drop k (drop n cs))) (drop n cs)) + n) cs
+rest_of : (n k : ℕ) (cs : List ℕ) → k ≤ length (drop n cs) → drop n (drop k (drop n cs))
+    ≡ drop (n + length (take (length (drop n cs) - length (drop k (drop n cs))) (drop n cs)) + n) cs
 rest_of n k cs few =
     let one = drop-drop n k (drop n cs) in
     let two = drop-drop (k + n) n cs in
@@ -80,13 +85,17 @@ rest_of n k cs few =
     let taken = length-take (length (drop n cs) - length (drop k (drop n cs))) (drop n cs) in
     one ∙ (two ∙ ap (λ (i : ℕ). drop i cs) (omega (arith, few, left, taken)))
 
-rest_at : (n : ℕ) (cs found : List ℕ) → IsRest (drop n cs) found → drop n found ≡ drop (n + length (take (length (drop n cs) - length found) (drop n cs)) + n) cs
-rest_at n cs found r = subst (λ (f : List ℕ). drop n f ≡ drop (n + length (take (length (drop n cs) - length f) (drop n cs)) + n) cs) (sym r.is) (rest_of n r.count cs r.few)
+rest_at : (n : ℕ) (cs found : List ℕ) → IsRest (drop n cs) found → drop n found
+    ≡ drop (n + length (take (length (drop n cs) - length found) (drop n cs)) + n) cs
+rest_at n cs found r = subst (λ (f : List ℕ). drop n f ≡ drop (n + length (take (length (drop n cs) - length f) (drop n cs)) + n) cs) (sym r.is)
+    (rest_of n r.count cs r.few)
 
 fewer : (m k : ℕ) (cs : List ℕ) → length (m ∷ cs) < 2 ^ 64 → length (drop k cs) < 2 ^ 64
 fewer m k cs few = let e = length-drop k cs in omega (arith, e, few)
 
-module _ {T : Type 0} (texts : List ℕ → Option (List ℕ)) (is_punctuation : ℕ → Bool) (x : Context T) (text : Text) (given : SpanNames) (m : ℕ) (plain_code : is_eol m ≡ false) (no_feed : (m == 10) ≡ false) (no_tab : (9 == m) ≡ false) (no_space : (32 == m) ≡ false) where
+module _ {T : Type 0} (texts : List ℕ → Option (List ℕ)) (is_punctuation : ℕ
+    → Bool) (x : Context T) (text : Text) (given : SpanNames) (m : ℕ) (plain_code : is_eol m ≡ false) (no_feed : (m == 10) ≡ false) (no_tab : (9 == m) ≡ false)
+    (no_space : (32 == m) ≡ false) where
   -- a run of this size opens none
   abbrev pub refused : ℕ → Bool
   refused n = (m == 36) && (n == 1) && not x.options.math_text_single_dollar
@@ -103,7 +112,7 @@ module _ {T : Type 0} (texts : List ℕ → Option (List ℕ)) (is_punctuation :
     abbrev pub at_mark : Config Inlines
     at_mark = with_byte c p (Some (as_byte m q))
 
-    abbrev Here_now : List Event → Kept → Config Inlines → Type 0
+    abbrev Here_now : List Event → KeptState → Config Inlines → Type 0
     Here_now = Here texts is_punctuation x text given m size at_mark
 
     -- the events up to the end of the run
@@ -114,8 +123,9 @@ module _ {T : Type 0} (texts : List ℕ → Option (List ℕ)) (is_punctuation :
     Opening j d = Here_now entered (spanning given m (min j (2 ^ 64 - 1)) 0 c.tokenize_state) d × (is_feed d.previous ≡ false)
 
     open_does : (j v : ℕ) (d : Config Inlines) → Opening j d → d.current ≡ Some v → (v == m) ≡ true
-        → run_body (bodies texts is_punctuation x (Inline inline_states.RawTextSequenceOpen)) d ≡ plain (RawStates.opening_longer d) (next inline_states.RawTextSequenceOpen)
-    open_does j v d h e is = RawStates.opening_goes texts is_punctuation x v d e (ap (λ (k : Kept). v == k.marker) h.0.kept ∙ is)
+        → run_body (bodies texts is_punctuation x (Inline inline_states.RawTextSequenceOpen)) d
+        ≡ plain (RawStates.opening_longer d) (next inline_states.RawTextSequenceOpen)
+    open_does j v d h e is = RawStates.opening_goes texts is_punctuation x v d e (ap (λ (k : KeptState). v == k.marker) h.0.kept ∙ is)
 
     one_more : (j : ℕ) → more (min j (2 ^ 64 - 1)) ≡ min (j + 1) (2 ^ 64 - 1)
     one_more j = omega arith
@@ -124,7 +134,7 @@ module _ {T : Type 0} (texts : List ℕ → Option (List ℕ)) (is_punctuation :
     open_keeps j v d h e is = (
       record {
         events = h.0.events;
-        kept = ap (λ (k : Kept). record k { size = more k.size }) h.0.kept ∙ ap (λ (i : ℕ). spanning given m i 0 c.tokenize_state) (one_more j);
+        kept = ap (λ (k : KeptState). record k { size = more k.size }) h.0.kept ∙ ap (λ (i : ℕ). spanning given m i 0 c.tokenize_state) (one_more j);
         map = h.0.map;
         resolvers = h.0.resolvers;
       },
@@ -139,7 +149,8 @@ module _ {T : Type 0} (texts : List ℕ → Option (List ℕ)) (is_punctuation :
 
     opened_all : Over texts is_punctuation x text (Inline inline_states.RawTextSequenceOpen) Opening begun (1 + run_length m cs) opening.end
     opened_all =
-        over texts is_punctuation x text (Inline inline_states.RawTextSequenceOpen) (λ b. b == m) RawStates.opening_longer Opening open_does open_keeps (λ d. refl) opening.stretch 1 begun begins
+        over texts is_punctuation x text (Inline inline_states.RawTextSequenceOpen) (λ b. b == m) RawStates.opening_longer Opening open_does open_keeps
+        (λ d. refl) opening.stretch 1 begun begins
         (fed text (RawStates.opened given m at_mark) q refl)
 
     -- after the run
@@ -153,10 +164,11 @@ module _ {T : Type 0} (texts : List ℕ → Option (List ℕ)) (is_punctuation :
     after_here = subst (λ (i : ℕ). Here_now entered (spanning given m i 0 c.tokenize_state) after) size_of opened_all.held.0
 
     after_stop : has (λ b. b == after.tokenize_state.marker) after.current ≡ false
-    after_stop = stop_sort m after.current after.tokenize_state.marker (ap (λ (k : Kept). k.marker) after_here.kept) (ap (has (λ b. b == m)) opened_all.at.current ∙ stops opening.stretch)
+    after_stop = stop_sort m after.current after.tokenize_state.marker (ap (λ (k : KeptState). k.marker) after_here.kept)
+        (ap (has (λ b. b == m)) opened_all.at.current ∙ stops opening.stretch)
 
-    abbrev Pieced : List Event → Point → Type 0
-    Pieced = Pieces text given m size opening.end
+    abbrev HasPieces : List Event → Point → Type 0
+    HasPieces = Pieces text given m size opening.end
 
     -- the events up to what the span holds
     abbrev ready : List Event
@@ -166,77 +178,118 @@ module _ {T : Type 0} (texts : List ℕ → Option (List ℕ)) (is_punctuation :
     closed = with_exit after.tokenize_state.token_2 after
 
     -- what is between the runs
-    inside_reads : Outcome texts is_punctuation x text given m size at_mark closed (retry inline_states.RawTextBetween) ready Pieced (run_of m size false (after_run m cs))
+    inside_reads : Outcome texts is_punctuation x text given m size at_mark closed (retry inline_states.RawTextBetween) ready HasPieces
+        (run_of m size false (after_run m cs))
     inside_reads =
-        goes texts is_punctuation x text given m size at_mark no_feed plain_code no_tab no_space (omega arith) (length (after_run m cs)) (after_run m cs) (omega arith) (fewer m (run_length m cs) cs few) closed opening.end ready 0
-        (exits texts is_punctuation x text given m size at_mark after.tokenize_state.token_2 given.sequence (ap (λ (k : Kept). k.token_2) after_here.kept) after_here opened_all.held.1 opened_all.at)
+        goes texts is_punctuation x text given m size at_mark no_feed plain_code no_tab no_space (omega arith) (length (after_run m cs)) (after_run m cs)
+        (omega arith) (fewer m (run_length m cs) cs few) closed opening.end ready 0
+        (exits texts is_punctuation x text given m size at_mark after.tokenize_state.token_2 given.sequence
+        (ap (λ (k : KeptState). k.token_2) after_here.kept) after_here opened_all.held.1 opened_all.at)
         (still_at refl refl refl opened_all.at) opening.sees
 
     abbrev Verdict_by : Option Leaf → Type 0
     Verdict_by = SpanVerdict texts is_punctuation x text given m at_mark (retry inline_states.RawTextStart) p q (m ∷ cs)
 
     abbrev From_open : Type 0
-    From_open = (d : Config Inlines) (w : Bool) → Reads texts is_punctuation x text begun (retry inline_states.RawTextSequenceOpen) d w → Reads texts is_punctuation x text at_mark (retry inline_states.RawTextStart) d w
+    From_open = (d : Config Inlines) (w : Bool) → Reads texts is_punctuation x text begun (retry inline_states.RawTextSequenceOpen) d w
+        → Reads texts is_punctuation x text at_mark (retry inline_states.RawTextStart) d w
 
     abbrev From_inside : Type 0
-    From_inside = (d : Config Inlines) (w : Bool) → Reads texts is_punctuation x text closed (retry inline_states.RawTextBetween) d w → Reads texts is_punctuation x text at_mark (retry inline_states.RawTextStart) d w
+    From_inside = (d : Config Inlines) (w : Bool) → Reads texts is_punctuation x text closed (retry inline_states.RawTextBetween) d w
+        → Reads texts is_punctuation x text at_mark (retry inline_states.RawTextStart) d w
 
     span_by_found : (found : List ℕ) → run_of m size false (after_run m cs) ≡ Some found → From_inside
-        → Found texts is_punctuation x text given m size at_mark closed (retry inline_states.RawTextBetween) ready Pieced found → Verdict_by (span_by m cs (Some found))
+        → GoesToRun texts is_punctuation x text given m size at_mark closed (retry inline_states.RawTextBetween) ready HasPieces found
+        → Verdict_by (span_by m cs (Some found))
     span_by_found found e back f =
         let r = is_rest m size false (after_run m cs) found e in
-        let whole = leaf (raw_part m (take (length (after_run m cs) - length found) (after_run m cs)) ∷ []) (size + length (take (length (after_run m cs) - length found) (after_run m cs)) + size) in
-        subst (λ (b : Bool). Verdict_by (if b then None else Some whole)) (sym (no_text_by (m == 36) (take (length (after_run m cs) - length found) (after_run m cs)))) (
+        let whole = leaf (raw_part m (take (length (after_run m cs) - length found) (after_run m cs)) ∷ [])
+        (size + length (take (length (after_run m cs) - length found) (after_run m cs)) + size) in
+        subst (λ (b : Bool). Verdict_by (if b then None else Some whole)) (sym
+        (no_text_by (m == 36) (take (length (after_run m cs) - length found) (after_run m cs)))) (
           f.config,
           size,
           _,
           f.end,
           back f.config true f.reads,
-          record { further = run_length m cs; opened = opening.end; inside = f.added; all = omega arith; opening = opening.stretch; pieces = f.shown; events = refl },
-          record { events = f.here.events ∙ four c.events (event Enter given.whole p None) (event Enter given.sequence p None) (event Exit given.sequence (text.start opening.end) None) (f.added ++ event Exit given.whole (text.start f.end) None ∷ []); point = f.point; kept = f.here.kept; map = f.here.map; resolvers = f.here.resolvers },
+          record {
+            further = run_length m cs;
+            opened = opening.end;
+            inside = f.added;
+            all = omega arith;
+            opening = opening.stretch;
+            pieces = f.shown;
+            events = refl;
+          },
+          record {
+            events = f.here.events ∙ four c.events (event Enter given.whole p None) (event Enter given.sequence p None)
+                (event Exit given.sequence (text.start opening.end) None) (f.added ++ event Exit given.whole (text.start f.end) None ∷ []);
+            point =
+                f.point;
+            kept = f.here.kept;
+            map = f.here.map;
+            resolvers = f.here.resolvers;
+          },
           subst (λ (ds : List ℕ). Sees text f.end ds) (rest_at size (m ∷ cs) found r) f.sees,
         )
 
-    by_outcome : (o : Option (List ℕ)) → run_of m size false (after_run m cs) ≡ o → From_inside → Outcome texts is_punctuation x text given m size at_mark closed (retry inline_states.RawTextBetween) ready Pieced o → Verdict_by (span_by m cs o)
+    by_outcome : (o : Option (List ℕ)) → run_of m size false (after_run m cs) ≡ o → From_inside
+        → Outcome texts is_punctuation x text given m size at_mark closed (retry inline_states.RawTextBetween) ready HasPieces o → Verdict_by (span_by m cs o)
     by_outcome None e back (d, r) = (d, back d false r)
     by_outcome (Some found) e back f = span_by_found found e back f
 
     module _ (switch : Bool)
         (starts : (on b : Bool) → switch ≡ on → begins_run m c ≡ b
         → run_body (bodies texts is_punctuation x (Inline inline_states.RawTextStart)) at_mark
-        ≡ (if on then (if b then plain (RawStates.opened given m at_mark) (next inline_states.RawTextSequenceOpen) else plain at_mark states.Nok) else plain at_mark states.Nok)) where
+        ≡ (if on then (if b then plain (RawStates.opened given m at_mark) (next inline_states.RawTextSequenceOpen) else plain at_mark states.Nok)
+        else plain at_mark states.Nok)) where
       fails : run_body (bodies texts is_punctuation x (Inline inline_states.RawTextStart)) at_mark ≡ plain at_mark states.Nok → Verdict_by None
       fails h = (at_mark, on_retry texts is_punctuation x text (Inline inline_states.RawTextStart) at_mark at_mark false (plain at_mark states.Nok) h ends-nok)
 
       from_open : switch ≡ true → begins_run m c ≡ true → From_open
-      from_open h k d w r = goes_to texts is_punctuation x text (Inline inline_states.RawTextStart) (Inline inline_states.RawTextSequenceOpen) at_mark (RawStates.opened given m at_mark) d w (starts true true h k) r
+      from_open h k d w r = goes_to texts is_punctuation x text (Inline inline_states.RawTextStart) (Inline inline_states.RawTextSequenceOpen) at_mark
+          (RawStates.opened given m at_mark) d w (starts true true h k) r
 
-      from_after : switch ≡ true → begins_run m c ≡ true → (d : Config Inlines) (w : Bool) → Reads texts is_punctuation x text after (retry inline_states.RawTextSequenceOpen) d w → Reads texts is_punctuation x text at_mark (retry inline_states.RawTextStart) d w
+      from_after : switch ≡ true → begins_run m c ≡ true → (d : Config Inlines) (w : Bool)
+          → Reads texts is_punctuation x text after (retry inline_states.RawTextSequenceOpen) d w
+          → Reads texts is_punctuation x text at_mark (retry inline_states.RawTextStart) d w
       from_after h k d w r = from_open h k d w (opened_all.back d w r)
 
       ends_by : (v : ℕ) (b : Bool) → after.current ≡ Some v → refused size ≡ b
-          → run_body (bodies texts is_punctuation x (Inline inline_states.RawTextSequenceOpen)) after ≡ (if b then plain after states.Nok else plain closed (retry inline_states.RawTextBetween))
+          → run_body (bodies texts is_punctuation x (Inline inline_states.RawTextSequenceOpen)) after
+          ≡ (if b then plain after states.Nok else plain closed (retry inline_states.RawTextBetween))
       ends_by v b e h =
           RawStates.opening_ends texts is_punctuation x v after b e (sym (ap (has (λ i. i == after.tokenize_state.marker)) e) ∙ after_stop)
-          (ap (λ (k : Kept). (k.marker == 36) && (k.size == 1) && not x.options.math_text_single_dollar) after_here.kept ∙ h)
+          (ap (λ (k : KeptState). (k.marker == 36) && (k.size == 1) && not x.options.math_text_single_dollar) after_here.kept ∙ h)
 
       from_inside : (v : ℕ) → switch ≡ true → begins_run m c ≡ true → after.current ≡ Some v → refused size ≡ false → From_inside
-      from_inside v h k e l d w r = from_after h k d w (stays_to texts is_punctuation x text (Inline inline_states.RawTextSequenceOpen) (Inline inline_states.RawTextBetween) after closed d w (ends_by v false e l) r)
+      from_inside v h k e l d w r =
+          from_after h k d w (stays_to texts is_punctuation x text (Inline inline_states.RawTextSequenceOpen)
+          (Inline inline_states.RawTextBetween) after closed d w (ends_by v false e l) r)
 
-      stops_after : switch ≡ true → begins_run m c ≡ true → run_body (bodies texts is_punctuation x (Inline inline_states.RawTextSequenceOpen)) after ≡ plain after states.Nok → Verdict_by None
-      stops_after h k e = (after, from_after h k after false (on_retry texts is_punctuation x text (Inline inline_states.RawTextSequenceOpen) after after false (plain after states.Nok) e ends-nok))
+      stops_after : switch ≡ true → begins_run m c ≡ true → run_body (bodies texts is_punctuation x (Inline inline_states.RawTextSequenceOpen)) after
+          ≡ plain after states.Nok → Verdict_by None
+      stops_after h k e = (
+        after,
+        from_after h k after false (on_retry texts is_punctuation x text (Inline inline_states.RawTextSequenceOpen) after after false
+            (plain after states.Nok) e ends-nok),
+      )
 
       is_refused : switch ≡ true → begins_run m c ≡ true → (v : Option ℕ) → after.current ≡ v → refused size ≡ true → Verdict_by None
       is_refused h k None e l = stops_after h k (RawStates.opening_none texts is_punctuation x after e)
       is_refused h k (Some v) e l = stops_after h k (ends_by v true e l)
 
-      goes_in : switch ≡ true → begins_run m c ≡ true → refused size ≡ false → (v : ℕ) → after.current ≡ Some v → Verdict_by (span_by m cs (run_of m size false (after_run m cs)))
+      goes_in : switch ≡ true → begins_run m c ≡ true → refused size ≡ false → (v : ℕ) → after.current ≡ Some v
+          → Verdict_by (span_by m cs (run_of m size false (after_run m cs)))
       goes_in h k l v e = by_outcome (run_of m size false (after_run m cs)) refl (from_inside v h k e l) inside_reads
 
-      by_sight : (rest : List ℕ) → after_run m cs ≡ rest → Sees text opening.end rest → switch ≡ true → begins_run m c ≡ true → refused size ≡ false → Verdict_by (span_by m cs (run_of m size false rest))
+      by_sight : (rest : List ℕ) → after_run m cs ≡ rest → Sees text opening.end rest → switch ≡ true → begins_run m c ≡ true → refused size ≡ false
+          → Verdict_by (span_by m cs (run_of m size false rest))
       by_sight [] is (nothing e) h k l = stops_after h k (RawStates.opening_none texts is_punctuation x after (end_at opened_all.at e))
-      by_sight (code ∷ rest) is (byte apart e _) h k l = subst (λ (ds : List ℕ). Verdict_by (span_by m cs (run_of m size false ds))) is (goes_in h k l (seen code) (byte_at opened_all.at e))
-      by_sight (code ∷ rest) is (tab some_left e _ _) h k l = subst (λ (ds : List ℕ). Verdict_by (span_by m cs (run_of m size false ds))) is (goes_in h k l 9 (byte_at opened_all.at e))
+      by_sight (code ∷ rest) is (byte apart e _) h k l =
+          subst (λ (ds : List ℕ). Verdict_by (span_by m cs (run_of m size false ds))) is (goes_in h k l (seen code) (byte_at opened_all.at e))
+      by_sight (code ∷ rest) is (tab some_left e _ _) h k l =
+          subst (λ (ds : List ℕ). Verdict_by (span_by m cs (run_of m size false ds))) is (goes_in h k l 9 (byte_at opened_all.at e))
 
       by_tests : (on b r : Bool) → switch ≡ on → begins_run m c ≡ b → refused size ≡ r
           → Verdict_by (if b then (if on && not r then span_by m cs (run_of m size false (after_run m cs)) else None) else None)
@@ -248,4 +301,5 @@ module _ {T : Type 0} (texts : List ℕ → Option (List ℕ)) (is_punctuation :
 
       pub span_verdict : Verdict_by (if begins_run m c then of_span (raw_at m (switch && not (refused size)) (m ∷ cs)) else None)
       span_verdict =
-          subst (λ (l : Option Leaf). Verdict_by (if begins_run m c then l else None)) (sym (at_run_start m (switch && not (refused size)) cs)) (by_tests switch (begins_run m c) (refused size) refl refl refl)
+          subst (λ (l : Option Leaf). Verdict_by (if begins_run m c then l else None)) (sym (at_run_start m (switch && not (refused size)) cs))
+          (by_tests switch (begins_run m c) (refused size) refl refl refl)

@@ -1,5 +1,6 @@
 -- Codes of one sort are seen as bytes of that sort.
-use Rattle.std.proofs.Common.{◌≡◌, ◌∙◌, ℕ, suc, ◌+◌, Bool, true, false, ◌==◌, if◌then◌else◌, List, [], ◌∷◌, drop, Some, None, inl, inr, refl, sym, ap, subst, arith}
+use Rattle.std.proofs.Common.{◌≡◌, ◌∙◌, ℕ, suc, ◌+◌, Bool, true, false, ◌==◌, if◌then◌else◌, List, [], ◌∷◌, drop, Some, None, inl, inr, refl, sym, ap, subst}
+use Rattle.std.proofs.Common.{arith}
 use Rattle.std.proofs.lemmas.Bool.{cases_Bool, ne_eqb}
 use Rattle.std.specs.List.{prefix_len}
 use Rattle.definition_text.specs.Content.{is_eol}
@@ -60,7 +61,8 @@ module _ (text : Text) (is : ℕ → Bool) where
   run_longer : {q r : Point} {b c : ℕ} {cs : List ℕ} → is c ≡ true → is b ≡ true → text.byte (text.start q) ≡ Some (as_byte b r) → Run r cs → Run q (c ∷ cs)
   run_longer {q} {r} {b} {c} {cs} h k e f = record {
     end = f.end;
-    stretch = subst (λ (n : ℕ). Stretch text is n q f.end) (let one : prefix_len is cs + 1 ≡ 1 + prefix_len is cs = omega arith in one ∙ sym (prefix_by is c cs true h)) (longer e k f.stretch);
+    stretch = subst (λ (n : ℕ). Stretch text is n q f.end) (let one : prefix_len is cs + 1 ≡ 1 + prefix_len is cs = omega arith in
+        one ∙ sym (prefix_by is c cs true h)) (longer e k f.stretch);
     sees = subst (λ (ds : List ℕ). Sees text f.end ds) (sym (rest_more is c cs h)) f.sees;
   }
 
@@ -86,18 +88,21 @@ module _ (text : Text) (is : ℕ → Bool) where
     pub sees : Sees text end (drop (prefix_len sight cs) cs)
 
   part_ends : {q : Point} {c : ℕ} {cs : List ℕ} → sight c ≡ false → has is (byte_of (text.byte (text.start q))) ≡ false → Sees text q (c ∷ cs) → Part q (c ∷ cs)
-  part_ends {q} {c} {cs} h none s = record { count = 0; end = q; stretch = ended none; sees = subst (λ (ds : List ℕ). Sees text q ds) (sym (rest_none sight c cs h)) s }
+  part_ends {q} {c} {cs} h none s =
+      record { count = 0; end = q; stretch = ended none; sees = subst (λ (ds : List ℕ). Sees text q ds) (sym (rest_none sight c cs h)) s }
 
-  part_longer : {q : Point} {c k : ℕ} {cs : List ℕ} → sight c ≡ true → (end : Point) → Stretch text is k q end → Sees text end (drop (prefix_len sight cs) cs) → Part q (c ∷ cs)
-  part_longer {q} {c} {k} {cs} h end st s = record { count = k; end = end; stretch = st; sees = subst (λ (ds : List ℕ). Sees text end ds) (sym (rest_more sight c cs h)) s }
+  part_longer : {q : Point} {c k : ℕ} {cs : List ℕ} → sight c ≡ true → (end : Point) → Stretch text is k q end → Sees text end (drop (prefix_len sight cs) cs)
+      → Part q (c ∷ cs)
+  part_longer {q} {c} {k} {cs} h end st s =
+      record { count = k; end = end; stretch = st; sees = subst (λ (ds : List ℕ). Sees text end ds) (sym (rest_more sight c cs h)) s }
 
   module _ (of_tab : is 9 ≡ true) (of_space : is 32 ≡ true) where
     -- the spaces of a tab, and then more
-    pub record Filled (q r : Point) : Type 0 where
+    pub record TabFill (q r : Point) : Type 0 where
       pub count : ℕ
       pub stretch : Stretch text is count q r
 
-    pub filled : {n k : ℕ} {q r end : Point} → Fills text n q r → Stretch text is k r end → Filled q end
+    pub filled : {n k : ℕ} {q r end : Point} → Fills text n q r → Stretch text is k r end → TabFill q end
     filled {k = k} full st = record { count = k; stretch = st }
     filled (column e f) st = let g = filled f st in record { count = g.count + 1; stretch = longer e of_space g.stretch }
 

@@ -6,6 +6,7 @@
 --     label ::= 1 to 63 letters, digits and '-', with no '-' at either end
 use Rattle.std.specs.Prelude.{◌≡◌, ℕ, Bool, true, false, nat_lt, ◌==◌, ◌||◌, List, [], ◌∷◌, drop, Option, None, Some}
 use Rattle.std.specs.List.{list_all}
+use Rattle.definition_text.specs.Ascii.{less_than}
 use Rattle.definition_inline.specs.Autolink.{autolink_at}
 use Rattle.definition_inline.specs.Inline.{Leaf}
 use Rattle.engine_events.specs.Events.{event}
@@ -16,7 +17,7 @@ use Rattle.engine_events.specs.declared.place.Point.{Point}
 use Rattle.engine_events.specs.declared.state.Inline.TheVariants as inline_states
 use Rattle.engine_events.specs.declared.state.State.{State}
 use Rattle.markdown_engine.specs.Context.{Context}
-use Rattle.markdown_engine.specs.Kept.{Kept}
+use Rattle.markdown_engine.specs.KeptState.{KeptState}
 use Rattle.markdown_engine.specs.Reading.{Config, with_byte}
 use Rattle.markdown_engine.specs.VirtualText.{Text, as_byte}
 use Rattle.inline_states_table.specs.Words.{retry}
@@ -49,5 +50,5 @@ abbrev pub AutolinkVerdict : Type 0 → Type 0
 AutolinkVerdict T =
     (texts : List ℕ → Option (List ℕ)) (is_punctuation : ℕ → Bool) (x : Context T) (text : Text) (c : Config Inlines) (p q : Point) (cs : List ℕ)
     → list_all is_whole_code cs ≡ true → Sees text q cs
-    → AddressVerdict texts is_punctuation x text (with_byte c p (Some (as_byte 60 q))) (retry inline_states.AutolinkStart) p q (60 ∷ cs)
-    (autolink_at x.options.constructs (60 ∷ cs))
+    → AddressVerdict texts is_punctuation x text (with_byte c p (Some (as_byte 60 q))) (retry inline_states.AutolinkStart) p q (less_than ∷ cs)
+    (autolink_at x.options.constructs (less_than ∷ cs))

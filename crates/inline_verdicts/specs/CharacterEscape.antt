@@ -1,5 +1,6 @@
 -- What the states of an escape come to (CommonMark 2.4).
 use Rattle.std.specs.Prelude.{ℕ, Bool, List, [], ◌∷◌, Option, None, Some}
+use Rattle.definition_text.specs.Ascii.{backslash}
 use Rattle.definition_inline.specs.CharacterEscape.{escape_at}
 use Rattle.engine_events.specs.Events.{event}
 use Rattle.engine_events.specs.declared.event.Event.{Event}
@@ -26,5 +27,5 @@ abbrev pub EscapeVerdict : Type 0 → Type 0
 EscapeVerdict T =
     (texts : List ℕ → Option (List ℕ)) (is_punctuation : ℕ → Bool) (x : Context T) (text : Text) (c : Config Inlines) (p q : Point) (cs : List ℕ)
     → Sees text q cs
-    → Verdict texts is_punctuation x text (with_byte c p (Some (as_byte 92 q))) (retry inline_states.CharacterEscapeStart) (92 ∷ cs)
-    (escape_events p q (text.start q)) (λ end. end) (escape_at x.options.constructs (92 ∷ cs))
+    → Verdict texts is_punctuation x text (with_byte c p (Some (as_byte 92 q))) (retry inline_states.CharacterEscapeStart) (backslash ∷ cs)
+    (escape_events p q (text.start q)) (λ end. end) (escape_at x.options.constructs (backslash ∷ cs))

@@ -5,6 +5,7 @@
 --     numeric ::= '#' (1*7digit | ('x' | 'X') 1*6hexadecimal_digit)
 use Rattle.std.specs.Prelude.{◌≡◌, ℕ, ◌<◌, ◌≤◌, Bool, true, false, ◌==◌, ◌||◌, List, [], ◌∷◌, ◌++◌, drop, Option, None, Some}
 use Rattle.std.specs.Char.{is_ascii_alphanumeric, is_ascii_digit, is_ascii_hexdigit}
+use Rattle.definition_text.specs.Ascii.{ampersand, capital_x, small_x}
 use Rattle.definition_inline.specs.CharacterReference.{reference_at}
 use Rattle.definition_inline.specs.Inline.{Leaf}
 use Rattle.engine_events.specs.Events.{event}
@@ -15,7 +16,7 @@ use Rattle.engine_events.specs.declared.place.Point.{Point}
 use Rattle.engine_events.specs.declared.state.Inline.TheVariants as inline_states
 use Rattle.engine_events.specs.declared.state.State.{State}
 use Rattle.markdown_engine.specs.Context.{Context}
-use Rattle.markdown_engine.specs.Kept.{Kept}
+use Rattle.markdown_engine.specs.KeptState.{KeptState}
 use Rattle.markdown_engine.specs.Reading.{Config, with_byte}
 use Rattle.markdown_engine.specs.VirtualText.{Text, as_byte}
 use Rattle.inline_states_table.specs.Words.{retry}
@@ -52,12 +53,12 @@ pub data IsReference (text : Text) (p q : Point) : ℕ → ℕ → List Event �
       → IsReference text p q 38 size (reference_events p q [] (text.start q) (text.start to) end) end
   decimal : {size : ℕ} {r to end : Point} → text.byte (text.start q) ≡ Some (as_byte 35 r) → IsValue text is_ascii_digit 7 size r to end
       → IsReference text p q 35 size (reference_events p q (numeric_events (text.start q) r) (text.start r) (text.start to) end) end
-  hexadecimal : {b size : ℕ} {r s to end : Point} → text.byte (text.start q) ≡ Some (as_byte 35 r) → ((b == 120) || (b == 88)) ≡ true
+  hexadecimal : {b size : ℕ} {r s to end : Point} → text.byte (text.start q) ≡ Some (as_byte 35 r) → ((b == small_x) || (b == capital_x)) ≡ true
       → text.byte (text.start r) ≡ Some (as_byte b s) → IsValue text is_ascii_hexdigit 6 size s to end
       → IsReference text p q 120 size (reference_events p q (hexadecimal_events (text.start q) r (text.start r) s) s (text.start to) end) end
 
 -- what is kept once a reference was read
-abbrev pub referring : ℕ → ℕ → Kept → Kept
+abbrev pub referring : ℕ → ℕ → KeptState → KeptState
 referring marker size k = record k { marker = marker; size = size }
 
 module _ {T : Type 0} (texts : List ℕ → Option (List ℕ)) (is_punctuation : ℕ → Bool) (x : Context T) (text : Text) where
@@ -74,5 +75,5 @@ abbrev pub CharacterReferenceVerdict : Type 0 → Type 0
 CharacterReferenceVerdict T =
     (texts : List ℕ → Option (List ℕ)) (is_punctuation : ℕ → Bool) (x : Context T) (text : Text) (c : Config Inlines) (p q : Point) (cs : List ℕ)
     → Shows x.bytes text → 0 < (text.start q).column → Sees text q cs
-    → ReferenceVerdict texts is_punctuation x text (with_byte c p (Some (as_byte 38 q))) (retry inline_states.CharacterReferenceStart) p q (38 ∷ cs)
-    (reference_at x.options.constructs texts (38 ∷ cs))
+    → ReferenceVerdict texts is_punctuation x text (with_byte c p (Some (as_byte 38 q))) (retry inline_states.CharacterReferenceStart) p q (ampersand ∷ cs)
+    (reference_at x.options.constructs texts (ampersand ∷ cs))

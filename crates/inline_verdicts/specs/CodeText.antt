@@ -1,5 +1,6 @@
 -- What the states of a code span come to (CommonMark 6.1).
 use Rattle.std.specs.Prelude.{ℕ, ◌<◌, ◌^◌, Bool, if◌then◌else◌, List, ◌∷◌, length, Option, None, Some}
+use Rattle.definition_text.specs.Ascii.{backtick}
 use Rattle.definition_inline.specs.CodeText.{code_text_at}
 use Rattle.engine_events.specs.declared.event.Name.TheVariants as names
 use Rattle.engine_events.specs.declared.place.Point.{Point}
@@ -20,6 +21,6 @@ code_names = record { whole = names.CodeText; sequence = names.CodeTextSequence;
 abbrev pub CodeTextVerdict : Type 0 → Type 0
 CodeTextVerdict T =
     (texts : List ℕ → Option (List ℕ)) (is_punctuation : ℕ → Bool) (x : Context T) (text : Text) (c : Config Inlines) (p q : Point) (cs : List ℕ)
-    → length (96 ∷ cs) < 2 ^ 64 → Sees text q cs
-    → SpanVerdict texts is_punctuation x text code_names 96 (with_byte c p (Some (as_byte 96 q))) (retry inline_states.RawTextStart) p q (96 ∷ cs)
-    (if begins_run 96 c then of_span (code_text_at x.options.constructs (96 ∷ cs)) else None)
+    → length (backtick ∷ cs) < 2 ^ 64 → Sees text q cs
+    → SpanVerdict texts is_punctuation x text code_names 96 (with_byte c p (Some (as_byte 96 q))) (retry inline_states.RawTextStart) p q (backtick ∷ cs)
+    (if begins_run 96 c then of_span (code_text_at x.options.constructs (backtick ∷ cs)) else None)

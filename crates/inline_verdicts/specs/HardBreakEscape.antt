@@ -1,5 +1,6 @@
 -- What the states of a hard break by a backslash come to (CommonMark 6.7).
 use Rattle.std.specs.Prelude.{◌≡◌, ℕ, Bool, true, not, List, [], ◌∷◌, Option, None, Some}
+use Rattle.definition_text.specs.Ascii.{backslash}
 use Rattle.definition_text.specs.Content.{is_eol}
 use Rattle.definition_inline.specs.HardBreak.{escaped_break_at}
 use Rattle.engine_events.specs.Events.{event}
@@ -26,10 +27,11 @@ ends_apart [] = true
 ends_apart (c ∷ []) = not (is_eol c)
 ends_apart (c ∷ next ∷ cs) = ends_apart (next ∷ cs)
 
--- at a backslash, after which these codes are seen, a hard break is read exactly where the definition has one; reading then stands where the line ending is read from
+-- at a backslash, after which these codes are seen, a hard break is read exactly where the definition has one; reading then stands where the line ending is
+-- read from
 abbrev pub BreakVerdict : Type 0 → Type 0
 BreakVerdict T =
     (texts : List ℕ → Option (List ℕ)) (is_punctuation : ℕ → Bool) (x : Context T) (text : Text) (c : Config Inlines) (p q : Point) (cs : List ℕ)
     → Sees text q cs → ends_apart cs ≡ true
-    → Verdict texts is_punctuation x text (with_byte c p (Some (as_byte 92 q))) (retry inline_states.HardBreakEscapeStart) (92 ∷ cs)
-    (λ end. break_events p (text.start end)) text.start (escaped_break_at x.options.constructs (92 ∷ cs))
+    → Verdict texts is_punctuation x text (with_byte c p (Some (as_byte 92 q))) (retry inline_states.HardBreakEscapeStart) (backslash ∷ cs)
+    (λ end. break_events p (text.start end)) text.start (escaped_break_at x.options.constructs (backslash ∷ cs))

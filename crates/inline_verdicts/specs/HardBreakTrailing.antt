@@ -1,12 +1,13 @@
 -- What becomes of spaces and tabs at the end of data: they aren't printed, or they are a hard break (CommonMark 6.7 and 6.8).
-use Rattle.std.specs.Prelude.{◌≡◌, ℕ, ◌+◌, ◌-◌, ◌<◌, Bool, true, false, not, ◌==◌, ◌&&◌, nat_lt, if◌then◌else◌, is_some, List, [], ◌∷◌, ◌++◌, length, take, drop, slice_get, Option, None, Some}
+use Rattle.std.specs.Prelude.{◌≡◌, ℕ, ◌+◌, ◌-◌, ◌<◌, Bool, true, false, not, ◌==◌, ◌&&◌, nat_lt, if◌then◌else◌, is_some, List, [], ◌∷◌, ◌++◌, length, take}
+use Rattle.std.specs.Prelude.{drop, slice_get, Option, None, Some}
 use Rattle.std.specs.List.{list_all, suffix_len}
 use Rattle.markdown_options.specs.declared.configuration.Constructs.{Constructs}
 use Rattle.definition_text.specs.Columns.{indent, is_white}
 use Rattle.definition_text.specs.Content.{is_eol}
 use Rattle.definition_inline.specs.HardBreak.{ends_here, ends_inner_line, line_spaces_at}
 use Rattle.definition_inline.specs.Inline.{Inline, Leaf, TrailingBreak}
-use Rattle.engine_edits.specs.Edits.{Placed, with_edit}
+use Rattle.engine_edits.specs.Edits.{EditAt, with_edit}
 use Rattle.engine_events.specs.declared.event.Event.{Event}
 use Rattle.engine_events.specs.declared.event.Kind.TheVariants.{Enter, Exit}
 use Rattle.engine_events.specs.declared.event.Name.TheVariants as names
@@ -15,7 +16,8 @@ use Rattle.inline_states_resolvers.specs.Data.{is_data}
 use Rattle.inline_states_resolvers.specs.Each.{place_at}
 use Rattle.inline_states_resolvers.specs.Whitespace.{around, around_if, begins, data_part, ends, head_size, index_edit, is_line, place_past, tail_size}
 
--- what follows data among the events follows it among the codes: a line ending or nothing, something after that ending or nothing, and no space or tab, as those are data
+-- what follows data among the events follows it among the codes: a line ending or nothing, something after that ending or nothing, and no space or tab, as
+-- those are data
 pub record Follows (events : List Event) (i : ℕ) (rest : List ℕ) : Type 0 where
   pub here : ends true events i ≡ ends_here rest
   pub inner : (is_line Enter (slice_get events (i + 2)) && is_some (slice_get events (i + 4))) ≡ ends_inner_line rest
@@ -38,9 +40,10 @@ data_events part head tail found from to =
     around_if (not (head == 0)) names.SpaceOrTab from first ++ around_if (nat_lt head (length part - tail)) names.Data first last ++ white_events found last to
 
 -- the edit at data: none where nothing is cut, otherwise these events in its place
-abbrev pub data_edit : Constructs → List ℕ → ℕ → ℕ → List ℕ → ℕ → Point → Point → List Placed → List Placed
+abbrev pub data_edit : Constructs → List ℕ → ℕ → ℕ → List ℕ → ℕ → Point → Point → List EditAt → List EditAt
 data_edit on part head tail rest i from to edits =
-    if nat_lt 0 (head + tail) then with_edit false i 2 (data_events part head tail (line_spaces_at on (drop (length part - tail) part ++ rest)) from to) edits else edits
+    if nat_lt 0 (head + tail) then with_edit false i 2 (data_events part head tail (line_spaces_at on (drop (length part - tail) part ++ rest)) from to) edits
+    else edits
 
 abbrev pub cut_before : List ℕ → List Event → ℕ → ℕ
 cut_before bytes events i = head_size (begins true events i) (data_part bytes events i)
@@ -51,7 +54,7 @@ cut_after bytes events i = tail_size (ends true events i) (drop (cut_before byte
 -- spaces and tabs at the end of data become a hard break in a text exactly where the definition has one, and white space that isn't printed where it has that
 abbrev pub TrailingVerdict : Type 0
 TrailingVerdict =
-    (on : Constructs) (bytes : List ℕ) (events : List Event) (i : ℕ) (edits : List Placed) (rest : List ℕ)
+    (on : Constructs) (bytes : List ℕ) (events : List Event) (i : ℕ) (edits : List EditAt) (rest : List ℕ)
     → is_data Enter (slice_get events i) ≡ true → is_data Exit (slice_get events (i + 1)) ≡ true → Follows events i rest
     → index_edit true on.hard_break_trailing bytes events i edits
     ≡ data_edit on (data_part bytes events i) (cut_before bytes events i) (cut_after bytes events i) rest i (place_at events i) (place_at events (i + 1)) edits
@@ -63,4 +66,5 @@ is_inner b = not (is_eol b)
 -- before those the definition has none in the data
 abbrev pub EarlierVerdict : Type 0
 EarlierVerdict =
-    (on : Constructs) (part rest : List ℕ) (k : ℕ) → list_all is_inner part ≡ true → k < length part - suffix_len is_white part → line_spaces_at on (drop k part ++ rest) ≡ None
+    (on : Constructs) (part rest : List ℕ) (k : ℕ) → list_all is_inner part ≡ true → k < length part - suffix_len is_white part
+    → line_spaces_at on (drop k part ++ rest) ≡ None

@@ -1,5 +1,6 @@
 -- What the states of math come to (in neither standard).
 use Rattle.std.specs.Prelude.{ℕ, ◌<◌, ◌^◌, Bool, if◌then◌else◌, List, ◌∷◌, length, Option, None, Some}
+use Rattle.definition_text.specs.Ascii.{dollar}
 use Rattle.definition_inline.specs.MathText.{math_text_at}
 use Rattle.engine_events.specs.declared.event.Name.TheVariants as names
 use Rattle.engine_events.specs.declared.place.Point.{Point}
@@ -20,6 +21,6 @@ math_names = record { whole = names.MathText; sequence = names.MathTextSequence;
 abbrev pub MathTextVerdict : Type 0 → Type 0
 MathTextVerdict T =
     (texts : List ℕ → Option (List ℕ)) (is_punctuation : ℕ → Bool) (x : Context T) (text : Text) (c : Config Inlines) (p q : Point) (cs : List ℕ)
-    → length (36 ∷ cs) < 2 ^ 64 → Sees text q cs
-    → SpanVerdict texts is_punctuation x text math_names 36 (with_byte c p (Some (as_byte 36 q))) (retry inline_states.RawTextStart) p q (36 ∷ cs)
-    (if begins_run 36 c then of_span (math_text_at x.options (36 ∷ cs)) else None)
+    → length (dollar ∷ cs) < 2 ^ 64 → Sees text q cs
+    → SpanVerdict texts is_punctuation x text math_names 36 (with_byte c p (Some (as_byte 36 q))) (retry inline_states.RawTextStart) p q (dollar ∷ cs)
+    (if begins_run 36 c then of_span (math_text_at x.options (dollar ∷ cs)) else None)

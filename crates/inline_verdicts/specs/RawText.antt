@@ -1,5 +1,6 @@
 -- What the states of code and math come to (CommonMark 6.1).
 use Rattle.std.specs.Prelude.{◌≡◌, ℕ, ◌+◌, ◌<◌, Bool, true, false, not, if◌then◌else◌, ◌==◌, ◌||◌, List, [], ◌∷◌, ◌++◌, drop, Option, None, Some}
+use Rattle.definition_text.specs.Ascii.{line_feed}
 use Rattle.definition_inline.specs.Inline.{Inline, Leaf, Data}
 use Rattle.engine_events.specs.Events.{event}
 use Rattle.engine_events.specs.declared.event.Event.{Event}
@@ -9,7 +10,7 @@ use Rattle.engine_events.specs.declared.event.Name.TheVariants as names
 use Rattle.engine_events.specs.declared.place.Point.{Point}
 use Rattle.engine_events.specs.declared.state.State.{State}
 use Rattle.markdown_engine.specs.Context.{Context}
-use Rattle.markdown_engine.specs.Kept.{Kept}
+use Rattle.markdown_engine.specs.KeptState.{KeptState}
 use Rattle.markdown_engine.specs.Reading.{Config}
 use Rattle.markdown_engine.specs.VirtualText.{Text, as_byte}
 use Rattle.inline_states.specs.declared.inlines.Inlines.{Inlines}
@@ -29,14 +30,16 @@ piece name p q events = event Enter name p None ∷ event Exit name q None ∷ e
 
 -- a byte that is neither a line ending nor this one
 abbrev pub is_other : ℕ → ℕ → Bool
-is_other marker b = not ((b == 10) || (b == marker))
+is_other marker b = not ((b == line_feed) || (b == marker))
 
 -- the events from a place up to the end of a run of exactly so many of a byte: each line ending, each run of another size, and each stretch between these
 pub data Pieces (text : Text) (given : SpanNames) (marker size : ℕ) : Point → List Event → Point → Type 0 where
   closing : {p q : Point} → Stretch text (λ b. b == marker) size p q → Pieces text given marker size p (piece given.sequence (text.start p) (text.start q) []) q
-  run : {n : ℕ} {p q r : Point} {events : List Event} → 0 < n → (n == size) ≡ false → Stretch text (λ b. b == marker) n p q → Pieces text given marker size q events r
+  run : {n : ℕ} {p q r : Point} {events : List Event} → 0 < n → (n == size) ≡ false → Stretch text (λ b. b == marker) n p q
+      → Pieces text given marker size q events r
       → Pieces text given marker size p (piece given.sequence (text.start p) (text.start q) events) r
-  ending : {p q r : Point} {events : List Event} → text.byte (text.start p) ≡ Some (as_byte 10 q) → Pieces text given marker size q events r → Pieces text given marker size p (piece names.LineEnding (text.start p) q events) r
+  ending : {p q r : Point} {events : List Event} → text.byte (text.start p) ≡ Some (as_byte 10 q) → Pieces text given marker size q events r
+      → Pieces text given marker size p (piece names.LineEnding (text.start p) q events) r
   others : {n : ℕ} {p q r : Point} {events : List Event} → 0 < n → Stretch text (is_other marker) n p q → Pieces text given marker size q events r
       → Pieces text given marker size p (piece given.content (text.start p) (text.start q) events) r
 
@@ -51,8 +54,9 @@ pub record IsSpan (text : Text) (given : SpanNames) (marker : ℕ) (p q : Point)
   pub events : added ≡ event Enter given.whole p None ∷ piece given.sequence p (text.start opened) (inside ++ event Exit given.whole (text.start end) None ∷ [])
 
 -- what is kept once a span was read, or so many bytes of its end
-abbrev pub spanning : SpanNames → ℕ → ℕ → ℕ → Kept → Kept
-spanning given marker size size_b k = record k { marker = marker; size = size; size_b = size_b; token_1 = given.whole; token_2 = given.sequence; token_3 = given.content }
+abbrev pub spanning : SpanNames → ℕ → ℕ → ℕ → KeptState → KeptState
+spanning given marker size size_b k =
+    record k { marker = marker; size = size; size_b = size_b; token_1 = given.whole; token_2 = given.sequence; token_3 = given.content }
 
 abbrev pub is_text : List Inline → Bool
 is_text (Data code ∷ parts) = true
@@ -68,5 +72,6 @@ module _ {T : Type 0} (texts : List ℕ → Option (List ℕ)) (is_punctuation :
   abbrev pub SpanVerdict : SpanNames → ℕ → Config Inlines → State → Point → Point → List ℕ → Option Leaf → Type 0
   SpanVerdict given marker c s p q codes None = (d : Config Inlines) × Reads texts is_punctuation x text c s d false
   SpanVerdict given marker c s p q codes (Some leaf) =
-      (d : Config Inlines) × (size : ℕ) × (added : List Event) × (end : Point) × Reads texts is_punctuation x text c s d true × IsSpan text given marker p q size added end
+      (d : Config Inlines) × (size : ℕ) × (added : List Event) × (end : Point) × Reads texts is_punctuation x text c s d true
+      × IsSpan text given marker p q size added end
       × Leaves c d (spanning given marker size size c.tokenize_state) added (text.start end) × Sees text end (drop leaf.size codes)

@@ -5,7 +5,7 @@ use Rattle.engine_events.specs.declared.event.Event.{Event}
 use Rattle.engine_events.specs.declared.place.Point.{Point}
 use Rattle.engine_events.specs.declared.state.State.{State}
 use Rattle.markdown_engine.specs.Context.{Context}
-use Rattle.markdown_engine.specs.Kept.{Kept}
+use Rattle.markdown_engine.specs.KeptState.{KeptState}
 use Rattle.markdown_engine.specs.Reading.{Config, Runs}
 use Rattle.markdown_engine.specs.VirtualText.{Text}
 use Rattle.engine_programs.specs.Bodies.{step_by}
@@ -14,7 +14,7 @@ use Rattle.inline_states.specs.Inlines.{bodies}
 use Rattle.inline_codes.specs.Codes.{Sees}
 
 -- these events were added, this is kept, and reading is at this place; of what else stays once an attempt went well nothing has changed
-pub record Leaves (c d : Config Inlines) (keeps : Kept) (added : List Event) (p : Point) : Type 0 where
+pub record Leaves (c d : Config Inlines) (keeps : KeptState) (added : List Event) (p : Point) : Type 0 where
   pub events : d.events ≡ c.events ++ added
   pub point : d.point ≡ p
   pub kept : d.tokenize_state ≡ keeps
@@ -22,8 +22,8 @@ pub record Leaves (c d : Config Inlines) (keeps : Kept) (added : List Event) (p 
   pub resolvers : d.resolvers ≡ c.resolvers
 
 -- the same, where nothing else is kept than before
-abbrev pub Made : Config Inlines → Config Inlines → List Event → Point → Type 0
-Made c d added p = Leaves c d c.tokenize_state added p
+abbrev pub LeavesEvents : Config Inlines → Config Inlines → List Event → Point → Type 0
+LeavesEvents c d added p = Leaves c d c.tokenize_state added p
 
 module _ {T : Type 0} (texts : List ℕ → Option (List ℕ)) (is_punctuation : ℕ → Bool) (x : Context T) (text : Text) where
   -- with no attempt that waits, reading comes to this
@@ -34,4 +34,4 @@ module _ {T : Type 0} (texts : List ℕ → Option (List ℕ)) (is_punctuation :
   abbrev pub Verdict : Config Inlines → State → List ℕ → (Point → List Event) → (Point → Point) → Option Leaf → Type 0
   Verdict c s codes events stands None = (d : Config Inlines) × Reads c s d false
   Verdict c s codes events stands (Some leaf) =
-      (d : Config Inlines) × (end : Point) × Reads c s d true × Made c d (events end) (stands end) × Sees text end (drop leaf.size codes)
+      (d : Config Inlines) × (end : Point) × Reads c s d true × LeavesEvents c d (events end) (stands end) × Sees text end (drop leaf.size codes)

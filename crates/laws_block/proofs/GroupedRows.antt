@@ -2,7 +2,8 @@
 use Rattle.std.proofs.Common.{◌≡◌, ◌≢◌, ℕ, eqb, [], ◌∷◌, ◌++◌, sym, refl, ap, ◌∙◌, inl, inr, append_assoc}
 use Rattle.std.proofs.lemmas.Bool.{cases_Bool, cond-true, cond-false, eqb-true, eqb-false}
 use Rattle.definition_block.specs.Tree.{Block, Holds, Items, Blocks, Nil, Cons, join, is_ending}
-use Rattle.definition_block.specs.Lists.{endings_of, after_endings, item_marker, list_marker, list_items, rest_of, before_list, before, grouped_block, grouped}
+use Rattle.definition_block.specs.Lists.{endings_of, after_endings, item_marker, list_marker, list_items, rest_of, before_list, before, grouped_block}
+use Rattle.definition_block.specs.Lists.{group_items}
 use Rattle.block_rows.specs.Rows.{Exit, start_row, block_rows, rows_of}
 use Rattle.laws_block.specs.GroupedRows.{ListsOnlyGroup}
 
@@ -17,7 +18,8 @@ rows_split (Cons b bs) = elim (cases_Bool (is_ending b)) [
   | inl e ↦
       ap (λ rows. block_rows b ++ rows) (rows_split bs)
       ∙ sym (append_assoc (block_rows b) (rows_of (endings_of bs)) (rows_of (after_endings bs)))
-      ∙ sym (ap (λ x. rows_of x ++ rows_of (after_endings (Cons b bs))) (cond-true _ _ _ e) ∙ ap (λ x. rows_of (Cons b (endings_of bs)) ++ rows_of x) (cond-true _ _ _ e))
+      ∙ sym (ap (λ x. rows_of x ++ rows_of (after_endings (Cons b bs))) (cond-true _ _ _ e)
+      ∙ ap (λ x. rows_of (Cons b (endings_of bs)) ++ rows_of x) (cond-true _ _ _ e))
   | inr e ↦
       sym (ap (λ x. rows_of x ++ rows_of (after_endings (Cons b bs))) (cond-false _ _ _ e) ∙ ap rows_of (cond-false _ _ _ e))
 ]
@@ -58,6 +60,6 @@ mutual
   pub lists_only_group : ListsOnlyGroup
   lists_only_group Nil = refl
   lists_only_group (Cons b bs) =
-      rows_before (grouped_block b) (grouped bs)
-      ∙ ap (λ rows. rows ++ rows_of (grouped bs)) (block_only_groups b)
+      rows_before (grouped_block b) (group_items bs)
+      ∙ ap (λ rows. rows ++ rows_of (group_items bs)) (block_only_groups b)
       ∙ ap (λ rows. block_rows b ++ rows) (lists_only_group bs)

@@ -3,7 +3,7 @@ use Rattle.std.proofs.Common.{◌≡◌, ℕ, suc, ◌+◌, ◌≤◌, Bool, tru
 use Rattle.std.proofs.lemmas.Bool.{cases_Bool, cond-true, cond-false, and_parts, false≢true, le-leb, leb-true}
 use Rattle.definition_block.specs.Container.{Container}
 use Rattle.definition_block.specs.Tree.{Block, Holds, Blocks, Nil, Cons, join, is_ending, all_endings}
-use Rattle.definition_block.specs.Lists.{leading, is_some_block, has_gap, has_gap_inside, is_loose}
+use Rattle.definition_block.specs.Lists.{endings_at_front, is_some_block, has_gap, has_gap_inside, is_loose}
 use Rattle.laws_block.specs.Looseness.{child_endings, line_endings, HasLineBetween, IsLoose, BetweenItems, InItem, LoosenessIsOfLines}
 
 or_right : (a b : Bool) → b ≡ true → (a || b) ≡ true
@@ -30,7 +30,7 @@ record Front (bs : Blocks) : Type 0 where
   here : bs ≡ join between (Cons second after)
   are_endings : all_endings between ≡ true
   is_none : is_ending second ≡ false
-  count : (inside : Block → ℕ) → line_endings inside between ≡ leading bs
+  count : (inside : Block → ℕ) → line_endings inside between ≡ endings_at_front bs
 
 front : (bs : Blocks) → is_some_block bs ≡ true → Front bs
 front Nil p = absurd (false≢true p)
@@ -47,7 +47,7 @@ front (Cons b bs) p = elim (cases_Bool (is_ending b)) [
         count = λ inside.
             ap (λ n. n + line_endings inside more.between) (cond-true (is_ending b) 1 (inside b) e)
             ∙ ap (λ n. 1 + n) (more.count inside)
-            ∙ one_more (leading bs)
+            ∙ one_more (endings_at_front bs)
             ∙ sym (cond-true (is_ending b) _ _ e);
       }
   | inr e ↦
@@ -70,13 +70,13 @@ is_some Nil b bs h = or_left (not (is_ending b)) (is_some_block bs) (ap not h)
 is_some (Cons e es) b bs h = or_right (not (is_ending e)) _ (is_some es b bs h)
 
 leading_endings : (inside : Block → ℕ) (es : Blocks) (b : Block) (bs : Blocks) → all_endings es ≡ true → is_ending b ≡ false
-    → leading (join es (Cons b bs)) ≡ line_endings inside es
+    → endings_at_front (join es (Cons b bs)) ≡ line_endings inside es
 leading_endings inside Nil b bs p q = cond-false (is_ending b) _ _ q
 leading_endings inside (Cons e es) b bs p q =
     let parts = and_parts (is_ending e) (all_endings es) p in
     let one : child_endings inside e ≡ 1 = cond-true (is_ending e) 1 (inside e) parts.0 in
     let more = leading_endings inside es b bs parts.1 q in
-    let here : leading (join (Cons e es) (Cons b bs)) ≡ suc (leading (join es (Cons b bs))) = cond-true (is_ending e) _ _ parts.0 in
+    let here : endings_at_front (join (Cons e es) (Cons b bs)) ≡ suc (endings_at_front (join es (Cons b bs))) = cond-true (is_ending e) _ _ parts.0 in
     omega (arith, one, more, here)
 
 -- ---- neighbours
@@ -99,11 +99,11 @@ further inside top b bs h =
       before_second = omega (arith, h.before_second);
     }
 
-here_first : (inside : Block → ℕ) (top : ℕ) (b : Block) (bs : Blocks) → is_ending b ≡ false → leb 2 (leading bs) ≡ true → is_some_block bs ≡ true
+here_first : (inside : Block → ℕ) (top : ℕ) (b : Block) (bs : Blocks) → is_ending b ≡ false → leb 2 (endings_at_front bs) ≡ true → is_some_block bs ≡ true
     → HasLineBetween inside top (Cons b bs)
 here_first inside top b bs p q r =
     let f = front bs r in
-    let two : 2 ≤ leading bs = leb-true 2 (leading bs) q in
+    let two : 2 ≤ endings_at_front bs = leb-true 2 (endings_at_front bs) q in
     let count = f.count inside in
     record {
       pair = record { before = Nil; first = b; between = f.between; second = f.second; after = f.after };
@@ -117,21 +117,22 @@ here_first inside top b bs p q r =
 gap_line : (inside : Block → ℕ) (top : ℕ) (bs : Blocks) → has_gap bs ≡ true → HasLineBetween inside top bs
 gap_line inside top Nil h = absurd (false≢true h)
 gap_line inside top (Cons b bs) h =
-    let first = not (is_ending b) && leb 2 (leading bs) && is_some_block bs in
+    let first = not (is_ending b) && leb 2 (endings_at_front bs) && is_some_block bs in
     elim (cases_Bool first) [
       | inl e ↦
-          let parts = and_parts (not (is_ending b) && leb 2 (leading bs)) (is_some_block bs) e in
-          let others = and_parts (not (is_ending b)) (leb 2 (leading bs)) parts.0 in
+          let parts = and_parts (not (is_ending b) && leb 2 (endings_at_front bs)) (is_some_block bs) e in
+          let others = and_parts (not (is_ending b)) (leb 2 (endings_at_front bs)) parts.0 in
           here_first inside top b bs (not_true (is_ending b) others.0) others.1 parts.1
       | inr e ↦ further inside top b bs (gap_line inside (top + child_endings inside b) bs (sym (ap (λ x. x || has_gap bs) e) ∙ h))
     ]
 
 -- two neighbours with two endings between
-gap_at : (before : Blocks) (first : Block) (bs : Blocks) → is_ending first ≡ false → leb 2 (leading bs) ≡ true → is_some_block bs ≡ true
+gap_at : (before : Blocks) (first : Block) (bs : Blocks) → is_ending first ≡ false → leb 2 (endings_at_front bs) ≡ true → is_some_block bs ≡ true
     → has_gap (join before (Cons first bs)) ≡ true
 gap_at Nil first bs p q r =
-    let two = and_true (not (is_ending first)) (leb 2 (leading bs)) (ap not p) q in
-    or_left (not (is_ending first) && leb 2 (leading bs) && is_some_block bs) (has_gap bs) (and_true (not (is_ending first) && leb 2 (leading bs)) (is_some_block bs) two r)
+    let two = and_true (not (is_ending first)) (leb 2 (endings_at_front bs)) (ap not p) q in
+    or_left (not (is_ending first) && leb 2 (endings_at_front bs) && is_some_block bs) (has_gap bs)
+    (and_true (not (is_ending first) && leb 2 (endings_at_front bs)) (is_some_block bs) two r)
 gap_at (Cons b before) first bs p q r = or_right _ (has_gap (join before (Cons first bs))) (gap_at before first bs p q r)
 
 line_gap : (inside : Block → ℕ) (top : ℕ) (bs : Blocks) → HasLineBetween inside top bs → has_gap bs ≡ true
@@ -139,7 +140,7 @@ line_gap inside top bs h =
     let p = h.pair in
     let n = h.are_neighbours in
     let count = leading_endings inside p.between p.second p.after n.between_are_endings n.second_is_none in
-    let two : 2 ≤ leading (join p.between (Cons p.second p.after)) = omega (arith, h.after_first, h.before_second, count) in
+    let two : 2 ≤ endings_at_front (join p.between (Cons p.second p.after)) = omega (arith, h.after_first, h.before_second, count) in
     ap has_gap h.here
     ∙ gap_at p.before p.first (join p.between (Cons p.second p.after)) n.first_is_none (le-leb 2 _ two)
     (is_some p.between p.second p.after n.second_is_none)

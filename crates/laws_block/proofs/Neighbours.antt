@@ -3,7 +3,8 @@ use Rattle.std.proofs.Common.{◌≡◌, ◌≢◌, ℕ, true, false, cond, ◌&
 use Rattle.std.proofs.lemmas.Bool.{cases_Bool, cond-true, cond-false, and_parts, eqb-false, eq-eqb, ne_eqb, false≢true}
 use Rattle.definition_block.specs.Container.{Quote, Item, Footnote}
 use Rattle.definition_block.specs.Tree.{Block, Holds, Items, Ending, Blank, Blocks, Nil, Cons, join, one, is_ending, all_endings}
-use Rattle.definition_block.specs.Lists.{endings_of, after_endings, item_marker, list_marker, list_items, rest_of, before_list, before, grouped_block, grouped}
+use Rattle.definition_block.specs.Lists.{endings_of, after_endings, item_marker, list_marker, list_items, rest_of, before_list, before, grouped_block}
+use Rattle.definition_block.specs.Lists.{group_items}
 use Rattle.laws_block.specs.Neighbours.{IsItem, children, NeighboursAreListed, is_other, OthersPartLists}
 
 join_assoc : (a b c : Blocks) → join (join a b) c ≡ join a (join b c)
@@ -87,7 +88,8 @@ same_items b bs cs = refl
 put-join : (marker : ℕ) (item : Block) (es : Blocks) (b : Block) (bs all cs : Blocks)
     → put marker item es (Cons b (join bs cs)) (join all cs) ≡ join (put marker item es (Cons b bs) all) cs
 put-join marker item es b bs all cs =
-    let choice : ℕ → Blocks → Blocks = λ m items. cond (eqb m marker) (Cons (Items (Cons item (join es items))) (join bs cs)) (Cons (Items (one item)) (join all cs)) in
+    let choice : ℕ → Blocks → Blocks =
+    λ m items. cond (eqb m marker) (Cons (Items (Cons item (join es items))) (join bs cs)) (Cons (Items (one item)) (join all cs)) in
     ap (λ m. choice m (list_items (Cons b (join bs cs)))) (same_marker b (join bs cs) bs)
     ∙ ap (choice (list_marker (Cons b bs))) (same_items b (join bs cs) bs)
     ∙ elim (cases_Bool (eqb (list_marker (Cons b bs)) marker)) [
@@ -146,7 +148,7 @@ pub others_part_lists : OthersPartLists
 others_part_lists Nil b rest p = cond-true _ _ _ (eq-eqb (item_marker (grouped_block b)) 0 (other_no_item b p))
 others_part_lists (Cons x front) b rest p =
     ap (before (grouped_block x)) (others_part_lists front b rest p)
-    ∙ before-parted (grouped_block x) (grouped front) (grouped_block b) (grouped rest) (other_grouped b p)
+    ∙ before-parted (grouped_block x) (group_items front) (grouped_block b) (group_items rest) (other_grouped b p)
 
 -- ---- what stands before a list
 
@@ -155,7 +157,7 @@ abbrev onto : Blocks → Blocks → Blocks
 onto Nil bs = bs
 onto (Cons b front) bs = before (grouped_block b) (onto front bs)
 
-grouped-join : (front bs : Blocks) → grouped (join front bs) ≡ onto front (grouped bs)
+grouped-join : (front bs : Blocks) → group_items (join front bs) ≡ onto front (group_items bs)
 grouped-join Nil bs = refl
 grouped-join (Cons b front) bs = ap (before (grouped_block b)) (grouped-join front bs)
 
@@ -270,7 +272,7 @@ apart x es y ys bs p k e =
     ∙ put_over (item_marker x) x es (Items (Cons y ys)) bs k refl
     ∙ cond-false _ _ _ (ne_eqb (item_marker y) (item_marker x) (λ h. e (sym h)))
 
-endings-grouped : (es bs : Blocks) → all_endings es ≡ true → grouped (join es bs) ≡ join es (grouped bs)
+endings-grouped : (es bs : Blocks) → all_endings es ≡ true → group_items (join es bs) ≡ join es (group_items bs)
 endings-grouped Nil bs p = refl
 endings-grouped (Cons (Ending ending) es) bs p = ap (Cons (Ending ending)) (endings-grouped es bs p)
 endings-grouped (Cons (Blank ending) es) bs p = ap (Cons (Blank ending)) (endings-grouped es bs p)
@@ -287,10 +289,10 @@ neighbours_are_listed front first endings second rest p q k =
     let is_x : IsItem x = λ e. p (sym (marker_kept first) ∙ e) in
     let is_y : IsItem y = λ e. q (sym (marker_kept second) ∙ e) in
     let c = context front x in
-    let b = begin y (grouped rest) is_y in
-    let from_first : grouped (Cons first (join endings (Cons second rest))) ≡ before x (join endings (Cons (Items (Cons y b.later)) b.after)) =
+    let b = begin y (group_items rest) is_y in
+    let from_first : group_items (Cons first (join endings (Cons second rest))) ≡ before x (join endings (Cons (Items (Cons y b.later)) b.after)) =
     ap (before x) (endings-grouped endings (Cons second rest) k ∙ ap (join endings) b.shown) in
-    let all : grouped (children front first endings second rest) ≡ onto front (before x (join endings (Cons (Items (Cons y b.later)) b.after))) =
+    let all : group_items (children front first endings second rest) ≡ onto front (before x (join endings (Cons (Items (Cons y b.later)) b.after))) =
     grouped-join front (Cons first (join endings (Cons second rest))) ∙ ap (onto front) from_first in
     record {
       around = record { before = c.lists; earlier = c.earlier; later = b.later; after = b.after };

@@ -1,5 +1,6 @@
 -- Which blocks a text can have.
-use Rattle.std.proofs.Common.{◌≡◌, ℕ, suc, zero, Bool, true, false, cond, not, ◌&&◌, ◌||◌, ◌-◌, leb, List, [], ◌∷◌, Option, None, Some, length, take, drop, refl, ap, ◌∙◌, eqb, ◌⊎◌, inl, inr, arith}
+use Rattle.std.proofs.Common.{◌≡◌, ℕ, suc, zero, Bool, true, false, cond, not, ◌&&◌, ◌||◌, ◌-◌, leb, List, [], ◌∷◌, Option, None, Some, length, take, drop}
+use Rattle.std.proofs.Common.{refl, ap, ◌∙◌, eqb, ◌⊎◌, inl, inr, arith}
 use Rattle.std.specs.Prelude.{◌==◌, ◌<◌}
 use Rattle.std.specs.List.{prefix_len, position_or_len, list_all}
 use Rattle.std.proofs.lemmas.List.{get_or-take}
@@ -13,9 +14,10 @@ use Rattle.definition_text.specs.declared.beside.Kind.{Kind}
 use Rattle.definition_text.specs.declared.beside.Kind.TheVariants.{Whitespace}
 use Rattle.definition_block.specs.Container.{Container, Quote, Item, Footnote}
 use Rattle.definition_text.specs.Lines.{TextLine, lines}
-use Rattle.definition_text.specs.Columns.{Rest, whole, is_blank, is_white, trimmed, indent, bare, bytes_of}
+use Rattle.definition_text.specs.Columns.{Rest, whole, is_blank, is_white, trim, indent, bare, bytes_of}
 use Rattle.definition_text.specs.Indents.{small_indent}
-use Rattle.definition_block.specs.Started.{Started}
+use Rattle.definition_block.specs.ContainerLine.{ContainerLine}
+use Rattle.definition_block.specs.ContainerStart.{ContainerStart}
 use Rattle.definition_block.specs.GfmFootnoteDefinition.{footnote_mark, footnote_of, footnote_start}
 use Rattle.definition_block.specs.Containers.{continues, starts, quote_or, footnote_or}
 use Rattle.definition_block.proofs.GfmFootnoteDefinition.{footnote_either}
@@ -36,10 +38,20 @@ use Rattle.definition_inline.specs.Definition.{Definition as LinkDefinition, def
 use Rattle.definition_text.specs.Content.{Part, content_of}
 use Rattle.definition_block.specs.Definitions.{lines_before, Cut, cut_into, cut_after, cut_most, cut}
 use Rattle.definition_text.specs.BlockLines.{own_lines, BlockLine}
-use Rattle.definition_block.specs.Tree.{one, ended, empty_tree, nothing, tree, blanks, paragraph_of, close_leaf, is_ending, all_endings, front, trailing, without_last, last_of, holds, close, has_text, has_table, is_some_line, table_of, table_if, makes_table, leaf_with_line, with_line, rest_line, indented_takes, fenced_takes, html_with, html_takes, takes, or_heading, or_fence, or_html, begins, after, text_line_of, break_or_text, text_here, heading_of, underlined, turns, begun, taken, leaf_line, beside_in, start, new, began_blank, goes_on, grow, beside_line, step, steps, closed, children, children_after, Block, Paragraph, Heading, Break, IndentedCode, FencedCode, Html, Table, Definition, Holds, Items, Ending, Blank, Blocks, Nil, Cons, join, blocks, OpenLeaf, Text, Indented, Fenced, OpenHtml, OpenTable, Opening, Leaf, Inside, Tree as BlockTree}
-use Rattle.definition_block.specs.Lists.{before, grouped_block, grouped}
+use Rattle.definition_block.specs.Tree.{one, block_and_ending, empty_tree, nothing, tree, blanks, paragraph_of, close_leaf, is_ending, all_endings, front}
+use Rattle.definition_block.specs.Tree.{trailing, without_last, last_of, holds, close, has_text, has_table, is_some_line, table_of, table_if, makes_table}
+use Rattle.definition_block.specs.Tree.{leaf_with_line, with_line, rest_line, indented_takes, fenced_takes, html_with, html_takes, takes, or_heading, or_fence}
+use Rattle.definition_block.specs.Tree.{or_html, begins, after, text_line_of, break_or_text, text_here, heading_of, heading_if, turns, begun, tree_or}
+use Rattle.definition_block.specs.Tree.{leaf_line, beside_in, start, new, began_blank, goes_on, grow, beside_line, step, steps, blocks_at_end, children}
+use Rattle.definition_block.specs.Tree.{children_after, Block, Paragraph, Heading, Break, IndentedCode, FencedCode, Html, Table, Definition, Holds, Items}
+use Rattle.definition_block.specs.Tree.{Ending, Blank, Blocks, Nil, Cons, join, blocks, OpenLeaf, Text, Indented, Fenced, OpenHtml, OpenTable, Opening, Leaf}
+use Rattle.definition_block.specs.Tree.{Inside, Tree as BlockTree}
+use Rattle.definition_block.specs.Lists.{before, grouped_block, group_items}
 use Rattle.laws_block.specs.ItemMarkers.{is_item_marker, is_unmarked, ItemsAreMarked}
-use Rattle.laws_block.specs.Occurs.{block_has, has, is_word, is_math, NoMath, NoFrontmatter, is_quote, is_list_item, is_footnote_definition, is_indented_code, is_fenced_code, is_html, is_table, is_thematic_break, is_definition, is_heading, is_one_line, is_long_heading, is_deep_heading, NoQuotes, NoItems, NoFootnoteDefinitions, NoIndentedCode, NoFencedCode, NoHtml, NoTables, NoBreaks, NoDefinitions, NoHeadings, NoLongHeadings, NoDeepHeadings, NoLists}
+use Rattle.laws_block.specs.Occurs.{block_has, has, is_word, is_math, NoMath, NoFrontmatter, is_quote, is_list_item, is_footnote_definition, is_indented_code}
+use Rattle.laws_block.specs.Occurs.{is_fenced_code, is_html, is_table, is_thematic_break, is_definition, is_heading, is_one_line, is_long_heading}
+use Rattle.laws_block.specs.Occurs.{is_deep_heading, NoQuotes, NoItems, NoFootnoteDefinitions, NoIndentedCode, NoFencedCode, NoHtml, NoTables, NoBreaks}
+use Rattle.laws_block.specs.Occurs.{NoDefinitions, NoHeadings, NoLongHeadings, NoDeepHeadings, NoLists}
 
 -- ---- what may stand in a text
 
@@ -63,7 +75,7 @@ abbrev mutual
   BlockMayStand on (Heading rank ls) = HeadingMayStand on rank ls
   BlockMayStand on Break = on.thematic_break ≡ true
   BlockMayStand on (IndentedCode ls) = on.code_indented ≡ true
-  BlockMayStand on (FencedCode info closed ls) = InfoMayStand on info
+  BlockMayStand on (FencedCode info blocks_at_end ls) = InfoMayStand on info
   BlockMayStand on (Html ls) = on.html_flow ≡ true
   BlockMayStand on (Table ls) = on.gfm_table ≡ true
   BlockMayStand on (Definition label destination title) = on.definition ≡ true
@@ -106,7 +118,7 @@ guarded on more o = cond_both (on && more) o None (WhereSome (λ x. on ≡ true)
 -- no white space stands in a first word
 is_word-first : (text : List ℕ) → is_word (first_word text) ≡ true
 is_word-first text =
-    let t = trimmed text in
+    let t = trim text in
     let p : ℕ → Bool = λ b. not (is_white b) in
     let n = position_or_len is_white t in
     list_all-from_AllPass p (take n t) (λ k d lt.
@@ -188,7 +200,8 @@ module _ (on : Constructs) where
   may_cut_most (suc most) ls h = may_cut_after (definition_at (content_of (own_lines ls))) ls (cut_most most) h (λ others. may_cut_most most others h)
 
   may_cut : (ls : List BlockLine) → MayStand on (cut on ls).definitions
-  may_cut ls = cond_both on.definition (cut_most (length ls) ls) (cut_into Nil ls) (λ (parts : Cut). MayStand on parts.definitions) (λ h. may_cut_most (length ls) ls h) (λ _. tt)
+  may_cut ls = cond_both on.definition (cut_most (length ls) ls) (cut_into Nil ls) (λ (parts : Cut). MayStand on parts.definitions)
+      (λ h. may_cut_most (length ls) ls h) (λ _. tt)
 
   may_close_leaf : (leaf : OpenLeaf) → LeafMayStand on leaf → MayStand on (close_leaf on leaf)
   may_close_leaf (Text ls) p = may-join (cut on ls).definitions (paragraph_of (cut on ls).left) (may_cut ls) (may_paragraph (cut on ls).left)
@@ -300,7 +313,7 @@ module _ (on : Constructs) where
   may_begun None away other p a q = q
   may_begun (Some t) away other p a q = may_after away t a p
 
-  may_taken : (o : Option BlockTree) (other : BlockTree) → SomeTreeMayStand o → TreeMayStand on other → TreeMayStand on (taken o other)
+  may_taken : (o : Option BlockTree) (other : BlockTree) → SomeTreeMayStand o → TreeMayStand on other → TreeMayStand on (tree_or o other)
   may_taken None other p q = q
   may_taken (Some t) other p q = p
 
@@ -319,12 +332,14 @@ module _ (on : Constructs) where
 
   may_make_table : (away : Opening) (rest : Rest) (beside : Beside) → SomeTreeMayStand (makes_table on away rest beside)
   may_make_table away rest beside =
-      may_table (delimiter_row on rest) (text_here away) (rest_line rest beside) (guarded on.gfm_table (small_indent on rest) (delimiters (bytes_of (bare rest))))
+      may_table (delimiter_row on rest) (text_here away) (rest_line rest beside)
+      (guarded on.gfm_table (small_indent on rest) (delimiters (bytes_of (bare rest))))
 
   may_break : (away : Opening) (rest : Rest) (beside : Beside) → OpeningMayStand on away → TreeMayStand on (break_or_text on away rest beside)
   may_break away rest beside p =
       cond_both (is_break on rest) _ _ (TreeMayStand on)
-      (λ e. may_after away (tree (ended Break beside.ending) nothing) p (((and_parts on.thematic_break _ (and_parts (on.thematic_break && small_indent on rest) _ e).0).0, (tt, tt)), tt))
+      (λ e. may_after away (tree (block_and_ending Break beside.ending) nothing) p
+      (((and_parts on.thematic_break _ (and_parts (on.thematic_break && small_indent on rest) _ e).0).0, (tt, tt)), tt))
       (λ _. may_taken (makes_table on away rest beside) (text_line_of on away rest beside) (may_make_table away rest beside) (may_text away rest beside p))
 
   -- an underline gives the rank 1 or 2
@@ -344,7 +359,7 @@ module _ (on : Constructs) where
   may_heading rank definitions (line ∷ others) ending h p = (may-join definitions _ p (inr h, (tt, tt)), tt)
 
   may_underlined : (o : Option ℕ) (ls : List BlockLine) (ending : Option LineEnding) → WhereSome (λ rank. (on.heading_setext ≡ true) × (leb rank 2 ≡ true)) o
-      → SomeTreeMayStand (underlined on o ls ending)
+      → SomeTreeMayStand (heading_if on o ls ending)
   may_underlined None ls ending h = tt
   may_underlined (Some rank) ls ending h = may_heading rank (cut on ls).definitions (cut on ls).left ending h (may_cut ls)
 
@@ -353,16 +368,18 @@ module _ (on : Constructs) where
       cond_both (is_blank rest) _ _ (TreeMayStand on)
       (λ _. may_after away (tree (one (Blank beside.ending)) nothing) p ((tt, tt), tt))
       (λ _. may_begun (begins on (has_text away) rest beside) away _ (may_begin (has_text away) rest beside) p
-      (may_taken (turns on away rest beside.ending) _ (may_underlined (underline on rest) (text_here away) beside.ending (may_underline rest)) (may_break away rest beside p)))
+      (may_taken (turns on away rest beside.ending) _ (may_underlined (underline on rest) (text_here away) beside.ending (may_underline rest))
+      (may_break away rest beside p)))
 
   -- ---- containers
 
-  abbrev StartedMayStand : Option Started → Type 0
-  StartedMayStand o = WhereSome (λ (s : Started). ContainerMayStand on s.container) o
+  abbrev StartedMayStand : Option ContainerStart → Type 0
+  StartedMayStand o = WhereSome (λ (s : ContainerStart). ContainerMayStand on s.container) o
 
-  may_quote_or : (other : Option Started) (o : Option Rest) → StartedMayStand other → WhereSome (λ (r : Rest). on.block_quote ≡ true) o → StartedMayStand (quote_or other o)
+  may_quote_or : (other : Option ContainerStart) (o : Option ContainerLine) → StartedMayStand other
+      → WhereSome (λ (line : ContainerLine). on.block_quote ≡ true) o → StartedMayStand (quote_or other o)
   may_quote_or other None p q = p
-  may_quote_or other (Some rest) p q = q
+  may_quote_or other (Some line) p q = q
 
   may_item_after : (columns : ℕ) (interrupts : Bool) (o : Option Marker) → on.list_item ≡ true → IsMarked o
       → StartedMayStand (item_after columns interrupts o)
@@ -389,10 +406,11 @@ module _ (on : Constructs) where
   may_start_one : (interrupts : Bool) (rest : Rest) → StartedMayStand (starts on interrupts rest)
   may_start_one interrupts rest =
       may_quote_or (footnote_or (item_start on interrupts rest) (footnote_start on rest)) (quote_prefix on rest)
-      (footnote_either StartedMayStand (item_start on interrupts rest) (footnote_start on rest) (may_item_start interrupts rest) (may_footnote_start rest)) (guarded on.block_quote (small_indent on rest) _)
+      (footnote_either StartedMayStand (item_start on interrupts rest) (footnote_start on rest) (may_item_start interrupts rest) (may_footnote_start rest))
+      (guarded on.block_quote (small_indent on rest) _)
 
-  may_start : (o : Option Started) (away : Opening) (other : BlockTree) (more : Started → BlockTree) → StartedMayStand o → OpeningMayStand on away
-      → TreeMayStand on other → ((s : Started) → TreeMayStand on (more s)) → TreeMayStand on (start on o away other more)
+  may_start : (o : Option ContainerStart) (away : Opening) (other : BlockTree) (more : ContainerStart → BlockTree) → StartedMayStand o → OpeningMayStand on away
+      → TreeMayStand on other → ((s : ContainerStart) → TreeMayStand on (more s)) → TreeMayStand on (start on o away other more)
   may_start None away other more p a q m = q
   may_start (Some s) away other more p a q m =
       let t = more s in
@@ -403,13 +421,14 @@ module _ (on : Constructs) where
   may_new zero all away beside rest p = may_leaf_line away rest beside p
   may_new (suc most) all away beside rest p =
       may_start (starts on (all && has_text away) rest) away (leaf_line on away rest beside) _
-      (may_start_one (all && has_text away) rest) p (may_leaf_line away rest beside p) (λ s. may_new most true nothing (beside_in s.container rest beside) s.rest tt)
+      (may_start_one (all && has_text away) rest) p (may_leaf_line away rest beside p)
+      (λ s. may_new most true nothing (beside_in s.before beside) s.rest tt)
 
-  may_go_on : (o : Option Rest) (c : Container) (kids : Blocks) (inner : Opening) (beside : Beside) (rest : Rest) (more : Rest → BlockTree)
-      → ContainerMayStand on c → MayStand on kids → OpeningMayStand on inner → ((others : Rest) → TreeMayStand on (more others))
+  may_go_on : (o : Option ContainerLine) (c : Container) (kids : Blocks) (inner : Opening) (beside : Beside) (rest : Rest) (more : ContainerLine → BlockTree)
+      → ContainerMayStand on c → MayStand on kids → OpeningMayStand on inner → ((line : ContainerLine) → TreeMayStand on (more line))
       → TreeMayStand on (goes_on o on c kids inner beside rest more)
   may_go_on None c kids inner beside rest more h p q m = may_new (length rest) false (Inside c kids inner) beside rest (h, p, q)
-  may_go_on (Some others) c kids inner beside rest more h p q m = (tt, (h, may-join kids (more others).done p (m others).0, (m others).1))
+  may_go_on (Some line) c kids inner beside rest more h p q m = (tt, (h, may-join kids (more line).done p (m line).0, (m line).1))
 
   -- ---- the lines of a text
 
@@ -417,8 +436,8 @@ module _ (on : Constructs) where
   may_grow beside (Leaf leaf) rest p =
       may_taken (takes on leaf rest beside) _ (may_take leaf rest beside p) (may_new (length rest) true (Leaf leaf) beside rest p)
   may_grow beside (Inside c kids inner) rest p =
-      may_go_on (continues on c (began_blank kids inner) rest) c kids inner beside rest (grow on (beside_in c rest beside) inner) p.0 p.1 p.2
-      (λ others. may_grow (beside_in c rest beside) inner others p.2)
+      may_go_on (continues on c (began_blank kids inner) rest) c kids inner beside rest
+      (λ line. grow on (beside_in line.before beside) inner line.rest) p.0 p.1 p.2 (λ line. may_grow (beside_in line.before beside) inner line.rest p.2)
 
   may_step : (kind : Kind) (t : BlockTree) (line : TextLine) → TreeMayStand on t → TreeMayStand on (step on kind t line)
   may_step kind t line p =
@@ -478,11 +497,11 @@ not_indented on off (IndentedCode ls) p = absurd (both_ways on.code_indented off
 not_indented on off b p = refl
 
 not_fenced : (on : Constructs) → on.code_fenced ≡ false → (b : Block) → BlockMayStand on b → is_fenced_code b ≡ false
-not_fenced on off (FencedCode info closed ls) p = elim p [ inl h ↦ absurd (both_ways on.code_fenced off h.0) | inr h ↦ h.1 ]
+not_fenced on off (FencedCode info blocks_at_end ls) p = elim p [ inl h ↦ absurd (both_ways on.code_fenced off h.0) | inr h ↦ h.1 ]
 not_fenced on off b p = refl
 
 not_math : (on : Constructs) → on.math_flow ≡ false → (b : Block) → BlockMayStand on b → is_math b ≡ false
-not_math on off (FencedCode info closed ls) p = elim p [ inl h ↦ ap not h.1 | inr h ↦ absurd (both_ways on.math_flow off h.0) ]
+not_math on off (FencedCode info blocks_at_end ls) p = elim p [ inl h ↦ ap not h.1 | inr h ↦ absurd (both_ways on.math_flow off h.0) ]
 not_math on off b p = refl
 
 not_html : (on : Constructs) → on.html_flow ≡ false → (b : Block) → BlockMayStand on b → is_html b ≡ false
@@ -574,7 +593,7 @@ module _ (on : Constructs) (off : on.list_item ≡ false) where
     block_as_it_is (Holds c kids) p = ap (Holds c) (as_they_are kids p.1)
     block_as_it_is b p = refl
 
-    as_they_are : (bs : Blocks) → MayStand on bs → grouped bs ≡ bs
+    as_they_are : (bs : Blocks) → MayStand on bs → group_items bs ≡ bs
     as_they_are Nil p = refl
     as_they_are (Cons b bs) p =
         ap (before (grouped_block b)) (as_they_are bs p.1) ∙ ap (λ x. before x bs) (block_as_it_is b p.0) ∙ before_others b bs p.0

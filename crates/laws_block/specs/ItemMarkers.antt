@@ -1,6 +1,7 @@
 -- The markers of items (CommonMark 5.2).
 use Rattle.std.specs.Prelude.{◌≡◌, ℕ, Bool, false, not, ◌==◌, ◌||◌, List}
 use Rattle.markdown_options.specs.declared.configuration.Constructs.{Constructs}
+use Rattle.definition_text.specs.Ascii.{right_parenthesis, asterisk, plus, hyphen, dot}
 use Rattle.definition_text.specs.declared.beside.Kind.{Kind}
 use Rattle.definition_block.specs.Container.{Item}
 use Rattle.definition_block.specs.Tree.{Block, Holds, blocks}
@@ -8,7 +9,7 @@ use Rattle.laws_block.specs.Occurs.{has}
 
 -- `-`, `+`, `*`, `.` or `)`
 abbrev pub is_item_marker : ℕ → Bool
-is_item_marker byte = (byte == 45) || (byte == 43) || (byte == 42) || (byte == 46) || (byte == 41)
+is_item_marker byte = (byte == hyphen) || (byte == plus) || (byte == asterisk) || (byte == dot) || (byte == right_parenthesis)
 
 -- an item of another marker
 abbrev pub is_unmarked : Block → Bool

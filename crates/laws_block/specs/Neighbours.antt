@@ -1,8 +1,9 @@
 -- Which items are in one list (CommonMark 5.3).
 use Rattle.std.specs.Prelude.{◌≡◌, ◌≢◌, Bool, true, false}
 use Rattle.definition_block.specs.Container.{Quote, Footnote}
-use Rattle.definition_block.specs.Tree.{Block, Paragraph, Heading, Break, IndentedCode, FencedCode, Html, Table, Definition, Holds, Items, Blocks, Cons, join, one, all_endings}
-use Rattle.definition_block.specs.Lists.{item_marker, grouped_block, grouped}
+use Rattle.definition_block.specs.Tree.{Block, Paragraph, Heading, Break, IndentedCode, FencedCode, Html, Table, Definition, Holds, Items, Blocks, Cons, join}
+use Rattle.definition_block.specs.Tree.{one, all_endings}
+use Rattle.definition_block.specs.Lists.{item_marker, grouped_block, group_items}
 
 -- an item has a marker, any other block none
 abbrev pub IsItem : Block → Type 0
@@ -37,15 +38,16 @@ abbrev pub two_lists : Around → Block → Blocks → Block → Blocks
 two_lists around first endings second =
     join around.before (Cons (Items (join around.earlier (one first))) (join endings (begins_list around second)))
 
--- Two items are in one list if they have the same marker, and otherwise in two: the lists are those of what stands up to the first one, and of what stands from the second one on.
+-- Two items are in one list if they have the same marker, and otherwise in two: the lists are those of what stands up to the first one, and of what stands from
+-- the second one on.
 pub record AreListed (front : Blocks) (first : Block) (endings : Blocks) (second : Block) (rest : Blocks) : Type 0 where
   pub around : Around
-  pub up_to_first : grouped (join front (one first)) ≡ ends_list around (grouped_block first)
-  pub from_second : grouped (Cons second rest) ≡ begins_list around (grouped_block second)
+  pub up_to_first : group_items (join front (one first)) ≡ ends_list around (grouped_block first)
+  pub from_second : group_items (Cons second rest) ≡ begins_list around (grouped_block second)
   pub same : item_marker first ≡ item_marker second
-      → grouped (children front first endings second rest) ≡ one_list around (grouped_block first) endings (grouped_block second)
+      → group_items (children front first endings second rest) ≡ one_list around (grouped_block first) endings (grouped_block second)
   pub other : item_marker first ≢ item_marker second
-      → grouped (children front first endings second rest) ≡ two_lists around (grouped_block first) endings (grouped_block second)
+      → group_items (children front first endings second rest) ≡ two_lists around (grouped_block first) endings (grouped_block second)
 
 -- two items between which only endings stand, among any others
 abbrev pub NeighboursAreListed : Type 0
@@ -71,4 +73,4 @@ is_other b = false
 abbrev pub OthersPartLists : Type 0
 OthersPartLists =
     (front : Blocks) (b : Block) (rest : Blocks) → is_other b ≡ true
-    → grouped (join front (Cons b rest)) ≡ join (grouped front) (Cons (grouped_block b) (grouped rest))
+    → group_items (join front (Cons b rest)) ≡ join (group_items front) (Cons (grouped_block b) (group_items rest))

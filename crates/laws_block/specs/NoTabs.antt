@@ -1,11 +1,12 @@
 -- Lines without tabs (CommonMark 2.2).
 use Rattle.std.specs.Prelude.{◌≡◌, ℕ, Bool, true, not, ◌==◌, List}
 use Rattle.std.specs.List.{list_all}
+use Rattle.definition_text.specs.Ascii.{tab}
 use Rattle.definition_text.specs.Columns.{codes_from}
 
 -- any byte but a tab
 abbrev pub is_no_tab : ℕ → Bool
-is_no_tab b = not (b == 9)
+is_no_tab b = not (b == tab)
 
 -- no byte is a tab
 abbrev pub IsWithoutTabs : List ℕ → Type 0

@@ -7,8 +7,9 @@ use Rattle.definition_text.specs.BlockLines.{BlockLine}
 use Rattle.definition_text.specs.Columns.{is_white}
 use Rattle.definition_text.specs.Lines.{lines}
 use Rattle.std.specs.List.{list_all}
-use Rattle.definition_block.specs.Tree.{Block, Heading, Break, IndentedCode, FencedCode, Html, Table, Definition, Holds, Items, Blocks, Nil, Cons, blocks, children}
-use Rattle.definition_block.specs.Lists.{grouped}
+use Rattle.definition_block.specs.Tree.{Block, Heading, Break, IndentedCode, FencedCode, Html, Table, Definition, Holds, Items, Blocks, Nil, Cons, blocks}
+use Rattle.definition_block.specs.Tree.{children}
+use Rattle.definition_block.specs.Lists.{group_items}
 
 -- whether one of these blocks passes a test, at any depth
 abbrev mutual
@@ -159,7 +160,7 @@ NoDeepHeadings = Never (λ on. on.heading_atx) is_deep_heading
 abbrev pub NoLists : Type 0
 NoLists =
     (on : Constructs) (before : Kind) (text : List ℕ) → on.list_item ≡ false
-    → let bs = blocks on before text in grouped bs ≡ bs
+    → let bs = blocks on before text in group_items bs ≡ bs
 
 -- without frontmatter no line of a text is left out (in neither standard)
 abbrev pub NoFrontmatter : Type 0

@@ -3,8 +3,10 @@ use Rattle.std.proofs.Common.{◌≡◌, ℕ, zero, suc, List, [], ◌∷◌, �
 use Rattle.std.proofs.lemmas.Bool.{cond_both}
 use Rattle.markdown_options.specs.declared.line_ending.LineEnding.{LineEnding}
 use Rattle.markdown_options.specs.declared.configuration.Constructs.{Constructs}
-use Rattle.definition_inline.specs.Inline.{Inline, Data, Escape, Character, Code, Math, Autolink, Literal, Html, EscapedBreak, TrailingBreak, LineEnd, Emphasis, Strong, Strikethrough, Link, Image, Call, Inlines, Nil, Cons}
-use Rattle.definition_inline.specs.GfmAutolinkLiteral.{Address, address_or_text, address_at, parts_from, with_addresses, followed, without_literals, with_literals, linked_literals, without_last}
+use Rattle.definition_inline.specs.Inline.{Inline, Data, Escape, Character, Code, Math, Autolink, Literal, Html, EscapedBreak, TrailingBreak, LineEnd, Emphasis}
+use Rattle.definition_inline.specs.Inline.{Strong, Strikethrough, Link, Image, Call, Inlines, Nil, Cons}
+use Rattle.definition_inline.specs.GfmAutolinkLiteral.{Address, address_or_text, address_at, parts_from, with_addresses, parts_before, without_literals}
+use Rattle.definition_inline.specs.GfmAutolinkLiteral.{with_literals, linked_literals, without_last}
 use Rattle.laws_endings.specs.Inlines.{inline_with, inlines_with, target_with}
 use Rattle.laws_endings.proofs.Codes.{cond-under}
 
@@ -35,10 +37,10 @@ module _ (e : LineEnding) where
       (λ _. parts_kept 0 (before ++ c ∷ []) cs)
   parts_kept (suc k) before (c ∷ cs) = parts_kept k before cs
 
-  followed-with : (is : List Inline) (others : Inlines) → AreKept is → followed is (inlines_with e others) ≡ inlines_with e (followed is others)
-  followed-with is others kept = ap (λ js. followed js (inlines_with e others)) (sym kept) ∙ each is
+  followed-with : (is : List Inline) (others : Inlines) → AreKept is → parts_before is (inlines_with e others) ≡ inlines_with e (parts_before is others)
+  followed-with is others kept = ap (λ js. parts_before js (inlines_with e others)) (sym kept) ∙ each is
     where
-      each : (is : List Inline) → followed (map (inline_with e) is) (inlines_with e others) ≡ inlines_with e (followed is others)
+      each : (is : List Inline) → parts_before (map (inline_with e) is) (inlines_with e others) ≡ inlines_with e (parts_before is others)
       each [] = refl
       each (i ∷ is) = ap (Cons (inline_with e i)) (each is)
 
@@ -58,7 +60,7 @@ module _ (e : LineEnding) where
   without-with (Cons (Math text) is) = ap (Cons (Math text)) (without-with is)
   without-with (Cons (Autolink is_email text) is) = ap (Cons (inline_with e (Autolink is_email text))) (without-with is)
   without-with (Cons (Literal kind text) is) =
-      ap (followed (map Data text)) (without-with is)
+      ap (parts_before (map Data text)) (without-with is)
       ∙ followed-with (map Data text) (without_literals is) (data_kept text)
   without-with (Cons (Html html) is) = ap (Cons (inline_with e (Html html))) (without-with is)
   without-with (Cons EscapedBreak is) = ap (Cons EscapedBreak) (without-with is)
@@ -73,10 +75,10 @@ module _ (e : LineEnding) where
 
   -- what comes after a run of text
   after_run : (run : List ℕ) (i j : Inline) (is rest : Inlines) → i ≡ inline_with e j → is ≡ inlines_with e rest
-      → followed (with_addresses run) (Cons i is) ≡ inlines_with e (followed (with_addresses run) (Cons j rest))
+      → parts_before (with_addresses run) (Cons i is) ≡ inlines_with e (parts_before (with_addresses run) (Cons j rest))
   after_run run i j is rest one more =
-      ap (λ k. followed (with_addresses run) (Cons k is)) one
-      ∙ ap (λ k. followed (with_addresses run) (Cons (inline_with e j) k)) more
+      ap (λ k. parts_before (with_addresses run) (Cons k is)) one
+      ∙ ap (λ k. parts_before (with_addresses run) (Cons (inline_with e j) k)) more
       ∙ followed-with (with_addresses run) (Cons j rest) (parts_kept 0 [] run)
 
   literals-with : (run : List ℕ) (is : Inlines) → with_literals run (inlines_with e is) ≡ inlines_with e (with_literals run is)

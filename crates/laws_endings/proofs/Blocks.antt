@@ -11,7 +11,7 @@ use Rattle.definition_text.specs.declared.beside.Kind.TheVariants.{Whitespace}
 use Rattle.definition_text.specs.Lines.{TextLine, text_line, in_first_line, after_return, lines}
 use Rattle.definition_text.specs.Columns.{whole}
 use Rattle.definition_block.specs.Frontmatter.{is_metadata_fence, after_metadata_fence, after_frontmatter}
-use Rattle.definition_block.specs.Tree.{join, Tree, tree, empty_tree, close, grow, beside_line, step, steps, closed, children, children_after}
+use Rattle.definition_block.specs.Tree.{join, Tree, tree, empty_tree, close, grow, beside_line, step, steps, blocks_at_end, children, children_after}
 use Rattle.laws_endings.specs.Endings.{text_line_with, blocks_with}
 use Rattle.laws_endings.specs.Laws.{BlocksLaw}
 use Rattle.laws_endings.proofs.Lines.{ending_lines_law}
@@ -105,12 +105,12 @@ module _ (e : LineEnding) where
       ap (λ grown. steps on Whitespace grown (text_lines_with ls)) (step-with on before t line p.0)
       ∙ steps-with on Whitespace (step on before t line) ls p.1
 
-  closed-with : (on : Constructs) (t : Tree) → closed on (tree_with e t) ≡ blocks_with e (closed on t)
+  closed-with : (on : Constructs) (t : Tree) → blocks_at_end on (tree_with e t) ≡ blocks_with e (blocks_at_end on t)
   closed-with on t = ap (join (blocks_with e t.done)) (close-with e on t.now) ∙ join-with e t.done (close on t.now)
 
   children-with : (on : Constructs) (before : Kind) (ls : List TextLine) → LinesFeedless ls
       → children on before (text_lines_with ls) ≡ blocks_with e (children on before ls)
-  children-with on before ls p = ap (closed on) (steps-with on before empty_tree ls p) ∙ closed-with on (steps on before empty_tree ls)
+  children-with on before ls p = ap (blocks_at_end on) (steps-with on before empty_tree ls p) ∙ closed-with on (steps on before empty_tree ls)
 
   children_after-with : (on : Constructs) (before : Kind) (ls : List TextLine) (found : Option (List TextLine)) → LinesFeedless ls → IfFeedless found
       → children_after on before (text_lines_with ls) (if_lines found) ≡ blocks_with e (children_after on before ls found)

@@ -4,8 +4,10 @@ use Rattle.markdown_options.specs.declared.line_ending.LineEnding.{LineEnding}
 use Rattle.markdown_options.specs.declared.configuration.Constructs.{Constructs}
 use Rattle.definition_block.specs.Container.{Container, Quote, Item, Footnote}
 use Rattle.definition_block.specs.Definitions.{Cut, cut}
-use Rattle.definition_block.specs.Tree.{BlockLine, last_ending, own_lines, Block, Paragraph, Heading, Break, IndentedCode, FencedCode, Html, Table, Definition, Holds, Items, Ending, Blank, Blocks, Nil, Cons, join, one, ended}
-use Rattle.definition_block.specs.Tree.{OpenLeaf, Text, Indented, Fenced, OpenHtml, OpenTable, Opening, Leaf, Inside, blanks, paragraph_of, with_paragraph, close_leaf, is_ending, all_endings, front, trailing, without_last, last_of, holds, close}
+use Rattle.definition_block.specs.Tree.{BlockLine, last_ending, own_lines, Block, Paragraph, Heading, Break, IndentedCode, FencedCode, Html, Table, Definition}
+use Rattle.definition_block.specs.Tree.{Holds, Items, Ending, Blank, Blocks, Nil, Cons, join, one, block_and_ending}
+use Rattle.definition_block.specs.Tree.{OpenLeaf, Text, Indented, Fenced, OpenHtml, OpenTable, Opening, Leaf, Inside, blanks, paragraph_of, with_paragraph}
+use Rattle.definition_block.specs.Tree.{close_leaf, is_ending, all_endings, front, trailing, without_last, last_of, holds, close}
 use Rattle.laws_endings.specs.Endings.{if_ending_with, lines_with, block_with, blocks_with}
 use Rattle.laws_endings.proofs.Codes.{cond-under}
 use Rattle.laws_endings.proofs.Cuts.{last_ending_or-with, last_ending-with, own_lines-with, cut_with, join-with, cut-with}
@@ -14,11 +16,12 @@ use Rattle.laws_endings.proofs.Openings.{leaf_with, opening_with}
 module _ (e : LineEnding) where
   -- a block made of lines, and the ending of its last one
   ended-with : (make : List BlockLine → Block) → ((ls : List BlockLine) → make (lines_with e ls) ≡ block_with e (make ls)) → (ls : List BlockLine)
-      → ended (make (own_lines (lines_with e ls))) (last_ending (lines_with e ls)) ≡ blocks_with e (ended (make (own_lines ls)) (last_ending ls))
+      → block_and_ending (make (own_lines (lines_with e ls))) (last_ending (lines_with e ls))
+      ≡ blocks_with e (block_and_ending (make (own_lines ls)) (last_ending ls))
   ended-with make same ls =
-      ap (λ own. ended (make own) (last_ending (lines_with e ls))) (own_lines-with e ls)
-      ∙ ap (λ b. ended b (last_ending (lines_with e ls))) (same (own_lines ls))
-      ∙ ap (ended (block_with e (make (own_lines ls)))) (last_ending-with e ls)
+      ap (λ own. block_and_ending (make own) (last_ending (lines_with e ls))) (own_lines-with e ls)
+      ∙ ap (λ b. block_and_ending b (last_ending (lines_with e ls))) (same (own_lines ls))
+      ∙ ap (block_and_ending (block_with e (make (own_lines ls)))) (last_ending-with e ls)
 
   blanks-with : (ls : List BlockLine) → blanks (lines_with e ls) ≡ blocks_with e (blanks ls)
   blanks-with [] = refl
@@ -35,11 +38,11 @@ module _ (e : LineEnding) where
   close_leaf-with : (on : Constructs) (leaf : OpenLeaf) → close_leaf on (leaf_with e leaf) ≡ blocks_with e (close_leaf on leaf)
   close_leaf-with on (Text ls) = ap with_paragraph (cut-with e on ls) ∙ with_paragraph-with (cut on ls)
   close_leaf-with on (Indented ls pending) =
-      let code = ended (IndentedCode (own_lines ls)) (last_ending ls) in
+      let code = block_and_ending (IndentedCode (own_lines ls)) (last_ending ls) in
       ap (λ bs. join bs (blanks (lines_with e pending))) (ended-with IndentedCode (λ _. refl) ls)
       ∙ ap (join (blocks_with e code)) (blanks-with pending)
       ∙ join-with e code (blanks pending)
-  close_leaf-with on (Fenced fence ending ls) = ap (ended (FencedCode fence.info false (lines_with e ls))) (last_ending_or-with e ending ls)
+  close_leaf-with on (Fenced fence ending ls) = ap (block_and_ending (FencedCode fence.info false (lines_with e ls))) (last_ending_or-with e ending ls)
   close_leaf-with on (OpenHtml kind ls) = ended-with Html (λ _. refl) ls
   close_leaf-with on (OpenTable ls) = ended-with Table (λ _. refl) ls
 

@@ -1,5 +1,6 @@
 -- The inline structure of a content with another ending in place of each LF.
-use Rattle.std.proofs.Common.{◌≡◌, ℕ, zero, suc, ◌+◌, ◌-◌, List, [], ◌∷◌, ◌++◌, None, Some, Option, Bool, true, false, cond, not, ◌&&◌, ◌||◌, eqb, refl, sym, ap, ◌∙◌, drop, map}
+use Rattle.std.proofs.Common.{◌≡◌, ℕ, zero, suc, ◌+◌, ◌-◌, List, [], ◌∷◌, ◌++◌, None, Some, Option, Bool, true, false, cond, not, ◌&&◌, ◌||◌, eqb, refl, sym}
+use Rattle.std.proofs.Common.{ap, ◌∙◌, drop, map}
 use Rattle.std.specs.Prelude.{is_some, codes, slice_index_or}
 use Rattle.std.specs.List.{fold, prefix_len}
 use Rattle.std.proofs.Math.ListN.{get_or-map}
@@ -21,11 +22,14 @@ use Rattle.definition_inline.specs.Autolink.{autolink_at}
 use Rattle.definition_inline.specs.HtmlText.{html_text_at}
 use Rattle.definition_inline.specs.HardBreak.{escaped_break_at, line_end_at, line_spaces_at}
 use Rattle.definition_inline.specs.GfmAutolinkLiteral.{literal_at, linked_literals}
-use Rattle.definition_inline.specs.LabelEnd.{Formed, Leads, Calls}
-use Rattle.definition_inline.specs.GfmLabelStartFootnote.{called, call_or_link}
+use Rattle.definition_inline.specs.LabelEnd.{LinkOrCall, Leads, Calls}
+use Rattle.definition_inline.specs.GfmLabelStartFootnote.{called_label, call_or_link}
 use Rattle.definition_inline.specs.Attention.{Run, is_marker, run_between, run_size, run_at}
-use Rattle.definition_inline.specs.Spans.{Token, Item, Delimiters, emphasized}
-use Rattle.definition_inline.specs.Scan.{InlineContext, leaf_at, leaf_here, LabelStart, LinkStart, ImageStart, starts_image, starts_link, label_start_at, start_more, start_tokens, may_form, label_part, formed_part, formed_at, makes_link, Text, text, OpenLabel, Reading, reading, read_tokens, unformed, formed, Step, Next, data_step, ended_step, ended_by, label_end_step, last_step, label_step, run_step, leaf_step, step, and_then, scan, whole_text, inlines, inlines_from, unindented}
+use Rattle.definition_inline.specs.Spans.{Token, Item, Delimiters, with_spans}
+use Rattle.definition_inline.specs.Scan.{InlineContext, leaf_at, leaf_here, LabelStart, LinkStart, ImageStart, starts_image, starts_link, label_start_at}
+use Rattle.definition_inline.specs.Scan.{start_more, start_tokens, may_form, label_part, formed_part, formed_at, makes_link, Text, text, OpenLabel, Reading}
+use Rattle.definition_inline.specs.Scan.{reading, read_tokens, with_plain_start, with_link_or_call, Step, Next, data_step, ended_step, ended_by, label_end_step}
+use Rattle.definition_inline.specs.Scan.{last_step, label_step, run_step, leaf_step, step, and_then, scan, whole_text, inlines, inlines_from, without_indent}
 use Rattle.laws_endings.specs.Endings.{code_with, codes_with}
 use Rattle.laws_endings.specs.Inlines.{inline_code_with, content_with, target_with, inline_with, inlines_with}
 use Rattle.laws_endings.specs.Laws.{InlinesLaw}
@@ -103,7 +107,7 @@ module _ (e : LineEnding) where
   start_tokens-same LinkStart = refl
   start_tokens-same ImageStart = refl
 
-  unformed-with : (label : OpenLabel) (inner : Text) → unformed (open_with label) (text_with inner) ≡ text_with (unformed label inner)
+  unformed-with : (label : OpenLabel) (inner : Text) → with_plain_start (open_with label) (text_with inner) ≡ text_with (with_plain_start label inner)
   unformed-with label inner =
       let links = label.outer.holds_link || inner.holds_link in
       let outer = label.outer.tokens in
@@ -117,14 +121,14 @@ module _ (e : LineEnding) where
   label_part-with LinkStart target kids = refl
   label_part-with ImageStart target kids = refl
 
-  formed_part-with : (start : LabelStart) (found : Formed) (tokens : List Token)
+  formed_part-with : (start : LabelStart) (found : LinkOrCall) (tokens : List Token)
       → formed_part start (formed_with e found) (tokens_with e tokens) ≡ inline_with e (formed_part start found tokens)
   formed_part-with start (Leads end) tokens =
-      ap (label_part start (target_with e end.target)) (emphasized-with e tokens) ∙ label_part-with start end.target (emphasized tokens)
+      ap (label_part start (target_with e end.target)) (emphasized-with e tokens) ∙ label_part-with start end.target (with_spans tokens)
   formed_part-with start (Calls label) tokens = refl
 
-  formed-with : (label : OpenLabel) (found : Formed) (inner : Text)
-      → formed (open_with label) (formed_with e found) (text_with inner) ≡ text_with (formed label found inner)
+  formed-with : (label : OpenLabel) (found : LinkOrCall) (inner : Text)
+      → with_link_or_call (open_with label) (formed_with e found) (text_with inner) ≡ text_with (with_link_or_call label found inner)
   formed-with label found inner =
       let links = label.outer.holds_link || makes_link label.start inner.holds_link in
       let outer = label.outer.tokens in
@@ -137,15 +141,15 @@ module _ (e : LineEnding) where
   data_step-with : (code : ℕ) (r : Reading) → data_step code (reading_with r) ≡ step_with (data_step code r)
   data_step-with code r = ap (Next 0) (read_tokens-with (Item (Data code) ∷ []) r)
 
-  ended_step-with : (label : OpenLabel) (others : List OpenLabel) (inner : Text) (found : Option Formed)
+  ended_step-with : (label : OpenLabel) (others : List OpenLabel) (inner : Text) (found : Option LinkOrCall)
       → ended_step (open_with label) (map open_with others) (text_with inner) (if_formed e found) ≡ step_with (ended_step label others inner found)
   ended_step-with label others inner None =
       ap (λ now. Next 0 (read_tokens (Item (Data 93) ∷ []) (reading now (map open_with others)))) (unformed-with label inner)
-      ∙ ap (Next 0) (read_tokens-with (Item (Data 93) ∷ []) (reading (unformed label inner) others))
+      ∙ ap (Next 0) (read_tokens-with (Item (Data 93) ∷ []) (reading (with_plain_start label inner) others))
   ended_step-with label others inner (Some (Leads end)) =
       ap (λ now. Next end.size (reading now (map open_with others))) (formed-with label (Leads end) inner)
-  ended_step-with label others inner (Some (Calls called)) =
-      ap (λ now. Next 0 (reading now (map open_with others))) (formed-with label (Calls called) inner)
+  ended_step-with label others inner (Some (Calls called_label)) =
+      ap (λ now. Next 0 (reading now (map open_with others))) (formed-with label (Calls called_label) inner)
 
   starts_image-with : (on : Constructs) (cs : List ℕ) → starts_image on (codes_with e cs) ≡ starts_image on cs
   starts_image-with on cs =
@@ -172,7 +176,7 @@ module _ (e : LineEnding) where
       ∙ ap (λ n. cond (test c.code) (1 + n) 0) (prefix-with test p q cs)
 
   -- a content without the spaces and tabs at its start
-  pub unindented-with : (content : List InlineCode) → unindented (content_with e content) ≡ content_with e (unindented content)
+  pub unindented-with : (content : List InlineCode) → without_indent (content_with e content) ≡ content_with e (without_indent content)
   unindented-with content =
       ap (λ n. drop n (content_with e content)) (prefix-with is_white refl refl content)
       ∙ drop-map (inline_code_with e) (prefix_len (λ (c : InlineCode). is_white c.code) content) content
@@ -203,7 +207,7 @@ module _ (e : LineEnding) where
     formed_at-with LinkStart between rest =
         let on = context.options.constructs in
         ap (call_or_link on context.is_defined (codes_with e between) (codes_with e rest)) (called-with e on context.is_footnote same_call between)
-        ∙ call_or_link-with e context.is_defined same on between rest (called on context.is_footnote between)
+        ∙ call_or_link-with e context.is_defined same on between rest (called_label on context.is_footnote between)
     formed_at-with ImageStart between rest = leading-with e context.is_defined same between rest
 
     ended_by-with : (content : List ℕ) (label : OpenLabel) (inner : Text)
@@ -290,10 +294,12 @@ module _ (e : LineEnding) where
     scan-with (suc k) r (c ∷ cs) = scan-with k r cs
 
     unformed_all : (now : Text) (labels : List OpenLabel)
-        → fold (λ inner label. unformed label inner) (text_with now) (map open_with labels) ≡ text_with (fold (λ inner label. unformed label inner) now labels)
+        → fold (λ inner label. with_plain_start label inner) (text_with now) (map open_with labels)
+        ≡ text_with (fold (λ inner label. with_plain_start label inner) now labels)
     unformed_all now [] = refl
     unformed_all now (label ∷ labels) =
-        ap (λ t. fold (λ inner l. unformed l inner) t (map open_with labels)) (unformed-with label now) ∙ unformed_all (unformed label now) labels
+        ap (λ t. fold (λ inner l. with_plain_start l inner) t (map open_with labels)) (unformed-with label now)
+        ∙ unformed_all (with_plain_start label now) labels
 
     -- the inline structure of a content from a place on
     pub from-with : (content : List InlineCode) → inlines_from context (content_with e content) ≡ inlines_with e (inlines_from context content)
@@ -301,13 +307,13 @@ module _ (e : LineEnding) where
         let empty = reading (text [] false) [] in
         let read = scan context 0 empty content in
         let linked = linked_literals context.options.constructs in
-        ap (λ r. linked (emphasized (whole_text r).tokens)) (scan-with 0 empty content)
-        ∙ ap (λ (t : Text). linked (emphasized t.tokens)) (unformed_all read.now read.open_labels)
+        ap (λ r. linked (with_spans (whole_text r).tokens)) (scan-with 0 empty content)
+        ∙ ap (λ (t : Text). linked (with_spans t.tokens)) (unformed_all read.now read.open_labels)
         ∙ ap linked (emphasized-with e (whole_text read).tokens)
-        ∙ linked-with e context.options.constructs (emphasized (whole_text read).tokens)
+        ∙ linked-with e context.options.constructs (with_spans (whole_text read).tokens)
 
     pub inlines-with : (content : List InlineCode) → inlines context (content_with e content) ≡ inlines_with e (inlines context content)
-    inlines-with content = ap (inlines_from context) (unindented-with content) ∙ from-with (unindented content)
+    inlines-with content = ap (inlines_from context) (unindented-with content) ∙ from-with (without_indent content)
 
 pub inlines_law : InlinesLaw
 inlines_law e context content same same_call = inlines-with e context same same_call content

@@ -10,7 +10,7 @@ use Rattle.definition_text.specs.BlockLines.{BlockLine, last_ending_or, last_end
 use Rattle.definition_text.specs.Content.{is_eol, ending_code, line_codes, content_of}
 use Rattle.definition_inline.specs.Definition.{Definition as LinkDefinition, definition_at}
 use Rattle.definition_block.specs.Blocks.{Definition, Ending, Blocks, Nil, Cons, join}
-use Rattle.definition_block.specs.Definitions.{Cut, cut_into, line_count, lines_before, defined, cut_after, cut_most, cut}
+use Rattle.definition_block.specs.Definitions.{Cut, cut_into, line_count, lines_before, definition_lines, cut_after, cut_most, cut}
 use Rattle.laws_endings.specs.Endings.{code_with, codes_with, if_ending_with, line_with, lines_with, definition_with, block_with, blocks_with}
 use Rattle.laws_endings.proofs.Codes.{cond-under, same_code}
 use Rattle.laws_endings.proofs.Definitions.{definition_at-with}
@@ -74,7 +74,7 @@ module _ (e : LineEnding) where
   lines_before-with rest ls =
       ap (λ n. n - line_count (codes_with e rest)) (length-map ls (line_with e)) ∙ ap (λ n. length ls - n) (line_count-with rest)
 
-  defined-with : (d : LinkDefinition) (ls : List BlockLine) → defined (definition_with e d) (lines_with e ls) ≡ blocks_with e (defined d ls)
+  defined-with : (d : LinkDefinition) (ls : List BlockLine) → definition_lines (definition_with e d) (lines_with e ls) ≡ blocks_with e (definition_lines d ls)
   defined-with d ls = ap (λ ending. Cons (block_with e (Definition d.label d.destination d.title)) (Cons (Ending ending) Nil)) (last_ending-with ls)
 
   cut_after-with : (found : Option LinkDefinition) (ls : List BlockLine) (more : List BlockLine → Cut)
@@ -84,15 +84,15 @@ module _ (e : LineEnding) where
   cut_after-with (Some d) ls more same =
       let count = lines_before d.rest ls in
       let all = lines_with e ls in
-      let front : ℕ → Blocks = λ n. defined (definition_with e d) (take n all) in
+      let front : ℕ → Blocks = λ n. definition_lines (definition_with e d) (take n all) in
       let with : Blocks → Cut → Cut = λ first others. cut_into (join first others.definitions) others.left in
       ap (λ n. with (front n) (more (drop n all))) (lines_before-with d.rest ls)
       ∙ ap (λ others. with (front count) (more others)) (drop-map (line_with e) count ls)
       ∙ ap (with (front count)) (same (drop count ls))
-      ∙ ap (λ first. with (defined (definition_with e d) first) (cut_with (more (drop count ls)))) (take-map (line_with e) count ls)
+      ∙ ap (λ first. with (definition_lines (definition_with e d) first) (cut_with (more (drop count ls)))) (take-map (line_with e) count ls)
       ∙ ap (λ first. with first (cut_with (more (drop count ls)))) (defined-with d (take count ls))
       ∙ ap (λ definitions. cut_into definitions (lines_with e (more (drop count ls)).left))
-      (join-with (defined d (take count ls)) (more (drop count ls)).definitions)
+      (join-with (definition_lines d (take count ls)) (more (drop count ls)).definitions)
 
   cut_most-with : (most : ℕ) (ls : List BlockLine) → cut_most most (lines_with e ls) ≡ cut_with (cut_most most ls)
   cut_most-with zero ls = refl

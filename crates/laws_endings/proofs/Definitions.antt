@@ -7,7 +7,8 @@ use Rattle.definition_inline.specs.Space.{after_spaces, after_white, begins_with
 use Rattle.definition_inline.specs.Label.{label_at}
 use Rattle.definition_inline.specs.Destination.{destination_at}
 use Rattle.definition_inline.specs.Title.{title_at}
-use Rattle.definition_inline.specs.Definition.{Definition, next_line_after, next_line, definition_before, with_title, titled, untitled, or_untitled, with_destination, with_colon, with_label, definition_at}
+use Rattle.definition_inline.specs.Definition.{Definition, next_line_after, next_line, definition_before, with_title, definition_with_title}
+use Rattle.definition_inline.specs.Definition.{definition_without_title, or_definition_without_title, with_destination, with_colon, with_label, definition_at}
 use Rattle.laws_endings.specs.Endings.{codes_with, definition_with}
 use Rattle.laws_endings.proofs.Codes.{cond-under, same_code, part_with}
 use Rattle.laws_endings.proofs.Labels.{after_spaces-with, after_white-with, begins_with_space-with, label_at-with, destination_at-with, title_at-with}
@@ -43,7 +44,8 @@ module _ (e : LineEnding) where
       ap (definition_before (codes_with e label) (codes_with e destination) (Some (codes_with e title.text))) (next_line-with title.rest)
       ∙ definition_before-with label destination (Some title.text) (next_line title.rest)
 
-  titled-with : (label : List ℕ) (destination : Part) → titled (codes_with e label) (part_with e destination) ≡ if_definition (titled label destination)
+  titled-with : (label : List ℕ) (destination : Part) → definition_with_title (codes_with e label) (part_with e destination)
+      ≡ if_definition (definition_with_title label destination)
   titled-with label destination =
       let rest = codes_with e destination.rest in
       let with : Option Part → Option Definition = with_title (codes_with e label) (codes_with e destination.text) in
@@ -54,13 +56,15 @@ module _ (e : LineEnding) where
       ∙ with_title-with label destination.text (title_at (after_white destination.rest)))
       refl
 
-  untitled-with : (label : List ℕ) (destination : Part) → untitled (codes_with e label) (part_with e destination) ≡ if_definition (untitled label destination)
+  untitled-with : (label : List ℕ) (destination : Part) → definition_without_title (codes_with e label) (part_with e destination)
+      ≡ if_definition (definition_without_title label destination)
   untitled-with label destination =
       ap (definition_before (codes_with e label) (codes_with e destination.text) None) (next_line-with destination.rest)
       ∙ definition_before-with label destination.text None (next_line destination.rest)
 
   or_untitled-with : (label : List ℕ) (destination : Part) (found : Option Definition)
-      → or_untitled (codes_with e label) (part_with e destination) (if_definition found) ≡ if_definition (or_untitled label destination found)
+      → or_definition_without_title (codes_with e label) (part_with e destination) (if_definition found)
+      ≡ if_definition (or_definition_without_title label destination found)
   or_untitled-with label destination None = untitled-with label destination
   or_untitled-with label destination (Some found) = refl
 
@@ -68,8 +72,8 @@ module _ (e : LineEnding) where
       → with_destination (codes_with e label) (if_part destination) ≡ if_definition (with_destination label destination)
   with_destination-with label None = refl
   with_destination-with label (Some destination) =
-      ap (or_untitled (codes_with e label) (part_with e destination)) (titled-with label destination)
-      ∙ or_untitled-with label destination (titled label destination)
+      ap (or_definition_without_title (codes_with e label) (part_with e destination)) (titled-with label destination)
+      ∙ or_untitled-with label destination (definition_with_title label destination)
 
   with_colon-with : (label cs : List ℕ) → with_colon (codes_with e label) (codes_with e cs) ≡ if_definition (with_colon label cs)
   with_colon-with label [] = refl

@@ -27,14 +27,16 @@ module _ (e : LineEnding) where
       let first = cell [] before Punctuation in
       ap (λ bar. cond bar (first ∷ parts Punctuation false (codes_with e cs)) (in_first_cell d before (parts before (may_escape escaped d) (codes_with e cs))))
       (same_code e (is_bar escaped) c refl refl)
-      ∙ ap (λ escapes. cond (is_bar escaped c) (first ∷ parts Punctuation false (codes_with e cs)) (in_first_cell d before (parts before escapes (codes_with e cs))))
+      ∙ ap (λ escapes. cond (is_bar escaped c) (first ∷ parts Punctuation false (codes_with e cs))
+      (in_first_cell d before (parts before escapes (codes_with e cs))))
       (same_code e (may_escape escaped) c refl refl)
       ∙ cond-under (map cell_with) (is_bar escaped c) (ap (λ others. first ∷ others) (parts-with Punctuation false cs))
       (ap (in_first_cell d before) (parts-with before (may_escape escaped c) cs) ∙ in_first-with c before (parts before (may_escape escaped c) cs))
 
   blank-with : (codes : List ℕ) → is_blank (codes_with e codes) ≡ is_blank codes
   blank-with [] = refl
-  blank-with (c ∷ cs) = ap (λ white. white && is_blank (codes_with e cs)) (same_code e is_white c refl refl) ∙ ap (λ others. is_white c && others) (blank-with cs)
+  blank-with (c ∷ cs) = ap (λ white. white && is_blank (codes_with e cs)) (same_code e is_white c refl refl)
+      ∙ ap (λ others. is_white c && others) (blank-with cs)
 
   first-with : (cs : List Cell) → without_blank_first (map cell_with cs) ≡ map cell_with (without_blank_first cs)
   first-with [] = refl

@@ -1,5 +1,6 @@
 -- One more line, with another ending in place of each LF.
-use Rattle.std.proofs.Common.{◌≡◌, ℕ, zero, suc, List, [], ◌∷◌, ◌++◌, None, Some, Option, Bool, true, false, cond, not, ◌&&◌, ◌||◌, ◌-◌, refl, sym, ap, ◌∙◌, length, take, drop}
+use Rattle.std.proofs.Common.{◌≡◌, ℕ, zero, suc, List, [], ◌∷◌, ◌++◌, None, Some, Option, Bool, true, false, cond, not, ◌&&◌, ◌||◌, ◌-◌, refl, sym, ap, ◌∙◌}
+use Rattle.std.proofs.Common.{length, take, drop}
 use Rattle.std.specs.Option.{option_map}
 use Rattle.std.proofs.lemmas.List.{map-append, take-map, drop-map, length-map}
 use Rattle.markdown_options.specs.declared.line_ending.LineEnding.{LineEnding}
@@ -7,8 +8,9 @@ use Rattle.markdown_options.specs.declared.configuration.Constructs.{Constructs}
 use Rattle.definition_text.specs.declared.beside.Beside.{Beside}
 use Rattle.definition_block.specs.Container.{Container}
 use Rattle.definition_text.specs.Columns.{Rest, is_blank}
-use Rattle.definition_text.specs.Indents.{outdented}
-use Rattle.definition_block.specs.Started.{Started}
+use Rattle.definition_text.specs.Indents.{outdent}
+use Rattle.definition_block.specs.ContainerLine.{ContainerLine}
+use Rattle.definition_block.specs.ContainerStart.{ContainerStart}
 use Rattle.definition_block.specs.Containers.{continues, starts}
 use Rattle.definition_block.specs.CodeIndented.{starts_code_indented}
 use Rattle.definition_block.specs.CodeFenced.{Fence, fence_start, is_fence_end, fence_line}
@@ -20,14 +22,18 @@ use Rattle.definition_block.specs.ThematicBreak.{is_break}
 use Rattle.definition_block.specs.declared.align_kind.AlignKind.{AlignKind}
 use Rattle.definition_block.specs.GfmTable.{delimiter_row, is_head}
 use Rattle.definition_block.specs.Definitions.{Cut, cut}
-use Rattle.definition_block.specs.Tree.{BlockLine, block_line, spaced_line, own_lines, Paragraph, Heading, Break, IndentedCode, FencedCode, Html, Table, Definition, Holds, Items, Ending, Blank, Blocks, Nil, Cons, join, one, ended}
-use Rattle.definition_block.specs.Tree.{OpenLeaf, Text, Indented, Fenced, OpenHtml, OpenTable, Opening, Leaf, Inside, Tree, tree, nothing, close, leaf_text, open_text, is_some_line, has_text, has_table, table_of, table_if, makes_table, paragraph_of, leaf_with_line, with_line, rest_line}
-use Rattle.definition_block.specs.Tree.{indented_takes, fenced_takes, html_with, takes, or_heading, or_fence, or_html, begins, after, text_line_of, break_or_text, text_here, heading_of, underlined, turns, begun, taken, leaf_line}
+use Rattle.definition_block.specs.Tree.{BlockLine, block_line, spaced_line, own_lines, Paragraph, Heading, Break, IndentedCode, FencedCode, Html, Table}
+use Rattle.definition_block.specs.Tree.{Definition, Holds, Items, Ending, Blank, Blocks, Nil, Cons, join, one, block_and_ending}
+use Rattle.definition_block.specs.Tree.{OpenLeaf, Text, Indented, Fenced, OpenHtml, OpenTable, Opening, Leaf, Inside, Tree, tree, nothing, close, leaf_text}
+use Rattle.definition_block.specs.Tree.{open_text, is_some_line, has_text, has_table, table_of, table_if, makes_table, paragraph_of, leaf_with_line, with_line}
+use Rattle.definition_block.specs.Tree.{rest_line}
+use Rattle.definition_block.specs.Tree.{indented_takes, fenced_takes, html_with, takes, or_heading, or_fence, or_html, begins, after, text_line_of}
+use Rattle.definition_block.specs.Tree.{break_or_text, text_here, heading_of, heading_if, turns, begun, tree_or, leaf_line}
 use Rattle.definition_block.specs.Tree.{beside_in, start, new, in_container, is_nothing, is_one_blank, began_blank, goes_on, grow}
 use Rattle.laws_endings.specs.Endings.{if_ending_with, line_with, lines_with, blocks_with}
 use Rattle.laws_endings.proofs.Codes.{cond-under}
 use Rattle.laws_endings.proofs.Cuts.{own_lines-with, join-with, cut_with, cut-with}
-use Rattle.laws_endings.proofs.Rests.{Kept, outdented-kept, block_codes-kept, KeptRest, KeptStarted, starts-kept, continues-kept, KeptAtx, heading_atx-kept}
+use Rattle.laws_endings.proofs.Rests.{Kept, outdented-kept, block_codes-kept, KeptLine, KeptStarted, starts-kept, continues-kept, KeptAtx, heading_atx-kept}
 use Rattle.laws_endings.proofs.Openings.{leaf_with, opening_with, tree_with, beside_with}
 use Rattle.laws_endings.proofs.Closing.{paragraph_of-with, close-with}
 use Rattle.laws_endings.proofs.GfmTable.{is_head-with}
@@ -90,7 +96,7 @@ module _ (e : LineEnding) where
   indented_takes-with : (on : Constructs) (ls pending : List BlockLine) (rest : Rest) (beside : Beside) → Kept e rest
       → indented_takes on (lines_with e ls) (lines_with e pending) rest (beside_with e beside) ≡ if_tree (indented_takes on ls pending rest beside)
   indented_takes-with on ls pending rest beside k =
-      let code = outdented 4 rest in
+      let code = outdent 4 rest in
       let kept = outdented-kept e 4 rest k in
       cond-under if_tree (is_blank rest)
       (ap (λ others. Some (tree Nil (Leaf (Indented (lines_with e ls) others)))) (more_lines pending code beside kept))
@@ -109,7 +115,7 @@ module _ (e : LineEnding) where
   html_with-with : (kind : ℕ) (ls : List BlockLine) (rest : Rest) (beside : Beside) → Kept e rest
       → html_with kind (lines_with e ls) rest (beside_with e beside) ≡ tree_with e (html_with kind ls rest beside)
   html_with-with kind ls rest beside k =
-      let made : List BlockLine → Tree = λ own. tree (ended (Html own) (if_ending_with e beside.ending)) nothing in
+      let made : List BlockLine → Tree = λ own. tree (block_and_ending (Html own) (if_ending_with e beside.ending)) nothing in
       let more = ls ++ rest_line rest beside ∷ [] in
       ap (λ all. cond (html_ends_here kind rest) (made (own_lines all)) (tree Nil (Leaf (OpenHtml kind all)))) (more_lines ls rest beside k)
       ∙ cond-under (tree_with e) (html_ends_here kind rest) (ap made (own_lines-with e more)) refl
@@ -129,7 +135,7 @@ module _ (e : LineEnding) where
       → or_heading (if_ending_with e ending) found ≡ if_tree (or_heading ending found)
   or_heading-with ending None k = refl
   or_heading-with ending (Some atx) k =
-      ap (λ content. Some (tree (ended (Heading atx.rank (spaced_line content None ∷ [])) (if_ending_with e ending)) nothing)) (sym k)
+      ap (λ content. Some (tree (block_and_ending (Heading atx.rank (spaced_line content None ∷ [])) (if_ending_with e ending)) nothing)) (sym k)
 
   or_fence-with : (ending : Option LineEnding) (found : Option Fence) (more other : Option Tree) → more ≡ if_tree other
       → or_fence (if_ending_with e ending) found more ≡ if_tree (or_fence ending found other)
@@ -145,7 +151,7 @@ module _ (e : LineEnding) where
       → begins on paragraph rest (beside_with e beside) ≡ if_tree (begins on paragraph rest beside)
   begins-with on paragraph rest beside k =
       cond-under if_tree (starts_code_indented on rest && not paragraph)
-      (ap (λ line. Some (tree Nil (Leaf (Indented (line ∷ []) [])))) (rest_line-with (outdented 4 rest) beside (outdented-kept e 4 rest k)))
+      (ap (λ line. Some (tree Nil (Leaf (Indented (line ∷ []) [])))) (rest_line-with (outdent 4 rest) beside (outdented-kept e 4 rest k)))
       (or_fence-with beside.ending (fence_start on rest) _ _
       (or_fence-with beside.ending (math_start on rest) _ _
       (or_html-with rest beside (html_start on paragraph rest) _ _ k
@@ -179,12 +185,12 @@ module _ (e : LineEnding) where
       → heading_of rank (blocks_with e definitions) (lines_with e ls) (if_ending_with e ending) ≡ if_tree (heading_of rank definitions ls ending)
   heading_of-with rank definitions [] ending = refl
   heading_of-with rank definitions (line ∷ ls) ending =
-      let made : List BlockLine → Blocks = λ own. ended (Heading rank own) (if_ending_with e ending) in
+      let made : List BlockLine → Blocks = λ own. block_and_ending (Heading rank own) (if_ending_with e ending) in
       ap (λ own. Some (tree (join (blocks_with e definitions) (made own)) nothing)) (own_lines-with e (line ∷ ls))
-      ∙ ap (λ done. Some (tree done nothing)) (join-with e definitions (ended (Heading rank (own_lines (line ∷ ls))) ending))
+      ∙ ap (λ done. Some (tree done nothing)) (join-with e definitions (block_and_ending (Heading rank (own_lines (line ∷ ls))) ending))
 
   underlined-with : (on : Constructs) (rank : Option ℕ) (ls : List BlockLine) (ending : Option LineEnding)
-      → underlined on rank (lines_with e ls) (if_ending_with e ending) ≡ if_tree (underlined on rank ls ending)
+      → heading_if on rank (lines_with e ls) (if_ending_with e ending) ≡ if_tree (heading_if on rank ls ending)
   underlined-with on None ls ending = refl
   underlined-with on (Some rank) ls ending =
       ap (λ (parts : Cut). heading_of rank parts.definitions parts.left (if_ending_with e ending)) (cut-with e on ls)
@@ -193,12 +199,12 @@ module _ (e : LineEnding) where
   turns-with : (on : Constructs) (away : Opening) (rest : Rest) (ending : Option LineEnding)
       → turns on (opening_with e away) rest (if_ending_with e ending) ≡ if_tree (turns on away rest ending)
   turns-with on away rest ending =
-      ap (λ ls. underlined on (underline on rest) ls (if_ending_with e ending)) (text_here-with away)
+      ap (λ ls. heading_if on (underline on rest) ls (if_ending_with e ending)) (text_here-with away)
       ∙ underlined-with on (underline on rest) (text_here away) ending
 
   -- ---- tables
 
-  taken-with : (found : Option Tree) (other : Tree) → taken (if_tree found) (tree_with e other) ≡ tree_with e (taken found other)
+  taken-with : (found : Option Tree) (other : Tree) → tree_or (if_tree found) (tree_with e other) ≡ tree_with e (tree_or found other)
   taken-with None other = refl
   taken-with (Some t) other = refl
 
@@ -221,10 +227,12 @@ module _ (e : LineEnding) where
   table_if-with on (Some columns) ls row =
       let parts = cut on ls in
       let count = length columns in
-      let made : Cut → Bool → Option Tree = λ own fits. cond (is_some_line own.left && fits) (Some (table_of own.definitions own.left (line_with e row))) None in
+      let made : Cut → Bool → Option Tree =
+      λ own fits. cond (is_some_line own.left && fits) (Some (table_of own.definitions own.left (line_with e row))) None in
       ap (λ own. made own (is_head count (lines_with e ls))) (cut-with e on ls)
       ∙ ap (made (cut_with e parts)) (is_head-with e count ls)
-      ∙ ap (λ some. cond (some && is_head count ls) (Some (table_of (blocks_with e parts.definitions) (lines_with e parts.left) (line_with e row))) None) (is_some_line-with parts.left)
+      ∙ ap (λ some. cond (some && is_head count ls) (Some (table_of (blocks_with e parts.definitions) (lines_with e parts.left) (line_with e row))) None)
+      (is_some_line-with parts.left)
       ∙ cond-under if_tree (is_some_line parts.left && is_head count ls) (ap Some (table_of-with parts.definitions parts.left row)) refl
 
   makes_table-with : (on : Constructs) (away : Opening) (rest : Rest) (beside : Beside) → Kept e rest
@@ -238,9 +246,9 @@ module _ (e : LineEnding) where
       → break_or_text on (opening_with e away) rest (beside_with e beside) ≡ tree_with e (break_or_text on away rest beside)
   break_or_text-with on away rest beside k =
       let text = text_line_of on away rest beside in
-      cond-under (tree_with e) (is_break on rest) (after-with on away (tree (ended Break beside.ending) nothing))
-      (ap (λ found. taken found (text_line_of on (opening_with e away) rest (beside_with e beside))) (makes_table-with on away rest beside k)
-      ∙ ap (taken (if_tree (makes_table on away rest beside))) (text_line_of-with on away rest beside k)
+      cond-under (tree_with e) (is_break on rest) (after-with on away (tree (block_and_ending Break beside.ending) nothing))
+      (ap (λ found. tree_or found (text_line_of on (opening_with e away) rest (beside_with e beside))) (makes_table-with on away rest beside k)
+      ∙ ap (tree_or (if_tree (makes_table on away rest beside))) (text_line_of-with on away rest beside k)
       ∙ taken-with (makes_table on away rest beside) text)
 
   -- ---- a rest that starts no container
@@ -258,19 +266,21 @@ module _ (e : LineEnding) where
       let turned = turns on away rest beside.ending in
       let text = break_or_text on away rest beside in
       cond-under (tree_with e) (is_blank rest) (after-with on away (tree (one (Blank beside.ending)) nothing))
-      (ap (λ has. begun on (begins on has rest ends) now (taken (turns on now rest ends.ending) (break_or_text on now rest ends))) (has_text-with away)
-      ∙ ap (λ found. begun on found now (taken (turns on now rest ends.ending) (break_or_text on now rest ends))) (begins-with on (has_text away) rest beside k)
-      ∙ ap (λ found. begun on (if_tree (begins on (has_text away) rest beside)) now (taken found (break_or_text on now rest ends)))
+      (ap (λ has. begun on (begins on has rest ends) now (tree_or (turns on now rest ends.ending) (break_or_text on now rest ends))) (has_text-with away)
+      ∙ ap (λ found. begun on found now (tree_or (turns on now rest ends.ending) (break_or_text on now rest ends)))
+      (begins-with on (has_text away) rest beside k)
+      ∙ ap (λ found. begun on (if_tree (begins on (has_text away) rest beside)) now (tree_or found (break_or_text on now rest ends)))
       (turns-with on away rest beside.ending)
-      ∙ ap (λ other. begun on (if_tree (begins on (has_text away) rest beside)) now (taken (if_tree turned) other)) (break_or_text-with on away rest beside k)
+      ∙ ap (λ other. begun on (if_tree (begins on (has_text away) rest beside)) now (tree_or (if_tree turned) other)) (break_or_text-with on away rest beside k)
       ∙ ap (begun on (if_tree (begins on (has_text away) rest beside)) now) (taken-with turned text)
-      ∙ begun-with on (begins on (has_text away) rest beside) away (taken turned text))
+      ∙ begun-with on (begins on (has_text away) rest beside) away (tree_or turned text))
 
   -- ---- containers
 
-  start-with : (on : Constructs) (found : Option Started) (away : Opening) (none other : Tree) (f g : Started → Tree)
+  start-with : (on : Constructs) (found : Option ContainerStart) (away : Opening) (none other : Tree) (f g : ContainerStart → Tree)
       → none ≡ tree_with e other → KeptStarted e found
-      → ((s : Started) → Kept e s.rest → f s ≡ tree_with e (g s)) → start on found (opening_with e away) none f ≡ tree_with e (start on found away other g)
+      → ((s : ContainerStart) → Kept e s.rest → f s ≡ tree_with e (g s)) → start on found (opening_with e away) none f
+      ≡ tree_with e (start on found away other g)
   start-with on None away none other f g same k more = same
   start-with on (Some s) away none other f g same k more =
       ap (λ (t : Tree). after on (opening_with e away) (tree Nil (Inside s.container t.done t.now))) (more s k)
@@ -282,12 +292,12 @@ module _ (e : LineEnding) where
   new-with (suc most) on all away beside rest k =
       let now = opening_with e away in
       let ends = beside_with e beside in
-      let more : Started → Tree = λ s. new most on true nothing (beside_in s.container rest ends) s.rest in
+      let more : ContainerStart → Tree = λ s. new most on true nothing (beside_in s.before ends) s.rest in
       ap (λ has. start on (starts on (all && has) rest) now (leaf_line on now rest ends) more) (has_text-with away)
       ∙ start-with on (starts on (all && has_text away) rest) away (leaf_line on now rest ends) (leaf_line on away rest beside) more
-      (λ s. new most on true nothing (beside_in s.container rest beside) s.rest)
+      (λ s. new most on true nothing (beside_in s.before beside) s.rest)
       (leaf_line-with on away rest beside k) (starts-kept e on (all && has_text away) rest k)
-      (λ s l. new-with most on true nothing (beside_in s.container rest beside) s.rest l)
+      (λ s l. new-with most on true nothing (beside_in s.before beside) s.rest l)
 
   in_container-with : (c : Container) (kids : Blocks) (t : Tree) → in_container c (blocks_with e kids) (tree_with e t) ≡ tree_with e (in_container c kids t)
   in_container-with c kids t = ap (λ bs. tree Nil (Inside c bs (opening_with e t.now))) (join-with e kids t.done)
@@ -321,25 +331,25 @@ module _ (e : LineEnding) where
   began_blank-with kids inner =
       ap (λ blank. blank && is_nothing (opening_with e inner)) (is_one_blank-with kids) ∙ ap (λ none. is_one_blank kids && none) (is_nothing-with inner)
 
-  goes_on-with : (found : Option Rest) (on : Constructs) (c : Container) (kids : Blocks) (inner : Opening) (beside : Beside) (rest : Rest) (f g : Rest → Tree)
-      → Kept e rest → KeptRest e found → ((others : Rest) → Kept e others → f others ≡ tree_with e (g others))
+  goes_on-with : (found : Option ContainerLine) (on : Constructs) (c : Container) (kids : Blocks) (inner : Opening) (beside : Beside) (rest : Rest)
+      (f g : ContainerLine → Tree) → Kept e rest → KeptLine e found → ((line : ContainerLine) → Kept e line.rest → f line ≡ tree_with e (g line))
       → goes_on found on c (blocks_with e kids) (opening_with e inner) (beside_with e beside) rest f ≡ tree_with e (goes_on found on c kids inner beside rest g)
   goes_on-with None on c kids inner beside rest f g k l more = new-with (length rest) on false (Inside c kids inner) beside rest k
-  goes_on-with (Some others) on c kids inner beside rest f g k l more =
-      ap (in_container c (blocks_with e kids)) (more others l) ∙ in_container-with c kids (g others)
+  goes_on-with (Some line) on c kids inner beside rest f g k l more =
+      ap (in_container c (blocks_with e kids)) (more line l) ∙ in_container-with c kids (g line)
 
   pub grow-with : (on : Constructs) (beside : Beside) (now : Opening) (rest : Rest) → Kept e rest
       → grow on (beside_with e beside) (opening_with e now) rest ≡ tree_with e (grow on beside now rest)
   grow-with on beside (Leaf leaf) rest k =
       let other = new (length rest) on true (Leaf leaf) beside rest in
-      ap (λ found. taken found (new (length rest) on true (opening_with e (Leaf leaf)) (beside_with e beside) rest)) (takes-with on leaf rest beside k)
-      ∙ ap (taken (if_tree (takes on leaf rest beside))) (new-with (length rest) on true (Leaf leaf) beside rest k)
+      ap (λ found. tree_or found (new (length rest) on true (opening_with e (Leaf leaf)) (beside_with e beside) rest)) (takes-with on leaf rest beside k)
+      ∙ ap (tree_or (if_tree (takes on leaf rest beside))) (new-with (length rest) on true (Leaf leaf) beside rest k)
       ∙ taken-with (takes on leaf rest beside) other
   grow-with on beside (Inside c kids inner) rest k =
       let inside = opening_with e inner in
-      let more : Rest → Tree = grow on (beside_in c rest (beside_with e beside)) inside in
-      let found : Option Rest = continues on c (began_blank kids inner) rest in
+      let more : ContainerLine → Tree = λ line. grow on (beside_in line.before (beside_with e beside)) inside line.rest in
+      let found : Option ContainerLine = continues on c (began_blank kids inner) rest in
       ap (λ blank. goes_on (continues on c blank rest) on c (blocks_with e kids) inside (beside_with e beside) rest more) (began_blank-with kids inner)
-      ∙ goes_on-with found on c kids inner beside rest more (grow on (beside_in c rest beside) inner) k
+      ∙ goes_on-with found on c kids inner beside rest more (λ line. grow on (beside_in line.before beside) inner line.rest) k
       (continues-kept e on c (began_blank kids inner) rest k)
-      (λ others l. grow-with on (beside_in c rest beside) inner others l)
+      (λ line l. grow-with on (beside_in line.before beside) inner line.rest l)

@@ -13,9 +13,11 @@ use Rattle.definition_inline.specs.Space.{after_white, begins_with_space}
 use Rattle.definition_inline.specs.Label.{ends_label, is_label, label_at}
 use Rattle.definition_inline.specs.Destination.{destination_at}
 use Rattle.definition_inline.specs.Title.{title_at}
-use Rattle.definition_inline.specs.Resource.{LinkResource, resource_end, with_title, opens_title, after_destination, with_destination, resource_inside, resource_at}
-use Rattle.definition_inline.specs.LabelEnd.{Ended, ended, has_no_bracket, is_label_text, by_text, by_label, by_resource, label_end_at, Formed, Leads, Calls, leading}
-use Rattle.definition_inline.specs.GfmLabelStartFootnote.{called, call_or_link}
+use Rattle.definition_inline.specs.Resource.{LinkResource, resource_end, with_title, opens_title, after_destination, with_destination, resource_inside}
+use Rattle.definition_inline.specs.Resource.{resource_at}
+use Rattle.definition_inline.specs.LabelEnd.{LinkTail, link_tail, has_no_bracket, is_label_text, by_text, by_label, by_resource, label_end_at, LinkOrCall}
+use Rattle.definition_inline.specs.LabelEnd.{Leads, Calls, link_or_image}
+use Rattle.definition_inline.specs.GfmLabelStartFootnote.{called_label, call_or_link}
 use Rattle.laws_endings.specs.Endings.{code_with, codes_with}
 use Rattle.laws_endings.specs.Inlines.{target_with}
 use Rattle.laws_endings.proofs.Codes.{cond-under, same_code, part_with}
@@ -123,23 +125,23 @@ module _ (e : LineEnding) where
   is_label_text-with text =
       ap (λ none. none && is_label (codes_with e text)) (has_no_bracket-with false text) ∙ ap (λ is. has_no_bracket false text && is) (is_label-with e text)
 
-  abbrev pub ended_with : Ended → Ended
-  ended_with found = ended (target_with e found.target) found.size
+  abbrev pub ended_with : LinkTail → LinkTail
+  ended_with found = link_tail (target_with e found.target) found.size
 
-  abbrev pub if_ended : Option Ended → Option Ended
+  abbrev pub if_ended : Option LinkTail → Option LinkTail
   if_ended found = option_map ended_with found
 
-  abbrev pub formed_with : Formed → Formed
+  abbrev pub formed_with : LinkOrCall → LinkOrCall
   formed_with (Leads end) = Leads (ended_with end)
   formed_with (Calls label) = Calls (codes_with e label)
 
-  abbrev pub if_formed : Option Formed → Option Formed
+  abbrev pub if_formed : Option LinkOrCall → Option LinkOrCall
   if_formed found = option_map formed_with found
 
   module _ (is_defined : List ℕ → Bool) (same : (label : List ℕ) → is_defined (codes_with e label) ≡ is_defined label) where
     by_text-with : (text rest : List ℕ) → by_text is_defined (codes_with e text) (codes_with e rest) ≡ if_ended (by_text is_defined text rest)
     by_text-with text rest =
-        let found : Bool → Option Ended = λ empty. Some (ended (Reference (codes_with e text)) (cond empty 2 0)) in
+        let found : Bool → Option LinkTail = λ empty. Some (link_tail (Reference (codes_with e text)) (cond empty 2 0)) in
         let empty : Bool = begins_with (codes "[]") (codes_with e rest) in
         ap (λ is. cond (is && is_defined (codes_with e text)) (found empty) None) (is_label_text-with text)
         ∙ ap (λ is. cond (is_label_text text && is) (found empty) None) (same text)
@@ -150,7 +152,7 @@ module _ (e : LineEnding) where
         → by_label is_defined (codes_with e text) (codes_with e rest) (if_part label) ≡ if_ended (by_label is_defined text rest label)
     by_label-with text rest None = by_text-with text rest
     by_label-with text rest (Some label) =
-        let found : ℕ → Option Ended = λ size. Some (ended (Reference (codes_with e label.text)) size) in
+        let found : ℕ → Option LinkTail = λ size. Some (link_tail (Reference (codes_with e label.text)) size) in
         ap (λ is. cond is (found (length (codes_with e rest) - length (codes_with e label.rest))) None) (same label.text)
         ∙ cond-under if_ended (is_defined label.text)
         (ap (λ n. found (n - length (codes_with e label.rest))) (length-map rest (code_with e))
@@ -163,8 +165,8 @@ module _ (e : LineEnding) where
         ap (by_label is_defined (codes_with e text) (codes_with e rest)) (label_at-with e rest) ∙ by_label-with text rest (label_at rest)
     by_resource-with text rest (Some resource) =
         let target = target_with e (Resource resource.destination resource.title) in
-        ap (λ n. Some (ended target (n - length (codes_with e resource.rest)))) (length-map rest (code_with e))
-        ∙ ap (λ n. Some (ended target (length rest - n))) (length-map resource.rest (code_with e))
+        ap (λ n. Some (link_tail target (n - length (codes_with e resource.rest)))) (length-map rest (code_with e))
+        ∙ ap (λ n. Some (link_tail target (length rest - n))) (length-map resource.rest (code_with e))
 
     pub label_end_at-with : (text rest : List ℕ)
         → label_end_at is_defined (codes_with e text) (codes_with e rest) ≡ if_ended (label_end_at is_defined text rest)
@@ -173,11 +175,11 @@ module _ (e : LineEnding) where
 
     -- ---- calls of footnotes
 
-    leads-with : (found : Option Ended) → option_map Leads (if_ended found) ≡ if_formed (option_map Leads found)
+    leads-with : (found : Option LinkTail) → option_map Leads (if_ended found) ≡ if_formed (option_map Leads found)
     leads-with None = refl
     leads-with (Some end) = refl
 
-    pub leading-with : (text rest : List ℕ) → leading is_defined (codes_with e text) (codes_with e rest) ≡ if_formed (leading is_defined text rest)
+    pub leading-with : (text rest : List ℕ) → link_or_image is_defined (codes_with e text) (codes_with e rest) ≡ if_formed (link_or_image is_defined text rest)
     leading-with text rest = ap (option_map Leads) (label_end_at-with text rest) ∙ leads-with (label_end_at is_defined text rest)
 
     pub call_or_link-with : (on : Constructs) (text rest : List ℕ) (call : Option (List ℕ))
@@ -186,7 +188,7 @@ module _ (e : LineEnding) where
     call_or_link-with on text rest (Some label) = refl
 
   pub called-with : (on : Constructs) (is_footnote : List ℕ → Bool) → ((label : List ℕ) → is_footnote (codes_with e label) ≡ is_footnote label)
-      → (text : List ℕ) → called on is_footnote (codes_with e text) ≡ if_codes (called on is_footnote text)
+      → (text : List ℕ) → called_label on is_footnote (codes_with e text) ≡ if_codes (called_label on is_footnote text)
   called-with on is_footnote same [] = refl
   called-with on is_footnote same (c ∷ label) =
       let other = codes_with e label in

@@ -1,5 +1,6 @@
 -- Constructs that hold no other, in a content with another ending in place of each LF.
-use Rattle.std.proofs.Common.{◌≡◌, ℕ, suc, ◌+◌, ◌-◌, List, [], ◌∷◌, None, Some, Option, Bool, true, false, cond, not, ◌&&◌, ◌||◌, eqb, refl, sym, ap, ◌∙◌, length, drop, take, map, arith}
+use Rattle.std.proofs.Common.{◌≡◌, ℕ, suc, ◌+◌, ◌-◌, List, [], ◌∷◌, None, Some, Option, Bool, true, false, cond, not, ◌&&◌, ◌||◌, eqb, refl, sym, ap, ◌∙◌}
+use Rattle.std.proofs.Common.{length, drop, take, map, arith}
 use Rattle.std.specs.Prelude.{nat_le, codes}
 use Rattle.std.specs.Char.{is_ascii_digit, is_ascii_hexdigit, is_ascii_alphanumeric, is_ascii_punctuation}
 use Rattle.std.specs.List.{prefix_len, list_all, take_while}
@@ -16,10 +17,13 @@ use Rattle.definition_text.specs.Content.{line_ending_code, is_eol, Part, part, 
 use Rattle.definition_text.specs.Runs.{run, after_run}
 use Rattle.definition_inline.specs.Inline.{Data, Escape, Code, Math, Autolink, Html, EscapedBreak, TrailingBreak, LineEnd, Leaf, leaf, or_else}
 use Rattle.definition_inline.specs.CharacterEscape.{escape_at}
-use Rattle.definition_inline.specs.CharacterReference.{CharacterReference, character_reference, before_semicolon, terminated, numbered, named, number_reference, reference_after, reference_form, reference_text, reference_leaf, reference_of, reference_at}
-use Rattle.definition_inline.specs.CodeText.{run_of, code_space, unpadded, raw_part, raw_leaf, raw_at, code_text_at}
+use Rattle.definition_inline.specs.CharacterReference.{CharacterReference, character_reference, before_semicolon, part_to_semicolon, reference_by_number}
+use Rattle.definition_inline.specs.CharacterReference.{reference_by_name, number_reference, reference_after, reference_form, reference_text, reference_leaf}
+use Rattle.definition_inline.specs.CharacterReference.{reference_of, reference_at}
+use Rattle.definition_inline.specs.CodeText.{run_of, code_space, without_padding, raw_part, raw_leaf, raw_at, code_text_at}
 use Rattle.definition_inline.specs.MathText.{may_open_math, math_text_at}
-use Rattle.definition_inline.specs.Autolink.{is_scheme_byte, is_uri_byte, begins_with_scheme, after_uri, uri_end, is_email_byte, is_domain_byte, is_domain, domain_end, email_end, closed_autolink, autolink_after, autolink_at}
+use Rattle.definition_inline.specs.Autolink.{is_scheme_byte, is_uri_byte, begins_with_scheme, after_uri, uri_end, is_email_byte, is_domain_byte, is_domain}
+use Rattle.definition_inline.specs.Autolink.{domain_end, email_end, closed_autolink, autolink_after, autolink_at}
 use Rattle.definition_inline.specs.HtmlText.{html_byte, html_end, html_leaf, html_text_at}
 use Rattle.definition_inline.specs.HardBreak.{ends_inner_line, ends_here, line_end_at, escaped_break_at, is_trailing_break, line_spaces_at}
 use Rattle.definition_inline.specs.Scan.{InlineContext, leaf_at}
@@ -172,7 +176,7 @@ module _ (e : LineEnding) where
       same_code e (λ x. cond (eqb x 59) (Some (part text (codes_with e cs))) None) c refl refl ∙ cond-under (option_map rest_with) (eqb c 59) refl refl
 
   terminated-with : (test : ℕ → Bool) (most : ℕ) → test 13 ≡ test 10 → test 257 ≡ test 10 → test 10 ≡ false → (cs : List ℕ)
-      → terminated test most (codes_with e cs) ≡ option_map rest_with (terminated test most cs)
+      → part_to_semicolon test most (codes_with e cs) ≡ option_map rest_with (part_to_semicolon test most cs)
   terminated-with test most p q h cs =
       let n = prefix_len test cs in
       ap (λ size. cond (nat_le 1 size && nat_le size most) (before_semicolon (take size (codes_with e cs)) (drop size (codes_with e cs))) None)
@@ -183,11 +187,11 @@ module _ (e : LineEnding) where
       ∙ before_semicolon-with (take n cs) (drop n cs))
       refl
 
-  numbered-with : (base : ℕ) (digits : Option Part) → numbered base (option_map rest_with digits) ≡ if_reference (numbered base digits)
+  numbered-with : (base : ℕ) (digits : Option Part) → reference_by_number base (option_map rest_with digits) ≡ if_reference (reference_by_number base digits)
   numbered-with base None = refl
   numbered-with base (Some digits) = refl
 
-  named-with : (name : Option Part) → named (option_map rest_with name) ≡ if_reference (named name)
+  named-with : (name : Option Part) → reference_by_name (option_map rest_with name) ≡ if_reference (reference_by_name name)
   named-with None = refl
   named-with (Some name) = refl
 
@@ -196,19 +200,21 @@ module _ (e : LineEnding) where
   number_reference-with (c ∷ cs) =
       let more = codes_with e cs in
       same_code e
-      (λ x. cond (eqb x 120 || eqb x 88) (numbered 16 (terminated is_ascii_hexdigit 6 more))
-      (numbered 10 (terminated is_ascii_digit 7 (codes_with e (c ∷ cs)))))
+      (λ x. cond (eqb x 120 || eqb x 88) (reference_by_number 16 (part_to_semicolon is_ascii_hexdigit 6 more))
+      (reference_by_number 10 (part_to_semicolon is_ascii_digit 7 (codes_with e (c ∷ cs)))))
       c refl refl
       ∙ cond-under if_reference (eqb c 120 || eqb c 88)
-      (ap (numbered 16) (terminated-with is_ascii_hexdigit 6 refl refl refl cs) ∙ numbered-with 16 (terminated is_ascii_hexdigit 6 cs))
-      (ap (numbered 10) (terminated-with is_ascii_digit 7 refl refl refl (c ∷ cs)) ∙ numbered-with 10 (terminated is_ascii_digit 7 (c ∷ cs)))
+      (ap (reference_by_number 16) (terminated-with is_ascii_hexdigit 6 refl refl refl cs) ∙ numbered-with 16 (part_to_semicolon is_ascii_hexdigit 6 cs))
+      (ap (reference_by_number 10) (terminated-with is_ascii_digit 7 refl refl refl (c ∷ cs)) ∙ numbered-with 10 (part_to_semicolon is_ascii_digit 7 (c ∷ cs)))
 
   reference_after-with : (cs : List ℕ) → reference_after (codes_with e cs) ≡ if_reference (reference_after cs)
   reference_after-with [] = refl
   reference_after-with (c ∷ cs) =
-      same_code e (λ x. cond (eqb x 35) (number_reference (codes_with e cs)) (named (terminated is_ascii_alphanumeric 31 (codes_with e (c ∷ cs))))) c refl refl
+      same_code e (λ x. cond (eqb x 35) (number_reference (codes_with e cs))
+      (reference_by_name (part_to_semicolon is_ascii_alphanumeric 31 (codes_with e (c ∷ cs))))) c refl refl
       ∙ cond-under if_reference (eqb c 35) (number_reference-with cs)
-      (ap named (terminated-with is_ascii_alphanumeric 31 refl refl refl (c ∷ cs)) ∙ named-with (terminated is_ascii_alphanumeric 31 (c ∷ cs)))
+      (ap reference_by_name (terminated-with is_ascii_alphanumeric 31 refl refl refl (c ∷ cs))
+      ∙ named-with (part_to_semicolon is_ascii_alphanumeric 31 (c ∷ cs)))
 
   reference_form-with : (cs : List ℕ) → reference_form (codes_with e cs) ≡ if_reference (reference_form cs)
   reference_form-with [] = refl
@@ -243,7 +249,7 @@ module _ (e : LineEnding) where
 
   raw_part-with : (marker : ℕ) (text : List ℕ) → raw_part marker (codes_with e text) ≡ inline_with e (raw_part marker text)
   raw_part-with marker text =
-      ap (λ spaced. cond (eqb marker 36) (Math (unpadded spaced)) (Code (unpadded spaced))) (spaces_same code_space refl refl text)
+      ap (λ spaced. cond (eqb marker 36) (Math (without_padding spaced)) (Code (without_padding spaced))) (spaces_same code_space refl refl text)
       ∙ cond-under (inline_with e) (eqb marker 36) refl refl
 
   all_data : (cs : List ℕ) → map Data cs ≡ map (inline_with e) (map Data cs)

@@ -1,5 +1,6 @@
 -- Literals in a content with another ending in place of each LF: none holds an ending.
-use Rattle.std.proofs.Common.{◌≡◌, ℕ, zero, suc, ◌+◌, ◌-◌, List, [], ◌∷◌, ◌++◌, None, Some, Option, Bool, true, false, cond, not, ◌&&◌, ◌||◌, eqb, refl, sym, ap, ◌∙◌, length, drop, take}
+use Rattle.std.proofs.Common.{◌≡◌, ℕ, zero, suc, ◌+◌, ◌-◌, List, [], ◌∷◌, ◌++◌, None, Some, Option, Bool, true, false, cond, not, ◌&&◌, ◌||◌, eqb, refl, sym}
+use Rattle.std.proofs.Common.{ap, ◌∙◌, length, drop, take}
 use Rattle.std.specs.Prelude.{nat_le, nat_lt, codes, reverse, slice_index_or}
 use Rattle.std.specs.Char.{to_ascii_lowercase}
 use Rattle.std.specs.List.{prefix_len, list_all, filter}
@@ -16,7 +17,10 @@ use Rattle.definition_text.specs.Content.{is_eol, is_space}
 use Rattle.definition_text.specs.InlineCode.{InlineCode, codes_of, is_continuation}
 use Rattle.definition_inline.specs.Attention.{is_other}
 use Rattle.definition_inline.specs.Inline.{Www, Protocol, Literal, Leaf, leaf}
-use Rattle.definition_inline.specs.GfmAutolinkLiteral.{is_among, may_precede_www, may_precede_protocol, begins_caselessly, LiteralStart, literal_start, or_start, www_start, protocol_start, literal_start_at, is_control, begins_name, ends_label, ends_literal, literal_run, is_trailing, count_of, has_more_closed, is_cut, name_size, cut_more, without_tail, literal_name, domain, low_line_in, has_low_line, named_literal, literal_after, literal_at}
+use Rattle.definition_inline.specs.GfmAutolinkLiteral.{is_among, may_precede_www, may_precede_protocol, begins_caselessly, LiteralStart, literal_start}
+use Rattle.definition_inline.specs.GfmAutolinkLiteral.{or_start, www_start, protocol_start, literal_start_at, is_control, begins_name, ends_label, ends_literal}
+use Rattle.definition_inline.specs.GfmAutolinkLiteral.{literal_run, is_trailing, count_of, has_more_closed, is_cut, name_size, cut_more, without_tail}
+use Rattle.definition_inline.specs.GfmAutolinkLiteral.{literal_name, domain, low_line_in, has_low_line, named_literal, literal_after, literal_at}
 use Rattle.laws_endings.specs.Endings.{code_with, codes_with}
 use Rattle.laws_endings.specs.Inlines.{inline_code_with, content_with}
 use Rattle.laws_endings.proofs.Codes.{cond-under, same_code, prefix_len-with}
@@ -73,7 +77,8 @@ module _ (e : LineEnding) where
       let has : List ℕ → Bool = λ text. begins_caselessly text (with cs) in
       let a = may_precede_www previous in
       let b = may_precede_protocol previous in
-      ap (λ x. start x (may_precede_protocol (option_map (code_with e) previous)) (has (codes "www.")) (has (codes "http://")) (has (codes "https://"))) (www-with previous)
+      ap (λ x. start x (may_precede_protocol (option_map (code_with e) previous)) (has (codes "www.")) (has (codes "http://")) (has (codes "https://")))
+      (www-with previous)
       ∙ ap (λ x. start a x (has (codes "www.")) (has (codes "http://")) (has (codes "https://"))) (protocol-with previous)
       ∙ ap (λ x. start a b x (has (codes "http://")) (has (codes "https://"))) (begins-with (codes "www.") cs refl)
       ∙ ap (λ x. start a b (begins_caselessly (codes "www.") cs) x (has (codes "https://"))) (begins-with (codes "http://") cs refl)
@@ -161,7 +166,8 @@ module _ (e : LineEnding) where
   low-with zero cs = refl
   low-with (suc n) [] = refl
   low-with (suc n) (c ∷ cs) =
-      ap (λ is. cond is true (cond (eqb (code_with e c) 46) (low_line_in n (with cs)) (low_line_in (suc n) (with cs)))) (same_code e (λ x. eqb x 95) c refl refl)
+      ap (λ is. cond is true (cond (eqb (code_with e c) 46) (low_line_in n (with cs)) (low_line_in (suc n) (with cs))))
+      (same_code e (λ x. eqb x 95) c refl refl)
       ∙ ap (λ is. cond (eqb c 95) true (cond is (low_line_in n (with cs)) (low_line_in (suc n) (with cs)))) (same_code e (λ x. eqb x 46) c refl refl)
       ∙ ap (λ l. cond (eqb c 95) true (cond (eqb c 46) l (low_line_in (suc n) (with cs)))) (low-with n cs)
       ∙ ap (λ l. cond (eqb c 95) true (cond (eqb c 46) (low_line_in n cs) l)) (low-with (suc n) cs)
@@ -210,7 +216,8 @@ module _ (e : LineEnding) where
       let parts = and_parts (eqb small (to_ascii_lowercase c)) (begins_caselessly ts cs) h in
       let no_feed = not-true (eqb small 10) (and_parts (not (eqb small 10)) (not (eqb small 13) && not (eqb small 257)) aparts.0).0 in
       let byte : eqb c 10 ≡ false =
-      false_from_ne_true (eqb c 10) (λ at. both_ways (eqb small 10) no_feed (eq-eqb small 10 (eqb-true small (to_ascii_lowercase c) parts.0 ∙ ap to_ascii_lowercase (eqb-true c 10 at)))) in
+      false_from_ne_true (eqb c 10) (λ at. both_ways (eqb small 10) no_feed (eq-eqb small 10
+      (eqb-true small (to_ascii_lowercase c) parts.0 ∙ ap to_ascii_lowercase (eqb-true c 10 at)))) in
       ap (λ b. b ∷ with (take (length ts) cs)) (same_byte e c byte) ∙ ap (λ l. c ∷ l) (begun_kept ts cs aparts.1 parts.1)
 
   abbrev StartKept : List ℕ → Option LiteralStart → Type 0
@@ -257,8 +264,10 @@ module _ (e : LineEnding) where
         let after = drop n content in
         let front = take n (codes_of content) in
         let is = test last.after after (length name) in
-        ap (λ kind. made (test kind (drop n (content_with e content)) (length (with name))) (take n (codes_of (content_with e content)) ++ with name) (length (with name))) h
-        ∙ ap (λ l. made (test last.after l (length (with name))) (take n (codes_of (content_with e content)) ++ with name) (length (with name))) (drop-map (inline_code_with e) n content)
+        ap (λ kind. made (test kind (drop n (content_with e content)) (length (with name))) (take n (codes_of (content_with e content)) ++ with name)
+        (length (with name))) h
+        ∙ ap (λ l. made (test last.after l (length (with name))) (take n (codes_of (content_with e content)) ++ with name) (length (with name)))
+        (drop-map (inline_code_with e) n content)
         ∙ ap (λ l. made (test last.after (content_with e after) (length (with name))) (l ++ with name) (length (with name)))
         (ap (take n) (codes_of-with content) ∙ take-map (code_with e) n (codes_of content))
         ∙ ap (λ size. made (test last.after (content_with e after) size) (with front ++ with name) size) (length-map name (code_with e))
@@ -276,8 +285,10 @@ module _ (e : LineEnding) where
       let other = slice_index_or all (n - 1) (inline_code_with e c) in
       let last = slice_index_or (c ∷ cs) (n - 1) c in
       ap (named_literal start all other)
-      (ap (λ l. literal_name (drop n l)) (codes_of-with (c ∷ cs)) ∙ ap literal_name (drop-map (code_with e) n (codes_of (c ∷ cs))) ∙ name-with (drop n (codes_of (c ∷ cs))))
-      ∙ named-with start (c ∷ cs) other last (literal_name (drop n (codes_of (c ∷ cs)))) (ap (λ (x : InlineCode). x.after) (get_or-map (inline_code_with e) (c ∷ cs) (n - 1) c))
+      (ap (λ l. literal_name (drop n l)) (codes_of-with (c ∷ cs)) ∙ ap literal_name (drop-map (code_with e) n (codes_of (c ∷ cs)))
+      ∙ name-with (drop n (codes_of (c ∷ cs))))
+      ∙ named-with start (c ∷ cs) other last (literal_name (drop n (codes_of (c ∷ cs))))
+      (ap (λ (x : InlineCode). x.after) (get_or-map (inline_code_with e) (c ∷ cs) (n - 1) c))
       k (name_kept (drop n (codes_of (c ∷ cs))))
 
   pub literal_at-with : (on : Constructs) (content : List InlineCode) → literal_at on (content_with e content) ≡ if_found e (literal_at on content)

@@ -9,11 +9,12 @@ use Rattle.markdown_options.specs.declared.line_ending.LineEnding.TheVariants.{C
 use Rattle.definition_text.specs.Columns.{is_tab_column, code_byte}
 use Rattle.definition_text.specs.Content.{line_ending_code, is_space}
 use Rattle.definition_inline.specs.Definition.{Definition as LinkDefinition, definition}
-use Rattle.definition_inline.specs.LabelMatch.{is_word, word_folded, normal_label, place_of}
-use Rattle.definition_block.specs.Blocks.{Block, Paragraph, Heading, Break, IndentedCode, FencedCode, Html, Table, Definition, Holds, Items, Ending, Blank, Blocks, Nil, Cons}
+use Rattle.definition_inline.specs.LabelMatch.{is_word, fold_word, normal_label, place_of}
+use Rattle.definition_block.specs.Blocks.{Block, Paragraph, Heading, Break, IndentedCode, FencedCode, Html, Table, Definition, Holds, Items, Ending, Blank}
+use Rattle.definition_block.specs.Blocks.{Blocks, Nil, Cons}
 use Rattle.definition_block.specs.Definitions.{block_definitions, definitions, container_footnotes, block_footnotes, footnotes}
 use Rattle.definition_block.specs.Tree.{blocks}
-use Rattle.definition_page.specs.Targets.{spaced, document_definitions}
+use Rattle.definition_page.specs.Targets.{with_spaces, document_definitions}
 use Rattle.laws_endings.specs.Endings.{code_with, codes_with, definition_with, block_with, blocks_with}
 use Rattle.laws_endings.specs.Laws.{LabelsLaw, DefinitionsLaw, FootnotesLaw}
 use Rattle.laws_endings.proofs.Codes.{same_code}
@@ -45,7 +46,7 @@ module _ (e : LineEnding) where
       ∙ part_either c cs (is_space c) refl
 
   pub normal_label-with : (label : List ℕ) → normal_label (codes_with e label) ≡ normal_label label
-  normal_label-with label = ap (λ all. join_by word_folded (32 ∷ []) (filter is_word all)) (parts-with label)
+  normal_label-with label = ap (λ all. join_by fold_word (32 ∷ []) (filter is_word all)) (parts-with label)
 
   pub normal_labels-with : (labels : List (List ℕ)) → map normal_label (map (codes_with e) labels) ≡ map normal_label labels
   normal_labels-with [] = refl
@@ -79,7 +80,7 @@ module _ (e : LineEnding) where
   title-with None = refl
   title-with (Some title) = ap Some (bytes-with title)
 
-  spaced-with : (d : LinkDefinition) → spaced (definition_with e d) ≡ definition_with e (spaced d)
+  spaced-with : (d : LinkDefinition) → with_spaces (definition_with e d) ≡ definition_with e (with_spaces d)
   spaced-with d =
       let destination = map code_byte (codes_with e d.destination) in
       let title = option_map (map code_byte) (option_map (codes_with e) d.title) in
@@ -91,10 +92,11 @@ module _ (e : LineEnding) where
       ∙ ap (λ t. definition label to t rest) (title-with d.title)
       ∙ ap (definition label to (option_map (codes_with e) (option_map (map code_byte) d.title))) (bytes-with d.rest)
 
-  all_spaced-with : (ds : List LinkDefinition) → map spaced (map (definition_with e) ds) ≡ map (definition_with e) (map spaced ds)
+  all_spaced-with : (ds : List LinkDefinition) → map with_spaces (map (definition_with e) ds) ≡ map (definition_with e) (map with_spaces ds)
   all_spaced-with [] = refl
   all_spaced-with (d ∷ ds) =
-      ap (λ first. first ∷ map spaced (map (definition_with e) ds)) (spaced-with d) ∙ ap (λ others. definition_with e (spaced d) ∷ others) (all_spaced-with ds)
+      ap (λ first. first ∷ map with_spaces (map (definition_with e) ds)) (spaced-with d)
+      ∙ ap (λ others. definition_with e (with_spaces d) ∷ others) (all_spaced-with ds)
 
   mutual
     block_definitions-with : (b : Block) → block_definitions (block_with e b) ≡ map (definition_with e) (block_definitions b)
@@ -151,5 +153,5 @@ labels_law e label labels =
 pub definitions_law : DefinitionsLaw
 definitions_law e on before text p =
     ap document_definitions (blocks_law e on before text p)
-    ∙ ap (map spaced) (definitions-with e (blocks on before text))
+    ∙ ap (map with_spaces) (definitions-with e (blocks on before text))
     ∙ all_spaced-with e (definitions (blocks on before text))

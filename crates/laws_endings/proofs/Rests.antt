@@ -1,5 +1,6 @@
 -- Codes that hold none of LF, which the code of another ending could replace: the rest of a line, and what is made of it.
-use Rattle.std.proofs.Common.{◌≡◌, ℕ, zero, suc, ◌+◌, ◌-◌, List, [], ◌∷◌, ◌++◌, None, Some, Option, Bool, true, false, cond, not, ◌&&◌, ◌||◌, eqb, leb, refl, sym, ap, ◌∙◌, length, drop, take}
+use Rattle.std.proofs.Common.{◌≡◌, ℕ, zero, suc, ◌+◌, ◌-◌, List, [], ◌∷◌, ◌++◌, None, Some, Option, Bool, true, false, cond, not, ◌&&◌, ◌||◌, eqb, leb, refl}
+use Rattle.std.proofs.Common.{sym, ap, ◌∙◌, length, drop, take}
 use Rattle.std.specs.Prelude.{IfSome, min, replicate}
 use Rattle.std.specs.List.{filter, prefix_len, suffix_len}
 use Rattle.std.proofs.lemmas.Bool.{cond_both}
@@ -7,14 +8,18 @@ use Rattle.std.proofs.lemmas.List.{drop-map, take-map, map-append}
 use Rattle.markdown_options.specs.declared.line_ending.LineEnding.{LineEnding}
 use Rattle.markdown_options.specs.declared.configuration.Constructs.{Constructs}
 use Rattle.definition_block.specs.Container.{Container, Quote, Item, Footnote}
-use Rattle.definition_text.specs.Columns.{Rest, codes_from, tab_column, columns_after_tab, indent, bare, is_tab_column, is_byte, bytes_of, block_codes, is_white, trimmed}
-use Rattle.definition_text.specs.Indents.{small_indent, outdented}
+use Rattle.definition_text.specs.Columns.{Rest, codes_from, tab_column, columns_after_tab, indent, bare, is_tab_column, is_byte, bytes_of, block_codes}
+use Rattle.definition_text.specs.Columns.{is_white, trim}
+use Rattle.definition_text.specs.declared.beside.Kind.TheVariants.{Whitespace}
+use Rattle.definition_text.specs.Indents.{small_indent, outdent}
 use Rattle.definition_text.specs.Content.{line_ending_code}
 use Rattle.definition_text.specs.Runs.{run, after_run}
-use Rattle.definition_block.specs.Started.{Started}
+use Rattle.definition_block.specs.ContainerLine.{ContainerLine, container_line}
+use Rattle.definition_block.specs.ContainerStart.{ContainerStart}
 use Rattle.definition_block.specs.ThematicBreak.{is_break}
 use Rattle.definition_block.specs.BlockQuote.{after_byte, after_mark, quote_prefix}
-use Rattle.definition_block.specs.ListItem.{Marker, marker_of, is_digit, number_of, bullet, delimiter, ordered, marker, gap, is_item, item, item_after, item_start, is_inside}
+use Rattle.definition_block.specs.ListItem.{Marker, marker_of, is_digit, number_of, bullet, delimiter, ordered_marker, marker, gap, is_item, item, item_after}
+use Rattle.definition_block.specs.ListItem.{item_start, is_inside}
 use Rattle.definition_block.specs.GfmFootnoteDefinition.{footnote_start}
 use Rattle.definition_block.specs.Containers.{continues, quote_or, footnote_or, starts}
 use Rattle.definition_block.proofs.GfmFootnoteDefinition.{fine_after, footnote_fine, footnote_either}
@@ -31,29 +36,33 @@ Feedless (b ∷ bs) = (eqb b 10 ≡ false) × Feedless bs
 
 module _ (Fine : List ℕ → Type 0) (dropped : (n : ℕ) (cs : List ℕ) → Fine cs → Fine (drop n cs)) where
   -- the rest that is left, if any
-  abbrev pub FineRest : Option Rest → Type 0
+  abbrev FineRest : Option Rest → Type 0
   FineRest o = IfSome o (λ rest. Fine rest)
+
+  -- the same of what a container leaves of a line
+  abbrev pub FineLine : Option ContainerLine → Type 0
+  FineLine o = IfSome o (λ line. Fine line.rest)
 
   -- the same of the rest after a marker
   abbrev FineMarker : Option Marker → Type 0
   FineMarker o = IfSome o (λ m. Fine m.rest)
 
   -- the same of the rest after what starts a container
-  abbrev pub FineStarted : Option Started → Type 0
+  abbrev pub FineStarted : Option ContainerStart → Type 0
   FineStarted o = IfSome o (λ s. Fine s.rest)
 
   byte_fine : (byte : ℕ) (rest : Rest) → Fine rest → FineRest (after_byte byte rest)
   byte_fine byte [] k = tt
   byte_fine byte (code ∷ codes) k = cond_both (eqb code byte) (Some codes) None FineRest (λ _. dropped 1 (code ∷ codes) k) (λ _. tt)
 
-  mark_fine : (o : Option Rest) → FineRest o → FineRest (after_mark o)
+  mark_fine : (o : Option Rest) → FineRest o → FineLine (after_mark o)
   mark_fine None k = tt
   mark_fine (Some rest) k = dropped (min 1 (indent rest)) rest k
 
-  quote_fine : (on : Constructs) (rest : Rest) → Fine rest → FineRest (quote_prefix on rest)
+  quote_fine : (on : Constructs) (rest : Rest) → Fine rest → FineLine (quote_prefix on rest)
   quote_fine on rest k =
       let after = after_byte 62 (bare rest) in
-      cond_both (on.block_quote && small_indent on rest) (after_mark after) None FineRest
+      cond_both (on.block_quote && small_indent on rest) (after_mark after) None FineLine
       (λ _. mark_fine after (byte_fine 62 (bare rest) (dropped (indent rest) rest k))) (λ _. tt)
 
   bullet_fine : (rest : Rest) → Fine rest → FineMarker (bullet rest)
@@ -68,7 +77,7 @@ module _ (Fine : List ℕ → Type 0) (dropped : (n : ℕ) (cs : List ℕ) → F
       cond_both (eqb code 46 || eqb code 41) (Some (marker_of code (Some number) (digits + 1) codes)) None FineMarker
       (λ _. dropped 1 (code ∷ codes) k) (λ _. tt)
 
-  ordered_fine : (digits : ℕ) (rest : Rest) → Fine rest → FineMarker (ordered digits rest)
+  ordered_fine : (digits : ℕ) (rest : Rest) → Fine rest → FineMarker (ordered_marker digits rest)
   ordered_fine digits rest k =
       let number = number_of (take digits rest) in
       cond_both (leb digits 9) (delimiter number digits (drop digits rest)) None FineMarker
@@ -77,7 +86,7 @@ module _ (Fine : List ℕ → Type 0) (dropped : (n : ℕ) (cs : List ℕ) → F
   marker_fine : (rest : Rest) → Fine rest → FineMarker (marker rest)
   marker_fine rest k =
       let digits = prefix_len is_digit rest in
-      cond_both (eqb digits 0) (bullet rest) (ordered digits rest) FineMarker (λ _. bullet_fine rest k) (λ _. ordered_fine digits rest k)
+      cond_both (eqb digits 0) (bullet rest) (ordered_marker digits rest) FineMarker (λ _. bullet_fine rest k) (λ _. ordered_fine digits rest k)
 
   after_marker_fine : (columns : ℕ) (interrupts : Bool) (o : Option Marker) → FineMarker o → FineStarted (item_after columns interrupts o)
   after_marker_fine columns interrupts None k = tt
@@ -90,9 +99,9 @@ module _ (Fine : List ℕ → Type 0) (dropped : (n : ℕ) (cs : List ℕ) → F
       cond_both (on.list_item && small_indent on rest && not (is_break on rest)) (item_after (indent rest) interrupts found) None FineStarted
       (λ _. after_marker_fine (indent rest) interrupts found (marker_fine (bare rest) (dropped (indent rest) rest k))) (λ _. tt)
 
-  either_fine : (other : Option Started) (o : Option Rest) → FineStarted other → FineRest o → FineStarted (quote_or other o)
+  either_fine : (other : Option ContainerStart) (o : Option ContainerLine) → FineStarted other → FineLine o → FineStarted (quote_or other o)
   either_fine other None h k = h
-  either_fine other (Some rest) h k = k
+  either_fine other (Some line) h k = k
 
   pub starts-fine : (on : Constructs) (interrupts : Bool) (rest : Rest) → Fine rest → FineStarted (starts on interrupts rest)
   starts-fine on interrupts rest k =
@@ -103,12 +112,13 @@ module _ (Fine : List ℕ → Type 0) (dropped : (n : ℕ) (cs : List ℕ) → F
       (footnote_fine Fine dropped on rest (fine_after Fine dropped (bare rest) (dropped (indent rest) rest k))))
       (quote_fine on rest k)
 
-  pub continues-fine : (on : Constructs) (c : Container) (blank : Bool) (rest : Rest) → Fine rest → FineRest (continues on c blank rest)
+  pub continues-fine : (on : Constructs) (c : Container) (blank : Bool) (rest : Rest) → Fine rest → FineLine (continues on c blank rest)
   continues-fine on Quote blank rest k = quote_fine on rest k
   continues-fine on (Item item) blank rest k =
-      cond_both (is_inside item.size blank rest) (Some (drop item.size rest)) None FineRest (λ _. dropped item.size rest k) (λ _. tt)
+      cond_both (is_inside item.size blank rest) (Some (container_line (drop item.size rest) Whitespace)) None FineLine
+      (λ _. dropped item.size rest k) (λ _. tt)
   continues-fine on (Footnote label) blank rest k =
-      cond_both (is_inside 4 false rest) (Some (drop 4 rest)) None FineRest (λ _. dropped 4 rest k) (λ _. tt)
+      cond_both (is_inside 4 false rest) (Some (container_line (drop 4 rest) Whitespace)) None FineLine (λ _. dropped 4 rest k) (λ _. tt)
 
 module _ (e : LineEnding) where
   -- codes that stay as they are
@@ -147,7 +157,7 @@ module _ (e : LineEnding) where
   pub bare-kept : (rest : Rest) → Kept rest → Kept (bare rest)
   bare-kept rest k = drop-kept (indent rest) rest k
 
-  pub outdented-kept : (most : ℕ) (rest : Rest) → Kept rest → Kept (outdented most rest)
+  pub outdented-kept : (most : ℕ) (rest : Rest) → Kept rest → Kept (outdent most rest)
   outdented-kept most rest k = drop-kept (min most (indent rest)) rest k
 
   -- ---- the codes of a line
@@ -168,18 +178,18 @@ module _ (e : LineEnding) where
 
   -- ---- what a container leaves of a rest
 
-  -- the rest that is left, if any
-  abbrev pub KeptRest : Option Rest → Type 0
-  KeptRest o = FineRest Kept drop-kept o
+  -- what a container leaves of a line
+  abbrev pub KeptLine : Option ContainerLine → Type 0
+  KeptLine o = FineLine Kept drop-kept o
 
   -- the same of the rest after what starts a container
-  abbrev pub KeptStarted : Option Started → Type 0
+  abbrev pub KeptStarted : Option ContainerStart → Type 0
   KeptStarted o = FineStarted Kept drop-kept o
 
   pub starts-kept : (on : Constructs) (interrupts : Bool) (rest : Rest) → Kept rest → KeptStarted (starts on interrupts rest)
   starts-kept on interrupts rest k = starts-fine Kept drop-kept on interrupts rest k
 
-  pub continues-kept : (on : Constructs) (c : Container) (blank : Bool) (rest : Rest) → Kept rest → KeptRest (continues on c blank rest)
+  pub continues-kept : (on : Constructs) (c : Container) (blank : Bool) (rest : Rest) → Kept rest → KeptLine (continues on c blank rest)
   continues-kept on c blank rest k = continues-fine Kept drop-kept on c blank rest k
 
   -- ---- the content of an ATX heading
@@ -187,7 +197,7 @@ module _ (e : LineEnding) where
   abbrev pub KeptAtx : Option Atx → Type 0
   KeptAtx o = IfSome o (λ found. Kept found.content)
 
-  trimmed-kept : (text : List ℕ) → Kept text → Kept (trimmed text)
+  trimmed-kept : (text : List ℕ) → Kept text → Kept (trim text)
   trimmed-kept text k =
       let rest = drop (prefix_len is_white text) text in
       take-kept (length rest - suffix_len is_white rest) rest (drop-kept (prefix_len is_white text) text k)
@@ -197,13 +207,13 @@ module _ (e : LineEnding) where
 
   without_closing-kept : (text : List ℕ) → Kept text → Kept (without_closing text)
   without_closing-kept text k =
-      cond_both (ends_apart (without_run text)) (trimmed (without_run text)) text Kept
+      cond_both (ends_apart (without_run text)) (trim (without_run text)) text Kept
       (λ _. trimmed-kept (without_run text) (without_run-kept text k)) (λ _. k)
 
   atx_of-kept : (text : List ℕ) → Kept text → KeptAtx (atx_of text)
   atx_of-kept text k =
       let rank = run 35 text in
-      let after = trimmed (after_run 35 text) in
+      let after = trim (after_run 35 text) in
       cond_both (leb 1 rank && leb rank 6 && begins_apart (after_run 35 text)) (Some (atx rank (without_closing after))) None KeptAtx
       (λ _. without_closing-kept after (trimmed-kept (after_run 35 text) (drop-kept rank text k))) (λ _. tt)
 

@@ -7,7 +7,8 @@ use Rattle.markdown_options.specs.declared.line_ending.LineEnding.{LineEnding}
 use Rattle.definition_inline.specs.Inline.{Inline, Data, Inlines, Nil, Cons, followed_by}
 use Rattle.definition_inline.specs.Attention.{Run}
 use Rattle.definition_inline.specs.Pairing.{Pair, pairs}
-use Rattle.definition_inline.specs.Spans.{Token, Item, Delimiters, runs_of, Span, IsEmphasis, IsStrong, IsStrikethrough, span_of, SpanRow, Holds, Opens, Closes, bytes_taken, run_rows, rows_from, OpenSpan, Nest, nest, spanned, leave, nest_row, nested, emphasized}
+use Rattle.definition_inline.specs.Spans.{Token, Item, Delimiters, runs_of, Span, IsEmphasis, IsStrong, IsStrikethrough, span_of, SpanRow, Holds, Opens, Closes}
+use Rattle.definition_inline.specs.Spans.{bytes_taken, run_rows, rows_from, OpenSpan, Nest, nest, span_part, leave, nest_row, nest_spans, with_spans}
 use Rattle.laws_endings.specs.Inlines.{inline_with, inlines_with}
 
 module _ (e : LineEnding) where
@@ -75,7 +76,7 @@ module _ (e : LineEnding) where
   followed_by-with Nil i = refl
   followed_by-with (Cons first is) i = ap (Cons (inline_with e first)) (followed_by-with is i)
 
-  spanned-with : (span : Span) (kids : Inlines) → spanned span (inlines_with e kids) ≡ inline_with e (spanned span kids)
+  spanned-with : (span : Span) (kids : Inlines) → span_part span (inlines_with e kids) ≡ inline_with e (span_part span kids)
   spanned-with IsEmphasis kids = refl
   spanned-with IsStrong kids = refl
   spanned-with IsStrikethrough kids = refl
@@ -90,7 +91,7 @@ module _ (e : LineEnding) where
   leave-with now [] = refl
   leave-with now (innermost ∷ others) =
       ap (λ i. nest (followed_by (inlines_with e innermost.before) i) (map span_with others)) (spanned-with innermost.span now)
-      ∙ ap (λ is. nest is (map span_with others)) (followed_by-with innermost.before (spanned innermost.span now))
+      ∙ ap (λ is. nest is (map span_with others)) (followed_by-with innermost.before (span_part innermost.span now))
 
   nest_row-with : (n : Nest) (row : SpanRow) → nest_row (nest_with n) (row_with row) ≡ nest_with (nest_row n row)
   nest_row-with n (Holds i) = ap (λ is. nest is (map span_with n.around)) (followed_by-with n.now i)
@@ -101,9 +102,9 @@ module _ (e : LineEnding) where
   nest_rows-with n [] = refl
   nest_rows-with n (row ∷ rows) = ap (λ next. fold nest_row next (map row_with rows)) (nest_row-with n row) ∙ nest_rows-with (nest_row n row) rows
 
-  pub emphasized-with : (ts : List Token) → emphasized (tokens_with ts) ≡ inlines_with e (emphasized ts)
+  pub emphasized-with : (ts : List Token) → with_spans (tokens_with ts) ≡ inlines_with e (with_spans ts)
   emphasized-with ts =
       let rows = rows_from (pairs (runs_of ts)) 0 ts in
-      ap (λ runs. nested (rows_from (pairs runs) 0 (tokens_with ts))) (runs_of-with ts)
-      ∙ ap nested (rows_from-with (pairs (runs_of ts)) 0 ts)
+      ap (λ runs. nest_spans (rows_from (pairs runs) 0 (tokens_with ts))) (runs_of-with ts)
+      ∙ ap nest_spans (rows_from-with (pairs (runs_of ts)) 0 ts)
       ∙ ap (λ (n : Nest). n.now) (nest_rows-with (nest Nil []) rows)

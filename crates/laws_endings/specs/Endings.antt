@@ -5,15 +5,17 @@ use Rattle.std.specs.Option.{option_map}
 use Rattle.markdown_options.specs.declared.line_ending.LineEnding.{LineEnding}
 use Rattle.markdown_options.specs.declared.line_ending.LineEnding.TheVariants.{CarriageReturnLineFeed, CarriageReturn, LineFeed}
 use Rattle.markdown_options.specs.LineEndings.{ending_bytes}
+use Rattle.definition_text.specs.Ascii.{line_feed}
 use Rattle.definition_text.specs.Lines.{TextLine, text_line}
 use Rattle.definition_text.specs.BlockLines.{BlockLine, block_line}
 use Rattle.definition_text.specs.Content.{line_ending_code}
 use Rattle.definition_inline.specs.Definition.{Definition as LinkDefinition, definition}
-use Rattle.definition_block.specs.Blocks.{Block, Paragraph, Heading, Break, IndentedCode, FencedCode, Html, Table, Definition, Holds, Items, Ending, Blank, Blocks, Nil, Cons}
+use Rattle.definition_block.specs.Blocks.{Block, Paragraph, Heading, Break, IndentedCode, FencedCode, Html, Table, Definition, Holds, Items, Ending, Blank}
+use Rattle.definition_block.specs.Blocks.{Blocks, Nil, Cons}
 
 -- the bytes of an ending for an LF, any other byte as it is
 abbrev pub byte_with : LineEnding → ℕ → List ℕ
-byte_with e b = if b == 10 then ending_bytes e else b ∷ []
+byte_with e b = if b == line_feed then ending_bytes e else b ∷ []
 
 -- a text with this ending in place of each LF
 abbrev pub with_ending : LineEnding → List ℕ → List ℕ
@@ -37,7 +39,7 @@ text_line_with e line = text_line line.content (if_ending_with e line.ending)
 
 -- the code of this ending in place of that of LF
 abbrev pub code_with : LineEnding → ℕ → ℕ
-code_with e code = if code == 10 then line_ending_code e else code
+code_with e code = if code == line_feed then line_ending_code e else code
 
 -- codes with that of this ending in place of each of LF
 abbrev pub codes_with : LineEnding → List ℕ → List ℕ

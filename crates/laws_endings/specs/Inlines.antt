@@ -3,7 +3,8 @@ use Rattle.std.specs.Prelude.{List, map}
 use Rattle.std.specs.Option.{option_map}
 use Rattle.markdown_options.specs.declared.line_ending.LineEnding.{LineEnding}
 use Rattle.definition_text.specs.InlineCode.{InlineCode, inline_code}
-use Rattle.definition_inline.specs.Inline.{Target, Resource, Reference, Inline, Data, Escape, Character, Code, Math, Autolink, Literal, Html, EscapedBreak, TrailingBreak, LineEnd, Emphasis, Strong, Strikethrough, Link, Image, Call, Inlines, Nil, Cons}
+use Rattle.definition_inline.specs.Inline.{Target, Resource, Reference, Inline, Data, Escape, Character, Code, Math, Autolink, Literal, Html, EscapedBreak}
+use Rattle.definition_inline.specs.Inline.{TrailingBreak, LineEnd, Emphasis, Strong, Strikethrough, Link, Image, Call, Inlines, Nil, Cons}
 use Rattle.laws_endings.specs.Endings.{code_with, codes_with}
 
 -- a code of a content, between the same kinds

@@ -3,6 +3,7 @@ use Rattle.std.specs.Prelude.{◌≡◌, ◌≢◌, ℕ, Bool, false, List, [], 
 use Rattle.std.specs.List.{All}
 use Rattle.markdown_options.specs.declared.line_ending.LineEnding.{LineEnding}
 use Rattle.markdown_options.specs.declared.configuration.Constructs.{Constructs}
+use Rattle.definition_text.specs.Ascii.{line_feed}
 use Rattle.definition_text.specs.declared.beside.Kind.{Kind}
 use Rattle.definition_text.specs.declared.beside.Kind.TheVariants.{Whitespace, Other}
 use Rattle.markdown_options.specs.declared.line_ending.LineEnding.TheVariants.{CarriageReturnLineFeed}
@@ -64,5 +65,5 @@ cut_character = 226 ∷ 128 ∷ []
 abbrev pub CutCharacterLaw : Type 0
 CutCharacterLaw =
     (is_punctuation : ℕ → Bool) (end : Kind) → is_punctuation 0x2081 ≡ false
-    → (first_kind is_punctuation end (cut_character ++ 10 ∷ []) ≡ Whitespace)
-    × (first_kind is_punctuation end (codes_with CarriageReturnLineFeed (cut_character ++ 10 ∷ [])) ≡ Other)
+    → (first_kind is_punctuation end (cut_character ++ line_feed ∷ []) ≡ Whitespace)
+    × (first_kind is_punctuation end (codes_with CarriageReturnLineFeed (cut_character ++ line_feed ∷ [])) ≡ Other)

@@ -1,5 +1,6 @@
 -- What the blocks of a page print, with another line ending in place of each LF.
-use Rattle.std.proofs.Common.{◌≡◌, ℕ, ◌+◌, Bool, true, false, true≢false, cond, eqb, not, ◌||◌, List, [], ◌∷◌, ◌++◌, Option, None, Some, refl, sym, ap, ◌∙◌, subst, arith, map, flat_map, append-nil, ◌⊎◌}
+use Rattle.std.proofs.Common.{◌≡◌, ℕ, ◌+◌, Bool, true, false, true≢false, cond, eqb, not, ◌||◌, List, [], ◌∷◌, ◌++◌, Option, None, Some, refl, sym, ap, ◌∙◌}
+use Rattle.std.proofs.Common.{subst, arith, map, flat_map, append-nil, ◌⊎◌}
 use Rattle.std.specs.Prelude.{codes}
 use Rattle.std.specs.Option.{option_map}
 use Rattle.std.proofs.lemmas.Bool.{cond_both, ne_eqb}
@@ -13,12 +14,16 @@ use Rattle.definition_text.specs.Encode.{encode}
 use Rattle.definition_inline.specs.Inline.{Linked, Inlines, Nil as NoText}
 use Rattle.definition_block.specs.declared.align_kind.AlignKind.{AlignKind}
 use Rattle.definition_block.specs.declared.align_kind.AlignKind.TheVariants as kind
-use Rattle.definition_page.specs.GfmTable.{TableRow, Table as TableOf, align_attributes, cell_pieces, cells_pieces, row_pieces, ending_piece, body_row_pieces, head_pieces, body_pieces, table_pieces}
+use Rattle.definition_page.specs.GfmTable.{TableRow, Table as TableOf, align_attributes, cell_pieces, cells_pieces, row_pieces, ending_piece, body_row_pieces}
+use Rattle.definition_page.specs.GfmTable.{head_pieces, body_pieces, table_pieces}
 use Rattle.definition_page.specs.Tags.{Words, Number, Attribute, attribute, tag, bare_tag}
 use Rattle.definition_page.specs.Pieces.{Piece, Void, Says, Eol, Fresh, NoteStart, NoteEnd}
 use Rattle.definition_page.specs.InlinePieces.{Meaning, raw_html, element, inline_counts, inline_pieces}
-use Rattle.definition_page.specs.Page.{Block, Paragraph, Heading, Break, IndentedCode, FencedCode, Html, Table, Definition, Quote, ItemList, Item, Footnote, Ending, Blank, Blocks, Nil, Cons}
-use Rattle.definition_page.specs.BlockPieces.{checkable_attributes, done_attributes, check_pieces, Place, inside, code_line, html_line, says, heading_name, info_attributes, start_attributes, list_tag, is_silent, last_shown, ends_plainly, fresh_unless, fenced_pieces, block_pieces, children_pieces}
+use Rattle.definition_page.specs.Page.{Block, Paragraph, Heading, Break, IndentedCode, FencedCode, Html, Table, Definition, Quote, ItemList, Item, Footnote}
+use Rattle.definition_page.specs.Page.{Ending, Blank, Blocks, Nil, Cons}
+use Rattle.definition_page.specs.BlockPieces.{checkable_attributes, done_attributes, check_pieces, Place, inside, code_line, html_line, says, heading_name}
+use Rattle.definition_page.specs.BlockPieces.{info_attributes, start_attributes, list_tag, is_silent, last_visible, ends_plainly, fresh_unless, fenced_pieces}
+use Rattle.definition_page.specs.BlockPieces.{block_pieces, children_pieces}
 use Rattle.laws_endings.specs.Endings.{with_ending, ending_with, if_ending_with, codes_with, line_with, lines_with}
 use Rattle.laws_endings.specs.Inlines.{inlines_with}
 use Rattle.laws_endings_reads.proofs.Each.{Each, WhereSome, each_filter, each_map}
@@ -28,7 +33,9 @@ use Rattle.laws_endings_reads.proofs.BlockReads.{IsFed, LineFits, LinesFit}
 use Rattle.laws_endings_page.proofs.Bytes.{IsNoFeed, decimal_no_feed, with-append, kept, encode-with}
 use Rattle.laws_endings_page.proofs.Saids.{plains_no_feed, codes-kept, SaidWith, SaidsWith, says_more, says_one, says_append, words-kept, raw-kept}
 use Rattle.laws_endings_page.specs.Laws.{HaveNoFeeds}
-use Rattle.laws_endings_page.proofs.Pieces.{BytesWith, AttributesWith, attribute-with, more_attributes, PiecesWith, no_pieces, append-with, more-with, said-with, void_piece-with, eol_piece-with, fresh_piece-with, element-with, saids-with, note_start-with, note_end-with}
+use Rattle.laws_endings_page.proofs.Pieces.{BytesWith, AttributesWith, attribute-with, more_attributes, PiecesWith, no_pieces, append-with, more-with}
+use Rattle.laws_endings_page.proofs.Pieces.{said-with, void_piece-with, eol_piece-with, fresh_piece-with, element-with, saids-with, note_start-with}
+use Rattle.laws_endings_page.proofs.Pieces.{note_end-with}
 use Rattle.laws_endings_page.proofs.Printed.{LinkedFits, linked_with, counts-with, inlines-with}
 use Rattle.laws_endings_page.proofs.GfmTable.{RowFits, TableFits, row_with, table_with}
 use Rattle.laws_endings_page.proofs.Pages.{page_block_with, page_blocks_with, InfoFits, PageBlockFits, PageFits}
@@ -129,7 +136,7 @@ module _ (e : LineEnding) where
     is_silent-with place (Some (Footnote label kids)) = refl
     is_silent-with place (Some b) = refl
 
-    last_shown-with : (b : Option Block) (bs : Blocks) → last_shown (sibling_with b) (page_blocks_with e bs) ≡ sibling_with (last_shown b bs)
+    last_shown-with : (b : Option Block) (bs : Blocks) → last_visible (sibling_with b) (page_blocks_with e bs) ≡ sibling_with (last_visible b bs)
     last_shown-with b Nil = refl
     last_shown-with b (Cons Definition bs) = last_shown-with b bs
     last_shown-with b (Cons (Footnote label kids) bs) = last_shown-with b bs
@@ -357,16 +364,16 @@ module _ (e : LineEnding) where
       block-with place before (Item kids) p =
           let kids' = children_pieces m' (inside place.tight) None (page_blocks_with e kids) in
           let ps = children_pieces m (inside place.tight) None kids in
-          let end = fresh_unless (ends_plainly place.tight (last_shown None kids)) in
-          let same : ends_plainly place.tight (last_shown None (page_blocks_with e kids)) ≡ ends_plainly place.tight (last_shown None kids) =
-          ap (ends_plainly place.tight) (last_shown-with None kids) ∙ ends_plainly-with place.tight (last_shown None kids) in
+          let end = fresh_unless (ends_plainly place.tight (last_visible None kids)) in
+          let same : ends_plainly place.tight (last_visible None (page_blocks_with e kids)) ≡ ends_plainly place.tight (last_visible None kids) =
+          ap (ends_plainly place.tight) (last_shown-with None kids) ∙ ends_plainly-with place.tight (last_visible None kids) in
           subst (λ plainly. PiecesWith e m.compile (Fresh ∷ element (bare_tag (codes "li")) (kids' ++ fresh_unless plainly))
           (Fresh ∷ element (bare_tag (codes "li")) (ps ++ end)))
           (sym same)
           (fresh-then (element (bare_tag (codes "li")) (kids' ++ end)) (element (bare_tag (codes "li")) (ps ++ end))
           (bare-with (codes "li") (kids' ++ end) (ps ++ end) refl
           (append-with e m.compile kids' ps end end (children-with (inside place.tight) None kids p)
-          (fresh_unless-with (ends_plainly place.tight (last_shown None kids))))))
+          (fresh_unless-with (ends_plainly place.tight (last_visible None kids))))))
       block-with place before (Footnote label kids) p =
           let kids' = children_pieces m' (inside false) None (page_blocks_with e kids) in
           let ps = children_pieces m (inside false) None kids in

@@ -1,5 +1,6 @@
 -- Printed bytes with another line ending in place of each LF.
-use Rattle.std.proofs.Common.{◌≡◌, ℕ, zero, suc, ◌+◌, ◌-◌, ◌/◌, ◌%◌, Bool, true, false, cond, not, eqb, ltb, ◌||◌, ◌&&◌, List, [], ◌∷◌, ◌++◌, Option, None, Some, refl, sym, ap, ◌∙◌, arith, length, decimal, append-nil, flat_map}
+use Rattle.std.proofs.Common.{◌≡◌, ℕ, zero, suc, ◌+◌, ◌-◌, ◌/◌, ◌%◌, Bool, true, false, cond, not, eqb, ltb, ◌||◌, ◌&&◌, List, [], ◌∷◌, ◌++◌, Option, None}
+use Rattle.std.proofs.Common.{Some, refl, sym, ap, ◌∙◌, arith, length, decimal, append-nil, flat_map}
 use Rattle.std.specs.Prelude.{codes, slice_get}
 use Rattle.std.specs.Fmt.{digit_glyph, digits, digits_onto}
 use Rattle.std.specs.List.{list_all}
@@ -12,7 +13,7 @@ use Rattle.markdown_options.specs.LineEndings.{ending_bytes}
 use Rattle.definition_text.specs.Content.{line_ending_code}
 use Rattle.definition_text.specs.Encode.{replacement_character, plain_byte, plain, encoded_byte, encode}
 use Rattle.definition_inline.specs.Strings.{eol_bytes}
-use Rattle.definition_page.specs.GfmTagfilter.{is_filtered, tags_filtered, filtered}
+use Rattle.definition_page.specs.GfmTagfilter.{is_filtered, filter_tags, filter_if}
 use Rattle.definition_page.specs.Urls.{is_kept, escape, percent_byte, percent}
 use Rattle.definition_page.specs.Pieces.{ends_a_line, is_fresh}
 use Rattle.laws_endings.specs.Endings.{byte_with, with_ending, code_with}
@@ -59,16 +60,16 @@ percent_no_feed (b ∷ bs) =
     (λ _. (refl, (digit_no_feed true (b / 16), (digit_no_feed true (b % 16), tt)))))
     (percent_no_feed bs)
 
-tags_no_feed : (bytes : List ℕ) → Each IsNoFeed bytes → Each IsNoFeed (tags_filtered bytes)
+tags_no_feed : (bytes : List ℕ) → Each IsNoFeed bytes → Each IsNoFeed (filter_tags bytes)
 tags_no_feed [] p = tt
 tags_no_feed (b ∷ bs) p =
     let start = cond (eqb b 60 && is_filtered bs) (codes "&lt;") (b ∷ []) in
-    each-append IsNoFeed start (tags_filtered bs)
+    each-append IsNoFeed start (filter_tags bs)
     (cond_both (eqb b 60 && is_filtered bs) (codes "&lt;") (b ∷ []) (Each IsNoFeed) (λ _. (refl, (refl, (refl, (refl, tt))))) (λ _. (p.0, tt)))
     (tags_no_feed bs p.1)
 
-pub filtered_no_feed : (options : CompileOptions) (bytes : List ℕ) → Each IsNoFeed bytes → Each IsNoFeed (filtered options bytes)
-filtered_no_feed options bytes p = cond_both options.gfm_tagfilter (tags_filtered bytes) bytes (Each IsNoFeed) (λ _. tags_no_feed bytes p) (λ _. p)
+pub filtered_no_feed : (options : CompileOptions) (bytes : List ℕ) → Each IsNoFeed bytes → Each IsNoFeed (filter_if options bytes)
+filtered_no_feed options bytes p = cond_both options.gfm_tagfilter (filter_tags bytes) bytes (Each IsNoFeed) (λ _. tags_no_feed bytes p) (λ _. p)
 
 module _ (e : LineEnding) where
   pub with-append : (xs ys : List ℕ) → with_ending e (xs ++ ys) ≡ with_ending e xs ++ with_ending e ys

@@ -1,5 +1,6 @@
 -- The footnotes at a page's end, with another line ending in place of each LF.
-use Rattle.std.proofs.Common.{◌≡◌, ℕ, zero, suc, ◌-◌, Bool, true, false, cond, List, [], ◌∷◌, ◌++◌, Option, None, Some, String, string_bytes, refl, sym, ap, ◌∙◌, map, take, drop, arith, length, subst, inl, inr}
+use Rattle.std.proofs.Common.{◌≡◌, ℕ, zero, suc, ◌-◌, Bool, true, false, cond, List, [], ◌∷◌, ◌++◌, Option, None, Some, String, string_bytes, refl, sym, ap}
+use Rattle.std.proofs.Common.{◌∙◌, map, take, drop, arith, length, subst, inl, inr}
 use Rattle.std.specs.Prelude.{codes, nat_le, slice_index_or}
 use Rattle.std.proofs.Math.ListN.{get_or-map}
 use Rattle.std.proofs.lemmas.Bool.{cond_both}
@@ -10,14 +11,17 @@ use Rattle.definition_page.specs.Tags.{Words, AsItIs, Number, Attribute, attribu
 use Rattle.definition_page.specs.Pieces.{Piece, Open, Close, Says, Fresh}
 use Rattle.definition_page.specs.InlinePieces.{element}
 use Rattle.definition_page.specs.GfmLabelStartFootnote.{text_or, footnote_id, call_id, leads_to_id}
-use Rattle.definition_page.specs.GfmFootnoteDefinition.{Footnote, back_tag, arrow, count_pieces, back_pieces, space_after, backs_pieces, ended_size, with_backs, content_pieces, item_tag, footnote_pieces, footnotes_pieces, heading_name, heading_tag, heading_pieces, section_tag, section_pieces}
-use Rattle.definition_page.specs.Layout.{Called, note_of}
+use Rattle.definition_page.specs.GfmFootnoteDefinition.{Footnote, back_tag, arrow, count_pieces, back_pieces, space_after, backs_pieces, ended_size, with_backs}
+use Rattle.definition_page.specs.GfmFootnoteDefinition.{content_pieces, item_tag, footnote_pieces, footnotes_pieces, heading_name, heading_tag, heading_pieces}
+use Rattle.definition_page.specs.GfmFootnoteDefinition.{section_tag, section_pieces}
+use Rattle.definition_page.specs.Layout.{NoteCalls, note_of}
 use Rattle.laws_endings.specs.Endings.{with_ending}
 use Rattle.laws_endings_reads.proofs.Each.{Each}
 use Rattle.laws_endings_page.specs.Laws.{HasNoFeed, HaveNoFeeds}
 use Rattle.laws_endings_page.proofs.Bytes.{IsNoFeed, given_no_feed, kept, plain-with}
 use Rattle.laws_endings_page.proofs.Saids.{SaidWith, then-with, says_one, words-kept}
-use Rattle.laws_endings_page.proofs.Pieces.{BytesWith, AttributesWith, attribute-with, MayCall, PiecesWith, no_pieces, append-with, more-with, said-with, open-with, close-with, fresh-then, then-fresh, element-with}
+use Rattle.laws_endings_page.proofs.Pieces.{BytesWith, AttributesWith, attribute-with, MayCall, PiecesWith, no_pieces, append-with, more-with, said-with}
+use Rattle.laws_endings_page.proofs.Pieces.{open-with, close-with, fresh-then, then-fresh, element-with}
 use Rattle.laws_endings_page.proofs.GfmLabelStartFootnote.{text_no_feed, number-with, footnote_id-with, call_id-with, leads_to-with, same_attribute}
 use Rattle.laws_endings_page.proofs.ParagraphEnds.{ends_in_paragraph, paragraph-with, cut-with}
 
@@ -134,7 +138,7 @@ module _ (e : LineEnding) (options : CompileOptions) where
         (element-with e options (codes "li") own own (Fresh ∷ other ++ Fresh ∷ []) (Fresh ∷ one ++ Fresh ∷ []) refl (item-with label)
         (then-fresh e options (Fresh ∷ other) (Fresh ∷ one) (fresh-then e options other one (content-with html backs (backs-with label calls)))))
 
-    footnotes-with : (notes : List (List ℕ)) (called : List Called)
+    footnotes-with : (notes : List (List ℕ)) (called : List NoteCalls)
         → PiecesWith e options (footnotes_pieces options (map (note_of (map (with_ending e) notes)) called))
         (footnotes_pieces options (map (note_of notes) called))
     footnotes-with notes [] = no_pieces e options
@@ -199,7 +203,7 @@ module _ (e : LineEnding) (options : CompileOptions) where
         (fresh-then e options (list others) (list ones)
         (element-with e options (codes "ol") [] [] (others ++ Fresh ∷ []) (ones ++ Fresh ∷ []) refl refl (then-fresh e options others ones p)))))))
 
-  pub section-with : (notes : List (List ℕ)) (called : List Called) → MayCall e options called
+  pub section-with : (notes : List (List ℕ)) (called : List NoteCalls) → MayCall e options called
       → PiecesWith e options (section_pieces options (map (note_of (map (with_ending e) notes)) called)) (section_pieces options (map (note_of notes) called))
   section-with notes [] may = no_pieces e options
   section-with notes (c ∷ cs) (inl none) = absurd (omega (arith, ap length none))

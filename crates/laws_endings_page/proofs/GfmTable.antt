@@ -7,7 +7,8 @@ use Rattle.definition_text.specs.Columns.{is_blank}
 use Rattle.definition_text.specs.Content.{may_escape}
 use Rattle.definition_text.specs.declared.beside.Kind.{Kind}
 use Rattle.definition_text.specs.declared.beside.Kind.TheVariants.{Punctuation}
-use Rattle.definition_inline.specs.Inline.{Inline, Data, Escape, Character, Code, Math, Autolink, Literal, Html, EscapedBreak, TrailingBreak, LineEnd, Emphasis, Strong, Strikethrough, Link, Image, Call, Inlines, Nil, Cons}
+use Rattle.definition_inline.specs.Inline.{Inline, Data, Escape, Character, Code, Math, Autolink, Literal, Html, EscapedBreak, TrailingBreak, LineEnd, Emphasis}
+use Rattle.definition_inline.specs.Inline.{Strong, Strikethrough, Link, Image, Call, Inlines, Nil, Cons}
 use Rattle.definition_block.specs.GfmTable.{Cell, in_first_cell, is_bar, parts, without_blank_first, without_blank_last, line_cells}
 use Rattle.definition_page.specs.GfmTable.{TableRow, Table, escapes_bar, cell_code, part_in_cell, in_cell, head_line, delimiter_line}
 use Rattle.laws_endings.specs.Endings.{if_ending_with, line_with, lines_with}

@@ -1,5 +1,6 @@
 -- With an ending in place of each LF, a text prints its page with that ending.
-use Rattle.std.proofs.Common.{◌≡◌, ℕ, zero, suc, ◌<◌, Bool, true, false, cond, eqb, ◌||◌, not, List, [], ◌∷◌, ◌++◌, Option, None, Some, refl, sym, ap, ◌∙◌, arith, map, drop, length, slice_index_or, All, inl, inr, ◌⊎◌}
+use Rattle.std.proofs.Common.{◌≡◌, ℕ, zero, suc, ◌<◌, Bool, true, false, cond, eqb, ◌||◌, not, List, [], ◌∷◌, ◌++◌, Option, None, Some, refl, sym, ap, ◌∙◌}
+use Rattle.std.proofs.Common.{arith, map, drop, length, slice_index_or, All, inl, inr, ◌⊎◌}
 use Rattle.std.specs.Prelude.{◌≢◌, is_some, unwrap_or}
 use Rattle.std.specs.Option.{option_map}
 use Rattle.std.proofs.Math.ListN.{get_or-map}
@@ -18,9 +19,10 @@ use Rattle.definition_inline.specs.Definition.{Definition}
 use Rattle.definition_inline.specs.LabelMatch.{normal_label, place_of, first_match}
 use Rattle.definition_block.specs.Tree as tree
 use Rattle.definition_block.specs.Definitions.{block_definitions, definitions, footnotes}
-use Rattle.definition_block.specs.Lists.{grouped}
+use Rattle.definition_block.specs.Lists.{group_items}
 use Rattle.definition_page.specs.TextTables.{TextTables}
-use Rattle.definition_page.specs.Targets.{spaced, document_definitions, labels_of, no_definition, linked_at, linked_by, is_label_of, targets, is_footnote_of}
+use Rattle.definition_page.specs.Targets.{with_spaces, document_definitions, labels_of, no_definition, linked_at, linked_by, is_label_of, targets}
+use Rattle.definition_page.specs.Targets.{is_footnote_of}
 use Rattle.definition_page.specs.Page.{Page}
 use Rattle.definition_page.specs.Pieces.{Piece}
 use Rattle.definition_page.specs.Layout.{Laid, laid, note_of, page_layout}
@@ -75,7 +77,7 @@ title_spaced : (title : Option (List ℕ)) → TitleFits title → TitleFits (op
 title_spaced None p = tt
 title_spaced (Some title) p = each_map Single Single code_byte title space_single p
 
-spaced_fits : (d : Definition) → DefinitionIs d → DefinitionIs (spaced d)
+spaced_fits : (d : Definition) → DefinitionIs d → DefinitionIs (with_spaces d)
 spaced_fits d p = (each_map Plain Plain code_byte d.destination space_plain p.0, title_spaced d.title p.1)
 
 each_at : {A : Type 0} (P : A → Type 0) (xs : List A) (n : ℕ) (d : A) → P d → Each P xs → P (slice_index_or xs n d)
@@ -160,7 +162,7 @@ module _ (e : LineEnding) (tables : TextTables) (options : Options) (bs : tree.B
       ++ fresh_unless (not blank))
 
   ds_fit : Each DefinitionIs ds
-  ds_fit = each_map DefinitionIs DefinitionIs spaced (definitions bs) spaced_fits (definitions_fit bs fit)
+  ds_fit = each_map DefinitionIs DefinitionIs with_spaces (definitions bs) spaced_fits (definitions_fit bs fit)
 
   same_call : (label : List ℕ) → is_footnote_of labels (codes_with e label) ≡ is_footnote_of labels label
   same_call label = ap (λ normal. is_some (place_of normal (map normal_label labels))) (normal_label-with e label)
@@ -169,14 +171,14 @@ module _ (e : LineEnding) (tables : TextTables) (options : Options) (bs : tree.B
       ≡ with_ending e (page_layout options.compile (ending_bytes LineFeed) (pieces tables options (page_with tables options.parse (targets ds labels) bs)))
   page-with =
       let r = reading_by (is_label_of ds) in
-      let all = grouped bs in
+      let all = group_items bs in
       let fits = grouped_fits bs fit in
       let page = read_blocks r on_page all in
       let default = ending_bytes e in
       let blank' = ends_blank false (blocks_with e bs) in
       let end = fresh_unless (not (ends_blank false bs)) in
       let m = meaning_by ds in
-      ap (λ is_defined. read_here (grouped (blocks_with e bs)) is_defined blank' default) (same_labels e ds)
+      ap (λ is_defined. read_here (group_items (blocks_with e bs)) is_defined blank' default) (same_labels e ds)
       ∙ ap (λ items. read_here items (is_label_of ds) blank' default) (grouped-with e bs)
       ∙ ap (λ blank. read_here (blocks_with e all) (is_label_of ds) blank default) (ends_blank-with e false bs)
       ∙ ap (λ blocks. page_layout options.compile default (children_pieces (meaning_by other_ds) at_top None blocks ++ end))

@@ -1,5 +1,6 @@
 -- The page of the blocks of a text with another line ending in place of each LF.
-use Rattle.std.proofs.Common.{◌≡◌, ℕ, zero, suc, Bool, false, true≢false, cond, eqb, not, ◌||◌, ◌&&◌, leb, List, [], ◌∷◌, ◌++◌, Option, None, Some, refl, sym, ap, ◌∙◌, subst, map, drop}
+use Rattle.std.proofs.Common.{◌≡◌, ℕ, zero, suc, Bool, false, true≢false, cond, eqb, not, ◌||◌, ◌&&◌, leb, List, [], ◌∷◌, ◌++◌, Option, None, Some, refl, sym}
+use Rattle.std.proofs.Common.{ap, ◌∙◌, subst, map, drop}
 use Rattle.std.specs.Prelude.{unwrap_or}
 use Rattle.std.proofs.lemmas.Bool.{cond_both}
 use Rattle.std.proofs.lemmas.List.{drop-map, map-append}
@@ -14,18 +15,21 @@ use Rattle.definition_text.specs.Columns.{is_tab_column, code_byte}
 use Rattle.definition_text.specs.Content.{ending_code, line_codes}
 use Rattle.definition_text.specs.InlineCode.{InlineCode, codes_of, with_kinds, next_kind, line_content, inline_content}
 use Rattle.definition_inline.specs.GfmTaskListItem.{check_at, check_size}
-use Rattle.definition_inline.specs.Scan.{InlineContext, inlines, inlines_from, unindented}
+use Rattle.definition_inline.specs.Scan.{InlineContext, inlines, inlines_from, without_indent}
 use Rattle.definition_inline.specs.Strings.{string_text}
 use Rattle.definition_block.specs.Container.{Quote, Item, Footnote}
 use Rattle.definition_block.specs.Tree as tree
 use Rattle.definition_block.specs.Tree.{is_ending, join, one}
-use Rattle.definition_block.specs.Lists.{leading, endings_of, after_endings, is_some_block, has_gap, has_gap_inside, is_loose, item_marker, list_marker, list_items, rest_of, before_list, before, grouped_block, grouped}
+use Rattle.definition_block.specs.Lists.{endings_at_front, endings_of, after_endings, is_some_block, has_gap, has_gap_inside, is_loose, item_marker}
+use Rattle.definition_block.specs.Lists.{list_marker, list_items, rest_of, before_list, before, grouped_block, group_items}
 use Rattle.definition_block.specs.GfmTable.{Cell, cells, line_cells, delimiters as delimiters_of}
 use Rattle.definition_inline.specs.Inline.{Inlines}
 use Rattle.definition_page.specs.GfmTable.{TableRow, Table, head_line, delimiter_line, body_lines, line_aligns, in_cell}
 use Rattle.definition_page.specs.Page as page
 use Rattle.definition_page.specs.Page.{cons_ending, cons_blank}
-use Rattle.definition_page.specs.Read.{Reading, Standing, context_of, in_container, in_item, next_standing, checked_paragraph, read_paragraph, read_cell, read_row, read_table, read_text, info_text, code_lines, without_ending, after_code, list_number, read_block, read_blocks, is_blank_ending, ends_blank}
+use Rattle.definition_page.specs.Read.{Reading, Standing, context_of, in_container, in_item, next_standing, checked_paragraph, read_paragraph, read_cell}
+use Rattle.definition_page.specs.Read.{read_row, read_table, read_text, info_text, code_lines, without_ending, after_code, list_number, read_block, read_blocks}
+use Rattle.definition_page.specs.Read.{is_blank_ending, ends_blank}
 use Rattle.laws_endings.specs.Endings.{with_ending, ending_with, if_ending_with, codes_with, line_with, lines_with, block_with, blocks_with}
 use Rattle.laws_endings.specs.Inlines.{inline_code_with, inlines_with, content_with}
 use Rattle.laws_endings.proofs.Codes.{cond-under}
@@ -44,7 +48,8 @@ use Rattle.laws_endings_reads.proofs.Parts.{AreFit}
 use Rattle.laws_endings_reads.proofs.InlineReads.{dropped_codes, from_fits, inlines_fit}
 use Rattle.laws_endings_reads.proofs.BlockReads.{IsFed, WholeBefore, LineFits, LinesFit, BlockFits, BlocksFit, line_singles, join_fits, own_fit}
 use Rattle.laws_endings_page.proofs.Bytes.{IsNoFeed}
-use Rattle.laws_endings_page.proofs.GfmTable.{RowFits, TableFits, in_cell_fits, CellFits, cells_fit, head_fits, delimiters_fit, head-with, delimiters-with, row_with, table_with, in_cell-with}
+use Rattle.laws_endings_page.proofs.GfmTable.{RowFits, TableFits, in_cell_fits, CellFits, cells_fit, head_fits, delimiters_fit, head-with, delimiters-with}
+use Rattle.laws_endings_page.proofs.GfmTable.{row_with, table_with, in_cell-with}
 use Rattle.laws_endings_page.proofs.Saids.{plains_no_feed, codes-kept, string_text-with}
 
 -- ---- lists
@@ -81,9 +86,9 @@ mutual
   grouped_block_fits (tree.Holds c kids) h = grouped_fits kids h
   grouped_block_fits b h = h
 
-  pub grouped_fits : (bs : tree.Blocks) → BlocksFit bs → BlocksFit (grouped bs)
+  pub grouped_fits : (bs : tree.Blocks) → BlocksFit bs → BlocksFit (group_items bs)
   grouped_fits tree.Nil p = tt
-  grouped_fits (tree.Cons b bs) p = before_fits (grouped_block b) (grouped bs) (grouped_block_fits b p.0) (grouped_fits bs p.1)
+  grouped_fits (tree.Cons b bs) p = before_fits (grouped_block b) (group_items bs) (grouped_block_fits b p.0) (grouped_fits bs p.1)
 
 module _ (e : LineEnding) where
   is_ending-with : (b : tree.Block) → is_ending (block_with e b) ≡ is_ending b
@@ -151,19 +156,19 @@ module _ (e : LineEnding) where
     grouped_block-with (tree.Holds c kids) = ap (tree.Holds c) (grouped-with kids)
     grouped_block-with b = refl
 
-    pub grouped-with : (bs : tree.Blocks) → grouped (blocks_with e bs) ≡ blocks_with e (grouped bs)
+    pub grouped-with : (bs : tree.Blocks) → group_items (blocks_with e bs) ≡ blocks_with e (group_items bs)
     grouped-with tree.Nil = refl
     grouped-with (tree.Cons b bs) =
-        ap (λ first. before first (grouped (blocks_with e bs))) (grouped_block-with b)
+        ap (λ first. before first (group_items (blocks_with e bs))) (grouped_block-with b)
         ∙ ap (before (block_with e (grouped_block b))) (grouped-with bs)
-        ∙ before-with (grouped_block b) (grouped bs)
+        ∙ before-with (grouped_block b) (group_items bs)
 
   -- ---- whether a list is loose
 
-  leading-with : (bs : tree.Blocks) → leading (blocks_with e bs) ≡ leading bs
+  leading-with : (bs : tree.Blocks) → endings_at_front (blocks_with e bs) ≡ endings_at_front bs
   leading-with tree.Nil = refl
   leading-with (tree.Cons b bs) =
-      ap (λ is. cond is (suc (leading (blocks_with e bs))) 0) (is_ending-with b) ∙ ap (λ n. cond (is_ending b) (suc n) 0) (leading-with bs)
+      ap (λ is. cond is (suc (endings_at_front (blocks_with e bs))) 0) (is_ending-with b) ∙ ap (λ n. cond (is_ending b) (suc n) 0) (leading-with bs)
 
   is_some_block-with : (bs : tree.Blocks) → is_some_block (blocks_with e bs) ≡ is_some_block bs
   is_some_block-with tree.Nil = refl
@@ -174,10 +179,10 @@ module _ (e : LineEnding) where
   has_gap-with tree.Nil = refl
   has_gap-with (tree.Cons b bs) =
       let bs' = blocks_with e bs in
-      ap (λ is. (not is && leb 2 (leading bs') && is_some_block bs') || has_gap bs') (is_ending-with b)
+      ap (λ is. (not is && leb 2 (endings_at_front bs') && is_some_block bs') || has_gap bs') (is_ending-with b)
       ∙ ap (λ n. (not (is_ending b) && leb 2 n && is_some_block bs') || has_gap bs') (leading-with bs)
-      ∙ ap (λ some. (not (is_ending b) && leb 2 (leading bs) && some) || has_gap bs') (is_some_block-with bs)
-      ∙ ap (λ gap. (not (is_ending b) && leb 2 (leading bs) && is_some_block bs) || gap) (has_gap-with bs)
+      ∙ ap (λ some. (not (is_ending b) && leb 2 (endings_at_front bs) && some) || has_gap bs') (is_some_block-with bs)
+      ∙ ap (λ gap. (not (is_ending b) && leb 2 (endings_at_front bs) && is_some_block bs) || gap) (has_gap-with bs)
 
   has_gap_inside-with : (bs : tree.Blocks) → has_gap_inside (blocks_with e bs) ≡ has_gap_inside bs
   has_gap_inside-with tree.Nil = refl
@@ -255,7 +260,8 @@ module _ (e : LineEnding) where
         let more = inline_content p Whitespace ls in
         let other = inline_content p Whitespace (lines_with e ls) in
         subst (AreAlike (line_content p Whitespace (line_with e line) ++ other)) (sym (content-append first more))
-        (alike_append (line_content p Whitespace (line_with e line)) (content_with e first) other (content_with e more) (line-with line h.0) (content-with ls h.1))
+        (alike_append (line_content p Whitespace (line_with e line)) (content_with e first) other (content_with e more) (line-with line h.0)
+        (content-with ls h.1))
       where
         content-append : (xs ys : List InlineCode) → content_with e (xs ++ ys) ≡ content_with e xs ++ content_with e ys
         content-append xs ys = map-append _ xs ys
@@ -404,11 +410,11 @@ module _ (e : LineEnding) where
         let on = r.options.constructs in
         let other = inline_content p Whitespace (lines_with e ls) in
         let content = inline_content p Whitespace ls in
-        let alike : AreAlike (unindented other) (content_with e (unindented content)) =
-        subst (AreAlike (unindented other)) (unindented-with e content) (alike_unindented other (content_with e content) (content-with p ls h)) in
-        ap (λ codes. checked_paragraph r (unindented other) (check_at on first codes)) (codes-same (unindented other) (unindented content) alike)
-        ∙ ap (checked_paragraph r (unindented other)) (check_at-with e on first (codes_of (unindented content)))
-        ∙ checked-same (unindented other) (unindented content) alike (check_at on first (codes_of (unindented content)))
+        let alike : AreAlike (without_indent other) (content_with e (without_indent content)) =
+        subst (AreAlike (without_indent other)) (unindented-with e content) (alike_unindented other (content_with e content) (content-with p ls h)) in
+        ap (λ codes. checked_paragraph r (without_indent other) (check_at on first codes)) (codes-same (without_indent other) (without_indent content) alike)
+        ∙ ap (checked_paragraph r (without_indent other)) (check_at-with e on first (codes_of (without_indent content)))
+        ∙ checked-same (without_indent other) (without_indent content) alike (check_at on first (codes_of (without_indent content)))
 
     checked_fits : (content : List InlineCode) → Each Single (codes_of content) → (found : Option Bool) → PageBlockFits (checked_paragraph r content found)
     checked_fits content p None = from_fits context content p
@@ -417,9 +423,9 @@ module _ (e : LineEnding) where
     paragraph_fits : (first : Bool) (ls : List BlockLine) → LinesFit ls → PageBlockFits (read_paragraph r first ls)
     paragraph_fits first ls h =
         let content = inline_content r.tables.is_punctuation Whitespace ls in
-        checked_fits (unindented content)
+        checked_fits (without_indent content)
         (dropped_codes context (prefix_len (λ (c : InlineCode). is_white c.code) content) content (content_fits r.tables.is_punctuation ls h))
-        (check_at r.options.constructs first (codes_of (unindented content)))
+        (check_at r.options.constructs first (codes_of (without_indent content)))
 
     singles_of : (cs : List ℕ) → Each Plain cs → Each Single cs
     singles_of [] p = tt
@@ -457,7 +463,12 @@ module _ (e : LineEnding) where
         let made : BlockLine → TableRow → List TableRow → Table =
         λ line head rows. record { aligns = line_aligns line; head = head; ending = line.ending; rows = rows } in
         let aligned : List ℕ → Table =
-        λ text. record { aligns = unwrap_or (delimiters_of text) []; head = row_with e (read_row r (head_line ls)); ending = if_ending_with e delimiters.ending; rows = map (row_with e) (map (read_row r) (body_lines ls)) } in
+        λ text. record {
+          aligns = unwrap_or (delimiters_of text) [];
+          head = row_with e (read_row r (head_line ls));
+          ending = if_ending_with e delimiters.ending;
+          rows = map (row_with e) (map (read_row r) (body_lines ls));
+        } in
         let body = lines_with e (body_lines ls) in
         ap (λ line. made line (read_row r (head_line (lines_with e ls))) (map (read_row r) (body_lines (lines_with e ls)))) (delimiters-with e ls)
         ∙ ap (λ line. made (line_with e delimiters) (read_row r line) (map (read_row r) (body_lines (lines_with e ls)))) (head-with e ls)
@@ -472,7 +483,8 @@ module _ (e : LineEnding) where
         let p = r.tables.is_punctuation in
         let all = map code_byte c.codes in
         let content = with_kinds p None c.before c.after all in
-        let singles = subst (Each Single) (sym (kinds_codes p None c.before c.after all)) (each_map Single Single code_byte c.codes space_single (singles_of c.codes h.0)) in
+        let singles = subst (Each Single) (sym (kinds_codes p None c.before c.after all))
+        (each_map Single Single code_byte c.codes space_single (singles_of c.codes h.0)) in
         (in_cell_fits (inlines context content) (inlines_fit context content singles), read_cells_fit cs h.1)
 
     row_fits : (line : BlockLine) → LineFits line → RowFits (read_row r line)

@@ -1,5 +1,6 @@
 -- Pieces of a page with another line ending in place of each LF.
-use Rattle.std.proofs.Common.{◌≡◌, ℕ, Bool, true, false, cond, List, [], ◌∷◌, ◌++◌, refl, sym, ap, ◌∙◌, map, fold, append_assoc, append-nil, flat_map, subst, ◌⊎◌}
+use Rattle.std.proofs.Common.{◌≡◌, ℕ, Bool, true, false, cond, List, [], ◌∷◌, ◌++◌, refl, sym, ap, ◌∙◌, map, fold, append_assoc, append-nil, flat_map, subst}
+use Rattle.std.proofs.Common.{◌⊎◌}
 use Rattle.std.specs.Prelude.{codes}
 use Rattle.std.proofs.lemmas.List.{map-append}
 use Rattle.std.proofs.lemmas.List.Sums.{fold-append}
@@ -9,7 +10,7 @@ use Rattle.markdown_options.specs.declared.configuration.CompileOptions.{Compile
 use Rattle.markdown_options.specs.LineEndings.{ending_bytes}
 use Rattle.definition_page.specs.Tags.{Said, said_bytes, Attribute, attribute_bytes, tag, tag_bytes, start_tag, end_tag, void_tag}
 use Rattle.definition_page.specs.Pieces.{Piece, Open, Close, Void, Says, Eol, Fresh, NoteStart, NoteEnd, is_fresh, print}
-use Rattle.definition_page.specs.Layout.{Called, Laid, laid, note_ended, lay}
+use Rattle.definition_page.specs.Layout.{NoteCalls, Laid, laid, note_end, lay}
 use Rattle.definition_page.specs.InlinePieces.{element}
 use Rattle.definition_page.proofs.PlainLayout.{ArePlain, plain_laid}
 use Rattle.laws_endings.specs.Endings.{with_ending}
@@ -76,13 +77,13 @@ module _ (e : LineEnding) where
   abbrev pub laid_with : Laid → Laid
   laid_with l = laid (with_ending e l.text) (map (with_ending e) l.outer) (map (with_ending e) l.notes) l.called
 
-  note_ended-with : (text : List ℕ) (outer notes : List (List ℕ)) (called : List Called)
-      → note_ended (with_ending e text) (map (with_ending e) outer) (map (with_ending e) notes) called ≡ laid_with (note_ended text outer notes called)
+  note_ended-with : (text : List ℕ) (outer notes : List (List ℕ)) (called : List NoteCalls)
+      → note_end (with_ending e text) (map (with_ending e) outer) (map (with_ending e) notes) called ≡ laid_with (note_end text outer notes called)
   note_ended-with text [] notes called = refl
   note_ended-with text (around ∷ others) notes called =
       ap (λ all. laid (with_ending e around) (map (with_ending e) others) all called) (sym (map-append (with_ending e) notes (text ∷ [])))
 
-  called_same : (text : List ℕ) (outer notes : List (List ℕ)) (called : List Called) → (note_ended text outer notes called).called ≡ called
+  called_same : (text : List ℕ) (outer notes : List (List ℕ)) (called : List NoteCalls) → (note_end text outer notes called).called ≡ called
   called_same text [] notes called = refl
   called_same text (around ∷ others) notes called = refl
 
@@ -90,7 +91,7 @@ module _ (e : LineEnding) where
     -- ---- pieces
 
     -- where a footnote is called, the texts of the options hold no LF
-    abbrev pub MayCall : List Called → Type 0
+    abbrev pub MayCall : List NoteCalls → Type 0
     MayCall called = (called ≡ []) ⊎ HaveNoFeeds options
 
     abbrev pub printed : List ℕ → List Piece → List ℕ

@@ -1,5 +1,6 @@
 -- What the inline structure of a content prints, with another line ending in place of each LF.
-use Rattle.std.proofs.Common.{◌≡◌, ℕ, Bool, true, false, cond, eqb, ◌||◌, List, [], ◌∷◌, ◌++◌, Option, None, Some, refl, sym, ap, ◌∙◌, map, flat_map, true≢false, subst, inl, inr, ◌⊎◌}
+use Rattle.std.proofs.Common.{◌≡◌, ℕ, Bool, true, false, cond, eqb, ◌||◌, List, [], ◌∷◌, ◌++◌, Option, None, Some, refl, sym, ap, ◌∙◌, map, flat_map}
+use Rattle.std.proofs.Common.{true≢false, subst, inl, inr, ◌⊎◌}
 use Rattle.std.specs.Prelude.{codes, unwrap_or, is_some}
 use Rattle.std.specs.Option.{option_map}
 use Rattle.std.proofs.lemmas.Bool.{cond_both}
@@ -7,13 +8,17 @@ use Rattle.markdown_options.specs.declared.line_ending.LineEnding.{LineEnding}
 use Rattle.markdown_options.specs.declared.line_ending.LineEnding.TheVariants.{CarriageReturnLineFeed, CarriageReturn, LineFeed}
 use Rattle.markdown_options.specs.LineEndings.{ending_bytes}
 use Rattle.definition_text.specs.Encode.{plain}
-use Rattle.definition_inline.specs.Inline.{Target, Resource, Reference, Linked, linked, LiteralKind, Inline, Data, Escape, Character, Code, Math, Autolink, Literal, Html, EscapedBreak, TrailingBreak, LineEnd, Emphasis, Strong, Strikethrough, Link, Image, Call, Inlines, Nil, Cons}
+use Rattle.definition_inline.specs.Inline.{Target, Resource, Reference, Linked, linked, LiteralKind, Inline, Data, Escape, Character, Code, Math, Autolink}
+use Rattle.definition_inline.specs.Inline.{Literal, Html, EscapedBreak, TrailingBreak, LineEnd, Emphasis, Strong, Strikethrough, Link, Image, Call, Inlines}
+use Rattle.definition_inline.specs.Inline.{Nil, Cons}
 use Rattle.definition_inline.specs.LabelMatch.{normal_label, place_of, first_match}
 use Rattle.definition_inline.specs.Strings.{string_text}
-use Rattle.definition_page.specs.Urls.{percent, permitted, sanitized, href_protocols, src_protocols}
+use Rattle.definition_page.specs.Urls.{percent, permitted, sanitize, href_protocols, src_protocols}
 use Rattle.definition_page.specs.Tags.{Said, Words, EndOfLine, Attribute, attribute, attribute_bytes}
 use Rattle.definition_page.specs.Pieces.{Piece, Void, Says}
-use Rattle.definition_page.specs.InlinePieces.{Meaning, permitted_url, link_url, image_url, leads_to, url_of, titled, title_attribute, link_tag, image_tag, address, literal_address, math_tag, html_says, description, call_at, count_at, part_counts, inline_counts, element, part_pieces, inline_pieces}
+use Rattle.definition_page.specs.InlinePieces.{Meaning, permitted_url, link_url, image_url, leads_to, url_of, title_attributes, title_attribute, link_tag}
+use Rattle.definition_page.specs.InlinePieces.{image_tag, address, literal_address, math_tag, html_says, description, call_at, count_at, part_counts}
+use Rattle.definition_page.specs.InlinePieces.{inline_counts, element, part_pieces, inline_pieces}
 use Rattle.laws_endings.specs.Endings.{with_ending, code_with, codes_with}
 use Rattle.laws_endings.specs.Inlines.{target_with, inline_with, inlines_with}
 use Rattle.laws_endings.proofs.Matching.{normal_label-with}
@@ -22,8 +27,10 @@ use Rattle.laws_endings_reads.proofs.Fits.{Plain, TitleFits}
 use Rattle.laws_endings_reads.proofs.Parts.{TargetFits, IsFit, AreFit}
 use Rattle.laws_endings_page.specs.Laws.{HaveNoFeeds}
 use Rattle.laws_endings_page.proofs.Bytes.{IsNoFeed, percent_no_feed, encode-with, eol-with}
-use Rattle.laws_endings_page.proofs.Saids.{plain_no_feed, plains_no_feed, codes-kept, string_text-with, SaidWith, SaidsWith, says_one, words-kept, html_says-with, description-with}
-use Rattle.laws_endings_page.proofs.Pieces.{BytesWith, AttributesWith, attribute-with, more_attributes, PiecesWith, no_pieces, append-with, said-with, void_piece-with, element-with, saids-with}
+use Rattle.laws_endings_page.proofs.Saids.{plain_no_feed, plains_no_feed, codes-kept, string_text-with, SaidWith, SaidsWith, says_one, words-kept}
+use Rattle.laws_endings_page.proofs.Saids.{html_says-with, description-with}
+use Rattle.laws_endings_page.proofs.Pieces.{BytesWith, AttributesWith, attribute-with, more_attributes, PiecesWith, no_pieces, append-with, said-with}
+use Rattle.laws_endings_page.proofs.Pieces.{void_piece-with, element-with, saids-with}
 use Rattle.laws_endings_page.proofs.GfmLabelStartFootnote.{call_piece-with, count_piece-with}
 
 -- where a link leads fits
@@ -62,7 +69,7 @@ module _ (e : LineEnding) where
 
     permitted_no_feed : (all : Bool) (protocols : List (List ℕ)) (url : List ℕ) → Each IsNoFeed (permitted_url all protocols url)
     permitted_no_feed all protocols url =
-        cond_both (all || permitted protocols (sanitized url)) (percent url) [] (Each IsNoFeed) (λ _. percent_no_feed url) (λ _. tt)
+        cond_both (all || permitted protocols (sanitize url)) (percent url) [] (Each IsNoFeed) (λ _. percent_no_feed url) (λ _. tt)
 
     words_one : (text : List ℕ) → Each IsNoFeed text → SaidsWith e (Words text ∷ []) (Words text ∷ [])
     words_one text p = says_one e (Words text) (Words text) (words-kept e text p)
@@ -89,7 +96,7 @@ module _ (e : LineEnding) where
     is_any [] = false
     is_any (b ∷ bs) = true
 
-    titled_any : (text : List ℕ) → is_any text ≡ true → titled text ≡ attribute (codes "title") text ∷ []
+    titled_any : (text : List ℕ) → is_any text ≡ true → title_attributes text ≡ attribute (codes "title") text ∷ []
     unfolding is_any
     titled_any [] h = absurd (true≢false (sym h))
     titled_any (b ∷ bs) h = refl
@@ -105,7 +112,7 @@ module _ (e : LineEnding) where
     any_by b more true = ending_any e more
     any_by b more false = refl
 
-    titled-with : (text : List ℕ) → AttributesWith e (titled (with_ending e text)) (titled text)
+    titled-with : (text : List ℕ) → AttributesWith e (title_attributes (with_ending e text)) (title_attributes text)
     titled-with [] = refl
     titled-with (b ∷ bs) =
         let text = b ∷ bs in
@@ -121,7 +128,7 @@ module _ (e : LineEnding) where
         → AttributesWith e (title_attribute meaning_with (option_map (codes_with e) title)) (title_attribute m title)
     title-with None p = refl
     title-with (Some title) p =
-        ap (λ text. flat_map attribute_bytes (titled text)) (string_text-with e m.on m.names title p) ∙ titled-with (string_text m.on m.names title)
+        ap (λ text. flat_map attribute_bytes (title_attributes text)) (string_text-with e m.on m.names title p) ∙ titled-with (string_text m.on m.names title)
 
     -- ---- tags of links and images
 

@@ -1,5 +1,6 @@
 -- What the parts of a page say, with another line ending in place of each LF.
-use Rattle.std.proofs.Common.{◌≡◌, ℕ, zero, suc, ◌-◌, Bool, true, false, cond, eqb, ◌&&◌, List, [], ◌∷◌, ◌++◌, Option, None, Some, refl, sym, ap, ◌∙◌, map, flat_map, true≢false}
+use Rattle.std.proofs.Common.{◌≡◌, ℕ, zero, suc, ◌-◌, Bool, true, false, cond, eqb, ◌&&◌, List, [], ◌∷◌, ◌++◌, Option, None, Some, refl, sym, ap, ◌∙◌, map}
+use Rattle.std.proofs.Common.{flat_map, true≢false}
 use Rattle.std.specs.Prelude.{nat_le}
 use Rattle.std.proofs.lemmas.Grind.{flat_map-append}
 use Rattle.std.proofs.lemmas.List.{map-append}
@@ -10,14 +11,16 @@ use Rattle.markdown_options.specs.declared.configuration.CompileOptions.{Compile
 use Rattle.definition_text.specs.Columns.{is_white, indent, bare, is_byte, bytes_of}
 use Rattle.definition_text.specs.Content.{is_eol}
 use Rattle.definition_text.specs.Encode.{plain, encode}
-use Rattle.definition_inline.specs.Inline.{Inline, Data, Escape, Character, Code, Math, Autolink, Literal, Html, EscapedBreak, TrailingBreak, LineEnd, Emphasis, Strong, Strikethrough, Link, Image, Call, Inlines, Nil, Cons, Leaf, leaf, or_else}
+use Rattle.definition_inline.specs.Inline.{Inline, Data, Escape, Character, Code, Math, Autolink, Literal, Html, EscapedBreak, TrailingBreak, LineEnd, Emphasis}
+use Rattle.definition_inline.specs.Inline.{Strong, Strikethrough, Link, Image, Call, Inlines, Nil, Cons, Leaf, leaf, or_else}
 use Rattle.definition_inline.specs.CharacterEscape.{escape_at}
 use Rattle.definition_inline.specs.CharacterReference.{reference_at}
 use Rattle.definition_inline.specs.HardBreak.{line_end_at}
 use Rattle.definition_inline.specs.Strings.{begins_with_eol, spaces_at, string_leaf_at, or_byte, string_parts, string_bytes, string_text}
-use Rattle.definition_page.specs.GfmTagfilter.{filtered}
+use Rattle.definition_page.specs.GfmTagfilter.{filter_if}
 use Rattle.definition_page.specs.Tags.{Said, Words, AsItIs, EndOfLine, said_bytes}
-use Rattle.definition_page.specs.InlinePieces.{raw_html, HtmlLine, html_text_line, in_first_line, html_lines, html_line_says, later_line_says, html_lines_say, html_says, part_says, description}
+use Rattle.definition_page.specs.InlinePieces.{raw_html, HtmlLine, html_text_line, in_first_line, html_lines, html_line_says, later_line_says, html_lines_say}
+use Rattle.definition_page.specs.InlinePieces.{html_says, part_says, description}
 use Rattle.laws_endings.specs.Endings.{with_ending, code_with, codes_with}
 use Rattle.laws_endings.specs.Inlines.{inline_with, inlines_with}
 use Rattle.laws_endings.proofs.Codes.{cond-under, same_code, prefix_len-with}
@@ -166,7 +169,7 @@ module _ (e : LineEnding) where
   module _ (options : CompileOptions) where
     pub raw-kept : (html : List ℕ) → Each IsNoFeed html → SaidWith (raw_html options html) (raw_html options html)
     raw-kept html p =
-        let text = filtered options html in
+        let text = filter_if options html in
         cond_both options.allow_dangerous_html (AsItIs text) (Words html) (λ s. SaidWith s s)
         (λ _. ap plain (sym (kept e text (filtered_no_feed options html p))) ∙ plain-with e text) (λ _. words-kept html p)
 

@@ -3,7 +3,8 @@ use Rattle.std.proofs.Common.{ℕ, zero, suc, ◌-◌, List, [], ◌∷◌, ◌+
 use Rattle.std.proofs.lemmas.Bool.{cond_both}
 use Rattle.markdown_options.specs.declared.configuration.Constructs.{Constructs}
 use Rattle.definition_inline.specs.Inline.{Inline, Data, Literal, Emphasis, Strong, Strikethrough, Link, Image, Inlines, Nil, Cons}
-use Rattle.definition_inline.specs.GfmAutolinkLiteral.{Address, address_parts, address_or_text, address_at, parts_from, with_addresses, followed, without_literals, part_without, with_literals, part_with, linked_literals, without_last}
+use Rattle.definition_inline.specs.GfmAutolinkLiteral.{Address, address_parts, address_or_text, address_at, parts_from, with_addresses, parts_before}
+use Rattle.definition_inline.specs.GfmAutolinkLiteral.{without_literals, part_without, with_literals, part_with, linked_literals, without_last}
 use Rattle.laws_endings_reads.proofs.Each.{Each, each-append, each-take, each-drop, each_map}
 use Rattle.laws_endings_reads.proofs.Fits.{Plain}
 use Rattle.laws_endings_reads.proofs.Parts.{IsFit, AreFit}
@@ -42,7 +43,7 @@ parts_fit (suc k) before (c ∷ cs) p q = parts_fit k before cs p q.1
 run_fits : (run : List ℕ) → Each Plain run → Each IsFit (with_addresses run)
 run_fits run p = parts_fit 0 [] run tt p
 
-followed_fits : (is : List Inline) (others : Inlines) → Each IsFit is → AreFit others → AreFit (followed is others)
+followed_fits : (is : List Inline) (others : Inlines) → Each IsFit is → AreFit others → AreFit (parts_before is others)
 followed_fits [] others p q = q
 followed_fits (i ∷ is) others p q = (p.0, followed_fits is others p.1 q)
 

@@ -1,5 +1,6 @@
 -- The blocks of a text of whole characters without CR and `&`: their lines are made of its codes, and end in LF.
-use Rattle.std.proofs.Common.{◌≡◌, ℕ, suc, zero, ◌+◌, Bool, true, false, cond, eqb, ◌&&◌, not, leb, List, [], ◌∷◌, ◌++◌, Option, None, Some, take, drop, map, refl, sym, ap, ◌∙◌, subst, arith}
+use Rattle.std.proofs.Common.{◌≡◌, ℕ, suc, zero, ◌+◌, Bool, true, false, cond, eqb, ◌&&◌, not, leb, List, [], ◌∷◌, ◌++◌, Option, None, Some, take, drop, map}
+use Rattle.std.proofs.Common.{refl, sym, ap, ◌∙◌, subst, arith}
 use Rattle.std.specs.List.{list_all, prefix_len}
 use Rattle.std.proofs.lemmas.Bool.{cond_both, cond-true, and_parts, both_ways}
 use Rattle.markdown_options.specs.declared.line_ending.LineEnding.{LineEnding}
@@ -8,7 +9,7 @@ use Rattle.markdown_options.specs.declared.configuration.Constructs.{Constructs}
 use Rattle.definition_text.specs.declared.beside.Beside.{Beside}
 use Rattle.definition_text.specs.declared.beside.Kind.{Kind}
 use Rattle.definition_text.specs.BlockLines.{BlockLine, own_lines}
-use Rattle.definition_text.specs.Columns.{Rest, is_tab_column, is_byte, bytes_of, code_byte, block_codes, is_white, indent, bare, trimmed}
+use Rattle.definition_text.specs.Columns.{Rest, is_tab_column, is_byte, bytes_of, code_byte, block_codes, is_white, indent, bare, trim}
 use Rattle.definition_text.specs.Content.{is_eol, ending_code, line_codes, content_of}
 use Rattle.definition_text.specs.Indents.{small_indent}
 use Rattle.definition_text.specs.Lines.{TextLine, lines}
@@ -155,18 +156,18 @@ join_fits bs others p q = join_good fits bs others p q
 abbrev AtxFits : Option Atx → Type 0
 AtxFits o = AtxGood fits o
 
-trimmed_plain : (text : List ℕ) → Each Plain text → Each Plain (trimmed text)
+trimmed_plain : (text : List ℕ) → Each Plain text → Each Plain (trim text)
 trimmed_plain text p = each-take Plain _ (drop (prefix_len is_white text) text) (each-drop Plain (prefix_len is_white text) text p)
 
 without_closing_plain : (text : List ℕ) → Each Plain text → Each Plain (without_closing text)
 without_closing_plain text p =
-    cond_both (ends_apart (without_run text)) (trimmed (without_run text)) text (Each Plain)
+    cond_both (ends_apart (without_run text)) (trim (without_run text)) text (Each Plain)
     (λ _. trimmed_plain (without_run text) (each-take Plain _ text p)) (λ _. p)
 
 atx_of_fits : (text : List ℕ) → Each Plain text → AtxFits (atx_of text)
 atx_of_fits text p =
     let rank = run 35 text in
-    let left = trimmed (after_run 35 text) in
+    let left = trim (after_run 35 text) in
     cond_both (leb 1 rank && leb rank 6 && begins_apart (after_run 35 text)) (Some (atx rank (without_closing left))) None AtxFits
     (λ _. (tt, (without_closing_plain left (trimmed_plain (after_run 35 text) (each-drop Plain rank text p)), (tt, tt)))) (λ _. tt)
 
@@ -183,7 +184,7 @@ FenceFits o = FenceGood fits o
 
 word_plain : (byte : ℕ) (text : List ℕ) → Each Plain text → Each Plain (first_word (after_run byte text))
 word_plain byte text p =
-    each-take Plain _ (trimmed (after_run byte text)) (trimmed_plain (after_run byte text) (each-drop Plain (run byte text) text p))
+    each-take Plain _ (trim (after_run byte text)) (trimmed_plain (after_run byte text) (each-drop Plain (run byte text) text p))
 
 fence_of_fits : (columns : ℕ) (text : List ℕ) → Each Plain text → FenceFits (fence_of columns text)
 fence_of_fits columns text p =

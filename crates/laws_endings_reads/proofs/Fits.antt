@@ -1,11 +1,13 @@
 -- Codes that stand for themselves in a page, and the texts that are cut out of them.
-use Rattle.std.proofs.Common.{◌≡◌, ℕ, suc, ◌+◌, ◌-◌, Bool, true, false, cond, eqb, ◌||◌, List, [], ◌∷◌, ◌++◌, Option, None, Some, refl, sym, ap, ◌∙◌, subst, arith, map, length, take, drop, append_assoc, take-append-drop, length-append, take_at}
+use Rattle.std.proofs.Common.{◌≡◌, ℕ, suc, ◌+◌, ◌-◌, Bool, true, false, cond, eqb, ◌||◌, List, [], ◌∷◌, ◌++◌, Option, None, Some, refl, sym, ap, ◌∙◌, subst}
+use Rattle.std.proofs.Common.{arith, map, length, take, drop, append_assoc, take-append-drop, length-append, take_at}
 use Rattle.std.specs.List.{prefix_len}
 use Rattle.std.proofs.lemmas.Bool.{cond_both, both_ways, false_from_ne_true, eqb-true, and_parts, or_parts, or_from}
 use Rattle.definition_text.specs.Columns.{is_tab_column}
 use Rattle.definition_text.specs.Bytes.{begins_with, after_all}
 use Rattle.definition_text.specs.Content.{is_eol, Part, before, up_to, closed_by, may_escape, at_line_start}
-use Rattle.definition_inline.specs.Definition.{Definition, definition_at, next_line, definition_before, with_title, titled, or_untitled, with_destination, with_colon, with_label}
+use Rattle.definition_inline.specs.Definition.{Definition, definition_at, next_line, definition_before, with_title, definition_with_title}
+use Rattle.definition_inline.specs.Definition.{or_definition_without_title, with_destination, with_colon, with_label}
 use Rattle.definition_inline.specs.Space.{after_spaces, after_ending, after_white, begins_with_space}
 use Rattle.definition_inline.specs.Label.{ends_label, label_end, is_label, if_label, label_at}
 use Rattle.definition_inline.specs.Destination.{ends_angle, angle_end, open_after, is_too_deep, ends_bare, bare_end, unless_empty, if_any, destination_at}
@@ -240,14 +242,14 @@ with_title_fits label destination None p q = tt
 with_title_fits label destination (Some title) p q = definition_before_fits label destination (Some title.text) (next_line title.rest) p q.0
 
 or_untitled_fits : (label : List ℕ) (destination : Part) (o : Option Definition) → Each Plain destination.text → DefinitionFits o
-    → DefinitionFits (or_untitled label destination o)
+    → DefinitionFits (or_definition_without_title label destination o)
 or_untitled_fits label destination None p q = definition_before_fits label destination.text None (next_line destination.rest) p tt
 or_untitled_fits label destination (Some d) p q = q
 
 with_destination_fits : (label : List ℕ) (o : Option Part) → DestinationFits o → DefinitionFits (with_destination label o)
 with_destination_fits label None p = tt
 with_destination_fits label (Some destination) p =
-    or_untitled_fits label destination (titled label destination) p.0
+    or_untitled_fits label destination (definition_with_title label destination) p.0
     (cond_both (begins_with_space destination.rest) _ None DefinitionFits
     (λ _. with_title_fits label destination.text (title_at (after_white destination.rest)) p.0
     (title_fits Single (after_white destination.rest) (white_fits Single destination.rest p.1)))

@@ -1,5 +1,6 @@
 -- The inline structure of a content of codes that stand for themselves: its parts are such codes, and no character reference is among them.
-use Rattle.std.proofs.Common.{◌≡◌, ℕ, suc, zero, ◌+◌, Bool, true, false, cond, eqb, ◌&&◌, ◌==◌, List, [], ◌∷◌, ◌++◌, map, Option, None, Some, take, drop, refl, sym, subst}
+use Rattle.std.proofs.Common.{◌≡◌, ℕ, suc, zero, ◌+◌, Bool, true, false, cond, eqb, ◌&&◌, ◌==◌, List, [], ◌∷◌, ◌++◌, map, Option, None, Some, take, drop, refl}
+use Rattle.std.proofs.Common.{sym, subst}
 use Rattle.std.specs.Prelude.{codes}
 use Rattle.std.specs.Char.{is_ascii_punctuation}
 use Rattle.std.specs.List.{prefix_len}
@@ -16,7 +17,8 @@ use Rattle.definition_inline.specs.CharacterEscape.{escape_at}
 use Rattle.definition_inline.specs.CharacterReference.{reference_form, reference_after, reference_of, reference_at}
 use Rattle.definition_inline.specs.CodeText.{run_of, raw_part, raw_leaf, raw_at, code_text_at}
 use Rattle.definition_inline.specs.MathText.{may_open_math, math_text_at}
-use Rattle.definition_inline.specs.Autolink.{is_scheme_byte, is_uri_byte, begins_with_scheme, after_uri, uri_end, is_email_byte, is_domain_byte, domain_end, email_end, closed_autolink, autolink_after, autolink_at}
+use Rattle.definition_inline.specs.Autolink.{is_scheme_byte, is_uri_byte, begins_with_scheme, after_uri, uri_end, is_email_byte, is_domain_byte, domain_end}
+use Rattle.definition_inline.specs.Autolink.{email_end, closed_autolink, autolink_after, autolink_at}
 use Rattle.definition_inline.specs.HtmlText.{html_byte, html_end, html_leaf, html_text_at}
 use Rattle.definition_inline.specs.HardBreak.{line_end_at, escaped_break_at, is_trailing_break, line_spaces_at}
 use Rattle.definition_inline.specs.Space.{after_white, begins_with_space}
@@ -24,11 +26,12 @@ use Rattle.definition_inline.specs.Resource.{LinkResource, resource_end, with_ti
 use Rattle.definition_inline.specs.Label.{label_at}
 use Rattle.definition_inline.specs.Destination.{destination_at}
 use Rattle.definition_inline.specs.Title.{title_at}
-use Rattle.definition_inline.specs.LabelEnd.{Ended, by_text, by_label, by_resource, label_end_at, Formed, Leads, leading}
-use Rattle.definition_inline.specs.GfmLabelStartFootnote.{called, call_or_link}
+use Rattle.definition_inline.specs.LabelEnd.{LinkTail, by_text, by_label, by_resource, label_end_at, LinkOrCall, Leads, link_or_image}
+use Rattle.definition_inline.specs.GfmLabelStartFootnote.{called_label, call_or_link}
 use Rattle.definition_inline.specs.Attention.{Run, is_marker, run_at}
 use Rattle.definition_inline.specs.GfmAutolinkLiteral.{LiteralStart, literal_start_at, literal_name, literal_after, literal_at}
-use Rattle.definition_inline.specs.Scan.{InlineContext, leaf_at, leaf_here, LabelStart, LinkStart, ImageStart, formed_at, text, inlines, spans_from, inlines_from, unindented}
+use Rattle.definition_inline.specs.Scan.{InlineContext, leaf_at, leaf_here, LabelStart, LinkStart, ImageStart, formed_at, text, inlines, spans_from}
+use Rattle.definition_inline.specs.Scan.{inlines_from, without_indent}
 use Rattle.laws_endings.proofs.Contents.{no_ending_here}
 use Rattle.laws_endings_reads.specs.Kinds.{may_mark}
 use Rattle.laws_reads.proofs.Inlines.{LeafGood, BeginsGood, either_begins, Nests, FormedGood, Reads, spans_good}
@@ -37,7 +40,9 @@ use Rattle.laws_endings_reads.proofs.Neighbours.{marker_marks}
 use Rattle.laws_endings_reads.proofs.LiteralTexts.{name_plain, StartPlain, start_plain}
 use Rattle.laws_endings_reads.proofs.Parts.{TargetFits, IsFit, AreFit}
 use Rattle.laws_endings_reads.proofs.Addresses.{linked_fits}
-use Rattle.laws_endings_reads.proofs.Fits.{Single, Plain, each_plain, no_ending_by, plain_byte, all_passed, Apart, before_apart, after_all_apart, after_byte_apart, apart_from, white_fits, PartFits, title_fits, DestinationFits, destination_fits, TitleFits, code_text_fits}
+use Rattle.laws_endings_reads.proofs.Fits.{Single, Plain, each_plain, no_ending_by, plain_byte, all_passed, Apart, before_apart, after_all_apart}
+use Rattle.laws_endings_reads.proofs.Fits.{after_byte_apart, apart_from, white_fits, PartFits, title_fits, DestinationFits, destination_fits, TitleFits}
+use Rattle.laws_endings_reads.proofs.Fits.{code_text_fits}
 
 -- ---- resources
 
@@ -74,19 +79,19 @@ resource_fits (c ∷ cs) p =
     cond_both (eqb c 40) (resource_inside (after_white cs)) None ResourceFits
     (λ _. resource_inside_fits (after_white cs) (white_fits Single cs p.1)) (λ _. tt)
 
-abbrev EndedFits : Option Ended → Type 0
-EndedFits o = WhereSome (λ (found : Ended). TargetFits found.target) o
+abbrev EndedFits : Option LinkTail → Type 0
+EndedFits o = WhereSome (λ (found : LinkTail). TargetFits found.target) o
 
-abbrev FormedFits : Option Formed → Type 0
+abbrev FormedFits : Option LinkOrCall → Type 0
 FormedFits o = FormedGood TargetFits o
 
 module _ (is_defined : List ℕ → Bool) where
   by_text_fits : (text rest : List ℕ) → EndedFits (by_text is_defined text rest)
-  by_text_fits text rest = where_passed (λ (found : Ended). TargetFits found.target) _ _ tt
+  by_text_fits text rest = where_passed (λ (found : LinkTail). TargetFits found.target) _ _ tt
 
   by_label_fits : (text rest : List ℕ) (o : Option Part) → EndedFits (by_label is_defined text rest o)
   by_label_fits text rest None = by_text_fits text rest
-  by_label_fits text rest (Some label) = where_passed (λ (found : Ended). TargetFits found.target) (is_defined label.text) _ tt
+  by_label_fits text rest (Some label) = where_passed (λ (found : LinkTail). TargetFits found.target) (is_defined label.text) _ tt
 
   by_resource_fits : (text rest : List ℕ) (o : Option LinkResource) → ResourceFits o → EndedFits (by_resource is_defined text rest o)
   by_resource_fits text rest None p = by_label_fits text rest (label_at rest)
@@ -95,17 +100,17 @@ module _ (is_defined : List ℕ → Bool) where
   ended_fits : (text rest : List ℕ) → Each Single rest → EndedFits (label_end_at is_defined text rest)
   ended_fits text rest p = by_resource_fits text rest (resource_at rest) (resource_fits rest p)
 
-  leads_fit : (o : Option Ended) → EndedFits o → FormedFits (option_map Leads o)
+  leads_fit : (o : Option LinkTail) → EndedFits o → FormedFits (option_map Leads o)
   leads_fit None p = tt
   leads_fit (Some end) p = p
 
-  leading_fits : (text rest : List ℕ) → Each Single rest → FormedFits (leading is_defined text rest)
+  leading_fits : (text rest : List ℕ) → Each Single rest → FormedFits (link_or_image is_defined text rest)
   leading_fits text rest p = leads_fit (label_end_at is_defined text rest) (ended_fits text rest p)
 
   call_or_link_fits : (on : Constructs) (text rest : List ℕ) (call : Option (List ℕ)) → Each Single rest
       → FormedFits (call_or_link on is_defined text rest call)
   call_or_link_fits on text rest None p =
-      cond_both on.label_start_link (leading is_defined text rest) None FormedFits (λ _. leading_fits text rest p) (λ _. tt)
+      cond_both on.label_start_link (link_or_image is_defined text rest) None FormedFits (λ _. leading_fits text rest p) (λ _. tt)
   call_or_link_fits on text rest (Some label) p = tt
 
 -- ---- constructs that hold no other
@@ -266,7 +271,7 @@ module _ (context : InlineContext) where
   formed_at_fits : (start : LabelStart) (between rest : List ℕ) → Each Single rest → FormedFits (formed_at context start between rest)
   formed_at_fits LinkStart between rest p =
       let on = context.options.constructs in
-      call_or_link_fits context.is_defined on between rest (called on context.is_footnote between) p
+      call_or_link_fits context.is_defined on between rest (called_label on context.is_footnote between) p
   formed_at_fits ImageStart between rest p = leading_fits context.is_defined between rest p
 
   leaf_fits : (content : List ℕ) → Each Single content → BeginsFit (leaf_at context content)
@@ -324,4 +329,4 @@ module _ (context : InlineContext) where
 
   pub inlines_fit : (content : List InlineCode) → Each Single (codes_of content) → AreFit (inlines context content)
   inlines_fit content p =
-      from_fits (unindented content) (dropped_codes (prefix_len (λ (c : InlineCode). is_white c.code) content) content p)
+      from_fits (without_indent content) (dropped_codes (prefix_len (λ (c : InlineCode). is_white c.code) content) content p)

@@ -1,5 +1,6 @@
 -- The text of a literal has no ending.
-use Rattle.std.proofs.Common.{◌≡◌, ℕ, zero, suc, true, false, not, ◌||◌, ◌&&◌, eqb, List, [], ◌∷◌, Option, None, Some, inl, inr, refl, sym, ap, ◌∙◌, subst, take, length}
+use Rattle.std.proofs.Common.{◌≡◌, ℕ, zero, suc, true, false, not, ◌||◌, ◌&&◌, eqb, List, [], ◌∷◌, Option, None, Some, inl, inr, refl, sym, ap, ◌∙◌, subst}
+use Rattle.std.proofs.Common.{take, length}
 use Rattle.std.specs.Prelude.{codes, reverse}
 use Rattle.std.specs.Char.{to_ascii_lowercase}
 use Rattle.std.specs.List.{list_all}
@@ -8,7 +9,9 @@ use Rattle.std.proofs.lemmas.List.{reverse-append}
 use Rattle.definition_text.specs.Columns.{is_white}
 use Rattle.definition_text.specs.Content.{is_eol, is_space}
 use Rattle.definition_inline.specs.Inline.{Www, Protocol}
-use Rattle.definition_inline.specs.GfmAutolinkLiteral.{may_precede_www, may_precede_protocol, begins_caselessly, LiteralStart, literal_start, or_start, www_start, protocol_start, literal_start_at, ends_label, ends_literal, literal_run, is_cut, cut_more, without_tail, literal_name}
+use Rattle.definition_inline.specs.GfmAutolinkLiteral.{may_precede_www, may_precede_protocol, begins_caselessly, LiteralStart, literal_start, or_start}
+use Rattle.definition_inline.specs.GfmAutolinkLiteral.{www_start, protocol_start, literal_start_at, ends_label, ends_literal, literal_run, is_cut, cut_more}
+use Rattle.definition_inline.specs.GfmAutolinkLiteral.{without_tail, literal_name}
 use Rattle.laws_endings.proofs.Literals.{is_apart}
 use Rattle.laws_endings_reads.proofs.Each.{Each, each-append}
 use Rattle.laws_endings_reads.proofs.Fits.{Single, Plain}

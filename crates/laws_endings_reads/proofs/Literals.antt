@@ -1,5 +1,6 @@
 -- Literals in contents that are alike.
-use Rattle.std.proofs.Common.{◌≡◌, ℕ, zero, suc, ◌+◌, ◌-◌, ◌<◌, Bool, true, false, cond, not, ◌||◌, ◌&&◌, eqb, List, [], ◌∷◌, ◌++◌, Option, None, Some, inl, inr, refl, sym, ap, ap₂, ◌∙◌, arith, drop, take, length, get_or, slice_index_or}
+use Rattle.std.proofs.Common.{◌≡◌, ℕ, zero, suc, ◌+◌, ◌-◌, ◌<◌, Bool, true, false, cond, not, ◌||◌, ◌&&◌, eqb, List, [], ◌∷◌, ◌++◌, Option, None, Some, inl}
+use Rattle.std.proofs.Common.{inr, refl, sym, ap, ap₂, ◌∙◌, arith, drop, take, length, get_or, slice_index_or}
 use Rattle.std.specs.Prelude.{codes, nat_lt}
 use Rattle.std.specs.Char.{to_ascii_lowercase}
 use Rattle.std.proofs.lemmas.Bool.{cases_Bool, cond_both, and_parts, or_left, eqb-true, ltb-false, true≢false}
@@ -8,7 +9,9 @@ use Rattle.definition_text.specs.declared.beside.Kind.{Kind}
 use Rattle.definition_text.specs.InlineCode.{InlineCode, codes_of, is_continuation}
 use Rattle.definition_inline.specs.Attention.{is_other}
 use Rattle.definition_inline.specs.Inline.{Www, Protocol, Literal, Leaf, leaf}
-use Rattle.definition_inline.specs.GfmAutolinkLiteral.{is_among, may_precede_www, may_precede_protocol, begins_caselessly, LiteralStart, literal_start, or_start, www_start, protocol_start, literal_start_at, is_control, begins_name, literal_name, domain, has_low_line, named_literal, literal_after, literal_at}
+use Rattle.definition_inline.specs.GfmAutolinkLiteral.{is_among, may_precede_www, may_precede_protocol, begins_caselessly, LiteralStart, literal_start}
+use Rattle.definition_inline.specs.GfmAutolinkLiteral.{or_start, www_start, protocol_start, literal_start_at, is_control, begins_name, literal_name, domain}
+use Rattle.definition_inline.specs.GfmAutolinkLiteral.{has_low_line, named_literal, literal_after, literal_at}
 use Rattle.laws_endings_reads.specs.Kinds.{counts_after, goes_on, IsAlike, AreAlike}
 
 pub alike_codes : (one other : List InlineCode) → AreAlike one other → codes_of one ≡ codes_of other
@@ -50,7 +53,8 @@ pub record IsSame (one other : InlineCode) : Type 0 where
 pub same_of : (a b : InlineCode) (others : List InlineCode) → IsAlike a b others → IsSame a b
 same_of a b others h = record { code = h.code; after = λ counts. h.after (inl counts) }
 
-pub alike_at : (n : ℕ) (one other : List InlineCode) (d e : InlineCode) → AreAlike one other → IsSame d e → IsSame (slice_index_or one n d) (slice_index_or other n e)
+pub alike_at : (n : ℕ) (one other : List InlineCode) (d e : InlineCode) → AreAlike one other → IsSame d e
+    → IsSame (slice_index_or one n d) (slice_index_or other n e)
 alike_at zero [] [] d e h s = s
 alike_at (suc n) [] [] d e h s = s
 alike_at n [] (b ∷ bs) d e h s = absurd (true≢false h)
@@ -60,7 +64,8 @@ alike_at (suc n) (a ∷ rest) (b ∷ bs) d e h s = alike_at n rest bs d e h.1 s
 
 -- ---- a start ends with an ASCII byte
 
-lower_at : (text cs : List ℕ) (n : ℕ) → begins_caselessly text cs ≡ true → n < length text → to_ascii_lowercase (get_or text n 0) ≡ to_ascii_lowercase (get_or cs n 0)
+lower_at : (text cs : List ℕ) (n : ℕ) → begins_caselessly text cs ≡ true → n < length text
+    → to_ascii_lowercase (get_or text n 0) ≡ to_ascii_lowercase (get_or cs n 0)
 lower_at [] cs n h lt = absurd (omega (arith, lt))
 lower_at (t ∷ ts) [] n h lt = absurd (true≢false (sym h))
 lower_at (t ∷ ts) (c ∷ cs) zero h lt =
@@ -88,7 +93,8 @@ low_start : (previous : Option ℕ) (cs : List ℕ) → EndsLow cs (literal_star
 low_start previous cs =
     low_or cs (www_start previous cs) (protocol_start previous cs)
     (cond_both (may_precede_www previous && begins_caselessly (codes "www.") cs) (Some (literal_start Www 4)) None (EndsLow cs)
-    (λ e. low_code (get_or cs 3 0) 46 (omega arith) refl (lower_at (codes "www.") cs 3 (and_parts (may_precede_www previous) (begins_caselessly (codes "www.") cs) e).1 (omega arith)))
+    (λ e. low_code (get_or cs 3 0) 46 (omega arith) refl (lower_at (codes "www.") cs 3
+    (and_parts (may_precede_www previous) (begins_caselessly (codes "www.") cs) e).1 (omega arith)))
     (λ _. refl))
     (cond_both (not (may_precede_protocol previous)) None _ (EndsLow cs) (λ _. refl)
     (λ _. cond_both (begins_caselessly (codes "http://") cs) (Some (literal_start Protocol 7)) _ (EndsLow cs)
@@ -98,7 +104,8 @@ low_start previous cs =
 
 -- ---- domains
 
-alike_domain : (n : ℕ) (k l : Kind) (one other : List InlineCode) → AreAlike one other → (goes_on one ≡ false → k ≡ l) → domain k (take n one) ≡ domain l (take n other)
+alike_domain : (n : ℕ) (k l : Kind) (one other : List InlineCode) → AreAlike one other → (goes_on one ≡ false → k ≡ l)
+    → domain k (take n one) ≡ domain l (take n other)
 alike_domain zero k l one other h same = refl
 alike_domain (suc n) k l [] [] h same = refl
 alike_domain (suc n) k l [] (b ∷ bs) h same = absurd (true≢false h)

@@ -1,21 +1,25 @@
 -- What stands beside the codes of a line with another ending: the same wherever a run may stand.
-use Rattle.std.proofs.Common.{◌≡◌, ℕ, zero, suc, ◌+◌, ◌-◌, ◌*◌, ◌<◌, Bool, true, false, cond, eqb, ltb, ◌||◌, ◌&&◌, List, [], ◌∷◌, Option, None, Some, ⊎_elim, refl, sym, ap, ap₂, ◌∙◌, subst, arith, drop, slice_index, slice_index_or}
+use Rattle.std.proofs.Common.{◌≡◌, ℕ, zero, suc, ◌+◌, ◌-◌, ◌*◌, ◌<◌, Bool, true, false, cond, eqb, ltb, ◌||◌, ◌&&◌, List, [], ◌∷◌, Option, None, Some, ⊎_elim}
+use Rattle.std.proofs.Common.{refl, sym, ap, ap₂, ◌∙◌, subst, arith, drop, slice_index, slice_index_or}
 use Rattle.std.specs.Option.{option_map}
 use Rattle.std.specs.List.{prefix_len}
-use Rattle.std.proofs.lemmas.Bool.{cond-true, cond-false, both_ways, false_from_ne_true, eqb-true, eq-eqb, and_parts, or_cases, or_left, or_right, cases_Bool, true≢false}
+use Rattle.std.proofs.lemmas.Bool.{cond-true, cond-false, both_ways, false_from_ne_true, eqb-true, eq-eqb, and_parts, or_cases, or_left, or_right, cases_Bool}
+use Rattle.std.proofs.lemmas.Bool.{true≢false}
 use Rattle.markdown_options.specs.declared.line_ending.LineEnding.{LineEnding}
 use Rattle.markdown_options.specs.declared.configuration.ParseOptions.{ParseOptions}
 use Rattle.definition_text.specs.declared.beside.Kind.{Kind}
 use Rattle.definition_text.specs.declared.beside.Kind.TheVariants.{Whitespace}
 use Rattle.definition_text.specs.Columns.{is_white}
 use Rattle.definition_text.specs.Content.{is_eol}
-use Rattle.definition_text.specs.InlineCode.{InlineCode, inline_code, codes_of, first_character, is_continuation, character_kind, first_kind, next_kind, with_kinds}
+use Rattle.definition_text.specs.InlineCode.{InlineCode, inline_code, codes_of, first_character, is_continuation, character_kind, first_kind, next_kind}
+use Rattle.definition_text.specs.InlineCode.{with_kinds}
 use Rattle.definition_inline.specs.GfmStrikethrough.{is_tilde}
 use Rattle.definition_inline.specs.Attention.{Run, is_marker, run_between, run_size, run_at}
 use Rattle.definition_inline.specs.Inline.{or_else}
 use Rattle.definition_inline.specs.GfmAutolinkLiteral.{linked_literals}
-use Rattle.definition_inline.specs.Scan.{InlineContext, leaf_at, leaf_here, text, Reading, reading, Step, Next, leaf_step, step, and_then, scan, whole_text, inlines, inlines_from, unindented}
-use Rattle.definition_inline.specs.Spans.{emphasized}
+use Rattle.definition_inline.specs.Scan.{InlineContext, leaf_at, leaf_here, text, Reading, reading, Step, Next, leaf_step, step, and_then, scan, whole_text}
+use Rattle.definition_inline.specs.Scan.{inlines, inlines_from, without_indent}
+use Rattle.definition_inline.specs.Spans.{with_spans}
 use Rattle.laws_endings.specs.Endings.{code_with, codes_with}
 use Rattle.laws_endings.specs.Inlines.{inline_code_with, content_with}
 use Rattle.laws_endings.proofs.Codes.{same_code}
@@ -40,7 +44,7 @@ alike_prefix test (a ∷ rest) (b ∷ bs) h =
     ap (λ code. cond (test code) (1 + prefix_len (λ (x : InlineCode). test x.code) rest) 0) h.0.code
     ∙ ap (λ n. cond (test b.code) (1 + n) 0) (alike_prefix test rest bs h.1)
 
-pub alike_unindented : (one other : List InlineCode) → AreAlike one other → AreAlike (unindented one) (unindented other)
+pub alike_unindented : (one other : List InlineCode) → AreAlike one other → AreAlike (without_indent one) (without_indent other)
 alike_unindented one other h =
     let n = prefix_len (λ (c : InlineCode). is_white c.code) one in
     subst (λ m. AreAlike (drop n one) (drop m other)) (alike_prefix is_white one other h) (alike_drop n one other h)
@@ -123,10 +127,11 @@ module _ (context : InlineContext) where
   alike_scan (suc k) r (a ∷ rest) (b ∷ bs) h = alike_scan k r rest bs h.1
 
   pub alike_from : (one other : List InlineCode) → AreAlike one other → inlines_from context one ≡ inlines_from context other
-  alike_from one other h = ap (λ r. linked_literals context.options.constructs (emphasized (whole_text r).tokens)) (alike_scan 0 (reading (text [] false) []) one other h)
+  alike_from one other h = ap (λ r. linked_literals context.options.constructs (with_spans (whole_text r).tokens))
+      (alike_scan 0 (reading (text [] false) []) one other h)
 
   pub alike_inlines : (one other : List InlineCode) → AreAlike one other → inlines context one ≡ inlines context other
-  alike_inlines one other h = alike_from (unindented one) (unindented other) (alike_unindented one other h)
+  alike_inlines one other h = alike_from (without_indent one) (without_indent other) (alike_unindented one other h)
 
 -- ---- kinds of whole characters
 
@@ -211,7 +216,8 @@ module _ (e : LineEnding) where
     kinds-with q k after (c ∷ cs) w =
         let next' = next_kind p k (codes_with e (c ∷ cs)) in (
           one-with q k after c cs (with_kinds p (Some (code_with e c)) next' after (codes_with e cs)) (goes_with (Some (code_with e c)) next' after cs) w.0 w.1,
-          subst (λ before. AreAlike (with_kinds p (Some (code_with e c)) before after (codes_with e cs)) (content_with e (with_kinds p (Some c) (next_kind p k (c ∷ cs)) after cs)))
+          subst (λ before. AreAlike (with_kinds p (Some (code_with e c)) before after (codes_with e cs))
+              (content_with e (with_kinds p (Some c) (next_kind p k (c ∷ cs)) after cs)))
               (sym (next_kind-with k c cs w.0)) (kinds-with (Some c) (next_kind p k (c ∷ cs)) after cs w.1),
         )
 

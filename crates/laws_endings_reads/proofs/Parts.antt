@@ -1,6 +1,7 @@
 -- Inline structure of codes that stand for themselves.
 use Rattle.std.proofs.Common.{◌≡◌, true, false}
-use Rattle.definition_inline.specs.Inline.{Target, Resource, Reference, Inline, Data, Escape, Character, Code, Math, Autolink, Literal, Html, EscapedBreak, TrailingBreak, LineEnd, Emphasis, Strong, Strikethrough, Link, Image, Call, Inlines, Nil, Cons}
+use Rattle.definition_inline.specs.Inline.{Target, Resource, Reference, Inline, Data, Escape, Character, Code, Math, Autolink, Literal, Html, EscapedBreak}
+use Rattle.definition_inline.specs.Inline.{TrailingBreak, LineEnd, Emphasis, Strong, Strikethrough, Link, Image, Call, Inlines, Nil, Cons}
 use Rattle.laws_endings_reads.proofs.Each.{Each}
 use Rattle.laws_endings_reads.proofs.Fits.{Single, Plain, TitleFits}
 

@@ -1,5 +1,6 @@
 -- The lines of a text of whole characters without CR and `&`.
-use Rattle.std.proofs.Common.{◌≡◌, ℕ, zero, suc, ◌+◌, Bool, true, false, cond, eqb, List, [], ◌∷◌, ◌++◌, None, Some, refl, sym, ap, ◌∙◌, subst, replicate, inl, inr, ⊎_elim, ◌⊎◌}
+use Rattle.std.proofs.Common.{◌≡◌, ℕ, zero, suc, ◌+◌, Bool, true, false, cond, eqb, List, [], ◌∷◌, ◌++◌, None, Some, refl, sym, ap, ◌∙◌, subst, replicate, inl}
+use Rattle.std.proofs.Common.{inr, ⊎_elim, ◌⊎◌}
 use Rattle.std.proofs.lemmas.Bool.{cond_both, cond-true, eqb-true, both_ways, not_from_false, or_from}
 use Rattle.markdown_options.specs.declared.line_ending.LineEnding.TheVariants.{LineFeed}
 use Rattle.definition_text.specs.Columns.{whole, codes_from, columns_after_tab, tab_column, is_byte, bytes_of}

@@ -1,15 +1,16 @@
 -- Which kinds of characters the inline structure of a content asks for (CommonMark 6.2 and GFM 6.9).
 use Rattle.std.specs.Prelude.{◌≡◌, ℕ, Bool, true, false, ◌==◌, ◌||◌, ◌⊎◌, List, [], ◌∷◌}
+use Rattle.definition_text.specs.Ascii.{asterisk, dot, slash, underscore, tilde}
 use Rattle.definition_text.specs.InlineCode.{InlineCode, is_continuation}
 use Rattle.definition_inline.specs.Scan.{InlineContext, inlines}
 
 -- a byte whose runs may form spans: `*`, `_` or `~`
 abbrev pub may_mark : ℕ → Bool
-may_mark c = (c == 42) || ((c == 95) || (c == 126))
+may_mark c = (c == asterisk) || ((c == underscore) || (c == tilde))
 
 -- a byte after which the kind of the next character counts: one of those, or the last one that a literal begins with
 abbrev pub counts_after : ℕ → Bool
-counts_after c = may_mark c || ((c == 46) || (c == 47))
+counts_after c = may_mark c || ((c == dot) || (c == slash))
 
 -- a byte that continues a character comes first
 abbrev pub goes_on : List InlineCode → Bool

@@ -11,7 +11,7 @@ use Rattle.definition_text.specs.Indents.{small_indent}
 use Rattle.definition_text.specs.Bytes.{begins_with}
 use Rattle.definition_text.specs.Runs.{run}
 use Rattle.definition_block.specs.BlockQuote.{after_byte, after_mark, quote_prefix}
-use Rattle.definition_block.specs.ListItem.{is_digit, number_of, bullet, delimiter, ordered, marker, item_after, item_start}
+use Rattle.definition_block.specs.ListItem.{is_digit, number_of, bullet, delimiter, ordered_marker, marker, item_after, item_start}
 use Rattle.definition_block.specs.GfmFootnoteDefinition.{after_bracket, footnote_mark, footnote_of, footnote_start}
 use Rattle.definition_block.specs.Containers.{quote_or, footnote_or, starts}
 use Rattle.definition_block.specs.CodeIndented.{starts_code_indented}
@@ -82,13 +82,13 @@ module _ (on : Constructs) (c : ℕ) (cs : List ℕ) (line : BeginsNothing c cs)
       cond-false ((c == 45) || (c == 43) || (c == 42)) _ None
       (none_of _ _ _ (line.no_punctuation 45 refl refl) (line.no_punctuation 43 refl refl) (line.no_punctuation 42 refl refl))
 
-  no_number : ordered (prefix_len is_digit here) here ≡ None
+  no_number : ordered_marker (prefix_len is_digit here) here ≡ None
   no_number = let digits = prefix_len is_digit here in unless (leb digits 9) _ (line.no_delimiter (number_of (take digits here)) digits)
 
   no_marker : marker here ≡ None
   no_marker =
       let digits = prefix_len is_digit here in
-      cond_both (digits == 0) (bullet here) (ordered digits here) (λ o. o ≡ None) (λ _. no_bullet) (λ _. no_number)
+      cond_both (digits == 0) (bullet here) (ordered_marker digits here) (λ o. o ≡ None) (λ _. no_bullet) (λ _. no_number)
 
   no_item : (interrupts : Bool) → item_start on interrupts here ≡ None
   no_item interrupts = unless _ _ (ap (item_after (indent here) interrupts) (ap marker same_bare ∙ no_marker))

@@ -13,20 +13,20 @@ use Rattle.definition_text.specs.Encode.{encode}
 use Rattle.definition_text.specs.Lines.{has_mark, kind_before_text}
 use Rattle.definition_text.specs.BlockLines.{BlockLine, block_line}
 use Rattle.definition_text.specs.InlineCode.{inline_content}
-use Rattle.definition_block.specs.Tree.{Paragraph, ended, blocks}
+use Rattle.definition_block.specs.Tree.{Paragraph, block_and_ending, blocks}
 use Rattle.definition_inline.specs.Scan.{inlines}
 use Rattle.definition_page.specs.Layout.{laid}
 use Rattle.definition_page.specs.Targets.{no_targets}
 use Rattle.definition_page.specs.TextTables.{TextTables}
 use Rattle.html_bytes.specs.Document.{Document, document, context_of, meaning_of, text_of}
 use Rattle.html_bytes.specs.Html.{default_ending, blocks_html, marked_html}
-use Rattle.html_bytes.specs.Layout.{finished}
+use Rattle.html_bytes.specs.Layout.{with_footnotes}
 use Rattle.html_bytes.specs.Pieces.{Piece, Bytes}
 use Rattle.html_bytes.proofs.SameLayout.{add, add_nil}
 use Rattle.html_bytes.proofs.SamePage.{html_is}
 use Rattle.html_bytes.proofs.WithoutCalls.{AddsBytes, adds_append, without_calls}
 use Rattle.laws_visible.proofs.PlainText.{content_codes}
-use Rattle.laws_inline.specs.Escaped.{escaped, IsTrimmedLine}
+use Rattle.laws_inline.specs.Escaped.{with_backslashes, IsTrimmedLine}
 use Rattle.laws_inline.proofs.Escaped.{escape_law, escaped_calls_nothing}
 use Rattle.laws_escape.specs.EscapedPage.{EscapedPageLaw}
 use Rattle.laws_escape.proofs.Paragraph.{one_paragraph}
@@ -36,54 +36,55 @@ use Rattle.laws_escape.proofs.EscapedLine.{Begins, begins_nothing, escaped_in_li
 paragraph_adds : (options : CompileOptions) (default : List ℕ) (text : List Piece) (said : List ℕ) → AddsBytes options default text said
     → AddsBytes options default (text ++ Bytes (codes "</p>") ∷ [] ++ Bytes [] ∷ [] ++ []) (said ++ codes "</p>")
 paragraph_adds options default text said adds l =
-    let ended = text ++ Bytes (codes "</p>") ∷ [] in
+    let block_and_ending = text ++ Bytes (codes "</p>") ∷ [] in
     let all = said ++ codes "</p>" in
     let here = adds_append options default text (Bytes (codes "</p>") ∷ []) said (codes "</p>") adds (λ l. refl) in
-    let more = adds_append options default ended (Bytes [] ∷ []) all [] here (λ l. refl) in
-    adds_append options default (ended ++ Bytes [] ∷ []) [] (all ++ []) [] more (λ l. sym (add_nil l)) l
+    let more = adds_append options default block_and_ending (Bytes [] ∷ []) all [] here (λ l. refl) in
+    adds_append options default (block_and_ending ++ Bytes [] ∷ []) [] (all ++ []) [] more (λ l. sym (add_nil l)) l
     ∙ ap (add l) (append-nil (all ++ []) ∙ append-nil all)
 
 -- what a document of one paragraph prints, where its text adds these bytes
 paragraph_html : (tables : TextTables) (options : Options) (ending : LineEnding) (ls : List BlockLine) (said : List ℕ)
     → AddsBytes options.compile (ending_bytes ending) (text_of (document options tables no_targets) ls) said
-    → blocks_html tables options ending (ended (Paragraph ls) None) ≡ codes "<p>" ++ said ++ codes "</p>"
+    → blocks_html tables options ending (block_and_ending (Paragraph ls) None) ≡ codes "<p>" ++ said ++ codes "</p>"
 paragraph_html tables options ending ls said adds =
     let default = ending_bytes ending in
     let text = text_of (document options tables no_targets) ls in
-    ap (finished options.compile default) (paragraph_adds options.compile default text said adds (laid (codes "<p>") [] [] []))
+    ap (with_footnotes options.compile default) (paragraph_adds options.compile default text said adds (laid (codes "<p>") [] [] []))
     ∙ sym (append_assoc (codes "<p>") said (codes "</p>"))
 
 -- what the paragraph of an escaped line says
 line_says : (d : Document) (options : CompileOptions) (default line : List ℕ) (before : Kind) → d.options.parse.constructs.character_escape ≡ true
-    → IsTrimmedLine line → AddsBytes options default (text_of d (block_line (escaped line) None before ∷ [])) (encode line)
+    → IsTrimmedLine line → AddsBytes options default (text_of d (block_line (with_backslashes line) None before ∷ [])) (encode line)
 line_says d options default line before on h l =
-    let ls = block_line (escaped line) None before ∷ [] in
+    let ls = block_line (with_backslashes line) None before ∷ [] in
     let content = inline_content d.tables.is_punctuation Whitespace ls in
-    let same = content_codes d.tables.is_punctuation Whitespace ls (escaped_in_line line h.0) ∙ append-nil (escaped line ++ []) ∙ append-nil (escaped line) in
+    let same = content_codes d.tables.is_punctuation Whitespace ls (escaped_in_line line h.0) ∙ append-nil (with_backslashes line ++ [])
+    ∙ append-nil (with_backslashes line) in
     without_calls options default (meaning_of d) (inlines (context_of d) content) (escaped_calls_nothing (context_of d) content line on h same) l
     ∙ ap (add l) (escape_law (context_of d) (meaning_of d) content line on h same)
 
 -- the blocks of an escaped line
-its_blocks : (options : Options) (before : Kind) (line : List ℕ) → Begins (escaped line)
-    → blocks options.parse.constructs before (escaped line) ≡ ended (Paragraph (block_line (escaped line) None before ∷ [])) None
+its_blocks : (options : Options) (before : Kind) (line : List ℕ) → Begins (with_backslashes line)
+    → blocks options.parse.constructs before (with_backslashes line) ≡ block_and_ending (Paragraph (block_line (with_backslashes line) None before ∷ [])) None
 its_blocks options before line h =
     let on = options.parse.constructs in
     ap (blocks on before) h.are ∙ one_paragraph on h.first h.others h.line before
-    ∙ ap (λ xs. ended (Paragraph (block_line xs None before ∷ [])) None) (sym h.are)
+    ∙ ap (λ xs. block_and_ending (Paragraph (block_line xs None before ∷ [])) None) (sym h.are)
 
 marked_page : (tables : TextTables) (line : List ℕ) (options : Options) (before : Kind) → options.parse.constructs.character_escape ≡ true
-    → IsTrimmedLine line → Begins (escaped line)
-    → marked_html tables before (escaped line) options ≡ codes "<p>" ++ encode line ++ codes "</p>"
+    → IsTrimmedLine line → Begins (with_backslashes line)
+    → marked_html tables before (with_backslashes line) options ≡ codes "<p>" ++ encode line ++ codes "</p>"
 marked_page tables line options before on h begins =
-    let ending = default_ending options (escaped line) in
+    let ending = default_ending options (with_backslashes line) in
     ap (blocks_html tables options ending) (its_blocks options before line begins)
-    ∙ paragraph_html tables options ending (block_line (escaped line) None before ∷ []) (encode line)
+    ∙ paragraph_html tables options ending (block_line (with_backslashes line) None before ∷ []) (encode line)
     (line_says (document options tables no_targets) options.compile (ending_bytes ending) line before on h)
 
 pub escaped_page_law : EscapedPageLaw
 escaped_page_law tables [] options on some h unmarked = absurd (some refl)
 escaped_page_law tables (b ∷ bs) options on some h unmarked =
-    let text = escaped (b ∷ bs) in
+    let text = with_backslashes (b ∷ bs) in
     let before = kind_before_text text in
     html_is tables text options
     ∙ ap (λ xs. marked_html tables before xs options) (cond-false (has_mark text) _ text (no_mark (b ∷ bs) unmarked))

@@ -12,14 +12,16 @@ use Rattle.definition_text.specs.BlockLines.{BlockLine, block_line}
 use Rattle.definition_text.specs.Runs.{run}
 use Rattle.definition_inline.specs.Label.{label_at}
 use Rattle.definition_inline.specs.Definition.{with_label, definition_at}
-use Rattle.definition_block.specs.Started.{Started}
+use Rattle.definition_block.specs.ContainerStart.{ContainerStart}
 use Rattle.definition_block.specs.Definitions.{Cut, cut_into, cut_after, cut_most, cut}
 use Rattle.definition_block.specs.Frontmatter.{is_metadata_fence, after_frontmatter}
 use Rattle.definition_block.specs.HeadingSetext.{underline}
 use Rattle.definition_block.specs.ThematicBreak.{is_break}
 use Rattle.definition_block.specs.declared.align_kind.AlignKind.{AlignKind}
 use Rattle.definition_block.specs.GfmTable.{delimiter_row, is_head}
-use Rattle.definition_block.specs.Tree.{is_some_line, table_if, Nil, Paragraph, join, ended, Text, Leaf, Tree, tree, nothing, empty_tree, with_paragraph, rest_line, begun, taken, underlined, text_line_of, break_or_text, beside_in, leaf_line, start, new, grow, beside_line, step, closed, children, children_after, blocks}
+use Rattle.definition_block.specs.Tree.{is_some_line, table_if, Nil, Paragraph, join, block_and_ending, Text, Leaf, Tree, tree, nothing, empty_tree}
+use Rattle.definition_block.specs.Tree.{with_paragraph, rest_line, begun, tree_or, heading_if, text_line_of, break_or_text, beside_in, leaf_line, start, new}
+use Rattle.definition_block.specs.Tree.{grow, beside_line, step, blocks_at_end, children, children_after, blocks}
 use Rattle.laws_visible.proofs.PlainText.{and_no, bare_other}
 use Rattle.laws_inline.specs.Escaped.{is_line_byte}
 use Rattle.laws_inline.proofs.Escaped.{no_and, no_column, line_byte}
@@ -68,17 +70,17 @@ module _ (on : Constructs) (c : ℕ) (cs : List ℕ) (line : BeginsNothing c cs)
   its_leaf : (beside : Beside) → leaf_line on nothing here beside ≡ in_paragraph beside
   its_leaf beside =
       let text = break_or_text on nothing here beside in
-      let turned = λ (o : Option ℕ). taken (underlined on o [] beside.ending) text in
+      let turned = λ (o : Option ℕ). tree_or (heading_if on o [] beside.ending) text in
       cond-false (is_blank here) _ _ (not_blank on c cs line)
       ∙ ap (λ o. begun on o nothing (turned (underline on here))) (no_leaf on c cs line beside)
       ∙ ap turned (no_underline on c cs line)
       ∙ cond-false (is_break on here) _ _ (no_break on c cs line)
-      ∙ ap (λ o. taken o (text_line_of on nothing here beside)) (no_table (delimiter_row on here) (rest_line here beside)) ∙ its_text beside
+      ∙ ap (λ o. tree_or o (text_line_of on nothing here beside)) (no_table (delimiter_row on here) (rest_line here beside)) ∙ its_text beside
 
   its_place : (most : ℕ) (beside : Beside) → new most on true nothing beside here ≡ in_paragraph beside
   its_place zero beside = its_leaf beside
   its_place (suc most) beside =
-      let more = λ (s : Started). new most on true nothing (beside_in s.container here beside) s.rest in
+      let more = λ (s : ContainerStart). new most on true nothing (beside_in s.before beside) s.rest in
       ap (λ o. start on o nothing (leaf_line on nothing here beside) more) (no_start on c cs line false) ∙ its_leaf beside
 
   -- ---- the paragraph
@@ -109,8 +111,8 @@ module _ (on : Constructs) (c : ℕ) (cs : List ℕ) (line : BeginsNothing c cs)
       ∙ ap on_tree (its_place (length here) beside)
       ∙ ap (λ xs. tree Nil (Leaf (Text (block_line xs None before ∷ [])))) no_columns
 
-  its_children : (before : Kind) → children on before (text_line here None ∷ []) ≡ ended (Paragraph (alone before ∷ [])) None
-  its_children before = ap (closed on) (its_step before) ∙ ap with_paragraph (uncut before)
+  its_children : (before : Kind) → children on before (text_line here None ∷ []) ≡ block_and_ending (Paragraph (alone before ∷ [])) None
+  its_children before = ap (blocks_at_end on) (its_step before) ∙ ap with_paragraph (uncut before)
 
   -- ---- the text
 
@@ -122,7 +124,7 @@ module _ (on : Constructs) (c : ℕ) (cs : List ℕ) (line : BeginsNothing c cs)
       cond-false _ _ _ (and_no on.frontmatter (is_metadata_fence 45 here) (no_metadata 45 (line.no_punctuation 45 refl refl)))
       ∙ cond-false _ _ _ (and_no on.frontmatter (is_metadata_fence 43 here) (no_metadata 43 (line.no_punctuation 43 refl refl)))
 
-  pub one_paragraph : (before : Kind) → blocks on before here ≡ ended (Paragraph (alone before ∷ [])) None
+  pub one_paragraph : (before : Kind) → blocks on before here ≡ block_and_ending (Paragraph (alone before ∷ [])) None
   one_paragraph before =
       let line_alone = text_line here None ∷ [] in
       ap (λ ls. children_after on before ls (after_frontmatter on ls)) (one_line c cs line.bytes)

@@ -5,18 +5,18 @@ use Rattle.std.proofs.lemmas.Bool.Decides.{eqb_tells}
 use Rattle.std.specs.List.{fold}
 use Rattle.markdown_options.specs.declared.configuration.CompileOptions.{CompileOptions}
 use Rattle.definition_page.specs.Pieces.{Piece, Open, Close, Void, Says, Eol, Fresh, CallOf, CountOf, NoteStart, NoteEnd, print}
-use Rattle.definition_page.specs.Layout.{Called, Laid, laid, latest_call, lay, note_ended, note_of, once_more}
+use Rattle.definition_page.specs.Layout.{NoteCalls, Laid, laid, latest_call, lay, note_end, note_of, once_more}
 use Rattle.definition_page.specs.GfmFootnoteDefinition.{section_pieces}
 use Rattle.laws_footnotes.specs.Footnotes.{calls_at, calls_of, laid_out, only_calls, NoCallLaw, CountedCallsLaw, CountLaw}
 
 -- what a piece does to the footnotes that are called
-abbrev pub called_by : List Called → Piece → List Called
+abbrev pub called_by : List NoteCalls → Piece → List NoteCalls
 called_by cs (CallOf place label) = once_more place label cs
 called_by cs (CountOf place label) = once_more place label cs
 called_by cs piece = cs
 
 -- the end of a footnote calls none
-ended_called : (text : List ℕ) (outer notes : List (List ℕ)) (cs : List Called) → (note_ended text outer notes cs).called ≡ cs
+ended_called : (text : List ℕ) (outer notes : List (List ℕ)) (cs : List NoteCalls) → (note_end text outer notes cs).called ≡ cs
 ended_called text [] notes cs = refl
 ended_called text (around ∷ others) notes cs = refl
 
@@ -38,10 +38,10 @@ pub all_called : (options : CompileOptions) (default : List ℕ) (ps : List Piec
     → (fold (lay options default) l ps).called ≡ fold called_by l.called ps
 all_called options default [] l = refl
 all_called options default (p ∷ ps) l =
-    all_called options default ps (lay options default l p) ∙ ap (λ (cs : List Called). fold called_by cs ps) (laid_called options default l p)
+    all_called options default ps (lay options default l p) ∙ ap (λ (cs : List NoteCalls). fold called_by cs ps) (laid_called options default l p)
 
 -- pieces that call none change nothing of the footnotes that are called
-only_called : (ps : List Piece) (cs : List Called) → fold called_by cs ps ≡ fold called_by cs (only_calls ps)
+only_called : (ps : List Piece) (cs : List NoteCalls) → fold called_by cs ps ≡ fold called_by cs (only_calls ps)
 only_called [] cs = refl
 only_called (CallOf place label ∷ ps) cs = only_called ps (once_more place label cs)
 only_called (CountOf place label ∷ ps) cs = only_called ps (once_more place label cs)
@@ -76,15 +76,15 @@ pub no_call_law : NoCallLaw
 no_call_law options default ps none =
     let l = laid_out options default ps in
     let called : l.called ≡ [] = counted_calls_law options default ps ∙ ap (λ (qs : List Piece). (laid_out options default qs).called) (none_called ps none) in
-    ap (λ (cs : List Called). fold (print default) l.text (section_pieces options (map (note_of l.notes) cs))) called
+    ap (λ (cs : List NoteCalls). fold (print default) l.text (section_pieces options (map (note_of l.notes) cs))) called
 
 -- how many calls the footnote at a place has so far
-abbrev count_in : ℕ → List Called → ℕ
+abbrev count_in : ℕ → List NoteCalls → ℕ
 count_in place [] = 0
 count_in place (c ∷ cs) = if eqb c.place place then c.count else count_in place cs
 
 -- so many the latest call says
-count_is : (place number : ℕ) (cs : List Called) → (latest_call place number cs).count ≡ count_in place cs
+count_is : (place number : ℕ) (cs : List NoteCalls) → (latest_call place number cs).count ≡ count_in place cs
 count_is place number [] = refl
 count_is place number (c ∷ cs) =
     elim (eqb c.place place) as (λ here.
@@ -109,11 +109,11 @@ raised_later true false n m k apart is = refl
 raised_later false b n m k apart is = is
 
 -- one more call counts for its footnote alone
-count_once : (place other : ℕ) (label : List ℕ) (cs : List Called)
+count_once : (place other : ℕ) (label : List ℕ) (cs : List NoteCalls)
     → count_in place (once_more other label cs) ≡ (if eqb other place then suc (count_in place cs) else count_in place cs)
 count_once place other label [] = refl
 count_once place other label (c ∷ cs) =
-    let more : Called = record { place = c.place; label = c.label; count = suc c.count } in
+    let more : NoteCalls = record { place = c.place; label = c.label; count = suc c.count } in
     elim (eqb_tells c.place other) [
       | inl (same, is) ↦
           ap (count_in place) (cond-true (eqb c.place other) (more ∷ cs) (c ∷ once_more other label cs) same)
@@ -130,7 +130,7 @@ moved true x n = omega arith
 moved false x n = refl
 
 -- the calls are counted one by one
-counts_called : (place : ℕ) (ps : List Piece) (cs : List Called) → count_in place (fold called_by cs ps) ≡ count_in place cs + calls_at place (calls_of ps)
+counts_called : (place : ℕ) (ps : List Piece) (cs : List NoteCalls) → count_in place (fold called_by cs ps) ≡ count_in place cs + calls_at place (calls_of ps)
 counts_called place [] cs = omega arith
 counts_called place (CallOf other label ∷ ps) cs =
     let n = calls_at place (calls_of ps) in

@@ -3,7 +3,7 @@ use Rattle.std.proofs.Common.{◌≡◌, ℕ, List, [], ◌∷◌, ◌++◌, ref
 use Rattle.std.specs.List.{fold}
 use Rattle.markdown_options.specs.declared.configuration.CompileOptions.{CompileOptions}
 use Rattle.definition_page.specs.Pieces.{Piece, Open, Close, Void, Says, Eol, Fresh, CallOf, CountOf, NoteStart, NoteEnd}
-use Rattle.definition_page.specs.Layout.{Laid, laid, lay, note_ended}
+use Rattle.definition_page.specs.Layout.{Laid, laid, lay, note_end}
 use Rattle.laws_footnotes.specs.Footnotes.{HasNoNote, ContentLaw}
 
 -- pieces without a footnote keep the texts around
@@ -45,5 +45,5 @@ content_law options default ps l has =
     let start : Laid = laid [] (l.text ∷ l.outer) l.notes l.called in
     let inner : Laid = fold (lay options default) start ps in
     one_more options default ps start NoteEnd
-    ∙ ap (λ (outer : List (List ℕ)). note_ended inner.text outer inner.notes inner.called) (same_outer options default ps start has)
+    ∙ ap (λ (outer : List (List ℕ)). note_end inner.text outer inner.notes inner.called) (same_outer options default ps start has)
     ∙ ap (λ (notes : List (List ℕ)). laid l.text l.outer (notes ++ inner.text ∷ []) inner.called) (same_notes options default ps start has)

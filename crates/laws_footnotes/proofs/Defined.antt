@@ -1,5 +1,6 @@
 -- Where the calls of a page lead.
-use Rattle.std.proofs.Common.{◌≡◌, ◌<◌, ℕ, Bool, true, false, if◌then◌else◌, ◌||◌, not, List, [], ◌∷◌, ◌++◌, map, Option, None, Some, length, refl, sym, ap, ◌∙◌, subst, get_or, codes}
+use Rattle.std.proofs.Common.{◌≡◌, ◌<◌, ℕ, Bool, true, false, if◌then◌else◌, ◌||◌, not, List, [], ◌∷◌, ◌++◌, map, Option, None, Some, length, refl, sym, ap}
+use Rattle.std.proofs.Common.{◌∙◌, subst, get_or, codes}
 use Rattle.std.specs.List.{All, flat_map}
 use Rattle.std.specs.Str.{bytes_eq}
 use Rattle.std.proofs.lemmas.List.{get_or-map, length-map}
@@ -14,19 +15,23 @@ use Rattle.definition_inline.specs.Inline.{Inline, Html as RawHtml, Emphasis, St
 use Rattle.definition_inline.specs.LabelMatch.{normal_label, first_match}
 use Rattle.definition_page.specs.Tags.{Said, Words, Tag, tag, bare_tag}
 use Rattle.definition_page.specs.Pieces.{Piece, Open, Close, Void, Says, Eol, Fresh, CallOf, CountOf, NoteStart, NoteEnd}
-use Rattle.definition_page.specs.InlinePieces.{Meaning, element, html_says, call_at, count_at, part_counts, inline_counts, part_pieces, inline_pieces, link_tag, leads_to}
-use Rattle.definition_page.specs.GfmTable.{TableRow, Table as TableOf, cell_pieces, cells_pieces, row_pieces, align_attributes, ending_piece, body_row_pieces, head_pieces, body_pieces, table_pieces}
-use Rattle.definition_page.specs.BlockPieces.{Place, at_top, inside, fresh_unless, says, code_line, html_line, check_pieces, fenced_pieces, is_silent, last_shown, ends_plainly, block_pieces, children_pieces, heading_name, info_attributes, list_tag}
+use Rattle.definition_page.specs.InlinePieces.{Meaning, element, html_says, call_at, count_at, part_counts, inline_counts, part_pieces, inline_pieces, link_tag}
+use Rattle.definition_page.specs.InlinePieces.{leads_to}
+use Rattle.definition_page.specs.GfmTable.{TableRow, Table as TableOf, cell_pieces, cells_pieces, row_pieces, align_attributes, ending_piece, body_row_pieces}
+use Rattle.definition_page.specs.GfmTable.{head_pieces, body_pieces, table_pieces}
+use Rattle.definition_page.specs.BlockPieces.{Place, at_top, inside, fresh_unless, says, code_line, html_line, check_pieces, fenced_pieces, is_silent}
+use Rattle.definition_page.specs.BlockPieces.{last_visible, ends_plainly, block_pieces, children_pieces, heading_name, info_attributes, list_tag}
 use Rattle.definition_page.specs.DocumentPieces.{meaning_of}
-use Rattle.definition_page.specs.Page.{Page, Block, Paragraph, Heading, IndentedCode, FencedCode, Html, Table, Quote, ItemList, Item, Footnote, Ending, Blocks, Nil, Cons}
-use Rattle.laws_footnotes.specs.Section.{NamedCall, named, named_calls}
+use Rattle.definition_page.specs.Page.{Page, Block, Paragraph, Heading, IndentedCode, FencedCode, Html, Table, Quote, ItemList, Item, Footnote, Ending, Blocks}
+use Rattle.definition_page.specs.Page.{Nil, Cons}
+use Rattle.laws_footnotes.specs.Section.{NamedCall, named_call, named_calls}
 use Rattle.laws_footnotes.specs.Defined.{HasDefinition, CallHasDefinitionLaw}
 
 -- ---- labels
 
 -- a label leads to the footnote at its first match
 leads_there : (labels : List (List ℕ)) (label : List ℕ) (place : ℕ) → first_match label labels ≡ Some place
-    → HasDefinition labels (named place (normal_label label))
+    → HasDefinition labels (named_call place (normal_label label))
 leads_there labels label place found =
     let normal = normal_label label in
     let is = position-Some (bytes_eq normal) (map normal_label labels) place [] found in
@@ -39,8 +44,8 @@ leads_there labels label place found =
 -- the calls of pieces after one another
 pub calls_append : (xs ys : List Piece) → named_calls (xs ++ ys) ≡ named_calls xs ++ named_calls ys
 calls_append [] ys = refl
-calls_append (CallOf place label ∷ xs) ys = ap (λ (ks : List NamedCall). named place label ∷ ks) (calls_append xs ys)
-calls_append (CountOf place label ∷ xs) ys = ap (λ (ks : List NamedCall). named place label ∷ ks) (calls_append xs ys)
+calls_append (CallOf place label ∷ xs) ys = ap (λ (ks : List NamedCall). named_call place label ∷ ks) (calls_append xs ys)
+calls_append (CountOf place label ∷ xs) ys = ap (λ (ks : List NamedCall). named_call place label ∷ ks) (calls_append xs ys)
 calls_append (NoteStart ∷ xs) ys = calls_append xs ys
 calls_append (NoteEnd ∷ xs) ys = calls_append xs ys
 calls_append (Open t ∷ xs) ys = calls_append xs ys
@@ -79,11 +84,11 @@ module _ (m : Meaning) where
 
   call_leads : (label : List ℕ) (found : Option ℕ) → first_match label m.footnotes ≡ found → Lead (call_at found (normal_label label))
   call_leads label None h = no_calls
-  call_leads label (Some place) h = All-cons Has (named place (normal_label label)) [] (leads_there m.footnotes label place h) no_calls
+  call_leads label (Some place) h = All-cons Has (named_call place (normal_label label)) [] (leads_there m.footnotes label place h) no_calls
 
   count_leads : (label : List ℕ) (found : Option ℕ) → first_match label m.footnotes ≡ found → Lead (count_at found (normal_label label))
   count_leads label None h = no_calls
-  count_leads label (Some place) h = All-cons Has (named place (normal_label label)) [] (leads_there m.footnotes label place h) no_calls
+  count_leads label (Some place) h = All-cons Has (named_call place (normal_label label)) [] (leads_there m.footnotes label place h) no_calls
 
   mutual
     part_counts_lead : (i : Inline) → Lead (part_counts m i)
@@ -207,7 +212,7 @@ module _ (m : Meaning) where
         element_leads (list_tag number) (inner ++ Eol ∷ []) (both_lead inner (Eol ∷ []) (children_lead (inside (not loose)) None items) no_calls)
     block_leads place before (Item kids) =
         let inner = children_pieces m (inside place.tight) None kids in
-        let end = ends_plainly place.tight (last_shown None kids) in
+        let end = ends_plainly place.tight (last_visible None kids) in
         element_leads (bare_tag (codes "li")) (inner ++ fresh_unless end)
         (both_lead inner (fresh_unless end) (children_lead (inside place.tight) None kids) (fresh_leads end))
     block_leads place before (Footnote label kids) =

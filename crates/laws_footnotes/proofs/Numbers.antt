@@ -4,7 +4,7 @@ use Rattle.std.proofs.lemmas.Bool.{cond-true, cond-false}
 use Rattle.std.proofs.lemmas.Bool.Decides.{eqb_tells}
 use Rattle.std.specs.List.{fold}
 use Rattle.definition_page.specs.Pieces.{Piece, Open, Close, Void, Says, Eol, Fresh, CallOf, CountOf, NoteStart, NoteEnd}
-use Rattle.definition_page.specs.Layout.{Called, laid, once_more}
+use Rattle.definition_page.specs.Layout.{NoteCalls, laid, once_more}
 use Rattle.laws_footnotes.specs.Footnotes.{calls_of, is_among, places, NumberLaw}
 use Rattle.laws_footnotes.proofs.Called.{all_called, called_by}
 
@@ -14,7 +14,7 @@ inside true p xs ys = refl
 inside false p xs ys = refl
 
 -- the places after one more call
-places_once : (place : ℕ) (label : List ℕ) (cs : List Called)
+places_once : (place : ℕ) (label : List ℕ) (cs : List NoteCalls)
     → places (once_more place label cs) ≡ (if is_among place (places cs) then places cs else places cs ++ place ∷ [])
 places_once place label [] = refl
 places_once place label (c ∷ cs) =
@@ -41,18 +41,18 @@ once false true m same = cc
 once false false m same = refl
 
 -- which footnotes are called after one more call
-among_once : (place other : ℕ) (label : List ℕ) (cs : List Called)
+among_once : (place other : ℕ) (label : List ℕ) (cs : List NoteCalls)
     → is_among place (places (once_more other label cs)) ≡ (if eqb other place then true else is_among place (places cs))
 among_once place other label [] = refl
 among_once place other label (c ∷ cs) =
-    let more : Called = record { place = c.place; label = c.label; count = suc c.count } in
+    let more : NoteCalls = record { place = c.place; label = c.label; count = suc c.count } in
     let old = is_among place (places cs) in
     elim (eqb_tells c.place other) [
       | inl (same, is) ↦
-          ap (λ (ds : List Called). is_among place (places ds)) (cond-true (eqb c.place other) (more ∷ cs) (c ∷ once_more other label cs) same)
+          ap (λ (ds : List NoteCalls). is_among place (places ds)) (cond-true (eqb c.place other) (more ∷ cs) (c ∷ once_more other label cs) same)
           ∙ once (eqb c.place place) (eqb other place) old (ap (λ (p : ℕ). eqb p place) is)
       | inr (differs, apart) ↦
-          ap (λ (ds : List Called). is_among place (places ds)) (cond-false (eqb c.place other) (more ∷ cs) (c ∷ once_more other label cs) differs)
+          ap (λ (ds : List NoteCalls). is_among place (places ds)) (cond-false (eqb c.place other) (more ∷ cs) (c ∷ once_more other label cs) differs)
           ∙ ap (λ (m : Bool). if eqb c.place place then true else m) (among_once place other label cs)
           ∙ either (eqb c.place place) (eqb other place) old
     ]
@@ -64,7 +64,7 @@ moved true false n = refl
 moved false m n = refl
 
 -- the footnotes that are called are those that calls name
-among_called : (place : ℕ) (ps : List Piece) (cs : List Called)
+among_called : (place : ℕ) (ps : List Piece) (cs : List NoteCalls)
     → is_among place (places (fold called_by cs ps)) ≡ (if is_among place (places cs) then true else is_among place (calls_of ps))
 among_called place [] cs = elim (is_among place (places cs)) as (λ (m : Bool). m ≡ (if m then true else false)) [ true ↦ refl | false ↦ refl ]
 among_called place (CallOf other label ∷ ps) cs =
@@ -85,7 +85,7 @@ among_called place (Eol ∷ ps) cs = among_called place ps cs
 among_called place (Fresh ∷ ps) cs = among_called place ps cs
 
 -- one more piece
-one_more : (ps : List Piece) (cs : List Called) (p : Piece) → fold called_by cs (ps ++ p ∷ []) ≡ called_by (fold called_by cs ps) p
+one_more : (ps : List Piece) (cs : List NoteCalls) (p : Piece) → fold called_by cs (ps ++ p ∷ []) ≡ called_by (fold called_by cs ps) p
 one_more [] cs p = refl
 one_more (q ∷ ps) cs p = one_more ps (called_by cs q) p
 
@@ -96,4 +96,4 @@ number_law options default ps place label =
     ap places (all_called options default (ps ++ CallOf place label ∷ []) start ∙ one_more ps [] (CallOf place label))
     ∙ places_once place label old
     ∙ ap (λ (m : Bool). if m then places old else places old ++ place ∷ []) (among_called place ps [])
-    ∙ ap (λ (cs : List Called). if is_among place (calls_of ps) then places cs else places cs ++ place ∷ []) (sym (all_called options default ps start))
+    ∙ ap (λ (cs : List NoteCalls). if is_among place (calls_of ps) then places cs else places cs ++ place ∷ []) (sym (all_called options default ps start))

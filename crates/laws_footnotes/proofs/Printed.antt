@@ -1,14 +1,15 @@
 -- What calls print.
-use Rattle.std.proofs.Common.{◌≡◌, ℕ, suc, ◌+◌, inl, inr, Bool, true, false, if◌then◌else◌, cond, eqb, List, [], ◌∷◌, ◌++◌, map, refl, sym, ap, ◌∙◌, true≢false, arith}
+use Rattle.std.proofs.Common.{◌≡◌, ℕ, suc, ◌+◌, inl, inr, Bool, true, false, if◌then◌else◌, cond, eqb, List, [], ◌∷◌, ◌++◌, map, refl, sym, ap, ◌∙◌, true≢false}
+use Rattle.std.proofs.Common.{arith}
 use Rattle.std.proofs.lemmas.Bool.{cond-true}
 use Rattle.std.proofs.lemmas.Bool.Decides.{eqb_tells}
 use Rattle.std.specs.List.{fold}
 use Rattle.markdown_options.specs.declared.configuration.CompileOptions.{CompileOptions}
 use Rattle.definition_page.specs.Pieces.{Piece, CallOf, print}
-use Rattle.definition_page.specs.Layout.{Called, Laid, laid, latest_call}
+use Rattle.definition_page.specs.Layout.{NoteCalls, Laid, laid, latest_call}
 use Rattle.definition_page.specs.GfmLabelStartFootnote.{Call, call_pieces}
 use Rattle.laws_footnotes.specs.Footnotes.{calls_at, calls_of, laid_out}
-use Rattle.laws_footnotes.specs.Section.{NamedCall, named, named_calls, first_calls, number_by, label_by, PrintedCallLaw}
+use Rattle.laws_footnotes.specs.Section.{NamedCall, named_call, named_calls, first_calls, number_by, label_by, PrintedCallLaw}
 use Rattle.laws_footnotes.proofs.Called.{count_law}
 use Rattle.laws_footnotes.proofs.Contents.{one_more}
 use Rattle.laws_footnotes.proofs.Defined.{calls_append}
@@ -68,13 +69,13 @@ alike_maybe place c xs ys false alike = alike
 
 -- what comes after a call of a footnote doesn't change its number and label
 alike_later : (place : ℕ) (label : List ℕ) (p : ℕ → Bool) → p place ≡ true → (before bs cs : List NamedCall)
-    → AreAlike place (kept p (first_calls (before ++ named place label ∷ bs))) (kept p (first_calls (before ++ named place label ∷ cs)))
+    → AreAlike place (kept p (first_calls (before ++ named_call place label ∷ bs))) (kept p (first_calls (before ++ named_call place label ∷ cs)))
 alike_later place label p passes [] bs cs =
-    alike_kept place (named place label) (kept p (kept (other place) (first_calls bs))) (kept p (kept (other place) (first_calls cs)))
+    alike_kept place (named_call place label) (kept p (kept (other place) (first_calls bs))) (kept p (kept (other place) (first_calls cs)))
     (p place) (same_place place) passes
 alike_later place label p passes (a ∷ before) bs cs =
-    let xs = first_calls (before ++ named place label ∷ bs) in
-    let ys = first_calls (before ++ named place label ∷ cs) in
+    let xs = first_calls (before ++ named_call place label ∷ bs) in
+    let ys = first_calls (before ++ named_call place label ∷ cs) in
     let q = other_that a.place p in
     let xs_kept = kept p (kept (other a.place) xs) in
     let ys_kept = kept p (kept (other a.place) ys) in
@@ -94,7 +95,7 @@ alike_later place label p passes (a ∷ before) bs cs =
 
 -- ---- how many calls
 
-times_more : (place : ℕ) (label : List ℕ) (ks : List NamedCall) → times place (ks ++ named place label ∷ []) ≡ suc (times place ks)
+times_more : (place : ℕ) (label : List ℕ) (ks : List NamedCall) → times place (ks ++ named_call place label ∷ []) ≡ suc (times place ks)
 times_more place label [] = cond-true (eqb place place) 1 0 (same_place place)
 times_more place label (k ∷ ks) =
     ap (λ (n : ℕ). if eqb place k.place then suc n else n) (times_more place label ks)
@@ -133,10 +134,10 @@ latest_is options default earlier later place label =
     let ks = named_calls now in
     let before = named_calls earlier in
     let after = named_calls later in
-    let firsts = first_calls (before ++ named place label ∷ []) in
-    let all_firsts = first_calls (before ++ named place label ∷ after) in
+    let firsts = first_calls (before ++ named_call place label ∷ []) in
+    let all_firsts = first_calls (before ++ named_call place label ∷ after) in
     let alike = alike_later place label (λ n. true) refl before [] after in
-    let is = ap (λ (cs : List Called). latest_call place 1 cs) (called_by_first options default now) in
+    let is = ap (λ (cs : List NoteCalls). latest_call place 1 cs) (called_by_first options default now) in
     let c : Call = latest_call place 1 called in
     let zero_more : 0 + number_by (first_calls ks) place ≡ number_by (first_calls ks) place = omega arith in
     let to_all : (X : Type 0) (f : List NamedCall → X) → f (kept (λ n. true) firsts) ≡ f (kept (λ n. true) all_firsts)
@@ -157,4 +158,4 @@ printed_call_law options default earlier later place label =
     let calls_now = ap (λ (l : Laid). l.called) laid_now in
     ap (λ (l : Laid). l.text) laid_now
     ∙ ap (λ (call : Call). fold (print default) before.text (call_pieces options call))
-    (ap (λ (cs : List Called). latest_call place 1 cs) (sym calls_now) ∙ latest_is options default earlier later place label)
+    (ap (λ (cs : List NoteCalls). latest_call place 1 cs) (sym calls_now) ∙ latest_is options default earlier later place label)

@@ -5,7 +5,7 @@ use Rattle.std.proofs.lemmas.Bool.Decides.{eqb_tells}
 use Rattle.std.specs.List.{filter, fold}
 use Rattle.markdown_options.specs.declared.configuration.CompileOptions.{CompileOptions}
 use Rattle.definition_page.specs.Pieces.{Piece, Open, Close, Void, Says, Eol, Fresh, CallOf, CountOf, NoteStart, NoteEnd, print}
-use Rattle.definition_page.specs.Layout.{Called, laid, note_of, once_more}
+use Rattle.definition_page.specs.Layout.{NoteCalls, laid, note_of, once_more}
 use Rattle.definition_page.specs.GfmFootnoteDefinition.{Footnote, section_pieces}
 use Rattle.laws_footnotes.specs.Footnotes.{calls_at, calls_of, laid_out}
 use Rattle.laws_footnotes.specs.Section.{NamedCall, named_calls, first_calls, item_of, SectionLaw}
@@ -113,15 +113,15 @@ times_kept place p passes (k ∷ ks) =
 -- ---- the footnotes that are called
 
 -- one more call
-abbrev once : List Called → NamedCall → List Called
+abbrev once : List NoteCalls → NamedCall → List NoteCalls
 once cs k = once_more k.place k.label cs
 
 -- a footnote with so many calls
-abbrev pub counted : ℕ → List ℕ → ℕ → Called
+abbrev pub counted : ℕ → List ℕ → ℕ → NoteCalls
 counted place label count = record { place = place; label = label; count = count }
 
 -- the footnote that is called first stays first, and the calls of others count for the others
-once_first : (c : Called) (cs : List Called) (ks : List NamedCall)
+once_first : (c : NoteCalls) (cs : List NoteCalls) (ks : List NamedCall)
     → fold once (c ∷ cs) ks ≡ counted c.place c.label (c.count + times c.place ks) ∷ fold once cs (kept (other c.place) ks)
 once_first c cs [] = let e : c.count ≡ c.count + 0 = omega arith in ap (λ (n : ℕ). counted c.place c.label n ∷ cs) e
 once_first c cs (k ∷ ks) =
@@ -136,7 +136,7 @@ once_first c cs (k ∷ ks) =
     ]
 
 -- the footnote with this first call, by all calls
-abbrev pub entry : List NamedCall → NamedCall → Called
+abbrev pub entry : List NamedCall → NamedCall → NoteCalls
 entry ks k = counted k.place k.label (times k.place ks)
 
 -- a call changes nothing of the other footnotes
@@ -151,7 +151,7 @@ same_entries k ks r fails (x ∷ xs) =
     elim (r x.place) as (λ (b : Bool). r x.place ≡ b → map (entry ks) (cond b (x ∷ rest) rest) ≡ map (entry (k ∷ ks)) (cond b (x ∷ rest) rest)) [
       | true ↦ λ passes.
           let apart : here ≡ false = refuted here (λ e. sym fails ∙ ap r (sym (eqb-true x.place k.place e)) ∙ passes) in
-          ap (λ (cs : List Called). entry ks x ∷ cs) inner
+          ap (λ (cs : List NoteCalls). entry ks x ∷ cs) inner
           ∙ ap (λ (m : ℕ). counted x.place x.label m ∷ map (entry (k ∷ ks)) rest) (sym (cond-false here (suc n) n apart))
       | false ↦ λ passes. inner
     ] refl
@@ -171,7 +171,7 @@ summary p (k ∷ ks) =
           once_first (counted k.place k.label 1) [] rest
           ∙ ap (λ (m : ℕ). counted k.place k.label m ∷ fold once [] (kept (other k.place) rest))
           (one_more ∙ ap suc (times_kept k.place p passes ks) ∙ sym (cond-true (eqb k.place k.place) (suc n) n (same_place k.place)))
-          ∙ ap (λ (cs : List Called). entry (k ∷ ks) k ∷ cs)
+          ∙ ap (λ (cs : List NoteCalls). entry (k ∷ ks) k ∷ cs)
           (ap (fold once []) (others_kept k.place p ks) ∙ summary q ks ∙ same_entries k ks q (not_other k.place p) firsts
           ∙ ap (map (entry (k ∷ ks))) (sym (kept_others k.place p firsts)))
       | false ↦ λ fails.
@@ -180,7 +180,7 @@ summary p (k ∷ ks) =
     ] refl
 
 -- the pieces call what their calls name
-by_calls : (ps : List Piece) (cs : List Called) → fold called_by cs ps ≡ fold once cs (named_calls ps)
+by_calls : (ps : List Piece) (cs : List NoteCalls) → fold called_by cs ps ≡ fold once cs (named_calls ps)
 by_calls [] cs = refl
 by_calls (CallOf place label ∷ ps) cs = by_calls ps (once_more place label cs)
 by_calls (CountOf place label ∷ ps) cs = by_calls ps (once_more place label cs)

@@ -3,7 +3,7 @@ use Rattle.std.specs.Prelude.{◌≡◌, ℕ, suc, Bool, true, false, if◌then�
 use Rattle.std.specs.List.{fold}
 use Rattle.markdown_options.specs.declared.configuration.CompileOptions.{CompileOptions}
 use Rattle.definition_page.specs.Pieces.{Piece, CallOf, CountOf, NoteEnd, NoteStart}
-use Rattle.definition_page.specs.Layout.{Called, Laid, laid, latest_call, lay, page_layout}
+use Rattle.definition_page.specs.Layout.{NoteCalls, Laid, laid, latest_call, lay, page_layout}
 
 -- the places of the footnotes that these pieces call, in the order of the calls
 abbrev pub calls_of : List Piece → List ℕ
@@ -47,7 +47,7 @@ CountedCallsLaw =
     → (laid_out options default ps).called ≡ (laid_out options default (only_calls ps)).called
 
 -- the places of the footnotes that are called, by their numbers
-abbrev pub places : List Called → List ℕ
+abbrev pub places : List NoteCalls → List ℕ
 places cs = map (λ c. c.place) cs
 
 -- this place is among these

@@ -13,14 +13,14 @@ pub record NamedCall : Type 0 where
   pub place : ℕ
   pub label : List ℕ
 
-abbrev pub named : ℕ → List ℕ → NamedCall
-named place label = record { place = place; label = label }
+abbrev pub named_call : ℕ → List ℕ → NamedCall
+named_call place label = record { place = place; label = label }
 
 -- the calls among these pieces, printed or not
 abbrev pub named_calls : List Piece → List NamedCall
 named_calls [] = []
-named_calls (CallOf place label ∷ ps) = named place label ∷ named_calls ps
-named_calls (CountOf place label ∷ ps) = named place label ∷ named_calls ps
+named_calls (CallOf place label ∷ ps) = named_call place label ∷ named_calls ps
+named_calls (CountOf place label ∷ ps) = named_call place label ∷ named_calls ps
 named_calls (piece ∷ ps) = named_calls ps
 
 -- the calls of other footnotes than the one at this place

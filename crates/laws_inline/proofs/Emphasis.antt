@@ -6,11 +6,13 @@ use Rattle.std.proofs.lemmas.List.Elements.{All-nil, All-cons}
 use Rattle.markdown_options.specs.declared.configuration.ParseOptions.{ParseOptions}
 use Rattle.definition_text.specs.InlineCode.{InlineCode, codes_of}
 use Rattle.definition_inline.specs.Inline.{Inline, Data, Leaf}
-use Rattle.definition_inline.specs.LabelEnd.{Formed}
+use Rattle.definition_inline.specs.LabelEnd.{LinkOrCall}
 use Rattle.definition_inline.specs.Attention.{Run, is_marker, run_between, run_at}
 use Rattle.definition_inline.specs.Pairing.{Pair, pairs}
-use Rattle.definition_inline.specs.Spans.{Token, Item, Delimiters, runs_of, Holds, run_rows, rows_from, nested}
-use Rattle.definition_inline.specs.Scan.{InlineContext, leaf_here, LabelStart, label_start_at, start_bytes, start_tokens, formed_part, Text, text, OpenLabel, Reading, reading, read_tokens, unformed, formed, Step, Next, data_step, ended_step, ended_by, label_end_step, last_step, label_step, run_step, leaf_step, step, and_then, scan, whole_text}
+use Rattle.definition_inline.specs.Spans.{Token, Item, Delimiters, runs_of, Holds, run_rows, rows_from, nest_spans}
+use Rattle.definition_inline.specs.Scan.{InlineContext, leaf_here, LabelStart, label_start_at, start_bytes, start_tokens, formed_part, Text, text, OpenLabel}
+use Rattle.definition_inline.specs.Scan.{Reading, reading, read_tokens, with_plain_start, with_link_or_call, Step, Next, data_step, ended_step, ended_by}
+use Rattle.definition_inline.specs.Scan.{label_end_step, last_step, label_step, run_step, leaf_step, step, and_then, scan, whole_text}
 use Rattle.laws_inline.specs.Emphasis.{Front, front_of, RunOfItsNeighbours, StandsIn, RunsOfTheContent, rows_by, with_runs, SpansOfRuns}
 use Rattle.laws_inline.proofs.Each.{Each, each-append, each_map}
 
@@ -35,7 +37,7 @@ with_runs-rows ps place (Item i ∷ ts) = ap (λ rows. Holds i ∷ rows) (with_r
 with_runs-rows ps place (Delimiters run ∷ ts) = ap (λ rows. run_rows ps place run ++ rows) (with_runs-rows ps (place + 1) ts)
 
 pub spans_of_runs : SpansOfRuns
-spans_of_runs tokens = ap nested (with_runs-rows (pairs (runs_of tokens)) 0 tokens)
+spans_of_runs tokens = ap nest_spans (with_runs-rows (pairs (runs_of tokens)) 0 tokens)
 
 -- ---- the runs of a content
 
@@ -69,18 +71,18 @@ module _ (context : InlineContext) (whole : List InlineCode) where
   read_stands : (more : List Token) (r : Reading) → Each Stands more → ReadingStands r → ReadingStands (read_tokens more r)
   read_stands more r h p = (each-append Stands r.now.tokens more p.0 h, p.1)
 
-  unformed_stands : (label : OpenLabel) (inner : Text) → LabelStands label → TextStands inner → TextStands (unformed label inner)
+  unformed_stands : (label : OpenLabel) (inner : Text) → LabelStands label → TextStands inner → TextStands (with_plain_start label inner)
   unformed_stands label inner h p =
       each-append Stands label.outer.tokens (start_tokens label.start ++ inner.tokens) h
       (each-append Stands (start_tokens label.start) inner.tokens (start_stands label.start) p)
 
-  formed_stands : (label : OpenLabel) (found : Formed) (inner : Text) → LabelStands label → TextStands (formed label found inner)
+  formed_stands : (label : OpenLabel) (found : LinkOrCall) (inner : Text) → LabelStands label → TextStands (with_link_or_call label found inner)
   formed_stands label found inner h = each-append Stands label.outer.tokens (Item (formed_part label.start found inner.tokens) ∷ []) h (tt, tt)
 
-  end_stands : (label : OpenLabel) (others : List OpenLabel) (inner : Text) (found : Option Formed) → LabelStands label → Each LabelStands others
+  end_stands : (label : OpenLabel) (others : List OpenLabel) (inner : Text) (found : Option LinkOrCall) → LabelStands label → Each LabelStands others
       → TextStands inner → StepStands (ended_step label others inner found)
   end_stands label others inner None h hs p =
-      read_stands (Item (Data 93) ∷ []) (reading (unformed label inner) others) (tt, tt) (unformed_stands label inner h p, hs)
+      read_stands (Item (Data 93) ∷ []) (reading (with_plain_start label inner) others) (tt, tt) (unformed_stands label inner h p, hs)
   end_stands label others inner (Some found) h hs p = (formed_stands label found inner h, hs)
 
   label_end_stands : (content : List ℕ) (inner : Text) (open_labels : List OpenLabel) → TextStands inner → Each LabelStands open_labels
@@ -137,9 +139,9 @@ module _ (context : InlineContext) (whole : List InlineCode) where
   scan_stands (suc k) r seen (c ∷ cs) at p = scan_stands k r (seen ++ c ∷ []) cs (further seen c cs at) p
 
   close_stands : (inner : Text) (open_labels : List OpenLabel) → TextStands inner → Each LabelStands open_labels
-      → TextStands (fold (λ inner label. unformed label inner) inner open_labels)
+      → TextStands (fold (λ inner label. with_plain_start label inner) inner open_labels)
   close_stands inner [] p h = p
-  close_stands inner (label ∷ others) p h = close_stands (unformed label inner) others (unformed_stands label inner h.0 p) h.1
+  close_stands inner (label ∷ others) p h = close_stands (with_plain_start label inner) others (unformed_stands label inner h.0 p) h.1
 
   runs_stand : (ts : List Token) → Each Stands ts → All (StandsIn context.options whole) (runs_of ts)
   runs_stand [] h = All-nil (StandsIn context.options whole)

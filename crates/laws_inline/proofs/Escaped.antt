@@ -1,5 +1,6 @@
 -- An escaped line prints itself as text.
-use Rattle.std.proofs.Common.{inl, inr, ◌≡◌, ◌+◌, ◌<◌, ℕ, Bool, true, false, cond, not, ◌&&◌, ◌||◌, List, [], ◌∷◌, ◌++◌, map, Option, None, Some, refl, sym, ap, ◌∙◌, length, get_or, drop, arith, subst, append_assoc}
+use Rattle.std.proofs.Common.{inl, inr, ◌≡◌, ◌+◌, ◌<◌, ℕ, Bool, true, false, cond, not, ◌&&◌, ◌||◌, List, [], ◌∷◌, ◌++◌, map, Option, None, Some, refl, sym, ap}
+use Rattle.std.proofs.Common.{◌∙◌, length, get_or, drop, arith, subst, append_assoc}
 use Rattle.std.specs.Prelude.{◌==◌, nat_lt, nat_le, codes}
 use Rattle.std.specs.List.{list_all, list_any, flat_map, prefix_len}
 use Rattle.std.specs.Char.{is_ascii_punctuation, to_ascii_lowercase}
@@ -23,17 +24,18 @@ use Rattle.definition_inline.specs.Autolink.{autolink_at}
 use Rattle.definition_inline.specs.HtmlText.{html_text_at}
 use Rattle.definition_inline.specs.HardBreak.{ends_inner_line, ends_here, line_end_at, escaped_break_at, line_spaces_at}
 use Rattle.definition_inline.specs.Attention.{is_marker, run_at}
-use Rattle.definition_inline.specs.Spans.{Token, Item, emphasized}
-use Rattle.definition_inline.specs.GfmAutolinkLiteral.{begins_caselessly, parts_from, followed, with_literals, linked_literals}
+use Rattle.definition_inline.specs.Spans.{Token, Item, with_spans}
+use Rattle.definition_inline.specs.GfmAutolinkLiteral.{begins_caselessly, parts_from, parts_before, with_literals, linked_literals}
 use Rattle.definition_inline.specs.GfmLabelStartFootnote.{starts_call}
 use Rattle.definition_inline.proofs.GfmAutolinkLiteral.{HasNoStart, no_literal}
-use Rattle.definition_inline.specs.Scan.{InlineContext, leaf_at, leaf_here, starts_image, starts_link, label_start_at, text, Reading, reading, read_tokens, Next, data_step, label_end_step, step, scan, whole_text, inlines}
+use Rattle.definition_inline.specs.Scan.{InlineContext, leaf_at, leaf_here, starts_image, starts_link, label_start_at, text, Reading, reading, read_tokens}
+use Rattle.definition_inline.specs.Scan.{Next, data_step, label_end_step, step, scan, whole_text, inlines}
 use Rattle.html_bytes.specs.InlineHtml.{InlineMeaning, part_html, inline_html}
 use Rattle.definition_inline.proofs.Scanning.{scan_step, step_leaf, step_last}
 use Rattle.html_bytes.proofs.WithoutCalls.{part_calls, has_calls}
 use Rattle.laws_visible.proofs.InlineParts.{read_nothing, white_codes, parts_alone, html_followed, calls_followed}
 use Rattle.laws_visible.proofs.PlainText.{and_no, bare_white, bare_other}
-use Rattle.laws_inline.specs.Escaped.{escaped, is_line_byte, begins_with_space, ends_with_space, IsTrimmedLine, EscapeLaw}
+use Rattle.laws_inline.specs.Escaped.{with_backslashes, is_line_byte, begins_with_space, ends_with_space, IsTrimmedLine, EscapeLaw}
 use Rattle.laws_inline.proofs.Each.{Each, each-append}
 
 -- ---- a byte that isn't ASCII punctuation begins nothing
@@ -155,11 +157,11 @@ module _ (context : InlineContext) (b : ℕ) (off : is_ascii_punctuation b ≡ f
 
 -- ---- spaces in an escaped line
 
-pub escaped_punctuation : (b : ℕ) (bs : List ℕ) → is_ascii_punctuation b ≡ true → escaped (b ∷ bs) ≡ 92 ∷ b ∷ escaped bs
-escaped_punctuation b bs on = ap (λ xs. xs ++ escaped bs) (cond-true (is_ascii_punctuation b) (92 ∷ b ∷ []) (b ∷ []) on)
+pub escaped_punctuation : (b : ℕ) (bs : List ℕ) → is_ascii_punctuation b ≡ true → with_backslashes (b ∷ bs) ≡ 92 ∷ b ∷ with_backslashes bs
+escaped_punctuation b bs on = ap (λ xs. xs ++ with_backslashes bs) (cond-true (is_ascii_punctuation b) (92 ∷ b ∷ []) (b ∷ []) on)
 
-pub escaped_other : (b : ℕ) (bs : List ℕ) → is_ascii_punctuation b ≡ false → escaped (b ∷ bs) ≡ b ∷ escaped bs
-escaped_other b bs off = ap (λ xs. xs ++ escaped bs) (cond-false (is_ascii_punctuation b) (92 ∷ b ∷ []) (b ∷ []) off)
+pub escaped_other : (b : ℕ) (bs : List ℕ) → is_ascii_punctuation b ≡ false → with_backslashes (b ∷ bs) ≡ b ∷ with_backslashes bs
+escaped_other b bs off = ap (λ xs. xs ++ with_backslashes bs) (cond-false (is_ascii_punctuation b) (92 ∷ b ∷ []) (b ∷ []) off)
 
 -- what is no space is no white space
 pub not_white : (b : ℕ) → is_line_byte b ≡ true → (b == 32) ≡ false → is_white b ≡ false
@@ -173,20 +175,21 @@ white_is_space b line white =
     ]
 
 -- after spaces something else follows
-goes_on_from : (b : ℕ) (bs : List ℕ) → is_line_byte b ≡ true → (is_white b ≡ true → ends_here (bare (escaped bs)) ≡ false)
-    → ends_here (bare (escaped (b ∷ bs))) ≡ false
+goes_on_from : (b : ℕ) (bs : List ℕ) → is_line_byte b ≡ true → (is_white b ≡ true → ends_here (bare (with_backslashes bs)) ≡ false)
+    → ends_here (bare (with_backslashes (b ∷ bs))) ≡ false
 goes_on_from b bs line after =
     elim (cases_Bool (is_ascii_punctuation b)) [
       | inl on ↦ ap (λ xs. ends_here (bare xs)) (escaped_punctuation b bs on)
       | inr off ↦
           elim (cases_Bool (is_white b)) [
-            | inl white ↦ ap (λ xs. ends_here (bare xs)) (escaped_other b bs off) ∙ ap ends_here (bare_white b (escaped bs) white) ∙ after white
+            | inl white ↦ ap (λ xs. ends_here (bare xs)) (escaped_other b bs off) ∙ ap ends_here (bare_white b (with_backslashes bs) white) ∙ after white
             | inr not_white ↦
-                ap (λ xs. ends_here (bare xs)) (escaped_other b bs off) ∙ ap ends_here (bare_other b (escaped bs) not_white) ∙ (line_byte b line).1
+                ap (λ xs. ends_here (bare xs)) (escaped_other b bs off) ∙ ap ends_here (bare_other b (with_backslashes bs) not_white) ∙ (line_byte b line).1
           ]
     ]
 
-goes_on : (b : ℕ) (bs : List ℕ) → list_all is_line_byte (b ∷ bs) ≡ true → ends_with_space (b ∷ bs) ≡ false → ends_here (bare (escaped (b ∷ bs))) ≡ false
+goes_on : (b : ℕ) (bs : List ℕ) → list_all is_line_byte (b ∷ bs) ≡ true → ends_with_space (b ∷ bs) ≡ false
+    → ends_here (bare (with_backslashes (b ∷ bs))) ≡ false
 goes_on b [] lines trimmed =
     let line = (and_parts (is_line_byte b) true lines).0 in
     goes_on_from b [] line (λ white. absurd (both_ways (b == 32) trimmed (white_is_space b line white)))
@@ -204,7 +207,7 @@ punctuation_is b p low =
 
 -- letters and then punctuation don't come first in an escaped text, since a backslash stands before punctuation
 no_text_escaped : (letters : List ℕ) (p : ℕ) (more bs : List ℕ) → list_all (λ l. not (to_ascii_lowercase l == 92)) letters ≡ true → p < 65
-    → (to_ascii_lowercase p ≡ p) × (is_ascii_punctuation p ≡ true) → begins_caselessly (letters ++ p ∷ more) (escaped bs) ≡ false
+    → (to_ascii_lowercase p ≡ p) × (is_ascii_punctuation p ≡ true) → begins_caselessly (letters ++ p ∷ more) (with_backslashes bs) ≡ false
 no_text_escaped [] p more [] apart low is = refl
 no_text_escaped (l ∷ ls) p more [] apart low is = refl
 no_text_escaped [] p more (b ∷ bs) apart low is = elim (cases_Bool (is_ascii_punctuation b)) [
@@ -226,7 +229,7 @@ no_text_escaped (l ∷ ls) p more (b ∷ bs) apart low is =
           ∙ and_no (to_ascii_lowercase l == to_ascii_lowercase b) _ (no_text_escaped ls p more bs others.1 low is)
     ]
 
-no_start_escaped : (bs : List ℕ) → HasNoStart (escaped bs)
+no_start_escaped : (bs : List ℕ) → HasNoStart (with_backslashes bs)
 no_start_escaped bs = record {
   www = no_text_escaped (codes "www") 46 [] bs refl (omega arith) (refl, refl);
   http = no_text_escaped (codes "http") 58 (codes "//") bs refl (omega arith) (refl, refl);
@@ -277,7 +280,7 @@ module _ (context : InlineContext) (on : context.options.constructs.character_es
       ∙ ap (λ x. Next 0 (read_tokens (Item (Data x) ∷ []) r)) is
 
   scan_escaped : (bytes : List ℕ) (content : List InlineCode) (r : Reading) → list_all is_line_byte bytes ≡ true → ends_with_space bytes ≡ false
-      → codes_of content ≡ escaped bytes → scan context 0 r content ≡ read_tokens (tokens_of bytes) r
+      → codes_of content ≡ with_backslashes bytes → scan context 0 r content ≡ read_tokens (tokens_of bytes) r
   scan_escaped [] [] r lines trimmed e = read_nothing r
   scan_escaped [] (c ∷ cs) r lines trimmed e = let n : length (codes_of (c ∷ cs)) ≡ 0 = ap length e in absurd (omega arith)
   scan_escaped (b ∷ bs) content r lines trimmed e =
@@ -296,41 +299,46 @@ module _ (context : InlineContext) (on : context.options.constructs.character_es
       later_trimmed b (next ∷ bs) h = h
 
       after_white : (b : ℕ) (bs : List ℕ) → list_all is_line_byte (b ∷ bs) ≡ true → ends_with_space (b ∷ bs) ≡ false → is_white b ≡ true
-          → ends_here (bare (b ∷ escaped bs)) ≡ false
+          → ends_here (bare (b ∷ with_backslashes bs)) ≡ false
       after_white b [] lines trimmed white =
           absurd (both_ways (b == 32) trimmed (white_is_space b (and_parts (is_line_byte b) true lines).0 white))
       after_white b (next ∷ bs) lines trimmed white =
-          ap ends_here (bare_white b (escaped (next ∷ bs)) white) ∙ goes_on next bs (and_parts (is_line_byte b) (list_all is_line_byte (next ∷ bs)) lines).1 trimmed
+          ap ends_here (bare_white b (with_backslashes (next ∷ bs)) white) ∙ goes_on next bs
+          (and_parts (is_line_byte b) (list_all is_line_byte (next ∷ bs)) lines).1 trimmed
 
-      escape_step : (b : ℕ) (bs : List ℕ) (content : List InlineCode) (r : Reading) → is_ascii_punctuation b ≡ true → codes_of content ≡ 92 ∷ b ∷ escaped bs
-          → ((rest : List InlineCode) → codes_of rest ≡ escaped bs
+      escape_step : (b : ℕ) (bs : List ℕ) (content : List InlineCode) (r : Reading) → is_ascii_punctuation b ≡ true
+          → codes_of content ≡ 92 ∷ b ∷ with_backslashes bs
+          → ((rest : List InlineCode) → codes_of rest ≡ with_backslashes bs
           → scan context 0 (read_tokens (Item (Escape b) ∷ []) r) rest ≡ read_tokens (tokens_of bs) (read_tokens (Item (Escape b) ∷ []) r))
           → scan context 0 r content ≡ read_tokens (tokens_of (b ∷ bs)) r
-      escape_step b bs [] r punctuation e more = let n : 0 ≡ length (92 ∷ b ∷ escaped bs) = ap length e in absurd (omega arith)
-      escape_step b bs (c ∷ []) r punctuation e more = let n : 1 ≡ length (92 ∷ b ∷ escaped bs) = ap length e in absurd (omega arith)
+      escape_step b bs [] r punctuation e more = let n : 0 ≡ length (92 ∷ b ∷ with_backslashes bs) = ap length e in absurd (omega arith)
+      escape_step b bs (c ∷ []) r punctuation e more = let n : 1 ≡ length (92 ∷ b ∷ with_backslashes bs) = ap length e in absurd (omega arith)
       escape_step b bs (c ∷ d ∷ cs) r punctuation e more =
           let next = read_tokens (Item (Escape b) ∷ []) r in
-          let found : leaf_at context (codes_of (c ∷ d ∷ cs)) ≡ Some (leaf (Escape b ∷ []) 2) = ap (leaf_at context) e ∙ escape_leaf b (escaped bs) punctuation in
-          scan_step context r next c (d ∷ cs) 1 (step_leaf context r c (d ∷ cs) (leaf (Escape b ∷ []) 2) (or_first (leaf_at context (codes_of (c ∷ d ∷ cs))) _ (leaf (Escape b ∷ []) 2) found))
+          let found : leaf_at context (codes_of (c ∷ d ∷ cs)) ≡ Some (leaf (Escape b ∷ []) 2) =
+          ap (leaf_at context) e ∙ escape_leaf b (with_backslashes bs) punctuation in
+          scan_step context r next c (d ∷ cs) 1 (step_leaf context r c (d ∷ cs) (leaf (Escape b ∷ []) 2)
+          (or_first (leaf_at context (codes_of (c ∷ d ∷ cs))) _ (leaf (Escape b ∷ []) 2) found))
           ∙ more cs (ap (drop 2) e) ∙ read_more (Item (Escape b)) (tokens_of bs) r
           ∙ ap (λ i. read_tokens (Item i ∷ tokens_of bs) r) (sym (escape_part b punctuation))
 
       other_step : (b : ℕ) (bs : List ℕ) (content : List InlineCode) (r : Reading) → is_ascii_punctuation b ≡ false → is_line_byte b ≡ true
-          → (is_white b ≡ true → ends_here (bare (b ∷ escaped bs)) ≡ false) → codes_of content ≡ b ∷ escaped bs
-          → ((rest : List InlineCode) → codes_of rest ≡ escaped bs
+          → (is_white b ≡ true → ends_here (bare (b ∷ with_backslashes bs)) ≡ false) → codes_of content ≡ b ∷ with_backslashes bs
+          → ((rest : List InlineCode) → codes_of rest ≡ with_backslashes bs
           → scan context 0 (read_tokens (Item (Data b) ∷ []) r) rest ≡ read_tokens (tokens_of bs) (read_tokens (Item (Data b) ∷ []) r))
           → scan context 0 r content ≡ read_tokens (tokens_of (b ∷ bs)) r
-      other_step b bs [] r off line spaces e more = let n : 0 ≡ length (b ∷ escaped bs) = ap length e in absurd (omega arith)
+      other_step b bs [] r off line spaces e more = let n : 0 ≡ length (b ∷ with_backslashes bs) = ap length e in absurd (omega arith)
       other_step b bs (c ∷ cs) r off line spaces e more =
           let next = read_tokens (Item (Data b) ∷ []) r in
-          scan_step context r next c cs 0 (data_place b (escaped bs) r c cs off line spaces (subst HasNoStart (escaped_other b bs off) (no_start_escaped (b ∷ bs))) e)
+          scan_step context r next c cs 0 (data_place b (with_backslashes bs) r c cs off line spaces
+          (subst HasNoStart (escaped_other b bs off) (no_start_escaped (b ∷ bs))) e)
           ∙ more cs (ap (drop 1) e) ∙ read_more (Item (Data b)) (tokens_of bs) r
           ∙ ap (λ i. read_tokens (Item i ∷ tokens_of bs) r) (sym (data_part b off))
 
 -- ---- addresses: an escaped line has no `@` of its own
 
 -- parts after others
-followed-append : (is js : List Inline) → followed is (followed js Nil) ≡ followed (is ++ js) Nil
+followed-append : (is js : List Inline) → parts_before is (parts_before js Nil) ≡ parts_before (is ++ js) Nil
 followed-append [] js = refl
 followed-append (i ∷ is) js = ap (Cons i) (followed-append is js)
 
@@ -343,33 +351,34 @@ no_addresses before (b ∷ bs) h =
     cond-false (b == 64) _ _ h.0 ∙ no_addresses (before ++ b ∷ []) bs h.1 ∙ ap (map Data) (append_assoc before (b ∷ []) bs)
 
 -- a run of text, and the parts after it
-literals_escaped : (run bytes : List ℕ) → HasNoAt run → with_literals run (followed (map part_of bytes) Nil) ≡ followed (map Data run ++ map part_of bytes) Nil
-literals_escaped run [] h = ap (λ is. followed is Nil) (no_addresses [] run h ∙ sym (append-nil (map Data run)))
+literals_escaped : (run bytes : List ℕ) → HasNoAt run → with_literals run (parts_before (map part_of bytes) Nil)
+    ≡ parts_before (map Data run ++ map part_of bytes) Nil
+literals_escaped run [] h = ap (λ is. parts_before is Nil) (no_addresses [] run h ∙ sym (append-nil (map Data run)))
 literals_escaped run (b ∷ bs) h =
     let others = map part_of bs in
     elim (cases_Bool (is_ascii_punctuation b)) [
       | inl on ↦
-          ap (λ i. with_literals run (Cons i (followed others Nil))) (escape_part b on)
-          ∙ ap (λ is. followed is (Cons (Escape b) (with_literals [] (followed others Nil)))) (no_addresses [] run h)
-          ∙ ap (λ is. followed (map Data run) (Cons (Escape b) is)) (literals_escaped [] bs tt)
+          ap (λ i. with_literals run (Cons i (parts_before others Nil))) (escape_part b on)
+          ∙ ap (λ is. parts_before is (Cons (Escape b) (with_literals [] (parts_before others Nil)))) (no_addresses [] run h)
+          ∙ ap (λ is. parts_before (map Data run) (Cons (Escape b) is)) (literals_escaped [] bs tt)
           ∙ followed-append (map Data run) (Escape b ∷ others)
-          ∙ ap (λ i. followed (map Data run ++ i ∷ others) Nil) (sym (escape_part b on))
+          ∙ ap (λ i. parts_before (map Data run ++ i ∷ others) Nil) (sym (escape_part b on))
       | inr off ↦
-          ap (λ i. with_literals run (Cons i (followed others Nil))) (data_part b off)
+          ap (λ i. with_literals run (Cons i (parts_before others Nil))) (data_part b off)
           ∙ literals_escaped (run ++ b ∷ []) bs (each-append (λ b. (b == 64) ≡ false) run (b ∷ []) h (other b 64 off refl, tt))
-          ∙ ap (λ is. followed (is ++ others) Nil) (map-append Data run (b ∷ []))
-          ∙ ap (λ is. followed is Nil) (append_assoc (map Data run) (Data b ∷ []) others)
-          ∙ ap (λ i. followed (map Data run ++ i ∷ others) Nil) (sym (data_part b off))
+          ∙ ap (λ is. parts_before (is ++ others) Nil) (map-append Data run (b ∷ []))
+          ∙ ap (λ is. parts_before is Nil) (append_assoc (map Data run) (Data b ∷ []) others)
+          ∙ ap (λ i. parts_before (map Data run ++ i ∷ others) Nil) (sym (data_part b off))
     ]
 
-linked_escaped : (on : Constructs) (bytes : List ℕ) → linked_literals on (followed (map part_of bytes) Nil) ≡ followed (map part_of bytes) Nil
+linked_escaped : (on : Constructs) (bytes : List ℕ) → linked_literals on (parts_before (map part_of bytes) Nil) ≡ parts_before (map part_of bytes) Nil
 linked_escaped on bytes =
-    let is = followed (map part_of bytes) Nil in
+    let is = parts_before (map part_of bytes) Nil in
     cond_both on.gfm_autolink_literal (with_literals [] is) is (λ x. x ≡ is) (λ _. literals_escaped [] bytes tt) (λ _. refl)
 
 -- ---- what it prints
 
-no_white_first : (bytes : List ℕ) → list_all is_line_byte bytes ≡ true → begins_with_space bytes ≡ false → prefix_len is_white (escaped bytes) ≡ 0
+no_white_first : (bytes : List ℕ) → list_all is_line_byte bytes ≡ true → begins_with_space bytes ≡ false → prefix_len is_white (with_backslashes bytes) ≡ 0
 no_white_first [] lines first = refl
 no_white_first (b ∷ bs) lines first =
     elim (cases_Bool (is_ascii_punctuation b)) [
@@ -392,15 +401,15 @@ module _ (meaning : InlineMeaning) where
 -- the inline structure of an escaped line
 escaped_structure : (context : InlineContext) (content : List InlineCode) (bytes : List ℕ) → context.options.constructs.character_escape ≡ true
     → IsTrimmedLine bytes
-    → codes_of content ≡ escaped bytes → inlines context content ≡ followed (map part_of bytes) Nil
+    → codes_of content ≡ with_backslashes bytes → inlines context content ≡ parts_before (map part_of bytes) Nil
 escaped_structure context content bytes on line e =
     let constructs = context.options.constructs in
     let start = prefix_len (λ (c : InlineCode). is_white c.code) content in
     let none : start ≡ 0 = white_codes content ∙ ap (prefix_len is_white) e ∙ no_white_first bytes line.0 line.1 in
     let r : Reading = reading (text [] false) [] in
     let read : scan context 0 r content ≡ read_tokens (tokens_of bytes) r = scan_escaped context on bytes content r line.0 line.2 e in
-    ap (λ n. linked_literals constructs (emphasized (whole_text (scan context 0 r (drop n content))).tokens)) none
-    ∙ ap (λ x. linked_literals constructs (emphasized (whole_text x).tokens)) read
+    ap (λ n. linked_literals constructs (with_spans (whole_text (scan context 0 r (drop n content))).tokens)) none
+    ∙ ap (λ x. linked_literals constructs (with_spans (whole_text x).tokens)) read
     ∙ ap (linked_literals constructs) (parts_alone (map part_of bytes))
     ∙ linked_escaped constructs bytes
 
@@ -419,6 +428,6 @@ bytes_call_nothing (b ∷ bs) = or_from (part_calls (part_of b)) (list_any part_
 
 -- an escaped line calls no footnote
 pub escaped_calls_nothing : (context : InlineContext) (content : List InlineCode) (bytes : List ℕ) → context.options.constructs.character_escape ≡ true
-    → IsTrimmedLine bytes → codes_of content ≡ escaped bytes → has_calls (inlines context content) ≡ false
+    → IsTrimmedLine bytes → codes_of content ≡ with_backslashes bytes → has_calls (inlines context content) ≡ false
 escaped_calls_nothing context content bytes on line e =
     ap has_calls (escaped_structure context content bytes on line e) ∙ calls_followed (map part_of bytes) ∙ bytes_call_nothing bytes

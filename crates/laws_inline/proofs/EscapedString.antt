@@ -1,9 +1,11 @@
 -- A text that is escaped gives itself back as a string.
-use Rattle.std.proofs.Common.{inl, inr, ◌≡◌, ℕ, true, false, not, ◌&&◌, ◌||◌, ◌+◌, ◌<◌, List, [], ◌∷◌, ◌++◌, Option, None, Some, refl, sym, ap, ◌∙◌, subst, drop, arith}
+use Rattle.std.proofs.Common.{inl, inr, ◌≡◌, ℕ, true, false, not, ◌&&◌, ◌||◌, ◌+◌, ◌<◌, List, [], ◌∷◌, ◌++◌, Option, None, Some, refl, sym, ap, ◌∙◌, subst}
+use Rattle.std.proofs.Common.{drop, arith}
 use Rattle.std.specs.Prelude.{◌==◌, nat_le}
 use Rattle.std.specs.List.{list_all, flat_map}
 use Rattle.std.specs.Char.{is_ascii_punctuation}
-use Rattle.std.proofs.lemmas.Bool.{cases_Bool, cond-true, cond-false, both_ways, and_parts, and_left, and_right, or_cases, or_parts, not-true, eqb-true, ltb-true}
+use Rattle.std.proofs.lemmas.Bool.{cases_Bool, cond-true, cond-false, both_ways, and_parts, and_left, and_right, or_cases, or_parts, not-true, eqb-true}
+use Rattle.std.proofs.lemmas.Bool.{ltb-true}
 use Rattle.markdown_options.specs.declared.configuration.Constructs.{Constructs}
 use Rattle.definition_text.specs.Columns.{is_white, indent, bare}
 use Rattle.definition_text.specs.Content.{content_codes, is_eol}
@@ -14,8 +16,8 @@ use Rattle.definition_inline.specs.HardBreak.{line_end_at}
 use Rattle.definition_inline.specs.Strings.{begins_with_eol, eol_bytes, spaces_at, string_bytes, string_leaf_at, string_text}
 use Rattle.laws_visible.proofs.PlainText.{bare_white, bare_other}
 use Rattle.definition_inline.proofs.Scanning.{string_step, string_byte}
-use Rattle.laws_inline.specs.Escaped.{escaped, is_octet, has_bare_endings, StringEscapeLaw}
-use Rattle.definition_block.specs.Tree.{begins_with_white}
+use Rattle.laws_inline.specs.Escaped.{with_backslashes, is_octet, has_bare_endings, StringEscapeLaw}
+use Rattle.definition_block.specs.ContainerLine.{begins_with_white}
 use Rattle.laws_inline.proofs.Escaped.{or_none, or_first, no_escape, no_reference, escaped_punctuation, escaped_other}
 
 -- ---- the codes of an escaped text
@@ -45,16 +47,18 @@ no_return : (b : ℕ) → is_eol b ≡ false → (b == 13) ≡ false
 no_return b none = (or_parts (b == 10) (b == 13) (or_parts ((b == 10) || (b == 13)) (b == 257) none).0).1
 
 -- before ASCII punctuation a backslash is what comes first
-punctuation_codes : (b : ℕ) (bs : List ℕ) → is_ascii_punctuation b ≡ true → content_codes (escaped (b ∷ bs)) ≡ 92 ∷ b ∷ content_codes (escaped bs)
+punctuation_codes : (b : ℕ) (bs : List ℕ) → is_ascii_punctuation b ≡ true
+    → content_codes (with_backslashes (b ∷ bs)) ≡ 92 ∷ b ∷ content_codes (with_backslashes bs)
 punctuation_codes b bs on =
     let apart : (b == 13) ≡ false = elim (cases_Bool (b == 13)) [
       | inl e ↦ absurd (both_ways (is_ascii_punctuation b) (ap is_ascii_punctuation (eqb-true b 13 e)) on)
       | inr e ↦ e
     ] in
-    ap content_codes (escaped_punctuation b bs on) ∙ ap (λ xs. 92 ∷ xs) (plain_code b (escaped bs) apart)
+    ap content_codes (escaped_punctuation b bs on) ∙ ap (λ xs. 92 ∷ xs) (plain_code b (with_backslashes bs) apart)
 
-other_codes : (b : ℕ) (bs : List ℕ) → is_ascii_punctuation b ≡ false → (b == 13) ≡ false → content_codes (escaped (b ∷ bs)) ≡ b ∷ content_codes (escaped bs)
-other_codes b bs off apart = ap content_codes (escaped_other b bs off) ∙ plain_code b (escaped bs) apart
+other_codes : (b : ℕ) (bs : List ℕ) → is_ascii_punctuation b ≡ false → (b == 13) ≡ false
+    → content_codes (with_backslashes (b ∷ bs)) ≡ b ∷ content_codes (with_backslashes bs)
+other_codes b bs off apart = ap content_codes (escaped_other b bs off) ∙ plain_code b (with_backslashes bs) apart
 
 -- no space begins with a CR
 return_indent : (xs : List ℕ) → indent (content_codes (13 ∷ xs)) ≡ 0
@@ -64,24 +68,24 @@ return_indent (x ∷ xs) = elim (cases_Bool (x == 10)) [
   | inr e ↦ ap indent (cond-false (x == 10) (257 ∷ drop 1 (content_codes (x ∷ xs))) (13 ∷ content_codes (x ∷ xs)) e)
 ]
 
-no_indent : (bs : List ℕ) → begins_with_white bs ≡ false → indent (content_codes (escaped bs)) ≡ 0
+no_indent : (bs : List ℕ) → begins_with_white bs ≡ false → indent (content_codes (with_backslashes bs)) ≡ 0
 no_indent [] h = refl
 no_indent (b ∷ bs) h = elim (cases_Bool (is_ascii_punctuation b)) [
   | inl on ↦ ap indent (punctuation_codes b bs on)
   | inr off ↦ elim (cases_Bool (b == 13)) [
-    | inl e ↦ ap (λ x. indent (content_codes (escaped (x ∷ bs)))) (eqb-true b 13 e) ∙ return_indent (escaped bs)
-    | inr e ↦ ap indent (other_codes b bs off e) ∙ cond-false (is_white b) (1 + indent (content_codes (escaped bs))) 0 h
+    | inl e ↦ ap (λ x. indent (content_codes (with_backslashes (x ∷ bs)))) (eqb-true b 13 e) ∙ return_indent (with_backslashes bs)
+    | inr e ↦ ap indent (other_codes b bs off e) ∙ cond-false (is_white b) (1 + indent (content_codes (with_backslashes bs))) 0 h
   ]
 ]
 
 -- after spaces and tabs no line ending comes
-goes_on : (bs : List ℕ) → begins_with_eol bs ≡ false → has_bare_endings bs ≡ true → begins_with_eol (bare (content_codes (escaped bs))) ≡ false
+goes_on : (bs : List ℕ) → begins_with_eol bs ≡ false → has_bare_endings bs ≡ true → begins_with_eol (bare (content_codes (with_backslashes bs))) ≡ false
 goes_on [] h endings = refl
 goes_on (b ∷ bs) h endings = elim (cases_Bool (is_ascii_punctuation b)) [
   | inl on ↦ ap (λ cs. begins_with_eol (bare cs)) (punctuation_codes b bs on)
   | inr off ↦
       let codes = ap (λ cs. begins_with_eol (bare cs)) (other_codes b bs off (no_return b h)) in
-      let cs = content_codes (escaped bs) in
+      let cs = content_codes (with_backslashes bs) in
       let at = bare_at b bs endings in
       elim (cases_Bool (is_white b)) [
         | inl white ↦ codes ∙ ap begins_with_eol (bare_white b cs white) ∙ goes_on bs (at.after_white white) at.later
@@ -94,7 +98,7 @@ abbrev IsBareFeed : List ℕ → Type 0
 IsBareFeed [] = Unit {0}
 IsBareFeed (x ∷ xs) = x ≡ 10 → indent (content_codes xs) ≡ 0
 
-bare_feed : (bs : List ℕ) → has_bare_endings bs ≡ true → IsBareFeed (escaped bs)
+bare_feed : (bs : List ℕ) → has_bare_endings bs ≡ true → IsBareFeed (with_backslashes bs)
 bare_feed [] h = tt
 bare_feed (b ∷ bs) h = elim (cases_Bool (is_ascii_punctuation b)) [
   | inl on ↦ subst IsBareFeed (sym (escaped_punctuation b bs on)) (λ e. absurd (omega arith))
@@ -131,7 +135,8 @@ module _ (on : Constructs) (names : List ℕ → Option (List ℕ)) where
   escape_text escapes b cs punctuation =
       let both : (on.character_escape && ((92 == 92) && is_ascii_punctuation b)) ≡ true = ap (λ x. x && is_ascii_punctuation b) escapes ∙ punctuation in
       let found : escape_at on (92 ∷ b ∷ cs) ≡ Some (leaf (Escape b ∷ []) 2) = cond-true _ _ _ both in
-      let first : string_leaf_at on names (92 ∷ b ∷ cs) ≡ Some (leaf (Escape b ∷ []) 2) = or_first (escape_at on (92 ∷ b ∷ cs)) _ (leaf (Escape b ∷ []) 2) found in
+      let first : string_leaf_at on names (92 ∷ b ∷ cs) ≡ Some (leaf (Escape b ∷ []) 2) =
+      or_first (escape_at on (92 ∷ b ∷ cs)) _ (leaf (Escape b ∷ []) 2) found in
       ap (flat_map string_bytes) (string_step on names 92 (b ∷ cs) (leaf (Escape b ∷ []) 2) first (omega arith))
 
   return_text : (xs : List ℕ) → indent (content_codes xs) ≡ 0 → IsBareFeed xs → read (content_codes (13 ∷ xs)) ≡ 13 ∷ read (content_codes xs)
@@ -148,27 +153,28 @@ module _ (on : Constructs) (names : List ℕ → Option (List ℕ)) where
   ]
 
   -- a line ending, and what follows it
-  ending_text : (b : ℕ) (bs : List ℕ) → b < 256 → is_eol b ≡ true → IsBareAt b bs → read (content_codes (escaped (b ∷ bs))) ≡ b ∷ read (content_codes (escaped bs))
+  ending_text : (b : ℕ) (bs : List ℕ) → b < 256 → is_eol b ≡ true → IsBareAt b bs
+      → read (content_codes (with_backslashes (b ∷ bs))) ≡ b ∷ read (content_codes (with_backslashes bs))
   ending_text b bs octet eol at = elim (or_cases ((b == 10) || (b == 13)) (b == 257) eol) [
     | inl one ↦
         let none = no_indent bs (at.after_eol eol) in
         elim (or_cases (b == 10) (b == 13) one) [
           | inl feed ↦
               let is : b ≡ 10 = eqb-true b 10 feed in
-              ap (λ x. read (content_codes (escaped (x ∷ bs)))) is ∙ eol_text 10 (content_codes (escaped bs)) refl refl none
-              ∙ ap (λ x. x ∷ read (content_codes (escaped bs))) (sym is)
+              ap (λ x. read (content_codes (with_backslashes (x ∷ bs)))) is ∙ eol_text 10 (content_codes (with_backslashes bs)) refl refl none
+              ∙ ap (λ x. x ∷ read (content_codes (with_backslashes bs))) (sym is)
           | inr return ↦
               let is : b ≡ 13 = eqb-true b 13 return in
-              ap (λ x. read (content_codes (escaped (x ∷ bs)))) is ∙ return_text (escaped bs) none (bare_feed bs at.later)
-              ∙ ap (λ x. x ∷ read (content_codes (escaped bs))) (sym is)
+              ap (λ x. read (content_codes (with_backslashes (x ∷ bs)))) is ∙ return_text (with_backslashes bs) none (bare_feed bs at.later)
+              ∙ ap (λ x. x ∷ read (content_codes (with_backslashes bs))) (sym is)
         ]
     | inr both ↦ let is : b ≡ 257 = eqb-true b 257 both in absurd (omega arith)
   ]
 
   -- spaces and tabs here are followed by no line ending
-  no_spaces : (b : ℕ) (bs : List ℕ) → IsBareAt b bs → spaces_at (b ∷ content_codes (escaped bs)) ≡ None
+  no_spaces : (b : ℕ) (bs : List ℕ) → IsBareAt b bs → spaces_at (b ∷ content_codes (with_backslashes bs)) ≡ None
   no_spaces b bs at =
-      let cs = content_codes (escaped bs) in
+      let cs = content_codes (with_backslashes bs) in
       elim (cases_Bool (is_white b)) [
         | inl white ↦
             let inner = ap begins_with_eol (bare_white b cs white) ∙ goes_on bs (at.after_white white) at.later in
@@ -179,18 +185,18 @@ module _ (on : Constructs) (names : List ℕ → Option (List ℕ)) where
       ]
 
   string_of_escaped : on.character_escape ≡ true → (bs : List ℕ) → list_all is_octet bs ≡ true → has_bare_endings bs ≡ true
-      → read (content_codes (escaped bs)) ≡ bs
+      → read (content_codes (with_backslashes bs)) ≡ bs
   string_of_escaped escapes [] octets endings = refl
   string_of_escaped escapes (b ∷ bs) octets endings =
       let parts = and_parts (is_octet b) (list_all is_octet bs) octets in
       let at = bare_at b bs endings in
       let later = ap (λ ys. b ∷ ys) (string_of_escaped escapes bs parts.1 at.later) in
       elim (cases_Bool (is_ascii_punctuation b)) [
-        | inl punctuation ↦ ap read (punctuation_codes b bs punctuation) ∙ escape_text escapes b (content_codes (escaped bs)) punctuation ∙ later
+        | inl punctuation ↦ ap read (punctuation_codes b bs punctuation) ∙ escape_text escapes b (content_codes (with_backslashes bs)) punctuation ∙ later
         | inr off ↦ elim (cases_Bool (is_eol b)) [
           | inl eol ↦ ending_text b bs (ltb-true b 256 parts.0) eol at ∙ later
           | inr apart ↦
-              ap read (other_codes b bs off (no_return b apart)) ∙ byte_text b (content_codes (escaped bs)) off apart (no_spaces b bs at) ∙ later
+              ap read (other_codes b bs off (no_return b apart)) ∙ byte_text b (content_codes (with_backslashes bs)) off apart (no_spaces b bs at) ∙ later
         ]
       ]
 

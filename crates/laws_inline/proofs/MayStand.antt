@@ -1,5 +1,6 @@
 -- What may stand in a content: the construct of each part is on.
-use Rattle.std.proofs.Common.{inl, inr, ◌≡◌, ℕ, suc, zero, Bool, true, false, cond, not, ◌&&◌, ◌||◌, ◌==◌, List, [], ◌∷◌, ◌++◌, map, Option, None, Some, length, take, drop, ap, ◌+◌, ◌-◌}
+use Rattle.std.proofs.Common.{inl, inr, ◌≡◌, ℕ, suc, zero, Bool, true, false, cond, not, ◌&&◌, ◌||◌, ◌==◌, List, [], ◌∷◌, ◌++◌, map, Option, None, Some, length}
+use Rattle.std.proofs.Common.{take, drop, ap, ◌+◌, ◌-◌}
 use Rattle.std.specs.Prelude.{replicate, reverse, codes}
 use Rattle.std.specs.List.{fold, filter}
 use Rattle.std.specs.Option.{option_map}
@@ -10,7 +11,8 @@ use Rattle.definition_text.specs.Bytes.{begins_with}
 use Rattle.definition_text.specs.Content.{Part, before, up_to}
 use Rattle.definition_text.specs.Runs.{run, after_run}
 use Rattle.definition_text.specs.InlineCode.{InlineCode, codes_of}
-use Rattle.definition_inline.specs.Inline.{Inline, Data, Escape, Character, Code, Math, Autolink, Literal, Html, EscapedBreak, TrailingBreak, LineEnd, Emphasis, Strong, Strikethrough, Link, Image, Call, Inlines, Nil, Cons, followed_by, Leaf, leaf, or_else}
+use Rattle.definition_inline.specs.Inline.{Inline, Data, Escape, Character, Code, Math, Autolink, Literal, Html, EscapedBreak, TrailingBreak, LineEnd, Emphasis}
+use Rattle.definition_inline.specs.Inline.{Strong, Strikethrough, Link, Image, Call, Inlines, Nil, Cons, followed_by, Leaf, leaf, or_else}
 use Rattle.definition_inline.specs.CharacterEscape.{escape_at}
 use Rattle.definition_inline.specs.CharacterReference.{CharacterReference, reference_form, reference_text, reference_leaf, reference_of, reference_at}
 use Rattle.definition_inline.specs.CodeText.{run_of, raw_leaf, code_text_at}
@@ -19,14 +21,18 @@ use Rattle.definition_inline.specs.GfmStrikethrough.{is_tilde}
 use Rattle.definition_inline.specs.Autolink.{uri_end, email_end, closed_autolink, autolink_after, autolink_at}
 use Rattle.definition_inline.specs.HtmlText.{html_byte, html_end, html_leaf, html_text_at}
 use Rattle.definition_inline.specs.HardBreak.{line_end_at, escaped_break_at, is_trailing_break, line_spaces_at}
-use Rattle.definition_inline.specs.LabelEnd.{Ended, is_label_text, label_end_at, Formed, Leads, Calls, leading}
-use Rattle.definition_inline.specs.GfmLabelStartFootnote.{starts_marked_call, called, call_or_link}
+use Rattle.definition_inline.specs.LabelEnd.{LinkTail, is_label_text, label_end_at, LinkOrCall, Leads, Calls, link_or_image}
+use Rattle.definition_inline.specs.GfmLabelStartFootnote.{starts_marked_call, called_label, call_or_link}
 use Rattle.definition_inline.specs.Attention.{Run, run_at, is_marker}
 use Rattle.definition_inline.specs.Pairing.{Pair, pairs}
-use Rattle.definition_inline.specs.Spans.{Token, Item, Delimiters, runs_of, Span, IsEmphasis, IsStrong, IsStrikethrough, span_of, SpanRow, Holds, Opens, Closes, bytes_taken, run_rows, rows_from, OpenSpan, Nest, nest, spanned, leave, nest_row, emphasized}
+use Rattle.definition_inline.specs.Spans.{Token, Item, Delimiters, runs_of, Span, IsEmphasis, IsStrong, IsStrikethrough, span_of, SpanRow, Holds, Opens, Closes}
+use Rattle.definition_inline.specs.Spans.{bytes_taken, run_rows, rows_from, OpenSpan, Nest, nest, span_part, leave, nest_row, with_spans}
 use Rattle.definition_inline.specs.GfmAutolinkLiteral.{literal_at}
 use Rattle.definition_inline.proofs.GfmAutolinkLiteral.{any_literal}
-use Rattle.definition_inline.specs.Scan.{InlineContext, leaf_at, leaf_here, LabelStart, LinkStart, ImageStart, label_start_at, starts_image, starts_link, start_bytes, start_tokens, may_form as may_form_with, formed_part, formed_at, Text, text, OpenLabel, Reading, reading, read_tokens, unformed, formed, Step, Next, data_step, ended_step, ended_by, label_end_step, last_step, label_step, run_step, leaf_step, step, and_then, scan, whole_text, spans_from, unindented, inlines}
+use Rattle.definition_inline.specs.Scan.{InlineContext, leaf_at, leaf_here, LabelStart, LinkStart, ImageStart, label_start_at, starts_image, starts_link}
+use Rattle.definition_inline.specs.Scan.{start_bytes, start_tokens, may_form as may_form_with, formed_part, formed_at, Text, text, OpenLabel, Reading, reading}
+use Rattle.definition_inline.specs.Scan.{read_tokens, with_plain_start, with_link_or_call, Step, Next, data_step, ended_step, ended_by, label_end_step}
+use Rattle.definition_inline.specs.Scan.{last_step, label_step, run_step, leaf_step, step, and_then, scan, whole_text, spans_from, without_indent, inlines}
 use Rattle.laws_inline.proofs.Each.{Each, WhereSome, each-append, each_map, each_same}
 use Rattle.laws_literals.proofs.Carried.{Carries, literals_good, linked_good}
 
@@ -196,14 +202,14 @@ module _ (on : Constructs) where
   may_follow Nil last p q = (q, tt)
   may_follow (Cons i is) last p q = (p.0, may_follow is last p.1 q)
 
-  may_span : (span : Span) (kids : Inlines) → KindMayStand span → MayStand on kids → PartMayStand on (spanned span kids)
+  may_span : (span : Span) (kids : Inlines) → KindMayStand span → MayStand on kids → PartMayStand on (span_part span kids)
   may_span IsEmphasis kids e p = (e, p)
   may_span IsStrong kids e p = (e, p)
   may_span IsStrikethrough kids e p = (e, p)
 
   may_leave : (now : Inlines) (around : List OpenSpan) → MayStand on now → Each SpanMayStand around → NestMayStand (leave now around)
   may_leave now [] p h = (p, tt)
-  may_leave now (s ∷ others) p h = (may_follow s.before (spanned s.span now) h.0.1 (may_span s.span now h.0.0 p), h.1)
+  may_leave now (s ∷ others) p h = (may_follow s.before (span_part s.span now) h.0.1 (may_span s.span now h.0.0 p), h.1)
 
   may_nest_row : (n : Nest) (row : SpanRow) → NestMayStand n → RowMayStand row → NestMayStand (nest_row n row)
   may_nest_row n (Holds i) p q = (may_follow n.now i p.0 q, p.1)
@@ -214,7 +220,7 @@ module _ (on : Constructs) where
   may_nest n [] p h = p
   may_nest n (row ∷ rows) p h = may_nest (nest_row n row) rows (may_nest_row n row p h.0) h.1
 
-  may_emphasize : (tokens : List Token) → Each TokenMayStand tokens → MayStand on (emphasized tokens)
+  may_emphasize : (tokens : List Token) → Each TokenMayStand tokens → MayStand on (with_spans tokens)
   may_emphasize tokens h =
       let ps = pairs (runs_of tokens) in
       (may_nest (nest Nil []) (rows_from ps 0 tokens) (tt, tt) (may_rows ps 0 tokens h)).0
@@ -238,7 +244,7 @@ module _ (on : Constructs) where
   StepMayStand (Next more r) = ReadingMayStand r
 
   -- what a label start may form; that of a link may form a call, too
-  abbrev MayForm : LabelStart → Formed → Type 0
+  abbrev MayForm : LabelStart → LinkOrCall → Type 0
   MayForm LinkStart (Leads end) = on.label_start_link ≡ true
   MayForm ImageStart (Leads end) = Unit {0}
   MayForm start (Calls label) = on.gfm_label_start_footnote ≡ true
@@ -253,12 +259,13 @@ module _ (on : Constructs) where
 
   -- ---- what a `]` forms
 
-  may_lead : (start : LabelStart) (found : Option Ended) → ((end : Ended) → MayForm start (Leads end)) → WhereSome (MayForm start) (option_map Leads found)
+  may_lead : (start : LabelStart) (found : Option LinkTail) → ((end : LinkTail) → MayForm start (Leads end))
+      → WhereSome (MayForm start) (option_map Leads found)
   may_lead start None p = tt
   may_lead start (Some end) p = p end
 
   may_call : (is_footnote : List ℕ → Bool) (between : List ℕ)
-      → WhereSome (λ (label : List ℕ). on.gfm_label_start_footnote ≡ true) (called on is_footnote between)
+      → WhereSome (λ (label : List ℕ). on.gfm_label_start_footnote ≡ true) (called_label on is_footnote between)
   may_call is_footnote [] = tt
   may_call is_footnote (c ∷ label) =
       let first = on.gfm_label_start_footnote && (c == 94) in
@@ -270,26 +277,27 @@ module _ (on : Constructs) where
       → WhereSome (λ (label : List ℕ). on.gfm_label_start_footnote ≡ true) found → WhereSome (MayForm LinkStart) (call_or_link on is_defined between rest found)
   may_link is_defined between rest (Some label) h = h
   may_link is_defined between rest None h =
-      cond_both on.label_start_link (leading is_defined between rest) None (WhereSome (MayForm LinkStart))
+      cond_both on.label_start_link (link_or_image is_defined between rest) None (WhereSome (MayForm LinkStart))
       (λ e. may_lead LinkStart (label_end_at is_defined between rest) (λ end. e)) (λ _. tt)
 
   start_stands : (start : LabelStart) → Each TokenMayStand (start_tokens start)
   start_stands start = each_map TokenMayStand (λ b. Item (Data b)) (start_bytes start) (λ b. tt)
 
-  may_label : (start : LabelStart) (found : Formed) (tokens : List Token) → StartMayStand start → MayForm start found → on.label_end ≡ true
-      → MayStand on (emphasized tokens) → PartMayStand on (formed_part start found tokens)
+  may_label : (start : LabelStart) (found : LinkOrCall) (tokens : List Token) → StartMayStand start → MayForm start found → on.label_end ≡ true
+      → MayStand on (with_spans tokens) → PartMayStand on (formed_part start found tokens)
   may_label LinkStart (Leads end) tokens h f e p = (f, e, p)
   may_label ImageStart (Leads end) tokens h f e p = (h, e, p)
   may_label LinkStart (Calls label) tokens h f e p = (f, e)
   may_label ImageStart (Calls label) tokens h f e p = (f, e)
 
-  may_unform : (label : OpenLabel) (inner : Text) → LabelMayStand label → TextMayStand inner → TextMayStand (unformed label inner)
+  may_unform : (label : OpenLabel) (inner : Text) → LabelMayStand label → TextMayStand inner → TextMayStand (with_plain_start label inner)
   may_unform label inner h p =
       each-append TokenMayStand label.outer.tokens (start_tokens label.start ++ inner.tokens) h.1
       (each-append TokenMayStand (start_tokens label.start) inner.tokens (start_stands label.start) p)
 
-  may_form : (label : OpenLabel) (found : Formed) (inner : Text) → LabelMayStand label → MayForm label.start found → on.label_end ≡ true → TextMayStand inner
-      → TextMayStand (formed label found inner)
+  may_form : (label : OpenLabel) (found : LinkOrCall) (inner : Text) → LabelMayStand label → MayForm label.start found → on.label_end ≡ true
+      → TextMayStand inner
+      → TextMayStand (with_link_or_call label found inner)
   may_form label found inner h f e p =
       each-append TokenMayStand label.outer.tokens (Item (formed_part label.start found inner.tokens) ∷ []) h.1
       (may_label label.start found inner.tokens h.0 f e (may_emphasize inner.tokens p), tt)
@@ -299,10 +307,10 @@ module _ (on : Constructs) where
   may_read : (more : List Token) (r : Reading) → Each TokenMayStand more → ReadingMayStand r → ReadingMayStand (read_tokens more r)
   may_read more r h p = (each-append TokenMayStand r.now.tokens more p.0 h, p.1)
 
-  may_end : (label : OpenLabel) (others : List OpenLabel) (inner : Text) (found : Option Formed) → WhereSome (MayForm label.start) found
+  may_end : (label : OpenLabel) (others : List OpenLabel) (inner : Text) (found : Option LinkOrCall) → WhereSome (MayForm label.start) found
       → on.label_end ≡ true → LabelMayStand label → Each LabelMayStand others → TextMayStand inner → StepMayStand (ended_step label others inner found)
   may_end label others inner None f e h hs p =
-      may_read (Item (Data 93) ∷ []) (reading (unformed label inner) others) (tt, tt) (may_unform label inner h p, hs)
+      may_read (Item (Data 93) ∷ []) (reading (with_plain_start label inner) others) (tt, tt) (may_unform label inner h p, hs)
   may_end label others inner (Some found) f e h hs p = (may_form label found inner h f e p, hs)
 
 -- what may stand may stand with its literals
@@ -367,7 +375,8 @@ module _ (context : InlineContext) where
 
   may_form_at : (start : LabelStart) (between rest : List ℕ) → WhereSome (MayForm constructs start) (formed_at context start between rest)
   may_form_at LinkStart between rest =
-      may_link constructs context.is_defined between rest (called constructs context.is_footnote between) (may_call constructs context.is_footnote between)
+      may_link constructs context.is_defined between rest (called_label constructs context.is_footnote between)
+      (may_call constructs context.is_footnote between)
   may_form_at ImageStart between rest = may_lead constructs ImageStart (label_end_at context.is_defined between rest) (λ end. tt)
 
   may_end_by : (content : List ℕ) (label : OpenLabel) (inner : Text) → WhereSome (MayForm constructs label.start) (ended_by context content label inner)
@@ -443,9 +452,9 @@ module _ (context : InlineContext) where
   may_scan (suc k) r (c ∷ cs) p = may_scan k r cs p
 
   may_close : (inner : Text) (open_labels : List OpenLabel) → TextMayStand constructs inner → Each (LabelMayStand constructs) open_labels
-      → TextMayStand constructs (fold (λ inner label. unformed label inner) inner open_labels)
+      → TextMayStand constructs (fold (λ inner label. with_plain_start label inner) inner open_labels)
   may_close inner [] p h = p
-  may_close inner (label ∷ others) p h = may_close (unformed label inner) others (may_unform constructs label inner h.0 p) h.1
+  may_close inner (label ∷ others) p h = may_close (with_plain_start label inner) others (may_unform constructs label inner h.0 p) h.1
 
   may_span_out : (content : List InlineCode) → MayStand constructs (spans_from context content)
   may_span_out content =
@@ -455,7 +464,7 @@ module _ (context : InlineContext) where
 
   pub may_stand : (content : List InlineCode) → MayStand constructs (inlines context content)
   may_stand content =
-      let spans = spans_from context (unindented content) in
+      let spans = spans_from context (without_indent content) in
       linked_good constructs (MayStand constructs) spans
-      (λ e. literals_good (PartMayStand constructs) (MayStand constructs) Any (literals_may_stand constructs e) spans (may_span_out (unindented content)))
-      (may_span_out (unindented content))
+      (λ e. literals_good (PartMayStand constructs) (MayStand constructs) Any (literals_may_stand constructs e) spans (may_span_out (without_indent content)))
+      (may_span_out (without_indent content))

@@ -1,5 +1,6 @@
 -- No link holds another.
-use Rattle.std.proofs.Common.{◌≡◌, ℕ, suc, zero, Bool, true, false, cond, not, ◌&&◌, ◌||◌, ◌==◌, List, [], ◌∷◌, ◌++◌, map, Option, None, Some, length, take, drop, refl, ◌+◌, ◌-◌}
+use Rattle.std.proofs.Common.{◌≡◌, ℕ, suc, zero, Bool, true, false, cond, not, ◌&&◌, ◌||◌, ◌==◌, List, [], ◌∷◌, ◌++◌, map, Option, None, Some, length, take}
+use Rattle.std.proofs.Common.{drop, refl, ◌+◌, ◌-◌}
 use Rattle.std.specs.Prelude.{replicate, reverse}
 use Rattle.std.specs.List.{fold, filter}
 use Rattle.std.specs.Option.{option_map}
@@ -9,7 +10,8 @@ use Rattle.definition_text.specs.Columns.{indent}
 use Rattle.definition_text.specs.Content.{Part, before, up_to}
 use Rattle.definition_text.specs.Runs.{run, after_run}
 use Rattle.definition_text.specs.InlineCode.{InlineCode, codes_of}
-use Rattle.definition_inline.specs.Inline.{Target, Inline, Data, Escape, Code, Math, Autolink, EscapedBreak, TrailingBreak, LineEnd, Emphasis, Strong, Strikethrough, Link, Image, Call, Inlines, Nil, Cons, followed_by, Leaf, leaf, or_else}
+use Rattle.definition_inline.specs.Inline.{Target, Inline, Data, Escape, Code, Math, Autolink, EscapedBreak, TrailingBreak, LineEnd, Emphasis, Strong}
+use Rattle.definition_inline.specs.Inline.{Strikethrough, Link, Image, Call, Inlines, Nil, Cons, followed_by, Leaf, leaf, or_else}
 use Rattle.definition_inline.specs.CharacterEscape.{escape_at}
 use Rattle.definition_inline.specs.CharacterReference.{CharacterReference, reference_form, reference_text, reference_leaf, reference_of, reference_at}
 use Rattle.definition_inline.specs.CodeText.{run_of, code_text, raw_leaf, raw_at, code_text_at}
@@ -17,13 +19,17 @@ use Rattle.definition_inline.specs.MathText.{may_open_math, math_text_at}
 use Rattle.definition_inline.specs.Autolink.{uri_end, email_end, closed_autolink, autolink_after, autolink_at}
 use Rattle.definition_inline.specs.HtmlText.{html_byte, html_end, html_leaf, html_text_at}
 use Rattle.definition_inline.specs.HardBreak.{line_end_at, escaped_break_at, is_trailing_break, line_spaces_at}
-use Rattle.definition_inline.specs.LabelEnd.{Ended, label_end_at, Formed, Leads, Calls}
+use Rattle.definition_inline.specs.LabelEnd.{LinkTail, label_end_at, LinkOrCall, Leads, Calls}
 use Rattle.definition_inline.specs.Attention.{Run, run_at}
 use Rattle.definition_inline.specs.Pairing.{Pair, pairs}
-use Rattle.definition_inline.specs.Spans.{Token, Item, Delimiters, runs_of, Span, IsEmphasis, IsStrong, IsStrikethrough, span_of, SpanRow, Holds, Opens, Closes, bytes_taken, run_rows, rows_from, OpenSpan, Nest, nest, spanned, leave, nest_row, emphasized}
+use Rattle.definition_inline.specs.Spans.{Token, Item, Delimiters, runs_of, Span, IsEmphasis, IsStrong, IsStrikethrough, span_of, SpanRow, Holds, Opens, Closes}
+use Rattle.definition_inline.specs.Spans.{bytes_taken, run_rows, rows_from, OpenSpan, Nest, nest, span_part, leave, nest_row, with_spans}
 use Rattle.definition_inline.specs.GfmAutolinkLiteral.{literal_at}
 use Rattle.definition_inline.proofs.GfmAutolinkLiteral.{any_literal}
-use Rattle.definition_inline.specs.Scan.{InlineContext, leaf_at, leaf_here, LabelStart, LinkStart, ImageStart, label_start_at, start_bytes, start_tokens, may_form, formed_at, Text, text, OpenLabel, Reading, reading, read_tokens, unformed, formed, Step, Next, data_step, ended_step, label_end_step, last_step, label_step, run_step, leaf_step, step, and_then, scan, whole_text, spans_from, unindented}
+use Rattle.definition_inline.specs.Scan.{InlineContext, leaf_at, leaf_here, LabelStart, LinkStart, ImageStart, label_start_at, start_bytes, start_tokens}
+use Rattle.definition_inline.specs.Scan.{may_form, formed_at, Text, text, OpenLabel, Reading, reading, read_tokens, with_plain_start, with_link_or_call, Step}
+use Rattle.definition_inline.specs.Scan.{Next, data_step, ended_step, label_end_step, last_step, label_step, run_step, leaf_step, step, and_then, scan}
+use Rattle.definition_inline.specs.Scan.{whole_text, spans_from, without_indent}
 use Rattle.laws_inline.specs.Occurs.{part_has, has}
 use Rattle.laws_inline.specs.NestedLinks.{is_leading, is_nesting, LinksHoldNoLinks}
 use Rattle.laws_inline.proofs.Each.{WhereSome, Each, each-append, each_map, each_same}
@@ -31,7 +37,8 @@ use Rattle.laws_inline.proofs.Literals.{LacksLiterals, without_lacks, with_lacks
 
 -- ---- spans of what lacks something
 
-module _ (test : Inline → Bool) (data_fails : (b : ℕ) → test (Data b) ≡ false) (span_fails : (span : Span) (kids : Inlines) → test (spanned span kids) ≡ false) where
+module _ (test : Inline → Bool) (data_fails : (b : ℕ) → test (Data b) ≡ false) (span_fails : (span : Span) (kids : Inlines)
+    → test (span_part span kids) ≡ false) where
   abbrev pub Lacks : Token → Type 0
   Lacks (Item i) = part_has test i ≡ false
   Lacks (Delimiters run) = Unit {0}
@@ -71,14 +78,14 @@ module _ (test : Inline → Bool) (data_fails : (b : ℕ) → test (Data b) ≡ 
       let parts = or_parts (part_has test i) (has test is) p in
       or_from (part_has test i) (has test (followed_by is last)) parts.0 (follow_lacks is last parts.1 q)
 
-  span_lacks : (span : Span) (kids : Inlines) → has test kids ≡ false → part_has test (spanned span kids) ≡ false
+  span_lacks : (span : Span) (kids : Inlines) → has test kids ≡ false → part_has test (span_part span kids) ≡ false
   span_lacks IsEmphasis kids p = or_from (test (Emphasis kids)) (has test kids) (span_fails IsEmphasis kids) p
   span_lacks IsStrong kids p = or_from (test (Strong kids)) (has test kids) (span_fails IsStrong kids) p
   span_lacks IsStrikethrough kids p = or_from (test (Strikethrough kids)) (has test kids) (span_fails IsStrikethrough kids) p
 
   leave_lacks : (now : Inlines) (around : List OpenSpan) → has test now ≡ false → Each SpanLacks around → NestLacks (leave now around)
   leave_lacks now [] p h = (p, tt)
-  leave_lacks now (s ∷ others) p h = (follow_lacks s.before (spanned s.span now) h.0 (span_lacks s.span now p), h.1)
+  leave_lacks now (s ∷ others) p h = (follow_lacks s.before (span_part s.span now) h.0 (span_lacks s.span now p), h.1)
 
   row_lacks : (n : Nest) (row : SpanRow) → NestLacks n → RowLacks row → NestLacks (nest_row n row)
   row_lacks n (Holds i) p q = (follow_lacks n.now i p.0 q, p.1)
@@ -89,7 +96,7 @@ module _ (test : Inline → Bool) (data_fails : (b : ℕ) → test (Data b) ≡ 
   nest_lacks n [] p h = p
   nest_lacks n (row ∷ rows) p h = nest_lacks (nest_row n row) rows (row_lacks n row p h.0) h.1
 
-  pub emphasized_lacks : (tokens : List Token) → Each Lacks tokens → has test (emphasized tokens) ≡ false
+  pub emphasized_lacks : (tokens : List Token) → Each Lacks tokens → has test (with_spans tokens) ≡ false
   emphasized_lacks tokens h =
       let ps = pairs (runs_of tokens) in (nest_lacks (nest Nil []) (rows_from ps 0 tokens) (refl, tt) (rows_lack ps 0 tokens h)).0
 
@@ -204,7 +211,7 @@ plain_here context content =
 no_data_nests : (b : ℕ) → is_nesting (Data b) ≡ false
 no_data_nests b = refl
 
-no_span_nests : (span : Span) (kids : Inlines) → is_nesting (spanned span kids) ≡ false
+no_span_nests : (span : Span) (kids : Inlines) → is_nesting (span_part span kids) ≡ false
 no_span_nests IsEmphasis kids = refl
 no_span_nests IsStrong kids = refl
 no_span_nests IsStrikethrough kids = refl
@@ -212,7 +219,7 @@ no_span_nests IsStrikethrough kids = refl
 no_data_links : (b : ℕ) → is_leading (Data b) ≡ false
 no_data_links b = refl
 
-no_span_links : (span : Span) (kids : Inlines) → is_leading (spanned span kids) ≡ false
+no_span_links : (span : Span) (kids : Inlines) → is_leading (span_part span kids) ≡ false
 no_span_links IsEmphasis kids = refl
 no_span_links IsStrong kids = refl
 no_span_links IsStrikethrough kids = refl
@@ -271,7 +278,7 @@ start_nests start = each_map NestsNothing (λ b. Item (Data b)) (start_bytes sta
 start_links : (start : LabelStart) → Each HasNoLink (start_tokens start)
 start_links start = each_map HasNoLink (λ b. Item (Data b)) (start_bytes start) (λ b. refl)
 
-good_unformed : (label : OpenLabel) (inner : Text) → IsGood label.outer → IsGood inner → IsGood (unformed label inner)
+good_unformed : (label : OpenLabel) (inner : Text) → IsGood label.outer → IsGood inner → IsGood (with_plain_start label inner)
 good_unformed label inner h p =
     record {
       flat =
@@ -283,16 +290,16 @@ good_unformed label inner h p =
           (each-append HasNoLink (start_tokens label.start) inner.tokens (start_links label.start) (p.none parts.1));
     }
 
-inside_flat : (inner : Text) → IsGood inner → has is_nesting (emphasized inner.tokens) ≡ false
+inside_flat : (inner : Text) → IsGood inner → has is_nesting (with_spans inner.tokens) ≡ false
 inside_flat inner p = emphasized_lacks is_nesting no_data_nests no_span_nests inner.tokens p.flat
 
-inside_none : (inner : Text) → IsGood inner → inner.holds_link ≡ false → has is_leading (emphasized inner.tokens) ≡ false
+inside_none : (inner : Text) → IsGood inner → inner.holds_link ≡ false → has is_leading (with_spans inner.tokens) ≡ false
 inside_none inner p e = emphasized_lacks is_leading no_data_links no_span_links inner.tokens (p.none e)
 
 good_link : (outer : Text) (target : Target) (inner : Text) → IsGood outer → IsGood inner → inner.holds_link ≡ false
-    → IsGood (text (outer.tokens ++ Item (Link target (emphasized inner.tokens)) ∷ []) (outer.holds_link || true))
+    → IsGood (text (outer.tokens ++ Item (Link target (with_spans inner.tokens)) ∷ []) (outer.holds_link || true))
 good_link outer target inner h p e =
-    let kids = emphasized inner.tokens in
+    let kids = with_spans inner.tokens in
     record {
       flat =
           each-append NestsNothing outer.tokens (Item (Link target kids) ∷ []) h.flat
@@ -301,9 +308,9 @@ good_link outer target inner h p e =
     }
 
 good_image : (outer : Text) (target : Target) (inner : Text) → IsGood outer → IsGood inner
-    → IsGood (text (outer.tokens ++ Item (Image target (emphasized inner.tokens)) ∷ []) (outer.holds_link || inner.holds_link))
+    → IsGood (text (outer.tokens ++ Item (Image target (with_spans inner.tokens)) ∷ []) (outer.holds_link || inner.holds_link))
 good_image outer target inner h p =
-    let kids = emphasized inner.tokens in
+    let kids = with_spans inner.tokens in
     record {
       flat = each-append NestsNothing outer.tokens (Item (Image target kids) ∷ []) h.flat (inside_flat inner p, tt);
       none = λ f.
@@ -321,16 +328,16 @@ good_call outer label h =
 -- ---- what a `]` forms
 
 -- the start of an image forms no call
-abbrev Fits : LabelStart → Formed → Type 0
+abbrev Fits : LabelStart → LinkOrCall → Type 0
 Fits ImageStart (Calls label) = ⊥
 Fits start found = Unit {0}
 
-link_fits : (found : Option Formed) → WhereSome (Fits LinkStart) found
+link_fits : (found : Option LinkOrCall) → WhereSome (Fits LinkStart) found
 link_fits None = tt
 link_fits (Some (Leads end)) = tt
 link_fits (Some (Calls label)) = tt
 
-image_fits : (found : Option Ended) → WhereSome (Fits ImageStart) (option_map Leads found)
+image_fits : (found : Option LinkTail) → WhereSome (Fits ImageStart) (option_map Leads found)
 image_fits None = tt
 image_fits (Some end) = tt
 
@@ -338,8 +345,8 @@ fits_at : (context : InlineContext) (start : LabelStart) (between rest : List �
 fits_at context LinkStart between rest = link_fits (formed_at context LinkStart between rest)
 fits_at context ImageStart between rest = image_fits (label_end_at context.is_defined between rest)
 
-good_formed : (start : LabelStart) (from : List ℕ) (outer : Text) (found : Formed) (inner : Text) → IsGood outer → IsGood inner
-    → may_form start inner.holds_link ≡ true → Fits start found → IsGood (formed (record { start = start; from = from; outer = outer }) found inner)
+good_formed : (start : LabelStart) (from : List ℕ) (outer : Text) (found : LinkOrCall) (inner : Text) → IsGood outer → IsGood inner
+    → may_form start inner.holds_link ≡ true → Fits start found → IsGood (with_link_or_call (record { start = start; from = from; outer = outer }) found inner)
 good_formed LinkStart from outer (Leads end) inner h p e f = good_link outer end.target inner h p (not-true inner.holds_link e)
 good_formed ImageStart from outer (Leads end) inner h p e f = good_image outer end.target inner h p
 good_formed LinkStart from outer (Calls label) inner h p e f = good_call outer label h
@@ -357,13 +364,14 @@ IsGoodStep (Next more r) = IsGoodReading r
 good_read : (more : List Token) (r : Reading) → Each NestsNothing more → Each HasNoLink more → IsGoodReading r → IsGoodReading (read_tokens more r)
 good_read more r p q h = record { now = good_more r.now more h.now p q; open_labels = h.open_labels }
 
-good_unended : (label : OpenLabel) (others : List OpenLabel) (inner : Text) → IsGood label.outer → Each (λ (l : OpenLabel). IsGood l.outer) others → IsGood inner
+good_unended : (label : OpenLabel) (others : List OpenLabel) (inner : Text) → IsGood label.outer → Each (λ (l : OpenLabel). IsGood l.outer) others
+    → IsGood inner
     → IsGoodStep (ended_step label others inner None)
 good_unended label others inner h hs p =
-    good_read (Item (Data 93) ∷ []) (reading (unformed label inner) others) (refl, tt) (refl, tt)
+    good_read (Item (Data 93) ∷ []) (reading (with_plain_start label inner) others) (refl, tt) (refl, tt)
     (record { now = good_unformed label inner h p; open_labels = hs })
 
-good_end : (label : OpenLabel) (others : List OpenLabel) (inner : Text) (found : Option Formed) → may_form label.start inner.holds_link ≡ true
+good_end : (label : OpenLabel) (others : List OpenLabel) (inner : Text) (found : Option LinkOrCall) → may_form label.start inner.holds_link ≡ true
     → WhereSome (Fits label.start) found → IsGood label.outer → Each (λ (l : OpenLabel). IsGood l.outer) others → IsGood inner
     → IsGoodStep (ended_step label others inner found)
 good_end label others inner None e f h hs p = good_unended label others inner h hs p
@@ -417,9 +425,9 @@ module _ (context : InlineContext) where
   good_scan (suc k) r (c ∷ cs) h = good_scan k r cs h
 
 good_close : (inner : Text) (open_labels : List OpenLabel) → IsGood inner → Each (λ (l : OpenLabel). IsGood l.outer) open_labels
-    → IsGood (fold (λ inner label. unformed label inner) inner open_labels)
+    → IsGood (fold (λ inner label. with_plain_start label inner) inner open_labels)
 good_close inner [] p h = p
-good_close inner (label ∷ others) p h = good_close (unformed label inner) others (good_unformed label inner h.0 p) h.1
+good_close inner (label ∷ others) p h = good_close (with_plain_start label inner) others (good_unformed label inner h.0 p) h.1
 
 -- ---- literals
 
@@ -467,5 +475,5 @@ spans_nest_nothing context content =
 
 pub links_hold_no_links : LinksHoldNoLinks
 links_hold_no_links context content =
-    linked_lacks is_nesting HoldsNoMore nesting_and_literals context.options.constructs (spans_from context (unindented content))
-    (spans_nest_nothing context (unindented content))
+    linked_lacks is_nesting HoldsNoMore nesting_and_literals context.options.constructs (spans_from context (without_indent content))
+    (spans_nest_nothing context (without_indent content))

@@ -3,10 +3,13 @@ use Rattle.std.proofs.Common.{◌≡◌, Bool, false, List, refl}
 use Rattle.std.proofs.lemmas.Bool.{or_from, both_ways}
 use Rattle.markdown_options.specs.declared.configuration.Constructs.{Constructs}
 use Rattle.definition_text.specs.InlineCode.{InlineCode}
-use Rattle.definition_inline.specs.Inline.{Inline, Data, Escape, Character, Code, Math, Autolink, Literal, Html, EscapedBreak, TrailingBreak, LineEnd, Emphasis, Strong, Strikethrough, Link, Image, Call, Inlines, Nil, Cons}
+use Rattle.definition_inline.specs.Inline.{Inline, Data, Escape, Character, Code, Math, Autolink, Literal, Html, EscapedBreak, TrailingBreak, LineEnd, Emphasis}
+use Rattle.definition_inline.specs.Inline.{Strong, Strikethrough, Link, Image, Call, Inlines, Nil, Cons}
 use Rattle.definition_inline.specs.Scan.{InlineContext, text, inlines}
-use Rattle.laws_inline.specs.Occurs.{part_has, has, is_escape, is_character, is_code, is_math, is_autolink, is_literal, is_html, is_escaped_break, is_trailing_break as is_trailing, is_span, is_strikethrough, is_link, is_image, is_call, is_labelled}
-use Rattle.laws_inline.specs.Occurs.{NoEscapes, NoCharacters, NoCode, NoMath, NoAutolinks, NoLiterals, NoHtml, NoEscapedBreaks, NoTrailingBreaks, NoSpans, NoStrikethrough, NoLinks, NoImages, NoCalls, NoLabelEnds}
+use Rattle.laws_inline.specs.Occurs.{part_has, has, is_escape, is_character, is_code, is_math, is_autolink, is_literal, is_html, is_escaped_break}
+use Rattle.laws_inline.specs.Occurs.{is_trailing_break as is_trailing, is_span, is_strikethrough, is_link, is_image, is_call, is_labelled}
+use Rattle.laws_inline.specs.Occurs.{NoEscapes, NoCharacters, NoCode, NoMath, NoAutolinks, NoLiterals, NoHtml, NoEscapedBreaks, NoTrailingBreaks, NoSpans}
+use Rattle.laws_inline.specs.Occurs.{NoStrikethrough, NoLinks, NoImages, NoCalls, NoLabelEnds}
 use Rattle.laws_inline.proofs.MayStand.{PartMayStand, MayStand, may_stand}
 
 -- ---- what never occurs

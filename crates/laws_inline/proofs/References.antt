@@ -9,11 +9,15 @@ use Rattle.definition_text.specs.InlineCode.{InlineCode, codes_of}
 use Rattle.definition_inline.specs.Inline.{Reference, Inline, Data, Emphasis, Strong, Strikethrough, Link, Image, Call, Inlines, Leaf}
 use Rattle.definition_inline.specs.Label.{label_at}
 use Rattle.definition_inline.specs.Resource.{LinkResource, resource_at}
-use Rattle.definition_inline.specs.LabelEnd.{Ended, ended, is_label_text, by_text, by_label, by_resource, label_end_at, Formed, Leads, Calls, leading}
-use Rattle.definition_inline.specs.GfmLabelStartFootnote.{called, call_or_link}
+use Rattle.definition_inline.specs.LabelEnd.{LinkTail, link_tail, is_label_text, by_text, by_label, by_resource, label_end_at, LinkOrCall, Leads, Calls}
+use Rattle.definition_inline.specs.LabelEnd.{link_or_image}
+use Rattle.definition_inline.specs.GfmLabelStartFootnote.{called_label, call_or_link}
 use Rattle.definition_inline.specs.Attention.{Run, run_at}
-use Rattle.definition_inline.specs.Spans.{Token, Item, Delimiters, Span, IsEmphasis, IsStrong, IsStrikethrough, spanned, emphasized}
-use Rattle.definition_inline.specs.Scan.{InlineContext, leaf_here, LabelStart, LinkStart, ImageStart, label_start_at, start_bytes, start_tokens, may_form, formed_part, formed_at, Text, text, OpenLabel, Reading, reading, read_tokens, unformed, formed, Step, Next, data_step, ended_step, ended_by, label_end_step, last_step, label_step, run_step, leaf_step, step, and_then, scan, whole_text, spans_from, unindented}
+use Rattle.definition_inline.specs.Spans.{Token, Item, Delimiters, Span, IsEmphasis, IsStrong, IsStrikethrough, span_part, with_spans}
+use Rattle.definition_inline.specs.Scan.{InlineContext, leaf_here, LabelStart, LinkStart, ImageStart, label_start_at, start_bytes, start_tokens, may_form}
+use Rattle.definition_inline.specs.Scan.{formed_part, formed_at, Text, text, OpenLabel, Reading, reading, read_tokens, with_plain_start, with_link_or_call}
+use Rattle.definition_inline.specs.Scan.{Step, Next, data_step, ended_step, ended_by, label_end_step, last_step, label_step, run_step, leaf_step, step}
+use Rattle.definition_inline.specs.Scan.{and_then, scan, whole_text, spans_from, without_indent}
 use Rattle.laws_inline.specs.Occurs.{part_has, has}
 use Rattle.laws_inline.specs.References.{is_undefined, leads_nowhere, ReferencesAreDefined}
 use Rattle.laws_inline.proofs.Each.{WhereSome, Each, each-append, each_map}
@@ -23,19 +27,19 @@ use Rattle.laws_inline.proofs.NestedLinks.{Lacks, emphasized_lacks, IsPlain, Pla
 module _ (is_defined is_footnote : List ℕ → Bool) where
   -- ---- what a `]` forms
 
-  abbrev LeadsOn : Option Ended → Type 0
+  abbrev LeadsOn : Option LinkTail → Type 0
   LeadsOn None = Unit {0}
   LeadsOn (Some found) = is_undefined is_defined found.target ≡ false
 
   text_leads : (label rest : List ℕ) → LeadsOn (by_text is_defined label rest)
   text_leads label rest =
-      cond_both (is_label_text label && is_defined label) (Some (ended (Reference label) _)) None LeadsOn
+      cond_both (is_label_text label && is_defined label) (Some (link_tail (Reference label) _)) None LeadsOn
       (λ e. not_from_true (is_defined label) (and_parts (is_label_text label) (is_defined label) e).1) (λ _. tt)
 
   label_leads : (label rest : List ℕ) (found : Option Part) → LeadsOn (by_label is_defined label rest found)
   label_leads label rest None = text_leads label rest
   label_leads label rest (Some found) =
-      cond_both (is_defined found.text) (Some (ended (Reference found.text) (length rest - length found.rest))) None LeadsOn
+      cond_both (is_defined found.text) (Some (link_tail (Reference found.text) (length rest - length found.rest))) None LeadsOn
       (λ e. not_from_true (is_defined found.text) e) (λ _. tt)
 
   resource_leads : (label rest : List ℕ) (found : Option LinkResource) → LeadsOn (by_resource is_defined label rest found)
@@ -43,15 +47,15 @@ module _ (is_defined is_footnote : List ℕ → Bool) where
   resource_leads label rest (Some found) = refl
 
   -- what is formed leads on: a link or an image, or a call of a footnote
-  abbrev LeadsSomewhere : Formed → Type 0
+  abbrev LeadsSomewhere : LinkOrCall → Type 0
   LeadsSomewhere (Leads end) = is_undefined is_defined end.target ≡ false
   LeadsSomewhere (Calls label) = is_footnote label ≡ true
 
-  leading_leads : (found : Option Ended) → LeadsOn found → WhereSome LeadsSomewhere (option_map Leads found)
+  leading_leads : (found : Option LinkTail) → LeadsOn found → WhereSome LeadsSomewhere (option_map Leads found)
   leading_leads None h = tt
   leading_leads (Some end) h = h
 
-  called_leads : (on : Constructs) (between : List ℕ) → WhereSome (λ label. is_footnote label ≡ true) (called on is_footnote between)
+  called_leads : (on : Constructs) (between : List ℕ) → WhereSome (λ label. is_footnote label ≡ true) (called_label on is_footnote between)
   called_leads on [] = tt
   called_leads on (c ∷ label) =
       let others = on.gfm_label_start_footnote && (c == 94) && is_label_text label in
@@ -62,7 +66,7 @@ module _ (is_defined is_footnote : List ℕ → Bool) where
       → WhereSome LeadsSomewhere (call_or_link on is_defined between rest found)
   link_leads on between rest (Some label) h = h
   link_leads on between rest None h =
-      cond_both on.label_start_link (leading is_defined between rest) None (WhereSome LeadsSomewhere)
+      cond_both on.label_start_link (link_or_image is_defined between rest) None (WhereSome LeadsSomewhere)
       (λ _. leading_leads (label_end_at is_defined between rest) (resource_leads between rest (resource_at rest))) (λ _. tt)
 
   -- ---- texts
@@ -70,7 +74,7 @@ module _ (is_defined is_footnote : List ℕ → Bool) where
   no_data : (b : ℕ) → leads_nowhere is_defined is_footnote (Data b) ≡ false
   no_data b = refl
 
-  no_span : (span : Span) (kids : Inlines) → leads_nowhere is_defined is_footnote (spanned span kids) ≡ false
+  no_span : (span : Span) (kids : Inlines) → leads_nowhere is_defined is_footnote (span_part span kids) ≡ false
   no_span IsEmphasis kids = refl
   no_span IsStrong kids = refl
   no_span IsStrikethrough kids = refl
@@ -106,41 +110,41 @@ module _ (is_defined is_footnote : List ℕ → Bool) where
   start_leads : (start : LabelStart) → Each IsSound (start_tokens start)
   start_leads start = each_map IsSound (λ b. Item (Data b)) (start_bytes start) (λ b. refl)
 
-  sound_unformed : (label : OpenLabel) (inner : Text) → IsSoundLabel label → IsSoundText inner → IsSoundText (unformed label inner)
+  sound_unformed : (label : OpenLabel) (inner : Text) → IsSoundLabel label → IsSoundText inner → IsSoundText (with_plain_start label inner)
   sound_unformed label inner h p =
       each-append IsSound label.outer.tokens (start_tokens label.start ++ inner.tokens) h
       (each-append IsSound (start_tokens label.start) inner.tokens (start_leads label.start) p)
 
-  sound_part : (start : LabelStart) (found : Formed) (tokens : List Token) → LeadsSomewhere found
-      → has (leads_nowhere is_defined is_footnote) (emphasized tokens) ≡ false → part_has (leads_nowhere is_defined is_footnote)
+  sound_part : (start : LabelStart) (found : LinkOrCall) (tokens : List Token) → LeadsSomewhere found
+      → has (leads_nowhere is_defined is_footnote) (with_spans tokens) ≡ false → part_has (leads_nowhere is_defined is_footnote)
       (formed_part start found tokens) ≡ false
   sound_part LinkStart (Leads end) tokens e p =
-      or_from (is_undefined is_defined end.target) (has (leads_nowhere is_defined is_footnote) (emphasized tokens)) e p
+      or_from (is_undefined is_defined end.target) (has (leads_nowhere is_defined is_footnote) (with_spans tokens)) e p
   sound_part ImageStart (Leads end) tokens e p =
-      or_from (is_undefined is_defined end.target) (has (leads_nowhere is_defined is_footnote) (emphasized tokens)) e p
+      or_from (is_undefined is_defined end.target) (has (leads_nowhere is_defined is_footnote) (with_spans tokens)) e p
   sound_part LinkStart (Calls label) tokens e p = not_from_true (is_footnote label) e
   sound_part ImageStart (Calls label) tokens e p = not_from_true (is_footnote label) e
 
-  sound_formed : (label : OpenLabel) (found : Formed) (inner : Text) → IsSoundLabel label → LeadsSomewhere found → IsSoundText inner
-      → IsSoundText (formed label found inner)
+  sound_formed : (label : OpenLabel) (found : LinkOrCall) (inner : Text) → IsSoundLabel label → LeadsSomewhere found → IsSoundText inner
+      → IsSoundText (with_link_or_call label found inner)
   sound_formed label found inner h e p =
       each-append IsSound label.outer.tokens (Item (formed_part label.start found inner.tokens) ∷ []) h
       (sound_part label.start found inner.tokens e (emphasized_lacks (leads_nowhere is_defined is_footnote) no_data no_span inner.tokens p), tt)
 
   sound_close : (inner : Text) (open_labels : List OpenLabel) → IsSoundText inner → Each IsSoundLabel open_labels
-      → IsSoundText (fold (λ inner label. unformed label inner) inner open_labels)
+      → IsSoundText (fold (λ inner label. with_plain_start label inner) inner open_labels)
   sound_close inner [] p h = p
-  sound_close inner (label ∷ others) p h = sound_close (unformed label inner) others (sound_unformed label inner h.0 p) h.1
+  sound_close inner (label ∷ others) p h = sound_close (with_plain_start label inner) others (sound_unformed label inner h.0 p) h.1
 
   -- ---- places
 
   sound_read : (more : List Token) (r : Reading) → Each IsSound more → IsSoundReading r → IsSoundReading (read_tokens more r)
   sound_read more r h p = (each-append IsSound r.now.tokens more p.0 h, p.1)
 
-  sound_end : (label : OpenLabel) (others : List OpenLabel) (inner : Text) (found : Option Formed) → WhereSome LeadsSomewhere found → IsSoundLabel label
+  sound_end : (label : OpenLabel) (others : List OpenLabel) (inner : Text) (found : Option LinkOrCall) → WhereSome LeadsSomewhere found → IsSoundLabel label
       → Each IsSoundLabel others → IsSoundText inner → IsSoundStep (ended_step label others inner found)
   sound_end label others inner None e h hs p =
-      sound_read (Item (Data 93) ∷ []) (reading (unformed label inner) others) (refl, tt) (sound_unformed label inner h p, hs)
+      sound_read (Item (Data 93) ∷ []) (reading (with_plain_start label inner) others) (refl, tt) (sound_unformed label inner h p, hs)
   sound_end label others inner (Some found) e h hs p = (sound_formed label found inner h e p, hs)
 
 -- ---- the scan
@@ -156,7 +160,7 @@ module _ (context : InlineContext) where
       → WhereSome (LeadsSomewhere context.is_defined context.is_footnote) (formed_at context start between rest)
   formed_leads LinkStart between rest =
       let on = context.options.constructs in
-      link_leads context.is_defined context.is_footnote on between rest (called on context.is_footnote between)
+      link_leads context.is_defined context.is_footnote on between rest (called_label on context.is_footnote between)
       (called_leads context.is_defined context.is_footnote on between)
   formed_leads ImageStart between rest =
       leading_leads context.is_defined context.is_footnote (label_end_at context.is_defined between rest)
@@ -243,4 +247,4 @@ pub references_are_defined : ReferencesAreDefined
 references_are_defined context content =
     linked_lacks (leads_nowhere context.is_defined context.is_footnote) Any
     (labels_and_literals context.is_defined context.is_footnote) context.options.constructs
-    (spans_from context (unindented content)) (spans_lead context (unindented content))
+    (spans_from context (without_indent content)) (spans_lead context (without_indent content))

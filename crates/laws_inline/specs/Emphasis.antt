@@ -6,7 +6,7 @@ use Rattle.definition_text.specs.declared.beside.Kind.{Kind}
 use Rattle.definition_text.specs.InlineCode.{InlineCode}
 use Rattle.definition_inline.specs.Attention.{Run, run_size, run_at}
 use Rattle.definition_inline.specs.Pairing.{Pair, pairs}
-use Rattle.definition_inline.specs.Spans.{Token, Item, Delimiters, runs_of, SpanRow, Holds, run_rows, nested, emphasized}
+use Rattle.definition_inline.specs.Spans.{Token, Item, Delimiters, runs_of, SpanRow, Holds, run_rows, nest_spans, with_spans}
 use Rattle.definition_inline.specs.Scan.{InlineContext, text, reading, scan, whole_text}
 
 -- ---- a run
@@ -64,4 +64,4 @@ with_runs (row ∷ rows) (Delimiters run ∷ ts) = row ++ with_runs rows ts
 
 -- the spans of a container are those that its runs form, whatever stands between them (CommonMark 6.2)
 abbrev pub SpansOfRuns : Type 0
-SpansOfRuns = (tokens : List Token) → emphasized tokens ≡ nested (with_runs (rows_of_runs (runs_of tokens)) tokens)
+SpansOfRuns = (tokens : List Token) → with_spans tokens ≡ nest_spans (with_runs (rows_of_runs (runs_of tokens)) tokens)

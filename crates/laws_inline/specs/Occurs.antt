@@ -2,7 +2,8 @@
 use Rattle.std.specs.Prelude.{◌≡◌, Bool, true, false, ◌||◌, List}
 use Rattle.markdown_options.specs.declared.configuration.Constructs.{Constructs}
 use Rattle.definition_text.specs.InlineCode.{InlineCode}
-use Rattle.definition_inline.specs.Inline.{Inline, Escape, Character, Code, Math, Autolink, Literal, Html, EscapedBreak, TrailingBreak, Emphasis, Strong, Strikethrough, Link, Image, Call, Inlines, Nil, Cons}
+use Rattle.definition_inline.specs.Inline.{Inline, Escape, Character, Code, Math, Autolink, Literal, Html, EscapedBreak, TrailingBreak, Emphasis, Strong}
+use Rattle.definition_inline.specs.Inline.{Strikethrough, Link, Image, Call, Inlines, Nil, Cons}
 use Rattle.definition_inline.specs.Scan.{InlineContext, inlines}
 
 -- whether one of these parts passes a test, at any depth

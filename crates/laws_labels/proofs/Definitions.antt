@@ -10,9 +10,10 @@ use Rattle.std.proofs.lemmas.Slice.Eq.{bytes_eq-Decides}
 use Rattle.definition_inline.specs.Definition.{Definition as LinkDefinition}
 use Rattle.definition_inline.specs.Inline.{linked}
 use Rattle.definition_inline.specs.LabelMatch.{normal_label, first_match}
-use Rattle.definition_block.specs.Blocks.{Block, Paragraph, Heading, Break, IndentedCode, FencedCode, Html, Table, Definition, Holds, Items, Ending, Blank, Blocks, Nil, Cons}
+use Rattle.definition_block.specs.Blocks.{Block, Paragraph, Heading, Break, IndentedCode, FencedCode, Html, Table, Definition, Holds, Items, Ending, Blank}
+use Rattle.definition_block.specs.Blocks.{Blocks, Nil, Cons}
 use Rattle.definition_block.specs.Definitions.{block_definitions, definitions}
-use Rattle.definition_page.specs.Targets.{spaced, document_definitions, labels_of, no_definition, linked_at, linked_by}
+use Rattle.definition_page.specs.Targets.{with_spaces, document_definitions, labels_of, no_definition, linked_at, linked_by}
 use Rattle.laws_inline.proofs.Matching.{first_label_matches}
 use Rattle.laws_quote.proofs.Quotes.{quote_definitions_law}
 use Rattle.laws_list.proofs.Items.{list_definitions_law}
@@ -99,22 +100,22 @@ module _ (label : List ℕ) where
 
   -- the place of the first definition of these that matches, where the first of them has this place
   abbrev place_from : ℕ → List LinkDefinition → Option ℕ
-  place_from i ds = position_from is_same i (map normal_label (labels_of (map spaced ds)))
+  place_from i ds = position_from is_same i (map normal_label (labels_of (map with_spaces ds)))
 
   matches_in : (i : ℕ) (ds : List LinkDefinition) → is_some (place_from i ds) ≡ true → Some_of (Matches label) ds
   matches_in i [] h = absurd (both_ways false refl h)
   matches_in i (d ∷ ds) found =
-      let normal = normal_label (spaced d).label in
+      let normal = normal_label (with_spaces d).label in
       cond_both (is_same normal) (Some i) (place_from (i + 1) ds) (λ place. is_some place ≡ true → Some_of (Matches label) (d ∷ ds))
       (λ e h. inl ((bytes_eq-Decides (normal_label label) normal).0 e)) (λ e h. inr (matches_in (i + 1) ds h)) found
 
   is_found : (i : ℕ) (ds : List LinkDefinition) → Some_of (Matches label) ds → is_some (place_from i ds) ≡ true
   is_found i [] h = absurd h
   is_found i (d ∷ ds) (inl e) =
-      let normal = normal_label (spaced d).label in
+      let normal = normal_label (with_spaces d).label in
       ap is_some (cond-true (is_same normal) (Some i) (place_from (i + 1) ds) ((bytes_eq-Decides (normal_label label) normal).1 e))
   is_found i (d ∷ ds) (inr h) =
-      cond_both (is_same (normal_label (spaced d).label)) (Some i) (place_from (i + 1) ds) (λ place. is_some place ≡ true)
+      cond_both (is_same (normal_label (with_spaces d).label)) (Some i) (place_from (i + 1) ds) (λ place. is_some place ≡ true)
       (λ e. refl) (λ e. is_found (i + 1) ds h)
 
   place-of : (bs : Blocks) → first_match label (labels_of (document_definitions bs)) ≡ place_from 0 (definitions bs)
@@ -147,8 +148,8 @@ first_definition_law bs label earlier later d same others is =
 
 pub quoted_label_law : QuotedLabelLaw
 quoted_label_law on before text label quotes off no_tab =
-    ap (λ ds. linked_by (map spaced ds) label) (quote_definitions_law on before text quotes off no_tab)
+    ap (λ ds. linked_by (map with_spaces ds) label) (quote_definitions_law on before text quotes off no_tab)
 
 pub listed_label_law : ListedLabelLaw
 listed_label_law on before text label items off dark no_tab =
-    ap (λ ds. linked_by (map spaced ds) label) (list_definitions_law on before text items off dark no_tab)
+    ap (λ ds. linked_by (map with_spaces ds) label) (list_definitions_law on before text items off dark no_tab)

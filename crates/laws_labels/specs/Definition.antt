@@ -10,10 +10,10 @@ use Rattle.definition_inline.specs.Inline.{linked}
 use Rattle.definition_inline.specs.LabelMatch.{normal_label}
 use Rattle.definition_block.specs.Blocks.{Block, Definition, Holds, Items, Blocks, Nil, Cons}
 use Rattle.definition_block.specs.Tree.{blocks}
-use Rattle.definition_page.specs.Targets.{spaced, document_definitions, labels_of, linked_by, is_label_of}
-use Rattle.laws_quote.specs.Quoted.{quoted}
+use Rattle.definition_page.specs.Targets.{with_spaces, document_definitions, labels_of, linked_by, is_label_of}
+use Rattle.laws_quote.specs.Quoted.{quote_lines}
 use Rattle.laws_quote.specs.Laws.{HasNoTab}
-use Rattle.laws_list.specs.Listed.{listed}
+use Rattle.laws_list.specs.Listed.{list_lines}
 use Rattle.laws_list.specs.Laws.{begins_dark}
 
 abbrev mutual
@@ -30,7 +30,7 @@ abbrev mutual
 
 -- a label and that of a definition have the same folded text
 abbrev pub Matches : List ℕ → LinkDefinition → Type 0
-Matches label d = normal_label label ≡ normal_label (spaced d).label
+Matches label d = normal_label label ≡ normal_label (with_spaces d).label
 
 -- a label is one of a document's exactly if some definition of it, in whatever containers, has a label with the same folded text
 abbrev pub DefinedLabelLaw : Type 0
@@ -50,11 +50,11 @@ FirstDefinitionLaw =
 abbrev pub QuotedLabelLaw : Type 0
 QuotedLabelLaw =
     (on : Constructs) (before : Kind) (text label : List ℕ) → on.block_quote ≡ true → on.frontmatter ≡ false → HasNoTab text
-    → linked_by (document_definitions (blocks on before (quoted text))) label ≡ linked_by (document_definitions (blocks on Whitespace text)) label
+    → linked_by (document_definitions (blocks on before (quote_lines text))) label ≡ linked_by (document_definitions (blocks on Whitespace text)) label
 
 -- so it does with `+ ` before the first line, if that begins with something, and two spaces before every other
 abbrev pub ListedLabelLaw : Type 0
 ListedLabelLaw =
     (on : Constructs) (before : Kind) (text label : List ℕ) → on.list_item ≡ true → on.frontmatter ≡ false
     → begins_dark (first_line text).content ≡ true → HasNoTab text
-    → linked_by (document_definitions (blocks on before (listed text))) label ≡ linked_by (document_definitions (blocks on Whitespace text)) label
+    → linked_by (document_definitions (blocks on before (list_lines text))) label ≡ linked_by (document_definitions (blocks on Whitespace text)) label

@@ -1,5 +1,6 @@
 -- After a first line that isn't blank, a tree doesn't hold a blank line alone: so an item that holds it goes on over blank lines.
-use Rattle.std.proofs.Common.{◌≡◌, ℕ, zero, suc, List, [], ◌∷◌, ◌++◌, None, Some, Option, Bool, true, false, ◌&&◌, ◌||◌, ◌-◌, take, not, inl, inr, ◌⊎◌, ⊎_elim, refl, sym, ap, subst, length}
+use Rattle.std.proofs.Common.{◌≡◌, ℕ, zero, suc, List, [], ◌∷◌, ◌++◌, None, Some, Option, Bool, true, false, ◌&&◌, ◌||◌, ◌-◌, take, not, inl, inr, ◌⊎◌, ⊎_elim}
+use Rattle.std.proofs.Common.{refl, sym, ap, subst, length}
 use Rattle.std.proofs.lemmas.Bool.{cond_both, both_ways, true≢false}
 use Rattle.markdown_options.specs.declared.line_ending.LineEnding.{LineEnding}
 use Rattle.markdown_options.specs.declared.configuration.Constructs.{Constructs}
@@ -8,7 +9,8 @@ use Rattle.definition_text.specs.Columns.{Rest, is_blank}
 use Rattle.definition_text.specs.Content.{content_of}
 use Rattle.definition_inline.specs.Definition.{Definition as LinkDefinition, definition_at}
 use Rattle.definition_block.specs.Container.{Container, Quote, Item, Footnote}
-use Rattle.definition_block.specs.Started.{Started}
+use Rattle.definition_block.specs.ContainerLine.{ContainerLine}
+use Rattle.definition_block.specs.ContainerStart.{ContainerStart}
 use Rattle.definition_block.specs.Containers.{continues, starts}
 use Rattle.definition_block.specs.CodeIndented.{starts_code_indented}
 use Rattle.definition_block.specs.CodeFenced.{Fence, fence_start, is_fence_end}
@@ -20,7 +22,11 @@ use Rattle.definition_block.specs.ThematicBreak.{is_break}
 use Rattle.definition_block.specs.declared.align_kind.AlignKind.{AlignKind}
 use Rattle.definition_block.specs.GfmTable.{delimiter_row, is_head}
 use Rattle.definition_block.specs.Definitions.{Cut, cut_into, cut_after, cut_most, cut}
-use Rattle.definition_block.specs.Tree.{BlockLine, own_lines, Break, Blank, Blocks, Nil, Cons, join, one, ended, OpenLeaf, Text, Indented, Fenced, OpenHtml, OpenTable, Opening, Leaf, Inside, Tree, tree, nothing, paragraph_of, with_paragraph, holds, close, has_text, has_table, is_some_line, table_of, table_if, makes_table, leaf_with_line, with_line, rest_line, html_with, takes, or_heading, or_fence, or_html, begins, after, break_or_text, text_line_of, text_here, heading_of, underlined, turns, begun, taken, leaf_line, beside_in, start, new, is_nothing, is_one_blank, began_blank, goes_on, grow}
+use Rattle.definition_block.specs.Tree.{BlockLine, own_lines, Break, Blank, Blocks, Nil, Cons, join, one, block_and_ending, OpenLeaf, Text, Indented, Fenced}
+use Rattle.definition_block.specs.Tree.{OpenHtml, OpenTable, Opening, Leaf, Inside, Tree, tree, nothing, paragraph_of, with_paragraph, holds, close, has_text}
+use Rattle.definition_block.specs.Tree.{has_table, is_some_line, table_of, table_if, makes_table, leaf_with_line, with_line, rest_line, html_with, takes}
+use Rattle.definition_block.specs.Tree.{or_heading, or_fence, or_html, begins, after, break_or_text, text_line_of, text_here, heading_of, heading_if, turns}
+use Rattle.definition_block.specs.Tree.{begun, tree_or, leaf_line, beside_in, start, new, is_nothing, is_one_blank, began_blank, goes_on, grow}
 
 -- the first of these blocks is there, and is no blank line
 abbrev IsDark : Blocks → Type 0
@@ -97,7 +103,7 @@ heading_begun : (rank : ℕ) (definitions : Blocks) (ls : List BlockLine) (endin
 heading_begun rank definitions [] ending h = tt
 heading_begun rank definitions (line ∷ ls) ending h = inl (join_dark definitions _ h tt)
 
-taken_begun : (o : Option Tree) (other : Tree) → SomeBegun o → IsBegun other → IsBegun (taken o other)
+taken_begun : (o : Option Tree) (other : Tree) → SomeBegun o → IsBegun other → IsBegun (tree_or o other)
 taken_begun None other p q = q
 taken_begun (Some t) other p q = p
 
@@ -205,10 +211,11 @@ module _ (on : Constructs) where
 
   break_begun : (away : Opening) (rest : Rest) (beside : Beside) → IsBegun (break_or_text on away rest beside)
   break_begun away rest beside =
-      cond_both (is_break on rest) _ _ IsBegun (λ _. after_begun away (tree (ended Break beside.ending) nothing) (inl tt))
-      (λ _. taken_begun (makes_table on away rest beside) _ (table_begun (delimiter_row on rest) (text_here away) (rest_line rest beside)) (text_begun away rest beside))
+      cond_both (is_break on rest) _ _ IsBegun (λ _. after_begun away (tree (block_and_ending Break beside.ending) nothing) (inl tt))
+      (λ _. taken_begun (makes_table on away rest beside) _ (table_begun (delimiter_row on rest) (text_here away) (rest_line rest beside))
+      (text_begun away rest beside))
 
-  underlined_begun : (o : Option ℕ) (ls : List BlockLine) (ending : Option LineEnding) → SomeBegun (underlined on o ls ending)
+  underlined_begun : (o : Option ℕ) (ls : List BlockLine) (ending : Option LineEnding) → SomeBegun (heading_if on o ls ending)
   underlined_begun None ls ending = tt
   underlined_begun (Some rank) ls ending = heading_begun rank (cut on ls).definitions (cut on ls).left ending (cut_dark ls)
 
@@ -228,7 +235,8 @@ module _ (on : Constructs) where
       (λ _. begun_begun (begins on (has_text away) rest beside) away _ (begins_begun (has_text away) rest beside)
       (taken_begun (turns on away rest beside.ending) _ (underlined_begun (underline on rest) (text_here away) beside.ending) (break_begun away rest beside)))
 
-  start_begun : (o : Option Started) (away : Opening) (other : Tree) (more : Started → Tree) → IsBegun other → IsBegun (start on o away other more)
+  start_begun : (o : Option ContainerStart) (away : Opening) (other : Tree) (more : ContainerStart → Tree) → IsBegun other
+      → IsBegun (start on o away other more)
   start_begun None away other more q = q
   start_begun (Some s) away other more q = after_begun away (tree Nil (Inside s.container (more s).done (more s).now)) (inr (refl, tt))
 
@@ -237,16 +245,17 @@ module _ (on : Constructs) where
   new_begun (suc most) all away beside rest h =
       start_begun (starts on (all && has_text away) rest) away (leaf_line on away rest beside) _ (leaf_line_begun away rest beside h)
 
-  goes_on_begun : (o : Option Rest) (c : Container) (kids : Blocks) (inner : Opening) (beside : Beside) (rest : Rest) (more : Rest → Tree)
+  goes_on_begun : (o : Option ContainerLine) (c : Container) (kids : Blocks) (inner : Opening) (beside : Beside) (rest : Rest) (more : ContainerLine → Tree)
       → IsBegun (goes_on o on c kids inner beside rest more)
   goes_on_begun None c kids inner beside rest more = new_begun (length rest) false (Inside c kids inner) beside rest (inl tt)
-  goes_on_begun (Some others) c kids inner beside rest more = inr (refl, tt)
+  goes_on_begun (Some line) c kids inner beside rest more = inr (refl, tt)
 
   grow_begun : (beside : Beside) (now : Opening) (rest : Rest) → IsOpen now → IsBegun (grow on beside now rest)
   grow_begun beside (Leaf leaf) rest h =
       taken_begun (takes on leaf rest beside) _ (takes_begun leaf rest beside) (new_begun (length rest) true (Leaf leaf) beside rest (inl h))
   grow_begun beside (Inside c kids inner) rest h =
-      goes_on_begun (continues on c (began_blank kids inner) rest) c kids inner beside rest (grow on (beside_in c rest beside) inner)
+      goes_on_begun (continues on c (began_blank kids inner) rest) c kids inner beside rest
+      (λ line. grow on (beside_in line.before beside) inner line.rest)
 
   -- one more line
   pub more_begun : (beside : Beside) (t : Tree) (rest : Rest) → IsBegun t

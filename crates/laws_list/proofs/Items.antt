@@ -1,5 +1,6 @@
 -- A text with `+ ` before its first line and two spaces before every other is one item.
-use Rattle.std.proofs.Common.{◌≡◌, ℕ, suc, ◌+◌, List, [], ◌∷◌, None, Some, Option, Bool, true, false, true≢false, cond, ◌&&◌, ◌||◌, not, leb, refl, sym, ap, ◌∙◌, length, drop, arith, inr, map}
+use Rattle.std.proofs.Common.{◌≡◌, ℕ, suc, ◌+◌, List, [], ◌∷◌, None, Some, Option, Bool, true, false, true≢false, cond, ◌&&◌, ◌||◌, not, leb, refl, sym, ap}
+use Rattle.std.proofs.Common.{◌∙◌, length, drop, arith, inr, map}
 use Rattle.std.specs.List.{list_all, prefix_len}
 use Rattle.std.proofs.lemmas.Bool.{and_right, le-leb}
 use Rattle.markdown_options.specs.declared.configuration.Constructs.{Constructs}
@@ -9,20 +10,22 @@ use Rattle.definition_text.specs.Columns.{Rest, is_white, is_blank, indent, bare
 use Rattle.definition_text.specs.Indents.{small_indent}
 use Rattle.definition_text.specs.Lines.{TextLine, text_line, lines, first_of}
 use Rattle.definition_block.specs.Container.{Container, Item}
-use Rattle.definition_block.specs.Started.{Started, started}
+use Rattle.definition_block.specs.ContainerLine.{container_line}
+use Rattle.definition_block.specs.ContainerStart.{ContainerStart, container_start}
 use Rattle.definition_block.specs.BlockQuote.{quote_prefix}
 use Rattle.definition_block.specs.ListItem.{item_after, item_start, item_continues, marker}
 use Rattle.definition_block.specs.ThematicBreak.{is_break, is_break_text}
 use Rattle.definition_block.specs.GfmFootnoteDefinition.{footnote_start}
 use Rattle.definition_block.specs.Containers.{quote_or, footnote_or, starts}
-use Rattle.definition_block.specs.Tree.{Block, Blocks, Nil, Cons, join, Inside, Tree, tree, nothing, empty_tree, all_endings, front, trailing, holds, beside_in, beside_line, leaf_line, start, new, began_blank, goes_on, grow, step, steps, closed, children, blocks}
+use Rattle.definition_block.specs.Tree.{Block, Blocks, Nil, Cons, join, Inside, Tree, tree, nothing, empty_tree, all_endings, front, trailing, holds, beside_in}
+use Rattle.definition_block.specs.Tree.{beside_line, leaf_line, start, new, began_blank, goes_on, grow, step, steps, blocks_at_end, children, blocks}
 use Rattle.definition_block.specs.Definitions.{definitions}
 use Rattle.laws_quote.proofs.Tabs.{Tabless, Tabless-from_All, codes_from-Tabless, LinesTabless, lines_tabless}
 use Rattle.laws_quote.proofs.Starting.{new-suc}
 use Rattle.laws_quote.proofs.Grown.{after-nothing}
 use Rattle.laws_quote.proofs.Quotes.{blocks-children}
 use Rattle.laws_quote.proofs.Endings.{definitions-join}
-use Rattle.laws_list.specs.Listed.{listed}
+use Rattle.laws_list.specs.Listed.{list_lines}
 use Rattle.laws_list.specs.Laws.{indented_line, listed_lines, begins_dark, plus_item, ListLaw, ListDefinitionsLaw}
 use Rattle.laws_list.proofs.Lines.{listed_lines_law}
 use Rattle.laws_list.proofs.Begun.{IsBegun, begun_blank, new_begun, more_begun}
@@ -37,14 +40,14 @@ abbrev plus_of : ℕ → Container
 plus_of size = Item (record { marker = 43; number = None; size = size })
 
 -- the item of `+ ` before codes of which the first is white or not
-abbrev found_by : Bool → ℕ → Rest → Option Started
+abbrev found_by : Bool → ℕ → Rest → Option ContainerStart
 found_by white c cs =
     let blank : Bool = white && list_all is_white cs in
     let columns = 1 + cond white (1 + prefix_len is_white cs) 0 in
     let gap = cond (blank || leb 5 columns) 1 columns in
-    cond (cond blank true (leb 1 columns && true)) (Some (started (plus_of (0 + 1 + gap)) (drop gap (32 ∷ c ∷ cs)))) None
+    cond (cond blank true (leb 1 columns && true)) (Some (container_start (plus_of (0 + 1 + gap)) (drop gap (32 ∷ c ∷ cs)) Whitespace)) None
 
-item_found : (c : ℕ) (cs : Rest) → is_white c ≡ false → item_after 0 false (marker (43 ∷ 32 ∷ c ∷ cs)) ≡ Some (started plus_item (c ∷ cs))
+item_found : (c : ℕ) (cs : Rest) → is_white c ≡ false → item_after 0 false (marker (43 ∷ 32 ∷ c ∷ cs)) ≡ Some (container_start plus_item (c ∷ cs) Whitespace)
 item_found c cs h = ap (λ white. found_by white c cs) h
 
 no_break : (on : Constructs) (codes : Rest) → is_break on (43 ∷ 32 ∷ codes) ≡ false
@@ -61,7 +64,7 @@ no_footnote : (on : Constructs) (codes : Rest) → footnote_start on (43 ∷ cod
 no_footnote on codes = either_way (on.gfm_footnote_definition && small_indent on (43 ∷ codes)) None
 
 module _ (on : Constructs) (items : on.list_item ≡ true) where
-  starts_item : (c : ℕ) (cs : Rest) → is_white c ≡ false → starts on false (43 ∷ 32 ∷ c ∷ cs) ≡ Some (started plus_item (c ∷ cs))
+  starts_item : (c : ℕ) (cs : Rest) → is_white c ≡ false → starts on false (43 ∷ 32 ∷ c ∷ cs) ≡ Some (container_start plus_item (c ∷ cs) Whitespace)
   starts_item c cs h =
       let rest = 43 ∷ 32 ∷ c ∷ cs in
       let found = item_after 0 false (marker rest) in
@@ -76,7 +79,7 @@ module _ (on : Constructs) (items : on.list_item ≡ true) where
   new-listed before most c cs line h =
       let rest = 43 ∷ 32 ∷ c ∷ cs in
       let beside = beside_line before line in
-      ap (λ o. start on o nothing (leaf_line on nothing rest beside) (λ s. new most on true nothing (beside_in s.container rest beside) s.rest))
+      ap (λ o. start on o nothing (leaf_line on nothing rest beside) (λ s. new most on true nothing (beside_in s.before beside) s.rest))
       (starts_item c cs h)
       ∙ after-nothing on (in_item (new most on true nothing (beside_line Whitespace line) (c ∷ cs)))
 
@@ -106,15 +109,20 @@ module _ (on : Constructs) (items : on.list_item ≡ true) where
   inside_by bb true columns h = ap not h
   inside_by bb false columns h = le-leb 2 (1 + (1 + columns)) (omega arith)
 
-  continues-indented : (bb : Bool) (codes : Rest) → bb ≡ false → item_continues 2 bb (32 ∷ 32 ∷ codes) ≡ Some codes
-  continues-indented bb codes h = ap (λ is. cond is (Some codes) None) (inside_by bb (is_blank codes) (indent codes) h)
+  continues-indented : (bb : Bool) (codes : Rest) → bb ≡ false → item_continues 2 bb (32 ∷ 32 ∷ codes) ≡ Some (container_line codes Whitespace)
+  continues-indented bb codes h = ap (λ is. cond is (Some (container_line codes Whitespace)) None) (inside_by bb (is_blank codes) (indent codes) h)
 
   step-in_item : (before : Kind) (t : Tree) (line : TextLine) → IsBegun t → Tabless line.content
       → step on before (in_item t) (indented_line line) ≡ in_item (step on Whitespace t line)
   step-in_item before t line b no_tab =
       let codes = codes_from 2 line.content in
       let beside = beside_line Whitespace line in
-      ap (λ o. let more = goes_on o on plus_item t.done t.now (beside_line before line) (32 ∷ 32 ∷ codes) (grow on beside t.now) in tree more.done more.now)
+      ap (λ o.
+      let more =
+      goes_on o on plus_item t.done t.now (beside_line before line) (32 ∷ 32 ∷ codes)
+      (λ l. grow on (beside_in l.before (beside_line before line)) t.now l.rest)
+      in
+      tree more.done more.now)
       (continues-indented (began_blank t.done t.now) codes (begun_blank t b))
       ∙ ap (λ rest. let more = grow on beside t.now rest in in_item (tree (join t.done more.done) more.now))
       (codes_from-Tabless 2 line.content no_tab ∙ sym (codes_from-Tabless 0 line.content no_tab))
@@ -150,11 +158,11 @@ module _ (on : Constructs) (items : on.list_item ≡ true) where
       ∙ steps-in_item ls (step on Whitespace empty_tree line) (first_begun line no_tabs.0 h) no_tabs.1
 
   text_item : (off : on.frontmatter ≡ false) (before : Kind) (text : List ℕ) → begins_dark (first_of (lines text)).content ≡ true → Tabless text
-      → blocks on before (listed text) ≡ holds plus_item (blocks on Whitespace text)
+      → blocks on before (list_lines text) ≡ holds plus_item (blocks on Whitespace text)
   text_item off before text h no_tab =
-      blocks-children on before (listed text) off
+      blocks-children on before (list_lines text) off
       ∙ ap (children on before) (listed_lines_law text)
-      ∙ ap (closed on) (lines_item before (lines text) h (lines_tabless text no_tab))
+      ∙ ap (blocks_at_end on) (lines_item before (lines text) h (lines_tabless text no_tab))
       ∙ sym (ap (holds plus_item) (blocks-children on Whitespace text off))
 
 -- ---- definitions

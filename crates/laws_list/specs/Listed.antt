@@ -3,5 +3,5 @@ use Rattle.std.specs.Prelude.{ℕ, List}
 use Rattle.laws_quote.specs.Quoted.{pair_before, pair_after_endings}
 
 -- `+ ` before the first line, two spaces before every other
-abbrev pub listed : List ℕ → List ℕ
-listed text = pair_before 43 32 (pair_after_endings 32 32 text)
+abbrev pub list_lines : List ℕ → List ℕ
+list_lines text = pair_before 43 32 (pair_after_endings 32 32 text)

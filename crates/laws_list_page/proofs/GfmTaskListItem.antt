@@ -2,7 +2,7 @@
 use Rattle.std.proofs.Common.{◌≡◌, Bool, false, ◌&&◌, List, refl, ap, ◌∙◌}
 use Rattle.definition_text.specs.BlockLines.{BlockLine}
 use Rattle.definition_text.specs.InlineCode.{codes_of}
-use Rattle.definition_inline.specs.Scan.{unindented}
+use Rattle.definition_inline.specs.Scan.{without_indent}
 use Rattle.definition_block.specs.Container.{Quote, Item, Footnote}
 use Rattle.definition_block.specs.Blocks as tree
 use Rattle.definition_block.specs.Tree.{is_ending}
@@ -17,7 +17,7 @@ standing_by first = record { top = false; first = first }
 module _ (r : Reading) (off : r.options.constructs.gfm_task_list_item ≡ false) where
   same_paragraph : (first : Bool) (ls : List BlockLine) → read_paragraph r first ls ≡ read_paragraph r false ls
   same_paragraph first ls =
-      let content = unindented (text_content r ls) in ap (checked_paragraph r content) (no_check r off first (codes_of content))
+      let content = without_indent (text_content r ls) in ap (checked_paragraph r content) (no_check r off first (codes_of content))
 
   same_block : (first : Bool) (b : tree.Block) (others : page.Blocks) → read_block r (standing_by first) b others ≡ read_block r in_container b others
   same_block first (tree.Paragraph ls) others = ap (λ b. page.Cons b others) (same_paragraph first ls)

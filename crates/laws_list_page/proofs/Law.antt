@@ -8,13 +8,13 @@ use Rattle.markdown_options.specs.declared.configuration.Options.{Options}
 use Rattle.definition_text.specs.declared.beside.Kind.TheVariants.{Whitespace}
 use Rattle.definition_text.specs.Lines.{TextLine, lines, first_of, has_mark}
 use Rattle.definition_block.specs.Tree as tree
-use Rattle.definition_block.specs.Lists.{grouped, has_gap, is_loose}
+use Rattle.definition_block.specs.Lists.{group_items, has_gap, is_loose}
 use Rattle.definition_inline.specs.Definition.{Definition}
 use Rattle.definition_page.specs.TextTables.{TextTables}
-use Rattle.definition_page.specs.Targets.{document_definitions, spaced}
+use Rattle.definition_page.specs.Targets.{document_definitions, with_spaces}
 use Rattle.definition_page.specs.Page as page
 use Rattle.definition_page.specs.Pieces.{Piece, Close, Eol}
-use Rattle.definition_page.specs.BlockPieces.{inside, last_shown, ends_plainly, fresh_unless, children_pieces}
+use Rattle.definition_page.specs.BlockPieces.{inside, last_visible, ends_plainly, fresh_unless, children_pieces}
 use Rattle.definition_page.specs.Read.{in_container, in_item, read_blocks}
 use Rattle.laws_list_page.proofs.GfmTaskListItem.{read_in_item}
 use Rattle.laws_quote_page.specs.Squeeze.{Squeezed, squeezed, with_byte, with_bytes, nothing_yet, squeeze}
@@ -23,7 +23,7 @@ use Rattle.laws_quote_page.proofs.Printed.{with_piece, with_pieces, pieces_after
 use Rattle.laws_quote_page.proofs.Lists.{grouped-join}
 use Rattle.laws_quote_page.proofs.Siblings.{print_siblings, keep_join}
 use Rattle.laws_quote_page.proofs.Law.{join-nil, reading, meaning, page_bytes, squeezed_kids, squeeze_page, added_ending, html_unmarked}
-use Rattle.laws_list.specs.Listed.{listed}
+use Rattle.laws_list.specs.Listed.{list_lines}
 use Rattle.laws_list.specs.Laws.{listed_lines, plus_item, item_of}
 use Rattle.laws_list.proofs.Lines.{listed_lines_law}
 use Rattle.laws_list.proofs.Items.{join-front, list_law, list_definitions_law}
@@ -60,7 +60,7 @@ module _ (tables : TextTables) (options : Options) (default : LineEnding) (ds : 
       let r = reading tables options default ds in
       let m = meaning tables options default ds in
       ap (λ all. (print_siblings default m (inside false) None (read_blocks r in_container all) nothing_yet).kept) (grouped-join bs last ends)
-      ∙ keep_join default m r (grouped bs) last ends None nothing_yet
+      ∙ keep_join default m r (group_items bs) last ends None nothing_yet
 
   endings : (bs ends : tree.Blocks) → tree.all_endings ends ≡ true → (kids_of (tree.join bs ends)).kept ≡ (kids_of bs).kept
   endings bs tree.Nil h = ap (λ all. (kids_of all).kept) (join-nil bs)
@@ -97,7 +97,7 @@ module _ (tables : TextTables) (options : Options) (default : LineEnding) (ds : 
       let f = with_piece default in
       let s = after_text list_start nothing_yet in
       let inner = children_pieces (meaning tables options default ds) (inside false) None kids in
-      let plainly = ends_plainly false (last_shown None kids) in
+      let plainly = ends_plainly false (last_visible None kids) in
       let inside_item = inner ++ fresh_unless plainly in
       let item = inside_item ++ Close (codes "li") ∷ [] in
       let in_list = (item ++ []) ++ Eol ∷ [] in
@@ -112,10 +112,10 @@ module _ (tables : TextTables) (options : Options) (default : LineEnding) (ds : 
       ∙ ap (λ u. (with_pieces default u (Eol ∷ Close (codes "ul") ∷ [])).kept) (fold-append f s item [] ∙ fold-append f s inside_item (Close (codes "li") ∷ []))
       ∙ ends_list (with_pieces default s inside_item) t kept
 
-  squeeze_item : options.parse.constructs.gfm_task_list_item ≡ false → (kids : tree.Blocks) → has_gap (grouped kids) ≡ true
+  squeeze_item : options.parse.constructs.gfm_task_list_item ≡ false → (kids : tree.Blocks) → has_gap (group_items kids) ≡ true
       → (kids_of (item_of kids)).kept ≡ kept_around (kids_of kids).kept
   squeeze_item off kids h =
-      let all = grouped kids in
+      let all = group_items kids in
       let r = reading tables options default ds in
       let loose : is_loose (tree.one (tree.Holds plus_item all)) ≡ true = ap (λ gap. gap || false) h in
       ap (λ is. (with_pieces default nothing_yet (pieces_here is (page.Cons (page.Item (read_blocks r in_item all)) page.Nil))).kept) loose
@@ -123,7 +123,7 @@ module _ (tables : TextTables) (options : Options) (default : LineEnding) (ds : 
       ∙ item_kept (read_here all)
 
   -- children in a list, with the endings at their end after it, and alone
-  squeeze_both : options.parse.constructs.gfm_task_list_item ≡ false → (kids : tree.Blocks) → has_gap (grouped kids) ≡ true
+  squeeze_both : options.parse.constructs.gfm_task_list_item ≡ false → (kids : tree.Blocks) → has_gap (group_items kids) ≡ true
       → squeeze (page_bytes tables options default ds (tree.join (item_of (tree.front kids)) (tree.trailing kids)))
       ≡ squeeze (list_around (page_bytes tables options default ds kids))
   squeeze_both off kids h =
@@ -131,7 +131,7 @@ module _ (tables : TextTables) (options : Options) (default : LineEnding) (ds : 
       let ends = tree.trailing kids in
       let only = trailing_ends kids in
       let same = join-front kids in
-      let gap = (sym (gap_endings inner ends only) ∙ ap (λ all. has_gap (grouped all)) same) in
+      let gap = (sym (gap_endings inner ends only) ∙ ap (λ all. has_gap (group_items all)) same) in
       squeeze_page tables options default ds (tree.join (item_of inner) ends)
       ∙ endings (item_of inner) ends only
       ∙ squeeze_item off inner (gap ∙ h)
@@ -146,12 +146,12 @@ first_ending : (ls : List TextLine) → (first_of (listed_lines ls)).ending ≡ 
 first_ending [] = refl
 first_ending (line ∷ ls) = refl
 
-added_ending-listed : (options : Options) (text : List ℕ) → added_ending options (listed text) ≡ added_ending options text
+added_ending-listed : (options : Options) (text : List ℕ) → added_ending options (list_lines text) ≡ added_ending options text
 added_ending-listed options text =
     ap (λ ls. unwrap_or (first_of ls).ending options.compile.default_line_ending) (listed_lines_law text)
     ∙ ap (λ ending. unwrap_or ending options.compile.default_line_ending) (first_ending (lines text))
 
-listed_unmarked : (text : List ℕ) → has_mark (listed text) ≡ false
+listed_unmarked : (text : List ℕ) → has_mark (list_lines text) ≡ false
 listed_unmarked [] = refl
 listed_unmarked (b ∷ bs) = refl
 
@@ -159,13 +159,13 @@ pub list_page_law : ListPageLaw
 list_page_law tables text options h =
     let on = options.parse.constructs in
     let kids = tree.blocks on Whitespace text in
-    let list = tree.blocks on Whitespace (listed text) in
+    let list = tree.blocks on Whitespace (list_lines text) in
     let default = added_ending options text in
     let print = page_bytes tables options in
     ap squeeze
-    (html_unmarked tables (listed text) options (listed_unmarked text) h.5
+    (html_unmarked tables (list_lines text) options (listed_unmarked text) h.5
     ∙ ap (λ ending. print ending (document_definitions list) list) (added_ending-listed options text)
-    ∙ ap (λ ds. print default (map spaced ds) list) (list_definitions_law on Whitespace text h.3 h.4 h.0 h.1)
+    ∙ ap (λ ds. print default (map with_spaces ds) list) (list_definitions_law on Whitespace text h.3 h.4 h.0 h.1)
     ∙ ap (print default (document_definitions kids)) (list_law on Whitespace text h.3 h.4 h.0 h.1))
     ∙ squeeze_both tables options default (document_definitions kids) h.7 kids h.8
     ∙ sym (ap (λ bytes. squeeze (list_around bytes)) (html_unmarked tables text options h.2 h.5))

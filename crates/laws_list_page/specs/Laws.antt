@@ -5,17 +5,17 @@ use Rattle.markdown_options.specs.declared.configuration.Options.{Options}
 use Rattle.definition_text.specs.declared.beside.Kind.TheVariants.{Whitespace}
 use Rattle.definition_text.specs.Lines.{first_line, has_mark}
 use Rattle.definition_block.specs.Tree.{blocks}
-use Rattle.definition_block.specs.Lists.{grouped, has_gap}
+use Rattle.definition_block.specs.Lists.{group_items, has_gap}
 use Rattle.definition_page.specs.TextTables.{TextTables}
 use Rattle.definition_page.specs.Html.{html}
 use Rattle.laws_quote.specs.Laws.{HasNoTab}
 use Rattle.laws_quote_page.specs.Squeeze.{squeeze}
-use Rattle.laws_list.specs.Listed.{listed}
+use Rattle.laws_list.specs.Listed.{list_lines}
 use Rattle.laws_list.specs.Laws.{begins_dark}
 
 -- some two neighbouring blocks at the top of a text have a line between them
 abbrev pub HasGap : List ℕ → Constructs → Type 0
-HasGap text on = has_gap (grouped (blocks on Whitespace text)) ≡ true
+HasGap text on = has_gap (group_items (blocks on Whitespace text)) ≡ true
 
 -- a text that is read in an item of a loose list as it is alone: its first line begins with something other than a space, it has no tab and no byte
 -- order mark, and some two of its blocks have a line between them; items are on, frontmatter, footnotes and task list items off
@@ -33,4 +33,4 @@ list_around page = codes "<ul><li>" ++ page ++ codes "</li></ul>"
 abbrev pub ListPageLaw : Type 0
 ListPageLaw =
     (tables : TextTables) (text : List ℕ) (options : Options) → IsListable text options.parse.constructs
-    → squeeze (html tables (listed text) options) ≡ squeeze (list_around (html tables text options))
+    → squeeze (html tables (list_lines text) options) ≡ squeeze (list_around (html tables text options))

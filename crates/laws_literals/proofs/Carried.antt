@@ -2,8 +2,10 @@
 use Rattle.std.proofs.Common.{◌≡◌, ℕ, zero, suc, ◌-◌, List, [], ◌∷◌, ◌++◌, true, eqb, Option, None, Some, subst, map, length, take, drop}
 use Rattle.std.proofs.lemmas.Bool.{cond_both, eqb-true}
 use Rattle.markdown_options.specs.declared.configuration.Constructs.{Constructs}
-use Rattle.definition_inline.specs.Inline.{LiteralKind, Target, Inline, Data, Escape, Character, Code, Math, Autolink, Literal, Html, EscapedBreak, TrailingBreak, LineEnd, Call, Emphasis, Strong, Strikethrough, Link, Image, Inlines, Nil, Cons}
-use Rattle.definition_inline.specs.GfmAutolinkLiteral.{Address, address_at, address_or_text, parts_from, with_addresses, followed, without_literals, with_literals, linked_literals, without_last}
+use Rattle.definition_inline.specs.Inline.{LiteralKind, Target, Inline, Data, Escape, Character, Code, Math, Autolink, Literal, Html, EscapedBreak}
+use Rattle.definition_inline.specs.Inline.{TrailingBreak, LineEnd, Call, Emphasis, Strong, Strikethrough, Link, Image, Inlines, Nil, Cons}
+use Rattle.definition_inline.specs.GfmAutolinkLiteral.{Address, address_at, address_or_text, parts_from, with_addresses, parts_before, without_literals}
+use Rattle.definition_inline.specs.GfmAutolinkLiteral.{with_literals, linked_literals, without_last}
 use Rattle.laws_each.proofs.Each.{Each, each-append, each-take, each-drop}
 
 module _ (Good : Inline → Type 0) (AllGood : Inlines → Type 0) (Keeps : Inlines → Inlines → Type 0) where
@@ -36,9 +38,9 @@ module _ (Good : Inline → Type 0) (AllGood : Inlines → Type 0) (Keeps : Inli
     data_good [] h = tt
     data_good (b ∷ bs) h = (h.0, data_good bs h.1)
 
-    followed_good : (is : List Inline) (others : Inlines) → Each Good is → AllGood others → AllGood (followed is others)
+    followed_good : (is : List Inline) (others : Inlines) → Each Good is → AllGood others → AllGood (parts_before is others)
     followed_good [] others h p = p
-    followed_good (i ∷ is) others h p = c.more i (followed is others) h.0 (followed_good is others h.1 p)
+    followed_good (i ∷ is) others h p = c.more i (parts_before is others) h.0 (followed_good is others h.1 p)
 
     -- ---- the parts of a run of text
 
@@ -61,7 +63,8 @@ module _ (Good : Inline → Type 0) (AllGood : Inlines → Type 0) (Keeps : Inli
     parts_good zero before [] p q = data_good before p
     parts_good (suc k) before [] p q = data_good before p
     parts_good zero before (b ∷ cs) p q =
-        cond_both (eqb b 64) (address_or_text before cs (address_at before cs) (λ more next. parts_from more next cs)) (parts_from 0 (before ++ b ∷ []) cs) (Each Good)
+        cond_both (eqb b 64) (address_or_text before cs (address_at before cs) (λ more next. parts_from more next cs)) (parts_from 0 (before ++ b ∷ []) cs)
+        (Each Good)
         (λ is. address_good before cs (address_at before cs) (λ more next. parts_from more next cs) p (subst (λ x. Good (Data x)) (eqb-true b 64 is) q.0) q.1
         (λ more next r. parts_good more next cs r q.1))
         (λ _. parts_good 0 (before ++ b ∷ []) cs (each-append (λ x. Good (Data x)) before (b ∷ []) p (q.0, tt)) q.1)
@@ -90,7 +93,8 @@ module _ (Good : Inline → Type 0) (AllGood : Inlines → Type 0) (Keeps : Inli
     without_good (Cons (Math text) is) h = one_more (Math text) is _ h (without_good is (c.rest _ is h))
     without_good (Cons (Autolink is_email text) is) h = one_more (Autolink is_email text) is _ h (without_good is (c.rest _ is h))
     without_good (Cons (Literal kind text) is) h =
-        followed_good (map Data text) (without_literals is) (data_good text (c.bytes kind text (c.first (Literal kind text) is h))) (without_good is (c.rest _ is h))
+        followed_good (map Data text) (without_literals is) (data_good text (c.bytes kind text (c.first (Literal kind text) is h)))
+        (without_good is (c.rest _ is h))
     without_good (Cons (Html html) is) h = one_more (Html html) is _ h (without_good is (c.rest _ is h))
     without_good (Cons EscapedBreak is) h = one_more EscapedBreak is _ h (without_good is (c.rest _ is h))
     without_good (Cons TrailingBreak is) h = one_more TrailingBreak is _ h (without_good is (c.rest _ is h))
@@ -98,11 +102,13 @@ module _ (Good : Inline → Type 0) (AllGood : Inlines → Type 0) (Keeps : Inli
     without_good (Cons (Call label) is) h = one_more (Call label) is _ h (without_good is (c.rest _ is h))
     without_good (Cons (Emphasis kids) is) h = held Emphasis c.emphasis kids _ is _ h (c.keeps_without kids) (without_good kids) (without_good is)
     without_good (Cons (Strong kids) is) h = held Strong c.strong kids _ is _ h (c.keeps_without kids) (without_good kids) (without_good is)
-    without_good (Cons (Strikethrough kids) is) h = held Strikethrough c.strikethrough kids _ is _ h (c.keeps_without kids) (without_good kids) (without_good is)
+    without_good (Cons (Strikethrough kids) is) h =
+        held Strikethrough c.strikethrough kids _ is _ h (c.keeps_without kids) (without_good kids) (without_good is)
     without_good (Cons (Link target kids) is) h = held (Link target) (c.link target) kids _ is _ h (c.keeps_without kids) (without_good kids) (without_good is)
-    without_good (Cons (Image target kids) is) h = held (Image target) (c.image target) kids _ is _ h (c.keeps_without kids) (without_good kids) (without_good is)
+    without_good (Cons (Image target kids) is) h =
+        held (Image target) (c.image target) kids _ is _ h (c.keeps_without kids) (without_good kids) (without_good is)
 
-    after_run : (run : List ℕ) (is : Inlines) → AreBytes run → AllGood is → AllGood (followed (with_addresses run) is)
+    after_run : (run : List ℕ) (is : Inlines) → AreBytes run → AllGood is → AllGood (parts_before (with_addresses run) is)
     after_run run is h p = followed_good (with_addresses run) is (addresses_good run h) p
 
     with_good : (run : List ℕ) (is : Inlines) → AreBytes run → AllGood is → AllGood (with_literals run is)

@@ -10,12 +10,16 @@ use Rattle.definition_text.specs.Lines.{ending_text}
 use Rattle.definition_inline.specs.Inline.{Linked, Inline, Autolink, Literal, Html, Emphasis, Strong, Strikethrough, Link, Image, Inlines, Nil, Cons}
 use Rattle.definition_page.specs.Tags.{Said, Words, EndOfLine, Attribute, attribute, Tag, tag, bare_tag}
 use Rattle.definition_page.specs.Pieces.{Piece, Void, Says, Eol, Fresh, NoteStart, NoteEnd}
-use Rattle.definition_page.specs.InlinePieces.{Meaning, link_url, image_url, url_of, title_attribute, address, literal_address, raw_html, HtmlLine, html_lines, html_line_says, later_line_says, html_lines_say, leads_to, link_tag, image_tag, part_says, description, part_counts, inline_counts, element, part_pieces, inline_pieces}
+use Rattle.definition_page.specs.InlinePieces.{Meaning, link_url, image_url, url_of, title_attribute, address, literal_address, raw_html, HtmlLine, html_lines}
+use Rattle.definition_page.specs.InlinePieces.{html_line_says, later_line_says, html_lines_say, leads_to, link_tag, image_tag, part_says, description}
+use Rattle.definition_page.specs.InlinePieces.{part_counts, inline_counts, element, part_pieces, inline_pieces}
 use Rattle.definition_block.specs.declared.align_kind.AlignKind.{AlignKind}
-use Rattle.definition_page.specs.GfmTable.{Table, TableRow, align_attributes, cell_pieces, cells_pieces, row_pieces, ending_piece, body_row_pieces, head_pieces, body_pieces, table_pieces}
+use Rattle.definition_page.specs.GfmTable.{Table, TableRow, align_attributes, cell_pieces, cells_pieces, row_pieces, ending_piece, body_row_pieces, head_pieces}
+use Rattle.definition_page.specs.GfmTable.{body_pieces, table_pieces}
 use Rattle.definition_page.specs.Page as page
 use Rattle.definition_page.specs.Page.{Page}
-use Rattle.definition_page.specs.BlockPieces.{checkable_attributes, done_attributes, check_pieces, Place, at_top, inside, html_line, says, heading_name, list_tag, last_shown, ends_plainly, fresh_unless, block_pieces, children_pieces, document_pieces}
+use Rattle.definition_page.specs.BlockPieces.{checkable_attributes, done_attributes, check_pieces, Place, at_top, inside, html_line, says, heading_name}
+use Rattle.definition_page.specs.BlockPieces.{list_tag, last_visible, ends_plainly, fresh_unless, block_pieces, children_pieces, document_pieces}
 
 -- options that print raw HTML and URLs alike
 pub record Alike (one another : CompileOptions) : Type 0 where
@@ -140,7 +144,8 @@ module _ (m : Meaning) (compile : CompileOptions) (alike : Alike compile m.compi
       ap (λ ps. (ps ++ ending_piece row.ending ∷ []) ++ flat_map (body_row_pieces other aligns) rows) (same_row (codes "td") aligns row)
       ∙ ap (λ ps. body_row_pieces m aligns row ++ ps) (same_rows aligns rows)
 
-  same_body : (aligns : List AlignKind) (ending : Option LineEnding) (rows : List TableRow) → body_pieces other aligns ending rows ≡ body_pieces m aligns ending rows
+  same_body : (aligns : List AlignKind) (ending : Option LineEnding) (rows : List TableRow)
+      → body_pieces other aligns ending rows ≡ body_pieces m aligns ending rows
   same_body aligns ending [] = refl
   same_body aligns ending (row ∷ rows) =
       ap (λ ps. ending_piece ending ∷ element (bare_tag (codes "tbody")) (ps ++ Fresh ∷ [])) (same_rows aligns (row ∷ rows))
@@ -178,7 +183,7 @@ module _ (m : Meaning) (compile : CompileOptions) (alike : Alike compile m.compi
     same_block place before (page.ItemList number loose items) =
         ap (λ ps. Fresh ∷ element (list_tag number) (ps ++ Eol ∷ [])) (same_children (inside (not loose)) None items)
     same_block place before (page.Item kids) =
-        ap (λ ps. Fresh ∷ element (bare_tag (codes "li")) (ps ++ fresh_unless (ends_plainly place.tight (last_shown None kids))))
+        ap (λ ps. Fresh ∷ element (bare_tag (codes "li")) (ps ++ fresh_unless (ends_plainly place.tight (last_visible None kids))))
         (same_children (inside place.tight) None kids)
     same_block place before (page.Footnote label kids) = ap (λ ps. NoteStart ∷ ps ++ NoteEnd ∷ []) (same_children (inside false) None kids)
     same_block place before b = refl

@@ -15,11 +15,15 @@ use Rattle.definition_block.specs.Definitions.{block_footnotes, footnotes}
 use Rattle.definition_block.specs.declared.align_kind.AlignKind.{AlignKind}
 use Rattle.definition_page.specs.Tags.{Said, Tag, tag, bare_tag}
 use Rattle.definition_page.specs.Pieces.{Piece, Close, Says, Eol, Fresh, NoteEnd}
-use Rattle.definition_page.specs.InlinePieces.{Meaning, html_says, leads_to, link_tag, call_at, count_at, part_counts, inline_counts, element, part_pieces, inline_pieces}
-use Rattle.definition_page.specs.GfmTable.{Table, TableRow, align_attributes, cell_pieces, cells_pieces, row_pieces, ending_piece, body_row_pieces, head_pieces, body_pieces, table_pieces}
+use Rattle.definition_page.specs.InlinePieces.{Meaning, html_says, leads_to, link_tag, call_at, count_at, part_counts, inline_counts, element, part_pieces}
+use Rattle.definition_page.specs.InlinePieces.{inline_pieces}
+use Rattle.definition_page.specs.GfmTable.{Table, TableRow, align_attributes, cell_pieces, cells_pieces, row_pieces, ending_piece, body_row_pieces, head_pieces}
+use Rattle.definition_page.specs.GfmTable.{body_pieces, table_pieces}
 use Rattle.definition_page.specs.Page as page
 use Rattle.definition_page.specs.Page.{Page}
-use Rattle.definition_page.specs.BlockPieces.{check_pieces, Place, at_top, inside, code_line, html_line, says, heading_name, info_attributes, list_tag, last_shown, ends_plainly, is_silent, fresh_unless, fenced_pieces, block_pieces, children_pieces, document_pieces}
+use Rattle.definition_page.specs.BlockPieces.{check_pieces, Place, at_top, inside, code_line, html_line, says, heading_name, info_attributes, list_tag}
+use Rattle.definition_page.specs.BlockPieces.{last_visible, ends_plainly, is_silent, fresh_unless, fenced_pieces, block_pieces, children_pieces}
+use Rattle.definition_page.specs.BlockPieces.{document_pieces}
 use Rattle.definition_page.specs.DocumentPieces.{meaning_of, default_ending}
 use Rattle.definition_page.specs.Layout.{page_layout}
 use Rattle.definition_page.specs.Read.{read}
@@ -202,7 +206,7 @@ module _ (m : Meaning) (none : m.footnotes ≡ []) where
         )
     uncalled_block place before (page.Item kids) =
         let lines = children_pieces m (inside place.tight) None kids in
-        let plainly = ends_plainly place.tight (last_shown None kids) in (
+        let plainly = ends_plainly place.tight (last_visible None kids) in (
           tt,
           uncalled_element (bare_tag (codes "li")) (lines ++ fresh_unless plainly)
               (uncalled_append lines (fresh_unless plainly) (uncalled_children (inside place.tight) None kids) (uncalled_fresh plainly)),

@@ -6,14 +6,15 @@ use Rattle.definition_text.specs.BlockLines.{BlockLine}
 use Rattle.definition_text.specs.InlineCode.{codes_of}
 use Rattle.definition_text.specs.Lines.{without_mark, kind_before_text}
 use Rattle.definition_inline.specs.GfmTaskListItem.{check_of, check_at}
-use Rattle.definition_inline.specs.Scan.{unindented}
+use Rattle.definition_inline.specs.Scan.{without_indent}
 use Rattle.definition_block.specs.Container.{Quote, Item, Footnote}
 use Rattle.definition_block.specs.Tree as tree
 use Rattle.definition_block.specs.Tree.{blocks}
-use Rattle.definition_block.specs.Lists.{grouped}
+use Rattle.definition_block.specs.Lists.{group_items}
 use Rattle.definition_page.specs.Page as page
 use Rattle.definition_page.specs.Page.{cons_ending, cons_blank}
-use Rattle.definition_page.specs.Read.{Reading, Standing, on_page, in_container, in_item, next_standing, text_content, checked_paragraph, read_paragraph, without_ending, after_code, read_block, read_blocks}
+use Rattle.definition_page.specs.Read.{Reading, Standing, on_page, in_container, in_item, next_standing, text_content, checked_paragraph, read_paragraph}
+use Rattle.definition_page.specs.Read.{without_ending, after_code, read_block, read_blocks}
 use Rattle.laws_options.specs.GfmTaskListItem.{HasNoCheck, HaveNoChecks, TaskListItemOffLaw}
 
 unchecked_rest : (bs : page.Blocks) → HaveNoChecks bs → HaveNoChecks (without_ending bs)
@@ -41,7 +42,7 @@ module _ (r : Reading) (off : r.options.constructs.gfm_task_list_item ≡ false)
 
   unchecked_paragraph : (first : Bool) (ls : List BlockLine) → HasNoCheck (read_paragraph r first ls)
   unchecked_paragraph first ls =
-      let content = unindented (text_content r ls) in
+      let content = without_indent (text_content r ls) in
       subst (λ found. HasNoCheck (checked_paragraph r content found)) (sym (no_check first (codes_of content))) tt
 
   mutual
@@ -67,4 +68,4 @@ module _ (r : Reading) (off : r.options.constructs.gfm_task_list_item ≡ false)
 
 pub task_list_item_off_law : TaskListItemOffLaw
 task_list_item_off_law tables text options off =
-    unchecked_blocks _ off on_page (grouped (blocks options.constructs (kind_before_text text) (without_mark text)))
+    unchecked_blocks _ off on_page (group_items (blocks options.constructs (kind_before_text text) (without_mark text)))

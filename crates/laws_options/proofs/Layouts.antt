@@ -5,7 +5,7 @@ use Rattle.markdown_options.specs.declared.configuration.CompileOptions.{Compile
 use Rattle.definition_page.specs.Pieces.{Piece, CallOf, CountOf, NoteEnd, print}
 use Rattle.definition_page.specs.GfmLabelStartFootnote.{Call, call_pieces}
 use Rattle.definition_page.specs.GfmFootnoteDefinition.{Footnote, section_pieces}
-use Rattle.definition_page.specs.Layout.{Called, once_more, latest_call, Laid, laid, note_ended, lay, note_of, page_layout}
+use Rattle.definition_page.specs.Layout.{NoteCalls, once_more, latest_call, Laid, laid, note_end, lay, note_of, page_layout}
 
 -- options that print calls and the section of footnotes alike
 pub record CallAlike (one another : CompileOptions) : Type 0 where
@@ -45,7 +45,7 @@ abbrev pub AreUncalled : List Piece → Type 0
 AreUncalled [] = Unit {0}
 AreUncalled (p ∷ ps) = IsUncalled p × AreUncalled ps
 
-called_as_before : (text : List ℕ) (outer notes : List (List ℕ)) (called : List Called) → (note_ended text outer notes called).called ≡ called
+called_as_before : (text : List ℕ) (outer notes : List (List ℕ)) (called : List NoteCalls) → (note_end text outer notes called).called ≡ called
 called_as_before text [] notes called = refl
 called_as_before text (around ∷ others) notes called = refl
 
@@ -75,7 +75,8 @@ module _ (options : CompileOptions) (default : List ℕ) where
   no_section : (ps : List Piece) → AreUncalled ps → page_layout options default ps ≡ (fold (lay options default) (laid [] [] [] []) ps).text
   no_section ps are =
       let l = fold (lay options default) (laid [] [] [] []) ps in
-      ap (λ (called : List Called). fold (print default) l.text (section_pieces options (map (note_of l.notes) called))) (none_called (laid [] [] [] []) ps are)
+      ap (λ (called : List NoteCalls). fold (print default) l.text (section_pieces options (map (note_of l.notes) called)))
+      (none_called (laid [] [] [] []) ps are)
 
 -- such pages are laid out the same by any options
 pub uncalled_layout : (one another : CompileOptions) (default : List ℕ) (ps : List Piece) → AreUncalled ps

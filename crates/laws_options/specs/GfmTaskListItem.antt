@@ -26,4 +26,5 @@ abbrev mutual
 -- where task list items are off, no paragraph of a page has a check (GFM 5.3)
 abbrev pub TaskListItemOffLaw : Type 0
 TaskListItemOffLaw =
-    (tables : TextTables) (text : List ℕ) (options : ParseOptions) → options.constructs.gfm_task_list_item ≡ false → HaveNoChecks (read tables options text).blocks
+    (tables : TextTables) (text : List ℕ) (options : ParseOptions) → options.constructs.gfm_task_list_item ≡ false
+    → HaveNoChecks (read tables options text).blocks

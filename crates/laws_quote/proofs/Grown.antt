@@ -8,12 +8,14 @@ use Rattle.definition_block.specs.Container.{Quote}
 use Rattle.definition_text.specs.Lines.{TextLine}
 use Rattle.definition_text.specs.Columns.{Rest, bare, indent, codes_from}
 use Rattle.definition_text.specs.Indents.{small_indent}
+use Rattle.definition_block.specs.ContainerLine.{container_line}
 use Rattle.definition_block.specs.BlockQuote.{after_byte, after_mark, quote_prefix}
 use Rattle.definition_block.specs.ListItem.{item_start}
 use Rattle.definition_block.specs.GfmFootnoteDefinition.{footnote_start}
 use Rattle.definition_block.specs.Containers.{quote_or, footnote_or}
 use Rattle.definition_block.specs.Definitions.{cut_into, cut_most}
-use Rattle.definition_block.specs.Tree.{beside_in, beside_line, Nil, join, Inside, Tree, tree, nothing, empty_tree, with_paragraph, after, leaf_line, start, new, goes_on, grow, step, steps}
+use Rattle.definition_block.specs.Tree.{beside_in, beside_line, Nil, join, Inside, Tree, tree, nothing, empty_tree, with_paragraph, after, leaf_line, start}
+use Rattle.definition_block.specs.Tree.{new, goes_on, grow, step, steps}
 use Rattle.laws_quote.specs.Laws.{quoted_line}
 use Rattle.laws_quote.proofs.Tabs.{Tabless, codes_from-Tabless, LinesTabless}
 use Rattle.laws_quote.proofs.Starting.{new-suc}
@@ -27,11 +29,11 @@ in_quote t = tree Nil (Inside Quote t.done t.now)
 min-one : (n : ℕ) → min 1 (1 + n) ≡ 1
 min-one n = omega arith
 
-quote_prefix-quoted : (on : Constructs) (codes : Rest) → on.block_quote ≡ true → quote_prefix on (62 ∷ 32 ∷ codes) ≡ Some codes
+quote_prefix-quoted : (on : Constructs) (codes : Rest) → on.block_quote ≡ true → quote_prefix on (62 ∷ 32 ∷ codes) ≡ Some (container_line codes Whitespace)
 quote_prefix-quoted on codes quotes =
     let rest = 62 ∷ 32 ∷ codes in
     ap (λ quote. if quote && small_indent on rest then after_mark (after_byte 62 (bare rest)) else None) quotes
-    ∙ ap (λ n. Some (drop n (32 ∷ codes))) (min-one (indent codes))
+    ∙ ap (λ n. Some (container_line (drop n (32 ∷ codes)) Whitespace)) (min-one (indent codes))
 
 -- ---- nothing is closed where nothing is open
 
@@ -51,7 +53,11 @@ module _ (on : Constructs) (quotes : on.block_quote ≡ true) where
   step-in_quote before t line no_tab =
       let codes = codes_from 2 line.content in
       let beside = beside_line Whitespace line in
-      ap (λ o. let more = goes_on o on Quote t.done t.now (beside_line before line) (62 ∷ 32 ∷ codes) (grow on beside t.now) in tree more.done more.now)
+      ap (λ o.
+      let more =
+      goes_on o on Quote t.done t.now (beside_line before line) (62 ∷ 32 ∷ codes) (λ l. grow on (beside_in l.before (beside_line before line)) t.now l.rest)
+      in
+      tree more.done more.now)
       (quote_prefix-quoted on codes quotes)
       ∙ ap (λ rest. let more = grow on beside t.now rest in in_quote (tree (join t.done more.done) more.now))
       (codes_from-Tabless 2 line.content no_tab ∙ sym (codes_from-Tabless 0 line.content no_tab))
@@ -69,7 +75,8 @@ module _ (on : Constructs) (quotes : on.block_quote ≡ true) where
   new-quoted before most codes line =
       let rest = 62 ∷ 32 ∷ codes in
       let beside = beside_line before line in
-      ap (λ o. start on (quote_or (footnote_or (item_start on false rest) (footnote_start on rest)) o) nothing (leaf_line on nothing rest beside) (λ s. new most on true nothing (beside_in s.container rest beside) s.rest))
+      ap (λ o. start on (quote_or (footnote_or (item_start on false rest) (footnote_start on rest)) o) nothing (leaf_line on nothing rest beside)
+      (λ s. new most on true nothing (beside_in s.before beside) s.rest))
       (quote_prefix-quoted on codes quotes)
       ∙ after-nothing on (in_quote (new most on true nothing (beside_line Whitespace line) codes))
 

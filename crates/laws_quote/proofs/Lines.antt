@@ -33,7 +33,8 @@ lines_some b bs =
 -- ---- CR
 
 -- before an LF, and before anything else
-after_return_feed : (b : ℕ) (bs : List ℕ) (ls : List TextLine) → eqb b 10 ≡ true → after_return (b ∷ bs) ls ≡ text_line [] (Some CarriageReturnLineFeed) ∷ drop 1 ls
+after_return_feed : (b : ℕ) (bs : List ℕ) (ls : List TextLine) → eqb b 10 ≡ true
+    → after_return (b ∷ bs) ls ≡ text_line [] (Some CarriageReturnLineFeed) ∷ drop 1 ls
 after_return_feed b bs ls e = cond-true (eqb b 10) (text_line [] (Some CarriageReturnLineFeed) ∷ drop 1 ls) (text_line [] (Some CarriageReturn) ∷ ls) e
 
 after_return_other : (bs : List ℕ) (ls : List TextLine) → begins_with_feed bs ≡ false → after_return bs ls ≡ text_line [] (Some CarriageReturn) ∷ ls

@@ -8,9 +8,9 @@ use Rattle.definition_text.specs.declared.beside.Kind.TheVariants.{Whitespace}
 use Rattle.definition_block.specs.Container.{Quote}
 use Rattle.definition_text.specs.Lines.{TextLine, lines}
 use Rattle.definition_block.specs.Frontmatter.{is_metadata_fence, after_metadata_fence, after_frontmatter}
-use Rattle.definition_block.specs.Tree.{join, without_last, last_of, holds, empty_tree, step, steps, closed, children, children_after, blocks}
+use Rattle.definition_block.specs.Tree.{join, without_last, last_of, holds, empty_tree, step, steps, blocks_at_end, children, children_after, blocks}
 use Rattle.definition_block.specs.Definitions.{definitions}
-use Rattle.laws_quote.specs.Quoted.{marked_after_endings, quoted}
+use Rattle.laws_quote.specs.Quoted.{marked_after_endings, quote_lines}
 use Rattle.laws_quote.specs.Laws.{quoted_line, quote_of, QuoteLaw, QuotesLaw, QuoteDefinitionsLaw}
 use Rattle.laws_quote.proofs.Tabs.{Tabless, Tabless-from_All, LinesTabless, lines_tabless, quoted_tabless}
 use Rattle.laws_quote.proofs.Lines.{HasLine, lines_some, quoted_lines_law}
@@ -43,16 +43,17 @@ module _ (on : Constructs) (quotes : on.block_quote ≡ true) (off : on.frontmat
 
   -- a text that isn't empty
   text_quote : (before : Kind) (b : ℕ) (bs : List ℕ) → Tabless (b ∷ bs)
-      → blocks on before (quoted (b ∷ bs)) ≡ holds Quote (blocks on Whitespace (b ∷ bs))
+      → blocks on before (quote_lines (b ∷ bs)) ≡ holds Quote (blocks on Whitespace (b ∷ bs))
   text_quote before b bs no_tab =
-      blocks-children on before (quoted (b ∷ bs)) off
+      blocks-children on before (quote_lines (b ∷ bs)) off
       ∙ ap (children on before) (quoted_lines_law (b ∷ bs))
-      ∙ ap (closed on) (lines_quote before (lines (b ∷ bs)) (lines_some b bs) (lines_tabless (b ∷ bs) no_tab))
+      ∙ ap (blocks_at_end on) (lines_quote before (lines (b ∷ bs)) (lines_some b bs) (lines_tabless (b ∷ bs) no_tab))
       ∙ sym (ap (holds Quote) (blocks-children on Whitespace (b ∷ bs) off))
 
   -- the same with `> ` n times
   text_quotes : (n b : ℕ) (bs : List ℕ) → Tabless (b ∷ bs)
-      → let kids = blocks on Whitespace (b ∷ bs) in blocks on Whitespace (iterate quoted n (b ∷ bs)) ≡ join (iterate quote_of n (without_last kids)) (last_of kids)
+      → let kids = blocks on Whitespace (b ∷ bs) in
+      blocks on Whitespace (iterate quote_lines n (b ∷ bs)) ≡ join (iterate quote_of n (without_last kids)) (last_of kids)
   text_quotes zero b bs no_tab = sym (join-without_last (blocks on Whitespace (b ∷ bs)))
   text_quotes (suc n) b bs no_tab =
       let kids = blocks on Whitespace (b ∷ bs) in
@@ -63,7 +64,8 @@ module _ (on : Constructs) (quotes : on.block_quote ≡ true) (off : on.frontmat
       ∙ ap (λ last. join (iterate quote_of n (quote_of (without_last kids))) last) (last_of-quote (without_last kids) kids)
 
   -- the definitions, also those of the empty text, which has none
-  text_definitions : (before : Kind) (text : List ℕ) → Tabless text → definitions (blocks on before (quoted text)) ≡ definitions (blocks on Whitespace text)
+  text_definitions : (before : Kind) (text : List ℕ) → Tabless text → definitions (blocks on before (quote_lines text))
+      ≡ definitions (blocks on Whitespace text)
   text_definitions before [] no_tab = refl
   text_definitions before (b ∷ bs) no_tab = ap definitions (text_quote before b bs no_tab) ∙ definitions-holds (blocks on Whitespace (b ∷ bs))
 

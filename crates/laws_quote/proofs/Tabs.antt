@@ -7,7 +7,7 @@ use Rattle.std.proofs.lemmas.List.Elements.{All-nil, All-cons, All-tail}
 use Rattle.markdown_options.specs.declared.line_ending.LineEnding.TheVariants.{CarriageReturnLineFeed, CarriageReturn, LineFeed}
 use Rattle.definition_text.specs.Lines.{TextLine, text_line, in_first_line, after_return, lines}
 use Rattle.definition_text.specs.Columns.{codes_from, tab_column, columns_after_tab}
-use Rattle.laws_quote.specs.Quoted.{is_last_of_ending, marked, marked_after_endings, quoted}
+use Rattle.laws_quote.specs.Quoted.{is_last_of_ending, with_mark, marked_after_endings, quote_lines}
 
 -- no byte is a tab
 abbrev pub Tabless : List ℕ → Type 0
@@ -58,11 +58,12 @@ lines_tabless (b ∷ bs) p =
     let q = lines_tabless bs p.1 in
     cond_both (eqb b 10) (text_line [] (Some LineFeed) ∷ ls) (cond (eqb b 13) (after_return bs ls) (in_first_line b ls)) LinesTabless
     (λ _. (tt, q))
-    (λ _. cond_both (eqb b 13) (after_return bs ls) (in_first_line b ls) LinesTabless (λ _. after_return_tabless bs ls q) (λ _. in_first_line_tabless b ls p.0 q))
+    (λ _. cond_both (eqb b 13) (after_return bs ls) (in_first_line b ls) LinesTabless (λ _. after_return_tabless bs ls q)
+    (λ _. in_first_line_tabless b ls p.0 q))
 
 -- ---- such a text with `> ` before every line has no tab either
 
-marked_tabless : (bs : List ℕ) → Tabless bs → Tabless (marked bs)
+marked_tabless : (bs : List ℕ) → Tabless bs → Tabless (with_mark bs)
 marked_tabless [] p = tt
 marked_tabless (b ∷ bs) p = (refl, (refl, p))
 
@@ -71,7 +72,7 @@ marked_after_endings_tabless [] p = tt
 marked_after_endings_tabless (b ∷ bs) p =
     let more = marked_after_endings bs in
     let q = marked_after_endings_tabless bs p.1 in
-    (p.0, cond_both (is_last_of_ending b bs) (marked more) more Tabless (λ _. marked_tabless more q) (λ _. q))
+    (p.0, cond_both (is_last_of_ending b bs) (with_mark more) more Tabless (λ _. marked_tabless more q) (λ _. q))
 
-pub quoted_tabless : (text : List ℕ) → Tabless text → Tabless (quoted text)
+pub quoted_tabless : (text : List ℕ) → Tabless text → Tabless (quote_lines text)
 quoted_tabless text p = marked_tabless (marked_after_endings text) (marked_after_endings_tabless text p)

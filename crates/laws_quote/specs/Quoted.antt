@@ -1,14 +1,15 @@
 -- A text with two bytes before every line, as `> `.
 use Rattle.std.specs.Prelude.{ℕ, Bool, false, not, if◌then◌else◌, ◌==◌, ◌&&◌, ◌||◌, List, [], ◌∷◌}
+use Rattle.definition_text.specs.Ascii.{line_feed, carriage_return}
 
 -- whether an LF comes next
 abbrev pub begins_with_feed : List ℕ → Bool
 begins_with_feed [] = false
-begins_with_feed (b ∷ bs) = b == 10
+begins_with_feed (b ∷ bs) = b == line_feed
 
 -- whether a byte before these is the last of an ending: an LF, or a CR without LF after it
 abbrev pub is_last_of_ending : ℕ → List ℕ → Bool
-is_last_of_ending b bs = (b == 10) || ((b == 13) && not (begins_with_feed bs))
+is_last_of_ending b bs = (b == line_feed) || ((b == carriage_return) && not (begins_with_feed bs))
 
 -- two bytes before these, if there are any
 abbrev pub pair_before : ℕ → ℕ → List ℕ → List ℕ
@@ -22,13 +23,13 @@ pair_after_endings x y (b ∷ bs) =
     b ∷ (if is_last_of_ending b bs then pair_before x y (pair_after_endings x y bs) else pair_after_endings x y bs)
 
 -- `> ` before these bytes, if there are any
-abbrev pub marked : List ℕ → List ℕ
-marked bs = pair_before 62 32 bs
+abbrev pub with_mark : List ℕ → List ℕ
+with_mark bs = pair_before 62 32 bs
 
 -- `> ` after each ending that more bytes follow
 abbrev pub marked_after_endings : List ℕ → List ℕ
 marked_after_endings bs = pair_after_endings 62 32 bs
 
 -- `> ` before every line
-abbrev pub quoted : List ℕ → List ℕ
-quoted text = marked (marked_after_endings text)
+abbrev pub quote_lines : List ℕ → List ℕ
+quote_lines text = with_mark (marked_after_endings text)

@@ -10,10 +10,10 @@ use Rattle.markdown_options.specs.LineEndings.{ending_bytes}
 use Rattle.definition_text.specs.declared.beside.Kind.TheVariants.{Whitespace, Other}
 use Rattle.definition_text.specs.Lines.{TextLine, lines, first_of, first_line, has_mark}
 use Rattle.definition_block.specs.Tree as tree
-use Rattle.definition_block.specs.Lists.{grouped}
+use Rattle.definition_block.specs.Lists.{group_items}
 use Rattle.definition_inline.specs.Definition.{Definition}
 use Rattle.definition_page.specs.TextTables.{TextTables}
-use Rattle.definition_page.specs.Targets.{targets, document_definitions, linked_by, spaced}
+use Rattle.definition_page.specs.Targets.{targets, document_definitions, linked_by, with_spaces}
 use Rattle.definition_page.specs.Tags.{end_tag}
 use Rattle.definition_page.specs.Pieces.{Close, Fresh, layout}
 use Rattle.definition_page.specs.InlinePieces.{Meaning}
@@ -24,7 +24,7 @@ use Rattle.definition_page.specs.Read.{Reading, on_page, in_container, read_bloc
 use Rattle.definition_page.specs.Html.{html}
 use Rattle.definition_page.specs.Layout.{page_layout}
 use Rattle.definition_page.proofs.PlainLayout.{plain_page}
-use Rattle.laws_quote.specs.Quoted.{quoted}
+use Rattle.laws_quote.specs.Quoted.{quote_lines}
 use Rattle.laws_quote.specs.Laws.{quoted_line, quote_of}
 use Rattle.laws_quote.proofs.Tabs.{Tabless-from_All, Tabless-to_All, quoted_tabless}
 use Rattle.laws_quote.proofs.Lines.{quoted_lines_law}
@@ -72,7 +72,7 @@ module _ (tables : TextTables) (options : Options) (default : LineEnding) (ds : 
 
   -- children in a quote, squeezed
   abbrev pub squeezed_kids : tree.Blocks → Squeezed
-  squeezed_kids bs = print_siblings default meaning (inside false) None (read_blocks reading in_container (grouped bs)) nothing_yet
+  squeezed_kids bs = print_siblings default meaning (inside false) None (read_blocks reading in_container (group_items bs)) nothing_yet
 
   -- it is laid out piece by piece
   pub laid_out : (bs : tree.Blocks) → HaveNoNotes bs
@@ -87,12 +87,12 @@ module _ (tables : TextTables) (options : Options) (default : LineEnding) (ds : 
 
   pub squeeze_page : (bs : tree.Blocks) → squeeze (page_bytes bs) ≡ (squeezed_kids bs).kept
   squeeze_page bs =
-      let kids = children_pieces meaning at_top None (read_blocks reading on_page (grouped bs)) in
+      let kids = children_pieces meaning at_top None (read_blocks reading on_page (group_items bs)) in
       let said = not (ends_blank false bs) in
       ap (λ s. s.kept) (pieces_printed default (kids ++ fresh_unless said) [])
       ∙ ap (λ s. s.kept) (fold-append (with_piece default) nothing_yet kids (fresh_unless said))
       ∙ last_line said (with_pieces default nothing_yet kids)
-      ∙ ap (λ s. s.kept) (same_in_quote default meaning reading (grouped bs) None nothing_yet)
+      ∙ ap (λ s. s.kept) (same_in_quote default meaning reading (group_items bs) None nothing_yet)
 
   -- the ending of a last line makes no difference
   without_ending : (bs kids : tree.Blocks) → (squeezed_kids (tree.join bs (tree.last_of kids))).kept ≡ (squeezed_kids bs).kept
@@ -101,7 +101,7 @@ module _ (tables : TextTables) (options : Options) (default : LineEnding) (ds : 
       (ap (λ all. (squeezed_kids all).kept) (join-nil bs))
       (λ last ends.
       ap (λ all. (print_siblings default meaning (inside false) None (read_blocks reading in_container all) nothing_yet).kept) (grouped-join bs last ends)
-      ∙ keep_join default meaning reading (grouped bs) last ends None nothing_yet)
+      ∙ keep_join default meaning reading (group_items bs) last ends None nothing_yet)
 
   -- a quote is what its children are, between its tags
   squeeze_quote : (kids : tree.Blocks) → (squeezed_kids (quote_of kids)).kept ≡ kept_around (squeezed_kids kids).kept
@@ -109,7 +109,7 @@ module _ (tables : TextTables) (options : Options) (default : LineEnding) (ds : 
       let f = with_piece default in
       let start = codes "<blockquote>" in
       let s = after_text start nothing_yet in
-      let inner = children_pieces meaning (inside false) None (read_blocks reading in_container (grouped kids)) in
+      let inner = children_pieces meaning (inside false) None (read_blocks reading in_container (group_items kids)) in
       let end = Close (codes "blockquote") ∷ [] in
       let kept = (ap (λ t. t.kept) (fold-append f s inner (Fresh ∷ []))
       ∙ kept_at_fresh default (with_pieces default s inner)
@@ -141,7 +141,7 @@ first_ending : (ls : List TextLine) → (first_of (map quoted_line ls)).ending �
 first_ending [] = refl
 first_ending (line ∷ ls) = refl
 
-added_ending-quoted : (options : Options) (text : List ℕ) → added_ending options (quoted text) ≡ added_ending options text
+added_ending-quoted : (options : Options) (text : List ℕ) → added_ending options (quote_lines text) ≡ added_ending options text
 added_ending-quoted options text =
     ap (λ ls. unwrap_or (first_of ls).ending options.compile.default_line_ending) (quoted_lines_law text)
     ∙ ap (λ ending. unwrap_or ending options.compile.default_line_ending) (first_ending (lines text))
@@ -160,11 +160,12 @@ html_unmarked tables text options unmarked off =
     (pieces tables options (read_after (if mark then Other else Whitespace) tables options.parse bytes)))
     unmarked
     ∙ ap (λ labels.
-    page_layout options.compile (ending_bytes default) (pieces tables options (page_with tables options.parse (targets (document_definitions kids) labels) kids)))
+    page_layout options.compile (ending_bytes default) (pieces tables options
+    (page_with tables options.parse (targets (document_definitions kids) labels) kids)))
     (no_labels kids none)
     ∙ laid_out tables options default (document_definitions kids) kids none
 
-marked_unmarked : (text : List ℕ) → has_mark (quoted text) ≡ false
+marked_unmarked : (text : List ℕ) → has_mark (quote_lines text) ≡ false
 marked_unmarked [] = refl
 marked_unmarked (b ∷ bs) = refl
 
@@ -172,13 +173,13 @@ pub quote_page_law : QuotePageLaw
 quote_page_law tables text options h =
     let on = options.parse.constructs in
     let kids = tree.blocks on Whitespace text in
-    let quote = tree.blocks on Whitespace (quoted text) in
+    let quote = tree.blocks on Whitespace (quote_lines text) in
     let default = added_ending options text in
     let print = page_bytes tables options in
     ap squeeze
-    (html_unmarked tables (quoted text) options (marked_unmarked text) h.5
+    (html_unmarked tables (quote_lines text) options (marked_unmarked text) h.5
     ∙ ap (λ ending. print ending (document_definitions quote) quote) (added_ending-quoted options text)
-    ∙ ap (λ ds. print default (map spaced ds) quote) (quote_definitions_law on Whitespace text h.3 h.4 h.1)
+    ∙ ap (λ ds. print default (map with_spaces ds) quote) (quote_definitions_law on Whitespace text h.3 h.4 h.1)
     ∙ ap (print default (document_definitions kids)) (quote_law on Whitespace text h.3 h.4 h.0 h.1))
     ∙ squeeze_both tables options default (document_definitions kids) kids
     ∙ sym (ap (λ bytes. squeeze (quote_around bytes)) (html_unmarked tables text options h.2 h.5))
@@ -190,13 +191,13 @@ abbrev HasByte : List ℕ → Type 0
 HasByte [] = ⊥
 HasByte (b ∷ bs) = Unit {0}
 
-quoted_some : (text : List ℕ) → text ≢ [] → quoted text ≢ []
+quoted_some : (text : List ℕ) → text ≢ [] → quote_lines text ≢ []
 quoted_some [] h = h
 quoted_some (b ∷ bs) h = λ e. subst HasByte e tt
 
-quotable_again : (text : List ℕ) (on : Constructs) → IsQuotable text on → IsQuotable (quoted text) on
+quotable_again : (text : List ℕ) (on : Constructs) → IsQuotable text on → IsQuotable (quote_lines text) on
 quotable_again text on h =
-    (quoted_some text h.0, Tabless-to_All (quoted text) (quoted_tabless text (Tabless-from_All text h.1)), marked_unmarked text, h.3, h.4, h.5, h.6)
+    (quoted_some text h.0, Tabless-to_All (quote_lines text) (quoted_tabless text (Tabless-from_All text h.1)), marked_unmarked text, h.3, h.4, h.5, h.6)
 
 -- quotes around pages that are the same once they are squeezed
 same_around : (n : ℕ) (one other : List ℕ) → squeeze one ≡ squeeze other → squeeze (iterate quote_around n one) ≡ squeeze (iterate quote_around n other)
@@ -205,11 +206,11 @@ same_around (suc n) one other e =
     same_around n (quote_around one) (quote_around other) (squeeze_around one ∙ ap kept_around e ∙ sym (squeeze_around other))
 
 pages_around : (tables : TextTables) (options : Options) (n : ℕ) (text : List ℕ) → IsQuotable text options.parse.constructs
-    → squeeze (html tables (iterate quoted n text) options) ≡ squeeze (iterate quote_around n (html tables text options))
+    → squeeze (html tables (iterate quote_lines n text) options) ≡ squeeze (iterate quote_around n (html tables text options))
 pages_around tables options zero text h = refl
 pages_around tables options (suc n) text h =
-    pages_around tables options n (quoted text) (quotable_again text options.parse.constructs h)
-    ∙ same_around n (html tables (quoted text) options) (quote_around (html tables text options)) (quote_page_law tables text options h)
+    pages_around tables options n (quote_lines text) (quotable_again text options.parse.constructs h)
+    ∙ same_around n (html tables (quote_lines text) options) (quote_around (html tables text options)) (quote_page_law tables text options h)
 
 pub quote_pages_law : QuotePagesLaw
 quote_pages_law tables text options n h = pages_around tables options n text h

@@ -3,7 +3,8 @@ use Rattle.std.proofs.Common.{◌≡◌, ℕ, Bool, true, false, cond, eqb, inl,
 use Rattle.std.specs.Prelude.{◌⊎◌}
 use Rattle.std.proofs.lemmas.Bool.{cond-true, cond-false, cases_Bool, ne_eqb, eqb-false, false≢true}
 use Rattle.definition_block.specs.Tree.{Block, Items, Ending, Blank, Blocks, Nil, Cons, join, one, is_ending}
-use Rattle.definition_block.specs.Lists.{endings_of, after_endings, item_marker, list_marker, list_items, rest_of, before_list, before, grouped_block, grouped}
+use Rattle.definition_block.specs.Lists.{endings_of, after_endings, item_marker, list_marker, list_items, rest_of, before_list, before, grouped_block}
+use Rattle.definition_block.specs.Lists.{group_items}
 
 -- ---- what children begin with
 
@@ -103,14 +104,14 @@ before-join b bs last ends (inr e) =
     ∙ sym (ap (λ bs. join bs (one last)) (cond-false (eqb (item_marker b) 0) (Cons b bs) (before_list (item_marker b) b bs) e))
 
 -- an ending alone
-pub grouped-ending : (last : Block) → is_ending last ≡ true → grouped (one last) ≡ one last
+pub grouped-ending : (last : Block) → is_ending last ≡ true → group_items (one last) ≡ one last
 grouped-ending (Ending ending) e = refl
 grouped-ending (Blank ending) e = refl
 grouped-ending b e = absurd (false≢true e)
 
 -- children with an ending after them
-pub grouped-join : (bs : Blocks) (last : Block) → is_ending last ≡ true → grouped (join bs (one last)) ≡ join (grouped bs) (one last)
+pub grouped-join : (bs : Blocks) (last : Block) → is_ending last ≡ true → group_items (join bs (one last)) ≡ join (group_items bs) (one last)
 grouped-join Nil last e = grouped-ending last e
 grouped-join (Cons b bs) last e =
     ap (before (grouped_block b)) (grouped-join bs last e)
-    ∙ before-join (grouped_block b) (grouped bs) last e (cases_Bool (eqb (item_marker (grouped_block b)) 0))
+    ∙ before-join (grouped_block b) (group_items bs) last e (cases_Bool (eqb (item_marker (grouped_block b)) 0))

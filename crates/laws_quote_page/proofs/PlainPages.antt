@@ -7,25 +7,30 @@ use Rattle.markdown_options.specs.declared.configuration.Constructs.{Constructs}
 use Rattle.markdown_options.specs.declared.line_ending.LineEnding.{LineEnding}
 use Rattle.definition_text.specs.BlockLines.{BlockLine}
 use Rattle.definition_text.specs.declared.beside.Kind.{Kind}
-use Rattle.definition_inline.specs.Inline.{Inline, Data, Escape, Character, Code, Math, Autolink, Literal, Html, EscapedBreak, TrailingBreak, LineEnd, Emphasis, Strong, Strikethrough, Link, Image, Call, Inlines, Nil, Cons}
+use Rattle.definition_inline.specs.Inline.{Inline, Data, Escape, Character, Code, Math, Autolink, Literal, Html, EscapedBreak, TrailingBreak, LineEnd, Emphasis}
+use Rattle.definition_inline.specs.Inline.{Strong, Strikethrough, Link, Image, Call, Inlines, Nil, Cons}
 use Rattle.definition_text.specs.InlineCode.{InlineCode, codes_of}
 use Rattle.definition_inline.specs.GfmTaskListItem.{check_at}
-use Rattle.definition_inline.specs.Scan.{unindented}
+use Rattle.definition_inline.specs.Scan.{without_indent}
 use Rattle.definition_inline.specs.LabelMatch.{normal_label, first_match}
 use Rattle.definition_block.specs.Container.{Quote, Item, Footnote}
 use Rattle.definition_block.specs.Blocks as tree
 use Rattle.definition_block.specs.Tree.{is_ending, one, blocks}
 use Rattle.definition_block.specs.Definitions.{block_footnotes, footnotes}
-use Rattle.definition_block.specs.Lists.{endings_of, after_endings, list_items, list_marker, rest_of, item_marker, before_list, before, grouped_block, grouped}
+use Rattle.definition_block.specs.Lists.{endings_of, after_endings, list_items, list_marker, rest_of, item_marker, before_list, before, grouped_block}
+use Rattle.definition_block.specs.Lists.{group_items}
 use Rattle.definition_block.specs.declared.align_kind.AlignKind.{AlignKind}
 use Rattle.definition_page.specs.Tags.{Said, tag, bare_tag}
 use Rattle.definition_page.specs.Pieces.{Piece, Close, Eol, Fresh}
 use Rattle.definition_page.specs.InlinePieces.{Meaning, html_says, call_at, count_at, part_counts, inline_counts, element, part_pieces, inline_pieces}
-use Rattle.definition_page.specs.GfmTable.{Table, TableRow, cell_pieces, cells_pieces, row_pieces, ending_piece, body_row_pieces, head_pieces, body_pieces, table_pieces}
+use Rattle.definition_page.specs.GfmTable.{Table, TableRow, cell_pieces, cells_pieces, row_pieces, ending_piece, body_row_pieces, head_pieces, body_pieces}
+use Rattle.definition_page.specs.GfmTable.{table_pieces}
 use Rattle.definition_page.specs.Page as page
 use Rattle.definition_page.specs.Page.{Page, cons_ending, cons_blank}
-use Rattle.definition_page.specs.BlockPieces.{Place, at_top, inside, check_pieces, code_line, html_line, says, info_attributes, is_silent, last_shown, ends_plainly, fresh_unless, fenced_pieces, block_pieces, children_pieces}
-use Rattle.definition_page.specs.Read.{Reading, text_content, checked_paragraph, read_paragraph, Standing, on_page, in_container, in_item, next_standing, without_ending, read_block, read_blocks}
+use Rattle.definition_page.specs.BlockPieces.{Place, at_top, inside, check_pieces, code_line, html_line, says, info_attributes, is_silent, last_visible}
+use Rattle.definition_page.specs.BlockPieces.{ends_plainly, fresh_unless, fenced_pieces, block_pieces, children_pieces}
+use Rattle.definition_page.specs.Read.{Reading, text_content, checked_paragraph, read_paragraph, Standing, on_page, in_container, in_item, next_standing}
+use Rattle.definition_page.specs.Read.{without_ending, read_block, read_blocks}
 use Rattle.definition_page.proofs.PlainLayout.{ArePlain}
 use Rattle.laws_block.proofs.Occurs.{BlockMayStand, MayStand, may_stand}
 
@@ -141,9 +146,9 @@ mutual
   note_grouped (tree.Holds (Footnote label) kids) p = absurd p
   note_grouped b p = p
 
-  notes_grouped : (bs : tree.Blocks) → HaveNoNotes bs → HaveNoNotes (grouped bs)
+  notes_grouped : (bs : tree.Blocks) → HaveNoNotes bs → HaveNoNotes (group_items bs)
   notes_grouped tree.Nil p = tt
-  notes_grouped (tree.Cons b bs) p = notes-before (grouped_block b) (grouped bs) (note_grouped b p.0) (notes_grouped bs p.1)
+  notes_grouped (tree.Cons b bs) p = notes-before (grouped_block b) (group_items bs) (note_grouped b p.0) (notes_grouped bs p.1)
 
 -- ---- the blocks of a page
 
@@ -170,7 +175,7 @@ module _ (r : Reading) where
 
   paragraph_note : (standing : Standing) (ls : List BlockLine) → ReadsNoNote (read_paragraph r standing.first ls)
   paragraph_note standing ls =
-      let content = unindented (text_content r ls) in
+      let content = without_indent (text_content r ls) in
       checked_note content (check_at r.options.constructs standing.first (codes_of content))
 
   mutual
@@ -337,10 +342,11 @@ module _ (m : Meaning) (none : m.footnotes ≡ []) where
         (tt, plain-element _ (inner ++ Eol ∷ []) (plain-append inner (Eol ∷ []) (children_plain (inside (not loose)) None items p) (tt, tt)))
     block_plain place before (page.Item kids) p =
         let inner = children_pieces m (inside place.tight) None kids in
-        let end = fresh_unless (ends_plainly place.tight (last_shown None kids)) in (
+        let end = fresh_unless (ends_plainly place.tight (last_visible None kids)) in (
           tt,
           plain-element _ (inner ++ end)
-              (plain-append inner end (children_plain (inside place.tight) None kids p) (plain-fresh_unless (ends_plainly place.tight (last_shown None kids)))),
+              (plain-append inner end (children_plain (inside place.tight) None kids p)
+              (plain-fresh_unless (ends_plainly place.tight (last_visible None kids)))),
         )
     block_plain place before (page.Footnote label kids) p = absurd p
     block_plain place before (page.Ending ending) p =
@@ -350,12 +356,13 @@ module _ (m : Meaning) (none : m.footnotes ≡ []) where
     children_plain : (place : Place) (before : Option page.Block) (bs : page.Blocks) → ReadNoNotes bs → ArePlain (children_pieces m place before bs)
     children_plain place before page.Nil p = tt
     children_plain place before (page.Cons b bs) p =
-        plain-append (block_pieces m place before b) (children_pieces m place (Some b) bs) (block_plain place before b p.0) (children_plain place (Some b) bs p.1)
+        plain-append (block_pieces m place before b) (children_pieces m place (Some b) bs) (block_plain place before b p.0)
+        (children_plain place (Some b) bs p.1)
 
   -- the page of such blocks has no piece that footnotes need
   pub document_plain : (r : Reading) (bs : tree.Blocks) (said : Bool) → HaveNoNotes bs
-      → ArePlain (children_pieces m at_top None (read_blocks r on_page (grouped bs)) ++ fresh_unless said)
+      → ArePlain (children_pieces m at_top None (read_blocks r on_page (group_items bs)) ++ fresh_unless said)
   document_plain r bs said p =
-      let read = read_blocks r on_page (grouped bs) in
+      let read = read_blocks r on_page (group_items bs) in
       plain-append (children_pieces m at_top None read) (fresh_unless said)
-      (children_plain at_top None read (notes_read r on_page (grouped bs) (notes_grouped bs p))) (plain-fresh_unless said)
+      (children_plain at_top None read (notes_read r on_page (group_items bs) (notes_grouped bs p))) (plain-fresh_unless said)

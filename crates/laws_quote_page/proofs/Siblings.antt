@@ -14,7 +14,8 @@ use Rattle.definition_page.specs.Tags.{Words, said_bytes, end_tag, tag, bare_tag
 use Rattle.definition_page.specs.Pieces.{Piece, Open, Close, Says, Eol, Fresh}
 use Rattle.definition_page.specs.InlinePieces.{Meaning, element}
 use Rattle.definition_page.specs.Page as page
-use Rattle.definition_page.specs.Read.{Reading, Standing, on_page, in_container, in_item, read_text, read_table, info_text, without_ending, list_number, read_block, read_blocks}
+use Rattle.definition_page.specs.Read.{Reading, Standing, on_page, in_container, in_item, read_text, read_table, info_text, without_ending, list_number}
+use Rattle.definition_page.specs.Read.{read_block, read_blocks}
 use Rattle.definition_block.specs.Lists.{is_loose}
 use Rattle.definition_page.specs.BlockPieces.{Place, at_top, inside, code_line, says, info_attributes, is_silent, fenced_pieces, block_pieces, children_pieces}
 use Rattle.laws_quote_page.specs.Squeeze.{Squeezed, with_bytes}
@@ -232,7 +233,8 @@ module _ (default : LineEnding) (m : Meaning) where
         ∙ same (Some b) (print_block (inside false) before b s)
         ∙ sym (ap (λ t. t.kept) (print-cons (inside false) before b cs s))
 
-    keep_read : (b : tree.Block) (bs cs : page.Blocks) → ReadBoth m r b → KeepSame bs cs → KeepSame (read_block r in_container b bs) (read_block r in_container b cs)
+    keep_read : (b : tree.Block) (bs cs : page.Blocks) → ReadBoth m r b → KeepSame bs cs
+        → KeepSame (read_block r in_container b bs) (read_block r in_container b cs)
     keep_read b bs cs (Alike c read alike) same before s =
         ap (λ all. (print_siblings (inside false) before all s).kept) (read false bs)
         ∙ keep_cons c bs cs same before s

@@ -6,7 +6,7 @@ use Rattle.markdown_options.specs.declared.configuration.Options.{Options}
 use Rattle.definition_text.specs.Lines.{has_mark}
 use Rattle.definition_page.specs.TextTables.{TextTables}
 use Rattle.definition_page.specs.Html.{html}
-use Rattle.laws_quote.specs.Quoted.{quoted}
+use Rattle.laws_quote.specs.Quoted.{quote_lines}
 use Rattle.laws_quote.specs.Laws.{HasNoTab}
 use Rattle.laws_quote_page.specs.Squeeze.{squeeze}
 
@@ -24,13 +24,13 @@ quote_around page = codes "<blockquote>" ++ page ++ codes "</blockquote>"
 abbrev pub QuotePageLaw : Type 0
 QuotePageLaw =
     (tables : TextTables) (text : List ℕ) (options : Options) → IsQuotable text options.parse.constructs
-    → squeeze (html tables (quoted text) options) ≡ squeeze (quote_around (html tables text options))
+    → squeeze (html tables (quote_lines text) options) ≡ squeeze (quote_around (html tables text options))
 
 -- the same where `> ` stands n times before every line: n block quotes, one in another
 abbrev pub QuotePagesLaw : Type 0
 QuotePagesLaw =
     (tables : TextTables) (text : List ℕ) (options : Options) (n : ℕ) → IsQuotable text options.parse.constructs
-    → squeeze (html tables (iterate quoted n text) options) ≡ squeeze (iterate quote_around n (html tables text options))
+    → squeeze (html tables (iterate quote_lines n text) options) ≡ squeeze (iterate quote_around n (html tables text options))
 
 -- what is dropped is a whole run at the start or the end, after `>` or before `<`, and no other
 abbrev pub SqueezeRows : Type 0

@@ -2,6 +2,7 @@
 use Rattle.std.specs.Prelude.{ℕ, if◌then◌else◌, ◌==◌, List, [], ◌∷◌, ◌++◌, Option, None, Some, unwrap_or}
 use Rattle.std.specs.List.{fold}
 use Rattle.std.specs.Option.{option_map}
+use Rattle.definition_text.specs.Ascii.{less_than, greater_than}
 use Rattle.definition_text.specs.Lines.{ends_line}
 
 -- what is kept of the bytes so far, and the run of CR and LF after that; none where it is dropped whatever follows it, at the start and after `>`
@@ -14,11 +15,11 @@ squeezed kept run = record { kept = kept; run = run }
 
 -- the run that is kept before this byte: before `<` none is
 abbrev pub run_before : ℕ → Option (List ℕ) → List ℕ
-run_before b run = if b == 60 then [] else unwrap_or run []
+run_before b run = if b == less_than then [] else unwrap_or run []
 
 -- the run after a byte that isn't one of its own
 abbrev pub run_after : ℕ → Option (List ℕ)
-run_after b = if b == 62 then None else Some []
+run_after b = if b == greater_than then None else Some []
 
 -- one more byte
 abbrev pub with_byte : Squeezed → ℕ → Squeezed

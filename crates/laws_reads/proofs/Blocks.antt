@@ -10,11 +10,12 @@ use Rattle.definition_text.specs.declared.beside.Kind.TheVariants.{Whitespace}
 use Rattle.definition_text.specs.BlockLines.{BlockLine, spaced_line, last_ending_or, last_ending, own_lines}
 use Rattle.definition_text.specs.Columns.{Rest, whole, indent, is_blank}
 use Rattle.definition_text.specs.Content.{content_of}
-use Rattle.definition_text.specs.Indents.{outdented}
+use Rattle.definition_text.specs.Indents.{outdent}
 use Rattle.definition_text.specs.Lines.{TextLine, lines}
 use Rattle.definition_inline.specs.Definition.{Definition as LinkDefinition, definition_at}
 use Rattle.definition_block.specs.Container.{Container, Quote, Item, Footnote}
-use Rattle.definition_block.specs.Started.{Started}
+use Rattle.definition_block.specs.ContainerLine.{ContainerLine}
+use Rattle.definition_block.specs.ContainerStart.{ContainerStart}
 use Rattle.definition_block.specs.Containers.{continues, starts}
 use Rattle.definition_block.specs.CodeIndented.{starts_code_indented}
 use Rattle.definition_block.specs.CodeFenced.{Fence, fence_start, is_fence_end, fence_line}
@@ -26,8 +27,14 @@ use Rattle.definition_block.specs.HeadingSetext.{underline}
 use Rattle.definition_block.specs.ThematicBreak.{is_break}
 use Rattle.definition_block.specs.declared.align_kind.AlignKind.{AlignKind}
 use Rattle.definition_block.specs.GfmTable.{delimiter_row, is_head}
-use Rattle.definition_block.specs.Definitions.{lines_before, Cut, cut_into, defined, cut_after, cut_most, cut}
-use Rattle.definition_block.specs.Tree.{Block, Paragraph, Heading, Break, IndentedCode, FencedCode, Html, Table, Definition, Holds, Items, Ending, Blank, Blocks, Nil, Cons, join, one, ended, OpenLeaf, Text, Indented, Fenced, OpenHtml, OpenTable, Opening, Leaf, Inside, Tree as BlockTree, tree, nothing, empty_tree, blanks, paragraph_of, close_leaf, is_ending, all_endings, front, trailing, without_last, last_of, holds, close, leaf_text, has_text, has_table, is_some_line, table_of, table_if, makes_table, leaf_with_line, with_line, rest_line, html_with, takes, or_heading, or_fence, or_html, begins, after, break_or_text, text_line_of, text_here, heading_of, underlined, turns, begun, taken, leaf_line, beside_in, start, new, began_blank, goes_on, grow, beside_line, step, steps, children, children_after, blocks}
+use Rattle.definition_block.specs.Definitions.{lines_before, Cut, cut_into, definition_lines, cut_after, cut_most, cut}
+use Rattle.definition_block.specs.Tree.{Block, Paragraph, Heading, Break, IndentedCode, FencedCode, Html, Table, Definition, Holds, Items, Ending, Blank}
+use Rattle.definition_block.specs.Tree.{Blocks, Nil, Cons, join, one, block_and_ending, OpenLeaf, Text, Indented, Fenced, OpenHtml, OpenTable, Opening, Leaf}
+use Rattle.definition_block.specs.Tree.{Inside, Tree as BlockTree, tree, nothing, empty_tree, blanks, paragraph_of, close_leaf, is_ending, all_endings, front}
+use Rattle.definition_block.specs.Tree.{trailing, without_last, last_of, holds, close, leaf_text, has_text, has_table, is_some_line, table_of, table_if}
+use Rattle.definition_block.specs.Tree.{makes_table, leaf_with_line, with_line, rest_line, html_with, takes, or_heading, or_fence, or_html, begins, after}
+use Rattle.definition_block.specs.Tree.{break_or_text, text_line_of, text_here, heading_of, heading_if, turns, begun, tree_or, leaf_line, beside_in, start, new}
+use Rattle.definition_block.specs.Tree.{began_blank, goes_on, grow, beside_line, step, steps, children, children_after, blocks}
 use Rattle.std.specs.Prelude.{IfSome}
 use Rattle.definition_text.specs.BlockLines.{block_line}
 use Rattle.laws_each.proofs.Each.{Each, each-append, each-take, each-drop, WhereSome}
@@ -123,8 +130,8 @@ module _ (good : Property) where
     pub underlines : (rest : Rest) → RankGood (underline on rest)
     pub fences : (rest : Rest) → RestGood rest → FenceGood (fence_start on rest)
     pub math : (rest : Rest) → RestGood rest → FenceGood (math_start on rest)
-    pub enters : (text : Bool) (rest : Rest) → RestGood rest → IfSome (starts on text rest) (λ (s : Started). RestGood s.rest)
-    pub stays : (c : Container) (blank : Bool) (rest : Rest) → RestGood rest → IfSome (continues on c blank rest) (λ (others : Rest). RestGood others)
+    pub enters : (text : Bool) (rest : Rest) → RestGood rest → IfSome (starts on text rest) (λ (s : ContainerStart). RestGood s.rest)
+    pub stays : (c : Container) (blank : Bool) (rest : Rest) → RestGood rest → IfSome (continues on c blank rest) (λ (line : ContainerLine). RestGood line.rest)
 
   pub join_good : (bs others : Blocks) → BlocksGood bs → BlocksGood others → BlocksGood (join bs others)
   join_good Nil others p q = q
@@ -169,10 +176,10 @@ module _ (good : Property) where
     last_good : (ls : List BlockLine) → LinesGood ls → EndGood (last_ending ls)
     last_good ls p = last_or_good None ls reads.no_ending p
 
-    ended_good : (b : Block) (ending : Option LineEnding) → BlockGood b → EndGood ending → BlocksGood (ended b ending)
+    ended_good : (b : Block) (ending : Option LineEnding) → BlockGood b → EndGood ending → BlocksGood (block_and_ending b ending)
     ended_good b ending p f = (p, (f, tt))
 
-    outdented_good : (most : ℕ) (rest : Rest) → RestGood rest → RestGood (outdented most rest)
+    outdented_good : (most : ℕ) (rest : Rest) → RestGood rest → RestGood (outdent most rest)
     outdented_good most rest p = reads.dropped (min most (indent rest)) rest p
 
     more_good : (ls : List BlockLine) (rest : Rest) (beside : Beside) → LinesGood ls → RestGood rest → EndGood beside.ending
@@ -198,7 +205,7 @@ module _ (good : Property) where
     cut_after_good (Some d) ls more q p h =
         let count = lines_before d.rest ls in
         let others = h (drop count ls) (each-drop LineGood count ls p) in (
-          join_good (defined d (take count ls)) (more (drop count ls)).definitions
+          join_good (definition_lines d (take count ls)) (more (drop count ls)).definitions
               (q, (last_good (take count ls) (each-take LineGood count ls p), tt)) others.0,
           others.1,
         )
@@ -214,7 +221,8 @@ module _ (good : Property) where
     html_with_good kind ls rest beside p q f =
         let more = ls ++ rest_line rest beside ∷ [] in
         let h = more_good ls rest beside p q f in
-        cond_both (html_ends_here kind rest) (tree (ended (Html (own_lines more)) beside.ending) nothing) (tree Nil (Leaf (OpenHtml kind more))) TreeGood
+        cond_both (html_ends_here kind rest) (tree (block_and_ending (Html (own_lines more)) beside.ending) nothing)
+        (tree Nil (Leaf (OpenHtml kind more))) TreeGood
         (λ _. ((own_good reads.unended more h, (f, tt)), tt)) (λ _. (tt, h))
 
     or_heading_good : (ending : Option LineEnding) (o : Option Atx) → EndGood ending → AtxGood o → SomeGood (or_heading ending o)
@@ -238,7 +246,7 @@ module _ (good : Property) where
     heading_of_good rank definitions (line ∷ others) ending h p q f =
         (join_good definitions _ p (reads.ranked rank (own_lines (line ∷ others)) h (own_good reads.unended (line ∷ others) q), (f, tt)), tt)
 
-    taken_good : (o : Option BlockTree) (other : BlockTree) → SomeGood o → TreeGood other → TreeGood (taken o other)
+    taken_good : (o : Option BlockTree) (other : BlockTree) → SomeGood o → TreeGood other → TreeGood (tree_or o other)
     taken_good None other p q = q
     taken_good (Some t) other p q = p
 
@@ -284,9 +292,9 @@ module _ (good : Property) where
     takes_good (Text ls) rest beside p q f = tt
     takes_good (Indented ls pending) rest beside p q f =
         let code = outdented_good 4 rest q in
-        cond_both (is_blank rest) _ _ SomeGood (λ _. (tt, (p.0, more_good pending (outdented 4 rest) beside p.1 code f)))
+        cond_both (is_blank rest) _ _ SomeGood (λ _. (tt, (p.0, more_good pending (outdent 4 rest) beside p.1 code f)))
         (λ _. cond_both (starts_code_indented on rest) _ _ SomeGood
-        (λ _. (tt, (more_good (ls ++ pending) (outdented 4 rest) beside (each-append LineGood ls pending p.0 p.1) code f, tt))) (λ _. tt))
+        (λ _. (tt, (more_good (ls ++ pending) (outdent 4 rest) beside (each-append LineGood ls pending p.0 p.1) code f, tt))) (λ _. tt))
     takes_good (Fenced fence opening ls) rest beside p q f =
         cond_both (is_fence_end on fence rest) _ _ SomeGood (λ _. (((p.0, p.1.1), (f, tt)), tt))
         (λ _. (tt, (p.0, (p.1.0, more_good ls (fence_line fence rest) beside p.1.1 (outdented_good fence.indent rest q) f))))
@@ -297,7 +305,7 @@ module _ (good : Property) where
     begins_good : (paragraph : Bool) (rest : Rest) (beside : Beside) → RestGood rest → EndGood beside.ending → SomeGood (begins on paragraph rest beside)
     begins_good paragraph rest beside q f =
         cond_both (starts_code_indented on rest && not paragraph) _ _ SomeGood
-        (λ _. (tt, ((reads.taken_line (outdented 4 rest) beside (outdented_good 4 rest q) f, tt), tt)))
+        (λ _. (tt, ((reads.taken_line (outdent 4 rest) beside (outdented_good 4 rest q) f, tt), tt)))
         (λ _. or_fence_good beside.ending (fence_start on rest) _ f (reads.fences rest q)
         (or_fence_good beside.ending (math_start on rest) _ f (reads.math rest q)
         (or_html_good rest beside (html_start on paragraph rest) _ q f (or_heading_good beside.ending (heading_atx on rest) f (reads.atx rest q)))))
@@ -330,13 +338,13 @@ module _ (good : Property) where
     break_good : (away : Opening) (rest : Rest) (beside : Beside) → OpeningGood away → RestGood rest → EndGood beside.ending
         → TreeGood (break_or_text on away rest beside)
     break_good away rest beside p q f =
-        cond_both (is_break on rest) _ _ TreeGood (λ _. after_good away (tree (ended Break beside.ending) nothing) p ((tt, (f, tt)), tt))
+        cond_both (is_break on rest) _ _ TreeGood (λ _. after_good away (tree (block_and_ending Break beside.ending) nothing) p ((tt, (f, tt)), tt))
         (λ _. taken_good (makes_table on away rest beside) _
         (table_good (delimiter_row on rest) (text_here away) (rest_line rest beside) (text_here_good away p) (reads.taken_line rest beside q f))
         (text_line_good away rest beside p q f))
 
     underlined_good : (o : Option ℕ) (ls : List BlockLine) (ending : Option LineEnding) → RankGood o → LinesGood ls → EndGood ending
-        → SomeGood (underlined on o ls ending)
+        → SomeGood (heading_if on o ls ending)
     underlined_good None ls ending h p f = tt
     underlined_good (Some rank) ls ending h p f =
         let parts = cut_good ls p in heading_of_good rank (cut on ls).definitions (cut on ls).left ending h parts.0 parts.1 f
@@ -356,9 +364,9 @@ module _ (good : Property) where
 
     -- ---- containers
 
-    start_good : (o : Option Started) (away : Opening) (other : BlockTree) (more : Started → BlockTree)
-        → IfSome o (λ (s : Started). RestGood s.rest) → OpeningGood away
-        → TreeGood other → ((s : Started) → RestGood s.rest → TreeGood (more s)) → TreeGood (start on o away other more)
+    start_good : (o : Option ContainerStart) (away : Opening) (other : BlockTree) (more : ContainerStart → BlockTree)
+        → IfSome o (λ (s : ContainerStart). RestGood s.rest) → OpeningGood away
+        → TreeGood other → ((s : ContainerStart) → RestGood s.rest → TreeGood (more s)) → TreeGood (start on o away other more)
     start_good None away other more r a q m = q
     start_good (Some s) away other more r a q m =
         let t = m s r in after_good away (tree Nil (Inside s.container (more s).done (more s).now)) a (tt, (t.0, t.1))
@@ -369,14 +377,14 @@ module _ (good : Property) where
     new_good (suc most) all away beside rest p q f =
         start_good (starts on (all && has_text away) rest) away (leaf_line on away rest beside) _
         (reads.enters (all && has_text away) rest q) p (leaf_line_good away rest beside p q f)
-        (λ s r. new_good most true nothing (beside_in s.container rest beside) s.rest tt r f)
+        (λ s r. new_good most true nothing (beside_in s.before beside) s.rest tt r f)
 
-    goes_on_good : (o : Option Rest) (c : Container) (kids : Blocks) (inner : Opening) (beside : Beside) (rest : Rest) (more : Rest → BlockTree)
-        → IfSome o (λ (others : Rest). RestGood others) → BlocksGood kids → OpeningGood inner → RestGood rest → EndGood beside.ending
-        → ((others : Rest) → RestGood others → TreeGood (more others)) → TreeGood (goes_on o on c kids inner beside rest more)
+    goes_on_good : (o : Option ContainerLine) (c : Container) (kids : Blocks) (inner : Opening) (beside : Beside) (rest : Rest)
+        (more : ContainerLine → BlockTree) → IfSome o (λ (line : ContainerLine). RestGood line.rest) → BlocksGood kids → OpeningGood inner → RestGood rest
+        → EndGood beside.ending → ((line : ContainerLine) → RestGood line.rest → TreeGood (more line)) → TreeGood (goes_on o on c kids inner beside rest more)
     goes_on_good None c kids inner beside rest more r p q s f m = new_good (length rest) false (Inside c kids inner) beside rest (p, q) s f
-    goes_on_good (Some others) c kids inner beside rest more r p q s f m =
-        (tt, (join_good kids (more others).done p (m others r).0, (m others r).1))
+    goes_on_good (Some line) c kids inner beside rest more r p q s f m =
+        (tt, (join_good kids (more line).done p (m line r).0, (m line r).1))
 
     -- ---- lines
 
@@ -384,9 +392,9 @@ module _ (good : Property) where
     grow_good beside (Leaf leaf) rest p q f =
         taken_good (takes on leaf rest beside) _ (takes_good leaf rest beside p q f) (new_good (length rest) true (Leaf leaf) beside rest p q f)
     grow_good beside (Inside c kids inner) rest p q f =
-        goes_on_good (continues on c (began_blank kids inner) rest) c kids inner beside rest (grow on (beside_in c rest beside) inner)
-        (reads.stays c (began_blank kids inner) rest q) p.0 p.1 q f
-        (λ others r. grow_good (beside_in c rest beside) inner others p.1 r f)
+        goes_on_good (continues on c (began_blank kids inner) rest) c kids inner beside rest
+        (λ line. grow on (beside_in line.before beside) inner line.rest) (reads.stays c (began_blank kids inner) rest q) p.0 p.1 q f
+        (λ line r. grow_good (beside_in line.before beside) inner line.rest p.1 r f)
 
     -- ---- the lines of a text
 

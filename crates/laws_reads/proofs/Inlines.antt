@@ -1,14 +1,20 @@
 -- If each part that is read of a content is good, all its inline structure is.
-use Rattle.std.proofs.Common.{◌≡◌, ℕ, suc, zero, ◌+◌, ◌-◌, false, ◌==◌, List, [], ◌∷◌, ◌++◌, map, reverse, replicate, filter, fold, Option, None, Some, drop, refl}
+use Rattle.std.proofs.Common.{◌≡◌, ℕ, suc, zero, ◌+◌, ◌-◌, false, ◌==◌, List, [], ◌∷◌, ◌++◌, map, reverse, replicate, filter, fold, Option, None, Some, drop}
+use Rattle.std.proofs.Common.{refl}
 use Rattle.std.proofs.lemmas.Bool.{cond_both}
 use Rattle.definition_text.specs.Content.{before}
 use Rattle.definition_text.specs.InlineCode.{InlineCode, codes_of}
-use Rattle.definition_inline.specs.Inline.{Target, Inline, Data, Call, Emphasis, Strong, Strikethrough, Link, Image, Inlines, Nil, Cons, followed_by, Leaf, or_else}
-use Rattle.definition_inline.specs.LabelEnd.{Formed, Leads, Calls}
+use Rattle.definition_inline.specs.Inline.{Target, Inline, Data, Call, Emphasis, Strong, Strikethrough, Link, Image, Inlines, Nil, Cons, followed_by, Leaf}
+use Rattle.definition_inline.specs.Inline.{or_else}
+use Rattle.definition_inline.specs.LabelEnd.{LinkOrCall, Leads, Calls}
 use Rattle.definition_inline.specs.Attention.{Run, run_at}
 use Rattle.definition_inline.specs.Pairing.{Pair, pairs}
-use Rattle.definition_inline.specs.Spans.{Token, Item, Delimiters, runs_of, Span, IsEmphasis, IsStrong, IsStrikethrough, span_of, SpanRow, Holds, Opens, Closes, bytes_taken, run_rows, rows_from, OpenSpan, Nest, nest, spanned, leave, nest_row, emphasized}
-use Rattle.definition_inline.specs.Scan.{InlineContext, leaf_here, LabelStart, LinkStart, ImageStart, label_start_at, start_tokens, may_form, label_part, formed_part, formed_at, Text, text, OpenLabel, Reading, reading, read_tokens, unformed, formed, Step, Next, data_step, ended_step, ended_by, label_end_step, last_step, label_step, run_step, leaf_step, step, and_then, scan, whole_text, spans_from}
+use Rattle.definition_inline.specs.Spans.{Token, Item, Delimiters, runs_of, Span, IsEmphasis, IsStrong, IsStrikethrough, span_of, SpanRow, Holds, Opens, Closes}
+use Rattle.definition_inline.specs.Spans.{bytes_taken, run_rows, rows_from, OpenSpan, Nest, nest, span_part, leave, nest_row, with_spans}
+use Rattle.definition_inline.specs.Scan.{InlineContext, leaf_here, LabelStart, LinkStart, ImageStart, label_start_at, start_tokens, may_form, label_part}
+use Rattle.definition_inline.specs.Scan.{formed_part, formed_at, Text, text, OpenLabel, Reading, reading, read_tokens, with_plain_start, with_link_or_call}
+use Rattle.definition_inline.specs.Scan.{Step, Next, data_step, ended_step, ended_by, label_end_step, last_step, label_step, run_step, leaf_step, step}
+use Rattle.definition_inline.specs.Scan.{and_then, scan, whole_text, spans_from}
 use Rattle.laws_each.proofs.Each.{Each, each-append, each_map, each_mapped, each_same, WhereSome}
 
 module _ (Good : Inline → Type 0) where
@@ -74,14 +80,14 @@ module _ (Good : Inline → Type 0) (AllGood : Inlines → Type 0) where
     follow_good Nil last p q = n.more last Nil q n.none
     follow_good (Cons i is) last p q = n.more i (followed_by is last) (n.first i is p) (follow_good is last (n.rest i is p) q)
 
-    span_good : (span : Span) (kids : Inlines) → AllGood kids → Good (spanned span kids)
+    span_good : (span : Span) (kids : Inlines) → AllGood kids → Good (span_part span kids)
     span_good IsEmphasis kids p = n.emphasis kids p
     span_good IsStrong kids p = n.strong kids p
     span_good IsStrikethrough kids p = n.strikethrough kids p
 
     leave_good : (now : Inlines) (around : List OpenSpan) → AllGood now → Each SpanGood around → NestGood (leave now around)
     leave_good now [] p h = (p, tt)
-    leave_good now (s ∷ others) p h = (follow_good s.before (spanned s.span now) h.0 (span_good s.span now p), h.1)
+    leave_good now (s ∷ others) p h = (follow_good s.before (span_part s.span now) h.0 (span_good s.span now p), h.1)
 
     nest_row_good : (here : Nest) (row : SpanRow) → NestGood here → RowGood Good row → NestGood (nest_row here row)
     nest_row_good here (Holds i) p q = (follow_good here.now i p.0 q, p.1)
@@ -92,23 +98,23 @@ module _ (Good : Inline → Type 0) (AllGood : Inlines → Type 0) where
     nest_good here [] p h = p
     nest_good here (row ∷ rows) p h = nest_good (nest_row here row) rows (nest_row_good here row p h.0) h.1
 
-    pub emphasized_good : (tokens : List Token) → Each (TokenGood Good) tokens → AllGood (emphasized tokens)
+    pub emphasized_good : (tokens : List Token) → Each (TokenGood Good) tokens → AllGood (with_spans tokens)
     emphasized_good tokens h =
         let ps = pairs (runs_of tokens) in
         (nest_good (nest Nil []) (rows_from ps 0 tokens) (n.none, tt) (rows_good Good ps 0 tokens h)).0
 
 -- what a `]` forms: Leading holds of where it leads
 module _ (Leading : Target → Type 0) where
-  abbrev pub FormedIs : Formed → Type 0
+  abbrev pub FormedIs : LinkOrCall → Type 0
   FormedIs (Leads end) = Leading end.target
   FormedIs (Calls label) = Unit {0}
 
-  abbrev pub FormedGood : Option Formed → Type 0
+  abbrev pub FormedGood : Option LinkOrCall → Type 0
   FormedGood o = WhereSome FormedIs o
 
 -- Codes holds of the codes that are read
 module _ (Good : Inline → Type 0) (AllGood : Inlines → Type 0) (Leading : Target → Type 0) (Codes : List ℕ → Type 0) where
-  abbrev FormsGood : Option Formed → Type 0
+  abbrev FormsGood : Option LinkOrCall → Type 0
   FormsGood o = FormedGood Leading o
 
   -- what is good of the parts that are read of such codes
@@ -161,24 +167,25 @@ module _ (Good : Inline → Type 0) (AllGood : Inlines → Type 0) (Leading : Ta
     start_good LinkStart = (reads.open_link, tt)
     start_good ImageStart = (reads.open_image, (reads.open_link, tt))
 
-    unformed_good : (label : OpenLabel) (inner : Text) → LabelGood label → TextGood inner → TextGood (unformed label inner)
+    unformed_good : (label : OpenLabel) (inner : Text) → LabelGood label → TextGood inner → TextGood (with_plain_start label inner)
     unformed_good label inner h p =
         let start = start_tokens label.start in
         each-append TokenIs label.outer.tokens (start ++ inner.tokens) h (each-append TokenIs start inner.tokens (start_good label.start) p)
 
-    part_good : (start : LabelStart) (found : Formed) (tokens : List Token) → FormedIs Leading found → Each TokenIs tokens → Good (formed_part start found tokens)
-    part_good start (Leads end) tokens h p = label_good start end.target (emphasized tokens) h (emphasized_good Good AllGood reads.nests tokens p)
+    part_good : (start : LabelStart) (found : LinkOrCall) (tokens : List Token) → FormedIs Leading found → Each TokenIs tokens
+        → Good (formed_part start found tokens)
+    part_good start (Leads end) tokens h p = label_good start end.target (with_spans tokens) h (emphasized_good Good AllGood reads.nests tokens p)
     part_good start (Calls label) tokens h p = reads.call label
 
-    formed_good : (label : OpenLabel) (found : Formed) (inner : Text) → LabelGood label → FormedIs Leading found → TextGood inner
-        → TextGood (formed label found inner)
+    formed_good : (label : OpenLabel) (found : LinkOrCall) (inner : Text) → LabelGood label → FormedIs Leading found → TextGood inner
+        → TextGood (with_link_or_call label found inner)
     formed_good label found inner h q p =
         each-append TokenIs label.outer.tokens (Item (formed_part label.start found inner.tokens) ∷ []) h (part_good label.start found inner.tokens q p, tt)
 
-    ended_good : (label : OpenLabel) (others : List OpenLabel) (inner : Text) (found : Option Formed) → LabelGood label → Each LabelGood others
+    ended_good : (label : OpenLabel) (others : List OpenLabel) (inner : Text) (found : Option LinkOrCall) → LabelGood label → Each LabelGood others
         → TextGood inner → FormsGood found → StepGood (ended_step label others inner found)
     ended_good label others inner None h hs p q =
-        read_good (Item (Data 93) ∷ []) (reading (unformed label inner) others) (reads.close, tt) (unformed_good label inner h p, hs)
+        read_good (Item (Data 93) ∷ []) (reading (with_plain_start label inner) others) (reads.close, tt) (unformed_good label inner h p, hs)
     ended_good label others inner (Some found) h hs p q = (formed_good label found inner h q p, hs)
 
     -- ---- places
@@ -232,9 +239,9 @@ module _ (Good : Inline → Type 0) (AllGood : Inlines → Type 0) (Leading : Ta
     scan_good (suc k) r (c ∷ cs) h p = scan_good k r cs (reads.tail c.code (codes_of cs) h) p
 
     whole_good : (inner : Text) (open_labels : List OpenLabel) → TextGood inner → Each LabelGood open_labels
-        → TextGood (fold (λ inner label. unformed label inner) inner open_labels)
+        → TextGood (fold (λ inner label. with_plain_start label inner) inner open_labels)
     whole_good inner [] p h = p
-    whole_good inner (label ∷ others) p h = whole_good (unformed label inner) others (unformed_good label inner h.0 p) h.1
+    whole_good inner (label ∷ others) p h = whole_good (with_plain_start label inner) others (unformed_good label inner h.0 p) h.1
 
     -- from a place of a content on, before its literals are found
     pub spans_good : (content : List InlineCode) → Codes (codes_of content) → AllGood (spans_from context content)

@@ -1,5 +1,6 @@
 -- What the blocks of a page print adds a safe page.
-use Rattle.std.proofs.Common.{◌≡◌, ℕ, zero, suc, map, Bool, true, false, eqb, ◌||◌, not, List, [], ◌∷◌, ◌++◌, Option, None, Some, codes, sym, refl, subst, inl, inr}
+use Rattle.std.proofs.Common.{◌≡◌, ℕ, zero, suc, map, Bool, true, false, eqb, ◌||◌, not, List, [], ◌∷◌, ◌++◌, Option, None, Some, codes, sym, refl, subst, inl}
+use Rattle.std.proofs.Common.{inr}
 use Rattle.std.specs.Prelude.{slice_index_or}
 use Rattle.std.specs.List.{fold, flat_map}
 use Rattle.std.proofs.lemmas.Bool.{cond_both, or_cases, eqb-true}
@@ -12,14 +13,18 @@ use Rattle.definition_text.specs.Lines.{ending_text}
 use Rattle.definition_inline.specs.Inline.{Inlines, Nil}
 use Rattle.definition_block.specs.declared.align_kind.AlignKind.{AlignKind}
 use Rattle.definition_block.specs.declared.align_kind.AlignKind.TheVariants as kind
-use Rattle.definition_page.specs.GfmTable.{TableRow, Table as TableOf, align_attributes, cell_pieces, cells_pieces, row_pieces, ending_piece, body_row_pieces, head_pieces, body_pieces, table_pieces}
+use Rattle.definition_page.specs.GfmTable.{TableRow, Table as TableOf, align_attributes, cell_pieces, cells_pieces, row_pieces, ending_piece, body_row_pieces}
+use Rattle.definition_page.specs.GfmTable.{head_pieces, body_pieces, table_pieces}
 use Rattle.definition_page.specs.Tags.{Words, Number, Tag, tag, bare_tag, attribute}
 use Rattle.definition_page.specs.Pieces.{Piece, Void, Says, Eol, Fresh}
-use Rattle.definition_page.specs.Page.{Page, Block, Paragraph, Heading, Break, IndentedCode, FencedCode, Html, Table, Definition, Quote, ItemList, Item, Footnote, Ending, Blank, Blocks, Nil as NoBlocks, Cons}
+use Rattle.definition_page.specs.Page.{Page, Block, Paragraph, Heading, Break, IndentedCode, FencedCode, Html, Table, Definition, Quote, ItemList, Item}
+use Rattle.definition_page.specs.Page.{Footnote, Ending, Blank, Blocks, Nil as NoBlocks, Cons}
 use Rattle.definition_page.specs.InlinePieces.{Meaning, inline_counts, element, inline_pieces}
 use Rattle.definition_page.specs.GfmFootnoteDefinition.{Footnote as NoteWithCalls}
 use Rattle.definition_page.specs.Layout.{laid, lay, note_of, page_layout}
-use Rattle.definition_page.specs.BlockPieces.{checkable_attributes, done_attributes, check_tag, check_pieces, Place, at_top, inside, code_line, html_line, says, heading_name, info_attributes, list_tag, is_silent, last_shown, ends_plainly, fresh_unless, fenced_pieces, block_pieces, children_pieces, document_pieces}
+use Rattle.definition_page.specs.BlockPieces.{checkable_attributes, done_attributes, check_tag, check_pieces, Place, at_top, inside, code_line, html_line, says}
+use Rattle.definition_page.specs.BlockPieces.{heading_name, info_attributes, list_tag, is_silent, last_visible, ends_plainly, fresh_unless, fenced_pieces}
+use Rattle.definition_page.specs.BlockPieces.{block_pieces, children_pieces, document_pieces}
 use Rattle.html_safe_page.specs.Table.{start_rows, void_rows}
 use Rattle.html_safe_page.specs.SafePage.{IsSafePage}
 use Rattle.html_safe_page.proofs.Closing.{closed}
@@ -28,7 +33,8 @@ use Rattle.laws_safe_page.proofs.Values.{IsText, IsTextPart, value_spelled}
 use Rattle.laws_safe_page.proofs.Each.{Each, each_map, each_flat_map}
 use Rattle.laws_safe_page.proofs.Tags.{IsTag}
 use Rattle.laws_safe_page.proofs.Pieces.{both_after}
-use Rattle.laws_safe_page.proofs.Lays.{IsPrinted, Lays, lays_nothing, lays_append, lays_says, lays_void, lays_parts, lays_element, lays_eol, lays_fresh, lays_note}
+use Rattle.laws_safe_page.proofs.Lays.{IsPrinted, Lays, lays_nothing, lays_append, lays_says, lays_void, lays_parts, lays_element, lays_eol, lays_fresh}
+use Rattle.laws_safe_page.proofs.Lays.{lays_note}
 use Rattle.laws_safe_page.proofs.Links.{words_text}
 use Rattle.laws_safe_page.proofs.Footnotes.{section_adds}
 use Rattle.laws_safe_page.proofs.InlineAdds.{AllEndLines, html_is_text, counts_lay, inline_adds}
@@ -263,7 +269,7 @@ module _ (default : List ℕ) (ending : IsText default) (m : Meaning) (safe : Ar
         (lays_append m.compile default lines (Eol ∷ []) (children_add (inside (not loose)) None items h) (lays_eol m.compile default ending))
     block_adds place before (Item kids) h =
         let lines = children_pieces m (inside place.tight) None kids in
-        let plainly = ends_plainly place.tight (last_shown None kids) in
+        let plainly = ends_plainly place.tight (last_visible None kids) in
         block_element (bare_tag (codes "li")) (lines ++ fresh_unless plainly) (tt, refl)
         (lays_append m.compile default lines (fresh_unless plainly) (children_add (inside place.tight) None kids h) (adds_fresh_unless plainly))
     block_adds place before (Footnote label kids) h =

@@ -1,5 +1,6 @@
 -- What calls of footnotes and the section at a page's end print adds a safe page.
-use Rattle.std.proofs.Common.{◌≡◌, ℕ, zero, suc, ◌+◌, ◌-◌, true, List, [], ◌∷◌, ◌++◌, None, Some, length, take, drop, codes, sym, refl, ap, ◌∙◌, subst, append_assoc, arith}
+use Rattle.std.proofs.Common.{◌≡◌, ℕ, zero, suc, ◌+◌, ◌-◌, true, List, [], ◌∷◌, ◌++◌, None, Some, length, take, drop, codes, sym, refl, ap, ◌∙◌, subst}
+use Rattle.std.proofs.Common.{append_assoc, arith}
 use Rattle.std.specs.Prelude.{nat_le}
 use Rattle.std.specs.List.{fold, flat_map}
 use Rattle.std.proofs.lemmas.Bool.{cond_both}
@@ -12,7 +13,9 @@ use Rattle.definition_page.specs.Tags.{Said, Words, AsItIs, Number, said_bytes, 
 use Rattle.definition_page.specs.Pieces.{Piece, Open, Close, Says, Fresh, print}
 use Rattle.definition_page.specs.InlinePieces.{element}
 use Rattle.definition_page.specs.GfmLabelStartFootnote.{Call, text_or, footnote_id, count_says, call_id, call_tag, call_pieces}
-use Rattle.definition_page.specs.GfmFootnoteDefinition.{Footnote, back_tag, arrow, count_pieces, back_pieces, space_after, backs_pieces, ended_size, with_backs, content_pieces, item_tag, footnote_pieces, footnotes_pieces, heading_tag, heading_pieces, section_tag, section_pieces}
+use Rattle.definition_page.specs.GfmFootnoteDefinition.{Footnote, back_tag, arrow, count_pieces, back_pieces, space_after, backs_pieces, ended_size, with_backs}
+use Rattle.definition_page.specs.GfmFootnoteDefinition.{content_pieces, item_tag, footnote_pieces, footnotes_pieces, heading_tag, heading_pieces, section_tag}
+use Rattle.definition_page.specs.GfmFootnoteDefinition.{section_pieces}
 use Rattle.html_safe_page.specs.Table.{start_rows}
 use Rattle.html_safe_page.specs.SafePage.{IsSafePage}
 use Rattle.html_safe_page.proofs.Closing.{closed}

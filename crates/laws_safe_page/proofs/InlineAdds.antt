@@ -5,12 +5,15 @@ use Rattle.std.proofs.lemmas.Bool.{cond_both}
 use Rattle.markdown_options.specs.declared.configuration.CompileOptions.{CompileOptions}
 use Rattle.definition_text.specs.Columns.{bytes_of, bare}
 use Rattle.definition_text.specs.Content.{is_eol}
-use Rattle.definition_inline.specs.Inline.{Inline, Data, Escape, Character, Code, Math, Autolink, Literal, Html, EscapedBreak, TrailingBreak, LineEnd, Emphasis, Strong, Strikethrough, Link, Image, Call, Inlines, Nil, Cons}
+use Rattle.definition_inline.specs.Inline.{Inline, Data, Escape, Character, Code, Math, Autolink, Literal, Html, EscapedBreak, TrailingBreak, LineEnd, Emphasis}
+use Rattle.definition_inline.specs.Inline.{Strong, Strikethrough, Link, Image, Call, Inlines, Nil, Cons}
 use Rattle.definition_inline.specs.LabelMatch.{normal_label, first_match}
-use Rattle.definition_page.specs.GfmTagfilter.{filtered}
+use Rattle.definition_page.specs.GfmTagfilter.{filter_if}
 use Rattle.definition_page.specs.Tags.{Words, AsItIs, EndOfLine, attribute, tag, bare_tag}
 use Rattle.definition_page.specs.Pieces.{Void, Says}
-use Rattle.definition_page.specs.InlinePieces.{Meaning, raw_html, HtmlLine, html_text_line, in_first_line, html_lines, html_line_says, later_line_says, html_lines_say, html_says, leads_to, url_of, link_url, link_tag, image_tag, math_tag, address, literal_address, part_says, description, call_at, count_at, part_counts, inline_counts, part_pieces, inline_pieces}
+use Rattle.definition_page.specs.InlinePieces.{Meaning, raw_html, HtmlLine, html_text_line, in_first_line, html_lines, html_line_says, later_line_says}
+use Rattle.definition_page.specs.InlinePieces.{html_lines_say, html_says, leads_to, url_of, link_url, link_tag, image_tag, math_tag, address, literal_address}
+use Rattle.definition_page.specs.InlinePieces.{part_says, description, call_at, count_at, part_counts, inline_counts, part_pieces, inline_pieces}
 use Rattle.html_safe_page.specs.Table.{start_rows, void_rows}
 use Rattle.laws_safe_page.specs.SafeHtml.{AreSafe}
 use Rattle.laws_safe_page.proofs.Values.{IsTextPart, AreTextParts}
@@ -55,7 +58,7 @@ lines_end (c ∷ cs) =
 
 module _ (options : CompileOptions) (safe : AreSafe options) where
   pub html_is_text : (html : List ℕ) → IsTextPart (raw_html options html)
-  html_is_text html = subst (λ b. IsTextPart (cond b (AsItIs (filtered options html)) (Words html))) (sym safe.no_html) tt
+  html_is_text html = subst (λ b. IsTextPart (cond b (AsItIs (filter_if options html)) (Words html))) (sym safe.no_html) tt
 
   line_is_text : (line ending : List ℕ) → Each IsEnding ending → AreTextParts (html_line_says options line ending)
   line_is_text line ending p = (html_is_text (bytes_of line), each_mapped IsEnding IsTextPart EndOfLine ending (λ code e. e) p)

@@ -6,7 +6,8 @@ use Rattle.definition_text.specs.Columns.{indent}
 use Rattle.definition_text.specs.Content.{Part, before, up_to, is_eol}
 use Rattle.definition_text.specs.Runs.{run, after_run}
 use Rattle.definition_text.specs.InlineCode.{InlineCode, codes_of}
-use Rattle.definition_inline.specs.Inline.{Target, Inline, Data, Escape, Autolink, EscapedBreak, TrailingBreak, LineEnd, Emphasis, Strong, Strikethrough, Inlines, Leaf, leaf, or_else}
+use Rattle.definition_inline.specs.Inline.{Target, Inline, Data, Escape, Autolink, EscapedBreak, TrailingBreak, LineEnd, Emphasis, Strong, Strikethrough}
+use Rattle.definition_inline.specs.Inline.{Inlines, Leaf, leaf, or_else}
 use Rattle.definition_inline.specs.CharacterEscape.{escape_at}
 use Rattle.definition_inline.specs.CharacterReference.{CharacterReference, reference_form, reference_text, reference_leaf, reference_of, reference_at}
 use Rattle.definition_inline.specs.CodeText.{run_of, raw_part, raw_leaf, raw_at, code_text_at}
@@ -14,11 +15,11 @@ use Rattle.definition_inline.specs.MathText.{may_open_math, math_text_at}
 use Rattle.definition_inline.specs.Autolink.{uri_end, email_end, closed_autolink, autolink_after, autolink_at}
 use Rattle.definition_inline.specs.HtmlText.{html_byte, html_end, html_leaf, html_text_at}
 use Rattle.definition_inline.specs.HardBreak.{line_end_at, escaped_break_at, is_trailing_break, line_spaces_at}
-use Rattle.definition_inline.specs.LabelEnd.{Formed, Leads, Calls}
+use Rattle.definition_inline.specs.LabelEnd.{LinkOrCall, Leads, Calls}
 use Rattle.definition_inline.specs.Attention.{Run}
 use Rattle.definition_inline.specs.GfmAutolinkLiteral.{literal_at}
 use Rattle.definition_inline.proofs.GfmAutolinkLiteral.{any_literal}
-use Rattle.definition_inline.specs.Scan.{InlineContext, leaf_at, leaf_here, formed_at, text, spans_from, inlines, inlines_from, unindented}
+use Rattle.definition_inline.specs.Scan.{InlineContext, leaf_at, leaf_here, formed_at, text, spans_from, inlines, inlines_from, without_indent}
 use Rattle.laws_literals.proofs.Carried.{Holds as CarriesHolding, Carries, literals_good, linked_good}
 use Rattle.laws_reads.proofs.Inlines.{LeafGood, BeginsGood, either_begins, Nests, FormedGood, Reads, spans_good}
 use Rattle.laws_safe_page.proofs.Each.{Each, each_map, where_passed}
@@ -146,10 +147,10 @@ LeadsAnywhere target = Unit {0}
 abbrev AnyCodes : List ℕ → Type 0
 AnyCodes cs = Unit {0}
 
-abbrev Forms : Option Formed → Type 0
+abbrev Forms : Option LinkOrCall → Type 0
 Forms o = FormedGood LeadsAnywhere o
 
-forms_anything : (o : Option Formed) → Forms o
+forms_anything : (o : Option LinkOrCall) → Forms o
 forms_anything None = tt
 forms_anything (Some (Leads end)) = tt
 forms_anything (Some (Calls label)) = tt
@@ -209,4 +210,4 @@ module _ (context : InlineContext) where
       linked_good context.options.constructs AllEndLines spans (λ _. literals_good EndsLines AllEndLines Keeps literals_carry spans p) p
 
   pub inlines_end : (content : List InlineCode) → AllEndLines (inlines context content)
-  inlines_end content = from_ends (unindented content)
+  inlines_end content = from_ends (without_indent content)

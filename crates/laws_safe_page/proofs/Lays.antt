@@ -7,7 +7,7 @@ use Rattle.definition_page.specs.Tags.{Said, Tag, start_tag}
 use Rattle.definition_page.specs.Pieces.{Piece, Close, Void, Says, Eol, Fresh, CallOf, CountOf, NoteStart, NoteEnd}
 use Rattle.definition_page.specs.InlinePieces.{element}
 use Rattle.definition_page.specs.GfmLabelStartFootnote.{Call, call_pieces}
-use Rattle.definition_page.specs.Layout.{Called, once_more, latest_call, Laid, laid, note_ended, lay}
+use Rattle.definition_page.specs.Layout.{NoteCalls, once_more, latest_call, Laid, laid, note_end, lay}
 use Rattle.html_safe_page.specs.Table.{start_rows, void_rows}
 use Rattle.html_safe_page.specs.SafePage.{IsSafePage}
 use Rattle.laws_safe_page.proofs.Each.{Each, each-append}
@@ -32,7 +32,7 @@ abbrev pub Lays : CompileOptions → List ℕ → List Piece → Type 0
 Lays options default pieces = (l : Laid) → LaidAfter l (fold (lay options default) l pieces)
 
 -- no footnote ended
-text_alone : (l : Laid) (text : List ℕ) (called : List Called) → IsAfter l.text text → LaidAfter l (laid text l.outer l.notes called)
+text_alone : (l : Laid) (text : List ℕ) (called : List NoteCalls) → IsAfter l.text text → LaidAfter l (laid text l.outer l.notes called)
 text_alone l text called p = record { within = p; around = refl; ended = []; notes_after = sym (append-nil l.notes); notes_safe = tt }
 
 module _ (options : CompileOptions) (default : List ℕ) where
@@ -113,4 +113,4 @@ module _ (options : CompileOptions) (default : List ℕ) where
         notes_safe = each-append IsPrinted inner.ended (k.text ∷ []) inner.notes_safe (content, tt);
       } in
       subst (LaidAfter l) (sym (fold-append (lay options default) start inside (NoteEnd ∷ [])))
-      (subst (λ outer. LaidAfter l (note_ended k.text outer k.notes k.called)) (sym inner.around) ended)
+      (subst (λ outer. LaidAfter l (note_end k.text outer k.notes k.called)) (sym inner.around) ended)

@@ -2,9 +2,9 @@
 use Rattle.std.proofs.Common.{◌≡◌, ℕ, Bool, true, false, ◌&&◌, ◌||◌, List, [], ◌∷◌, Option, None, Some, codes, sym, refl, ap, ◌∙◌, append-nil}
 use Rattle.std.proofs.lemmas.Bool.{cond_both}
 use Rattle.definition_text.specs.Encode.{encode, plain}
-use Rattle.definition_page.specs.Urls.{percent, sanitized, permitted, href_protocols, src_protocols}
+use Rattle.definition_page.specs.Urls.{percent, sanitize, permitted, href_protocols, src_protocols}
 use Rattle.definition_page.specs.Tags.{Said, Words, said_bytes, attribute, Attribute, Tag, tag}
-use Rattle.definition_page.specs.InlinePieces.{Meaning, permitted_url, link_url, image_url, titled, title_attribute}
+use Rattle.definition_page.specs.InlinePieces.{Meaning, permitted_url, link_url, image_url, title_attributes, title_attribute}
 use Rattle.html_safe_page.specs.Table.{start_rows, void_rows}
 use Rattle.html_safe_page.specs.SafePage.{is_value}
 use Rattle.html_safe_page.proofs.Closing.{encode_spelled}
@@ -24,7 +24,7 @@ only_permitted : (all : Bool) (protocols : List (List ℕ)) (url : List ℕ) →
     → ((text : List ℕ) → permitted protocols (plain text) ≡ permitted protocols (encode text))
     → permitted protocols (plain (permitted_url all protocols url)) ≡ true
 only_permitted all protocols url off same =
-    let test = permitted protocols (sanitized url) in
+    let test = permitted protocols (sanitize url) in
     cond_both (all || test) (percent url) [] (λ x. permitted protocols (plain x) ≡ true)
     (λ e. same (percent url) ∙ ap (λ b. b || test) (sym off) ∙ e) (λ _. refl)
 
@@ -42,7 +42,7 @@ module _ (m : Meaning) (safe : AreSafe m.compile) where
       only_permitted (m.compile.allow_any_img_src || m.compile.allow_dangerous_protocol) src_protocols url
       (ap (λ b. b || m.compile.allow_dangerous_protocol) safe.no_source ∙ safe.no_protocol) (tested_as_printed (codes "src"))
 
-  link_titled : (url title : List ℕ) → IsTag start_rows (tag (codes "a") (attribute (codes "href") (link_url m.compile url) ∷ titled title))
+  link_titled : (url title : List ℕ) → IsTag start_rows (tag (codes "a") (attribute (codes "href") (link_url m.compile url) ∷ title_attributes title))
   unfolding start_rows
   link_titled url [] = ((words_text (link_url m.compile url), tt), ap (λ x. x && true) (link_permitted url))
   link_titled url (b ∷ bs) = ((words_text (link_url m.compile url), (words_text (b ∷ bs), tt)), ap (λ x. x && true) (link_permitted url))
@@ -57,7 +57,8 @@ module _ (m : Meaning) (safe : AreSafe m.compile) where
   image_with url description title =
       tag (codes "img") (attribute (codes "src") (image_url m.compile url) ∷ record { name = codes "alt"; value = description } ∷ title)
 
-  image_titled : (url title : List ℕ) (description : List Said) → AreTextParts description → IsTag void_rows (image_with url description (titled title))
+  image_titled : (url title : List ℕ) (description : List Said) → AreTextParts description
+      → IsTag void_rows (image_with url description (title_attributes title))
   unfolding void_rows
   image_titled url [] description h =
       ((words_text (image_url m.compile url), (value_spelled description h, tt)), ap (λ x. x && true) (image_permitted url))

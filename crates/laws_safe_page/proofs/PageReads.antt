@@ -7,18 +7,21 @@ use Rattle.definition_text.specs.BlockLines.{BlockLine}
 use Rattle.definition_text.specs.Columns.{code_byte}
 use Rattle.definition_text.specs.InlineCode.{InlineCode, codes_of, with_kinds}
 use Rattle.definition_text.specs.Lines.{without_mark, kind_before_text}
-use Rattle.definition_inline.specs.Inline.{Inline, Data, Escape, Character, Code, Math, Autolink, Literal, Html, EscapedBreak, TrailingBreak, LineEnd, Emphasis, Strong, Strikethrough, Link, Image, Call, Inlines, Nil, Cons}
+use Rattle.definition_inline.specs.Inline.{Inline, Data, Escape, Character, Code, Math, Autolink, Literal, Html, EscapedBreak, TrailingBreak, LineEnd, Emphasis}
+use Rattle.definition_inline.specs.Inline.{Strong, Strikethrough, Link, Image, Call, Inlines, Nil, Cons}
 use Rattle.definition_inline.specs.GfmTaskListItem.{check_at, check_size}
-use Rattle.definition_inline.specs.Scan.{unindented}
+use Rattle.definition_inline.specs.Scan.{without_indent}
 use Rattle.definition_block.specs.Container.{Quote, Item, Footnote}
 use Rattle.definition_block.specs.Tree as tree
 use Rattle.definition_block.specs.Tree.{is_ending, join, one, blocks}
-use Rattle.definition_block.specs.Lists.{endings_of, after_endings, item_marker, list_marker, list_items, rest_of, before_list, before, grouped_block, grouped}
+use Rattle.definition_block.specs.Lists.{endings_of, after_endings, item_marker, list_marker, list_items, rest_of, before_list, before, grouped_block}
+use Rattle.definition_block.specs.Lists.{group_items}
 use Rattle.definition_block.specs.GfmTable.{Cell, line_cells}
 use Rattle.definition_page.specs.GfmTable.{head_line, body_lines, part_in_cell, in_cell}
 use Rattle.definition_page.specs.Page as page
 use Rattle.definition_page.specs.Page.{cons_ending, cons_blank}
-use Rattle.definition_page.specs.Read.{Reading, Standing, on_page, in_container, in_item, next_standing, context_of, text_content, read_text, checked_paragraph, read_paragraph, read_cell, read_row, without_ending, after_code, read_block, read_blocks, read}
+use Rattle.definition_page.specs.Read.{Reading, Standing, on_page, in_container, in_item, next_standing, context_of, text_content, read_text, checked_paragraph}
+use Rattle.definition_page.specs.Read.{read_paragraph, read_cell, read_row, without_ending, after_code, read_block, read_blocks, read}
 use Rattle.definition_page.specs.TextTables.{TextTables}
 use Rattle.laws_safe_page.proofs.BlockAdds.{CellsEndLines, RowsEndLines, IsReadable, AreReadable}
 use Rattle.laws_safe_page.proofs.BlockReads.{IsRanked, AreRanked, ranked_join, blocks_are_ranked}
@@ -59,9 +62,9 @@ mutual
   ranked_grouped_block (tree.Holds c kids) h = ranked_grouped kids h
   ranked_grouped_block b h = h
 
-  ranked_grouped : (bs : tree.Blocks) → AreRanked bs → AreRanked (grouped bs)
+  ranked_grouped : (bs : tree.Blocks) → AreRanked bs → AreRanked (group_items bs)
   ranked_grouped tree.Nil p = tt
-  ranked_grouped (tree.Cons b bs) p = ranked_before (grouped_block b) (grouped bs) (ranked_grouped_block b p.0) (ranked_grouped bs p.1)
+  ranked_grouped (tree.Cons b bs) p = ranked_before (grouped_block b) (group_items bs) (ranked_grouped_block b p.0) (ranked_grouped bs p.1)
 
 -- ---- from the blocks of a text to those of a page
 
@@ -115,7 +118,7 @@ module _ (r : Reading) where
 
   paragraph_readable : (first : Bool) (ls : List BlockLine) → IsReadable (read_paragraph r first ls)
   paragraph_readable first ls =
-      let content = unindented (text_content r ls) in checked_readable content (check_at r.options.constructs first (codes_of content))
+      let content = without_indent (text_content r ls) in checked_readable content (check_at r.options.constructs first (codes_of content))
 
   row_readable : (cells : List Cell) → CellsEndLines (map (read_cell r) cells)
   row_readable [] = tt
@@ -152,4 +155,4 @@ pub page_is_readable : (tables : TextTables) (options : ParseOptions) (text : Li
 page_is_readable tables options text =
     let on = options.constructs in
     let bs = blocks on (kind_before_text text) (without_mark text) in
-    readable_blocks _ on_page (grouped bs) (ranked_grouped bs (blocks_are_ranked on (kind_before_text text) (without_mark text)))
+    readable_blocks _ on_page (group_items bs) (ranked_grouped bs (blocks_are_ranked on (kind_before_text text) (without_mark text)))

@@ -1,5 +1,6 @@
 -- What is said is a text as a safe page spells it, and so are the values of attributes.
-use Rattle.std.proofs.Common.{◌≡◌, ℕ, zero, suc, ◌/◌, ◌%◌, Bool, true, false, eqb, not, ◌||◌, ◌&&◌, List, [], ◌∷◌, ◌++◌, codes, refl, sym, ap, ◌∙◌, subst, inl, inr, arith}
+use Rattle.std.proofs.Common.{◌≡◌, ℕ, zero, suc, ◌/◌, ◌%◌, Bool, true, false, eqb, not, ◌||◌, ◌&&◌, List, [], ◌∷◌, ◌++◌, codes, refl, sym, ap, ◌∙◌, subst, inl}
+use Rattle.std.proofs.Common.{inr, arith}
 use Rattle.std.specs.List.{flat_map, list_all}
 use Rattle.std.specs.Fmt.{digit_glyph, digits, digits_onto, decimal}
 use Rattle.std.proofs.lemmas.Bool.{cond_both, cond-false, false≢true, and_parts, and_from, or_cases, eqb-true}
@@ -9,7 +10,7 @@ use Rattle.definition_text.specs.Content.{is_eol}
 use Rattle.definition_text.specs.Encode.{replacement_character, encoded_byte, encode, plain}
 use Rattle.definition_inline.specs.Strings.{eol_bytes}
 use Rattle.definition_page.specs.Tags.{Said, Words, AsItIs, EndOfLine, Number, said_bytes}
-use Rattle.html_safe_page.specs.SafePage.{And, Quote, Less, Greater, Plain, kind, spelled, spell_text}
+use Rattle.html_safe_page.specs.SafePage.{And, Quote, Less, Greater, Plain, kind, spell_kind, spell_text}
 use Rattle.html_safe_page.proofs.Closing.{texts_append, encode_spelled}
 use Rattle.laws_safe_page.proofs.Each.{Each}
 
@@ -66,7 +67,7 @@ texts_joined a b p q =
 
 abbrev pub plain_ahead : (b : ℕ) (bytes : List ℕ) → kind b ≡ Plain → eqb b 0 ≡ false → IsText bytes → IsText (b ∷ bytes)
 plain_ahead b bytes k z p =
-    (b ∷ p.0, ap (λ x. b ∷ x) p.1 ∙ ap (λ kind. spelled kind b ++ spell_text p.0 []) (sym k), ap (λ t. not t && has_no_nul bytes) z ∙ p.2)
+    (b ∷ p.0, ap (λ x. b ∷ x) p.1 ∙ ap (λ kind. spell_kind kind b ++ spell_text p.0 []) (sym k), ap (λ t. not t && has_no_nul bytes) z ∙ p.2)
 
 other_plain : (b : ℕ) → eqb b 38 ≡ false → eqb b 34 ≡ false → eqb b 60 ≡ false → eqb b 62 ≡ false → kind b ≡ Plain
 other_plain b a q l g = cond-false (eqb b 38) And _ a ∙ cond-false (eqb b 34) Quote _ q ∙ cond-false (eqb b 60) Less _ l ∙ cond-false (eqb b 62) Greater Plain g

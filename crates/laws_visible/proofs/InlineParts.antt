@@ -6,9 +6,9 @@ use Rattle.definition_text.specs.Columns.{is_white, indent}
 use Rattle.definition_text.specs.InlineCode.{InlineCode, codes_of}
 use Rattle.definition_inline.specs.Inline.{Inline, Nil, Cons, followed_by}
 use Rattle.definition_inline.specs.Pairing.{Pair, pairs}
-use Rattle.definition_inline.specs.Spans.{Item, runs_of, Holds, rows_from, Nest, nest, nest_row, nested, emphasized}
+use Rattle.definition_inline.specs.Spans.{Item, runs_of, Holds, rows_from, Nest, nest, nest_row, nest_spans, with_spans}
 use Rattle.definition_inline.specs.Scan.{text, Reading, reading, read_tokens}
-use Rattle.definition_inline.specs.GfmAutolinkLiteral.{followed}
+use Rattle.definition_inline.specs.GfmAutolinkLiteral.{parts_before}
 use Rattle.html_bytes.specs.InlineHtml.{InlineMeaning, part_html, inline_html}
 use Rattle.html_bytes.proofs.WithoutCalls.{part_calls, has_calls}
 
@@ -27,32 +27,32 @@ held ps [] = refl
 held ps (i ∷ is) = ap (λ rows. Holds i ∷ rows) (held ps is)
 
 -- one more part after others
-followed_last : (is : List Inline) (last : Inline) → followed_by (followed is Nil) last ≡ followed (is ++ last ∷ []) Nil
+followed_last : (is : List Inline) (last : Inline) → followed_by (parts_before is Nil) last ≡ parts_before (is ++ last ∷ []) Nil
 followed_last [] last = refl
 followed_last (i ∷ is) last = ap (Cons i) (followed_last is last)
 
-nest_held : (before is : List Inline) → fold nest_row (nest (followed before Nil) []) (map Holds is) ≡ nest (followed (before ++ is) Nil) []
-nest_held before [] = ap (λ x. nest (followed x Nil) []) (sym (append-nil before))
+nest_held : (before is : List Inline) → fold nest_row (nest (parts_before before Nil) []) (map Holds is) ≡ nest (parts_before (before ++ is) Nil) []
+nest_held before [] = ap (λ x. nest (parts_before x Nil) []) (sym (append-nil before))
 nest_held before (i ∷ is) =
     ap (λ n. fold nest_row (nest n []) (map Holds is)) (followed_last before i)
     ∙ nest_held (before ++ i ∷ []) is
-    ∙ ap (λ x. nest (followed x Nil) []) (append_assoc before (i ∷ []) is)
+    ∙ ap (λ x. nest (parts_before x Nil) []) (append_assoc before (i ∷ []) is)
 
 -- where no runs stand among parts, they are the inline structure
-pub parts_alone : (is : List Inline) → emphasized (map Item is) ≡ followed is Nil
-parts_alone is = ap nested (held (pairs (runs_of (map Item is))) is) ∙ ap (λ (n : Nest). n.now) (nest_held [] is)
+pub parts_alone : (is : List Inline) → with_spans (map Item is) ≡ parts_before is Nil
+parts_alone is = ap nest_spans (held (pairs (runs_of (map Item is))) is) ∙ ap (λ (n : Nest). n.now) (nest_held [] is)
 
 -- what they print, and whether they call footnotes
-pub html_followed : (meaning : InlineMeaning) (is : List Inline) → inline_html meaning (followed is Nil) ≡ flat_map (part_html meaning) is
+pub html_followed : (meaning : InlineMeaning) (is : List Inline) → inline_html meaning (parts_before is Nil) ≡ flat_map (part_html meaning) is
 html_followed meaning [] = refl
 html_followed meaning (i ∷ is) = ap (λ x. part_html meaning i ++ x) (html_followed meaning is)
 
-pub html_of_parts : (meaning : InlineMeaning) (is : List Inline) → inline_html meaning (emphasized (map Item is)) ≡ flat_map (part_html meaning) is
+pub html_of_parts : (meaning : InlineMeaning) (is : List Inline) → inline_html meaning (with_spans (map Item is)) ≡ flat_map (part_html meaning) is
 html_of_parts meaning is = ap (inline_html meaning) (parts_alone is) ∙ html_followed meaning is
 
-pub calls_followed : (is : List Inline) → has_calls (followed is Nil) ≡ list_any part_calls is
+pub calls_followed : (is : List Inline) → has_calls (parts_before is Nil) ≡ list_any part_calls is
 calls_followed [] = refl
 calls_followed (i ∷ is) = ap (λ b. part_calls i || b) (calls_followed is)
 
-pub calls_of_parts : (is : List Inline) → has_calls (emphasized (map Item is)) ≡ list_any part_calls is
+pub calls_of_parts : (is : List Inline) → has_calls (with_spans (map Item is)) ≡ list_any part_calls is
 calls_of_parts is = ap has_calls (parts_alone is) ∙ calls_followed is

@@ -1,5 +1,6 @@
 -- The text of lines where every construct is off: the lines without the spaces and tabs at their ends, encoded.
-use Rattle.std.proofs.Common.{◌≡◌, ℕ, ◌+◌, ◌-◌, ◌<◌, suc, zero, List, [], ◌∷◌, ◌++◌, Option, None, Some, Bool, true, false, cond, ◌&&◌, eqb, leb, inl, inr, refl, sym, ap, ◌∙◌, subst, append_assoc, arith, take, drop, length, map}
+use Rattle.std.proofs.Common.{◌≡◌, ℕ, ◌+◌, ◌-◌, ◌<◌, suc, zero, List, [], ◌∷◌, ◌++◌, Option, None, Some, Bool, true, false, cond, ◌&&◌, eqb, leb, inl, inr}
+use Rattle.std.proofs.Common.{refl, sym, ap, ◌∙◌, subst, append_assoc, arith, take, drop, length, map}
 use Rattle.std.specs.Prelude.{reverse}
 use Rattle.std.specs.List.{flat_map, fold, list_any, prefix_len, suffix_len}
 use Rattle.std.proofs.Math.Seq.{drop-append_seam}
@@ -16,15 +17,16 @@ use Rattle.markdown_options.specs.Defaults.{no_constructs}
 use Rattle.definition_text.specs.declared.beside.Kind.{Kind}
 use Rattle.definition_text.specs.declared.beside.Kind.TheVariants.{Whitespace}
 use Rattle.definition_text.specs.Lines.{ends_line, ending_text}
-use Rattle.definition_text.specs.Columns.{is_white, is_blank, indent, bare, is_tab_column, code_byte, trimmed}
+use Rattle.definition_text.specs.Columns.{is_white, is_blank, indent, bare, is_tab_column, code_byte, trim}
 use Rattle.definition_text.specs.Encode.{encode}
 use Rattle.definition_text.specs.BlockLines.{BlockLine}
 use Rattle.definition_text.specs.Content.{is_eol, ending_code, line_codes, content_of}
 use Rattle.definition_text.specs.InlineCode.{InlineCode, codes_of, next_kind, with_kinds, line_content, inline_content}
 use Rattle.definition_inline.specs.Inline.{Inline, Data, LineEnd, Inlines, Leaf, leaf, or_else}
 use Rattle.definition_inline.specs.HardBreak.{ends_here, line_end_at, line_spaces_at}
-use Rattle.definition_inline.specs.Spans.{Item, emphasized}
-use Rattle.definition_inline.specs.Scan.{InlineContext, leaf_at, leaf_here, text, Reading, reading, read_tokens, Next, leaf_step, step, and_then, scan, whole_text, inlines}
+use Rattle.definition_inline.specs.Spans.{Item, with_spans}
+use Rattle.definition_inline.specs.Scan.{InlineContext, leaf_at, leaf_here, text, Reading, reading, read_tokens, Next, leaf_step, step, and_then, scan}
+use Rattle.definition_inline.specs.Scan.{whole_text, inlines}
 use Rattle.definition_inline.specs.Strings.{or_byte}
 use Rattle.html_bytes.specs.InlineHtml.{InlineMeaning, part_html, inline_html, inline_pieces}
 use Rattle.html_bytes.specs.Layout.{lay}
@@ -37,7 +39,7 @@ use Rattle.laws_visible.proofs.InlineParts.{read_nothing, white_codes, html_of_p
 
 -- a line of text: the spaces and tabs at its ends are dropped
 abbrev pub line_text : BlockLine → List ℕ
-line_text line = encode (trimmed line.codes) ++ ending_text line.ending
+line_text line = encode (trim line.codes) ++ ending_text line.ending
 
 abbrev pub plain_text : List BlockLine → List ℕ
 plain_text ls = flat_map line_text ls
@@ -128,12 +130,12 @@ module _ (options : ParseOptions) (names : List ℕ → Option (List ℕ)) (is_d
 
 -- the inline structure of a content
 structure_of_codes : (options : ParseOptions) (names : List ℕ → Option (List ℕ)) (is_defined is_footnote : List ℕ → Bool) (content : List InlineCode)
-    → inlines (all_off options names is_defined is_footnote) content ≡ emphasized (map Item (parts 0 (bare (codes_of content))))
+    → inlines (all_off options names is_defined is_footnote) content ≡ with_spans (map Item (parts 0 (bare (codes_of content))))
 structure_of_codes options names is_defined is_footnote content =
     let start = prefix_len (λ (c : InlineCode). is_white c.code) content in
     let nothing : Reading = reading (text [] false) [] in
-    ap (λ r. emphasized (whole_text r).tokens) (plain_scan options names is_defined is_footnote 0 nothing (drop start content))
-    ∙ ap (λ cs. emphasized (map Item (parts 0 cs))) (drop-codes_of start content ∙ ap (λ n. drop n (codes_of content)) (white_codes content))
+    ap (λ r. with_spans (whole_text r).tokens) (plain_scan options names is_defined is_footnote 0 nothing (drop start content))
+    ∙ ap (λ cs. with_spans (map Item (parts 0 cs))) (drop-codes_of start content ∙ ap (λ n. drop n (codes_of content)) (white_codes content))
 
 -- ---- calls of footnotes
 
@@ -346,7 +348,7 @@ module _ (meaning : InlineMeaning) where
   ]
 
   trimmed_printed : (bs rest : List ℕ) → AreInLine bs → ends_here rest ≡ true
-      → printed meaning (bare (bs ++ rest)) ≡ encode (trimmed bs) ++ printed meaning rest
+      → printed meaning (bare (bs ++ rest)) ≡ encode (trim bs) ++ printed meaning rest
   trimmed_printed bs rest line e =
       ap (printed meaning) (bare_before bs rest e) ∙ line_printed (bare bs) rest (line_drop (indent bs) bs line) e
       ∙ ap (λ x. encode x ++ printed meaning rest) (sym (without_end (bare bs)))
@@ -396,7 +398,7 @@ module _ (meaning : InlineMeaning) where
   lines_printed [] h = refl
   lines_printed (line ∷ others) h =
       let after = ending_code line.ending ++ content_of others in
-      let said = encode (trimmed line.codes) in
+      let said = encode (trim line.codes) in
       ap (λ x. printed meaning (bare x)) (append_assoc line.codes (ending_code line.ending) (content_of others))
       ∙ trimmed_printed line.codes after (first_line line others h) (after_starts line others h)
       ∙ ap (λ x. said ++ x)
@@ -405,9 +407,11 @@ module _ (meaning : InlineMeaning) where
 
 -- ---- the codes of lines
 
-kinds_codes : (is_punctuation : ℕ → Bool) (previous : Option ℕ) (before after : Kind) (cs : List ℕ) → codes_of (with_kinds is_punctuation previous before after cs) ≡ cs
+kinds_codes : (is_punctuation : ℕ → Bool) (previous : Option ℕ) (before after : Kind) (cs : List ℕ)
+    → codes_of (with_kinds is_punctuation previous before after cs) ≡ cs
 kinds_codes is_punctuation previous before after [] = refl
-kinds_codes is_punctuation previous before after (c ∷ cs) = ap (λ x. c ∷ x) (kinds_codes is_punctuation (Some c) (next_kind is_punctuation before (c ∷ cs)) after cs)
+kinds_codes is_punctuation previous before after (c ∷ cs) =
+    ap (λ x. c ∷ x) (kinds_codes is_punctuation (Some c) (next_kind is_punctuation before (c ∷ cs)) after cs)
 
 same_bytes : (bs : List ℕ) → AreInLine bs → map code_byte bs ≡ bs
 same_bytes [] line = refl
@@ -427,7 +431,8 @@ same_codes line h =
     ∙ ap (λ x. x ++ map code_byte (ending_code line.ending)) (same_bytes line.codes h)
     ∙ ap (λ x. line.codes ++ x) (same_ending line.ending)
 
-pub content_codes : (is_punctuation : ℕ → Bool) (after : Kind) (ls : List BlockLine) → AreText ls → codes_of (inline_content is_punctuation after ls) ≡ content_of ls
+pub content_codes : (is_punctuation : ℕ → Bool) (after : Kind) (ls : List BlockLine) → AreText ls
+    → codes_of (inline_content is_punctuation after ls) ≡ content_of ls
 content_codes is_punctuation after [] h = refl
 content_codes is_punctuation after (line ∷ others) h =
     map-append (λ (c : InlineCode). c.code) (line_content is_punctuation after line) (inline_content is_punctuation after others)

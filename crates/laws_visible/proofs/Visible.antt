@@ -1,5 +1,6 @@
 -- What a page shows outside of tags and line endings.
-use Rattle.std.proofs.Common.{◌≡◌, ℕ, ◌+◌, ◌-◌, ◌<◌, suc, zero, List, [], ◌∷◌, ◌++◌, Option, None, Some, Bool, true, false, cond, ◌||◌, not, eqb, inl, inr, refl, sym, ap, ◌∙◌, subst, append_assoc, take, drop, length, get_or, arith}
+use Rattle.std.proofs.Common.{◌≡◌, ℕ, ◌+◌, ◌-◌, ◌<◌, suc, zero, List, [], ◌∷◌, ◌++◌, Option, None, Some, Bool, true, false, cond, ◌||◌, not, eqb, inl, inr}
+use Rattle.std.proofs.Common.{refl, sym, ap, ◌∙◌, subst, append_assoc, take, drop, length, get_or, arith}
 use Rattle.std.specs.Prelude.{replicate, codes}
 use Rattle.std.specs.List.{All, fold, filter, flat_map, prefix_len, suffix_len}
 use Rattle.std.proofs.lemmas.Bool.{cases_Bool, cond-true, cond-false, cond_both, or_from, ne_eqb, eqb-true}
@@ -15,16 +16,19 @@ use Rattle.markdown_options.specs.Defaults.{no_constructs}
 use Rattle.definition_text.specs.declared.beside.Beside.{Beside}
 use Rattle.definition_text.specs.declared.beside.Kind.{Kind}
 use Rattle.definition_text.specs.declared.beside.Kind.TheVariants.{Whitespace}
-use Rattle.definition_text.specs.Lines.{TextLine, text_line, in_first_line, after_return, lines, ends_line, ending_text, has_mark, without_mark, kind_before_text}
-use Rattle.definition_text.specs.Columns.{Rest, codes_from, whole, is_white, is_blank, is_byte, is_tab_column, bytes_of, block_codes, trimmed, tab_column, columns_after_tab}
+use Rattle.definition_text.specs.Lines.{TextLine, text_line, in_first_line, after_return, lines, ends_line, ending_text, has_mark, without_mark}
+use Rattle.definition_text.specs.Lines.{kind_before_text}
+use Rattle.definition_text.specs.Columns.{Rest, codes_from, whole, is_white, is_blank, is_byte, is_tab_column, bytes_of, block_codes, trim, tab_column}
+use Rattle.definition_text.specs.Columns.{columns_after_tab}
 use Rattle.definition_text.specs.Encode.{replacement_character, encoded_byte, encode}
 use Rattle.definition_text.specs.BlockLines.{BlockLine, own_lines}
-use Rattle.definition_block.specs.Tree.{beside_line, Block, Paragraph, Ending, Blank, Blocks, Nil, Cons, join, one, Text, Opening, Leaf, Tree, tree, empty_tree, close_leaf, close, rest_line, grow, step, steps, closed, children_after, blocks}
+use Rattle.definition_block.specs.Tree.{beside_line, Block, Paragraph, Ending, Blank, Blocks, Nil, Cons, join, one, Text, Opening, Leaf, Tree, tree, empty_tree}
+use Rattle.definition_block.specs.Tree.{close_leaf, close, rest_line, grow, step, steps, blocks_at_end, children_after, blocks}
 use Rattle.definition_block.specs.Frontmatter.{after_frontmatter}
-use Rattle.definition_block.specs.Lists.{before, grouped_block, grouped}
+use Rattle.definition_block.specs.Lists.{before, grouped_block, group_items}
 use Rattle.definition_page.specs.Pieces.{is_fresh}
 use Rattle.html_bytes.specs.Pieces.{Piece, Bytes, Fresh, print}
-use Rattle.html_bytes.specs.Layout.{with_text, lay, nothing_laid, finished, page_layout}
+use Rattle.html_bytes.specs.Layout.{with_text, lay, nothing_laid, with_footnotes, page_layout}
 use Rattle.definition_page.specs.Layout.{Laid}
 use Rattle.definition_page.specs.Read.{on_page, ends_blank}
 use Rattle.html_bytes.specs.Html.{silences, block_pieces, children_pieces, last_piece, document_pieces, default_ending, blocks_html, marked_html}
@@ -75,7 +79,7 @@ line_take zero xs p = tt
 line_take (suc n) [] p = tt
 line_take (suc n) (x ∷ xs) p = (p.0, p.1, line_take n xs p.2)
 
-in_trimmed : (xs : List ℕ) → AreInLine xs → AreInLine (trimmed xs)
+in_trimmed : (xs : List ℕ) → AreInLine xs → AreInLine (trim xs)
 in_trimmed xs p =
     let rest = drop (prefix_len is_white xs) xs in
     line_take (length rest - suffix_len is_white rest) rest (line_drop (prefix_len is_white xs) xs p)
@@ -236,7 +240,7 @@ module _ (options : CompileOptions) (default : List ℕ) where
 
 -- what lines say, without their endings
 abbrev said_in_line : BlockLine → List ℕ
-said_in_line line = encode (trimmed line.codes)
+said_in_line line = encode (trim line.codes)
 
 abbrev said_in_lines : List BlockLine → List ℕ
 said_in_lines ls = flat_map said_in_line ls
@@ -270,7 +274,7 @@ plain_shows : (ls : List BlockLine) → AreText ls → Shows (plain_text ls) (sa
 plain_shows [] p = λ y. refl
 plain_shows (line ∷ ls) p =
     let said = said_in_line line in
-    let shown : ShowsItself said = shows_encoded (trimmed line.codes) (in_trimmed line.codes (first_line line ls p)) in
+    let shown : ShowsItself said = shows_encoded (trim line.codes) (in_trimmed line.codes (first_line line ls p)) in
     shows-append (line_text line) said (plain_text ls) (said_in_lines ls)
     (shows_no_more said said (ending_text line.ending) shown (shows_ending_text line.ending))
     (plain_shows ls (other_lines line ls p))
@@ -304,9 +308,9 @@ no_item (Ending ending) bs p = refl
 no_item (Blank ending) bs p = refl
 no_item b bs p = absurd p
 
-no_lists : (bs : Blocks) → BlocksAreText bs → grouped bs ≡ bs
+no_lists : (bs : Blocks) → BlocksAreText bs → group_items bs ≡ bs
 no_lists Nil p = refl
-no_lists (Cons b bs) p = no_item b (grouped bs) p.0 ∙ ap (Cons b) (no_lists bs p.1)
+no_lists (Cons b bs) p = no_item b (group_items bs) p.0 ∙ ap (Cons b) (no_lists bs p.1)
 
 -- blocks show what they say, in a document where every construct is off
 module _ (d : Document) (off : d.options.parse.constructs ≡ no_constructs) (options : CompileOptions) (default : List ℕ)
@@ -451,7 +455,8 @@ grow_says before e now line p q =
     let rest = whole line.content in
     let new = all_said_by (line ∷ []) in
     at_paragraph (Some e) (λ o. TreeSays line.ending (grow no_constructs (beside_line before line) o rest) (said_in_open o ++ new)) now p
-    (λ ls r. subst (λ t. TreeSays line.ending t (said_in_lines ls ++ new)) (sym (plain_grow ls rest (beside_line before line))) (plain_says before e ls line r q))
+    (λ ls r. subst (λ t. TreeSays line.ending t (said_in_lines ls ++ new)) (sym (plain_grow ls rest (beside_line before line)))
+    (plain_says before e ls line r q))
 
 step_says : (before : Kind) (e : LineEnding) (t : Tree) (said : List ℕ) (line : TextLine) → TreeSays (Some e) t said → AreInLine line.content
     → TreeSays line.ending (step no_constructs before t line) (said ++ all_said_by (line ∷ []))
@@ -487,7 +492,8 @@ steps_say before e (line ∷ next ∷ others) t said p q =
     let here : TreeSays (Some q.1.0) more (said ++ new) = subst (λ o. TreeSays o more (said ++ new)) q.1.1 (step_says before e t said line p q.0) in
     let all = steps_say Whitespace q.1.0 (next ∷ others) more (said ++ new) here q.2 in (
       all.0,
-      subst (TreeSays all.0 (steps no_constructs Whitespace more (next ∷ others))) (append_assoc said new (all_said_by (next ∷ others)) ∙ ap (λ s. said ++ s) (sym (said-cons line (next ∷ others)))) all.1,
+      subst (TreeSays all.0 (steps no_constructs Whitespace more (next ∷ others)))
+          (append_assoc said new (all_said_by (next ∷ others)) ∙ ap (λ s. said ++ s) (sym (said-cons line (next ∷ others)))) all.1,
     )
 
 -- ---- the page
@@ -497,19 +503,19 @@ no_frontmatter [] = refl
 no_frontmatter (line ∷ others) = refl
 
 -- what is said at the end, by blocks that are text
-said_at_end : (ending : Option LineEnding) (t : Tree) (said : List ℕ) → TreeSays ending t said → said_in_blocks (closed no_constructs t) ≡ said
+said_at_end : (ending : Option LineEnding) (t : Tree) (said : List ℕ) → TreeSays ending t said → said_in_blocks (blocks_at_end no_constructs t) ≡ said
 said_at_end ending t said p =
     let kept = at_paragraph ending (λ o. said_in_blocks (close no_constructs o) ≡ said_in_open o) t.now p.now (λ ls r. said_closed ls) in
     said-join t.done (close no_constructs t.now) ∙ ap (λ s. said_in_blocks t.done ++ s) kept ∙ p.says
 
-text_at_end : (ending : Option LineEnding) (t : Tree) (said : List ℕ) → TreeSays ending t said → BlocksAreText (closed no_constructs t)
+text_at_end : (ending : Option LineEnding) (t : Tree) (said : List ℕ) → TreeSays ending t said → BlocksAreText (blocks_at_end no_constructs t)
 text_at_end ending t said p =
     text-join t.done (close no_constructs t.now) p.done
     (at_paragraph ending (λ o. BlocksAreText (close no_constructs o)) t.now p.now (λ ls r. text_closed ending ls r))
 
 -- where no footnote is called, the page is its text
-no_section : (options : CompileOptions) (default : List ℕ) (l : Laid) (t : List ℕ) → ShowsIn nothing_laid l t → Shows (finished options default l) t
-no_section options default l t p = subst (λ x. Shows (finished options default x) t) (sym p.is) p.shows
+no_section : (options : CompileOptions) (default : List ℕ) (l : Laid) (t : List ℕ) → ShowsIn nothing_laid l t → Shows (with_footnotes options default l) t
+no_section options default l t p = subst (λ x. Shows (with_footnotes options default x) t) (sym p.is) p.shows
 
 -- a page shows what its blocks say
 document_shows : (d : Document) → d.options.parse.constructs ≡ no_constructs → (options : CompileOptions) (default : List ℕ) (bs : Blocks) → Shows default []
@@ -520,21 +526,22 @@ document_shows d off options default bs nothing_shown p =
     let all = pieces-append options default (children_pieces d on_page false false bs) last (said_in_blocks bs) [] shown
     (pieces_last options default (ends_blank false bs) nothing_shown) in
     let laid_out = λ (cs : Blocks). fold (lay options default) nothing_laid (children_pieces d on_page false false cs ++ last) in
-    subst (λ cs. Shows (finished options default (laid_out cs)) (said_in_blocks bs)) (sym (no_lists bs p))
-    (subst (Shows (finished options default (laid_out bs))) (append-nil (said_in_blocks bs))
+    subst (λ cs. Shows (with_footnotes options default (laid_out cs)) (said_in_blocks bs)) (sym (no_lists bs p))
+    (subst (Shows (with_footnotes options default (laid_out bs))) (append-nil (said_in_blocks bs))
     (no_section options default (laid_out bs) (said_in_blocks bs ++ []) (all nothing_laid [] (λ y. refl))))
 
 -- what bytes show where nothing follows
 shows_alone : (x t : List ℕ) → Shows x t → visible false x ≡ t
 shows_alone x t p = ap (visible false) (sym (append-nil x)) ∙ p [] ∙ append-nil t
 
-page_shows : (tables : TextTables) (options : Options) (before : Kind) (text : List ℕ) (ending : LineEnding) → options.parse.constructs ≡ no_constructs → AreTextLines (lines text)
+page_shows : (tables : TextTables) (options : Options) (before : Kind) (text : List ℕ) (ending : LineEnding) → options.parse.constructs ≡ no_constructs
+    → AreTextLines (lines text)
     → visible false (blocks_html tables options ending (blocks no_constructs before text)) ≡ all_said_by (lines text)
 page_shows tables options before text ending off p =
     let t = steps no_constructs before empty_tree (lines text) in
     let said = all_said_by (lines text) in
     let all = steps_say before LineFeed (lines text) empty_tree [] (record { done = tt; now = tt; says = refl }) p in
-    let bs = closed no_constructs t in
+    let bs = blocks_at_end no_constructs t in
     let d = document options tables (document_targets bs) in
     let shown = λ (bs : Blocks). visible false (blocks_html tables options ending bs) in
     ap (λ others. shown (children_after no_constructs before (lines text) others)) (no_frontmatter (lines text))
@@ -542,7 +549,8 @@ page_shows tables options before text ending off p =
     (document_shows d off options.compile (ending_bytes ending) bs (shows_ending ending) (text_at_end all.0 t said all.1))
     ∙ said_at_end all.0 t said all.1
 
-marked_page_shows : (tables : TextTables) (before : Kind) (text : List ℕ) (options : Options) → AreTextLines (lines text) → options.parse.constructs ≡ no_constructs
+marked_page_shows : (tables : TextTables) (before : Kind) (text : List ℕ) (options : Options) → AreTextLines (lines text)
+    → options.parse.constructs ≡ no_constructs
     → visible false (marked_html tables before text options) ≡ all_said_by (lines text)
 marked_page_shows tables before text options p off =
     let ending = default_ending options text in
@@ -560,4 +568,5 @@ unmarked_bytes text h = cond_both (has_mark text) (drop 3 text) text (All (λ by
 pub visible_law : VisibleLaw
 visible_law tables text options bytes off =
     ap (visible false) (html_is tables text options)
-    ∙ marked_page_shows tables (kind_before_text text) (without_mark text) options (lines_of_text (without_mark text) (λ k lt. unmarked_bytes text bytes k 0 lt)) off
+    ∙ marked_page_shows tables (kind_before_text text) (without_mark text) options
+    (lines_of_text (without_mark text) (λ k lt. unmarked_bytes text bytes k 0 lt)) off

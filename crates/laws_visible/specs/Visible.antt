@@ -3,21 +3,22 @@ use Rattle.std.specs.Prelude.{◌≡◌, ℕ, ◌<◌, Bool, true, false, not, i
 use Rattle.std.specs.List.{All, filter, flat_map}
 use Rattle.markdown_options.specs.declared.configuration.Options.{Options}
 use Rattle.markdown_options.specs.Defaults.{no_constructs}
+use Rattle.definition_text.specs.Ascii.{line_feed, carriage_return, less_than, greater_than}
 use Rattle.definition_text.specs.Lines.{TextLine, lines, without_mark}
-use Rattle.definition_text.specs.Columns.{whole, is_blank, block_codes, trimmed}
+use Rattle.definition_text.specs.Columns.{whole, is_blank, block_codes, trim}
 use Rattle.definition_text.specs.Encode.{encode}
 use Rattle.definition_page.specs.TextTables.{TextTables}
 use Rattle.definition_page.specs.Html.{html}
 
 -- what a byte outside of tags shows: itself, but `<`, CR and LF show nothing
 abbrev pub visible_byte : ℕ → List ℕ
-visible_byte b = if (b == 60) || ((b == 10) || (b == 13)) then [] else b ∷ []
+visible_byte b = if (b == less_than) || ((b == line_feed) || (b == carriage_return)) then [] else b ∷ []
 
 -- what stands in a page outside of tags and line endings; the `Bool` says that a tag is open, which ends with `>`
 abbrev pub visible : Bool → List ℕ → List ℕ
 visible in_tag [] = []
-visible true (b ∷ bs) = visible (not (b == 62)) bs
-visible false (b ∷ bs) = visible_byte b ++ visible (b == 60) bs
+visible true (b ∷ bs) = visible (not (b == greater_than)) bs
+visible false (b ∷ bs) = visible_byte b ++ visible (b == less_than) bs
 
 -- whether a line has more than spaces and tabs
 abbrev pub is_not_blank : TextLine → Bool
@@ -25,7 +26,7 @@ is_not_blank line = not (is_blank (whole line.content))
 
 -- what a line says: its content, trimmed and encoded
 abbrev pub said_by : TextLine → List ℕ
-said_by line = encode (trimmed (block_codes (whole line.content)))
+said_by line = encode (trim (block_codes (whole line.content)))
 
 -- what the lines say that aren't blank, joined
 abbrev pub all_said_by : List TextLine → List ℕ

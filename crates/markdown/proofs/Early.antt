@@ -27,7 +27,8 @@ kept None a page = tt
 kept (Some x) a page = inr (Keeps-refl a)
 
 -- nothing was read or written, and nothing failed
-ends_early : {D E : Type 0} (remaining : D → Option (List ℕ)) (contents : E → Option (List ℕ)) (reader : Watched D) (writer : Watched E) (page : List ℕ → List ℕ)
+ends_early : {D E : Type 0} (remaining : D → Option (List ℕ)) (contents : E → Option (List ℕ)) (reader : Watched D) (writer : Watched E) (page : List ℕ
+    → List ℕ)
     → has_failed reader ≡ false → has_failed writer ≡ false → Ends remaining contents reader reader writer writer false page
 ends_early remaining contents reader writer page reads writes = record {
   whole = λ h. cc;
@@ -43,7 +44,8 @@ some_tables : (path : Option (List ℕ)) → AreTables path builtin_tables
 some_tables None = refl
 some_tables (Some path) = ([], record { faultless = refl; names = λ name. refl; punctuation = refl })
 
-pub early : {D E : Type 0} (path : Option (List ℕ)) (options : Options) (remaining : D → Option (List ℕ)) (contents : E → Option (List ℕ)) (reader : Watched D) (writer : Watched E)
+pub early : {D E : Type 0} (path : Option (List ℕ)) (options : Options) (remaining : D → Option (List ℕ)) (contents : E
+    → Option (List ℕ)) (reader : Watched D) (writer : Watched E)
     → has_failed reader ≡ false → has_failed writer ≡ false → EndsBy path options remaining contents reader reader writer writer false
 early path options remaining contents reader writer reads writes =
     (builtin_tables, some_tables path, ends_early remaining contents reader writer (λ text. html builtin_tables text options) reads writes)

@@ -1,5 +1,6 @@
 -- What several reads and writes did together.
-use Rattle.std.proofs.Common.{◌≡◌, ℕ, ◌+◌, ◌-◌, ◌<◌, ◌≤◌, List, Option, None, Some, IfSome, length, take, drop, refl, sym, ap, ◌∙◌, subst, arith, Bool, true, false, eqb, ltb, ◌||◌, ◌&&◌, inl, inr}
+use Rattle.std.proofs.Common.{◌≡◌, ℕ, ◌+◌, ◌-◌, ◌<◌, ◌≤◌, List, Option, None, Some, IfSome, length, take, drop, refl, sym, ap, ◌∙◌, subst, arith, Bool, true}
+use Rattle.std.proofs.Common.{false, eqb, ltb, ◌||◌, ◌&&◌, inl, inr}
 use Rattle.std.proofs.lemmas.Bool.{or_from, and_left, ne_eqb, cases_lt, lt-ltb, le-ltb}
 use Rattle.std.specs.Prelude.{Result, Ok, Err, IfErr}
 use Rattle.std.specs.Io.{StartsWith, appended_bytes}
@@ -13,11 +14,13 @@ use Rattle.markdown_definition.specs.TextTables.{TextTables}
 use Rattle.markdown.specs.Transfer.{AppendsBeginning, RefusesPast}
 
 -- the next write goes on where the last one ended
-pub Appends-more : (a b c : Option (List ℕ)) (bytes : List ℕ) (at n : ℕ) → Appends a b (take at bytes) → Appends b c (take n (drop at bytes)) → Appends a c (take (at + n) bytes)
+pub Appends-more : (a b c : Option (List ℕ)) (bytes : List ℕ) (at n : ℕ) → Appends a b (take at bytes) → Appends b c (take n (drop at bytes))
+    → Appends a c (take (at + n) bytes)
 Appends-more a b c bytes at n first second = subst (Appends a c) (sym (take-add at n bytes)) (Appends-trans a b c _ _ first second)
 
 -- the next read goes on where the last one ended
-pub Consumes-next : (a b c : Option (List ℕ)) (old new : List ℕ) → Consumes a b old → StartsWith new old → Consumes b c (appended_bytes old new) → Consumes a c new
+pub Consumes-next : (a b c : Option (List ℕ)) (old new : List ℕ) → Consumes a b old → StartsWith new old → Consumes b c (appended_bytes old new)
+    → Consumes a c new
 Consumes-next a b c old new first starts second =
     subst (Consumes a c) (sym (starts_with_rest new old starts)) (Consumes-trans a b c _ _ first second)
 
@@ -53,13 +56,15 @@ still_going true new n e some = e
 still_going false new n e some = e ∙ ne_eqb n 0 some
 
 -- the page of the bytes that were read is that of the text
-pub page_of_text : (known old new : Option (List ℕ)) (bytes page : List ℕ) (tables : TextTables) (options : Options) → IfSome known (λ text. bytes ≡ text) → page ≡ html tables bytes options
+pub page_of_text : (known old new : Option (List ℕ)) (bytes page : List ℕ) (tables : TextTables) (options : Options) → IfSome known (λ text. bytes ≡ text)
+    → page ≡ html tables bytes options
     → Appends old new page → IfSome known (λ text. Appends old new (html tables text options))
 page_of_text None old new bytes page tables options read made wrote = tt
 page_of_text (Some x) old new bytes page tables options read made wrote = subst (Appends old new) (made ∙ ap (λ t. html tables t options) read) wrote
 
 -- a beginning of it is one of the text's page
-pub begins_of_text : (known old new : Option (List ℕ)) (bytes page : List ℕ) (tables : TextTables) (options : Options) → IfSome known (λ text. bytes ≡ text) → page ≡ html tables bytes options
+pub begins_of_text : (known old new : Option (List ℕ)) (bytes page : List ℕ) (tables : TextTables) (options : Options) → IfSome known (λ text. bytes ≡ text)
+    → page ≡ html tables bytes options
     → AppendsBeginning old new page → IfSome known (λ text. AppendsBeginning old new (html tables text options))
 begins_of_text None old new bytes page tables options read made wrote = tt
 begins_of_text (Some x) old new bytes page tables options read made wrote =

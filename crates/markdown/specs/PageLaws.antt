@@ -6,25 +6,25 @@ use Rattle.definition_text.specs.Encode.{encode}
 use Rattle.definition_text.specs.Lines.{has_mark}
 use Rattle.markdown_definition.specs.Html.{html}
 use Rattle.markdown_definition.specs.TextTables.{TextTables}
-use Rattle.laws_list.specs.Listed.{listed}
+use Rattle.laws_list.specs.Listed.{list_lines}
 use Rattle.laws_list_page.specs.Laws.{IsListable, list_around}
 use Rattle.laws_endings.specs.Endings.{with_ending}
 use Rattle.laws_endings_page.specs.Laws.{EndsInFeeds, FootnotesHoldNoFeed}
-use Rattle.laws_inline.specs.Escaped.{escaped, IsTrimmedLine}
-use Rattle.laws_quote.specs.Quoted.{quoted}
+use Rattle.laws_inline.specs.Escaped.{with_backslashes, IsTrimmedLine}
+use Rattle.laws_quote.specs.Quoted.{quote_lines}
 use Rattle.laws_quote_page.specs.Laws.{IsQuotable, quote_around}
 use Rattle.laws_quote_page.specs.Squeeze.{squeeze}
 
 -- the page of a text with `> ` before every line is a block quote around the page of that text, but for line endings beside tags
 abbrev pub QuotesPage : TextTables → Options → List ℕ → List ℕ → Type 0
 QuotesPage tables options value page =
-    (text : List ℕ) → value ≡ quoted text → IsQuotable text options.parse.constructs
+    (text : List ℕ) → value ≡ quote_lines text → IsQuotable text options.parse.constructs
     → squeeze page ≡ squeeze (quote_around (html tables text options))
 
 -- the page of an escaped line is a paragraph that says the line, where escapes are on
 abbrev pub SaysEscapedLine : Options → List ℕ → List ℕ → Type 0
 SaysEscapedLine options value page =
-    (line : List ℕ) → value ≡ escaped line → options.parse.constructs.character_escape ≡ true → line ≢ [] → IsTrimmedLine line → has_mark line ≡ false
+    (line : List ℕ) → value ≡ with_backslashes line → options.parse.constructs.character_escape ≡ true → line ≢ [] → IsTrimmedLine line → has_mark line ≡ false
     → page ≡ codes "<p>" ++ encode line ++ codes "</p>"
 
 -- the page of a text with a line ending in place of each LF is the page of that text with that ending in place of each LF, where what the options say
@@ -38,5 +38,5 @@ EndsPage tables options value page =
 -- line endings beside tags
 abbrev pub ListsPage : TextTables → Options → List ℕ → List ℕ → Type 0
 ListsPage tables options value page =
-    (text : List ℕ) → value ≡ listed text → IsListable text options.parse.constructs
+    (text : List ℕ) → value ≡ list_lines text → IsListable text options.parse.constructs
     → squeeze page ≡ squeeze (list_around (html tables text options))

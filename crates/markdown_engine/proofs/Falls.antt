@@ -1,11 +1,13 @@
 -- Each byte of the virtual text that is read leaves less.
-use Rattle.std.proofs.Common.{◌≡◌, ℕ, ◌+◌, ◌<◌, ◌≤◌, ◌∙◌, Bool, true, false, if◌then◌else◌, ◌==◌, nat_lt, nat_le, ◌||◌, List, length, slice_index, refl, sym, subst, arith, Option, Some, None, ◌⊎◌, inl, inr}
+use Rattle.std.proofs.Common.{◌≡◌, ℕ, ◌+◌, ◌<◌, ◌≤◌, ◌∙◌, Bool, true, false, if◌then◌else◌, ◌==◌, nat_lt, nat_le, ◌||◌, List, length, slice_index, refl, sym}
+use Rattle.std.proofs.Common.{subst, arith, Option, Some, None, ◌⊎◌, inl, inr}
 use Rattle.std.proofs.lemmas.Bool.{ltb-true, eqb-true, cases_lt}
 use Rattle.std.proofs.lemmas.Bool.Decides.{nat_tests}
 use Rattle.engine_events.specs.declared.place.Point.{Point}
 use Rattle.engine_events.specs.Columns.{tab_size}
 use Rattle.markdown_engine.specs.declared.virtual_text.VirtualByte.{VirtualByte}
-use Rattle.markdown_engine.specs.VirtualText.{virtual_byte, byte_before, place_in, Skips, is_before, given, tab_column, in_line, in_tab, next_line, as_byte, feeds}
+use Rattle.markdown_engine.specs.VirtualText.{virtual_byte, byte_before, place_in, Skips, is_before, given, tab_column, in_line, in_tab, next_line, as_byte}
+use Rattle.markdown_engine.specs.VirtualText.{feeds}
 use Rattle.markdown_engine.specs.Laws.{remaining, IsRead, IsFed}
 use Rattle.markdown_engine.specs.Order.{Reaches}
 use Rattle.markdown_engine.proofs.Starts.{start_less, start_reaches}
@@ -42,11 +44,15 @@ module _ (size : ℕ) (p : Point) (low : p.index < size) where
 
   given_less : (bytes : List ℕ) (b : ℕ) → Less (given bytes p b)
   given_less bytes b =
-      by_test (b == 9) (tab_column p) (if b == 10 then as_byte 10 (next_line 1 p) else if b == 13 then as_byte 10 (next_line (if feeds bytes (p.index + 1) then 2 else 1) p) else as_byte b (in_line p))
-      (λ _. tab_less (if p.vs == 0 then 9 else 32) ((tab_size p.column == 1) || nat_le 3 p.vs) (λ e. below_three (in_reach (tab_size p.column == 1) (nat_le 3 p.vs) e)))
-      (λ _. by_test (b == 10) (as_byte 10 (next_line 1 p)) (if b == 13 then as_byte 10 (next_line (if feeds bytes (p.index + 1) then 2 else 1) p) else as_byte b (in_line p))
+      by_test (b == 9) (tab_column p) (if b == 10 then as_byte 10 (next_line 1 p) else if b == 13
+      then as_byte 10 (next_line (if feeds bytes (p.index + 1) then 2 else 1) p) else as_byte b (in_line p))
+      (λ _. tab_less (if p.vs == 0 then 9 else 32) ((tab_size p.column == 1) || nat_le 3 p.vs)
+      (λ e. below_three (in_reach (tab_size p.column == 1) (nat_le 3 p.vs) e)))
+      (λ _. by_test (b == 10) (as_byte 10 (next_line 1 p)) (if b == 13 then as_byte 10 (next_line (if feeds bytes (p.index + 1) then 2 else 1) p)
+      else as_byte b (in_line p))
       (λ _. feed_less false)
-      (λ _. by_test (b == 13) (as_byte 10 (next_line (if feeds bytes (p.index + 1) then 2 else 1) p)) (as_byte b (in_line p)) (λ _. feed_less (feeds bytes (p.index + 1))) (λ _. line_less b)))
+      (λ _. by_test (b == 13) (as_byte 10 (next_line (if feeds bytes (p.index + 1) then 2 else 1) p)) (as_byte b (in_line p))
+      (λ _. feed_less (feeds bytes (p.index + 1))) (λ _. line_less b)))
 
   pub given_falls : (bytes : List ℕ) (b : ℕ) → remaining size (given bytes p b).next < remaining size p
   unfolding Less
@@ -80,7 +86,8 @@ module _ (p : Point) where
       let return = as_byte 10 (next_line (if feeds bytes (p.index + 1) then 2 else 1) p) in
       later_test (b == 9) (tab_column p) (if b == 10 then as_byte 10 (next_line 1 p) else if b == 13 then return else line)
       (tab_later (if p.vs == 0 then 9 else 32) ((tab_size p.column == 1) || nat_le 3 p.vs))
-      (later_test (b == 10) (as_byte 10 (next_line 1 p)) (if b == 13 then return else line) (feed_later false) (later_test (b == 13) return line (feed_later (feeds bytes (p.index + 1))) (line_later b)))
+      (later_test (b == 10) (as_byte 10 (next_line 1 p)) (if b == 13 then return else line) (feed_later false)
+      (later_test (b == 13) return line (feed_later (feeds bytes (p.index + 1))) (line_later b)))
 
   -- the place after a byte is after it
   pub step_reaches : (bytes : List ℕ) → Reaches p (virtual_byte bytes p).next
@@ -106,7 +113,8 @@ some_same : {x y : VirtualByte} → Some x ≡ Some y → x ≡ y
 some_same h = cc
 
 -- a byte that was read
-pub is_read : (bytes : List ℕ) (to : ℕ × ℕ) (p : Point) (v : Option VirtualByte) (w : VirtualByte) → to.0 ≤ length bytes → (to.0 ≡ length bytes → to.1 ≡ 0) → v ≡ byte_before bytes to p → v ≡ Some w → IsRead (length bytes) p w
+pub is_read : (bytes : List ℕ) (to : ℕ × ℕ) (p : Point) (v : Option VirtualByte) (w : VirtualByte) → to.0 ≤ length bytes → (to.0 ≡ length bytes → to.1 ≡ 0)
+    → v ≡ byte_before bytes to p → v ≡ Some w → IsRead (length bytes) p w
 is_read bytes to p v w h k e s = pick (is_before to p) refl
   where
     pick : (t : Bool) → is_before to p ≡ t → IsRead (length bytes) p w
@@ -114,11 +122,18 @@ is_read bytes to p v w h k e s = pick (is_before to p) refl
         let low = within (length bytes) to p h k q in
         let f : Some (virtual_byte bytes p) ≡ Some w = sym (rw q at e) ∙ s in
         let same = some_same f in
-        record { within = low; falls = subst (λ (z : VirtualByte). remaining (length bytes) z.next < remaining (length bytes) p) same (given_falls (length bytes) p low bytes (slice_index bytes p.index)); order = subst (λ (z : VirtualByte). Reaches p z.next) same (step_reaches p bytes) }
+        record {
+          within = low;
+          falls = subst (λ (z : VirtualByte). remaining (length bytes) z.next < remaining (length bytes) p) same
+              (given_falls (length bytes) p low bytes (slice_index bytes p.index));
+          order =
+              subst (λ (z : VirtualByte). Reaches p z.next) same (step_reaches p bytes);
+        }
     pick false q = absurd (let f : None ≡ Some w = sym (rw q at e) ∙ s in cc)
 
 -- what is handed in was read
-pub is_fed : (bytes : List ℕ) (skips : Skips) (to : ℕ × ℕ) (c p : Point) (v : Option VirtualByte) → to.0 ≤ length bytes → (to.0 ≡ length bytes → to.1 ≡ 0) → p ≡ place_in skips c → v ≡ byte_before bytes to p → IsFed (length bytes) c p v
+pub is_fed : (bytes : List ℕ) (skips : Skips) (to : ℕ × ℕ) (c p : Point) (v : Option VirtualByte) → to.0 ≤ length bytes → (to.0 ≡ length bytes → to.1 ≡ 0)
+    → p ≡ place_in skips c → v ≡ byte_before bytes to p → IsFed (length bytes) c p v
 is_fed bytes skips to c p v h k ep ev = record {
   forward = subst (λ (z : Point). remaining (length bytes) z ≤ remaining (length bytes) c) (sym ep) (start_less (length bytes) skips c);
   order = subst (λ (z : Point). Reaches c z) (sym ep) (start_reaches skips c);
@@ -126,5 +141,6 @@ is_fed bytes skips to c p v h k ep ev = record {
 }
 
 -- over a byte
-pub step_less : (bytes : List ℕ) (to : ℕ × ℕ) (p : Point) → to.0 ≤ length bytes → (to.0 ≡ length bytes → to.1 ≡ 0) → is_before to p ≡ true → remaining (length bytes) (virtual_byte bytes p).next < remaining (length bytes) p
+pub step_less : (bytes : List ℕ) (to : ℕ × ℕ) (p : Point) → to.0 ≤ length bytes → (to.0 ≡ length bytes → to.1 ≡ 0) → is_before to p ≡ true
+    → remaining (length bytes) (virtual_byte bytes p).next < remaining (length bytes) p
 step_less bytes to p h k e = given_falls (length bytes) p (within (length bytes) to p h k e) bytes (slice_index bytes p.index)

@@ -8,79 +8,108 @@ use Rattle.engine_events.specs.declared.state.State.{State}
 use Rattle.engine_events.specs.declared.state.State.TheVariants as states
 use Rattle.markdown_engine.specs.Context.{Context, context}
 use Rattle.markdown_engine.specs.Laws.{HoldsAt}
-use Rattle.markdown_engine.specs.Machine.{view_config, read_with, Completed, Flushed, Refused}
+use Rattle.markdown_engine.specs.Machine.{view_config, read_with, HasCompleted, HasFlushed, IsRefused}
 use Rattle.markdown_engine.specs.Reading.{Config, Outcome, Steps, end_state}
 use Rattle.markdown_engine.specs.VirtualText.{Text}
-use Rattle.markdown_engine.specs.Resolving.{Found, Resolves, Settles, SettlesAt, found_both, found_in, nothing_found, resolve_all, resolve_each}
+use Rattle.markdown_engine.specs.Resolving.{FoundLabels, Resolves, Settles, SettlesAt, found_both, found_in, nothing_found, resolve_all, resolve_each}
 
 -- what the walk over resolvers keeps
-pub record ResolvingOn {M V T A : Type 0} (view : M → V) (resolve : Resolves V) (settled : SettlesAt V) (names : List Resolver) (t : Tokenizer M T A) (found : Subresult A) (all : List Resolver) (old : Tokenizer M T A) (first : Subresult A) : Type 0 where
+pub record ResolvingOn {M V T A : Type 0} (view : M → V) (resolve : Resolves V) (settled : SettlesAt V) (names : List Resolver) (t : Tokenizer M T A)
+    (found : Subresult A) (all : List Resolver) (old : Tokenizer M T A) (first : Subresult A) : Type 0 where
   pub settles : settled (view_config view t) names
   pub resolves : resolve_each resolve names (view_config view t) (found_in found) ≡ resolve_each resolve all (view_config view old) (found_in first)
   pub parse_state : t.parse_state.now ≡ old.parse_state.now
   pub done : found.done ≡ first.done
 
-pub resolving_on : {M V T A : Type 0} (view : M → V) (resolve : Resolves V) (settled : SettlesAt V) (names rest : List Resolver) (n : Resolver) (t u : Tokenizer M T A) (found new : Subresult A) (more : Found) (all : List Resolver) (old : Tokenizer M T A) (first : Subresult A)
+pub resolving_on : {M V T A : Type 0} (view : M → V) (resolve : Resolves V) (settled : SettlesAt V) (names rest : List Resolver) (n : Resolver)
+    (t u : Tokenizer M T A) (found new : Subresult A) (more : FoundLabels) (all : List Resolver) (old : Tokenizer M T A) (first : Subresult A)
     → ((c : Config V) (k : Resolver) (ks : List Resolver) → settled c (k ∷ ks) → settled (resolve c k).config ks) → names ≡ n ∷ rest
-    → view_config view u ≡ (resolve (view_config view t) n).config → more ≡ (resolve (view_config view t) n).found → found_in new ≡ found_both (found_in found) more → u.parse_state.now ≡ t.parse_state.now → new.done ≡ found.done
+    → view_config view u ≡ (resolve (view_config view t) n).config → more ≡ (resolve (view_config view t) n).found
+    → found_in new ≡ found_both (found_in found) more → u.parse_state.now ≡ t.parse_state.now → new.done ≡ found.done
     → ResolvingOn view resolve settled names t found all old first → ResolvingOn view resolve settled rest u new all old first
 resolving_on {V = V} view resolve settled names rest n t u found new more all old first keeps e ec em ef ep ed h =
     let next = resolve (view_config view t) n in
     let s : settled (view_config view t) (n ∷ rest) = subst (λ (z : List Resolver). settled (view_config view t) z) e h.settles in
-    let two : found_in new ≡ found_both (found_in found) next.found = ef ∙ ap (λ (z : Found). found_both (found_in found) z) em in
-    let here : resolve_each resolve (n ∷ rest) (view_config view t) (found_in found) ≡ resolve_each resolve all (view_config view old) (found_in first) = subst (λ (z : List Resolver). resolve_each resolve z (view_config view t) (found_in found) ≡ resolve_each resolve all (view_config view old) (found_in first)) e h.resolves in
+    let two : found_in new ≡ found_both (found_in found) next.found = ef ∙ ap (λ (z : FoundLabels). found_both (found_in found) z) em in
+    let here : resolve_each resolve (n ∷ rest) (view_config view t) (found_in found) ≡ resolve_each resolve all (view_config view old) (found_in first) =
+    subst (λ (z : List Resolver). resolve_each resolve z (view_config view t) (found_in found)
+    ≡ resolve_each resolve all (view_config view old) (found_in first)) e h.resolves in
     record {
       settles = subst (λ (z : Config V). settled z rest) (sym ec) (keeps (view_config view t) n rest s);
-      resolves = (ap (λ (z : Config V). resolve_each resolve rest z (found_in new)) ec ∙ ap (λ (z : Found). resolve_each resolve rest next.config z) two) ∙ here;
+      resolves = (ap (λ (z : Config V). resolve_each resolve rest z (found_in new)) ec ∙ ap (λ (z : FoundLabels). resolve_each resolve rest next.config z) two)
+          ∙ here;
       parse_state = ep ∙ h.parse_state;
       done = ed ∙ h.done;
     }
 
 -- reading that ended went well
-pub read_well : {M V T A : Type 0} (view : M → V) (valid : HoldsAt V) (text : Text) (step : Steps V) (s : State) (old new : Tokenizer M T A) (r : State) → ((c : Config V) → valid c [] states.Nok → ⊥) → (Refused r → ⊥)
-    → Refused r ⊎ valid (view_config view new) [] r → Refused r ⊎ Flushed view text step s old new r → valid (view_config view new) [] states.Ok × Outcome text step old.attempts.items (view_config view old) [] s (view_config view new) true
+pub read_well : {M V T A : Type 0} (view : M → V) (valid : HoldsAt V) (text : Text) (step : Steps V) (s : State) (old new : Tokenizer M T A) (r : State)
+    → ((c : Config V) → valid c [] states.Nok → ⊥) → (IsRefused r → ⊥)
+    → IsRefused r ⊎ valid (view_config view new) [] r → IsRefused r ⊎ HasFlushed view text step s old new r → valid (view_config view new) [] states.Ok
+    × Outcome text step old.attempts.items (view_config view old) [] s (view_config view new) true
 read_well view valid text step s old new r never n (inl h) k = absurd (n h)
 read_well view valid text step s old new r never n (inr h) (inl k) = absurd (n k)
 read_well {V = V} view valid text step s old new r never n (inr h) (inr k) = pick k.well k.state k.outcome
   where
-    pick : (w : Bool) → r ≡ end_state w → Outcome text step old.attempts.items (view_config view old) [] s (view_config view new) w → valid (view_config view new) [] states.Ok × Outcome text step old.attempts.items (view_config view old) [] s (view_config view new) true
+    pick : (w : Bool) → r ≡ end_state w → Outcome text step old.attempts.items (view_config view old) [] s (view_config view new) w
+        → valid (view_config view new) [] states.Ok × Outcome text step old.attempts.items (view_config view old) [] s (view_config view new) true
     pick true e o = (subst (λ (z : State). valid (view_config view new) [] z) e h, o)
     pick false e o = absurd (never (view_config view new) (subst (λ (z : State). valid (view_config view new) [] z) e h))
 
 pub settled_at : {M T : Type 0} (settled : Settles T M) (x y : Context T) (c : Config M) (names : List Resolver) → x ≡ y → settled x c names → settled y c names
 settled_at {T = T} settled x y c names e h = subst (λ (z : Context T). settled z c names) e h
 
-pub completed_as : {M V T A : Type 0} (view : M → V) (text : Text) (step : Steps V) (resolve : Resolves V) (all : Bool) (given : State) (old new later : Tokenizer M T A) (found : Found) → view_config view later ≡ view_config view new → Completed view text step resolve all given old new found → Completed view text step resolve all given old later found
+pub completed_as : {M V T A : Type 0} (view : M → V) (text : Text) (step : Steps V) (resolve : Resolves V) (all : Bool) (given : State)
+    (old new later : Tokenizer M T A) (found : FoundLabels) → view_config view later ≡ view_config view new
+    → HasCompleted view text step resolve all given old new found
+    → HasCompleted view text step resolve all given old later found
 completed_as view text step resolve all given old new later found e h = record { read = h.read; outcome = h.outcome; config = e ∙ h.config; labels = h.labels }
 
 -- what a resolver does, with what is read with
-pub resolved_at : {M V T A : Type 0} (view : M → V) (resolves : Context T → Resolves V) (x y : Context T) (t u : Tokenizer M T A) (n : Resolver) (found : Found) → x ≡ y → view_config view u ≡ (resolves x (view_config view t) n).config → found ≡ (resolves x (view_config view t) n).found
+pub resolved_at : {M V T A : Type 0} (view : M → V) (resolves : Context T → Resolves V) (x y : Context T)
+    (t u : Tokenizer M T A) (n : Resolver) (found : FoundLabels)
+    → x ≡ y → view_config view u ≡ (resolves x (view_config view t) n).config → found ≡ (resolves x (view_config view t) n).found
     → (view_config view u ≡ (resolves y (view_config view t) n).config) × (found ≡ (resolves y (view_config view t) n).found)
-resolved_at {T = T} view resolves x y t u n found e ec ef = subst (λ (z : Context T). (view_config view u ≡ (resolves z (view_config view t) n).config) × (found ≡ (resolves z (view_config view t) n).found)) e (ec, ef)
+resolved_at {T = T} view resolves x y t u n found e ec ef =
+    subst (λ (z : Context T). (view_config view u ≡ (resolves z (view_config view t) n).config) × (found ≡ (resolves z (view_config view t) n).found)) e (
+      ec,
+      ef,
+    )
 
-module _ {M V T A : Type 0} (view : M → V) (text : Text) (step : Steps V) (resolve : Resolves V) (s : State) (old mid new : Tokenizer M T A) (found : Found) where
+module _ {M V T A : Type 0} (view : M → V) (text : Text) (step : Steps V) (resolve : Resolves V) (s : State) (old mid new : Tokenizer M T A)
+    (found : FoundLabels) where
   -- resolvers ran
-  pub completed_all : Outcome text step old.attempts.items (view_config view old) [] s (view_config view mid) true → view_config view new ≡ (resolve_all resolve (view_config view mid)).config → found ≡ (resolve_all resolve (view_config view mid)).found → Completed view text step resolve true s old new found
+  pub completed_all : Outcome text step old.attempts.items (view_config view old) [] s (view_config view mid) true
+      → view_config view new ≡ (resolve_all resolve (view_config view mid)).config → found ≡ (resolve_all resolve (view_config view mid)).found
+      → HasCompleted view text step resolve true s old new found
   completed_all o ec ef = record { read = view_config view mid; outcome = o; config = ec; labels = ef }
 
   -- none were asked for
-  pub completed_none : Outcome text step old.attempts.items (view_config view old) [] s (view_config view mid) true → view_config view new ≡ view_config view mid → found ≡ nothing_found → Completed view text step resolve false s old new found
+  pub completed_none : Outcome text step old.attempts.items (view_config view old) [] s (view_config view mid) true
+      → view_config view new ≡ view_config view mid → found ≡ nothing_found → HasCompleted view text step resolve false s old new found
   completed_none o ec ef = record { read = view_config view mid; outcome = o; config = ec; labels = ef }
 
-module _ {M V T A : Type 0} (view : M → V) (text : Text) (step : Steps V) (resolve : Resolves V) (s : State) (old new : Tokenizer M T A) (found : Found) where
-  pub completed_if : (a b : Bool) → a ≡ b → Completed view text step resolve a s old new found → Completed view text step resolve b s old new found
-  completed_if a b e h = subst (λ (z : Bool). Completed view text step resolve z s old new found) e h
+module _ {M V T A : Type 0} (view : M → V) (text : Text) (step : Steps V) (resolve : Resolves V) (s : State) (old new : Tokenizer M T A)
+    (found : FoundLabels) where
+  pub completed_if : (a b : Bool) → a ≡ b → HasCompleted view text step resolve a s old new found → HasCompleted view text step resolve b s old new found
+  completed_if a b e h = subst (λ (z : Bool). HasCompleted view text step resolve z s old new found) e h
 
-pub all_at : {M T : Type 0} (resolves : Context T → Resolves M) (x y : Context T) (c d : Config M) (found : Found) → x ≡ y → d ≡ (resolve_all (resolves x) c).config → found ≡ (resolve_all (resolves x) c).found
+pub all_at : {M T : Type 0} (resolves : Context T → Resolves M) (x y : Context T) (c d : Config M) (found : FoundLabels) → x ≡ y
+    → d ≡ (resolve_all (resolves x) c).config → found ≡ (resolve_all (resolves x) c).found
     → (d ≡ (resolve_all (resolves y) c).config) × (found ≡ (resolve_all (resolves y) c).found)
-all_at {T = T} resolves x y c d found e ec ef = subst (λ (z : Context T). (d ≡ (resolve_all (resolves z) c).config) × (found ≡ (resolve_all (resolves z) c).found)) e (ec, ef)
+all_at {T = T} resolves x y c d found e ec ef =
+    subst (λ (z : Context T). (d ≡ (resolve_all (resolves z) c).config) × (found ≡ (resolve_all (resolves z) c).found)) e (ec, ef)
 
-pub completed_at : {M V T A : Type 0} (view : M → V) (steps : Context T → Steps V) (resolves : Context T → Resolves V) (x y : Context T) (text : Text) (s : State) (old new : Tokenizer M T A) (found : Found) → x ≡ y → Completed view text (steps x) (resolves x) true s old new found → Completed view text (steps y) (resolves y) true s old new found
-completed_at {T = T} view steps resolves x y text s old new found e h = subst (λ (z : Context T). Completed view text (steps z) (resolves z) true s old new found) e h
+pub completed_at : {M V T A : Type 0} (view : M → V) (steps : Context T → Steps V) (resolves : Context T
+    → Resolves V) (x y : Context T) (text : Text) (s : State) (old new : Tokenizer M T A) (found : FoundLabels) → x ≡ y
+    → HasCompleted view text (steps x) (resolves x) true s old new found → HasCompleted view text (steps y) (resolves y) true s old new found
+completed_at {T = T} view steps resolves x y text s old new found e h =
+    subst (λ (z : Context T). HasCompleted view text (steps z) (resolves z) true s old new found) e h
 
 module _ {M T A : Type 0} where
   pub same_bytes : (t : Tokenizer M T A) (given : ParseState T A) → t.parse_state.now ≡ given → t.parse_state.now.bytes.now ≡ given.bytes.now
   same_bytes t given e = ap (λ (z : ParseState T A). z.bytes.now) e
 
-  pub same_context : (t u : Tokenizer M T A) (given : ParseState T A) → t.parse_state.now ≡ u.parse_state.now → u.parse_state.now ≡ given → read_with t ≡ context given
+  pub same_context : (t u : Tokenizer M T A) (given : ParseState T A) → t.parse_state.now ≡ u.parse_state.now → u.parse_state.now ≡ given
+      → read_with t ≡ context given
   same_context t u given e f = ap (λ (z : ParseState T A). context z) (e ∙ f)

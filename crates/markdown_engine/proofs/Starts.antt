@@ -1,5 +1,6 @@
 -- Where lines are read from.
-use Rattle.std.proofs.Common.{◌≡◌, ℕ, ◌<◌, ◌≤◌, ◌∙◌, Bool, true, false, not, if◌then◌else◌, cond, ◌==◌, nat_lt, nat_cmp, ◌||◌, ◌&&◌, [], ◌∷◌, refl, sym, ap, subst, arith, Option, None, Some, ◌⊎◌, inl, inr}
+use Rattle.std.proofs.Common.{◌≡◌, ℕ, ◌<◌, ◌≤◌, ◌∙◌, Bool, true, false, not, if◌then◌else◌, cond, ◌==◌, nat_lt, nat_cmp, ◌||◌, ◌&&◌, [], ◌∷◌, refl, sym, ap}
+use Rattle.std.proofs.Common.{subst, arith, Option, None, Some, ◌⊎◌, inl, inr}
 use Rattle.std.proofs.lemmas.Bool.{ltb-true, lt-ltb, eqb-true, eq-eqb, ne_eqb}
 use Rattle.std.specs.Cmp.{unsigned_tied}
 use Rattle.std.specs.BTreeMap.{is_at, insert_entry}
@@ -23,7 +24,8 @@ before to p e = elim (by_tests (nat_lt p.index to.0) (p.index == to.0) (nat_lt p
 
 pub is_before_as : (to : ℕ × ℕ) (p : Point) → Before to p → is_before to p ≡ true
 is_before_as to p (inl k) = rw (lt-ltb p.index to.0 k) refl
-is_before_as to p (inr k) = or_right (nat_lt p.index to.0) ((p.index == to.0) && nat_lt p.vs to.1) (and_both (p.index == to.0) (nat_lt p.vs to.1) (eq-eqb p.index to.0 k.0) (lt-ltb p.vs to.1 k.1))
+is_before_as to p (inr k) = or_right (nat_lt p.index to.0) ((p.index == to.0) && nat_lt p.vs to.1)
+    (and_both (p.index == to.0) (nat_lt p.vs to.1) (eq-eqb p.index to.0 k.0) (lt-ltb p.vs to.1 k.1))
 
 before_before : (to : ℕ × ℕ) (p q : Point) → Before (q.index, q.vs) p → Before to q → Before to p
 before_before to p q (inl h) (inl k) = inl (omega arith)

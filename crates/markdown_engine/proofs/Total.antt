@@ -26,18 +26,25 @@ last_of (a ∷ stack) = elim (last_of stack) [
 
 module _ {M : Type 0} (text : Text) (step : Steps M) where
   -- an end, where each attempt that may wait has an outcome
-  pop : (v : Bool) (c : Config M) (stack : List Attempt) → ((rest : List Attempt) (a : Attempt) → IsLast stack rest a → HasOutcome text step (continuation a c v) rest (state_after a v)) → HasOutcome text step c stack (end_state v)
+  pop : (v : Bool) (c : Config M) (stack : List Attempt) → ((rest : List Attempt) (a : Attempt) → IsLast stack rest a
+      → HasOutcome text step (continuation a c v) rest (state_after a v)) → HasOutcome text step c stack (end_state v)
   pop v c stack h = elim (last_of stack) [
-    | inl e ↦ subst (λ (z : List Attempt). HasOutcome text step c z (end_state v)) (sym e) (c, v, record { mid = c; how = v; runs = ends text step v c; unwinds = (refl, refl) })
+    | inl e ↦ subst (λ (z : List Attempt). HasOutcome text step c z (end_state v)) (sym e) (
+      c,
+      v,
+      record { mid = c; how = v; runs = ends text step v c; unwinds = (refl, refl) },
+    )
     | inr (rest, a, e) ↦ (
         let (d, w, o) = h rest a e in
         subst (λ (z : List Attempt). HasOutcome text step c z (end_state v)) (sym e) (d, w, outcome_pop text step v rest a c d w o))
   ]
 
-  retried : OnlyAdds step → (c : Config M) (stack : List Attempt) (n : Name) → let e = step c n in HasOutcome text step e.config (stack ++ map mark e.pushed) e.state → HasOutcome text step c stack (states.Retry n)
+  retried : OnlyAdds step → (c : Config M) (stack : List Attempt) (n : Name) → let e = step c n in
+      HasOutcome text step e.config (stack ++ map mark e.pushed) e.state → HasOutcome text step c stack (states.Retry n)
   retried adds c stack n (d, w, o) = (d, w, outcome_retry text step adds stack c n d w o)
 
-  gone_on : OnlyAdds step → (c : Config M) (stack : List Attempt) (n : Name) → let e = step (feed text c) n in HasOutcome text step e.config (stack ++ map mark e.pushed) e.state → HasOutcome text step c stack (states.Next n)
+  gone_on : OnlyAdds step → (c : Config M) (stack : List Attempt) (n : Name) → let e = step (feed text c) n in
+      HasOutcome text step e.config (stack ++ map mark e.pushed) e.state → HasOutcome text step c stack (states.Next n)
   gone_on adds c stack n (d, w, o) = (d, w, outcome_next text step adds stack c n d w o)
 
   -- with nothing that waits, the outcome is a reading
@@ -45,10 +52,12 @@ module _ {M : Type 0} (text : Text) (step : Steps M) where
   run_of c s (d, w, o) = (o.mid, o.how, o.runs)
 
 -- a text that is read up to an index and a column of a tab there feeds
-pub feeds_to : (s : Source) (to : ℕ × ℕ) → to.0 ≤ length s.bytes → (to.0 ≡ length s.bytes → to.1 ≡ 0) → (p : Point) → let text = text_to s to in IsFed (length s.bytes) p (text.start p) (text.byte (text.start p))
+pub feeds_to : (s : Source) (to : ℕ × ℕ) → to.0 ≤ length s.bytes → (to.0 ≡ length s.bytes → to.1 ≡ 0) → (p : Point) → let text = text_to s to in
+    IsFed (length s.bytes) p (text.start p) (text.byte (text.start p))
 feeds_to s to h k p = let place = place_in s.skips p in is_fed s.bytes s.skips to p place (byte_before s.bytes to place) h k refl refl
 
-module _ {M : Type 0} (size : ℕ) (valid : HoldsAt M) (step : Steps M) (rank : RanksAt M) (lawful : LawfulAt size valid step rank) (text : Text) (fed : (p : Point) → IsFed size p (text.start p) (text.byte (text.start p))) where
+module _ {M : Type 0} (size : ℕ) (valid : HoldsAt M) (step : Steps M) (rank : RanksAt M) (lawful : LawfulAt size valid step rank) (text : Text)
+    (fed : (p : Point) → IsFed size p (text.start p) (text.byte (text.start p))) where
   below : (n : ℕ) (c : Config M) (stack : List Attempt) (s : State) → rank c stack s < n → valid c stack s → HasOutcome text step c stack s
   below zero c stack s low h = absurd (omega arith)
   below (suc n) c stack (states.Error m) low h = absurd (lawful.keeps.no_error c stack m h)
@@ -59,7 +68,8 @@ module _ {M : Type 0} (size : ℕ) (valid : HoldsAt M) (step : Steps M) (rank : 
       let most = lawful.falls.fed c stack name place byte h (fed c.point) in
       let less = lawful.falls.called (feed text c) stack name held in
       let e = step (feed text c) name in
-      gone_on text step lawful.adds c stack name (below n e.config (stack ++ map mark e.pushed) e.state (omega arith) (lawful.keeps.called (feed text c) stack name held))
+      gone_on text step lawful.adds c stack name (below n e.config (stack ++ map mark e.pushed) e.state (omega arith)
+      (lawful.keeps.called (feed text c) stack name held))
   below (suc n) c stack (states.Retry name) low h =
       let less = lawful.falls.called c stack name h in
       let e = step c name in

@@ -1,5 +1,6 @@
 -- Chains of chunks, each read as one text.
-use Rattle.std.specs.Prelude.{◌≡◌, ℕ, ◌+◌, ◌≤◌, ◌<◌, zero, suc, Bool, true, false, ◌==◌, ◌&&◌, ◌||◌, nat_lt, if◌then◌else◌, List, [], ◌∷◌, ◌++◌, length, Option, None, Some, is_some, not}
+use Rattle.std.specs.Prelude.{◌≡◌, ℕ, ◌+◌, ◌≤◌, ◌<◌, zero, suc, Bool, true, false, ◌==◌, ◌&&◌, ◌||◌, nat_lt, if◌then◌else◌, List, [], ◌∷◌, ◌++◌, length, Option}
+use Rattle.std.specs.Prelude.{None, Some, is_some, not}
 use denote.Enum.Bare.{sameb}
 use Rattle.engine_events.specs.contracts.event.Content.{the_type}
 use Rattle.engine_events.specs.declared.event.Content.{Content}
@@ -13,16 +14,16 @@ use Rattle.engine_events.specs.declared.state.Inline.TheVariants as inline_state
 use Rattle.engine_events.specs.declared.state.Block.TheVariants as block_states
 use Rattle.engine_events.specs.declared.state.State.TheVariants as states
 use Rattle.engine_events.specs.Events.{link_of, point_of}
-use Rattle.engine_edits.specs.Edits.{Placed}
+use Rattle.engine_edits.specs.Edits.{EditAt}
 use Rattle.engine_edits.specs.Replacement.{events_after}
 use Rattle.engine_chunks.specs.Chunks.{chunks}
-use Rattle.engine_chunks.specs.Parts.{counts, divided}
+use Rattle.engine_chunks.specs.Parts.{counts, with_division}
 use Rattle.markdown_engine.specs.Context.{Context}
 use Rattle.markdown_engine.specs.Laws.{HoldsAt}
-use Rattle.markdown_engine.specs.Machine.{fresh}
+use Rattle.markdown_engine.specs.Machine.{fresh_config}
 use Rattle.markdown_engine.specs.Reading.{Config, Steps, Runs}
-use Rattle.markdown_engine.specs.Resolving.{Found, Resolves, found_both, nothing_found, resolve_all}
-use Rattle.markdown_engine.specs.VirtualText.{IsCut, Source, Text, line_start, text_to, unskipped, with_skip}
+use Rattle.markdown_engine.specs.Resolving.{FoundLabels, Resolves, found_both, nothing_found, resolve_all}
+use Rattle.markdown_engine.specs.VirtualText.{IsCut, Source, Text, line_start, text_to, without_skips, with_skip}
 
 -- whether a content is asked for; without a filter each is
 abbrev pub is_asked : Option Content → Content → Bool
@@ -105,7 +106,7 @@ abbrev pub chain_text : List ℕ → List Event → ℕ → Text
 chain_text bytes events k =
     let first = place_at events k in
     let end = end_of events first (chunks events k) in
-    text_to (with_chunks events first (chunks events k) (unskipped bytes)) (end.index, end.vs)
+    text_to (with_chunks events first (chunks events k) (without_skips bytes)) (end.index, end.vs)
 
 -- the state that a content is read by
 abbrev pub first_state : Content → Name
@@ -116,40 +117,42 @@ first_state contents.Text = Inline inline_states.TextStart
 
 module _ {M : Type 0} (step : Steps M) (resolve : Resolves M) (bytes : List ℕ) (machine : M) (events : List Event) where
   -- these are the events that reading a chain's text gives once resolvers have run, and what these found
-  pub record ReadsChain (chain : Chain) (children : List Event) (found : Found) : Type 0 where
+  pub record ReadsChain (chain : Chain) (children : List Event) (found : FoundLabels) : Type 0 where
     pub read : Config M
-    pub runs : Runs (chain_text bytes events chain.0) step (fresh (place_at events chain.0) machine) [] (states.Next (first_state chain.1)) read true
+    pub runs : Runs (chain_text bytes events chain.0) step (fresh_config (place_at events chain.0) machine) [] (states.Next (first_state chain.1)) read true
     pub added : children ≡ (resolve_all resolve read).config.events
     pub labels : found ≡ (resolve_all resolve read).found
 
   -- chain by chain, each chunk is replaced by its part of the events that were read of its chain
-  abbrev pub Divides : List Chain → ℕ × ℕ → List Placed → List Placed → Found → Found → Type 0
+  abbrev pub Divides : List Chain → ℕ × ℕ → List EditAt → List EditAt → FoundLabels → FoundLabels → Type 0
   Divides [] acc edits all found total = (edits ≡ all) × (found ≡ total)
   Divides (c ∷ cs) acc edits all found total =
-      (children : List Event) × (more : Found) × ReadsChain c children more
-      × Divides cs (counts events (chunks events c.0) children 0 acc.0 acc.1) (divided events c.0 children acc edits) all (found_both found more) total
+      (children : List Event) × (more : FoundLabels) × ReadsChain c children more
+      × Divides cs (counts events (chunks events c.0) children 0 acc.0 acc.1) (with_division events c.0 children acc edits) all (found_both found more) total
 
 -- each chain that is asked for is read, and what was read of it stands in its place
-pub record Subtokenized {M : Type 0} (step : Steps M) (resolve : Resolves M) (bytes : List ℕ) (machine : M) (filter : Option Content) (old new : List Event) (found : Found) : Type 0 where
-  pub edits : List Placed
+pub record Subtokenizes {M : Type 0} (step : Steps M) (resolve : Resolves M) (bytes : List ℕ) (machine : M) (filter : Option Content) (old new : List Event)
+    (found : FoundLabels) : Type 0 where
+  pub edits : List EditAt
   pub divides : Divides step resolve bytes machine old (chains filter old) (0, 0) [] edits nothing_found found
   pub edited : new ≡ events_after edits old
 
 -- the same, with what a text is read with
 module _ {T M : Type 0} (step : Context T → Steps M) (resolve : Context T → Resolves M) (x : Context T) (machine : M) where
-  abbrev pub ReadsChainIn : List Event → Chain → List Event → Found → Type 0
+  abbrev pub ReadsChainIn : List Event → Chain → List Event → FoundLabels → Type 0
   ReadsChainIn events chain children found = ReadsChain (step x) (resolve x) x.bytes machine events chain children found
 
-  abbrev pub DividesIn : Option Content → List Event → List Placed → List Placed → Found → Type 0
+  abbrev pub DividesIn : Option Content → List Event → List EditAt → List EditAt → FoundLabels → Type 0
   DividesIn filter events edits all total = Divides (step x) (resolve x) x.bytes machine events (chains filter events) (0, 0) edits all nothing_found total
 
-  abbrev pub SubtokenizedIn : Option Content → List Event → List Event → Found → Type 0
-  SubtokenizedIn filter old new found = Subtokenized (step x) (resolve x) x.bytes machine filter old new found
+  abbrev pub SubtokenizesIn : Option Content → List Event → List Event → FoundLabels → Type 0
+  SubtokenizesIn filter old new found = Subtokenizes (step x) (resolve x) x.bytes machine filter old new found
 
 -- the machine may begin each of these chains
 abbrev pub MayBegin : {M : Type 0} → HoldsAt M → M → List Event → List Chain → Type 0
 MayBegin valid machine events [] = Unit {0}
-MayBegin valid machine events (c ∷ cs) = valid (fresh (place_at events c.0) machine) [] (states.Next (first_state c.1)) × MayBegin valid machine events cs
+MayBegin valid machine events (c ∷ cs) = valid (fresh_config (place_at events c.0) machine) [] (states.Next (first_state c.1))
+    × MayBegin valid machine events cs
 
 abbrev pub is_empty : List Chain → Bool
 is_empty [] = true

@@ -13,8 +13,14 @@ pub record Context (T : Type 0) : Type 0 where
 
 module _ {T A : Type 0} where
   abbrev pub context : ParseState T A → Context T
-  context s = record { bytes = s.bytes.now; options = s.options.now; tables = s.tables.now; definitions = map string_bytes s.definitions.items; footnotes = map string_bytes s.gfm_footnote_definitions.items }
+  context s = record {
+    bytes = s.bytes.now;
+    options = s.options.now;
+    tables = s.tables.now;
+    definitions = map string_bytes s.definitions.items;
+    footnotes = map string_bytes s.gfm_footnote_definitions.items;
+  }
 
 -- a text of which no label is known
-abbrev pub unlabelled : {T : Type 0} → List ℕ → ParseOptions → T → Context T
-unlabelled bytes options tables = record { bytes = bytes; options = options; tables = tables; definitions = []; footnotes = [] }
+abbrev pub without_labels : {T : Type 0} → List ℕ → ParseOptions → T → Context T
+without_labels bytes options tables = record { bytes = bytes; options = options; tables = tables; definitions = []; footnotes = [] }

@@ -1,4 +1,5 @@
--- A rank for every machine whose calls descend. Each configuration with its state has a weight; a call leads to less, and so do the attempts that it makes, however they end.
+-- A rank for every machine whose calls descend. Each configuration with its state has a weight; a call leads to less, and so do the attempts that it makes,
+-- however they end.
 use Rattle.std.specs.Prelude.{ℕ, ◌+◌, ◌^◌, ◌<◌, ◌≤◌, true, false, List, [], ◌∷◌, ◌++◌, map, length, Option}
 use Rattle.engine_events.specs.declared.place.Point.{Point}
 use Rattle.engine_events.specs.declared.state.Name.{Name}
@@ -19,10 +20,13 @@ AllBelow waits w (a ∷ more) = (waits a < w) × AllBelow waits w more
 
 -- a call makes fewer than `most` attempts
 pub record DescendsAt {M : Type 0} (size : ℕ) (valid : HoldsAt M) (step : Steps M) (most : ℕ) (weight : Weighs M) (waits : Attempt → ℕ) : Type 0 where
-  pub fed : (c : Config M) (stack : List Attempt) (n : Name) (p : Point) (v : Option VirtualByte) → valid c stack (states.Next n) → IsFed size c.point p v → weight (with_byte c p v) (states.Retry n) ≤ weight c (states.Next n)
-  pub called : (c : Config M) (stack : List Attempt) (n : Name) → valid c stack (states.Retry n) → let e = step c n in weight e.config e.state < weight c (states.Retry n)
+  pub fed : (c : Config M) (stack : List Attempt) (n : Name) (p : Point) (v : Option VirtualByte) → valid c stack (states.Next n) → IsFed size c.point p v
+      → weight (with_byte c p v) (states.Retry n) ≤ weight c (states.Next n)
+  pub called : (c : Config M) (stack : List Attempt) (n : Name) → valid c stack (states.Retry n) → let e = step c n in
+      weight e.config e.state < weight c (states.Retry n)
   pub fewer : (c : Config M) (stack : List Attempt) (n : Name) → valid c stack (states.Retry n) → length (step c n).pushed < most
-  pub pushed : (c : Config M) (stack : List Attempt) (n : Name) → valid c stack (states.Retry n) → AllBelow waits (weight c (states.Retry n)) (map mark (step c n).pushed)
+  pub pushed : (c : Config M) (stack : List Attempt) (n : Name) → valid c stack (states.Retry n)
+      → AllBelow waits (weight c (states.Retry n)) (map mark (step c n).pushed)
   pub ok : (c : Config M) (stack : List Attempt) (a : Attempt) → valid c (stack ++ a ∷ []) states.Ok → weight (continuation a c true) a.ok ≤ waits a
   pub nok : (c : Config M) (stack : List Attempt) (a : Attempt) → valid c (stack ++ a ∷ []) states.Nok → weight (continuation a c false) a.nok ≤ waits a
 

@@ -52,7 +52,8 @@ module _ (most : ℕ) (waits : Attempt → ℕ) where
       omega arith
 
   -- an attempt ends, and what goes on weighs no more than it said
-  pop_falls : (v w : ℕ) (stack : List Attempt) (a : Attempt) → v ≤ waits a → base ^ v + all_wait base waits stack < base ^ w + all_wait base waits (stack ++ a ∷ [])
+  pop_falls : (v w : ℕ) (stack : List Attempt) (a : Attempt) → v ≤ waits a
+      → base ^ v + all_wait base waits stack < base ^ w + all_wait base waits (stack ++ a ∷ [])
   pop_falls v w stack a h =
       let on = rises v (waits a) h in
       let least = some w in
@@ -63,16 +64,19 @@ before : (v w : ℕ) → v < w → (w - 1) + 1 ≡ w
 before v w h = omega arith
 
 -- whatever descends has a rank that falls
-pub descends : {M : Type 0} (size : ℕ) (valid : HoldsAt M) (step : Steps M) (most : ℕ) (weight : Weighs M) (waits : Attempt → ℕ) → DescendsAt size valid step most weight waits → FallsAt size valid step (descent most weight waits)
+pub descends : {M : Type 0} (size : ℕ) (valid : HoldsAt M) (step : Steps M) (most : ℕ) (weight : Weighs M) (waits : Attempt → ℕ)
+    → DescendsAt size valid step most weight waits → FallsAt size valid step (descent most weight waits)
 unfolding base
 descends size valid step most weight waits d = record {
-  fed = λ c stack n p v h fed. let low = rises most waits (weight (with_byte c p v) (states.Retry n)) (weight c (states.Next n)) (d.fed c stack n p v h fed) in omega arith;
+  fed = λ c stack n p v h fed. let low = rises most waits (weight (with_byte c p v) (states.Retry n)) (weight c (states.Next n)) (d.fed c stack n p v h fed) in
+      omega arith;
   called = λ c stack n h.
       let e = step c n in
       let w = weight c (states.Retry n) in
       let same = before (weight e.config e.state) w (d.called c stack n h) in
       let fewer : length (map mark e.pushed) < most = rw (length-map e.pushed mark) (d.fewer c stack n h) in
-      let lower = call_falls most waits (weight e.config e.state) (w - 1) stack (map mark e.pushed) (rw same (d.called c stack n h)) fewer (rw same (d.pushed c stack n h)) in
+      let lower = call_falls most waits (weight e.config e.state) (w - 1) stack (map mark e.pushed) (rw same (d.called c stack n h)) fewer
+      (rw same (d.pushed c stack n h)) in
       rw same at lower;
   ok = λ c stack a h. pop_falls most waits (weight (continuation a c true) a.ok) (weight c states.Ok) stack a (d.ok c stack a h);
   nok = λ c stack a h. pop_falls most waits (weight (continuation a c false) a.nok) (weight c states.Nok) stack a (d.nok c stack a h);

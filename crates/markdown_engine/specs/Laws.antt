@@ -18,13 +18,13 @@ abbrev pub IsFront : List Event → List Event → Type 0
 IsFront a b = (more : List Event) × (b ≡ a ++ more)
 
 -- each attempt starts with at least the events of the one around it
-abbrev pub Nested : {M : Type 0} → List Event → List (Frame M) → List Event → Type 0
-Nested before [] after = IsFront before after
-Nested before (f ∷ fs) after = IsFront before f.start.events × Nested f.start.events fs after
+abbrev pub AreNested : {M : Type 0} → List Event → List (Frame M) → List Event → Type 0
+AreNested before [] after = IsFront before after
+AreNested before (f ∷ fs) after = IsFront before f.start.events × AreNested f.start.events fs after
 
 -- events are only added
 abbrev pub OnlyAdds : {M : Type 0} → Steps M → Type 0
-OnlyAdds {M} step = (c : Config M) (n : Name) → let e = step c n in Nested c.events e.pushed e.config.events
+OnlyAdds {M} step = (c : Config M) (n : Name) → let e = step c n in AreNested c.events e.pushed e.config.events
 
 -- how many bytes of the virtual text are left at most, in a text of so many bytes
 abbrev pub remaining : ℕ → Point → ℕ
@@ -65,10 +65,13 @@ MovesOn states.Nok = Unit {0}
 
 -- each move of the engine keeps it
 pub record KeepsAt {M : Type 0} (size : ℕ) (valid : HoldsAt M) (step : Steps M) : Type 0 where
-  pub fed : (c : Config M) (stack : List Attempt) (n : Name) (p : Point) (v : Option VirtualByte) → IsFed size c.point p v → valid c stack (states.Next n) → valid (with_byte c p v) stack (states.Retry n)
+  pub fed : (c : Config M) (stack : List Attempt) (n : Name) (p : Point) (v : Option VirtualByte) → IsFed size c.point p v → valid c stack (states.Next n)
+      → valid (with_byte c p v) stack (states.Retry n)
   -- a range may begin at a later place
-  pub moved : (c : Config M) (stack : List Attempt) (s : State) (p : Point) → MovesOn s → remaining size p ≤ remaining size c.point → Reaches c.point p → valid c stack s → valid (at_point p c) stack s
-  pub called : (c : Config M) (stack : List Attempt) (n : Name) → valid c stack (states.Retry n) → let e = step c n in valid e.config (stack ++ map mark e.pushed) e.state
+  pub moved : (c : Config M) (stack : List Attempt) (s : State) (p : Point) → MovesOn s → remaining size p ≤ remaining size c.point → Reaches c.point p
+      → valid c stack s → valid (at_point p c) stack s
+  pub called : (c : Config M) (stack : List Attempt) (n : Name) → valid c stack (states.Retry n) → let e = step c n in
+      valid e.config (stack ++ map mark e.pushed) e.state
   pub ok : (c : Config M) (stack : List Attempt) (a : Attempt) → valid c (stack ++ a ∷ []) states.Ok → valid (continuation a c true) stack a.ok
   pub nok : (c : Config M) (stack : List Attempt) (a : Attempt) → valid c (stack ++ a ∷ []) states.Nok → valid (continuation a c false) stack a.nok
   -- an error is no state: it is answered for want of memory alone
@@ -122,7 +125,8 @@ BeginAround c (f ∷ fs) = MayConsume c f.start × MovesOn f.ok × MovesOn f.nok
 
 -- next comes a byte after exactly one was consumed, and the same byte after none; at the end none is consumed
 abbrev pub ConsumesAt : {M : Type 0} → HoldsAt M → Steps M → Type 0
-ConsumesAt {M} valid step = (c : Config M) (stack : List Attempt) (n : Name) → valid c stack (states.Retry n) → let e = step c n in Consumes e.state c e.config × BeginAround c e.pushed
+ConsumesAt {M} valid step = (c : Config M) (stack : List Attempt) (n : Name) → valid c stack (states.Retry n) → let e = step c n in
+    Consumes e.state c e.config × BeginAround c e.pushed
 
 -- events are nested and in order of place
 abbrev pub TidiesAt : {M : Type 0} → HoldsAt M → Type 0

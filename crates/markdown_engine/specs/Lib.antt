@@ -1,7 +1,7 @@
 pub mod VirtualText
 pub mod Resolvers
 pub mod Context
-pub mod Kept
+pub mod KeptState
 pub mod Reading
 pub mod Order
 pub mod Laws

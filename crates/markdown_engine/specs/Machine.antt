@@ -7,14 +7,14 @@ use Rattle.engine_events.specs.declared.state.State.{State}
 use Rattle.engine_events.specs.declared.state.State.TheVariants as states
 use Rattle.engine_events.specs.declared.event.Link.{Link}
 use Rattle.engine_events.specs.Events.{event}
-pub use Rattle.engine_events.specs.States.{Refused}
+pub use Rattle.engine_events.specs.States.{IsRefused}
 pub use Rattle.markdown_engine.specs.Reading.{past_byte}
 use Rattle.markdown_engine.specs.declared.tokenizer.Tokenizer.{Tokenizer}
 use Rattle.engine_events.specs.declared.subresult.Subresult.{Subresult}
 use Rattle.engine_edits.specs.Edits.{edits_of}
-use Rattle.markdown_engine.specs.Kept.{kept, nothing_kept}
+use Rattle.markdown_engine.specs.KeptState.{kept_state, nothing_kept}
 use Rattle.markdown_engine.specs.Context.{Context, context}
-use Rattle.markdown_engine.specs.Resolving.{Found, Resolved, Resolves, resolution, found_in}
+use Rattle.markdown_engine.specs.Resolving.{FoundLabels, ResolverResult, Resolves, resolution, found_in}
 use Rattle.markdown_engine.specs.Reading.{Config, Effect, Frame, Steps, Outcome, Runs, end_state, mark, at_point, seen_as}
 use Rattle.engine_events.specs.declared.resolve.Name.{Name as Resolver}
 use Rattle.markdown_engine.specs.Resolvers.{with_first, with_last}
@@ -25,7 +25,23 @@ use Rattle.markdown_engine.specs.Order.{Reaches}
 
 module _ {M T A : Type 0} where
   abbrev pub config : Tokenizer M T A → Config M
-  config t = record { events = t.events.items; point = t.point; next = t.next; line_start = t.line_start; previous = t.previous; current = t.current; tokenize_state = kept t.tokenize_state; map = edits_of t.map; resolvers = t.resolvers.items; interrupt = t.interrupt; lazy = t.lazy; concrete = t.concrete; pierce = t.pierce; machine = t.machine }
+  config t = record {
+    events = t.events.items;
+    point = t.point;
+    next = t.next;
+    line_start = t.line_start;
+    previous = t.previous;
+    current = t.current;
+    tokenize_state = kept_state t.tokenize_state;
+    map = edits_of t.map;
+    resolvers = t.resolvers.items;
+    interrupt = t.interrupt;
+    lazy = t.lazy;
+    concrete =
+        t.concrete;
+    pierce = t.pierce;
+    machine = t.machine;
+  }
 
   -- the same, with what is seen of the machine
   abbrev pub view_config : {V : Type 0} → (M → V) → Tokenizer M T A → Config V
@@ -70,7 +86,8 @@ AreCuts from (c ∷ cs) size = IsAfter from c × (c.0 < size) × AreCuts c cs si
 abbrev pub Begins : Source → ℕ × ℕ → Point → Point → Type 0
 Begins s from p q = let place = place_in s.skips p in ((is_before from place ≡ false) × (q ≡ p)) ⊎ ((is_before from place ≡ true) × Walks s.bytes from place q)
 
--- a text goes on after the end of a range: it has the same bytes, ends there or later, and up to there nothing else is skipped; with the end handed in it ends right there
+-- a text goes on after the end of a range: it has the same bytes, ends there or later, and up to there nothing else is skipped; with the end handed in it ends
+-- right there
 pub record GoesOn (s : Source) (to : ℕ × ℕ) (end : Bool) (more : Source) (limit : ℕ × ℕ) : Type 0 where
   pub bytes : more.bytes ≡ s.bytes
   pub after : IsAfter to limit
@@ -83,7 +100,7 @@ module _ {M T A : Type 0} where
     pub parse_state : new.parse_state.now ≡ old.parse_state.now
     pub skips : new.skips.entries ≡ old.skips.entries
 
-  pub record Opened (from : ℕ × ℕ) (old new : Tokenizer M T A) : Type 0 where
+  pub record OpensRange (from : ℕ × ℕ) (old new : Tokenizer M T A) : Type 0 where
     pub point : Point
     pub begins : Begins (source old) from old.point point
     pub forward : remaining (length old.parse_state.now.bytes.now) point ≤ remaining (length old.parse_state.now.bytes.now) old.point
@@ -93,7 +110,7 @@ module _ {M T A : Type 0} where
     pub same : Around old new
 
   -- nothing waits any more
-  pub record Ended (t : Tokenizer M T A) (s : State) : Type 0 where
+  pub record HasEnded (t : Tokenizer M T A) (s : State) : Type 0 where
     pub attempts : t.attempts.items ≡ []
     pub state : (s ≡ states.Ok) ⊎ (s ≡ states.Nok)
 
@@ -115,12 +132,12 @@ module _ {M T A : Type 0} where
     pub pushed : OnOk result (new.attempts.items ≡ old.attempts.items ++ mark f ∷ [])
 
   -- where `push` stops: at the range's end, or with nothing that waits
-  abbrev pub Reached : ℕ × ℕ → Tokenizer M T A → State → Type 0
-  Reached to t (states.Error m) = Unit {0}
-  Reached to t (states.Next n) = is_before to (place_in t.skips.entries t.point) ≡ false
-  Reached to t (states.Retry n) = ⊥
-  Reached to t states.Ok = t.attempts.items ≡ []
-  Reached to t states.Nok = t.attempts.items ≡ []
+  abbrev pub HasReached : ℕ × ℕ → Tokenizer M T A → State → Type 0
+  HasReached to t (states.Error m) = Unit {0}
+  HasReached to t (states.Next n) = is_before to (place_in t.skips.entries t.point) ≡ false
+  HasReached to t (states.Retry n) = ⊥
+  HasReached to t states.Ok = t.attempts.items ≡ []
+  HasReached to t states.Nok = t.attempts.items ≡ []
 
 module _ {M V T A : Type 0} (view : M → V) where
   -- a call did what the step says
@@ -131,42 +148,45 @@ module _ {M V T A : Type 0} (view : M → V) where
 
   -- or memory was wanted
   abbrev pub Shows : Effect V → Tokenizer M T A → Tokenizer M T A → State → Type 0
-  Shows e old new s = Around old new × (Refused s ⊎ Did e old new s)
+  Shows e old new s = Around old new × (IsRefused s ⊎ Did e old new s)
 
   -- what `push` leaves: reading a text from what is left is reading it from what was there
   pub record Goes (text : Text) (step : Steps V) (state : State) (old new : Tokenizer M T A) (s : State) : Type 0 where
-    pub back : (d : Config V) (w : Bool) → Outcome text step new.attempts.items (view_config view new) [] s d w → Outcome text step old.attempts.items (view_config view old) [] state d w
+    pub back : (d : Config V) (w : Bool) → Outcome text step new.attempts.items (view_config view new) [] s d w
+        → Outcome text step old.attempts.items (view_config view old) [] state d w
 
   -- however the text goes on after the range
   abbrev pub GoesAll : Steps V → Source → ℕ × ℕ → Bool → State → Tokenizer M T A → Tokenizer M T A → State → Type 0
   GoesAll step s to end given old new state = (more : Source) (limit : ℕ × ℕ) → GoesOn s to end more limit → Goes (text_to more limit) step given old new state
 
-  abbrev pub Pushed : Steps V → ℕ × ℕ → Bool → State → Tokenizer M T A → Tokenizer M T A → State → Type 0
-  Pushed step to end given old new state = Around old new × (Refused state ⊎ GoesAll step (source old) to end given old new state)
+  abbrev pub HasPushed : Steps V → ℕ × ℕ → Bool → State → Tokenizer M T A → Tokenizer M T A → State → Type 0
+  HasPushed step to end given old new state = Around old new × (IsRefused state ⊎ GoesAll step (source old) to end given old new state)
 
   -- a range was read from its start
-  abbrev pub PushedFrom : Steps V → ℕ × ℕ → ℕ × ℕ → State → Tokenizer M T A → Tokenizer M T A → State → Type 0
-  PushedFrom step from to given old new state = (start : Tokenizer M T A) × Opened from old start × Pushed step to false given start new state
+  abbrev pub HasPushedFrom : Steps V → ℕ × ℕ → ℕ × ℕ → State → Tokenizer M T A → Tokenizer M T A → State → Type 0
+  HasPushedFrom step from to given old new state = (start : Tokenizer M T A) × OpensRange from old start × HasPushed step to false given start new state
 
   -- reading ended, and this is what it comes to
-  pub record Flushed (text : Text) (step : Steps V) (given : State) (old new : Tokenizer M T A) (s : State) : Type 0 where
+  pub record HasFlushed (text : Text) (step : Steps V) (given : State) (old new : Tokenizer M T A) (s : State) : Type 0 where
     pub well : Bool
     pub state : s ≡ end_state well
     pub outcome : Outcome text step old.attempts.items (view_config view old) [] given (view_config view new) well
 
   -- the same, and reading went well; then resolvers ran if that was asked for, and found this
-  pub record Completed (text : Text) (step : Steps V) (resolve : Resolves V) (all : Bool) (given : State) (old new : Tokenizer M T A) (found : Found) : Type 0 where
+  pub record HasCompleted (text : Text) (step : Steps V) (resolve : Resolves V) (all : Bool) (given : State) (old new : Tokenizer M T A)
+      (found : FoundLabels) : Type 0 where
     pub read : Config V
     pub outcome : Outcome text step old.attempts.items (view_config view old) [] given read true
     pub config : view_config view new ≡ (resolution resolve all read).config
     pub labels : found ≡ (resolution resolve all read).found
 
   -- the same, with what the tokenizer reads with
-  abbrev pub Completes : (Context T → Steps V) → (Context T → Resolves V) → ℕ × ℕ → Bool → State → Tokenizer M T A → Tokenizer M T A → Found → Type 0
-  Completes step resolve to all given old new found = Completed (text_to (source old) to) (step (read_with old)) (resolve (read_with old)) all given old new found
+  abbrev pub Completes : (Context T → Steps V) → (Context T → Resolves V) → ℕ × ℕ → Bool → State → Tokenizer M T A → Tokenizer M T A → FoundLabels → Type 0
+  Completes step resolve to all given old new found =
+      HasCompleted (text_to (source old) to) (step (read_with old)) (resolve (read_with old)) all given old new found
 
   -- resolvers left this, and found this
-  pub record IsResolved (r : Resolved V) (new : Tokenizer M T A) (given : Subresult A) : Type 0 where
+  pub record IsResolved (r : ResolverResult V) (new : Tokenizer M T A) (given : Subresult A) : Type 0 where
     pub config : view_config view new ≡ r.config
     pub found : found_in given ≡ r.found
 
@@ -177,10 +197,11 @@ module _ {M V T A : Type 0} (view : M → V) where
     pub runs : Runs (text_to from (length from.bytes, 0)) step (view_config view old) [] given (view_config view new) well
 
   -- what the loop of `push` keeps
-  pub record Turn (valid : HoldsAt V) (step : Steps V) (to : ℕ × ℕ) (end : Bool) (first : Tokenizer M T A) (given : State) (t : Tokenizer M T A) (s : State) : Type 0 where
+  pub record Turn (valid : HoldsAt V) (step : Steps V) (to : ℕ × ℕ) (end : Bool) (first : Tokenizer M T A) (given : State) (t : Tokenizer M T A)
+      (s : State) : Type 0 where
     pub same : Around first t
-    pub holds : Refused s ⊎ valid (view_config view t) t.attempts.items s
-    pub reads : Refused s ⊎ GoesAll step (source first) to end given first t s
+    pub holds : IsRefused s ⊎ valid (view_config view t) t.attempts.items s
+    pub reads : IsRefused s ⊎ GoesAll step (source first) to end given first t s
 
 -- of a state that works on any machine: all of the machine is seen
 abbrev pub Answers : {M T A : Type 0} → Effect M → Tokenizer M T A → Tokenizer M T A → State → Type 0
@@ -196,8 +217,23 @@ weight states.Nok r = r + 1
 
 module _ {M : Type 0} where
   -- nothing was read
-  abbrev pub fresh : Point → M → Config M
-  fresh p machine = record { events = []; point = p; next = p; line_start = p; previous = None; current = None; tokenize_state = nothing_kept; map = []; resolvers = []; interrupt = false; lazy = false; concrete = false; pierce = false; machine = machine }
+  abbrev pub fresh_config : Point → M → Config M
+  fresh_config p machine = record {
+    events = [];
+    point = p;
+    next = p;
+    line_start = p;
+    previous = None;
+    current = None;
+    tokenize_state = nothing_kept;
+    map = [];
+    resolvers = [];
+    interrupt = false;
+    lazy = false;
+    concrete = false;
+    pierce = false;
+    machine = machine;
+  }
 
   abbrev pub with_enter : Name → Option Link → Config M → Config M
   with_enter name link c = record c { events = c.events ++ event Enter name c.point link ∷ [] }

@@ -77,7 +77,8 @@ AreInOrder events = (to : Point) × InOrder text_start events to
 abbrev pub LeadsOn : {M : Type 0} → Config M → Type 0
 LeadsOn c = (b : ℕ) → c.current ≡ Some b → Reaches c.point c.next
 
--- a stack of attempts, the innermost first: each began with a front of the events of the one in it, which were tidy, and the names that were open fit the stack up to it
+-- a stack of attempts, the innermost first: each began with a front of the events of the one in it, which were tidy, and the names that were open fit the stack
+-- up to it
 abbrev pub AreMarks : (List Name → List Attempt → Type 0) → List Event → List Attempt → Type 0
 AreMarks fits events [] = Unit {0}
 AreMarks fits events (a ∷ more) =

@@ -1,5 +1,6 @@
 -- What keeps events nested and in order of place.
-use Rattle.std.proofs.Common.{◌≡◌, ℕ, ◌∙◌, ◌++◌, Bool, true, false, List, [], ◌∷◌, take, drop, if◌then◌else◌, cond, Option, None, Some, refl, sym, ap, subst, arith}
+use Rattle.std.proofs.Common.{◌≡◌, ℕ, ◌∙◌, ◌++◌, Bool, true, false, List, [], ◌∷◌, take, drop, if◌then◌else◌, cond, Option, None, Some, refl, sym, ap, subst}
+use Rattle.std.proofs.Common.{arith}
 use Rattle.std.proofs.Math.Seq.{take-length}
 use Rattle.std.proofs.lemmas.List.{take-append-le, take-append-drop, length-append}
 use Rattle.engine_events.specs.Events.{event, point_of}
@@ -13,8 +14,9 @@ use Rattle.engine_events.specs.declared.state.State.{State}
 use Rattle.markdown_engine.specs.declared.attempt.Attempt.{Attempt}
 use Rattle.markdown_engine.specs.declared.virtual_text.VirtualByte.{VirtualByte}
 use Rattle.markdown_engine.specs.Laws.{IsFed}
-use Rattle.markdown_engine.specs.Machine.{frame_at, past_byte, with_enter, with_exit, fresh}
-use Rattle.markdown_engine.specs.Order.{AreMarks, AreTidy, InOrder, IsInnermost, IsNested, IsTidy, LeadsOn, MayStand, Reaches, open_after, opened_by, outer, text_start}
+use Rattle.markdown_engine.specs.Machine.{frame_at, past_byte, with_enter, with_exit, fresh_config}
+use Rattle.markdown_engine.specs.Order.{AreMarks, AreTidy, InOrder, IsInnermost, IsNested, IsTidy, LeadsOn, MayStand, Reaches, open_after, opened_by, outer}
+use Rattle.markdown_engine.specs.Order.{text_start}
 use Rattle.markdown_engine.specs.Reading.{Config, with_byte, mark, at_point, restore, continuation}
 use Rattle.markdown_engine.specs.VirtualText.{is_feed}
 
@@ -71,11 +73,14 @@ exit_place true p line = refl
 exit_place false p line = refl
 
 -- what is nested is so inside of others, too
-opened_in : (kind : Kind) (name : Name) (names outside : List Name) → MayStand kind name names → MayStand kind name (names ++ outside) × (opened_by kind name (names ++ outside) ≡ opened_by kind name names ++ outside)
+opened_in : (kind : Kind) (name : Name) (names outside : List Name) → MayStand kind name names → MayStand kind name (names ++ outside)
+    × (opened_by kind name (names ++ outside) ≡ opened_by kind name names ++ outside)
 opened_in Enter name names outside h = (tt, refl)
-opened_in Exit name names outside h = let e : names ++ outside ≡ name ∷ (h.0 ++ outside) = ap (λ (z : List Name). z ++ outside) h.1 in ((h.0 ++ outside, e), rw h.1 refl)
+opened_in Exit name names outside h = let e : names ++ outside ≡ name ∷ (h.0 ++ outside) = ap (λ (z : List Name). z ++ outside) h.1 in
+    ((h.0 ++ outside, e), rw h.1 refl)
 
-pub nested_in : (names outside : List Name) (es : List Event) → IsNested names es → IsNested (names ++ outside) es × (open_after (names ++ outside) es ≡ open_after names es ++ outside)
+pub nested_in : (names outside : List Name) (es : List Event) → IsNested names es → IsNested (names ++ outside) es
+    × (open_after (names ++ outside) es ≡ open_after names es ++ outside)
 nested_in names outside [] h = (tt, refl)
 nested_in names outside (e ∷ es) h =
     let k = opened_in e.kind e.name names outside h.0 in
@@ -86,7 +91,7 @@ nested_in names outside (e ∷ es) h =
 -- What calls do
 
 module _ {M : Type 0} where
-  pub fresh_tidy : (p : Point) (machine : M) → IsTidy (fresh p machine)
+  pub fresh_tidy : (p : Point) (machine : M) → IsTidy (fresh_config p machine)
   fresh_tidy p machine = record { nested = tt; order = from_start p }
 
   pub handed_tidy : (size : ℕ) (c : Config M) (p : Point) (v : Option VirtualByte) → IsFed size c.point p v → IsTidy c → IsTidy (with_byte c p v)
@@ -112,7 +117,8 @@ module _ {M : Type 0} where
   entered_opened name link c = opened_append [] c.events (event Enter name c.point link ∷ [])
 
   -- the exit stands where no event is after it
-  pub exited_tidy : (name : Name) (c : Config M) → (let p = if is_feed c.previous then c.line_start else c.point in AreTidy c.events p × Reaches p c.point) → IsInnermost name c.events → IsTidy (with_exit name c)
+  pub exited_tidy : (name : Name) (c : Config M) → (let p = if is_feed c.previous then c.line_start else c.point in AreTidy c.events p × Reaches p c.point)
+      → IsInnermost name c.events → IsTidy (with_exit name c)
   exited_tidy name c h k = let e = event Exit name (if is_feed c.previous then c.line_start else c.point) None in record {
     nested = nested_append [] c.events (e ∷ []) h.0.nested (k, tt);
     order = order_more text_start c.point c.events e h.0.order h.1;
@@ -138,34 +144,47 @@ module _ (fits : List Name → List Attempt → Type 0) where
   marks_added es more (a ∷ rest) h =
       let low = h.0 in
       let longer = length-append es more in
-      let same = subst (λ (z : List Event). AreTidy z a.point × fits (open_after [] z) (a ∷ rest) × AreMarks fits z rest) (sym (take-append-le a.events es more low)) (h.1, h.2, h.3) in
+      let same = subst (λ (z : List Event). AreTidy z a.point × fits (open_after [] z) (a ∷ rest)
+      × AreMarks fits z rest) (sym (take-append-le a.events es more low)) (h.1, h.2, h.3) in
       (omega (arith, low, longer), same.0, same.1, same.2)
 
   -- nor does it change what waits further out that an attempt ends well
   pub marks_passed : (a : Attempt) (es : List Event) (stack : List Attempt) → AreMarks fits es (a ∷ stack) → AreMarks fits es stack
-  marks_passed a es stack h = subst (λ (z : List Event). AreMarks fits z stack) (take-append-drop a.events es) (marks_added (take a.events es) (drop a.events es) stack h.3)
+  marks_passed a es stack h = subst (λ (z : List Event). AreMarks fits z stack) (take-append-drop a.events es)
+      (marks_added (take a.events es) (drop a.events es) stack h.3)
 
   module _ {M : Type 0} where
     -- an attempt begins
-    pub marks_pushed : (check : Bool) (ok nok : State) (c : Config M) (stack : List Attempt) → IsTidy c → fits (open_after [] c.events) (mark (frame_at check ok nok c) ∷ stack) → AreMarks fits c.events stack → AreMarks fits c.events (mark (frame_at check ok nok c) ∷ stack)
+    pub marks_pushed : (check : Bool) (ok nok : State) (c : Config M) (stack : List Attempt) → IsTidy c
+        → fits (open_after [] c.events) (mark (frame_at check ok nok c) ∷ stack) → AreMarks fits c.events stack
+        → AreMarks fits c.events (mark (frame_at check ok nok c) ∷ stack)
     marks_pushed check ok nok c stack t f h =
-        let same = subst (λ (z : List Event). AreTidy z c.point × fits (open_after [] z) (mark (frame_at check ok nok c) ∷ stack) × AreMarks fits z stack) (sym (take-length c.events)) (t, f, h) in
+        let same = subst (λ (z : List Event). AreTidy z c.point × fits (open_after [] z) (mark (frame_at check ok nok c) ∷ stack)
+        × AreMarks fits z stack) (sym (take-length c.events)) (t, f, h) in
         (omega arith, same.0, same.1, same.2)
 
     -- back at an attempt
     pub restored_tidy : (a : Attempt) (c : Config M) (stack : List Attempt) → AreMarks fits c.events (a ∷ stack) → IsTidy (restore a c)
     restored_tidy a c stack h = h.1
 
-    pub restored_fits : (a : Attempt) (c : Config M) (stack : List Attempt) → AreMarks fits c.events (a ∷ stack) → fits (open_after [] (restore a c).events) (a ∷ stack)
+    pub restored_fits : (a : Attempt) (c : Config M) (stack : List Attempt) → AreMarks fits c.events (a ∷ stack)
+        → fits (open_after [] (restore a c).events) (a ∷ stack)
     restored_fits a c stack h = h.2
 
     pub restored_marks : (a : Attempt) (c : Config M) (stack : List Attempt) → AreMarks fits c.events (a ∷ stack) → AreMarks fits (restore a c).events stack
     restored_marks a c stack h = h.3
 
-    pub resumed_tidy : (a : Attempt) (c : Config M) (stack : List Attempt) (well : Bool) → IsTidy c → AreMarks fits c.events (a ∷ stack) → IsTidy (continuation a c well)
+    pub resumed_tidy : (a : Attempt) (c : Config M) (stack : List Attempt) (well : Bool) → IsTidy c → AreMarks fits c.events (a ∷ stack)
+        → IsTidy (continuation a c well)
     resumed_tidy a c stack true t h = elim a.check as (λ b. IsTidy (cond b (restore a c) c)) [ true ↦ restored_tidy a c stack h | false ↦ t ]
     resumed_tidy a c stack false t h = restored_tidy a c stack h
 
-    pub resumed_marks : (a : Attempt) (c : Config M) (stack : List Attempt) (well : Bool) → AreMarks fits c.events (a ∷ stack) → AreMarks fits (continuation a c well).events stack
-    resumed_marks a c stack true h = elim a.check as (λ b. AreMarks fits (cond b (restore a c) c).events stack) [ true ↦ restored_marks a c stack h | false ↦ marks_passed a c.events stack h ]
+    pub resumed_marks : (a : Attempt) (c : Config M) (stack : List Attempt) (well : Bool) → AreMarks fits c.events (a ∷ stack)
+        → AreMarks fits (continuation a c well).events stack
+    resumed_marks a c stack true h =
+        elim a.check as (λ b. AreMarks fits (cond b (restore a c) c).events stack) [
+          | true ↦ restored_marks a c stack h
+          | false ↦ marks_passed a c.events stack
+              h
+        ]
     resumed_marks a c stack false h = restored_marks a c stack h

@@ -5,7 +5,8 @@ use Rattle.markdown_engine.specs.Reading.{Config, Frame, Steps, Runs, ends-ok, e
 use Rattle.markdown_engine.specs.VirtualText.{Text}
 
 -- whatever two readings of a text from one configuration come to is the same
-pub one_outcome : {M : Type 0} {text : Text} {step : Steps M} {c d e : Config M} {fs : List (Frame M)} {s : State} {v w : Bool} → Runs text step c fs s d v → Runs text step c fs s e w → (d ≡ e) × (v ≡ w)
+pub one_outcome : {M : Type 0} {text : Text} {step : Steps M} {c d e : Config M} {fs : List (Frame M)} {s : State} {v w : Bool} → Runs text step c fs s d v
+    → Runs text step c fs s e w → (d ≡ e) × (v ≡ w)
 one_outcome ends-ok ends-ok = (refl, refl)
 one_outcome ends-nok ends-nok = (refl, refl)
 one_outcome (next r) (next q) = one_outcome r q

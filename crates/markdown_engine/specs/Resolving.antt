@@ -11,35 +11,35 @@ use Rattle.markdown_engine.specs.Order.{AreWhole}
 use Rattle.markdown_engine.specs.Reading.{Config, Effect, Steps}
 
 -- the labels of the definitions that were found
-pub record Found : Type 0 where
+pub record FoundLabels : Type 0 where
   pub definitions : List (List ℕ)
   pub footnotes : List (List ℕ)
 
-abbrev pub nothing_found : Found
+abbrev pub nothing_found : FoundLabels
 nothing_found = record { definitions = []; footnotes = [] }
 
-abbrev pub found_both : Found → Found → Found
+abbrev pub found_both : FoundLabels → FoundLabels → FoundLabels
 found_both f g = record { definitions = f.definitions ++ g.definitions; footnotes = f.footnotes ++ g.footnotes }
 
 module _ {A : Type 0} where
-  abbrev pub found_in : Subresult A → Found
+  abbrev pub found_in : Subresult A → FoundLabels
   found_in r = record { definitions = map string_bytes r.definitions.items; footnotes = map string_bytes r.gfm_footnote_definitions.items }
 
-  abbrev pub found_of : Option (Subresult A) → Found
+  abbrev pub found_of : Option (Subresult A) → FoundLabels
   found_of None = nothing_found
   found_of (Some r) = found_in r
 
 -- what a resolver leaves, and what it found
-pub record Resolved (M : Type 0) : Type 0 where
+pub record ResolverResult (M : Type 0) : Type 0 where
   pub config : Config M
-  pub found : Found
+  pub found : FoundLabels
 
 abbrev pub Resolves : Type 0 → Type 0
-Resolves M = Config M → Resolver → Resolved M
+Resolves M = Config M → Resolver → ResolverResult M
 
 module _ {M : Type 0} (resolve : Resolves M) where
   -- resolvers one after another; what they find comes after what was found
-  abbrev pub resolve_each : List Resolver → Config M → Found → Resolved M
+  abbrev pub resolve_each : List Resolver → Config M → FoundLabels → ResolverResult M
   resolve_each [] c found = record { config = c; found = found }
   resolve_each (n ∷ ns) c found = resolve_each ns (resolve c n).config (found_both found (resolve c n).found)
 
@@ -48,11 +48,11 @@ module _ {M : Type 0} (resolve : Resolves M) where
   with_edits c = record c { events = events_after c.map c.events; map = [] }
 
   -- all that are registered run in their order, and then the edits are made
-  abbrev pub resolve_all : Config M → Resolved M
+  abbrev pub resolve_all : Config M → ResolverResult M
   resolve_all c = let r = resolve_each c.resolvers (record c { resolvers = [] }) nothing_found in record r { config = with_edits r.config }
 
   -- if that is asked for
-  abbrev pub resolution : Bool → Config M → Resolved M
+  abbrev pub resolution : Bool → Config M → ResolverResult M
   resolution false c = record { config = c; found = nothing_found }
   resolution true c = resolve_all c
 
@@ -81,8 +81,8 @@ abbrev pub IsUnresolved : {M : Type 0} → Config M → Type 0
 IsUnresolved c = (c.map ≡ []) × (c.resolvers ≡ [])
 
 -- what holds, and nothing is to be resolved
-abbrev pub Unresolved : {M : Type 0} → HoldsAt M → HoldsAt M
-Unresolved valid c stack s = valid c stack s × IsUnresolved c
+abbrev pub HoldsUnresolved : {M : Type 0} → HoldsAt M → HoldsAt M
+HoldsUnresolved valid c stack s = valid c stack s × IsUnresolved c
 
 -- a call leaves edits and resolvers as they are
 abbrev pub LeavesAt : {M : Type 0} → Config M → Effect M → Type 0

@@ -1,5 +1,7 @@
--- The text as the states see it (CommonMark 2.1 and 2.2): a tab gives itself and then spaces up to the next tab stop, a line ending gives one line feed, and a line may be read from a later place than its start.
-use Rattle.std.specs.Prelude.{◌≡◌, ℕ, ◌+◌, ◌-◌, ◌^◌, ◌≤◌, length, zero, suc, min, Bool, true, false, not, ◌==◌, ◌&&◌, ◌||◌, nat_lt, nat_le, if◌then◌else◌, List, [], slice_get, slice_index, Option, None, Some}
+-- The text as the states see it (CommonMark 2.1 and 2.2): a tab gives itself and then spaces up to the next tab stop, a line ending gives one line feed, and a
+-- line may be read from a later place than its start.
+use Rattle.std.specs.Prelude.{◌≡◌, ℕ, ◌+◌, ◌-◌, ◌^◌, ◌≤◌, length, zero, suc, min, Bool, true, false, not, ◌==◌, ◌&&◌, ◌||◌, nat_lt, nat_le, if◌then◌else◌, List}
+use Rattle.std.specs.Prelude.{[], slice_get, slice_index, Option, None, Some}
 use Rattle.std.specs.Ordering.{nat_cmp}
 use Rattle.std.specs.BTreeMap.{is_at, insert_entry}
 use Rattle.std.specs.Map.{lookup}
@@ -100,8 +102,8 @@ pub record Source : Type 0 where
   pub skips : Skips
 
 -- a text of which nothing is skipped
-abbrev pub unskipped : List ℕ → Source
-unskipped bytes = record { bytes = bytes; skips = [] }
+abbrev pub without_skips : List ℕ → Source
+without_skips bytes = record { bytes = bytes; skips = [] }
 
 -- of a further line that has a skip
 abbrev pub with_skip : Source → Point → Source

@@ -9,11 +9,11 @@ ghost use Rattle.engine_events.specs.declared.state.State.TheVariants as states;
 ghost use Rattle.engine_edits.specs.Edits.{edits_of};
 ghost use Rattle.engine_chunks.specs.Chunks.{chunks};
 ghost use Rattle.markdown_engine.specs.Chains.{AreApart, ArePlaces, AreReadable, DividesIn, IsPlace, MayBegin, ReadsChainIn};
-ghost use Rattle.markdown_engine.specs.Chains.{SubtokenizedIn, after_chunk, chain_content, chains, end_of, first_state, is_empty, place_at};
+ghost use Rattle.markdown_engine.specs.Chains.{SubtokenizesIn, after_chunk, chain_content, chains, end_of, first_state, is_empty, place_at};
 ghost use Rattle.markdown_engine.specs.Chains.{starts_line, with_chunks};
 ghost use Rattle.markdown_engine.specs.Context.{context};
 ghost use Rattle.markdown_engine.specs.Evaluation.{AreReadingOf};
-ghost use Rattle.markdown_engine.specs.Machine.{bytes_of, config, fresh, source};
+ghost use Rattle.markdown_engine.specs.Machine.{bytes_of, config, fresh_config, source};
 ghost use Rattle.markdown_engine.specs.Resolving.{found_in, nothing_found};
 ghost use Rattle.markdown_engine.specs.Standing.{LinksLeadIn};
 ghost use Rattle.markdown_engine.specs.Together.{StaysBalanced};
@@ -132,7 +132,7 @@ fn read_chain<M: Machine<T> + Copy, T: Tables, A: Allocator + Clone>(
     requires first { first < length events.now }
     requires apart { AreApart 0 (chunks events.now first) (length events.now) }
     requires places { ArePlaces parse_state.now.bytes.now events.now }
-    requires begins { M.valid (context parse_state.now) (fresh (place_at events.now first) (M.seen machine)) [] (states.Next (first_state content)) }
+    requires begins { M.valid (context parse_state.now) (fresh_config (place_at events.now first) (M.seen machine)) [] (states.Next (first_state content)) }
     ensures reads { IfOk result (λ read. ReadsChainIn M.step M.resolved (context parse_state.now) (M.seen machine)
         events.now (first, content) read.0.items (found_in read.1)) }
     ensures memory { IfErr result (λ message. IsOutOfMemory message) }
@@ -191,7 +191,7 @@ pub fn subtokenize<M: Machine<T> + Copy, T: Tables, A: Allocator + Clone>(
 ) -> Result<Subresult<A>, Message>
     requires readable { AreReadable parse_state.now.bytes.now (option_copied filter) events.old.items }
     requires begins { MayBegin (M.valid (context parse_state.now)) (M.seen machine) events.old.items (chains (option_copied filter) events.old.items) }
-    ensures read { IfOk result (λ found. SubtokenizedIn M.step M.resolved (context parse_state.now) (M.seen machine)
+    ensures read { IfOk result (λ found. SubtokenizesIn M.step M.resolved (context parse_state.now) (M.seen machine)
         (option_copied filter.entry) events.old.items events.new.items (found_in found)) }
     ensures evaluated { IfOk result (λ found. AreReadingOf M.step M.rank M.resolved (context parse_state.now) (M.seen machine)
         (option_copied filter.entry) events.old.items events.new.items (found_in found)) }

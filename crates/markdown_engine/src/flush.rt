@@ -69,7 +69,7 @@ impl<'a, M: Machine<T>, T: Tables, A: Allocator + Clone> Tokenizer<'a, M, T, A> 
     /// for. Answers what they found.
     ///
     /// Once memory was refused, an error is answered.
-    pub fn resolved(&mut self, state: State) -> Result<Subresult<A>, Message>
+    pub fn read_and_resolve(&mut self, state: State) -> Result<Subresult<A>, Message>
         requires valid { (self.old.failed ≡ true) ⊎ M.valid (read_with self.old) (view_config M.seen self.old) self.old.attempts.items state }
         ensures completed { IfOk result (λ found. Completes M.seen M.step M.resolved
             (length (bytes_of self.old), 0) true state self.old self.new (found_in found)) }

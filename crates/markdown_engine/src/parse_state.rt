@@ -1,5 +1,5 @@
 //! What a text is read with.
-ghost use Rattle.markdown_engine.specs.Context.{context, unlabelled};
+ghost use Rattle.markdown_engine.specs.Context.{context, without_labels};
 
 use markdown_options::{Message, ParseOptions, Tables};
 use std::alloc::Allocator;
@@ -21,7 +21,7 @@ pub struct ParseState<'a, T, A: Allocator> {
 impl<'a, T: Tables, A: Allocator + Clone> ParseState<'a, T, A> {
     ghost use Rattle.std.specs.Prelude.{◌≡◌, IfOk, IfErr};
     ghost use Rattle.markdown_options.specs.Messages.{IsOutOfMemory};
-    ghost use Rattle.markdown_engine.specs.Context.{context, unlabelled};
+    ghost use Rattle.markdown_engine.specs.Context.{context, without_labels};
 
     /// A text of which no label is known.
     pub fn new(
@@ -30,7 +30,7 @@ impl<'a, T: Tables, A: Allocator + Clone> ParseState<'a, T, A> {
         options: &'a ParseOptions,
         tables: &'a T,
     ) -> Result<ParseState<'a, T, A>, Message>
-        ensures state { IfOk result (λ state. context state ≡ unlabelled bytes.now options.now tables.now) }
+        ensures state { IfOk result (λ state. context state ≡ without_labels bytes.now options.now tables.now) }
         ensures memory { IfErr result (λ message. IsOutOfMemory message) }
     {
         Ok(ParseState {

@@ -63,11 +63,11 @@ pub struct TokenizeState<A: Allocator> {
 
 impl<A: Allocator + Clone> TokenizeState<A> {
     ghost use Rattle.std.specs.Prelude.{◌≡◌, IfOk};
-    ghost use Rattle.markdown_engine.specs.Kept.{kept, nothing_kept};
+    ghost use Rattle.markdown_engine.specs.KeptState.{kept_state, nothing_kept};
 
     /// Nothing kept.
     pub fn new(alloc: A) -> Result<TokenizeState<A>, AllocError>
-        ensures { IfOk result (λ state. kept state ≡ nothing_kept) }
+        ensures { IfOk result (λ state. kept_state state ≡ nothing_kept) }
     {
         Ok(TokenizeState {
             document_container_stack: Vec::new(alloc.clone()?),

@@ -4,7 +4,7 @@ ghost use Rattle.markdown_options.specs.Messages.{IsOutOfMemory};
 ghost use Rattle.engine_events.specs.declared.state.State.TheVariants as states;
 ghost use Rattle.markdown_engine.specs.Reading.{Steps, mark, restore, continuation, with_byte};
 ghost use Rattle.std.specs.BTreeMap.{insert_entry};
-ghost use Rattle.markdown_engine.specs.Machine.{Around, Became, Began, Ended, Flushed, Pushed, Reached, Refused, SameText, Shows, frame_at};
+ghost use Rattle.markdown_engine.specs.Machine.{Around, Became, Began, HasEnded, HasFlushed, HasPushed, HasReached, IsRefused, SameText, Shows, frame_at};
 ghost use Rattle.markdown_engine.specs.Machine.{bytes_of, config, past_byte, with_enter, with_exit, read_with, view_config, source};
 ghost use Rattle.markdown_engine.specs.Machine.{to_run_first, to_run_last};
 ghost use Rattle.markdown_engine.specs.Resolvers.{AreOnce, is_registered};
@@ -121,7 +121,7 @@ impl<'a, M, T, A: Allocator + Clone> Tokenizer<'a, M, T, A> {
     ghost use Rattle.std.specs.Prelude.{◌≡◌, [], None, false, IfOk, IfErr, OnOk, OnErr, length, ◌≤◌};
     ghost use Rattle.std.specs.Ordering.{nat_cmp};
     ghost use Rattle.std.specs.BTreeMap.{insert_entry};
-    ghost use Rattle.markdown_engine.specs.Machine.{bytes_of, config, fresh};
+    ghost use Rattle.markdown_engine.specs.Machine.{bytes_of, config, fresh_config};
     ghost use Rattle.markdown_engine.specs.VirtualText.{line_start};
     ghost use Rattle.markdown_options.specs.Messages.{IsOutOfMemory};
 
@@ -134,7 +134,7 @@ impl<'a, M, T, A: Allocator + Clone> Tokenizer<'a, M, T, A> {
     ) -> Result<Tokenizer<'a, M, T, A>, Message>
     where
         M: Drop,
-        ensures config { IfOk result (λ tokenizer. config tokenizer ≡ fresh point machine) }
+        ensures config { IfOk result (λ tokenizer. config tokenizer ≡ fresh_config point machine) }
         ensures attempts { IfOk result (λ tokenizer. tokenizer.attempts.items ≡ []) }
         ensures parse_state { IfOk result (λ tokenizer. tokenizer.parse_state.now ≡ parse_state.now) }
         ensures skips { IfOk result (λ tokenizer. tokenizer.skips.entries ≡ []) }
@@ -372,7 +372,7 @@ impl<'a, M: Machine<T>, T: Tables, A: Allocator> Tokenizer<'a, M, T, A> {
     ghost use Rattle.markdown_engine.specs.Evaluation.{StaysReadingFrom};
     ghost use Rattle.markdown_engine.specs.Laws.{MovesOn};
     ghost use Rattle.std.specs.Prelude.{◌≡◌, ◌≤◌, ◌<◌, [], length, true, false, ◌⊎◌};
-    ghost use Rattle.markdown_engine.specs.Machine.{AreCuts, Ended, Flushed, Opened, Pushed, PushedFrom, ReadWhole, Reached, Refused};
+    ghost use Rattle.markdown_engine.specs.Machine.{AreCuts, HasEnded, HasFlushed, OpensRange, HasPushed, HasPushedFrom, ReadWhole, HasReached, IsRefused};
     ghost use Rattle.markdown_engine.specs.Machine.{bytes_of, read_with, view_config, source};
     ghost use Rattle.markdown_engine.specs.VirtualText.{IsCut, byte_before, place_in, text_to};
     ghost use Rattle.markdown_engine.specs.Outcomes.{HasOutcome, HasRun};
@@ -399,13 +399,13 @@ impl<'a, M: Machine<T>, T: Tables, A: Allocator> Tokenizer<'a, M, T, A> {
     /// Reads up to the end of a range, which may be the text's end, too.
     fn read(&mut self, to: (usize, usize), end: bool, state: State) -> State
         requires to { IsCut (bytes_of self.old) to }
-        requires valid { Refused state ⊎ M.valid (read_with self.old) (view_config M.seen self.old) self.old.attempts.items state }
-        ensures valid { Refused result ⊎ M.valid (read_with self.old) (view_config M.seen self.new) self.new.attempts.items result }
-        ensures reads { Pushed M.seen (M.step (read_with self.old)) to end state self.old self.new result }
-        ensures reached { Reached to self.new result }
+        requires valid { IsRefused state ⊎ M.valid (read_with self.old) (view_config M.seen self.old) self.old.attempts.items state }
+        ensures valid { IsRefused result ⊎ M.valid (read_with self.old) (view_config M.seen self.new) self.new.attempts.items result }
+        ensures reads { HasPushed M.seen (M.step (read_with self.old)) to end state self.old self.new result }
+        ensures reached { HasReached to self.new result }
         ensures moves_on { MovesOn result }
-        ensures ends { end ≡ true → Refused result ⊎ Ended self.new result }
-        ensures failed { Refused result → self.new.failed ≡ true }
+        ensures ends { end ≡ true → IsRefused result ⊎ HasEnded self.new result }
+        ensures failed { IsRefused result → self.new.failed ≡ true }
     {
         let mut next = state;
         'turns: loop {
@@ -445,7 +445,7 @@ impl<'a, M: Machine<T>, T: Tables, A: Allocator> Tokenizer<'a, M, T, A> {
     /// Goes on at a later place, over what isn't read; stays where that isn't after where reading is.
     fn move_to(&mut self, from: (usize, usize))
         requires from { IsCut (bytes_of self.old) from }
-        ensures { Opened from self.old self.new }
+        ensures { OpensRange from self.old self.new }
     {
         let place = self.place();
         if is_before(place, from) {
@@ -466,14 +466,14 @@ impl<'a, M: Machine<T>, T: Tables, A: Allocator> Tokenizer<'a, M, T, A> {
         requires moves_on { MovesOn state }
         requires valid { (self.old.failed ≡ true) ⊎ M.valid (read_with self.old) (view_config M.seen self.old) self.old.attempts.items state }
         ensures valid { (self.new.failed ≡ true) ⊎ M.valid (read_with self.old) (view_config M.seen self.new) self.new.attempts.items result }
-        ensures reads { (self.new.failed ≡ true) ⊎ PushedFrom M.seen (M.step (read_with self.old)) from to state self.old self.new result }
+        ensures reads { (self.new.failed ≡ true) ⊎ HasPushedFrom M.seen (M.step (read_with self.old)) from to state self.old self.new result }
         ensures evaluated { (self.new.failed ≡ true) ⊎ StaysReadingFrom M.seen M.step M.rank from to state self.old self.new result }
         ensures moves_on { MovesOn result }
-        ensures reached { Reached to self.new result }
+        ensures reached { HasReached to self.new result }
         ensures end { self.new.end ≡ to }
         ensures parse_state { self.new.parse_state.now ≡ self.old.parse_state.now }
         ensures failed { self.old.failed ≡ true → self.new.failed ≡ true }
-        ensures refused { self.new.failed ≡ true → Refused result }
+        ensures refused { self.new.failed ≡ true → IsRefused result }
     {
         let next = if self.failed {
             State::out_of_memory()
@@ -489,26 +489,26 @@ impl<'a, M: Machine<T>, T: Tables, A: Allocator> Tokenizer<'a, M, T, A> {
     /// Reads on, up to an index and a column of a tab there, where the text ends.
     pub(crate) fn finish(&mut self, to: (usize, usize), state: State) -> State
         requires to { IsCut (bytes_of self.old) to }
-        requires valid { Refused state ⊎ M.valid (read_with self.old) (view_config M.seen self.old) self.old.attempts.items state }
-        ensures reads { Refused result ⊎ Flushed M.seen (text_to (source self.old) to) (M.step (read_with self.old)) state self.old self.new result }
-        ensures valid { Refused result ⊎ M.valid (read_with self.old) (view_config M.seen self.new) [] result }
+        requires valid { IsRefused state ⊎ M.valid (read_with self.old) (view_config M.seen self.old) self.old.attempts.items state }
+        ensures reads { IsRefused result ⊎ HasFlushed M.seen (text_to (source self.old) to) (M.step (read_with self.old)) state self.old self.new result }
+        ensures valid { IsRefused result ⊎ M.valid (read_with self.old) (view_config M.seen self.new) [] result }
         ensures parse_state { self.new.parse_state.now ≡ self.old.parse_state.now }
-        ensures total { Refused state ⊎ HasOutcome (text_to (source self.old) to) (M.step (read_with self.old)) (view_config M.seen self.old)
+        ensures total { IsRefused state ⊎ HasOutcome (text_to (source self.old) to) (M.step (read_with self.old)) (view_config M.seen self.old)
             self.old.attempts.items state }
-        ensures whole { Refused result ⊎ AreWhole self.new.events.items self.new.point }
-        ensures failed { Refused result → self.new.failed ≡ true }
+        ensures whole { IsRefused result ⊎ AreWhole self.new.events.items self.new.point }
+        ensures failed { IsRefused result → self.new.failed ≡ true }
     {
         self.read(to, true, state)
     }
 
     /// Reads a text at once.
-    pub fn whole(&mut self, state: State) -> State
+    pub fn read_at_once(&mut self, state: State) -> State
         requires fresh { self.old.attempts.items ≡ [] }
         requires valid { M.valid (read_with self.old) (view_config M.seen self.old) [] state }
-        ensures reads { Refused result ⊎ ReadWhole M.seen (source self.old) (M.step (read_with self.old)) state self.old self.new result }
+        ensures reads { IsRefused result ⊎ ReadWhole M.seen (source self.old) (M.step (read_with self.old)) state self.old self.new result }
         ensures total { HasRun (text_to (source self.old) (length (bytes_of self.old), 0)) (M.step (read_with self.old)) (view_config M.seen self.old) state }
-        ensures whole { Refused result ⊎ AreWhole self.new.events.items self.new.point }
-        ensures failed { Refused result → self.new.failed ≡ true }
+        ensures whole { IsRefused result ⊎ AreWhole self.new.events.items self.new.point }
+        ensures failed { IsRefused result → self.new.failed ≡ true }
     {
         let to = (self.parse_state.bytes.len(), 0);
         self.finish(to, state)
@@ -516,13 +516,13 @@ impl<'a, M: Machine<T>, T: Tables, A: Allocator> Tokenizer<'a, M, T, A> {
 
     /// Reads a text in ranges, cut anywhere, inside of a tab or a line ending, too: each ends at one
     /// of these places, an index and a column of a tab there, and the last at the text's end.
-    pub fn in_ranges(&mut self, cuts: &[(usize, usize)], state: State) -> State
+    pub fn read_in_ranges(&mut self, cuts: &[(usize, usize)], state: State) -> State
         requires cuts { AreCuts (0, 0) cuts.now (length (bytes_of self.old)) }
         requires fresh { self.old.attempts.items ≡ [] }
         requires valid { M.valid (read_with self.old) (view_config M.seen self.old) [] state }
-        ensures reads { Refused result ⊎ ReadWhole M.seen (source self.old) (M.step (read_with self.old)) state self.old self.new result }
-        ensures whole { Refused result ⊎ AreWhole self.new.events.items self.new.point }
-        ensures failed { Refused result → self.new.failed ≡ true }
+        ensures reads { IsRefused result ⊎ ReadWhole M.seen (source self.old) (M.step (read_with self.old)) state self.old self.new result }
+        ensures whole { IsRefused result ⊎ AreWhole self.new.events.items self.new.point }
+        ensures failed { IsRefused result → self.new.failed ≡ true }
     {
         let mut next = state;
         for cut in cuts {
@@ -538,20 +538,20 @@ impl<'a, M: Machine<T>, T: Tables, A: Allocator> Tokenizer<'a, M, T, A> {
 
 impl<'a, M: Machine<T>, T: Tables, A: Allocator + Clone> Tokenizer<'a, M, T, A> {
     ghost use Rattle.std.specs.Prelude.{◌≡◌, ◌≤◌, ◌<◌, [], length, ◌⊎◌};
-    ghost use Rattle.markdown_engine.specs.Machine.{ReadWhole, Refused, bytes_of, read_with, view_config, source};
+    ghost use Rattle.markdown_engine.specs.Machine.{ReadWhole, IsRefused, bytes_of, read_with, view_config, source};
     ghost use Rattle.markdown_engine.specs.VirtualText.{line_start, with_skip};
 
     /// Reads a text in two ranges, the second of which is read from a later place of its line: what
     /// is read is the text that skips the line's start.
-    pub fn in_lines(&mut self, cut: usize, point: Point, state: State) -> State
+    pub fn read_in_lines(&mut self, cut: usize, point: Point, state: State) -> State
         requires cut { cut < length (bytes_of self.old) }
         requires within { point.index ≤ length (bytes_of self.old) }
         requires line { cut ≤ line_start self.old.parse_state.now.bytes.now point.index }
         requires fresh { self.old.attempts.items ≡ [] }
         requires valid { M.valid (read_with self.old) (view_config M.seen self.old) [] state }
-        ensures reads { Refused result ⊎ ReadWhole M.seen (with_skip (source self.old) point) (M.step (read_with self.old)) state self.old self.new result }
-        ensures whole { Refused result ⊎ AreWhole self.new.events.items self.new.point }
-        ensures failed { Refused result → self.new.failed ≡ true }
+        ensures reads { IsRefused result ⊎ ReadWhole M.seen (with_skip (source self.old) point) (M.step (read_with self.old)) state self.old self.new result }
+        ensures whole { IsRefused result ⊎ AreWhole self.new.events.items self.new.point }
+        ensures failed { IsRefused result → self.new.failed ≡ true }
     {
         let first = self.read((cut, 0), false, state);
         if let State::Error(_) = first {

@@ -1,5 +1,6 @@
 -- One code, or two with a `+` between.
-use Rattle.std.proofs.Common.{◌≡◌, ℕ, ◌+◌, ◌<◌, ◌≤◌, ◌^◌, suc, ◌&&◌, Bool, true, false, not, cond, List, [], ◌∷◌, Option, None, Some, length, take, drop, refl, sym, ap, ◌∙◌, subst, inl, inr, arith, append-nil, lit≤}
+use Rattle.std.proofs.Common.{◌≡◌, ℕ, ◌+◌, ◌<◌, ◌≤◌, ◌^◌, suc, ◌&&◌, Bool, true, false, not, cond, List, [], ◌∷◌, Option, None, Some, length, take, drop, refl}
+use Rattle.std.proofs.Common.{sym, ap, ◌∙◌, subst, inl, inr, arith, append-nil, lit≤}
 use Rattle.std.specs.Prelude.{nat_le}
 use Rattle.std.specs.Char.{digit_value, is_ascii_hexdigit}
 use Rattle.std.specs.List.{after_first, before_first, list_all, position_or_len, prefix_len, take_while}
@@ -64,7 +65,8 @@ place_here : (b : ℕ) (bs : List ℕ) → is_plus b ≡ true → position_or_le
 place_here b bs here = ap (λ plus. cond (not plus) (1 + position_or_len is_plus bs) 0) here
 
 -- where no `+` stands, the bytes are one code
-one_front : (read : List ℕ → Option (List ℕ)) → IsReading read → (bytes : List ℕ) → position_or_len is_plus bytes ≡ length bytes → read_front read bytes ≡ read bytes
+one_front : (read : List ℕ → Option (List ℕ)) → IsReading read → (bytes : List ℕ) → position_or_len is_plus bytes ≡ length bytes
+    → read_front read bytes ≡ read bytes
 one_front read is [] h = both-nil (read [])
 one_front read is (b ∷ bs) h =
     elim (cases_Bool (is_plus b)) [
@@ -73,7 +75,8 @@ one_front read is (b ∷ bs) h =
           elim (cases_Bool (is_ascii_hexdigit b)) [
             | inl digit ↦
                 let place = place_after b bs other in
-                ap (λ d. front_at d read b bs) digit ∙ digit_front read b bs ∙ one_front (λ digits. read (b ∷ digits)) (after_digit read is b) bs (omega (arith, h, place))
+                ap (λ d. front_at d read b bs) digit ∙ digit_front read b bs ∙ one_front (λ digits. read (b ∷ digits)) (after_digit read is b) bs
+                (omega (arith, h, place))
             | inr bad ↦
                 ap (λ d. front_at d read b bs) bad ∙ ap (both_texts (read [])) (cond-false (is_plus b) (code_text bs) None other) ∙ both-none (read [])
                 ∙ sym (no_digit read is b bs bad)
@@ -102,7 +105,8 @@ two_front read is (b ∷ bs) h =
           ap (λ n. both_texts (read (b ∷ take m bs)) (code_text (drop n (b ∷ bs)))) next in
           elim (cases_Bool (is_ascii_hexdigit b)) [
             | inl digit ↦
-                ap (λ d. front_at d read b bs) digit ∙ digit_front read b bs ∙ two_front (λ digits. read (b ∷ digits)) (after_digit read is b) bs (omega (arith, h, place))
+                ap (λ d. front_at d read b bs) digit ∙ digit_front read b bs ∙ two_front (λ digits. read (b ∷ digits)) (after_digit read is b) bs
+                (omega (arith, h, place))
                 ∙ sym split ∙ ap parts (sym place)
             | inr bad ↦
                 ap (λ d. front_at d read b bs) bad ∙ ap (both_texts (read [])) (cond-false (is_plus b) (code_text bs) None other) ∙ both-none (read [])
@@ -129,7 +133,8 @@ all_digits [] h = tt
 all_digits (b ∷ bs) h = let parts = and_parts (is_ascii_hexdigit b) (list_all is_ascii_hexdigit bs) h in (digit_sixteen b parts.0, all_digits bs parts.1)
 
 -- so few digits write a number that fits
-pub code_number : (digits : List ℕ) → are_code_digits digits ≡ true → IsNumeral 16 (without_leading_plus digits) × (digits_value 16 (without_leading_plus digits) < 2 ^ 32)
+pub code_number : (digits : List ℕ) → are_code_digits digits ≡ true → IsNumeral 16 (without_leading_plus digits)
+    × (digits_value 16 (without_leading_plus digits) < 2 ^ 32)
 code_number digits h =
     let parts = and_parts (nat_le 1 (length digits) && nat_le (length digits) 6) (list_all is_ascii_hexdigit digits) h in
     let sizes = and_parts (nat_le 1 (length digits)) (nat_le (length digits) 6) parts.0 in

@@ -17,7 +17,8 @@ use Rattle.markdown_tables.specs.declared.row.Characters.{Characters}
 use Rattle.markdown_tables.specs.RowParts.{characters_text, second_text}
 use Rattle.markdown_tables.specs.NameTexts.{AreLawful, is_lawful, text_of}
 
-map_cond : {Y : Type 0} (b : Bool) (s : String Y) (o : Option (String Y)) → option_map string_bytes (cond b (Some s) o) ≡ cond b (Some (string_bytes s)) (option_map string_bytes o)
+map_cond : {Y : Type 0} (b : Bool) (s : String Y) (o : Option (String Y))
+    → option_map string_bytes (cond b (Some s) o) ≡ cond b (Some (string_bytes s)) (option_map string_bytes o)
 map_cond true s o = refl
 map_cond false s o = refl
 

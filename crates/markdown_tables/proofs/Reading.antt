@@ -1,5 +1,6 @@
 -- Rows that are read line by line.
-use Rattle.std.proofs.Common.{◌≡◌, ℕ, ◌+◌, ◌≤◌, suc, Bool, true, cond, eqb, List, [], ◌∷◌, ◌++◌, Option, None, Some, length, refl, sym, ap, ◌∙◌, subst, inl, inr, arith, append-nil, append_assoc, length-drop}
+use Rattle.std.proofs.Common.{◌≡◌, ℕ, ◌+◌, ◌≤◌, suc, Bool, true, cond, eqb, List, [], ◌∷◌, ◌++◌, Option, None, Some, length, refl, sym, ap, ◌∙◌, subst, inl}
+use Rattle.std.proofs.Common.{inr, arith, append-nil, append_assoc, length-drop}
 use Rattle.std.specs.Prelude.{option_to_list, is_some, bytes_eq}
 use Rattle.std.specs.List.{cons_option, filter_map, find}
 use Rattle.std.specs.Option.{option_map, option_or}
@@ -45,7 +46,8 @@ text_in-added (x ∷ xs) r name new =
 
 -- a row whose name is new
 pub row_added : (number : ℕ) (blank : Bool) (earlier : List Row) (found : Option Row) (r : Row) (old new : Names) → found ≡ Some r
-    → ((name : List ℕ) → old name ≡ text_in earlier name) → old r.name ≡ None → ((name : List ℕ) → new name ≡ cond (bytes_eq r.name name) (Some r.text) (old name))
+    → ((name : List ℕ) → old name ≡ text_in earlier name) → old r.name ≡ None
+    → ((name : List ℕ) → new name ≡ cond (bytes_eq r.name name) (Some r.text) (old name))
     → (row_fault number earlier blank found ≡ None) × ((name : List ℕ) → new name ≡ text_in (earlier ++ option_to_list found) name)
 row_added number blank earlier None r old new is has fresh put = cc
 row_added number blank earlier (Some x) r old new is has fresh put =
@@ -96,7 +98,8 @@ pub record IsAfter (text : List ℕ) (number : ℕ) (earlier : List Row) (rest :
 pub after-none : (text : List ℕ) → IsAfter text 0 [] text
 after-none text = record { faultless = refl; together = refl; counted = omega arith }
 
-cons_option-joined : (earlier : List Row) (found : Option Row) (others : List Row) → earlier ++ cons_option found others ≡ (earlier ++ option_to_list found) ++ others
+cons_option-joined : (earlier : List Row) (found : Option Row) (others : List Row)
+    → earlier ++ cons_option found others ≡ (earlier ++ option_to_list found) ++ others
 cons_option-joined earlier None others = ap (λ l. l ++ others) (sym (append-nil earlier))
 cons_option-joined earlier (Some r) others = sym (append_assoc earlier (r ∷ []) others)
 
@@ -114,7 +117,8 @@ after-line text number earlier rest line others so_far first fine =
     }
 
 -- or with one
-pub fault-line : (text : List ℕ) (number : ℕ) (earlier : List Row) (rest : List ℕ) (line : TextLine) (others : List ℕ) (fault : RowsError) → IsAfter text number earlier rest
+pub fault-line : (text : List ℕ) (number : ℕ) (earlier : List Row) (rest : List ℕ) (line : TextLine) (others : List ℕ) (fault : RowsError)
+    → IsAfter text number earlier rest
     → lines rest ≡ line ∷ lines others → line_fault (number + 1) earlier line.content ≡ Some fault → text_fault text ≡ Some fault
 fault-line text number earlier rest line others fault so_far first found =
     let later = first_fault (number + 1 + 1) (earlier ++ option_to_list (row_of line.content)) (lines others) in

@@ -33,7 +33,8 @@ rest_state = Inline inline_states.DataInside
 module _ {M : Type 0} where
   unfoldable pub items : Option ℕ → Config M → Effect M
   items None c = plain c states.Ok
-  items (Some b) c = if b == 40 then tries (states.Next items_state) (states.Next rest_state) c (states.Retry group_state) else if b == 41 then plain c states.Ok else plain (past_byte c) (states.Next items_state)
+  items (Some b) c = if b == 40 then tries (states.Next items_state) (states.Next rest_state) c (states.Retry group_state) else if b == 41
+      then plain c states.Ok else plain (past_byte c) (states.Next items_state)
 
   unfoldable pub rest : Option ℕ → Config M → Effect M
   rest None c = plain c states.Ok
@@ -41,7 +42,8 @@ module _ {M : Type 0} where
 
   unfoldable pub group : Option ℕ → Config M → Effect M
   group None c = plain c states.Nok
-  group (Some b) c = if b == 40 then tries (states.Next close_state) states.Nok (past_byte (with_enter names.Label None c)) (states.Next items_state) else plain c states.Nok
+  group (Some b) c = if b == 40 then tries (states.Next close_state) states.Nok (past_byte (with_enter names.Label None c)) (states.Next items_state)
+      else plain c states.Nok
 
   unfoldable pub close : Option ℕ → Config M → Effect M
   close None c = plain c states.Nok
@@ -169,5 +171,5 @@ abbrev pub brackets_rank : {M : Type 0} → ℕ → RanksAt M
 brackets_rank size = descent 2 (brackets_weight size) (brackets_waits size)
 
 -- these are the events of the one reading of a text
-abbrev pub Bracketed : List ℕ → Brackets → List Event → Type 0
-Bracketed = IsReading brackets_step items_state
+abbrev pub IsBracketsReading : List ℕ → Brackets → List Event → Type 0
+IsBracketsReading = IsReading brackets_step items_state

@@ -6,7 +6,7 @@ use Rattle.markdown_engine.specs.Laws.{LawfulAt}
 use Rattle.markdown_engine.specs.Order.{AreTidy, IsTidy, open_after}
 use Rattle.markdown_engine.specs.OrderLaws.{from_start}
 use Rattle.markdown_engine.specs.Reading.{Config}
-use Rattle.markdown_engine.specs.Resolving.{Leaves, LeavesAt, ResolvesAt, Unresolved, resolves_nothing, settles_whole}
+use Rattle.markdown_engine.specs.Resolving.{Leaves, LeavesAt, ResolvesAt, HoldsUnresolved, resolves_nothing, settles_whole}
 use Rattle.markdown_engine.specs.ResolvingLaws.{lawful_unresolved, resolves_unresolved}
 use Rattle.markdown_engine.specs.StepLaws.{same_front}
 use Rattle.tests_engine.specs.Counting.{AddsNone, count_step, counts, over_byte}
@@ -44,8 +44,8 @@ held : (size : ℕ) → LawfulAt size counts count_step (each_rank size)
 unfolding count_step
 held size = each_lawful size AddsNone AddsNone (λ c. c) over_byte goes_over
 
-pub count_lawful : (size : ℕ) → LawfulAt size (Unresolved counts) count_step (each_rank size)
+pub count_lawful : (size : ℕ) → LawfulAt size (HoldsUnresolved counts) count_step (each_rank size)
 count_lawful size = lawful_unresolved size counts count_step (each_rank size) count_leaves (held size)
 
-pub count_resolves : (size : ℕ) → ResolvesAt (Unresolved counts) resolves_nothing settles_whole
+pub count_resolves : (size : ℕ) → ResolvesAt (HoldsUnresolved counts) resolves_nothing settles_whole
 count_resolves size = resolves_unresolved size counts count_step (each_rank size) (held size) (λ c h. h)

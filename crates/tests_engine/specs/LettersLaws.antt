@@ -8,7 +8,7 @@ use Rattle.markdown_engine.specs.Machine.{past_byte, with_enter}
 use Rattle.markdown_engine.specs.Order.{Reaches, open_after}
 use Rattle.markdown_engine.specs.OrderLaws.{entered_opened, entered_tidy, exited_after, exited_opened, handed_tidy, moved_tidy}
 use Rattle.markdown_engine.specs.Reading.{Config, at_point}
-use Rattle.markdown_engine.specs.Resolving.{Leaves, LeavesAt, ResolvesAt, Unresolved, resolves_nothing, settles_whole}
+use Rattle.markdown_engine.specs.Resolving.{Leaves, LeavesAt, ResolvesAt, HoldsUnresolved, resolves_nothing, settles_whole}
 use Rattle.markdown_engine.specs.ResolvingLaws.{lawful_unresolved, resolves_unresolved}
 use Rattle.markdown_engine.specs.StepLaws.{same_front, two_more}
 use Rattle.tests_engine.specs.declared.letters.Letters.{Letters}
@@ -57,8 +57,8 @@ held : (size : ℕ) → LawfulAt size reads_letters letter_step (each_rank size)
 unfolding letter_step
 held size = each_lawful size IsBetween IsBetween (λ c. c) round_byte goes_over
 
-pub letter_lawful : (size : ℕ) → LawfulAt size (Unresolved reads_letters) letter_step (each_rank size)
+pub letter_lawful : (size : ℕ) → LawfulAt size (HoldsUnresolved reads_letters) letter_step (each_rank size)
 letter_lawful size = lawful_unresolved size reads_letters letter_step (each_rank size) letter_leaves (held size)
 
-pub letter_resolves : (size : ℕ) → ResolvesAt (Unresolved reads_letters) resolves_nothing settles_whole
+pub letter_resolves : (size : ℕ) → ResolvesAt (HoldsUnresolved reads_letters) resolves_nothing settles_whole
 letter_resolves size = resolves_unresolved size reads_letters letter_step (each_rank size) (held size) (λ c h. h)

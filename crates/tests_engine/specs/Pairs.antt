@@ -39,12 +39,12 @@ close_state = Inline inline_states.LabelInside
 
 module _ {M : Type 0} where
   -- a byte is kept to compare with
-  abbrev pub marked : ℕ → Config M → Config M
-  marked b c = record c { tokenize_state = record c.tokenize_state { marker = b } }
+  abbrev pub with_marker : ℕ → Config M → Config M
+  with_marker b c = record c { tokenize_state = record c.tokenize_state { marker = b } }
 
   unfoldable pub items : Option ℕ → Config M → Effect M
   items None c = plain c states.Ok
-  items (Some b) c = checks (states.Next pair_state) (states.Next single_state) (marked b c) (states.Retry first_state)
+  items (Some b) c = checks (states.Next pair_state) (states.Next single_state) (with_marker b c) (states.Retry first_state)
 
   unfoldable pub first : Option ℕ → Config M → Effect M
   first None c = plain c states.Nok
@@ -191,5 +191,5 @@ abbrev pub pairs_rank : {M : Type 0} → ℕ → RanksAt M
 pairs_rank size = descent 2 (pairs_weight size) (pairs_waits size)
 
 -- these are the events of the one reading of a text
-abbrev pub Paired : List ℕ → Pairs → List Event → Type 0
-Paired = IsReading pairs_step items_state
+abbrev pub IsPairsReading : List ℕ → Pairs → List Event → Type 0
+IsPairsReading = IsReading pairs_step items_state

@@ -1,5 +1,6 @@
 -- The machine of pairs is lawful.
-use Rattle.std.proofs.Common.{◌≡◌, ℕ, ◌+◌, ◌*◌, ◌<◌, ◌≤◌, ◌++◌, ◌∙◌, [], ◌∷◌, map, List, Bool, true, false, refl, sym, ap, subst, arith, inl, Option, Some, None, ◌==◌, if◌then◌else◌, append-nil, length}
+use Rattle.std.proofs.Common.{◌≡◌, ℕ, ◌+◌, ◌*◌, ◌<◌, ◌≤◌, ◌++◌, ◌∙◌, [], ◌∷◌, map, List, Bool, true, false, refl, sym, ap, subst, arith, inl, Option, Some}
+use Rattle.std.proofs.Common.{None, ◌==◌, if◌then◌else◌, append-nil, length}
 use Rattle.engine_events.specs.declared.event.Event.{Event}
 use Rattle.engine_events.specs.declared.event.Name.{Name as EventName}
 use Rattle.engine_events.specs.declared.event.Name.TheVariants.{AttentionSequence, Data}
@@ -11,22 +12,27 @@ use Rattle.markdown_engine.specs.declared.attempt.Attempt.{Attempt}
 use Rattle.markdown_engine.specs.declared.virtual_text.VirtualByte.{VirtualByte}
 use Rattle.markdown_engine.specs.Descent.{AllBelow, DescendsAt}
 use Rattle.markdown_engine.specs.DescentLaws.{descends}
-use Rattle.markdown_engine.specs.Laws.{BeginAround, ClosesAt, Consumes, FallsAt, IsAhead, IsFed, IsFront, KeepsAt, LawfulAt, MovesOn, Nested, OnlyAdds, TidiesAt, remaining}
+use Rattle.markdown_engine.specs.Laws.{BeginAround, ClosesAt, Consumes, FallsAt, IsAhead, IsFed, IsFront, KeepsAt, LawfulAt, MovesOn, AreNested, OnlyAdds}
+use Rattle.markdown_engine.specs.Laws.{TidiesAt, remaining}
 use Rattle.markdown_engine.specs.Machine.{frame_at, past_byte, with_enter, with_exit, plain}
 use Rattle.markdown_engine.specs.Order.{AreMarks, AreTidy, IsInnermost, IsTidy, Reaches, open_after}
-use Rattle.markdown_engine.specs.OrderLaws.{consumed_tidy, entered_opened, entered_tidy, exit_place, exited_after, exited_opened, exited_tidy, handed_tidy, marks_pushed, moved_tidy, reaches_on, restored_fits, restored_tidy, stays, tidy_on}
+use Rattle.markdown_engine.specs.OrderLaws.{consumed_tidy, entered_opened, entered_tidy, exit_place, exited_after, exited_opened, exited_tidy, handed_tidy}
+use Rattle.markdown_engine.specs.OrderLaws.{marks_pushed, moved_tidy, reaches_on, restored_fits, restored_tidy, stays, tidy_on}
 use Rattle.markdown_engine.specs.Reading.{Config, Effect, with_byte, mark, at_point, restore, continuation}
-use Rattle.markdown_engine.specs.Resolving.{Leaves, LeavesAt, ResolvesAt, Unresolved, resolves_nothing, settles_whole}
+use Rattle.markdown_engine.specs.Resolving.{Leaves, LeavesAt, ResolvesAt, HoldsUnresolved, resolves_nothing, settles_whole}
 use Rattle.markdown_engine.specs.ResolvingLaws.{lawful_unresolved, resolves_unresolved}
 use Rattle.markdown_engine.specs.StepLaws.{by_test, handed_ahead, same_front, same_place, two_more}
 use Rattle.markdown_engine.specs.VirtualText.{is_feed}
-use Rattle.tests_engine.specs.Pairs.{Close, Exits, First, Fits, IsAt, IsCheck, IsLooking, IsSound, Items, MayExit, MayLook, Pair, Part, Second, Single, Stands, Waits, close, close_state, first, first_state, height, items, items_state, marked, open_at, pair, pair_state, pairs_rank, pairs_step, pairs_valid, pairs_waits, pairs_weight, part, second, second_state, single, single_state, step_of}
+use Rattle.tests_engine.specs.Pairs.{Close, Exits, First, Fits, IsAt, IsCheck, IsLooking, IsSound, Items, MayExit, MayLook, Pair, Part, Second, Single, Stands}
+use Rattle.tests_engine.specs.Pairs.{Waits, close, close_state, first, first_state, height, items}
+use Rattle.tests_engine.specs.Pairs.{items_state, with_marker, open_at, pair, pair_state, pairs_rank}
+use Rattle.tests_engine.specs.Pairs.{pairs_step, pairs_valid, pairs_waits, pairs_weight, part, second, second_state, single, single_state, step_of}
 
 -- What a call leaves: it adds events only, makes one attempt at most, and asks for no edit and no resolver
 
 module _ {M : Type 0} where
   record IsCall (c : Config M) (e : Effect M) : Type 0 where
-    adds : Nested c.events e.pushed e.config.events
+    adds : AreNested c.events e.pushed e.config.events
     fewer : length e.pushed < 2
     leaves : LeavesAt c e
     consumes : Consumes e.state c e.config × BeginAround c e.pushed
@@ -37,7 +43,21 @@ module _ {M : Type 0} where
   items_call : (b : Option ℕ) (c : Config M) → c.current ≡ b → IsCall c (items b c)
   unfolding items
   items_call None c e = calls c c states.Ok (same_front c.events) refl refl (inl (same_place c))
-  items_call (Some b) c e = record { adds = (same_front c.events, same_front c.events); fewer = omega arith; leaves = (refl, refl); consumes = (record { point = refl; next = refl; line_start = refl; previous = refl; current = refl }, (inl (record { point = refl; next = refl; line_start = refl; previous = refl; current = refl }), tt, tt, tt)) }
+  items_call (Some b) c e = record {
+    adds = (same_front c.events, same_front c.events);
+    fewer = omega arith;
+    leaves = (refl, refl);
+    consumes = (
+      record {
+        point = refl;
+        next = refl;
+        line_start = refl;
+        previous = refl;
+        current = refl;
+      },
+      (inl (record { point = refl; next = refl; line_start = refl; previous = refl; current = refl }), tt, tt, tt),
+    );
+  }
 
   first_call : (b : Option ℕ) (c : Config M) → c.current ≡ b → IsCall c (first b c)
   unfolding first
@@ -54,17 +74,32 @@ module _ {M : Type 0} where
   single_call : (b : Option ℕ) (c : Config M) → c.current ≡ b → IsCall c (single b c)
   unfolding single
   single_call None c e = calls c c states.Ok (same_front c.events) refl refl (inl (same_place c))
-  single_call (Some b) c e = calls c (with_exit Data (past_byte (with_enter Data None c))) (states.Next items_state) (two_more c.events _ _) refl refl (b, e, record { point = refl; next = refl; line_start = refl; previous = refl; current = refl })
+  single_call (Some b) c e = calls c (with_exit Data (past_byte (with_enter Data None c))) (states.Next items_state) (two_more c.events _ _) refl refl (
+    b,
+    e,
+    record { point = refl; next = refl; line_start = refl; previous = refl; current = refl },
+  )
 
   pair_call : (b : Option ℕ) (c : Config M) → c.current ≡ b → IsCall c (pair b c)
   unfolding pair
   pair_call None c e = calls c c states.Ok (same_front c.events) refl refl (inl (same_place c))
-  pair_call (Some b) c e = calls c (past_byte (with_enter AttentionSequence None c)) (states.Next close_state) (_, refl) refl refl (b, e, record { point = refl; next = refl; line_start = refl; previous = refl; current = refl })
+  pair_call (Some b) c e = calls c (past_byte (with_enter AttentionSequence None c)) (states.Next close_state) (_, refl) refl refl (
+    b,
+    e,
+    record { point = refl; next = refl; line_start = refl; previous = refl; current = refl },
+  )
 
   close_call : (b : Option ℕ) (c : Config M) → c.current ≡ b → IsCall c (close b c)
   unfolding close
-  close_call None c e = calls c (with_exit AttentionSequence c) states.Ok (_, refl) refl refl (inl (record { point = refl; next = refl; line_start = refl; previous = refl; current = refl }))
-  close_call (Some b) c e = calls c (with_exit AttentionSequence (past_byte c)) (states.Next items_state) (_, refl) refl refl (b, e, record { point = refl; next = refl; line_start = refl; previous = refl; current = refl })
+  close_call None c e = calls c (with_exit AttentionSequence c) states.Ok (
+    _,
+    refl,
+  ) refl refl (inl (record { point = refl; next = refl; line_start = refl; previous = refl; current = refl }))
+  close_call (Some b) c e = calls c (with_exit AttentionSequence (past_byte c)) (states.Next items_state) (_, refl) refl refl (
+    b,
+    e,
+    record { point = refl; next = refl; line_start = refl; previous = refl; current = refl },
+  )
 
   part_call : (p : Part) (c : Config M) → IsCall c (step_of p c)
   part_call Items c = items_call c.current c refl
@@ -101,49 +136,54 @@ may_look [] h = tt
 may_look (a ∷ more) h = h
 
 -- an exit stands at the point, and where nothing is read, at a later one
-exit_on : (b : Bool) (line from to : Point) (es : List Event) → Reaches from to → (let p = if b then line else from in AreTidy es p × Reaches p from) → (let p = if b then line else to in AreTidy es p × Reaches p to)
+exit_on : (b : Bool) (line from to : Point) (es : List Event) → Reaches from to → (let p = if b then line else from in AreTidy es p × Reaches p from)
+    → (let p = if b then line else to in AreTidy es p × Reaches p to)
 exit_on true line from to es k h = (h.0, reaches_on line from to h.1 k)
 exit_on false line from to es k h = (tidy_on es from to h.0 k, stays to)
 
 module _ {M : Type 0} (size : ℕ) (stack : List Attempt) where
-  Fine : Effect M → Type 0
-  Fine e = IsSound size e.state (stack ++ map mark e.pushed) e.config
+  IsFine : Effect M → Type 0
+  IsFine e = IsSound size e.state (stack ++ map mark e.pushed) e.config
 
-  plain_fine : (d : Config M) (s : State) → IsSound size s stack d → Fine (plain d s)
-  unfolding Fine
+  plain_fine : (d : Config M) (s : State) → IsSound size s stack d → IsFine (plain d s)
+  unfolding IsFine
   plain_fine d s h = subst (λ (z : List Attempt). IsSound size s z d) (sym (append-nil stack)) h
 
-  ends : (c : Config M) → stack ≡ [] → IsTidy c → open_after [] c.events ≡ [] → Fine (plain c states.Ok)
+  ends : (c : Config M) → stack ≡ [] → IsTidy c → open_after [] c.events ≡ [] → IsFine (plain c states.Ok)
   ends c w t o = plain_fine c states.Ok (record { stands = (no_looks stack w, o); tidy = t; marks = no_marks c.events stack w })
 
   module _ (c : Config M) (t : IsTidy c) (m : AreMarks Fits c.events stack) (ahead : IsAhead size c) where
-    items_fine : (b : Option ℕ) → c.current ≡ b → IsAt Items stack c → Fine (items b c)
-    unfolding items part Fine
+    items_fine : (b : Option ℕ) → c.current ≡ b → IsAt Items stack c → IsFine (items b c)
+    unfolding items part IsFine
     items_fine None e h = ends c h.waits t h.open_names
     items_fine (Some b) e h =
-        let d = marked b c in
+        let d = with_marker b c in
         let a = mark (frame_at true (states.Next pair_state) (states.Next single_state) d) in
         let looks : IsSound size (states.Retry first_state) (a ∷ []) d = record {
-          stands = (record { waits = record { check = refl; ok = refl; nok = refl }; open_names = h.open_names; exits = tt }, record { less = ahead.less; leads = ahead.leads });
+          stands = (
+            record { waits = record { check = refl; ok = refl; nok = refl }; open_names = h.open_names; exits = tt },
+            record { less = ahead.less; leads = ahead.leads },
+          );
           tidy = t;
           marks = marks_pushed Fits true (states.Next pair_state) (states.Next single_state) d [] t h.open_names tt;
         } in
         rw h.waits looks
 
-    first_fine : (b : Option ℕ) → c.current ≡ b → IsAt First stack c → Fine (first b c)
+    first_fine : (b : Option ℕ) → c.current ≡ b → IsAt First stack c → IsFine (first b c)
     unfolding first part
     first_fine None e h = plain_fine c states.Nok (record { stands = (h.waits, h.open_names); tidy = t; marks = m })
-    first_fine (Some b) e h = plain_fine (past_byte c) (states.Next second_state) (record { stands = record { waits = h.waits; open_names = h.open_names; exits = tt }; tidy = consumed_tidy c (ahead.leads b e) t; marks = m })
+    first_fine (Some b) e h = plain_fine (past_byte c) (states.Next second_state)
+        (record { stands = record { waits = h.waits; open_names = h.open_names; exits = tt }; tidy = consumed_tidy c (ahead.leads b e) t; marks = m })
 
-    second_fine : (b : Option ℕ) → c.current ≡ b → IsAt Second stack c → Fine (second b c)
+    second_fine : (b : Option ℕ) → c.current ≡ b → IsAt Second stack c → IsFine (second b c)
     unfolding second
     second_fine None e h = plain_fine c states.Nok (record { stands = (h.waits, h.open_names); tidy = t; marks = m })
     second_fine (Some b) e h =
-        by_test (λ (s : State). Fine (plain c s)) (b == c.tokenize_state.marker) states.Ok states.Nok
+        by_test (λ (s : State). IsFine (plain c s)) (b == c.tokenize_state.marker) states.Ok states.Nok
         (plain_fine c states.Ok (record { stands = (may_look stack h.waits, h.open_names); tidy = t; marks = m }))
         (plain_fine c states.Nok (record { stands = (h.waits, h.open_names); tidy = t; marks = m }))
 
-    single_fine : (b : Option ℕ) → c.current ≡ b → IsAt Single stack c → Fine (single b c)
+    single_fine : (b : Option ℕ) → c.current ≡ b → IsAt Single stack c → IsFine (single b c)
     unfolding single part
     single_fine None e h = ends c h.waits t h.open_names
     single_fine (Some b) e h =
@@ -156,7 +196,7 @@ module _ {M : Type 0} (size : ℕ) (stack : List Attempt) where
           marks = no_marks f.events stack h.waits;
         })
 
-    pair_fine : (b : Option ℕ) → c.current ≡ b → IsAt Pair stack c → Fine (pair b c)
+    pair_fine : (b : Option ℕ) → c.current ≡ b → IsAt Pair stack c → IsFine (pair b c)
     unfolding pair part
     pair_fine None e h = ends c h.waits t h.open_names
     pair_fine (Some b) e h =
@@ -173,9 +213,10 @@ module _ {M : Type 0} (size : ℕ) (stack : List Attempt) where
           marks = no_marks d.events stack h.waits;
         })
 
-    close_fine : (b : Option ℕ) → c.current ≡ b → IsAt Close stack c → Fine (close b c)
+    close_fine : (b : Option ℕ) → c.current ≡ b → IsAt Close stack c → IsFine (close b c)
     unfolding close part
-    close_fine None e h = ends (with_exit AttentionSequence c) h.waits (exited_tidy AttentionSequence c h.exits.place ([], h.open_names)) (exited_opened AttentionSequence c [] h.open_names)
+    close_fine None e h = ends (with_exit AttentionSequence c) h.waits (exited_tidy AttentionSequence c h.exits.place ([], h.open_names))
+        (exited_opened AttentionSequence c [] h.open_names)
     close_fine (Some b) e h =
         let d = with_exit AttentionSequence (past_byte c) in
         plain_fine d (states.Next items_state) (record {
@@ -184,7 +225,7 @@ module _ {M : Type 0} (size : ℕ) (stack : List Attempt) where
           marks = no_marks d.events stack h.waits;
         })
 
-    part_fine : (p : Part) → IsAt p stack c → Fine (step_of p c)
+    part_fine : (p : Part) → IsAt p stack c → IsFine (step_of p c)
     part_fine Items h = items_fine c.current refl h
     part_fine First h = first_fine c.current refl h
     part_fine Second h = second_fine c.current refl h
@@ -192,8 +233,9 @@ module _ {M : Type 0} (size : ℕ) (stack : List Attempt) where
     part_fine Pair h = pair_fine c.current refl h
     part_fine Close h = close_fine c.current refl h
 
-  called_fine : (c : Config M) (n : Name) → pairs_valid size c stack (states.Retry n) → (let e = pairs_step c n in pairs_valid size e.config (stack ++ map mark e.pushed) e.state)
-  unfolding Fine pairs_valid pairs_step
+  called_fine : (c : Config M) (n : Name) → pairs_valid size c stack (states.Retry n)
+      → (let e = pairs_step c n in pairs_valid size e.config (stack ++ map mark e.pushed) e.state)
+  unfolding IsFine pairs_valid pairs_step
   called_fine c n h = part_fine c h.tidy h.marks h.stands.1 (part n) h.stands.0
 
   at_on : (p : Part) (c d : Config M) → d.events ≡ c.events → (MayExit c → MayExit d) → IsAt p stack c → IsAt p stack d
@@ -207,7 +249,8 @@ module _ {M : Type 0} (size : ℕ) (stack : List Attempt) where
   may_exit_on : (c : Config M) (p : Point) → Reaches c.point p → MayExit c → MayExit (at_point p c)
   may_exit_on c p k h = record { place = exit_on (is_feed c.previous) c.line_start c.point p c.events k h.place }
 
-  fed_fine : (c : Config M) (n : Name) (p : Point) (v : Option VirtualByte) → IsFed size c.point p v → pairs_valid size c stack (states.Next n) → pairs_valid size (with_byte c p v) stack (states.Retry n)
+  fed_fine : (c : Config M) (n : Name) (p : Point) (v : Option VirtualByte) → IsFed size c.point p v → pairs_valid size c stack (states.Next n)
+      → pairs_valid size (with_byte c p v) stack (states.Retry n)
   unfolding pairs_valid
   fed_fine c n p v fed h = record {
     stands = (at_on (part n) c (with_byte c p v) refl (λ k. record { place = (may_exit_on c p fed.order k).place }) h.stands, handed_ahead size c p v fed);
@@ -238,7 +281,8 @@ looks_at [] a h = h
 looks_at (x ∷ stack) a h = h
 
 module _ {M : Type 0} (size : ℕ) where
-  goes_back : (stack : List Attempt) (a : Attempt) (c : Config M) (n : Name) → stack ≡ [] → AreMarks Fits c.events (stack ++ a ∷ []) → Waits (part n) [] → open_at (part n) ≡ [] → Exits (part n) (restore a c) → IsSound size (states.Next n) stack (restore a c)
+  goes_back : (stack : List Attempt) (a : Attempt) (c : Config M) (n : Name) → stack ≡ [] → AreMarks Fits c.events (stack ++ a ∷ []) → Waits (part n) []
+      → open_at (part n) ≡ [] → Exits (part n) (restore a c) → IsSound size (states.Next n) stack (restore a c)
   goes_back stack a c n w m k o x =
       let marks : AreMarks Fits c.events (a ∷ []) = rw w at m in
       rw w (record {
@@ -247,14 +291,16 @@ module _ {M : Type 0} (size : ℕ) where
         marks = tt;
       })
 
-  ok_fine : (c : Config M) (stack : List Attempt) (a : Attempt) → pairs_valid size c (stack ++ a ∷ []) states.Ok → pairs_valid size (continuation a c true) stack a.ok
+  ok_fine : (c : Config M) (stack : List Attempt) (a : Attempt) → pairs_valid size c (stack ++ a ∷ []) states.Ok
+      → pairs_valid size (continuation a c true) stack a.ok
   unfolding pairs_valid part
   ok_fine c stack a h =
       let k = looks_alone stack a (looks_at stack a h.stands.0) in
       let fine = goes_back stack a c pair_state k.0 h.marks refl refl tt in
       rw k.1.check (rw k.1.ok fine)
 
-  nok_fine : (c : Config M) (stack : List Attempt) (a : Attempt) → pairs_valid size c (stack ++ a ∷ []) states.Nok → pairs_valid size (continuation a c false) stack a.nok
+  nok_fine : (c : Config M) (stack : List Attempt) (a : Attempt) → pairs_valid size c (stack ++ a ∷ []) states.Nok
+      → pairs_valid size (continuation a c false) stack a.nok
   unfolding pairs_valid part
   nok_fine c stack a h =
       let k = looks_alone stack a h.stands.0 in
@@ -295,7 +341,8 @@ module _ {M : Type 0} (size : ℕ) where
     second_descend : (b : Option ℕ) → c.current ≡ b → Descends (2 * remaining size c.point + 1) (second b c)
     unfolding second part
     second_descend None e = record { lower = omega arith; below = tt }
-    second_descend (Some b) e = by_test (λ (s : State). Descends (2 * remaining size c.point + 1) (plain c s)) (b == c.tokenize_state.marker) states.Ok states.Nok (record { lower = omega arith; below = tt }) (record { lower = omega arith; below = tt })
+    second_descend (Some b) e = by_test (λ (s : State). Descends (2 * remaining size c.point + 1) (plain c s))
+        (b == c.tokenize_state.marker) states.Ok states.Nok (record { lower = omega arith; below = tt }) (record { lower = omega arith; below = tt })
 
     single_descend : (b : Option ℕ) → c.current ≡ b → Descends (2 * remaining size c.point + 1) (single b c)
     unfolding single part
@@ -320,17 +367,20 @@ module _ {M : Type 0} (size : ℕ) where
     part_descend Pair = pair_descend c.current refl
     part_descend Close = close_descend c.current refl
 
-  call_descends : (c : Config M) (stack : List Attempt) (n : Name) → pairs_valid size c stack (states.Retry n) → Descends (pairs_weight size c (states.Retry n)) (pairs_step c n)
+  call_descends : (c : Config M) (stack : List Attempt) (n : Name) → pairs_valid size c stack (states.Retry n)
+      → Descends (pairs_weight size c (states.Retry n)) (pairs_step c n)
   unfolding pairs_valid pairs_step
   call_descends c stack n h = part_descend c h.stands.1 (part n)
 
-  ok_descends : (c : Config M) (stack : List Attempt) (a : Attempt) → pairs_valid size c (stack ++ a ∷ []) states.Ok → pairs_weight size (continuation a c true) a.ok ≤ pairs_waits size a
+  ok_descends : (c : Config M) (stack : List Attempt) (a : Attempt) → pairs_valid size c (stack ++ a ∷ []) states.Ok
+      → pairs_weight size (continuation a c true) a.ok ≤ pairs_waits size a
   unfolding pairs_valid part
   ok_descends c stack a h =
       let k = looks_alone stack a (looks_at stack a h.stands.0) in
       rw k.1.check (rw k.1.ok (omega arith))
 
-  nok_descends : (c : Config M) (stack : List Attempt) (a : Attempt) → pairs_valid size c (stack ++ a ∷ []) states.Nok → pairs_weight size (continuation a c false) a.nok ≤ pairs_waits size a
+  nok_descends : (c : Config M) (stack : List Attempt) (a : Attempt) → pairs_valid size c (stack ++ a ∷ []) states.Nok
+      → pairs_weight size (continuation a c false) a.nok ≤ pairs_waits size a
   unfolding pairs_valid part
   nok_descends c stack a h = rw (looks_alone stack a h.stands.0).1.nok (omega arith)
 
@@ -363,17 +413,25 @@ module _ {M : Type 0} (size : ℕ) where
   goes_well c h = h.stands.0
 
   -- at the second byte of a pair its event is the innermost
-  pub close_innermost : (c : Config M) (stack : List Attempt) (n : Name) → n ≡ close_state → pairs_valid size c stack (states.Retry n) → IsInnermost AttentionSequence c.events
+  pub close_innermost : (c : Config M) (stack : List Attempt) (n : Name) → n ≡ close_state → pairs_valid size c stack (states.Retry n)
+      → IsInnermost AttentionSequence c.events
   unfolding pairs_valid part
   close_innermost c stack n e h = ([], h.stands.0.open_names ∙ ap (λ (z : Name). open_at (part z)) e)
 
   -- No resolver is registered
 
   held : LawfulAt size (pairs_valid {M = M} size) pairs_step (pairs_rank size)
-  held = record { adds = pairs_adds; consumes = λ c stack n h. (pairs_call c n).consumes; keeps = pairs_held; falls = pairs_fell; tidies = pairs_tidied; closes = pairs_closed }
+  held = record {
+    adds = pairs_adds;
+    consumes = λ c stack n h. (pairs_call c n).consumes;
+    keeps = pairs_held;
+    falls = pairs_fell;
+    tidies = pairs_tidied;
+    closes = pairs_closed;
+  }
 
-  pub pairs_lawful : LawfulAt size (Unresolved (pairs_valid {M = M} size)) pairs_step (pairs_rank size)
+  pub pairs_lawful : LawfulAt size (HoldsUnresolved (pairs_valid {M = M} size)) pairs_step (pairs_rank size)
   pairs_lawful = lawful_unresolved size (pairs_valid size) pairs_step (pairs_rank size) pairs_leaves held
 
-  pub pairs_resolves : ResolvesAt (Unresolved (pairs_valid {M = M} size)) resolves_nothing settles_whole
+  pub pairs_resolves : ResolvesAt (HoldsUnresolved (pairs_valid {M = M} size)) resolves_nothing settles_whole
   pairs_resolves = resolves_unresolved size (pairs_valid size) pairs_step (pairs_rank size) held goes_well

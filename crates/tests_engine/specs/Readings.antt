@@ -5,27 +5,28 @@ use Rattle.engine_events.specs.declared.event.Event.{Event}
 use Rattle.engine_events.specs.declared.state.Name.{Name}
 use Rattle.engine_events.specs.declared.state.State.TheVariants as states
 use Rattle.engine_events.specs.declared.subresult.Subresult.{Subresult}
-use Rattle.markdown_engine.specs.Chains.{AreReadable, SubtokenizedIn}
+use Rattle.markdown_engine.specs.Chains.{AreReadable, SubtokenizesIn}
 use Rattle.markdown_engine.specs.Context.{Context}
-use Rattle.markdown_engine.specs.Machine.{fresh}
+use Rattle.markdown_engine.specs.Machine.{fresh_config}
 use Rattle.markdown_engine.specs.Order.{text_start}
 use Rattle.markdown_engine.specs.Reading.{Config, Runs, Steps}
 use Rattle.markdown_engine.specs.Resolving.{Resolves, found_in}
-use Rattle.markdown_engine.specs.VirtualText.{Text, text_to, unskipped}
+use Rattle.markdown_engine.specs.VirtualText.{Text, text_to, without_skips}
 
 -- all of a text
 abbrev pub text_of : List ℕ → Text
-text_of bytes = text_to (unskipped bytes) (length bytes, 0)
+text_of bytes = text_to (without_skips bytes) (length bytes, 0)
 
 -- these are the events of the one reading of a text, from a state on
 pub record IsReading {M : Type 0} (step : Steps M) (first : Name) (bytes : List ℕ) (machine : M) (events : List Event) : Type 0 where
   pub config : Config M
   pub well : Bool
-  pub runs : Runs (text_of bytes) step (fresh text_start machine) [] (states.Next first) config well
+  pub runs : Runs (text_of bytes) step (fresh_config text_start machine) [] (states.Next first) config well
   pub read : events ≡ config.events
 
 -- the chains that are asked for were read where they can be; otherwise the events are left
-abbrev pub ReadsChains : {T M A : Type 0} → (Context T → Steps M) → (Context T → Resolves M) → Context T → M → Option Content → List Event → List Event → Option (Subresult A) → Type 0
+abbrev pub ReadsChains : {T M A : Type 0} → (Context T → Steps M) → (Context T → Resolves M) → Context T → M → Option Content → List Event → List Event
+    → Option (Subresult A) → Type 0
 ReadsChains step resolve x machine filter old new found = MatchOption found
     ((AreReadable x.bytes filter old → ⊥) × (new ≡ old))
-    (λ result. AreReadable x.bytes filter old × SubtokenizedIn step resolve x machine filter old new (found_in result))
+    (λ result. AreReadable x.bytes filter old × SubtokenizesIn step resolve x machine filter old new (found_in result))

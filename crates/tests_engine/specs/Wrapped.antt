@@ -11,12 +11,12 @@ use Rattle.engine_events.specs.declared.state.Name.TheVariants.{Inline}
 use Rattle.engine_events.specs.declared.state.State.{State}
 use Rattle.engine_events.specs.declared.state.State.TheVariants as states
 use Rattle.engine_events.specs.Events.{event, point_of}
-use Rattle.engine_edits.specs.Edits.{Placed, with_edit}
+use Rattle.engine_edits.specs.Edits.{EditAt, with_edit}
 use Rattle.markdown_engine.specs.Laws.{HoldsAt}
-use Rattle.markdown_engine.specs.Machine.{fresh, to_run_last}
+use Rattle.markdown_engine.specs.Machine.{fresh_config, to_run_last}
 use Rattle.markdown_engine.specs.Order.{AreWhole, text_start}
 use Rattle.markdown_engine.specs.Reading.{Config, Runs, Steps}
-use Rattle.markdown_engine.specs.Resolving.{Found, Resolved, resolve_all}
+use Rattle.markdown_engine.specs.Resolving.{FoundLabels, ResolverResult, resolve_all}
 use Rattle.tests_engine.specs.declared.wrapped.Wrapped.{Wrapped}
 use Rattle.tests_engine.specs.EachByte.{HoldsEach, each_byte}
 use Rattle.tests_engine.specs.Readings.{text_of}
@@ -38,16 +38,16 @@ first_place [] p = p
 first_place (e ∷ es) p = point_of e
 
 -- the edits that put an event round all
-abbrev pub round_all : List Event → Point → List Placed → List Placed
+abbrev pub round_all : List Event → Point → List EditAt → List EditAt
 round_all events p edits =
     with_edit false (length events) 0 (event Exit Paragraph p None ∷ []) (with_edit true 0 0 (event Enter Paragraph (first_place events p) None ∷ []) edits)
 
 -- a definition of this label is found
-abbrev pub one_found : Found
-one_found = record { definitions = (97 ∷ []) ∷ []; footnotes = [] }
+abbrev pub found_one_label : FoundLabels
+found_one_label = record { definitions = (97 ∷ []) ∷ []; footnotes = [] }
 
-unfoldable pub wraps_all : Config Wrapped → Resolver → Resolved Wrapped
-wraps_all c n = record { config = record c { map = round_all c.events c.point c.map }; found = one_found }
+unfoldable pub wraps_all : Config Wrapped → Resolver → ResolverResult Wrapped
+wraps_all c n = record { config = record c { map = round_all c.events c.point c.map }; found = found_one_label }
 
 abbrev pub only_text : List Resolver
 only_text = Text ∷ []
@@ -80,8 +80,8 @@ abbrev pub wrapped_start : State
 wrapped_start = states.Next (Inline DataInside)
 
 -- these are the events of the one reading of a text, resolved, and what was found in it
-pub record IsWrapped (bytes : List ℕ) (machine : Wrapped) (events : List Event) (found : Found) : Type 0 where
+pub record IsWrapped (bytes : List ℕ) (machine : Wrapped) (events : List Event) (found : FoundLabels) : Type 0 where
   pub read : Config Wrapped
-  pub runs : Runs (text_of bytes) wrapped_step (fresh text_start machine) [] wrapped_start read true
+  pub runs : Runs (text_of bytes) wrapped_step (fresh_config text_start machine) [] wrapped_start read true
   pub are : events ≡ (resolve_all wraps_all read).config.events
   pub labels : found ≡ (resolve_all wraps_all read).found

@@ -8,10 +8,10 @@ ghost use Rattle.markdown_options.specs.Messages.{IsOutOfMemory};
 ghost use Rattle.markdown_engine.specs.Machine.{Answers, AreCuts, config};
 ghost use Rattle.engine_events.specs.declared.event.Name.TheVariants as names;
 ghost use Rattle.markdown_engine.specs.Order.{IsInnermost, IsBalanced, AreInOrder};
-ghost use Rattle.tests_engine.specs.Brackets.{Bracketed, items, rest, group, close, part, Part, Items, Group, Close, Rest, brackets_step};
+ghost use Rattle.tests_engine.specs.Brackets.{IsBracketsReading, items, rest, group, close, part, Part, Items, Group, Close, Rest, brackets_step};
 ghost use Rattle.tests_engine.specs.Brackets.{brackets_valid, brackets_rank};
 ghost use Rattle.markdown_engine.specs.Context.{context};
-ghost use Rattle.markdown_engine.specs.Resolving.{Unresolved, resolves_nothing, settles_whole};
+ghost use Rattle.markdown_engine.specs.Resolving.{HoldsUnresolved, resolves_nothing, settles_whole};
 ghost use Rattle.tests_engine.specs.BracketsLaws.{brackets_lawful, brackets_resolves};
 ghost use Rattle.tests_engine.specs.declared.brackets.Brackets.{Brackets};
 ghost use Rattle.tests_engine.specs.Readings.{ReadsChains};
@@ -111,7 +111,7 @@ impl<T: Tables> Machine<T> for Brackets {
 
     ghost step = { λ x. brackets_step };
 
-    ghost valid = { λ x. Unresolved (brackets_valid (length x.bytes)) };
+    ghost valid = { λ x. HoldsUnresolved (brackets_valid (length x.bytes)) };
 
     ghost rank = { λ x. brackets_rank (length x.bytes) };
 
@@ -149,7 +149,7 @@ pub fn read_whole<T: Tables, A: Allocator + Clone>(
     parse_state: &ParseState<'_, T, A>,
     machine: Brackets,
 ) -> Result<Vec<Event, A>, Message>
-    ensures reads { IfOk result (λ events. Bracketed parse_state.now.bytes.now machine events.items) }
+    ensures reads { IfOk result (λ events. IsBracketsReading parse_state.now.bytes.now machine events.items) }
     ensures balanced { IfOk result (λ events. IsBalanced events.items) }
     ensures order { IfOk result (λ events. AreInOrder events.items) }
     ensures memory { IfErr result (λ message. IsOutOfMemory message) }
@@ -166,13 +166,13 @@ pub fn read_in_ranges<T: Tables, A: Allocator + Clone>(
     cuts: &[(usize, usize)],
 ) -> Result<Vec<Event, A>, Message>
     requires { AreCuts (0, 0) cuts.now (length parse_state.now.bytes.now) }
-    ensures reads { IfOk result (λ events. Bracketed parse_state.now.bytes.now machine events.items) }
+    ensures reads { IfOk result (λ events. IsBracketsReading parse_state.now.bytes.now machine events.items) }
     ensures balanced { IfOk result (λ events. IsBalanced events.items) }
     ensures order { IfOk result (λ events. AreInOrder events.items) }
     ensures memory { IfErr result (λ message. IsOutOfMemory message) }
 {
     let mut tokenizer = Tokenizer::new(alloc, START, parse_state, machine)?;
-    match tokenizer.in_ranges(cuts, ITEMS) {
+    match tokenizer.read_in_ranges(cuts, ITEMS) {
         State::Error(message) => Err(*message),
         _ => Ok(tokenizer.events),
     }

@@ -1,6 +1,6 @@
 //! A machine that consumes every byte and counts its calls.
 ghost use Rattle.std.specs.Prelude.{length, ℕ};
-ghost use Rattle.markdown_engine.specs.Resolving.{Unresolved, resolves_nothing, settles_whole};
+ghost use Rattle.markdown_engine.specs.Resolving.{HoldsUnresolved, resolves_nothing, settles_whole};
 ghost use Rattle.tests_engine.specs.Counting.{count_step, counts};
 ghost use Rattle.tests_engine.specs.CountingLaws.{count_lawful, count_resolves};
 ghost use Rattle.tests_engine.specs.EachByte.{each_rank};
@@ -26,7 +26,7 @@ impl<T: Tables> Machine<T> for Count {
 
     ghost step = { λ x. count_step };
 
-    ghost valid = { λ x. Unresolved counts };
+    ghost valid = { λ x. HoldsUnresolved counts };
 
     ghost rank = { λ x. each_rank (length x.bytes) };
 

@@ -3,7 +3,7 @@ ghost use Rattle.std.specs.Prelude.{IfErr, IfOk, length};
 ghost use Rattle.std.specs.Option.{option_copied};
 ghost use Rattle.markdown_options.specs.Messages.{IsOutOfMemory};
 ghost use Rattle.markdown_engine.specs.Context.{context};
-ghost use Rattle.markdown_engine.specs.Resolving.{Unresolved, resolves_nothing, settles_whole};
+ghost use Rattle.markdown_engine.specs.Resolving.{HoldsUnresolved, resolves_nothing, settles_whole};
 ghost use Rattle.tests_engine.specs.EachByte.{each_rank};
 ghost use Rattle.tests_engine.specs.Letters.{letter_step, reads_letters};
 ghost use Rattle.tests_engine.specs.LettersLaws.{letter_lawful, letter_resolves};
@@ -30,7 +30,7 @@ impl<T: Tables> Machine<T> for Letters {
 
     ghost step = { λ x. letter_step };
 
-    ghost valid = { λ x. Unresolved reads_letters };
+    ghost valid = { λ x. HoldsUnresolved reads_letters };
 
     ghost rank = { λ x. each_rank (length x.bytes) };
 

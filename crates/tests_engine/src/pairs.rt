@@ -6,10 +6,10 @@ ghost use Rattle.markdown_options.specs.Messages.{IsOutOfMemory};
 ghost use Rattle.markdown_engine.specs.Machine.{Answers, config};
 ghost use Rattle.engine_events.specs.declared.event.Name.TheVariants as names;
 ghost use Rattle.markdown_engine.specs.Order.{AreInOrder, IsBalanced, IsInnermost};
-ghost use Rattle.markdown_engine.specs.Resolving.{Unresolved, resolves_nothing, settles_whole};
+ghost use Rattle.markdown_engine.specs.Resolving.{HoldsUnresolved, resolves_nothing, settles_whole};
 ghost use Rattle.tests_engine.specs.declared.pairs.Pairs.{Pairs};
 ghost use Rattle.tests_engine.specs.Pairs.{items, first, second, single, pair, close, part, Part, Items, First, Second, Single, Pair};
-ghost use Rattle.tests_engine.specs.Pairs.{Close, Paired, pairs_rank, pairs_step, pairs_valid};
+ghost use Rattle.tests_engine.specs.Pairs.{Close, IsPairsReading, pairs_rank, pairs_step, pairs_valid};
 ghost use Rattle.tests_engine.specs.PairsLaws.{pairs_lawful, pairs_resolves};
 
 use crate::readings::read_at_once;
@@ -136,7 +136,7 @@ impl<T: Tables> Machine<T> for Pairs {
 
     ghost step = { λ x. pairs_step };
 
-    ghost valid = { λ x. Unresolved (pairs_valid (length x.bytes)) };
+    ghost valid = { λ x. HoldsUnresolved (pairs_valid (length x.bytes)) };
 
     ghost rank = { λ x. pairs_rank (length x.bytes) };
 
@@ -176,7 +176,7 @@ pub fn read_pairs<T: Tables, A: Allocator + Clone>(
     parse_state: &ParseState<'_, T, A>,
     machine: Pairs,
 ) -> Result<Vec<Event, A>, Message>
-    ensures reads { IfOk result (λ events. Paired parse_state.now.bytes.now machine events.items) }
+    ensures reads { IfOk result (λ events. IsPairsReading parse_state.now.bytes.now machine events.items) }
     ensures balanced { IfOk result (λ events. IsBalanced events.items) }
     ensures order { IfOk result (λ events. AreInOrder events.items) }
     ensures memory { IfErr result (λ message. IsOutOfMemory message) }

@@ -5,7 +5,7 @@ ghost use Rattle.markdown_options.specs.Messages.{IsOutOfMemory};
 ghost use Rattle.engine_events.specs.declared.state.State.TheVariants as states;
 ghost use Rattle.markdown_engine.specs.Chains.{MayBegin, chains};
 ghost use Rattle.markdown_engine.specs.Context.{context};
-ghost use Rattle.markdown_engine.specs.Machine.{fresh};
+ghost use Rattle.markdown_engine.specs.Machine.{fresh_config};
 ghost use Rattle.markdown_engine.specs.Order.{AreInOrder, IsBalanced, text_start};
 ghost use Rattle.tests_engine.specs.Readings.{IsReading, ReadsChains};
 
@@ -25,14 +25,14 @@ pub fn read_at_once<M: Machine<T> + Drop, T: Tables, A: Allocator + Clone>(
     machine: M,
     first: Name,
 ) -> Result<Vec<Event, A>, Message>
-    requires begins { M.valid (context parse_state.now) (fresh text_start (M.seen machine)) [] (states.Next first) }
+    requires begins { M.valid (context parse_state.now) (fresh_config text_start (M.seen machine)) [] (states.Next first) }
     ensures reads { IfOk result (λ events. IsReading (M.step (context parse_state.now)) first parse_state.now.bytes.now (M.seen machine) events.items) }
     ensures balanced { IfOk result (λ events. IsBalanced events.items) }
     ensures order { IfOk result (λ events. AreInOrder events.items) }
     ensures memory { IfErr result (λ message. IsOutOfMemory message) }
 {
     let mut tokenizer = Tokenizer::new(alloc, START, parse_state, machine)?;
-    match tokenizer.whole(State::Next(first)) {
+    match tokenizer.read_at_once(State::Next(first)) {
         State::Error(message) => Err(*message),
         _ => Ok(tokenizer.events),
     }

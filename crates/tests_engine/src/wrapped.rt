@@ -5,7 +5,7 @@ ghost use Rattle.markdown_engine.specs.Order.{IsBalanced, AreInOrder};
 ghost use Rattle.markdown_engine.specs.Resolving.{found_in};
 ghost use Rattle.tests_engine.specs.declared.wrapped.Wrapped.{Wrapped};
 ghost use Rattle.tests_engine.specs.EachByte.{each_rank};
-ghost use Rattle.tests_engine.specs.Wrapped.{IsWrapped, one_found, reads_wrapped, settles_wrapped, wrapped_step, wraps_all};
+ghost use Rattle.tests_engine.specs.Wrapped.{IsWrapped, found_one_label, reads_wrapped, settles_wrapped, wrapped_step, wraps_all};
 ghost use Rattle.tests_engine.specs.WrappedLaws.{wrapped_lawful, wrapped_resolves};
 
 use markdown_engine::event::{Event, Kind, Name as EventName};
@@ -105,7 +105,7 @@ pub fn read_wrapped<T: Tables, A: Allocator + Clone>(
     machine: Wrapped,
 ) -> Result<(Vec<Event, A>, Subresult<A>), Message>
     ensures reads { IfOk result (λ both. IsWrapped parse_state.now.bytes.now machine both.0.items (found_in both.1)) }
-    ensures found { IfOk result (λ both. found_in both.1 ≡ one_found) }
+    ensures found { IfOk result (λ both. found_in both.1 ≡ found_one_label) }
     ensures balanced { IfOk result (λ both. IsBalanced both.0.items) }
     ensures order { IfOk result (λ both. AreInOrder both.0.items) }
     ensures memory { IfErr result (λ message. IsOutOfMemory message) }

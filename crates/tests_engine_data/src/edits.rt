@@ -1,6 +1,6 @@
 use engine_edits::edit::Edit;
 use engine_edits::edit_map::EditMap;
-use engine_edits::relink::{push_gone, push_kept, push_relinked};
+use engine_edits::relink::{push_no_places, push_places_from, push_with_new_links};
 use engine_events::event::Name;
 use engine_events::{Content, Event, Kind, Link, Point};
 use markdown_options::Message;
@@ -101,11 +101,11 @@ fn an_edit_takes_another(rt: HostRuntime) -> Result<(), Fail> {
 #[test]
 fn links_follow_their_events(rt: HostRuntime) -> Result<(), Fail> {
     let mut places = Vec::new(rt.alloc());
-    push_kept(&mut places, 3, 2)?;
-    push_gone(&mut places, 1)?;
+    push_places_from(&mut places, 3, 2)?;
+    push_no_places(&mut places, 1)?;
     assert_eq!(rt; places.as_slice(), [Some(3), Some(4), None].as_slice());
     let mut all = Vec::new(rt.alloc());
-    push_relinked(
+    push_with_new_links(
         &mut all,
         &[chunk(0, Some(1), Some(2)), chunk(1, None, Some(3))],
         &places,

@@ -35,7 +35,7 @@ fn a_line_is_read_after_its_skip(rt: HostRuntime) -> Result<(), Fail> {
         index: 4,
         vs: 0,
     };
-    let state = tokenizer.in_lines(2, second, DATA);
+    let state = tokenizer.read_in_lines(2, second, DATA);
     assert_eq!(rt; state, State::Ok);
     assert_eq!(rt; tokenizer.machine.calls, 3);
     assert_eq!(rt; tokenizer.point.column, 4);
@@ -67,7 +67,7 @@ fn at(kind: Kind, name: EventName, line: usize, column: usize, index: usize) -> 
 }
 
 /// The event with a link to its neighbours.
-fn linked(event: Event, previous: Option<usize>, next: Option<usize>) -> Event {
+fn with_link(event: Event, previous: Option<usize>, next: Option<usize>) -> Event {
     let mut event = event;
     event.set_link(Some(Link {
         previous,
@@ -80,13 +80,13 @@ fn linked(event: Event, previous: Option<usize>, next: Option<usize>) -> Event {
 pub const QUOTED: &[u8] = b"> ab\n> cd";
 
 /// The events of `> ab` and `> cd`: a chunk, the mark of a container, and another chunk.
-pub fn quoted() -> [Event; 6] {
+pub fn chunks_in_quote() -> [Event; 6] {
     [
-        linked(at(Kind::Enter, EventName::Data, 1, 3, 2), None, Some(4)),
+        with_link(at(Kind::Enter, EventName::Data, 1, 3, 2), None, Some(4)),
         at(Kind::Exit, EventName::Data, 2, 1, 5),
         at(Kind::Enter, EventName::BlockQuotePrefix, 2, 1, 5),
         at(Kind::Exit, EventName::BlockQuotePrefix, 2, 3, 7),
-        linked(at(Kind::Enter, EventName::Data, 2, 3, 7), Some(0), None),
+        with_link(at(Kind::Enter, EventName::Data, 2, 3, 7), Some(0), None),
         at(Kind::Exit, EventName::Data, 2, 5, 9),
     ]
 }
@@ -95,7 +95,7 @@ pub fn quoted() -> [Event; 6] {
 fn a_chain_is_read_without_marks(rt: HostRuntime) -> Result<(), Fail> {
     let options = ParseOptions::default();
     let text = ParseState::new(rt.alloc(), QUOTED, &options, &Ascii)?;
-    let mut events = quoted().to_vec(rt.alloc())?;
+    let mut events = chunks_in_quote().to_vec(rt.alloc())?;
     let found = read_letters(&mut events, &text, Letters, None)?;
     assert!(rt; !found.ok_or("the chains fit")?.done);
     let indices = [2, 3, 3, 4, 4, 5, 5, 7, 7, 8, 8, 9];
@@ -115,7 +115,7 @@ fn a_chain_is_read_without_marks(rt: HostRuntime) -> Result<(), Fail> {
 fn chains_of_other_contents_stay(rt: HostRuntime) -> Result<(), Fail> {
     let options = ParseOptions::default();
     let text = ParseState::new(rt.alloc(), QUOTED, &options, &Ascii)?;
-    let mut events = quoted().to_vec(rt.alloc())?;
+    let mut events = chunks_in_quote().to_vec(rt.alloc())?;
     let found = read_letters(&mut events, &text, Letters, Some(&Content::String))?;
     assert!(rt; found.ok_or("the chains fit")?.done);
     assert_eq!(rt; events.len(), 6);
@@ -126,8 +126,8 @@ fn chains_of_other_contents_stay(rt: HostRuntime) -> Result<(), Fail> {
 fn chunks_that_lie_in_one_another_are_refused(rt: HostRuntime) -> Result<(), Fail> {
     let options = ParseOptions::default();
     let text = ParseState::new(rt.alloc(), QUOTED, &options, &Ascii)?;
-    let mut events = quoted().to_vec(rt.alloc())?;
-    events[4] = linked(events[4], Some(0), Some(0));
+    let mut events = chunks_in_quote().to_vec(rt.alloc())?;
+    events[4] = with_link(events[4], Some(0), Some(0));
     let found = read_letters(&mut events, &text, Letters, None)?;
     assert!(rt; found.is_none());
     Ok(())
@@ -229,13 +229,13 @@ fn a_look_ahead_waits_for_its_end(rt: HostRuntime) -> Result<(), Fail> {
 }
 
 /// The events of `> (a` and `> b)(`, with the lines' texts as chunks of one chain.
-fn quoted_group() -> [Event; 6] {
+fn group_in_quote() -> [Event; 6] {
     [
-        linked(at(Kind::Enter, EventName::Data, 1, 3, 2), None, Some(4)),
+        with_link(at(Kind::Enter, EventName::Data, 1, 3, 2), None, Some(4)),
         at(Kind::Exit, EventName::Data, 2, 1, 5),
         at(Kind::Enter, EventName::BlockQuotePrefix, 2, 1, 5),
         at(Kind::Exit, EventName::BlockQuotePrefix, 2, 3, 7),
-        linked(at(Kind::Enter, EventName::Data, 2, 3, 7), Some(0), None),
+        with_link(at(Kind::Enter, EventName::Data, 2, 3, 7), Some(0), None),
         at(Kind::Exit, EventName::Data, 2, 6, 10),
     ]
 }
@@ -244,7 +244,7 @@ fn quoted_group() -> [Event; 6] {
 fn a_group_spans_the_lines_of_a_quote(rt: HostRuntime) -> Result<(), Fail> {
     let options = ParseOptions::default();
     let text = ParseState::new(rt.alloc(), b"> (a\n> b)(", &options, &Ascii)?;
-    let mut events = quoted_group().to_vec(rt.alloc())?;
+    let mut events = group_in_quote().to_vec(rt.alloc())?;
     let found = read_groups(&mut events, &text, Brackets, None)?;
     assert!(rt; !found.ok_or("the chains fit")?.done);
     let expected = [

@@ -1,5 +1,5 @@
 //! Memory that runs out.
-use crate::machines::{QUOTED, quoted};
+use crate::machines::{QUOTED, chunks_in_quote};
 use linked_list_allocator::LocalHeap;
 use markdown_engine::place::START;
 use markdown_engine::state::{Inline, Name, State};
@@ -57,11 +57,11 @@ fn refused_chains_leave_the_events(rt: HostRuntime) -> Result<(), Fail> {
         let heap = LocalHeap::new(rt.alloc(), size)?;
         let options = ParseOptions::default();
         let text = ParseState::new(&heap, QUOTED, &options, &Ascii)?;
-        let Ok(mut events) = quoted().to_vec(&heap) else {
+        let Ok(mut events) = chunks_in_quote().to_vec(&heap) else {
             panic!(rt; "there was memory for the events");
         };
         assert!(rt; read_letters(&mut events, &text, Letters, None).is_err());
-        assert!(rt; events.as_slice() == quoted().as_slice());
+        assert!(rt; events.as_slice() == chunks_in_quote().as_slice());
     }
     Ok(())
 }

@@ -1,13 +1,13 @@
 //! Contents that both roads read.
 use crate::contents::CONTENTS;
 use crate::generate::Numbers;
-use crate::roads::{Roads, full, plain};
+use crate::roads::{Roads, full_options, plain_options};
 use crate::texts::{GFM_TEXTS, TEXTS};
 use std::test::Fail;
 
 #[test]
 fn how_contents_are_spelled(rt: HostRuntime) -> Result<(), Fail> {
-    let roads = Roads::new(&rt, plain())?;
+    let roads = Roads::new(&rt, plain_options())?;
     let wanted: &[u8] = b"\x01+link\x02(b)c\x01+emphasis\x02d\x01-\x02\x01-\x02 \x01code e\x02";
     let events = roads.by_events(&rt, "[c*d*](b) `e`")?;
     assert!(rt; events.as_slice() == wanted);
@@ -18,11 +18,11 @@ fn how_contents_are_spelled(rt: HostRuntime) -> Result<(), Fail> {
 
 #[test]
 fn contents_by_hand(rt: HostRuntime) -> Result<(), Fail> {
-    let roads = Roads::new(&rt, plain())?;
+    let roads = Roads::new(&rt, plain_options())?;
     for text in TEXTS {
         assert!(rt; roads.is_same(&rt, text)?);
     }
-    let roads = Roads::new(&rt, full())?;
+    let roads = Roads::new(&rt, full_options())?;
     let mut same = true;
     for text in TEXTS {
         same = roads.is_same(&rt, text)? && same;
@@ -47,13 +47,13 @@ fn are_same(rt: &HostRuntime, roads: &Roads) -> Result<bool, Fail> {
 
 #[test]
 fn contents_of_constructs(rt: HostRuntime) -> Result<(), Fail> {
-    assert!(rt; are_same(&rt, &Roads::new(&rt, plain())?)?);
+    assert!(rt; are_same(&rt, &Roads::new(&rt, plain_options())?)?);
     Ok(())
 }
 
 #[test]
 fn contents_of_constructs_with_those_of_gfm(rt: HostRuntime) -> Result<(), Fail> {
-    assert!(rt; are_same(&rt, &Roads::new(&rt, full())?)?);
+    assert!(rt; are_same(&rt, &Roads::new(&rt, full_options())?)?);
     Ok(())
 }
 
@@ -71,24 +71,24 @@ fn are_same_at_random(rt: &HostRuntime, roads: &Roads, seed: u64, gfm: bool) -> 
 
 #[test]
 fn contents_at_random(rt: HostRuntime) -> Result<(), Fail> {
-    assert!(rt; are_same_at_random(&rt, &Roads::new(&rt, plain())?, 1, false)?);
+    assert!(rt; are_same_at_random(&rt, &Roads::new(&rt, plain_options())?, 1, false)?);
     Ok(())
 }
 
 #[test]
 fn more_contents_at_random(rt: HostRuntime) -> Result<(), Fail> {
-    assert!(rt; are_same_at_random(&rt, &Roads::new(&rt, plain())?, 2, false)?);
+    assert!(rt; are_same_at_random(&rt, &Roads::new(&rt, plain_options())?, 2, false)?);
     Ok(())
 }
 
 #[test]
 fn contents_of_gfm_at_random(rt: HostRuntime) -> Result<(), Fail> {
-    assert!(rt; are_same_at_random(&rt, &Roads::new(&rt, full())?, 3, true)?);
+    assert!(rt; are_same_at_random(&rt, &Roads::new(&rt, full_options())?, 3, true)?);
     Ok(())
 }
 
 #[test]
 fn more_contents_of_gfm_at_random(rt: HostRuntime) -> Result<(), Fail> {
-    assert!(rt; are_same_at_random(&rt, &Roads::new(&rt, full())?, 4, true)?);
+    assert!(rt; are_same_at_random(&rt, &Roads::new(&rt, full_options())?, 4, true)?);
     Ok(())
 }

@@ -1,5 +1,7 @@
 //! Events of a text, spelled.
-use crate::rows::{push_check, push_definition, push_literal, push_part, push_resource};
+use crate::rows::{
+    push_autolink, push_check, push_definition, push_literal, push_part, push_resource,
+};
 use engine_text::bytes::part;
 use inline_labels::LabelTable;
 use inline_leaves::LiteralKind;
@@ -11,13 +13,13 @@ use std::test::Fail;
 
 /// The events of a text, its bytes, and the labels that are defined.
 #[derive(Clone, Copy)]
-pub struct Read<'a> {
+pub struct Reading<'a> {
     pub events: &'a [Event],
     pub bytes: &'a [u8],
     pub labels: &'a LabelTable<Global>,
 }
 
-impl<'a> Read<'a> {
+impl<'a> Reading<'a> {
     fn is_at(&self, index: usize, kind: Kind, name: Name) -> bool {
         match self.events.get(index) {
             None => false,
@@ -214,7 +216,10 @@ impl<'a> Read<'a> {
             Name::CharacterReference => self.push_reference(out, self.between(from, to))?,
             Name::CodeText => push_part(out, b"code ", inner)?,
             Name::MathText => push_part(out, b"math ", inner)?,
-            Name::Autolink => push_part(out, b"autolink ", inner)?,
+            Name::Autolink => {
+                let email = self.find(from, to, Kind::Enter, Name::AutolinkEmail);
+                push_autolink(out, email.is_some(), inner)?;
+            },
             Name::HtmlText => push_part(out, b"html ", self.between(from, to))?,
             Name::HardBreakEscape => push_part(out, b"break", b"\\")?,
             Name::HardBreakTrailing => push_part(out, b"break", b" ")?,
@@ -273,7 +278,7 @@ impl<'a> Read<'a> {
     }
 
     /// The events, spelled.
-    pub fn spelled(&self, rt: &HostRuntime) -> Result<Vec<u8>, Fail> {
+    pub fn spell(&self, rt: &HostRuntime) -> Result<Vec<u8>, Fail> {
         let mut out = Vec::new(rt.alloc());
         let mut next = 0;
         for (index, event) in self.events.iter().enumerate() {

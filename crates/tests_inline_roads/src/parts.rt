@@ -1,7 +1,7 @@
 //! Contents that are handed to the machine in ranges, and heaps in which memory runs out.
 use crate::contents::CONTENTS;
 use crate::generate::Numbers;
-use crate::roads::{Roads, full};
+use crate::roads::{Roads, full_options};
 use crate::texts::{GFM_TEXTS, TEXTS};
 use inline_states::reading::{read_text, read_text_in_ranges, resolved_text};
 use linked_list_allocator::LocalHeap;
@@ -49,7 +49,7 @@ fn is_same_in_heaps(rt: &HostRuntime, roads: &Roads, text: &str) -> Result<bool,
 
 #[test]
 fn contents_in_ranges(rt: HostRuntime) -> Result<(), Fail> {
-    let roads = Roads::new(&rt, full())?;
+    let roads = Roads::new(&rt, full_options())?;
     for text in TEXTS {
         assert!(rt; is_same_in_ranges(&rt, &roads, text)?);
     }
@@ -61,7 +61,7 @@ fn contents_in_ranges(rt: HostRuntime) -> Result<(), Fail> {
 
 #[test]
 fn contents_of_constructs_in_ranges(rt: HostRuntime) -> Result<(), Fail> {
-    let roads = Roads::new(&rt, full())?;
+    let roads = Roads::new(&rt, full_options())?;
     for contents in CONTENTS {
         for text in contents.split("\n\n") {
             assert!(rt; is_same_in_ranges(&rt, &roads, text)?);
@@ -72,7 +72,7 @@ fn contents_of_constructs_in_ranges(rt: HostRuntime) -> Result<(), Fail> {
 
 #[test]
 fn contents_at_random_in_ranges(rt: HostRuntime) -> Result<(), Fail> {
-    let roads = Roads::new(&rt, full())?;
+    let roads = Roads::new(&rt, full_options())?;
     let mut numbers = Numbers::from(5);
     for _count in 0..200 {
         let text = numbers.content(&rt, true)?;
@@ -83,7 +83,7 @@ fn contents_at_random_in_ranges(rt: HostRuntime) -> Result<(), Fail> {
 
 #[test]
 fn contents_in_heaps(rt: HostRuntime) -> Result<(), Fail> {
-    let roads = Roads::new(&rt, full())?;
+    let roads = Roads::new(&rt, full_options())?;
     for text in GFM_TEXTS {
         assert!(rt; is_same_in_heaps(&rt, &roads, text)?);
     }
@@ -92,7 +92,7 @@ fn contents_in_heaps(rt: HostRuntime) -> Result<(), Fail> {
 
 #[test]
 fn contents_at_random_in_heaps(rt: HostRuntime) -> Result<(), Fail> {
-    let roads = Roads::new(&rt, full())?;
+    let roads = Roads::new(&rt, full_options())?;
     let mut numbers = Numbers::from(6);
     for _count in 0..20 {
         let text = numbers.content(&rt, true)?;

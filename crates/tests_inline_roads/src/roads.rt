@@ -1,5 +1,5 @@
 //! What comes of a content by either road.
-use crate::events::Read;
+use crate::events::Reading;
 use crate::rows;
 use crate::rows::push_check;
 use inline_content::whole_content;
@@ -20,7 +20,7 @@ const LABELS: [&str; 5] = ["a", "b c", "foo", "bar", "ref"];
 const FOOTNOTES: [&str; 3] = ["a", "^d", "x"];
 
 /// CommonMark, with strikethrough and math.
-pub fn plain() -> ParseOptions {
+pub fn plain_options() -> ParseOptions {
     ParseOptions {
         constructs: Constructs {
             gfm_strikethrough: true,
@@ -32,7 +32,7 @@ pub fn plain() -> ParseOptions {
 }
 
 /// GFM, with math.
-pub fn full() -> ParseOptions {
+pub fn full_options() -> ParseOptions {
     ParseOptions {
         constructs: Constructs {
             math_text: true,
@@ -120,12 +120,12 @@ impl Roads {
     pub fn by_events(&self, rt: &HostRuntime, text: &str) -> Result<Vec<u8>, Fail> {
         let state = self.state(rt.alloc(), text)?;
         let events = resolved_text(rt.alloc(), &state, &[0])?;
-        let read = Read {
+        let reading = Reading {
             events: &events,
             bytes: text.as_bytes(),
             labels: &self.labels,
         };
-        read.spelled(rt)
+        reading.spell(rt)
     }
 
     /// Whether a content is the same by both roads; where it isn't, it is printed.
@@ -135,14 +135,14 @@ impl Roads {
         if rows.as_slice() == events.as_slice() {
             return Ok(true);
         }
-        let rows = shown(&rows);
-        let events = shown(&events);
+        let rows = as_text(&rows);
+        let events = as_text(&events);
         println!(rt; "{text:?}\n  rows   {rows:?}\n  events {events:?}")?;
         Ok(false)
     }
 }
 
-fn shown(text: &[u8]) -> &str {
+fn as_text(text: &[u8]) -> &str {
     match str::from_utf8(text) {
         Ok(text) => text,
         Err(_) => "no UTF-8",

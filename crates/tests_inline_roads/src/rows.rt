@@ -45,6 +45,12 @@ pub fn push_literal(out: &mut Vec<u8>, kind: LiteralKind, text: &[u8]) -> Result
     }
 }
 
+/// An autolink, by what it leads to.
+pub fn push_autolink(out: &mut Vec<u8>, email: bool, text: &[u8]) -> Result<(), Fail> {
+    let name: &[u8] = if email { b"address " } else { b"autolink " };
+    push_part(out, name, text)
+}
+
 /// A check of a task list item.
 pub fn push_check(out: &mut Vec<u8>, done: bool) -> Result<(), Fail> {
     let sign: &[u8] = if done { b"x" } else { b"" };
@@ -80,7 +86,7 @@ fn push_leaf(out: &mut Vec<u8>, part: &LeafPart<'_>) -> Result<(), Fail> {
             out.extend_from_slice(text.as_bytes())?;
             Ok(())
         },
-        LeafPart::Autolink { text, .. } => push_part(out, b"autolink ", text.as_bytes()),
+        LeafPart::Autolink { email, text } => push_autolink(out, *email, text.as_bytes()),
         LeafPart::Literal { kind, text } => push_literal(out, *kind, text.as_bytes()),
         LeafPart::Html(text) => push_part(out, b"html ", text.as_bytes()),
         LeafPart::EscapedBreak => push_part(out, b"break", b"\\"),

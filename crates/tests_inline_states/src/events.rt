@@ -1,5 +1,6 @@
 //! Events of texts by CommonMark.
-use crate::display::{is_text, string_events};
+use crate::display::{is_text, resolved_events, string_events};
+use markdown_engine::ParseOptions;
 use std::test::Fail;
 
 #[test]
@@ -117,6 +118,21 @@ fn autolinks(rt: HostRuntime) -> Result<(), Fail> {
     );
     assert!(rt; is_text(&rt, b"<ab:c d>", "+Data0 -Data8 ")?);
     assert!(rt; is_text(&rt, b"<a@b->", "+Data0 -Data6 ")?);
+    Ok(())
+}
+
+/// A state cannot tell what begins with no scheme before its end, so a resolver names it.
+#[test]
+fn emails_in_autolinks(rt: HostRuntime) -> Result<(), Fail> {
+    let options = ParseOptions::default();
+    let out = resolved_events(&rt, &options, "", "", b"<a@b.c>")?;
+    let wanted = "+Autolink0 +AutolinkMarker0 -AutolinkMarker1 +AutolinkEmail1 -AutolinkEmail6 \
+         +AutolinkMarker6 -AutolinkMarker7 -Autolink7 ";
+    assert!(rt; out.as_str() == wanted);
+    let out = resolved_events(&rt, &options, "", "", b"<ab:c>")?;
+    let wanted = "+Autolink0 +AutolinkMarker0 -AutolinkMarker1 +AutolinkProtocol1 -AutolinkProtocol5 \
+         +AutolinkMarker5 -AutolinkMarker6 -Autolink6 ";
+    assert!(rt; out.as_str() == wanted);
     Ok(())
 }
 

@@ -12,6 +12,8 @@ mod gfm_examples;
 #[cfg(test)]
 mod gfm_footnote_definition;
 #[cfg(test)]
+mod gfm_footnote_options;
+#[cfg(test)]
 mod gfm_label_start_footnote;
 #[cfg(test)]
 mod gfm_task_list_item;

@@ -1,5 +1,6 @@
 -- The first line of a text, and the lines of what follows it.
-use Rattle.std.proofs.Common.{◌≡◌, ℕ, ◌+◌, ◌<◌, ◌≤◌, List, [], ◌∷◌, ◌++◌, Option, None, Some, false, cond, eqb, refl, sym, ap, ◌∙◌, subst, get_or, length, drop, take, arith, suc, not, inl, inr}
+use Rattle.std.proofs.Common.{◌≡◌, ℕ, ◌+◌, ◌<◌, ◌≤◌, List, [], ◌∷◌, ◌++◌, Option, None, Some, false, cond, eqb, refl, sym, ap, ◌∙◌, subst, get_or, length, drop}
+use Rattle.std.proofs.Common.{take, arith, suc, not, inl, inr}
 use Rattle.std.proofs.lemmas.Bool.{or_parts, eqb-true, cases_Bool, ne_eqb, cond-false, cond-true, cases_lt, or_cases}
 use Rattle.std.proofs.lemmas.List.{take-append-drop, drop_more, take_all, drop_all}
 use Rattle.std.specs.List.{position_or_len, prefix_len}
@@ -22,7 +23,8 @@ lines_after_return (b ∷ bs) other =
     cond-false (eqb b 10) _ _ no
 
 -- an empty line
-lines_of_ending : (text : List ℕ) (ending : LineEnding) (rest : List ℕ) → BeginsWithEnding text (Some ending) rest → lines text ≡ text_line [] (Some ending) ∷ lines rest
+lines_of_ending : (text : List ℕ) (ending : LineEnding) (rest : List ℕ) → BeginsWithEnding text (Some ending) rest
+    → lines text ≡ text_line [] (Some ending) ∷ lines rest
 lines_of_ending text CarriageReturnLineFeed rest h = ap lines h
 lines_of_ending text CarriageReturn rest h = ap lines h.0 ∙ lines_after_return rest h.1
 lines_of_ending text LineFeed rest h = ap lines h
@@ -58,7 +60,8 @@ content_ends_nowhere (b ∷ bs) =
     ]
 
 -- what follows the content of the first line begins with CR or LF, or there is nothing
-nothing_follows : (text : List ℕ) → BeginsOtherwise 10 (drop (position_or_len ends_line text) text) → BeginsOtherwise 13 (drop (position_or_len ends_line text) text)
+nothing_follows : (text : List ℕ) → BeginsOtherwise 10 (drop (position_or_len ends_line text) text)
+    → BeginsOtherwise 13 (drop (position_or_len ends_line text) text)
     → length text ≤ position_or_len ends_line text
 nothing_follows text no_feed no_return =
     let n = position_or_len ends_line text in

@@ -1,7 +1,7 @@
 //! Spaces and tabs (CommonMark 2.1).
 ghost use Rattle.std.specs.Prelude.{◌≡◌, ◌-◌, drop, take, length};
 ghost use Rattle.std.specs.List.{prefix_len, suffix_len};
-ghost use Rattle.definition_text.specs.Columns.{is_white, is_blank, whole, trimmed};
+ghost use Rattle.definition_text.specs.Columns.{is_white, is_blank, whole, trim};
 
 use text_bytes::is_space_or_tab;
 
@@ -14,7 +14,7 @@ pub fn is_blank(text: &str) -> bool
 
 /// A text without the spaces and tabs at both ends.
 pub fn trim(text: &str) -> &str
-    ensures { result.now ≡ trimmed text.now }
+    ensures { result.now ≡ trim text.now }
 {
     trim_end(trim_start(text))
 }

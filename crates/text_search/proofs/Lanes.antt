@@ -1,11 +1,13 @@
 -- From the mask of one load to the bytes of a set.
-use Rattle.std.proofs.Common.{◌≡◌, ℕ, ◌+◌, ◌*◌, ◌/◌, ◌%◌, ◌^◌, ◌<◌, Bool, true, false, not, ◌||◌, eqb, cond, List, [], ◌∷◌, map, length, get_or, replicate, bit_and, bit_or, w8, Fits, refl, sym, ap, ◌∙◌, arith}
+use Rattle.std.proofs.Common.{◌≡◌, ℕ, ◌+◌, ◌*◌, ◌/◌, ◌%◌, ◌^◌, ◌<◌, Bool, true, false, not, ◌||◌, eqb, cond, List, [], ◌∷◌, map, length, get_or, replicate}
+use Rattle.std.proofs.Common.{bit_and, bit_or, w8, Fits, refl, sym, ap, ◌∙◌, arith}
 use Rattle.std.proofs.lemmas.List.{get_or-map, length-map, ext_get_or}
 use Rattle.std.proofs.lemmas.Nat.{and_mask}
 use borrow.Rule.Simd.Lanes.{act2}
 use mir.Syntax.{shr, unsigned}
 use borrow.Table.Row.{s_int}
-use Rattle.std.proofs.lemmas.Simd.{Each1-all, Each1-weaker, Each1-get_or, Each1-zip2, Each2-splat, length-zip2, zip2_splat, zip2_of_maps, map-map, mask_l-mod, first_set_mask_l, swz_l, SwzOk, SwzOk-from_below, length-swz_l, get_or-swz_l_below}
+use Rattle.std.proofs.lemmas.Simd.{Each1-all, Each1-weaker, Each1-get_or, Each1-zip2, Each2-splat, length-zip2, zip2_splat, zip2_of_maps, map-map, mask_l-mod}
+use Rattle.std.proofs.lemmas.Simd.{first_set_mask_l, swz_l, SwzOk, SwzOk-from_below, length-swz_l, get_or-swz_l_below}
 use Rattle.std.specs.List.{prefix_len}
 use lib.Lanes.{zip2, mask_l, top, Each1}
 use Rattle.text_search.specs.declared.set.ByteSet.{ByteSet}
@@ -23,7 +25,8 @@ halves_are v long = zip2_splat bit_and v 16 15 long ∙ (λ i. map (λ x. and_ma
 pub halves_ok : (v : List ℕ) → length v ≡ 16 → SwzOk w8 16 16 0 (halves v)
 halves_ok v long =
     SwzOk-from_below w8 16 1 16 0 (halves v) refl (omega (arith, length-zip2 bit_and v (replicate 16 15) long))
-    (Each1-zip2 bit_and (λ j. j < 16) v (replicate 16 15) (Each2-splat (λ a b. bit_and a b < 16) v 16 15 (Each1-all (λ a. bit_and a 15 < 16) (λ a. omega (arith, and_mask a 4)) v)))
+    (Each1-zip2 bit_and (λ j. j < 16) v (replicate 16 15) (Each2-splat (λ a b. bit_and a b < 16) v 16 15
+    (Each1-all (λ a. bit_and a 15 < 16) (λ a. omega (arith, and_mask a 4)) v)))
 
 pub looked_up : (t v : List ℕ) → length v ≡ 16 → swz_l w8 16 t 0 (halves v) ≡ map (λ x. get_or t (x % 16) 0) v
 looked_up t v long =
@@ -52,7 +55,8 @@ either false false = refl
 
 -- lanes that are compared with what two functions make of them
 counted : (f g : ℕ → ℕ) (v fs gs : List ℕ) → length v ≡ 16 → fs ≡ map f v → gs ≡ map g v
-    → first_set (mask_l (map (top 7) (zip2 bit_or (zip2 compared v fs) (zip2 compared v gs))) % 2 ^ 64) 16 ≡ prefix_len (λ x. not (eqb x (f x) || eqb x (g x))) v
+    → first_set (mask_l (map (top 7) (zip2 bit_or (zip2 compared v fs) (zip2 compared v gs))) % 2 ^ 64) 16
+    ≡ prefix_len (λ x. not (eqb x (f x) || eqb x (g x))) v
 counted f g v fs gs long p q =
     let hit = λ (x : ℕ). eqb x (f x) || eqb x (g x) in
     let first = zip2_of_maps compared (λ x. x) f v (itself v) p in
@@ -62,7 +66,8 @@ counted f g v fs gs long p q =
     ∙ first_set_mask_l hit v 16 long (omega arith)
 
 -- the mask of the lanes whose bytes a set holds
-pub run_is : (set : ByteSet) (r : ℕ) (v fs gs : List ℕ) → length v ≡ 16 → fs ≡ map (λ x. get_or set.first (x % 16) 0) v → gs ≡ map (λ x. get_or set.second (x % 16) 0) v
+pub run_is : (set : ByteSet) (r : ℕ) (v fs gs : List ℕ) → length v ≡ 16 → fs ≡ map (λ x. get_or set.first (x % 16) 0) v
+    → gs ≡ map (λ x. get_or set.second (x % 16) 0) v
     → r ≡ first_set (mask_l (map (top 7) (zip2 bit_or (zip2 compared v fs) (zip2 compared v gs))) % 2 ^ 64) 16 → r ≡ prefix_len (λ x. not (holds set x)) v
 run_is set r v fs gs long p q is = is ∙ counted (λ x. get_or set.first (x % 16) 0) (λ x. get_or set.second (x % 16) 0) v fs gs long p q
 
@@ -73,7 +78,8 @@ compared_top true = refl
 compared_top false = refl
 
 -- the mask of the lanes whose bytes aren't of a class
-pub class_run_is : (class : ByteClass) (r : ℕ) (v fs gs : List ℕ) → length v ≡ 16 → fs ≡ map (λ x. get_or class.lower (x % 16) 0) v → gs ≡ map (λ x. get_or class.upper (x / 16) 0) v
+pub class_run_is : (class : ByteClass) (r : ℕ) (v fs gs : List ℕ) → length v ≡ 16 → fs ≡ map (λ x. get_or class.lower (x % 16) 0) v
+    → gs ≡ map (λ x. get_or class.upper (x / 16) 0) v
     → r ≡ first_set (mask_l (map (top 7) (zip2 compared (zip2 bit_and fs gs) (replicate 16 0))) % 2 ^ 64) 16 → r ≡ prefix_len (λ x. not (is_outside class x)) v
 class_run_is class r v fs gs long p q is =
     let both = λ (x : ℕ). bit_and (get_or class.lower (x % 16) 0) (get_or class.upper (x / 16) 0) in
@@ -83,7 +89,8 @@ class_run_is class r v fs gs long p q is =
     ∙ map-map (λ x. compared x 0) both v in
     let tops = ap (map (top 7)) zeros ∙ map-map (top 7) _ v ∙ (λ i. map (λ x. compared_top (eqb (both x) 0) i) v) in
     is
-    ∙ ap (λ m. first_set m 16) (ap (λ l. mask_l l % 2 ^ 64) tops ∙ mask_l-mod (map (is_outside class) v) 64 (omega (arith, length-map v (is_outside class), long)))
+    ∙ ap (λ m. first_set m 16) (ap (λ l. mask_l l % 2 ^ 64) tops ∙ mask_l-mod (map (is_outside class) v) 64
+    (omega (arith, length-map v (is_outside class), long)))
     ∙ first_set_mask_l (is_outside class) v 16 long (omega arith)
 
 -- the upper halves of lanes
@@ -102,7 +109,8 @@ upper_halves_are v long = zip2_splat shifted v 16 4 long ∙ (λ i. map (λ x. u
 pub upper_halves_ok : (v : List ℕ) → length v ≡ 16 → Each1 (Fits w8) v → SwzOk w8 16 16 0 (upper_halves v)
 upper_halves_ok v long fits =
     SwzOk-from_below w8 16 1 16 0 (upper_halves v) refl (omega (arith, length-zip2 shifted v (replicate 16 4) long))
-    (Each1-zip2 shifted (λ j. j < 16) v (replicate 16 4) (Each2-splat (λ a b. shifted a b < 16) v 16 4 (Each1-weaker (Fits w8) (λ a. shifted a 4 < 16) (λ a fit. let lt : a < 256 = fit.fits in omega (arith, upper_half a)) v fits)))
+    (Each1-zip2 shifted (λ j. j < 16) v (replicate 16 4) (Each2-splat (λ a b. shifted a b < 16) v 16 4
+    (Each1-weaker (Fits w8) (λ a. shifted a 4 < 16) (λ a fit. let lt : a < 256 = fit.fits in omega (arith, upper_half a)) v fits)))
 
 pub looked_up_by_upper : (t v : List ℕ) → length v ≡ 16 → Each1 (Fits w8) v → swz_l w8 16 t 0 (upper_halves v) ≡ map (λ x. get_or t (x / 16) 0) v
 looked_up_by_upper t v long fits =

@@ -13,7 +13,8 @@ first_by p q xs agree fits =
     (λ inside. sym (same (position_or_len p xs)) ∙ passes_at_first p xs 0 inside))
 
 -- how many bytes pass q, where q agrees with what p doesn't pass
-pub run_by : (p q : ℕ → Bool) (xs : List ℕ) → agree_below (λ b. not (p b)) q 256 ≡ true → ((k : ℕ) → Fits w8 (get_or xs k 0)) → position_or_len p xs ≡ prefix_len q xs
+pub run_by : (p q : ℕ → Bool) (xs : List ℕ) → agree_below (λ b. not (p b)) q 256 ≡ true → ((k : ℕ) → Fits w8 (get_or xs k 0))
+    → position_or_len p xs ≡ prefix_len q xs
 run_by p q [] agree fits = refl
 run_by p q (x ∷ xs) agree fits =
     let first : not (p x) ≡ q x = agree_below_at (λ b. not (p b)) q 256 x agree (fits 0).fits in

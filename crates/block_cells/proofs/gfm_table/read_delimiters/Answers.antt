@@ -13,7 +13,8 @@ loop-cell-preserved g c =
     let all = alignments_of (cells Whitespace (piece_line c.args.line).codes) in
     let found = c.in-Some.cell in
     let same = trimmed_columns found.line.owed found.line.text.now in
-    one_more all c.loop-cell.aligns.items (cell_view found) (cells_left c.loop-cell.cells) (cells_left c.next.new.self) c.in-Some-delimiter.align c.loop-cell.invariant
+    one_more all c.loop-cell.aligns.items (cell_view found) (cells_left c.loop-cell.cells)
+    (cells_left c.next.new.self) c.in-Some-delimiter.align c.loop-cell.invariant
     c.in-Some.ensures.steps (ap delimiter same ∙ sym (ap delimiter c.trim.ensures) ∙ sym c.delimiter.ensures ∙ c.in-Some-delimiter.is)
     ∙ ap (λ items. option_map (λ more. items ++ more) (alignments_of (cells_left c.next.new.self))) (sym c.in_ok-push-in-Some-delimiter.ensures.items)
 
@@ -23,5 +24,6 @@ returns-in-None g c =
     let found = c.in-Some.cell in
     let same = trimmed_columns found.line.owed found.line.text.now in
     c.clear-in-None.ensures.items
-    ∙ sym (no_row line (no_more (alignments_of (cells Whitespace line)) c.loop-cell.aligns.items (cell_view found) (cells_left c.loop-cell.cells) (cells_left c.next.new.self) c.loop-cell.invariant
+    ∙ sym (no_row line (no_more (alignments_of (cells Whitespace line)) c.loop-cell.aligns.items (cell_view found) (cells_left c.loop-cell.cells)
+    (cells_left c.next.new.self) c.loop-cell.invariant
     c.in-Some.ensures.steps (ap delimiter same ∙ sym (ap delimiter c.trim.ensures) ∙ sym c.delimiter.ensures ∙ c.in-None.is)))

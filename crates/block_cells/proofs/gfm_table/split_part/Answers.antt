@@ -24,7 +24,8 @@ returns-in-None c =
     let none = c.in-None.ensures.cases in
     after_columns line.owed line.before Whitespace (take (bar_at false t) t) t []
     (without_bar line.before false t (λ rest e. none rest (back ∙ e)))
-    ∙ ap (λ l. l ∷ []) (same_cell line.owed _ _ _ line.before _ Whitespace _ c.part.ensures.owed (c.part.ensures.line ∙ front) c.part.ensures.before c.part.ensures.after)
+    ∙ ap (λ l. l ∷ []) (same_cell line.owed _ _ _ line.before _ Whitespace _ c.part.ensures.owed
+    (c.part.ensures.line ∙ front) c.part.ensures.before c.part.ensures.after)
 
 pub returns-in-Some : goal.returns-in-Some
 unfolding lib.Utf8.encode

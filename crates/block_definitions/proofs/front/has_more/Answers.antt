@@ -29,7 +29,8 @@ loop-end-preserved c =
           let l = k.left clean is in
           let found = c.in-Some.ensures.found (subst AreLines (sym lines) l.clean) (bytes ∙ l.rest ∙ ap content_text (sym lines)) in
           left_after content ls at first end l
-          (subst (λ (x : List ℕ). EndsAt x (drop first ls) end) bytes (subst (λ (x : List BlockLine). EndsAt (take (length content - at) (drop at content)) x end) lines found));
+          (subst (λ (x : List ℕ). EndsAt x (drop first ls) end) bytes
+          (subst (λ (x : List BlockLine). EndsAt (take (length content - at) (drop at content)) x end) lines found));
     }
 
 pub returns : goal.returns
@@ -41,7 +42,8 @@ returns c = λ clean is.
     let l = k.left clean is in
     let lines = lines_from first c.args.lines.now in
     let none = c.in_default.ensures.found (subst AreLines (sym lines) l.clean) (take_rest content c.loop-end.at ∙ l.rest ∙ ap content_text (sym lines)) in
-    let nothing : definition_at (content_of (own_lines (drop first ls))) ≡ None = ap (λ (x : List BlockLine). definition_at (content_of (own_lines x))) (sym lines) ∙ none in
+    let nothing : definition_at (content_of (own_lines (drop first ls))) ≡ None =
+    ap (λ (x : List BlockLine). definition_at (content_of (own_lines x))) (sym lines) ∙ none in
     let count = length-map c.args.lines.now piece_line in
     ap (λ n. ltb first n) (sym count)
     ∙ some_left first ls (omega (arith, k.lines_within, count))

@@ -6,4 +6,5 @@ use Rattle.block_parser.proofs.parser.is_empty.Goals as goal
 
 pub returns-then-is_blank : goal.returns-then-is_blank
 returns-then-is_blank c = λ none.
-    quotes.empty_rest (rest_of c.args.rest) (sym c.is_blank.ensures ∙ c.if-is_blank.true) (omega (arith, eqb-true c.indent.result 0 none, c.indent.ensures.same))
+    quotes.empty_rest (rest_of c.args.rest) (sym c.is_blank.ensures ∙ c.if-is_blank.true)
+    (omega (arith, eqb-true c.indent.result 0 none, c.indent.ensures.same))

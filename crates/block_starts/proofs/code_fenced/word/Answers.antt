@@ -12,4 +12,5 @@ range-requires-clause-end_boundary c =
     let n = position_or_len is_white t in
     let e = c.word_len.ensures ∙ ap (position_or_len is_white) c.as_bytes.ensures.value in
     subst (IsCharBoundary t) (sym e)
-    (boundary_before t n (prefix_len-le-length (λ b. not (is_white b)) t) (λ lt. space_ascii (get_or t n 0) (omega (arith, c.type_inv.text n)) (passes_at_first is_white t 0 lt)))
+    (boundary_before t n (prefix_len-le-length (λ b. not (is_white b)) t) (λ lt. space_ascii (get_or t n 0) (omega (arith, c.type_inv.text n))
+    (passes_at_first is_white t 0 lt)))

@@ -5,8 +5,10 @@ use Rattle.block_starts.proofs.cursor.digits.Goals as goal
 
 pub returns-then-not-is_ascii_digit-clause-same : goal.returns-then-not-is_ascii_digit-clause-same
 returns-then-not-is_ascii_digit-clause-same c =
-    sym (prefix_len_is is_digit c.args.bytes.now c.loop-i.i 0 (omega arith) c.loop-i.invariant (λ _. sym c.is_ascii_digit.ensures.value ∙ c.if-not-is_ascii_digit.true))
+    sym (prefix_len_is is_digit c.args.bytes.now c.loop-i.i 0 (omega arith) c.loop-i.invariant
+    (λ _. sym c.is_ascii_digit.ensures.value ∙ c.if-not-is_ascii_digit.true))
 
 pub returns-clause-same : goal.returns-clause-same
 returns-clause-same c =
-    sym (prefix_len_is is_digit c.args.bytes.now (length c.args.bytes.now) 0 (omega arith) (λ k h. c.loop-i.invariant k (omega arith)) (λ h. absurd (omega arith)))
+    sym (prefix_len_is is_digit c.args.bytes.now (length c.args.bytes.now) 0 (omega arith) (λ k h. c.loop-i.invariant k (omega arith))
+    (λ h. absurd (omega arith)))

@@ -1,5 +1,7 @@
 use Rattle.std.proofs.Common.{sym, ap, ◌∙◌, Some, drop}
 use Rattle.std.proofs.lemmas.Bool.{cond-true}
+use Rattle.definition_text.specs.declared.beside.Kind.TheVariants.{Whitespace}
+use Rattle.definition_block.specs.ContainerLine.{container_line}
 use Rattle.definition_block.specs.ListItem.{is_inside}
 use Rattle.block_starts.specs.View.{rest_of}
 use Rattle.block_starts.proofs.MarkLemmas.{outdented_inside}
@@ -9,5 +11,5 @@ pub returns-then-is_inside : goal.returns-then-is_inside
 returns-then-is_inside c =
     let rest = rest_of c.args.rest in
     let inside = sym c.is_inside.ensures ∙ c.if-is_inside.true in
-    ap Some (c.outdented.ensures ∙ outdented_inside c.args.size c.args.began_blank rest inside)
-    ∙ sym (cond-true (is_inside c.args.size c.args.began_blank rest) (Some (drop c.args.size rest)) _ inside)
+    ap (λ left. Some (container_line left Whitespace)) (c.outdented.ensures ∙ outdented_inside c.args.size c.args.began_blank rest inside)
+    ∙ sym (cond-true (is_inside c.args.size c.args.began_blank rest) (Some (container_line (drop c.args.size rest) Whitespace)) _ inside)

@@ -9,6 +9,7 @@ use Rattle.block_rows.specs.Rows.{BlockRow, RowsValue, row_definitions, row_valu
 use Rattle.block_rows.proofs.DefinitionRows.{definitions_of}
 use Rattle.block_rows.proofs.RowSteps.{shown_more, taken_more, left_more}
 use Rattle.block_targets.specs.Read.{HasContents}
+use Rattle.block_targets.proofs.NoDefinition.{no_definitions}
 use Rattle.block_targets.proofs.contents.definition_contents.Goals as goal
 
 -- the definitions of one more row
@@ -51,3 +52,11 @@ returns g c = λ bs rows_are.
     subst (HasContents c.loop-row.contents)
     (ap (λ (rs : List Row). flat_map row_definitions (rows_value rs all).rows) whole ∙ ap (flat_map row_definitions) rows_are ∙ definitions_of bs)
     c.loop-row.invariant.so_far
+
+pub returns-then-not-has_definitions : goal.returns-then-not-has_definitions
+returns-then-not-has_definitions g c = λ bs rows_are.
+    let all = piece_lines c.args.pieces.now in
+    subst (HasContents c.in_ok-contents.contents)
+    (sym (no_definitions c.args.rows.now all (sym c.has_definitions.ensures ∙ c.if-not-has_definitions.true))
+    ∙ ap (flat_map row_definitions) rows_are ∙ definitions_of bs)
+    c.in_ok-contents.ensures

@@ -8,8 +8,9 @@ use Rattle.block_rows.specs.declared.row.Row.TheVariants.{Paragraph}
 use Rattle.definition_text.specs.BlockLines.{BlockLine}
 use Rattle.block_rows.specs.Rows.{BlockRow, RowsValue, row_value, piece_lines, piece_line, rows_value, row_size}
 use Rattle.block_rows.proofs.RowSteps.{shown_more, taken_more, left_more}
-use Rattle.block_targets.specs.GfmFootnoteDefinition.{HasNoted, are_bare_rows, is_bare_row, note_row, note_rows, nothing_noted}
+use Rattle.block_targets.specs.GfmFootnoteDefinition.{HasNoted, are_bare_rows, is_bare_row, note_row, note_rows, noted, nothing_noted}
 use Rattle.block_targets.proofs.Notes.{notes_of}
+use Rattle.block_targets.proofs.NoFootnote.{no_footnotes}
 use Rattle.block_targets.proofs.gfm_footnote_definition.document_footnotes.Goals as goal
 
 -- the last of some rows is bare, and so are those before it
@@ -54,3 +55,8 @@ returns g c = λ bs rows_are bare.
     let whole : take c.loop-row.row-index rows ≡ rows = take_all c.loop-row.row-index rows c.loop-row-test.false in
     let all_rows = ap (λ (rs : List Row). (rows_value rs all).rows) whole ∙ rows_are in
     subst (HasNoted c.loop-row.found) (ap note_rows all_rows ∙ notes_of bs [] []) (c.loop-row.invariant.so_far (ap are_bare_rows all_rows ∙ bare))
+
+pub returns-then-not-has_footnotes : goal.returns-then-not-has_footnotes
+returns-then-not-has_footnotes g c = λ bs rows_are bare.
+    let none = no_footnotes c.args.rows.now (piece_lines c.args.pieces.now) bs (sym c.has_footnotes.ensures ∙ c.if-not-has_footnotes.true) rows_are in
+    subst (λ names. HasNoted c.in_ok-found.found (noted names [])) (sym none) c.in_ok-found.ensures

@@ -11,6 +11,7 @@ loop-left-preserved g c =
     let rest : List ℕ = chunks_from (left - 1) events c.next_chunk-chunk.result in
     let one = one_chunk left events c.in-Some.at c.loop-left-test.true in
     let there : chunks_from left events c.loop-left.chunk ≡ c.in-Some.at ∷ rest =
-    ap (λ (z : Option ℕ). chunks_from left events z) c.in-Some.is ∙ (one ∙ ap (λ (z : Option ℕ). c.in-Some.at ∷ chunks_from (left - 1) events z) (sym c.next_chunk-chunk.ensures)) in
+    ap (λ (z : Option ℕ). chunks_from left events z) c.in-Some.is
+    ∙ (one ∙ ap (λ (z : Option ℕ). c.in-Some.at ∷ chunks_from (left - 1) events z) (sym c.next_chunk-chunk.ensures)) in
     ap (λ (z : List ℕ). z ++ rest) c.in_ok-push.ensures.items
     ∙ (append_assoc found (c.in-Some.at ∷ []) rest ∙ (ap (λ (z : List ℕ). found ++ z) (sym there) ∙ c.loop-left.invariant))

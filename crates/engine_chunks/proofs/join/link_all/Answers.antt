@@ -16,9 +16,13 @@ loop-index-preserved c =
     let now = c.loop-index.events in
     let i = c.loop-index.index in
     elim c.match-previous_chunk.branch [
-      | in-Some+then-previous-events w ↦ rw w.events-is (joins_on old now w.join_next.new.events i w.in-Some.previous _ c.loop-index-test.true c.loop-index.invariant (sym c.previous_chunk.ensures ∙ w.in-Some.is) w.join_next.ensures)
-      | in-Some+else-previous-events w ↦ rw w.events-is (past_joined old now i w.in-Some.previous _ c.loop-index-test.true c.loop-index.invariant (sym c.previous_chunk.ensures ∙ w.in-Some.is) (let low = w.if-previous-events.false in omega (arith, low)))
-      | in_default w ↦ rw w.events-is (stays_joined old now i _ c.loop-index-test.true c.loop-index.invariant (sym c.previous_chunk.ensures ∙ is_none c.previous_chunk.result w.in_default.not-Some))
+      | in-Some+then-previous-events w ↦ rw w.events-is
+          (joins_on old now w.join_next.new.events i w.in-Some.previous _ c.loop-index-test.true c.loop-index.invariant
+          (sym c.previous_chunk.ensures ∙ w.in-Some.is) w.join_next.ensures)
+      | in-Some+else-previous-events w ↦ rw w.events-is (past_joined old now i w.in-Some.previous _ c.loop-index-test.true c.loop-index.invariant
+          (sym c.previous_chunk.ensures ∙ w.in-Some.is) (let low = w.if-previous-events.false in omega (arith, low)))
+      | in_default w ↦ rw w.events-is (stays_joined old now i _ c.loop-index-test.true c.loop-index.invariant
+          (sym c.previous_chunk.ensures ∙ is_none c.previous_chunk.result w.in_default.not-Some))
     ]
 
 pub returns : goal.returns

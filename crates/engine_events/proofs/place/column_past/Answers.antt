@@ -4,7 +4,8 @@ use Rattle.engine_events.proofs.Columns.{step, fits, whole}
 use Rattle.engine_events.proofs.place.column_past.Goals as goal
 
 pub column_after-column-requires : goal.column_after-column-requires
-column_after-column-requires c = fits c.loop-byte.byte-index c.loop-byte.column (column_past c.args.bytes.now c.args.column) c.args.bytes.now c.loop-byte-test.true c.loop-byte.invariant c.requires
+column_after-column-requires c = fits c.loop-byte.byte-index c.loop-byte.column
+    (column_past c.args.bytes.now c.args.column) c.args.bytes.now c.loop-byte-test.true c.loop-byte.invariant c.requires
 
 pub loop-byte-preserved : goal.loop-byte-preserved
 loop-byte-preserved c =
@@ -12,4 +13,5 @@ loop-byte-preserved c =
     ∙ (sym (step c.loop-byte.byte-index c.loop-byte.column c.args.bytes.now c.loop-byte-test.true) ∙ c.loop-byte.invariant)
 
 pub returns : goal.returns
-returns c = whole c.loop-byte.byte-index c.loop-byte.column (column_past c.args.bytes.now c.args.column) c.args.bytes.now c.loop-byte-test.false c.loop-byte.invariant
+returns c = whole c.loop-byte.byte-index c.loop-byte.column (column_past c.args.bytes.now c.args.column) c.args.bytes.now c.loop-byte-test.false
+    c.loop-byte.invariant

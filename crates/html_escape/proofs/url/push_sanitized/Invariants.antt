@@ -1,5 +1,5 @@
 use Rattle.std.proofs.Common.{◌≡◌, ◌++◌, ℕ, string_bytes, ◌-◌, ◌≤◌, ◌<◌, get_or, length, take, drop}
-use Rattle.definition_page.specs.Urls.{sanitized}
+use Rattle.definition_page.specs.Urls.{sanitize}
 use Rattle.html_escape.proofs.Waiting.{IsPrintedAt}
 use Rattle.html_escape.proofs.url.push_sanitized.Given as goal
 
@@ -9,7 +9,7 @@ invariant-loop-at g l = record {
   in_order : l.start ≤ l.at;
   within : l.at ≤ length l.url;
   kept : (k : ℕ) → l.start ≤ k → k < l.at → get_or l.url k 0 < 128;
-  printed : IsPrintedAt sanitized l.url (string_bytes l.initial.out) (string_bytes l.out) l.start l.at;
+  printed : IsPrintedAt sanitize l.url (string_bytes l.initial.out) (string_bytes l.out) l.start l.at;
 }
 
 abbrev pub decreases-loop-at : goal.decreases-loop-at

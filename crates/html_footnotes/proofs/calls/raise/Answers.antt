@@ -4,4 +4,5 @@ use Rattle.html_footnotes.proofs.calls.raise.Goals as goal
 
 pub returns-clause-raised : goal.returns-clause-raised
 returns-clause-raised g c =
-    λ d. row_raised c.args.called.now.items c.args.at c.index_mut.result.now c.index.result.now c.in_ok-count.count d (omega arith) c.index_mut.ensures.value c.index.ensures c.in_ok-count.ensures
+    λ d. row_raised c.args.called.now.items c.args.at c.index_mut.result.now c.index.result.now c.in_ok-count.count d
+    (omega arith) c.index_mut.ensures.value c.index.ensures c.in_ok-count.ensures

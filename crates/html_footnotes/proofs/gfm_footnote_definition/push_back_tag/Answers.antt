@@ -19,5 +19,6 @@ returns g c =
     ∙ ap (λ x. x ++ (end ++ arrow))
     (c.in_ok-push_encoded.ensures
     ∙ ap (λ t. string_bytes c.push_str-2.new.self ++ encode t) c.text_or.ensures
-    ∙ ap (λ x. x ++ encode text) (c.in_ok-push_str-2.ensures.bytes ∙ ap (λ x. x ++ between) (c.in_ok-push_call_id.ensures ∙ ap (λ x. x ++ call) c.in_ok-push_str.ensures.bytes)))
+    ∙ ap (λ x. x ++ encode text) (c.in_ok-push_str-2.ensures.bytes ∙ ap (λ x. x ++ between)
+    (c.in_ok-push_call_id.ensures ∙ ap (λ x. x ++ call) c.in_ok-push_str.ensures.bytes)))
     ∙ six start link call between (encode text) end arrow

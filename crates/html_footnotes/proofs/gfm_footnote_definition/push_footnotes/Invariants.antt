@@ -9,4 +9,5 @@ use Rattle.html_footnotes.proofs.gfm_footnote_definition.push_footnotes.Given as
 -- the footnotes so far are printed
 abbrev pub invariant-loop-note : goal.invariant-loop-note
 invariant-loop-note g l =
-    string_bytes l.out ≡ fold (print (ending_bytes l.ending)) (string_bytes l.initial.out) (footnotes_pieces l.compile (map note_view (take l.note-index l.notes)))
+    string_bytes l.out ≡ fold (print (ending_bytes l.ending)) (string_bytes l.initial.out)
+    (footnotes_pieces l.compile (map note_view (take l.note-index l.notes)))

@@ -20,7 +20,8 @@ returns g c =
     c.in_ok-push_str-2.ensures.bytes
     ∙ ap (λ x. x ++ codes "<ol>")
     (c.in_ok-push_fresh-2.ensures
-    ∙ ap (λ x. out x Fresh) (c.in_ok-push_heading.ensures ∙ ap (λ x. x ++ heading) (c.in_ok-push_str.ensures.bytes ∙ ap (λ x. x ++ section) c.in_ok-push_fresh.ensures))) in
+    ∙ ap (λ x. out x Fresh) (c.in_ok-push_heading.ensures ∙ ap (λ x. x ++ heading)
+    (c.in_ok-push_str.ensures.bytes ∙ ap (λ x. x ++ section) c.in_ok-push_fresh.ensures))) in
     let after_notes : string_bytes c.push_fresh-5.new.out ≡ fold out (string_bytes c.push_footnotes.new.out) after =
     c.in_ok-push_fresh-5.ensures
     ∙ ap (λ x. out x Fresh)

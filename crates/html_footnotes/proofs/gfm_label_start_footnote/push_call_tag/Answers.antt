@@ -16,5 +16,6 @@ returns g c =
     c.in_ok-push_str-3.ensures.bytes
     ∙ ap (λ x. x ++ end)
     (c.in_ok-push_call_id.ensures
-    ∙ ap (λ x. x ++ call) (c.in_ok-push_str-2.ensures.bytes ∙ ap (λ x. x ++ between) (c.in_ok-push_footnote_id.ensures ∙ ap (λ x. x ++ id) c.in_ok-push_str.ensures.bytes)))
+    ∙ ap (λ x. x ++ call) (c.in_ok-push_str-2.ensures.bytes ∙ ap (λ x. x ++ between)
+    (c.in_ok-push_footnote_id.ensures ∙ ap (λ x. x ++ id) c.in_ok-push_str.ensures.bytes)))
     ∙ five start link id between call end

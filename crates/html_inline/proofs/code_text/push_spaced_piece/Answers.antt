@@ -3,7 +3,7 @@ use Rattle.std.specs.List.{prefix_len}
 use Rattle.std.proofs.lemmas.List.{length-drop}
 use Rattle.definition_text.specs.Content.{content_codes}
 use Rattle.definition_inline.specs.Strings.{begins_with_eol}
-use Rattle.html_inline.specs.CodeBytes.{is_in_line, spaced}
+use Rattle.html_inline.specs.CodeBytes.{is_in_line, spaces_for_endings}
 use Rattle.html_inline.proofs.InLine.{line_boundary, line_some, line_spaced}
 use Rattle.html_inline.proofs.code_text.push_spaced_piece.Goals as goal
 
@@ -23,10 +23,10 @@ returns-clause-printed g c =
     let n = c.line_size-size.result in
     let size : n ≡ prefix_len is_in_line xs = c.line_size-size.ensures ∙ ap (prefix_len is_in_line) c.as_bytes-2.ensures.value in
     let out = string_bytes c.args.out.now in
-    ap (λ s. s ++ spaced c.range_from.result.now) c.in_ok-push_str-2.ensures.bytes
-    ∙ append_assoc out c.text_before.result.now (spaced c.range_from.result.now)
-    ∙ ap (λ s. out ++ (s ++ spaced c.range_from.result.now)) c.text_before.ensures
-    ∙ ap (λ s. out ++ (take n xs ++ spaced s)) c.range_from.ensures.value
+    ap (λ s. s ++ spaces_for_endings c.range_from.result.now) c.in_ok-push_str-2.ensures.bytes
+    ∙ append_assoc out c.text_before.result.now (spaces_for_endings c.range_from.result.now)
+    ∙ ap (λ s. out ++ (s ++ spaces_for_endings c.range_from.result.now)) c.text_before.ensures
+    ∙ ap (λ s. out ++ (take n xs ++ spaces_for_endings s)) c.range_from.ensures.value
     ∙ ap (λ s. out ++ s) (sym (line_spaced n xs (λ k. omega (arith, c.type_inv.code k)) (omega (arith, size))))
 
 pub returns-clause-shorter : goal.returns-clause-shorter

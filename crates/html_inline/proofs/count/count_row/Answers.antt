@@ -16,8 +16,12 @@ use Rattle.html_inline.proofs.count.count_row.Goals as goal
 pub returns-in-Call : goal.returns-in-Call
 returns-in-Call g c = λ meaning at default held.
     let codes = content_codes c.in-Call.label.now in
-    subst (λ (row : InlineRow). OnOk c.count_call.result (output_view c.count_call.new.out ≡ fold (lay meaning.compile default) (output_view c.args.out.now) (rows_counts meaning (row_view at row))))
-    (sym c.in-Call.is) (subst (λ ps. OnOk c.count_call.result (output_view c.count_call.new.out ≡ fold (lay meaning.compile default) (output_view c.args.out.now) ps)) (sym (append-nil (count_at (first_match codes meaning.footnotes) (normal_label codes)))) (c.count_call.ensures meaning.compile default meaning.footnotes held))
+    subst (λ (row : InlineRow). OnOk c.count_call.result (output_view c.count_call.new.out
+    ≡ fold (lay meaning.compile default) (output_view c.args.out.now) (rows_counts meaning (row_view at row))))
+    (sym c.in-Call.is) (subst (λ ps. OnOk c.count_call.result (output_view c.count_call.new.out
+    ≡ fold (lay meaning.compile default) (output_view c.args.out.now) ps))
+    (sym (append-nil (count_at (first_match codes meaning.footnotes) (normal_label codes))))
+    (c.count_call.ensures meaning.compile default meaning.footnotes held))
 
 pub returns-in-Text : goal.returns-in-Text
 returns-in-Text g c = λ meaning at default held.

@@ -9,7 +9,7 @@ use Rattle.inline_rows.specs.InlineRows as rows_of
 use Rattle.inline_rows.specs.declared.row.InlineRow.{InlineRow}
 use Rattle.inline_rows.specs.View.{rows_view}
 use Rattle.html_inline.specs.Counts.{rows_counts}
-use Rattle.html_inline.specs.Opens.{place_linked}
+use Rattle.html_inline.specs.Opens.{place_target}
 use Rattle.html_inline.proofs.Counts.{counts_more, rows_counted, shown_counts}
 use Rattle.html_inline.proofs.count.count_rows.Goals as goal
 
@@ -17,15 +17,16 @@ pub loop-row-preserved : goal.loop-row-preserved
 loop-row-preserved g c = λ definition footnotes default held.
     let p = c.args.printing.now in
     let meaning = inline_meaning p.on.now p.compile.now (g.T.Tables.reference_of p.tables.now) definition footnotes in
-    let at = place_linked p.definitions.now in
-    counts_more meaning at default c.args.rows.now c.loop-row.row-index _ (output_view c.args.out.now) (output_view c.loop-row.out) (output_view c.count_row.new.out) c.loop-row-test.true
+    let at = place_target p.definitions.now in
+    counts_more meaning at default c.args.rows.now c.loop-row.row-index _ (output_view c.args.out.now) (output_view c.loop-row.out)
+    (output_view c.count_row.new.out) c.loop-row-test.true
     (c.loop-row.invariant definition footnotes default held) (c.in_ok-count_row.ensures meaning at default held)
 
 pub returns : goal.returns
 returns g c = λ definition footnotes default is held rows_are.
     let p = c.args.printing.now in
     let meaning = inline_meaning p.on.now p.compile.now (g.T.Tables.reference_of p.tables.now) definition footnotes in
-    let at = place_linked p.definitions.now in
+    let at = place_target p.definitions.now in
     let rows = c.args.rows.now in
     let laid = fold (lay meaning.compile default) (output_view c.args.out.now) in
     let whole : take c.loop-row.row-index rows ≡ rows = take_all c.loop-row.row-index rows c.loop-row-test.false in

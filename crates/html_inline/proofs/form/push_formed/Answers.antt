@@ -1,6 +1,6 @@
 use Rattle.std.proofs.Common.{◌≡◌, ◌++◌, List, ℕ, string_bytes, sym, ap, ◌∙◌, subst, rules}
 use Rattle.std.specs.Prelude.{OnOk}
-use Rattle.html_inline.specs.Forms.{formed}
+use Rattle.html_inline.specs.Forms.{form_bytes}
 use Rattle.html_inline.proofs.FormedText.{formed_bytes}
 use Rattle.html_inline.proofs.form.push_formed.Goals as goal
 
@@ -9,4 +9,4 @@ returns-in-Bytes g c =
     let text = c.args.text.now in
     let printed : OnOk c.push_str.result (string_bytes c.push_str.new.self ≡ string_bytes c.args.out.now ++ text) = search rules in
     subst (λ (s : List ℕ). OnOk c.push_str.result (string_bytes c.push_str.new.self ≡ string_bytes c.args.out.now ++ s))
-    (sym (ap (λ f. formed f text) c.in-Bytes.is ∙ formed_bytes text)) printed
+    (sym (ap (λ f. form_bytes f text) c.in-Bytes.is ∙ formed_bytes text)) printed

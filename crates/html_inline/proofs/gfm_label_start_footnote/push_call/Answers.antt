@@ -8,7 +8,7 @@ use Rattle.html_bytes.specs.Layout.{lay}
 use Rattle.html_bytes.specs.Pieces.{CallOf, CountOf}
 use Rattle.html_footnotes.specs.Output.{output_view}
 use Rattle.html_inline.specs.declared.stack.OpenPart.{OpenPart}
-use Rattle.html_inline.specs.Opens.{opened_view, place_linked}
+use Rattle.html_inline.specs.Opens.{opened_view, place_target}
 use Rattle.html_inline.specs.Printed.{is_described}
 use Rattle.html_inline.proofs.FootnoteCalls.{uncalled, counted, called}
 use Rattle.html_inline.proofs.gfm_label_start_footnote.push_call.Goals as goal
@@ -17,28 +17,30 @@ pub returns-in-None-clause-laid : goal.returns-in-None-clause-laid
 returns-in-None-clause-laid g c = λ definition footnotes rows held.
     let p = c.args.printing.now in
     let meaning = inline_meaning p.on.now p.compile.now (g.T.Tables.reference_of p.tables.now) definition footnotes in
-    let view = opened_view meaning (place_linked p.definitions.now) rows in
+    let view = opened_view meaning (place_target p.definitions.now) rows in
     let label = content_codes c.args.label.now in
     let normalized : c.as_str-label.result.now ≡ normal_label label =
     c.as_str-label.ensures.value ∙ c.in_ok-normalize_label.ensures ∙ ap (λ (s : List ℕ). normal_label (content_codes s)) c.as_bytes.ensures.value in
-    let found : first_match label footnotes ≡ c.find_normal.result = ap (λ (n : List ℕ). place_of n (map normal_label footnotes)) (sym normalized) ∙ sym (c.find_normal.ensures footnotes held) in
+    let found : first_match label footnotes ≡ c.find_normal.result =
+    ap (λ (n : List ℕ). place_of n (map normal_label footnotes)) (sym normalized) ∙ sym (c.find_normal.ensures footnotes held) in
     uncalled meaning (is_described (map view (reverse c.args.scratch.now.stack.items))) label (output_view c.args.out.now) (found ∙ c.in-None.is)
 
 pub returns-then-is_described-clause-laid : goal.returns-then-is_described-clause-laid
 returns-then-is_described-clause-laid g c = λ definition footnotes rows held.
     let p = c.args.printing.now in
     let meaning = inline_meaning p.on.now p.compile.now (g.T.Tables.reference_of p.tables.now) definition footnotes in
-    let view = opened_view meaning (place_linked p.definitions.now) rows in
+    let view = opened_view meaning (place_target p.definitions.now) rows in
     let described = is_described (map view (reverse c.args.scratch.now.stack.items)) in
     let label = content_codes c.args.label.now in
     let normal = c.as_str-label.result.now in
     let out = output_view c.args.out.now in
     let normalized : normal ≡ normal_label label =
     c.as_str-label.ensures.value ∙ c.in_ok-normalize_label.ensures ∙ ap (λ (s : List ℕ). normal_label (content_codes s)) c.as_bytes.ensures.value in
-    let found : first_match label footnotes ≡ c.find_normal.result = ap (λ (n : List ℕ). place_of n (map normal_label footnotes)) (sym normalized) ∙ sym (c.find_normal.ensures footnotes held) in
+    let found : first_match label footnotes ≡ c.find_normal.result =
+    ap (λ (n : List ℕ). place_of n (map normal_label footnotes)) (sym normalized) ∙ sym (c.find_normal.ensures footnotes held) in
     let h : described ≡ true =
     ap (λ (s : List OpenPart). is_described (map view (reverse s))) (sym c.as_slice.ensures.value)
-    ∙ sym (c.is_described.ensures meaning (place_linked p.definitions.now) rows)
+    ∙ sym (c.is_described.ensures meaning (place_target p.definitions.now) rows)
     ∙ c.if-is_described.true in
     on_ok_weaker c.count.result (λ (e : output_view c.count.new.self ≡ lay p.compile.now [] out (CountOf c.in-Some.place normal)).
     e ∙ counted meaning described label out c.in-Some.place normal h normalized (found ∙ c.in-Some.is))
@@ -48,17 +50,18 @@ pub returns-else-is_described-clause-laid : goal.returns-else-is_described-claus
 returns-else-is_described-clause-laid g c = λ definition footnotes rows held.
     let p = c.args.printing.now in
     let meaning = inline_meaning p.on.now p.compile.now (g.T.Tables.reference_of p.tables.now) definition footnotes in
-    let view = opened_view meaning (place_linked p.definitions.now) rows in
+    let view = opened_view meaning (place_target p.definitions.now) rows in
     let described = is_described (map view (reverse c.args.scratch.now.stack.items)) in
     let label = content_codes c.args.label.now in
     let normal = c.as_str-label.result.now in
     let out = output_view c.args.out.now in
     let normalized : normal ≡ normal_label label =
     c.as_str-label.ensures.value ∙ c.in_ok-normalize_label.ensures ∙ ap (λ (s : List ℕ). normal_label (content_codes s)) c.as_bytes.ensures.value in
-    let found : first_match label footnotes ≡ c.find_normal.result = ap (λ (n : List ℕ). place_of n (map normal_label footnotes)) (sym normalized) ∙ sym (c.find_normal.ensures footnotes held) in
+    let found : first_match label footnotes ≡ c.find_normal.result =
+    ap (λ (n : List ℕ). place_of n (map normal_label footnotes)) (sym normalized) ∙ sym (c.find_normal.ensures footnotes held) in
     let h : described ≡ false =
     ap (λ (s : List OpenPart). is_described (map view (reverse s))) (sym c.as_slice.ensures.value)
-    ∙ sym (c.is_described.ensures meaning (place_linked p.definitions.now) rows)
+    ∙ sym (c.is_described.ensures meaning (place_target p.definitions.now) rows)
     ∙ c.if-is_described.false in
     on_ok_weaker c.call.result (λ (e : output_view c.call.new.self ≡ lay p.compile.now [] out (CallOf c.in-Some.place normal)).
     e ∙ called meaning described label out c.in-Some.place normal h normalized (found ∙ c.in-Some.is))

@@ -19,7 +19,8 @@ loop-rest-preserved g c =
       ap (λ s. s ++ after) c.in_ok-rest-2.ensures.printed
           ∙ append_assoc out front after
           ∙ ap (λ ls. out ++ (front ++ flat_map (later_line_bytes options) ls)) c.in_ok-rest-2.ensures.rest
-          ∙ ap (λ cs. out ++ (first_bytes options (html_lines cs) ++ flat_map (later_line_bytes options) (drop 1 (html_lines cs)))) c.without_indent.ensures.codes
+          ∙ ap (λ cs. out ++ (first_bytes options (html_lines cs) ++ flat_map (later_line_bytes options) (drop 1 (html_lines cs))))
+          c.without_indent.ensures.codes
           ∙ ap (λ s. out ++ s) (sym (later_printed options (content_codes c.loop-rest.rest.now)))
           ∙ c.loop-rest.invariant.1,
     )

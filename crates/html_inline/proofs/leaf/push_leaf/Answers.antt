@@ -4,7 +4,7 @@ use Rattle.std.specs.List.{flat_map}
 use Rattle.html_bytes.specs.InlineHtml.{part_html}
 use Rattle.html_bytes.specs.Meaning.{inline_meaning}
 use Rattle.inline_leaves.specs.Leaves.{parts_of}
-use Rattle.html_inline.specs.GfmTable.{part_shown}
+use Rattle.html_inline.specs.GfmTable.{inline_in_cell}
 use Rattle.html_inline.proofs.LeafTexts.{data_html, escapes_html}
 use Rattle.html_inline.proofs.leaf.push_leaf.Goals as goal
 
@@ -14,7 +14,8 @@ returns-in-Escape g c = λ definition footnotes.
     let cell = p.cell in
     let meaning = inline_meaning p.on.now p.compile.now (g.T.Tables.reference_of p.tables.now) definition footnotes in
     subst (λ (s : List ℕ). OnOk c.push_encoded.result (string_bytes c.push_encoded.new.out ≡ string_bytes c.args.out.now ++ s))
-    (sym (ap (λ p. flat_map (part_html meaning) (map (part_shown cell) (parts_of p))) c.in-Escape.is ∙ escapes_html cell meaning c.in-Escape.text.now)) c.push_encoded.ensures
+    (sym (ap (λ p. flat_map (part_html meaning) (map (inline_in_cell cell) (parts_of p))) c.in-Escape.is ∙ escapes_html cell meaning c.in-Escape.text.now))
+    c.push_encoded.ensures
 
 pub returns-in-Unclosed : goal.returns-in-Unclosed
 returns-in-Unclosed g c = λ definition footnotes.
@@ -22,4 +23,5 @@ returns-in-Unclosed g c = λ definition footnotes.
     let cell = p.cell in
     let meaning = inline_meaning p.on.now p.compile.now (g.T.Tables.reference_of p.tables.now) definition footnotes in
     subst (λ (s : List ℕ). OnOk c.push_encoded-in-Unclosed.result (string_bytes c.push_encoded-in-Unclosed.new.out ≡ string_bytes c.args.out.now ++ s))
-    (sym (ap (λ p. flat_map (part_html meaning) (map (part_shown cell) (parts_of p))) c.in-Unclosed.is ∙ data_html cell meaning c.in-Unclosed.text.now)) c.push_encoded-in-Unclosed.ensures
+    (sym (ap (λ p. flat_map (part_html meaning) (map (inline_in_cell cell) (parts_of p))) c.in-Unclosed.is ∙ data_html cell meaning c.in-Unclosed.text.now))
+    c.push_encoded-in-Unclosed.ensures

@@ -4,8 +4,8 @@ use Rattle.html_bytes.specs.Meaning.{inline_meaning}
 use Rattle.html_footnotes.specs.Output.{output_view}
 use Rattle.html_inline.specs.declared.stack.OpenPart.{OpenPart}
 use Rattle.html_inline.specs.declared.stack.OpenPart.TheVariants as open_part
-use Rattle.html_inline.specs.Opens.{opened_view, place_linked}
-use Rattle.html_inline.specs.Printed.{opened, is_described}
+use Rattle.html_inline.specs.Opens.{opened_view, place_target}
+use Rattle.html_inline.specs.Printed.{new_part, is_described}
 use Rattle.html_bytes.specs.InlineHtml.{link_tag}
 use Rattle.inline_rows.specs.View.{target_linked}
 use Rattle.html_inline.proofs.OpenStack.{entered, entered_silent}
@@ -15,24 +15,28 @@ pub returns-then-is_described : goal.returns-then-is_described
 returns-then-is_described g c = λ definition footnotes rows.
     let p = c.args.printing.now in
     let meaning = inline_meaning p.on.now p.compile.now (g.T.Tables.reference_of p.tables.now) definition footnotes in
-    let at = place_linked p.definitions.now in
+    let at = place_target p.definitions.now in
     let linked = target_linked at c.args.target in
     let view = opened_view meaning at rows in
     let items = c.args.scratch.now.stack.items in
     let h : is_described (map view (reverse items)) ≡ true =
-    ap (λ (s : List OpenPart). is_described (map view (reverse s))) (sym c.as_slice.ensures.value) ∙ sym (c.is_described.ensures meaning at rows) ∙ c.if-is_described.true in
-    entered_silent view (link_tag meaning linked) (opened false (codes "</a>")) (output_view c.args.out.now) items c.push.new.self.items refl c.in_ok-push.ensures.items h
+    ap (λ (s : List OpenPart). is_described (map view (reverse s))) (sym c.as_slice.ensures.value) ∙ sym (c.is_described.ensures meaning at rows)
+    ∙ c.if-is_described.true in
+    entered_silent view (link_tag meaning linked) (new_part false (codes "</a>"))
+    (output_view c.args.out.now) items c.push.new.self.items refl c.in_ok-push.ensures.items h
 
 pub returns : goal.returns
 returns g c = λ definition footnotes rows.
     let p = c.args.printing.now in
     let meaning = inline_meaning p.on.now p.compile.now (g.T.Tables.reference_of p.tables.now) definition footnotes in
-    let at = place_linked p.definitions.now in
+    let at = place_target p.definitions.now in
     let linked = target_linked at c.args.target in
     let view = opened_view meaning at rows in
     let items = c.args.scratch.now.stack.items in
     let out = output_view c.args.out.now in
     let h : is_described (map view (reverse items)) ≡ false =
-    ap (λ (s : List OpenPart). is_described (map view (reverse s))) (sym c.as_slice.ensures.value) ∙ sym (c.is_described.ensures meaning at rows) ∙ c.if-is_described.false in
-    entered view (link_tag meaning linked) (opened false (codes "</a>")) out (string_bytes c.push_link_start.new.out) items c.push-2.new.self.items
-    (open_part.Link) refl c.in_ok-push-2.ensures.items h (c.in_ok-push_link_start.ensures definition footnotes ∙ ap (λ linked. out.text ++ link_tag meaning linked) c.linked_at-linked.ensures)
+    ap (λ (s : List OpenPart). is_described (map view (reverse s))) (sym c.as_slice.ensures.value) ∙ sym (c.is_described.ensures meaning at rows)
+    ∙ c.if-is_described.false in
+    entered view (link_tag meaning linked) (new_part false (codes "</a>")) out (string_bytes c.push_link_start.new.out) items c.push-2.new.self.items
+    (open_part.Link) refl c.in_ok-push-2.ensures.items h (c.in_ok-push_link_start.ensures definition footnotes
+    ∙ ap (λ linked. out.text ++ link_tag meaning linked) c.linked_at-linked.ensures)

@@ -5,7 +5,7 @@ use Rattle.html_footnotes.specs.Output.{output_view}
 use Rattle.html_inline.specs.declared.stack.OpenPart.{OpenPart}
 use Rattle.html_inline.specs.declared.stack.OpenPart.TheVariants as open_part
 use Rattle.html_inline.specs.Opens.{opened_view}
-use Rattle.html_inline.specs.Printed.{opened, is_described, span_start, span_end}
+use Rattle.html_inline.specs.Printed.{new_part, is_described, span_start, span_end}
 use Rattle.html_inline.proofs.OpenStack.{entered, entered_silent}
 use Rattle.html_inline.proofs.rows.enter_span.Goals as goal
 
@@ -14,8 +14,10 @@ returns-then-is_described g c = λ meaning at rows.
     let view = opened_view meaning at rows in
     let items = c.args.scratch.now.stack.items in
     let h : is_described (map view (reverse items)) ≡ true =
-    ap (λ (s : List OpenPart). is_described (map view (reverse s))) (sym c.as_slice.ensures.value) ∙ sym (c.is_described.ensures meaning at rows) ∙ c.if-is_described.true in
-    entered_silent view (span_start (span_view c.args.span)) (opened false (span_end (span_view c.args.span))) (output_view c.args.out.now) items c.push.new.self.items refl c.in_ok-push.ensures.items h
+    ap (λ (s : List OpenPart). is_described (map view (reverse s))) (sym c.as_slice.ensures.value) ∙ sym (c.is_described.ensures meaning at rows)
+    ∙ c.if-is_described.true in
+    entered_silent view (span_start (span_view c.args.span)) (new_part false (span_end (span_view c.args.span)))
+    (output_view c.args.out.now) items c.push.new.self.items refl c.in_ok-push.ensures.items h
 
 pub returns : goal.returns
 returns g c = λ meaning at rows.
@@ -23,6 +25,8 @@ returns g c = λ meaning at rows.
     let items = c.args.scratch.now.stack.items in
     let out = output_view c.args.out.now in
     let h : is_described (map view (reverse items)) ≡ false =
-    ap (λ (s : List OpenPart). is_described (map view (reverse s))) (sym c.as_slice.ensures.value) ∙ sym (c.is_described.ensures meaning at rows) ∙ c.if-is_described.false in
-    entered view (span_start (span_view c.args.span)) (opened false (span_end (span_view c.args.span))) out (string_bytes c.push_str.new.self) items c.push-2.new.self.items
+    ap (λ (s : List OpenPart). is_described (map view (reverse s))) (sym c.as_slice.ensures.value) ∙ sym (c.is_described.ensures meaning at rows)
+    ∙ c.if-is_described.false in
+    entered view (span_start (span_view c.args.span)) (new_part false (span_end (span_view c.args.span))) out
+    (string_bytes c.push_str.new.self) items c.push-2.new.self.items
     (open_part.Span c.args.span) refl c.in_ok-push-2.ensures.items h (c.in_ok-push_str.ensures.bytes ∙ ap (λ s. out.text ++ s) c.span_start.ensures)

@@ -3,29 +3,33 @@ use Rattle.std.specs.Prelude.{OnOk, map, reverse}
 use Rattle.html_bytes.specs.Meaning.{inline_meaning}
 use Rattle.inline_leaves.specs.Leaves.{parts_of}
 use Rattle.html_inline.specs.declared.stack.OpenPart.{OpenPart}
-use Rattle.html_inline.specs.Opens.{opened_view, place_linked}
-use Rattle.html_inline.specs.GfmTable.{part_shown}
-use Rattle.html_inline.specs.Printed.{is_described, parts_printed}
+use Rattle.html_inline.specs.Opens.{opened_view, place_target}
+use Rattle.html_inline.specs.GfmTable.{inline_in_cell}
+use Rattle.html_inline.specs.Printed.{is_described, parts_html}
 use Rattle.html_inline.proofs.rows.push_part.Goals as goal
 
 pub returns-then-is_described-clause-printed : goal.returns-then-is_described-clause-printed
 returns-then-is_described-clause-printed g c = λ definition footnotes rows.
     let p = c.args.printing.now in
     let meaning = inline_meaning p.on.now p.compile.now (g.T.Tables.reference_of p.tables.now) definition footnotes in
-    let at = place_linked p.definitions.now in
+    let at = place_target p.definitions.now in
     let view = opened_view meaning at rows in
     let h : is_described (map view (reverse c.args.scratch.now.stack.items)) ≡ true =
-    ap (λ (s : List OpenPart). is_described (map view (reverse s))) (sym c.as_slice.ensures.value) ∙ sym (c.is_described.ensures meaning at rows) ∙ c.if-is_described.true in
-    subst (λ (t : Bool). OnOk c.push_description.result (string_bytes c.push_description.new.out ≡ string_bytes c.args.out.now ++ parts_printed meaning t (map (part_shown p.cell) (parts_of c.args.part))))
+    ap (λ (s : List OpenPart). is_described (map view (reverse s))) (sym c.as_slice.ensures.value) ∙ sym (c.is_described.ensures meaning at rows)
+    ∙ c.if-is_described.true in
+    subst (λ (t : Bool). OnOk c.push_description.result (string_bytes c.push_description.new.out
+    ≡ string_bytes c.args.out.now ++ parts_html meaning t (map (inline_in_cell p.cell) (parts_of c.args.part))))
     (sym h) c.push_description.ensures
 
 pub returns-else-is_described-clause-printed : goal.returns-else-is_described-clause-printed
 returns-else-is_described-clause-printed g c = λ definition footnotes rows.
     let p = c.args.printing.now in
     let meaning = inline_meaning p.on.now p.compile.now (g.T.Tables.reference_of p.tables.now) definition footnotes in
-    let at = place_linked p.definitions.now in
+    let at = place_target p.definitions.now in
     let view = opened_view meaning at rows in
     let h : is_described (map view (reverse c.args.scratch.now.stack.items)) ≡ false =
-    ap (λ (s : List OpenPart). is_described (map view (reverse s))) (sym c.as_slice.ensures.value) ∙ sym (c.is_described.ensures meaning at rows) ∙ c.if-is_described.false in
-    subst (λ (t : Bool). OnOk c.push_leaf.result (string_bytes c.push_leaf.new.out ≡ string_bytes c.args.out.now ++ parts_printed meaning t (map (part_shown p.cell) (parts_of c.args.part))))
+    ap (λ (s : List OpenPart). is_described (map view (reverse s))) (sym c.as_slice.ensures.value) ∙ sym (c.is_described.ensures meaning at rows)
+    ∙ c.if-is_described.false in
+    subst (λ (t : Bool). OnOk c.push_leaf.result (string_bytes c.push_leaf.new.out
+    ≡ string_bytes c.args.out.now ++ parts_html meaning t (map (inline_in_cell p.cell) (parts_of c.args.part))))
     (sym h) (c.push_leaf.ensures definition footnotes)

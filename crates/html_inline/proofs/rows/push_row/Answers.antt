@@ -8,9 +8,9 @@ use Rattle.inline_leaves.specs.Leaves.{parts_of}
 use Rattle.inline_rows.specs.declared.row.InlineRow.{InlineRow}
 use Rattle.inline_rows.specs.View.{row_view}
 use Rattle.html_footnotes.specs.Output.{output_view}
-use Rattle.html_inline.specs.Opens.{image_linked, opened_view, place_linked}
-use Rattle.html_inline.specs.GfmTable.{part_shown, row_printed_in}
-use Rattle.html_inline.specs.Printed.{call_row, is_described, laid_out, parts_printed, printed_at}
+use Rattle.html_inline.specs.Opens.{image_target, opened_view, place_target}
+use Rattle.html_inline.specs.GfmTable.{inline_in_cell, row_printed_in}
+use Rattle.html_inline.specs.Printed.{call_row, is_described, laid_out, parts_html, printed_at}
 use Rattle.definition_text.specs.Content.{content_codes}
 use Rattle.definition_text.specs.Encode.{encode}
 use Rattle.html_inline.proofs.OpenStack.{leaf_printed, text_printed}
@@ -20,7 +20,7 @@ pub returns-in-Text : goal.returns-in-Text
 returns-in-Text g c = λ definition footnotes held.
     let p = c.args.printing.now in
     let meaning = inline_meaning p.on.now p.compile.now (g.T.Tables.reference_of p.tables.now) definition footnotes in
-    let at = place_linked p.definitions.now in
+    let at = place_target p.definitions.now in
     let view = opened_view meaning at c.args.rows.now in
     let stack = map view (reverse c.args.scratch.now.stack.items) in
     let out = output_view c.args.out.now in
@@ -35,14 +35,14 @@ pub returns-in-Leaf : goal.returns-in-Leaf
 returns-in-Leaf g c = λ definition footnotes held.
     let p = c.args.printing.now in
     let meaning = inline_meaning p.on.now p.compile.now (g.T.Tables.reference_of p.tables.now) definition footnotes in
-    let at = place_linked p.definitions.now in
+    let at = place_target p.definitions.now in
     let view = opened_view meaning at c.args.rows.now in
     let stack = map view (reverse c.args.scratch.now.stack.items) in
     let out = output_view c.args.out.now in
     let old = printed_at out stack in
     let row_is = λ (r : InlineRow). fold (row_printed_in p.cell meaning) old (row_view at r) in
     on_ok_weaker c.push_part.result
-    (λ (e : string_bytes c.push_part.new.out ≡ out.text ++ parts_printed meaning (is_described stack) (map (part_shown p.cell) (parts_of c.in-Leaf.part))).
+    (λ (e : string_bytes c.push_part.new.out ≡ out.text ++ parts_html meaning (is_described stack) (map (inline_in_cell p.cell) (parts_of c.in-Leaf.part))).
     ap (λ s. printed_at (with_text out (string_bytes c.push_part.new.out)) (map view (reverse s.items))) c.push_part.ensures.stack
     ∙ ap (λ x. printed_at (with_text out x) stack) e ∙ sym (leaf_printed p.cell meaning stack c.in-Leaf.part out) ∙ ap row_is (sym c.in-Leaf.is))
     (c.push_part.ensures.printed definition footnotes c.args.rows.now)
@@ -51,7 +51,7 @@ pub returns-in-EnterSpan : goal.returns-in-EnterSpan
 returns-in-EnterSpan g c = λ definition footnotes held.
     let p = c.args.printing.now in
     let meaning = inline_meaning p.on.now p.compile.now (g.T.Tables.reference_of p.tables.now) definition footnotes in
-    let at = place_linked p.definitions.now in
+    let at = place_target p.definitions.now in
     let view = opened_view meaning at c.args.rows.now in
     let stack = map view (reverse c.args.scratch.now.stack.items) in
     let out = output_view c.args.out.now in
@@ -63,7 +63,7 @@ pub returns-in-EnterLink : goal.returns-in-EnterLink
 returns-in-EnterLink g c = λ definition footnotes held.
     let p = c.args.printing.now in
     let meaning = inline_meaning p.on.now p.compile.now (g.T.Tables.reference_of p.tables.now) definition footnotes in
-    let at = place_linked p.definitions.now in
+    let at = place_target p.definitions.now in
     let view = opened_view meaning at c.args.rows.now in
     let stack = map view (reverse c.args.scratch.now.stack.items) in
     let out = output_view c.args.out.now in
@@ -75,20 +75,20 @@ pub returns-in-EnterImage : goal.returns-in-EnterImage
 returns-in-EnterImage g c = λ definition footnotes held.
     let p = c.args.printing.now in
     let meaning = inline_meaning p.on.now p.compile.now (g.T.Tables.reference_of p.tables.now) definition footnotes in
-    let at = place_linked p.definitions.now in
+    let at = place_target p.definitions.now in
     let view = opened_view meaning at c.args.rows.now in
     let stack = map view (reverse c.args.scratch.now.stack.items) in
     let out = output_view c.args.out.now in
     let old = printed_at out stack in
     let row_is = λ (r : InlineRow). fold (row_printed_in p.cell meaning) old (row_view at r) in
     on_ok_weaker c.enter_image.result (λ e. e ∙ ap row_is (sym c.in-EnterImage.is))
-    (c.enter_image.ensures definition footnotes c.args.rows.now (ap (image_linked at) (c.requires ∙ c.in-EnterImage.is)))
+    (c.enter_image.ensures definition footnotes c.args.rows.now (ap (image_target at) (c.requires ∙ c.in-EnterImage.is)))
 
 pub returns-in-Call : goal.returns-in-Call
 returns-in-Call g c = λ definition footnotes held.
     let p = c.args.printing.now in
     let meaning = inline_meaning p.on.now p.compile.now (g.T.Tables.reference_of p.tables.now) definition footnotes in
-    let at = place_linked p.definitions.now in
+    let at = place_target p.definitions.now in
     let view = opened_view meaning at c.args.rows.now in
     let stack = map view (reverse c.args.scratch.now.stack.items) in
     let out = output_view c.args.out.now in
@@ -104,7 +104,7 @@ pub returns-in-Exit : goal.returns-in-Exit
 returns-in-Exit g c = λ definition footnotes held.
     let p = c.args.printing.now in
     let meaning = inline_meaning p.on.now p.compile.now (g.T.Tables.reference_of p.tables.now) definition footnotes in
-    let at = place_linked p.definitions.now in
+    let at = place_target p.definitions.now in
     let view = opened_view meaning at c.args.rows.now in
     let stack = map view (reverse c.args.scratch.now.stack.items) in
     let out = output_view c.args.out.now in

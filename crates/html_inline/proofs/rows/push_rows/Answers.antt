@@ -6,10 +6,10 @@ use Rattle.html_bytes.specs.Meaning.{inline_meaning}
 use Rattle.html_footnotes.specs.Output.{output_view}
 use Rattle.inline_rows.specs.declared.row.InlineRow.{InlineRow}
 use Rattle.inline_rows.specs.View.{rows_view}
-use Rattle.html_inline.specs.Opens.{place_linked, printed_of}
-use Rattle.html_inline.specs.Printed.{Printed, printed_at, row_printed}
+use Rattle.html_inline.specs.Opens.{place_target, printed_of}
+use Rattle.html_inline.specs.Printed.{Printed, printed_at, with_row}
 use Rattle.definition_page.specs.InlinePieces.{leads_to}
-use Rattle.html_inline.specs.GfmTable.{shown, row_printed_in}
+use Rattle.html_inline.specs.GfmTable.{parts_in_cell, row_printed_in}
 use Rattle.html_inline.proofs.CellRows.{rows_shown, fold_shown}
 use Rattle.html_inline.proofs.OpenStack.{rows_step}
 use Rattle.html_inline.proofs.RowsPrinted.{content_printed}
@@ -19,7 +19,7 @@ pub loop-place-preserved : goal.loop-place-preserved
 loop-place-preserved g c = λ definition footnotes held.
     let p = c.args.printing.now in
     let meaning = inline_meaning p.on.now p.compile.now (g.T.Tables.reference_of p.tables.now) definition footnotes in
-    let at = place_linked p.definitions.now in
+    let at = place_target p.definitions.now in
     let rows = c.args.rows.now in
     rows_step p.cell meaning at (printed_at (output_view c.args.out.now) [])
     (printed_of meaning at rows (output_view c.loop-place.out) c.loop-place.scratch.stack.items)
@@ -30,7 +30,7 @@ pub returns : goal.returns
 returns g c = λ definition footnotes default is held rows_are.
     let p = c.args.printing.now in
     let meaning = inline_meaning p.on.now p.compile.now (g.T.Tables.reference_of p.tables.now) definition footnotes in
-    let at = place_linked p.definitions.now in
+    let at = place_target p.definitions.now in
     let rows = c.args.rows.now in
     let out = output_view c.args.out.now in
     let whole : take c.loop-place.place rows ≡ rows = take_all c.loop-place.place rows c.loop-place-test.false in
@@ -39,5 +39,5 @@ returns g c = λ definition footnotes default is held rows_are.
     ∙ ap (λ (rs : List InlineRow). fold (row_printed_in p.cell meaning) (printed_at out []) (rows_view at rs)) whole
     ∙ ap (λ (rs : List rows_of.InlineRow). fold (row_printed_in p.cell meaning) (printed_at out []) rs) rows_are
     ∙ fold_shown p.cell meaning (printed_at out []) (rows_of.inline_rows (leads_to meaning.definition) is)
-    ∙ ap (fold (row_printed meaning) (printed_at out [])) (rows_shown (leads_to meaning.definition) p.cell is)
-    ∙ content_printed meaning default (shown p.cell is) out)
+    ∙ ap (fold (with_row meaning) (printed_at out [])) (rows_shown (leads_to meaning.definition) p.cell is)
+    ∙ content_printed meaning default (parts_in_cell p.cell is) out)

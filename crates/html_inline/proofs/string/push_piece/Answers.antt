@@ -3,7 +3,7 @@ use Rattle.std.specs.List.{flat_map}
 use Rattle.std.specs.Str.{IsCharBoundary}
 use Rattle.definition_inline.specs.Strings as strings
 use Rattle.inline_leaves.specs.Leaves.{parts_of}
-use Rattle.html_inline.specs.Forms.{formed}
+use Rattle.html_inline.specs.Forms.{form_bytes}
 use Rattle.html_inline.specs.Kept.{kept_size, text_of}
 use Rattle.html_inline.proofs.FormedText.{formed_both}
 use Rattle.html_inline.proofs.KeptText.{found_text, kept_boundary, kept_text}
@@ -17,7 +17,7 @@ returns-in-Some-clause-printed g c =
     let parts = parts_of c.in-Some.found.part in
     let rest = c.in-Some.found.after.now in
     let content = c.args.string.now in
-    ap (λ x. x ++ formed c.args.form (text_of on names rest)) c.in_ok-push_part.ensures
+    ap (λ x. x ++ form_bytes c.args.form (text_of on names rest)) c.in_ok-push_part.ensures
     ∙ formed_both c.args.form out (flat_map strings.string_bytes parts) (text_of on names rest) (text_of on names content)
     (found_text on names content rest parts c.in-Some.ensures.read c.in-Some.ensures.place)
 
@@ -47,5 +47,5 @@ returns-clause-printed g c =
     let cut : text_of on names xs ≡ front ++ text_of on names rest =
     kept ∙ ap (λ k. take k xs ++ text_of on names (drop k xs)) size
     ∙ ap (λ s. s ++ text_of on names (drop n xs)) (sym c.text_before.ensures) ∙ ap (λ s. front ++ text_of on names s) (sym c.range_from.ensures.value) in
-    ap (λ x. x ++ formed c.args.form (text_of on names rest)) c.in_ok-push_formed.ensures
+    ap (λ x. x ++ form_bytes c.args.form (text_of on names rest)) c.in_ok-push_formed.ensures
     ∙ formed_both c.args.form out front (text_of on names rest) (text_of on names xs) cut

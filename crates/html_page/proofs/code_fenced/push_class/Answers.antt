@@ -9,7 +9,8 @@ use Rattle.html_page.proofs.code_fenced.push_class.Goals as goal
 
 pub returns : goal.returns
 returns g c = λ ds clear.
-    let d = document c.args.texts.now.options.now (text_tables (g.T.Tables.reference_of c.args.texts.now.tables.now) (g.T.Tables.punctuation_of c.args.texts.now.tables.now)) ds in
+    let d = document c.args.texts.now.options.now (text_tables (g.T.Tables.reference_of c.args.texts.now.tables.now)
+    (g.T.Tables.punctuation_of c.args.texts.now.tables.now)) ds in
     let html = string_bytes c.args.out.now in
     let info = c.args.info.now in
     let some : (length info == 0) ≡ false = sym c.is_empty.ensures ∙ c.if-is_empty.false in

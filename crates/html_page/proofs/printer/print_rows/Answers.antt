@@ -1,4 +1,4 @@
-use Rattle.std.proofs.Common.{◌≡◌, ℕ, Bool, ◌+◌, List, string_bytes, sym, ap, ◌∙◌, take, drop, get_or, arith, length, ◌-◌, subst}
+use Rattle.std.proofs.Common.{◌≡◌, Bool, ◌+◌, List, string_bytes, sym, ap, ◌∙◌, take, drop, get_or, arith, length, ◌-◌, subst}
 use Rattle.std.specs.List.{fold}
 use Rattle.std.proofs.lemmas.List.{take_rest, take_all}
 use Rattle.markdown_options.specs.declared.line_ending.LineEnding.{LineEnding}
@@ -13,7 +13,7 @@ use Rattle.html_page.specs.Printable.{IsPrintableRow}
 use Rattle.html_page.specs.PrinterView.{PrinterView, print_row, print_all, blank_page, ends_blank_rows, rows_html, printer_view}
 use Rattle.std.specs.Result.{IfOk}
 use Rattle.definition_page.specs.Layout.{Laid}
-use Rattle.html_bytes.specs.Layout.{finished, lay}
+use Rattle.html_bytes.specs.Layout.{with_footnotes, lay}
 use Rattle.html_page.specs.Prints.{page_view, with_fresh}
 use Rattle.html_bytes.specs.Html.{last_piece}
 use Rattle.html_page.specs.declared.printer.Printer.{Printer}
@@ -50,7 +50,8 @@ loop-row-preserved g c =
     record {
       same_default = c.in_ok-row.ensures.default ∙ k.same_default;
       printed = λ ds has.
-          let d = document c.args.texts.now.options.now (text_tables (g.T.Tables.reference_of c.args.texts.now.tables.now) (g.T.Tables.punctuation_of c.args.texts.now.tables.now)) ds in
+          let d = document c.args.texts.now.options.now (text_tables (g.T.Tables.reference_of c.args.texts.now.tables.now)
+          (g.T.Tables.punctuation_of c.args.texts.now.tables.now)) ds in
           c.in_ok-row.ensures.printed ds has
           ∙ ap (λ (e : LineEnding). print_row d (ending_bytes e) (printer_view c.loop-row.printer) (row_value row rest)) k.same_default
           ∙ ap (λ (ls : List BlockLine). print_row d default (printer_view c.loop-row.printer) (row_value row ls)) at
@@ -66,7 +67,8 @@ loop-row-preserved g c =
 
 pub returns : goal.returns
 returns g c = λ ds has bs rows_are can.
-    let d = document c.args.texts.now.options.now (text_tables (g.T.Tables.reference_of c.args.texts.now.tables.now) (g.T.Tables.punctuation_of c.args.texts.now.tables.now)) ds in
+    let d = document c.args.texts.now.options.now (text_tables (g.T.Tables.reference_of c.args.texts.now.tables.now)
+    (g.T.Tables.punctuation_of c.args.texts.now.tables.now)) ds in
     let o = d.options.compile in
     let rows = c.args.rows.now in
     let all = piece_lines c.args.pieces.now in
@@ -88,7 +90,7 @@ returns g c = λ ds has bs rows_are can.
       | else-ends_blank w ↦ ap (λ (p : Printer _). page_view p.page) w.printer-is ∙ ap (ends out) (sym w.if-ends_blank.false)
     ] in
     subst (λ x. IfOk c.finish.result (λ html. string_bytes html ≡ x))
-    (ap (finished o default)
+    (ap (with_footnotes o default)
     (ended
     ∙ ap (ends out) (c.ends_blank.ensures all)
     ∙ ap (λ x. ends x (ends_blank_rows every)) laid_out)

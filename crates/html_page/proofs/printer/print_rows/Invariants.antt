@@ -1,4 +1,4 @@
-use Rattle.std.proofs.Common.{List, ◌≡◌, ◌≤◌, ◌+◌, length, take, drop}
+use Rattle.std.proofs.Common.{◌≡◌, ◌≤◌, ◌+◌, length, take, drop}
 use Rattle.markdown_options.specs.LineEndings.{ending_bytes}
 use Rattle.html_bytes.specs.Document.{document}
 use Rattle.definition_page.specs.Targets.{Targets}
@@ -13,7 +13,10 @@ abbrev pub invariant-loop-row : goal.invariant-loop-row
 invariant-loop-row g l = record {
   same_default : l.printer.page.default_ending ≡ l.fn.default_ending;
   printed : (ds : Targets) → KnowsTargets l.texts ds →
-      printer_view l.printer ≡ print_all (document l.texts.options.now (text_tables (g.T.Tables.reference_of l.texts.tables.now) (g.T.Tables.punctuation_of l.texts.tables.now)) ds) (ending_bytes l.fn.default_ending) (blank_page (rows_value l.rows (piece_lines l.pieces)).rows) (rows_value (take l.row-index l.rows) (piece_lines l.pieces)).rows;
+      printer_view l.printer ≡ print_all
+      (document l.texts.options.now (text_tables (g.T.Tables.reference_of l.texts.tables.now) (g.T.Tables.punctuation_of l.texts.tables.now)) ds)
+      (ending_bytes l.fn.default_ending) (blank_page (rows_value l.rows (piece_lines l.pieces)).rows)
+      (rows_value (take l.row-index l.rows) (piece_lines l.pieces)).rows;
   left : (rows_value (take l.row-index l.rows) (piece_lines l.pieces)).left ≡ piece_lines (drop l.at l.pieces);
   enough : l.at + rows_size (drop l.row-index l.rows) ≤ length l.pieces;
 }

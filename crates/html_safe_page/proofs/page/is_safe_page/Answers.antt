@@ -1,7 +1,7 @@
 use Rattle.std.proofs.Common.{◌∙◌, ◌&&◌, ◌==◌, ap, sym, arith}
 use Rattle.std.proofs.lemmas.Bool.{ne_eqb}
 use Rattle.html_safe_page.specs.Reader.{read}
-use Rattle.html_safe_page.specs.Machine.{followed}
+use Rattle.html_safe_page.specs.Machine.{if_goes_on}
 use Rattle.html_safe_page.specs.Views.{open_names}
 use Rattle.html_safe_page.proofs.Text.{split}
 use Rattle.html_safe_page.proofs.Steps.{closes, letter_more, no_tag, bad_tag, good_tag, decided}
@@ -26,7 +26,7 @@ returns-then-not-branch g c =
     (sym c.loop-first.invariant
     ∙ at_less c.loop-first.rest.now c.in-Some.first.now after names c.in-Some.ensures.cases.0 c.if-first-eq60.true
     ∙ bad_tag after names q (sym c.in-Some-split_tag.ensures)
-    (c.in_ok-follow.ensures ∙ ap (λ t. followed t (open_names c.follow.new.names.items)) c.if-not-branch.true))
+    (c.in_ok-follow.ensures ∙ ap (λ t. if_goes_on t (open_names c.follow.new.names.items)) c.if-not-branch.true))
 
 pub loop-first-smaller-then-first-eq60 : goal.loop-first-smaller-then-first-eq60
 loop-first-smaller-then-first-eq60 g c =
@@ -43,7 +43,7 @@ loop-first-preserved-then-first-eq60 g c =
     let after = c.in-Some.after.now in
     let q = split c.in-Some-split_tag.tag.now c.in-Some-split_tag.next.now in
     sym (at_less c.loop-first.rest.now c.in-Some.first.now after names c.in-Some.ensures.cases.0 c.if-first-eq60.true
-    ∙ good_tag after names more q (sym c.in-Some-split_tag.ensures) (c.in_ok-follow.ensures ∙ ap (λ t. followed t more) c.if-not-branch.false))
+    ∙ good_tag after names more q (sym c.in-Some-split_tag.ensures) (c.in_ok-follow.ensures ∙ ap (λ t. if_goes_on t more) c.if-not-branch.false))
     ∙ c.loop-first.invariant
 
 pub loop-first-preserved : goal.loop-first-preserved

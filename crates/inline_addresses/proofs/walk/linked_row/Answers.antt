@@ -13,7 +13,8 @@ returns-then-depth-eq0 c at =
 
 pub returns-in-Some : goal.returns-in-Some
 returns-in-Some c at =
-    sym (literal_linked (λ t. linked [] None) at c.args.depth c.args.row (Some c.in-Some.text.now) (omega (arith, c.if-depth-eq0.false)) (sym c.in-Some.ensures))
+    sym (literal_linked (λ t. linked [] None) at c.args.depth c.args.row (Some c.in-Some.text.now) (omega (arith, c.if-depth-eq0.false))
+    (sym c.in-Some.ensures))
 
 pub returns-in-None : goal.returns-in-None
 returns-in-None c at =

@@ -10,5 +10,6 @@ invariant-loop-row g l = record {
   depth : l.walk.depth ≤ l.row-index;
   within : l.walk.size ≤ length l.walk.text.now;
   text : drop l.walk.size l.walk.text.now ≡ rows_text (drop l.row-index l.rows);
-  rows : (leads : Target → Linked) (at : ℕ → Linked) → walk_rows leads at l.walk (rows_view at (drop l.row-index l.rows)) ≡ linked_rows leads 0 [] (rows_view at l.rows);
+  rows : (leads : Target → Linked) (at : ℕ → Linked) → walk_rows leads at l.walk (rows_view at (drop l.row-index l.rows))
+      ≡ linked_rows leads 0 [] (rows_view at l.rows);
 }

@@ -26,7 +26,8 @@ returns-then-is_empty c =
     c.range.ensures.value
     ∙ ap (λ n. take n text) (omega arith)
     ∙ k.front.same
-    ∙ ap content_text (whole_end c.loop-i._i c.args.count text c.loop-i.rest.now k.left (sym c.is_empty.ensures ∙ c.if-is_empty.true) (omega (arith, c.loop-i-test.true)))
+    ∙ ap content_text (whole_end c.loop-i._i c.args.count text c.loop-i.rest.now k.left (sym c.is_empty.ensures ∙ c.if-is_empty.true)
+    (omega (arith, c.loop-i-test.true)))
 
 pub loop-i-preserved : goal.loop-i-preserved
 loop-i-preserved c =
@@ -37,5 +38,6 @@ loop-i-preserved c =
     let k = c.loop-i.invariant.1 in
     let is_after : IsUtf8 after = search rules in
     let is_line : IsUtf8 line = search rules in
-    let more = front_more c.loop-i._i text rest line after c.next_line.result.1 (utf8_bytes text c.utf8.text) (utf8_bytes rest c.loop-i.invariant.0) (utf8_bytes line is_line) (utf8_bytes after is_after) is_after k.left (sym c.is_empty.ensures ∙ c.if-is_empty.false) c.next_line.ensures.rest in
+    let more = front_more c.loop-i._i text rest line after c.next_line.result.1 (utf8_bytes text c.utf8.text) (utf8_bytes rest c.loop-i.invariant.0)
+    (utf8_bytes line is_line) (utf8_bytes after is_after) is_after k.left (sym c.is_empty.ensures ∙ c.if-is_empty.false) c.next_line.ensures.rest in
     (is_after, record { front = more.0; left = more.1 })

@@ -8,7 +8,8 @@ use Rattle.inline_labels.proofs.label.normalize_label.Goals as goal
 pub loop-word-preserved : goal.loop-word-preserved
 loop-word-preserved g c = record {
   so_far =
-      joined-step (string_bytes c.loop-word.normal) _ _ c.loop-word.separator.now c.in-Some.word.now (words c.next.new.self.label.now) c.in_ok-push_str.ensures.bytes c.in_ok-push_word.ensures
+      joined-step (string_bytes c.loop-word.normal) _ _ c.loop-word.separator.now c.in-Some.word.now
+      (words c.next.new.self.label.now) c.in_ok-push_str.ensures.bytes c.in_ok-push_word.ensures
       ∙ ap (λ left. string_bytes c.loop-word.normal ++ joined c.loop-word.separator.now left) (sym c.in-Some.ensures.steps)
       ∙ c.loop-word.invariant.so_far;
   text = space_is_text;

@@ -31,6 +31,8 @@ returns-clause-read c =
     let there = subst (λ s. address_leaf s (Some found) ≡ autolink_after (content_codes s)) rest c.in-Some.ensures.read in
     let place = subst (λ s. IsAddress s found.size) rest c.in-Some.ensures.place in
     let size : 1 + found.size - 1 ≡ found.size = omega arith in
-    ap (λ text. Some (leaf (Autolink found.email text ∷ []) (size_before xs c.cut_after.result.now))) (c.text_between.ensures ∙ ap (λ k. take k (drop 1 xs)) size)
-    ∙ ap (λ k. Some (leaf (Autolink found.email (take found.size (drop 1 xs)) ∷ []) k)) (sym (autolink_size xs c.cut_after.result.now found.size less place c.cut_after.ensures.rest))
+    ap (λ text. Some (leaf (Autolink found.email text ∷ []) (size_before xs c.cut_after.result.now)))
+    (c.text_between.ensures ∙ ap (λ k. take k (drop 1 xs)) size)
+    ∙ ap (λ k. Some (leaf (Autolink found.email (take found.size (drop 1 xs)) ∷ []) k))
+    (sym (autolink_size xs c.cut_after.result.now found.size less place c.cut_after.ensures.rest))
     ∙ there ∙ sym (autolink_is c.args.on.now xs c.if-not-on.false less)

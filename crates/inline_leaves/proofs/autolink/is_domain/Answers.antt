@@ -17,6 +17,7 @@ dots (b ∷ bs) =
 pub returns : goal.returns
 returns c =
     all_from_yields_List is_domain_label _ _ c.all.result c.all.ensures.ran
-    (YieldsList-from_slice_split _ (λ b. eqb b 46) c.args.text.now c.split.ensures.rest c.split.ensures.done c.split.ensures.closure (λ x b q k. search (rules, tests)))
+    (YieldsList-from_slice_split _ (λ b. eqb b 46) c.args.text.now c.split.ensures.rest c.split.ensures.done c.split.ensures.closure
+    (λ x b q k. search (rules, tests)))
     (λ x b q k. search (rules, tests))
     ∙ ap (list_all is_domain_label) (dots c.args.text.now)

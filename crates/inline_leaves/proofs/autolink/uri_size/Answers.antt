@@ -14,7 +14,8 @@ returns-clause-read c =
     let n = c.prefix_size-scheme.result in
     let colon = ap (begins_with (codes ":")) (sym c.from-rest.ensures) ∙ sym c.starts_with.ensures.value ∙ c.if-not-starts_with.false in
     let size = c.prefix_size.ensures.size ∙ ap (prefix_len is_uri_byte) (c.from.ensures ∙ ap (drop 1) c.from-rest.ensures) in
-    uri_is xs n c.prefix_size.result c.prefix_size-scheme.ensures.size (omega arith) (omega arith) (sym c.begins_with_letter.ensures ∙ c.if-not-begins_with_letter.false) colon size
+    uri_is xs n c.prefix_size.result c.prefix_size-scheme.ensures.size (omega arith) (omega arith)
+    (sym c.begins_with_letter.ensures ∙ c.if-not-begins_with_letter.false) colon size
 
 pub returns-clause-place : goal.returns-clause-place
 returns-clause-place c =

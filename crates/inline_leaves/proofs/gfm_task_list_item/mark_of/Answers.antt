@@ -9,5 +9,6 @@ returns-clause-place c =
     let second = c.in_ok-mark.ensures in
     let third = c.in_ok-closing.ensures in
     let closes : c.in_ok-closing.closing.code ≡ 93 = c.if-closing-ne-CLOSING.false in
-    check_end c.args.bytes.now c.in_ok-opening.opening.code c.in_ok-mark.mark.code c.in_ok-mark.mark.next c.in_ok-opening.opening.next c.in_ok-closing.closing.next
+    check_end c.args.bytes.now c.in_ok-opening.opening.code c.in_ok-mark.mark.code c.in_ok-mark.mark.next c.in_ok-opening.opening.next
+    c.in_ok-closing.closing.next
     first.codes second.codes (third.codes ∙ ap (λ b. b ∷ content_codes (drop c.in_ok-closing.closing.next c.args.bytes.now)) closes)

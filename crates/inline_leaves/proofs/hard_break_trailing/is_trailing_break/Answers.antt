@@ -14,4 +14,5 @@ returns-then-not-are_spaces c =
 pub returns : goal.returns
 returns c =
     c.ends_inner_line.ensures ∙ ap (λ s. ends_inner_line (content_codes s)) c.from.ensures
-    ∙ sym (trailing_spaces c.args.bytes.now c.white_size-size.result c.white_size-size.ensures.size (omega arith) (sym c.are_spaces.ensures ∙ c.if-not-are_spaces.false))
+    ∙ sym (trailing_spaces c.args.bytes.now c.white_size-size.result c.white_size-size.ensures.size (omega arith)
+    (sym c.are_spaces.ensures ∙ c.if-not-are_spaces.false))

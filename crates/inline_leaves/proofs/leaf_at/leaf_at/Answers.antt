@@ -25,13 +25,15 @@ pub returns-in-96-clause-read : goal.returns-in-96-clause-read
 returns-in-96-clause-read g c =
     let xs = c.args.rest.now in
     let byte : get_or xs 0 0 ≡ 96 = ap (λ s. get_or s 0 0) (sym c.as_bytes.ensures.value) ∙ c.in-96.is in
-    subst (λ o. IfOk c.code_text_at.result (λ found. found_leaf xs found ≡ o)) (sym (first.by_backtick c.args.options.now (g.T.Tables.reference_of c.args.tables.now) xs byte)) c.code_text_at.ensures.read
+    subst (λ o. IfOk c.code_text_at.result (λ found. found_leaf xs found ≡ o))
+    (sym (first.by_backtick c.args.options.now (g.T.Tables.reference_of c.args.tables.now) xs byte)) c.code_text_at.ensures.read
 
 pub returns-in-36-clause-read : goal.returns-in-36-clause-read
 returns-in-36-clause-read g c =
     let xs = c.args.rest.now in
     let byte : get_or xs 0 0 ≡ 36 = ap (λ s. get_or s 0 0) (sym c.as_bytes.ensures.value) ∙ c.in-36.is in
-    subst (λ o. IfOk c.math_text_at.result (λ found. found_leaf xs found ≡ o)) (sym (first.by_dollar c.args.options.now (g.T.Tables.reference_of c.args.tables.now) xs byte)) c.math_text_at.ensures.read
+    subst (λ o. IfOk c.math_text_at.result (λ found. found_leaf xs found ≡ o))
+    (sym (first.by_dollar c.args.options.now (g.T.Tables.reference_of c.args.tables.now) xs byte)) c.math_text_at.ensures.read
 
 pub returns-in-Some-autolink_at-clause-read : goal.returns-in-Some-autolink_at-clause-read
 returns-in-Some-autolink_at-clause-read g c =
@@ -66,5 +68,6 @@ returns-in_default-clause-read g c =
     let xs = c.args.rest.now in
     let same : get_or c.as_bytes.result.now 0 0 ≡ get_or xs 0 0 = ap (λ s. get_or s 0 0) c.as_bytes.ensures.value in
     let names = g.T.Tables.reference_of c.args.tables.now in
-    sym (first.by_other c.args.options.now names xs (omega (arith, c.type_inv.rest 0)) (λ e. omega (arith, same)) (λ e. omega (arith, same)) (λ e. omega (arith, same)) (λ e. omega (arith, same)) (λ e. omega (arith, same))
+    sym (first.by_other c.args.options.now names xs (omega (arith, c.type_inv.rest 0)) (λ e. omega (arith, same)) (λ e. omega (arith, same))
+    (λ e. omega (arith, same)) (λ e. omega (arith, same)) (λ e. omega (arith, same))
     (λ e. grind (arith, same)) (λ e. grind (arith, same)) (λ e. grind (arith, same)) (λ e. grind (arith, same)))

@@ -17,11 +17,13 @@ loop-at-preserved c =
       | then-run-eq0 w ↦
           record {
             within = omega (arith, w.at-is);
-            same = sym (past_here c.args.marker xs n at r _ c.requires size c.if-run-size.false (ap (λ k. at + k) (w.at-is ∙ sym (cond-true (eqb r 0) 1 r (eq-eqb r 0 w.if-run-eq0.true))))) ∙ c.loop-at.invariant.same;
+            same = sym (past_here c.args.marker xs n at r _ c.requires size c.if-run-size.false
+                (ap (λ k. at + k) (w.at-is ∙ sym (cond-true (eqb r 0) 1 r (eq-eqb r 0 w.if-run-eq0.true))))) ∙ c.loop-at.invariant.same;
           }
       | else-run-eq0 w ↦ record {
         within = omega (arith, w.at-is, there.within, length-drop at xs);
-        same = sym (past_here c.args.marker xs n at r _ c.requires size c.if-run-size.false (ap (λ k. at + k) (w.at-is ∙ sym (cond-false (eqb r 0) 1 r (ne_eqb r 0 w.if-run-eq0.false))))) ∙ c.loop-at.invariant.same;
+        same = sym (past_here c.args.marker xs n at r _ c.requires size c.if-run-size.false
+            (ap (λ k. at + k) (w.at-is ∙ sym (cond-false (eqb r 0) 1 r (ne_eqb r 0 w.if-run-eq0.false))))) ∙ c.loop-at.invariant.same;
       }
     ]
 

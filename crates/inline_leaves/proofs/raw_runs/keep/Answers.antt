@@ -32,7 +32,8 @@ returns-in_ok-insert g c size =
     elim c.else-place-len.branch [
       | else-place-len-via-then-place-len+else-index-run w ↦
           let d = w.index.result.now in
-          new ∙ end_inserted rs r d (λ lt there. w.if-index-run.false (ap (λ (x : LastRun). x.size) w.index.ensures ∙ ap (λ k. (get_or rs k d).size) place ∙ there)) size
+          new ∙ end_inserted rs r d (λ lt there. w.if-index-run.false (ap (λ (x : LastRun). x.size) w.index.ensures ∙ ap (λ k. (get_or rs k d).size) place
+          ∙ there)) size
       | else-place-len-via-else-place-len w ↦
           new ∙ end_inserted rs r r (λ lt there. omega (arith, place, w.if-place-len.false, c.len.ensures, c.args.runs.now.ok.0)) size
     ]

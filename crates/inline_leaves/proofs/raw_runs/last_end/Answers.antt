@@ -8,14 +8,16 @@ returns-in-Some c =
     let rs = c.args.runs.now in
     let r = c.in-Some.run'.now in
     let lt = ltb-true c.smaller.result (length rs) (sym c.in-Some.ensures.lookup.0) in
-    sym (end_there rs c.args.size c.smaller.result r c.smaller.ensures lt c.in-Some.ensures.lookup.1 ∙ cond-true _ _ _ (eq-eqb r.size c.args.size c.if-run-size.true))
+    sym (end_there rs c.args.size c.smaller.result r c.smaller.ensures lt c.in-Some.ensures.lookup.1
+    ∙ cond-true _ _ _ (eq-eqb r.size c.args.size c.if-run-size.true))
 
 pub returns-in_default : goal.returns-in_default
 returns-in_default c =
     let rs = c.args.runs.now in
     let r = c.in-Some.run'.now in
     let lt = ltb-true c.smaller.result (length rs) (sym c.in-Some.ensures.lookup.0) in
-    sym (end_there rs c.args.size c.smaller.result r c.smaller.ensures lt c.in-Some.ensures.lookup.1 ∙ cond-false _ _ _ (ne_eqb r.size c.args.size c.if-run-size.false))
+    sym (end_there rs c.args.size c.smaller.result r c.smaller.ensures lt c.in-Some.ensures.lookup.1
+    ∙ cond-false _ _ _ (ne_eqb r.size c.args.size c.if-run-size.false))
 
 pub returns-in_default-2 : goal.returns-in_default-2
 returns-in_default-2 c =

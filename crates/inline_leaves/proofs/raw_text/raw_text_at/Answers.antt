@@ -90,5 +90,6 @@ returns-in-Some-clause-read g c =
     let there = subst (λ s. IsRun m s at n) same run in
     let found = subst (λ s. Some (drop at s) ≡ run_of m n false s) same read in
     ap (λ parts. Some (leaf parts (size_before xs rest))) c.part.ensures
-    ∙ ap (λ text. Some (leaf (raw_part m (content_codes text) ∷ []) (size_before xs rest))) (c.text_before-in-Some.ensures ∙ ap (take at) c.cut_after-text.ensures.rest)
+    ∙ ap (λ text. Some (leaf (raw_part m (content_codes text) ∷ []) (size_before xs rest)))
+    (c.text_before-in-Some.ensures ∙ ap (take at) c.cut_after-text.ensures.rest)
     ∙ raw_closed m (raw c.args.marker) c.args.may_open xs rest n at size c.if-not-may_open.false (omega arith) c.cut_after.ensures.rest there found

@@ -3,7 +3,8 @@ use Rattle.std.proofs.lemmas.List.{get_or_past}
 use Rattle.definition_text.specs.Content.{content_codes}
 use Rattle.inline_links.proofs.Cuts.{cut_at, one_code, two_bytes}
 use Rattle.inline_links.proofs.code.next_code.Goals as goal
-use Rattle.inline_links.proofs.code.next_code.Goals.{else-byte-eq13-via-then-byte-eq13+then-at-content-2+else-content-at-eq10, else-byte-eq13-via-then-byte-eq13+else-at-content-2, else-byte-eq13-via-else-byte-eq13}
+use Rattle.inline_links.proofs.code.next_code.Goals.{else-byte-eq13-via-then-byte-eq13+then-at-content-2+else-content-at-eq10}
+use Rattle.inline_links.proofs.code.next_code.Goals.{else-byte-eq13-via-then-byte-eq13+else-at-content-2, else-byte-eq13-via-else-byte-eq13}
 
 pub returns-then-content-at-eq10 : goal.returns-then-content-at-eq10
 returns-then-content-at-eq10 c =

@@ -16,7 +16,8 @@ returns-then-end-gt0-clause-read c =
     let rest = content_codes (drop c.loop-read.end content) in
     let here : bare_end c.args.depth c.loop-read.escaped c.loop-read.opened rest ≡ Some rest =
     elim c.match-next_code.branch [
-      | in-Some+then-ends_bare w ↦ ends_before c.args.depth c.loop-read.escaped c.loop-read.opened _ _ rest w.in-Some.ensures.codes c.if-opened-eq0.true (sym w.ends_bare.ensures ∙ w.if-ends_bare.true)
+      | in-Some+then-ends_bare w ↦ ends_before c.args.depth c.loop-read.escaped c.loop-read.opened _ _ rest w.in-Some.ensures.codes c.if-opened-eq0.true
+          (sym w.ends_bare.ensures ∙ w.if-ends_bare.true)
       | in_default w ↦ ends_with c.args.depth c.loop-read.escaped c.loop-read.opened rest w.in_default.ensures c.if-opened-eq0.true
     ] in
     sym (any_there (part_of c.up_to.result) c.loop-read.end content (omega arith) (omega arith) (ap content_codes c.up_to.ensures.text))
@@ -59,8 +60,10 @@ loop-read-preserved c =
       same =
           ap (λ t. bare_end c.args.depth t c.open_after-opened.result (content_codes (drop c.after_plain-end-in-Some.result content)))
           (c.stays-escaped.ensures ∙ ap (λ t. t && eqb (c.after_plain-end-in-Some.result - read.next) 0) c.may_escape.ensures)
-          ∙ ap (λ o. bare_end c.args.depth (may_escape escaped read.code && eqb (c.after_plain-end-in-Some.result - read.next) 0) o (content_codes (drop c.after_plain-end-in-Some.result content))) opens
-          ∙ next_passed c.args.depth escaped opened read.code content (content_codes (drop c.loop-read.end content)) read.next c.after_plain-end-in-Some.result reads.codes
+          ∙ ap (λ o. bare_end c.args.depth (may_escape escaped read.code && eqb (c.after_plain-end-in-Some.result - read.next) 0) o
+          (content_codes (drop c.after_plain-end-in-Some.result content))) opens
+          ∙ next_passed c.args.depth escaped opened read.code content (content_codes (drop c.loop-read.end content)) read.next c.after_plain-end-in-Some.result
+          reads.codes
           (sym c.ends_bare.ensures ∙ c.if-ends_bare.false) shallow end
           ∙ c.loop-read.invariant.same;
     }

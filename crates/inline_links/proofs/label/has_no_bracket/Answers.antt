@@ -29,7 +29,8 @@ loop-read-preserved c =
       within = c.after_unmarked-at-in-Some.ensures.within;
       same =
           ap (λ t. has_no_bracket t (content_codes (drop next text))) (c.stays-escaped.ensures ∙ ap (λ t. t && eqb (next - read.next) 0) c.may_escape.ensures)
-          ∙ next_passed Bool has_no_bracket test_goes_on c.loop-read.escaped read.code text (content_codes (drop c.loop-read.at text)) read.next next c.in-Some.ensures.codes
+          ∙ next_passed Bool has_no_bracket test_goes_on c.loop-read.escaped read.code text
+          (content_codes (drop c.loop-read.at text)) read.next next c.in-Some.ensures.codes
           (sym c.ends_label.ensures ∙ c.if-ends_label.false) c.after_unmarked-at-in-Some.ensures.end
           ∙ c.loop-read.invariant.same;
     }

@@ -35,7 +35,8 @@ loop-read-preserved c =
       cut = subst (IsCut content) (sym end) (cut_after_run is_unmarked refl content read.next reads.within reads.cut);
       same =
           ap (λ t. label_end t (content_codes (drop next content))) (c.stays-escaped.ensures ∙ ap (λ t. t && eqb (next - read.next) 0) c.may_escape.ensures)
-          ∙ next_passed (Option (List ℕ)) label_end end_goes_on c.loop-read.escaped read.code content (content_codes (drop c.loop-read.end content)) read.next next reads.codes
+          ∙ next_passed (Option (List ℕ)) label_end end_goes_on c.loop-read.escaped read.code content
+          (content_codes (drop c.loop-read.end content)) read.next next reads.codes
           (sym c.ends_label.ensures ∙ c.if-ends_label.false) end
           ∙ c.loop-read.invariant.same;
     }

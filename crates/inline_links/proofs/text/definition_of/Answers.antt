@@ -13,7 +13,9 @@ text_of-requires c =
     let xs = c.args.content.now in
     let found : definition_at (content_codes xs) ≡ Some (definition_of c.in_ok-definition.definition) =
     ap (λ bytes. definition_at (content_codes bytes)) (sym c.as_bytes.ensures.value) ∙ sym c.in_ok-definition.ensures.read in
-    let title = (definition_texts (content_codes xs) (definition_of c.in_ok-definition.definition) (is_text xs (λ k. omega (arith, c.type_inv.content k)) c.utf8.content) found).title in
+    let title =
+    (definition_texts (content_codes xs) (definition_of c.in_ok-definition.definition)
+    (is_text xs (λ k. omega (arith, c.type_inv.content k)) c.utf8.content) found).title in
     subst (λ o. IfSome (option_map (λ text. content_codes text.now) o) IsText) c.in-Some.is title
 
 pub text_of-requires-2 : goal.text_of-requires-2
@@ -21,4 +23,5 @@ text_of-requires-2 c =
     let xs = c.args.content.now in
     let found : definition_at (content_codes xs) ≡ Some (definition_of c.in_ok-definition.definition) =
     ap (λ bytes. definition_at (content_codes bytes)) (sym c.as_bytes.ensures.value) ∙ sym c.in_ok-definition.ensures.read in
-    (definition_texts (content_codes xs) (definition_of c.in_ok-definition.definition) (is_text xs (λ k. omega (arith, c.type_inv.content k)) c.utf8.content) found).destination
+    (definition_texts (content_codes xs) (definition_of c.in_ok-definition.definition)
+    (is_text xs (λ k. omega (arith, c.type_inv.content k)) c.utf8.content) found).destination

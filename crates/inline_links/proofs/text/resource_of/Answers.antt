@@ -14,7 +14,8 @@ text_of-requires c =
     let xs = c.args.content.now in
     let found : resource_at (content_codes xs) ≡ Some (resource_of c.in_ok-read.read) =
     ap (λ bytes. resource_at (content_codes bytes)) (sym c.as_bytes.ensures.value) ∙ sym c.in_ok-read.ensures.read in
-    let title = (resource_text (content_codes xs) (resource_of c.in_ok-read.read) (is_text xs (λ k. omega (arith, c.type_inv.content k)) c.utf8.content) found).title in
+    let title =
+    (resource_text (content_codes xs) (resource_of c.in_ok-read.read) (is_text xs (λ k. omega (arith, c.type_inv.content k)) c.utf8.content) found).title in
     subst (λ o. IfSome (option_map (λ text. content_codes text.now) o) IsText) c.in-Some.is title
 
 pub text_of-requires-2 : goal.text_of-requires-2

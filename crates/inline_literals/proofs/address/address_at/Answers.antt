@@ -27,6 +27,7 @@ returns-clause-place c =
       first = subst (λ n. get_or before (length before - n) 0 < 128) (sym sizes)
           (first_byte before user protocol within some c.user_size-user.ensures.first c.protocol_size-protocol.ensures.first);
       last = subst (λ b. b < 128)
-          (ap (λ k. get_or (take host after) (k - 1) 0) taken ∙ get_or-take host after (host - 1) 0 (omega (arith, positive)) ∙ ap (λ k. get_or after (k - 1) 0) (sym count))
+          (ap (λ k. get_or (take host after) (k - 1) 0) taken ∙ get_or-take host after (host - 1) 0 (omega (arith, positive))
+          ∙ ap (λ k. get_or after (k - 1) 0) (sym count))
           last.1;
     }

@@ -23,8 +23,10 @@ returns-in-Some-clause-parts c =
     ap (address_at (take n text)) (sym c.from.ensures) ∙ sym c.address_at.ensures.read ∙ ap (option_map address_view) c.in-Some.is in
     c.loop-at.invariant
     ∙ found_address n text (address_view found) inside c.if-b-eq64.true le is
-    ∙ ap (λ k. map Data (take (n - found.before) text) ++ Literal (kind_view found.kind) (take k (drop (n - found.before) text)) ∷ with_addresses (drop (n + (1 + found.after)) text)) end
-    ∙ ap (λ k. map Data (take (n - found.before) text) ++ Literal (kind_view found.kind) (take ((n + 1 + found.after) - (n - found.before)) (drop (n - found.before) text)) ∷ with_addresses (drop k text)) more
+    ∙ ap (λ k. map Data (take (n - found.before) text) ++ Literal (kind_view found.kind) (take k (drop (n - found.before) text)) ∷ with_addresses
+    (drop (n + (1 + found.after)) text)) end
+    ∙ ap (λ k. map Data (take (n - found.before) text) ++ Literal (kind_view found.kind)
+    (take ((n + 1 + found.after) - (n - found.before)) (drop (n - found.before) text)) ∷ with_addresses (drop k text)) more
 
 pub returns-in-Some-clause-place : goal.returns-in-Some-clause-place
 returns-in-Some-clause-place c =
@@ -42,7 +44,8 @@ returns-in-Some-clause-place c =
       within = omega (arith, left, place.host_within, inside);
       first = subst (λ b. b < 128)
           (ap (λ k. get_or (take n text) (k - found.before) 0) size ∙ get_or-take n text (n - found.before) 0 (omega (arith, le, place.some))) place.first;
-      last = subst (λ b. b < 128) (ap (λ l. get_or l (found.after - 1) 0) c.from.ensures ∙ get_or-drop (n + 1) text (found.after - 1) 0 ∙ ap (λ k. get_or text k 0) end) place.last;
+      last = subst (λ b. b < 128) (ap (λ l. get_or l (found.after - 1) 0) c.from.ensures ∙ get_or-drop (n + 1) text (found.after - 1) 0
+          ∙ ap (λ k. get_or text k 0) end) place.last;
     }
 
 pub loop-at-preserved : goal.loop-at-preserved
@@ -52,6 +55,7 @@ loop-at-preserved c =
     let inside : n < length text = c.loop-at-test.true in
     elim c.if-b-eq64.branch [
       | then-b-eq64+in_default w ↦
-          c.loop-at.invariant ∙ no_address n text inside w.if-b-eq64.true (ap (address_at (take n text)) (sym w.from.ensures) ∙ sym w.address_at.ensures.read ∙ ap (option_map address_view) w.in_default.is)
+          c.loop-at.invariant ∙ no_address n text inside w.if-b-eq64.true (ap (address_at (take n text)) (sym w.from.ensures) ∙ sym w.address_at.ensures.read
+          ∙ ap (option_map address_view) w.in_default.is)
       | else-b-eq64 w ↦ c.loop-at.invariant ∙ other_code n text inside w.if-b-eq64.false
     ]

@@ -35,13 +35,15 @@ returns-in_default-clause-read g c =
     ∙ sym c.start_at.ensures.read ∙ ap (option_map start_view) c.in_default.is))
 
 pub cut_after-after-requires : goal.cut_after-after-requires
-cut_after-after-requires g c = start_end c.args.rest.now c.in-Some.start.size (subst (λ l. StartsLiteral l c.in-Some.start.size) c.as_bytes-2.ensures.value c.in-Some.ensures.front)
+cut_after-after-requires g c = start_end c.args.rest.now c.in-Some.start.size
+    (subst (λ l. StartsLiteral l c.in-Some.start.size) c.as_bytes-2.ensures.value c.in-Some.ensures.front)
 
 pub size_at-requires-clause-rest : goal.size_at-requires-clause-rest
 size_at-requires-clause-rest g c =
     let rest = c.args.rest.now in
     let begins = subst (λ l. StartsLiteral l c.in-Some.start.size) c.as_bytes-2.ensures.value c.in-Some.ensures.front in
-    rest_of_rest c.args.content.text.now rest c.cut_after-after.result.now c.in-Some.start.size c.requires.rest begins.plain.within c.cut_after-after.ensures.rest
+    rest_of_rest c.args.content.text.now rest c.cut_after-after.result.now c.in-Some.start.size c.requires.rest begins.plain.within
+    c.cut_after-after.ensures.rest
 
 pub returns-in_default-size_at-clause-read : goal.returns-in_default-size_at-clause-read
 returns-in_default-size_at-clause-read g c =
@@ -75,7 +77,8 @@ returns-clause-read g c =
     (ap may_begin (sym c.as_bytes.ensures.value) ∙ sym c.may_begin.ensures ∙ c.if-not-may_begin.false) c.if-not-on.false
     (ap (λ o. literal_start_at o rest) (sym c.previous.ensures) ∙ ap (literal_start_at c.previous.result) (sym c.as_bytes-2.ensures.value)
     ∙ sym c.start_at.ensures.read ∙ ap (option_map start_view) c.in-Some.is) begins
-    ∙ with_size p c.args.content.after marks c.args.content.text.now start rest size (ap (size_after p) (sym c.cut_after-after.ensures.rest) ∙ sym c.size_at.ensures.read ∙ c.in-Some-size_at.is) begins ends)
+    ∙ with_size p c.args.content.after marks c.args.content.text.now start rest size
+    (ap (size_after p) (sym c.cut_after-after.ensures.rest) ∙ sym c.size_at.ensures.read ∙ c.in-Some-size_at.is) begins ends)
 
 pub returns-clause-place : goal.returns-clause-place
 returns-clause-place g c =

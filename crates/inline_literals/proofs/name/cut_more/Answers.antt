@@ -1,6 +1,7 @@
 use Rattle.std.proofs.Common.{arith}
 use Rattle.inline_literals.proofs.Names.{more_found, none_for_size, none_for_end, none_for_other}
-use Rattle.inline_literals.proofs.name.cut_more.Goals.{else-size-gt0-via-then-size-gt0+then-size-before+else-before-size-eq38, else-size-gt0-via-then-size-gt0+else-size-before, else-size-gt0-via-else-size-gt0}
+use Rattle.inline_literals.proofs.name.cut_more.Goals.{else-size-gt0-via-then-size-gt0+then-size-before+else-before-size-eq38}
+use Rattle.inline_literals.proofs.name.cut_more.Goals.{else-size-gt0-via-then-size-gt0+else-size-before, else-size-gt0-via-else-size-gt0}
 use Rattle.inline_literals.proofs.name.cut_more.Goals as goal
 
 pub returns-then-before-size-eq38-clause-size : goal.returns-then-before-size-eq38-clause-size

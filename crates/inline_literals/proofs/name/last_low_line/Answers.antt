@@ -13,7 +13,8 @@ returns-in-95 c =
     record {
       within = omega (arith, now.within, some);
       refused = λ k le. now.rests k (omega (arith, le))
-          ∙ low_line_found c.loop-end.parts (end - k) (drop k domain) c.if-parts-gt0.true (omega (arith, le, some)) (omega (arith, now.within, length-drop k domain))
+          ∙ low_line_found c.loop-end.parts (end - k) (drop k domain) c.if-parts-gt0.true (omega (arith, le, some))
+          (omega (arith, now.within, length-drop k domain))
           (rest_last end k domain (omega (arith, le, some)) ∙ c.in-95.is);
     }
 

@@ -16,7 +16,8 @@ loop-end-preserved-then-is_trailing c =
     record {
       within = next.within;
       same = next.same;
-      next = λ less. next_cut text end c.cut_more.result c.loop-end-test.true now.within c.cut_more.ensures.within (among_ascii (codes "!\"'*,.:;?_~") _ refl is) c.cut_more.ensures.first;
+      next = λ less. next_cut text end c.cut_more.result c.loop-end-test.true now.within c.cut_more.ensures.within
+          (among_ascii (codes "!\"'*,.:;?_~") _ refl is) c.cut_more.ensures.first;
       closed = next.closed_is;
       opened = next.opened_is;
     }

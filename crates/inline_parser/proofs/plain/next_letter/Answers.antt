@@ -22,7 +22,9 @@ within bytes at n le is = omega (arith, le, is, length-drop at bytes, prefix_len
 pub overflow_add-result : goal.overflow_add-result
 overflow_add-result c =
     let bytes = c.args.bytes.now in
-    let le = within bytes c.args.at c.next_of.result c.requires (first bytes c.from.result.now c.args.at c.next_of.result c.type_inv.bytes c.from.ensures c.next_of.ensures) in
+    let le =
+    within bytes c.args.at c.next_of.result c.requires
+    (first bytes c.from.result.now c.args.at c.next_of.result c.type_inv.bytes c.from.ensures c.next_of.ensures) in
     search (rules, le)
 
 pub returns-clause-next : goal.returns-clause-next
@@ -32,4 +34,5 @@ returns-clause-next c =
 pub returns-clause-within : goal.returns-clause-within
 returns-clause-within c =
     let bytes = c.args.bytes.now in
-    within bytes c.args.at c.next_of.result c.requires (first bytes c.from.result.now c.args.at c.next_of.result c.type_inv.bytes c.from.ensures c.next_of.ensures)
+    within bytes c.args.at c.next_of.result c.requires
+    (first bytes c.from.result.now c.args.at c.next_of.result c.type_inv.bytes c.from.ensures c.next_of.ensures)

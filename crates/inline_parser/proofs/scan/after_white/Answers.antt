@@ -11,4 +11,5 @@ pub cut_after-requires : goal.cut_after-requires
 cut_after-requires c =
     let xs = c.args.text.now in
     let n = c.white_size-size.result in
-    white_end xs n (subst (λ s. IsWhite s n) c.as_bytes.ensures.value c.white_size-size.ensures.codes) (some_of n c.if-size-eq0.false) (λ k. omega (arith, c.type_inv.text k))
+    white_end xs n (subst (λ s. IsWhite s n) c.as_bytes.ensures.value c.white_size-size.ensures.codes) (some_of n c.if-size-eq0.false)
+    (λ k. omega (arith, c.type_inv.text k))

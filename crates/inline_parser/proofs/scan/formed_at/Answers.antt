@@ -14,5 +14,6 @@ returns-in-Link-clause-read g c names ds has =
     subst
     (λ (s : LabelStart).
     IfOk c.call_or_link.result
-    (λ found. IsFormed (labels_of ds.definitions) c.args.after.now found (formed_at context (start_view s) (content_codes c.args.text.now) (content_codes c.args.after.now))))
+    (λ found. IsFormed (labels_of ds.definitions) c.args.after.now found (formed_at context (start_view s) (content_codes c.args.text.now)
+    (content_codes c.args.after.now))))
     (sym c.in-Link.is) (c.call_or_link.ensures.read (labels_of ds.definitions) ds.footnotes has.defined has.noted)

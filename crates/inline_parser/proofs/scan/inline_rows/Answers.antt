@@ -16,7 +16,8 @@ returns-then-options g c ds has =
     let tables = c.args.tables.now in
     let leads = leads_to (linked_by ds.definitions) in
     let at = linked_at ds.definitions in
-    let kids = spans_from (context_by options (g.T.Tables.reference_of tables) ds) (view_at (g.T.Tables.punctuation_of tables) c.args.content c.args.start.now) in
+    let kids = spans_from (context_by options (g.T.Tables.reference_of tables) ds)
+    (view_at (g.T.Tables.punctuation_of tables) c.args.content c.args.start.now) in
     subst (λ k. IfOk c.linked.result (λ rows. rows_view at rows.items ≡ inline_rows leads k))
     (sym (cond-true options.constructs.gfm_autolink_literal (with_literals [] kids) kids c.if-options.true))
     (c.linked.ensures leads at kids (c.in_ok-rows.ensures ds has))

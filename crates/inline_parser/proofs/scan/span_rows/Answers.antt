@@ -5,7 +5,7 @@ use Rattle.definition_page.specs.InlinePieces.{leads_to}
 use Rattle.inline_rows.specs.InlineRows.{inline_rows}
 use Rattle.definition_inline.specs.Scan as scan
 use Rattle.definition_inline.specs.Scan.{whole_text}
-use Rattle.definition_inline.specs.Spans.{emphasized}
+use Rattle.definition_inline.specs.Spans.{with_spans}
 use Rattle.definition_page.specs.Targets.{linked_at, linked_by}
 use Rattle.inline_rows.specs.View.{rows_view}
 use Rattle.inline_links.specs.Codes.{IsRest}
@@ -62,5 +62,5 @@ returns g c ds has =
     let f = c.loop-source.invariant.follows ds has in
     let none = no_bytes c.loop-source.scanner.rest.now (sym c.loop-source-test.ensures) in
     let end = ap (scan.scan (context_by c.args.options.now names ds) 0 f.now) (sym (whole.last_view p content c.loop-source.scanner.rest.now none)) ∙ f.same in
-    subst (λ r. IfOk c.finish.result (λ rows. rows_view (linked_at ds.definitions) rows.items ≡ inline_rows leads (emphasized (whole_text r).tokens))) end
+    subst (λ r. IfOk c.finish.result (λ rows. rows_view (linked_at ds.definitions) rows.items ≡ inline_rows leads (with_spans (whole_text r).tokens))) end
     (c.finish.ensures.read leads (linked_at ds.definitions) f.now f.shows)

@@ -8,7 +8,9 @@ use Rattle.inline_references.proofs.Marked.{IsSized, closed_read, unclosed, unsi
 use Rattle.inline_references.proofs.Values.{value_byte_ascii}
 use Rattle.inline_references.proofs.Written.{taken_pass}
 use Rattle.inline_references.proofs.reference.reference_at.Goals as goal
-use Rattle.inline_references.proofs.reference.reference_at.Goals.{else-size-ge1-via-then-size-ge1+then-size-value_max+then-end-bytes+else-bytes-end-eq59, else-size-ge1-via-then-size-ge1+then-size-value_max+else-end-bytes, else-size-ge1-via-then-size-ge1+else-size-value_max, else-size-ge1-via-else-size-ge1}
+use Rattle.inline_references.proofs.reference.reference_at.Goals.{else-size-ge1-via-then-size-ge1+then-size-value_max+then-end-bytes+else-bytes-end-eq59}
+use Rattle.inline_references.proofs.reference.reference_at.Goals.{else-size-ge1-via-then-size-ge1+then-size-value_max+else-end-bytes}
+use Rattle.inline_references.proofs.reference.reference_at.Goals.{else-size-ge1-via-then-size-ge1+else-size-value_max, else-size-ge1-via-else-size-ge1}
 
 pub overflow_add-end : goal.overflow_add-end
 overflow_add-end c =
@@ -17,7 +19,8 @@ overflow_add-end c =
     let within = c.marker_of-marker.ensures.within in
     let rest = take_rest bytes start in
     let size : c.value_len-size.result ≤ length (drop start bytes) =
-    subst (λ n. n ≤ length (drop start bytes)) (sym c.value_len-size.ensures) (rw rest (prefix_len-le-length (is_value_byte c.marker_of-marker.result) (drop start bytes))) in
+    subst (λ n. n ≤ length (drop start bytes)) (sym c.value_len-size.ensures)
+    (rw rest (prefix_len-le-length (is_value_byte c.marker_of-marker.result) (drop start bytes))) in
     omega (arith, length-drop start bytes)
 
 pub returns-then-bytes-end-eq59-clause-place : goal.returns-then-bytes-end-eq59-clause-place
@@ -63,8 +66,11 @@ returns-else-size-ge1-clause-read c =
       size_is = c.value_len-size.ensures ∙ ap (prefix_len (is_value_byte marker)) (take_rest bytes start);
     } in
     elim c.else-size-ge1.branch [
-      | else-size-ge1-via-then-size-ge1+then-size-value_max+then-end-bytes+else-bytes-end-eq59 w ↦ unclosed bytes marker start size sized (λ lt e. w.if-bytes-end-eq59.false e)
-      | else-size-ge1-via-then-size-ge1+then-size-value_max+else-end-bytes w ↦ unclosed bytes marker start size sized (λ lt e. omega (arith, w.if-end-bytes.false))
-      | else-size-ge1-via-then-size-ge1+else-size-value_max w ↦ unsized bytes marker start size sized (grind (arith, nat_tests, w.value_max.ensures, w.if-size-value_max.false))
+      | else-size-ge1-via-then-size-ge1+then-size-value_max+then-end-bytes+else-bytes-end-eq59 w ↦ unclosed bytes marker start size sized
+          (λ lt e. w.if-bytes-end-eq59.false e)
+      | else-size-ge1-via-then-size-ge1+then-size-value_max+else-end-bytes w ↦ unclosed bytes marker start size sized
+          (λ lt e. omega (arith, w.if-end-bytes.false))
+      | else-size-ge1-via-then-size-ge1+else-size-value_max w ↦ unsized bytes marker start size sized
+          (grind (arith, nat_tests, w.value_max.ensures, w.if-size-value_max.false))
       | else-size-ge1-via-else-size-ge1 w ↦ unsized bytes marker start size sized (grind (arith, nat_tests, w.if-size-ge1.false))
     ]

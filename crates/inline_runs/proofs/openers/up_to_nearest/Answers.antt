@@ -4,13 +4,15 @@ use Rattle.inline_runs.proofs.openers.up_to_nearest.Goals as goal
 
 pub returns-then-opener-floor-clause-none : goal.returns-then-opener-floor-clause-none
 returns-then-opener-floor-clause-none c =
-    λ k h lt. below_floor c.args.openers.now c.args.want.now c.args.floor c.loop-count.count _ c.loop-count-test.true c.loop-count.invariant.within c.if-opener-floor.true c.requires
+    λ k h lt. below_floor c.args.openers.now c.args.want.now c.args.floor c.loop-count.count _ c.loop-count-test.true c.loop-count.invariant.within
+    c.if-opener-floor.true c.requires
     c.loop-count.invariant.none k lt
 
 pub loop-count-preserved : goal.loop-count-preserved
 loop-count-preserved c = record {
   within = omega arith;
   none =
-      one_less c.args.openers.now c.args.want.now c.loop-count.count _ c.loop-count-test.true c.loop-count.invariant.within (sym c.fits.ensures ∙ c.if-fits.false)
+      one_less c.args.openers.now c.args.want.now c.loop-count.count _ c.loop-count-test.true c.loop-count.invariant.within
+      (sym c.fits.ensures ∙ c.if-fits.false)
       c.loop-count.invariant.none;
 }

@@ -47,7 +47,8 @@ loop-place-preserved g c =
     let size = part_size c.loop-place.rows slot run.size (omega arith) in
     let same : slot + run.size - slot ≡ run.size = omega arith in
     record {
-      count = length-over c.loop-place.rows c.tell_run.new.rows slot (slot + run.size - slot) (omega arith) (c.tell_run.ensures.length ∙ size ∙ sym same) ∙ count;
+      count = length-over c.loop-place.rows c.tell_run.new.rows slot (slot + run.size - slot) (omega arith) (c.tell_run.ensures.length ∙ size ∙ sym same)
+          ∙ count;
       told = λ leads at outer inner tokens old container.
           subst (λ n. IsTold leads at outer tokens runs slots (place + 1) (put_mid slot n c.loop-place.rows c.tell_run.new.rows)) (sym same)
           (one_told leads at outer tokens runs slots place no_run c.loop-place.rows c.tell_run.new.rows c.loop-place-test.true c.requires.same
@@ -70,4 +71,5 @@ returns-then-is_empty-clause-told g c leads at outer inner tokens same container
     let slots = c.args.slots.now in
     let rows = c.args.rows.now in
     let none : length runs ≡ 0 = eqb-true (length runs) 0 (sym c.is_empty.ensures ∙ c.if-is_empty.true) in
-    all_told leads at outer inner tokens runs slots 0 rows (omega (arith, none)) container (none_told leads at outer inner tokens runs slots rows same container)
+    all_told leads at outer inner tokens runs slots 0 rows (omega (arith, none)) container
+    (none_told leads at outer inner tokens runs slots rows same container)

@@ -19,7 +19,9 @@ no_text false known h = refl
 
 pub returns-in-Ok : goal.returns-in-Ok
 returns-in-Ok g c =
-    c.is_some.ensures ∙ (copied_some c.reference.result ∙ (ap is_some (c.reference.ensures ∙ ap (g.T.Tables.reference_of c.args.tables.now) c.in-Ok.ensures.cases.0) ∙ is_text c.args.name.now _ c.in-Ok.ensures.cases.1))
+    c.is_some.ensures ∙ (copied_some c.reference.result
+    ∙ (ap is_some (c.reference.ensures ∙ ap (g.T.Tables.reference_of c.args.tables.now) c.in-Ok.ensures.cases.0)
+    ∙ is_text c.args.name.now _ c.in-Ok.ensures.cases.1))
 
 pub returns-in-Err : goal.returns-in-Err
 returns-in-Err g c = no_text (is_utf8 c.args.name.now) _ (λ e. c.in-Err.ensures.cases.0 (IsUtf8-from_is_utf8 c.args.name.now e))

@@ -16,6 +16,8 @@ returns-clause-edits g c =
     let paired = c.requires.paired in
     let become : c.in_ok-all.all.items ≡ run_events all k (place_at events at) =
     c.in_ok-all.ensures.events
-    ∙ (same_run c.args.runs.now k _ c.spans.result c.place_at-point.result c.requires.place (c.spans.ensures.closed all paired) (c.spans.ensures.opened all paired) (c.spans.ensures.rows all paired)
+    ∙ (same_run c.args.runs.now k _ c.spans.result c.place_at-point.result c.requires.place (c.spans.ensures.closed all paired)
+    (c.spans.ensures.opened all paired) (c.spans.ensures.rows all paired)
     ∙ ap (run_events all k) (c.place_at-point.ensures ∙ ap (place_at events) c.entry_at-entry.ensures)) in
-    c.in_ok-add.ensures.edits ∙ edit_alike c.entry_at-entry.result at c.in_ok-all.all.items (run_events all k (place_at events at)) (edits_of c.args.edits.now) c.entry_at-entry.ensures become
+    c.in_ok-add.ensures.edits ∙ edit_alike c.entry_at-entry.result at c.in_ok-all.all.items (run_events all k (place_at events at))
+    (edits_of c.args.edits.now) c.entry_at-entry.ensures become

@@ -1,13 +1,13 @@
 use Rattle.std.proofs.Common.{◌≡◌, ◌∙◌, ◌-◌, List, [], take, drop, sym, ap}
 use Rattle.engine_events.specs.declared.event.Event.{Event}
 use Rattle.inline_leaves.specs.Leaves.{kind_view}
-use Rattle.inline_states_resolvers.specs.GfmAutolinkLiteral.{Linking, linked, linking, with_address, with_data}
+use Rattle.inline_states_resolvers.specs.GfmAutolinkLiteral.{Linking, with_links, linking, with_address, with_data}
 use Rattle.inline_states_resolvers.specs.Views.{linking_view}
 use Rattle.inline_states_resolvers.proofs.GfmAutolinkLiteral.{found_linked, rest_linked}
 use Rattle.inline_states_resolvers.proofs.gfm_autolink_literal.address_events.Goals as goal
 
 pub loop-found-init : goal.loop-found-init
-loop-found-init g c = ap (λ (es : List Event). linked (linking es c.args.point []) c.args.run.now) c.new.ensures.items
+loop-found-init g c = ap (λ (es : List Event). with_links (linking es c.args.point []) c.args.run.now) c.new.ensures.items
 
 pub loop-found-preserved : goal.loop-found-preserved
 loop-found-preserved g c =
@@ -16,8 +16,10 @@ loop-found-preserved g c =
     let kind = kind_view found.kind in
     let before = linking_view c.loop-found.linking (take found.start text) in
     let held : linking_view c.hold.new.self [] ≡ with_data before = rw (c.part.ensures) at c.in_ok-hold.ensures.held in
-    let here : linking_view c.link.new.self [] ≡ with_address kind (take (found.end - found.start) (drop found.start text)) (linking_view c.hold.new.self []) = rw (c.part-in-Some.ensures) at c.in_ok-link.ensures.linked in
-    rw (c.from-rest.ensures) (ap (λ (l : Linking). linked l (drop found.end text)) (here ∙ ap (with_address kind (take (found.end - found.start) (drop found.start text))) held)
+    let here : linking_view c.link.new.self [] ≡ with_address kind (take (found.end - found.start) (drop found.start text)) (linking_view c.hold.new.self []) =
+    rw (c.part-in-Some.ensures) at c.in_ok-link.ensures.linked in
+    rw (c.from-rest.ensures) (ap (λ (l : Linking). with_links l (drop found.end text))
+    (here ∙ ap (with_address kind (take (found.end - found.start) (drop found.start text))) held)
     ∙ sym (found_linked (linking_view c.loop-found.linking []) text found c.in-Some.ensures.parts)
     ∙ c.loop-found.invariant)
 

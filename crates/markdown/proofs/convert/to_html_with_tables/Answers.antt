@@ -7,7 +7,8 @@ pub returns-clause-page : goal.returns-clause-page
 returns-clause-page g c =
     let tables = text_tables (g.T.Tables.reference_of c.args.tables.now) (g.T.Tables.punctuation_of c.args.tables.now) in
     let mark = c.without_mark-before in
-    marked_page tables c.args.options.now c.args.value.now mark.result.0 mark.result.1.now (string_bytes c.in_ok-page.page) mark.ensures.kind mark.ensures.text c.in_ok-page.ensures
+    marked_page tables c.args.options.now c.args.value.now mark.result.0 mark.result.1.now
+    (string_bytes c.in_ok-page.page) mark.ensures.kind mark.ensures.text c.in_ok-page.ensures
 
 pub returns-clause-safe : goal.returns-clause-safe
 returns-clause-safe g c =

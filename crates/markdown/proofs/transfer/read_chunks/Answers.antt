@@ -8,12 +8,14 @@ pub returns-in_err-read_chunk-clause-size : goal.returns-in_err-read_chunk-claus
 returns-in_err-read_chunk-clause-size g c =
     let p = err_from_is_err_and c.from_residual.result c.from_residual.ensures.1 in
     let so_far = c.loop.invariant in
-    rw (p.1, p.2) (RefusesPast-after _ _ _ c.loop.bytes.items SIZE_MAX (vec_len c.loop.bytes) _ c.loop.bytes.ok.0 so_far.fits so_far.known c.in_err-read_chunk.ensures.size)
+    rw (p.1, p.2) (RefusesPast-after _ _ _ c.loop.bytes.items SIZE_MAX (vec_len c.loop.bytes) _ c.loop.bytes.ok.0 so_far.fits so_far.known
+    c.in_err-read_chunk.ensures.size)
 
 pub returns-then-branch-eq0-clause-ok : goal.returns-then-branch-eq0-clause-ok
 returns-then-branch-eq0-clause-ok g c =
     let k = c.in_ok-read_chunk.ensures in
-    Consumes-all_read _ _ c.read_chunk.new.bytes.items (Consumes-next _ _ _ c.loop.bytes.items c.read_chunk.new.bytes.items c.loop.invariant.known k.appends k.known) (k.last c.if-branch-eq0.true)
+    Consumes-all_read _ _ c.read_chunk.new.bytes.items
+    (Consumes-next _ _ _ c.loop.bytes.items c.read_chunk.new.bytes.items c.loop.invariant.known k.appends k.known) (k.last c.if-branch-eq0.true)
 
 pub returns-then-branch-eq0-clause-size : goal.returns-then-branch-eq0-clause-size
 returns-then-branch-eq0-clause-size g c =

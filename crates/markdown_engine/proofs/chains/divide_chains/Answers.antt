@@ -4,7 +4,7 @@ use Rattle.engine_events.specs.declared.event.Content.{Content}
 use Rattle.engine_events.specs.declared.event.Event.{Event}
 use Rattle.engine_edits.specs.Edits.{edits_of}
 use Rattle.engine_chunks.specs.Chunks.{chunks}
-use Rattle.engine_chunks.specs.Parts.{counts, divided}
+use Rattle.engine_chunks.specs.Parts.{counts, with_division}
 use Rattle.markdown_engine.specs.Chains.{AreApart, Chain, ReadsChain, chains, chains_from, chunks_of}
 use Rattle.markdown_engine.specs.Context.{context}
 use Rattle.markdown_engine.specs.Resolving.{found_both, found_in}
@@ -18,9 +18,12 @@ read_chain-requires-clause-apart g c =
     let i = c.loop-index.index in
     let content = c.in-Some.content in
     let rest : List Chain = chains_from c.args.filter (i + 1) (drop (i + 1) events) in
-    let here : chains_from c.args.filter i (drop i events) ≡ (i, content) ∷ rest = chains_at c.args.filter i (drop i events) (drop (i + 1) events) _ (Some content) (drop_more events i _ c.loop-index-test.true) (sym c.chain_content.ensures ∙ c.in-Some.is) in
+    let here : chains_from c.args.filter i (drop i events) ≡ (i, content) ∷ rest =
+    chains_at c.args.filter i (drop i events) (drop (i + 1) events) _ (Some content) (drop_more events i _ c.loop-index-test.true)
+    (sym c.chain_content.ensures ∙ c.in-Some.is) in
     let from = c.loop-index.invariant.from in
-    let apart : AreApart from (chunks_of events ((i, content) ∷ rest)) (length events) = subst (λ (z : List Chain). AreApart from (chunks_of events z) (length events)) here c.loop-index.invariant.apart in
+    let apart : AreApart from (chunks_of events ((i, content) ∷ rest)) (length events) =
+    subst (λ (z : List Chain). AreApart from (chunks_of events z) (length events)) here c.loop-index.invariant.apart in
     apart_all from (chunks events i) (length events) (apart_front from (chunks events i) (chunks_of events rest) (length events) apart)
 
 is_none : (b : Option Content) → ((x : Content) → b ≡ Some x → ⊥) → b ≡ None
@@ -46,17 +49,31 @@ loop-index-preserved g c =
           let content = w.in-Some.content in
           let children = w.in_ok-children.children.items in
           let more = found_in w.in_ok-children.more in
-          let here : chains_from filter i (drop i events) ≡ (i, content) ∷ rest = chains_at filter i (drop i events) (drop (i + 1) events) _ (Some content) (drop_more events i _ c.loop-index-test.true) (sym c.chain_content.ensures ∙ w.in-Some.is) in
+          let here : chains_from filter i (drop i events) ≡ (i, content) ∷ rest =
+          chains_at filter i (drop i events) (drop (i + 1) events) _ (Some content) (drop_more events i _ c.loop-index-test.true)
+          (sym c.chain_content.ensures ∙ w.in-Some.is) in
           let reads : ReadsChain step resolve bytes machine events (i, content) children more = w.in_ok-children.ensures.reads in
           let given = w.deref.result.now in
-          let read : ReadsChain step resolve bytes machine events (i, content) given more = subst (λ (z : List Event). ReadsChain step resolve bytes machine events (i, content) z more) (sym w.deref.ensures.value) reads in
-          let counted : c.match-chain_content.counts ≡ counts events (chunks events i) given 0 c.loop-index.counts.0 c.loop-index.counts.1 = w.counts-is ∙ w.in_ok-counts.ensures.counts in
-          let made : edits_of c.match-chain_content.map ≡ divided events i given c.loop-index.counts (edits_of c.loop-index.map) = rw w.map-is w.in_ok-counts.ensures.edits in
+          let read : ReadsChain step resolve bytes machine events (i, content) given more =
+          subst (λ (z : List Event). ReadsChain step resolve bytes machine events (i, content) z more) (sym w.deref.ensures.value) reads in
+          let counted : c.match-chain_content.counts ≡ counts events (chunks events i) given 0 c.loop-index.counts.0 c.loop-index.counts.1 =
+          w.counts-is ∙ w.in_ok-counts.ensures.counts in
+          let made : edits_of c.match-chain_content.map ≡ with_division events i given c.loop-index.counts (edits_of c.loop-index.map) =
+          rw w.map-is w.in_ok-counts.ensures.edits in
           let both : found_in w.add_found.new.found ≡ found_both (found_in c.loop-index.found) more = w.in_ok-add_found.ensures.found in
-          let on = dividing_on valid step resolve bytes machine events (chains_from filter i (drop i events)) rest (i, content) given more c.loop-index.counts c.match-chain_content.counts (edits_of c.loop-index.map) (edits_of c.match-chain_content.map) (found_in c.loop-index.found) (found_in w.add_found.new.found) c.loop-index.found.done all old here read counted made both c.loop-index.invariant in
+          let on = dividing_on valid step resolve bytes machine events (chains_from filter i (drop i events)) rest (
+            i,
+            content,
+          ) given more c.loop-index.counts c.match-chain_content.counts (edits_of c.loop-index.map) (edits_of c.match-chain_content.map)
+          (found_in c.loop-index.found) (found_in w.add_found.new.found) c.loop-index.found.done all old here read counted made both
+          c.loop-index.invariant in
           rw w.found-is on)
       | in_default w ↦ (
-          let here : chains_from filter i (drop i events) ≡ rest = chains_at filter i (drop i events) (drop (i + 1) events) _ None (drop_more events i _ c.loop-index-test.true) (sym c.chain_content.ensures ∙ is_none c.chain_content.result w.in_default.not-Some) in
-          let kept = subst (λ (z : List Chain). Dividing valid step resolve bytes machine events z c.loop-index.counts (edits_of c.loop-index.map) (found_in c.loop-index.found) c.loop-index.found.done all old) here c.loop-index.invariant in
+          let here : chains_from filter i (drop i events) ≡ rest =
+          chains_at filter i (drop i events) (drop (i + 1) events) _ None (drop_more events i _ c.loop-index-test.true)
+          (sym c.chain_content.ensures ∙ is_none c.chain_content.result w.in_default.not-Some) in
+          let kept =
+          subst (λ (z : List Chain). Dividing valid step resolve bytes machine events z c.loop-index.counts (edits_of c.loop-index.map)
+          (found_in c.loop-index.found) c.loop-index.found.done all old) here c.loop-index.invariant in
           rw w.found-is (rw w.counts-is (rw w.map-is kept)))
     ]

@@ -12,6 +12,7 @@ returns-then-not-follows c more h =
     let k = get_or chain i 0 in
     let rest : List ℕ = drop (i + 1) chain ++ more in
     let left : AreApart end (drop i chain ++ more) c.args.count = (c.loop-chunk.invariant.1 more).0 h in
-    let apart : AreApart end (k ∷ rest) c.args.count = subst (λ (z : List ℕ). AreApart end (z ++ more) c.args.count) (drop_more chain i 0 c.loop-chunk-test.true) left in
+    let apart : AreApart end (k ∷ rest) c.args.count =
+    subst (λ (z : List ℕ). AreApart end (z ++ more) c.args.count) (drop_more chain i 0 c.loop-chunk-test.true) left in
     let holds = c.follows.ensures.1 (apart.0, apart_first end k rest c.args.count apart) in
     absurd (let e : false ≡ true = subst (λ (z : Bool). IsTrue z) c.if-not-follows.true holds in cc)

@@ -13,7 +13,11 @@ loop-to-preserved c =
     let less = step_less c.args.bytes.now c.args.to c.loop-to.place c.requires.to.within c.requires.to.column e in
     let far = c.loop-to.invariant.forward in
     subst (λ (v : VirtualByte). Walking c.args.bytes.now c.args.to c.args.point v.next) (sym c.virtual_byte.ensures)
-    (record { rest = λ q w. c.loop-to.invariant.rest q (over e w); forward = omega (arith, less, far); order = reaches_on _ _ _ c.loop-to.invariant.order (step_reaches c.loop-to.place c.args.bytes.now) })
+    (record {
+      rest = λ q w. c.loop-to.invariant.rest q (over e w);
+      forward = omega (arith, less, far);
+      order = reaches_on _ _ _ c.loop-to.invariant.order (step_reaches c.loop-to.place c.args.bytes.now);
+    })
 
 pub loop-to-smaller : goal.loop-to-smaller
 loop-to-smaller c =

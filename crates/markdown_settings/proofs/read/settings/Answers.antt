@@ -1,6 +1,7 @@
 use Rattle.std.proofs.Common.{Bool, List, Ok, Err, OnOk, Result, ap, ap₂, codes, inl, inr, map, refl, string_bytes, subst, sym, true, ◌≡◌, ◌∙◌}
 use Rattle.std.proofs.lemmas.Result.{IfOk-weaker}
-use Rattle.clap.specs.Words.{App, IsAmong, Kinds, Text, fault_of, kind_of, first_of, first_value, found_of, is_simple, is_simple_and_free, matches_of, rows_of, takes}
+use Rattle.clap.specs.Words.{App, IsAmong, Kinds, Text, fault_of, kind_of, first_of, first_value, found_of, is_simple, is_simple_and_free, matches_of, rows_of}
+use Rattle.clap.specs.Words.{takes}
 use Rattle.clap.proofs.OnLiterals.{clap_on_literals}
 use Rattle.clap.proofs.WalkLemmas.{first_value-rows}
 use Rattle.clap.specs.Simple.{HasMatchesOf}
@@ -23,7 +24,8 @@ rows_are : (app : App) (words : List Text) (m : ArgMatches) → app ≡ markdown
 unfolding rows_of_words
 rows_are app words m e h = (h (ap is_simple e ∙ is_simple_command)).0 ∙ ap (λ a. matches_of a words) e
 
-value_is : (app : App) (words : List Text) (m : ArgMatches) (id : Text) → app ≡ markdown_command → HasMatchesOf app words m → first_value (found_of m) id ≡ first_of id (rows_of_words words)
+value_is : (app : App) (words : List Text) (m : ArgMatches) (id : Text) → app ≡ markdown_command → HasMatchesOf app words m
+    → first_value (found_of m) id ≡ first_of id (rows_of_words words)
 value_is app words m id e h = first_value-rows (found_of m) id ∙ ap (first_of id) (rows_are app words m e h)
 
 faults_are : (app : App) (words : List Text) → app ≡ markdown_command → fault_of app words ≡ faults_of words
@@ -36,7 +38,8 @@ on_ok (Err e) p = tt
 
 pub returns-in-Ok-clause-options : goal.returns-in-Ok-clause-options
 returns-in-Ok-clause-options c =
-    let value : (id : Text) → is_true_text (first_value (found_of c.in-Ok.matches) id) ≡ is_true_text (first_of id (rows_of_words (map string_bytes c.args.words.now))) =
+    let value : (id : Text) → is_true_text (first_value (found_of c.in-Ok.matches) id)
+    ≡ is_true_text (first_of id (rows_of_words (map string_bytes c.args.words.now))) =
     λ id. ap is_true_text (value_is _ _ _ id c.in_ok-command.ensures c.in-Ok.ensures.matches) in
     let options =
     ap₂ (λ (of : Bool → Options) plain. of plain) (ap₂ flag_options (value (codes "gfm")) (value (codes "dangerous"))) (value (codes "plain")) in

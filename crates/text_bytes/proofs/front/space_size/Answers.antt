@@ -9,7 +9,9 @@ use Rattle.text_bytes.proofs.front.space_size.Goals as goal
 pub returns-clause-size : goal.returns-clause-size
 returns-clause-size c =
     let first =
-    IsFirst-from_position _ _ _ (λ x. is_space x ≡ false) (λ x. is_space x ≡ true) c.position.ensures.ran (YieldsList-from_slice c.args.bytes.now cc) (λ x q k. search (rules, tests))
+    IsFirst-from_position _ _ _ (λ x. is_space x ≡ false) (λ x. is_space x ≡ true) c.position.ensures.ran (YieldsList-from_slice c.args.bytes.now cc)
+    (λ x q k. search (rules, tests))
     (λ x q k. search (rules, tests)) in
     c.unwrap_or.ensures
-    ∙ sym (index_from_first (prefix_len is_space) (λ x. is_space x ≡ false) (λ x. is_space x ≡ true) refl (λ x xs h. cond-false (is_space x) _ _ h) (λ x xs h. cond-true (is_space x) _ _ h ∙ omega arith) c.args.bytes.now c.position.result first)
+    ∙ sym (index_from_first (prefix_len is_space) (λ x. is_space x ≡ false) (λ x. is_space x ≡ true) refl (λ x xs h. cond-false (is_space x) _ _ h)
+    (λ x xs h. cond-true (is_space x) _ _ h ∙ omega arith) c.args.bytes.now c.position.result first)

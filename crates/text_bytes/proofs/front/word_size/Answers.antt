@@ -9,8 +9,10 @@ use Rattle.text_bytes.proofs.front.word_size.Goals as goal
 pub returns-clause-size : goal.returns-clause-size
 returns-clause-size c =
     let first =
-    IsFirst-from_position _ _ _ (λ x. is_space x ≡ true) (λ x. is_space x ≡ false) c.position.ensures.ran (YieldsList-from_slice c.args.bytes.now cc) (λ x q k. search (rules, tests))
+    IsFirst-from_position _ _ _ (λ x. is_space x ≡ true) (λ x. is_space x ≡ false) c.position.ensures.ran (YieldsList-from_slice c.args.bytes.now cc)
+    (λ x q k. search (rules, tests))
     (λ x q k. search (rules, tests)) in
     c.unwrap_or.ensures
-    ∙ sym (index_from_first (position_or_len is_space) (λ x. is_space x ≡ true) (λ x. is_space x ≡ false) refl (λ x xs h. cond-false (not (is_space x)) _ _ (ap not h))
+    ∙ sym (index_from_first (position_or_len is_space) (λ x. is_space x ≡ true) (λ x. is_space x ≡ false) refl
+    (λ x xs h. cond-false (not (is_space x)) _ _ (ap not h))
     (λ x xs h. cond-true (not (is_space x)) _ _ (ap not h) ∙ omega arith) c.args.bytes.now c.position.result first)

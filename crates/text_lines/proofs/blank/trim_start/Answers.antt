@@ -8,7 +8,8 @@ use Rattle.text_lines.proofs.blank.trim_start.Goals as goal
 pub range_from-requires : goal.range_from-requires
 range_from-requires c =
     let t = c.args.text.now in
-    λ pos. boundary_after t c.loop-i.i c.utf8.text (omega arith) (λ k e. space_ascii (get_or t k 0) (omega (arith, c.type_inv.text k)) (c.loop-i.invariant k (omega arith)))
+    λ pos. boundary_after t c.loop-i.i c.utf8.text (omega arith) (λ k e. space_ascii (get_or t k 0) (omega (arith, c.type_inv.text k))
+    (c.loop-i.invariant k (omega arith)))
 
 pub returns-then-not-is_space_or_tab : goal.returns-then-not-is_space_or_tab
 returns-then-not-is_space_or_tab c =

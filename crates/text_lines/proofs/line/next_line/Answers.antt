@@ -9,7 +9,8 @@ pub returns-clause-first : goal.returns-clause-first
 returns-clause-first c =
     let ending = c.split_ending-ending.result.0 in
     ap (λ content. text_line content ending) c.split_content.ensures.content
-    ∙ sym (first_line_is c.args.text.now c.split_content.result.1.now ending c.split_ending-ending.result.1.now c.split_content.ensures.after c.split_ending-ending.ensures)
+    ∙ sym (first_line_is c.args.text.now c.split_content.result.1.now ending c.split_ending-ending.result.1.now c.split_content.ensures.after
+    c.split_ending-ending.ensures)
 
 pub returns-clause-shorter : goal.returns-clause-shorter
 returns-clause-shorter c =

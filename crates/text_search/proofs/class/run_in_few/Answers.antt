@@ -5,8 +5,10 @@ use Rattle.text_search.proofs.class.run_in_few.Goals as goal
 
 pub returns-else-not-is_outside : goal.returns-else-not-is_outside
 returns-else-not-is_outside c =
-    sym (position_or_len_is (is_outside c.args.class) c.args.bytes.now c.loop-at.at 0 c.loop-at.invariant.0 c.loop-at.invariant.1 (λ inside. sym c.if-not-is_outside.ensures))
+    sym (position_or_len_is (is_outside c.args.class) c.args.bytes.now c.loop-at.at 0 c.loop-at.invariant.0 c.loop-at.invariant.1
+    (λ inside. sym c.if-not-is_outside.ensures))
 
 pub returns-after-loop-at : goal.returns-after-loop-at
 returns-after-loop-at c =
-    sym (position_or_len_is (is_outside c.args.class) c.args.bytes.now c.loop-at.at 0 c.loop-at.invariant.0 c.loop-at.invariant.1 (λ inside. absurd (omega (arith, c.loop-at-test.false, inside))))
+    sym (position_or_len_is (is_outside c.args.class) c.args.bytes.now c.loop-at.at 0 c.loop-at.invariant.0 c.loop-at.invariant.1
+    (λ inside. absurd (omega (arith, c.loop-at-test.false, inside))))

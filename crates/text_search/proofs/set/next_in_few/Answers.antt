@@ -5,8 +5,10 @@ use Rattle.text_search.proofs.set.next_in_few.Goals as goal
 
 pub returns-else-not-holds : goal.returns-else-not-holds
 returns-else-not-holds c =
-    sym (position_or_len_is (holds c.args.set) c.args.bytes.now c.loop-at.at 0 c.loop-at.invariant.0 c.loop-at.invariant.1 (λ inside. sym c.if-not-holds.ensures))
+    sym (position_or_len_is (holds c.args.set) c.args.bytes.now c.loop-at.at 0 c.loop-at.invariant.0 c.loop-at.invariant.1
+    (λ inside. sym c.if-not-holds.ensures))
 
 pub returns-after-loop-at : goal.returns-after-loop-at
 returns-after-loop-at c =
-    sym (position_or_len_is (holds c.args.set) c.args.bytes.now c.loop-at.at 0 c.loop-at.invariant.0 c.loop-at.invariant.1 (λ inside. absurd (omega (arith, c.loop-at-test.false, inside))))
+    sym (position_or_len_is (holds c.args.set) c.args.bytes.now c.loop-at.at 0 c.loop-at.invariant.0 c.loop-at.invariant.1
+    (λ inside. absurd (omega (arith, c.loop-at-test.false, inside))))

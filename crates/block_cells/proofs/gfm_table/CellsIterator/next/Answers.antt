@@ -9,7 +9,8 @@ pub returns-clause-steps : goal.returns-clause-steps
 returns-clause-steps c =
     ap (λ l. without_blank_last (parts_if l)) c.in-Some.is ∙ ap without_blank_last c.split_part.ensures
     ∙ elim c.else-is_none.branch [
-      | else-is_none-via-then-is_none+else-is_blank_part w ↦ filled_part (cell_view c.split_part.result.0) c.split_part.result.1 (sym w.is_blank_part.ensures ∙ w.if-is_blank_part.false)
+      | else-is_none-via-then-is_none+else-is_blank_part w ↦ filled_part (cell_view c.split_part.result.0) c.split_part.result.1
+          (sym w.is_blank_part.ensures ∙ w.if-is_blank_part.false)
       | else-is_none-via-else-is_none w ↦ followed_part (cell_view c.split_part.result.0) c.split_part.result.1 w.if-is_none.ensures
     ]
 

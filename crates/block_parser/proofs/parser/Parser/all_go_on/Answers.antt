@@ -10,5 +10,6 @@ returns-clause-began g c = λ yes t h.
     let p = c.args.self.now in
     quotes.none_began t (container_views p.open.items) h.opened
     (λ around kids inner_kids holder inner deep same.
-    sym (c.began_blank.ensures around kids inner_kids holder inner (omega (arith, deep, c.len.ensures, p.open.ok.0, closing.views_length p.open.items)) (subst (HasRead p) (sym same) h))
+    sym (c.began_blank.ensures around kids inner_kids holder inner (omega (arith, deep, c.len.ensures, p.open.ok.0, closing.views_length p.open.items))
+    (subst (HasRead p) (sym same) h))
     ∙ quotes.not_true c.began_blank.result yes)

@@ -14,7 +14,8 @@ use Rattle.block_parser.proofs.parser.Parser.close_before_head.Goals as goal
 pub returns-then-count-le1-clause-read : goal.returns-then-count-le1-clause-read
 returns-then-count-le1-clause-read g c = λ ls around kids h.
     let p = c.args.self.now in
-    let left = leaves.all_left p.rows.rows.items p.rows.waiting.items p.rows.bare (piece_lines p.pieces.items) around kids ls h.written (leaves.enough_lines p) in
+    let left = leaves.all_left p.rows.rows.items p.rows.waiting.items p.rows.bare (piece_lines p.pieces.items) around kids ls h.written
+    (leaves.enough_lines p) in
     few ls around kids (omega (arith, left, length-map p.pieces.items piece_line, p.counted, p.pieces.ok.0, c.len.ensures, c.if-count-le1.true)) h
   where
     few : (ls : List BlockLine) (around : List Level) (kids : Blocks) → length ls ≤ 1 → HasRead c.args.self.now (spine around kids (Text ls))
@@ -27,7 +28,8 @@ pub returns-clause-read : goal.returns-clause-read
 returns-clause-read g c =
     on_ok_weaker c.take_lines.result (λ reads. λ ls around kids h.
     let p = c.args.self.now in
-    let left = leaves.all_left p.rows.rows.items p.rows.waiting.items p.rows.bare (piece_lines p.pieces.items) around kids ls h.written (leaves.enough_lines p) in
+    let left = leaves.all_left p.rows.rows.items p.rows.waiting.items p.rows.bare (piece_lines p.pieces.items) around kids ls h.written
+    (leaves.enough_lines p) in
     let long = length-map p.pieces.items piece_line in
     let n = c.len.result - p.lines_in_rows - 1 in
     let head : n ≡ length ls - 1 = omega (arith, left, long, p.counted, p.pieces.ok.0, c.len.ensures) in

@@ -2,7 +2,7 @@ use Rattle.std.proofs.Common.{◌≡◌, ◌-◌, ◌∷◌, [], Option, false, 
 use Rattle.std.proofs.lemmas.List.{length-map, take_all}
 use Rattle.std.proofs.lemmas.Result.{on_ok_weaker}
 use Rattle.markdown_options.specs.declared.line_ending.LineEnding.{LineEnding}
-use Rattle.definition_block.specs.Tree.{FencedCode, ended, join, Text, Fenced}
+use Rattle.definition_block.specs.Tree.{FencedCode, block_and_ending, join, Text, Fenced}
 use Rattle.block_rows.specs.Rows.{piece_lines, piece_line, Single}
 use Rattle.block_parser.specs.Spine.{spine}
 use Rattle.block_parser.specs.Shows.{leaf_lines}
@@ -15,10 +15,13 @@ returns-clause-read g c =
     on_ok_weaker c.end_leaf.result (λ reads. λ switches fence opening ls last around kids h.
     let p = c.args.self.now in
     let pool = piece_lines p.pieces.items in
-    let left = leaves.all_left p.rows.rows.items p.rows.waiting.items p.rows.bare pool around kids (leaf_lines (Fenced fence opening ls)) h.written (leaves.enough_lines p) in
+    let left = leaves.all_left p.rows.rows.items p.rows.waiting.items p.rows.bare pool around kids (leaf_lines (Fenced fence opening ls)) h.written
+    (leaves.enough_lines p) in
     let long = length-map p.pieces.items piece_line in
     let count = c.len.result - p.lines_in_rows - 1 in
     let all : count ≡ length ls = omega (arith, left, long, p.counted, p.pieces.ok.0, c.len.ensures) in
-    subst (λ (e : Option LineEnding). HasRead c.end_leaf.new.self (spine around (join kids (ended (FencedCode fence.info false ls) e)) (Text []))) last
-    (reads (Fenced fence opening ls) (FencedCode fence.info false ls) (ap (λ x. Single (FencedCode fence.info false x) ∷ []) (sym (take_all count ls (omega (arith, all))))) refl around kids h))
+    subst (λ (e : Option LineEnding). HasRead c.end_leaf.new.self (spine around (join kids (block_and_ending (FencedCode fence.info false ls) e)) (Text [])))
+    last
+    (reads (Fenced fence opening ls) (FencedCode fence.info false ls) (ap (λ x. Single (FencedCode fence.info false x) ∷ [])
+    (sym (take_all count ls (omega (arith, all))))) refl around kids h))
     c.end_leaf.ensures.read

@@ -6,7 +6,8 @@ use Rattle.block_parser.proofs.parser.Parser.close_indented.Given as goal
 -- the endings of the blank lines so far wait
 abbrev pub invariant-loop-i : goal.invariant-loop-i
 invariant-loop-i g l = record {
-  waiting : l.self.rows.waiting.items ≡ l.initial.self.rows.waiting.items ++ map blank_row (take (l.i - l.initial.self.lines_in_rows) (drop l.initial.self.lines_in_rows l.initial.self.pieces.items));
+  waiting : l.self.rows.waiting.items ≡ l.initial.self.rows.waiting.items ++ map blank_row
+      (take (l.i - l.initial.self.lines_in_rows) (drop l.initial.self.lines_in_rows l.initial.self.pieces.items));
   rows : l.self.rows.rows.items ≡ l.initial.self.rows.rows.items;
   bare : l.self.rows.bare ≡ l.initial.self.rows.bare;
   pieces : l.self.pieces ≡ l.initial.self.pieces;

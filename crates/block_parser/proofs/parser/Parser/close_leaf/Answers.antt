@@ -15,10 +15,14 @@ use Rattle.block_parser.proofs.parser.Parser.close_leaf.Goals as goal
 
 pub returns-in-Text-clause-read : goal.returns-in-Text-clause-read
 returns-in-Text-clause-read g c =
-    on_ok_weaker c.close_text.result (λ reads. λ leaf clean around kids h. text_case (λ around kids ls clean. reads ls clean around kids) around kids leaf clean (sym (ap leaf_state c.in-Text.is) ∙ h.same_state) h) c.close_text.ensures.read
+    on_ok_weaker c.close_text.result (λ reads. λ leaf clean around kids h. text_case (λ around kids ls clean. reads ls clean around kids) around kids leaf clean
+    (sym (ap leaf_state c.in-Text.is) ∙ h.same_state) h) c.close_text.ensures.read
   where
-    text_case : ((around : List Level) (kids : Blocks) (ls : List BlockLine) → AreLines ls → HasRead c.args.self.now (spine around kids (Text ls)) → HasRead c.close_text.new.self (spine around (join kids (close_leaf c.args.on.now (Text ls))) (Text [])))
-        → (around : List Level) (kids : Blocks) (leaf : OpenLeaf) → AreLines (leaf_text leaf) → InText ≡ state_of leaf → HasRead c.args.self.now (spine around kids leaf) → HasRead c.close_text.new.self (spine around (join kids (close_leaf c.args.on.now leaf)) (Text []))
+    text_case : ((around : List Level) (kids : Blocks) (ls : List BlockLine) → AreLines ls → HasRead c.args.self.now (spine around kids (Text ls))
+        → HasRead c.close_text.new.self (spine around (join kids (close_leaf c.args.on.now (Text ls))) (Text [])))
+        → (around : List Level) (kids : Blocks) (leaf : OpenLeaf) → AreLines (leaf_text leaf) → InText ≡ state_of leaf
+        → HasRead c.args.self.now (spine around kids leaf)
+        → HasRead c.close_text.new.self (spine around (join kids (close_leaf c.args.on.now leaf)) (Text []))
     text_case reads around kids (Text ls) clean is h = reads around kids ls clean h
     text_case reads around kids (Indented ls pending) clean is h = let wrong = is in cc
     text_case reads around kids (Fenced fence opening ls) clean is h = let wrong = is in cc
@@ -27,10 +31,16 @@ returns-in-Text-clause-read g c =
 
 pub returns-in-Indented-clause-read : goal.returns-in-Indented-clause-read
 returns-in-Indented-clause-read g c =
-    on_ok_weaker c.close_indented.result (λ reads. λ leaf clean around kids h. indented_case (λ around kids ls pending all last. reads c.args.on.now ls pending all last around kids) around kids leaf (sym (ap leaf_state c.in-Indented.is) ∙ h.same_state) h) c.close_indented.ensures.read
+    on_ok_weaker c.close_indented.result (λ reads. λ leaf clean around kids h. indented_case
+    (λ around kids ls pending all last. reads c.args.on.now ls pending all last around kids) around kids leaf
+    (sym (ap leaf_state c.in-Indented.is) ∙ h.same_state) h) c.close_indented.ensures.read
   where
-    indented_case : ((around : List Level) (kids : Blocks) (ls pending : List BlockLine) → c.in-Indented.count ≡ length ls → c.in-Indented.ending ≡ last_ending ls → HasRead c.args.self.now (spine around kids (Indented ls pending)) → HasRead c.close_indented.new.self (spine around (join kids (close_leaf c.args.on.now (Indented ls pending))) (Text [])))
-        → (around : List Level) (kids : Blocks) (leaf : OpenLeaf) → InIndented c.in-Indented.count c.in-Indented.ending ≡ state_of leaf → HasRead c.args.self.now (spine around kids leaf) → HasRead c.close_indented.new.self (spine around (join kids (close_leaf c.args.on.now leaf)) (Text []))
+    indented_case : ((around : List Level) (kids : Blocks) (ls pending : List BlockLine) → c.in-Indented.count ≡ length ls
+        → c.in-Indented.ending ≡ last_ending ls → HasRead c.args.self.now (spine around kids (Indented ls pending))
+        → HasRead c.close_indented.new.self (spine around (join kids (close_leaf c.args.on.now (Indented ls pending))) (Text [])))
+        → (around : List Level) (kids : Blocks) (leaf : OpenLeaf) → InIndented c.in-Indented.count c.in-Indented.ending ≡ state_of leaf
+        → HasRead c.args.self.now (spine around kids leaf)
+        → HasRead c.close_indented.new.self (spine around (join kids (close_leaf c.args.on.now leaf)) (Text []))
     indented_case reads around kids (Text ls) is h = let wrong = is in cc
     indented_case reads around kids (Indented ls pending) is h = reads around kids ls pending (cc) (cc) h
     indented_case reads around kids (Fenced fence opening ls) is h = let wrong = is in cc
@@ -39,10 +49,16 @@ returns-in-Indented-clause-read g c =
 
 pub returns-in-Fenced-clause-read : goal.returns-in-Fenced-clause-read
 returns-in-Fenced-clause-read g c =
-    on_ok_weaker c.close_fenced.result (λ reads. λ leaf clean around kids h. fenced_case (λ around kids fence opening ls last. reads c.args.on.now fence opening ls last around kids) around kids leaf (sym (ap leaf_state c.in-Fenced.is) ∙ h.same_state) h) c.close_fenced.ensures.read
+    on_ok_weaker c.close_fenced.result (λ reads. λ leaf clean around kids h. fenced_case
+    (λ around kids fence opening ls last. reads c.args.on.now fence opening ls last around kids) around kids leaf
+    (sym (ap leaf_state c.in-Fenced.is) ∙ h.same_state) h) c.close_fenced.ensures.read
   where
-    fenced_case : ((around : List Level) (kids : Blocks) (fence : Fence) (opening : Option LineEnding) (ls : List BlockLine) → c.in-Fenced.ending ≡ last_ending_or opening ls → HasRead c.args.self.now (spine around kids (Fenced fence opening ls)) → HasRead c.close_fenced.new.self (spine around (join kids (close_leaf c.args.on.now (Fenced fence opening ls))) (Text [])))
-        → (around : List Level) (kids : Blocks) (leaf : OpenLeaf) → InFenced (fence_view c.in-Fenced.fence) c.in-Fenced.ending ≡ state_of leaf → HasRead c.args.self.now (spine around kids leaf) → HasRead c.close_fenced.new.self (spine around (join kids (close_leaf c.args.on.now leaf)) (Text []))
+    fenced_case : ((around : List Level) (kids : Blocks) (fence : Fence) (opening : Option LineEnding) (ls : List BlockLine)
+        → c.in-Fenced.ending ≡ last_ending_or opening ls → HasRead c.args.self.now (spine around kids (Fenced fence opening ls))
+        → HasRead c.close_fenced.new.self (spine around (join kids (close_leaf c.args.on.now (Fenced fence opening ls))) (Text [])))
+        → (around : List Level) (kids : Blocks) (leaf : OpenLeaf) → InFenced (fence_view c.in-Fenced.fence) c.in-Fenced.ending ≡ state_of leaf
+        → HasRead c.args.self.now (spine around kids leaf)
+        → HasRead c.close_fenced.new.self (spine around (join kids (close_leaf c.args.on.now leaf)) (Text []))
     fenced_case reads around kids (Text ls) is h = let wrong = is in cc
     fenced_case reads around kids (Indented ls pending) is h = let wrong = is in cc
     fenced_case reads around kids (Fenced fence opening ls) is h = reads around kids fence opening ls (cc) h
@@ -51,10 +67,16 @@ returns-in-Fenced-clause-read g c =
 
 pub returns-in-Html-clause-read : goal.returns-in-Html-clause-read
 returns-in-Html-clause-read g c =
-    on_ok_weaker c.close_html.result (λ reads. λ leaf clean around kids h. html_case (λ around kids kind ls last. reads c.args.on.now kind ls last around kids) around kids leaf (sym (ap leaf_state c.in-Html.is) ∙ h.same_state) h) c.close_html.ensures.read
+    on_ok_weaker c.close_html.result (λ reads. λ leaf clean around kids h. html_case
+    (λ around kids kind ls last. reads c.args.on.now kind ls last around kids) around kids leaf (sym (ap leaf_state c.in-Html.is) ∙ h.same_state) h)
+    c.close_html.ensures.read
   where
-    html_case : ((around : List Level) (kids : Blocks) (kind : ℕ) (ls : List BlockLine) → c.in-Html.ending ≡ last_ending ls → HasRead c.args.self.now (spine around kids (OpenHtml kind ls)) → HasRead c.close_html.new.self (spine around (join kids (close_leaf c.args.on.now (OpenHtml kind ls))) (Text [])))
-        → (around : List Level) (kids : Blocks) (leaf : OpenLeaf) → InHtml (number_of c.in-Html.kind) c.in-Html.ending ≡ state_of leaf → HasRead c.args.self.now (spine around kids leaf) → HasRead c.close_html.new.self (spine around (join kids (close_leaf c.args.on.now leaf)) (Text []))
+    html_case : ((around : List Level) (kids : Blocks) (kind : ℕ) (ls : List BlockLine) → c.in-Html.ending ≡ last_ending ls
+        → HasRead c.args.self.now (spine around kids (OpenHtml kind ls))
+        → HasRead c.close_html.new.self (spine around (join kids (close_leaf c.args.on.now (OpenHtml kind ls))) (Text [])))
+        → (around : List Level) (kids : Blocks) (leaf : OpenLeaf) → InHtml (number_of c.in-Html.kind) c.in-Html.ending ≡ state_of leaf
+        → HasRead c.args.self.now (spine around kids leaf)
+        → HasRead c.close_html.new.self (spine around (join kids (close_leaf c.args.on.now leaf)) (Text []))
     html_case reads around kids (Text ls) is h = let wrong = is in cc
     html_case reads around kids (Indented ls pending) is h = let wrong = is in cc
     html_case reads around kids (Fenced fence opening ls) is h = let wrong = is in cc
@@ -63,10 +85,15 @@ returns-in-Html-clause-read g c =
 
 pub returns-in-Table-clause-read : goal.returns-in-Table-clause-read
 returns-in-Table-clause-read g c =
-    on_ok_weaker c.close_table.result (λ reads. λ leaf clean around kids h. table_case (λ around kids ls last. reads c.args.on.now ls last around kids) around kids leaf (sym (ap leaf_state c.in-Table.is) ∙ h.same_state) h) c.close_table.ensures.read
+    on_ok_weaker c.close_table.result (λ reads. λ leaf clean around kids h. table_case
+    (λ around kids ls last. reads c.args.on.now ls last around kids) around kids leaf (sym (ap leaf_state c.in-Table.is) ∙ h.same_state) h)
+    c.close_table.ensures.read
   where
-    table_case : ((around : List Level) (kids : Blocks) (ls : List BlockLine) → c.in-Table.ending ≡ last_ending ls → HasRead c.args.self.now (spine around kids (OpenTable ls)) → HasRead c.close_table.new.self (spine around (join kids (close_leaf c.args.on.now (OpenTable ls))) (Text [])))
-        → (around : List Level) (kids : Blocks) (leaf : OpenLeaf) → InTable c.in-Table.ending ≡ state_of leaf → HasRead c.args.self.now (spine around kids leaf) → HasRead c.close_table.new.self (spine around (join kids (close_leaf c.args.on.now leaf)) (Text []))
+    table_case : ((around : List Level) (kids : Blocks) (ls : List BlockLine) → c.in-Table.ending ≡ last_ending ls
+        → HasRead c.args.self.now (spine around kids (OpenTable ls))
+        → HasRead c.close_table.new.self (spine around (join kids (close_leaf c.args.on.now (OpenTable ls))) (Text [])))
+        → (around : List Level) (kids : Blocks) (leaf : OpenLeaf) → InTable c.in-Table.ending ≡ state_of leaf → HasRead c.args.self.now (spine around kids leaf)
+        → HasRead c.close_table.new.self (spine around (join kids (close_leaf c.args.on.now leaf)) (Text []))
     table_case reads around kids (Text ls) is h = let wrong = is in cc
     table_case reads around kids (Indented ls pending) is h = let wrong = is in cc
     table_case reads around kids (Fenced fence opening ls) is h = let wrong = is in cc

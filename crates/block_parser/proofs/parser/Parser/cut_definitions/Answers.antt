@@ -16,7 +16,8 @@ use Rattle.block_parser.proofs.parser.Parser.cut_definitions.Goals as goal
 pub returns-then-not-may_define-clause-read : goal.returns-then-not-may_define-clause-read
 returns-then-not-may_define-clause-read g c = λ ls clean around kids h.
     let p = c.args.self.now in
-    subst (λ (x : Cut). HasRead p (spine around (join kids x.definitions) (Text x.left))) (sym (c.may_define.ensures.uncut c.if-not-may_define.true around kids ls clean h))
+    subst (λ (x : Cut). HasRead p (spine around (join kids x.definitions) (Text x.left)))
+    (sym (c.may_define.ensures.uncut c.if-not-may_define.true around kids ls clean h))
     (subst (λ (bs : Blocks). HasRead p (spine around bs (Text ls))) (sym (join-nil kids)) h)
 
 pub loop-end-init : goal.loop-end-init
@@ -42,10 +43,12 @@ loop-end-preserved g c =
       within = omega (arith, c.loop-end.invariant.within, c.in-Some.ensures.bytes, ap length bytes, length-drop at all, ap length same_content);
       cuts = λ around kids ls clean h.
           let k = c.loop-end.invariant.cuts around kids ls clean h in
-          let here = leaves.lines_here before around (join kids k.definitions) (Text k.left) k.reads c.deref-in-loop-end.result.now c.deref-in-loop-end.ensures.value in
+          let here = leaves.lines_here before around (join kids k.definitions)
+          (Text k.left) k.reads c.deref-in-loop-end.result.now c.deref-in-loop-end.ensures.value in
           let found = c.in-Some.ensures.found (subst AreLines here k.clean) (bytes ∙ k.rest ∙ ap content_text here) in
           let ends = ends_as _ content _ k.left end bytes here found in
-          let reads = c.in_ok-take_lines.ensures.read k.left (Definition ends.read.label ends.read.destination ends.read.title) (row_of_definition content k.left end k.clean ends) refl around (join kids k.definitions) k.reads in
+          let reads = c.in_ok-take_lines.ensures.read k.left (Definition ends.read.label ends.read.destination ends.read.title)
+          (row_of_definition content k.left end k.clean ends) refl around (join kids k.definitions) k.reads in
           subst (λ (x : List ℕ). Cutting c.take_lines.new.self x around kids ls) (drop-drop end.bytes at all ∙ ap (drop (at + end.bytes)) (sym same_content))
           (one_more before c.take_lines.new.self content around kids ls k end ends reads);
     }

@@ -12,7 +12,8 @@ abbrev pub invariant-loop-end : goal.invariant-loop-end
 invariant-loop-end g l = record {
   same_open : l.self.open ≡ l.initial.self.open;
   within : l.at ≤ length (string_bytes l.self.content);
-  cuts : (around : List Level) (kids : Blocks) (ls : List BlockLine) → AreLines ls → HasRead l.initial.self (spine around kids (Text ls)) → Cutting l.self (drop l.at (string_bytes l.self.content)) around kids ls;
+  cuts : (around : List Level) (kids : Blocks) (ls : List BlockLine) → AreLines ls → HasRead l.initial.self (spine around kids (Text ls))
+      → Cutting l.self (drop l.at (string_bytes l.self.content)) around kids ls;
 }
 
 abbrev pub decreases-loop-end : goal.decreases-loop-end

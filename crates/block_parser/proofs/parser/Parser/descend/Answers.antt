@@ -1,8 +1,10 @@
-use Rattle.std.proofs.Common.{◌≡◌, [], refl, ◌<◌, ◌+◌, length, vec_len, sym, ap, ◌∙◌, subst, arith}
-use Rattle.definition_text.specs.declared.beside.Beside.{Beside}
+use Rattle.std.proofs.Common.{◌≡◌, [], refl, ◌<◌, length, vec_len, sym, ap, ◌∙◌, subst, arith}
+use Rattle.definition_text.specs.declared.beside.Kind.TheVariants.{Whitespace}
 use Rattle.definition_text.specs.Columns.{Rest}
-use Rattle.block_starts.specs.View.{rest_of, rest_if, container_view, container_views}
-use Rattle.block_parser.specs.View.{HasRead, Descent, beside_at}
+use Rattle.definition_block.specs.ContainerLine.{container_line}
+use Rattle.definition_block.specs.Tree.{beside_in}
+use Rattle.block_starts.specs.View.{rest_of, line_if, container_view, container_views}
+use Rattle.block_parser.specs.View.{HasRead, Descent}
 use Rattle.block_parser.proofs.Closing as closing
 use Rattle.block_parser.proofs.Descending as descending
 use Rattle.block_parser.proofs.Quotes as quotes
@@ -15,12 +17,13 @@ returns-in-None-clause-descent g c = λ t h.
     let d = c.index.result.now in
     let lt : c.loop-depth.depth < length p.open.items = omega (arith, c.loop-depth-test.true, c.len-depth-end.ensures, p.open.ok.0) in
     let cs = container_views p.open.items in
-    let here = beside_at cs c.loop-depth.depth (rest_of c.loop-depth.outer) c.args.beside in
-    subst (λ (b : Beside). Descent c.args.on.now c.args.beside (rest_of c.args.line) t (vec_len p.open) c.loop-depth.depth (rest_of c.loop-depth.rest) b) (sym c.beside_at-in-None.ensures)
-    (subst (λ n. Descent c.args.on.now c.args.beside (rest_of c.args.line) t n c.loop-depth.depth (rest_of c.loop-depth.rest) here) (closing.views_length p.open.items ∙ sym p.open.ok.0)
-    (descending.stays_outside c.args.on.now c.args.beside (rest_of c.args.line) t c.loop-depth.depth (rest_of c.loop-depth.rest) here cs h.opened (omega (arith, lt, closing.views_length p.open.items)) (container_view d) (closing.view_at p.open.items c.loop-depth.depth d lt c.index.ensures) c.began_blank.result
+    subst (λ n. Descent c.args.on.now c.args.beside (rest_of c.args.line) t n c.loop-depth.depth (rest_of c.loop-depth.rest) c.loop-depth.here)
+    (closing.views_length p.open.items ∙ sym p.open.ok.0)
+    (descending.stays_outside c.args.on.now c.args.beside (rest_of c.args.line) t c.loop-depth.depth (rest_of c.loop-depth.rest) c.loop-depth.here cs h.opened
+    (omega (arith, lt, closing.views_length p.open.items)) (container_view d)
+    (closing.view_at p.open.items c.loop-depth.depth d lt c.index.ensures) c.began_blank.result
     (λ around kids inner_kids cc inner deep same. c.began_blank.ensures around kids inner_kids cc inner deep (subst (HasRead p) (sym same) h))
-    (sym c.continues.ensures ∙ ap rest_if c.in-None.is) k))
+    (sym c.continues.ensures ∙ ap line_if c.in-None.is) k)
 
 pub loop-depth-preserved : goal.loop-depth-preserved
 loop-depth-preserved g c = λ t h.
@@ -29,13 +32,11 @@ loop-depth-preserved g c = λ t h.
     let d = c.index.result.now in
     let lt : c.loop-depth.depth < length p.open.items = omega (arith, c.loop-depth-test.true, c.len-depth-end.ensures, p.open.ok.0) in
     let cs = container_views p.open.items in
-    let here = beside_at cs c.loop-depth.depth (rest_of c.loop-depth.outer) c.args.beside in
-    subst (λ (b : Beside). Descent c.args.on.now c.args.beside (rest_of c.args.line) t 0 (c.loop-depth.depth + 1) (rest_of c.in-Some.after) b)
-    (closing.beside_more cs c.loop-depth.depth (container_view d) (rest_of c.loop-depth.outer) (rest_of c.loop-depth.rest) c.args.beside
-    (closing.view_at_or p.open.items c.loop-depth.depth d lt c.index.ensures))
-    (descending.goes_inside c.args.on.now c.args.beside (rest_of c.args.line) t c.loop-depth.depth (rest_of c.loop-depth.rest) here cs h.opened (omega (arith, lt, closing.views_length p.open.items)) (container_view d) (closing.view_at p.open.items c.loop-depth.depth d lt c.index.ensures) c.began_blank.result
+    descending.goes_inside c.args.on.now c.args.beside (rest_of c.args.line) t c.loop-depth.depth (rest_of c.loop-depth.rest) c.loop-depth.here cs h.opened
+    (omega (arith, lt, closing.views_length p.open.items)) (container_view d)
+    (closing.view_at p.open.items c.loop-depth.depth d lt c.index.ensures) c.began_blank.result
     (λ around kids inner_kids cc inner deep same. c.began_blank.ensures around kids inner_kids cc inner deep (subst (HasRead p) (sym same) h))
-    (rest_of c.in-Some.after) (sym c.continues.ensures ∙ ap rest_if c.in-Some.is) k)
+    (container_line (rest_of c.in-Some.inside.rest) c.in-Some.inside.before) (sym c.continues.ensures ∙ ap line_if c.in-Some.is) k
 
 pub loop-depth-init : goal.loop-depth-init
 loop-depth-init g c = λ t h.
@@ -49,14 +50,15 @@ returns-then-all_go_on-clause-descent g c = λ t h.
     let on = c.args.on.now in
     let beside = c.args.beside in
     let line = rest_of c.args.line in
+    let here = beside_in Whitespace c.loop-depth.here in
     let yes = c.if-all_go_on.true in
     let empty = c.all_go_on.ensures.empty yes in
     let lt : depth < length cs = omega (arith, c.loop-depth-test.true, c.len-depth-end.ensures, p.open.ok.0, closing.views_length p.open.items) in
-    let k = subst (λ (r : Rest). Descent on beside line t 0 depth r (beside_at cs depth (rest_of c.loop-depth.outer) beside)) empty (c.loop-depth.invariant t h) in
-    let all = quotes.all_go_on on beside line t cs h.opened (c.all_go_on.ensures.began yes t h) depth (rest_of c.loop-depth.outer) lt (c.all_go_on.ensures.none yes) k in
+    let k = subst (λ (r : Rest). Descent on beside line t 0 depth r c.loop-depth.here) empty (c.loop-depth.invariant t h) in
+    let all = quotes.all_go_on on beside line t cs h.opened (c.all_go_on.ensures.began yes t h) depth c.loop-depth.here lt
+    (c.all_go_on.ensures.none yes) k in
     let count : length cs ≡ vec_len p.open = closing.views_length p.open.items ∙ sym p.open.ok.0 in
-    let here : length cs ≡ c.len-all.result = count ∙ sym c.len-all.ensures in
-    subst (λ (b : Beside). Descent on beside line t (vec_len p.open) c.len-all.result (rest_of c.loop-depth.rest) b) (sym c.beside_at.ensures)
-    (subst (λ (r : Rest). Descent on beside line t (vec_len p.open) c.len-all.result r (beside_at cs c.len-all.result r beside)) (sym empty)
-    (subst (λ m. Descent on beside line t (vec_len p.open) m [] (beside_at cs m [] beside)) here
-    (subst (λ n. Descent on beside line t n (length cs) [] (beside_at cs (length cs) [] beside)) count all)))
+    let is_len : length cs ≡ c.len.result = count ∙ sym c.len.ensures in
+    subst (λ (r : Rest). Descent on beside line t (vec_len p.open) c.len.result r here) (sym empty)
+    (subst (λ m. Descent on beside line t (vec_len p.open) m [] here) is_len
+    (subst (λ n. Descent on beside line t n (length cs) [] here) count all))

@@ -1,10 +1,10 @@
 use Rattle.definition_block.specs.Tree.{Tree}
-use Rattle.block_starts.specs.View.{rest_of, container_views}
+use Rattle.block_starts.specs.View.{rest_of}
 use Rattle.block_parser.specs.Spine.{spine_of}
-use Rattle.block_parser.specs.View.{HasRead, Descent, beside_at}
+use Rattle.block_parser.specs.View.{HasRead, Descent}
 use Rattle.block_parser.proofs.parser.Parser.descend.Given as goal
 
 -- so many containers go on
 abbrev pub invariant-loop-depth : goal.invariant-loop-depth
 invariant-loop-depth g l = (t : Tree) → HasRead l.self (spine_of t)
-    → Descent l.on l.fn.beside (rest_of l.initial.rest) t 0 l.depth (rest_of l.rest) (beside_at (container_views l.self.open.items) l.depth (rest_of l.outer) l.fn.beside)
+    → Descent l.on l.fn.beside (rest_of l.initial.rest) t 0 l.depth (rest_of l.rest) l.here

@@ -14,7 +14,8 @@ returns-clause-read g c =
     let left = leaves.all_left p.rows.rows.items p.rows.waiting.items p.rows.bare pool around kids (leaf_lines leaf) h.written (leaves.enough_lines p) in
     let long = length-map p.pieces.items piece_line in
     record {
-      written = leaves.written_ended p.rows.rows.items p.rows.waiting.items p.rows.bare pool around kids (leaf_lines leaf) h.written c.args.row b c.args.ending p.rows.none is other
+      written = leaves.written_ended p.rows.rows.items p.rows.waiting.items p.rows.bare pool around kids
+          (leaf_lines leaf) h.written c.args.row b c.args.ending p.rows.none is other
           c.ending.new.self.rows.items c.block.new.self.waiting.items c.ending.new.self.waiting.items c.ending.new.self.bare []
           (c.ending.ensures.rows ∙ c.in_ok-block.ensures.rows) c.in_ok-block.ensures.waiting waits (c.ending.ensures.bare ∙ c.in_ok-block.ensures.bare)
           (sym (drop_all (row_size c.args.row) (leaf_lines leaf) (omega (arith, left, long, p.counted, p.pieces.ok.0, c.requires))));

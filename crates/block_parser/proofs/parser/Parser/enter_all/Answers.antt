@@ -1,29 +1,28 @@
 use Rattle.std.proofs.Common.{◌∷◌, true, false, sym, ap, ◌∙◌, length}
-use Rattle.definition_text.specs.declared.beside.Kind.{Kind}
-use Rattle.definition_block.specs.Started.{started}
+use Rattle.definition_block.specs.ContainerStart.{container_start}
 use Rattle.definition_block.specs.Tree.{Nil, nothing}
 use Rattle.block_starts.specs.View.{rest_of, container_view, started_if}
 use Rattle.block_parser.specs.Spine.{level, spine_after}
-use Rattle.block_parser.specs.View.{new_inside}
 use Rattle.block_parser.proofs.Starting as starting
 use Rattle.block_parser.proofs.parser.Parser.enter_all.Goals as goal
 
 pub loop-container-smaller : goal.loop-container-smaller
 loop-container-smaller g c =
-    starting.start-shorter c.args.on.now false (rest_of c.loop-container.inside) (started (container_view c.in-Some.container) (rest_of c.in-Some.after)) (sym c.starts.ensures ∙ ap started_if c.in-Some.is)
+    starting.start-shorter c.args.on.now false (rest_of c.loop-container.inside)
+    (container_start (container_view c.in-Some.container) (rest_of c.in-Some.line.rest) c.in-Some.line.before)
+    (sym c.starts.ensures ∙ ap started_if c.in-Some.is)
 
 pub loop-container-preserved : goal.loop-container-preserved
 loop-container-preserved g c = λ around kids h.
     let k = c.loop-container.invariant around kids h in
     let on = c.args.on.now in
     let rest = rest_of c.loop-container.inside in
-    let s = started (container_view c.in-Some.container) (rest_of c.in-Some.after) in
+    let s = container_start (container_view c.in-Some.container) (rest_of c.in-Some.line.rest) c.in-Some.line.before in
     record {
       inner = level (container_view c.in-Some.container) k.inner_kids ∷ k.inner;
       inner_kids = Nil;
       reads = c.in_ok-enter.ensures k.inner k.inner_kids k.reads;
-      grows = k.grows ∙ starting.inside_more on c.loop-container.here k.inner k.inner_kids rest s (sym c.starts.ensures ∙ ap started_if c.in-Some.is)
-          ∙ ap (λ (x : Kind). spine_after (level (container_view c.in-Some.container) k.inner_kids ∷ k.inner) Nil (new_inside on record { before = x; ending = c.loop-container.here.ending } s.rest)) (sym c.kind_after-here.ensures);
+      grows = k.grows ∙ starting.inside_more on c.loop-container.here k.inner k.inner_kids rest s (sym c.starts.ensures ∙ ap started_if c.in-Some.is);
     }
 
 pub returns : goal.returns
@@ -35,5 +34,6 @@ returns g c = λ around kids h.
       inner = k.inner;
       inner_kids = k.inner_kids;
       reads = k.reads;
-      grows = k.grows ∙ ap (spine_after k.inner k.inner_kids) (starting.new_none on c.loop-container.here (length rest) true nothing rest (sym c.starts.ensures ∙ ap started_if c.in_default.is));
+      grows = k.grows ∙ ap (spine_after k.inner k.inner_kids) (starting.new_none on c.loop-container.here (length rest) true nothing rest
+          (sym c.starts.ensures ∙ ap started_if c.in_default.is));
     }

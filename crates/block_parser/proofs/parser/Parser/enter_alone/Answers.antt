@@ -16,9 +16,12 @@ returns g c = λ around kids h.
     let none = c.requires in
     let left : List BlockLine = [] in
     record {
-      written = leaves.entered_as p.rows.rows.items p.rows.waiting.items p.rows.bare pool around kids [] h.written holder p.rows.none (leaves.enter_shown holder [] none)
-          c.enter.new.self.rows.items c.enter.new.self.waiting.items c.enter.new.self.bare [] c.in_ok-enter.ensures.rows c.in_ok-enter.ensures.waiting c.in_ok-enter.ensures.bare
+      written = leaves.entered_as p.rows.rows.items p.rows.waiting.items p.rows.bare pool around kids [] h.written holder p.rows.none
+          (leaves.enter_shown holder [] none)
+          c.enter.new.self.rows.items c.enter.new.self.waiting.items c.enter.new.self.bare [] c.in_ok-enter.ensures.rows c.in_ok-enter.ensures.waiting
+          c.in_ok-enter.ensures.bare
           (ap (λ n. drop n left) (sym none));
-      opened = ap (λ cs. map container_view cs) c.in_ok-push.ensures.items ∙ map-append container_view p.open.items (c.args.container ∷ []) ∙ ap (λ (cs : List Container). cs ++ holder ∷ []) h.opened;
+      opened = ap (λ cs. map container_view cs) c.in_ok-push.ensures.items ∙ map-append container_view p.open.items (c.args.container ∷ [])
+          ∙ ap (λ (cs : List Container). cs ++ holder ∷ []) h.opened;
       same_state = h.same_state;
     }

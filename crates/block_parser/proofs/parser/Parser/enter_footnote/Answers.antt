@@ -17,11 +17,14 @@ returns g c = λ around kids h.
     let holder = Footnote label in
     let l = spaced_line label None in
     let pushed : pool2 ≡ pool ++ l ∷ [] = leaves.piece_pushed p.pieces.items _ c.push.new.self.items l c.in_ok-push.ensures.items refl in
-    let longer = leaves.written_as p.rows.rows.items p.rows.rows.items p.rows.waiting.items p.rows.waiting.items p.rows.bare p.rows.bare (pool ++ l ∷ []) pool2 around kids (l ∷ []) (l ∷ [])
+    let longer = leaves.written_as p.rows.rows.items p.rows.rows.items p.rows.waiting.items p.rows.waiting.items p.rows.bare p.rows.bare
+    (pool ++ l ∷ []) pool2 around kids (l ∷ []) (l ∷ [])
     refl refl refl pushed refl (leaves.longer p.rows.rows.items p.rows.waiting.items p.rows.bare pool around kids [] h.written l (leaves.enough_lines p)) in
     record {
       written = leaves.entered_as p.rows.rows.items p.rows.waiting.items p.rows.bare pool2 around kids (l ∷ []) longer holder p.rows.none refl
-          c.enter.new.self.rows.items c.enter.new.self.waiting.items c.enter.new.self.bare [] c.in_ok-enter.ensures.rows c.in_ok-enter.ensures.waiting c.in_ok-enter.ensures.bare refl;
-      opened = ap (λ cs. map container_view cs) c.in_ok-push-2.ensures.items ∙ map-append container_view p.open.items _ ∙ ap (λ (cs : List Container). cs ++ holder ∷ []) h.opened;
+          c.enter.new.self.rows.items c.enter.new.self.waiting.items c.enter.new.self.bare [] c.in_ok-enter.ensures.rows c.in_ok-enter.ensures.waiting
+          c.in_ok-enter.ensures.bare refl;
+      opened = ap (λ cs. map container_view cs) c.in_ok-push-2.ensures.items ∙ map-append container_view p.open.items _
+          ∙ ap (λ (cs : List Container). cs ++ holder ∷ []) h.opened;
       same_state = h.same_state;
     }

@@ -16,14 +16,24 @@ pub returns-in_ok-exit-in-Some-clause-read : goal.returns-in_ok-exit-in-Some-cla
 returns-in_ok-exit-in-Some-clause-read g c = λ s leaf h. some_case s.around s.kids s.leaf h
   where
     some_case : (around : List Level) (kids : Blocks) (leaf : OpenLeaf) → HasRead c.args.self.now (spine around kids leaf)
-        → Shows c.exit.new.self.rows.items c.exit.new.self.waiting.items c.exit.new.self.bare (container_views c.pop.new.self.items) (piece_lines c.args.self.now.pieces.items) (leaf_state c.args.self.now.leaf) (without_innermost_at around kids leaf)
-    some_case [] kids leaf h = absurd (omega (arith, ap length h.opened, closing.views_length c.args.self.now.open.items, ap length c.in-Some.ensures.items, length-append c.pop.new.self.items (c.in-Some.container ∷ [])))
+        → Shows c.exit.new.self.rows.items c.exit.new.self.waiting.items c.exit.new.self.bare (container_views c.pop.new.self.items)
+        (piece_lines c.args.self.now.pieces.items) (leaf_state c.args.self.now.leaf) (without_innermost_at around kids leaf)
+    some_case [] kids leaf h = absurd (omega (
+      arith,
+      ap length h.opened,
+      closing.views_length c.args.self.now.open.items,
+      ap length c.in-Some.ensures.items,
+      length-append c.pop.new.self.items (c.in-Some.container ∷ []),
+    ))
     some_case (l ∷ ls) kids leaf h =
         let p = c.args.self.now in
         let parts = closing.popped l ls p.open.items c.pop.new.self.items c.in-Some.container h.opened c.in-Some.ensures.items in
         record {
-          written = leaves.exited_as p.rows.rows.items p.rows.waiting.items p.rows.bare (piece_lines p.pieces.items) ls l kids (leaf_lines leaf) h.written p.rows.none
-              c.exit.new.self.rows.items c.exit.new.self.waiting.items c.exit.new.self.bare (container_view c.in-Some.container) parts.1 c.in_ok-exit-in-Some.ensures.rows c.in_ok-exit-in-Some.ensures.waiting c.in_ok-exit-in-Some.ensures.bare;
+          written = leaves.exited_as p.rows.rows.items p.rows.waiting.items p.rows.bare (piece_lines p.pieces.items) ls l kids
+              (leaf_lines leaf) h.written p.rows.none
+              c.exit.new.self.rows.items c.exit.new.self.waiting.items c.exit.new.self.bare
+              (container_view c.in-Some.container) parts.1 c.in_ok-exit-in-Some.ensures.rows c.in_ok-exit-in-Some.ensures.waiting
+              c.in_ok-exit-in-Some.ensures.bare;
           opened = parts.0;
           same_state = h.same_state;
         }

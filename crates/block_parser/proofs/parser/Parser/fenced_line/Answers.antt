@@ -27,10 +27,15 @@ returns-then-not-is_fence_end g c = λ opening ls around kids h.
     let l = rest_line (fence_line f r) e in
     let leaf = Fenced f opening (ls ++ l ∷ []) in
     let piece_is = c.piece.ensures ∙ ap (λ (x : Rest). rest_line x e) c.fence_line.ensures in
-    subst (λ (t : Tree). Shows p.rows.rows.items p.rows.waiting.items p.rows.bare (container_views p.open.items) (piece_lines c.push.new.self.items) (InFenced f e.ending) (spine_after around kids t)) (sym (steps.fenced_goes_on on e r f opening ls (sym c.is_fence_end.ensures ∙ c.if-not-is_fence_end.true)))
-    (subst (λ (bs : Blocks). Shows p.rows.rows.items p.rows.waiting.items p.rows.bare (container_views p.open.items) (piece_lines c.push.new.self.items) (InFenced f e.ending) (spine around bs leaf)) (sym (join-nil kids))
-    (leaves.shows_line p.rows.rows.items p.rows.waiting.items p.rows.bare (container_views p.open.items) pool (piece_lines c.push.new.self.items) (leaf_state p.leaf) (InFenced f e.ending) around kids (Fenced f opening ls) leaf l
-    (leaves.enough_lines p) (leaves.piece_pushed p.pieces.items c.piece.result c.push.new.self.items l c.in_ok-push.ensures.items piece_is) refl (ap (InFenced f) (sym (leaves.last_ending_or-more opening ls l))) h))
+    subst (λ (t : Tree). Shows p.rows.rows.items p.rows.waiting.items p.rows.bare (container_views p.open.items) (piece_lines c.push.new.self.items)
+    (InFenced f e.ending) (spine_after around kids t))
+    (sym (steps.fenced_goes_on on e r f opening ls (sym c.is_fence_end.ensures ∙ c.if-not-is_fence_end.true)))
+    (subst (λ (bs : Blocks). Shows p.rows.rows.items p.rows.waiting.items p.rows.bare (container_views p.open.items) (piece_lines c.push.new.self.items)
+    (InFenced f e.ending) (spine around bs leaf)) (sym (join-nil kids))
+    (leaves.shows_line p.rows.rows.items p.rows.waiting.items p.rows.bare (container_views p.open.items) pool (piece_lines c.push.new.self.items)
+    (leaf_state p.leaf) (InFenced f e.ending) around kids (Fenced f opening ls) leaf l
+    (leaves.enough_lines p) (leaves.piece_pushed p.pieces.items c.piece.result c.push.new.self.items l c.in_ok-push.ensures.items piece_is) refl
+    (ap (InFenced f) (sym (leaves.last_ending_or-more opening ls l))) h))
 
 pub returns : goal.returns
 returns g c =
@@ -41,10 +46,13 @@ returns g c =
     let f = fence_view c.args.fence in
     let r = rest_of c.args.rest in
     let e = c.args.beside in
-    let left = leaves.all_left p.rows.rows.items p.rows.waiting.items p.rows.bare pool around kids (leaf_lines (Fenced f opening ls)) h.written (leaves.enough_lines p) in
+    let left = leaves.all_left p.rows.rows.items p.rows.waiting.items p.rows.bare pool around kids (leaf_lines (Fenced f opening ls)) h.written
+    (leaves.enough_lines p) in
     let long = length-map p.pieces.items piece_line in
     let count = c.len.result - p.lines_in_rows - 1 in
     let all : count ≡ length ls = omega (arith, left, long, p.counted, p.pieces.ok.0, c.len.ensures) in
-    subst (λ (t : Tree). HasRead c.end_leaf.new.self (spine_after around kids t)) (sym (steps.fenced_end on e r f opening ls (sym c.is_fence_end.ensures ∙ c.if-not-is_fence_end.false)))
-    (reads (Fenced f opening ls) (FencedCode f.info true ls) (ap (λ x. Single (FencedCode f.info true x) ∷ []) (sym (take_all count ls (omega (arith, all))))) refl around kids h))
+    subst (λ (t : Tree). HasRead c.end_leaf.new.self (spine_after around kids t))
+    (sym (steps.fenced_end on e r f opening ls (sym c.is_fence_end.ensures ∙ c.if-not-is_fence_end.false)))
+    (reads (Fenced f opening ls) (FencedCode f.info true ls) (ap (λ x. Single (FencedCode f.info true x) ∷ []) (sym (take_all count ls (omega (arith, all)))))
+    refl around kids h))
     c.end_leaf.ensures.read

@@ -15,10 +15,12 @@ returns g c =
     let l = spaced_line c.args.atx.content.now None in
     let block = Heading c.args.atx.rank (l ∷ []) in
     let more = leaves.piece_pushed p.pieces.items _ c.push.new.self.items l c.in_ok-push.ensures.items refl in
-    let k = leaves.written_as p.rows.rows.items p.rows.rows.items p.rows.waiting.items p.rows.waiting.items p.rows.bare p.rows.bare (pool ++ l ∷ []) (piece_lines c.push.new.self.items) around kids (l ∷ []) (l ∷ [])
+    let k = leaves.written_as p.rows.rows.items p.rows.rows.items p.rows.waiting.items p.rows.waiting.items p.rows.bare p.rows.bare (pool ++ l ∷ [])
+    (piece_lines c.push.new.self.items) around kids (l ∷ []) (l ∷ [])
     refl refl refl more refl (leaves.longer p.rows.rows.items p.rows.waiting.items p.rows.bare pool around kids [] h.written l (leaves.enough_lines p)) in
     record {
-      written = leaves.written_ended p.rows.rows.items p.rows.waiting.items p.rows.bare (piece_lines c.push.new.self.items) around kids (l ∷ []) k (row.Heading c.args.atx.rank) block c.args.ending p.rows.none refl refl
+      written = leaves.written_ended p.rows.rows.items p.rows.waiting.items p.rows.bare (piece_lines c.push.new.self.items) around kids (l ∷ []) k
+          (row.Heading c.args.atx.rank) block c.args.ending p.rows.none refl refl
           c.ending.new.self.rows.items c.block.new.self.waiting.items c.ending.new.self.waiting.items c.ending.new.self.bare []
           (c.ending.ensures.rows ∙ c.in_ok-block.ensures.rows) c.in_ok-block.ensures.waiting waits (c.ending.ensures.bare ∙ c.in_ok-block.ensures.bare) refl;
       opened = h.opened;

@@ -20,7 +20,8 @@ returns-then-html_stops g c =
     let kind = number_of c.args.kind in
     let leaf = Leaf (OpenHtml kind ls) in
     let last : (c.len-depth.result == vec_len p.open) ≡ true = eq-eqb c.len-depth.result (vec_len p.open) c.len-depth.ensures in
-    let deep : c.len-depth.result ≡ length around = omega (arith, c.len-depth.ensures, p.open.ok.0, closing.views_length p.open.items, ap length h.opened, closing.length-containers around) in
+    let deep : c.len-depth.result ≡ length around =
+    omega (arith, c.len-depth.ensures, p.open.ok.0, closing.views_length p.open.items, ap length h.opened, closing.length-containers around) in
     subst (λ (t : Tree). HasRead c.start_line.new.self (spine_after around kids t))
     (ap (λ all. new (length r) on all leaf e r) last ∙ sym (steps.html_stops on e r kind ls (sym c.html_stops.ensures ∙ c.if-html_stops.true)))
     (grows around kids leaf deep tt h))
@@ -33,6 +34,7 @@ returns g c =
     let r = rest_of c.args.rest in
     let e = c.args.beside in
     let kind = number_of c.args.kind in
-    subst (λ (t : Tree). HasRead c.html_with.new.self (spine_after around kids t)) (sym (steps.html_goes_on on e r kind ls (sym c.html_stops.ensures ∙ c.if-html_stops.false)))
+    subst (λ (t : Tree). HasRead c.html_with.new.self (spine_after around kids t))
+    (sym (steps.html_goes_on on e r kind ls (sym c.html_stops.ensures ∙ c.if-html_stops.false)))
     (reads (OpenHtml kind ls) ls refl around kids h))
     c.html_with.ensures

@@ -2,7 +2,7 @@ use Rattle.std.proofs.Common.{◌≡◌, ◌++◌, ◌∷◌, [], Option, None, 
 use Rattle.std.proofs.lemmas.Result.{on_ok_weaker}
 use Rattle.markdown_options.specs.declared.line_ending.LineEnding.{LineEnding}
 use Rattle.definition_text.specs.BlockLines.{last_ending, own_lines}
-use Rattle.definition_block.specs.Tree.{Blocks, Html, Tree, ended, join, Text, OpenHtml, rest_line}
+use Rattle.definition_block.specs.Tree.{Blocks, Html, Tree, block_and_ending, join, Text, OpenHtml, rest_line}
 use Rattle.block_rows.specs.Rows.{piece_lines}
 use Rattle.block_starts.specs.View.{rest_of, container_views}
 use Rattle.block_starts.specs.HtmlFlow.{number_of}
@@ -27,10 +27,13 @@ returns-then-html_ends_here g c =
     let l = rest_line r e in
     let more = ls ++ l ∷ [] in
     let last : last_ending more ≡ e.ending = leaves.last_ending_or-more None ls l in
-    let k = leaves.shows_line p.rows.rows.items p.rows.waiting.items p.rows.bare (container_views p.open.items) (piece_lines p.pieces.items) (piece_lines c.push.new.self.items) (leaf_state p.leaf) (InHtml kind e.ending) around kids leaf (OpenHtml kind more) l
-    (leaves.enough_lines p) (leaves.piece_pushed p.pieces.items c.piece.result c.push.new.self.items l c.in_ok-push.ensures.items c.piece.ensures) (ap (λ x. x ++ l ∷ []) (sym is)) (ap (InHtml kind) (sym last)) h in
-    subst (λ (t : Tree). HasRead c.close_html.new.self (spine_after around kids t)) (sym (cond-true (html_ends_here kind r) _ _ (sym c.html_ends_here.ensures ∙ c.if-html_ends_here.true)))
-    (subst (λ (x : Option LineEnding). HasRead c.close_html.new.self (spine around (join kids (ended (Html (own_lines more)) x)) (Text []))) last
+    let k = leaves.shows_line p.rows.rows.items p.rows.waiting.items p.rows.bare (container_views p.open.items) (piece_lines p.pieces.items)
+    (piece_lines c.push.new.self.items) (leaf_state p.leaf) (InHtml kind e.ending) around kids leaf (OpenHtml kind more) l
+    (leaves.enough_lines p) (leaves.piece_pushed p.pieces.items c.piece.result c.push.new.self.items l c.in_ok-push.ensures.items c.piece.ensures)
+    (ap (λ x. x ++ l ∷ []) (sym is)) (ap (InHtml kind) (sym last)) h in
+    subst (λ (t : Tree). HasRead c.close_html.new.self (spine_after around kids t))
+    (sym (cond-true (html_ends_here kind r) _ _ (sym c.html_ends_here.ensures ∙ c.if-html_ends_here.true)))
+    (subst (λ (x : Option LineEnding). HasRead c.close_html.new.self (spine around (join kids (block_and_ending (Html (own_lines more)) x)) (Text []))) last
     (reads no_constructs kind more (sym last) around kids k)))
     c.close_html.ensures.read
 
@@ -43,7 +46,12 @@ returns g c = λ leaf ls is around kids h.
     let l = rest_line r e in
     let more = ls ++ l ∷ [] in
     let last : last_ending more ≡ e.ending = leaves.last_ending_or-more None ls l in
-    let k = leaves.shows_line p.rows.rows.items p.rows.waiting.items p.rows.bare (container_views p.open.items) (piece_lines p.pieces.items) (piece_lines c.push.new.self.items) (leaf_state p.leaf) (InHtml kind e.ending) around kids leaf (OpenHtml kind more) l
-    (leaves.enough_lines p) (leaves.piece_pushed p.pieces.items c.piece.result c.push.new.self.items l c.in_ok-push.ensures.items c.piece.ensures) (ap (λ x. x ++ l ∷ []) (sym is)) (ap (InHtml kind) (sym last)) h in
-    subst (λ (t : Tree). Shows p.rows.rows.items p.rows.waiting.items p.rows.bare (container_views p.open.items) (piece_lines c.push.new.self.items) (InHtml kind e.ending) (spine_after around kids t)) (sym (cond-false (html_ends_here kind r) _ _ (sym c.html_ends_here.ensures ∙ c.if-html_ends_here.false)))
-    (subst (λ (bs : Blocks). Shows p.rows.rows.items p.rows.waiting.items p.rows.bare (container_views p.open.items) (piece_lines c.push.new.self.items) (InHtml kind e.ending) (spine around bs (OpenHtml kind more))) (sym (join-nil kids)) k)
+    let k = leaves.shows_line p.rows.rows.items p.rows.waiting.items p.rows.bare (container_views p.open.items) (piece_lines p.pieces.items)
+    (piece_lines c.push.new.self.items) (leaf_state p.leaf) (InHtml kind e.ending) around kids leaf (OpenHtml kind more) l
+    (leaves.enough_lines p) (leaves.piece_pushed p.pieces.items c.piece.result c.push.new.self.items l c.in_ok-push.ensures.items c.piece.ensures)
+    (ap (λ x. x ++ l ∷ []) (sym is)) (ap (InHtml kind) (sym last)) h in
+    subst (λ (t : Tree). Shows p.rows.rows.items p.rows.waiting.items p.rows.bare (container_views p.open.items) (piece_lines c.push.new.self.items)
+    (InHtml kind e.ending) (spine_after around kids t))
+    (sym (cond-false (html_ends_here kind r) _ _ (sym c.html_ends_here.ensures ∙ c.if-html_ends_here.false)))
+    (subst (λ (bs : Blocks). Shows p.rows.rows.items p.rows.waiting.items p.rows.bare (container_views p.open.items) (piece_lines c.push.new.self.items)
+    (InHtml kind e.ending) (spine around bs (OpenHtml kind more))) (sym (join-nil kids)) k)

@@ -10,7 +10,8 @@ use Rattle.block_parser.proofs.parser.Parser.leaves_text.Goals as goal
 
 pub returns-then-not-may_define-clause-left : goal.returns-then-not-may_define-clause-left
 returns-then-not-may_define-clause-left g c = λ around kids ls clean h.
-    c.has_text.ensures (spine around kids (Text ls)) h ∙ ap (λ (x : Cut). is_some_line x.left) (sym (c.may_define.ensures.uncut c.if-not-may_define.true around kids ls clean h))
+    c.has_text.ensures (spine around kids (Text ls)) h ∙ ap (λ (x : Cut). is_some_line x.left)
+    (sym (c.may_define.ensures.uncut c.if-not-may_define.true around kids ls clean h))
 
 pub returns-clause-left : goal.returns-clause-left
 returns-clause-left g c = λ around kids ls clean h.
@@ -20,4 +21,5 @@ returns-clause-left g c = λ around kids ls clean h.
     let here = leaves.lines_here p around kids (Text ls) h c.deref-2.result.now c.deref-2.ensures.value in
     let content = c.as_bytes.ensures.value ∙ c.in_ok-join_lines.ensures ∙ ap content_text (sym same ∙ here) in
     c.has_more.ensures (subst AreLines here clean) content
-    ∙ more_left on ls (take (length c.deref-2.result.now - p.lines_in_rows) (drop p.lines_in_rows c.deref-2.result.now)) (c.may_define.ensures.on c.if-not-may_define.false) here
+    ∙ more_left on ls (take (length c.deref-2.result.now - p.lines_in_rows) (drop p.lines_in_rows c.deref-2.result.now))
+    (c.may_define.ensures.on c.if-not-may_define.false) here

@@ -21,7 +21,16 @@ returns-then-not-interrupts-clause-made g c = λ around kids away row deep clean
     let p = c.args.self.now in
     let not_here = sym (c.interrupts.ensures around kids away deep h) ∙ c.if-not-interrupts.true in
     tables.lines_not c.args.on.now row (rest_of c.args.rest) (text_here away) (steps.here_or_not c.args.depth (vec_len p.open) away
-    (λ none. eq-eqb c.args.depth (vec_len p.open) (omega (arith, deep, none, p.open.ok.0, closing.views_length p.open.items, ap length h.opened, closing.length-containers (spine_at around kids away).around, closing.length-around around kids away))) not_here)
+    (λ none. eq-eqb c.args.depth (vec_len p.open) (omega (
+      arith,
+      deep,
+      none,
+      p.open.ok.0,
+      closing.views_length p.open.items,
+      ap length h.opened,
+      closing.length-containers (spine_at around kids away).around,
+      closing.length-around around kids away,
+    ))) not_here)
 
 pub returns-then-not-has_head-clause-made : goal.returns-then-not-has_head-clause-made
 returns-then-not-has_head-clause-made g c = λ around kids away row deep clean h.
@@ -30,7 +39,8 @@ returns-then-not-has_head-clause-made g c = λ around kids away row deep clean h
     let r = rest_of c.args.rest in
     let columns = c.read_row.new.aligns.items in
     let both = and_parts (c.args.depth == vec_len p.open) (has_text away) (sym (c.interrupts.ensures around kids away deep h) ∙ c.if-not-interrupts.false) in
-    let none = descending.no_deeper (container_views p.open.items) around kids away h.opened (omega (arith, deep, eqb-true c.args.depth (vec_len p.open) both.0, p.open.ok.0, closing.views_length p.open.items)) in
+    let none = descending.no_deeper (container_views p.open.items) around kids away h.opened
+    (omega (arith, deep, eqb-true c.args.depth (vec_len p.open) both.0, p.open.ok.0, closing.views_length p.open.items)) in
     steps.text_leaf_here (λ x. HasRead p (spine_at around kids x) → table_if on (delimiter_row on r) (text_here x) row ≡ None) away none both.1
     (λ l ls reads. tables.fits_not on row r columns (l ∷ ls) c.in_ok-read_row.ensures
     (ap (fits columns) (leaves.lines_of p around kids (Text (l ∷ ls)) reads) ∙ sym c.has_head.ensures ∙ c.if-not-has_head.true)) h
@@ -44,8 +54,10 @@ returns-clause-made g c =
     let r = rest_of c.args.rest in
     let columns = c.read_row.new.aligns.items in
     let both = and_parts (c.args.depth == vec_len p.open) (has_text away) (sym (c.interrupts.ensures around kids away deep h) ∙ c.if-not-interrupts.false) in
-    let none = descending.no_deeper (container_views p.open.items) around kids away h.opened (omega (arith, deep, eqb-true c.args.depth (vec_len p.open) both.0, p.open.ok.0, closing.views_length p.open.items)) in
-    steps.text_leaf_here (λ x. AreLines (open_text x) → HasRead p (spine_at around kids x) → table_if on (delimiter_row on r) (text_here x) row ≡ table_tree on made x row) away none both.1
+    let none = descending.no_deeper (container_views p.open.items) around kids away h.opened
+    (omega (arith, deep, eqb-true c.args.depth (vec_len p.open) both.0, p.open.ok.0, closing.views_length p.open.items)) in
+    steps.text_leaf_here (λ x. AreLines (open_text x) → HasRead p (spine_at around kids x)
+    → table_if on (delimiter_row on r) (text_here x) row ≡ table_tree on made x row) away none both.1
     (λ l ls are reads. tables.fits_so on row r columns (l ∷ ls) made c.in_ok-read_row.ensures
     (ap (fits columns) (leaves.lines_of p around kids (Text (l ∷ ls)) reads) ∙ sym c.has_head.ensures ∙ c.if-not-has_head.false)
     (left around kids (l ∷ ls) are reads)) clean h)
@@ -57,6 +69,7 @@ returns-clause-here g c =
     (λ made left. λ around kids away deep h is.
     let p = c.args.self.now in
     let both = and_parts (c.args.depth == vec_len p.open) (has_text away) (sym (c.interrupts.ensures around kids away deep h) ∙ c.if-not-interrupts.false) in
-    let none = descending.no_deeper (container_views p.open.items) around kids away h.opened (omega (arith, deep, eqb-true c.args.depth (vec_len p.open) both.0, p.open.ok.0, closing.views_length p.open.items)) in
+    let none = descending.no_deeper (container_views p.open.items) around kids away h.opened
+    (omega (arith, deep, eqb-true c.args.depth (vec_len p.open) both.0, p.open.ok.0, closing.views_length p.open.items)) in
     steps.text_leaf_here IsText away none both.1 (λ l ls. tt))
     c.leaves_text.ensures.left

@@ -12,4 +12,5 @@ pub returns-then-on-clause-uncut : goal.returns-then-on-clause-uncut
 returns-then-on-clause-uncut g c = λ none around kids ls clean h.
     let p = c.args.self.now in
     let lines = leaves.lines_here p around kids (Text ls) h c.deref.result.now c.deref.ensures.value in
-    cut_not c.args.on.now ls (ap (λ (x : List BlockLine). definition_at (content_of (own_lines x))) lines ∙ c.may_begin.ensures.none none (subst AreLines lines clean))
+    cut_not c.args.on.now ls (ap (λ (x : List BlockLine). definition_at (content_of (own_lines x))) lines
+    ∙ c.may_begin.ensures.none none (subst AreLines lines clean))

@@ -2,7 +2,7 @@ use Rattle.std.proofs.Common.{◌≡◌, ◌-◌, ◌∷◌, [], sym, ap, refl, 
 use Rattle.std.proofs.lemmas.List.{length-map, take_all}
 use Rattle.std.proofs.lemmas.Result.{on_ok_weaker}
 use Rattle.definition_text.specs.BlockLines.{own_lines}
-use Rattle.definition_block.specs.Tree.{Blocks, Heading, Text, ended, join}
+use Rattle.definition_block.specs.Tree.{Blocks, Heading, Text, block_and_ending, join}
 use Rattle.definition_block.specs.Definitions.{cut}
 use Rattle.block_rows.specs.Rows.{piece_lines, piece_line, Single}
 use Rattle.block_parser.specs.Spine.{spine}
@@ -25,6 +25,8 @@ returns g c =
     let count = c.len.result - p.lines_in_rows in
     let all : count ≡ length left_lines = omega (arith, left, long, p.counted, p.pieces.ok.0, c.len.ensures) in
     let heading = Heading c.args.rank (own_lines left_lines) in
-    subst (λ (bs : Blocks). HasRead c.end_leaf.new.self (spine around bs (Text []))) (join-assoc kids parts.definitions (ended heading c.args.ending))
-    (reads (Text left_lines) heading (ap (λ x. Single (Heading c.args.rank (own_lines x)) ∷ []) (sym (take_all count left_lines (omega (arith, all))))) refl around kids2 k))
+    subst (λ (bs : Blocks). HasRead c.end_leaf.new.self (spine around bs (Text [])))
+    (join-assoc kids parts.definitions (block_and_ending heading c.args.ending))
+    (reads (Text left_lines) heading (ap (λ x. Single (Heading c.args.rank (own_lines x)) ∷ []) (sym (take_all count left_lines (omega (arith, all))))) refl
+    around kids2 k))
     c.end_leaf.ensures.read

@@ -1,6 +1,6 @@
 use Rattle.std.proofs.Common.{◌∷◌, [], sym, ap, ◌∙◌, subst, refl}
 use Rattle.definition_text.specs.Columns.{Rest}
-use Rattle.definition_text.specs.Indents.{outdented}
+use Rattle.definition_text.specs.Indents.{outdent}
 use Rattle.definition_block.specs.Tree.{Blocks, Text, Indented, rest_line}
 use Rattle.block_rows.specs.Rows.{piece_lines}
 use Rattle.block_starts.specs.View.{rest_of, container_views}
@@ -15,10 +15,12 @@ pub returns : goal.returns
 returns g c = λ around kids h.
     let p = c.args.self.now in
     let pool = piece_lines p.pieces.items in
-    let r = outdented 4 (rest_of c.args.rest) in
+    let r = outdent 4 (rest_of c.args.rest) in
     let l = rest_line r c.args.beside in
     let leaf = Indented (l ∷ []) [] in
     let piece_is = c.piece.ensures ∙ ap (λ (x : Rest). rest_line x c.args.beside) c.outdented.ensures in
-    subst (λ (bs : Blocks). Shows p.rows.rows.items p.rows.waiting.items p.rows.bare (container_views p.open.items) (piece_lines c.push.new.self.items) (InIndented 1 c.args.beside.ending) (spine around bs leaf)) (sym (join-nil kids))
-    (leaves.shows_line p.rows.rows.items p.rows.waiting.items p.rows.bare (container_views p.open.items) pool (piece_lines c.push.new.self.items) (leaf_state p.leaf) (InIndented 1 c.args.beside.ending) around kids (Text []) leaf l
+    subst (λ (bs : Blocks). Shows p.rows.rows.items p.rows.waiting.items p.rows.bare (container_views p.open.items) (piece_lines c.push.new.self.items)
+    (InIndented 1 c.args.beside.ending) (spine around bs leaf)) (sym (join-nil kids))
+    (leaves.shows_line p.rows.rows.items p.rows.waiting.items p.rows.bare (container_views p.open.items) pool (piece_lines c.push.new.self.items)
+    (leaf_state p.leaf) (InIndented 1 c.args.beside.ending) around kids (Text []) leaf l
     (leaves.enough_lines p) (leaves.piece_pushed p.pieces.items c.piece.result c.push.new.self.items l c.in_ok-push.ensures.items piece_is) refl refl h)

@@ -1,7 +1,6 @@
 use Rattle.std.proofs.Common.{◌≡◌, ◌∷◌, ◌==◌, sym, ap, ◌∙◌, subst, length, arith}
 use Rattle.std.proofs.lemmas.Result.{on_ok_weaker}
-use Rattle.definition_text.specs.declared.beside.Kind.{Kind}
-use Rattle.definition_block.specs.Started.{started}
+use Rattle.definition_block.specs.ContainerStart.{container_start}
 use Rattle.definition_block.specs.Tree.{Nil, Tree, tree, nothing, join, Inside, close, beside_in}
 use Rattle.block_starts.specs.View.{rest_of, container_view, started_if}
 use Rattle.block_parser.specs.Spine.{level, spine_after}
@@ -18,7 +17,8 @@ returns-in_default g c =
     let on = c.args.on.now in
     let r = rest_of c.args.rest in
     let none = ap (λ b. starts on b r) (sym (c.interrupts.ensures around kids away deep h)) ∙ sym c.starts.ensures ∙ ap started_if c.in_default.is in
-    subst (λ (x : Tree). HasRead c.leaf_line.new.self (spine_after around kids x)) (sym (starting.new_none on c.args.beside (length r) (c.args.depth == vec_len c.args.self.now.open) away r none)) (grows around kids away deep clean h))
+    subst (λ (x : Tree). HasRead c.leaf_line.new.self (spine_after around kids x))
+    (sym (starting.new_none on c.args.beside (length r) (c.args.depth == vec_len c.args.self.now.open) away r none)) (grows around kids away deep clean h))
     c.leaf_line.ensures
 
 pub returns : goal.returns
@@ -28,19 +28,26 @@ returns g c =
     let r = rest_of c.args.rest in
     let e = c.args.beside in
     let all = c.args.depth == vec_len c.args.self.now.open in
-    let s = started (container_view c.in-Some.container) (rest_of c.in-Some.after) in
+    let s = container_start (container_view c.in-Some.container) (rest_of c.in-Some.line.rest) c.in-Some.line.before in
     let some = ap (λ b. starts on b r) (sym (c.interrupts.ensures around kids away deep h)) ∙ sym c.starts.ensures ∙ ap started_if c.in-Some.is in
     let kids2 = join kids (close on away) in
-    let inner = beside_in s.container r e in
+    let inner = beside_in s.before e in
     let t = new_inside on inner s.rest in
     let holder = tree Nil (Inside s.container t.done t.now) in
     let start_row = c.in_ok-enter.ensures around kids2 (c.in_ok-close_to.ensures.read around kids away deep clean h) in
     let inside = c.in_ok-inside.ensures (level s.container kids2 ∷ around) Nil start_row in
     let q = c.enter_all.new.self in
-    let deeper : c.len-depth.result ≡ length inside.inner = omega (arith, c.len-depth.ensures, q.open.ok.0, closing.views_length q.open.items, ap length inside.reads.opened, closing.length-containers inside.inner) in
+    let deeper : c.len-depth.result ≡ length inside.inner =
+    omega (
+      arith,
+      c.len-depth.ensures,
+      q.open.ok.0,
+      closing.views_length q.open.items,
+      ap length inside.reads.opened,
+      closing.length-containers inside.inner,
+    ) in
     subst (λ (x : Tree). HasRead c.leaf_line-2.new.self (spine_after around kids x)) (sym (starting.new_some on e all away r s some))
     (closing.after_added on (HasRead c.leaf_line-2.new.self) around kids away holder
-    (subst (HasRead c.leaf_line-2.new.self) (sym (starting.grown-inside on e around kids2 s.container t
-    ∙ ap (λ (x : Kind). spine_after (level s.container kids2 ∷ around) Nil (new_inside on record { before = x; ending = e.ending } s.rest)) (sym c.kind_after.ensures) ∙ inside.grows))
+    (subst (HasRead c.leaf_line-2.new.self) (sym (starting.grown-inside on e around kids2 s.container t ∙ inside.grows))
     (grows inside.inner inside.inner_kids nothing deeper tt inside.reads))))
     c.leaf_line-2.ensures

@@ -16,7 +16,8 @@ returns g c =
     let front = paragraph_of (take n parts.left) in
     let head = drop n parts.left in
     let row = rest_line (rest_of c.args.rest) c.args.beside in
-    let k = c.in_ok-close_before_head.ensures.read parts.left around (join kids parts.definitions) (c.in_ok-cut_definitions.ensures.read ls clean around kids h) in
+    let k = c.in_ok-close_before_head.ensures.read parts.left around (join kids parts.definitions)
+    (c.in_ok-cut_definitions.ensures.read ls clean around kids h) in
     subst (λ (bs : Blocks). HasRead c.table_row.new.self (spine around bs (OpenTable (head ++ row ∷ []))))
     (join-nil (join (join kids parts.definitions) front) ∙ join-assoc kids parts.definitions front)
     (more (Text head) head refl around (join (join kids parts.definitions) front) k))

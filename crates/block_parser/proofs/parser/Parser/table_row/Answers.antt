@@ -17,6 +17,9 @@ returns g c = λ leaf ls is around kids h.
     let l = rest_line (rest_of c.args.rest) e in
     let more = ls ++ l ∷ [] in
     let last : last_ending more ≡ e.ending = leaves.last_ending_or-more None ls l in
-    let k = leaves.shows_line p.rows.rows.items p.rows.waiting.items p.rows.bare (container_views p.open.items) (piece_lines p.pieces.items) (piece_lines c.push.new.self.items) (leaf_state p.leaf) (InTable e.ending) around kids leaf (OpenTable more) l
-    (leaves.enough_lines p) (leaves.piece_pushed p.pieces.items c.piece.result c.push.new.self.items l c.in_ok-push.ensures.items c.piece.ensures) (ap (λ x. x ++ l ∷ []) (sym is)) (ap InTable (sym last)) h in
-    subst (λ (bs : Blocks). Shows p.rows.rows.items p.rows.waiting.items p.rows.bare (container_views p.open.items) (piece_lines c.push.new.self.items) (InTable e.ending) (spine around bs (OpenTable more))) (sym (join-nil kids)) k
+    let k = leaves.shows_line p.rows.rows.items p.rows.waiting.items p.rows.bare (container_views p.open.items) (piece_lines p.pieces.items)
+    (piece_lines c.push.new.self.items) (leaf_state p.leaf) (InTable e.ending) around kids leaf (OpenTable more) l
+    (leaves.enough_lines p) (leaves.piece_pushed p.pieces.items c.piece.result c.push.new.self.items l c.in_ok-push.ensures.items c.piece.ensures)
+    (ap (λ x. x ++ l ∷ []) (sym is)) (ap InTable (sym last)) h in
+    subst (λ (bs : Blocks). Shows p.rows.rows.items p.rows.waiting.items p.rows.bare (container_views p.open.items) (piece_lines c.push.new.self.items)
+    (InTable e.ending) (spine around bs (OpenTable more))) (sym (join-nil kids)) k

@@ -14,11 +14,16 @@ returns-clause-read g c =
     let pool = piece_lines p.pieces.items in
     let count = c.args.count in
     let left : ls ≡ drop p.lines_in_rows pool = leaves.lines_of p around kids (Text ls) h in
-    let last : c.last_ending-ending.result ≡ last_ending (take count ls) = c.last_ending-ending.ensures ∙ ap last_ending (sym (leaves.lines_first p around kids (Text ls) h c.deref.result.now c.deref.ensures.value count _ (omega arith))) in
+    let last : c.last_ending-ending.result ≡ last_ending (take count ls) =
+    c.last_ending-ending.ensures ∙ ap last_ending
+    (sym (leaves.lines_first p around kids (Text ls) h c.deref.result.now c.deref.ensures.value count _ (omega arith))) in
     record {
-      written = leaves.written_ended p.rows.rows.items p.rows.waiting.items p.rows.bare pool around kids ls h.written c.args.row b (last_ending (take count ls)) p.rows.none is other
+      written = leaves.written_ended p.rows.rows.items p.rows.waiting.items p.rows.bare pool around kids ls h.written c.args.row b
+          (last_ending (take count ls)) p.rows.none is other
           c.ending.new.self.rows.items c.block.new.self.waiting.items c.ending.new.self.waiting.items c.ending.new.self.bare (drop count ls)
-          (c.ending.ensures.rows ∙ c.in_ok-block.ensures.rows) c.in_ok-block.ensures.waiting (waits ∙ ap (λ e. c.block.new.self.waiting.items ++ row.Ending e ∷ []) last) (c.ending.ensures.bare ∙ c.in_ok-block.ensures.bare) (ap (λ n. drop n ls) (sym c.requires.size));
+          (c.ending.ensures.rows ∙ c.in_ok-block.ensures.rows) c.in_ok-block.ensures.waiting
+          (waits ∙ ap (λ e. c.block.new.self.waiting.items ++ row.Ending e ∷ []) last) (c.ending.ensures.bare ∙ c.in_ok-block.ensures.bare)
+          (ap (λ n. drop n ls) (sym c.requires.size));
       opened = h.opened;
       same_state = refl;
     })

@@ -1,15 +1,13 @@
-use Rattle.std.proofs.Common.{◌++◌, ◌∷◌, [], refl}
-use Rattle.definition_block.specs.Tree.{Text, rest_line}
-use Rattle.block_rows.specs.Rows.{piece_lines}
-use Rattle.block_starts.specs.View.{rest_of, container_views}
-use Rattle.block_parser.specs.Leaves.{leaf_state}
-use Rattle.block_parser.proofs.Leaves as leaves
+use Rattle.std.proofs.Common.{◌++◌, ◌∷◌, [], subst}
+use Rattle.std.proofs.lemmas.Result.{on_ok_weaker}
+use Rattle.definition_text.specs.BlockLines.{BlockLine}
+use Rattle.definition_block.specs.Tree.{Text}
+use Rattle.block_parser.specs.Spine.{spine}
+use Rattle.block_parser.specs.View.{HasRead}
 use Rattle.block_parser.proofs.parser.Parser.text_line.Goals as goal
 
 pub returns : goal.returns
-returns g c = λ around kids ls h.
-    let p = c.args.self.now in
-    let pool = piece_lines p.pieces.items in
-    let l = rest_line (rest_of c.args.rest) c.args.beside in
-    leaves.shows_line p.rows.rows.items p.rows.waiting.items p.rows.bare (container_views p.open.items) pool (piece_lines c.push.new.self.items) (leaf_state p.leaf) (leaf_state p.leaf) around kids (Text ls) (Text (ls ++ l ∷ [])) l
-    (leaves.enough_lines p) (leaves.piece_pushed p.pieces.items c.piece.result c.push.new.self.items l c.in_ok-push.ensures.items c.piece.ensures) refl h.same_state h
+returns g c =
+    on_ok_weaker c.add_line.result (λ more. λ around kids ls h.
+    subst (λ (l : BlockLine). HasRead c.add_line.new.self (spine around kids (Text (ls ++ l ∷ [])))) c.piece.ensures (more around kids ls h))
+    c.add_line.ensures

@@ -1,4 +1,4 @@
-use Rattle.std.proofs.Common.{◌≡◌, ◌+◌, ◌-◌, ◌<◌, false, List, ℕ, Some, get_or, take, drop, length, sym, ap, ◌∙◌, subst, arith}
+use Rattle.std.proofs.Common.{◌≡◌, ◌+◌, ◌-◌, ◌<◌, false, List, ℕ, get_or, take, length, sym, ap, ◌∙◌, subst, arith}
 use Rattle.std.specs.Str.{IsUtf8}
 use Rattle.std.proofs.lemmas.List.{length-drop}
 use Rattle.std.proofs.lemmas.Str.{IsCharBoundary-after_ascii}
@@ -86,5 +86,6 @@ returns c =
     let from : n - 0 ≡ n = omega arith in
     subst (λ (r : Rest). IsLabelBefore r c.range.result.now after) (sym (view_none s.owed s.column t c.if-self-gt0.false))
     (subst (λ (l : List ℕ). IsLabelBefore (codes_from s.column t) l after) (sym (c.range.ensures.value ∙ ap (λ k. take k t) from))
-    (subst (λ (r : Rest). IsLabelBefore (codes_from s.column t) (take n t) r) (sym (c.at-rest.ensures ∙ ap (codes_from (s.column + n + 1)) c.range_from.ensures.value))
+    (subst (λ (r : Rest). IsLabelBefore (codes_from s.column t) (take n t) r)
+    (sym (c.at-rest.ensures ∙ ap (codes_from (s.column + n + 1)) c.range_from.ensures.value))
     (is_label_before s.column t n f)))

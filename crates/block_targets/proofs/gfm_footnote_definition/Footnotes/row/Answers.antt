@@ -11,7 +11,8 @@ use Rattle.block_targets.proofs.Notes.{bare_codes}
 use Rattle.block_targets.proofs.gfm_footnote_definition.Footnotes.row.Goals as goal
 
 -- the label on the first of these lines
-label_read : (lines : List Piece) (other : Piece) → row_size row.EnterFootnote ≤ length lines → is_bare_row (EnterFootnote (first_codes (piece_lines lines))) ≡ true
+label_read : (lines : List Piece) (other : Piece) → row_size row.EnterFootnote ≤ length lines
+    → is_bare_row (EnterFootnote (first_codes (piece_lines lines))) ≡ true
     → content_codes (slice_index_or lines 0 other).text.now ≡ first_codes (piece_lines lines)
 label_read [] other enough bare = absurd (omega (arith, enough))
 label_read (piece ∷ others) other enough bare = bare_codes piece.owed piece.text.now bare

@@ -1,9 +1,9 @@
 use Rattle.std.proofs.Common.{ap, ◌∙◌}
 use Rattle.html_bytes.specs.Document.{context_of, document}
-use Rattle.definition_inline.specs.Scan.{inlines, inlines_from, unindented}
+use Rattle.definition_inline.specs.Scan.{inlines, inlines_from, without_indent}
 use Rattle.definition_page.specs.Targets.{linked_at, linked_by}
 use Rattle.inline_content.specs.View.{content_view, view_at}
-use Rattle.html_inline.specs.Opens.{place_linked}
+use Rattle.html_inline.specs.Opens.{place_target}
 use Rattle.inline_rows.specs.InlineRows.{inline_rows}
 use Rattle.inline_rows.specs.View.{rows_view}
 use Rattle.definition_page.specs.InlinePieces.{leads_to}
@@ -16,8 +16,9 @@ returns g c = λ ds known default.
     let texts = c.args.self.now in
     let is_punctuation = g.T.Tables.punctuation_of texts.tables.now in
     let d = document texts.options.now (text_tables (g.T.Tables.reference_of texts.tables.now) is_punctuation) ds in
-    c.count_rows.ensures (linked_by ds.definitions) ds.footnotes default (inlines (context_of d) (content_view is_punctuation c.args.content)) known.has_labels.noted
-    (ap (rows_view (place_linked texts.links.now)) c.as_slice.ensures.value
-    ∙ same_rows (place_linked texts.links.now) (linked_at ds.definitions) (same_place texts.links.now ds.definitions known.leads) c.in_ok-rows.rows.items
+    c.count_rows.ensures (linked_by ds.definitions) ds.footnotes default (inlines (context_of d) (content_view is_punctuation c.args.content))
+    known.has_labels.noted
+    (ap (rows_view (place_target texts.links.now)) c.as_slice.ensures.value
+    ∙ same_rows (place_target texts.links.now) (linked_at ds.definitions) (same_place texts.links.now ds.definitions known.leads) c.in_ok-rows.rows.items
     ∙ c.in_ok-rows.ensures ds known.has_labels
     ∙ ap (λ v. inline_rows (leads_to (linked_by ds.definitions)) (inlines_from (context_of d) v)) (c.content_start.ensures.view is_punctuation))

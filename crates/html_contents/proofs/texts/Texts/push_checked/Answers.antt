@@ -2,7 +2,7 @@ use Rattle.std.proofs.Common.{◌≡◌, ◌∷◌, OnOk, Some, ap, sym, subst, 
 use Rattle.std.specs.List.{fold}
 use Rattle.definition_text.specs.Content.{content_codes}
 use Rattle.definition_inline.specs.GfmTaskListItem.{check_size}
-use Rattle.definition_inline.specs.Scan.{inlines_from, unindented}
+use Rattle.definition_inline.specs.Scan.{inlines_from, without_indent}
 use Rattle.html_bytes.specs.Document.{context_of, meaning_of}
 use Rattle.html_bytes.specs.InlineHtml.{inline_pieces}
 use Rattle.html_bytes.specs.Layout.{lay, with_text}
@@ -22,7 +22,7 @@ returns-in-None g c = λ ds known default.
     let d = document_by g.T.Tables texts ds in
     let view = c.content_start-start.ensures.view p in
     subst (λ text. OnOk c.push_from.result (output_view c.push_from.new.out ≡ fold (lay d.options.compile default) (output_view c.args.out.now) text))
-    (text_alone d c.args.first (unindented (content_view p content)) (view_at p content start) (content_codes start) view
+    (text_alone d c.args.first (without_indent (content_view p content)) (view_at p content start) (content_codes start) view
     (codes_left p content start c.content_start-start.ensures.place) c.in-None.ensures.read)
     (c.push_from.ensures ds known default)
 
@@ -45,6 +45,6 @@ returns-in_ok-push_check-in-Some g c = λ ds known default.
     subst (λ all. OnOk c.push_from-in-Some.result (output_view c.push_from-in-Some.new.out ≡ all))
     (ap (λ x. fold (lay d.options.compile default) (with_text out x) text) c.in_ok-push_check-in-Some.ensures
     ∙ ap (fold (lay d.options.compile default) out)
-    (text_checked d c.args.first (unindented (content_view p content)) (view_at p content start) (content_codes start) view
+    (text_checked d c.args.first (without_indent (content_view p content)) (view_at p content start) (content_codes start) view
     (codes_left p content start place) check.done after c.in-Some.ensures.read rest))
     (c.push_from-in-Some.ensures ds known default)

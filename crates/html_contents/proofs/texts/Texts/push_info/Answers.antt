@@ -10,5 +10,6 @@ returns g c ds clear =
     subst
     (λ info.
     OnOk c.push_encoded_string.result
-    (string_bytes c.push_encoded_string.new.out ≡ string_bytes c.args.out.now ++ encode (string_text c.args.self.now.options.now.parse.constructs (g.T.Tables.reference_of c.args.self.now.tables.now) info)))
+    (string_bytes c.push_encoded_string.new.out ≡ string_bytes c.args.out.now
+    ++ encode (string_text c.args.self.now.options.now.parse.constructs (g.T.Tables.reference_of c.args.self.now.tables.now) info)))
     (plain_codes c.args.info.now clear) c.push_encoded_string.ensures

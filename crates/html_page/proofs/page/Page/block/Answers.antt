@@ -23,7 +23,8 @@ use Rattle.html_page.proofs.page.Page.block.Goals as goal
 
 pub returns-in-Paragraph-clause-printed : goal.returns-in-Paragraph-clause-printed
 returns-in-Paragraph-clause-printed g c = λ ds has.
-    let d = document c.args.texts.now.options.now (text_tables (g.T.Tables.reference_of c.args.texts.now.tables.now) (g.T.Tables.punctuation_of c.args.texts.now.tables.now)) ds in
+    let d = document c.args.texts.now.options.now (text_tables (g.T.Tables.reference_of c.args.texts.now.tables.now)
+    (g.T.Tables.punctuation_of c.args.texts.now.tables.now)) ds in
     let page = c.args.self.now in
     let before = page_view page in
     let after = page_view c.paragraph.new.self in
@@ -31,13 +32,16 @@ returns-in-Paragraph-clause-printed g c = λ ds has.
     let clean : AreLines (piece_lines (take c.in-Paragraph.count lines)) =
     with_ending _ (subst (λ (ls : List BlockLine). AreLines (own_lines ls)) (take-map piece_line c.in-Paragraph.count lines)
     (subst (λ (row : Row). IsPrintableRow (row_value row (piece_lines lines))) c.in-Paragraph.is c.requires.printable)) in
-    subst (λ (row : Row). OnOk c.paragraph.result (after ≡ layout_after d.options.compile page.default_ending before (row_pieces d c.args.level (row_value row (piece_lines lines))))) (sym c.in-Paragraph.is)
-    (subst (λ (ls : List BlockLine). OnOk c.paragraph.result (after ≡ layout_after d.options.compile page.default_ending before (block_pieces d (standing_first c.args.level.first) c.args.level.tight false (Paragraph (own_lines ls)))))
+    subst (λ (row : Row). OnOk c.paragraph.result (after ≡ layout_after d.options.compile page.default_ending before
+    (row_pieces d c.args.level (row_value row (piece_lines lines))))) (sym c.in-Paragraph.is)
+    (subst (λ (ls : List BlockLine). OnOk c.paragraph.result (after ≡ layout_after d.options.compile page.default_ending before
+    (block_pieces d (standing_first c.args.level.first) c.args.level.tight false (Paragraph (own_lines ls)))))
     (sym (take-map piece_line c.in-Paragraph.count lines)) (c.paragraph.ensures.printed ds has clean))
 
 pub returns-in-WholeParagraph-clause-printed : goal.returns-in-WholeParagraph-clause-printed
 returns-in-WholeParagraph-clause-printed g c = λ ds has.
-    let d = document c.args.texts.now.options.now (text_tables (g.T.Tables.reference_of c.args.texts.now.tables.now) (g.T.Tables.punctuation_of c.args.texts.now.tables.now)) ds in
+    let d = document c.args.texts.now.options.now (text_tables (g.T.Tables.reference_of c.args.texts.now.tables.now)
+    (g.T.Tables.punctuation_of c.args.texts.now.tables.now)) ds in
     let page = c.args.self.now in
     let before = page_view page in
     let after = page_view c.whole_paragraph.new.self in
@@ -46,13 +50,16 @@ returns-in-WholeParagraph-clause-printed g c = λ ds has.
     let count = c.in-WholeParagraph.count in
     let some : 1 ≤ length lines = subst (λ (row : Row). row_size row ≤ length lines) c.in-WholeParagraph.is c.requires.enough in
     let bytes : (k : ℕ) → get_or piece.text.now k 0 < 256 = c.whole_paragraph.ensures.bytes in
-    subst (λ (row : Row). OnOk c.whole_paragraph.result (after ≡ layout_after d.options.compile page.default_ending before (row_pieces d c.args.level (row_value row (piece_lines lines))))) (sym c.in-WholeParagraph.is)
-    (subst (λ (text : List ℕ). OnOk c.whole_paragraph.result (after ≡ layout_after d.options.compile page.default_ending before (block_pieces d (standing_first c.args.level.first) c.args.level.tight false (Paragraph (own_lines (whole_lines count text))))))
+    subst (λ (row : Row). OnOk c.whole_paragraph.result (after ≡ layout_after d.options.compile page.default_ending before
+    (row_pieces d c.args.level (row_value row (piece_lines lines))))) (sym c.in-WholeParagraph.is)
+    (subst (λ (text : List ℕ). OnOk c.whole_paragraph.result (after ≡ layout_after d.options.compile page.default_ending before
+    (block_pieces d (standing_first c.args.level.first) c.args.level.tight false (Paragraph (own_lines (whole_lines count text))))))
     (sym (ap bytes_of (first_codes_of lines no_piece some) ∙ bytes_owed piece.owed piece.text.now bytes)) (c.whole_paragraph.ensures.printed ds has))
 
 pub returns-in-Heading-clause-printed : goal.returns-in-Heading-clause-printed
 returns-in-Heading-clause-printed g c = λ ds has.
-    let d = document c.args.texts.now.options.now (text_tables (g.T.Tables.reference_of c.args.texts.now.tables.now) (g.T.Tables.punctuation_of c.args.texts.now.tables.now)) ds in
+    let d = document c.args.texts.now.options.now (text_tables (g.T.Tables.reference_of c.args.texts.now.tables.now)
+    (g.T.Tables.punctuation_of c.args.texts.now.tables.now)) ds in
     let page = c.args.self.now in
     let before = page_view page in
     let after = page_view c.heading_atx.new.self in
@@ -62,81 +69,103 @@ returns-in-Heading-clause-printed g c = λ ds has.
     let some : 1 ≤ length lines = subst (λ (row : Row). row_size row ≤ length lines) c.in-Heading.is c.requires.enough in
     let front = first_line lines no_piece some in
     let clean = subst (λ (ls : List BlockLine). AreHeadingLines (own_lines ls)) front fits.1 in
-    subst (λ (row : Row). OnOk c.heading_atx.result (after ≡ layout_after d.options.compile page.default_ending before (row_pieces d c.args.level (row_value row (piece_lines lines))))) (sym c.in-Heading.is)
-    (subst (λ (ls : List BlockLine). OnOk c.heading_atx.result (after ≡ layout_after d.options.compile page.default_ending before (block_pieces d on_page false false (Heading c.in-Heading.rank (own_lines ls)))))
+    subst (λ (row : Row). OnOk c.heading_atx.result (after ≡ layout_after d.options.compile page.default_ending before
+    (row_pieces d c.args.level (row_value row (piece_lines lines))))) (sym c.in-Heading.is)
+    (subst (λ (ls : List BlockLine). OnOk c.heading_atx.result (after ≡ layout_after d.options.compile page.default_ending before
+    (block_pieces d on_page false false (Heading c.in-Heading.rank (own_lines ls)))))
     (sym front) (c.heading_atx.ensures.printed ds has clean))
 
 pub returns-in-SetextHeading-clause-printed : goal.returns-in-SetextHeading-clause-printed
 returns-in-SetextHeading-clause-printed g c = λ ds has.
-    let d = document c.args.texts.now.options.now (text_tables (g.T.Tables.reference_of c.args.texts.now.tables.now) (g.T.Tables.punctuation_of c.args.texts.now.tables.now)) ds in
+    let d = document c.args.texts.now.options.now (text_tables (g.T.Tables.reference_of c.args.texts.now.tables.now)
+    (g.T.Tables.punctuation_of c.args.texts.now.tables.now)) ds in
     let page = c.args.self.now in
     let before = page_view page in
     let after = page_view c.heading_setext.new.self in
     let lines = c.args.lines.now in
-    let fits : ((1 ≤ c.in-SetextHeading.rank) × (c.in-SetextHeading.rank ≤ 6)) × AreHeadingLines (own_lines (take c.in-SetextHeading.count (piece_lines lines))) =
+    let fits : ((1 ≤ c.in-SetextHeading.rank) × (c.in-SetextHeading.rank ≤ 6))
+    × AreHeadingLines (own_lines (take c.in-SetextHeading.count (piece_lines lines))) =
     subst (λ (row : Row). IsPrintableRow (row_value row (piece_lines lines))) c.in-SetextHeading.is c.requires.printable in
     let front = take-map piece_line c.in-SetextHeading.count lines in
     let clean = subst (λ (ls : List BlockLine). AreHeadingLines (own_lines ls)) front fits.1 in
-    subst (λ (row : Row). OnOk c.heading_setext.result (after ≡ layout_after d.options.compile page.default_ending before (row_pieces d c.args.level (row_value row (piece_lines lines))))) (sym c.in-SetextHeading.is)
-    (subst (λ (ls : List BlockLine). OnOk c.heading_setext.result (after ≡ layout_after d.options.compile page.default_ending before (block_pieces d on_page false false (Heading c.in-SetextHeading.rank (own_lines ls)))))
+    subst (λ (row : Row). OnOk c.heading_setext.result (after ≡ layout_after d.options.compile page.default_ending before
+    (row_pieces d c.args.level (row_value row (piece_lines lines))))) (sym c.in-SetextHeading.is)
+    (subst (λ (ls : List BlockLine). OnOk c.heading_setext.result (after ≡ layout_after d.options.compile page.default_ending before
+    (block_pieces d on_page false false (Heading c.in-SetextHeading.rank (own_lines ls)))))
     (sym front) (c.heading_setext.ensures.printed ds has clean))
 
 pub returns-in-Break-clause-printed : goal.returns-in-Break-clause-printed
 returns-in-Break-clause-printed g c = λ ds has.
-    let d = document c.args.texts.now.options.now (text_tables (g.T.Tables.reference_of c.args.texts.now.tables.now) (g.T.Tables.punctuation_of c.args.texts.now.tables.now)) ds in
+    let d = document c.args.texts.now.options.now (text_tables (g.T.Tables.reference_of c.args.texts.now.tables.now)
+    (g.T.Tables.punctuation_of c.args.texts.now.tables.now)) ds in
     let page = c.args.self.now in
     let before = page_view page in
     let after = page_view c.thematic_break.new.self in
     let lines = c.args.lines.now in
-    subst (λ (row : Row). OnOk c.thematic_break.result (after ≡ layout_after d.options.compile page.default_ending before (row_pieces d c.args.level (row_value row (piece_lines lines))))) (sym c.in-Break.is)
+    subst (λ (row : Row). OnOk c.thematic_break.result (after ≡ layout_after d.options.compile page.default_ending before
+    (row_pieces d c.args.level (row_value row (piece_lines lines))))) (sym c.in-Break.is)
     (c.thematic_break.ensures.printed d)
 
 pub returns-in-Html-clause-printed : goal.returns-in-Html-clause-printed
 returns-in-Html-clause-printed g c = λ ds has.
-    let d = document c.args.texts.now.options.now (text_tables (g.T.Tables.reference_of c.args.texts.now.tables.now) (g.T.Tables.punctuation_of c.args.texts.now.tables.now)) ds in
+    let d = document c.args.texts.now.options.now (text_tables (g.T.Tables.reference_of c.args.texts.now.tables.now)
+    (g.T.Tables.punctuation_of c.args.texts.now.tables.now)) ds in
     let page = c.args.self.now in
     let before = page_view page in
     let after = page_view c.html_block.new.self in
     let lines = c.args.lines.now in
-    subst (λ (row : Row). OnOk c.html_block.result (after ≡ layout_after d.options.compile page.default_ending before (row_pieces d c.args.level (row_value row (piece_lines lines))))) (sym c.in-Html.is)
-    (subst (λ (ls : List BlockLine). OnOk c.html_block.result (after ≡ layout_after d.options.compile page.default_ending before (block_pieces d on_page false false (Html (own_lines ls)))))
+    subst (λ (row : Row). OnOk c.html_block.result (after ≡ layout_after d.options.compile page.default_ending before
+    (row_pieces d c.args.level (row_value row (piece_lines lines))))) (sym c.in-Html.is)
+    (subst (λ (ls : List BlockLine). OnOk c.html_block.result (after ≡ layout_after d.options.compile page.default_ending before
+    (block_pieces d on_page false false (Html (own_lines ls)))))
     (sym (take-map piece_line c.in-Html.count lines)) c.html_block.ensures.printed)
 
 pub table-requires : goal.table-requires
 table-requires g c =
     let lines = c.args.lines.now in
     let count = c.in-Table.count in
-    let fits : IsTable (own_lines (take count (piece_lines lines))) = subst (λ (row : Row). IsPrintableRow (row_value row (piece_lines lines))) c.in-Table.is c.requires.printable in
+    let fits : IsTable (own_lines (take count (piece_lines lines))) =
+    subst (λ (row : Row). IsPrintableRow (row_value row (piece_lines lines))) c.in-Table.is c.requires.printable in
     omega (arith, fits.0, own_length (take count (piece_lines lines)), ap length (take-map piece_line count lines), length-map (take count lines) piece_line)
 
 pub returns-in-Table-clause-printed : goal.returns-in-Table-clause-printed
 returns-in-Table-clause-printed g c = λ ds has.
-    let d = document c.args.texts.now.options.now (text_tables (g.T.Tables.reference_of c.args.texts.now.tables.now) (g.T.Tables.punctuation_of c.args.texts.now.tables.now)) ds in
+    let d = document c.args.texts.now.options.now (text_tables (g.T.Tables.reference_of c.args.texts.now.tables.now)
+    (g.T.Tables.punctuation_of c.args.texts.now.tables.now)) ds in
     let page = c.args.self.now in
     let before = page_view page in
     let after = page_view c.table.new.self in
     let lines = c.args.lines.now in
     let count = c.in-Table.count in
-    let fits : IsTable (own_lines (take count (piece_lines lines))) = subst (λ (row : Row). IsPrintableRow (row_value row (piece_lines lines))) c.in-Table.is c.requires.printable in
-    let clean = clear_with_ending (piece_lines (take count lines)) (subst (λ (ls : List BlockLine). AreClear (own_lines ls)) (take-map piece_line count lines) fits.1) in
-    subst (λ (row : Row). OnOk c.table.result (after ≡ layout_after d.options.compile page.default_ending before (row_pieces d c.args.level (row_value row (piece_lines lines))))) (sym c.in-Table.is)
-    (subst (λ (ls : List BlockLine). OnOk c.table.result (after ≡ layout_after d.options.compile page.default_ending before (block_pieces d on_page false false (Table (own_lines ls)))))
+    let fits : IsTable (own_lines (take count (piece_lines lines))) =
+    subst (λ (row : Row). IsPrintableRow (row_value row (piece_lines lines))) c.in-Table.is c.requires.printable in
+    let clean =
+    clear_with_ending (piece_lines (take count lines)) (subst (λ (ls : List BlockLine). AreClear (own_lines ls))
+    (take-map piece_line count lines) fits.1) in
+    subst (λ (row : Row). OnOk c.table.result (after ≡ layout_after d.options.compile page.default_ending before
+    (row_pieces d c.args.level (row_value row (piece_lines lines))))) (sym c.in-Table.is)
+    (subst (λ (ls : List BlockLine). OnOk c.table.result (after ≡ layout_after d.options.compile page.default_ending before
+    (block_pieces d on_page false false (Table (own_lines ls)))))
     (sym (take-map piece_line count lines)) (c.table.ensures.printed ds has clean))
 
 pub returns-in-IndentedCode-clause-printed : goal.returns-in-IndentedCode-clause-printed
 returns-in-IndentedCode-clause-printed g c = λ ds has.
-    let d = document c.args.texts.now.options.now (text_tables (g.T.Tables.reference_of c.args.texts.now.tables.now) (g.T.Tables.punctuation_of c.args.texts.now.tables.now)) ds in
+    let d = document c.args.texts.now.options.now (text_tables (g.T.Tables.reference_of c.args.texts.now.tables.now)
+    (g.T.Tables.punctuation_of c.args.texts.now.tables.now)) ds in
     let page = c.args.self.now in
     let before = page_view page in
     let after = page_view c.indented_code.new.self in
     let lines = c.args.lines.now in
-    subst (λ (row : Row). OnOk c.indented_code.result (after ≡ layout_after d.options.compile page.default_ending before (row_pieces d c.args.level (row_value row (piece_lines lines))))) (sym c.in-IndentedCode.is)
-    (subst (λ (ls : List BlockLine). OnOk c.indented_code.result (after ≡ layout_after d.options.compile page.default_ending before (block_pieces d on_page false false (IndentedCode (own_lines ls)))))
+    subst (λ (row : Row). OnOk c.indented_code.result (after ≡ layout_after d.options.compile page.default_ending before
+    (row_pieces d c.args.level (row_value row (piece_lines lines))))) (sym c.in-IndentedCode.is)
+    (subst (λ (ls : List BlockLine). OnOk c.indented_code.result (after ≡ layout_after d.options.compile page.default_ending before
+    (block_pieces d on_page false false (IndentedCode (own_lines ls)))))
     (sym (take-map piece_line c.in-IndentedCode.count lines)) (c.indented_code.ensures.printed d))
 
 pub returns-in-FencedCode-clause-printed : goal.returns-in-FencedCode-clause-printed
 returns-in-FencedCode-clause-printed g c = λ ds has.
-    let d = document c.args.texts.now.options.now (text_tables (g.T.Tables.reference_of c.args.texts.now.tables.now) (g.T.Tables.punctuation_of c.args.texts.now.tables.now)) ds in
+    let d = document c.args.texts.now.options.now (text_tables (g.T.Tables.reference_of c.args.texts.now.tables.now)
+    (g.T.Tables.punctuation_of c.args.texts.now.tables.now)) ds in
     let page = c.args.self.now in
     let before = page_view page in
     let after = page_view c.fenced_code.new.self in
@@ -148,13 +177,18 @@ returns-in-FencedCode-clause-printed g c = λ ds has.
     subst (λ (row : Row). IsPrintableRow (row_value row (piece_lines lines))) c.in-FencedCode.is c.requires.printable in
     let bytes = fits.0 in
     let clear : HaveNoEnding (get_or lines 0 no_piece).text.now = subst HaveNoEnding (info_is lines (omega (arith, enough)) bytes) fits.1 in
-    subst (λ (row : Row). OnOk c.fenced_code.result (after ≡ layout_after d.options.compile page.default_ending before (row_pieces d c.args.level (row_value row (piece_lines lines))))) (sym c.in-FencedCode.is)
-    (subst (λ x. OnOk c.fenced_code.result (after ≡ x)) (ap (λ (top : Bool). layout_after d.options.compile page.default_ending before (block_pieces d (standing_at top) false false (FencedCode (get_or lines 0 no_piece).text.now true (piece_lines (take count (take (length lines - 1) (drop 1 lines))))))) c.is_document-top.ensures
+    subst (λ (row : Row). OnOk c.fenced_code.result (after ≡ layout_after d.options.compile page.default_ending before
+    (row_pieces d c.args.level (row_value row (piece_lines lines))))) (sym c.in-FencedCode.is)
+    (subst (λ x. OnOk c.fenced_code.result (after ≡ x))
+    (ap (λ (top : Bool). layout_after d.options.compile page.default_ending before
+    (block_pieces d (standing_at top) false false (FencedCode (get_or lines 0 no_piece).text.now true
+    (piece_lines (take count (take (length lines - 1) (drop 1 lines))))))) c.is_document-top.ensures
     ∙ fenced_laid d page.default_ending before (standing_of l) l.tight l.silent true count lines enough bytes) (c.fenced_code.ensures.printed ds clear))
 
 pub returns-in-UnclosedCode-clause-printed : goal.returns-in-UnclosedCode-clause-printed
 returns-in-UnclosedCode-clause-printed g c = λ ds has.
-    let d = document c.args.texts.now.options.now (text_tables (g.T.Tables.reference_of c.args.texts.now.tables.now) (g.T.Tables.punctuation_of c.args.texts.now.tables.now)) ds in
+    let d = document c.args.texts.now.options.now (text_tables (g.T.Tables.reference_of c.args.texts.now.tables.now)
+    (g.T.Tables.punctuation_of c.args.texts.now.tables.now)) ds in
     let page = c.args.self.now in
     let before = page_view page in
     let after = page_view c.fenced_code-in-UnclosedCode.new.self in
@@ -166,6 +200,20 @@ returns-in-UnclosedCode-clause-printed g c = λ ds has.
     subst (λ (row : Row). IsPrintableRow (row_value row (piece_lines lines))) c.in-UnclosedCode.is c.requires.printable in
     let bytes = fits.0 in
     let clear : HaveNoEnding (get_or lines 0 no_piece).text.now = subst HaveNoEnding (info_is lines (omega (arith, enough)) bytes) fits.1 in
-    subst (λ (row : Row). OnOk c.fenced_code-in-UnclosedCode.result (after ≡ layout_after d.options.compile page.default_ending before (row_pieces d c.args.level (row_value row (piece_lines lines))))) (sym c.in-UnclosedCode.is)
-    (subst (λ x. OnOk c.fenced_code-in-UnclosedCode.result (after ≡ x)) (ap (λ (top : Bool). layout_after d.options.compile page.default_ending before (block_pieces d (standing_at top) false false (FencedCode (get_or lines 0 no_piece).text.now false (piece_lines (take count (take (length lines - 1) (drop 1 lines))))))) c.is_document-top.ensures
-    ∙ fenced_laid d page.default_ending before (standing_of l) l.tight l.silent false count lines enough bytes) (c.fenced_code-in-UnclosedCode.ensures.printed ds clear))
+    subst (λ (row : Row). OnOk c.fenced_code-in-UnclosedCode.result (after ≡ layout_after d.options.compile page.default_ending before
+    (row_pieces d c.args.level (row_value row (piece_lines lines))))) (sym c.in-UnclosedCode.is)
+    (subst (λ x. OnOk c.fenced_code-in-UnclosedCode.result (after ≡ x)) (ap
+    (λ (top : Bool). layout_after d.options.compile page.default_ending before
+    (block_pieces d (standing_at top) false false (FencedCode (get_or lines 0 no_piece).text.now false
+    (piece_lines (take count (take (length lines - 1) (drop 1 lines))))))) c.is_document-top.ensures
+    ∙ fenced_laid d page.default_ending before (standing_of l) l.tight l.silent false count lines enough bytes)
+    (c.fenced_code-in-UnclosedCode.ensures.printed ds clear))
+
+pub returns-in-Ending-clause-printed : goal.returns-in-Ending-clause-printed
+returns-in-Ending-clause-printed g c = λ ds has.
+    let d = document c.args.texts.now.options.now (text_tables (g.T.Tables.reference_of c.args.texts.now.tables.now)
+    (g.T.Tables.punctuation_of c.args.texts.now.tables.now)) ds in
+    let page = c.args.self.now in
+    let after = page_view c.line_ending.new.self in
+    subst (λ (row : Row). OnOk c.line_ending.result (after ≡ layout_after d.options.compile page.default_ending (page_view page)
+    (row_pieces d c.args.level (row_value row (piece_lines c.args.lines.now))))) (sym c.in-Ending.is) (c.line_ending.ensures.printed d)

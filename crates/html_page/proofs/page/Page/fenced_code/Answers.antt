@@ -9,23 +9,28 @@ use Rattle.html_page.proofs.page.Page.fenced_code.Goals as goal
 
 pub returns-then-closed-clause-printed : goal.returns-then-closed-clause-printed
 returns-then-closed-clause-printed g c = λ ds clear.
-    let d = document c.args.texts.now.options.now (text_tables (g.T.Tables.reference_of c.args.texts.now.tables.now) (g.T.Tables.punctuation_of c.args.texts.now.tables.now)) ds in
+    let d = document c.args.texts.now.options.now (text_tables (g.T.Tables.reference_of c.args.texts.now.tables.now)
+    (g.T.Tables.punctuation_of c.args.texts.now.tables.now)) ds in
     let page = c.args.self.now in
     let inner = c.in_ok-say-2.ensures.default ∙ c.in_ok-class.ensures.default ∙ c.in_ok-say.ensures.default ∙ c.in_ok-fresh.ensures.default in
     closed_laid d page.default_ending c.say-2.new.self.default_ending c.args.info.now c.args.top c.args.closed (piece_lines c.args.lines.now)
     (page_view page) (page_view c.fresh.new.self) (page_view c.say.new.self) (page_view c.class.new.self) (page_view c.say-2.new.self)
     (page_view c.fenced_content.new.self) (page_view c.say-3.new.self) c.if-closed.true inner c.in_ok-fresh.ensures.printed c.in_ok-say.ensures.printed
-    (c.in_ok-class.ensures.printed ds clear) c.in_ok-say-2.ensures.printed (c.in_ok-fenced_content.ensures.printed d.options.compile) c.in_ok-say-3.ensures.printed
+    (c.in_ok-class.ensures.printed ds clear) c.in_ok-say-2.ensures.printed (c.in_ok-fenced_content.ensures.printed d.options.compile)
+    c.in_ok-say-3.ensures.printed
 
 pub returns-clause-printed : goal.returns-clause-printed
 returns-clause-printed g c = λ ds clear.
-    let d = document c.args.texts.now.options.now (text_tables (g.T.Tables.reference_of c.args.texts.now.tables.now) (g.T.Tables.punctuation_of c.args.texts.now.tables.now)) ds in
+    let d = document c.args.texts.now.options.now (text_tables (g.T.Tables.reference_of c.args.texts.now.tables.now)
+    (g.T.Tables.punctuation_of c.args.texts.now.tables.now)) ds in
     let page = c.args.self.now in
     let inner = c.in_ok-say-2.ensures.default ∙ c.in_ok-class.ensures.default ∙ c.in_ok-say.ensures.default ∙ c.in_ok-fresh.ensures.default in
     let after = c.in_ok-say-3.ensures.default ∙ c.in_ok-fenced_content.ensures.default ∙ inner in
     subst (λ x. OnOk c.fresh-2.result (page_view c.fresh-2.new.self ≡ x))
-    (open_laid d page.default_ending c.say-2.new.self.default_ending c.say-3.new.self.default_ending c.args.info.now c.args.top c.args.closed (piece_lines c.args.lines.now)
+    (open_laid d page.default_ending c.say-2.new.self.default_ending c.say-3.new.self.default_ending c.args.info.now c.args.top c.args.closed
+    (piece_lines c.args.lines.now)
     (page_view page) (page_view c.fresh.new.self) (page_view c.say.new.self) (page_view c.class.new.self) (page_view c.say-2.new.self)
     (page_view c.fenced_content.new.self) (page_view c.say-3.new.self) c.if-closed.false inner after c.in_ok-fresh.ensures.printed c.in_ok-say.ensures.printed
-    (c.in_ok-class.ensures.printed ds clear) c.in_ok-say-2.ensures.printed (c.in_ok-fenced_content.ensures.printed d.options.compile) c.in_ok-say-3.ensures.printed)
+    (c.in_ok-class.ensures.printed ds clear) c.in_ok-say-2.ensures.printed (c.in_ok-fenced_content.ensures.printed d.options.compile)
+    c.in_ok-say-3.ensures.printed)
     c.fresh-2.ensures.printed

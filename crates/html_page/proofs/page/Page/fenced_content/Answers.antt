@@ -37,7 +37,8 @@ returns-after-whole-clause-printed g c = λ options.
     ] in
     let ending : c.if-whole.ending ≡ content_ending top closed e ls = elim c.if-whole.branch [
       | then-whole w ↦ w.ending-is ∙ of_last ∙ ap (λ t. if t then last_ending ls else Some e) (sym w.if-whole.true ∙ whole)
-      | else-whole w ↦ w.ending-is ∙ ap (λ (d : LineEnding). Some d) c.in_ok-code.ensures.default ∙ ap (λ t. if t then last_ending ls else Some e) (sym w.if-whole.false ∙ whole)
+      | else-whole w ↦ w.ending-is ∙ ap (λ (d : LineEnding). Some d) c.in_ok-code.ensures.default
+          ∙ ap (λ t. if t then last_ending ls else Some e) (sym w.if-whole.false ∙ whole)
     ] in
     subst (λ x. OnOk c.end_content.result (page_view c.end_content.new.self ≡ x))
     (ap (λ (d : LineEnding). with_fresh (ending_bytes d) (with_bytes (ending_text c.if-whole.ending) (page_view c.code.new.self))) c.in_ok-code.ensures.default

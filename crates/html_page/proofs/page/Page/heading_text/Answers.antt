@@ -15,11 +15,13 @@ use Rattle.html_page.proofs.page.Page.heading_text.Goals as goal
 
 pub returns-then-lines-eq1-clause-printed : goal.returns-then-lines-eq1-clause-printed
 returns-then-lines-eq1-clause-printed g c = λ ds has fits.
-    let d = document c.args.texts.now.options.now (text_tables (g.T.Tables.reference_of c.args.texts.now.tables.now) (g.T.Tables.punctuation_of c.args.texts.now.tables.now)) ds in
+    let d = document c.args.texts.now.options.now (text_tables (g.T.Tables.reference_of c.args.texts.now.tables.now)
+    (g.T.Tables.punctuation_of c.args.texts.now.tables.now)) ds in
     let pieces = c.args.lines.now in
     let page = c.args.self.now in
     let one = one_line pieces no_piece c.if-lines-eq1.true in
-    subst (λ (ls : List BlockLine). OnOk c.push_line.result (output_view c.push_line.new.out ≡ layout_after d.options.compile page.default_ending (page_view page) (text_of d (own_lines ls)))) (sym one)
+    subst (λ (ls : List BlockLine). OnOk c.push_line.result (output_view c.push_line.new.out
+    ≡ layout_after d.options.compile page.default_ending (page_view page) (text_of d (own_lines ls)))) (sym one)
     (c.push_line.ensures ds has (subst (λ (ls : List BlockLine). AreHeadingLines (own_lines ls)) one fits) (ending_bytes page.default_ending))
 
 pub returns-else-lines-eq1-clause-printed : goal.returns-else-lines-eq1-clause-printed

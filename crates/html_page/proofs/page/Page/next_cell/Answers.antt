@@ -9,7 +9,9 @@ use Rattle.html_page.proofs.page.Page.next_cell.Goals as goal
 
 pub returns-in-None-clause-printed : goal.returns-in-None-clause-printed
 returns-in-None-clause-printed g c = λ ds has clear.
-    let d = document c.args.texts.now.options.now (text_tables (g.T.Tables.reference_of c.args.texts.now.tables.now) (g.T.Tables.punctuation_of c.args.texts.now.tables.now)) ds in
+    let d = document c.args.texts.now.options.now (text_tables (g.T.Tables.reference_of c.args.texts.now.tables.now)
+    (g.T.Tables.punctuation_of c.args.texts.now.tables.now)) ds in
     let page = c.args.self.now in
-    subst (λ (cell : Option Cell). OnOk c.missing_cell.result (page_view c.missing_cell.new.self ≡ layout_after d.options.compile page.default_ending (page_view page) (next_cell_pieces d c.args.name.now c.args.align cell)))
+    subst (λ (cell : Option Cell). OnOk c.missing_cell.result (page_view c.missing_cell.new.self
+    ≡ layout_after d.options.compile page.default_ending (page_view page) (next_cell_pieces d c.args.name.now c.args.align cell)))
     (sym c.in-None.is) (c.missing_cell.ensures.printed d.options.compile)

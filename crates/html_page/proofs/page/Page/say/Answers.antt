@@ -5,4 +5,5 @@ use Rattle.html_page.proofs.page.Page.say.Goals as goal
 
 pub returns-clause-printed : goal.returns-clause-printed
 returns-clause-printed g c =
-    pushed c.push_str.result (output_view c.args.self.now.out) (string_bytes c.push_str.new.self) (string_bytes c.args.self.now.out.html) c.args.text.now c.push_str.ensures.bytes
+    pushed c.push_str.result (output_view c.args.self.now.out) (string_bytes c.push_str.new.self)
+    (string_bytes c.args.self.now.out.html) c.args.text.now c.push_str.ensures.bytes

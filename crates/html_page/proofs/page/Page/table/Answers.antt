@@ -19,7 +19,8 @@ use Rattle.html_page.proofs.page.Page.table.Goals as goal
 
 pub returns-clause-printed : goal.returns-clause-printed
 returns-clause-printed g c = λ ds has clear.
-    let d = document c.args.texts.now.options.now (text_tables (g.T.Tables.reference_of c.args.texts.now.tables.now) (g.T.Tables.punctuation_of c.args.texts.now.tables.now)) ds in
+    let d = document c.args.texts.now.options.now (text_tables (g.T.Tables.reference_of c.args.texts.now.tables.now)
+    (g.T.Tables.punctuation_of c.args.texts.now.tables.now)) ds in
     let o = d.options.compile in
     let e = c.args.self.now.default_ending in
     let default = ending_bytes e in
@@ -53,13 +54,15 @@ returns-clause-printed g c = λ ds has clear.
     let rows = own_lines (piece_lines slice) in
     let bodied =
     c.in_ok-table_body.ensures.printed ds has (subst AreClear (sym same_rows) clean.1.1)
-    ∙ ap (λ (x : LineEnding). layout_after o x (page_view c.table_head.new.self) (body_pieces d others second.ending rows)) (c.in_ok-table_head.ensures.default ∙ later)
+    ∙ ap (λ (x : LineEnding). layout_after o x (page_view c.table_head.new.self) (body_pieces d others second.ending rows))
+    (c.in_ok-table_head.ensures.default ∙ later)
     ∙ ap (λ x. layout_after o e x (body_pieces d others second.ending rows)) headed
     ∙ ap (λ (all : List AlignKind). layout_after o e after_head (body_pieces d all second.ending rows)) same_others
     ∙ ap (λ (left : List BlockLine). layout_after o e after_head (body_pieces d (line_aligns second) second.ending (own_lines left))) same_rows in
     let closing =
     c.in_ok-fresh-3.ensures.printed
-    ∙ ap (λ (x : LineEnding). with_fresh (ending_bytes x) (page_view c.table_body.new.self)) (c.in_ok-table_body.ensures.default ∙ c.in_ok-table_head.ensures.default ∙ later)
+    ∙ ap (λ (x : LineEnding). with_fresh (ending_bytes x) (page_view c.table_body.new.self))
+    (c.in_ok-table_body.ensures.default ∙ c.in_ok-table_head.ensures.default ∙ later)
     ∙ ap (with_fresh default) bodied in
     subst (λ x. OnOk c.say-2.result (page_view c.say-2.new.self ≡ x))
     (ap (with_bytes (codes "</table>")) closing ∙ table_laid default d head second ls out

@@ -1,4 +1,4 @@
-use Rattle.std.proofs.Common.{◌≡◌, ◌<◌, List, sym, ap, ◌∙◌, length, arith, subst}
+use Rattle.std.proofs.Common.{◌≡◌, ◌<◌, sym, ap, ◌∙◌, length, arith, subst}
 use Rattle.std.specs.Result.{OnOk}
 use Rattle.std.specs.List.{flat_map}
 use Rattle.std.proofs.lemmas.Bool.{eqb-false}
@@ -9,7 +9,6 @@ use Rattle.markdown_options.specs.LineEndings.{ending_bytes}
 use Rattle.html_bytes.specs.Document.{document}
 use Rattle.definition_page.specs.TextTables.{text_tables}
 use Rattle.definition_text.specs.BlockLines.{own_lines}
-use Rattle.definition_text.specs.Lines.{ending_text}
 use Rattle.block_rows.specs.Rows.{piece_line, piece_lines}
 use Rattle.html_bytes.specs.GfmTable.{body_row_pieces}
 use Rattle.html_page.specs.Prints.{layout_after, page_view, with_bytes, with_fresh}
@@ -18,7 +17,8 @@ use Rattle.html_page.proofs.page.Page.table_body.Goals as goal
 
 pub returns-clause-printed : goal.returns-clause-printed
 returns-clause-printed g c = λ ds has clear.
-    let d = document c.args.texts.now.options.now (text_tables (g.T.Tables.reference_of c.args.texts.now.tables.now) (g.T.Tables.punctuation_of c.args.texts.now.tables.now)) ds in
+    let d = document c.args.texts.now.options.now (text_tables (g.T.Tables.reference_of c.args.texts.now.tables.now)
+    (g.T.Tables.punctuation_of c.args.texts.now.tables.now)) ds in
     let o = d.options.compile in
     let e = c.args.self.now.default_ending in
     let default = ending_bytes e in
@@ -37,6 +37,11 @@ returns-clause-printed g c = λ ds has clear.
     c.in_ok-fresh.ensures.printed
     ∙ ap (λ (x : LineEnding). with_fresh (ending_bytes x) (page_view c.table_rows.new.self)) (c.in_ok-table_rows.ensures.default ∙ first)
     ∙ ap (with_fresh default) rows in
-    let some : 0 < length ls = omega (arith, length-map c.args.rows.now piece_line, eqb-false (length c.args.rows.now) 0 (sym c.is_empty.ensures ∙ c.if-is_empty.false)) in
-    subst (λ x. OnOk c.say-2.result (page_view c.say-2.new.self ≡ x)) (ap (with_bytes (codes "</tbody>")) closing ∙ body_laid default d aligns ending ls start some)
+    let some : 0 < length ls = omega (
+      arith,
+      length-map c.args.rows.now piece_line,
+      eqb-false (length c.args.rows.now) 0 (sym c.is_empty.ensures ∙ c.if-is_empty.false),
+    ) in
+    subst (λ x. OnOk c.say-2.result (page_view c.say-2.new.self ≡ x)) (ap (with_bytes (codes "</tbody>")) closing
+    ∙ body_laid default d aligns ending ls start some)
     c.say-2.ensures.printed

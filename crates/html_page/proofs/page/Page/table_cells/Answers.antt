@@ -1,12 +1,11 @@
-use Rattle.std.proofs.Common.{◌≡◌, ◌∷◌, [], ◌+◌, List, refl, sym, ap, ◌∙◌, drop, get_or}
-use Rattle.std.proofs.lemmas.List.{drop_more, drop_all}
+use Rattle.std.proofs.Common.{◌≡◌, ◌+◌, refl, sym, ap, ◌∙◌, drop, get_or}
+use Rattle.std.proofs.lemmas.List.{drop_more}
 use Rattle.markdown_options.specs.declared.line_ending.LineEnding.{LineEnding}
 use Rattle.markdown_options.specs.LineEndings.{ending_bytes}
 use Rattle.html_bytes.specs.Document.{document}
 use Rattle.definition_page.specs.TextTables.{text_tables}
 use Rattle.definition_block.specs.declared.align_kind.AlignKind.{AlignKind}
 use Rattle.definition_block.specs.declared.align_kind.AlignKind.TheVariants as kind
-use Rattle.definition_block.specs.GfmTable.{line_cells}
 use Rattle.block_cells.specs.GfmTable.{cells_left}
 use Rattle.block_rows.specs.Rows.{piece_line}
 use Rattle.html_bytes.specs.GfmTable.{cells_pieces}
@@ -26,8 +25,10 @@ loop-align-init g c =
       same_default = refl;
       clear = λ clear. subst CellsAreClear (sym c.new-cells.ensures) (cells_clear line clear);
       printed = λ ds has clear.
-          let d = document c.args.texts.now.options.now (text_tables (g.T.Tables.reference_of c.args.texts.now.tables.now) (g.T.Tables.punctuation_of c.args.texts.now.tables.now)) ds in
-          ap (λ cs. layout_after d.options.compile c.args.self.now.default_ending (page_view c.args.self.now) (cells_pieces d c.args.name.now c.args.aligns.now cs)) c.new-cells.ensures;
+          let d = document c.args.texts.now.options.now (text_tables (g.T.Tables.reference_of c.args.texts.now.tables.now)
+          (g.T.Tables.punctuation_of c.args.texts.now.tables.now)) ds in
+          ap (λ cs. layout_after d.options.compile c.args.self.now.default_ending (page_view c.args.self.now)
+          (cells_pieces d c.args.name.now c.args.aligns.now cs)) c.new-cells.ensures;
     }
 
 pub loop-align-preserved : goal.loop-align-preserved
@@ -45,7 +46,8 @@ loop-align-preserved g c =
       same_default = c.in_ok-next_cell.ensures.default ∙ k.same_default;
       clear = λ clear. (clear_taken cs left cell c.next-cell.ensures.steps (k.clear clear)).1;
       printed = λ ds has clear.
-          let d = document c.args.texts.now.options.now (text_tables (g.T.Tables.reference_of c.args.texts.now.tables.now) (g.T.Tables.punctuation_of c.args.texts.now.tables.now)) ds in
+          let d = document c.args.texts.now.options.now (text_tables (g.T.Tables.reference_of c.args.texts.now.tables.now)
+          (g.T.Tables.punctuation_of c.args.texts.now.tables.now)) ds in
           let o = d.options.compile in
           let here = page_view c.loop-align.self in
           let ps = next_cell_pieces d name align cell in
@@ -60,7 +62,8 @@ loop-align-preserved g c =
 
 pub returns-clause-printed : goal.returns-clause-printed
 returns-clause-printed g c = λ ds has clear.
-    let d = document c.args.texts.now.options.now (text_tables (g.T.Tables.reference_of c.args.texts.now.tables.now) (g.T.Tables.punctuation_of c.args.texts.now.tables.now)) ds in
+    let d = document c.args.texts.now.options.now (text_tables (g.T.Tables.reference_of c.args.texts.now.tables.now)
+    (g.T.Tables.punctuation_of c.args.texts.now.tables.now)) ds in
     let aligns = c.args.aligns.now in
     let o = d.options.compile in
     let e = c.args.self.now.default_ending in

@@ -1,4 +1,4 @@
-use Rattle.std.proofs.Common.{◌≡◌, List, drop}
+use Rattle.std.proofs.Common.{◌≡◌, drop}
 use Rattle.definition_page.specs.Targets.{Targets}
 use Rattle.definition_page.specs.TextTables.{text_tables}
 use Rattle.definition_block.specs.GfmTable.{line_cells}
@@ -20,5 +20,6 @@ invariant-loop-align g l = record {
   printed : (ds : Targets) → KnowsTargets l.texts ds → HaveNoEnding (piece_line l.line).codes →
       let d = document l.texts.options.now (text_tables (g.T.Tables.reference_of l.texts.tables.now) (g.T.Tables.punctuation_of l.texts.tables.now)) ds in
       layout_after d.options.compile l.initial.self.default_ending (page_view l.self) (cells_pieces d l.name (drop l.align-index l.aligns) (cells_left l.cells))
-      ≡ layout_after d.options.compile l.initial.self.default_ending (page_view l.initial.self) (cells_pieces d l.name l.aligns (line_cells (piece_line l.line)));
+      ≡ layout_after d.options.compile l.initial.self.default_ending (page_view l.initial.self)
+      (cells_pieces d l.name l.aligns (line_cells (piece_line l.line)));
 }

@@ -1,4 +1,4 @@
-use Rattle.std.proofs.Common.{◌≡◌, ◌++◌, ◌∷◌, [], List, Option, sym, ap, ◌∙◌, take, get_or, ◌+◌}
+use Rattle.std.proofs.Common.{◌≡◌, ◌++◌, ◌∷◌, [], Option, sym, ap, ◌∙◌, take, get_or, ◌+◌}
 use Rattle.std.specs.List.{flat_map}
 use Rattle.std.proofs.lemmas.List.{map_more}
 use Rattle.markdown_options.specs.declared.line_ending.LineEnding.{LineEnding}
@@ -31,7 +31,8 @@ loop-row-preserved g c =
     record {
       same_default = c.in_ok-table_line.ensures.default ∙ same;
       printed = λ ds has clear.
-          let d = document c.args.texts.now.options.now (text_tables (g.T.Tables.reference_of c.args.texts.now.tables.now) (g.T.Tables.punctuation_of c.args.texts.now.tables.now)) ds in
+          let d = document c.args.texts.now.options.now (text_tables (g.T.Tables.reference_of c.args.texts.now.tables.now)
+          (g.T.Tables.punctuation_of c.args.texts.now.tables.now)) ds in
           let o = d.options.compile in
           let row = row_pieces d (codes "td") aligns line in
           let so_far = layout_after o e start (flat_map (body_row_pieces d aligns) (own_lines before)) in

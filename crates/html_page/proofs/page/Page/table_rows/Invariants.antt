@@ -1,4 +1,4 @@
-use Rattle.std.proofs.Common.{◌≡◌, List, take}
+use Rattle.std.proofs.Common.{◌≡◌, take}
 use Rattle.std.specs.List.{flat_map}
 use Rattle.definition_page.specs.Targets.{Targets}
 use Rattle.definition_page.specs.TextTables.{text_tables}
@@ -17,6 +17,7 @@ invariant-loop-row g l = record {
   same_default : l.self.default_ending ≡ l.initial.self.default_ending;
   printed : (ds : Targets) → KnowsTargets l.texts ds → AreClear (piece_lines l.rows) →
       let d = document l.texts.options.now (text_tables (g.T.Tables.reference_of l.texts.tables.now) (g.T.Tables.punctuation_of l.texts.tables.now)) ds in
-      page_view l.self ≡ layout_after d.options.compile l.initial.self.default_ending (page_view l.initial.self) (flat_map (body_row_pieces d l.aligns) (own_lines (piece_lines (take l.row-index l.rows))));
+      page_view l.self ≡ layout_after d.options.compile l.initial.self.default_ending (page_view l.initial.self)
+      (flat_map (body_row_pieces d l.aligns) (own_lines (piece_lines (take l.row-index l.rows))));
   waits : l.waiting ≡ last_ending (piece_lines (take l.row-index l.rows));
 }

@@ -14,7 +14,8 @@ returns-then-self-found c =
     let marks = c.args.self.marks.now in
     let place = c.args.place in
     let n = c.partition_point-found.result in
-    let point = c.partition_point-found.ensures.partitioned (λ m. nat_lt m.place place) (always_returns_same _ _ _ (λ a r f k. search (rules, of_calls))) (parted marks place c.args.self.ordered) in
+    let point = c.partition_point-found.ensures.partitioned (λ m. nat_lt m.place place) (always_returns_same _ _ _ (λ a r f k. search (rules, of_calls)))
+    (parted marks place c.args.self.ordered) in
     kind_found marks place n none (λ k lt. point.0 k none (omega arith) lt) c.if-found-self.true c.if-self-found.true
 
 pub returns : goal.returns
@@ -22,7 +23,8 @@ returns c =
     let marks = c.args.self.marks.now in
     let place = c.args.place in
     let n = c.partition_point-found.result in
-    let point = c.partition_point-found.ensures.partitioned (λ m. nat_lt m.place place) (always_returns_same _ _ _ (λ a r f k. search (rules, of_calls))) (parted marks place c.args.self.ordered) in
+    let point = c.partition_point-found.ensures.partitioned (λ m. nat_lt m.place place) (always_returns_same _ _ _ (λ a r f k. search (rules, of_calls)))
+    (parted marks place c.args.self.ordered) in
     kind_missing marks place n none c.args.self.ordered point
     (λ lt is.
     elim c.else-found-self.branch [

@@ -3,7 +3,8 @@ use Rattle.std.proofs.lemmas.Bool.{or_from, ne_eqb}
 use Rattle.std.proofs.lemmas.List.{length-take-le}
 use Rattle.definition_text.specs.Lines.{ends_line}
 use Rattle.inline_content.proofs.Places.{place_ending, place_character}
-use Rattle.inline_content.proofs.content.Content.kind_before.Goals.{then-character-eq10-via-then-character-eq10, then-character-eq10-via-else-character-eq10+then-character-eq13}
+use Rattle.inline_content.proofs.content.Content.kind_before.Goals.{then-character-eq10-via-then-character-eq10}
+use Rattle.inline_content.proofs.content.Content.kind_before.Goals.{then-character-eq10-via-else-character-eq10+then-character-eq13}
 use Rattle.inline_content.proofs.content.Content.kind_before.Goals as goal
 
 pub returns-then-character-eq10 : goal.returns-then-character-eq10
@@ -34,4 +35,5 @@ returns-else-character-eq13 g c = λ others.
     let last = c.in-Some.ensures.last in
     let clear : ends_line ch ≡ false = or_from (eqb ch 10) (eqb ch 13) (ne_eqb ch 10 c.if-character-eq10.false) (ne_eqb ch 13 c.if-character-eq13.false) in
     c.character_kind.ensures.kind
-    ∙ place_character p c.args.self.marks.now (take c.args.place c.args.self.text.now) last.front others ch (is ∙ last.same) (omega (arith, c.character_kind.ensures.scalar)) clear
+    ∙ place_character p c.args.self.marks.now (take c.args.place c.args.self.text.now) last.front others ch (is ∙ last.same)
+    (omega (arith, c.character_kind.ensures.scalar)) clear

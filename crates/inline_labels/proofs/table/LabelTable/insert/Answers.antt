@@ -10,7 +10,8 @@ use Rattle.inline_labels.proofs.Places.{place_of-kept, place_of-added}
 use Rattle.inline_labels.proofs.table.LabelTable.insert.Goals as goal
 
 -- one label more, as it is matched
-normal-push : (labels : List (List ℕ)) (label q : List ℕ) → place_of q (map normal_label labels ++ normal_label label ∷ []) ≡ place_of q (map normal_label (labels ++ label ∷ []))
+normal-push : (labels : List (List ℕ)) (label q : List ℕ) → place_of q (map normal_label labels ++ normal_label label ∷ [])
+    ≡ place_of q (map normal_label (labels ++ label ∷ []))
 normal-push labels label q = ap (place_of q) (sym (map-append normal_label labels (label ∷ [])))
 
 pub returns-then-contains_key-clause-added : goal.returns-then-contains_key-clause-added
@@ -28,7 +29,8 @@ returns-clause-added g c = λ labels held last.
     let none : is_some (found (normal_label codes)) ≡ false =
     ap (λ key. is_some (found key)) (sym (c.as_str.ensures.value ∙ c.in_ok-normalize_label.ensures)) ∙ sym c.contains_key.ensures ∙ c.if-contains_key.false in
     let step : (q : List ℕ) → get_by_text c.insert.new.self q ≡ cond (bytes_eq (normal_label codes) q) (Some c.args.place) (found q) = λ q.
-    btree_map_updates_text (string_bytes c.normalize_label.new.normal) c.args.self.now.places c.insert.new.self (Some c.args.place) c.in_ok-insert.ensures.updates q
+    btree_map_updates_text (string_bytes c.normalize_label.new.normal) c.args.self.now.places c.insert.new.self
+    (Some c.args.place) c.in_ok-insert.ensures.updates q
     ∙ ap (λ key. cond (bytes_eq key q) (Some c.args.place) (found q)) c.in_ok-normalize_label.ensures in
     record {
       places = λ q.

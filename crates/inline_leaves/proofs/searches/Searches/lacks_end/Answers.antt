@@ -10,26 +10,31 @@ use Rattle.inline_leaves.proofs.searches.Searches.lacks_end.Goals as goal
 pub search-self-requires-clause-rest : goal.search-self-requires-clause-rest
 search-self-requires-clause-rest g c =
     rest_after_text c.as_bytes-content.result.now (codes "<!--") c.args.bytes.now c.from-rest.result.now
-    (subst (λ s. IsRest s c.args.bytes.now) (sym c.as_bytes-content.ensures.value) c.requires) (sym c.starts_with.ensures.value ∙ c.if-starts_with.true) c.from-rest.ensures
+    (subst (λ s. IsRest s c.args.bytes.now) (sym c.as_bytes-content.ensures.value) c.requires)
+    (sym c.starts_with.ensures.value ∙ c.if-starts_with.true) c.from-rest.ensures
 
 pub search-self-requires-then-starts_with-4-clause-rest : goal.search-self-requires-then-starts_with-4-clause-rest
 search-self-requires-then-starts_with-4-clause-rest g c =
     rest_after_text c.as_bytes-content.result.now (codes "<?") c.args.bytes.now c.from-rest-then-starts_with-4.result.now
-    (subst (λ s. IsRest s c.args.bytes.now) (sym c.as_bytes-content.ensures.value) c.requires) (sym c.starts_with-2.ensures.value ∙ c.if-starts_with-4.true) c.from-rest-then-starts_with-4.ensures
+    (subst (λ s. IsRest s c.args.bytes.now) (sym c.as_bytes-content.ensures.value) c.requires)
+    (sym c.starts_with-2.ensures.value ∙ c.if-starts_with-4.true) c.from-rest-then-starts_with-4.ensures
 
 pub search-self-requires-then-begins_cdata-clause-rest : goal.search-self-requires-then-begins_cdata-clause-rest
 search-self-requires-then-begins_cdata-clause-rest g c =
     rest_after_text c.as_bytes-content.result.now (codes "<![CDATA[") c.args.bytes.now c.from-rest-then-begins_cdata.result.now
-    (subst (λ s. IsRest s c.args.bytes.now) (sym c.as_bytes-content.ensures.value) c.requires) (sym c.begins_cdata.ensures ∙ c.if-begins_cdata.true) c.from-rest-then-begins_cdata.ensures
+    (subst (λ s. IsRest s c.args.bytes.now) (sym c.as_bytes-content.ensures.value) c.requires)
+    (sym c.begins_cdata.ensures ∙ c.if-begins_cdata.true) c.from-rest-then-begins_cdata.ensures
 
 pub search-self-requires-then-begins_with_letter-clause-rest : goal.search-self-requires-then-begins_with_letter-clause-rest
 search-self-requires-then-begins_with_letter-clause-rest g c =
     rest_after_text c.as_bytes-content.result.now (codes "<!") c.args.bytes.now c.from-rest-then-begins_with_letter.result.now
-    (subst (λ s. IsRest s c.args.bytes.now) (sym c.as_bytes-content.ensures.value) c.requires) (sym c.starts_with-3.ensures.value ∙ c.if-starts_with-5.true) c.from-rest-then-begins_with_letter.ensures
+    (subst (λ s. IsRest s c.args.bytes.now) (sym c.as_bytes-content.ensures.value) c.requires)
+    (sym c.starts_with-3.ensures.value ∙ c.if-starts_with-5.true) c.from-rest-then-begins_with_letter.ensures
 
 pub returns-then-begins_with_letter-clause-none : goal.returns-then-begins_with_letter-clause-none
 returns-then-begins_with_letter-clause-none g c = λ short.
     let xs = c.args.bytes.now in
     let letter = ap begins_with_letter (sym c.from.ensures) ∙ sym c.begins_with_letter.ensures ∙ c.if-begins_with_letter.true in
     let none = c.search-self-then-begins_with_letter.ensures.rest (leb-true _ _ short) in
-    no_declaration_end xs (sym c.starts_with-3.ensures.value ∙ c.if-starts_with-5.true) letter (ap (after_first (codes ">")) (sym c.from-rest-then-begins_with_letter.ensures) ∙ none)
+    no_declaration_end xs (sym c.starts_with-3.ensures.value ∙ c.if-starts_with-5.true) letter
+    (ap (after_first (codes ">")) (sym c.from-rest-then-begins_with_letter.ensures) ∙ none)

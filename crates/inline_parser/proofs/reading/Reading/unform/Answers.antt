@@ -7,7 +7,9 @@ use Rattle.inline_parser.proofs.reading.Reading.unform.Goals as goal
 pub returns-in-Some-clause-sound : goal.returns-in-Some-clause-sound
 returns-in-Some-clause-sound g c =
     let s = c.args.self.now in
-    let kept = changes.sound_unformed s.rows.items s.runs.items s.slots.items c.in-Some.label (reverse c.pop.new.self.items) c.requires.sound.within (changes.sound_popped s.rows.items s.runs.items s.slots.items s.labels.items c.pop.new.self.items c.in-Some.label c.in-Some.ensures.items c.requires.sound.outside) in
+    let kept = changes.sound_unformed s.rows.items s.runs.items s.slots.items c.in-Some.label (reverse c.pop.new.self.items) c.requires.sound.within
+    (changes.sound_popped s.rows.items s.runs.items s.slots.items s.labels.items c.pop.new.self.items c.in-Some.label c.in-Some.ensures.items
+    c.requires.sound.outside) in
     record { within = kept.within; outside = kept.outside }
 
 pub returns-in-Some-clause-read : goal.returns-in-Some-clause-read

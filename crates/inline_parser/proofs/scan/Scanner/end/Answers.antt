@@ -27,7 +27,8 @@ cut_after-after-requires g c = follow.single_end c.args.self.now.rest.now c.requ
 pub formed-requires-clause-bracket : goal.formed-requires-clause-bracket
 formed-requires-clause-bracket g c =
     follow.with_first c.args.self.now.rest.now c.cut_after-after.result.now c.requires.some
-    (eqb-true (get_or c.args.self.now.rest.now 0 0) 93 (and_parts c.args.source.now.options.now.constructs.label_end (eqb (get_or c.args.self.now.rest.now 0 0) 93) c.requires.bracket).1) c.cut_after-after.ensures.rest
+    (eqb-true (get_or c.args.self.now.rest.now 0 0) 93 (and_parts c.args.source.now.options.now.constructs.label_end
+    (eqb (get_or c.args.self.now.rest.now 0 0) 93) c.requires.bracket).1) c.cut_after-after.ensures.rest
 
 pub text-requires-clause-boundary : goal.text-requires-clause-boundary
 text-requires-clause-boundary g c = c.requires.first.boundary
@@ -39,7 +40,8 @@ returns-in_ok-form-in-Some-Leads-clause-placed g c =
     let content = c.args.source.now.content in
     let first = follow.single_next rest c.requires.first in
     let left = c.cut_after-after.ensures.rest in
-    let there = subst (λ r. IsAfterEnd r c.in-Some-Leads.end.after.now) left (follow.some_place (c.in-Some-Leads.is ∙ ap (λ (x : Formed). Some x) c.in-Some-Leads.field-0-is) c.in_ok-end.ensures.place) in
+    let there = subst (λ r. IsAfterEnd r c.in-Some-Leads.end.after.now) left
+    (follow.some_place (c.in-Some-Leads.is ∙ ap (λ (x : Formed). Some x) c.in-Some-Leads.field-0-is) c.in_ok-end.ensures.place) in
     let next = follow.end_next (drop 1 rest) c.in-Some-Leads.end.after.now there in
     let middle = views.next_place content.text.now rest (drop 1 rest) c.requires.placed.place first in
     record {
@@ -47,7 +49,8 @@ returns-in_ok-form-in-Some-Leads-clause-placed g c =
       known = c.requires.placed.known;
       place = views.next_place content.text.now (drop 1 rest) c.in-Some-Leads.end.after.now middle next;
       labels = c.in_ok-form-in-Some-Leads.ensures.from c.in-Some-Leads.end.after.now
-          (placed.labels_rest (drop 1 rest) c.in-Some-Leads.end.after.now s.reading.labels.items next.rest_of (placed.labels_rest rest (drop 1 rest) s.reading.labels.items first.rest_of c.requires.placed.labels));
+          (placed.labels_rest (drop 1 rest) c.in-Some-Leads.end.after.now s.reading.labels.items next.rest_of
+          (placed.labels_rest rest (drop 1 rest) s.reading.labels.items first.rest_of c.requires.placed.labels));
       sound = c.in_ok-form-in-Some-Leads.ensures.sound;
     }
 
@@ -63,17 +66,24 @@ returns-in_ok-form-in-Some-Leads-clause-read g c ds final has f =
     let at = linked_at ds.definitions in
     let found = c.in-Some-Leads.end in
     let left = c.cut_after-after.ensures.rest in
-    let there = subst (λ r. IsAfterEnd r found.after.now) left (follow.some_place (c.in-Some-Leads.is ∙ ap (λ (x : Formed). Some x) c.in-Some-Leads.field-0-is) c.in_ok-end.ensures.place) in
+    let there =
+    subst (λ r. IsAfterEnd r found.after.now) left
+    (follow.some_place (c.in-Some-Leads.is ∙ ap (λ (x : Formed). Some x) c.in-Some-Leads.field-0-is) c.in_ok-end.ensures.place) in
     let next = follow.end_next (drop 1 rest) found.after.now there in
-    let ended = subst (λ (o : Option Formed). IsFormed (labels_of ds.definitions) c.cut_after-after.result.now o (ended_here (context_by options names ds) (content_codes rest) f.now.open_labels f.now.now)) (c.in-Some-Leads.is ∙ ap (λ (x : Formed). Some x) c.in-Some-Leads.field-0-is)
+    let ended =
+    subst (λ (o : Option Formed). IsFormed (labels_of ds.definitions) c.cut_after-after.result.now o
+    (ended_here (context_by options names ds) (content_codes rest) f.now.open_labels f.now.now))
+    (c.in-Some-Leads.is ∙ ap (λ (x : Formed). Some x) c.in-Some-Leads.field-0-is)
     (c.in_ok-end.ensures.read leads at f.now names ds has f.shows) in
-    let is = follow.found_is (labels_of ds.definitions) c.cut_after-after.result.now found (ended_here (context_by options names ds) (content_codes rest) f.now.open_labels f.now.now) ended in
+    let is = follow.found_is (labels_of ds.definitions) c.cut_after-after.result.now found
+    (ended_here (context_by options names ds) (content_codes rest) f.now.open_labels f.now.now) ended in
     let both = and_parts options.constructs.label_end (eqb (get_or rest 0 0) 93) c.requires.bracket in
     record {
       now = formed_in (Leads is.end) f.now.open_labels f.now.now;
       shows = c.in_ok-form-in-Some-Leads.ensures.read leads at f.now is.end (target_leads ds.definitions found.target is.end.target is.as_end.target) f.shows;
       same =
-          follow.formed_follows options names p ds source.content rest found.after.now (Leads is.end) f.now final place c.requires.no_leaf c.requires.no_run c.requires.no_start both.0 (eqb-true (get_or rest 0 0) 93 both.1)
+          follow.formed_follows options names p ds source.content rest found.after.now
+          (Leads is.end) f.now final place c.requires.no_leaf c.requires.no_run c.requires.no_start both.0 (eqb-true (get_or rest 0 0) 93 both.1)
           c.requires.first c.requires.some is.is (is.as_end.size ∙ ap (λ r. size_before r found.after.now) left) next f.same;
     }
 
@@ -89,7 +99,8 @@ returns-in_ok-call-in-Some-Calls-clause-placed g c =
       known = c.requires.placed.known;
       place = subst (IsPlace content.text.now) (sym left) (views.next_place content.text.now rest (drop 1 rest) c.requires.placed.place first);
       labels = c.in_ok-call-in-Some-Calls.ensures.from c.cut_after-after.result.now
-          (subst (λ r. StartsBefore r s.reading) (sym left) (placed.labels_rest rest (drop 1 rest) s.reading.labels.items first.rest_of c.requires.placed.labels));
+          (subst (λ r. StartsBefore r s.reading) (sym left) (placed.labels_rest rest
+          (drop 1 rest) s.reading.labels.items first.rest_of c.requires.placed.labels));
       sound = c.in_ok-call-in-Some-Calls.ensures.sound;
     }
 
@@ -104,9 +115,13 @@ returns-in_ok-call-in-Some-Calls-clause-read g c ds final has f =
     let leads = leads_to (linked_by ds.definitions) in
     let at = linked_at ds.definitions in
     let label = content_codes c.in-Some-Calls.label.now in
-    let ended = subst (λ (o : Option Formed). IsFormed (labels_of ds.definitions) c.cut_after-after.result.now o (ended_here (context_by options names ds) (content_codes rest) f.now.open_labels f.now.now)) (c.in-Some-Calls.is ∙ ap (λ (x : Formed). Some x) c.in-Some-Calls.field-0-is)
+    let ended =
+    subst (λ (o : Option Formed). IsFormed (labels_of ds.definitions) c.cut_after-after.result.now o
+    (ended_here (context_by options names ds) (content_codes rest) f.now.open_labels f.now.now))
+    (c.in-Some-Calls.is ∙ ap (λ (x : Formed). Some x) c.in-Some-Calls.field-0-is)
     (c.in_ok-end.ensures.read leads at f.now names ds has f.shows) in
-    let is = follow.call_is (labels_of ds.definitions) c.cut_after-after.result.now c.in-Some-Calls.label (ended_here (context_by options names ds) (content_codes rest) f.now.open_labels f.now.now) ended in
+    let is = follow.call_is (labels_of ds.definitions) c.cut_after-after.result.now c.in-Some-Calls.label
+    (ended_here (context_by options names ds) (content_codes rest) f.now.open_labels f.now.now) ended in
     let both = and_parts options.constructs.label_end (eqb (get_or rest 0 0) 93) c.requires.bracket in
     let same = c.cut_after-after.ensures.rest in
     record {
@@ -114,7 +129,8 @@ returns-in_ok-call-in-Some-Calls-clause-read g c ds final has f =
       shows = c.in_ok-call-in-Some-Calls.ensures.read leads at f.now f.shows;
       same =
           ap (λ r. scan.scan (context_by options names ds) 0 (formed_in (Calls label) f.now.open_labels f.now.now) (view_at p source.content r)) same
-          ∙ follow.formed_follows options names p ds source.content rest (drop 1 rest) (Calls label) f.now final place c.requires.no_leaf c.requires.no_run c.requires.no_start both.0 (eqb-true (get_or rest 0 0) 93 both.1)
+          ∙ follow.formed_follows options names p ds source.content rest (drop 1 rest)
+          (Calls label) f.now final place c.requires.no_leaf c.requires.no_run c.requires.no_start both.0 (eqb-true (get_or rest 0 0) 93 both.1)
           c.requires.first c.requires.some is (follow.none_after (drop 1 rest)) (follow.same_next (drop 1 rest)) f.same;
     }
 
@@ -140,17 +156,23 @@ returns-in-None-clause-read g c ds final has f =
     let place = c.requires.placed.place in
     let leads = leads_to (linked_by ds.definitions) in
     let at = linked_at ds.definitions in
-    let ended = subst (λ (o : Option Formed). IsFormed (labels_of ds.definitions) c.cut_after-after.result.now o (ended_here (context_by options names ds) (content_codes rest) f.now.open_labels f.now.now)) c.in-None.is
+    let ended =
+    subst (λ (o : Option Formed). IsFormed (labels_of ds.definitions) c.cut_after-after.result.now o
+    (ended_here (context_by options names ds) (content_codes rest) f.now.open_labels f.now.now)) c.in-None.is
     (c.in_ok-end.ensures.read leads at f.now names ds has f.shows) in
-    let none = follow.none_is (labels_of ds.definitions) c.cut_after-after.result.now (ended_here (context_by options names ds) (content_codes rest) f.now.open_labels f.now.now) ended in
+    let none = follow.none_is (labels_of ds.definitions) c.cut_after-after.result.now
+    (ended_here (context_by options names ds) (content_codes rest) f.now.open_labels f.now.now) ended in
     let both = and_parts options.constructs.label_end (eqb (get_or rest 0 0) 93) c.requires.bracket in
-    on_ok c.text.result c.text.ensures.rest (c.text.ensures.read leads at (unformed_in f.now.open_labels f.now.now) (c.unform.ensures.read leads at f.now f.shows))
+    on_ok c.text.result c.text.ensures.rest (c.text.ensures.read leads at (unformed_in f.now.open_labels f.now.now)
+    (c.unform.ensures.read leads at f.now f.shows))
     (λ left shows.
     record {
       now = read_tokens (map (λ i. Item i) (map (λ b. Data b) (take 1 rest))) (unformed_in f.now.open_labels f.now.now);
       shows = shows;
       same =
-          ap (λ r. scan.scan (context_by options names ds) 0 (read_tokens (map (λ i. Item i) (map (λ b. Data b) (take 1 rest))) (unformed_in f.now.open_labels f.now.now)) (view_at p source.content r)) left
-          ∙ follow.nothing_follows options names p ds source.content rest f.now final place c.requires.no_leaf c.requires.no_run c.requires.no_start both.0 (eqb-true (get_or rest 0 0) 93 both.1)
+          ap (λ r. scan.scan (context_by options names ds) 0 (read_tokens (map (λ i. Item i) (map (λ b. Data b) (take 1 rest)))
+          (unformed_in f.now.open_labels f.now.now)) (view_at p source.content r)) left
+          ∙ follow.nothing_follows options names p ds source.content rest f.now final place c.requires.no_leaf c.requires.no_run c.requires.no_start both.0
+          (eqb-true (get_or rest 0 0) 93 both.1)
           c.requires.first c.requires.some none f.same;
     })

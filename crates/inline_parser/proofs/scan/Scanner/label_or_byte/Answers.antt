@@ -8,7 +8,7 @@ use Rattle.definition_page.specs.InlinePieces.{leads_to}
 use Rattle.definition_page.specs.Targets.{linked_at, linked_by}
 use Rattle.inline_content.specs.View.{view_at}
 use Rattle.inline_parser.specs.Scanned.{context_by}
-use Rattle.inline_parser.specs.Shows.{start_view, opened}
+use Rattle.inline_parser.specs.Shows.{start_view, with_open_label}
 use Rattle.inline_parser.proofs.Follow as follow
 use Rattle.inline_parser.proofs.Follow.{on_ok}
 use Rattle.inline_parser.proofs.scan.Scanner.label_or_byte.Goals as goal
@@ -31,11 +31,12 @@ returns-in-Some-clause-read g c ds final has f =
     on_ok c.start.result c.start.ensures.rest (c.start.ensures.read leads at f.now f.shows)
     (λ left shows.
     record {
-      now = opened s (drop n rest) f.now;
+      now = with_open_label s (drop n rest) f.now;
       shows = shows;
       same =
-          ap (λ r. scan.scan (context_by options names ds) 0 (opened s (drop n rest) f.now) (view_at p source.content r)) left
-          ∙ follow.start_follows options names p ds source.content rest s f.now final place c.requires.no_leaf c.requires.no_run c.in-Some.ensures.read c.in-Some.ensures.front c.requires.some f.same;
+          ap (λ r. scan.scan (context_by options names ds) 0 (with_open_label s (drop n rest) f.now) (view_at p source.content r)) left
+          ∙ follow.start_follows options names p ds source.content rest s f.now final place c.requires.no_leaf c.requires.no_run c.in-Some.ensures.read
+          c.in-Some.ensures.front c.requires.some f.same;
     })
 
 pub returns-else-is_label_end-clause-read : goal.returns-else-is_label_end-clause-read
@@ -55,7 +56,8 @@ returns-else-is_label_end-clause-read g c ds final has f =
       now = read_tokens (map (λ i. Item i) (map (λ b. Data b) (take 1 rest))) f.now;
       shows = shows;
       same =
-          ap (λ r. scan.scan (context_by options names ds) 0 (read_tokens (map (λ i. Item i) (map (λ b. Data b) (take 1 rest))) f.now) (view_at p source.content r)) left
+          ap (λ r. scan.scan (context_by options names ds) 0 (read_tokens (map (λ i. Item i) (map (λ b. Data b) (take 1 rest))) f.now)
+          (view_at p source.content r)) left
           ∙ follow.byte_follows options names p ds source.content rest f.now final place c.requires.no_leaf c.requires.no_run none
           (sym c.is_label_end.ensures ∙ c.if-is_label_end.false) c.requires.first c.requires.some f.same;
     })

@@ -26,7 +26,8 @@ pub run_or_label-requires-clause-no_leaf : goal.run_or_label-requires-clause-no_
 run_or_label-requires-clause-no_leaf g c =
     let source = c.args.source.now in
     let rest = c.args.self.now.rest.now in
-    follow.with_literal source.options.now (g.T.Tables.reference_of source.tables.now) (g.T.Tables.punctuation_of source.tables.now) source.content rest c.requires.placed.place c.requires.no_leaf
+    follow.with_literal source.options.now (g.T.Tables.reference_of source.tables.now)
+    (g.T.Tables.punctuation_of source.tables.now) source.content rest c.requires.placed.place c.requires.no_leaf
     ∙ sym c.literal_at.ensures.read ∙ ap (found_leaf rest) c.in-None.is
 
 pub returns-in-Some-clause-read : goal.returns-in-Some-clause-read

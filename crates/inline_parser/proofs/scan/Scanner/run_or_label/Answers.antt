@@ -37,5 +37,6 @@ returns-in-Some-clause-read g c ds final has f =
       shows = shows;
       same =
           ap (λ r. scan.scan (context_by options names ds) 0 (read_tokens (Delimiters (run_view run) ∷ []) f.now) (view_at p source.content r)) left
-          ∙ follow.run_follows options names p ds source.content rest run f.now final place c.requires.no_leaf c.in-Some.ensures.read c.in-Some.ensures.front f.same;
+          ∙ follow.run_follows options names p ds source.content rest run f.now final place c.requires.no_leaf c.in-Some.ensures.read c.in-Some.ensures.front
+          f.same;
     })

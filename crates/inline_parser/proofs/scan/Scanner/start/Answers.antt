@@ -2,7 +2,7 @@ use Rattle.std.proofs.Common.{◌≡◌, ◌≤◌, ◌∙◌, subst, ap, arith,
 use Rattle.std.specs.Str.{IsUtf8}
 use Rattle.std.proofs.lemmas.Str.{IsCharBoundary-from_drop}
 use Rattle.definition_inline.specs.Scan.{start_bytes}
-use Rattle.inline_parser.specs.Shows.{Shows, opened, start_view}
+use Rattle.inline_parser.specs.Shows.{Shows, with_open_label, start_view}
 use Rattle.inline_parser.proofs.Placed.{place_after, labels_after, whole_rest}
 use Rattle.inline_parser.proofs.scan.Scanner.start.Goals as goal
 
@@ -31,4 +31,4 @@ returns-clause-read g c leads at r h =
     let rest = c.args.self.now.rest.now in
     let there : c.cut_after-after.result.now ≡ drop (length (start_bytes (start_view c.args.start))) rest =
     c.cut_after-after.ensures.rest ∙ ap (λ n. drop n rest) c.size-size.ensures in
-    subst (λ from. Shows leads at c.start.new.self (opened c.args.start from r)) there (c.in_ok-start.ensures.read leads at r h)
+    subst (λ from. Shows leads at c.start.new.self (with_open_label c.args.start from r)) there (c.in_ok-start.ensures.read leads at r h)

@@ -45,7 +45,8 @@ returns-then-size-gt0-clause-read g c ds final has f =
       now = read_tokens (map (λ i. Item i) (map (λ b. Data b) (take n rest))) f.now;
       shows = shows;
       same =
-          ap (λ r. scan.scan (context_by options names ds) 0 (read_tokens (map (λ i. Item i) (map (λ b. Data b) (take n rest))) f.now) (view_at p source.content r)) left
+          ap (λ r. scan.scan (context_by options names ds) 0 (read_tokens (map (λ i. Item i) (map (λ b. Data b) (take n rest))) f.now)
+          (view_at p source.content r)) left
           ∙ follow.text_follows options names p ds source.content rest n f.now final place (omega (arith, c.text_size-size.ensures.within, ap length value))
           (subst (λ bs. (k : ℕ) → k < n → is_text_at (drop k (content_codes bs)) ≡ true) value c.text_size-size.ensures.text)
           (subst (λ bs. (k : ℕ) → k < n → get_or bs k 0 ≡ 13 → ⊥) value c.text_size-size.ensures.plain)
@@ -59,7 +60,8 @@ literal_or_run-requires-clause-first g c =
     let rest = c.args.self.now.rest.now in
     let n = c.text_size-size.result in
     let stops = texts.nothing_is_text rest n (omega (arith, c.if-size-gt0.false)) c.requires.some
-    (subst (λ bs. n < length bs → (is_text_at (drop n (content_codes bs)) ≡ false) ⊎ (may_begin (drop n bs) ≡ true)) c.as_bytes.ensures.value c.text_size-size.ensures.stops) in
+    (subst (λ bs. n < length bs → (is_text_at (drop n (content_codes bs)) ≡ false)
+    ⊎ (may_begin (drop n bs) ≡ true)) c.as_bytes.ensures.value c.text_size-size.ensures.stops) in
     follow.single_of rest (subst IsUtf8 c.as_bytes.ensures.value c.as_bytes.ensures.utf8) c.requires.some
     (texts.stopped source.options.now (g.T.Tables.reference_of source.tables.now) rest c.requires.some stops
     (sym c.in_ok-leaf.ensures.read ∙ ap (found_leaf rest) c.in-None.is))

@@ -26,5 +26,7 @@ returns-clause-known g c =
     subst (λ t. (k : ℕ) → k < length t.openers.items → FitsAt t.openers.items k c.args.want false) (sym c.loop-i.invariant) c.requires.none in
     record {
       early = known.early;
-      floors = rw c.in_ok-push.ensures.items (All-push (IsFloorOf s.openers.items c.args.now) s.floors.items _ known.floors (new_floor s.openers.items c.args.want c.args.now none));
+      floors =
+          rw c.in_ok-push.ensures.items (All-push (IsFloorOf s.openers.items c.args.now) s.floors.items _ known.floors
+          (new_floor s.openers.items c.args.want c.args.now none));
     }

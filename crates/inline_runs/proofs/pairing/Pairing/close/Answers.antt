@@ -1,5 +1,5 @@
 use Rattle.std.proofs.Common.{◌≡◌, ℕ, List, ◌-◌, ◌≤◌, ◌<◌, sym, ap, ◌∙◌, arith, true, subst, slice_index_or}
-use Rattle.definition_inline.specs.Pairing.{Placed as PlacedOf, is_eligible, taken_by, up_to_nearest}
+use Rattle.definition_inline.specs.Pairing.{OpenRun as PlacedOf, is_eligible, taken_by, up_to_nearest}
 use Rattle.definition_inline.proofs.NearestOpener.{nearest_eligible}
 use Rattle.definition_inline.proofs.ClosingRuns.{takes_some, takes_left, takes_opener}
 use Rattle.inline_runs.specs.View.{bytes_by}
@@ -7,10 +7,12 @@ use Rattle.inline_runs.specs.Floors.{placed_view, openers_view}
 use Rattle.inline_runs.proofs.pairing.Pairing.close.Goals as goal
 
 -- the nearest opener may pair with the run
-nearest_may : (openers : List PlacedOf) (opener closer : PlacedOf) (count : ℕ) → count ≡ up_to_nearest openers closer → 0 < count → opener ≡ slice_index_or openers (count - 1) closer
+nearest_may : (openers : List PlacedOf) (opener closer : PlacedOf) (count : ℕ) → count ≡ up_to_nearest openers closer → 0 < count
+    → opener ≡ slice_index_or openers (count - 1) closer
     → is_eligible opener closer ≡ true
 nearest_may openers opener closer count is some there =
-    ap (λ (o : PlacedOf). is_eligible o closer) (there ∙ ap (λ n. slice_index_or openers (n - 1) closer) is) ∙ nearest_eligible openers closer (subst (λ n. 0 < n) is some)
+    ap (λ (o : PlacedOf). is_eligible o closer) (there ∙ ap (λ n. slice_index_or openers (n - 1) closer) is)
+    ∙ nearest_eligible openers closer (subst (λ n. 0 < n) is some)
 
 pub close-requires-clause-opener : goal.close-requires-clause-opener
 close-requires-clause-opener g c =
@@ -20,7 +22,8 @@ pub without-requires : goal.without-requires
 without-requires g c =
     let opener = placed_view c.take-opener.result in
     let closer = placed_view c.args.closer in
-    let may = nearest_may (openers_view c.args.self.now.openers) opener closer c.args.count c.requires.nearest c.requires.some (c.take-opener.ensures.opener closer) in
+    let may = nearest_may (openers_view c.args.self.now.openers) opener closer c.args.count c.requires.nearest c.requires.some
+    (c.take-opener.ensures.opener closer) in
     subst (λ n. n ≤ c.take-opener.result.run.size) (sym c.is_double-double.ensures) (takes_opener opener closer may)
 
 pub open-requires : goal.open-requires
@@ -30,7 +33,8 @@ pub without-requires-2 : goal.without-requires-2
 without-requires-2 g c =
     let opener = placed_view c.take-opener.result in
     let closer = placed_view c.args.closer in
-    let may = nearest_may (openers_view c.args.self.now.openers) opener closer c.args.count c.requires.nearest c.requires.some (c.take-opener.ensures.opener closer) in
+    let may = nearest_may (openers_view c.args.self.now.openers) opener closer c.args.count c.requires.nearest c.requires.some
+    (c.take-opener.ensures.opener closer) in
     subst (λ n. n ≤ c.args.closer.run.size) (sym c.is_double-double.ensures) (takes_left opener closer may)
 
 pub returns-clause-sound : goal.returns-clause-sound
@@ -48,9 +52,11 @@ pub returns-clause-less : goal.returns-clause-less
 returns-clause-less g c =
     let opener = placed_view c.take-opener.result in
     let closer = placed_view c.args.closer in
-    let may = nearest_may (openers_view c.args.self.now.openers) opener closer c.args.count c.requires.nearest c.requires.some (c.take-opener.ensures.opener closer) in
+    let may = nearest_may (openers_view c.args.self.now.openers) opener closer c.args.count c.requires.nearest c.requires.some
+    (c.take-opener.ensures.opener closer) in
     let some = takes_some opener closer may in
     let within = takes_left opener closer may in
     let bytes : bytes_by c.is_double-double.result ≡ taken_by opener closer = c.is_double-double.ensures in
-    let less : c.without-2.result.run.size ≡ c.args.closer.run.size - bytes_by c.is_double-double.result = ap (λ (p : PlacedOf). p.run.left) c.without-2.ensures in
+    let less : c.without-2.result.run.size ≡ c.args.closer.run.size - bytes_by c.is_double-double.result =
+    ap (λ (p : PlacedOf). p.run.left) c.without-2.ensures in
     omega arith

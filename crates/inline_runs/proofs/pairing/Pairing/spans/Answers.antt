@@ -28,4 +28,5 @@ returns-clause-rows g c = λ runs paired d.
     let ps = s.pairs.pairs.items in
     let l = c.index-laid.result.now in
     let text = ap (λ x. x.text) c.index-laid.ensures ∙ paired.texts c.args.place l c.requires.place in
-    rows_are runs ps _ _ c.args.place l.text d paired.pairs (subst (λ n. c.args.place < n) paired.count c.requires.place) (returns-clause-closed g c runs paired) (returns-clause-opened g c runs paired) text
+    rows_are runs ps _ _ c.args.place l.text d paired.pairs (subst (λ n. c.args.place < n) paired.count c.requires.place)
+    (returns-clause-closed g c runs paired) (returns-clause-opened g c runs paired) text

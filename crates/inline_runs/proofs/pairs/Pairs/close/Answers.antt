@@ -14,6 +14,8 @@ returns-clause-threaded g c =
     let count : c.len-2.result ≡ length s.pairs.items + 1 =
     c.len-2.ensures ∙ c.push.new.self.ok.0 ∙ ap length c.in_ok-push.ensures.items ∙ length-append s.pairs.items (p ∷ []) in
     let earlier : p.earlier ≡ e.last_opened =
-    ap (λ (x : Ends). x.last_opened) (c.index.ensures ∙ get_or_default s.ends.items c.args.opener c.index.result.now e c.requires.opener ∙ sym c.index_mut.ensures.value) in
+    ap (λ (x : Ends). x.last_opened) (c.index.ensures ∙ get_or_default s.ends.items c.args.opener c.index.result.now e c.requires.opener
+    ∙ sym c.index_mut.ensures.value) in
     subst (λ ps. AreThreaded ps (set s.ends.items c.args.opener (record e { last_opened = c.len-2.result })) s.first) (sym c.in_ok-push.ensures.items)
-    (threaded_close s.pairs.items s.ends.items s.first c.len-2.result p e (c.len.ensures ∙ s.ends.ok.0) c.requires.opener count c.index_mut.ensures.value earlier c.requires.threaded)
+    (threaded_close s.pairs.items s.ends.items s.first c.len-2.result p e (c.len.ensures
+    ∙ s.ends.ok.0) c.requires.opener count c.index_mut.ensures.value earlier c.requires.threaded)

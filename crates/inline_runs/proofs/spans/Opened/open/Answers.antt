@@ -16,6 +16,7 @@ loop-left-preserved g c =
       within = omega arith;
       opened = λ place last.
           subst (λ now. IsOpened place ps c.args.self.now.opened.items now p.earlier) (sym c.in_ok-push.ensures.items)
-          (one_opened place ps c.args.self.now.opened.items c.loop-left.self.opened.items n p c.requires.links c.loop-left-test.true inside is (c.loop-left.invariant.opened place last));
+          (one_opened place ps c.args.self.now.opened.items c.loop-left.self.opened.items n p c.requires.links c.loop-left-test.true inside is
+          (c.loop-left.invariant.opened place last));
       laid = c.loop-left.invariant.laid;
     }

@@ -17,5 +17,6 @@ returns-clause-sought g c =
     c.in_ok-add_runs.ensures.edits
     ∙ same_edits c.args.events.now entries c.after.result.now runs c.after-2.result.now n (edits_of old.edits)
     (c.after.ensures ∙ ap (drop n) c.deref.ensures.value) (c.after-2.ensures ∙ ap (drop n) c.deref-2.ensures.value) in
-    sought_alike c.truncate.new.self.items (take n entries) (runs_view c.truncate-2.new.self.items) (take n (runs_view runs)) old.starts.items (edits_of c.add_runs.new.edits) _
+    sought_alike c.truncate.new.self.items (take n entries) (runs_view c.truncate-2.new.self.items) (take n (runs_view runs)) old.starts.items
+    (edits_of c.add_runs.new.edits) _
     c.truncate.ensures.items (ap runs_view c.truncate-2.ensures.items ∙ sym (take-map run_view n runs)) told

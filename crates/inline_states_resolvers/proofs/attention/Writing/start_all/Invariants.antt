@@ -2,9 +2,10 @@ use Rattle.std.proofs.Common.{◌≡◌, drop}
 use Rattle.std.specs.List.{fold}
 use Rattle.inline_runs.specs.View.{pairs_view}
 use Rattle.inline_states_resolvers.specs.Attention.{with_start_of}
-use Rattle.inline_states_resolvers.specs.Views.{written_view}
+use Rattle.inline_states_resolvers.specs.Views.{run_events_view}
 use Rattle.inline_states_resolvers.proofs.attention.Writing.start_all.Given as goal
 
 -- the pairs that are left do to what was written what all do to the first
 abbrev pub invariant-loop-index : goal.invariant-loop-index
-invariant-loop-index g l = fold (with_start_of l.marker) (written_view l.self) (pairs_view (drop l.index l.opened)) ≡ fold (with_start_of l.marker) (written_view l.fn.self) (pairs_view l.opened)
+invariant-loop-index g l = fold (with_start_of l.marker) (run_events_view l.self) (pairs_view (drop l.index l.opened))
+    ≡ fold (with_start_of l.marker) (run_events_view l.fn.self) (pairs_view l.opened)

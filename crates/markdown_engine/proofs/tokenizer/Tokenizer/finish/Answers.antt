@@ -7,10 +7,12 @@ use Rattle.markdown_engine.proofs.Total.{feeds_to, has_outcome}
 use Rattle.markdown_engine.proofs.tokenizer.Tokenizer.finish.Goals as goal
 
 pub returns-clause-reads : goal.returns-clause-reads
-returns-clause-reads g c = flushed g.M.Machine.seen (g.M.Machine.step (read_with c.args.self.now)) c.args.to c.args.self.now c.read.new.self c.args.state c.read.result c.read.ensures.reads (c.read.ensures.ends refl)
+returns-clause-reads g c = flushed g.M.Machine.seen (g.M.Machine.step (read_with c.args.self.now)) c.args.to c.args.self.now c.read.new.self c.args.state
+    c.read.result c.read.ensures.reads (c.read.ensures.ends refl)
 
 pub returns-clause-valid : goal.returns-clause-valid
-returns-clause-valid g c = ended_valid g.M.Machine.seen (g.M.Machine.valid (read_with c.args.self.now)) c.read.new.self c.read.result (c.read.ensures.ends refl) c.read.ensures.valid
+returns-clause-valid g c = ended_valid g.M.Machine.seen (g.M.Machine.valid (read_with c.args.self.now)) c.read.new.self c.read.result
+    (c.read.ensures.ends refl) c.read.ensures.valid
 
 pub returns-clause-total : goal.returns-clause-total
 returns-clause-total g c =
@@ -18,11 +20,14 @@ returns-clause-total g c =
     let x = read_with old in
     elim c.requires.valid [
       | inl r ↦ inl r
-      | inr h ↦ inr (has_outcome (length old.parse_state.now.bytes.now) (g.M.Machine.valid x) (g.M.Machine.step x) (g.M.Machine.rank x) (g.met.M.Machine.lawful x)
-          (text_to (source old) c.args.to) (feeds_to (source old) c.args.to c.requires.to.within c.requires.to.column) (view_config g.M.Machine.seen old) old.attempts.items c.args.state h)
+      | inr h ↦ inr (has_outcome (length old.parse_state.now.bytes.now) (g.M.Machine.valid x) (g.M.Machine.step x) (g.M.Machine.rank x)
+          (g.met.M.Machine.lawful x)
+          (text_to (source old) c.args.to) (feeds_to (source old) c.args.to c.requires.to.within c.requires.to.column)
+          (view_config g.M.Machine.seen old) old.attempts.items c.args.state h)
     ]
 
 pub returns-clause-whole : goal.returns-clause-whole
 returns-clause-whole g c =
     let x = read_with c.args.self.now in
-    read_whole g.M.Machine.seen (length x.bytes) (g.M.Machine.valid x) (g.M.Machine.step x) (g.M.Machine.rank x) (g.met.M.Machine.lawful x) c.read.new.self c.read.result c.read.ensures.valid (c.read.ensures.ends refl)
+    read_whole g.M.Machine.seen (length x.bytes) (g.M.Machine.valid x) (g.M.Machine.step x) (g.M.Machine.rank x)
+    (g.met.M.Machine.lawful x) c.read.new.self c.read.result c.read.ensures.valid (c.read.ensures.ends refl)

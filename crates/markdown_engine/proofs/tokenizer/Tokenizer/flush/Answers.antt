@@ -10,6 +10,8 @@ returns-clause-evaluated g c =
     let old = c.args.self.now in
     elim c.requires.valid [
       | inl f ↦ if_err c.flush_to.result _ (c.flush_to.ensures.failed f)
-      | inr v ↦ IfOk-weaker c.flush_to.result _ _ (λ found h. flushed_reading g.M.Machine.seen g.M.Machine.step g.M.Machine.rank g.M.Machine.resolved g.M.Machine.valid old.end c.args.resolve c.args.state old c.flush_to.new.self (found_in found)
+      | inr v ↦ IfOk-weaker c.flush_to.result _ _
+          (λ found h. flushed_reading g.M.Machine.seen g.M.Machine.step g.M.Machine.rank g.M.Machine.resolved g.M.Machine.valid old.end c.args.resolve
+          c.args.state old c.flush_to.new.self (found_in found)
           (g.met.M.Machine.lawful (read_with old)) c.requires.end v h) c.flush_to.ensures.completed
     ]

@@ -4,4 +4,6 @@ use Rattle.markdown_engine.proofs.Resolves.{completed_as}
 use Rattle.markdown_engine.proofs.tokenizer.Tokenizer.flush_to.Goals as goal
 
 pub returns-clause-completed : goal.returns-clause-completed
-returns-clause-completed g c = IfOk-weaker c.complete-result.result _ _ (λ found h. completed_as g.M.Machine.seen _ _ _ _ _ _ c.complete-result.new.self _ _ refl h) c.complete-result.ensures.completed
+returns-clause-completed g c =
+    IfOk-weaker c.complete-result.result _ _ (λ found h. completed_as g.M.Machine.seen _ _ _ _ _ _ c.complete-result.new.self _ _ refl h)
+    c.complete-result.ensures.completed

@@ -23,7 +23,10 @@ pub returns-then-is_before : goal.returns-then-is_before
 returns-then-is_before g c =
     let old = c.args.self.now in
     let less = start_less (length old.parse_state.now.bytes.now) old.skips.entries old.point in
-    let first : remaining (length old.parse_state.now.bytes.now) c.place_over-self.result ≤ remaining (length old.parse_state.now.bytes.now) (place_in old.skips.entries old.point) = subst (λ (z : Point). remaining (length old.parse_state.now.bytes.now) c.place_over-self.result ≤ remaining (length old.parse_state.now.bytes.now) z) c.place-place.ensures c.place_over-self.ensures.forward in
+    let first : remaining (length old.parse_state.now.bytes.now) c.place_over-self.result ≤ remaining (length old.parse_state.now.bytes.now)
+    (place_in old.skips.entries old.point) =
+    subst (λ (z : Point). remaining (length old.parse_state.now.bytes.now) c.place_over-self.result ≤ remaining (length old.parse_state.now.bytes.now) z)
+    c.place-place.ensures c.place_over-self.ensures.forward in
     record {
       point = c.place_over-self.result;
       begins = inr (
@@ -31,7 +34,8 @@ returns-then-is_before g c =
         subst (λ (z : Point). Walks old.parse_state.now.bytes.now c.args.from z c.place_over-self.result) c.place-place.ensures c.place_over-self.ensures.walks,
       );
       forward = omega (arith, less, first);
-      order = reaches_on old.point (place_in old.skips.entries old.point) c.place_over-self.result (start_reaches old.skips.entries old.point) (subst (λ (z : Point). Reaches z c.place_over-self.result) c.place-place.ensures c.place_over-self.ensures.order);
+      order = reaches_on old.point (place_in old.skips.entries old.point) c.place_over-self.result (start_reaches old.skips.entries old.point)
+          (subst (λ (z : Point). Reaches z c.place_over-self.result) c.place-place.ensures c.place_over-self.ensures.order);
       config = refl;
       attempts = refl;
       same = record { parse_state = refl; skips = refl };

@@ -1,6 +1,6 @@
 use Rattle.std.proofs.Common.{◌≡◌, ◌∙◌, ◌⊎◌, inl, inr, true, false, Bool, refl, subst, sym}
 use Rattle.engine_events.specs.declared.state.State.{State}
-use Rattle.markdown_engine.specs.Machine.{Refused, view_config, read_with}
+use Rattle.markdown_engine.specs.Machine.{IsRefused, view_config, read_with}
 use Rattle.markdown_engine.proofs.Push.{not_refused, opened_valid, pushed_as, same_read, valid_at, valid_or_refused}
 use Rattle.markdown_engine.proofs.Computing.{stays_unless}
 use Rattle.markdown_engine.proofs.tokenizer.Tokenizer.push.Goals as goal
@@ -16,9 +16,11 @@ read-next-requires-clause-valid g c =
     let old = c.args.self.now in
     let start = c.move_to.new.self in
     let valid = unless_failed old.failed c.if-self.false c.requires.valid in
-    let there = opened_valid g.M.Machine.seen (g.M.Machine.valid (read_with old)) (g.M.Machine.step (read_with old)) c.args.from old start c.args.state (g.met.M.Machine.lawful (read_with old)).keeps c.requires.moves_on c.move_to.ensures valid in
+    let there = opened_valid g.M.Machine.seen (g.M.Machine.valid (read_with old)) (g.M.Machine.step (read_with old)) c.args.from old start c.args.state
+    (g.met.M.Machine.lawful (read_with old)).keeps c.requires.moves_on c.move_to.ensures valid in
     let at : read_with start ≡ read_with old = same_read old start c.move_to.ensures.same.parse_state in
-    inr (valid_at g.M.Machine.valid (read_with old) (read_with start) (view_config g.M.Machine.seen start) start.attempts.items c.args.state (let e : read_with old ≡ read_with start = cc in e) there)
+    inr (valid_at g.M.Machine.valid (read_with old) (read_with start) (view_config g.M.Machine.seen start) start.attempts.items c.args.state
+    (let e : read_with old ≡ read_with start = cc in e) there)
 
 pub returns-clause-reads : goal.returns-clause-reads
 returns-clause-reads g c =
@@ -26,12 +28,22 @@ returns-clause-reads g c =
     elim c.if-self.branch [
       | then-self w ↦ inl (elim c.match-matches.branch [
         | in-Error v ↦ v.self-is
-        | in_default v ↦ absurd (not_refused c.if-self.next v.in_default.not-Error (subst (λ (z : State). Refused z) (sym w.next-is) w.out_of_memory-next.ensures))
+        | in_default v ↦ absurd (not_refused c.if-self.next v.in_default.not-Error
+            (subst (λ (z : State). IsRefused z) (sym w.next-is) w.out_of_memory-next.ensures))
       ])
       | else-self w ↦ (
           let start = w.move_to.new.self in
           let at : read_with start ≡ read_with old = same_read old start w.move_to.ensures.same.parse_state in
-          inr (start, w.move_to.ensures, rw (w.next-is, w.self-is) (pushed_as g.M.Machine.seen g.M.Machine.step (read_with start) (read_with old) c.args.to false c.args.state start w.read-next.new.self _ w.read-next.result at refl refl (record { parse_state = refl; skips = refl }) w.read-next.ensures.reads)))
+          inr (
+            start,
+            w.move_to.ensures,
+            rw (
+              w.next-is,
+              w.self-is,
+            ) (pushed_as g.M.Machine.seen g.M.Machine.step (read_with start)
+                (read_with old) c.args.to false c.args.state start w.read-next.new.self _ w.read-next.result at refl refl
+                (record { parse_state = refl; skips = refl }) w.read-next.ensures.reads),
+          ))
     ]
 
 pub returns-clause-evaluated : goal.returns-clause-evaluated
@@ -41,17 +53,27 @@ returns-clause-evaluated g c =
     elim c.match-matches.branch [
       | in-Error v ↦ inl v.self-is
       | in_default v ↦ elim c.if-self.branch [
-        | then-self w ↦ absurd (not_refused c.if-self.next v.in_default.not-Error (subst (λ (z : State). Refused z) (sym w.next-is) w.out_of_memory-next.ensures))
+        | then-self w ↦ absurd (not_refused c.if-self.next v.in_default.not-Error
+            (subst (λ (z : State). IsRefused z) (sym w.next-is) w.out_of_memory-next.ensures))
         | else-self w ↦ (
             let start = w.move_to.new.self in
             let new = w.read-next.new.self in
             let valid = unless_failed old.failed w.if-self.false c.requires.valid in
-            let there = opened_valid g.M.Machine.seen (g.M.Machine.valid x) (g.M.Machine.step x) c.args.from old start c.args.state (g.met.M.Machine.lawful x).keeps c.requires.moves_on w.move_to.ensures valid in
+            let there = opened_valid g.M.Machine.seen (g.M.Machine.valid x) (g.M.Machine.step x) c.args.from old start c.args.state
+            (g.met.M.Machine.lawful x).keeps c.requires.moves_on w.move_to.ensures valid in
             let at : read_with start ≡ x = same_read old start w.move_to.ensures.same.parse_state in
             let after : read_with new ≡ x = same_read start new w.read-next.ensures.reads.0.parse_state ∙ at in
-            let n : Refused w.read-next.result → ⊥ = λ r. not_refused c.if-self.next v.in_default.not-Error (subst (λ (z : State). Refused z) (sym w.next-is) r) in
-            let held = valid_or_refused g.M.Machine.valid (read_with start) x (view_config g.M.Machine.seen new) new.attempts.items w.read-next.result at w.read-next.ensures.valid in
-            let goes = pushed_as g.M.Machine.seen g.M.Machine.step (read_with start) x c.args.to false c.args.state start new new w.read-next.result at refl refl (record { parse_state = refl; skips = refl }) w.read-next.ensures.reads in
-            inr (start, w.move_to.ensures, rw (w.next-is, w.self-is) (stays_unless g.M.Machine.seen x g.M.Machine.valid g.M.Machine.step g.M.Machine.rank (g.met.M.Machine.lawful x) c.args.to start new c.args.state w.read-next.result at after there n held goes.1)))
+            let n : IsRefused w.read-next.result → ⊥ =
+            λ r. not_refused c.if-self.next v.in_default.not-Error (subst (λ (z : State). IsRefused z) (sym w.next-is) r) in
+            let held = valid_or_refused g.M.Machine.valid (read_with start) x (view_config g.M.Machine.seen new) new.attempts.items w.read-next.result at
+            w.read-next.ensures.valid in
+            let goes = pushed_as g.M.Machine.seen g.M.Machine.step (read_with start) x c.args.to false c.args.state start new new w.read-next.result at refl
+            refl (record { parse_state = refl; skips = refl }) w.read-next.ensures.reads in
+            inr (
+              start,
+              w.move_to.ensures,
+              rw (w.next-is, w.self-is) (stays_unless g.M.Machine.seen x g.M.Machine.valid g.M.Machine.step g.M.Machine.rank
+                  (g.met.M.Machine.lawful x) c.args.to start new c.args.state w.read-next.result at after there n held goes.1),
+            ))
       ]
     ]

@@ -21,7 +21,8 @@ loop-rest-preserved g c =
       search rules,
       (
         earlier ++ option_to_list (row_of c.next_line.result.0.now),
-        after-line c.args.text.now c.loop-rest.number earlier c.loop-rest.rest.now line c.next_line.result.2.now so_far (c.next_line.ensures.rest (search rules)) added.0,
+        after-line c.args.text.now c.loop-rest.number earlier c.loop-rest.rest.now line c.next_line.result.2.now so_far
+            (c.next_line.ensures.rest (search rules)) added.0,
         added.1,
       ),
     )

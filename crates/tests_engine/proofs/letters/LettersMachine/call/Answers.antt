@@ -11,5 +11,7 @@ use Rattle.tests_engine.proofs.letters.LettersMachine.call.Goals as goal
 pub exit-requires : goal.exit-requires
 exit-requires g c =
     let old = config c.args.tokenizer.now in
-    let events : c.consume.new.self.events.items ≡ (with_enter Data None old).events = ap (λ (z : Config Letters). z.events) c.consume.ensures.config ∙ ap (λ (z : Config Letters). z.events) (unless_error c.enter.result (sym c.is_err.ensures.value ∙ c.if-is_err.false) c.enter.ensures.became).config in
+    let events : c.consume.new.self.events.items ≡ (with_enter Data None old).events =
+    ap (λ (z : Config Letters). z.events) c.consume.ensures.config ∙ ap (λ (z : Config Letters). z.events)
+    (unless_error c.enter.result (sym c.is_err.ensures.value ∙ c.if-is_err.false) c.enter.ensures.became).config in
     (open_after [] old.events, ap (open_after []) events ∙ entered_opened Data None old)

@@ -1,0 +1,84 @@
+-- Plain lines.
+use Rattle.std.proofs.Common.{◌≡◌, ℕ, List, [], ◌∷◌, ◌++◌, Bool, true, ◌&&◌, sym, ap, ◌∙◌, subst, refl, length, arith}
+use Rattle.std.specs.Prelude.{leb}
+use Rattle.std.specs.Option.{option_or}
+use Rattle.std.proofs.lemmas.Bool.{and_parts}
+use Rattle.markdown_options.specs.declared.configuration.Constructs.{Constructs}
+use Rattle.definition_text.specs.declared.beside.Beside.{Beside}
+use Rattle.definition_text.specs.Columns.{Rest, indent, bare, bytes_of}
+use Rattle.definition_text.specs.BlockLines.{BlockLine}
+use Rattle.definition_block.specs.MathFlow.{math_start}
+use Rattle.definition_block.specs.Tree.{Blank, Blocks, join, one, Text, Indented, Fenced, OpenHtml, OpenTable, Opening, Leaf, Inside, Tree, tree}
+use Rattle.definition_block.specs.Tree.{nothing, after, has_text, text_here, rest_line, leaf_line, text_line_of, table_if, new, grow}
+use Rattle.block_starts.specs.Plain.{begins_plain, is_plain}
+use Rattle.block_starts.proofs.PlainLemmas.{plain_starts, plain_not_blank, plain_not_code, plain_fence, plain_math, plain_html, plain_heading, plain_underline}
+use Rattle.block_starts.proofs.PlainLemmas.{plain_break, plain_delimiters}
+use Rattle.block_parser.specs.HeadingSetext.{IsText}
+use Rattle.block_parser.specs.Shows.{InText, InIndented, InFenced, InHtml, InTable, state_of}
+use Rattle.block_parser.specs.Spine.{Level, Spine, spine, spine_at, spine_after}
+use Rattle.block_parser.proofs.Closing.{opening_depth}
+use Rattle.block_parser.proofs.Starting.{new_none, closed-nothing}
+use Rattle.block_parser.proofs.Steps.{text_leaf, turns_not, goes_longer, starts_text}
+use Rattle.block_parser.proofs.Trees.{join-nil}
+
+-- ---- nothing begins on a plain rest but text
+
+module _ (on : Constructs) (away : Opening) (r : Rest) (e : Beside) (plain : is_plain r ≡ true) where
+  both : (leb (indent r) 3 ≡ true) × (begins_plain (bytes_of (bare r)) ≡ true)
+  both = and_parts (leb (indent r) 3) (begins_plain (bytes_of (bare r))) plain
+
+  pub plain_leaf : leaf_line on away r e ≡ text_line_of on away r e
+  plain_leaf =
+      text_leaf on away r e (plain_not_blank r both.1) (plain_not_code on r (has_text away) both.0)
+      (ap (λ o. option_or o (math_start on r)) (plain_fence on r both.1) ∙ plain_math on r both.1)
+      (plain_html on r both.1 (has_text away)) (plain_heading on r both.1)
+      (turns_not on r e.ending away (plain_underline on r both.1))
+      (plain_break on r both.1)
+      (ap (λ o. table_if on o (text_here away) (rest_line r e)) (plain_delimiters on r both.1))
+
+  pub plain_new : (n : ℕ) (all : Bool) → new n on all away e r ≡ text_line_of on away r e
+  plain_new n all = new_none on e n all away r (plain_starts on (all && has_text away) r both.1) ∙ plain_leaf
+
+-- ---- where no container is open, and no leaf but a paragraph
+
+pub is_text : (around : List Level) (kids : Blocks) (now : Opening) → opening_depth now ≡ 0 → InText ≡ state_of (spine_at around kids now).leaf → IsText now
+is_text around kids (Leaf (Text ls)) none is = tt
+is_text around kids (Leaf (Indented ls pending)) none is = let wrong : InText ≡ InIndented _ _ = is in cc
+is_text around kids (Leaf (Fenced f opening ls)) none is = let wrong : InText ≡ InFenced _ _ = is in cc
+is_text around kids (Leaf (OpenHtml kind ls)) none is = let wrong : InText ≡ InHtml _ _ = is in cc
+is_text around kids (Leaf (OpenTable ls)) none is = let wrong : InText ≡ InTable _ = is in cc
+is_text around kids (Inside c inner_kids inner) none is = absurd (omega (arith, none))
+
+module _ (on : Constructs) (P Q : Spine → Type 0) (e : Beside) where
+  -- a line of text goes on the paragraph, or is its first
+  text_grows : (r : Rest) → ((around : List Level) (kids : Blocks) (ls : List BlockLine) → P (spine around kids (Text ls))
+      → Q (spine around kids (Text (ls ++ rest_line r e ∷ []))))
+      → (kids : Blocks) (ls : List BlockLine) → P (spine [] kids (Text ls)) → Q (spine_after [] kids (text_line_of on (Leaf (Text ls)) r e))
+  text_grows r more kids [] h =
+      starts_text on Q r e [] kids (Leaf (Text [])) refl refl
+      (subst (λ (bs : Blocks). Q (spine [] bs (Text (rest_line r e ∷ [])))) (sym (ap (join kids) (closed-nothing on e on.definition) ∙ join-nil kids))
+      (more [] kids [] h))
+  text_grows r more kids (l ∷ ls) h = goes_longer on P Q r e more [] kids (Leaf (Text (l ∷ ls))) refl h
+
+  -- a plain line is one
+  pub plain_grows : (r : Rest) → is_plain r ≡ true
+      → ((around : List Level) (kids : Blocks) (ls : List BlockLine) → P (spine around kids (Text ls))
+      → Q (spine around kids (Text (ls ++ rest_line r e ∷ []))))
+      → (kids : Blocks) (now : Opening) → IsText now → P (spine_at [] kids now) → Q (spine_after [] kids (grow on e now r))
+  plain_grows r plain more kids (Leaf (Text ls)) is h =
+      subst (λ (t : Tree). Q (spine_after [] kids t)) (sym (plain_new on (Leaf (Text ls)) r e plain (length r) true)) (text_grows r more kids ls h)
+  plain_grows r plain more kids (Leaf (Indented ls pending)) is h = absurd is
+  plain_grows r plain more kids (Leaf (Fenced f opening ls)) is h = absurd is
+  plain_grows r plain more kids (Leaf (OpenHtml kind ls)) is h = absurd is
+  plain_grows r plain more kids (Leaf (OpenTable ls)) is h = absurd is
+  plain_grows r plain more kids (Inside c inner_kids inner) is h = absurd is
+
+  -- a line with nothing in it is blank
+  pub empty_grows : (kids : Blocks) (now : Opening) → IsText now
+      → Q (spine_after [] kids (after on now (tree (one (Blank e.ending)) nothing))) → Q (spine_after [] kids (grow on e now []))
+  empty_grows kids (Leaf (Text ls)) is h = h
+  empty_grows kids (Leaf (Indented ls pending)) is h = absurd is
+  empty_grows kids (Leaf (Fenced f opening ls)) is h = absurd is
+  empty_grows kids (Leaf (OpenHtml kind ls)) is h = absurd is
+  empty_grows kids (Leaf (OpenTable ls)) is h = absurd is
+  empty_grows kids (Inside c inner_kids inner) is h = absurd is

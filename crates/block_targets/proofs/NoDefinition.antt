@@ -1,0 +1,44 @@
+-- Rows without a definition have none.
+use Rattle.std.proofs.Common.{◌≡◌, Bool, true, false, List, [], ◌∷◌, ◌++◌, refl, sym, ap, ◌∙◌}
+use Rattle.std.specs.List.{flat_map, fold, list_any}
+use Rattle.std.proofs.lemmas.Bool.{or_parts, true≢false}
+use Rattle.std.proofs.lemmas.List.{append-nil}
+use Rattle.std.proofs.lemmas.List.Concat.{flat_map-append}
+use Rattle.definition_text.specs.BlockLines.{BlockLine}
+use Rattle.block_rows.specs.declared.row.Row.{Row}
+use Rattle.block_rows.specs.declared.row.Row.TheVariants as row
+use Rattle.block_rows.specs.Rows.{RowsValue, row_definitions, row_value, rows_value, show_row, value_with}
+use Rattle.block_targets.specs.Read.{is_definition}
+
+none_in : (r : Row) (ls : List BlockLine) → is_definition r ≡ false → row_definitions (row_value r ls) ++ [] ≡ []
+none_in (row.Paragraph count) ls h = refl
+none_in (row.WholeParagraph count) ls h = refl
+none_in (row.Heading rank) ls h = refl
+none_in (row.SetextHeading rank count) ls h = refl
+none_in row.Break ls h = refl
+none_in (row.IndentedCode count) ls h = refl
+none_in (row.FencedCode count) ls h = refl
+none_in (row.UnclosedCode count) ls h = refl
+none_in (row.Html count) ls h = refl
+none_in (row.Table count) ls h = refl
+none_in (row.Definition count) ls h = absurd (true≢false h)
+none_in row.EnterQuote ls h = refl
+none_in (row.EnterItem marker number) ls h = refl
+none_in row.EnterFootnote ls h = refl
+none_in row.Exit ls h = refl
+none_in (row.Ending ending) ls h = refl
+none_in (row.Blank ending) ls h = refl
+
+none_more : (s : RowsValue) (rows : List Row) → list_any is_definition rows ≡ false
+    → flat_map row_definitions (fold show_row s rows).rows ≡ flat_map row_definitions s.rows
+none_more s [] h = refl
+none_more s (r ∷ rows) h =
+    let none = or_parts (is_definition r) (list_any is_definition rows) h in
+    none_more (show_row s r) rows none.1
+    ∙ flat_map-append row_definitions s.rows (row_value r s.left ∷ [])
+    ∙ ap (λ ds. flat_map row_definitions s.rows ++ ds) (none_in r s.left none.0)
+    ∙ append-nil (flat_map row_definitions s.rows)
+
+pub no_definitions : (rows : List Row) (ls : List BlockLine) → list_any is_definition rows ≡ false
+    → flat_map row_definitions (rows_value rows ls).rows ≡ []
+no_definitions rows ls h = none_more (value_with [] ls) rows h
