@@ -1,9 +1,0 @@
-//! A word that is no flag: status 2, and no output.
-#![tactic(auto)]
-
-use std::process::ExitCode;
-
-fn main(rt: HostRuntime) -> ExitCode {
-    let status = markdown::start(&rt, rt.stdin(), rt.stdout(), &mut rt.stderr());
-    ExitCode::from(status)
-}
