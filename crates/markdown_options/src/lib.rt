@@ -8,8 +8,6 @@ pub mod constants;
 pub mod line_ending;
 pub mod message;
 pub mod tables;
-#[cfg(test)]
-mod tests;
 pub mod unist;
 
 pub use configuration::{CompileOptions, Constructs, Options, ParseOptions};

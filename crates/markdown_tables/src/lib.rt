@@ -8,8 +8,6 @@ mod row;
 pub mod rows;
 pub mod rows_error;
 pub mod tables;
-#[cfg(test)]
-mod tests;
 
 pub use punctuation::is_unicode_punctuation;
 pub use rows::Rows;

@@ -1,6 +1,6 @@
 //! Names and characters on both sides of the tables.
-use crate::Builtin;
 use markdown_options::Tables;
+use markdown_tables::Builtin;
 
 #[test]
 fn names(rt: HostRuntime) {
@@ -31,4 +31,15 @@ fn characters(rt: HostRuntime) {
     ] {
         assert_eq!(rt; Builtin.is_punctuation(character), want);
     }
+}
+
+/// Whether tables know a name by a text.
+fn knows<T: Tables>(tables: &T, name: &str, text: &str) -> bool {
+    tables.reference(name) == Some(text)
+}
+
+#[test]
+fn through_the_trait(rt: HostRuntime) {
+    assert!(rt; knows(&Builtin, "amp", "&"));
+    assert!(rt; !knows(&Builtin, "amp", "<"));
 }
