@@ -1,4 +1,5 @@
--- Which runs of a container go together (CommonMark 6.2).
+-- Which runs of a container go together (CommonMark 6.2). This is an algorithm: which pair comes next is said as a relation in NextPair.antt, and
+-- proved of it.
 use Rattle.std.specs.Prelude.{ℕ, zero, suc, ◌+◌, ◌-◌, ◌%◌, Bool, true, false, not, if◌then◌else◌, ◌==◌, ◌&&◌, ◌||◌, nat_le, List, [], ◌∷◌, ◌++◌, length, take}
 use Rattle.std.specs.Prelude.{slice_index_or}
 use Rattle.std.specs.List.{suffix_len, fold}

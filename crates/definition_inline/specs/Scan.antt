@@ -1,4 +1,5 @@
--- The inline structure of a content, from left to right (CommonMark 6 and appendix, phase 2).
+-- The inline structure of a content, from left to right (CommonMark 6 and appendix, phase 2). This is an algorithm: which label starts and `]` go
+-- together is said as a relation in LabelPairs.antt, and proved of it.
 use Rattle.std.specs.Prelude.{ℕ, zero, suc, ◌+◌, ◌-◌, Bool, true, false, not, if◌then◌else◌, ◌==◌, ◌&&◌, ◌||◌, List, [], ◌∷◌, ◌++◌, Option, None, Some, codes}
 use Rattle.std.specs.Prelude.{map, drop}
 use Rattle.std.specs.List.{fold, prefix_len}
