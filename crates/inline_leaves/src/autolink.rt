@@ -55,14 +55,14 @@ fn find_address(bytes: &[u8]) -> Option<Address>
     ensures read { address_leaf bytes.now result ≡ autolink_after (content_codes bytes.now) }
     ensures place { IfSome result (λ found. IsAddress bytes.now found.size) }
 {
-    match closed(false, uri_size(bytes), bytes) {
+    match address_of_size(false, uri_size(bytes), bytes) {
         Some(found) => Some(found),
-        None => closed(true, email_size(bytes), bytes),
+        None => address_of_size(true, email_size(bytes), bytes),
     }
 }
 
 /// An address of this size, if there is one and a `>` follows it.
-fn closed(email: bool, size: Option<usize>, bytes: &[u8]) -> Option<Address>
+fn address_of_size(email: bool, size: Option<usize>, bytes: &[u8]) -> Option<Address>
     requires { IfSome size (λ size. IsPlain bytes.now size) }
     ensures read { address_leaf bytes.now result ≡ closed_autolink email (content_codes bytes.now) (codes_after bytes.now size) }
     ensures place { IfSome result (λ found. IsAddress bytes.now found.size) }

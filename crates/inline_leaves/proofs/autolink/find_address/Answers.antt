@@ -15,5 +15,5 @@ pub returns-in-None-clause-read : goal.returns-in-None-clause-read
 returns-in-None-clause-read c =
     let xs = c.args.bytes.now in
     let first = c.in-None.ensures.read ∙ uri_found false xs c.uri_size.result c.uri_size.ensures.read in
-    c.closed-in-None.ensures.read ∙ email_found true xs c.email_size.result c.email_size.ensures.read
+    c.address_of_size-in-None.ensures.read ∙ email_found true xs c.email_size.result c.email_size.ensures.read
     ∙ ap (λ o. or_else o (closed_autolink true (content_codes xs) (email_end (content_codes xs)))) first

@@ -6,7 +6,7 @@ use Rattle.definition_text.specs.Bytes.{begins_with}
 use Rattle.definition_inline.specs.Autolink.{closed_autolink}
 use Rattle.inline_leaves.specs.Leaves.{IsPlain}
 use Rattle.inline_leaves.proofs.AutolinkLemmas.{closed_codes}
-use Rattle.inline_leaves.proofs.autolink.closed.Goals as goal
+use Rattle.inline_leaves.proofs.autolink.address_of_size.Goals as goal
 
 pub returns-then-starts_with-clause-read : goal.returns-then-starts_with-clause-read
 returns-then-starts_with-clause-read c =
