@@ -43,7 +43,7 @@ pub fn call_or_link<'a, A: Allocator + Clone>(
         IfOk result (λ found. IsFormed ls rest.now found (call_or_link on.now (is_among ls) text (content_codes rest.now) label)) }
     ensures place { IfOk result (λ found. IfSome found (λ formed. IsAfterFormed rest.now formed)) }
 {
-    if let Some(label) = called(on, footnotes, text)? {
+    if let Some(label) = called_label(on, footnotes, text)? {
         return Ok(Some(Formed::Calls(label)));
     }
     if on.label_start_link {
@@ -71,7 +71,7 @@ pub fn link_or_image<'a, A: Allocator + Clone>(
 }
 
 /// The label of the footnote that a text between brackets calls, if it calls one.
-fn called<'a, A: Allocator + Clone>(
+fn called_label<'a, A: Allocator + Clone>(
     on: &Constructs,
     footnotes: &LabelTable<A>,
     text: &'a str,
