@@ -337,7 +337,7 @@ impl<'a, A: Allocator + Clone> Scanner<'a, A> {
         ensures read { GoesOn (T.reference_of source.now.tables.now) (T.punctuation_of source.now.tables.now) source.now self.old result self.new }
     {
         let after = cut_after(self.rest, 1);
-        match self.formed(source, after)? {
+        match self.innermost_label_end(source, after)? {
             Some(Formed::Leads(end)) => {
                 self.reading.form(end.target)?;
                 self.rest = end.after;
@@ -357,7 +357,7 @@ impl<'a, A: Allocator + Clone> Scanner<'a, A> {
 
     /// What a `]` before this content forms with the innermost label start that is open, unless a
     /// link would hold a link (CommonMark 6.3).
-    fn formed<T: Tables>(
+    fn innermost_label_end<T: Tables>(
         &self,
         source: &Source<'a, T, A>,
         after: &'a str,

@@ -24,8 +24,8 @@ use Rattle.inline_parser.proofs.scan.Scanner.end.Goals as goal
 pub cut_after-after-requires : goal.cut_after-after-requires
 cut_after-after-requires g c = follow.single_end c.args.self.now.rest.now c.requires.some c.requires.first
 
-pub formed-requires-clause-bracket : goal.formed-requires-clause-bracket
-formed-requires-clause-bracket g c =
+pub innermost_label_end-requires-clause-bracket : goal.innermost_label_end-requires-clause-bracket
+innermost_label_end-requires-clause-bracket g c =
     follow.with_first c.args.self.now.rest.now c.cut_after-after.result.now c.requires.some
     (eqb-true (get_or c.args.self.now.rest.now 0 0) 93 (and_parts c.args.source.now.options.now.constructs.label_end
     (eqb (get_or c.args.self.now.rest.now 0 0) 93) c.requires.bracket).1) c.cut_after-after.ensures.rest

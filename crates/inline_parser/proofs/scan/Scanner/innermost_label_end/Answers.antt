@@ -10,7 +10,7 @@ use Rattle.inline_parser.specs.declared.label.OpenLabel.{OpenLabel}
 use Rattle.inline_parser.specs.Scanned.{context_by, ended_here}
 use Rattle.inline_parser.specs.Shows.{start_view}
 use Rattle.inline_parser.proofs.Ended as ended
-use Rattle.inline_parser.proofs.scan.Scanner.formed.Goals as goal
+use Rattle.inline_parser.proofs.scan.Scanner.innermost_label_end.Goals as goal
 
 last_of : (xs ys : List OpenLabel) (o : Option OpenLabel) → xs ≡ ys → o ≡ slice_get xs (length xs - 1) → o ≡ slice_get ys (length ys - 1)
 last_of xs ys o e is = is ∙ ap (λ zs. slice_get zs (length zs - 1)) e
