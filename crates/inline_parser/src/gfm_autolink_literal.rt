@@ -12,7 +12,7 @@ use std::alloc::{AllocError, Allocator};
 
 /// These rows, in which addresses are text and links may hold literals, with the addresses, and
 /// without the literals in links (GFM 6.9).
-pub(crate) fn linked<'a, A: Allocator + Clone>(
+pub(crate) fn rows_with_literals<'a, A: Allocator + Clone>(
     room: &'a mut Room<A>,
     rows: Vec<InlineRow<'a>, A>,
 ) -> Result<Vec<InlineRow<'a>, A>, AllocError>

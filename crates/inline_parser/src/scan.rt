@@ -29,7 +29,7 @@ ghost use Rattle.inline_parser.specs.Scanned.{context_by, ended_here, has_no_ret
 ghost use Rattle.inline_parser.specs.Scanned.{GoesOn, HasNoLeaf, HasNoLeafHere, HasNoRun, Shortens, StaysPlaced};
 ghost use Rattle.inline_parser.specs.Shows.{with_open_label, start_view, IsSound, Shows, ShowsThen, StartsBefore};
 
-use crate::gfm_autolink_literal::linked;
+use crate::gfm_autolink_literal::rows_with_literals;
 use crate::label::{LabelStart, OpenLabel};
 use crate::plain::text_size;
 use crate::reading::Reading;
@@ -89,7 +89,7 @@ pub fn inline_rows<'a, T: Tables, A: Allocator + Clone>(
 {
     let rows = span_rows(room, options, tables, labels, footnotes, content, start)?;
     if options.constructs.gfm_autolink_literal {
-        linked(room, rows)
+        rows_with_literals(room, rows)
     } else {
         Ok(rows)
     }

@@ -18,6 +18,6 @@ returns-then-options g c ds has =
     let at = linked_at ds.definitions in
     let kids = spans_from (context_by options (g.T.Tables.reference_of tables) ds)
     (view_at (g.T.Tables.punctuation_of tables) c.args.content c.args.start.now) in
-    subst (λ k. IfOk c.linked.result (λ rows. rows_view at rows.items ≡ inline_rows leads k))
+    subst (λ k. IfOk c.rows_with_literals.result (λ rows. rows_view at rows.items ≡ inline_rows leads k))
     (sym (cond-true options.constructs.gfm_autolink_literal (with_literals [] kids) kids c.if-options.true))
-    (c.linked.ensures leads at kids (c.in_ok-rows.ensures ds has))
+    (c.rows_with_literals.ensures leads at kids (c.in_ok-rows.ensures ds has))

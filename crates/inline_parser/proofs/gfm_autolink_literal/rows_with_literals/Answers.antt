@@ -2,7 +2,7 @@ use Rattle.std.proofs.Common.{◌≡◌, ◌∙◌, [], ap, subst}
 use Rattle.definition_inline.specs.GfmAutolinkLiteral.{with_literals}
 use Rattle.inline_rows.specs.InlineRows as seen
 use Rattle.inline_rows.specs.View.{rows_view}
-use Rattle.inline_parser.proofs.gfm_autolink_literal.linked.Goals as goal
+use Rattle.inline_parser.proofs.gfm_autolink_literal.rows_with_literals.Goals as goal
 
 pub returns : goal.returns
 returns g c leads at kids same =
