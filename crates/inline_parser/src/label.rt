@@ -48,7 +48,7 @@ impl LabelStart {
     }
 
     /// The row that starts what it forms.
-    pub(crate) fn entered(self, target: LinkTarget<'_>) -> InlineRow<'_>
+    pub(crate) fn enter_row(self, target: LinkTarget<'_>) -> InlineRow<'_>
         ensures { result ≡ enter_row self target.entry }
     {
         match self {

@@ -183,7 +183,7 @@ impl<'a, A: Allocator> Reading<'a, A> {
         )?;
         self.runs.truncate(label.runs);
         self.slots.truncate(label.runs);
-        self.rows[label.row] = label.start.entered(target);
+        self.rows[label.row] = label.start.enter_row(target);
         self.holds_link = label.around_holds_link(label.start.makes_link(self.holds_link));
         self.rows.push(InlineRow::Exit)?;
         Ok(())

@@ -35,10 +35,10 @@ pub returns-clause-sound : goal.returns-clause-sound
 returns-clause-sound g c =
     let s = c.args.self.now in
     let o = c.in-Some.label in
-    let pushed : c.push.new.self.items ≡ set c.tell_inner.new.rows.items o.row c.entered.result ++ Exit ∷ [] = c.in_ok-push.ensures.items in
+    let pushed : c.push.new.self.items ≡ set c.tell_inner.new.rows.items o.row c.enter_row.result ++ Exit ∷ [] = c.in_ok-push.ensures.items in
     let size : length c.push.new.self.items ≡ length s.rows.items + 1 =
-    ap length pushed ∙ length-append (set c.tell_inner.new.rows.items o.row c.entered.result) (Exit ∷ [])
-    ∙ ap (λ n. n + 1) (length-set c.tell_inner.new.rows.items o.row c.entered.result ∙ c.in_ok-tell_inner.ensures.length) in
+    ap length pushed ∙ length-append (set c.tell_inner.new.rows.items o.row c.enter_row.result) (Exit ∷ [])
+    ∙ ap (λ n. n + 1) (length-set c.tell_inner.new.rows.items o.row c.enter_row.result ∙ c.in_ok-tell_inner.ensures.length) in
     let out = changes.sound_popped s.rows.items s.runs.items s.slots.items s.labels.items c.pop.new.self.items o c.in-Some.ensures.items
     c.requires.sound.outside in
     let kept = changes.sound_formed s.rows.items c.push.new.self.items s.runs.items s.slots.items o (reverse c.pop.new.self.items)
@@ -66,11 +66,11 @@ returns-clause-read g c leads at r e there h =
     (subst (λ x. IsContainer leads at inner.inner_rows (length inner.outer_rows) x
     (take (length c.deref-2.result.now - o.runs) (drop o.runs c.deref-2.result.now)) r.now.tokens) (sym runs)
     (subst (λ x. IsContainer leads at inner.inner_rows (length inner.outer_rows) (drop o.runs s.runs.items) x r.now.tokens) (sym slots) inner.inner)) in
-    let pushed : c.push.new.self.items ≡ set c.tell_inner.new.rows.items o.row c.entered.result ++ Exit ∷ [] = c.in_ok-push.ensures.items in
+    let pushed : c.push.new.self.items ≡ set c.tell_inner.new.rows.items o.row c.enter_row.result ++ Exit ∷ [] = c.in_ok-push.ensures.items in
     let shown =
     changes.last_formed leads at s.rows.items c.tell_inner.new.rows.items c.push.new.self.items s.runs.items c.truncate.new.self.items s.slots.items
     c.truncate-2.new.self.items o (reverse c.pop.new.self.items)
-    r.open_labels r.now c.args.target e c.around_holds_link-self.result c.entered.result c.makes_link.result inner there told pushed c.entered.ensures
+    r.open_labels r.now c.args.target e c.around_holds_link-self.result c.enter_row.result c.makes_link.result inner there told pushed c.enter_row.ensures
     c.truncate.ensures.items c.truncate-2.ensures.items
     c.around_holds_link-self.ensures (c.makes_link.ensures ∙ ap (makes_link (start_view o.start)) h.holds_link) in
     record { by = shown.by; holds_link = shown.holds_link_is }
