@@ -29,13 +29,13 @@ pub fn settings(alloc: Global, words: &[String]) -> Result<Settings, SettingsErr
 {
     let command = command(alloc)?;
     match command.try_get_matches_from(words) {
-        Ok(matches) => found(alloc, &matches),
+        Ok(matches) => settings_of(alloc, &matches),
         Err(error) => Err(refusal(alloc, &error)),
     }
 }
 
 /// The settings of the command's matches.
-fn found(alloc: Global, matches: &ArgMatches<'_>) -> Result<Settings, SettingsError>
+fn settings_of(alloc: Global, matches: &ArgMatches<'_>) -> Result<Settings, SettingsError>
     ensures options { IfOk result (λ s.
         s.options ≡ found_options (found_of matches.now)) }
     ensures references { IfOk result (λ s. option_map string_bytes s.references ≡ first_value (found_of matches.now) (codes "references")) }

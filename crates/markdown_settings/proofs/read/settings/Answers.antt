@@ -43,16 +43,16 @@ returns-in-Ok-clause-options c =
     λ id. ap is_true_text (value_is _ _ _ id c.in_ok-command.ensures c.in-Ok.ensures.matches) in
     let options =
     ap₂ (λ (of : Bool → Options) plain. of plain) (ap₂ flag_options (value (codes "gfm")) (value (codes "dangerous"))) (value (codes "plain")) in
-    IfOk-weaker c.found.result _ _ (λ s is. is ∙ options) c.found.ensures.options
+    IfOk-weaker c.settings_of.result _ _ (λ s is. is ∙ options) c.settings_of.ensures.options
 
 pub returns-in-Ok-clause-references : goal.returns-in-Ok-clause-references
 returns-in-Ok-clause-references c =
-    IfOk-weaker c.found.result _ _ (λ s is. is ∙ value_is _ _ _ (codes "references") c.in_ok-command.ensures c.in-Ok.ensures.matches) c.found.ensures.references
+    IfOk-weaker c.settings_of.result _ _ (λ s is. is ∙ value_is _ _ _ (codes "references") c.in_ok-command.ensures c.in-Ok.ensures.matches) c.settings_of.ensures.references
 
 pub returns-in-Ok-clause-faultless : goal.returns-in-Ok-clause-faultless
 returns-in-Ok-clause-faultless c =
     let e = c.in_ok-command.ensures in
-    on_ok c.found.result (sym (faults_are _ _ e) ∙ c.in-Ok.ensures.kinds (ap is_simple_and_free e ∙ is_free_command))
+    on_ok c.settings_of.result (sym (faults_are _ _ e) ∙ c.in-Ok.ensures.kinds (ap is_simple_and_free e ∙ is_free_command))
 
 pub returns-in-Err-clause-refused : goal.returns-in-Err-clause-refused
 returns-in-Err-clause-refused c =
