@@ -45,14 +45,14 @@ pub fn definition(content: &[u8]) -> Option<LinkDefinition<'_>>
         return None;
     }
     let destination = destination(white(from(label.rest, colon.next)), None)?;
-    match titled(label.text, destination) {
+    match definition_with_title(label.text, destination) {
         Some(definition) => Some(definition),
-        None => untitled(label.text, destination),
+        None => definition_without_title(label.text, destination),
     }
 }
 
 /// With a title after the destination.
-fn titled<'a>(label: &'a [u8], destination: Part<'a>) -> Option<LinkDefinition<'a>>
+fn definition_with_title<'a>(label: &'a [u8], destination: Part<'a>) -> Option<LinkDefinition<'a>>
     ensures read { found_definition result ≡ definition_with_title (content_codes label.now) (part_of destination.entry) }
     ensures place { IfSome result (λ read. IsRest destination.entry.rest.now read.rest.now) }
 {
@@ -70,7 +70,10 @@ fn titled<'a>(label: &'a [u8], destination: Part<'a>) -> Option<LinkDefinition<'
 }
 
 /// Without a title after the destination.
-fn untitled<'a>(label: &'a [u8], destination: Part<'a>) -> Option<LinkDefinition<'a>>
+fn definition_without_title<'a>(
+    label: &'a [u8],
+    destination: Part<'a>,
+) -> Option<LinkDefinition<'a>>
     ensures read { found_definition result ≡ definition_without_title (content_codes label.now) (part_of destination.entry) }
     ensures place { IfSome result (λ read. IsRest destination.entry.rest.now read.rest.now) }
 {
