@@ -42,7 +42,7 @@ pub(crate) fn push_code<A: Allocator>(
 {
     spaces.clear();
     push_spaced(spaces, code)?;
-    let text = unpadded(spaces.as_str());
+    let text = without_padding(spaces.as_str());
     if cell {
         push_cell_code(out, text)
     } else {
@@ -93,7 +93,7 @@ fn is_in_line(byte: u8) -> bool
 }
 
 /// A text without one space at each end, where there are both and something between.
-fn unpadded(text: &str) -> &str
+fn without_padding(text: &str) -> &str
     ensures { result.now ≡ without_padding text.now }
 {
     if text.len() > 1 && is_padded(text.as_bytes()) {
