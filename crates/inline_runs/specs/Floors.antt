@@ -23,8 +23,8 @@ openers_view o = map opener_view o.openers.items
 abbrev pub tilde_count : RunOf → ℕ
 tilde_count c = if is_tilde c.marker then c.left else 0
 
-abbrev pub wanted : RunOf → Want
-wanted c = record { marker = c.marker; may_open = c.may_open; rest = c.left % 3; tildes = tilde_count c }
+abbrev pub want_of : RunOf → Want
+want_of c = record { marker = c.marker; may_open = c.may_open; rest = c.left % 3; tildes = tilde_count c }
 
 -- whether a run may close a span, and has a byte left
 abbrev pub can_close : RunOf → Bool

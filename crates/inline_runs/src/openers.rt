@@ -5,7 +5,7 @@
 ghost use Rattle.std.specs.Prelude.{◌≡◌, ◌++◌, ◌-◌, ◌<◌, ◌≤◌, ℕ, true, false, length, take, slice_index_or, OnOk, IfOk, []};
 ghost use Rattle.definition_inline.specs.Pairing.{OpenRun as PlacedOf, up_to_nearest, openers_of, without};
 ghost use Rattle.inline_runs.specs.View.{run_view, bytes_by};
-ghost use Rattle.inline_runs.specs.Floors.{placed_view, tilde_count, wanted, can_close, fits, FitsAt, IsFloor};
+ghost use Rattle.inline_runs.specs.Floors.{placed_view, tilde_count, want_of, can_close, fits, FitsAt, IsFloor};
 ghost use Rattle.inline_runs.specs.declared.openers.Opener.{Opener};
 
 use crate::gfm_strikethrough::{are_fitting, is_tilde};
@@ -63,8 +63,8 @@ pub(crate) struct Floor {
 }
 
 /// What an opener has to know of this closer.
-fn wanted(closer: &Run) -> Want
-    ensures { result ≡ wanted (run_view closer.now) }
+fn want_of(closer: &Run) -> Want
+    ensures { result ≡ want_of (run_view closer.now) }
 {
     Want {
         marker: closer.marker,
@@ -201,7 +201,7 @@ impl<A: Allocator> Openers<A> {
         if !can_close(&closer.run) {
             return Ok(0);
         }
-        let want = wanted(&closer.run);
+        let want = want_of(&closer.run);
         let count = up_to_nearest(&self.openers, self.floor_of(&want), &want);
         if count == 0 {
             self.raise(want, closer.place)?;

@@ -9,14 +9,14 @@ returns-then-not-can_close-clause-nearest g c =
 
 pub returns-in_ok-raise-clause-nearest : goal.returns-in_ok-raise-clause-nearest
 returns-in_ok-raise-clause-nearest g c =
-    searched c.args.self.now.openers.items c.deref.result.now (placed_view c.args.closer.now) c.wanted-want.result c.up_to_nearest-count.result
-    c.deref.ensures.value c.wanted-want.ensures
+    searched c.args.self.now.openers.items c.deref.result.now (placed_view c.args.closer.now) c.want_of-want.result c.up_to_nearest-count.result
+    c.deref.ensures.value c.want_of-want.ensures
     c.up_to_nearest-count.ensures.within c.up_to_nearest-count.ensures.none c.up_to_nearest-count.ensures.fits
     (sym c.can_close.ensures ∙ c.if-not-can_close.false)
 
 pub returns-else-count-eq0-clause-nearest : goal.returns-else-count-eq0-clause-nearest
 returns-else-count-eq0-clause-nearest g c =
-    searched c.args.self.now.openers.items c.deref.result.now (placed_view c.args.closer.now) c.wanted-want.result c.up_to_nearest-count.result
-    c.deref.ensures.value c.wanted-want.ensures
+    searched c.args.self.now.openers.items c.deref.result.now (placed_view c.args.closer.now) c.want_of-want.result c.up_to_nearest-count.result
+    c.deref.ensures.value c.want_of-want.ensures
     c.up_to_nearest-count.ensures.within c.up_to_nearest-count.ensures.none c.up_to_nearest-count.ensures.fits
     (sym c.can_close.ensures ∙ c.if-not-can_close.false)
