@@ -34,11 +34,11 @@ impl<'a, A: Allocator> Parser<'a, A> {
             Becomes self.old self.new (IndentedLeaf ls pending) (leaf_grown on.now beside (rest_of rest.entry) (OpenedLeaf (IndentedLeaf ls pending)))) }
     {
         if rest.is_blank() {
-            self.pieces.push(piece(rest.outdented(4), beside))?;
+            self.pieces.push(piece(rest.outdent(4), beside))?;
             return Ok(());
         }
         if starts_code_indented(on, rest) {
-            self.pieces.push(piece(rest.outdented(4), beside))?;
+            self.pieces.push(piece(rest.outdent(4), beside))?;
             let count = self.pieces.len() - self.lines_in_rows;
             self.leaf = OpenLeaf::Indented {
                 count,
@@ -58,7 +58,7 @@ impl<'a, A: Allocator> Parser<'a, A> {
     ) -> Result<(), AllocError>
         ensures { OnOk result (Adds self.old self.new (tree Nil (OpenedLeaf (IndentedLeaf (rest_line (outdent 4 (rest_of rest.entry)) beside ∷ []) [])))) }
     {
-        self.pieces.push(piece(rest.outdented(4), beside))?;
+        self.pieces.push(piece(rest.outdent(4), beside))?;
         self.leaf = OpenLeaf::Indented {
             count: 1,
             ending: beside.ending,

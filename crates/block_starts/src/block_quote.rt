@@ -25,7 +25,7 @@ pub fn quote_prefix<'a>(on: &Constructs, rest: Cursor<'a>) -> Option<ContainerLi
         return None;
     }
     Some(ContainerLine {
-        rest: after.outdented(1),
+        rest: after.outdent(1),
         before: kind_before_content(after),
     })
 }

@@ -103,5 +103,5 @@ pub fn is_fence_end(on: &Constructs, fence: &Fence<'_>, rest: Cursor<'_>) -> boo
 pub fn fence_line<'a>(fence: &Fence<'_>, rest: Cursor<'a>) -> Cursor<'a>
     ensures { rest_of result ≡ line_of_fence (fence_view fence.now) (rest_of rest.entry) }
 {
-    rest.outdented(fence.indent)
+    rest.outdent(fence.indent)
 }

@@ -147,7 +147,7 @@ impl<'a> Cursor<'a> {
     }
 
     /// The rest without its first columns of spaces and tabs, at most so many.
-    pub fn outdented(self, most: usize) -> Cursor<'a>
+    pub fn outdent(self, most: usize) -> Cursor<'a>
         ensures { rest_of result ≡ outdent most (rest_of self.entry) }
     {
         if most >= self.indent() {

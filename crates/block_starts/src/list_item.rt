@@ -163,7 +163,7 @@ fn make_item<'a>(columns: usize, marker: Marker<'a>) -> (Container<'a>, Containe
         size: columns + marker.size + gap,
     };
     let line = ContainerLine {
-        rest: marker.rest.outdented(gap),
+        rest: marker.rest.outdent(gap),
         before: Kind::Whitespace,
     };
     (Container::Item(item), line)
@@ -193,7 +193,7 @@ pub fn item_continues<'a>(
 {
     if is_inside(size, began_blank, rest) {
         Some(ContainerLine {
-            rest: rest.outdented(size),
+            rest: rest.outdent(size),
             before: Kind::Whitespace,
         })
     } else {

@@ -11,5 +11,5 @@ pub returns-then-is_inside : goal.returns-then-is_inside
 returns-then-is_inside c =
     let rest = rest_of c.args.rest in
     let inside = sym c.is_inside.ensures ∙ c.if-is_inside.true in
-    ap (λ left. Some (container_line left Whitespace)) (c.outdented.ensures ∙ outdented_inside c.args.size c.args.began_blank rest inside)
+    ap (λ left. Some (container_line left Whitespace)) (c.outdent.ensures ∙ outdented_inside c.args.size c.args.began_blank rest inside)
     ∙ sym (cond-true (is_inside c.args.size c.args.began_blank rest) (Some (container_line (drop c.args.size rest) Whitespace)) _ inside)

@@ -27,7 +27,7 @@ returns-then-is_blank g c = λ ls pending around kids h.
     let e = c.args.beside in
     let l = rest_line (outdent 4 r) e in
     let leaf = Indented ls (pending ++ l ∷ []) in
-    let piece_is = c.piece.ensures ∙ ap (λ (x : Rest). rest_line x e) c.outdented.ensures in
+    let piece_is = c.piece.ensures ∙ ap (λ (x : Rest). rest_line x e) c.outdent.ensures in
     subst (λ (t : Tree). Shows p.rows.rows.items p.rows.waiting.items p.rows.bare (container_views p.open.items) (piece_lines c.push.new.self.items)
     (leaf_state p.leaf) (spine_after around kids t)) (sym (steps.indented_blank on e r ls pending (sym c.is_blank.ensures ∙ c.if-is_blank.true)))
     (subst (λ (bs : Blocks). Shows p.rows.rows.items p.rows.waiting.items p.rows.bare (container_views p.open.items) (piece_lines c.push.new.self.items)
@@ -49,7 +49,7 @@ returns-then-starts_code_indented g c = λ ls pending around kids h.
     let leaf = Indented all [] in
     let new_pool = piece_lines c.push-then-starts_code_indented.new.self.items in
     let count = c.len.result - p.lines_in_rows in
-    let piece_is = c.piece-then-starts_code_indented.ensures ∙ ap (λ (x : Rest). rest_line x e) c.outdented-then-starts_code_indented.ensures in
+    let piece_is = c.piece-then-starts_code_indented.ensures ∙ ap (λ (x : Rest). rest_line x e) c.outdent-then-starts_code_indented.ensures in
     let left = leaves.all_left p.rows.rows.items p.rows.waiting.items p.rows.bare pool around kids (ls ++ pending) h.written (leaves.enough_lines p) in
     let many : count ≡ length all =
     omega (

@@ -18,7 +18,7 @@ returns g c = λ around kids h.
     let r = outdent 4 (rest_of c.args.rest) in
     let l = rest_line r c.args.beside in
     let leaf = Indented (l ∷ []) [] in
-    let piece_is = c.piece.ensures ∙ ap (λ (x : Rest). rest_line x c.args.beside) c.outdented.ensures in
+    let piece_is = c.piece.ensures ∙ ap (λ (x : Rest). rest_line x c.args.beside) c.outdent.ensures in
     subst (λ (bs : Blocks). Shows p.rows.rows.items p.rows.waiting.items p.rows.bare (container_views p.open.items) (piece_lines c.push.new.self.items)
     (InIndented 1 c.args.beside.ending) (spine around bs leaf)) (sym (join-nil kids))
     (leaves.shows_line p.rows.rows.items p.rows.waiting.items p.rows.bare (container_views p.open.items) pool (piece_lines c.push.new.self.items)

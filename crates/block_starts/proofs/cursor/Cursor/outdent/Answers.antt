@@ -3,7 +3,7 @@ use Rattle.std.proofs.lemmas.List.{drop-drop}
 use Rattle.definition_text.specs.Columns.{indent}
 use Rattle.block_starts.specs.View.{rest_of}
 use Rattle.block_starts.proofs.Views.{indent_dropped}
-use Rattle.block_starts.proofs.cursor.Cursor.outdented.Goals as goal
+use Rattle.block_starts.proofs.cursor.Cursor.outdent.Goals as goal
 
 pub without_column-rest-requires : goal.without_column-rest-requires
 without_column-rest-requires c =

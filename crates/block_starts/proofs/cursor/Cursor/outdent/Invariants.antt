@@ -1,6 +1,6 @@
 use Rattle.std.proofs.Common.{◌≡◌, drop}
 use Rattle.block_starts.specs.View.{rest_of}
-use Rattle.block_starts.proofs.cursor.Cursor.outdented.Given as goal
+use Rattle.block_starts.proofs.cursor.Cursor.outdent.Given as goal
 
 -- so many columns are taken
 abbrev pub invariant-loop : goal.invariant-loop
