@@ -539,7 +539,7 @@ pub(crate) fn piece<'a>(rest: Cursor<'a>, beside: Beside) -> Piece<'a>
 {
     Piece {
         text: rest.text(),
-        owed: rest.owed(),
+        owed: rest.tab_columns(),
         ending: beside.ending,
         before: beside.before,
     }

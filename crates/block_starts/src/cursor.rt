@@ -83,7 +83,7 @@ impl<'a> Cursor<'a> {
     }
 
     /// The columns left of a tab that a prefix ended in. In a block they stand before the bytes.
-    pub fn owed(self) -> u8
+    pub fn tab_columns(self) -> u8
         ensures same { result ≡ prefix_len is_tab_column (rest_of self.entry) }
         ensures codes { block_codes (rest_of self.entry) ≡ replicate result tab_column ++ bytes_of (rest_of self.entry) }
     {

@@ -1,6 +1,6 @@
 use Rattle.std.proofs.Common.{sym}
 use Rattle.block_starts.proofs.Views.{owed_view, codes_view}
-use Rattle.block_starts.proofs.cursor.Cursor.owed.Goals as goal
+use Rattle.block_starts.proofs.cursor.Cursor.tab_columns.Goals as goal
 
 pub returns-clause-same : goal.returns-clause-same
 returns-clause-same c = sym (owed_view c.args.self c.plain-bytes.ensures.bytes)
