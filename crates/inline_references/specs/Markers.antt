@@ -2,17 +2,17 @@
 use Rattle.std.specs.Prelude.{◌≡◌, ℕ, ◌<◌, ◌^◌, Bool, if◌then◌else◌, ◌==◌, ◌||◌, List, [], ◌∷◌, Option}
 use Rattle.std.specs.Char.{is_ascii_digit, is_ascii_hexdigit, is_ascii_alphanumeric}
 use Rattle.std.specs.Str.Parse.{IsNumeral, digits_value}
-use Rattle.definition_text.specs.Ascii.{line_feed, number_sign, capital_x, small_x}
+use Rattle.definition_text.specs.Ascii.{ampersand, number_sign, capital_x, small_x}
 use Rattle.definition_inline.specs.CharacterReference.{CharacterName, Named, Numbered, Names, number_of, reference_text}
 
 abbrev pub name_marker : ℕ
-name_marker = 38
+name_marker = ampersand
 
 abbrev pub decimal_marker : ℕ
-decimal_marker = 35
+decimal_marker = number_sign
 
 abbrev pub hexadecimal_marker : ℕ
-hexadecimal_marker = 120
+hexadecimal_marker = small_x
 
 abbrev pub is_marker : ℕ → Bool
 is_marker marker = (marker == name_marker) || (marker == decimal_marker) || (marker == hexadecimal_marker)
@@ -51,7 +51,7 @@ abbrev pub value_text : Names → ℕ → List ℕ → Option (List ℕ)
 value_text names marker value = reference_text names (name_by marker value)
 
 abbrev pub is_radix : ℕ → Bool
-is_radix radix = (radix == line_feed) || (radix == 16)
+is_radix radix = (radix == 10) || (radix == 16)
 
 -- digits, at least one, of a number below 2^32
 pub record IsNumber (radix : ℕ) (digits : List ℕ) : Type 0 where
