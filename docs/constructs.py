@@ -7,7 +7,7 @@ usage: docs/constructs.py            writes the page
 A file belongs to the construct whose switch in `Constructs` it is named after: `code_text.rt`, `proofs/code_text`,
 `CodeText.antt`, `CodeTextLemmas.antt`; SHARED names the constructs of the others. The prefix of its crate is its room.
 Both ways fail on a gap: a construct that is read, but has no file in a room that it needs, or no grammar at its reader's
-head.
+head; and on an entry of SHARED or LAW_NAMES that points at no file, no law or no construct.
 """
 import os
 import re
@@ -35,7 +35,7 @@ PREFIXES = {
     "tests_": "Tests",
 }
 # Files that have no construct's name, and whose they are: what several constructs share, and further files of one. A path
-# is a crate and a file, without the part of the crate between. One that isn't there is passed over.
+# is a crate and a file or a folder of proofs, without the part of the crate between.
 SHARED = {
     "definition_block/Definitions.antt": "definition",
     "definition_block/HtmlNames.antt": "html_flow",
@@ -53,13 +53,10 @@ SHARED = {
     "definition_inline/Scan.antt": "label_start_image label_start_link",
     "definition_inline/Spans.antt": "attention gfm_strikethrough",
     "definition_inline/Title.antt": "definition label_end",
-    "block_parser/code.rt": "code_fenced code_indented",
     "block_parser/code_fenced.rt": "math_flow",
-    "block_parser/heading.rt": "heading_atx heading_setext",
     "inline_content/run.rt": "attention gfm_strikethrough",
     "inline_content/previous.rt": "gfm_autolink_literal",
     "inline_label_ends/forms.rt": "label_end",
-    "inline_leaves/hard_break.rt": "hard_break_escape hard_break_trailing",
     "inline_leaves/RawTextLemmas.antt": "code_text math_text",
     "inline_leaves/raw_runs.rt": "code_text math_text",
     "inline_leaves/raw_text": "code_text math_text",
@@ -71,7 +68,6 @@ SHARED = {
     "inline_literals/address.rt": "gfm_autolink_literal",
     "inline_literals/name.rt": "gfm_autolink_literal",
     "inline_parser/label.rt": "label_start_image label_start_link",
-    "inline_parser/label_start.rt": "label_start_image label_start_link",
     "inline_references/reference.rt": "character_reference",
     "inline_runs/pairing.rt": "attention gfm_strikethrough",
     "inline_runs/run.rt": "attention gfm_strikethrough",
@@ -79,11 +75,9 @@ SHARED = {
     "inline_spans/tell.rt": "attention gfm_strikethrough",
     "inline_tags/tags.rt": "html_flow html_text",
     "html_inline/leaf.rt": "autolink character_escape character_reference hard_break_escape hard_break_trailing",
-    "html_inline/number.rt": "character_reference",
     "html_inline/rows.rt": "attention gfm_strikethrough label_end",
     "html_inline/string.rt": "character_escape character_reference",
     "html_inline/url.rt": "autolink label_end",
-    "html_page/code.rt": "code_fenced code_indented",
     "html_page/code_fenced.rt": "math_flow",
     "html_page/container.rt": "block_quote list_item",
     "html_page/heading.rt": "heading_atx heading_setext",
@@ -92,35 +86,37 @@ SHARED = {
     "html_page/page.rt": "thematic_break",
     "examples_block/Containers.antt": "block_quote list_item",
     "examples_block/Leaves.antt": "definition heading_setext html_flow",
-    "examples_inline/Autolinks.antt": "autolink",
-    "examples_inline/CharacterEscapes.antt": "character_escape",
-    "examples_inline/CharacterReferences.antt": "character_reference",
-    "examples_inline/CodeSpans.antt": "code_text",
-    "examples_inline/Emphasis.antt": "attention",
-    "examples_inline/Images.antt": "label_end label_start_image",
     "examples_inline/LabelStartImage.antt": "label_end",
     "examples_inline/LabelStartLink.antt": "label_end",
-    "examples_inline/LineBreaks.antt": "hard_break_escape hard_break_trailing",
-    "examples_inline/Links.antt": "label_end label_start_link",
-    "examples_inline/RawHtml.antt": "html_text",
-    "tests_block/blocks.rt": "code_fenced code_indented heading_atx thematic_break",
-    "tests_block/containers.rt": "block_quote list_item",
-    "tests_block/definitions.rt": "definition",
-    "tests_block/headings.rt": "heading_setext",
-    "tests_block/html_blocks.rt": "html_flow",
+    "laws_footnotes/Footnotes.antt": "gfm_footnote_definition",
+    "laws_footnotes/footnotes.rt": "gfm_footnote_definition",
+    "tests_commonmark/hard_break.rt": "hard_break_escape hard_break_trailing",
+    "tests_commonmark/list.rt": "list_item",
+    "tests_commonmark/raw_html.rt": "html_text",
+    "inline_states_gfm/GfmTaskListItemCheck.antt": "gfm_task_list_item",
+    "inline_states_gfm/gfm_task_list_item_check.rt": "gfm_task_list_item",
+    "inline_states_labels/Destination.antt": "label_end",
+    "inline_states_labels/Label.antt": "label_end",
+    "inline_states_labels/Start.antt": "label_start_image label_start_link",
+    "inline_states_labels/Title.antt": "label_end",
+    "inline_states_labels/partial_destination.rt": "label_end",
+    "inline_states_labels/partial_label.rt": "label_end",
+    "inline_states_labels/partial_title.rt": "label_end",
+    "inline_states_labels/start.rt": "label_start_image label_start_link",
+    "inline_states_leaves/RawText.antt": "code_text math_text",
+    "inline_states_leaves/raw_text.rt": "code_text math_text",
+    "inline_verdicts/RawText.antt": "code_text math_text",
 }
 # Laws whose names have another word before `_law` than the construct that they speak of.
 LAW_NAMES = {
     "escape": "character_escape",
-    "fenced_code": "code_fenced",
     "first_match": "label_end",
     "grouped": "list_item",
     "heading": "heading_atx heading_setext",
-    "html": "html_flow",
-    "indented_code": "code_indented",
-    "item": "list_item",
     "labels_match": "label_end",
     "list": "list_item",
+    "list_page": "list_item",
+    "listed_lines": "list_item",
     "marker": "list_item",
     "neighbours": "list_item",
     "nested_links": "label_end",
@@ -130,6 +126,7 @@ LAW_NAMES = {
     "quote": "block_quote",
     "quote_page": "block_quote",
     "quote_pages": "block_quote",
+    "quoted_lines": "block_quote",
     "quotes": "block_quote",
     "references": "label_end",
     "string_escape": "character_escape",
@@ -192,9 +189,14 @@ def room_of(crate, part):
     return "Proofs" if is_proof and room in ("Definition", "Reader", "Printer") else room
 
 
+def law_names(path):
+    """The names of the laws of a file, without `_law`."""
+    return re.findall(r"\bpub fn (\w+)_law\b", text_of(path))
+
+
 def laws_in(path):
     """The constructs that the laws of a file speak of."""
-    for law in re.findall(r"\bpub fn (\w+)_law\b", text_of(path)):
+    for law in law_names(path):
         yield from LAW_NAMES.get(law, law).split()
 
 
@@ -217,6 +219,21 @@ def places(names):
                 if room and name in names:
                     found.setdefault((name, room), []).append(path)
     return found
+
+
+def stale_entries(names):
+    """The entries of SHARED and LAW_NAMES that point at nothing."""
+    files, laws = set(), set()
+    for crate in crates():
+        for part, path in files_of(crate):
+            files.add(f"{crate}/{os.path.basename(path)}")
+            if room_of(crate, part) == "Laws" and part == "src":
+                laws.update(law_names(path))
+    yield from (f"SHARED has {it}, which is no file" for it in SHARED if it not in files)
+    yield from (f"LAW_NAMES has {it}, which is no law" for it in LAW_NAMES if it not in laws)
+    for entries in (SHARED, LAW_NAMES):
+        for entry, words in entries.items():
+            yield from (f"{entry} is said to be of {it}, which is no construct" for it in words.split() if it not in names)
 
 
 def grammar_of(path):
@@ -291,7 +308,7 @@ def page():
     standing = [it for it in names if any((it, room) in found for room in NEEDED)]
     rooms = [it for it in ROOMS if any((name, it) in found for name in standing)]
     lines = [HEAD, f"| Construct | {' | '.join(rooms)} | Grammar |", "|---" * (len(rooms) + 2) + "|"]
-    gaps = []
+    gaps = [*stale_entries(names)]
     for name in standing:
         line, has_grammar = row(name, rooms, found)
         lines.append(line)
