@@ -101,7 +101,8 @@ unfolding pages
 row_22 = refl
 
 row_23 : page (codes "1. ![a *b*]\n\n   [c][A *B*]\n\n> - [a *b*]: d.png \"e & f\"")
-    ≡ codes "<ol>\n<li>\n<p><img src=\"d.png\" alt=\"a b\" title=\"e &amp; f\" /></p>\n<p><a href=\"d.png\" title=\"e &amp; f\">c</a></p>\n</li>\n</ol>\n<blockquote>\n<ul>\n<li></li>\n</ul>\n</blockquote>"
+    ≡ codes "<ol>\n<li>\n<p><img src=\"d.png\" alt=\"a b\" title=\"e &amp; f\" /></p>\n<p><a href=\"d.png\" title=\"e &amp; f\">c</a></p>\n</li>\n</ol>\n"
+    ++ codes "<blockquote>\n<ul>\n<li></li>\n</ul>\n</blockquote>"
 unfolding pages
 row_23 = refl
 

@@ -22,12 +22,18 @@ unfolding pages
 row_3 = refl
 
 row_4 : page_with with_literals (codes "Visit www.commonmark.org.\n\nVisit www.commonmark.org/a.b.")
-    ≡ codes "<p>Visit <a href=\"http://www.commonmark.org\">www.commonmark.org</a>.</p>\n<p>Visit <a href=\"http://www.commonmark.org/a.b\">www.commonmark.org/a.b</a>.</p>"
+    ≡ codes "<p>Visit <a href=\"http://www.commonmark.org\">www.commonmark.org</a>.</p>\n"
+    ++ codes "<p>Visit <a href=\"http://www.commonmark.org/a.b\">www.commonmark.org/a.b</a>.</p>"
 unfolding pages
 row_4 = refl
 
 row_5 : page_with with_literals
-    (codes "www.google.com/search?q=Markup+(business)\n\nwww.google.com/search?q=Markup+(business)))\n\n(www.google.com/search?q=Markup+(business))\n\n(www.google.com/search?q=Markup+(business)") ≡ codes "<p><a href=\"http://www.google.com/search?q=Markup+(business)\">www.google.com/search?q=Markup+(business)</a></p>\n<p><a href=\"http://www.google.com/search?q=Markup+(business)\">www.google.com/search?q=Markup+(business)</a>))</p>\n<p>(<a href=\"http://www.google.com/search?q=Markup+(business)\">www.google.com/search?q=Markup+(business)</a>)</p>\n<p>(<a href=\"http://www.google.com/search?q=Markup+(business)\">www.google.com/search?q=Markup+(business)</a></p>"
+    (codes "www.google.com/search?q=Markup+(business)\n\nwww.google.com/search?q=Markup+(business)))\n\n"
+    ++ codes "(www.google.com/search?q=Markup+(business))\n\n(www.google.com/search?q=Markup+(business)")
+    ≡ codes "<p><a href=\"http://www.google.com/search?q=Markup+(business)\">www.google.com/search?q=Markup+(business)</a></p>\n"
+    ++ codes "<p><a href=\"http://www.google.com/search?q=Markup+(business)\">www.google.com/search?q=Markup+(business)</a>))</p>\n"
+    ++ codes "<p>(<a href=\"http://www.google.com/search?q=Markup+(business)\">www.google.com/search?q=Markup+(business)</a>)</p>\n"
+    ++ codes "<p>(<a href=\"http://www.google.com/search?q=Markup+(business)\">www.google.com/search?q=Markup+(business)</a></p>"
 unfolding pages
 row_5 = refl
 
@@ -37,7 +43,8 @@ unfolding pages
 row_6 = refl
 
 row_7 : page_with with_literals (codes "www.google.com/search?q=commonmark&hl=en\n\nwww.google.com/search?q=commonmark&hl;")
-    ≡ codes "<p><a href=\"http://www.google.com/search?q=commonmark&amp;hl=en\">www.google.com/search?q=commonmark&amp;hl=en</a></p>\n<p><a href=\"http://www.google.com/search?q=commonmark\">www.google.com/search?q=commonmark</a>&amp;hl;</p>"
+    ≡ codes "<p><a href=\"http://www.google.com/search?q=commonmark&amp;hl=en\">www.google.com/search?q=commonmark&amp;hl=en</a></p>\n"
+    ++ codes "<p><a href=\"http://www.google.com/search?q=commonmark\">www.google.com/search?q=commonmark</a>&amp;hl;</p>"
 unfolding pages
 row_7 = refl
 
@@ -46,7 +53,8 @@ unfolding pages
 row_8 = refl
 
 row_9 : page_with with_literals (codes "http://commonmark.org\n\n(Visit https://encrypted.google.com/search?q=Markup+(business))")
-    ≡ codes "<p><a href=\"http://commonmark.org\">http://commonmark.org</a></p>\n<p>(Visit <a href=\"https://encrypted.google.com/search?q=Markup+(business)\">https://encrypted.google.com/search?q=Markup+(business)</a>)</p>"
+    ≡ codes "<p><a href=\"http://commonmark.org\">http://commonmark.org</a></p>\n"
+    ++ codes "<p>(Visit <a href=\"https://encrypted.google.com/search?q=Markup+(business)\">https://encrypted.google.com/search?q=Markup+(business)</a>)</p>"
 unfolding pages
 row_9 = refl
 

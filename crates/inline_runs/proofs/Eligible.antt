@@ -38,7 +38,8 @@ eligible_is o c =
     let r = run_view o.placed.run in
     let same = (r.marker == c.run.marker) && are_fitting r.marker r.left c.run.left in
     ap (λ b. same && ((r.may_open && nat_le 1 r.left) && ((c.run.may_close && nat_le 1 c.run.left) && not b))) (ruled_out r c.run)
-    ∙ ap (λ b. b && ((r.may_open && nat_le 1 r.left) && ((c.run.may_close && nat_le 1 c.run.left) && not (is_ruled_out r (want_of c.run))))) (fitting_is r c.run)
+    ∙ ap (λ b. b && ((r.may_open && nat_le 1 r.left) && ((c.run.may_close && nat_le 1 c.run.left) && not (is_ruled_out r (want_of c.run)))))
+    (fitting_is r c.run)
     ∙ in_other_order ((r.marker == c.run.marker) && are_fitting r.marker r.left (tilde_count c.run)) (r.may_open && nat_le 1 r.left) (can_close c.run)
     (not (is_ruled_out r (want_of c.run)))
 
@@ -58,7 +59,8 @@ pub nearest_fits : (openers : List Opener) (c : PlacedOf) (n : ℕ) → n ≤ le
 nearest_fits openers c n le none found can =
     let same = length-map openers opener_view in
     up_to_nearest_is (map opener_view openers) c n (omega arith)
-    (λ k h lt. eligible_at openers c k (omega arith) ∙ and_right (can_close c.run) (fits (run_view (get_or openers k (any_opener c)).placed.run) (want_of c.run))
+    (λ k h lt. eligible_at openers c k (omega arith)
+    ∙ and_right (can_close c.run) (fits (run_view (get_or openers k (any_opener c)).placed.run) (want_of c.run))
     (none k h (omega arith) (any_opener c)))
     (λ some. eligible_at openers c (n - 1) (omega arith) ∙ and_from (can_close c.run)
     (fits (run_view (get_or openers (n - 1) (any_opener c)).placed.run) (want_of c.run)) can (found some (any_opener c)))

@@ -52,6 +52,9 @@ pub addresses_more : (bytes : List ℕ) (events : List Event) (i : ℕ) → addr
 unfolding address_edits
 addresses_more bytes events i = ap (address_edits bytes events) (add-one i)
 
+-- both counts, at the start and one event further
+pub ruleset address_steps = (addresses_more, addresses_start, links_more, links_start)
+
 pub runs_start : (events : List Event) (entries : List ℕ) (runs : List Run) (edits : List EditAt) → run_edits events entries runs 0 edits ≡ edits
 unfolding run_edits
 runs_start events entries runs edits = refl

@@ -173,7 +173,7 @@ fn add_addresses<A: Allocator + Clone>(
 }
 
 /// The edits that put email addresses in place of data outside of links and calls.
-#[tactic(auto, using(crate::proofs::Steps::addresses_more, crate::proofs::Steps::addresses_start, crate::proofs::Steps::links_more, crate::proofs::Steps::links_start))]
+#[tactic(auto, using(crate::proofs::Steps::address_steps))]
 pub fn address_edits<A: Allocator + Clone>(
     alloc: &A,
     bytes: &[u8],

@@ -47,7 +47,8 @@ returns-in-Ok-clause-options c =
 
 pub returns-in-Ok-clause-references : goal.returns-in-Ok-clause-references
 returns-in-Ok-clause-references c =
-    IfOk-weaker c.settings_of.result _ _ (λ s is. is ∙ value_is _ _ _ (codes "references") c.in_ok-command.ensures c.in-Ok.ensures.matches) c.settings_of.ensures.references
+    IfOk-weaker c.settings_of.result _ _ (λ s is. is ∙ value_is _ _ _ (codes "references") c.in_ok-command.ensures c.in-Ok.ensures.matches)
+    c.settings_of.ensures.references
 
 pub returns-in-Ok-clause-faultless : goal.returns-in-Ok-clause-faultless
 returns-in-Ok-clause-faultless c =
