@@ -8,8 +8,7 @@ ghost use Rattle.std.specs.List.{list_any};
 ghost use Rattle.definition_text.specs.Content.{may_escape as escapes_next};
 ghost use Rattle.definition_text.specs.declared.beside.Kind.TheVariants.{Whitespace};
 ghost use Rattle.definition_text.specs.Columns.{is_blank as are_white, trim};
-ghost use Rattle.definition_block.specs.GfmTable.{cells, parts, is_bar as divides, without_blank_first, alignment as aligned, after_dashes as aligned_after};
-ghost use Rattle.definition_block.specs.GfmTable.{delimiter as delimiter_of, delimiters, is_bar_or_colon as tells_delimiters};
+ghost use Rattle.definition_block.specs.GfmTable as spec;
 ghost use Rattle.block_rows.specs.Rows.{piece_line};
 ghost use Rattle.block_cells.specs.GfmTable.{bar_at, cell_view, parts_if};
 
@@ -40,7 +39,7 @@ impl<'a> Cells<'a> {
 
     /// The cells of a line (GFM 4.10).
     pub fn new(line: Piece<'a>) -> Cells<'a>
-        ensures { cells_left result ≡ cells line.entry.before (piece_line line.entry).codes }
+        ensures { cells_left result ≡ spec.cells line.entry.before (piece_line line.entry).codes }
     {
         let (first, after) = split_part(line);
         if is_blank_part(first) {
@@ -76,7 +75,7 @@ impl<'a> Iterator for Cells<'a> {
 
 /// The first part of a line, and what follows its bar.
 fn split_part(line: Piece<'_>) -> (Cell<'_>, Option<Piece<'_>>)
-    ensures { parts line.entry.before false (piece_line line.entry).codes ≡ cell_view result.0 ∷ parts_if result.1 }
+    ensures { spec.parts line.entry.before false (piece_line line.entry).codes ≡ cell_view result.0 ∷ parts_if result.1 }
 {
     let (text, after) = line.text.split_at(bar_place(line.text.as_bytes()));
     match after.strip_prefix('|') {
@@ -126,7 +125,7 @@ fn bar_place(bytes: &[u8]) -> usize
 }
 
 fn is_bar(escaped: bool, byte: u8) -> bool
-    ensures { result ≡ divides escaped byte }
+    ensures { result ≡ spec.is_bar escaped byte }
 {
     byte == b'|' && !escaped
 }
@@ -145,7 +144,7 @@ fn is_blank_part(part: Cell<'_>) -> bool
 
 /// Whether a line has so many cells.
 pub fn has_cells(line: Piece<'_>, count: usize) -> bool
-    ensures { result ≡ (length (cells line.entry.before (piece_line line.entry).codes) == count) }
+    ensures { result ≡ (length (spec.cells line.entry.before (piece_line line.entry).codes) == count) }
 {
     let mut missing = count;
     let mut cells = Cells::new(line);
@@ -164,7 +163,7 @@ pub fn read_delimiters<A: Allocator>(
     aligns: &mut Vec<AlignKind, A>,
     line: Piece<'_>,
 ) -> Result<(), AllocError>
-    ensures { OnOk result (aligns.new.items ≡ unwrap_or (delimiters (piece_line line.entry).codes) []) }
+    ensures { OnOk result (aligns.new.items ≡ unwrap_or (spec.delimiters (piece_line line.entry).codes) []) }
 {
     aligns.clear();
     if !has_bar_or_colon(line) {
@@ -195,26 +194,26 @@ fn after_white(line: Piece<'_>) -> Piece<'_>
 }
 
 fn has_bar_or_colon(line: Piece<'_>) -> bool
-    ensures { result ≡ list_any tells_delimiters (piece_line line.entry).codes }
+    ensures { result ≡ list_any spec.is_bar_or_colon (piece_line line.entry).codes }
 {
     holds_bar_or_colon(line.text.as_bytes())
 }
 
 fn holds_bar_or_colon(bytes: &[u8]) -> bool
-    ensures { result ≡ list_any tells_delimiters bytes.now }
+    ensures { result ≡ list_any spec.is_bar_or_colon bytes.now }
 {
     bytes.iter().any(|b| is_bar_or_colon(*b))
 }
 
 fn is_bar_or_colon(byte: u8) -> bool
-    ensures { result ≡ tells_delimiters byte }
+    ensures { result ≡ spec.is_bar_or_colon byte }
 {
     byte == b'|' || byte == b':'
 }
 
 /// How a column is aligned, where this is a delimiter.
 fn delimiter(text: &str) -> Option<AlignKind>
-    ensures { result ≡ delimiter_of text.now }
+    ensures { result ≡ spec.delimiter text.now }
 {
     match text.strip_prefix(':') {
         Some(dashes) => after_dashes(true, dashes),
@@ -224,7 +223,7 @@ fn delimiter(text: &str) -> Option<AlignKind>
 
 /// How a column is aligned by dashes and a colon or none, after a colon or none.
 fn after_dashes(left: bool, text: &str) -> Option<AlignKind>
-    ensures { result ≡ aligned_after left text.now }
+    ensures { result ≡ spec.after_dashes left text.now }
 {
     let (dashes, rest) = split_run(b'-', text);
     if dashes == 0 {
@@ -238,7 +237,7 @@ fn after_dashes(left: bool, text: &str) -> Option<AlignKind>
 }
 
 fn alignment(left: bool, right: bool) -> AlignKind
-    ensures { result ≡ aligned left right }
+    ensures { result ≡ spec.alignment left right }
 {
     match (left, right) {
         (true, true) => AlignKind::Center,

@@ -5,8 +5,7 @@
 ghost use Rattle.std.specs.Prelude.{◌≡◌, take};
 ghost use Rattle.std.specs.List.{position_or_len};
 ghost use Rattle.definition_text.specs.Columns.{is_white};
-ghost use Rattle.definition_block.specs.CodeFenced.{fence_start as fence_at, fence_of as fence_in, fence_by as fence_made_of};
-ghost use Rattle.definition_block.specs.CodeFenced.{is_fence_end as is_end_of_fence, fence_line as line_of_fence, first_word as first_word_of};
+ghost use Rattle.definition_block.specs.CodeFenced as spec;
 ghost use Rattle.block_starts.specs.View.{rest_of};
 ghost use Rattle.block_starts.specs.CodeFenced.{fence_view, fence_if};
 
@@ -32,7 +31,7 @@ pub struct Fence<'a> {
 
 /// The fence that opens here.
 pub fn fence_start<'a>(on: &Constructs, rest: Cursor<'a>) -> Option<Fence<'a>>
-    ensures { fence_if result ≡ fence_at on.now (rest_of rest.entry) }
+    ensures { fence_if result ≡ spec.fence_start on.now (rest_of rest.entry) }
 {
     if on.code_fenced && is_small(on, rest.indent()) {
         fence_of(rest.indent(), rest.bare_text())
@@ -42,7 +41,7 @@ pub fn fence_start<'a>(on: &Constructs, rest: Cursor<'a>) -> Option<Fence<'a>>
 }
 
 fn fence_of(columns: usize, text: &str) -> Option<Fence<'_>>
-    ensures { fence_if result ≡ fence_in columns text.now }
+    ensures { fence_if result ≡ spec.fence_of columns text.now }
 {
     let (backticks, after) = split_run(b'`', text);
     if backticks >= CODE_FENCED_SEQUENCE_SIZE_MIN && lacks(b'`', after.as_bytes()) {
@@ -56,7 +55,7 @@ fn fence_of(columns: usize, text: &str) -> Option<Fence<'_>>
 }
 
 fn fence_by(byte: u8, run: usize, columns: usize, after: &str) -> Fence<'_>
-    ensures { fence_view result ≡ fence_made_of byte run columns after.now }
+    ensures { fence_view result ≡ spec.fence_by byte run columns after.now }
 {
     Fence {
         byte,
@@ -68,7 +67,7 @@ fn fence_by(byte: u8, run: usize, columns: usize, after: &str) -> Fence<'_>
 
 /// The first word of a text.
 fn first_word(text: &str) -> &str
-    ensures { result.now ≡ first_word_of text.now }
+    ensures { result.now ≡ spec.first_word text.now }
 {
     word(trim(text))
 }
@@ -94,14 +93,14 @@ fn word_len(bytes: &[u8]) -> usize
 
 /// Whether the line closes the fence.
 pub fn is_fence_end(on: &Constructs, fence: &Fence<'_>, rest: Cursor<'_>) -> bool
-    ensures { result ≡ is_end_of_fence on.now (fence_view fence.now) (rest_of rest.entry) }
+    ensures { result ≡ spec.is_fence_end on.now (fence_view fence.now) (rest_of rest.entry) }
 {
     is_small(on, rest.indent()) && is_run(fence.run, fence.byte, rest.bare_text().as_bytes())
 }
 
 /// A line of the content, which loses up to the fence's indent.
 pub fn fence_line<'a>(fence: &Fence<'_>, rest: Cursor<'a>) -> Cursor<'a>
-    ensures { rest_of result ≡ line_of_fence (fence_view fence.now) (rest_of rest.entry) }
+    ensures { rest_of result ≡ spec.fence_line (fence_view fence.now) (rest_of rest.entry) }
 {
     rest.outdent(fence.indent)
 }

@@ -3,7 +3,7 @@
 //!     start ::= quote_prefix | item_start | footnote_start
 ghost use Rattle.std.specs.Prelude.{◌≡◌, true, false};
 ghost use Rattle.definition_text.specs.Columns.{bare};
-ghost use Rattle.definition_block.specs.Containers.{continues as goes_on, starts as starts_here};
+ghost use Rattle.definition_block.specs.Containers as spec;
 ghost use Rattle.block_starts.specs.Marks.{may_start};
 ghost use Rattle.block_starts.specs.View.{rest_of, line_if, container_view, started_if};
 
@@ -23,7 +23,7 @@ pub fn continues<'a>(
     began_blank: bool,
     rest: Cursor<'a>,
 ) -> Option<ContainerLine<'a>>
-    ensures { line_if result ≡ goes_on on.now (container_view container.entry) began_blank (rest_of rest.entry) }
+    ensures { line_if result ≡ spec.continues on.now (container_view container.entry) began_blank (rest_of rest.entry) }
 {
     match container {
         Container::Quote => quote_prefix(on, rest),
@@ -39,7 +39,7 @@ pub fn starts<'a>(
     interrupts: bool,
     rest: Cursor<'a>,
 ) -> Option<(Container<'a>, ContainerLine<'a>)>
-    ensures { started_if result ≡ starts_here on.now interrupts (rest_of rest.entry) }
+    ensures { started_if result ≡ spec.starts on.now interrupts (rest_of rest.entry) }
 {
     if rest.may_start() {
         quote_or_item(on, interrupts, rest)
@@ -57,7 +57,7 @@ fn quote_or_item<'a>(
     rest: Cursor<'a>,
 ) -> Option<(Container<'a>, ContainerLine<'a>)>
     requires { may_start (bare (rest_of rest)) ≡ true }
-    ensures { started_if result ≡ starts_here on.now interrupts (rest_of rest.entry) }
+    ensures { started_if result ≡ spec.starts on.now interrupts (rest_of rest.entry) }
 {
     match quote_prefix(on, rest) {
         Some(line) => Some((Container::Quote, line)),

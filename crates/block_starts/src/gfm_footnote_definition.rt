@@ -5,8 +5,7 @@
 //!     continues ::= column_of_space{4}, or a blank rest
 ghost use Rattle.std.specs.Prelude.{◌≡◌, true};
 ghost use Rattle.definition_block.specs.BlockQuote.{after_byte as rest_after};
-ghost use Rattle.definition_block.specs.GfmFootnoteDefinition.{footnote_mark as footnote_mark_of, footnote_start as footnote_starts};
-ghost use Rattle.definition_block.specs.GfmFootnoteDefinition.{footnote_continues as footnote_goes_on};
+ghost use Rattle.definition_block.specs.GfmFootnoteDefinition as spec;
 ghost use Rattle.block_starts.specs.Labels.{is_short};
 ghost use Rattle.block_starts.specs.Marks.{is_mark};
 ghost use Rattle.block_starts.specs.GfmFootnoteDefinition.{mark_if};
@@ -32,7 +31,7 @@ pub(crate) fn footnote_start<'a>(
     on: &Constructs,
     rest: Cursor<'a>,
 ) -> Option<(Container<'a>, ContainerLine<'a>)>
-    ensures { started_if result ≡ footnote_starts on.now (rest_of rest.entry) }
+    ensures { started_if result ≡ spec.footnote_start on.now (rest_of rest.entry) }
 {
     if !on.gfm_footnote_definition {
         return None;
@@ -52,7 +51,7 @@ pub(crate) fn footnote_start<'a>(
 
 /// The marker that a rest begins with.
 fn footnote_mark(rest: Cursor<'_>) -> Option<Mark<'_>>
-    ensures { mark_if result ≡ footnote_mark_of (rest_of rest.entry) }
+    ensures { mark_if result ≡ spec.footnote_mark (rest_of rest.entry) }
 {
     let bracket = after_byte(b'[', rest)?;
     let open = after_byte(b'^', bracket)?;
@@ -84,7 +83,7 @@ fn after_byte(byte: u8, rest: Cursor<'_>) -> Option<Cursor<'_>>
 
 /// What is left after four columns, where it goes on.
 pub(crate) fn footnote_continues(rest: Cursor<'_>) -> Option<ContainerLine<'_>>
-    ensures { line_if result ≡ footnote_goes_on (rest_of rest.entry) }
+    ensures { line_if result ≡ spec.footnote_continues (rest_of rest.entry) }
 {
     item_continues(TAB_SIZE, false, rest)
 }

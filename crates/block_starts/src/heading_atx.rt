@@ -2,8 +2,7 @@
 //!
 //!     heading ::= small_indent '#'{1,6} (white+ content)? (white+ '#'+)? white*
 ghost use Rattle.std.specs.Prelude.{◌≡◌};
-ghost use Rattle.definition_block.specs.HeadingAtx.{heading_atx as heading_at, atx_of as atx_in, begins_apart as begins_apart_at};
-ghost use Rattle.definition_block.specs.HeadingAtx.{ends_apart as ends_apart_at, without_run as without_run_at, without_closing as without_closing_at};
+ghost use Rattle.definition_block.specs.HeadingAtx as spec;
 ghost use Rattle.block_starts.specs.View.{rest_of};
 ghost use Rattle.block_starts.specs.HeadingAtx.{atx_if};
 
@@ -25,7 +24,7 @@ pub struct Atx<'a> {
 
 /// The heading that the line is.
 pub fn heading_atx<'a>(on: &Constructs, rest: Cursor<'a>) -> Option<Atx<'a>>
-    ensures { atx_if result ≡ heading_at on.now (rest_of rest.entry) }
+    ensures { atx_if result ≡ spec.heading_atx on.now (rest_of rest.entry) }
 {
     if on.heading_atx && is_small(on, rest.indent()) {
         atx_of(rest.bare_text())
@@ -35,7 +34,7 @@ pub fn heading_atx<'a>(on: &Constructs, rest: Cursor<'a>) -> Option<Atx<'a>>
 }
 
 fn atx_of(text: &str) -> Option<Atx<'_>>
-    ensures { atx_if result ≡ atx_in text.now }
+    ensures { atx_if result ≡ spec.atx_of text.now }
 {
     let (rank, after) = split_run(b'#', text);
     if rank == 0 || rank > HEADING_ATX_OPENING_FENCE_SIZE_MAX || !begins_apart(after.as_bytes()) {
@@ -49,7 +48,7 @@ fn atx_of(text: &str) -> Option<Atx<'_>>
 
 /// Whether a text begins with white space, or is empty.
 fn begins_apart(bytes: &[u8]) -> bool
-    ensures { result ≡ begins_apart_at bytes.now }
+    ensures { result ≡ spec.begins_apart bytes.now }
 {
     match bytes {
         [] => true,
@@ -59,7 +58,7 @@ fn begins_apart(bytes: &[u8]) -> bool
 
 /// Whether a text ends with white space, or is empty.
 fn ends_apart(bytes: &[u8]) -> bool
-    ensures { result ≡ ends_apart_at bytes.now }
+    ensures { result ≡ spec.ends_apart bytes.now }
 {
     match bytes {
         [] => true,
@@ -69,7 +68,7 @@ fn ends_apart(bytes: &[u8]) -> bool
 
 /// A text without the run of `#` at its end, if that closes a heading.
 fn without_closing(text: &str) -> &str
-    ensures { result.now ≡ without_closing_at text.now }
+    ensures { result.now ≡ spec.without_closing text.now }
 {
     let open = without_run(text);
     if ends_apart(open.as_bytes()) {
@@ -80,7 +79,7 @@ fn without_closing(text: &str) -> &str
 }
 
 fn without_run(text: &str) -> &str
-    ensures { result.now ≡ without_run_at text.now }
+    ensures { result.now ≡ spec.without_run text.now }
 {
     let bytes = text.as_bytes();
     let mut end = bytes.len();

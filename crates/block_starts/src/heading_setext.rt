@@ -2,7 +2,7 @@
 //!
 //!     underline ::= small_indent ('='+ | '-'+) white*
 ghost use Rattle.std.specs.Prelude.{◌≡◌};
-ghost use Rattle.definition_block.specs.HeadingSetext.{underline as underline_at, underline_of as underline_text};
+ghost use Rattle.definition_block.specs.HeadingSetext as spec;
 ghost use Rattle.block_starts.specs.View.{rest_of};
 
 use crate::cursor::Cursor;
@@ -12,7 +12,7 @@ use text_bytes::is_run;
 
 /// The rank of a heading that this line would underline.
 pub fn underline(on: &Constructs, rest: Cursor<'_>) -> Option<u8>
-    ensures { result ≡ underline_at on.now (rest_of rest.entry) }
+    ensures { result ≡ spec.underline on.now (rest_of rest.entry) }
 {
     if on.heading_setext && is_small(on, rest.indent()) {
         underline_of(rest.bare_text().as_bytes())
@@ -22,7 +22,7 @@ pub fn underline(on: &Constructs, rest: Cursor<'_>) -> Option<u8>
 }
 
 fn underline_of(bytes: &[u8]) -> Option<u8>
-    ensures { result ≡ underline_text bytes.now }
+    ensures { result ≡ spec.underline_of bytes.now }
 {
     if is_run(1, b'=', bytes) {
         Some(1)

@@ -6,10 +6,7 @@
 //!     continues ::= column_of_space{size}, or a blank rest
 ghost use Rattle.std.specs.Prelude.{◌≡◌, ◌≤◌, ◌<◌, ◌^◌, ◌==◌, ◌||◌, length};
 ghost use Rattle.std.specs.List.{AllPass};
-ghost use Rattle.definition_block.specs.ListItem.{is_digit, number_of as number_of_digits, bullet as bullet_of, delimiter as delimiter_of, marker as marker_at};
-ghost use Rattle.definition_block.specs.ListItem.{gap as gap_of, is_first as is_first_number};
-ghost use Rattle.definition_block.specs.ListItem.{is_item as is_item_after, item as item_of, item_start as item_starts};
-ghost use Rattle.definition_block.specs.ListItem.{is_inside as is_inside_item, item_continues as item_goes_on};
+ghost use Rattle.definition_block.specs.ListItem as spec;
 ghost use Rattle.block_starts.specs.View.{rest_of, line_if, container_view, started_if};
 ghost use Rattle.block_starts.specs.ListItem.{marker_view, marker_if};
 ghost use Rattle.definition_block.specs.ContainerStart.{container_start};
@@ -39,7 +36,7 @@ pub fn item_start<'a>(
     interrupts: bool,
     rest: Cursor<'a>,
 ) -> Option<(Container<'a>, ContainerLine<'a>)>
-    ensures { started_if result ≡ item_starts on.now interrupts (rest_of rest.entry) }
+    ensures { started_if result ≡ spec.item_start on.now interrupts (rest_of rest.entry) }
 {
     let (columns, bare) = rest.split_bare();
     if !on.list_item || !is_small(on, columns) || is_break(on, rest) {
@@ -55,7 +52,7 @@ pub fn item_start<'a>(
 
 /// The marker that a rest begins with.
 fn read_marker(rest: Cursor<'_>) -> Option<Marker<'_>>
-    ensures { marker_if result ≡ marker_at (rest_of rest.entry) }
+    ensures { marker_if result ≡ spec.marker (rest_of rest.entry) }
 {
     let (digits, after) = rest.split_digits();
     if digits.is_empty() {
@@ -69,7 +66,7 @@ fn read_marker(rest: Cursor<'_>) -> Option<Marker<'_>>
 
 /// The marker of a bullet.
 fn bullet(rest: Cursor<'_>) -> Option<Marker<'_>>
-    ensures { marker_if result ≡ bullet_of (rest_of rest.entry) }
+    ensures { marker_if result ≡ spec.bullet (rest_of rest.entry) }
 {
     let Some((byte, after)) = rest.split_first() else {
         return None;
@@ -94,7 +91,7 @@ fn is_bullet(byte: u8) -> bool
 /// The byte after the digits of an ordered marker.
 fn delimiter(number: u32, digits: usize, rest: Cursor<'_>) -> Option<Marker<'_>>
     requires { digits ≤ 9 }
-    ensures { marker_if result ≡ delimiter_of number digits (rest_of rest.entry) }
+    ensures { marker_if result ≡ spec.delimiter number digits (rest_of rest.entry) }
 {
     let Some((byte, after)) = rest.split_first() else {
         return None;
@@ -119,8 +116,8 @@ fn is_delimiter(byte: u8) -> bool
 /// The number that digits stand for.
 fn number_of(digits: &[u8]) -> u32
     requires few { length digits.now ≤ 9 }
-    requires digits { AllPass is_digit digits.now }
-    ensures { result ≡ number_of_digits digits.now }
+    requires digits { AllPass spec.is_digit digits.now }
+    ensures { result ≡ spec.number_of digits.now }
 {
     let mut number: u32 = 0;
     for digit in digits {
@@ -131,7 +128,7 @@ fn number_of(digits: &[u8]) -> u32
 
 /// Whether a marker is an item's.
 fn is_item(interrupts: bool, marker: Marker<'_>) -> bool
-    ensures { result ≡ is_item_after interrupts (marker_view marker.entry) }
+    ensures { result ≡ spec.is_item interrupts (marker_view marker.entry) }
 {
     if marker.rest.is_blank() {
         !interrupts
@@ -142,7 +139,7 @@ fn is_item(interrupts: bool, marker: Marker<'_>) -> bool
 
 /// No number, or the number 1.
 fn is_first(number: Option<u32>) -> bool
-    ensures { result ≡ is_first_number number }
+    ensures { result ≡ spec.is_first number }
 {
     match number {
         None => true,
@@ -154,7 +151,7 @@ fn is_first(number: Option<u32>) -> bool
 fn make_item<'a>(columns: usize, marker: Marker<'a>) -> (Container<'a>, ContainerLine<'a>)
     requires columns { columns < 2 ^ 63 }
     requires size { marker.size ≤ 10 }
-    ensures { container_start (container_view result.0) (rest_of result.1.rest) result.1.before ≡ item_of columns (marker_view marker.entry) }
+    ensures { container_start (container_view result.0) (rest_of result.1.rest) result.1.before ≡ spec.item columns (marker_view marker.entry) }
 {
     let gap = gap(marker.rest);
     let item = Item {
@@ -171,7 +168,7 @@ fn make_item<'a>(columns: usize, marker: Marker<'a>) -> (Container<'a>, Containe
 
 /// The columns between a marker and the content.
 fn gap(after: Cursor<'_>) -> usize
-    ensures same { result ≡ gap_of (rest_of after.entry) }
+    ensures same { result ≡ spec.gap (rest_of after.entry) }
     ensures few { result ≤ 4 }
 {
     let columns = after.indent();
@@ -189,7 +186,7 @@ pub fn item_continues<'a>(
     began_blank: bool,
     rest: Cursor<'a>,
 ) -> Option<ContainerLine<'a>>
-    ensures { line_if result ≡ item_goes_on size began_blank (rest_of rest.entry) }
+    ensures { line_if result ≡ spec.item_continues size began_blank (rest_of rest.entry) }
 {
     if is_inside(size, began_blank, rest) {
         Some(ContainerLine {
@@ -203,7 +200,7 @@ pub fn item_continues<'a>(
 
 /// Whether a rest is an item's.
 fn is_inside(size: usize, began_blank: bool, rest: Cursor<'_>) -> bool
-    ensures { result ≡ is_inside_item size began_blank (rest_of rest.entry) }
+    ensures { result ≡ spec.is_inside size began_blank (rest_of rest.entry) }
 {
     if rest.is_blank() {
         !began_blank

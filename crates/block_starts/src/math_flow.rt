@@ -2,7 +2,7 @@
 //!
 //!     start ::= small_indent '$'{2,} no_dollar*
 ghost use Rattle.std.specs.Prelude.{◌≡◌};
-ghost use Rattle.definition_block.specs.MathFlow.{math_start as math_at, math_fence_of as math_fence_in};
+ghost use Rattle.definition_block.specs.MathFlow as spec;
 ghost use Rattle.block_starts.specs.View.{rest_of};
 ghost use Rattle.block_starts.specs.CodeFenced.{fence_if};
 
@@ -18,7 +18,7 @@ const MATH_INFO: &str = "math math-display";
 
 /// The fence of math that opens here.
 pub fn math_start<'a>(on: &Constructs, rest: Cursor<'a>) -> Option<Fence<'a>>
-    ensures { fence_if result ≡ math_at on.now (rest_of rest.entry) }
+    ensures { fence_if result ≡ spec.math_start on.now (rest_of rest.entry) }
 {
     if on.math_flow && is_small(on, rest.indent()) {
         math_fence_of(rest.indent(), rest.bare_text())
@@ -28,7 +28,7 @@ pub fn math_start<'a>(on: &Constructs, rest: Cursor<'a>) -> Option<Fence<'a>>
 }
 
 fn math_fence_of(columns: usize, text: &str) -> Option<Fence<'_>>
-    ensures { fence_if result ≡ math_fence_in columns text.now }
+    ensures { fence_if result ≡ spec.math_fence_of columns text.now }
 {
     let (dollars, after) = split_run(b'$', text);
     if dollars >= MATH_FLOW_SEQUENCE_SIZE_MIN && lacks(b'$', after.as_bytes()) {

@@ -5,8 +5,7 @@
 ghost use Rattle.std.specs.Prelude.{◌≡◌, ◌==◌, ◌&&◌, ◌||◌};
 ghost use Rattle.std.specs.List.{list_all, count_by};
 ghost use Rattle.definition_text.specs.Columns.{is_white};
-ghost use Rattle.definition_block.specs.ThematicBreak.{is_break as is_break_line, is_break_text as is_break_of};
-ghost use Rattle.definition_block.specs.ThematicBreak.{is_break_by as is_break_made_of, is_break_marker as is_marker};
+ghost use Rattle.definition_block.specs.ThematicBreak as spec;
 ghost use Rattle.block_starts.specs.View.{rest_of};
 ghost use Rattle.block_starts.specs.ThematicBreak.{BreaksWithin};
 
@@ -18,7 +17,7 @@ use text_bytes::is_space_or_tab;
 
 /// Whether the line is a break.
 pub fn is_break(on: &Constructs, rest: Cursor<'_>) -> bool
-    ensures { result ≡ is_break_line on.now (rest_of rest.entry) }
+    ensures { result ≡ spec.is_break on.now (rest_of rest.entry) }
 {
     on.thematic_break
         && is_small(on, rest.indent())
@@ -28,7 +27,7 @@ pub fn is_break(on: &Constructs, rest: Cursor<'_>) -> bool
 
 /// Whether a text is a break: the first byte says of which marker.
 fn is_break_text(bytes: &[u8]) -> bool
-    ensures { result ≡ is_break_of bytes.now }
+    ensures { result ≡ spec.is_break_text bytes.now }
 {
     match bytes {
         [] => false,
@@ -37,14 +36,14 @@ fn is_break_text(bytes: &[u8]) -> bool
 }
 
 fn is_break_marker(byte: u8) -> bool
-    ensures { result ≡ is_marker byte }
+    ensures { result ≡ spec.is_break_marker byte }
 {
     byte == b'*' || byte == b'-' || byte == b'_'
 }
 
 /// Whether a text holds this byte, at least three times, and otherwise only spaces and tabs.
 fn is_break_by(marker: u8, bytes: &[u8]) -> bool
-    ensures { result ≡ is_break_made_of marker bytes.now }
+    ensures { result ≡ spec.is_break_by marker bytes.now }
 {
     has_only(marker, bytes) && count_of(marker, bytes) >= THEMATIC_BREAK_MARKER_COUNT_MIN
 }
@@ -80,7 +79,7 @@ pub(crate) fn break_tail(bytes: &[u8]) -> usize
 
 /// Whether a byte is the marker, or any marker where that is a space still.
 fn goes_with(marker: u8, byte: u8) -> bool
-    ensures { result ≡ (is_marker byte && ((marker == 32) || (marker == byte))) }
+    ensures { result ≡ (spec.is_break_marker byte && ((marker == 32) || (marker == byte))) }
 {
     is_break_marker(byte) && (marker == b' ' || marker == byte)
 }
