@@ -4,8 +4,7 @@
 //!     fence       ::= ('-'{3} | '+'{3}) white*
 ghost use Rattle.std.specs.Prelude.{◌≡◌, ◌≤◌, IfSome, length};
 ghost use Rattle.definition_text.specs.Lines.{lines};
-ghost use Rattle.definition_block.specs.Frontmatter.{is_metadata_fence as is_fence, after_metadata_fence as after_fence};
-ghost use Rattle.definition_block.specs.Frontmatter.{after_frontmatter as after_metadata};
+ghost use Rattle.definition_block.specs.Frontmatter as spec;
 ghost use Rattle.definition_block.specs.Tree.{blocks, children};
 ghost use Rattle.block_parser.specs.Frontmatter.{lines_if};
 
@@ -33,7 +32,7 @@ pub(crate) fn without_frontmatter<'a>(
 
 /// The text after a frontmatter, if it has one.
 fn after_frontmatter<'a>(on: &Constructs, text: &'a str) -> Option<&'a str>
-    ensures lines { lines_if result ≡ after_metadata on.now (lines text.now) }
+    ensures lines { lines_if result ≡ spec.after_frontmatter on.now (lines text.now) }
     ensures shorter { IfSome result (λ rest. length rest.now ≤ length text.now) }
 {
     if !on.frontmatter || text.is_empty() {
@@ -51,7 +50,7 @@ fn after_frontmatter<'a>(on: &Constructs, text: &'a str) -> Option<&'a str>
 
 /// The text after the next fence of a byte, if there is one.
 fn after_metadata_fence(byte: u8, text: &str) -> Option<&str>
-    ensures lines { lines_if result ≡ after_fence byte (lines text.now) }
+    ensures lines { lines_if result ≡ spec.after_metadata_fence byte (lines text.now) }
     ensures shorter { IfSome result (λ rest. length rest.now ≤ length text.now) }
 {
     let mut rest = text;
@@ -67,7 +66,7 @@ fn after_metadata_fence(byte: u8, text: &str) -> Option<&str>
 
 /// Whether a line is a fence of a byte: exactly three of it, and then only spaces and tabs.
 fn is_metadata_fence(byte: u8, line: &[u8]) -> bool
-    ensures { result ≡ is_fence byte line.now }
+    ensures { result ≡ spec.is_metadata_fence byte line.now }
 {
     let count = run(byte, line);
     count == FRONTMATTER_SEQUENCE_SIZE && is_blank(&line[count..])

@@ -4,7 +4,7 @@
 //!               delimiters is in all containers of that and has as many cells
 //!     row   ::= a line that is in all containers, which is not blank, and which no other block begins
 ghost use Rattle.std.specs.Prelude.{◌≡◌, [], OnOk, unwrap_or};
-ghost use Rattle.definition_block.specs.GfmTable.{delimiter_row, is_head as heads};
+ghost use Rattle.definition_block.specs.GfmTable as spec;
 ghost use Rattle.definition_text.specs.Columns.{bytes_of};
 ghost use Rattle.block_rows.specs.Rows.{piece_line, piece_lines};
 ghost use Rattle.block_starts.specs.View.{rest_of};
@@ -155,7 +155,7 @@ fn read_row<A: Allocator>(
     on: &Constructs,
     rest: Cursor<'_>,
 ) -> Result<(), AllocError>
-    ensures { OnOk result (aligns.new.items ≡ unwrap_or (delimiter_row on.now (rest_of rest.entry)) []) }
+    ensures { OnOk result (aligns.new.items ≡ unwrap_or (spec.delimiter_row on.now (rest_of rest.entry)) []) }
 {
     let (columns, bare) = rest.split_bare();
     if on.gfm_table && is_small(on, columns) {
@@ -179,7 +179,7 @@ fn line_of(rest: Cursor<'_>) -> Piece<'_>
 
 /// Whether the last of these lines has so many cells.
 fn is_head(lines: &[Piece<'_>], columns: usize) -> bool
-    ensures { result ≡ heads columns (piece_lines lines.now) }
+    ensures { result ≡ spec.is_head columns (piece_lines lines.now) }
 {
     match lines.last() {
         Some(line) => has_cells(*line, columns),

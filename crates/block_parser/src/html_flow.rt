@@ -4,7 +4,7 @@
 //!     end   ::= a line that holds the end of the kind, or nothing before a blank line
 ghost use Rattle.std.specs.Prelude.{◌≡◌, ◌&&◌};
 ghost use Rattle.definition_text.specs.Columns.{is_blank as is_blank_rest};
-ghost use Rattle.definition_block.specs.HtmlFlow.{html_start as html_starts, html_ends_here as html_ends_on, ends_before_blank as stops_before_blank};
+ghost use Rattle.definition_block.specs.HtmlFlow as spec;
 ghost use Rattle.block_starts.specs.View.{rest_of};
 ghost use Rattle.block_starts.specs.HtmlFlow.{number_of, kind_number};
 
@@ -78,7 +78,7 @@ impl<'a, A: Allocator> Parser<'a, A> {
 
 /// The kind of the HTML block that starts here. The last kind doesn't interrupt a paragraph.
 pub(crate) fn html_start(on: &Constructs, paragraph: bool, rest: Cursor<'_>) -> Option<HtmlKind>
-    ensures { kind_number result ≡ html_starts on.now paragraph (rest_of rest.entry) }
+    ensures { kind_number result ≡ spec.html_start on.now paragraph (rest_of rest.entry) }
 {
     if on.html_flow && is_small(on, rest.indent()) {
         html_kind(rest.bare_text().as_bytes(), paragraph)
@@ -89,20 +89,20 @@ pub(crate) fn html_start(on: &Constructs, paragraph: bool, rest: Cursor<'_>) -> 
 
 /// Whether a block of this kind ends on this line.
 fn html_ends_here(kind: HtmlKind, rest: Cursor<'_>) -> bool
-    ensures { result ≡ html_ends_on (number_of kind) (rest_of rest.entry) }
+    ensures { result ≡ spec.html_ends_here (number_of kind) (rest_of rest.entry) }
 {
     html_ends(kind, rest.bare_text().as_bytes())
 }
 
 /// Whether a block of this kind ends before this line, a blank one.
 fn html_stops(kind: HtmlKind, rest: Cursor<'_>) -> bool
-    ensures { result ≡ (stops_before_blank (number_of kind) && is_blank_rest (rest_of rest.entry)) }
+    ensures { result ≡ (spec.ends_before_blank (number_of kind) && is_blank_rest (rest_of rest.entry)) }
 {
     ends_before_blank(kind) && rest.is_blank()
 }
 
 fn ends_before_blank(kind: HtmlKind) -> bool
-    ensures { result ≡ stops_before_blank (number_of kind) }
+    ensures { result ≡ spec.ends_before_blank (number_of kind) }
 {
     matches!(kind, HtmlKind::Basic | HtmlKind::Complete)
 }
