@@ -9,7 +9,7 @@ use Rattle.definition_block.specs.Definitions.{footnotes}
 use Rattle.block_rows.specs.declared.row.Row.{Row}
 use Rattle.block_rows.specs.declared.row.Row.TheVariants as row
 use Rattle.block_rows.specs.Rows.{RowsValue, row_value, rows_of, rows_value, show_row, value_with}
-use Rattle.block_targets.specs.GfmFootnoteDefinition.{Noted, note_exit, note_row, note_rows, noted, nothing_noted, starts_footnote}
+use Rattle.block_targets.specs.GfmFootnoteDefinition.{Noted, labels_so_far, note_exit, note_row, note_rows, nothing_noted, starts_footnote}
 use Rattle.block_targets.proofs.Notes.{notes_of}
 
 -- no container that is open has a label
@@ -22,7 +22,8 @@ AreUnnamed (Some label ∷ containers) = ⊥
 abbrev IsUnnamed : Noted → Type 0
 IsUnnamed n = (n.ended ≡ []) × AreUnnamed n.containers
 
-exit_unnamed : (ended : List (List ℕ)) (containers : List (Option (List ℕ))) → IsUnnamed (noted ended containers) → IsUnnamed (note_exit ended containers)
+exit_unnamed : (ended : List (List ℕ)) (containers : List (Option (List ℕ))) → IsUnnamed (labels_so_far ended containers)
+    → IsUnnamed (note_exit ended containers)
 exit_unnamed ended [] h = h
 exit_unnamed ended (None ∷ containers) h = (h.0, h.1)
 exit_unnamed ended (Some label ∷ containers) h = absurd h.1

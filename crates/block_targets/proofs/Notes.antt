@@ -12,14 +12,14 @@ use Rattle.definition_block.specs.Blocks.{Block, Paragraph, Heading, Break, Inde
 use Rattle.definition_block.specs.Blocks.{Blocks, Nil, Cons}
 use Rattle.definition_block.specs.Definitions.{block_footnotes, footnotes}
 use Rattle.block_rows.specs.Rows.{Exit, block_rows, rows_of}
-use Rattle.block_targets.specs.GfmFootnoteDefinition.{Noted, noted, note_row}
+use Rattle.block_targets.specs.GfmFootnoteDefinition.{Noted, labels_so_far, note_row}
 
-nothing_more : (ended : List (List ℕ)) (containers : _) → noted ended containers ≡ noted (ended ++ []) containers
-nothing_more ended containers = ap (λ x. noted x containers) (sym (append-nil ended))
+nothing_more : (ended : List (List ℕ)) (containers : _) → labels_so_far ended containers ≡ labels_so_far (ended ++ []) containers
+nothing_more ended containers = ap (λ x. labels_so_far x containers) (sym (append-nil ended))
 
 mutual
-  notes_in : (b : Block) (ended : List (List ℕ)) (containers : _) → fold note_row (noted ended containers) (block_rows b)
-      ≡ noted (ended ++ block_footnotes b) containers
+  notes_in : (b : Block) (ended : List (List ℕ)) (containers : _) → fold note_row (labels_so_far ended containers) (block_rows b)
+      ≡ labels_so_far (ended ++ block_footnotes b) containers
   notes_in (Paragraph ls) ended containers = nothing_more ended containers
   notes_in (Heading rank ls) ended containers = nothing_more ended containers
   notes_in Break ended containers = nothing_more ended containers
@@ -29,29 +29,29 @@ mutual
   notes_in (Table ls) ended containers = nothing_more ended containers
   notes_in (Definition label destination title) ended containers = nothing_more ended containers
   notes_in (Holds Quote kids) ended containers =
-      fold-append note_row (noted ended (None ∷ containers)) (rows_of kids) (Exit ∷ [])
+      fold-append note_row (labels_so_far ended (None ∷ containers)) (rows_of kids) (Exit ∷ [])
       ∙ ap (λ (n : Noted). note_row n Exit) (notes_of kids ended (None ∷ containers))
-      ∙ ap (λ x. noted (ended ++ x) containers) (sym (append-nil (footnotes kids)))
+      ∙ ap (λ x. labels_so_far (ended ++ x) containers) (sym (append-nil (footnotes kids)))
   notes_in (Holds (Item item) kids) ended containers =
-      fold-append note_row (noted ended (None ∷ containers)) (rows_of kids) (Exit ∷ [])
+      fold-append note_row (labels_so_far ended (None ∷ containers)) (rows_of kids) (Exit ∷ [])
       ∙ ap (λ (n : Noted). note_row n Exit) (notes_of kids ended (None ∷ containers))
-      ∙ ap (λ x. noted (ended ++ x) containers) (sym (append-nil (footnotes kids)))
+      ∙ ap (λ x. labels_so_far (ended ++ x) containers) (sym (append-nil (footnotes kids)))
   notes_in (Holds (Footnote label) kids) ended containers =
-      fold-append note_row (noted ended (Some label ∷ containers)) (rows_of kids) (Exit ∷ [])
+      fold-append note_row (labels_so_far ended (Some label ∷ containers)) (rows_of kids) (Exit ∷ [])
       ∙ ap (λ (n : Noted). note_row n Exit) (notes_of kids ended (Some label ∷ containers))
-      ∙ ap (λ x. noted x containers) (append_assoc ended (footnotes kids) (label ∷ []))
+      ∙ ap (λ x. labels_so_far x containers) (append_assoc ended (footnotes kids) (label ∷ []))
   notes_in (Items items) ended containers = notes_of items ended containers
   notes_in (Ending ending) ended containers = nothing_more ended containers
   notes_in (Blank ending) ended containers = nothing_more ended containers
 
-  pub notes_of : (bs : Blocks) (ended : List (List ℕ)) (containers : _) → fold note_row (noted ended containers) (rows_of bs)
-      ≡ noted (ended ++ footnotes bs) containers
+  pub notes_of : (bs : Blocks) (ended : List (List ℕ)) (containers : _) → fold note_row (labels_so_far ended containers) (rows_of bs)
+      ≡ labels_so_far (ended ++ footnotes bs) containers
   notes_of Nil ended containers = nothing_more ended containers
   notes_of (Cons b bs) ended containers =
-      fold-append note_row (noted ended containers) (block_rows b) (rows_of bs)
+      fold-append note_row (labels_so_far ended containers) (block_rows b) (rows_of bs)
       ∙ ap (λ (n : Noted). fold note_row n (rows_of bs)) (notes_in b ended containers)
       ∙ notes_of bs (ended ++ block_footnotes b) containers
-      ∙ ap (λ x. noted x containers) (append_assoc ended (block_footnotes b) (footnotes bs))
+      ∙ ap (λ x. labels_so_far x containers) (append_assoc ended (block_footnotes b) (footnotes bs))
 
 -- ---- a label without white space has the codes of its bytes
 

@@ -34,23 +34,23 @@ pub record Noted : Type 0 where
   pub ended : List (List ℕ)
   pub containers : List (Option (List ℕ))
 
-abbrev pub noted : List (List ℕ) → List (Option (List ℕ)) → Noted
-noted ended containers = record { ended = ended; containers = containers }
+abbrev pub labels_so_far : List (List ℕ) → List (Option (List ℕ)) → Noted
+labels_so_far ended containers = record { ended = ended; containers = containers }
 
 abbrev pub nothing_noted : Noted
-nothing_noted = noted [] []
+nothing_noted = labels_so_far [] []
 
 -- the innermost container ends
 abbrev pub note_exit : List (List ℕ) → List (Option (List ℕ)) → Noted
-note_exit ended [] = noted ended []
-note_exit ended (None ∷ containers) = noted ended containers
-note_exit ended (Some label ∷ containers) = noted (ended ++ label ∷ []) containers
+note_exit ended [] = labels_so_far ended []
+note_exit ended (None ∷ containers) = labels_so_far ended containers
+note_exit ended (Some label ∷ containers) = labels_so_far (ended ++ label ∷ []) containers
 
 abbrev pub note_row : Noted → BlockRow → Noted
 note_row n (Single b) = n
-note_row n EnterQuote = noted n.ended (None ∷ n.containers)
-note_row n (EnterItem marker number) = noted n.ended (None ∷ n.containers)
-note_row n (EnterFootnote label) = noted n.ended (Some label ∷ n.containers)
+note_row n EnterQuote = labels_so_far n.ended (None ∷ n.containers)
+note_row n (EnterItem marker number) = labels_so_far n.ended (None ∷ n.containers)
+note_row n (EnterFootnote label) = labels_so_far n.ended (Some label ∷ n.containers)
 note_row n Exit = note_exit n.ended n.containers
 
 abbrev pub note_rows : List BlockRow → Noted

@@ -6,7 +6,8 @@ ghost use Rattle.definition_text.specs.Content.{content_codes};
 ghost use Rattle.definition_block.specs.Blocks.{Blocks};
 ghost use Rattle.definition_block.specs.Definitions.{footnotes};
 ghost use Rattle.block_rows.specs.Rows.{rows_size, row_size, piece_lines, row_value, rows_of, rows_value};
-ghost use Rattle.block_targets.specs.GfmFootnoteDefinition.{HasEnded, HasNoted, Noted, are_bare_rows, is_bare_row, note_exit, note_row, noted, nothing_noted};
+ghost use Rattle.block_targets.specs.GfmFootnoteDefinition.{HasEnded, HasNoted, Noted, labels_so_far, nothing_noted};
+ghost use Rattle.block_targets.specs.GfmFootnoteDefinition.{are_bare_rows, is_bare_row, note_exit, note_row};
 ghost use Rattle.block_targets.specs.GfmFootnoteDefinition.{starts_footnote};
 
 use block_rows::{Piece, Row};
@@ -34,7 +35,7 @@ pub fn document_footnotes<'a, A: Allocator + Clone>(
 ) -> Result<Footnotes<'a, A>, AllocError>
     requires enough { rows_size rows.now ≤ length pieces.now }
     ensures { (bs : Blocks) → (rows_value rows.now (piece_lines pieces.now)).rows ≡ rows_of bs → are_bare_rows (rows_of bs) ≡ true →
-        IfOk result (λ found. HasNoted found (noted (footnotes bs) [])) }
+        IfOk result (λ found. HasNoted found (labels_so_far (footnotes bs) [])) }
 {
     let mut found = Footnotes::new(alloc)?;
     if !has_footnotes(rows) {
@@ -84,7 +85,7 @@ impl<'a, A: Allocator + Clone> Footnotes<'a, A> {
     /// A container starts, with its label if it is a footnote definition.
     fn enter(&mut self, label: Option<&'a str>) -> Result<(), AllocError>
         ensures read { (n : Noted) → HasNoted self.old n → OnOk result (
-            HasNoted self.new (noted n.ended (option_map (λ text. content_codes text.now) label.entry ∷ n.containers))) }
+            HasNoted self.new (labels_so_far n.ended (option_map (λ text. content_codes text.now) label.entry ∷ n.containers))) }
     {
         self.containers.push(label)?;
         Ok(())

@@ -8,7 +8,7 @@ use Rattle.block_rows.specs.declared.row.Row.TheVariants.{Paragraph}
 use Rattle.definition_text.specs.BlockLines.{BlockLine}
 use Rattle.block_rows.specs.Rows.{BlockRow, RowsValue, row_value, piece_lines, piece_line, rows_value, row_size}
 use Rattle.block_rows.proofs.RowSteps.{shown_more, taken_more, left_more}
-use Rattle.block_targets.specs.GfmFootnoteDefinition.{HasNoted, are_bare_rows, is_bare_row, note_row, note_rows, noted, nothing_noted}
+use Rattle.block_targets.specs.GfmFootnoteDefinition.{HasNoted, are_bare_rows, is_bare_row, labels_so_far, note_row, note_rows, nothing_noted}
 use Rattle.block_targets.proofs.Notes.{notes_of}
 use Rattle.block_targets.proofs.NoFootnote.{no_footnotes}
 use Rattle.block_targets.proofs.gfm_footnote_definition.document_footnotes.Goals as goal
@@ -59,4 +59,4 @@ returns g c = λ bs rows_are bare.
 pub returns-then-not-has_footnotes : goal.returns-then-not-has_footnotes
 returns-then-not-has_footnotes g c = λ bs rows_are bare.
     let none = no_footnotes c.args.rows.now (piece_lines c.args.pieces.now) bs (sym c.has_footnotes.ensures ∙ c.if-not-has_footnotes.true) rows_are in
-    subst (λ names. HasNoted c.in_ok-found.found (noted names [])) (sym none) c.in_ok-found.ensures
+    subst (λ names. HasNoted c.in_ok-found.found (labels_so_far names [])) (sym none) c.in_ok-found.ensures
