@@ -17,7 +17,7 @@ use Rattle.definition_page.specs.Pieces.{Piece, Close, Eol}
 use Rattle.definition_page.specs.BlockPieces.{inside, last_visible, ends_plainly, fresh_unless, children_pieces}
 use Rattle.definition_page.specs.Read.{in_container, in_item, read_blocks}
 use Rattle.laws_list_page.proofs.GfmTaskListItem.{read_in_item}
-use Rattle.laws_quote_page.specs.Squeeze.{Squeezed, squeezed, with_byte, with_bytes, nothing_yet, squeeze}
+use Rattle.laws_quote_page.specs.Squeeze.{Squeezed, kept_and_run, with_byte, with_bytes, nothing_yet, squeeze}
 use Rattle.laws_quote_page.proofs.Bytes.{after_text, bytes_after_text, dropped_ending}
 use Rattle.laws_quote_page.proofs.Printed.{with_piece, with_pieces, pieces_after_text, kept_at_fresh}
 use Rattle.laws_quote_page.proofs.Lists.{grouped-join}
@@ -40,7 +40,7 @@ list_end = codes "</li></ul>"
 
 -- what is kept of a list around what is kept
 abbrev kept_around : List ℕ → List ℕ
-kept_around kept = (with_bytes (squeezed (list_start ++ kept) None) list_end).kept
+kept_around kept = (with_bytes (kept_and_run (list_start ++ kept) None) list_end).kept
 
 squeeze_around : (bytes : List ℕ) → squeeze (list_around bytes) ≡ kept_around (squeeze bytes)
 squeeze_around bytes =
@@ -76,12 +76,12 @@ module _ (tables : TextTables) (options : Options) (default : LineEnding) (ds : 
 
   -- after what stands in the item: its end, an ending, and the list's end
   ends_list : (s t : Squeezed) → s.kept ≡ t.kept
-      → (with_pieces default s (Close (codes "li") ∷ Eol ∷ Close (codes "ul") ∷ [])).kept ≡ (with_bytes (squeezed t.kept None) list_end).kept
+      → (with_pieces default s (Close (codes "li") ∷ Eol ∷ Close (codes "ul") ∷ [])).kept ≡ (with_bytes (kept_and_run t.kept None) list_end).kept
   ends_list s t e =
       let item_end = codes "</li>" in
-      let u = with_bytes (squeezed s.kept None) item_end in
+      let u = with_bytes (kept_and_run s.kept None) item_end in
       ap (λ v. (with_bytes v (codes "</ul>")).kept) (dropped_ending u default refl)
-      ∙ ap (λ kept. (with_bytes (squeezed kept None) list_end).kept) e
+      ∙ ap (λ kept. (with_bytes (kept_and_run kept None) list_end).kept) e
 
   abbrev pieces_here : Bool → page.Blocks → List Piece
   pieces_here loose items = children_pieces (meaning tables options default ds) (inside false) None (page.Cons (page.ItemList None loose items) page.Nil)

@@ -8,7 +8,7 @@ use Rattle.markdown_options.specs.declared.line_ending.LineEnding.TheVariants.{C
 use Rattle.markdown_options.specs.LineEndings.{ending_bytes}
 use Rattle.definition_text.specs.Lines.{ends_line}
 use Rattle.definition_page.specs.Pieces.{ends_a_line, is_fresh}
-use Rattle.laws_quote_page.specs.Squeeze.{Squeezed, squeezed, run_before, run_after, with_byte, with_bytes, nothing_yet}
+use Rattle.laws_quote_page.specs.Squeeze.{Squeezed, kept_and_run, run_before, run_after, with_byte, with_bytes, nothing_yet}
 
 -- ---- an ending
 
@@ -19,33 +19,33 @@ kept_at_ending s CarriageReturn = refl
 kept_at_ending s LineFeed = refl
 
 -- where runs are dropped it leaves all as it is
-dropped-ending : (kept : List ℕ) (ending : LineEnding) → with_bytes (squeezed kept None) (ending_bytes ending) ≡ squeezed kept None
+dropped-ending : (kept : List ℕ) (ending : LineEnding) → with_bytes (kept_and_run kept None) (ending_bytes ending) ≡ kept_and_run kept None
 dropped-ending kept CarriageReturnLineFeed = refl
 dropped-ending kept CarriageReturn = refl
 dropped-ending kept LineFeed = refl
 
 pub dropped_ending : (s : Squeezed) (ending : LineEnding) → s.run ≡ None → with_bytes s (ending_bytes ending) ≡ s
 dropped_ending s ending e =
-    ap (λ run. with_bytes (squeezed s.kept run) (ending_bytes ending)) e
+    ap (λ run. with_bytes (kept_and_run s.kept run) (ending_bytes ending)) e
     ∙ dropped-ending s.kept ending
-    ∙ sym (ap (λ run. squeezed s.kept run) e)
+    ∙ sym (ap (λ run. kept_and_run s.kept run) e)
 
 -- ---- a tag drops the run before it
 
 pub same_at_tag : (bytes : List ℕ) (s t : Squeezed) → s.kept ≡ t.kept → with_bytes s (60 ∷ bytes) ≡ with_bytes t (60 ∷ bytes)
-same_at_tag bytes s t e = ap (λ kept. with_bytes (squeezed kept None) (60 ∷ bytes)) e
+same_at_tag bytes s t e = ap (λ kept. with_bytes (kept_and_run kept None) (60 ∷ bytes)) e
 
 -- ---- more text before all
 
 -- what is kept, after a text
 abbrev pub after_text : List ℕ → Squeezed → Squeezed
-after_text text s = squeezed (text ++ s.kept) s.run
+after_text text s = kept_and_run (text ++ s.kept) s.run
 
 byte_after_text : (text kept more : List ℕ) (longer other : Option (List ℕ)) (ends : Bool)
-    → cond ends (squeezed (text ++ kept) longer) (squeezed ((text ++ kept) ++ more) other)
-    ≡ after_text text (cond ends (squeezed kept longer) (squeezed (kept ++ more) other))
+    → cond ends (kept_and_run (text ++ kept) longer) (kept_and_run ((text ++ kept) ++ more) other)
+    ≡ after_text text (cond ends (kept_and_run kept longer) (kept_and_run (kept ++ more) other))
 byte_after_text text kept more longer other true = refl
-byte_after_text text kept more longer other false = ap (λ all. squeezed all other) (append_assoc text kept more)
+byte_after_text text kept more longer other false = ap (λ all. kept_and_run all other) (append_assoc text kept more)
 
 pub bytes_after_text : (text : List ℕ) (bytes : List ℕ) (s : Squeezed) → with_bytes (after_text text s) bytes ≡ after_text text (with_bytes s bytes)
 bytes_after_text text [] s = refl
@@ -72,7 +72,7 @@ other_fresh true = tt
 other_fresh false = refl
 
 byte_fresh : (b : ℕ) (kept more : List ℕ) (run : Option (List ℕ)) (ends drops : Bool)
-    → IsFreshBy (cond ends (squeezed kept (option_map (λ run. run ++ b ∷ []) run)) (squeezed more (cond drops None (Some [])))).run ends
+    → IsFreshBy (cond ends (kept_and_run kept (option_map (λ run. run ++ b ∷ []) run)) (kept_and_run more (cond drops None (Some [])))).run ends
 byte_fresh b kept more run true drops = longer_fresh b run
 byte_fresh b kept more run false drops = other_fresh drops
 

@@ -30,7 +30,7 @@ use Rattle.laws_quote.proofs.Tabs.{Tabless-from_All, Tabless-to_All, quoted_tabl
 use Rattle.laws_quote.proofs.Lines.{quoted_lines_law}
 use Rattle.laws_quote.proofs.Quotes.{quote_law, quote_definitions_law}
 use Rattle.laws_quote.proofs.Endings.{join-without_last, at_last}
-use Rattle.laws_quote_page.specs.Squeeze.{Squeezed, squeezed, with_byte, with_bytes, nothing_yet, squeeze}
+use Rattle.laws_quote_page.specs.Squeeze.{Squeezed, kept_and_run, with_byte, with_bytes, nothing_yet, squeeze}
 use Rattle.laws_quote_page.specs.Laws.{IsQuotable, quote_around, QuotePageLaw, QuotePagesLaw}
 use Rattle.laws_quote_page.proofs.Bytes.{after_text, bytes_after_text}
 use Rattle.laws_quote_page.proofs.Printed.{with_piece, with_pieces, pieces_printed, pieces_after_text, kept_at_fresh}
@@ -49,7 +49,7 @@ quote_end = end_tag (codes "blockquote")
 
 -- what is kept of a quote around what is kept
 abbrev kept_around : List ℕ → List ℕ
-kept_around kept = (with_bytes (squeezed (codes "<blockquote>" ++ kept) None) quote_end).kept
+kept_around kept = (with_bytes (kept_and_run (codes "<blockquote>" ++ kept) None) quote_end).kept
 
 squeeze_around : (bytes : List ℕ) → squeeze (quote_around bytes) ≡ kept_around (squeeze bytes)
 squeeze_around bytes =
@@ -116,7 +116,7 @@ module _ (tables : TextTables) (options : Options) (default : LineEnding) (ds : 
       ∙ ap (λ t. t.kept) (pieces_after_text default start inner nothing_yet)) in
       ap (λ t. t.kept) (fold-append f s ((inner ++ Fresh ∷ []) ++ end) [])
       ∙ ap (λ t. t.kept) (fold-append f s (inner ++ Fresh ∷ []) end)
-      ∙ ap (λ all. (with_bytes (squeezed all None) quote_end).kept) kept
+      ∙ ap (λ all. (with_bytes (kept_and_run all None) quote_end).kept) kept
 
   -- children in a quote, with the ending of the last line after it, and alone
   squeeze_both : (kids : tree.Blocks)

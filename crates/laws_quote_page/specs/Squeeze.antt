@@ -10,8 +10,8 @@ pub record Squeezed : Type 0 where
   pub kept : List ℕ
   pub run : Option (List ℕ)
 
-abbrev pub squeezed : List ℕ → Option (List ℕ) → Squeezed
-squeezed kept run = record { kept = kept; run = run }
+abbrev pub kept_and_run : List ℕ → Option (List ℕ) → Squeezed
+kept_and_run kept run = record { kept = kept; run = run }
 
 -- the run that is kept before this byte: before `<` none is
 abbrev pub run_before : ℕ → Option (List ℕ) → List ℕ
@@ -24,15 +24,15 @@ run_after b = if b == greater_than then None else Some []
 -- one more byte
 abbrev pub with_byte : Squeezed → ℕ → Squeezed
 with_byte s b =
-    if ends_line b then squeezed s.kept (option_map (λ run. run ++ b ∷ []) s.run)
-    else squeezed (s.kept ++ (run_before b s.run ++ b ∷ [])) (run_after b)
+    if ends_line b then kept_and_run s.kept (option_map (λ run. run ++ b ∷ []) s.run)
+    else kept_and_run (s.kept ++ (run_before b s.run ++ b ∷ [])) (run_after b)
 
 -- more bytes
 abbrev pub with_bytes : Squeezed → List ℕ → Squeezed
 with_bytes s bytes = fold with_byte s bytes
 
 abbrev pub nothing_yet : Squeezed
-nothing_yet = squeezed [] None
+nothing_yet = kept_and_run [] None
 
 -- bytes without each whole run of CR and LF that stands at their start or end, after `>` or before `<`
 abbrev pub squeeze : List ℕ → List ℕ
