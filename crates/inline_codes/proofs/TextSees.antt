@@ -9,7 +9,7 @@ use Rattle.engine_events.specs.Columns.{tab_size}
 use Rattle.engine_events.specs.declared.place.Point.{Point}
 use Rattle.markdown_engine.specs.declared.virtual_text.VirtualByte.{VirtualByte}
 use Rattle.markdown_engine.specs.VirtualText.{as_byte, feeds, given, in_line, in_tab, is_before, is_feed, next_line, tab_column}
-use Rattle.inline_codes.specs.Codes.{Fills, Sees, byte, column, full, nothing, seen, tab}
+use Rattle.inline_codes.specs.Codes.{Fills, Sees, byte, column, full, nothing, tab, text_byte}
 use Rattle.inline_codes.specs.TextCodes.{TextCodesLaw, whole_text}
 
 either_same : (b : Bool) (p : Point) → (if b then p else p) ≡ p
@@ -132,20 +132,20 @@ module _ (bytes : List ℕ) where
   plain_given p b true h k l = rw (h, l) (ap (λ (n : ℕ). as_byte n (next_line 1 p)) (sym (eqb-true b 10 l)))
   plain_given p b false h k l = rw (h, l, k) refl
 
-  feed_seen : (b : ℕ) → (b == 10) ≡ true → b ≡ seen b
-  feed_seen b h = eqb-true b 10 h ∙ sym (ap seen (eqb-true b 10 h))
+  feed_seen : (b : ℕ) → (b == 10) ≡ true → b ≡ text_byte b
+  feed_seen b h = eqb-true b 10 h ∙ sym (ap text_byte (eqb-true b 10 h))
 
-  other_seen : (b : ℕ) → (b == 10) ≡ false → (b == 13) ≡ false → (b == 257) ≡ false → b ≡ seen b
+  other_seen : (b : ℕ) → (b == 10) ≡ false → (b == 13) ≡ false → (b == 257) ≡ false → b ≡ text_byte b
   other_seen b h k l = rw (h, k, l) refl
 
   -- a byte that is a code of its own
   on_plain : (p : Point) (b : ℕ) → p.index < length bytes → get_or bytes p.index 0 ≡ b → (b == 9) ≡ false → (b == 13) ≡ false → (b == 257) ≡ false
       → Rest p.index → Sees (whole_text bytes) p (b ∷ content_codes (drop (p.index + 1) bytes))
   on_plain p b h e no_tab no_return low rest = elim (cases_Bool (b == 10)) [
-    | inl feed ↦ byte no_tab (byte_there p (as_byte (seen b) (next_line 1 p)) h
+    | inl feed ↦ byte no_tab (byte_there p (as_byte (text_byte b) (next_line 1 p)) h
         (ap (given bytes p) e ∙ (plain_given p b true no_tab no_return feed ∙ ap (λ (n : ℕ). as_byte n (next_line 1 p)) (feed_seen b feed))))
         (rest (next_line 1 p) (omega arith) refl)
-    | inr other ↦ byte no_tab (byte_there p (as_byte (seen b) (in_line p)) h
+    | inr other ↦ byte no_tab (byte_there p (as_byte (text_byte b) (in_line p)) h
         (ap (given bytes p) e ∙ (plain_given p b false no_tab no_return other ∙ ap (λ (n : ℕ). as_byte n (in_line p)) (other_seen b other no_return low))))
         (rest (in_line p) (omega arith) refl)
   ]

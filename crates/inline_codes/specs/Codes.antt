@@ -5,8 +5,8 @@ use Rattle.markdown_engine.specs.VirtualText.{Text, as_byte}
 use Rattle.definition_text.specs.Content.{is_eol}
 
 -- the byte by which a code is seen: any line ending is one line feed (CommonMark 2.1)
-abbrev pub seen : ℕ → ℕ
-seen code = if is_eol code then 10 else code
+abbrev pub text_byte : ℕ → ℕ
+text_byte code = if is_eol code then 10 else code
 
 -- so many spaces lead from a place to another: the further columns of a tab (CommonMark 2.2)
 pub data Fills (text : Text) : ℕ → Point → Point → Type 0 where
@@ -16,5 +16,6 @@ pub data Fills (text : Text) : ℕ → Point → Point → Type 0 where
 -- from a place on the text gives the bytes of these codes, and ends: of a code that isn't a tab its byte, of a tab itself and up to three spaces
 pub data Sees (text : Text) : Point → List ℕ → Type 0 where
   nothing : {p : Point} → text.byte (text.start p) ≡ None → Sees text p []
-  byte : {p q : Point} {c : ℕ} {cs : List ℕ} → (c == 9) ≡ false → text.byte (text.start p) ≡ Some (as_byte (seen c) q) → Sees text q cs → Sees text p (c ∷ cs)
+  byte : {p q : Point} {c : ℕ} {cs : List ℕ} → (c == 9) ≡ false → text.byte (text.start p) ≡ Some (as_byte (text_byte c) q) → Sees text q cs
+      → Sees text p (c ∷ cs)
   tab : {p q r : Point} {n : ℕ} {cs : List ℕ} → n ≤ 3 → text.byte (text.start p) ≡ Some (as_byte 9 q) → Fills text n q r → Sees text r cs → Sees text p (9 ∷ cs)

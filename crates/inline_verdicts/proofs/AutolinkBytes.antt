@@ -9,7 +9,7 @@ use Rattle.std.specs.Int.{is_in_range}
 use Rattle.std.specs.List.{list_all, list_any}
 use Rattle.definition_text.specs.Content.{is_eol}
 use Rattle.definition_inline.specs.Autolink.{is_email_byte, is_scheme_byte, is_uri_byte}
-use Rattle.inline_codes.specs.Codes.{seen}
+use Rattle.inline_codes.specs.Codes.{text_byte}
 use Rattle.inline_states_html.specs.Autolink.{ends_url, is_atext}
 use Rattle.inline_verdicts.specs.Autolink.{is_whole_code}
 use Rattle.inline_verdicts.proofs.AutolinkStates.{is_scheme}
@@ -101,5 +101,5 @@ uri_by c true h whole other = sym (ap not (eol_bare c h))
 uri_by c false h whole other = uri_small c (whole_small c whole h) other
 
 -- of the codes that are no `>` just those of a URI go on
-pub uri_byte : (c : ℕ) → is_whole_code c ≡ true → (c == 62) ≡ false → ends_url (seen c) ≡ not (is_uri_byte c)
+pub uri_byte : (c : ℕ) → is_whole_code c ≡ true → (c == 62) ≡ false → ends_url (text_byte c) ≡ not (is_uri_byte c)
 uri_byte c whole other = uri_by c (is_eol c) refl whole other

@@ -25,7 +25,7 @@ use Rattle.markdown_engine.specs.VirtualText.{Text, as_byte, is_feed}
 use Rattle.inline_states_html.specs.Autolink.{ends_url, is_atext}
 use Rattle.inline_states_table.specs.Words.{more, next, retry}
 use Rattle.inline_states.specs.declared.inlines.Inlines.{Inlines}
-use Rattle.inline_codes.specs.Codes.{Sees, byte, nothing, seen, tab}
+use Rattle.inline_codes.specs.Codes.{Sees, byte, nothing, tab, text_byte}
 use Rattle.inline_verdicts.specs.Autolink.{AddressVerdict, AutolinkVerdict, autolink_events, is_whole_code}
 use Rattle.inline_verdicts.specs.Verdicts.{Reads}
 use Rattle.inline_verdicts.proofs.AutolinkBytes.{name_byte, scheme_byte, uri_byte}
@@ -194,7 +194,7 @@ module _ {T : Type 0} (texts : List ℕ → Option (List ℕ)) (is_punctuation :
       elim (cases_Bool (c == 62)) [
         | inl is ↦
             let same : c ≡ 62 = eqb-true c 62 is in
-            let f : text.byte (text.start q) ≡ Some (as_byte 62 r) = e ∙ ap (λ (b : ℕ). Some (as_byte (seen b) r)) same in
+            let f : text.byte (text.start q) ≡ Some (as_byte 62 r) = e ∙ ap (λ (b : ℕ). Some (as_byte (text_byte b) r)) same in
             subst (λ (o : Option (List ℕ)). Outcome d (retry inline_states.AutolinkUrlInside) o) (sym (ap (λ (b : ℕ). uri_read (b ∷ cs)) same))
             (closes inline_states.AutolinkUrlInside k d q r cs (AutolinkStates.url_by texts is_punctuation x 62 d true (ends_url 62) (byte_at at f) refl refl) h
             at f s)
@@ -202,15 +202,16 @@ module _ {T : Type 0} (texts : List ℕ → Option (List ℕ)) (is_punctuation :
             let ends = uri_byte c parts.0 other in
             elim (cases_Bool (is_uri_byte c)) [
               | inl is ↦
-                  let calm = calm_by is_uri_byte (seen c) d refl (seen_sort is_uri_byte refl refl refl c ∙ is) (byte_at at e) in
+                  let calm = calm_by is_uri_byte (text_byte c) d refl (seen_sort is_uri_byte refl refl refl c ∙ is) (byte_at at e) in
                   subst (λ (l : List ℕ). Outcome d (retry inline_states.AutolinkUrlInside) (past_greater l)) (sym (rest_more is_uri_byte c cs is))
                   (goes inline_states.AutolinkUrlInside inline_states.AutolinkUrlInside d (past_byte d) (uri_read cs)
-                  (AutolinkStates.url_by texts is_punctuation x (seen c) d false false (byte_at at e) (seen_as_itself 62 refl c ∙ other) (ends ∙ ap not is))
-                  (url_reads cs k parts.1 (feed text (past_byte d)) r (past (sized k) d h calm) (next_at d (past_byte d) q r (seen c) at e refl) s))
+                  (AutolinkStates.url_by texts is_punctuation x (text_byte c) d false false (byte_at at e) (seen_as_itself 62 refl c ∙ other)
+                  (ends ∙ ap not is))
+                  (url_reads cs k parts.1 (feed text (past_byte d)) r (past (sized k) d h calm) (next_at d (past_byte d) q r (text_byte c) at e refl) s))
               | inr is ↦
                   subst (λ (l : List ℕ). Outcome d (retry inline_states.AutolinkUrlInside) (past_greater l)) (sym (rest_none is_uri_byte c cs is))
                   (subst (λ (b : Bool). Outcome d (retry inline_states.AutolinkUrlInside) (if b then Some cs else None)) (sym other)
-                  (stops inline_states.AutolinkUrlInside d (AutolinkStates.url_by texts is_punctuation x (seen c) d false true (byte_at at e)
+                  (stops inline_states.AutolinkUrlInside d (AutolinkStates.url_by texts is_punctuation x (text_byte c) d false true (byte_at at e)
                   (seen_as_itself 62 refl c ∙ other) (ends ∙ ap not is))))
             ]
       ]
@@ -224,7 +225,7 @@ module _ {T : Type 0} (texts : List ℕ → Option (List ℕ)) (is_punctuation :
   Domains cs = (at : Place) → size_at at ≤ 63 → Goes (state_at at) (sized (size_at at)) (domain_read at) cs
 
   label_longer : (n c : ℕ) (dash : Bool) (d : Config Inlines) (q r : Point) (cs : List ℕ) → Domains cs → Within (sized n) d → At text d q
-      → text.byte (text.start q) ≡ Some (as_byte (seen c) r) → Sees text r cs
+      → text.byte (text.start q) ≡ Some (as_byte (text_byte c) r) → Sees text r cs
       → is_feed d.current ≡ false
       → ((few : Bool) → nat_lt n 63 ≡ few → AutolinkStates.does texts is_punctuation x inline_states.AutolinkEmailValue d
       ≡ (if few then plain (AutolinkStates.counted d) (next (state_at (within (n + 1) dash))) else plain d states.Nok))
@@ -236,39 +237,40 @@ module _ {T : Type 0} (texts : List ℕ → Option (List ℕ)) (is_punctuation :
         (goes inline_states.AutolinkEmailValue (state_at (within (n + 1) dash)) d (AutolinkStates.counted d) (domain_read (within (n + 1) dash) cs)
         (does_so true less)
         (rest (within (n + 1) dash) (omega (arith, few)) (feed text (AutolinkStates.counted d)) r (past_counted n d few h calm)
-        (next_at d (AutolinkStates.counted d) q r (seen c) at e refl) s))
+        (next_at d (AutolinkStates.counted d) q r (text_byte c) at e refl) s))
     | inr full ↦
         subst (λ (b : Bool). Outcome d (retry inline_states.AutolinkEmailValue) (if b then domain_read (within (n + 1) dash) cs else None)) (sym full)
         (stops inline_states.AutolinkEmailValue d (does_so false full))
   ]
 
   label_reads : (n c : ℕ) (d : Config Inlines) (q r : Point) (cs : List ℕ) → Domains cs → Within (sized n) d → At text d q
-      → text.byte (text.start q) ≡ Some (as_byte (seen c) r) → Sees text r cs
+      → text.byte (text.start q) ≡ Some (as_byte (text_byte c) r) → Sees text r cs
       → Outcome d (retry inline_states.AutolinkEmailValue) (label_read n c cs)
   label_reads n c d q r cs rest h at e s = elim (cases_Bool (c == 45)) [
     | inl is ↦
-        let same : (seen c == 45) ≡ true = seen_as_itself 45 refl c ∙ is in
+        let same : (text_byte c == 45) ≡ true = seen_as_itself 45 refl c ∙ is in
         subst (λ (b : Bool). Outcome d (retry inline_states.AutolinkEmailValue) (if b then (if nat_lt n 63 then domain_read (within (n + 1) true) cs else None)
         else if is_ascii_alphanumeric c then (if nat_lt n 63 then domain_read (within (n + 1) false) cs else None) else None)) (sym is)
-        (label_longer n c true d q r cs rest h at e s (calm_by (λ (b : ℕ). b == 45) (seen c) d refl same (byte_at at e))
-        (λ few less. AutolinkStates.value_by texts is_punctuation x (seen c) d true (is_ascii_alphanumeric (seen c)) few (byte_at at e) same refl
+        (label_longer n c true d q r cs rest h at e s (calm_by (λ (b : ℕ). b == 45) (text_byte c) d refl same (byte_at at e))
+        (λ few less. AutolinkStates.value_by texts is_punctuation x (text_byte c) d true (is_ascii_alphanumeric (text_byte c)) few (byte_at at e) same refl
         (few_by n 63 d few h less)))
     | inr dash ↦
-        let apart_dash : (seen c == 45) ≡ false = seen_as_itself 45 refl c ∙ dash in
+        let apart_dash : (text_byte c == 45) ≡ false = seen_as_itself 45 refl c ∙ dash in
         subst (λ (b : Bool). Outcome d (retry inline_states.AutolinkEmailValue) (if b then (if nat_lt n 63 then domain_read (within (n + 1) true) cs else None)
         else if is_ascii_alphanumeric c then (if nat_lt n 63 then domain_read (within (n + 1) false) cs else None) else None)) (sym dash)
         (elim (cases_Bool (is_ascii_alphanumeric c)) [
           | inl is ↦
-              let same : is_ascii_alphanumeric (seen c) ≡ true = seen_sort is_ascii_alphanumeric refl refl refl c ∙ is in
+              let same : is_ascii_alphanumeric (text_byte c) ≡ true = seen_sort is_ascii_alphanumeric refl refl refl c ∙ is in
               subst (λ (b : Bool). Outcome d (retry inline_states.AutolinkEmailValue) (if b
               then (if nat_lt n 63 then domain_read (within (n + 1) false) cs else None) else None)) (sym is)
-              (label_longer n c false d q r cs rest h at e s (calm_by is_ascii_alphanumeric (seen c) d refl same (byte_at at e))
-              (λ few less. AutolinkStates.value_by texts is_punctuation x (seen c) d false true few (byte_at at e) apart_dash same (few_by n 63 d few h less)))
+              (label_longer n c false d q r cs rest h at e s (calm_by is_ascii_alphanumeric (text_byte c) d refl same (byte_at at e))
+              (λ few less. AutolinkStates.value_by texts is_punctuation x (text_byte c) d false true few (byte_at at e) apart_dash same
+              (few_by n 63 d few h less)))
           | inr is ↦
               subst (λ (b : Bool). Outcome d (retry inline_states.AutolinkEmailValue) (if b
               then (if nat_lt n 63 then domain_read (within (n + 1) false) cs else None) else None)) (sym is)
               (stops inline_states.AutolinkEmailValue d
-              (AutolinkStates.value_by texts is_punctuation x (seen c) d false false (nat_lt d.tokenize_state.size 63) (byte_at at e) apart_dash
+              (AutolinkStates.value_by texts is_punctuation x (text_byte c) d false false (nat_lt d.tokenize_state.size 63) (byte_at at e) apart_dash
               (seen_sort is_ascii_alphanumeric refl refl refl c ∙ is) refl))
         ])
   ]
@@ -296,39 +298,39 @@ module _ {T : Type 0} (texts : List ℕ → Option (List ℕ)) (is_punctuation :
   none_after (within n dash) cs = refl
 
   start_reads : (c : ℕ) (d : Config Inlines) (q r : Point) (cs : List ℕ) → Domains cs → Within (sized 0) d → At text d q
-      → text.byte (text.start q) ≡ Some (as_byte (seen c) r) → Sees text r cs
+      → text.byte (text.start q) ≡ Some (as_byte (text_byte c) r) → Sees text r cs
       → Outcome d (retry inline_states.AutolinkEmailAtSignOrDot) (domain_read starting (c ∷ cs))
   start_reads c d q r cs rest h at e s = elim (cases_Bool (is_ascii_alphanumeric c)) [
     | inl is ↦
         subst (λ (b : Bool). Outcome d (retry inline_states.AutolinkEmailAtSignOrDot) (if b then domain_read (within 1 false) cs else None)) (sym is)
         (subst (λ (o : Option (List ℕ)). Outcome d (retry inline_states.AutolinkEmailAtSignOrDot) o) (first_letter c cs is)
         (hands inline_states.AutolinkEmailAtSignOrDot inline_states.AutolinkEmailValue d d (label_read 0 c cs)
-        (AutolinkStates.label_starts_by texts is_punctuation x (seen c) d true (byte_at at e) (seen_sort is_ascii_alphanumeric refl refl refl c ∙ is))
+        (AutolinkStates.label_starts_by texts is_punctuation x (text_byte c) d true (byte_at at e) (seen_sort is_ascii_alphanumeric refl refl refl c ∙ is))
         (label_reads 0 c d q r cs rest h at e s)))
     | inr is ↦
         subst (λ (b : Bool). Outcome d (retry inline_states.AutolinkEmailAtSignOrDot) (if b then domain_read (within 1 false) cs else None)) (sym is)
-        (stops inline_states.AutolinkEmailAtSignOrDot d (AutolinkStates.label_starts_by texts is_punctuation x (seen c) d false (byte_at at e)
+        (stops inline_states.AutolinkEmailAtSignOrDot d (AutolinkStates.label_starts_by texts is_punctuation x (text_byte c) d false (byte_at at e)
         (seen_sort is_ascii_alphanumeric refl refl refl c ∙ is)))
   ]
 
   letter_reads : (n c : ℕ) (d : Config Inlines) (q r : Point) (cs : List ℕ) → Domains cs → Within (sized n) d → At text d q
-      → text.byte (text.start q) ≡ Some (as_byte (seen c) r) → Sees text r cs
+      → text.byte (text.start q) ≡ Some (as_byte (text_byte c) r) → Sees text r cs
       → Outcome d (retry inline_states.AutolinkEmailLabel) (domain_read (within n false) (c ∷ cs))
   letter_reads n c d q r cs rest h at e s = elim (cases_Bool (c == 46)) [
     | inl is ↦
-        let same : (seen c == 46) ≡ true = seen_as_itself 46 refl c ∙ is in
-        let calm = calm_by (λ (b : ℕ). b == 46) (seen c) d refl same (byte_at at e) in
+        let same : (text_byte c == 46) ≡ true = seen_as_itself 46 refl c ∙ is in
+        let calm = calm_by (λ (b : ℕ). b == 46) (text_byte c) d refl same (byte_at at e) in
         let f = AutolinkStates.sized 0 d in
         subst (λ (o : Option (List ℕ)). Outcome d (retry inline_states.AutolinkEmailLabel) o)
         (sym (ap (λ (b : ℕ). domain_read (within n false) (b ∷ cs)) (eqb-true c 46 is)))
         (goes inline_states.AutolinkEmailLabel inline_states.AutolinkEmailAtSignOrDot d (past_byte f) (domain_read starting cs)
-        (AutolinkStates.label_by texts is_punctuation x (seen c) d true (seen c == 62) (byte_at at e) same refl)
+        (AutolinkStates.label_by texts is_punctuation x (text_byte c) d true (text_byte c == 62) (byte_at at e) same refl)
         (rest starting (omega arith) (feed text (past_byte f)) r (past (sized 0) f (resized (sized n) 0 d refl h) calm)
-        (next_at d (past_byte f) q r (seen c) at e refl) s))
+        (next_at d (past_byte f) q r (text_byte c) at e refl) s))
     | inr dot ↦ elim (cases_Bool (c == 62)) [
       | inl is ↦
           let same : c ≡ 62 = eqb-true c 62 is in
-          let f : text.byte (text.start q) ≡ Some (as_byte 62 r) = e ∙ ap (λ (b : ℕ). Some (as_byte (seen b) r)) same in
+          let f : text.byte (text.start q) ≡ Some (as_byte 62 r) = e ∙ ap (λ (b : ℕ). Some (as_byte (text_byte b) r)) same in
           subst (λ (o : Option (List ℕ)). Outcome d (retry inline_states.AutolinkEmailLabel) o)
           (sym (ap (λ (b : ℕ). domain_read (within n false) (b ∷ cs)) same))
           (closes inline_states.AutolinkEmailLabel n d q r cs (AutolinkStates.label_by texts is_punctuation x 62 d false true (byte_at at f) refl refl) h at f
@@ -336,7 +338,7 @@ module _ {T : Type 0} (texts : List ℕ → Option (List ℕ)) (is_punctuation :
       | inr greater ↦
           subst (λ (o : Option (List ℕ)). Outcome d (retry inline_states.AutolinkEmailLabel) o) (sym (lettered n c cs dot greater))
           (hands inline_states.AutolinkEmailLabel inline_states.AutolinkEmailValue d d (label_read n c cs)
-          (AutolinkStates.label_by texts is_punctuation x (seen c) d false false (byte_at at e) (seen_as_itself 46 refl c ∙ dot)
+          (AutolinkStates.label_by texts is_punctuation x (text_byte c) d false false (byte_at at e) (seen_as_itself 46 refl c ∙ dot)
           (seen_as_itself 62 refl c ∙ greater)) (label_reads n c d q r cs rest h at e s))
     ]
   ]
@@ -357,30 +359,30 @@ module _ {T : Type 0} (texts : List ℕ → Option (List ℕ)) (is_punctuation :
   email_reads [] k resets d q h at (nothing e) = stops inline_states.AutolinkEmailAtext d (AutolinkStates.name_ends texts is_punctuation x d (end_at at e))
   email_reads (c ∷ cs) k resets d q h at (byte {q = r} no_tab e s) = elim (cases_Bool (c == 64)) [
     | inl is ↦
-        let same : (seen c == 64) ≡ true = seen_as_itself 64 refl c ∙ is in
-        let calm = calm_by (λ (b : ℕ). b == 64) (seen c) d refl same (byte_at at e) in
+        let same : (text_byte c == 64) ≡ true = seen_as_itself 64 refl c ∙ is in
+        let calm = calm_by (λ (b : ℕ). b == 64) (text_byte c) d refl same (byte_at at e) in
         let f = AutolinkStates.sized 0 d in
         subst (λ (b : Bool). Outcome d (retry inline_states.AutolinkEmailAtext) (if b then domain_read starting cs else if is_email_byte c then email_read cs
         else None)) (sym is)
         (goes inline_states.AutolinkEmailAtext inline_states.AutolinkEmailAtSignOrDot d (past_byte f) (domain_read starting cs)
-        (AutolinkStates.name_by texts is_punctuation x (seen c) d true (is_atext (seen c)) (byte_at at e) same refl)
+        (AutolinkStates.name_by texts is_punctuation x (text_byte c) d true (is_atext (text_byte c)) (byte_at at e) same refl)
         (domain_reads cs starting (omega arith) (feed text (past_byte f)) r (past (sized 0) f (resized k 0 d resets h) calm)
-        (next_at d (past_byte f) q r (seen c) at e refl) s))
+        (next_at d (past_byte f) q r (text_byte c) at e refl) s))
     | inr other ↦
-        let same : is_atext (seen c) ≡ is_email_byte c = name_byte (seen c) ∙ seen_sort is_email_byte refl refl refl c in
-        let apart_at : (seen c == 64) ≡ false = seen_as_itself 64 refl c ∙ other in
+        let same : is_atext (text_byte c) ≡ is_email_byte c = name_byte (text_byte c) ∙ seen_sort is_email_byte refl refl refl c in
+        let apart_at : (text_byte c == 64) ≡ false = seen_as_itself 64 refl c ∙ other in
         subst (λ (b : Bool). Outcome d (retry inline_states.AutolinkEmailAtext) (if b then domain_read starting cs else if is_email_byte c then email_read cs
         else None)) (sym other)
         (elim (cases_Bool (is_email_byte c)) [
           | inl is ↦
-              let calm = calm_by is_atext (seen c) d refl (same ∙ is) (byte_at at e) in
+              let calm = calm_by is_atext (text_byte c) d refl (same ∙ is) (byte_at at e) in
               subst (λ (b : Bool). Outcome d (retry inline_states.AutolinkEmailAtext) (if b then email_read cs else None)) (sym is)
               (goes inline_states.AutolinkEmailAtext inline_states.AutolinkEmailAtext d (past_byte d) (email_read cs)
-              (AutolinkStates.name_by texts is_punctuation x (seen c) d false true (byte_at at e) apart_at (same ∙ is))
-              (email_reads cs k resets (feed text (past_byte d)) r (past k d h calm) (next_at d (past_byte d) q r (seen c) at e refl) s))
+              (AutolinkStates.name_by texts is_punctuation x (text_byte c) d false true (byte_at at e) apart_at (same ∙ is))
+              (email_reads cs k resets (feed text (past_byte d)) r (past k d h calm) (next_at d (past_byte d) q r (text_byte c) at e refl) s))
           | inr is ↦
               subst (λ (b : Bool). Outcome d (retry inline_states.AutolinkEmailAtext) (if b then email_read cs else None)) (sym is)
-              (stops inline_states.AutolinkEmailAtext d (AutolinkStates.name_by texts is_punctuation x (seen c) d false false (byte_at at e) apart_at
+              (stops inline_states.AutolinkEmailAtext d (AutolinkStates.name_by texts is_punctuation x (text_byte c) d false false (byte_at at e) apart_at
               (same ∙ is)))
         ])
   ]
@@ -391,12 +393,12 @@ module _ {T : Type 0} (texts : List ℕ → Option (List ℕ)) (is_punctuation :
 
   scheme_longer : (cs : List ℕ) (n c : ℕ) → Goes inline_states.AutolinkSchemeInsideOrEmailAtext (sized (n + 1)) (scheme_read (n + 1)) cs
       → (d : Config Inlines) (q r : Point) → Within (sized n) d → At text d q
-      → (c == 9) ≡ false → text.byte (text.start q) ≡ Some (as_byte (seen c) r) → Sees text r cs → is_scheme_byte c ≡ true → (c == 58) ≡ false
+      → (c == 9) ≡ false → text.byte (text.start q) ≡ Some (as_byte (text_byte c) r) → Sees text r cs → is_scheme_byte c ≡ true → (c == 58) ≡ false
       → Outcome d (retry inline_states.AutolinkSchemeInsideOrEmailAtext) (if nat_lt n 32 then scheme_read (n + 1) cs else email_read (c ∷ cs))
   scheme_longer cs n c rest d q r h at no_tab e s is colon =
-      let same : AutolinkStates.is_scheme (seen c) ≡ true = scheme_byte (seen c) ∙ (seen_sort is_scheme_byte refl refl refl c ∙ is) in
-      let apart_colon : (seen c == 58) ≡ false = seen_as_itself 58 refl c ∙ colon in
-      let calm = calm_by is_scheme_byte (seen c) d refl (seen_sort is_scheme_byte refl refl refl c ∙ is) (byte_at at e) in
+      let same : AutolinkStates.is_scheme (text_byte c) ≡ true = scheme_byte (text_byte c) ∙ (seen_sort is_scheme_byte refl refl refl c ∙ is) in
+      let apart_colon : (text_byte c == 58) ≡ false = seen_as_itself 58 refl c ∙ colon in
+      let calm = calm_by is_scheme_byte (text_byte c) d refl (seen_sort is_scheme_byte refl refl refl c ∙ is) (byte_at at e) in
       elim (cases_Bool (nat_lt n 32)) [
         | inl less ↦
             let few = ltb-true n 32 less in
@@ -404,14 +406,14 @@ module _ {T : Type 0} (texts : List ℕ → Option (List ℕ)) (is_punctuation :
             (sym less)
             (goes inline_states.AutolinkSchemeInsideOrEmailAtext inline_states.AutolinkSchemeInsideOrEmailAtext d (AutolinkStates.counted d)
             (scheme_read (n + 1) cs)
-            (AutolinkStates.scheme_by texts is_punctuation x (seen c) d false true true (byte_at at e) apart_colon same (few_by n 32 d true h less))
+            (AutolinkStates.scheme_by texts is_punctuation x (text_byte c) d false true true (byte_at at e) apart_colon same (few_by n 32 d true h less))
             (rest (feed text (AutolinkStates.counted d)) r (past_counted n d (omega (arith, few)) h calm)
-            (next_at d (AutolinkStates.counted d) q r (seen c) at e refl) s))
+            (next_at d (AutolinkStates.counted d) q r (text_byte c) at e refl) s))
         | inr full ↦
             subst (λ (b : Bool). Outcome d (retry inline_states.AutolinkSchemeInsideOrEmailAtext) (if b then scheme_read (n + 1) cs else email_read (c ∷ cs)))
             (sym full)
             (hands inline_states.AutolinkSchemeInsideOrEmailAtext inline_states.AutolinkEmailAtext d d (email_read (c ∷ cs))
-            (AutolinkStates.scheme_by texts is_punctuation x (seen c) d false true false (byte_at at e) apart_colon same (few_by n 32 d false h full))
+            (AutolinkStates.scheme_by texts is_punctuation x (text_byte c) d false true false (byte_at at e) apart_colon same (few_by n 32 d false h full))
             (email_reads (c ∷ cs) (sized n) refl d q h at (byte no_tab e s)))
       ]
 
@@ -422,14 +424,14 @@ module _ {T : Type 0} (texts : List ℕ → Option (List ℕ)) (is_punctuation :
       let parts = and_parts (is_whole_code c) (list_all is_whole_code cs) whole in
       elim (cases_Bool (c == 58)) [
         | inl is ↦
-            let same : (seen c == 58) ≡ true = seen_as_itself 58 refl c ∙ is in
-            let calm = calm_by (λ (b : ℕ). b == 58) (seen c) d refl same (byte_at at e) in
+            let same : (text_byte c == 58) ≡ true = seen_as_itself 58 refl c ∙ is in
+            let calm = calm_by (λ (b : ℕ). b == 58) (text_byte c) d refl same (byte_at at e) in
             subst (λ (o : Option (List ℕ)). Outcome d (retry inline_states.AutolinkSchemeInsideOrEmailAtext) o)
             (sym (ap (λ (b : ℕ). scheme_read n (b ∷ cs)) (eqb-true c 58 is)))
             (goes inline_states.AutolinkSchemeInsideOrEmailAtext inline_states.AutolinkUrlInside d (past_byte d) (uri_read cs)
-            (AutolinkStates.scheme_by texts is_punctuation x (seen c) d true (AutolinkStates.is_scheme (seen c)) (nat_lt d.tokenize_state.size 32)
+            (AutolinkStates.scheme_by texts is_punctuation x (text_byte c) d true (AutolinkStates.is_scheme (text_byte c)) (nat_lt d.tokenize_state.size 32)
             (byte_at at e) same refl refl)
-            (url_reads cs n parts.1 (feed text (past_byte d)) r (past (sized n) d h calm) (next_at d (past_byte d) q r (seen c) at e refl) s))
+            (url_reads cs n parts.1 (feed text (past_byte d)) r (past (sized n) d h calm) (next_at d (past_byte d) q r (text_byte c) at e refl) s))
         | inr colon ↦
             subst (λ (b : Bool). Outcome d (retry inline_states.AutolinkSchemeInsideOrEmailAtext) (if b then uri_read cs else if is_scheme_byte c
             then (if nat_lt n 32 then scheme_read (n + 1) cs else email_read (c ∷ cs)) else email_read (c ∷ cs))) (sym colon)
@@ -439,11 +441,11 @@ module _ {T : Type 0} (texts : List ℕ → Option (List ℕ)) (is_punctuation :
                   then (if nat_lt n 32 then scheme_read (n + 1) cs else email_read (c ∷ cs)) else email_read (c ∷ cs))) (sym is)
                   (scheme_longer cs n c (scheme_reads cs (n + 1) parts.1) d q r h at no_tab e s is colon)
               | inr is ↦
-                  let same : AutolinkStates.is_scheme (seen c) ≡ false = scheme_byte (seen c) ∙ (seen_sort is_scheme_byte refl refl refl c ∙ is) in
+                  let same : AutolinkStates.is_scheme (text_byte c) ≡ false = scheme_byte (text_byte c) ∙ (seen_sort is_scheme_byte refl refl refl c ∙ is) in
                   subst (λ (b : Bool). Outcome d (retry inline_states.AutolinkSchemeInsideOrEmailAtext) (if b
                   then (if nat_lt n 32 then scheme_read (n + 1) cs else email_read (c ∷ cs)) else email_read (c ∷ cs))) (sym is)
                   (hands inline_states.AutolinkSchemeInsideOrEmailAtext inline_states.AutolinkEmailAtext d d (email_read (c ∷ cs))
-                  (AutolinkStates.scheme_by texts is_punctuation x (seen c) d false false (nat_lt d.tokenize_state.size 32) (byte_at at e)
+                  (AutolinkStates.scheme_by texts is_punctuation x (text_byte c) d false false (nat_lt d.tokenize_state.size 32) (byte_at at e)
                   (seen_as_itself 58 refl c ∙ colon) same refl)
                   (email_reads (c ∷ cs) (sized n) refl d q h at (byte no_tab e s)))
             ])
@@ -460,17 +462,17 @@ module _ {T : Type 0} (texts : List ℕ → Option (List ℕ)) (is_punctuation :
       stops inline_states.AutolinkSchemeOrEmailAtext d (AutolinkStates.second_ends texts is_punctuation x d (end_at at e))
   second_reads (c ∷ cs) whole d q h at (byte {q = r} no_tab e s) = elim (cases_Bool (is_scheme_byte c)) [
     | inl is ↦
-        let same : AutolinkStates.is_scheme (seen c) ≡ true = scheme_byte (seen c) ∙ (seen_sort is_scheme_byte refl refl refl c ∙ is) in
+        let same : AutolinkStates.is_scheme (text_byte c) ≡ true = scheme_byte (text_byte c) ∙ (seen_sort is_scheme_byte refl refl refl c ∙ is) in
         let f = AutolinkStates.sized 1 d in
         subst (λ (b : Bool). Outcome d (retry inline_states.AutolinkSchemeOrEmailAtext) (if b then scheme_read 1 (c ∷ cs) else email_read (c ∷ cs))) (sym is)
         (hands inline_states.AutolinkSchemeOrEmailAtext inline_states.AutolinkSchemeInsideOrEmailAtext d f (scheme_read 1 (c ∷ cs))
-        (AutolinkStates.second_by texts is_punctuation x (seen c) d true (byte_at at e) same)
+        (AutolinkStates.second_by texts is_punctuation x (text_byte c) d true (byte_at at e) same)
         (scheme_reads (c ∷ cs) 1 whole f q (resized c0.tokenize_state 1 d refl h) (still_at refl refl refl at) (byte no_tab e s)))
     | inr is ↦
-        let same : AutolinkStates.is_scheme (seen c) ≡ false = scheme_byte (seen c) ∙ (seen_sort is_scheme_byte refl refl refl c ∙ is) in
+        let same : AutolinkStates.is_scheme (text_byte c) ≡ false = scheme_byte (text_byte c) ∙ (seen_sort is_scheme_byte refl refl refl c ∙ is) in
         subst (λ (b : Bool). Outcome d (retry inline_states.AutolinkSchemeOrEmailAtext) (if b then scheme_read 1 (c ∷ cs) else email_read (c ∷ cs))) (sym is)
         (hands inline_states.AutolinkSchemeOrEmailAtext inline_states.AutolinkEmailAtext d d (email_read (c ∷ cs))
-        (AutolinkStates.second_by texts is_punctuation x (seen c) d false (byte_at at e) same)
+        (AutolinkStates.second_by texts is_punctuation x (text_byte c) d false (byte_at at e) same)
         (email_reads (c ∷ cs) c0.tokenize_state refl d q h at (byte no_tab e s)))
   ]
   second_reads (c ∷ cs) whole d q h at (tab {q = r} few e f s) =
@@ -484,26 +486,26 @@ module _ {T : Type 0} (texts : List ℕ → Option (List ℕ)) (is_punctuation :
       let parts = and_parts (is_whole_code c) (list_all is_whole_code cs) whole in
       elim (cases_Bool (is_letter c)) [
         | inl is ↦
-            let same : is_ascii_alphabetic (seen c) ≡ true = seen_sort is_ascii_alphabetic refl refl refl c ∙ is in
-            let calm = calm_by is_ascii_alphabetic (seen c) d refl same (byte_at at e) in
+            let same : is_ascii_alphabetic (text_byte c) ≡ true = seen_sort is_ascii_alphabetic refl refl refl c ∙ is in
+            let calm = calm_by is_ascii_alphabetic (text_byte c) d refl same (byte_at at e) in
             subst (λ (b : Bool). Outcome d (retry inline_states.AutolinkOpen) (if b then second_read cs else if c == 64 then None else email_read (c ∷ cs)))
             (sym is)
             (goes inline_states.AutolinkOpen inline_states.AutolinkSchemeOrEmailAtext d (past_byte d) (second_read cs)
-            (AutolinkStates.open_by texts is_punctuation x (seen c) d true (seen c == 64) (byte_at at e) same refl)
-            (second_reads cs parts.1 (feed text (past_byte d)) r (past c0.tokenize_state d h calm) (next_at d (past_byte d) q r (seen c) at e refl) s))
+            (AutolinkStates.open_by texts is_punctuation x (text_byte c) d true (text_byte c == 64) (byte_at at e) same refl)
+            (second_reads cs parts.1 (feed text (past_byte d)) r (past c0.tokenize_state d h calm) (next_at d (past_byte d) q r (text_byte c) at e refl) s))
         | inr is ↦
-            let same : is_ascii_alphabetic (seen c) ≡ false = seen_sort is_ascii_alphabetic refl refl refl c ∙ is in
+            let same : is_ascii_alphabetic (text_byte c) ≡ false = seen_sort is_ascii_alphabetic refl refl refl c ∙ is in
             subst (λ (b : Bool). Outcome d (retry inline_states.AutolinkOpen) (if b then second_read cs else if c == 64 then None else email_read (c ∷ cs)))
             (sym is)
             (elim (cases_Bool (c == 64)) [
               | inl sign ↦
                   subst (λ (b : Bool). Outcome d (retry inline_states.AutolinkOpen) (if b then None else email_read (c ∷ cs))) (sym sign)
-                  (stops inline_states.AutolinkOpen d (AutolinkStates.open_by texts is_punctuation x (seen c) d false true (byte_at at e) same
+                  (stops inline_states.AutolinkOpen d (AutolinkStates.open_by texts is_punctuation x (text_byte c) d false true (byte_at at e) same
                   (seen_as_itself 64 refl c ∙ sign)))
               | inr other ↦
                   subst (λ (b : Bool). Outcome d (retry inline_states.AutolinkOpen) (if b then None else email_read (c ∷ cs))) (sym other)
                   (hands inline_states.AutolinkOpen inline_states.AutolinkEmailAtext d d (email_read (c ∷ cs))
-                  (AutolinkStates.open_by texts is_punctuation x (seen c) d false false (byte_at at e) same (seen_as_itself 64 refl c ∙ other))
+                  (AutolinkStates.open_by texts is_punctuation x (text_byte c) d false false (byte_at at e) same (seen_as_itself 64 refl c ∙ other))
                   (email_reads (c ∷ cs) c0.tokenize_state refl d q h at (byte no_tab e s)))
             ])
       ]

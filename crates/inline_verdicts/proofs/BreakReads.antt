@@ -18,7 +18,7 @@ use Rattle.engine_programs.specs.Bodies.{run}
 use Rattle.inline_states.specs.declared.inlines.Inlines.{Inlines}
 use Rattle.inline_states.specs.Inlines.{bodies}
 use Rattle.inline_verdicts.specs.HardBreakEscape.{BreakVerdict, break_events, ends_apart}
-use Rattle.inline_codes.specs.Codes.{Sees, byte, nothing, seen, tab}
+use Rattle.inline_codes.specs.Codes.{Sees, byte, nothing, tab, text_byte}
 use Rattle.inline_verdicts.specs.Verdicts.{LeavesEvents, Reads, Verdict}
 use Rattle.inline_verdicts.proofs.Turns.{RunsOn, on_next, on_retry}
 use Rattle.inline_verdicts.proofs.Seen.{seen_feed}
@@ -105,11 +105,12 @@ module _ {T : Type 0} (texts : List ℕ → Option (List ℕ)) (is_punctuation :
   none_there c p q v cs false h e k = (_, refused c p q h)
 
   by_second : (c : Config Inlines) (p q r : Point) (code : ℕ) (cs : List ℕ) (on is : Bool) → x.options.constructs.hard_break_escape ≡ on → is_eol code ≡ is
-      → text.byte (text.start q) ≡ Some (as_byte (seen code) r) → Sees text q (code ∷ cs)
+      → text.byte (text.start q) ≡ Some (as_byte (text_byte code) r) → Sees text q (code ∷ cs)
       → The_verdict c p q (code ∷ cs) (if on && is then Some (leaf (EscapedBreak ∷ []) 1) else None)
   unfolding The_verdict Differs
-  by_second c p q r code cs true true h k e s = (_, q, goes c p q (as_byte (seen code) r) h e (seen_feed code ∙ k), made c p q (as_byte (seen code) r), s)
-  by_second c p q r code cs true false h k e s = none_there c p q (Some (as_byte (seen code) r)) (code ∷ cs) true h e (seen_feed code ∙ k)
+  by_second c p q r code cs true true h k e s =
+      (_, q, goes c p q (as_byte (text_byte code) r) h e (seen_feed code ∙ k), made c p q (as_byte (text_byte code) r), s)
+  by_second c p q r code cs true false h k e s = none_there c p q (Some (as_byte (text_byte code) r)) (code ∷ cs) true h e (seen_feed code ∙ k)
   by_second c p q r code cs false is h k e s = (_, refused c p q h)
 
   no_break : (on : Bool) → (on && false) ≡ false
@@ -122,11 +123,12 @@ module _ {T : Type 0} (texts : List ℕ → Option (List ℕ)) (is_punctuation :
       subst (λ (b : Bool). The_verdict c p q cs (if b then Some (leaf (EscapedBreak ∷ []) 1) else None)) (sym (no_break x.options.constructs.hard_break_escape))
       (none_there c p q v cs x.options.constructs.hard_break_escape refl e k)
 
-  by_code : (c : Config Inlines) (p q r : Point) (code : ℕ) (cs : List ℕ) → text.byte (text.start q) ≡ Some (as_byte (seen code) r) → Sees text q (code ∷ cs)
+  by_code : (c : Config Inlines) (p q r : Point) (code : ℕ) (cs : List ℕ) → text.byte (text.start q) ≡ Some (as_byte (text_byte code) r)
+      → Sees text q (code ∷ cs)
       → ends_apart (code ∷ cs) ≡ true
       → The_verdict c p q (code ∷ cs) (escaped_break_at x.options.constructs (92 ∷ code ∷ cs))
   unfolding Differs
-  by_code c p q r code [] e s apart = nothing_by c p q (Some (as_byte (seen code) r)) (code ∷ []) e (seen_feed code ∙ not-true (is_eol code) apart)
+  by_code c p q r code [] e s apart = nothing_by c p q (Some (as_byte (text_byte code) r)) (code ∷ []) e (seen_feed code ∙ not-true (is_eol code) apart)
   by_code c p q r code (d ∷ cs) e s apart = by_second c p q r code (d ∷ cs) x.options.constructs.hard_break_escape (is_eol code) refl refl e s
 
   at_tab : (c : Config Inlines) (p q r : Point) (cs : List ℕ) → text.byte (text.start q) ≡ Some (as_byte 9 r)

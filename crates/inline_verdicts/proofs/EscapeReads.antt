@@ -17,7 +17,7 @@ use Rattle.engine_programs.specs.Bodies.{run}
 use Rattle.inline_states.specs.declared.inlines.Inlines.{Inlines}
 use Rattle.inline_states.specs.Inlines.{bodies}
 use Rattle.inline_verdicts.specs.CharacterEscape.{EscapeVerdict, escape_events}
-use Rattle.inline_codes.specs.Codes.{Sees, byte, nothing, seen, tab}
+use Rattle.inline_codes.specs.Codes.{Sees, byte, nothing, tab, text_byte}
 use Rattle.inline_verdicts.specs.Verdicts.{LeavesEvents, Reads, Verdict}
 use Rattle.inline_verdicts.proofs.Turns.{RunsOn, on_next, on_retry}
 use Rattle.inline_verdicts.proofs.Seen.{no_feed, seen_punctuation}
@@ -108,14 +108,19 @@ module _ {T : Type 0} (texts : List ℕ → Option (List ℕ)) (is_punctuation :
 
   by_second : (c : Config Inlines) (p q r : Point) (code : ℕ) (cs : List ℕ) (on is : Bool) → x.options.constructs.character_escape ≡ on
       → is_ascii_punctuation code ≡ is
-      → text.byte (text.start q) ≡ Some (as_byte (seen code) r) → Sees text r cs
+      → text.byte (text.start q) ≡ Some (as_byte (text_byte code) r) → Sees text r cs
       → The_verdict c p q (code ∷ cs) (if on && is then Some (leaf (Escape code ∷ []) 2) else None)
   unfolding The_verdict
   by_second c p q r code cs true true h k e s =
-      let punctuation : is_ascii_punctuation (seen code) ≡ true = seen_punctuation code ∙ k in
-      (_, r, goes c p q (as_byte (seen code) r) h e punctuation, made c p q r (seen code) (no_feed (seen code) (seen code == 10) refl punctuation), s)
+      let punctuation : is_ascii_punctuation (text_byte code) ≡ true = seen_punctuation code ∙ k in (
+        _,
+        r,
+        goes c p q (as_byte (text_byte code) r) h e punctuation,
+        made c p q r (text_byte code) (no_feed (text_byte code) (text_byte code == 10) refl punctuation),
+        s,
+      )
   by_second c p q r code cs true false h k e s =
-      (_, fails c p q (as_byte (seen code) r) h e (seen_punctuation code ∙ k))
+      (_, fails c p q (as_byte (text_byte code) r) h e (seen_punctuation code ∙ k))
   by_second c p q r code cs false is h k e s = (_, refused c p q h)
 
   at_end : (c : Config Inlines) (p q : Point) (on : Bool) → x.options.constructs.character_escape ≡ on → text.byte (text.start q) ≡ None

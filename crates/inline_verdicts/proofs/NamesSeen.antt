@@ -13,7 +13,7 @@ use Rattle.engine_events.specs.Columns.{between}
 use Rattle.markdown_engine.specs.declared.virtual_text.VirtualByte.{VirtualByte}
 use Rattle.markdown_engine.specs.VirtualText.{Text, as_byte}
 use Rattle.inline_states_leaves.specs.CharacterReference.{has_text, is_name}
-use Rattle.inline_codes.specs.Codes.{Sees, byte, nothing, seen, tab}
+use Rattle.inline_codes.specs.Codes.{Sees, byte, nothing, tab, text_byte}
 use Rattle.inline_codes.specs.TextBytes.{Shows, StandsAt}
 use Rattle.inline_verdicts.specs.Stretch.{Stretch, ended, longer}
 
@@ -84,8 +84,8 @@ module _ (bytes : List ℕ) (text : Text) (shows : Shows bytes text) where
   word (ended h) cs s column = record { index = omega arith; within = λ h. absurd (omega (arith, h)); same = refl; ascii = no_ascii }
   word {q = q} (longer {b = b} {q = r} e k rest) [] (nothing f) column = absurd (let g : Some (as_byte b r) ≡ None = sym e ∙ f in cc)
   word {end = end} (longer {n = n} {b = b} {p = q} {q = r} e k rest) (c ∷ cs) (byte {q = t} apart f s) column =
-      let g : Some (as_byte b r) ≡ Some (as_byte (seen c) t) = sym e ∙ f in
-      let same : as_byte b r ≡ as_byte (seen c) t = cc in
+      let g : Some (as_byte b r) ≡ Some (as_byte (text_byte c) t) = sym e ∙ f in
+      let same : as_byte b r ≡ as_byte (text_byte c) t = cc in
       let at = shows q r b e k in
       let place : t ≡ r = sym (ap (λ (v : VirtualByte). v.next) same) in
       let on = at.on column in

@@ -28,7 +28,7 @@ use Rattle.engine_programs.specs.Bodies.{run as run_body}
 use Rattle.inline_states.specs.Inlines.{bodies}
 use Rattle.inline_states_table.specs.Words.{more, next, retry}
 use Rattle.inline_states.specs.declared.inlines.Inlines.{Inlines}
-use Rattle.inline_codes.specs.Codes.{Sees, byte, nothing, seen, tab}
+use Rattle.inline_codes.specs.Codes.{Sees, byte, nothing, tab, text_byte}
 use Rattle.inline_verdicts.specs.RawText.{Pieces, SpanNames, closing, ending, is_other, others, run, spanning}
 use Rattle.inline_verdicts.specs.Stretch.{Stretch, longer}
 use Rattle.inline_verdicts.specs.Verdicts.{Reads}
@@ -373,7 +373,7 @@ module _ {T : Type 0} (texts : List ℕ → Option (List ℕ)) (is_punctuation :
       is_no_other v is = (or_parts (v == 10) (v == m) (not-true ((v == 10) || (v == m)) is)).1
 
       code_apart : (c : ℕ) → sight text (is_other m) c ≡ true → (c == m) ≡ false
-      code_apart c is = sym (seen_as_itself m plain_code c) ∙ is_no_other (seen c) is
+      code_apart c is = sym (seen_as_itself m plain_code c) ∙ is_no_other (text_byte c) is
 
       tab_is_other : is_other m 9 ≡ true
       tab_is_other = ap not no_tab
@@ -381,8 +381,9 @@ module _ {T : Type 0} (texts : List ℕ → Option (List ℕ)) (is_punctuation :
       space_is_other : is_other m 32 ≡ true
       space_is_other = ap not no_space
 
-      other_seen : (code : ℕ) → is_eol code ≡ false → (code == m) ≡ false → is_other m (seen code) ≡ true
-      other_seen code line other = ap not (or_from (seen code == 10) (seen code == m) (seen_feed code ∙ line) (seen_as_itself m plain_code code ∙ other))
+      other_seen : (code : ℕ) → is_eol code ≡ false → (code == m) ≡ false → is_other m (text_byte code) ≡ true
+      other_seen code line other =
+          ap not (or_from (text_byte code == 10) (text_byte code == m) (seen_feed code ∙ line) (seen_as_itself m plain_code code ∙ other))
 
       sized : (is : Bool) (code : ℕ) (cs : List ℕ) → (code == m) ≡ true → (run_length m cs + 1 == n) ≡ is → by_size is code cs ≡ run_of m n false (code ∷ cs)
       sized true code cs same wanted = sym (at_run m n some code cs true same wanted)
@@ -421,11 +422,11 @@ module _ {T : Type 0} (texts : List ℕ → Option (List ℕ)) (is_punctuation :
           (run_reads es b c code cs is wanted (omega (arith, all, low)) e f h at
           (short (after_run m cs) (few_left (run_length m cs) size cs few) (few_bytes (run_length m cs) cs (omega (arith, low)))))
 
-      seen_line : (code : ℕ) → is_eol code ≡ true → seen code ≡ 10
-      seen_line code h = eqb-true (seen code) 10 (seen_feed code ∙ h)
+      seen_line : (code : ℕ) → is_eol code ≡ true → text_byte code ≡ 10
+      seen_line code h = eqb-true (text_byte code) 10 (seen_feed code ∙ h)
 
-      seen_same : (code : ℕ) → (code == m) ≡ true → seen code ≡ m
-      seen_same code h = eqb-true (seen code) m (seen_as_itself m plain_code code ∙ h)
+      seen_same : (code : ℕ) → (code == m) ≡ true → text_byte code ≡ m
+      seen_same code h = eqb-true (text_byte code) m (seen_as_itself m plain_code code ∙ h)
 
       pub goes : (size : ℕ) → GoesUpTo size
       goes size [] few low c q es b h at (nothing e) = (
@@ -445,7 +446,7 @@ module _ {T : Type 0} (texts : List ℕ → Option (List ℕ)) (is_punctuation :
               (e ∙ ap (λ (i : ℕ). Some (as_byte i r)) (seen_same code same)) same s (run_length m cs + 1 == n) refl
           | inr other ↦
               let f = part_seen text (is_other m) tab_is_other space_is_other cs s in
-              others_by size (goes size) c q r es b (seen code) code cs (omega (arith, few)) (omega (arith, low)) h at e
+              others_by size (goes size) c q r es b (text_byte code) code cs (omega (arith, few)) (omega (arith, low)) h at e
               (other_seen code within other) other f.count f.end f.stretch f.sees
         ]
       ]

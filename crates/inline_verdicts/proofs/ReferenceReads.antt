@@ -28,7 +28,7 @@ use Rattle.inline_states_leaves.specs.CharacterReference.{is_known, is_name}
 use Rattle.inline_states_table.specs.Words.{retry}
 use Rattle.inline_states.specs.declared.inlines.Inlines.{Inlines}
 use Rattle.inline_states.specs.Inlines.{bodies}
-use Rattle.inline_codes.specs.Codes.{Sees, byte, nothing, seen, tab}
+use Rattle.inline_codes.specs.Codes.{Sees, byte, nothing, tab, text_byte}
 use Rattle.inline_codes.specs.TextBytes.{Shows}
 use Rattle.inline_verdicts.specs.CharacterReference.{CharacterReferenceVerdict, IsReference, ReferenceVerdict, decimal, hexadecimal, referring}
 use Rattle.inline_verdicts.specs.CharacterReference.{named as by_name}
@@ -175,23 +175,24 @@ module _ {T : Type 0} (texts : List ℕ → Option (List ℕ)) (is_punctuation :
 
     -- ---- a name
 
-    by_letter : (code : ℕ) (ds : List ℕ) (r : Point) → cs ≡ code ∷ ds → text.byte (text.start q) ≡ Some (as_byte (seen code) r) → Sees text r ds
+    by_letter : (code : ℕ) (ds : List ℕ) (r : Point) → cs ≡ code ∷ ds → text.byte (text.start q) ≡ Some (as_byte (text_byte code) r) → Sees text r ds
         → is_ascii_alphanumeric code ≡ true
         → Verdict_by (reference_of texts all (reference_by_name (part_to_semicolon is_ascii_alphanumeric 31 (code ∷ ds))))
     by_letter code ds r is e t letter =
-        let same : is_ascii_alphanumeric (seen code) ≡ true = seen_sort is_ascii_alphanumeric refl refl refl code ∙ letter in
+        let same : is_ascii_alphanumeric (text_byte code) ≡ true = seen_sort is_ascii_alphanumeric refl refl refl code ∙ letter in
         let first = byte_at begun_at e in
         let d = ReferenceStates.value_begun 38 begun in
         let one : (k : ℕ) → k + 1 ≡ 1 + k = λ k. omega arith in
         by_names name_kind (begun_events ++ event Enter names.CharacterReferenceValue (text.start q) None ∷ []) (feed text d) r 1 (omega arith) (
           fed_here text at_mark (past_here text at_mark (enters text at_mark names.CharacterReferenceValue
               (keeping_here text at_mark (λ (k : KeptState). referring 38 1 k) (referring 38 1 c.tokenize_state) refl begun_here) begun_at.point)),
-          ap is_feed first ∙ apart is_ascii_alphanumeric 10 (seen code) refl same,
+          ap is_feed first ∙ apart is_ascii_alphanumeric 10 (text_byte code) refl same,
         )
-        (fed text d r (begun_at.next (as_byte (seen code) r) e)) (code ∷ ds) ds t (λ (word : List ℕ). is_some (texts word))
+        (fed text d r (begun_at.next (as_byte (text_byte code) r) e)) (code ∷ ds) ds t (λ (word : List ℕ). is_some (texts word))
         (λ z w reads. from_open z w (goes_to texts is_punctuation x text (Inline inline_states.CharacterReferenceOpen)
         (Inline inline_states.CharacterReferenceValue) begun d z w
-        (ReferenceStates.open_by texts is_punctuation x (seen code) begun true first (apart is_ascii_alphanumeric 35 (seen code) refl same) same) reads))
+        (ReferenceStates.open_by texts is_punctuation x (text_byte code) begun true first
+        (apart is_ascii_alphanumeric 35 (text_byte code) refl same) same) reads))
         (λ rest f. one_further 38 cs rest (subst (λ (l : List ℕ). IsRest l rest) (sym is) (one_further code ds rest f)))
         (prefix_by is_ascii_alphanumeric code ds true letter) (rest_more is_ascii_alphanumeric code ds letter)
         (λ k end st some. ap (λ (b : Bool). b && is_name texts x.bytes (1 + k) (text.start end).index) (lt-ltb 0 (1 + k) some)
@@ -244,23 +245,23 @@ module _ {T : Type 0} (texts : List ℕ → Option (List ℕ)) (is_punctuation :
           one_further 38 cs rest (subst (λ (l : List ℕ). IsRest l rest) (sym is)
           (one_further 35 ds rest (subst (λ (l : List ℕ). IsRest l rest) (sym more) (one_further code es rest f))))
 
-      by_digit : (code : ℕ) (es : List ℕ) (v : Point) → ds ≡ code ∷ es → text.byte (text.start r) ≡ Some (as_byte (seen code) v) → Sees text v es
+      by_digit : (code : ℕ) (es : List ℕ) (v : Point) → ds ≡ code ∷ es → text.byte (text.start r) ≡ Some (as_byte (text_byte code) v) → Sees text v es
           → ((code == 120) || (code == 88)) ≡ false → is_ascii_digit code ≡ true
           → Verdict_by (reference_of texts all (reference_by_number 10 (part_to_semicolon is_ascii_digit 7 (code ∷ es))))
       by_digit code es v more f t no_x digit =
-          let same : is_ascii_digit (seen code) ≡ true = seen_sort is_ascii_digit refl refl refl code ∙ digit in
+          let same : is_ascii_digit (text_byte code) ≡ true = seen_sort is_ascii_digit refl refl refl code ∙ digit in
           let first = byte_at hash_at f in
           let d = ReferenceStates.value_begun 35 hash in
           let one : (k : ℕ) → k + 1 ≡ 1 + k = λ k. omega arith in
           by_number decimal_kind (hash_events ++ event Enter names.CharacterReferenceValue (text.start r) None ∷ []) (feed text d) v 1 (omega arith) (
             fed_here text at_mark (past_here text at_mark (enters text at_mark names.CharacterReferenceValue
                 (keeping_here text at_mark (λ (k : KeptState). referring 35 1 k) (referring 35 1 c.tokenize_state) refl hash_here) hash_at.point)),
-            ap is_feed first ∙ apart is_ascii_digit 10 (seen code) refl same,
+            ap is_feed first ∙ apart is_ascii_digit 10 (text_byte code) refl same,
           )
-          (fed text d v (hash_at.next (as_byte (seen code) v) f)) (code ∷ es) es t always
+          (fed text d v (hash_at.next (as_byte (text_byte code) v) f)) (code ∷ es) es t always
           (λ z w reads. from_hash z w (goes_to texts is_punctuation x text (Inline inline_states.CharacterReferenceNumeric)
           (Inline inline_states.CharacterReferenceValue) hash d z w
-          (ReferenceStates.numeric_by texts is_punctuation x (seen code) hash false true first
+          (ReferenceStates.numeric_by texts is_punctuation x (text_byte code) hash false true first
           (seen_sort (λ (b : ℕ). (b == 120) || (b == 88)) refl refl refl code ∙ no_x) same) reads))
           (hash_read code es more) (prefix_by is_ascii_digit code es true digit) (rest_more is_ascii_digit code es digit)
           (λ k end st some. number_known texts x.bytes 35 (1 + k) (text.start end).index refl some)
@@ -276,14 +277,14 @@ module _ {T : Type 0} (texts : List ℕ → Option (List ℕ)) (is_punctuation :
           ))
           (λ word. refl) 10
 
-      by_x : (code : ℕ) (es : List ℕ) (v : Point) → ds ≡ code ∷ es → text.byte (text.start r) ≡ Some (as_byte (seen code) v) → Sees text v es
+      by_x : (code : ℕ) (es : List ℕ) (v : Point) → ds ≡ code ∷ es → text.byte (text.start r) ≡ Some (as_byte (text_byte code) v) → Sees text v es
           → ((code == 120) || (code == 88)) ≡ true
           → Verdict_by (reference_of texts all (reference_by_number 16 (part_to_semicolon is_ascii_hexdigit 6 es)))
       by_x code es v more f t is_x =
-          let same : ((seen code == 120) || (seen code == 88)) ≡ true = seen_sort (λ (b : ℕ). (b == 120) || (b == 88)) refl refl refl code ∙ is_x in
+          let same : ((text_byte code == 120) || (text_byte code == 88)) ≡ true = seen_sort (λ (b : ℕ). (b == 120) || (b == 88)) refl refl refl code ∙ is_x in
           let first = byte_at hash_at f in
-          let calm : is_feed hash.current ≡ false = ap is_feed first ∙ apart (λ (b : ℕ). (b == 120) || (b == 88)) 10 (seen code) refl same in
-          let place = hash_at.next (as_byte (seen code) v) f in
+          let calm : is_feed hash.current ≡ false = ap is_feed first ∙ apart (λ (b : ℕ). (b == 120) || (b == 88)) 10 (text_byte code) refl same in
+          let place = hash_at.next (as_byte (text_byte code) v) f in
           let d = ReferenceStates.hexadecimal_begun hash in
           let zero_more : (k : ℕ) → k ≡ 0 + k = λ k. omega arith in
           by_number hexadecimal_kind
@@ -299,7 +300,7 @@ module _ {T : Type 0} (texts : List ℕ → Option (List ℕ)) (is_punctuation :
           (fed text d v place) es es t always
           (λ z w reads. from_hash z w (goes_to texts is_punctuation x text (Inline inline_states.CharacterReferenceNumeric)
           (Inline inline_states.CharacterReferenceValue) hash d z w
-          (ReferenceStates.numeric_by texts is_punctuation x (seen code) hash true (is_ascii_digit (seen code)) first same refl) reads))
+          (ReferenceStates.numeric_by texts is_punctuation x (text_byte code) hash true (is_ascii_digit (text_byte code)) first same refl) reads))
           (hash_read code es more) (zero_more (prefix_len is_ascii_hexdigit es)) refl
           (λ k end st some. number_known texts x.bytes 120 (0 + k) (text.start end).index refl some)
           (λ count to end st some few semicolon. (
@@ -332,7 +333,7 @@ module _ {T : Type 0} (texts : List ℕ → Option (List ℕ)) (is_punctuation :
             else reference_by_number 10 (part_to_semicolon is_ascii_digit 7 (code ∷ es))))) (sym h)
             (elim (cases_Bool (is_ascii_digit code)) [
               | inl k ↦ by_digit code es v more f t h k
-              | inr k ↦ no_digit code es (seen code) v f (seen_sort (λ (b : ℕ). (b == 120) || (b == 88)) refl refl refl code ∙ h)
+              | inr k ↦ no_digit code es (text_byte code) v f (seen_sort (λ (b : ℕ). (b == 120) || (b == 88)) refl refl refl code ∙ h)
                   (seen_sort is_ascii_digit refl refl refl code ∙ k) k
             ])
       ]
@@ -354,13 +355,13 @@ module _ {T : Type 0} (texts : List ℕ → Option (List ℕ)) (is_punctuation :
           let same : code ≡ 35 = eqb-true code 35 h in
           subst (λ (b : Bool). Verdict_by (reference_of texts all (if b then number_reference ds
           else reference_by_name (part_to_semicolon is_ascii_alphanumeric 31 (code ∷ ds))))) (sym h)
-          (by_numeric ds r (is ∙ ap (λ (k : ℕ). k ∷ ds) same) (e ∙ ap (λ (k : ℕ). Some (as_byte (seen k) r)) same) ds refl t)
+          (by_numeric ds r (is ∙ ap (λ (k : ℕ). k ∷ ds) same) (e ∙ ap (λ (k : ℕ). Some (as_byte (text_byte k) r)) same) ds refl t)
       | inr h ↦
           subst (λ (b : Bool). Verdict_by (reference_of texts all (if b then number_reference ds
           else reference_by_name (part_to_semicolon is_ascii_alphanumeric 31 (code ∷ ds))))) (sym h)
           (elim (cases_Bool (is_ascii_alphanumeric code)) [
             | inl k ↦ by_letter code ds r is e t k
-            | inr k ↦ no_letter code ds (seen code) r e (seen_as_itself 35 refl code ∙ h) (seen_sort is_ascii_alphanumeric refl refl refl code ∙ k) k
+            | inr k ↦ no_letter code ds (text_byte code) r e (seen_as_itself 35 refl code ∙ h) (seen_sort is_ascii_alphanumeric refl refl refl code ∙ k) k
           ])
     ]
     by_code (code ∷ ds) is (tab {q = r} few e _ t) = no_letter 9 ds 9 r e refl refl refl

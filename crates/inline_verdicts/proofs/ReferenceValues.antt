@@ -25,7 +25,7 @@ use Rattle.inline_states_leaves.specs.CharacterReference.{goes_on, is_known, is_
 use Rattle.inline_states_table.specs.Words.{more, next, retry}
 use Rattle.inline_states.specs.declared.inlines.Inlines.{Inlines}
 use Rattle.inline_states.specs.Inlines.{bodies}
-use Rattle.inline_codes.specs.Codes.{Sees, byte, nothing, seen, tab}
+use Rattle.inline_codes.specs.Codes.{Sees, byte, nothing, tab, text_byte}
 use Rattle.inline_verdicts.specs.CharacterReference.{referring}
 use Rattle.inline_verdicts.specs.Stretch.{Stretch}
 use Rattle.inline_verdicts.specs.Verdicts.{Reads}
@@ -311,10 +311,10 @@ module _ {T : Type 0} (texts : List ℕ → Option (List ℕ)) (is_punctuation :
     by_rest d [] is (nothing e) st few = none_ended [] refl (fails d st.2 (ReferenceStates.value_ends texts is_punctuation x d (end_at st.1 e)))
     by_rest d (code ∷ rest) is (byte {q = r} no_tab e s) st few = elim (cases_Bool (code == 59)) [
       | inl h ↦
-          let f : text.byte (text.start value.end) ≡ Some (as_byte 59 r) = e ∙ ap (λ (b : ℕ). Some (as_byte (seen b) r)) (eqb-true code 59 h) in
+          let f : text.byte (text.start value.end) ≡ Some (as_byte 59 r) = e ∙ ap (λ (b : ℕ). Some (as_byte (text_byte b) r)) (eqb-true code 59 h) in
           subst (λ (o : Option Part). Outcome (if nat_le 1 total && nat_le total kind.most then o else None)) (sym (an_end code rest h))
           (at_semicolon d r code rest st is f s few)
-      | inr h ↦ at_other d (seen code) r (code ∷ rest) st e (seen_as_itself 59 refl code ∙ h) (no_end code rest h)
+      | inr h ↦ at_other d (text_byte code) r (code ∷ rest) st e (seen_as_itself 59 refl code ∙ h) (no_end code rest h)
     ]
     by_rest d (code ∷ rest) is (tab {q = r} few e _ s) st most = at_other d 9 r (9 ∷ rest) st e refl refl
 

@@ -3,7 +3,7 @@ use Rattle.std.proofs.Common.{◌≡◌, ◌∙◌, ℕ, Bool, true, false, ◌=
 use Rattle.std.proofs.lemmas.Bool.{eqb-true, or_cases, or_parts}
 use Rattle.std.specs.Char.{is_ascii_punctuation}
 use Rattle.definition_text.specs.Content.{is_eol}
-use Rattle.inline_codes.specs.Codes.{seen}
+use Rattle.inline_codes.specs.Codes.{text_byte}
 
 eol_bare : (c : ℕ) → is_eol c ≡ true → is_ascii_punctuation c ≡ false
 eol_bare c h = elim (or_cases ((c == 10) || (c == 13)) (c == 257) h) [
@@ -20,7 +20,7 @@ punctuation_by c true h = sym (eol_bare c h)
 punctuation_by c false h = refl
 
 -- a code is ASCII punctuation exactly if its byte is
-pub seen_punctuation : (c : ℕ) → is_ascii_punctuation (seen c) ≡ is_ascii_punctuation c
+pub seen_punctuation : (c : ℕ) → is_ascii_punctuation (text_byte c) ≡ is_ascii_punctuation c
 seen_punctuation c = punctuation_by c (is_eol c) refl
 
 feed_by : (c : ℕ) (b : Bool) → is_eol c ≡ b → ((if b then 10 else c) == 10) ≡ b
@@ -28,7 +28,7 @@ feed_by c true h = refl
 feed_by c false h = (or_parts (c == 10) (c == 13) (or_parts ((c == 10) || (c == 13)) (c == 257) h).0).0
 
 -- a code is a line ending exactly if its byte is a line feed
-pub seen_feed : (c : ℕ) → (seen c == 10) ≡ is_eol c
+pub seen_feed : (c : ℕ) → (text_byte c == 10) ≡ is_eol c
 seen_feed c = feed_by c (is_eol c) refl
 
 -- ASCII punctuation is no line feed
@@ -44,5 +44,5 @@ sort_by is c true feed back both h = elim (or_cases ((c == 10) || (c == 13)) (c 
 ]
 sort_by is c false feed back both h = refl
 
-pub seen_sort : (is : ℕ → Bool) → is 10 ≡ false → is 13 ≡ false → is 257 ≡ false → (c : ℕ) → is (seen c) ≡ is c
+pub seen_sort : (is : ℕ → Bool) → is 10 ≡ false → is 13 ≡ false → is 257 ≡ false → (c : ℕ) → is (text_byte c) ≡ is c
 seen_sort is feed back both c = sort_by is c (is_eol c) feed back both refl

@@ -26,7 +26,7 @@ use Rattle.inline_states_table.specs.Words.{more, next, retry}
 use Rattle.inline_states_leaves.specs.RawText.{begins_run}
 use Rattle.inline_states.specs.declared.inlines.Inlines.{Inlines}
 use Rattle.inline_states.specs.Inlines.{bodies}
-use Rattle.inline_codes.specs.Codes.{Sees, byte, nothing, seen, tab}
+use Rattle.inline_codes.specs.Codes.{Sees, byte, nothing, tab, text_byte}
 use Rattle.inline_verdicts.specs.RawText.{Pieces, SpanNames, SpanVerdict, is_text, of_span, spanning}
 use Rattle.inline_verdicts.specs.Verdicts.{Reads}
 use Rattle.inline_verdicts.proofs.Loops.{Over, byte_at, end_at, fed, goes_to, over, stays_to, still_at, stops}
@@ -287,7 +287,7 @@ module _ {T : Type 0} (texts : List ℕ → Option (List ℕ)) (is_punctuation :
           → Verdict_by (span_by m cs (run_of m size false rest))
       by_sight [] is (nothing e) h k l = stops_after h k (RawStates.opening_none texts is_punctuation x after (end_at opened_all.at e))
       by_sight (code ∷ rest) is (byte apart e _) h k l =
-          subst (λ (ds : List ℕ). Verdict_by (span_by m cs (run_of m size false ds))) is (goes_in h k l (seen code) (byte_at opened_all.at e))
+          subst (λ (ds : List ℕ). Verdict_by (span_by m cs (run_of m size false ds))) is (goes_in h k l (text_byte code) (byte_at opened_all.at e))
       by_sight (code ∷ rest) is (tab some_left e _ _) h k l =
           subst (λ (ds : List ℕ). Verdict_by (span_by m cs (run_of m size false ds))) is (goes_in h k l 9 (byte_at opened_all.at e))
 

@@ -8,7 +8,7 @@ use Rattle.engine_events.specs.declared.place.Point.{Point}
 use Rattle.markdown_engine.specs.Reading.{byte_of}
 use Rattle.markdown_engine.specs.VirtualText.{Text, as_byte}
 use Rattle.engine_programs.specs.Bodies.{has}
-use Rattle.inline_codes.specs.Codes.{Fills, Sees, byte, column, full, nothing, seen, tab}
+use Rattle.inline_codes.specs.Codes.{Fills, Sees, byte, column, full, nothing, tab, text_byte}
 use Rattle.inline_verdicts.specs.Stretch.{Stretch, ended, longer}
 
 drop_next : (k c : ℕ) (cs : List ℕ) → drop (1 + k) (c ∷ cs) ≡ drop k cs
@@ -33,7 +33,7 @@ seen_by m c true plain h = eol_differs m 10 plain refl ∙ sym (eol_differs m c 
 seen_by m c false plain h = refl
 
 -- a byte that is no line ending is a code's only where it is the code
-pub seen_as_itself : (m : ℕ) → is_eol m ≡ false → (c : ℕ) → (seen c == m) ≡ (c == m)
+pub seen_as_itself : (m : ℕ) → is_eol m ≡ false → (c : ℕ) → (text_byte c == m) ≡ (c == m)
 seen_as_itself m plain c = seen_by m c (is_eol c) plain refl
 
 module _ (text : Text) (is : ℕ → Bool) where
@@ -66,7 +66,7 @@ module _ (text : Text) (is : ℕ → Bool) where
     sees = subst (λ (ds : List ℕ). Sees text f.end ds) (sym (rest_more is c cs h)) f.sees;
   }
 
-  module _ (no_tab : is 9 ≡ false) (itself : (c : ℕ) → is (seen c) ≡ is c) where
+  module _ (no_tab : is 9 ≡ false) (itself : (c : ℕ) → is (text_byte c) ≡ is c) where
     pub run_seen : (cs : List ℕ) {q : Point} → Sees text q cs → Run q cs
     run_seen [] {q} (nothing e) = record { end = q; stretch = ended (no_byte e); sees = nothing e }
     run_seen (c ∷ cs) {q} (byte {q = r} apart e s) = elim (cases_Bool (is c)) [
@@ -79,7 +79,7 @@ module _ (text : Text) (is : ℕ → Bool) where
 
   -- a code as it is seen
   abbrev pub sight : ℕ → Bool
-  sight c = is (seen c)
+  sight c = is (text_byte c)
 
   pub record Part (q : Point) (cs : List ℕ) : Type 0 where
     pub count : ℕ
