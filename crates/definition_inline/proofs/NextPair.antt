@@ -10,7 +10,8 @@ use Rattle.std.proofs.lemmas.List.{append-nil, get_or-take, get_or_append_left, 
 use Rattle.definition_inline.specs.Attention.{Run}
 use Rattle.definition_inline.specs.Pairing.{Pair, OpenRun, open_run, Pairing, pairing, is_eligible, taken_by, without, openers_of, pair_of, with_opener}
 use Rattle.definition_inline.specs.Pairing.{with_pair, up_to_nearest, nearest, close, next_run, placed_from, pairs}
-use Rattle.definition_inline.specs.NextPair.{no_run, run_of, taken_at, used, left_at, is_inside, last_closer, IsEligiblePair, IsNextPair, AreNext, NoMore}
+use Rattle.definition_inline.specs.NextPair.{no_run, run_of, taken_at, total_taken, left_at, is_inside, last_closer, IsEligiblePair, IsNextPair}
+use Rattle.definition_inline.specs.NextPair.{AreNext, NoMore}
 use Rattle.definition_inline.specs.NextPair.{NextIs}
 use Rattle.definition_inline.proofs.NearestOpener.{nearest_eligible, none_after}
 use Rattle.definition_inline.proofs.ClosingRuns.{takes_some, takes_left, stops, goes_on}
@@ -31,14 +32,14 @@ neither false y e = refl
 -- a run that it takes nothing of
 left_same : (runs : List Run) (p : Pair) (ps : List Pair) (place : ℕ) → taken_at place p ≡ 0 → left_at runs (p ∷ ps) place ≡ left_at runs ps place
 left_same runs p ps place none =
-    let e : taken_at place p + used ps place ≡ used ps place = omega (arith, none) in ap (λ n. without n (open_run (run_of runs place) place)) e
+    let e : taken_at place p + total_taken ps place ≡ total_taken ps place = omega (arith, none) in ap (λ n. without n (open_run (run_of runs place) place)) e
 
 -- a run that it takes some of
 left_less : (runs : List Run) (p : Pair) (ps : List Pair) (place : ℕ) → taken_at place p ≡ p.taken
     → left_at runs (p ∷ ps) place ≡ without p.taken (left_at runs ps place)
 left_less runs p ps place some =
     let r = run_of runs place in
-    let e : r.left - (taken_at place p + used ps place) ≡ r.left - used ps place - p.taken = omega (arith, some) in
+    let e : r.left - (taken_at place p + total_taken ps place) ≡ r.left - total_taken ps place - p.taken = omega (arith, some) in
     ap (λ n. open_run (record r { left = n }) place) e
 
 other_place : (p : Pair) (place : ℕ) → (p.opener ≡ place → ⊥) → (p.closer ≡ place → ⊥) → taken_at place p ≡ 0
@@ -234,7 +235,7 @@ widen runs ps end later xs h le inside =
 -- what is known before the run at a place has closed what it can
 record Knows (runs : List Run) (ps : List Pair) (place : ℕ) (xs : List OpenRun) : Type 0 where
   covers : Covers runs ps place xs
-  untouched : (j : ℕ) → place < j → used ps j ≡ 0
+  untouched : (j : ℕ) → place < j → total_taken ps j ≡ 0
   outside : (j : ℕ) → place ≤ j → is_inside ps j ≡ false
   last : last_closer ps ≤ place
   none : (i j : ℕ) → last_closer ps ≤ j → j < place → IsEligiblePair runs ps i j → ⊥
@@ -389,7 +390,7 @@ record After (runs : List Run) (ps : List Pair) (place : ℕ) (s t : Pairing) : 
   same : t.pairs ≡ s.pairs ++ added
   so_far : List Pair
   knows : Knows runs so_far (place + 1) t.openers
-  fresh : used so_far (place + 1) ≡ 0
+  fresh : total_taken so_far (place + 1) ≡ 0
   chain : (others : List Pair) → AreNext runs so_far others → AreNext runs ps (added ++ others)
 
 passes : (n : ℕ) (runs : List Run) (ps : List Pair) (place : ℕ) (s : Pairing) → Knows runs ps place s.openers
@@ -444,10 +445,11 @@ closes (suc n) runs ps place s h fuel =
     ]
 
 -- a run of which nothing was taken
-left_fresh : (runs : List Run) (ps : List Pair) (place : ℕ) (r : Run) → used ps place ≡ 0 → run_of runs place ≡ r → left_at runs ps place ≡ open_run r place
+left_fresh : (runs : List Run) (ps : List Pair) (place : ℕ) (r : Run) → total_taken ps place ≡ 0 → run_of runs place ≡ r
+    → left_at runs ps place ≡ open_run r place
 left_fresh runs ps place r none there =
-    let e : r.left - used ps place ≡ r.left = omega arith in
-    ap (λ (x : Run). without (used ps place) (open_run x place)) there ∙ ap (λ n. open_run (record r { left = n }) place) e
+    let e : r.left - total_taken ps place ≡ r.left = omega arith in
+    ap (λ (x : Run). without (total_taken ps place) (open_run x place)) there ∙ ap (λ n. open_run (record r { left = n }) place) e
 
 eligible_may_close : (o c : OpenRun) → is_eligible o c ≡ true → c.run.may_close ≡ true
 eligible_may_close o c h = grind (arith, common_steps)
@@ -466,7 +468,7 @@ record Rest (runs : List Run) (ps : List Pair) (s t : Pairing) : Type 0 where
   next : AreNext runs ps added
 
 rest : (done others runs : List Run) (place : ℕ) (ps : List Pair) (s : Pairing) → runs ≡ done ++ others → length done ≡ place
-    → Knows runs ps place s.openers → used ps place ≡ 0 → Rest runs ps s (fold next_run s (placed_from place others))
+    → Knows runs ps place s.openers → total_taken ps place ≡ 0 → Rest runs ps s (fold next_run s (placed_from place others))
 rest done [] runs place ps s e size h fresh =
     let all : length runs ≡ place = ap length e ∙ ap length (append-nil done) ∙ size in
     record {

@@ -17,13 +17,13 @@ abbrev pub taken_at : ℕ → Pair → ℕ
 taken_at place p = if (p.opener == place) || (p.closer == place) then p.taken else 0
 
 -- how many the pairs so far take
-abbrev pub used : List Pair → ℕ → ℕ
-used [] place = 0
-used (p ∷ ps) place = taken_at place p + used ps place
+abbrev pub total_taken : List Pair → ℕ → ℕ
+total_taken [] place = 0
+total_taken (p ∷ ps) place = taken_at place p + total_taken ps place
 
 -- what is left of the run at a place
 abbrev pub left_at : List Run → List Pair → ℕ → OpenRun
-left_at runs so_far place = without (used so_far place) (open_run (run_of runs place) place)
+left_at runs so_far place = without (total_taken so_far place) (open_run (run_of runs place) place)
 
 -- a place strictly inside of a pair
 abbrev pub is_within : ℕ → Pair → Bool

@@ -8,7 +8,7 @@ use Rattle.std.proofs.lemmas.List.{get_or_past, get_or_default}
 use Rattle.std.proofs.lemmas.List.Sums.{sum_by-cons}
 use Rattle.definition_inline.specs.Attention.{Run}
 use Rattle.definition_inline.specs.Pairing.{Pair, pairs}
-use Rattle.definition_inline.specs.NextPair.{no_run, run_of, taken_at, used, left_at, IsNextPair, AreNext, NoMore, NextIs}
+use Rattle.definition_inline.specs.NextPair.{no_run, run_of, taken_at, total_taken, left_at, IsNextPair, AreNext, NoMore, NextIs}
 use Rattle.definition_inline.specs.Spans.{bytes_taken}
 use Rattle.definition_inline.proofs.ClosingRuns.{takes_some, takes_left, takes_opener}
 use Rattle.definition_inline.proofs.NextPair.{are_next}
@@ -21,7 +21,7 @@ AreOrdered n (p ∷ ps) = (p.opener < p.closer) × (p.closer < n) × AreOrdered 
 -- nothing is left of what isn't a run
 none_past : (runs : List Run) (so_far : List Pair) (place : ℕ) → length runs ≤ place → (left_at runs so_far place).run.left ≡ 0
 none_past runs so_far place past = let is : run_of runs place ≡ no_run = get_or_past runs place no_run past in
-    ap (λ (r : Run). r.left - used so_far place) is ∙ (let z : 0 - used so_far place ≡ 0 = omega arith in z)
+    ap (λ (r : Run). r.left - total_taken so_far place) is ∙ (let z : 0 - total_taken so_far place ≡ 0 = omega arith in z)
 
 ordered : (runs : List Run) (so_far ps : List Pair) → AreNext runs so_far ps → AreOrdered (length runs) ps
 ordered runs _ _ (NoMore so_far none) = tt
@@ -62,14 +62,14 @@ one_place : (place : ℕ) (p : Pair) → p.opener < p.closer → taken_at place 
 one_place place p lt = grind (arith, common_steps)
 
 fits_at : (runs : List Run) (so_far : List Pair) (place q taken : ℕ) → q ≡ place → taken ≤ (left_at runs so_far q).run.left
-    → used so_far place ≤ (run_of runs place).left
-    → taken + used so_far place ≤ (run_of runs place).left
+    → total_taken so_far place ≤ (run_of runs place).left
+    → taken + total_taken so_far place ≤ (run_of runs place).left
 fits_at runs so_far place q taken is le fits =
     let here : taken ≤ (left_at runs so_far place).run.left = subst (λ n. taken ≤ (left_at runs so_far n).run.left) is le in
     omega arith
 
-one_fits : (runs : List Run) (so_far : List Pair) (place : ℕ) (p : Pair) → IsNextPair runs so_far p → used so_far place ≤ (run_of runs place).left
-    → taken_at place p + used so_far place ≤ (run_of runs place).left
+one_fits : (runs : List Run) (so_far : List Pair) (place : ℕ) (p : Pair) → IsNextPair runs so_far p → total_taken so_far place ≤ (run_of runs place).left
+    → taken_at place p + total_taken so_far place ≤ (run_of runs place).left
 one_fits runs so_far place p next fits =
     let o = left_at runs so_far p.opener in
     let c = left_at runs so_far p.closer in
@@ -97,8 +97,8 @@ one_fits runs so_far place p next fits =
           ]
     ]
 
-all_fit : (runs : List Run) (so_far ps : List Pair) (place : ℕ) → AreNext runs so_far ps → used so_far place ≤ (run_of runs place).left
-    → used so_far place + taken_here place ps ≤ (run_of runs place).left
+all_fit : (runs : List Run) (so_far ps : List Pair) (place : ℕ) → AreNext runs so_far ps → total_taken so_far place ≤ (run_of runs place).left
+    → total_taken so_far place + taken_here place ps ≤ (run_of runs place).left
 all_fit runs _ _ place (NoMore so_far none) fits = omega arith
 all_fit runs _ _ place (NextIs so_far p others next rest) fits =
     let one = one_fits runs so_far place p next fits in
