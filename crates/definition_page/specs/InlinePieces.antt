@@ -12,7 +12,7 @@ use Rattle.definition_inline.specs.Inline.{Image, Call, Inlines, Nil, Cons}
 use Rattle.definition_inline.specs.LabelMatch.{normal_label, first_match}
 use Rattle.definition_inline.specs.Strings.{string_text}
 use Rattle.definition_page.specs.GfmTagfilter.{filter_if}
-use Rattle.definition_page.specs.Urls.{percent, sanitize, permitted, href_protocols, src_protocols}
+use Rattle.definition_page.specs.Urls.{percent, sanitize, permits, href_protocols, src_protocols}
 use Rattle.definition_page.specs.Tags.{Said, Words, AsItIs, EndOfLine, Attribute, attribute, Tag, tag, bare_tag}
 use Rattle.definition_page.specs.Pieces.{Piece, Open, Close, Void, Says, CallOf, CountOf}
 
@@ -66,7 +66,7 @@ html_says options html = html_lines_say options (html_lines html)
 
 -- a URL, if it has one of these protocols or none, or all are allowed; otherwise the empty one
 abbrev pub permitted_url : Bool → List (List ℕ) → List ℕ → List ℕ
-permitted_url all protocols url = if all || permitted protocols (sanitize url) then percent url else []
+permitted_url all protocols url = if all || permits protocols (sanitize url) then percent url else []
 
 abbrev pub link_url : CompileOptions → List ℕ → List ℕ
 link_url options url = permitted_url options.allow_dangerous_protocol href_protocols url

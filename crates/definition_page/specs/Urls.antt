@@ -61,12 +61,13 @@ abbrev pub is_permitted : List (List ℕ) → Option (List ℕ) → Bool
 is_permitted protocols None = true
 is_permitted protocols (Some name) = list_any (λ p. bytes_eq p (lower name)) protocols
 
-abbrev pub permitted : List (List ℕ) → List ℕ → Bool
-permitted protocols url = is_permitted protocols (protocol url)
+-- whether these protocols permit a URL
+abbrev pub permits : List (List ℕ) → List ℕ → Bool
+permits protocols url = is_permitted protocols (protocol url)
 
 -- a URL as it is printed where only these protocols are permitted: nothing with another one
 abbrev pub sanitized_with : List (List ℕ) → List ℕ → List ℕ
-sanitized_with protocols url = if permitted protocols (sanitize url) then sanitize url else []
+sanitized_with protocols url = if permits protocols (sanitize url) then sanitize url else []
 
 -- the protocols that are permitted for links
 unfoldable pub href_protocols : List (List ℕ)

@@ -10,7 +10,7 @@ use Rattle.definition_text.specs.Encode.{encode, encoded_byte, plain}
 use Rattle.definition_inline.specs.Inline.{Linked, Inline, Data, Escape, Character, Code, Math, Autolink, Literal, Html, EscapedBreak, TrailingBreak, LineEnd}
 use Rattle.definition_inline.specs.Inline.{Emphasis, Strong, Strikethrough, Link, Image, Call, Inlines, Nil, Cons}
 use Rattle.definition_inline.specs.Strings.{string_text, eol_bytes}
-use Rattle.definition_page.specs.Urls.{percent, sanitize, permitted, href_protocols, src_protocols}
+use Rattle.definition_page.specs.Urls.{percent, sanitize, permits, href_protocols, src_protocols}
 use Rattle.definition_page.specs.GfmTagfilter.{filter_if}
 use Rattle.definition_page.specs.Tags.{Said, Words, AsItIs, EndOfLine, said_bytes, attribute, attribute_bytes, tag, bare_tag, start_tag, end_tag, void_tag}
 use Rattle.definition_inline.specs.LabelMatch.{first_match, normal_label}
@@ -67,9 +67,9 @@ html_said options html = lines_said options (html_lines html)
 -- ---- links
 
 url_said : (all : Bool) (protocols : List (List ℕ)) (url : List ℕ)
-    → encode (page.permitted_url all protocols url) ≡ cond all (sanitize url) (cond (permitted protocols (sanitize url)) (sanitize url) [])
+    → encode (page.permitted_url all protocols url) ≡ cond all (sanitize url) (cond (permits protocols (sanitize url)) (sanitize url) [])
 url_said true protocols url = refl
-url_said false protocols url = by_case (permitted protocols (sanitize url))
+url_said false protocols url = by_case (permits protocols (sanitize url))
   where
     by_case : (t : Bool) → encode (cond t (percent url) []) ≡ cond t (sanitize url) []
     by_case true = refl

@@ -4,7 +4,7 @@ use Rattle.std.specs.List.{list_all}
 use Rattle.std.proofs.lemmas.Bool.{cases_Bool, cond-true, cond-false}
 use Rattle.std.proofs.lemmas.List.Folds.{list_all-append}
 use Rattle.definition_text.specs.Encode.{encode, encoded_byte, replacement_character}
-use Rattle.definition_page.specs.Urls.{permitted, sanitize, sanitized_with}
+use Rattle.definition_page.specs.Urls.{permits, sanitize, sanitized_with}
 use Rattle.html_escape.specs.Laws.{is_inert}
 
 abbrev all_inert : List ℕ → Bool
@@ -35,11 +35,11 @@ encode_law [] = refl
 encode_law (b ∷ bs) =
     list_all-append is_inert (encoded_byte b) (encode bs) ∙ ap (λ x. x && all_inert (encode bs)) (byte_inert b) ∙ encode_law bs
 
-pub protocol_law : (protocols : List (List ℕ)) (url : List ℕ) → permitted protocols (sanitized_with protocols url) ≡ true
+pub protocol_law : (protocols : List (List ℕ)) (url : List ℕ) → permits protocols (sanitized_with protocols url) ≡ true
 protocol_law protocols url =
     let printed = sanitize url in
-    let test = permitted protocols printed in
+    let test = permits protocols printed in
     elim (cases_Bool test) [
-      | inl h ↦ ap (permitted protocols) (cond-true test printed [] h) ∙ h
-      | inr h ↦ ap (permitted protocols) (cond-false test printed [] h)
+      | inl h ↦ ap (permits protocols) (cond-true test printed [] h) ∙ h
+      | inr h ↦ ap (permits protocols) (cond-false test printed [] h)
     ]

@@ -3,7 +3,7 @@ use Rattle.std.specs.Prelude.{◌≡◌, ℕ, Bool, true, not, ◌==◌, ◌||�
 use Rattle.std.specs.List.{list_all}
 use Rattle.definition_text.specs.Ascii.{double_quote, less_than, greater_than}
 use Rattle.definition_text.specs.Encode.{encode}
-use Rattle.definition_page.specs.Urls.{permitted, sanitized_with}
+use Rattle.definition_page.specs.Urls.{permits, sanitized_with}
 
 -- a byte that neither begins nor ends a tag nor ends a quoted value
 abbrev pub is_inert : ℕ → Bool
@@ -15,4 +15,4 @@ EncodeLaw = (text : List ℕ) → IsTrue (list_all is_inert (encode text))
 
 -- what is printed for a URL has a permitted protocol, or none
 abbrev pub ProtocolLaw : Type 0
-ProtocolLaw = (protocols : List (List ℕ)) (url : List ℕ) → permitted protocols (sanitized_with protocols url) ≡ true
+ProtocolLaw = (protocols : List (List ℕ)) (url : List ℕ) → permits protocols (sanitized_with protocols url) ≡ true

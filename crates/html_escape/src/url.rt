@@ -10,7 +10,7 @@ ghost use Rattle.std.specs.Option.{option_copied};
 ghost use Rattle.std.specs.Str.{IsCharBoundary, bytes_eq};
 ghost use Rattle.markdown_options.specs.Messages.{IsOutOfMemory};
 ghost use Rattle.definition_text.specs.Bytes.{lower};
-ghost use Rattle.definition_page.specs.Urls.{is_kept, is_url_byte, ends_escape, sanitize, sanitized_with, in_protocol, ends_protocol, protocol, permitted};
+ghost use Rattle.definition_page.specs.Urls.{is_kept, is_url_byte, ends_escape, sanitize, sanitized_with, in_protocol, ends_protocol, protocol, permits};
 ghost use Rattle.html_escape.specs.Tools.{is_plain_byte, url_byte};
 
 use markdown_options::Message;
@@ -71,7 +71,7 @@ pub fn push_sanitized_with_protocols<A: Allocator>(
 
 /// Whether a URL has no protocol, or one of these, which are in lower case.
 pub fn is_permitted(protocols: &[&str], url: &[u8]) -> bool
-    ensures { result ≡ permitted (map (λ p. p.now) protocols.now) url.now }
+    ensures { result ≡ permits (map (λ p. p.now) protocols.now) url.now }
 {
     match protocol(url) {
         None => true,

@@ -8,7 +8,7 @@ use Rattle.std.specs.Str.{bytes_eq}
 use Rattle.std.proofs.lemmas.Bool.{cases_Bool, cond-true, cond-false, true≢false, false≢true, and_parts}
 use Rattle.std.proofs.lemmas.List.Sums.{take_while-cons}
 use Rattle.definition_text.specs.Bytes.{lower, after_all}
-use Rattle.definition_page.specs.Urls.{in_protocol, protocol, begins_with_colon, is_permitted, permitted, href_protocols, src_protocols}
+use Rattle.definition_page.specs.Urls.{in_protocol, protocol, begins_with_colon, is_permitted, permits, href_protocols, src_protocols}
 use Rattle.html_safe_page.specs.SafePage.{Kind, And, Quote, Less, Greater, Plain, kind, spell_kind, spell_letter, spell_text, is_value, Attribute}
 use Rattle.html_safe_page.specs.SafePage.{attribute_start}
 use Rattle.html_safe_page.specs.Reader.{and_then, strip, read_text, before_quote, read_value, read_attributes, attribute}
@@ -129,7 +129,7 @@ permitted_option : (protocols : List (List ℕ)) (o : Option (List ℕ)) → lis
 permitted_option protocols None h = refl
 permitted_option protocols (Some n) h = names_same protocols n h
 
-permitted_spelled : (protocols : List (List ℕ)) (text : List ℕ) → list_all all_plain protocols ≡ true → permitted protocols (sp text) ≡ permitted protocols text
+permitted_spelled : (protocols : List (List ℕ)) (text : List ℕ) → list_all all_plain protocols ≡ true → permits protocols (sp text) ≡ permits protocols text
 permitted_spelled protocols text h = ap (is_permitted protocols) (protocol_spelled text) ∙ permitted_option protocols (protocol text) h
 
 href_plain : list_all all_plain href_protocols ≡ true
@@ -144,8 +144,8 @@ pub value_spelled : (name text : List ℕ) → is_value name text ≡ is_value n
 value_spelled name text =
     let href = bytes_eq name (codes "href") in
     let src = bytes_eq name (codes "src") in
-    ap (λ x. cond href x (cond src (permitted src_protocols text) true)) (sym (permitted_spelled href_protocols text href_plain))
-    ∙ ap (λ x. cond href (permitted href_protocols (sp text)) (cond src x true)) (sym (permitted_spelled src_protocols text src_plain))
+    ap (λ x. cond href x (cond src (permits src_protocols text) true)) (sym (permitted_spelled href_protocols text href_plain))
+    ∙ ap (λ x. cond href (permits href_protocols (sp text)) (cond src x true)) (sym (permitted_spelled src_protocols text src_plain))
 
 -- ---- values
 

@@ -3,7 +3,7 @@ use Rattle.std.specs.Prelude.{◌≡◌, ℕ, Bool, true, false, if◌then◌els
 use Rattle.std.specs.List.{list_any, list_all}
 use Rattle.std.specs.Str.{bytes_eq}
 use Rattle.definition_text.specs.Ascii.{space, double_quote, ampersand, slash, less_than, greater_than}
-use Rattle.definition_page.specs.Urls.{permitted, href_protocols, src_protocols}
+use Rattle.definition_page.specs.Urls.{permits, href_protocols, src_protocols}
 use Rattle.html_safe_page.specs.Table.{Row, start_rows, void_rows}
 
 -- ---- letters
@@ -108,8 +108,8 @@ is_of_row tag row = bytes_eq row.name tag.name && are_named row.attributes tag.a
 -- the URLs that an attribute of this name takes
 abbrev pub is_value : List ℕ → List ℕ → Bool
 is_value name value =
-    if bytes_eq name (codes "href") then permitted href_protocols value
-    else (if bytes_eq name (codes "src") then permitted src_protocols value else true)
+    if bytes_eq name (codes "href") then permits href_protocols value
+    else (if bytes_eq name (codes "src") then permits src_protocols value else true)
 
 abbrev pub is_tag_of : List Row → Tag → Bool
 is_tag_of rows tag = list_any (is_of_row tag) rows && list_all (λ a. is_value a.name a.value) tag.attributes

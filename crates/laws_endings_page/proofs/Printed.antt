@@ -13,7 +13,7 @@ use Rattle.definition_inline.specs.Inline.{Literal, Html, EscapedBreak, Trailing
 use Rattle.definition_inline.specs.Inline.{Nil, Cons}
 use Rattle.definition_inline.specs.LabelMatch.{normal_label, place_of, first_match}
 use Rattle.definition_inline.specs.Strings.{string_text}
-use Rattle.definition_page.specs.Urls.{percent, permitted, sanitize, href_protocols, src_protocols}
+use Rattle.definition_page.specs.Urls.{percent, permits, sanitize, href_protocols, src_protocols}
 use Rattle.definition_page.specs.Tags.{Said, Words, EndOfLine, Attribute, attribute, attribute_bytes}
 use Rattle.definition_page.specs.Pieces.{Piece, Void, Says}
 use Rattle.definition_page.specs.InlinePieces.{Meaning, permitted_url, link_url, image_url, leads_to, url_of, title_attributes, title_attribute, link_tag}
@@ -69,7 +69,7 @@ module _ (e : LineEnding) where
 
     permitted_no_feed : (all : Bool) (protocols : List (List ℕ)) (url : List ℕ) → Each IsNoFeed (permitted_url all protocols url)
     permitted_no_feed all protocols url =
-        cond_both (all || permitted protocols (sanitize url)) (percent url) [] (Each IsNoFeed) (λ _. percent_no_feed url) (λ _. tt)
+        cond_both (all || permits protocols (sanitize url)) (percent url) [] (Each IsNoFeed) (λ _. percent_no_feed url) (λ _. tt)
 
     words_one : (text : List ℕ) → Each IsNoFeed text → SaidsWith e (Words text ∷ []) (Words text ∷ [])
     words_one text p = says_one e (Words text) (Words text) (words-kept e text p)

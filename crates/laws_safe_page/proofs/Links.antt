@@ -2,7 +2,7 @@
 use Rattle.std.proofs.Common.{◌≡◌, ℕ, Bool, true, false, ◌&&◌, ◌||◌, List, [], ◌∷◌, Option, None, Some, codes, sym, refl, ap, ◌∙◌, append-nil}
 use Rattle.std.proofs.lemmas.Bool.{cond_both}
 use Rattle.definition_text.specs.Encode.{encode, plain}
-use Rattle.definition_page.specs.Urls.{percent, sanitize, permitted, href_protocols, src_protocols}
+use Rattle.definition_page.specs.Urls.{percent, sanitize, permits, href_protocols, src_protocols}
 use Rattle.definition_page.specs.Tags.{Said, Words, said_bytes, attribute, Attribute, Tag, tag}
 use Rattle.definition_page.specs.InlinePieces.{Meaning, permitted_url, link_url, image_url, title_attributes, title_attribute}
 use Rattle.html_safe_page.specs.Table.{start_rows, void_rows}
@@ -21,11 +21,11 @@ tested_as_printed : (name text : List ℕ) → is_value name (plain text) ≡ is
 tested_as_printed name text = value_tested name (plain text) ∙ ap (is_value name) (sym (encode_spelled text))
 
 only_permitted : (all : Bool) (protocols : List (List ℕ)) (url : List ℕ) → all ≡ false
-    → ((text : List ℕ) → permitted protocols (plain text) ≡ permitted protocols (encode text))
-    → permitted protocols (plain (permitted_url all protocols url)) ≡ true
+    → ((text : List ℕ) → permits protocols (plain text) ≡ permits protocols (encode text))
+    → permits protocols (plain (permitted_url all protocols url)) ≡ true
 only_permitted all protocols url off same =
-    let test = permitted protocols (sanitize url) in
-    cond_both (all || test) (percent url) [] (λ x. permitted protocols (plain x) ≡ true)
+    let test = permits protocols (sanitize url) in
+    cond_both (all || test) (percent url) [] (λ x. permits protocols (plain x) ≡ true)
     (λ e. same (percent url) ∙ ap (λ b. b || test) (sym off) ∙ e) (λ _. refl)
 
 -- ---- attributes
@@ -34,10 +34,10 @@ abbrev pub words_text : (text : List ℕ) → IsText (flat_map said_bytes (Words
 words_text text = (plain text, append-nil (encode text) ∙ encode_spelled text, ap has_no_nul (append-nil (encode text)) ∙ encode_no_nul text)
 
 module _ (m : Meaning) (safe : AreSafe m.compile) where
-  link_permitted : (url : List ℕ) → permitted href_protocols (plain (link_url m.compile url)) ≡ true
+  link_permitted : (url : List ℕ) → permits href_protocols (plain (link_url m.compile url)) ≡ true
   link_permitted url = only_permitted m.compile.allow_dangerous_protocol href_protocols url safe.no_protocol (tested_as_printed (codes "href"))
 
-  image_permitted : (url : List ℕ) → permitted src_protocols (plain (image_url m.compile url)) ≡ true
+  image_permitted : (url : List ℕ) → permits src_protocols (plain (image_url m.compile url)) ≡ true
   image_permitted url =
       only_permitted (m.compile.allow_any_img_src || m.compile.allow_dangerous_protocol) src_protocols url
       (ap (λ b. b || m.compile.allow_dangerous_protocol) safe.no_source ∙ safe.no_protocol) (tested_as_printed (codes "src"))
