@@ -21,8 +21,10 @@ use Rattle.markdown_engine.specs.KeptState.{KeptState}
 use Rattle.markdown_engine.specs.Laws.{AreNested, OnlyAdds, remaining}
 use Rattle.markdown_engine.specs.Machine.{frame_at, past_byte, with_enter, with_exit, to_run_first, to_run_last}
 use Rattle.markdown_engine.specs.Order.{AreTidy, IsTidy, Reaches, open_after, text_start}
-use Rattle.markdown_engine.specs.OrderLaws.{consumed_tidy, entered_opened, entered_tidy, exited_opened, exited_tidy, nested_append, order_more, stays}
+use Rattle.markdown_engine.specs.OrderLaws.{consumed_tidy, entered_opened, entered_tidy, exit_place, exited_opened, exited_tidy, nested_append}
+use Rattle.markdown_engine.specs.OrderLaws.{order_more, stays}
 use Rattle.markdown_engine.specs.Reading.{Config, Effect, Frame, mark}
+use Rattle.markdown_engine.specs.StepLaws.{same_front}
 use Rattle.markdown_engine.specs.VirtualText.{is_feed}
 use Rattle.engine_programs.specs.Bodies.{Token, Body, Answer, Consume, Enter, EnterLink, Exit, Keep, Hold, Flag, Register, RegisterFirst, Tries, Byte, On}
 use Rattle.engine_programs.specs.Bodies.{AfterFeed, Test, flagging, has, holding, keeping, name_of, names_of, run, step_by, with_held_name}
@@ -31,8 +33,8 @@ use Rattle.engine_programs.specs.Sorts.{is_nok, leads, left_open, may_end, nok_f
 use Rattle.engine_programs.specs.Sorts.{waits_lower, wants_end}
 use Rattle.engine_programs.specs.Stacks.{Ahead, At, Far, HasByte, IsValid, Mark, Marks, MayExit, NokGoes, OkGoes, Suits, below, ends_back, left_by}
 use Rattle.engine_programs.specs.Stacks.{must_go_well, needs_byte, needs_end, program_waits, program_weight}
-use Rattle.engine_programs.specs.NameLaws.{by_byte_each, either_way, exit_here, exit_place, feed_among, fixed_same, has_each, has_none, has_some, implied}
-use Rattle.engine_programs.specs.NameLaws.{names_same, nested_on, none_is, not_so, not_true, or_false, or_first, or_second, same_front, token_is, tokens_are}
+use Rattle.engine_programs.specs.NameLaws.{by_byte_each, either_way, exit_here, feed_among, fixed_same, has_each, has_none, has_some, implied}
+use Rattle.engine_programs.specs.NameLaws.{names_same, nested_on, none_is, not_so, not_true, or_false, or_first, or_second, token_is, tokens_are}
 use Rattle.engine_programs.specs.StackLaws.{SameBelow, all_same, below_same, far_less, far_weak, marks_more, marks_same, plain_same}
 
 -- ---- events are only added

@@ -1,6 +1,6 @@
 -- Tests that hold, the names of events, and places of exits.
 use Rattle.std.proofs.Common.{◌≡◌, ℕ, ◌∙◌, Bool, true, false, not, ◌==◌, ◌&&◌, ◌||◌, if◌then◌else◌, List, [], ◌∷◌, ◌++◌, Option, None, Some, refl, sym, ap}
-use Rattle.std.proofs.Common.{append-nil, append_assoc}
+use Rattle.std.proofs.Common.{append_assoc}
 use Rattle.std.proofs.lemmas.Bool.{and_parts, eqb-true}
 use denote.Enum.Bare.{same_true}
 use Rattle.engine_events.specs.contracts.event.Name.{the_type}
@@ -114,9 +114,6 @@ tokens_are (t ∷ ts) (u ∷ us) h =
 
 -- ---- events
 
-pub same_front : (a : List Event) → IsFront a a
-same_front a = ([], sym (append-nil a))
-
 pub front_on : (a b c : List Event) → IsFront a b → IsFront b c → IsFront a c
 front_on a b c h k = (h.0 ++ k.0, k.1 ∙ (ap (λ (z : List Event). z ++ k.0) h.1 ∙ append_assoc a h.0 k.0))
 
@@ -125,10 +122,6 @@ nested_on a b [] d h k = front_on a b d h k
 nested_on a b (f ∷ fs) d h k = (front_on a b f.start.events h k.0, k.1)
 
 -- ---- places of exits
-
-pub exit_place : (b : Bool) (p line : Point) → (if b then (if b then p else line) else p) ≡ p
-exit_place true p line = refl
-exit_place false p line = refl
 
 pub exit_on : (b : Bool) (line from to : Point) (es : List Event) → Reaches from to → (let p = if b then line else from in AreTidy es p × Reaches p from)
     → (let p = if b then line else to in AreTidy es p × Reaches p to)
