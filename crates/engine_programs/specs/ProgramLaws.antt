@@ -4,8 +4,6 @@ use Rattle.std.proofs.Common.{cond, Option, None, Some, refl, sym, ap, subst, ar
 use Rattle.std.proofs.lemmas.Bool.{and_parts, ltb-true}
 use Rattle.std.proofs.lemmas.List.{reverse-append, take-append-drop}
 use Rattle.std.proofs.Math.Nat.{mul-add, mul-le-mul_left}
-use Rattle.engine_edits.specs.Edits.{EditAt}
-use Rattle.engine_edits.specs.Replacement.{IsOrdered, events_after, places}
 use Rattle.engine_events.specs.declared.event.Event.{Event}
 use Rattle.engine_events.specs.declared.event.Name.{Name as EventName}
 use Rattle.engine_events.specs.declared.place.Point.{Point}
@@ -19,11 +17,11 @@ use Rattle.markdown_engine.specs.DescentLaws.{descends}
 use Rattle.markdown_engine.specs.KeptState.{nothing_kept}
 use Rattle.markdown_engine.specs.Laws.{ClosesAt, FallsAt, IsFed, KeepsAt, LawfulAt, MovesOn, TidiesAt, remaining}
 use Rattle.markdown_engine.specs.Machine.{fresh_config}
-use Rattle.markdown_engine.specs.Order.{AreWhole, IsTidy, Reaches, open_after}
+use Rattle.markdown_engine.specs.Order.{IsTidy, Reaches, open_after}
 use Rattle.markdown_engine.specs.OrderLaws.{fresh_tidy, handed_leads, handed_tidy, moved_tidy, stays}
 use Rattle.markdown_engine.specs.Reading.{Config, with_byte, at_point, restore, continuation}
 use Rattle.markdown_engine.specs.Resolving.{ResolvesAt, resolves_nothing, settles_whole}
-use Rattle.markdown_engine.specs.ResolvingLaws.{still_whole}
+use Rattle.markdown_engine.specs.ResolvingLaws.{no_edits, unedited}
 use Rattle.markdown_engine.specs.VirtualText.{is_feed}
 use Rattle.engine_programs.specs.Bodies.{Token, Body, names_of, run, step_by}
 use Rattle.engine_programs.specs.Sorts.{Sort, after_of, fits, is_nok, left_open, nok_height, ok_height, open_around, wants_end}
@@ -241,13 +239,6 @@ module _ (sorts : Name → Sort) (size : ℕ) where
     nok_weighs a st c states.Ok g = omega arith
     nok_weighs a st c states.Nok g = omega arith
 
--- no edits are made
-with_no_edits : (edits : List EditAt) (es : List Event) (to : Point) → edits ≡ [] → AreWhole es to → AreWhole (events_after edits es) to
-with_no_edits edits es to e h = subst (λ (z : List EditAt). AreWhole (events_after z es) to) (sym e) (still_whole (places [] (length es)) es to h)
-
-no_edits : (edits : List EditAt) (count : ℕ) → edits ≡ [] → IsOrdered 0 edits count
-no_edits edits count e = subst (λ (z : List EditAt). IsOrdered 0 z count) (sym e) (omega arith)
-
 module _ {M : Type 0} (sorts : Name → Sort) (most size : ℕ) (bodies : Name → Body M) (least : 1 < most) (fit : (n : Name)
     → fits sorts most n (bodies n) ≡ true) where
   bounds : (m : Name) → 2 * (sorts m).height + 1 < most
@@ -316,7 +307,7 @@ module _ {M : Type 0} (sorts : Name → Sort) (most size : ℕ) (bodies : Name �
     begins = λ c h. (h.unedited, ((h.tidy.nested, h.stands.0), h.tidy.order));
     keeps = λ c n ns h. h;
     ordered = λ c h. no_edits c.map (length c.events) h.0;
-    whole = λ c h. with_no_edits c.map c.events c.point h.0 h.1;
+    whole = λ c h. unedited c.map c.events c.point h.0 h.1;
   }
 
   -- what is open where a state is called

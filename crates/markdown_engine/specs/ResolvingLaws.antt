@@ -52,10 +52,10 @@ module _ (ps : Places) where
   still_whole es to h = ((still_nested [] es h.0.0, still_opened [] es ∙ h.0.1), still_in_order text_start to es h.1)
 
 -- no edits are made
-unedited : (edits : List EditAt) (es : List Event) (to : Point) → edits ≡ [] → AreWhole es to → AreWhole (events_after edits es) to
+pub unedited : (edits : List EditAt) (es : List Event) (to : Point) → edits ≡ [] → AreWhole es to → AreWhole (events_after edits es) to
 unedited edits es to e h = subst (λ (z : List EditAt). AreWhole (events_after z es) to) (sym e) (still_whole (places [] (length es)) es to h)
 
-no_edits : (edits : List EditAt) (count : ℕ) → edits ≡ [] → IsOrdered 0 edits count
+pub no_edits : (edits : List EditAt) (count : ℕ) → edits ≡ [] → IsOrdered 0 edits count
 no_edits edits count e = subst (λ (z : List EditAt). IsOrdered 0 z count) (sym e) (omega arith)
 
 module _ {M : Type 0} (size : ℕ) (valid : HoldsAt M) (step : Steps M) where
