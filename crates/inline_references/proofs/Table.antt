@@ -5,7 +5,7 @@ use Rattle.std.specs.Prelude.{map, is_some, nat_lt}
 use Rattle.std.specs.List.{filter_map, cons_option, find, flat_map, list_all, position_or_len, before_first, after_first}
 use Rattle.std.specs.Option.{option_and_then, option_map}
 use Rattle.std.specs.Str.{bytes_eq}
-use Rattle.std.proofs.lemmas.Bool.{cases_Bool, cond-true, cond-false, and_parts, ne_eqb}
+use Rattle.std.proofs.lemmas.Bool.{cases_Bool, cond-true, cond-false, and_parts, and_from, ne_eqb}
 use Rattle.std.proofs.lemmas.List.Folds.{list_all-append}
 use Rattle.std.proofs.lemmas.Slice.Eq.{bytes_eq-Decides}
 use Rattle.std.specs.Char.{encode_utf8}
@@ -49,9 +49,6 @@ in_order place (rows ∷ others) = list_all (λ (r : Row). is_at (group_of r.nam
 table_in_order : in_order 0 groups ≡ true
 table_in_order = refl
 
-both : (a b : Bool) → a ≡ true → b ≡ true → (a && b) ≡ true
-both a b h k = ap (λ x. x && b) h ∙ k
-
 not_yes : (b : Bool) → not b ≡ true → b ≡ false
 not_yes true h = sym h
 not_yes false h = refl
@@ -76,7 +73,7 @@ text_in_pieces (piece ∷ pieces) name =
           let is_row : row_in piece ≡ Some (row before after) = cond-true has _ _ p in
           elim (cases_Bool same) [
             | inl q ↦
-                let is : text_in_row piece name ≡ Some after = cond-true (has && same) _ _ (both has same p q) in
+                let is : text_in_row piece name ≡ Some after = cond-true (has && same) _ _ (and_from has same p q) in
                 ap text is ∙ is ∙ sym (ap with_row is_row ∙ ap chosen q)
             | inr q ↦
                 let is : text_in_row piece name ≡ None = cond-false (has && same) _ _ (ap (λ x. x && same) p ∙ q) in
@@ -132,7 +129,7 @@ other_group (r ∷ rows) place name h all =
           let same : r.name ≡ name = (bytes_eq-Decides r.name name).0 p in
           let here : is_at (group_of name) place ≡ true = sym (ap (λ n. is_at (group_of n) place) same) ∙ parts.0 in
           cc
-      | inr p ↦ both (not (bytes_eq r.name name)) (no_row name rows) (ap not p) rest
+      | inr p ↦ and_from (not (bytes_eq r.name name)) (no_row name rows) (ap not p) rest
     ]
 
 -- none of these groups is that of a name
@@ -144,7 +141,7 @@ absent place (rows ∷ rest) name h order =
     let here = other_group (group_rows rows) place name (h place (omega arith)) parts.0 in
     let others = absent (suc place) rest name (λ i le. h i (omega arith)) parts.1 in
     list_all-append (λ (r : Row). not (bytes_eq r.name name)) (group_rows rows) (flat_map group_rows rest)
-    ∙ both (no_row name (group_rows rows)) (no_row name (flat_map group_rows rest)) here others
+    ∙ and_from (no_row name (group_rows rows)) (no_row name (flat_map group_rows rest)) here others
 
 -- the group of a name is the one at its place
 found : (place n : ℕ) (rest : List (List ℕ)) (name : List ℕ) → group_of name ≡ Some (place + n) → in_order place rest ≡ true

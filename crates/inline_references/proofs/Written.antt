@@ -3,7 +3,7 @@ use Rattle.std.proofs.Common.{◌≡◌, ℕ, ◌+◌, Bool, true, false, ◌&&�
 use Rattle.std.proofs.Common.{sym, ap, ◌∙◌, subst, inl, inr, arith, append_assoc}
 use Rattle.std.specs.Char.{is_ascii_digit, is_ascii_hexdigit, is_ascii_alphanumeric}
 use Rattle.std.specs.List.{list_all, prefix_len, take_while}
-use Rattle.std.proofs.lemmas.Bool.{cases_Bool, cond-true, cond-false, and_parts, or_cases, eqb-true, ne_eqb, leb-true, le-leb}
+use Rattle.std.proofs.lemmas.Bool.{cases_Bool, cond-true, cond-false, and_parts, and_from, or_cases, eqb-true, ne_eqb, leb-true, le-leb}
 use Rattle.std.proofs.lemmas.List.{length-take-le, take-append-drop}
 use Rattle.std.proofs.lemmas.List.Sums.{prefix_len-le-length, take_while-cons}
 use Rattle.std.proofs.Math.Seq.{drop-append_seam, take-append_seam}
@@ -12,9 +12,6 @@ use Rattle.definition_inline.specs.CharacterReference.{CharacterName, Named, Num
 use Rattle.definition_inline.specs.CharacterReference.{part_to_semicolon, number_of, reference_by_name, reference_by_number, number_reference, reference_after}
 use Rattle.definition_inline.specs.CharacterReference.{reference_form}
 use Rattle.inline_references.specs.Grammar.{IsValue, IsWritten, name, digits, lower_x, upper_x, WrittenIsRead, ReadIsWritten}
-
-both : (a b : Bool) → a ≡ true → b ≡ true → (a && b) ≡ true
-both a b h k = ap (λ x. x && b) h ∙ k
 
 -- bytes that pass, before one that doesn't
 prefix_all : (test : ℕ → Bool) (xs : List ℕ) (y : ℕ) (ys : List ℕ) → list_all test xs ≡ true → test y ≡ false → prefix_len test (xs ++ y ∷ ys) ≡ length xs
@@ -34,7 +31,7 @@ value_read test most value rest h semicolon =
     ap (part_to_semicolon test most) (append_assoc value (59 ∷ []) rest)
     ∙ ap found (prefix_all test value 59 rest h.bytes semicolon)
     ∙ cond-true (leb 1 (length value) && leb (length value) most) _ None
-    (both (leb 1 (length value)) (leb (length value) most) (le-leb 1 (length value) h.nonempty) (le-leb (length value) most h.bounded))
+    (and_from (leb 1 (length value)) (leb (length value) most) (le-leb 1 (length value) h.nonempty) (le-leb (length value) most h.bounded))
     ∙ ap (λ v. before_semicolon v (drop (length value) s)) (take-append_seam value (59 ∷ rest))
     ∙ ap (before_semicolon value) (drop-append_seam value (59 ∷ rest))
 
@@ -72,7 +69,7 @@ taken_pass test (x ∷ xs) =
     elim (cases_Bool (test x)) [
       | inl p ↦
           ap (list_all test) (take_while-cons test x xs ∙ cond-true (test x) (x ∷ take_while test xs) [] p)
-          ∙ both (test x) (list_all test (take_while test xs)) p (taken_pass test xs)
+          ∙ and_from (test x) (list_all test (take_while test xs)) p (taken_pass test xs)
       | inr p ↦ ap (list_all test) (take_while-cons test x xs ∙ cond-false (test x) (x ∷ take_while test xs) [] p)
     ]
 

@@ -1,6 +1,6 @@
 -- When a list is loose, by the numbers of lines.
 use Rattle.std.proofs.Common.{◌≡◌, ℕ, suc, ◌+◌, ◌≤◌, Bool, true, false, not, leb, ◌&&◌, ◌||◌, refl, sym, ap, ◌∙◌, inl, inr, arith}
-use Rattle.std.proofs.lemmas.Bool.{cases_Bool, cond-true, cond-false, and_parts, false≢true, le-leb, leb-true}
+use Rattle.std.proofs.lemmas.Bool.{cases_Bool, cond-true, cond-false, and_parts, and_from, false≢true, le-leb, leb-true}
 use Rattle.definition_block.specs.Container.{Container}
 use Rattle.definition_block.specs.Tree.{Block, Holds, Blocks, Nil, Cons, join, is_ending, all_endings}
 use Rattle.definition_block.specs.Lists.{endings_at_front, is_some_block, has_gap, has_gap_inside, is_loose}
@@ -12,9 +12,6 @@ or_right false b h = h
 
 or_left : (a b : Bool) → a ≡ true → (a || b) ≡ true
 or_left a b h = ap (λ x. x || b) h
-
-and_true : (a b : Bool) → a ≡ true → b ≡ true → (a && b) ≡ true
-and_true a b h k = ap (λ x. x && b) h ∙ k
 
 not_true : (a : Bool) → not a ≡ true → a ≡ false
 not_true true h = absurd (false≢true h)
@@ -42,7 +39,7 @@ front (Cons b bs) p = elim (cases_Bool (is_ending b)) [
         second = more.second;
         after = more.after;
         here = ap (Cons b) more.here;
-        are_endings = and_true (is_ending b) _ e more.are_endings;
+        are_endings = and_from (is_ending b) _ e more.are_endings;
         is_none = more.is_none;
         count = λ inside.
             ap (λ n. n + line_endings inside more.between) (cond-true (is_ending b) 1 (inside b) e)
@@ -130,9 +127,9 @@ gap_line inside top (Cons b bs) h =
 gap_at : (before : Blocks) (first : Block) (bs : Blocks) → is_ending first ≡ false → leb 2 (endings_at_front bs) ≡ true → is_some_block bs ≡ true
     → has_gap (join before (Cons first bs)) ≡ true
 gap_at Nil first bs p q r =
-    let two = and_true (not (is_ending first)) (leb 2 (endings_at_front bs)) (ap not p) q in
+    let two = and_from (not (is_ending first)) (leb 2 (endings_at_front bs)) (ap not p) q in
     or_left (not (is_ending first) && leb 2 (endings_at_front bs) && is_some_block bs) (has_gap bs)
-    (and_true (not (is_ending first) && leb 2 (endings_at_front bs)) (is_some_block bs) two r)
+    (and_from (not (is_ending first) && leb 2 (endings_at_front bs)) (is_some_block bs) two r)
 gap_at (Cons b before) first bs p q r = or_right _ (has_gap (join before (Cons first bs))) (gap_at before first bs p q r)
 
 line_gap : (inside : Block → ℕ) (top : ℕ) (bs : Blocks) → HasLineBetween inside top bs → has_gap bs ≡ true
