@@ -7,7 +7,6 @@ use Rattle.std.proofs.lemmas.List.{append-nil}
 use Rattle.std.proofs.lemmas.List.Sums.{fold-append}
 use Rattle.std.proofs.lemmas.List.Concat.{flat_map-append}
 use Rattle.markdown_options.specs.declared.line_ending.LineEnding.{LineEnding}
-use Rattle.markdown_options.specs.declared.line_ending.LineEnding.TheVariants.{CarriageReturnLineFeed, CarriageReturn, LineFeed}
 use Rattle.markdown_options.specs.LineEndings.{ending_bytes}
 use Rattle.markdown_options.specs.declared.configuration.CompileOptions.{CompileOptions}
 use Rattle.markdown_options.specs.declared.configuration.Options.{Options}
@@ -43,21 +42,12 @@ use Rattle.html_bytes.specs.InlineHtml.{check_html}
 use Rattle.html_bytes.specs.Layout as bytes_layout
 use Rattle.html_bytes.specs.Pieces as bytes
 use Rattle.html_bytes.specs.Html as old
-use Rattle.html_bytes.proofs.SameTable.{table_same}
+use Rattle.html_bytes.proofs.SameTable.{end_said, ending_said, table_same}
 use Rattle.html_bytes.proofs.SameLayout.{Same, Adds, add, fresh, add_nil, add_add, none_same, joined, after_fresh, after_added, element_same, element_with}
 use Rattle.html_bytes.proofs.SameLayout.{says_added}
 use Rattle.html_bytes.proofs.SameText.{one_attribute, piece_meaning, raw_said, text_same}
 
 -- ---- lines
-
-ending_said : (ending : LineEnding) → encode (ending_bytes ending) ≡ ending_bytes ending
-ending_said LineFeed = refl
-ending_said CarriageReturn = refl
-ending_said CarriageReturnLineFeed = refl
-
-end_said : (ending : Option LineEnding) → encode (ending_text ending) ≡ ending_text ending
-end_said None = refl
-end_said (Some ending) = ending_said ending
 
 code_line_said : (line : BlockLine) → flat_map said_bytes (code_line line) ≡ old.code_line line
 code_line_said line = ap (λ x. encode (map code_byte line.codes) ++ x) (append-nil (encode (ending_text line.ending)) ∙ end_said line.ending)

@@ -29,12 +29,12 @@ use Rattle.html_bytes.proofs.SameText.{piece_meaning, all_counts_same, text_same
 
 -- ---- endings
 
-ending_said : (ending : LineEnding) → encode (ending_bytes ending) ≡ ending_bytes ending
+pub ending_said : (ending : LineEnding) → encode (ending_bytes ending) ≡ ending_bytes ending
 ending_said LineFeed = refl
 ending_said CarriageReturn = refl
 ending_said CarriageReturnLineFeed = refl
 
-end_said : (ending : Option LineEnding) → encode (ending_text ending) ≡ ending_text ending
+pub end_said : (ending : Option LineEnding) → encode (ending_text ending) ≡ ending_text ending
 end_said None = refl
 end_said (Some ending) = ending_said ending
 
