@@ -2,17 +2,16 @@
 use Rattle.std.proofs.Common.{◌≡◌, ℕ, ◌+◌, ◌≤◌, true, false, List, [], ◌∷◌, ◌++◌, refl, sym, ap, ◌∙◌, take, drop, length, append_assoc, arith}
 use Rattle.std.specs.Prelude.{map}
 use Rattle.std.specs.List.{fold}
-use Rattle.std.proofs.lemmas.List.{append-nil, take-append-le, drop-append-le, length-drop, length-take, take-append-drop, drop_all, drop-drop, map-append}
+use Rattle.std.proofs.lemmas.List.{append-nil, take-append-le, drop-append-le, length-drop, length-take, take-append-drop, drop_all, drop-drop}
 use Rattle.std.proofs.lemmas.List.Sums.{fold_push, fold-append, sum_by-cons}
 use Rattle.block_rows.specs.declared.row.Row.{Row}
 use Rattle.block_rows.specs.declared.row.Row.TheVariants as row
-use Rattle.block_rows.specs.declared.row.Piece.{Piece}
 use Rattle.definition_text.specs.Columns.{bytes_of}
 use Rattle.definition_text.specs.BlockLines.{BlockLine, own_lines}
 use Rattle.definition_block.specs.Tree.{Paragraph, Heading, IndentedCode, FencedCode, Html, Table}
 use Rattle.block_parser.specs.Shows.{lone}
 use Rattle.block_rows.specs.Rows.{whole_lines, definition_on, definition_value, BlockRow, Single, RowsValue, rows_value, value_with, show_row, row_value}
-use Rattle.block_rows.specs.Rows.{row_size, rows_size, piece_line, piece_lines}
+use Rattle.block_rows.specs.Rows.{row_size, rows_size}
 
 -- ---- more lines beside the rows
 
@@ -149,8 +148,3 @@ cut_shown rows pool s le h =
     ap (λ (x : RowsValue). x.rows) (sym longer ∙ ap (rows_value rows) whole_pool ∙ h) in
     let none : (rows_value rows front).left ≡ [] = left_is rows [] front ∙ drop_all n front (omega (arith, length-take n pool)) in
     ap (λ out. value_with out (rows_value rows front).left) same ∙ ap (value_with s.rows) none
-
--- one more piece
-pub piece_pushed : (old : List Piece) (p : Piece) (new : List Piece) (l : BlockLine) → new ≡ old ++ p ∷ [] → piece_line p ≡ l
-    → piece_lines new ≡ piece_lines old ++ l ∷ []
-piece_pushed old p new l pushed is = ap piece_lines pushed ∙ map-append piece_line old (p ∷ []) ∙ ap (λ x. piece_lines old ++ x ∷ []) is
