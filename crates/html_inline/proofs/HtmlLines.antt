@@ -16,15 +16,11 @@ use Rattle.definition_page.specs.InlinePieces.{HtmlLine, html_text_line, in_firs
 use Rattle.html_bytes.specs.InlineHtml.{html_line_bytes, html_lines_bytes, later_line_bytes}
 use Rattle.definition_inline.specs.Strings.{begins_with_eol, eol_bytes}
 use Rattle.definition_page.specs.GfmTagfilter.{filter_tags}
+use Rattle.inline_leaves.proofs.Endings.{ending_is_eol}
 use Rattle.html_inline.specs.CodeBytes.{is_in_line}
 use Rattle.html_inline.specs.HtmlBytes.{PrintsEnding, ends, goes_on, first_bytes}
 use Rattle.html_inline.proofs.InLine.{in_line_eol, line_codes, line_left}
-use Rattle.html_inline.proofs.KeptText.{AreBytes}
-
-pub ending_is_eol : (ending : LineEnding) → is_eol (line_ending_code ending) ≡ true
-ending_is_eol LineFeed = refl
-ending_is_eol CarriageReturn = refl
-ending_is_eol CarriageReturnLineFeed = refl
+use Rattle.html_inline.proofs.KeptText.{AreBytes, bare_white}
 
 pub ending_text : (ending : LineEnding) → eol_bytes (line_ending_code ending) ≡ ending_bytes ending
 ending_text LineFeed = refl
@@ -151,19 +147,13 @@ pub lines_printed : (options : CompileOptions) (ls : List HtmlLine) → html_lin
 lines_printed options [] = refl
 lines_printed options (l ∷ others) = refl
 
-white_bare : (c : ℕ) (cs : List ℕ) → is_white c ≡ true → bare (c ∷ cs) ≡ bare cs
-white_bare c cs h =
-    let e : indent (c ∷ cs) ≡ 1 + indent cs = cond-true (is_white c) _ _ h in
-    let f : 1 + indent cs ≡ suc (indent cs) = omega arith in
-    ap (λ n. drop n (c ∷ cs)) (e ∙ f)
-
 other_bare : (c : ℕ) (cs : List ℕ) → is_white c ≡ false → bare (c ∷ cs) ≡ c ∷ cs
 other_bare c cs h = ap (λ n. drop n (c ∷ cs)) (cond-false (is_white c) (1 + indent cs) 0 h)
 
 white_later : (options : CompileOptions) (c : ℕ) (ls : List HtmlLine) → is_white c ≡ true → later options (in_first_line c ls) ≡ later options ls
 white_later options c [] h =
-    append-nil _ ∙ append-nil _ ∙ ap (λ s. raw_html options (bytes_of s)) (white_bare c [] h) ∙ raw_nothing options
-white_later options c (l ∷ others) h = ap (λ s. html_line_bytes options s l.ending ++ later options others) (white_bare c l.line h)
+    append-nil _ ∙ append-nil _ ∙ ap (λ s. raw_html options (bytes_of s)) (bare_white c [] h) ∙ raw_nothing options
+white_later options c (l ∷ others) h = ap (λ s. html_line_bytes options s l.ending ++ later options others) (bare_white c l.line h)
 
 other_later : (options : CompileOptions) (c : ℕ) (ls : List HtmlLine) → is_white c ≡ false
     → later options (in_first_line c ls) ≡ first_bytes options (in_first_line c ls) ++ later options (drop 1 (in_first_line c ls))
@@ -186,7 +176,7 @@ later_printed options [] = refl
 later_printed options (c ∷ cs) = elim (cases_Bool (is_white c)) [
   | inl h ↦
       ap (later options) (cond-false (is_eol c) _ _ (eol_white c h)) ∙ white_later options c (html_lines cs) h ∙ later_printed options cs
-      ∙ ap (λ s. first_bytes options (html_lines s) ++ later options (drop 1 (html_lines s))) (sym (white_bare c cs h))
+      ∙ ap (λ s. first_bytes options (html_lines s) ++ later options (drop 1 (html_lines s))) (sym (bare_white c cs h))
   | inr h ↦
       elim (cases_Bool (is_eol c)) [
         | inl e ↦

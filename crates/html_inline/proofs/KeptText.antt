@@ -136,7 +136,7 @@ ink_run on names (suc n) (x ∷ xs) bytes le = elim (cases_Bool (is_ink x)) [
 ]
 
 -- spaces and tabs, which no line ending follows
-bare_white : (c : ℕ) (cs : List ℕ) → is_white c ≡ true → bare (c ∷ cs) ≡ bare cs
+pub bare_white : (c : ℕ) (cs : List ℕ) → is_white c ≡ true → bare (c ∷ cs) ≡ bare cs
 bare_white c cs h =
     let e : indent (c ∷ cs) ≡ 1 + indent cs = cond-true (is_white c) _ _ h in
     let f : 1 + indent cs ≡ suc (indent cs) = omega arith in
