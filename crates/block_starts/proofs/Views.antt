@@ -1,14 +1,14 @@
 -- What cursors stand for.
 use Rattle.std.proofs.Common.{◌≡◌, ℕ, ◌+◌, ◌-◌, ◌*◌, ◌<◌, ◌≤◌, suc, zero, List, [], ◌∷◌, ◌++◌, true, false, inl, inr, eqb, leb, refl, sym, ap, ◌∙◌, length}
 use Rattle.std.proofs.Common.{get_or, replicate, take, drop, arith}
-use Rattle.std.specs.List.{list_all, prefix_len}
+use Rattle.std.specs.List.{prefix_len}
 use Rattle.std.proofs.lemmas.List.{length-replicate, take_at}
 use Rattle.std.proofs.lemmas.List.Sums.{prefix_len-le-length}
 use Rattle.std.proofs.lemmas.Bool.{cases_Bool, cond-true, cond-false, eqb-true, ne_eqb, and_parts, leb-true}
 use Rattle.std.proofs.lemmas.Bool.Decides.{nat_tests}
 use Rattle.definition_text.specs.Columns.{Rest, codes_from, is_white, is_blank, indent, bare, bytes_of, block_codes, is_tab_column, tab_column}
 use Rattle.definition_block.specs.ListItem.{is_digit}
-use Rattle.text_lines.proofs.Codes.{blank_codes_from, bytes_of_codes}
+use Rattle.text_lines.proofs.Codes.{all_white, blank_codes_from, bytes_of_codes, no_bytes, no_columns}
 use Rattle.block_starts.specs.Marks.{NoMark, is_mark}
 use Rattle.block_starts.specs.declared.cursor.Cursor.{Cursor}
 use Rattle.block_starts.specs.View.{rest_of}
@@ -19,27 +19,11 @@ use Rattle.block_starts.proofs.White.{indent_front, drop_front, white_columns, c
 abbrev pub view : ℕ → ℕ → List ℕ → Rest
 view owed column bs = replicate owed tab_column ++ codes_from column bs
 
-all_white : (n : ℕ) (rest : List ℕ) → list_all is_white (replicate n tab_column ++ rest) ≡ list_all is_white rest
-all_white zero rest = refl
-all_white (suc n) rest = all_white n rest
-
-no_bytes : (n : ℕ) (rest : List ℕ) → bytes_of (replicate n tab_column ++ rest) ≡ bytes_of rest
-no_bytes zero rest = refl
-no_bytes (suc n) rest = no_bytes n rest
-
 first_code : (column b : ℕ) (bs : List ℕ) → get_or (codes_from column (b ∷ bs)) 0 0 ≡ b
 first_code column b bs =
     elim (cases_Bool (eqb b 9)) [
       | inl h ↦ ap (λ r. get_or r 0 0) (cond-true (eqb b 9) _ _ h) ∙ sym (eqb-true b 9 h)
       | inr h ↦ ap (λ r. get_or r 0 0) (cond-false (eqb b 9) _ _ h)
-    ]
-
-no_columns : (column : ℕ) (bs : List ℕ) → ((k : ℕ) → get_or bs k 0 < 256) → prefix_len is_tab_column (codes_from column bs) ≡ 0
-no_columns column [] h = refl
-no_columns column (b ∷ bs) h =
-    elim (cases_Bool (eqb b 9)) [
-      | inl e ↦ ap (prefix_len is_tab_column) (cond-true (eqb b 9) _ _ e)
-      | inr e ↦ ap (prefix_len is_tab_column) (cond-false (eqb b 9) _ _ e) ∙ cond-false (is_tab_column b) _ _ (ne_eqb b 256 (λ f. let lt = h 0 in omega arith))
     ]
 
 owed_parts : (owed : ℕ) (rest : Rest) → prefix_len is_tab_column rest ≡ 0 → prefix_len is_tab_column (replicate owed tab_column ++ rest) ≡ owed

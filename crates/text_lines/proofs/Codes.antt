@@ -7,11 +7,11 @@ use Rattle.definition_text.specs.Columns.{codes_from, whole, is_white, is_blank,
 
 -- ---- columns of a tab are white, and no bytes
 
-all_white : (n : ℕ) (rest : List ℕ) → list_all is_white (replicate n tab_column ++ rest) ≡ list_all is_white rest
+pub all_white : (n : ℕ) (rest : List ℕ) → list_all is_white (replicate n tab_column ++ rest) ≡ list_all is_white rest
 all_white zero rest = refl
 all_white (suc n) rest = all_white n rest
 
-no_bytes : (n : ℕ) (rest : List ℕ) → bytes_of (replicate n tab_column ++ rest) ≡ bytes_of rest
+pub no_bytes : (n : ℕ) (rest : List ℕ) → bytes_of (replicate n tab_column ++ rest) ≡ bytes_of rest
 no_bytes zero rest = refl
 no_bytes (suc n) rest = no_bytes n rest
 
@@ -55,7 +55,7 @@ bytes_of_codes column (b ∷ bs) h =
     ]
 
 -- a whole line begins with no column of a tab
-no_columns : (column : ℕ) (bs : List ℕ) → ((k : ℕ) → get_or bs k 0 < 256) → prefix_len is_tab_column (codes_from column bs) ≡ 0
+pub no_columns : (column : ℕ) (bs : List ℕ) → ((k : ℕ) → get_or bs k 0 < 256) → prefix_len is_tab_column (codes_from column bs) ≡ 0
 no_columns column [] h = refl
 no_columns column (b ∷ bs) h =
     elim (cases_Bool (eqb b 9)) [
