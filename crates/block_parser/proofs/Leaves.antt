@@ -13,7 +13,7 @@ use Rattle.definition_block.specs.Container.{Container, Quote, Item, Footnote}
 use Rattle.block_rows.specs.declared.row.Row.{Row}
 use Rattle.block_rows.specs.declared.row.Row.TheVariants as row
 use Rattle.block_rows.specs.declared.row.Piece.{Piece}
-use Rattle.definition_text.specs.BlockLines.{BlockLine, last_ending, last_ending_or, own_lines}
+use Rattle.definition_text.specs.BlockLines.{BlockLine, last_ending, own_lines}
 use Rattle.definition_block.specs.Tree.{Block, IndentedCode, Ending, Blank, Blocks, Nil, join, one, block_and_ending, holds, OpenLeaf, Text, Indented, Leaf}
 use Rattle.definition_block.specs.Tree.{is_nothing, close_leaf, is_some_line, blanks, is_ending, front}
 use Rattle.block_rows.proofs.Pieces.{lines_from}
@@ -27,12 +27,6 @@ use Rattle.block_parser.specs.Shows.{LeafState, state_of, leaf_lines, lone, Writ
 use Rattle.block_parser.proofs.Trees.{join-assoc, join-nil}
 use Rattle.block_parser.proofs.Shown.{left_count, left_shown}
 use Rattle.block_parser.proofs.Written.{with_block, with_ending, with_line, without_lines, with_enter, with_exit}
-
--- ---- last endings
-
-pub last_ending_or-more : (e : Option LineEnding) (ls : List BlockLine) (l : BlockLine) → last_ending_or e (ls ++ l ∷ []) ≡ l.ending
-last_ending_or-more e [] l = refl
-last_ending_or-more e (a ∷ ls) l = last_ending_or-more a.ending ls l
 
 -- ---- parsers
 

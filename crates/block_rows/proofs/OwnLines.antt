@@ -8,7 +8,7 @@ use Rattle.definition_text.specs.Lines.{ending_text}
 use Rattle.block_rows.specs.Rows.{piece_lines}
 use Rattle.definition_text.specs.BlockLines.{BlockLine, own_lines, last_ending, last_ending_or}
 
-last_ending_or-more : (e : Option LineEnding) (ls : List BlockLine) (l : BlockLine) → last_ending_or e (ls ++ l ∷ []) ≡ l.ending
+pub last_ending_or-more : (e : Option LineEnding) (ls : List BlockLine) (l : BlockLine) → last_ending_or e (ls ++ l ∷ []) ≡ l.ending
 last_ending_or-more e [] l = refl
 last_ending_or-more e (a ∷ ls) l = last_ending_or-more a.ending ls l
 

@@ -5,6 +5,7 @@ use Rattle.definition_text.specs.Columns.{Rest}
 use Rattle.definition_block.specs.CodeFenced.{fence_line}
 use Rattle.definition_block.specs.Tree.{Blocks, FencedCode, Tree, Fenced, rest_line}
 use Rattle.block_rows.specs.Rows.{piece_lines, piece_line, Single}
+use Rattle.block_rows.proofs.OwnLines.{last_ending_or-more}
 use Rattle.block_starts.specs.View.{rest_of, container_views}
 use Rattle.block_starts.specs.CodeFenced.{fence_view}
 use Rattle.block_parser.specs.Spine.{spine, spine_after}
@@ -35,7 +36,7 @@ returns-then-not-is_fence_end g c = λ opening ls around kids h.
     (leaves.shows_line p.rows.rows.items p.rows.waiting.items p.rows.bare (container_views p.open.items) pool (piece_lines c.push.new.self.items)
     (leaf_state p.leaf) (InFenced f e.ending) around kids (Fenced f opening ls) leaf l
     (leaves.enough_lines p) (leaves.piece_pushed p.pieces.items c.piece.result c.push.new.self.items l c.in_ok-push.ensures.items piece_is) refl
-    (ap (InFenced f) (sym (leaves.last_ending_or-more opening ls l))) h))
+    (ap (InFenced f) (sym (last_ending_or-more opening ls l))) h))
 
 pub returns : goal.returns
 returns g c =

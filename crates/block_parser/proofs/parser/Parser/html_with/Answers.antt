@@ -4,6 +4,7 @@ use Rattle.markdown_options.specs.declared.line_ending.LineEnding.{LineEnding}
 use Rattle.definition_text.specs.BlockLines.{last_ending, own_lines}
 use Rattle.definition_block.specs.Tree.{Blocks, Html, Tree, block_and_ending, join, Text, OpenHtml, rest_line}
 use Rattle.block_rows.specs.Rows.{piece_lines}
+use Rattle.block_rows.proofs.OwnLines.{last_ending_or-more}
 use Rattle.block_starts.specs.View.{rest_of, container_views}
 use Rattle.block_starts.specs.HtmlFlow.{number_of}
 use Rattle.definition_block.specs.HtmlFlow.{html_ends_here}
@@ -26,7 +27,7 @@ returns-then-html_ends_here g c =
     let kind = number_of c.args.kind in
     let l = rest_line r e in
     let more = ls ++ l ∷ [] in
-    let last : last_ending more ≡ e.ending = leaves.last_ending_or-more None ls l in
+    let last : last_ending more ≡ e.ending = last_ending_or-more None ls l in
     let k = leaves.shows_line p.rows.rows.items p.rows.waiting.items p.rows.bare (container_views p.open.items) (piece_lines p.pieces.items)
     (piece_lines c.push.new.self.items) (leaf_state p.leaf) (InHtml kind e.ending) around kids leaf (OpenHtml kind more) l
     (leaves.enough_lines p) (leaves.piece_pushed p.pieces.items c.piece.result c.push.new.self.items l c.in_ok-push.ensures.items c.piece.ensures)
@@ -45,7 +46,7 @@ returns g c = λ leaf ls is around kids h.
     let kind = number_of c.args.kind in
     let l = rest_line r e in
     let more = ls ++ l ∷ [] in
-    let last : last_ending more ≡ e.ending = leaves.last_ending_or-more None ls l in
+    let last : last_ending more ≡ e.ending = last_ending_or-more None ls l in
     let k = leaves.shows_line p.rows.rows.items p.rows.waiting.items p.rows.bare (container_views p.open.items) (piece_lines p.pieces.items)
     (piece_lines c.push.new.self.items) (leaf_state p.leaf) (InHtml kind e.ending) around kids leaf (OpenHtml kind more) l
     (leaves.enough_lines p) (leaves.piece_pushed p.pieces.items c.piece.result c.push.new.self.items l c.in_ok-push.ensures.items c.piece.ensures)

@@ -5,6 +5,7 @@ use Rattle.definition_text.specs.Columns.{Rest}
 use Rattle.definition_text.specs.Indents.{outdent}
 use Rattle.definition_block.specs.Tree.{Blocks, Tree, Indented, Leaf, rest_line, new}
 use Rattle.block_rows.specs.Rows.{piece_lines, piece_line}
+use Rattle.block_rows.proofs.OwnLines.{last_ending_or-more}
 use Rattle.block_starts.specs.View.{rest_of, container_views}
 use Rattle.block_parser.specs.Spine.{spine, spine_after}
 use Rattle.block_parser.specs.Shows.{InIndented, Shows}
@@ -71,7 +72,7 @@ returns-then-starts_code_indented g c = λ ls pending around kids h.
     (InIndented count e.ending) around kids (Indented ls pending) leaf l
     (leaves.enough_lines p) (leaves.piece_pushed p.pieces.items c.piece-then-starts_code_indented.result c.push-then-starts_code_indented.new.self.items l
     c.in_ok-push-2.ensures.items piece_is) (append-nil all)
-    (ap (λ n. InIndented n e.ending) many ∙ ap (InIndented (length all)) (sym (leaves.last_ending_or-more None (ls ++ pending) l))) h))
+    (ap (λ n. InIndented n e.ending) many ∙ ap (InIndented (length all)) (sym (last_ending_or-more None (ls ++ pending) l))) h))
 
 pub returns : goal.returns
 returns g c =

@@ -2,6 +2,7 @@ use Rattle.std.proofs.Common.{◌≡◌, ◌++◌, ◌∷◌, [], None, sym, ap,
 use Rattle.definition_text.specs.BlockLines.{last_ending}
 use Rattle.definition_block.specs.Tree.{Blocks, OpenTable, rest_line}
 use Rattle.block_rows.specs.Rows.{piece_lines}
+use Rattle.block_rows.proofs.OwnLines.{last_ending_or-more}
 use Rattle.block_starts.specs.View.{rest_of, container_views}
 use Rattle.block_parser.specs.Spine.{spine}
 use Rattle.block_parser.specs.Shows.{InTable, Shows}
@@ -16,7 +17,7 @@ returns g c = λ leaf ls is around kids h.
     let e = c.args.beside in
     let l = rest_line (rest_of c.args.rest) e in
     let more = ls ++ l ∷ [] in
-    let last : last_ending more ≡ e.ending = leaves.last_ending_or-more None ls l in
+    let last : last_ending more ≡ e.ending = last_ending_or-more None ls l in
     let k = leaves.shows_line p.rows.rows.items p.rows.waiting.items p.rows.bare (container_views p.open.items) (piece_lines p.pieces.items)
     (piece_lines c.push.new.self.items) (leaf_state p.leaf) (InTable e.ending) around kids leaf (OpenTable more) l
     (leaves.enough_lines p) (leaves.piece_pushed p.pieces.items c.piece.result c.push.new.self.items l c.in_ok-push.ensures.items c.piece.ensures)
