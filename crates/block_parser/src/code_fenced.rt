@@ -21,7 +21,7 @@ impl<'a, A: Allocator> Parser<'a, A> {
     ghost use Rattle.markdown_options.specs.declared.line_ending.LineEnding.{LineEnding};
     ghost use Rattle.definition_block.specs.CodeFenced.{Fence as FenceRecord};
     ghost use Rattle.definition_text.specs.BlockLines.{BlockLine, last_ending_or};
-    ghost use Rattle.definition_block.specs.Tree.{tree, Nil, close_leaf, Leaf as OpenedLeaf, Fenced as FencedLeaf};
+    ghost use Rattle.definition_block.specs.Tree as tree;
     ghost use Rattle.block_starts.specs.CodeFenced.{fence_view};
     ghost use Rattle.block_parser.specs.View.{Becomes, Closes, Adds, leaf_grown};
     ghost use Rattle.block_starts.specs.View.{rest_of};
@@ -35,8 +35,8 @@ impl<'a, A: Allocator> Parser<'a, A> {
         beside: Beside,
     ) -> Result<(), AllocError>
         requires lines { self.old.lines_in_rows + 1 ≤ vec_len self.old.pieces }
-        ensures { OnOk result ((opening : Option LineEnding) (ls : List BlockLine) → let leaf = FencedLeaf (fence_view fence.entry) opening ls in
-            Becomes self.old self.new leaf (leaf_grown on.now beside (rest_of rest.entry) (OpenedLeaf leaf))) }
+        ensures { OnOk result ((opening : Option LineEnding) (ls : List BlockLine) → let leaf = tree.Fenced (fence_view fence.entry) opening ls in
+            Becomes self.old self.new leaf (leaf_grown on.now beside (rest_of rest.entry) (tree.Leaf leaf))) }
     {
         if !is_fence_end(on, &fence, rest) {
             self.pieces.push(piece(fence_line(&fence, rest), beside))?;
@@ -56,7 +56,7 @@ impl<'a, A: Allocator> Parser<'a, A> {
         fence: Fence<'a>,
         ending: Option<LineEnding>,
     ) -> Result<(), AllocError>
-        ensures { OnOk result (Adds self.old self.new (tree Nil (OpenedLeaf (FencedLeaf (fence_view fence.entry) ending [])))) }
+        ensures { OnOk result (Adds self.old self.new (tree.tree tree.Nil (tree.Leaf (tree.Fenced (fence_view fence.entry) ending [])))) }
     {
         self.pieces.push(Piece {
             text: fence.info,
@@ -71,7 +71,8 @@ impl<'a, A: Allocator> Parser<'a, A> {
     pub(crate) fn close_fenced(&mut self, ending: Option<LineEnding>) -> Result<(), AllocError>
         requires { self.old.lines_in_rows + 1 ≤ vec_len self.old.pieces }
         ensures read { OnOk result ((switches : Constructs) (fence : FenceRecord) (opening : Option LineEnding) (ls : List BlockLine) →
-            ending ≡ last_ending_or opening ls → Closes self.old self.new (FencedLeaf fence opening ls) (close_leaf switches (FencedLeaf fence opening ls))) }
+            ending ≡ last_ending_or opening ls →
+            Closes self.old self.new (tree.Fenced fence opening ls) (tree.close_leaf switches (tree.Fenced fence opening ls))) }
         ensures containers { self.new.open ≡ self.old.open }
     {
         let count = self.pieces.len() - self.lines_in_rows - 1;

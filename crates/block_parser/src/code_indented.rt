@@ -19,7 +19,7 @@ impl<'a, A: Allocator> Parser<'a, A> {
     ghost use Rattle.markdown_options.specs.declared.line_ending.LineEnding.{LineEnding};
     ghost use Rattle.definition_text.specs.Indents.{outdent};
     ghost use Rattle.definition_text.specs.BlockLines.{BlockLine, last_ending};
-    ghost use Rattle.definition_block.specs.Tree.{tree, Nil, close_leaf, Leaf as OpenedLeaf, Indented as IndentedLeaf, rest_line};
+    ghost use Rattle.definition_block.specs.Tree as tree;
     ghost use Rattle.block_parser.specs.View.{Becomes, Closes, Adds, leaf_grown};
     ghost use Rattle.block_starts.specs.View.{rest_of};
 
@@ -31,7 +31,7 @@ impl<'a, A: Allocator> Parser<'a, A> {
         beside: Beside,
     ) -> Result<(), AllocError>
         ensures { OnOk result ((ls pending : List BlockLine) →
-            Becomes self.old self.new (IndentedLeaf ls pending) (leaf_grown on.now beside (rest_of rest.entry) (OpenedLeaf (IndentedLeaf ls pending)))) }
+            Becomes self.old self.new (tree.Indented ls pending) (leaf_grown on.now beside (rest_of rest.entry) (tree.Leaf (tree.Indented ls pending)))) }
     {
         if rest.is_blank() {
             self.pieces.push(piece(rest.outdent(4), beside))?;
@@ -56,7 +56,8 @@ impl<'a, A: Allocator> Parser<'a, A> {
         rest: Cursor<'a>,
         beside: Beside,
     ) -> Result<(), AllocError>
-        ensures { OnOk result (Adds self.old self.new (tree Nil (OpenedLeaf (IndentedLeaf (rest_line (outdent 4 (rest_of rest.entry)) beside ∷ []) [])))) }
+        ensures { OnOk result (Adds self.old self.new
+            (tree.tree tree.Nil (tree.Leaf (tree.Indented (tree.rest_line (outdent 4 (rest_of rest.entry)) beside ∷ []) [])))) }
     {
         self.pieces.push(piece(rest.outdent(4), beside))?;
         self.leaf = OpenLeaf::Indented {
@@ -73,7 +74,7 @@ impl<'a, A: Allocator> Parser<'a, A> {
     ) -> Result<(), AllocError>
         requires { self.old.lines_in_rows + count ≤ vec_len self.old.pieces }
         ensures read { OnOk result ((switches : Constructs) (ls pending : List BlockLine) → count ≡ length ls → ending ≡ last_ending ls →
-            Closes self.old self.new (IndentedLeaf ls pending) (close_leaf switches (IndentedLeaf ls pending))) }
+            Closes self.old self.new (tree.Indented ls pending) (tree.close_leaf switches (tree.Indented ls pending))) }
         ensures containers { self.new.open ≡ self.old.open }
     {
         self.rows.block(Row::IndentedCode(count))?;

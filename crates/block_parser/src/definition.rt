@@ -17,7 +17,7 @@ use std::alloc::{AllocError, Allocator};
 impl<'a, A: Allocator> Parser<'a, A> {
     ghost use Rattle.std.specs.Prelude.{◌≡◌, ◌≤◌, ◌+◌, ◌∷◌, [], true, false, List, OnOk, IfOk, drop, take, vec_len};
     ghost use Rattle.definition_text.specs.BlockLines.{BlockLine, last_ending};
-    ghost use Rattle.definition_block.specs.Tree.{Blocks, Block, Nil, Leaf as OpenedLeaf, tree, block_and_ending, is_ending, is_some_line, Text as TextLeaf};
+    ghost use Rattle.definition_block.specs.Tree as tree;
     ghost use Rattle.definition_block.specs.Definitions.{cut, cut_into};
     ghost use Rattle.block_rows.specs.ParagraphLines.{AreLines};
     ghost use Rattle.block_rows.specs.declared.row.Row.TheVariants as row_variant;
@@ -28,7 +28,7 @@ impl<'a, A: Allocator> Parser<'a, A> {
     /// The definitions at the front of the open paragraph become rows.
     pub(crate) fn cut_definitions(&mut self, on: &Constructs) -> Result<(), AllocError>
         ensures read { OnOk result ((ls : List BlockLine) → AreLines ls → let parts = cut on.now ls in
-            Becomes self.old self.new (TextLeaf ls) (tree parts.definitions (OpenedLeaf (TextLeaf parts.left)))) }
+            Becomes self.old self.new (tree.Text ls) (tree.tree parts.definitions (tree.Leaf (tree.Text parts.left)))) }
         ensures containers { self.new.open ≡ self.old.open }
     {
         if !self.may_define(on) {
@@ -49,16 +49,16 @@ impl<'a, A: Allocator> Parser<'a, A> {
     /// Whether a definition may begin the open paragraph.
     fn may_define(&self, on: &Constructs) -> bool
         ensures on { result ≡ true → on.now.definition ≡ true }
-        ensures uncut { result ≡ false → (around : List Level) (kids : Blocks) (ls : List BlockLine) → AreLines ls →
-            HasRead self.now (spine around kids (TextLeaf ls)) → cut on.now ls ≡ cut_into Nil ls }
+        ensures uncut { result ≡ false → (around : List Level) (kids : tree.Blocks) (ls : List BlockLine) → AreLines ls →
+            HasRead self.now (spine around kids (tree.Text ls)) → cut on.now ls ≡ cut_into tree.Nil ls }
     {
         on.definition && may_begin(&self.pieces[self.lines_in_rows..])
     }
 
     /// Whether something is left of the open paragraph after the definitions at its front.
     pub(crate) fn leaves_text(&mut self, on: &Constructs) -> Result<bool, AllocError>
-        ensures left { IfOk result (λ some. (around : List Level) (kids : Blocks) (ls : List BlockLine) → AreLines ls →
-            HasRead self.old (spine around kids (TextLeaf ls)) → some ≡ is_some_line (cut on.now ls).left) }
+        ensures left { IfOk result (λ some. (around : List Level) (kids : tree.Blocks) (ls : List BlockLine) → AreLines ls →
+            HasRead self.old (spine around kids (tree.Text ls)) → some ≡ tree.is_some_line (cut on.now ls).left) }
         ensures kept { (s : Spine) → HasRead self.old s → HasRead self.new s }
         ensures containers { self.new.open ≡ self.old.open }
     {

@@ -26,9 +26,7 @@ impl<'a, A: Allocator> Parser<'a, A> {
     ghost use Rattle.definition_text.specs.BlockLines.{BlockLine, last_ending};
     ghost use Rattle.definition_block.specs.Definitions.{cut};
     ghost use Rattle.definition_block.specs.GfmTable.{delimiter_row};
-    ghost use Rattle.definition_block.specs.Tree.{Blocks, Nil, tree, Opening, Leaf as OpenedLeaf, Text as TextLeaf, OpenTable as TableLeaf};
-    ghost use Rattle.definition_block.specs.Tree.{OpenLeaf as OpenLeafOf, close_leaf, paragraph_of, rest_line, open_text, text_here};
-    ghost use Rattle.definition_block.specs.Tree.{table_if, is_table_leaf, has_table};
+    ghost use Rattle.definition_block.specs.Tree as tree;
     ghost use Rattle.block_rows.specs.ParagraphLines.{AreLines};
     ghost use Rattle.block_rows.specs.Rows.{piece_lines};
     ghost use Rattle.block_parser.specs.GfmTable.{fits, table_from_cut, table_tree};
@@ -46,10 +44,10 @@ impl<'a, A: Allocator> Parser<'a, A> {
         depth: usize,
         rest: Cursor<'a>,
     ) -> Result<bool, AllocError>
-        ensures made { IfOk result (λ made. (around : List Level) (kids : Blocks) (away : Opening) (row : BlockLine) → depth ≡ length around →
-            AreLines (open_text away) → HasRead self.old (spine_at around kids away) →
-            table_if on.now (delimiter_row on.now (rest_of rest.entry)) (text_here away) row ≡ table_tree on.now made away row) }
-        ensures here { IfOk result (λ made. (around : List Level) (kids : Blocks) (away : Opening) → depth ≡ length around →
+        ensures made { IfOk result (λ made. (around : List Level) (kids : tree.Blocks) (away : tree.Opening) (row : BlockLine) → depth ≡ length around →
+            AreLines (tree.open_text away) → HasRead self.old (spine_at around kids away) →
+            tree.table_if on.now (delimiter_row on.now (rest_of rest.entry)) (tree.text_here away) row ≡ table_tree on.now made away row) }
+        ensures here { IfOk result (λ made. (around : List Level) (kids : tree.Blocks) (away : tree.Opening) → depth ≡ length around →
             HasRead self.old (spine_at around kids away) → made ≡ true → IsText away) }
         ensures kept { (s : Spine) → HasRead self.old s → HasRead self.new s }
         ensures containers { self.new.open ≡ self.old.open }
@@ -85,7 +83,7 @@ impl<'a, A: Allocator> Parser<'a, A> {
         beside: Beside,
     ) -> Result<(), AllocError>
         ensures { OnOk result ((ls : List BlockLine) → AreLines ls →
-            Becomes self.old self.new (TextLeaf ls) (table_from_cut (cut on.now ls) (rest_line (rest_of rest.entry) beside))) }
+            Becomes self.old self.new (tree.Text ls) (table_from_cut (cut on.now ls) (tree.rest_line (rest_of rest.entry) beside))) }
     {
         self.cut_definitions(on)?;
         self.close_before_head()?;
@@ -95,7 +93,7 @@ impl<'a, A: Allocator> Parser<'a, A> {
     /// The lines of the open paragraph before its last one are a paragraph, if there are any.
     fn close_before_head(&mut self) -> Result<(), AllocError>
         ensures read { OnOk result ((ls : List BlockLine) → let head = length ls - 1 in
-            Becomes self.old self.new (TextLeaf ls) (tree (paragraph_of (take head ls)) (OpenedLeaf (TextLeaf (drop head ls))))) }
+            Becomes self.old self.new (tree.Text ls) (tree.tree (tree.paragraph_of (take head ls)) (tree.Leaf (tree.Text (drop head ls))))) }
         ensures containers { self.new.open ≡ self.old.open }
     {
         let count = self.pieces.len() - self.lines_in_rows;
@@ -107,8 +105,8 @@ impl<'a, A: Allocator> Parser<'a, A> {
 
     /// One more line of a table.
     pub(crate) fn table_row(&mut self, rest: Cursor<'a>, beside: Beside) -> Result<(), AllocError>
-        ensures { OnOk result ((leaf : OpenLeafOf) (ls : List BlockLine) → leaf_lines leaf ≡ ls →
-            Becomes self.old self.new leaf (tree Nil (OpenedLeaf (TableLeaf (ls ++ rest_line (rest_of rest.entry) beside ∷ []))))) }
+        ensures { OnOk result ((leaf : tree.OpenLeaf) (ls : List BlockLine) → leaf_lines leaf ≡ ls →
+            Becomes self.old self.new leaf (tree.tree tree.Nil (tree.Leaf (tree.OpenTable (ls ++ tree.rest_line (rest_of rest.entry) beside ∷ []))))) }
     {
         self.pieces.push(piece(rest, beside))?;
         self.leaf = OpenLeaf::Table {
@@ -119,15 +117,15 @@ impl<'a, A: Allocator> Parser<'a, A> {
 
     /// Whether a table is open, and a line that is in so many containers is in all of its.
     pub(crate) fn is_row(&self, depth: usize) -> bool
-        ensures { (around : List Level) (kids : Blocks) (away : Opening) → depth ≡ length around → HasRead self.now (spine_at around kids away) →
-            result ≡ has_table away }
+        ensures { (around : List Level) (kids : tree.Blocks) (away : tree.Opening) → depth ≡ length around → HasRead self.now (spine_at around kids away) →
+            result ≡ tree.has_table away }
     {
         depth == self.open.len() && self.has_table()
     }
 
     /// Whether a table is open.
     fn has_table(&self) -> bool
-        ensures { (s : Spine) → HasRead self.now s → result ≡ is_table_leaf s.leaf }
+        ensures { (s : Spine) → HasRead self.now s → result ≡ tree.is_table_leaf s.leaf }
     {
         match self.leaf {
             OpenLeaf::Text => false,
@@ -140,7 +138,7 @@ impl<'a, A: Allocator> Parser<'a, A> {
 
     pub(crate) fn close_table(&mut self, ending: Option<LineEnding>) -> Result<(), AllocError>
         ensures read { OnOk result ((switches : ConstructsOf) (ls : List BlockLine) → ending ≡ last_ending ls →
-            Closes self.old self.new (TableLeaf ls) (close_leaf switches (TableLeaf ls))) }
+            Closes self.old self.new (tree.OpenTable ls) (tree.close_leaf switches (tree.OpenTable ls))) }
         ensures containers { self.new.open ≡ self.old.open }
     {
         let count = self.pieces.len() - self.lines_in_rows;

@@ -13,7 +13,7 @@ impl<'a, A: Allocator> Parser<'a, A> {
     ghost use Rattle.std.specs.Prelude.{OnOk, Option, None, ◌∷◌, []};
     ghost use Rattle.markdown_options.specs.declared.line_ending.LineEnding.{LineEnding};
     ghost use Rattle.definition_text.specs.BlockLines.{spaced_line};
-    ghost use Rattle.definition_block.specs.Tree.{tree, nothing, block_and_ending, Heading as HeadingBlock};
+    ghost use Rattle.definition_block.specs.Tree as tree;
     ghost use Rattle.block_parser.specs.View.{Adds};
 
     /// An ATX heading, where no leaf is open.
@@ -23,7 +23,7 @@ impl<'a, A: Allocator> Parser<'a, A> {
         ending: Option<LineEnding>,
     ) -> Result<(), AllocError>
         ensures { OnOk result (Adds self.old self.new
-            (tree (block_and_ending (HeadingBlock atx.entry.rank (spaced_line atx.entry.content.now None ∷ [])) ending) nothing)) }
+            (tree.tree (tree.block_and_ending (tree.Heading atx.entry.rank (spaced_line atx.entry.content.now None ∷ [])) ending) tree.nothing)) }
     {
         self.pieces.push(Piece {
             text: atx.content,

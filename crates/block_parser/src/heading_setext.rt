@@ -13,7 +13,7 @@ impl<'a, A: Allocator> Parser<'a, A> {
     ghost use Rattle.std.specs.Prelude.{◌≡◌, IfOk, OnOk, List, Option, ℕ, Some, None, length};
     ghost use Rattle.markdown_options.specs.declared.line_ending.LineEnding.{LineEnding};
     ghost use Rattle.definition_text.specs.BlockLines.{BlockLine};
-    ghost use Rattle.definition_block.specs.Tree.{Blocks, open_text, turns, Opening, Text as TextLeaf};
+    ghost use Rattle.definition_block.specs.Tree as tree;
     ghost use Rattle.block_rows.specs.ParagraphLines.{AreLines};
     ghost use Rattle.block_parser.specs.HeadingSetext.{IsText, heading_blocks, heading_tree};
     ghost use Rattle.block_parser.specs.Spine.{Level, Spine, spine_at};
@@ -28,10 +28,10 @@ impl<'a, A: Allocator> Parser<'a, A> {
         depth: usize,
         rest: Cursor<'a>,
     ) -> Result<Option<u8>, AllocError>
-        ensures turned { IfOk result (λ rank. (around : List Level) (kids : Blocks) (away : Opening) (ending : Option LineEnding) → depth ≡ length around →
-            AreLines (open_text away) → HasRead self.old (spine_at around kids away) →
-            turns on.now away (rest_of rest.entry) ending ≡ heading_tree on.now rank away ending) }
-        ensures here { IfOk result (λ found. (rank : ℕ) (around : List Level) (kids : Blocks) (away : Opening) → depth ≡ length around →
+        ensures turned { IfOk result (λ rank. (around : List Level) (kids : tree.Blocks) (away : tree.Opening) (ending : Option LineEnding) →
+            depth ≡ length around → AreLines (tree.open_text away) → HasRead self.old (spine_at around kids away) →
+            tree.turns on.now away (rest_of rest.entry) ending ≡ heading_tree on.now rank away ending) }
+        ensures here { IfOk result (λ found. (rank : ℕ) (around : List Level) (kids : tree.Blocks) (away : tree.Opening) → depth ≡ length around →
             HasRead self.old (spine_at around kids away) → found ≡ Some rank → IsText away) }
         ensures kept { (s : Spine) → HasRead self.old s → HasRead self.new s }
         ensures containers { self.new.open ≡ self.old.open }
@@ -56,7 +56,7 @@ impl<'a, A: Allocator> Parser<'a, A> {
         rank: u8,
         ending: Option<LineEnding>,
     ) -> Result<(), AllocError>
-        ensures { OnOk result ((ls : List BlockLine) → AreLines ls → Closes self.old self.new (TextLeaf ls) (heading_blocks on.now rank ls ending)) }
+        ensures { OnOk result ((ls : List BlockLine) → AreLines ls → Closes self.old self.new (tree.Text ls) (heading_blocks on.now rank ls ending)) }
     {
         self.cut_definitions(on)?;
         let count = self.pieces.len() - self.lines_in_rows;

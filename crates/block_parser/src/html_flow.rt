@@ -22,7 +22,7 @@ impl<'a, A: Allocator> Parser<'a, A> {
     ghost use Rattle.std.specs.Prelude.{◌≡◌, OnOk, List, ℕ};
     ghost use Rattle.block_starts.specs.HtmlFlow.{number_of};
     ghost use Rattle.definition_text.specs.BlockLines.{BlockLine, last_ending};
-    ghost use Rattle.definition_block.specs.Tree.{close_leaf, OpenLeaf as OpenLeafOf, html_with, Leaf as OpenedLeaf, OpenHtml as HtmlLeaf};
+    ghost use Rattle.definition_block.specs.Tree as tree;
     ghost use Rattle.block_parser.specs.Shows.{leaf_lines};
     ghost use Rattle.block_parser.specs.View.{Becomes, Closes, leaf_grown};
     ghost use Rattle.block_starts.specs.View.{rest_of};
@@ -35,8 +35,8 @@ impl<'a, A: Allocator> Parser<'a, A> {
         rest: Cursor<'a>,
         beside: Beside,
     ) -> Result<(), AllocError>
-        ensures { OnOk result ((ls : List BlockLine) → let leaf = HtmlLeaf (number_of kind) ls in
-            Becomes self.old self.new leaf (leaf_grown on.now beside (rest_of rest.entry) (OpenedLeaf leaf))) }
+        ensures { OnOk result ((ls : List BlockLine) → let leaf = tree.OpenHtml (number_of kind) ls in
+            Becomes self.old self.new leaf (leaf_grown on.now beside (rest_of rest.entry) (tree.Leaf leaf))) }
     {
         if html_stops(kind, rest) {
             let depth = self.open.len();
@@ -52,8 +52,8 @@ impl<'a, A: Allocator> Parser<'a, A> {
         rest: Cursor<'a>,
         beside: Beside,
     ) -> Result<(), AllocError>
-        ensures { OnOk result ((leaf : OpenLeafOf) (ls : List BlockLine) → leaf_lines leaf ≡ ls →
-            Becomes self.old self.new leaf (html_with (number_of kind) ls (rest_of rest.entry) beside)) }
+        ensures { OnOk result ((leaf : tree.OpenLeaf) (ls : List BlockLine) → leaf_lines leaf ≡ ls →
+            Becomes self.old self.new leaf (tree.html_with (number_of kind) ls (rest_of rest.entry) beside)) }
     {
         self.pieces.push(piece(rest, beside))?;
         self.leaf = OpenLeaf::Html {
@@ -68,7 +68,7 @@ impl<'a, A: Allocator> Parser<'a, A> {
 
     pub(crate) fn close_html(&mut self, ending: Option<LineEnding>) -> Result<(), AllocError>
         ensures read { OnOk result ((switches : Constructs) (kind : ℕ) (ls : List BlockLine) → ending ≡ last_ending ls →
-            Closes self.old self.new (HtmlLeaf kind ls) (close_leaf switches (HtmlLeaf kind ls))) }
+            Closes self.old self.new (tree.OpenHtml kind ls) (tree.close_leaf switches (tree.OpenHtml kind ls))) }
         ensures containers { self.new.open ≡ self.old.open }
     {
         let count = self.pieces.len() - self.lines_in_rows;

@@ -24,7 +24,7 @@ const WHOLE_LINES_MIN: usize = 8;
 impl<'a, A: Allocator> Parser<'a, A> {
     ghost use Rattle.std.specs.Prelude.{◌≡◌, OnOk, List, true, false, drop, ◌+◌, ◌-◌, ◌++◌, ◌∷◌, [], length};
     ghost use Rattle.definition_text.specs.BlockLines.{BlockLine, own_lines};
-    ghost use Rattle.definition_block.specs.Tree.{Blocks, block_and_ending, close_leaf, paragraph_of, Paragraph as ParagraphBlock, Text as TextLeaf, rest_line};
+    ghost use Rattle.definition_block.specs.Tree as tree;
     ghost use Rattle.block_rows.specs.ParagraphLines.{AreLines};
     ghost use Rattle.block_parser.specs.Spine.{Level, spine};
     ghost use Rattle.block_parser.specs.View.{Closes, HasRead};
@@ -33,16 +33,16 @@ impl<'a, A: Allocator> Parser<'a, A> {
 
     /// A line of text goes on the paragraph, or is its first.
     pub(crate) fn text_line(&mut self, rest: Cursor<'a>, beside: Beside) -> Result<(), AllocError>
-        ensures { OnOk result ((around : List Level) (kids : Blocks) (ls : List BlockLine) → HasRead self.old (spine around kids (TextLeaf ls)) →
-            HasRead self.new (spine around kids (TextLeaf (ls ++ rest_line (rest_of rest.entry) beside ∷ [])))) }
+        ensures { OnOk result ((around : List Level) (kids : tree.Blocks) (ls : List BlockLine) → HasRead self.old (spine around kids (tree.Text ls)) →
+            HasRead self.new (spine around kids (tree.Text (ls ++ tree.rest_line (rest_of rest.entry) beside ∷ [])))) }
     {
         self.add_line(piece(rest, beside))
     }
 
     /// The same of a line of a block.
     pub(crate) fn add_line(&mut self, line: Piece<'a>) -> Result<(), AllocError>
-        ensures { OnOk result ((around : List Level) (kids : Blocks) (ls : List BlockLine) → HasRead self.old (spine around kids (TextLeaf ls)) →
-            HasRead self.new (spine around kids (TextLeaf (ls ++ piece_line line.entry ∷ [])))) }
+        ensures { OnOk result ((around : List Level) (kids : tree.Blocks) (ls : List BlockLine) → HasRead self.old (spine around kids (tree.Text ls)) →
+            HasRead self.new (spine around kids (tree.Text (ls ++ piece_line line.entry ∷ [])))) }
     {
         if !self.has_text() {
             self.paragraph = self.rest;
@@ -53,7 +53,7 @@ impl<'a, A: Allocator> Parser<'a, A> {
 
     /// Closes the open paragraph: definitions, and a paragraph of what is left.
     pub(crate) fn close_text(&mut self, on: &Constructs) -> Result<(), AllocError>
-        ensures read { OnOk result ((ls : List BlockLine) → AreLines ls → Closes self.old self.new (TextLeaf ls) (close_leaf on.now (TextLeaf ls))) }
+        ensures read { OnOk result ((ls : List BlockLine) → AreLines ls → Closes self.old self.new (tree.Text ls) (tree.close_leaf on.now (tree.Text ls))) }
         ensures containers { self.new.open ≡ self.old.open }
     {
         self.cut_definitions(on)?;
@@ -62,7 +62,7 @@ impl<'a, A: Allocator> Parser<'a, A> {
 
     /// The lines that are left of the open paragraph, if there are any, are a paragraph.
     fn close_paragraph(&mut self) -> Result<(), AllocError>
-        ensures read { OnOk result ((ls : List BlockLine) → Closes self.old self.new (TextLeaf ls) (paragraph_of ls)) }
+        ensures read { OnOk result ((ls : List BlockLine) → Closes self.old self.new (tree.Text ls) (tree.paragraph_of ls)) }
         ensures containers { self.new.open ≡ self.old.open }
     {
         let count = self.pieces.len() - self.lines_in_rows;
@@ -94,7 +94,7 @@ impl<'a, A: Allocator> Parser<'a, A> {
         ending: Option<LineEnding>,
     ) -> Result<(), AllocError>
         ensures read { OnOk result ((ls : List BlockLine) → ls ≡ whole_lines count self.old.paragraph.now →
-            Closes self.old self.new (TextLeaf ls) (block_and_ending (ParagraphBlock (own_lines ls)) ending)) }
+            Closes self.old self.new (tree.Text ls) (tree.block_and_ending (tree.Paragraph (own_lines ls)) ending)) }
         ensures containers { self.new.open ≡ self.old.open }
     {
         self.leaf = NOTHING;

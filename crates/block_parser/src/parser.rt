@@ -68,11 +68,8 @@ impl<'a, A: Allocator> Parser<'a, A> {
     ghost use Rattle.std.specs.Prelude.{◌≡◌, ◌==◌, ◌&&◌, OnOk, IfOk, List, Option, true, false};
     ghost use Rattle.markdown_options.specs.declared.line_ending.LineEnding.{LineEnding};
     ghost use Rattle.definition_text.specs.Lines.{text_line};
-    ghost use Rattle.definition_block.specs.Tree.{Tree, Block, Blocks, tree, nothing, Nil, one, block_and_ending, step, new, close, close_leaf, is_ending};
-    ghost use Rattle.definition_block.specs.Tree.{is_nothing, is_some_line, leaf_text, open_text, began_blank, OpenLeaf as OpenLeafOf};
+    ghost use Rattle.definition_block.specs.Tree as tree;
     ghost use Rattle.block_rows.specs.ParagraphLines.{AreLines};
-    ghost use Rattle.definition_block.specs.Tree.{Opening, after, leaf_line as line_of_leaf, text_line_of, has_text as is_text_open};
-    ghost use Rattle.definition_block.specs.Tree.{Blank as BlankBlock, Leaf as OpenedLeaf, Inside, Text as TextLeaf};
     ghost use Rattle.block_rows.specs.Rows.{block_rows, row_value, row_size};
     ghost use Rattle.block_parser.specs.HeadingSetext.{IsText};
     ghost use Rattle.block_parser.specs.Spine.{Level, Spine, level, spine, spine_at, spine_of, without_innermost};
@@ -93,8 +90,8 @@ impl<'a, A: Allocator> Parser<'a, A> {
         before: Kind,
         line: Line<'a>,
     ) -> Result<(), AllocError>
-        ensures { OnOk result ((t : Tree) → AreLines (open_text t.now) → HasRead self.old (spine_of t) →
-            HasRead self.new (spine_of (step on.now before t (text_line line.entry.content.now line.entry.ending)))) }
+        ensures { OnOk result ((t : tree.Tree) → AreLines (tree.open_text t.now) → HasRead self.old (spine_of t) →
+            HasRead self.new (spine_of (tree.step on.now before t (text_line line.entry.content.now line.entry.ending)))) }
     {
         self.rest = line.text;
         if !self.is_alone() {
@@ -115,7 +112,7 @@ impl<'a, A: Allocator> Parser<'a, A> {
 
     /// Whether no container is open, and no leaf but a paragraph.
     fn is_alone(&self) -> bool
-        ensures { result ≡ true → (t : Tree) → HasRead self.now (spine_of t) → IsText t.now }
+        ensures { result ≡ true → (t : tree.Tree) → HasRead self.now (spine_of t) → IsText t.now }
     {
         match self.leaf {
             OpenLeaf::Text => self.open.is_empty(),
@@ -128,7 +125,7 @@ impl<'a, A: Allocator> Parser<'a, A> {
 
     /// A line with nothing in it, which is in no container.
     fn empty_line(&mut self, on: &Constructs, ending: Option<LineEnding>) -> Result<(), AllocError>
-        ensures { OnOk result (Grows self.old self.new 0 (λ away. after on.now away (tree (one (BlankBlock ending)) nothing))) }
+        ensures { OnOk result (Grows self.old self.new 0 (λ away. tree.after on.now away (tree.tree (tree.one (tree.Blank ending)) tree.nothing))) }
     {
         self.close_to(on, 0)?;
         self.blank_line(ending)
@@ -136,8 +133,8 @@ impl<'a, A: Allocator> Parser<'a, A> {
 
     /// Reads any line: the containers that go on, then the leaf that takes the rest, or what is new.
     fn any_line(&mut self, on: &Constructs, before: Kind, line: Line<'a>) -> Result<(), AllocError>
-        ensures { OnOk result ((t : Tree) → AreLines (open_text t.now) → HasRead self.old (spine_of t) →
-            HasRead self.new (spine_of (step on.now before t (text_line line.entry.content.now line.entry.ending)))) }
+        ensures { OnOk result ((t : tree.Tree) → AreLines (tree.open_text t.now) → HasRead self.old (spine_of t) →
+            HasRead self.new (spine_of (tree.step on.now before t (text_line line.entry.content.now line.entry.ending)))) }
     {
         let beside = Beside {
             before,
@@ -165,7 +162,7 @@ impl<'a, A: Allocator> Parser<'a, A> {
         beside: Beside,
     ) -> (usize, Cursor<'a>, Beside)
         ensures within { result.0 ≤ vec_len self.now.open }
-        ensures descent { (t : Tree) → HasRead self.now (spine_of t) →
+        ensures descent { (t : tree.Tree) → HasRead self.now (spine_of t) →
             Descent on.now beside (rest_of line.entry) t (vec_len self.now.open) result.0 (rest_of result.1) result.2 }
     {
         let mut rest = line;
@@ -193,7 +190,7 @@ impl<'a, A: Allocator> Parser<'a, A> {
         requires { depth < vec_len self.now.open }
         ensures empty { result ≡ true → rest_of rest.entry ≡ [] }
         ensures none { result ≡ true → NoQuoteFrom depth (container_views self.now.open.items) }
-        ensures began { result ≡ true → (t : Tree) → HasRead self.now (spine_of t) → NoneBeganBlank t }
+        ensures began { result ≡ true → (t : tree.Tree) → HasRead self.now (spine_of t) → NoneBeganBlank t }
     {
         if self.quotes_end > depth {
             return false;
@@ -207,8 +204,8 @@ impl<'a, A: Allocator> Parser<'a, A> {
     /// Whether a container, at a depth, began with a blank line, and nothing followed.
     fn began_blank(&self, depth: usize) -> bool
         requires { depth < vec_len self.now.open }
-        ensures { (around : List Level) (kids inner_kids : Blocks) (c : Holder) (inner : Opening) → depth ≡ length around →
-            HasRead self.now (spine_at around kids (Inside c inner_kids inner)) → result ≡ began_blank inner_kids inner }
+        ensures { (around : List Level) (kids inner_kids : tree.Blocks) (c : Holder) (inner : tree.Opening) → depth ≡ length around →
+            HasRead self.now (spine_at around kids (tree.Inside c inner_kids inner)) → result ≡ tree.began_blank inner_kids inner }
     {
         if depth + 1 != self.open.len() {
             return false;
@@ -218,7 +215,7 @@ impl<'a, A: Allocator> Parser<'a, A> {
 
     /// Whether no leaf is open.
     fn is_nothing(&self) -> bool
-        ensures { (s : Spine) → HasRead self.now s → result ≡ is_nothing (OpenedLeaf s.leaf) }
+        ensures { (s : Spine) → HasRead self.now s → result ≡ tree.is_nothing (tree.Leaf s.leaf) }
     {
         match self.leaf {
             OpenLeaf::Text => self.lines_in_rows == self.pieces.len(),
@@ -231,7 +228,7 @@ impl<'a, A: Allocator> Parser<'a, A> {
 
     /// Whether a paragraph is open.
     pub(crate) fn has_text(&self) -> bool
-        ensures { (s : Spine) → HasRead self.now s → result ≡ is_some_line (leaf_text s.leaf) }
+        ensures { (s : Spine) → HasRead self.now s → result ≡ tree.is_some_line (tree.leaf_text s.leaf) }
     {
         match self.leaf {
             OpenLeaf::Text => self.lines_in_rows < self.pieces.len(),
@@ -244,8 +241,8 @@ impl<'a, A: Allocator> Parser<'a, A> {
 
     /// Whether what starts on a line that is in so many containers interrupts a paragraph.
     pub(crate) fn interrupts(&self, depth: usize) -> bool
-        ensures { (around : List Level) (kids : Blocks) (away : Opening) → depth ≡ length around → HasRead self.now (spine_at around kids away) →
-            result ≡ ((depth == vec_len self.now.open) && is_text_open away) }
+        ensures { (around : List Level) (kids : tree.Blocks) (away : tree.Opening) → depth ≡ length around → HasRead self.now (spine_at around kids away) →
+            result ≡ ((depth == vec_len self.now.open) && tree.has_text away) }
     {
         depth == self.open.len() && self.has_text()
     }
@@ -260,7 +257,7 @@ impl<'a, A: Allocator> Parser<'a, A> {
     ) -> Result<(), AllocError>
         requires depth { depth ≤ vec_len self.old.open }
         ensures { OnOk result (Grows self.old self.new depth
-            (λ away. new (length (rest_of rest.entry)) on.now (depth == vec_len self.old.open) away beside (rest_of rest.entry))) }
+            (λ away. tree.new (length (rest_of rest.entry)) on.now (depth == vec_len self.old.open) away beside (rest_of rest.entry))) }
     {
         let Some((container, line)) = starts(on, self.interrupts(depth), rest) else {
             return self.leaf_line(on, depth, rest, beside);
@@ -283,7 +280,7 @@ impl<'a, A: Allocator> Parser<'a, A> {
         rest: Cursor<'a>,
         beside: Beside,
     ) -> Result<(Cursor<'a>, Beside), AllocError>
-        ensures { IfOk result (λ inside. (around : List Level) (kids : Blocks) → HasRead self.old (spine around kids (TextLeaf [])) →
+        ensures { IfOk result (λ inside. (around : List Level) (kids : tree.Blocks) → HasRead self.old (spine around kids (tree.Text [])) →
             Entered on.now (rest_of rest.entry) beside (rest_of inside.0) inside.1 self.new around kids) }
     {
         let mut inside = rest;
@@ -305,7 +302,7 @@ impl<'a, A: Allocator> Parser<'a, A> {
         beside: Beside,
     ) -> Result<(), AllocError>
         requires depth { depth ≤ vec_len self.old.open }
-        ensures { OnOk result (Grows self.old self.new depth (λ away. line_of_leaf on.now away (rest_of rest.entry) beside)) }
+        ensures { OnOk result (Grows self.old self.new depth (λ away. tree.leaf_line on.now away (rest_of rest.entry) beside)) }
     {
         if is_plain(rest) {
             self.more_text(on, depth, rest, beside)
@@ -323,7 +320,7 @@ impl<'a, A: Allocator> Parser<'a, A> {
         beside: Beside,
     ) -> Result<(), AllocError>
         requires depth { depth ≤ vec_len self.old.open }
-        ensures { OnOk result (Grows self.old self.new depth (λ away. line_of_leaf on.now away (rest_of rest.entry) beside)) }
+        ensures { OnOk result (Grows self.old self.new depth (λ away. tree.leaf_line on.now away (rest_of rest.entry) beside)) }
     {
         let paragraph = self.has_text();
         if rest.is_blank() {
@@ -369,7 +366,7 @@ impl<'a, A: Allocator> Parser<'a, A> {
         beside: Beside,
     ) -> Result<(), AllocError>
         requires depth { depth ≤ vec_len self.old.open }
-        ensures { OnOk result (Grows self.old self.new depth (λ away. text_line_of on.now away (rest_of rest.entry) beside)) }
+        ensures { OnOk result (Grows self.old self.new depth (λ away. tree.text_line_of on.now away (rest_of rest.entry) beside)) }
     {
         if self.has_text() {
             return self.text_line(rest, beside);
@@ -383,15 +380,15 @@ impl<'a, A: Allocator> Parser<'a, A> {
 
     /// A blank line, where no leaf is open.
     fn blank_line(&mut self, ending: Option<LineEnding>) -> Result<(), AllocError>
-        ensures { OnOk result (Adds self.old self.new (tree (one (BlankBlock ending)) nothing)) }
+        ensures { OnOk result (Adds self.old self.new (tree.tree (tree.one (tree.Blank ending)) tree.nothing)) }
     {
         self.rows.blank(ending)
     }
 
     /// A container starts, where no leaf is open.
     fn enter(&mut self, container: Container<'a>) -> Result<(), AllocError>
-        ensures { OnOk result ((around : List Level) (kids : Blocks) → HasRead self.old (spine around kids (TextLeaf [])) →
-            HasRead self.new (spine (level (container_view container.entry) kids ∷ around) Nil (TextLeaf []))) }
+        ensures { OnOk result ((around : List Level) (kids : tree.Blocks) → HasRead self.old (spine around kids (tree.Text [])) →
+            HasRead self.new (spine (level (container_view container.entry) kids ∷ around) tree.Nil (tree.Text []))) }
     {
         match container {
             Container::Quote | Container::Item(_) => self.enter_alone(container),
@@ -413,8 +410,8 @@ impl<'a, A: Allocator> Parser<'a, A> {
     /// A container without a line of its own starts, where no leaf is open.
     fn enter_alone(&mut self, container: Container<'a>) -> Result<(), AllocError>
         requires { row_size (enter_row (container_view container)) ≡ 0 }
-        ensures { OnOk result ((around : List Level) (kids : Blocks) → HasRead self.old (spine around kids (TextLeaf [])) →
-            HasRead self.new (spine (level (container_view container.entry) kids ∷ around) Nil (TextLeaf []))) }
+        ensures { OnOk result ((around : List Level) (kids : tree.Blocks) → HasRead self.old (spine around kids (tree.Text [])) →
+            HasRead self.new (spine (level (container_view container.entry) kids ∷ around) tree.Nil (tree.Text []))) }
     {
         self.rows.enter(container)?;
         let end = self.quotes_end_with(container);
@@ -426,7 +423,7 @@ impl<'a, A: Allocator> Parser<'a, A> {
     /// Closes the open leaf, and all containers but so many.
     pub(crate) fn close_to(&mut self, on: &Constructs, depth: usize) -> Result<(), AllocError>
         requires depth { depth ≤ vec_len self.old.open }
-        ensures read { OnOk result (Grows self.old self.new depth (λ away. tree (close on.now away) nothing)) }
+        ensures read { OnOk result (Grows self.old self.new depth (λ away. tree.tree (tree.close on.now away) tree.nothing)) }
         ensures count { OnOk result (vec_len self.new.open ≡ depth) }
     {
         self.close_leaf(on)?;
@@ -438,7 +435,7 @@ impl<'a, A: Allocator> Parser<'a, A> {
 
     /// Closes the innermost container, where no leaf is open.
     fn exit(&mut self) -> Result<(), AllocError>
-        ensures read { OnOk result ((s : Spine) → s.leaf ≡ TextLeaf [] → HasRead self.old s → HasRead self.new (without_innermost s)) }
+        ensures read { OnOk result ((s : Spine) → s.leaf ≡ tree.Text [] → HasRead self.old s → HasRead self.new (without_innermost s)) }
         ensures count { OnOk result (vec_len self.new.open ≡ vec_len self.old.open - 1) }
     {
         match self.open.pop() {
@@ -453,7 +450,7 @@ impl<'a, A: Allocator> Parser<'a, A> {
 
     /// Closes the open leaf, if there is one.
     fn close_leaf(&mut self, on: &Constructs) -> Result<(), AllocError>
-        ensures read { OnOk result ((leaf : OpenLeafOf) → AreLines (leaf_text leaf) → Closes self.old self.new leaf (close_leaf on.now leaf)) }
+        ensures read { OnOk result ((leaf : tree.OpenLeaf) → AreLines (tree.leaf_text leaf) → Closes self.old self.new leaf (tree.close_leaf on.now leaf)) }
         ensures containers { self.new.open ≡ self.old.open }
     {
         match self.leaf {
@@ -469,8 +466,9 @@ impl<'a, A: Allocator> Parser<'a, A> {
     pub(crate) fn take_lines(&mut self, row: Row, count: usize) -> Result<(), AllocError>
         requires size { row_size row ≡ count }
         requires within { self.old.lines_in_rows + count ≤ vec_len self.old.pieces }
-        ensures read { OnOk result ((ls : List BlockLine) (b : Block) → block_rows b ≡ row_value row ls ∷ [] → is_ending b ≡ false →
-            Becomes self.old self.new (TextLeaf ls) (tree (block_and_ending b (last_ending (take count ls))) (OpenedLeaf (TextLeaf (drop count ls))))) }
+        ensures read { OnOk result ((ls : List BlockLine) (b : tree.Block) → block_rows b ≡ row_value row ls ∷ [] → tree.is_ending b ≡ false →
+            Becomes self.old self.new (tree.Text ls)
+            (tree.tree (tree.block_and_ending b (last_ending (take count ls))) (tree.Leaf (tree.Text (drop count ls))))) }
         ensures containers { self.new.open ≡ self.old.open }
         ensures content { self.new.content ≡ self.old.content }
         ensures pieces { self.new.pieces ≡ self.old.pieces }
@@ -490,8 +488,8 @@ impl<'a, A: Allocator> Parser<'a, A> {
         ending: Option<LineEnding>,
     ) -> Result<(), AllocError>
         requires { self.old.lines_in_rows + row_size row ≡ vec_len self.old.pieces }
-        ensures read { OnOk result ((leaf : OpenLeafOf) (b : Block) → block_rows b ≡ row_value row (leaf_lines leaf) ∷ [] → is_ending b ≡ false →
-            Closes self.old self.new leaf (block_and_ending b ending)) }
+        ensures read { OnOk result ((leaf : tree.OpenLeaf) (b : tree.Block) → block_rows b ≡ row_value row (leaf_lines leaf) ∷ [] → tree.is_ending b ≡ false →
+            Closes self.old self.new leaf (tree.block_and_ending b ending)) }
         ensures containers { self.new.open ≡ self.old.open }
     {
         self.rows.block(row)?;

@@ -9,12 +9,12 @@ use std::alloc::{AllocError, Allocator};
 
 impl<'a, A: Allocator> Parser<'a, A> {
     ghost use Rattle.std.specs.Prelude.{OnOk};
-    ghost use Rattle.definition_block.specs.Tree.{tree, nothing, block_and_ending, Break as BreakBlock};
+    ghost use Rattle.definition_block.specs.Tree as tree;
     ghost use Rattle.block_parser.specs.View.{Adds};
 
     /// A thematic break, where no leaf is open.
     pub(crate) fn thematic_break(&mut self, ending: Option<LineEnding>) -> Result<(), AllocError>
-        ensures { OnOk result (Adds self.old self.new (tree (block_and_ending BreakBlock ending) nothing)) }
+        ensures { OnOk result (Adds self.old self.new (tree.tree (tree.block_and_ending tree.Break ending) tree.nothing)) }
     {
         self.rows.block(Row::Break)?;
         self.rows.ending(ending)
