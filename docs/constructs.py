@@ -73,6 +73,12 @@ SHARED = {
     "inline_runs/run.rt": "attention gfm_strikethrough",
     "inline_runs/spans.rt": "attention gfm_strikethrough",
     "inline_spans/tell.rt": "attention gfm_strikethrough",
+    "inline_states_leaves/RawText.antt": "code_text math_text",
+    "inline_states_leaves/raw_text.rt": "code_text math_text",
+    "inline_states_resolvers/RawText.antt": "code_text math_text",
+    "inline_states_resolvers/raw_text": "code_text math_text",
+    "inline_states_resolvers/raw_text.rt": "code_text math_text",
+    "inline_verdicts/RawText.antt": "code_text math_text",
     "inline_tags/tags.rt": "html_flow html_text",
     "html_inline/leaf.rt": "autolink character_escape character_reference hard_break_escape hard_break_trailing",
     "html_inline/rows.rt": "attention gfm_strikethrough label_end",
@@ -103,9 +109,6 @@ SHARED = {
     "inline_states_labels/partial_label.rt": "label_end",
     "inline_states_labels/partial_title.rt": "label_end",
     "inline_states_labels/start.rt": "label_start_image label_start_link",
-    "inline_states_leaves/RawText.antt": "code_text math_text",
-    "inline_states_leaves/raw_text.rt": "code_text math_text",
-    "inline_verdicts/RawText.antt": "code_text math_text",
 }
 # Laws whose names have another word before `_law` than the construct that they speak of.
 LAW_NAMES = {

@@ -8,6 +8,7 @@ use Rattle.inline_states_resolvers.specs.Attention.{empty_search, run_edit, run_
 use Rattle.inline_states_resolvers.specs.Autolink.{email_edit, email_edits}
 use Rattle.inline_states_resolvers.specs.GfmAutolinkLiteral.{address_edit, address_edits, links_after, links_before}
 use Rattle.inline_states_resolvers.specs.Data.{data_edits, seam_edit}
+use Rattle.inline_states_resolvers.specs.RawText.{span_edit, span_edits}
 use Rattle.inline_states_resolvers.specs.Whitespace.{index_edit, white_edits}
 
 pub data_start : (events : List Event) → data_edits events 0 ≡ []
@@ -34,6 +35,14 @@ emails_start bytes events = refl
 pub emails_more : (bytes : List ℕ) (events : List Event) (i : ℕ) → email_edits bytes events (i + 1) ≡ email_edit bytes events i (email_edits bytes events i)
 unfolding email_edits
 emails_more bytes events i = ap (email_edits bytes events) (add-one i)
+
+pub spans_start : (events : List Event) → span_edits events 0 ≡ []
+unfolding span_edits
+spans_start events = refl
+
+pub spans_more : (events : List Event) (i : ℕ) → span_edits events (i + 1) ≡ span_edit events i (span_edits events i)
+unfolding span_edits
+spans_more events i = ap (span_edits events) (add-one i)
 
 pub links_start : (events : List Event) → links_before events 0 ≡ 0
 unfolding links_before

@@ -8,6 +8,7 @@ pub mod Attention
 pub mod Whitespace
 pub mod GfmAutolinkLiteral
 pub mod Autolink
+pub mod RawText
 pub mod Views
 pub mod Resolving
 pub mod ResolvingLaws

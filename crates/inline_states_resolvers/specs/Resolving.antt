@@ -11,6 +11,7 @@ use Rattle.inline_states_resolvers.specs.Data.{data_edits}
 use Rattle.inline_states_resolvers.specs.EditedEvents.{with_edited_events}
 use Rattle.inline_states_resolvers.specs.GfmAutolinkLiteral.{address_edits}
 use Rattle.inline_states_resolvers.specs.LabelEnd.{label_edits}
+use Rattle.inline_states_resolvers.specs.RawText.{span_edits}
 use Rattle.inline_states_resolvers.specs.Whitespace.{white_edits}
 
 module _ {M : Type 0} where
@@ -20,13 +21,21 @@ module _ {M : Type 0} where
   abbrev pub resolve_label : Config M → Config M
   resolve_label c = with_edited_events (label_edits c.events c.tokenize_state) c
 
+  -- runs within code and math get the name of its text
+  abbrev pub name_spans : Config M → Config M
+  name_spans c = with_edited_events (span_edits c.events (length c.events)) c
+
 module _ {T M : Type 0} (is_punctuation : ℕ → Bool) (x : Context T) where
   abbrev pub resolve_attention : Config M → Config M
   resolve_attention c = with_edited_events (attention_edits is_punctuation x c.events) c
 
   -- email addresses in autolinks get their name
+  abbrev pub name_emails : Config M → Config M
+  name_emails c = with_edited_events (email_edits x.bytes c.events (length c.events)) c
+
+  -- the names that states can't tell yet
   abbrev pub name_text : Config M → Config M
-  name_text c = with_edited_events (email_edits x.bytes c.events (length c.events)) c
+  name_text c = name_spans (name_emails c)
 
   -- texts lose white space at their ends, too
   abbrev pub trim_text : Config M → Config M

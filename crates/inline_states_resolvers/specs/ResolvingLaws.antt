@@ -17,7 +17,8 @@ use Rattle.inline_states_resolvers.specs.Data.{data_edits}
 use Rattle.inline_states_resolvers.specs.EditedEvents.{edited_events, is_ordered, with_edited_events}
 use Rattle.inline_states_resolvers.specs.GfmAutolinkLiteral.{address_edits}
 use Rattle.inline_states_resolvers.specs.LabelEnd.{label_edits}
-use Rattle.inline_states_resolvers.specs.Resolving.{inline_resolved, resolved_config, name_text, trim_text}
+use Rattle.inline_states_resolvers.specs.RawText.{span_edits}
+use Rattle.inline_states_resolvers.specs.Resolving.{inline_resolved, resolved_config, name_emails, name_text, trim_text}
 use Rattle.inline_states_resolvers.specs.Whitespace.{white_edits}
 use Rattle.inline_states_resolvers.specs.Whole.{is_whole}
 use Rattle.inline_states_resolvers.specs.WholeLaws.{whole}
@@ -38,6 +39,12 @@ module _ {T M : Type 0} (is_punctuation : ℕ → Bool) (x : Context T) where
   linked_settled true c h = (h.0, edited_whole (address_edits x.bytes c.events (length c.events)) c.point c.events h.1)
   linked_settled false c h = h
 
+  named_settled : (c : Config M) → settles_whole c [] → settles_whole (name_text is_punctuation x c) []
+  named_settled c h =
+      let named = name_emails is_punctuation x c in
+      let k = edited_whole (email_edits x.bytes c.events (length c.events)) c.point c.events h.1 in
+      (h.0, edited_whole (span_edits named.events (length named.events)) c.point named.events k)
+
   trimmed_settled : (c : Config M) → settles_whole c [] → settles_whole (trim_text is_punctuation x c) []
   trimmed_settled c h = (h.0, edited_whole (white_edits true x.options.constructs.hard_break_trailing x.bytes c.events (length c.events)) c.point c.events h.1)
 
@@ -47,7 +54,7 @@ module _ {T M : Type 0} (is_punctuation : ℕ → Bool) (x : Context T) where
   settled c resolvers.Attention h = (h.0, edited_whole (attention_edits is_punctuation x c.events) c.point c.events h.1)
   settled c resolvers.Text h =
       linked_settled x.options.constructs.gfm_autolink_literal (trim_text is_punctuation x (name_text is_punctuation x c))
-      (trimmed_settled (name_text is_punctuation x c) (h.0, edited_whole (email_edits x.bytes c.events (length c.events)) c.point c.events h.1))
+      (trimmed_settled (name_text is_punctuation x c) (named_settled c h))
   settled c resolvers.String h = (h.0, edited_whole (white_edits false false x.bytes c.events (length c.events)) c.point c.events h.1)
   settled c n h = h
 

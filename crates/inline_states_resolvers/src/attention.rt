@@ -435,7 +435,7 @@ impl<A: Allocator + Clone> Search<A> {
 }
 
 /// Whether an event enters, or exits, something of a name.
-fn is_event(kind: Kind, name: Name, event: &Event) -> bool
+pub(crate) fn is_event(kind: Kind, name: Name, event: &Event) -> bool
     ensures { result ≡ is_event kind name event.now }
 {
     event.kind == kind && event.name == name

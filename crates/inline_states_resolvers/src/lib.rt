@@ -8,5 +8,6 @@ pub mod gfm_autolink_literal;
 pub mod label_end;
 pub mod partial_data;
 pub mod partial_whitespace;
+pub mod raw_text;
 pub mod resolving;
 pub mod whole;

@@ -3,7 +3,7 @@ ghost use Rattle.std.specs.Prelude.{◌≡◌, OnOk, IfErr};
 ghost use Rattle.markdown_options.specs.Messages.{IsOutOfMemory};
 ghost use Rattle.markdown_engine.specs.Machine.{config, read_with};
 ghost use Rattle.inline_states_resolvers.specs.Resolving.{resolve_attention, resolve_data, inline_resolved, resolve_label, resolved_config};
-ghost use Rattle.inline_states_resolvers.specs.Resolving.{resolve_string, link_text, name_text, resolve_text, trim_text};
+ghost use Rattle.inline_states_resolvers.specs.Resolving.{resolve_string, link_text, name_emails, name_spans, name_text, resolve_text, trim_text};
 
 use crate::attention::attention_edits;
 use crate::autolink::email_edits;
@@ -12,6 +12,7 @@ use crate::gfm_autolink_literal::address_edits;
 use crate::label_end::label_edits;
 use crate::partial_data::data_edits;
 use crate::partial_whitespace::{Trimming, white_edits};
+use crate::raw_text::span_edits;
 use markdown_engine::Message;
 use markdown_engine::resolve::Name;
 use markdown_engine::tokenizer::Tokenizer;
@@ -57,7 +58,34 @@ pub fn resolve_attention<M, T: Tables, A: Allocator + Clone>(
     make(tokenizer, edits)
 }
 
+/// Gives runs within code and math the name of its text.
+fn name_spans<M, T, A: Allocator + Clone>(
+    tokenizer: &mut Tokenizer<'_, M, T, A>,
+) -> Result<(), Message>
+    ensures became { OnOk result (config tokenizer.new ≡ name_spans (config tokenizer.old)) }
+    ensures parse_state { tokenizer.new.parse_state ≡ tokenizer.old.parse_state }
+    ensures memory { IfErr result (λ message. IsOutOfMemory message) }
+{
+    let alloc = tokenizer.events.allocator().clone()?;
+    let edits = span_edits(&alloc, &tokenizer.events)?;
+    make(tokenizer, edits)
+}
+
 /// Gives email addresses in autolinks their name.
+fn name_emails<M, T: Tables, A: Allocator + Clone>(
+    tokenizer: &mut Tokenizer<'_, M, T, A>,
+) -> Result<(), Message>
+    ensures became { let kept = read_with tokenizer.old in
+        OnOk result (config tokenizer.new ≡ name_emails (T.punctuation_of kept.tables) kept (config tokenizer.old)) }
+    ensures parse_state { tokenizer.new.parse_state ≡ tokenizer.old.parse_state }
+    ensures memory { IfErr result (λ message. IsOutOfMemory message) }
+{
+    let alloc = tokenizer.events.allocator().clone()?;
+    let edits = email_edits(&alloc, tokenizer.parse_state.bytes, &tokenizer.events)?;
+    make(tokenizer, edits)
+}
+
+/// Gives email addresses in autolinks, and runs within code and math, their names.
 fn name_text<M, T: Tables, A: Allocator + Clone>(
     tokenizer: &mut Tokenizer<'_, M, T, A>,
 ) -> Result<(), Message>
@@ -66,9 +94,8 @@ fn name_text<M, T: Tables, A: Allocator + Clone>(
     ensures parse_state { tokenizer.new.parse_state ≡ tokenizer.old.parse_state }
     ensures memory { IfErr result (λ message. IsOutOfMemory message) }
 {
-    let alloc = tokenizer.events.allocator().clone()?;
-    let edits = email_edits(&alloc, tokenizer.parse_state.bytes, &tokenizer.events)?;
-    make(tokenizer, edits)
+    name_emails(tokenizer)?;
+    name_spans(tokenizer)
 }
 
 /// Cuts white space off the ends of a text, and of its lines.
@@ -112,7 +139,8 @@ fn link_text<M, T: Tables, A: Allocator + Clone>(
     make(tokenizer, edits)
 }
 
-/// Names email addresses in autolinks, cuts white space off the ends of a text, and of its lines, and finds email addresses in data.
+/// Names email addresses in autolinks and runs within code and math, cuts white space off the ends
+/// of a text, and of its lines, and finds email addresses in data.
 pub fn resolve_text<M, T: Tables, A: Allocator + Clone>(
     tokenizer: &mut Tokenizer<'_, M, T, A>,
 ) -> Result<(), Message>

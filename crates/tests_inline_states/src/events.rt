@@ -130,7 +130,8 @@ fn emails_in_autolinks(rt: HostRuntime) -> Result<(), Fail> {
          +AutolinkMarker6 -AutolinkMarker7 -Autolink7 ";
     assert!(rt; out.as_str() == wanted);
     let out = resolved_events(&rt, &options, "", "", b"<ab:c>")?;
-    let wanted = "+Autolink0 +AutolinkMarker0 -AutolinkMarker1 +AutolinkProtocol1 -AutolinkProtocol5 \
+    let wanted =
+        "+Autolink0 +AutolinkMarker0 -AutolinkMarker1 +AutolinkProtocol1 -AutolinkProtocol5 \
          +AutolinkMarker5 -AutolinkMarker6 -Autolink6 ";
     assert!(rt; out.as_str() == wanted);
     Ok(())

@@ -12,6 +12,8 @@ mod gfm;
 #[cfg(test)]
 mod links;
 #[cfg(test)]
+mod raw_text;
+#[cfg(test)]
 mod reading;
 #[cfg(test)]
 mod white_space;
