@@ -11,4 +11,5 @@ pub mod Autolink
 pub mod RawText
 pub mod Views
 pub mod Resolving
+pub mod ChainLaws
 pub mod ResolvingLaws

@@ -1,5 +1,6 @@
 -- What the resolvers of texts and strings do: each makes its edits, if these leave whole events.
 use Rattle.std.specs.Prelude.{ℕ, Bool, true, false, if◌then◌else◌, length}
+use Rattle.engine_chunks.specs.Joins.{link_all}
 use Rattle.engine_events.specs.declared.resolve.Name.{Name as Resolver}
 use Rattle.engine_events.specs.declared.resolve.Name.TheVariants as resolvers
 use Rattle.markdown_engine.specs.Context.{Context}
@@ -25,6 +26,10 @@ module _ {M : Type 0} where
   abbrev pub name_spans : Config M → Config M
   name_spans c = with_edited_events (span_edits c.events (length c.events)) c
 
+  -- each chunk that is named as the one before another names that as the one after it
+  abbrev pub join_chunks : Config M → Config M
+  join_chunks c = record c { events = link_all c.events }
+
 module _ {T M : Type 0} (is_punctuation : ℕ → Bool) (x : Context T) where
   abbrev pub resolve_attention : Config M → Config M
   resolve_attention c = with_edited_events (attention_edits is_punctuation x c.events) c
@@ -46,10 +51,14 @@ module _ {T M : Type 0} (is_punctuation : ℕ → Bool) (x : Context T) where
   link_text c = if x.options.constructs.gfm_autolink_literal then with_edited_events (address_edits x.bytes c.events (length c.events)) c else c
 
   abbrev pub resolve_text : Config M → Config M
-  resolve_text c = link_text (trim_text (name_text c))
+  resolve_text c = join_chunks (link_text (trim_text (name_text c)))
+
+  -- strings lose white space at the ends of their lines
+  abbrev pub trim_string : Config M → Config M
+  trim_string c = with_edited_events (white_edits false false x.bytes c.events (length c.events)) c
 
   abbrev pub resolve_string : Config M → Config M
-  resolve_string c = with_edited_events (white_edits false false x.bytes c.events (length c.events)) c
+  resolve_string c = join_chunks (trim_string c)
 
   abbrev pub resolved_config : Config M → Resolver → Config M
   resolved_config c resolvers.Data = resolve_data c

@@ -13,12 +13,14 @@ use Rattle.markdown_engine.specs.Reading.{Config}
 use Rattle.markdown_engine.specs.Resolving.{ResolvesAt, resolves_nothing, settles_whole}
 use Rattle.inline_states_resolvers.specs.Attention.{attention_edits}
 use Rattle.inline_states_resolvers.specs.Autolink.{email_edits}
+use Rattle.inline_states_resolvers.specs.ChainLaws.{chained_whole}
 use Rattle.inline_states_resolvers.specs.Data.{data_edits}
 use Rattle.inline_states_resolvers.specs.EditedEvents.{edited_events, is_ordered, with_edited_events}
 use Rattle.inline_states_resolvers.specs.GfmAutolinkLiteral.{address_edits}
 use Rattle.inline_states_resolvers.specs.LabelEnd.{label_edits}
 use Rattle.inline_states_resolvers.specs.RawText.{span_edits}
-use Rattle.inline_states_resolvers.specs.Resolving.{inline_resolved, resolved_config, name_emails, name_text, trim_text}
+use Rattle.inline_states_resolvers.specs.Resolving.{inline_resolved, join_chunks, link_text, resolved_config, name_emails, name_text, trim_string}
+use Rattle.inline_states_resolvers.specs.Resolving.{trim_text}
 use Rattle.inline_states_resolvers.specs.Whitespace.{white_edits}
 use Rattle.inline_states_resolvers.specs.Whole.{is_whole}
 use Rattle.inline_states_resolvers.specs.WholeLaws.{whole}
@@ -39,6 +41,9 @@ module _ {T M : Type 0} (is_punctuation : ℕ → Bool) (x : Context T) where
   linked_settled true c h = (h.0, edited_whole (address_edits x.bytes c.events (length c.events)) c.point c.events h.1)
   linked_settled false c h = h
 
+  joined_settled : (c : Config M) → settles_whole c [] → settles_whole (join_chunks c) []
+  joined_settled c h = (h.0, chained_whole c.events c.point h.1)
+
   named_settled : (c : Config M) → settles_whole c [] → settles_whole (name_text is_punctuation x c) []
   named_settled c h =
       let named = name_emails is_punctuation x c in
@@ -53,9 +58,11 @@ module _ {T M : Type 0} (is_punctuation : ℕ → Bool) (x : Context T) where
   settled c resolvers.Label h = (h.0, edited_whole (label_edits c.events c.tokenize_state) c.point c.events h.1)
   settled c resolvers.Attention h = (h.0, edited_whole (attention_edits is_punctuation x c.events) c.point c.events h.1)
   settled c resolvers.Text h =
-      linked_settled x.options.constructs.gfm_autolink_literal (trim_text is_punctuation x (name_text is_punctuation x c))
-      (trimmed_settled (name_text is_punctuation x c) (named_settled c h))
-  settled c resolvers.String h = (h.0, edited_whole (white_edits false false x.bytes c.events (length c.events)) c.point c.events h.1)
+      let trimmed = trim_text is_punctuation x (name_text is_punctuation x c) in
+      joined_settled (link_text is_punctuation x trimmed)
+      (linked_settled x.options.constructs.gfm_autolink_literal trimmed (trimmed_settled (name_text is_punctuation x c) (named_settled c h)))
+  settled c resolvers.String h =
+      joined_settled (trim_string is_punctuation x c) (h.0, edited_whole (white_edits false false x.bytes c.events (length c.events)) c.point c.events h.1)
   settled c n h = h
 
   kept_settled : (c : Config M) (n : Resolver) (ns : List Resolver) → settles_whole c (n ∷ ns) → settles_whole (inline_resolved is_punctuation x c n).config ns

@@ -2,8 +2,8 @@
 ghost use Rattle.std.specs.Prelude.{◌≡◌, OnOk, IfErr};
 ghost use Rattle.markdown_options.specs.Messages.{IsOutOfMemory};
 ghost use Rattle.markdown_engine.specs.Machine.{config, read_with};
-ghost use Rattle.inline_states_resolvers.specs.Resolving.{resolve_attention, resolve_data, inline_resolved, resolve_label, resolved_config};
-ghost use Rattle.inline_states_resolvers.specs.Resolving.{resolve_string, link_text, name_emails, name_spans, name_text, resolve_text, trim_text};
+ghost use Rattle.inline_states_resolvers.specs.Resolving.{resolve_attention, resolve_data, inline_resolved, join_chunks, resolve_label, resolved_config};
+ghost use Rattle.inline_states_resolvers.specs.Resolving.{resolve_string, link_text, name_emails, name_spans, name_text, resolve_text, trim_string, trim_text};
 
 use crate::attention::attention_edits;
 use crate::autolink::email_edits;
@@ -13,6 +13,7 @@ use crate::label_end::label_edits;
 use crate::partial_data::data_edits;
 use crate::partial_whitespace::{Trimming, white_edits};
 use crate::raw_text::span_edits;
+use engine_chunks::link_all;
 use markdown_engine::Message;
 use markdown_engine::resolve::Name;
 use markdown_engine::tokenizer::Tokenizer;
@@ -139,8 +140,16 @@ fn link_text<M, T: Tables, A: Allocator + Clone>(
     make(tokenizer, edits)
 }
 
+/// Gives each chunk the one after it.
+fn join_chunks<M, T, A: Allocator>(tokenizer: &mut Tokenizer<'_, M, T, A>)
+    ensures became { config tokenizer.new ≡ join_chunks (config tokenizer.old) }
+    ensures parse_state { tokenizer.new.parse_state ≡ tokenizer.old.parse_state }
+{
+    link_all(&mut tokenizer.events);
+}
+
 /// Names email addresses in autolinks and runs within code and math, cuts white space off the ends
-/// of a text, and of its lines, and finds email addresses in data.
+/// of a text, and of its lines, finds email addresses in data, and joins chunks.
 pub fn resolve_text<M, T: Tables, A: Allocator + Clone>(
     tokenizer: &mut Tokenizer<'_, M, T, A>,
 ) -> Result<(), Message>
@@ -151,15 +160,17 @@ pub fn resolve_text<M, T: Tables, A: Allocator + Clone>(
 {
     name_text(tokenizer)?;
     trim_text(tokenizer)?;
-    link_text(tokenizer)
+    link_text(tokenizer)?;
+    join_chunks(tokenizer);
+    Ok(())
 }
 
 /// Cuts white space off the ends of the lines of a string.
-pub fn resolve_string<M, T: Tables, A: Allocator + Clone>(
+fn trim_string<M, T: Tables, A: Allocator + Clone>(
     tokenizer: &mut Tokenizer<'_, M, T, A>,
 ) -> Result<(), Message>
     ensures became { let kept = read_with tokenizer.old in
-        OnOk result (config tokenizer.new ≡ resolve_string (T.punctuation_of kept.tables) kept (config tokenizer.old)) }
+        OnOk result (config tokenizer.new ≡ trim_string (T.punctuation_of kept.tables) kept (config tokenizer.old)) }
     ensures parse_state { tokenizer.new.parse_state ≡ tokenizer.old.parse_state }
     ensures memory { IfErr result (λ message. IsOutOfMemory message) }
 {
@@ -171,6 +182,20 @@ pub fn resolve_string<M, T: Tables, A: Allocator + Clone>(
     let alloc = tokenizer.events.allocator().clone()?;
     let edits = white_edits(alloc, &trimming, &tokenizer.events)?;
     make(tokenizer, edits)
+}
+
+/// Cuts white space off the ends of the lines of a string, and joins chunks.
+pub fn resolve_string<M, T: Tables, A: Allocator + Clone>(
+    tokenizer: &mut Tokenizer<'_, M, T, A>,
+) -> Result<(), Message>
+    ensures became { let kept = read_with tokenizer.old in
+        OnOk result (config tokenizer.new ≡ resolve_string (T.punctuation_of kept.tables) kept (config tokenizer.old)) }
+    ensures parse_state { tokenizer.new.parse_state ≡ tokenizer.old.parse_state }
+    ensures memory { IfErr result (λ message. IsOutOfMemory message) }
+{
+    trim_string(tokenizer)?;
+    join_chunks(tokenizer);
+    Ok(())
 }
 
 /// Runs a resolver.
