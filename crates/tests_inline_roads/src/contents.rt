@@ -41,7 +41,11 @@ bar
 
 ``` foo\\+bar
 foo
-```";
+```
+
+\\
+
+<https://example.com?find=\\*>";
 
 /// Those of character references (CommonMark 2.5).
 const CHARACTER_REFERENCE: &str = "&nbsp; &amp; &copy; &AElig; &Dcaron;
@@ -197,7 +201,15 @@ baz`
 
 `foo
 
-`foo``bar``";
+`foo``bar``
+
+`hi`lo`
+
+`
+
+`<https://foo.bar.`baz>`
+
+<https://foo.bar.`baz>`";
 
 /// Those of emphasis (CommonMark 6.2).
 const ATTENTION: &str = "*foo bar*
@@ -472,7 +484,15 @@ _a `_`_
 
 **a<http://foo.bar/?q=**>
 
-__a<http://foo.bar/?q=__>";
+__a<http://foo.bar/?q=__>
+
+*
+
+_
+
+__
+
+__a<https://foo.bar/?q=__>";
 
 /// Those of links (CommonMark 6.3).
 const LABEL_START_LINK: &str = "[link](/uri \"title\")
@@ -675,7 +695,13 @@ bar>)
 
 [a\\]b]: c
 
-d\"";
+d\"
+
+[link](/url
+
+[foo<https://example.com/?search=](uri)>
+
+[foo<https://example.com/?search=][ref]>";
 
 /// Those of images (CommonMark 6.4).
 const LABEL_START_IMAGE: &str = "![foo](/url \"title\")
@@ -772,7 +798,19 @@ const AUTOLINK: &str = "<http://foo.bar.baz>
 
 http://example.com
 
-foo@bar.example.com";
+foo@bar.example.com
+
+<https://foo.bar.baz/test?q=hello&id=22&boolean>
+
+<https://../>
+
+<https://foo.bar/baz bim>
+
+<https://example.com/\\[\\>
+
+< https://foo.bar >
+
+https://example.com";
 
 /// Those of raw HTML (CommonMark 6.6).
 const HTML_TEXT: &str = "<a><bab><c2c>
@@ -875,7 +913,9 @@ hello $.;'there
 
 Foo χρῆν
 
-Multiple     spaces";
+Multiple     spaces
+
+foo \u{20}";
 
 /// Those of constructs in one another.
 const MIXED: &str = "\\*not emphasized*
@@ -1582,7 +1622,15 @@ a@é.c
 
 * [x] contact ~Mercury~Venus at hi@venus.com!
 
-www.a";
+www.a
+
+www.a.b
+
+*www.a.b* hwww.a ahttp://b 1http://b
+
+www.a_b.c www.a.b_c www.a_b.c.d
+
+`www.a` \\www.a <b@c.d> ww. http:/a";
 
 /// Those of calls of footnotes.
 const GFM_LABEL_START_FOOTNOTE: &str = "[^a]
@@ -1658,7 +1706,9 @@ c
 + [^a]: b
   [^a]
 
-[^1]";
+[^1]
+
+[^";
 
 /// Those of checks of task list items (GFM 5.3).
 const GFM_TASK_LIST_ITEM: &str = "- [ ] a

@@ -14,15 +14,22 @@ const STEP: usize = 32;
 /// How many times a heap may grow until it has more than a content needs.
 const STEPS: usize = 4096;
 
-/// Whether the events of a content are the same in two ranges, wherever it is cut.
+/// How many columns a tab has at most.
+const TAB: usize = 4;
+
+/// Whether the events of a content are the same in two ranges, wherever it is cut: before a byte, or
+/// before a further column of a tab.
 fn is_same_in_ranges(rt: &HostRuntime, roads: &Roads, text: &str) -> Result<bool, Fail> {
     let state = roads.state(rt.alloc(), text)?;
     let whole = read_text(rt.alloc(), &state, &[0])?;
     for index in 0..state.bytes.len() {
-        let parts = read_text_in_ranges(rt.alloc(), &state, &[0], &[(index, 0)])?;
-        if parts.as_slice() != whole.as_slice() {
-            println!(rt; "{text:?} cut at {index}")?;
-            return Ok(false);
+        let columns = if state.bytes[index] == b'\t' { TAB } else { 1 };
+        for column in 0..columns {
+            let parts = read_text_in_ranges(rt.alloc(), &state, &[0], &[(index, column)])?;
+            if parts.as_slice() != whole.as_slice() {
+                println!(rt; "{text:?} cut at {index}, column {column}")?;
+                return Ok(false);
+            }
         }
     }
     Ok(true)

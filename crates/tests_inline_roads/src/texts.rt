@@ -1,7 +1,7 @@
 //! Contents written by hand.
 
 /// Contents with each construct, alone and in others.
-pub const TEXTS: [&str; 48] = [
+pub const TEXTS: [&str; 49] = [
     "a",
     "*a*",
     "**a**",
@@ -41,6 +41,7 @@ pub const TEXTS: [&str; 48] = [
     "a  \nb",
     "a \nb",
     "a\t\n\tb",
+    "`a\tb` <c\td='e\tf'> [g](\th\t'i\tj'\t) \\\t&\t",
     "*a*  \n  *b*",
     "  a  ",
     "a\r\nb\rc\nd",
