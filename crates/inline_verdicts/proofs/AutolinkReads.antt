@@ -521,7 +521,7 @@ module _ {T : Type 0} (texts : List ℕ → Option (List ℕ)) (is_punctuation :
   at_mark = with_byte c p (Some (as_byte 60 q))
 
   abbrev Verdict_by : Option Leaf → Type 0
-  Verdict_by = AddressVerdict texts is_punctuation x text at_mark (retry inline_states.AutolinkStart) p q (60 ∷ cs)
+  Verdict_by = AddressVerdict text (Reads texts is_punctuation x text at_mark (retry inline_states.AutolinkStart)) at_mark p q (60 ∷ cs)
 
   -- after the `<`
   abbrev begun : Config Inlines

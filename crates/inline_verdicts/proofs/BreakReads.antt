@@ -87,8 +87,8 @@ module _ {T : Type 0} (texts : List ℕ → Option (List ℕ)) (is_punctuation :
   made c p q v = record { events = simp append_assoc refl; point = refl; kept = refl; map = refl; resolvers = refl }
 
   The_verdict : Config Inlines → Point → Point → List ℕ → Option Leaf → Type 0
-  The_verdict c p q cs leaf = Verdict texts is_punctuation x text (at_mark c p q) (states.Retry (Inline inline_states.HardBreakEscapeStart)) (92 ∷ cs)
-      (λ end. break_events p (text.start end)) text.start leaf
+  The_verdict c p q cs leaf = Verdict text (Reads texts is_punctuation x text (at_mark c p q) (states.Retry (Inline inline_states.HardBreakEscapeStart)))
+      (at_mark c p q) (92 ∷ cs) (λ end. break_events p (text.start end)) text.start leaf
 
   -- the second byte is no line feed, or there is none
   Differs : Option VirtualByte → Type 0

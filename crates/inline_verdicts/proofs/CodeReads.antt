@@ -19,6 +19,7 @@ use Rattle.inline_states.specs.Inlines.{bodies}
 use Rattle.inline_verdicts.specs.CodeText.{CodeTextVerdict, code_names}
 use Rattle.inline_verdicts.specs.MathText.{MathTextVerdict, math_names}
 use Rattle.inline_verdicts.specs.RawText.{SpanVerdict, of_span}
+use Rattle.inline_verdicts.specs.Verdicts.{Reads, at_byte}
 use Rattle.inline_verdicts.proofs.RawStates
 use Rattle.inline_verdicts.proofs.SpanReads.{full_run, refused, span_verdict}
 
@@ -59,8 +60,8 @@ module _ {T : Type 0} (texts : List ℕ → Option (List ℕ)) (is_punctuation :
 pub code_text : (T : Type 0) → CodeTextVerdict T
 code_text T texts is_punctuation x text c p q cs few s =
     subst
-    (λ (on : Bool). SpanVerdict texts is_punctuation x text code_names 96 (with_byte c p (Some (as_byte 96 q))) (retry inline_states.RawTextStart) p q (96 ∷ cs)
-    (if begins_run 96 c then of_span (raw_at 96 on (96 ∷ cs)) else None))
+    (λ (on : Bool). SpanVerdict text (Reads texts is_punctuation x text (at_byte c p 96 q) (retry inline_states.RawTextStart)) code_names 96 (at_byte c p 96 q)
+    p q (96 ∷ cs) (if begins_run 96 c then of_span (raw_at 96 on (96 ∷ cs)) else None))
     (always x.options.constructs.code_text)
     (span_verdict texts is_punctuation x text code_names 96 refl refl refl refl c p q cs few s x.options.constructs.code_text
     (code_starts texts is_punctuation x text c p q))
@@ -68,8 +69,8 @@ code_text T texts is_punctuation x text c p q cs few s =
 pub math_text : (T : Type 0) → MathTextVerdict T
 math_text T texts is_punctuation x text c p q cs few s =
     subst
-    (λ (on : Bool). SpanVerdict texts is_punctuation x text math_names 36 (with_byte c p (Some (as_byte 36 q))) (retry inline_states.RawTextStart) p q (36 ∷ cs)
-    (if begins_run 36 c then of_span (raw_at 36 on (36 ∷ cs)) else None))
+    (λ (on : Bool). SpanVerdict text (Reads texts is_punctuation x text (at_byte c p 36 q) (retry inline_states.RawTextStart)) math_names 36 (at_byte c p 36 q)
+    p q (36 ∷ cs) (if begins_run 36 c then of_span (raw_at 36 on (36 ∷ cs)) else None))
     (may_open texts is_punctuation x text cs)
     (span_verdict texts is_punctuation x text math_names 36 refl refl refl refl c p q cs few s x.options.constructs.math_text
     (math_starts texts is_punctuation x text c p q))

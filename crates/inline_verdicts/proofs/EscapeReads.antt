@@ -103,8 +103,8 @@ module _ {T : Type 0} (texts : List ℕ → Option (List ℕ)) (is_punctuation :
   made c p q r b f = record { events = rw f (simp append_assoc refl); point = refl; kept = refl; map = refl; resolvers = refl }
 
   The_verdict : Config Inlines → Point → Point → List ℕ → Option Leaf → Type 0
-  The_verdict c p q cs leaf = Verdict texts is_punctuation x text (at_mark c p q) (states.Retry (Inline inline_states.CharacterEscapeStart)) (92 ∷ cs)
-      (escape_events p q (text.start q)) (λ end. end) leaf
+  The_verdict c p q cs leaf = Verdict text (Reads texts is_punctuation x text (at_mark c p q) (states.Retry (Inline inline_states.CharacterEscapeStart)))
+      (at_mark c p q) (92 ∷ cs) (escape_events p q (text.start q)) (λ end. end) leaf
 
   by_second : (c : Config Inlines) (p q r : Point) (code : ℕ) (cs : List ℕ) (on is : Bool) → x.options.constructs.character_escape ≡ on
       → is_ascii_punctuation code ≡ is

@@ -20,3 +20,6 @@ pub mod AutolinkDomains
 pub mod AutolinkTexts
 pub mod AutolinkReads
 pub mod TrailingReads
+pub mod ChoiceReads
+pub mod TextReads
+pub mod TextChoices

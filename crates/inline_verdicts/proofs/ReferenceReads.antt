@@ -68,7 +68,7 @@ module _ {T : Type 0} (texts : List ℕ → Option (List ℕ)) (is_punctuation :
   all = 38 ∷ cs
 
   abbrev Verdict_by : Option Leaf → Type 0
-  Verdict_by = ReferenceVerdict texts is_punctuation x text at_mark (retry inline_states.CharacterReferenceStart) p q all
+  Verdict_by = ReferenceVerdict text (Reads texts is_punctuation x text at_mark (retry inline_states.CharacterReferenceStart)) at_mark p q all
 
   abbrev Reads_from : Config Inlines → State → Config Inlines → Bool → Type 0
   Reads_from = Reads texts is_punctuation x text

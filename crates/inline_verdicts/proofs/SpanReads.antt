@@ -188,7 +188,7 @@ module _ {T : Type 0} (texts : List ℕ → Option (List ℕ)) (is_punctuation :
         (still_at refl refl refl opened_all.at) opening.sees
 
     abbrev Verdict_by : Option Leaf → Type 0
-    Verdict_by = SpanVerdict texts is_punctuation x text given m at_mark (retry inline_states.RawTextStart) p q (m ∷ cs)
+    Verdict_by = SpanVerdict text (Reads texts is_punctuation x text at_mark (retry inline_states.RawTextStart)) given m at_mark p q (m ∷ cs)
 
     abbrev From_open : Type 0
     From_open = (d : Config Inlines) (w : Bool) → Reads texts is_punctuation x text begun (retry inline_states.RawTextSequenceOpen) d w

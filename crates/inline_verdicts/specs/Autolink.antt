@@ -6,7 +6,7 @@
 --     label ::= 1 to 63 letters, digits and '-', with no '-' at either end
 use Rattle.std.specs.Prelude.{◌≡◌, ℕ, Bool, true, false, nat_lt, ◌==◌, ◌||◌, List, [], ◌∷◌, drop, Option, None, Some}
 use Rattle.std.specs.List.{list_all}
-use Rattle.definition_text.specs.Ascii.{less_than}
+use Rattle.definition_text.specs.Ascii.{greater_than, less_than}
 use Rattle.definition_inline.specs.Autolink.{autolink_at}
 use Rattle.definition_inline.specs.Inline.{Leaf}
 use Rattle.engine_events.specs.Events.{event}
@@ -15,16 +15,16 @@ use Rattle.engine_events.specs.declared.event.Kind.TheVariants.{Enter, Exit}
 use Rattle.engine_events.specs.declared.event.Name.TheVariants as names
 use Rattle.engine_events.specs.declared.place.Point.{Point}
 use Rattle.engine_events.specs.declared.state.Inline.TheVariants as inline_states
-use Rattle.engine_events.specs.declared.state.State.{State}
 use Rattle.markdown_engine.specs.Context.{Context}
 use Rattle.markdown_engine.specs.KeptState.{KeptState}
-use Rattle.markdown_engine.specs.Reading.{Config, with_byte}
+use Rattle.markdown_engine.specs.Reading.{Config}
 use Rattle.markdown_engine.specs.VirtualText.{Text, as_byte}
 use Rattle.inline_states_table.specs.Words.{retry}
 use Rattle.inline_states.specs.declared.inlines.Inlines.{Inlines}
 use Rattle.inline_codes.specs.Codes.{Sees}
+use Rattle.inline_verdicts.specs.Choices.{Chooses, byte_at}
 use Rattle.inline_verdicts.specs.RawText.{piece}
-use Rattle.inline_verdicts.specs.Verdicts.{Leaves, Reads}
+use Rattle.inline_verdicts.specs.Verdicts.{Comes, Leaves, Reads, at_byte}
 
 -- the events of an autolink: its `<` is from p to q, what it leads to goes on from there to a third place, and its `>` from there to the end
 abbrev pub autolink_events : Point → Point → Point → Point → List Event
@@ -36,19 +36,25 @@ autolink_events p q to end =
 abbrev pub is_whole_code : ℕ → Bool
 is_whole_code code = nat_lt code 256 || (code == 257)
 
-module _ {T : Type 0} (texts : List ℕ → Option (List ℕ)) (is_punctuation : ℕ → Bool) (x : Context T) (text : Text) where
-  -- the attempt fails where there is no autolink; otherwise it goes well, with the autolink's events, up to where what it leaves of the codes is seen
-  abbrev pub AddressVerdict : Config Inlines → State → Point → Point → List ℕ → Option Leaf → Type 0
-  AddressVerdict c s p q codes None = (d : Config Inlines) × Reads texts is_punctuation x text c s d false
-  AddressVerdict c s p q codes (Some leaf) =
-      (d : Config Inlines) × (size : ℕ) × (to : Point) × (end : Point) × Reads texts is_punctuation x text c s d true
-      × (text.byte (text.start to) ≡ Some (as_byte 62 end)) × Leaves c d (record c.tokenize_state { size = size }) (autolink_events p q (text.start to) end) end
-      × Sees text end (drop leaf.size codes)
+-- the attempt fails where there is no autolink; otherwise it goes well, with the autolink's events, up to where what it leaves of the codes is seen
+abbrev pub AddressVerdict : Text → Comes → Config Inlines → Point → Point → List ℕ → Option Leaf → Type 0
+AddressVerdict text comes c p q codes None = (d : Config Inlines) × comes d false
+AddressVerdict text comes c p q codes (Some leaf) =
+    (d : Config Inlines) × (size : ℕ) × (to : Point) × (end : Point) × comes d true × (text.byte (text.start to) ≡ Some (as_byte greater_than end))
+    × Leaves c d (record c.tokenize_state { size = size }) (autolink_events p q (text.start to) end) end × Sees text end (drop leaf.size codes)
 
 -- at a `<`, after which these codes are seen, an autolink is read exactly where the definition has one, if no code is a column left of a tab
 abbrev pub AutolinkVerdict : Type 0 → Type 0
 AutolinkVerdict T =
     (texts : List ℕ → Option (List ℕ)) (is_punctuation : ℕ → Bool) (x : Context T) (text : Text) (c : Config Inlines) (p q : Point) (cs : List ℕ)
     → list_all is_whole_code cs ≡ true → Sees text q cs
-    → AddressVerdict texts is_punctuation x text (with_byte c p (Some (as_byte 60 q))) (retry inline_states.AutolinkStart) p q (less_than ∷ cs)
-    (autolink_at x.options.constructs (less_than ∷ cs))
+    → AddressVerdict text (Reads texts is_punctuation x text (at_byte c p less_than q) (retry inline_states.AutolinkStart)) (at_byte c p less_than q) p q
+    (less_than ∷ cs) (autolink_at x.options.constructs (less_than ∷ cs))
+
+-- before a part of a text that begins so, reading goes on after an autolink exactly where the definition has one, and otherwise with HTML
+abbrev pub AutolinkChoice : Type 0 → Type 0
+AutolinkChoice T =
+    (texts : List ℕ → Option (List ℕ)) (is_punctuation : ℕ → Bool) (x : Context T) (text : Text) (c : Config Inlines) (q : Point) (cs : List ℕ)
+    → list_all is_whole_code cs ≡ true → text.byte (text.start c.point) ≡ Some (as_byte less_than q) → Sees text q cs
+    → AddressVerdict text (Chooses texts is_punctuation x text c inline_states.TextBefore (byte_at text c less_than q) inline_states.TextBeforeHtml)
+    (byte_at text c less_than q) (text.start c.point) q (less_than ∷ cs) (autolink_at x.options.constructs (less_than ∷ cs))

@@ -1,4 +1,6 @@
 pub mod Verdicts
+pub mod Choices
+pub mod Text
 pub mod Stretch
 pub mod CharacterEscape
 pub mod CharacterReference

@@ -8,15 +8,13 @@ use Rattle.engine_events.specs.declared.event.Kind.TheVariants.{Enter, Exit}
 use Rattle.engine_events.specs.declared.event.Name.{Name as EventName}
 use Rattle.engine_events.specs.declared.event.Name.TheVariants as names
 use Rattle.engine_events.specs.declared.place.Point.{Point}
-use Rattle.engine_events.specs.declared.state.State.{State}
-use Rattle.markdown_engine.specs.Context.{Context}
 use Rattle.markdown_engine.specs.KeptState.{KeptState}
 use Rattle.markdown_engine.specs.Reading.{Config}
 use Rattle.markdown_engine.specs.VirtualText.{Text, as_byte}
 use Rattle.inline_states.specs.declared.inlines.Inlines.{Inlines}
 use Rattle.inline_codes.specs.Codes.{Sees}
 use Rattle.inline_verdicts.specs.Stretch.{Stretch}
-use Rattle.inline_verdicts.specs.Verdicts.{Leaves, Reads}
+use Rattle.inline_verdicts.specs.Verdicts.{Comes, Leaves}
 
 -- the names of the events of a span: of all of it, of a run of its byte, and of what stands between
 pub record SpanNames : Type 0 where
@@ -67,11 +65,9 @@ abbrev pub of_span : Option Leaf → Option Leaf
 of_span None = None
 of_span (Some leaf) = if is_text leaf.parts then None else Some leaf
 
-module _ {T : Type 0} (texts : List ℕ → Option (List ℕ)) (is_punctuation : ℕ → Bool) (x : Context T) (text : Text) where
-  -- the attempt fails where there is no span; otherwise it goes well, with the span's events, up to where what it leaves of the codes is seen
-  abbrev pub SpanVerdict : SpanNames → ℕ → Config Inlines → State → Point → Point → List ℕ → Option Leaf → Type 0
-  SpanVerdict given marker c s p q codes None = (d : Config Inlines) × Reads texts is_punctuation x text c s d false
-  SpanVerdict given marker c s p q codes (Some leaf) =
-      (d : Config Inlines) × (size : ℕ) × (added : List Event) × (end : Point) × Reads texts is_punctuation x text c s d true
-      × IsSpan text given marker p q size added end
-      × Leaves c d (spanning given marker size size c.tokenize_state) added (text.start end) × Sees text end (drop leaf.size codes)
+-- the attempt fails where there is no span; otherwise it goes well, with the span's events, up to where what it leaves of the codes is seen
+abbrev pub SpanVerdict : Text → Comes → SpanNames → ℕ → Config Inlines → Point → Point → List ℕ → Option Leaf → Type 0
+SpanVerdict text comes given marker c p q codes None = (d : Config Inlines) × comes d false
+SpanVerdict text comes given marker c p q codes (Some leaf) =
+    (d : Config Inlines) × (size : ℕ) × (added : List Event) × (end : Point) × comes d true × IsSpan text given marker p q size added end
+    × Leaves c d (spanning given marker size size c.tokenize_state) added (text.start end) × Sees text end (drop leaf.size codes)

@@ -6,8 +6,8 @@ use Rattle.engine_events.specs.declared.place.Point.{Point}
 use Rattle.engine_events.specs.declared.state.State.{State}
 use Rattle.markdown_engine.specs.Context.{Context}
 use Rattle.markdown_engine.specs.KeptState.{KeptState}
-use Rattle.markdown_engine.specs.Reading.{Config, Runs}
-use Rattle.markdown_engine.specs.VirtualText.{Text}
+use Rattle.markdown_engine.specs.Reading.{Config, Runs, with_byte}
+use Rattle.markdown_engine.specs.VirtualText.{Text, as_byte}
 use Rattle.engine_programs.specs.Bodies.{step_by}
 use Rattle.inline_states.specs.declared.inlines.Inlines.{Inlines}
 use Rattle.inline_states.specs.Inlines.{bodies}
@@ -30,8 +30,16 @@ module _ {T : Type 0} (texts : List ℕ → Option (List ℕ)) (is_punctuation :
   unfoldable pub Reads : Config Inlines → State → Config Inlines → Bool → Type 0
   Reads c s d w = Runs text (step_by (bodies texts is_punctuation x)) c [] s d w
 
-  -- the attempt fails where the definition has nothing; otherwise it goes well, with these events, up to where what the leaf leaves of the codes is seen
-  abbrev pub Verdict : Config Inlines → State → List ℕ → (Point → List Event) → (Point → Point) → Option Leaf → Type 0
-  Verdict c s codes events stands None = (d : Config Inlines) × Reads c s d false
-  Verdict c s codes events stands (Some leaf) =
-      (d : Config Inlines) × (end : Point) × Reads c s d true × LeavesEvents c d (events end) (stands end) × Sees text end (drop leaf.size codes)
+-- a byte is at hand at a place, and the next one is after another
+abbrev pub at_byte : Config Inlines → Point → ℕ → Point → Config Inlines
+at_byte c p b q = with_byte c p (Some (as_byte b q))
+
+-- what is said of the configuration that an attempt leaves, and of whether it went well
+abbrev pub Comes : Type 1
+Comes = Config Inlines → Bool → Type 0
+
+-- it fails where the definition has nothing; otherwise it goes well, with these events, up to where what the leaf leaves of the codes is seen
+abbrev pub Verdict : Text → Comes → Config Inlines → List ℕ → (Point → List Event) → (Point → Point) → Option Leaf → Type 0
+Verdict text comes c codes events stands None = (d : Config Inlines) × comes d false
+Verdict text comes c codes events stands (Some leaf) =
+    (d : Config Inlines) × (end : Point) × comes d true × LeavesEvents c d (events end) (stands end) × Sees text end (drop leaf.size codes)

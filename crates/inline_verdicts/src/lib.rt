@@ -8,3 +8,4 @@ pub mod code_text;
 pub mod hard_break_escape;
 pub mod hard_break_trailing;
 pub mod math_text;
+pub mod text;
