@@ -6,14 +6,17 @@ use linked_list_allocator::LocalHeap;
 use markdown::{Builtin, Options, RunError, Watched, run};
 use std::alloc::Global;
 
-/// How much a heap grows from one run to the next, which is less than most requests.
-const STEP: usize = 32;
+/// The unit of a heap, by which it grows from one run to the next.
+const UNIT: usize = 16;
+
+/// How many bytes make a text long: it takes so much memory that its heaps grow by a part of its size.
+const LONG: usize = 512;
 
 /// The reader's buffer, which is asked for first.
 const BUFFER: usize = 65536;
 
 /// How many times a heap may grow until it has more than a row needs.
-const STEPS: usize = 4096;
+const STEPS: usize = 8192;
 
 /// Whether a text is printed in a heap of some size, and each smaller one refuses it with nothing
 /// written.
@@ -25,8 +28,13 @@ pub(crate) fn prints_in_growing_heaps(
 ) -> Result<bool, RunError>
     requires { has_mdx options.now.parse.constructs ≡ false }
 {
+    let growth = if text.len() < LONG {
+        UNIT
+    } else {
+        text.len() / 4
+    };
     for steps in 0..STEPS {
-        let size = BUFFER - STEP + steps * STEP;
+        let size = steps.saturating_mul(growth).saturating_add(BUFFER - UNIT);
         let heap = LocalHeap::new(alloc, size).map_err(|_| RunError::Memory)?;
         let mut reader = Watched::new(text.as_bytes());
         let mut writer = Watched::new(Vec::new(alloc));

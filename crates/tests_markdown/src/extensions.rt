@@ -2,8 +2,8 @@
 ghost use Rattle.std.specs.Prelude.{◌≡◌, false};
 ghost use Rattle.markdown_options.specs.Mdx.{has_mdx};
 
+use crate::joined::first_fault;
 use markdown::{Options, RunError};
-use tests_helpers::first_wrong;
 
 /// Runs of tildes (GFM 6.5).
 pub(crate) const STRIKETHROUGH: [(&str, &str); 31] = [
@@ -262,38 +262,38 @@ pub(crate) fn extensions() -> Options
 #[test]
 fn strikes_text_through(rt: HostRuntime) -> Result<(), RunError> {
     assert_eq!(rt;
-        first_wrong(rt.alloc(), &STRIKETHROUGH, &extensions())?,
+        first_fault(rt.alloc(), &STRIKETHROUGH, &extensions())?,
         None
     );
     let mut options = extensions();
     options.parse.gfm_strikethrough_single_tilde = false;
-    assert_eq!(rt; first_wrong(rt.alloc(), &TWO_TILDES, &options)?, None);
+    assert_eq!(rt; first_fault(rt.alloc(), &TWO_TILDES, &options)?, None);
     Ok(())
 }
 
 #[test]
 fn prints_math_in_texts(rt: HostRuntime) -> Result<(), RunError> {
-    assert_eq!(rt; first_wrong(rt.alloc(), &MATH_TEXT, &extensions())?, None);
+    assert_eq!(rt; first_fault(rt.alloc(), &MATH_TEXT, &extensions())?, None);
     let mut options = extensions();
     options.parse.math_text_single_dollar = false;
-    assert_eq!(rt; first_wrong(rt.alloc(), &TWO_DOLLARS, &options)?, None);
+    assert_eq!(rt; first_fault(rt.alloc(), &TWO_DOLLARS, &options)?, None);
     Ok(())
 }
 
 #[test]
 fn prints_blocks_of_math(rt: HostRuntime) -> Result<(), RunError> {
-    assert_eq!(rt; first_wrong(rt.alloc(), &MATH_FLOW, &extensions())?, None);
+    assert_eq!(rt; first_fault(rt.alloc(), &MATH_FLOW, &extensions())?, None);
     Ok(())
 }
 
 #[test]
 fn skips_frontmatter(rt: HostRuntime) -> Result<(), RunError> {
-    assert_eq!(rt; first_wrong(rt.alloc(), &FRONTMATTER, &extensions())?, None);
+    assert_eq!(rt; first_fault(rt.alloc(), &FRONTMATTER, &extensions())?, None);
     Ok(())
 }
 
 #[test]
 fn reads_no_extension_that_is_off(rt: HostRuntime) -> Result<(), RunError> {
-    assert_eq!(rt; first_wrong(rt.alloc(), &OFF, &Options::default())?, None);
+    assert_eq!(rt; first_fault(rt.alloc(), &OFF, &Options::default())?, None);
     Ok(())
 }

@@ -1,8 +1,8 @@
 //! Links with no brackets (GFM 6.9): texts and their HTML.
 ghost use Rattle.std.specs.Prelude.{◌≡◌};
 
+use crate::joined::first_fault;
 use markdown::{Options, RunError};
-use tests_helpers::first_wrong;
 
 /// After `www.` and protocols.
 pub(crate) const LITERALS: [(&str, &str); 60] = [
@@ -270,19 +270,19 @@ pub(crate) const OFF: [(&str, &str); 4] = [
 #[test]
 fn links_literals(rt: HostRuntime) -> Result<(), RunError> {
     let options = Options::gfm();
-    assert_eq!(rt; first_wrong(rt.alloc(), &LITERALS, &options)?, None);
+    assert_eq!(rt; first_fault(rt.alloc(), &LITERALS, &options)?, None);
     Ok(())
 }
 
 #[test]
 fn links_email_addresses(rt: HostRuntime) -> Result<(), RunError> {
     let options = Options::gfm();
-    assert_eq!(rt; first_wrong(rt.alloc(), &EMAILS, &options)?, None);
+    assert_eq!(rt; first_fault(rt.alloc(), &EMAILS, &options)?, None);
     Ok(())
 }
 
 #[test]
 fn links_nothing_where_literals_are_off(rt: HostRuntime) -> Result<(), RunError> {
-    assert_eq!(rt; first_wrong(rt.alloc(), &OFF, &Options::default())?, None);
+    assert_eq!(rt; first_fault(rt.alloc(), &OFF, &Options::default())?, None);
     Ok(())
 }

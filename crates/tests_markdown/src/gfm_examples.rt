@@ -1,8 +1,8 @@
 //! The examples of GFM for what CommonMark lacks: texts and their HTML.
 ghost use Rattle.std.specs.Prelude.{◌≡◌};
 
+use crate::joined::first_fault;
 use markdown::{Options, RunError};
-use tests_helpers::first_wrong;
 
 /// GFM 4.10, 5.3, 6.5 and 6.9.
 pub(crate) const EXAMPLES: [(&str, &str); 23] = [
@@ -123,16 +123,19 @@ pub(crate) const EXAMPLES: [(&str, &str); 23] = [
 ];
 
 /// GFM 6.11, where raw HTML is printed.
-pub(crate) const FILTERED: [(&str, &str); 1] = [(
-    "<strong> <title> <style> <em>\n\n<blockquote>\n  <xmp> is disallowed.  <XMP> is also disallowed.\n</blockquote>",
-    "<p><strong> &lt;title> &lt;style> <em></p>\n<blockquote>\n  &lt;xmp> is disallowed.  &lt;XMP> is also disallowed.\n</blockquote>",
-)];
+pub(crate) const FILTERED: [(&str, &str); 2] = [
+    (
+        "<strong> <title> <style> <em>\n\n<blockquote>\n  <xmp> is disallowed.  <XMP> is also disallowed.\n</blockquote>",
+        "<p><strong> &lt;title> &lt;style> <em></p>\n<blockquote>\n  &lt;xmp> is disallowed.  &lt;XMP> is also disallowed.\n</blockquote>",
+    ),
+    ("<title>", "&lt;title>"),
+];
 
 #[test]
 fn prints_the_examples_of_gfm(rt: HostRuntime) -> Result<(), RunError> {
     let mut options = Options::gfm();
-    assert_eq!(rt; first_wrong(rt.alloc(), &EXAMPLES, &options)?, None);
+    assert_eq!(rt; first_fault(rt.alloc(), &EXAMPLES, &options)?, None);
     options.compile.allow_dangerous_html = true;
-    assert_eq!(rt; first_wrong(rt.alloc(), &FILTERED, &options)?, None);
+    assert_eq!(rt; first_fault(rt.alloc(), &FILTERED, &options)?, None);
     Ok(())
 }

@@ -1,8 +1,8 @@
 //! Options of footnotes: prefixes, labels, the heading (in neither standard; as GitHub does): texts and their HTML.
 ghost use Rattle.std.specs.Prelude.{◌≡◌};
 
+use crate::joined::first_fault;
 use markdown::{Options, RunError};
-use tests_helpers::first_wrong;
 
 /// With another prefix of ids.
 pub(crate) const PREFIXED: [(&str, &str); 2] = [
@@ -150,7 +150,7 @@ pub(crate) const RETURNED: [(&str, &str); 2] = [
 fn takes_a_prefix(rt: HostRuntime) -> Result<(), RunError> {
     let mut options = Options::gfm();
     options.compile.gfm_footnote_clobber_prefix = Some(String::from_str(rt.alloc(), "x<")?);
-    assert_eq!(rt; first_wrong(rt.alloc(), &PREFIXED, &options)?, None);
+    assert_eq!(rt; first_fault(rt.alloc(), &PREFIXED, &options)?, None);
     Ok(())
 }
 
@@ -158,7 +158,7 @@ fn takes_a_prefix(rt: HostRuntime) -> Result<(), RunError> {
 fn takes_no_prefix(rt: HostRuntime) -> Result<(), RunError> {
     let mut options = Options::gfm();
     options.compile.gfm_footnote_clobber_prefix = Some(String::from_str(rt.alloc(), "")?);
-    assert_eq!(rt; first_wrong(rt.alloc(), &BARE, &options)?, None);
+    assert_eq!(rt; first_fault(rt.alloc(), &BARE, &options)?, None);
     Ok(())
 }
 
@@ -166,7 +166,7 @@ fn takes_no_prefix(rt: HostRuntime) -> Result<(), RunError> {
 fn takes_a_label(rt: HostRuntime) -> Result<(), RunError> {
     let mut options = Options::gfm();
     options.compile.gfm_footnote_label = Some(String::from_str(rt.alloc(), "Notes & more")?);
-    assert_eq!(rt; first_wrong(rt.alloc(), &NAMED, &options)?, None);
+    assert_eq!(rt; first_fault(rt.alloc(), &NAMED, &options)?, None);
     Ok(())
 }
 
@@ -174,7 +174,7 @@ fn takes_a_label(rt: HostRuntime) -> Result<(), RunError> {
 fn takes_an_element(rt: HostRuntime) -> Result<(), RunError> {
     let mut options = Options::gfm();
     options.compile.gfm_footnote_label_tag_name = Some(String::from_str(rt.alloc(), "h1")?);
-    assert_eq!(rt; first_wrong(rt.alloc(), &TAGGED, &options)?, None);
+    assert_eq!(rt; first_fault(rt.alloc(), &TAGGED, &options)?, None);
     Ok(())
 }
 
@@ -185,7 +185,7 @@ fn takes_attributes(rt: HostRuntime) -> Result<(), RunError> {
         rt.alloc(),
         "class=\"x\" hidden",
     )?);
-    assert_eq!(rt; first_wrong(rt.alloc(), &SHOWN, &options)?, None);
+    assert_eq!(rt; first_fault(rt.alloc(), &SHOWN, &options)?, None);
     Ok(())
 }
 
@@ -196,6 +196,6 @@ fn takes_a_label_of_ways_back(rt: HostRuntime) -> Result<(), RunError> {
         rt.alloc(),
         "Zurück \"oben\"",
     )?);
-    assert_eq!(rt; first_wrong(rt.alloc(), &RETURNED, &options)?, None);
+    assert_eq!(rt; first_fault(rt.alloc(), &RETURNED, &options)?, None);
     Ok(())
 }

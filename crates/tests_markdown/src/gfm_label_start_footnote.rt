@@ -1,8 +1,8 @@
 //! Calls of footnotes, their numbers and the section (in neither standard; as GitHub does): texts and their HTML.
 ghost use Rattle.std.specs.Prelude.{◌≡◌};
 
+use crate::joined::first_fault;
 use markdown::{Options, RunError};
-use tests_helpers::first_wrong;
 
 /// Footnotes that are called, or are not.
 pub(crate) const CALLS: [(&str, &str); 12] = [
@@ -488,16 +488,16 @@ pub(crate) const OFF: [(&str, &str); 2] = [
 #[test]
 fn numbers_footnotes(rt: HostRuntime) -> Result<(), RunError> {
     let options = Options::gfm();
-    assert_eq!(rt; first_wrong(rt.alloc(), &CALLS, &options)?, None);
-    assert_eq!(rt; first_wrong(rt.alloc(), &PLACES, &options)?, None);
-    assert_eq!(rt; first_wrong(rt.alloc(), &DEFINITIONS, &options)?, None);
-    assert_eq!(rt; first_wrong(rt.alloc(), &CONTENTS, &options)?, None);
-    assert_eq!(rt; first_wrong(rt.alloc(), &MIXED, &options)?, None);
+    assert_eq!(rt; first_fault(rt.alloc(), &CALLS, &options)?, None);
+    assert_eq!(rt; first_fault(rt.alloc(), &PLACES, &options)?, None);
+    assert_eq!(rt; first_fault(rt.alloc(), &DEFINITIONS, &options)?, None);
+    assert_eq!(rt; first_fault(rt.alloc(), &CONTENTS, &options)?, None);
+    assert_eq!(rt; first_fault(rt.alloc(), &MIXED, &options)?, None);
     Ok(())
 }
 
 #[test]
 fn numbers_nothing_where_footnotes_are_off(rt: HostRuntime) -> Result<(), RunError> {
-    assert_eq!(rt; first_wrong(rt.alloc(), &OFF, &Options::default())?, None);
+    assert_eq!(rt; first_fault(rt.alloc(), &OFF, &Options::default())?, None);
     Ok(())
 }

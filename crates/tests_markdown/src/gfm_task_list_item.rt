@@ -3,8 +3,8 @@ ghost use Rattle.std.specs.Prelude.{◌≡◌, false};
 ghost use Rattle.markdown_options.specs.Mdx.{has_mdx};
 
 use crate::extensions::extensions;
+use crate::joined::first_fault;
 use markdown::{Options, RunError};
-use tests_helpers::first_wrong;
 
 /// Task list items (GFM 5.3).
 pub(crate) const TASKS: [(&str, &str); 42] = [
@@ -158,14 +158,14 @@ const OFF: [(&str, &str); 2] = [
 #[test]
 fn prints_checks(rt: HostRuntime) -> Result<(), RunError> {
     let mut options = extensions();
-    assert_eq!(rt; first_wrong(rt.alloc(), &TASKS, &options)?, None);
+    assert_eq!(rt; first_fault(rt.alloc(), &TASKS, &options)?, None);
     options.compile.gfm_task_list_item_checkable = true;
-    assert_eq!(rt; first_wrong(rt.alloc(), &CHECKABLE, &options)?, None);
+    assert_eq!(rt; first_fault(rt.alloc(), &CHECKABLE, &options)?, None);
     Ok(())
 }
 
 #[test]
 fn prints_no_checks_that_are_off(rt: HostRuntime) -> Result<(), RunError> {
-    assert_eq!(rt; first_wrong(rt.alloc(), &OFF, &Options::default())?, None);
+    assert_eq!(rt; first_fault(rt.alloc(), &OFF, &Options::default())?, None);
     Ok(())
 }

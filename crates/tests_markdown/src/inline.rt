@@ -1,8 +1,6 @@
 //! Inline constructs: texts and their HTML.
-use markdown::{Options, RunError, fits, to_html};
-use std::io;
-use std::process::Abort;
-use tests_helpers::first_wrong;
+use crate::joined::first_fault;
+use markdown::{Options, RunError};
 
 /// Texts of CommonMark 6, most of them its examples.
 pub(crate) const INLINE: [(&str, &str); 54] = [
@@ -247,7 +245,7 @@ pub(crate) const BESIDE: [(&str, &str); 15] = [
 #[test]
 fn prints_inline_constructs(rt: HostRuntime) -> Result<(), RunError> {
     assert_eq!(rt;
-        first_wrong(rt.alloc(), &INLINE, &Options::default())?,
+        first_fault(rt.alloc(), &INLINE, &Options::default())?,
         None
     );
     Ok(())
@@ -282,7 +280,7 @@ pub(crate) const MARKED: [(&str, &str); 13] = [
 #[test]
 fn a_mark_is_a_character(rt: HostRuntime) -> Result<(), RunError> {
     assert_eq!(rt;
-        first_wrong(rt.alloc(), &MARKED, &Options::default())?,
+        first_fault(rt.alloc(), &MARKED, &Options::default())?,
         None
     );
     Ok(())
@@ -291,7 +289,7 @@ fn a_mark_is_a_character(rt: HostRuntime) -> Result<(), RunError> {
 #[test]
 fn prints_references(rt: HostRuntime) -> Result<(), RunError> {
     assert_eq!(rt;
-        first_wrong(rt.alloc(), &REFERENCES, &Options::default())?,
+        first_fault(rt.alloc(), &REFERENCES, &Options::default())?,
         None
     );
     Ok(())
@@ -300,43 +298,8 @@ fn prints_references(rt: HostRuntime) -> Result<(), RunError> {
 #[test]
 fn prints_inline_constructs_beside_others(rt: HostRuntime) -> Result<(), RunError> {
     assert_eq!(rt;
-        first_wrong(rt.alloc(), &BESIDE, &Options::default())?,
+        first_fault(rt.alloc(), &BESIDE, &Options::default())?,
         None
     );
-    Ok(())
-}
-
-#[test]
-fn prints_many_starts(rt: HostRuntime) -> io::Result<()> {
-    let brackets = "[".repeat(rt.alloc(), 1000)?;
-    let stars = "*a ".repeat(rt.alloc(), 1000)?;
-    prints_itself(&rt, brackets.as_str())?;
-    prints_itself(&rt, stars.trim_end())
-}
-
-#[test]
-fn reads_labels_of_999_characters(rt: HostRuntime) -> io::Result<()> {
-    let label = "a".repeat(rt.alloc(), 999)?;
-    let text = format!(in rt.alloc(); "[{label}]: x\n\n[{label}]")?;
-    let page = format!(in rt.alloc(); "<p><a href=\"x\">{label}</a></p>")?;
-    prints_page(&rt, text.as_str(), page.as_str())?;
-    let text = format!(in rt.alloc(); "[a{label}]: x\n\n[a{label}]")?;
-    let page = format!(in rt.alloc(); "<p>[a{label}]: x</p>\n<p>[a{label}]</p>")?;
-    prints_page(&rt, text.as_str(), page.as_str())
-}
-
-/// The text is one paragraph that is printed as it is.
-fn prints_itself(rt: &(impl AllocGlobal + Abort), text: &str) -> io::Result<()> {
-    let page = format!(in rt.alloc(); "<p>{text}</p>")?;
-    prints_page(rt, text, page.as_str())
-}
-
-/// The text has this page.
-fn prints_page(rt: &(impl AllocGlobal + Abort), text: &str, want: &str) -> io::Result<()> {
-    assert!(rt; fits(text));
-    match to_html(rt.alloc(), text) {
-        Ok(page) => assert_eq!(rt; page.as_str(), want),
-        Err(_) => panic!(rt; "there was memory"),
-    }
     Ok(())
 }

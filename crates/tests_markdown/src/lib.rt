@@ -2,6 +2,8 @@
 #![tactic(auto)]
 
 #[cfg(test)]
+mod depths;
+#[cfg(test)]
 mod devices;
 #[cfg(test)]
 mod extensions;
@@ -20,9 +22,13 @@ mod gfm_task_list_item;
 #[cfg(test)]
 mod inline;
 #[cfg(test)]
+mod joined;
+#[cfg(test)]
 mod labels;
 #[cfg(test)]
 mod memory;
+#[cfg(test)]
+mod pairs;
 #[cfg(test)]
 mod programs;
 #[cfg(test)]

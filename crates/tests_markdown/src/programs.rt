@@ -153,6 +153,9 @@ fn reads_references(rt: HostRuntime) -> io::Result<()> {
         text,
         written,
     )?;
+    fs::write(&rt, path, "foo=41+42\namp=42\n")?;
+    prints(&rt, &["--references", path], b"&foo;&amp;", "<p>ABB</p>")?;
+    prints(&rt, &[], b"&foo;", "<p>&amp;foo;</p>")?;
     fs::remove_file(&rt, path)
 }
 
@@ -161,10 +164,17 @@ fn refuses_references(rt: HostRuntime) -> io::Result<()> {
     let path = "references_refused";
     let words = ["--references", path];
     complains(&rt, &words, b"a", 1, "markdown: cannot read references\n")?;
-    fs::write(&rt, path, "a=41\n\nb=\n")?;
-    complains(&rt, &words, b"a", 1, "markdown: references line 3\n")?;
-    fs::write(&rt, path, "a=41\ra=42\r")?;
-    complains(&rt, &words, b"a", 1, "markdown: references line 2\n")?;
+    for (rows, fault) in [
+        ("a=41\n\nb=\n", "markdown: references line 3\n"),
+        ("x=41\n\nx=42", "markdown: references line 3\n"),
+        ("a=41\ra=42\r", "markdown: references line 2\n"),
+        ("x=D800", "markdown: references line 1\n"),
+        ("=41", "markdown: references line 1\n"),
+        ("x", "markdown: references line 1\n"),
+    ] {
+        fs::write(&rt, path, rows)?;
+        complains(&rt, &words, b"a", 1, fault)?;
+    }
     fs::write(&rt, path, b"a=41\n\xFF")?;
     complains(&rt, &words, b"a", 1, "markdown: cannot read references\n")?;
     fs::remove_file(&rt, path)

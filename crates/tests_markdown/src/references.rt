@@ -1,5 +1,6 @@
 //! Rows of names, read from a text.
-use markdown::{Options, Rows, RowsError, Tables, fits, to_html_with_tables};
+use crate::devices::Short;
+use markdown::{Options, Rows, RowsError, Tables, Watched, fits, run, to_html_with_tables};
 use std::test::Fail;
 
 #[test]
@@ -27,6 +28,9 @@ fn answers_the_first_fault(rt: HostRuntime) {
     for (text, want) in [
         ("a", RowsError::Syntax(1)),
         ("a=41\n\nb=g", RowsError::Syntax(3)),
+        ("x", RowsError::Syntax(1)),
+        ("x=D800", RowsError::Syntax(1)),
+        ("x=41\n\nx=42", RowsError::Repeated(3)),
         ("a=41\r\na=42", RowsError::Repeated(2)),
         ("a=41\rb=42\r\r\na=42\nx", RowsError::Repeated(4)),
         ("x\na=41\na=42", RowsError::Syntax(1)),
@@ -51,17 +55,33 @@ fn answers_the_first_fault(rt: HostRuntime) {
     }
 }
 
+/// Rows, a text and its HTML by their names.
+const PAGES: [(&str, &str, &str); 4] = [
+    ("foo=41+42\namp=42\n", "&foo;&amp;", "<p>ABB</p>"),
+    ("", "&foo;", "<p>&amp;foo;</p>"),
+    ("foo=41+42\namp=42\n", "&lt;&Foo;", "<p>&lt;&amp;Foo;</p>"),
+    (
+        "q=22\namp=3C",
+        "[a](b \"&q;\") &amp;&lt;",
+        "<p><a href=\"b\" title=\"&quot;\">a</a> &lt;&lt;</p>",
+    ),
+];
+
 #[test]
 fn prints_by_rows(rt: HostRuntime) -> Result<(), Fail> {
-    let rows = Rows::read(rt.alloc(), "q=22\namp=3C")?;
-    let text = "[a](b \"&q;\") &amp;&lt;";
-    assert!(rt; fits(text));
-    match to_html_with_tables(rt.alloc(), text, &Options::default(), &rows) {
-        Ok(page) => {
-            let want = "<p><a href=\"b\" title=\"&quot;\">a</a> &lt;&lt;</p>";
-            assert_eq!(rt; page.as_str(), want);
+    let options = Options::default();
+    for (names, text, want) in PAGES {
+        let rows = Rows::read(rt.alloc(), names)?;
+        assert!(rt; fits(text));
+        match to_html_with_tables(rt.alloc(), text, &options, &rows) {
+            Ok(page) => assert_eq!(rt; page.as_str(), want),
+            Err(_) => panic!(rt; "there was memory"),
         }
-        Err(_) => panic!(rt; "there was memory"),
+        let mut reader = Watched::new(Short::new(text.as_bytes(), 1, 100));
+        let mut writer = Watched::new(Short::new(Vec::new(rt.alloc()), 1, 100));
+        run(rt.alloc(), &mut reader, &mut writer, &options, &rows)?;
+        let out = writer.into_inner().into_inner();
+        assert_eq!(rt; out.as_slice(), want.as_bytes(), "at {text:?}");
     }
     Ok(())
 }

@@ -2,8 +2,9 @@
 ghost use Rattle.std.specs.Prelude.{◌≡◌, false};
 ghost use Rattle.markdown_options.specs.Mdx.{has_mdx};
 
+use crate::joined::first_fault;
 use markdown::{Builtin, Options, RunError, Watched, run};
-use tests_helpers::{first_wrong, plain};
+use tests_helpers::plain;
 
 /// Texts and their HTML, with every construct off.
 pub(crate) const PLAIN: [(&str, &str); 20] = [
@@ -135,13 +136,13 @@ pub(crate) fn leaves() -> Options
 
 #[test]
 fn prints_leaf_rows(rt: HostRuntime) -> Result<(), RunError> {
-    assert_eq!(rt; first_wrong(rt.alloc(), &LEAVES, &leaves())?, None);
+    assert_eq!(rt; first_fault(rt.alloc(), &LEAVES, &leaves())?, None);
     Ok(())
 }
 
 #[test]
 fn prints_plain_rows(rt: HostRuntime) -> Result<(), RunError> {
-    assert_eq!(rt; first_wrong(rt.alloc(), &PLAIN, &plain())?, None);
+    assert_eq!(rt; first_fault(rt.alloc(), &PLAIN, &plain())?, None);
     Ok(())
 }
 

@@ -3,13 +3,16 @@ ghost use Rattle.std.specs.Prelude.{◌≡◌, false};
 ghost use Rattle.markdown_options.specs.Mdx.{has_mdx};
 
 use crate::devices::Short;
-use crate::memory::{first_unjoined, first_unjoined_with};
+use crate::extensions::FRONTMATTER;
+use crate::gfm_examples::FILTERED;
+use crate::joined::first_fault;
+use crate::rows::PLAIN;
 use markdown::{Builtin, Options, RunError, Watched, run};
 use std::alloc::Global;
-use tests_helpers::first_wrong;
+use tests_helpers::plain;
 
 /// Read by the default options.
-const COMMONMARK: [(&str, &str); 33] = [
+pub(crate) const COMMONMARK: [(&str, &str); 33] = [
     ("", ""),
     ("\n", ""),
     ("a\n", "<p>a</p>\n"),
@@ -100,7 +103,7 @@ const COMMONMARK: [(&str, &str); 33] = [
 ];
 
 /// Read by those of GitHub.
-const GFM: [(&str, &str); 5] = [
+pub(crate) const GFM: [(&str, &str); 5] = [
     (
         "* [x] contact ~Mercury~Venus at hi@venus.com!",
         "<ul>\n\
@@ -151,29 +154,42 @@ fn first_wrong_by_bytes<'a>(
 #[test]
 fn prints_worked_texts(rt: HostRuntime) -> Result<(), RunError> {
     let options = Options::default();
-    assert_eq!(rt; first_wrong(rt.alloc(), &COMMONMARK, &options)?, None);
+    assert_eq!(rt; first_fault(rt.alloc(), &COMMONMARK, &options)?, None);
     assert_eq!(rt;
         first_wrong_by_bytes(rt.alloc(), &COMMONMARK, &options)?,
         None
     );
-    assert_eq!(rt; first_unjoined(rt.alloc(), &COMMONMARK, &options)?, None);
     Ok(())
 }
 
 #[test]
 fn prints_worked_texts_of_gfm(rt: HostRuntime) -> Result<(), RunError> {
     let options = Options::gfm();
-    assert_eq!(rt; first_wrong(rt.alloc(), &GFM, &options)?, None);
+    assert_eq!(rt; first_fault(rt.alloc(), &GFM, &options)?, None);
     assert_eq!(rt; first_wrong_by_bytes(rt.alloc(), &GFM, &options)?, None);
-    assert_eq!(rt; first_unjoined(rt.alloc(), &COMMONMARK, &options)?, None);
-    assert_eq!(rt; first_unjoined(rt.alloc(), &GFM, &options)?, None);
+    Ok(())
+}
+
+#[test]
+fn prints_worked_texts_of_frontmatter(rt: HostRuntime) -> Result<(), RunError> {
+    let mut options = Options::default();
+    options.parse.constructs.frontmatter = true;
+    assert_eq!(rt; first_fault(rt.alloc(), &FRONTMATTER, &options)?, None);
     assert_eq!(rt;
-        first_unjoined_with(rt.alloc(), &COMMONMARK, &GFM, &options)?,
+        first_wrong_by_bytes(rt.alloc(), &FRONTMATTER, &options)?,
         None
     );
+    Ok(())
+}
+
+#[test]
+fn prints_filtered_and_plain_texts_by_bytes(rt: HostRuntime) -> Result<(), RunError> {
+    let mut options = Options::gfm();
+    options.compile.allow_dangerous_html = true;
     assert_eq!(rt;
-        first_unjoined_with(rt.alloc(), &GFM, &COMMONMARK, &options)?,
+        first_wrong_by_bytes(rt.alloc(), &FILTERED, &options)?,
         None
     );
+    assert_eq!(rt; first_wrong_by_bytes(rt.alloc(), &PLAIN, &plain())?, None);
     Ok(())
 }

@@ -1,0 +1,50 @@
+//! Texts after each other, with an empty line between.
+ghost use Rattle.std.specs.Prelude.{◌≡◌, false};
+ghost use Rattle.markdown_options.specs.Mdx.{has_mdx};
+
+use markdown::{Options, RunError, fits, to_html_with_options};
+use std::alloc::Global;
+use tests_helpers::first_wrong;
+
+/// Whether a text is printed with another after it and an empty line between.
+fn is_joined(alloc: Global, first: &str, second: &str, options: &Options) -> Result<bool, RunError>
+    requires { has_mdx options.now.parse.constructs ≡ false }
+{
+    let mut text = String::from_str(alloc, first).map_err(|_| RunError::Memory)?;
+    text.push_str("\n\n").map_err(|_| RunError::Memory)?;
+    text.push_str(second).map_err(|_| RunError::Memory)?;
+    Ok(fits(&text) && to_html_with_options(alloc, &text, options).is_ok())
+}
+
+/// The first of these texts after which one of the others can't stand.
+pub(crate) fn first_unjoined<'a>(
+    alloc: Global,
+    rows: &[(&'a str, &str)],
+    others: &[(&str, &str)],
+    options: &Options,
+) -> Result<Option<&'a str>, RunError>
+    requires { has_mdx options.now.parse.constructs ≡ false }
+{
+    for (first, _) in rows {
+        for (second, _) in others {
+            if !is_joined(alloc, first, second, options)? {
+                return Ok(Some(first));
+            }
+        }
+    }
+    Ok(None)
+}
+
+/// The first of these texts whose page isn't the one that stands beside it, or after which another of them can't stand.
+pub(crate) fn first_fault<'a>(
+    alloc: Global,
+    rows: &[(&'a str, &str)],
+    options: &Options,
+) -> Result<Option<&'a str>, RunError>
+    requires { has_mdx options.now.parse.constructs ≡ false }
+{
+    match first_wrong(alloc, rows, options)? {
+        None => first_unjoined(alloc, rows, rows, options),
+        wrong => Ok(wrong),
+    }
+}
