@@ -41,6 +41,11 @@ pub mod gfm_tagfilter {
     pub use html_escape::gfm_tagfilter;
 }
 
+/// How the columns of tables are aligned (GFM 4.10).
+pub mod mdast {
+    pub use definition_block::AlignKind;
+}
+
 /// Labels as they are matched (CommonMark 6.3).
 pub mod normalize_identifier {
     pub use inline_labels::normalize_identifier;
