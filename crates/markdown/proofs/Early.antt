@@ -35,6 +35,7 @@ ends_early remaining contents reader writer page reads writes = record {
   read = λ h. absurd (working (has_failed reader) reads h);
   size = λ h. absurd (nothing_told (remaining (device reader)) SIZE_MAX h);
   utf8 = λ h. absurd (no_end (has_ended reader) h);
+  unread = λ h. (refl, Keeps-refl (contents (device writer)));
   write = λ h. absurd (working (has_failed writer) writes h);
   fault = λ h k. kept (remaining (device reader)) (contents (device writer)) page;
 }

@@ -9,7 +9,7 @@ use Rattle.markdown.specs.declared.convert.TheConstants.{SIZE_MAX}
 use Rattle.markdown.specs.declared.watched.Watched.{Watched}
 use Rattle.markdown.specs.Tables.{AreTables}
 use Rattle.markdown.specs.Transfer.{AppendsAllOrNothing, AppendsBeginning, TellsMore}
-use Rattle.markdown.specs.Watched.{came_to_end, device, has_failed}
+use Rattle.markdown.specs.Watched.{came_to_end, device, has_ended, has_failed}
 
 -- how a conversion ends that reads from a reader and writes a page of what it read, by what the two were and are
 pub record Ends {D E : Type 0} (remaining : D → Option (List ℕ)) (contents : E → Option (List ℕ))
@@ -24,6 +24,8 @@ pub record Ends {D E : Type 0} (remaining : D → Option (List ℕ)) (contents :
   -- nor where what was read to its end is not UTF-8
   pub utf8 : came_to_end reader reader' ≡ true
       → IfSome (remaining (device reader)) (λ text. ¬ IsUtf8 text → (ok ≡ false) × Keeps (contents (device writer)) (contents (device writer')))
+  -- nor where it was not read to its end, as where the names of references are at fault, or memory is wanted before
+  pub unread : has_ended reader' ≡ false → (ok ≡ false) × Keeps (contents (device writer)) (contents (device writer'))
   -- where the writer failed, what was written is a beginning of the page
   pub write : has_failed writer' ≡ true
       → (ok ≡ false) × IfSome (remaining (device reader)) (λ text. AppendsBeginning (contents (device writer)) (contents (device writer')) (page text))
