@@ -17,12 +17,12 @@ fn is_joined(alloc: Global, first: &str, second: &str, options: &Options) -> Res
 }
 
 /// The first of these texts after which one of the others can't stand.
-pub(crate) fn first_unjoined<'a>(
+pub(crate) fn first_unjoined(
     alloc: Global,
-    rows: &[(&'a str, &str)],
-    others: &[(&str, &str)],
+    rows: &[(&'static str, &'static str)],
+    others: &[(&'static str, &'static str)],
     options: &Options,
-) -> Result<Option<&'a str>, RunError>
+) -> Result<Option<&'static str>, RunError>
     requires { has_mdx options.now.parse.constructs ≡ false }
 {
     for (first, _) in rows {
@@ -36,11 +36,11 @@ pub(crate) fn first_unjoined<'a>(
 }
 
 /// The first of these texts whose page isn't the one that stands beside it, or after which another of them can't stand.
-pub(crate) fn first_fault<'a>(
+pub(crate) fn first_fault(
     alloc: Global,
-    rows: &[(&'a str, &str)],
+    rows: &[(&'static str, &'static str)],
     options: &Options,
-) -> Result<Option<&'a str>, RunError>
+) -> Result<Option<&'static str>, RunError>
     requires { has_mdx options.now.parse.constructs ≡ false }
 {
     match first_wrong(alloc, rows, options)? {

@@ -27,7 +27,10 @@ fn everything() -> Options
 }
 
 /// The first text after which another can't stand, of these and the worked ones.
-fn first_apart<'a>(alloc: Global, rows: &[(&'a str, &str)]) -> Result<Option<&'a str>, RunError> {
+fn first_apart(
+    alloc: Global,
+    rows: &[(&'static str, &'static str)],
+) -> Result<Option<&'static str>, RunError> {
     let options = everything();
     for worked in [COMMONMARK.as_slice(), GFM.as_slice()] {
         let found = first_unjoined(alloc, rows, worked, &options)?;
