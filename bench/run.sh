@@ -1,7 +1,7 @@
 #!/bin/sh
-# Installs what the program is measured beside, writes the texts, and prints one table: throughput, memory and
-# instructions for each kind of text, start-up, a million tiny texts by a library call, and growth by family.
-# It needs the program (./install.sh), and builds the library.
+# Installs what the program is measured beside, writes the texts, and prints four tables: throughput, memory and
+# instructions for each kind of text, with start-up and a million tiny texts by a library call; the same with --gfm, but
+# for tiny texts; growth by family; and growth with --gfm. It needs the program (./install.sh), and builds the library.
 #
 #     bench/run.sh [PROGRAM] [BYTES] [ROUNDS]
 #
@@ -17,11 +17,11 @@ mkdir -p "$folder"
 "$here/peers.sh" "$folder"
 python3 "$here/corpus.py" "$folder/corpus" "$bytes" > /dev/null
 python3 "$here/run.py" "$folder" "$program" "$rounds"
-echo
-python3 "$here/run.py" "$folder" "$program" "$rounds" --gfm
 "$here/../install.sh" --library "$folder" > "$folder/log" 2>&1 || { cat "$folder/log" >&2; exit 1; }
 cc -O2 -I"$folder/include" -L"$folder/lib" -o "$folder/tiny" "$here/tiny.c" -l:libmarkdown.a -lmd4c-html -lmd4c -lcmark
 "$folder/tiny"
+echo
+python3 "$here/run.py" "$folder" "$program" "$rounds" --gfm
 echo
 PATH=$folder:$PATH python3 "$here/families.py" "$program"
 echo
