@@ -2,6 +2,7 @@
 use Rattle.std.specs.Prelude.{ℕ, suc, zero, ◌+◌, ◌-◌, if◌then◌else◌, List, [], ◌∷◌, ◌++◌, Option, None, Some, take, drop, length}
 use Rattle.std.specs.List.{count_by}
 use Rattle.markdown_options.specs.declared.configuration.Constructs.{Constructs}
+use Rattle.definition_text.specs.Columns.{Code}
 use Rattle.definition_text.specs.BlockLines.{BlockLine, last_ending, own_lines}
 use Rattle.definition_block.specs.Container.{Container, Quote, Item, Footnote}
 use Rattle.definition_block.specs.Blocks.{Block, Paragraph, Heading, Break, IndentedCode, FencedCode, Html, Table, Definition, Holds, Items, Ending, Blank}
@@ -18,12 +19,12 @@ abbrev pub cut_into : Blocks → List BlockLine → Cut
 cut_into definitions left = record { definitions = definitions; left = left }
 
 -- how many lines a content has
-abbrev pub line_count : List ℕ → ℕ
+abbrev pub line_count : List Code → ℕ
 line_count [] = 0
 line_count (c ∷ cs) = 1 + count_by is_eol (c ∷ cs)
 
 -- how many of these lines stand before the rest of their content
-abbrev pub lines_before : List ℕ → List BlockLine → ℕ
+abbrev pub lines_before : List Code → List BlockLine → ℕ
 lines_before rest ls = length ls - line_count rest
 
 -- a definition on these lines, and the ending of the last one
@@ -68,14 +69,14 @@ abbrev mutual
   definitions (Cons b bs) = block_definitions b ++ definitions bs
 
 -- the label of a footnote definition
-abbrev pub container_footnotes : Container → List (List ℕ)
+abbrev pub container_footnotes : Container → List (List Code)
 container_footnotes Quote = []
 container_footnotes (Item item) = []
 container_footnotes (Footnote label) = label ∷ []
 
 -- the labels of the footnote definitions in a document, as they are written, in the order in which these end, repeats kept: one ends after those in it
 abbrev mutual
-  pub block_footnotes : Block → List (List ℕ)
+  pub block_footnotes : Block → List (List Code)
   block_footnotes (Paragraph ls) = []
   block_footnotes (Heading rank ls) = []
   block_footnotes Break = []
@@ -89,6 +90,6 @@ abbrev mutual
   block_footnotes (Ending ending) = []
   block_footnotes (Blank ending) = []
 
-  pub footnotes : Blocks → List (List ℕ)
+  pub footnotes : Blocks → List (List Code)
   footnotes Nil = []
   footnotes (Cons b bs) = block_footnotes b ++ footnotes bs
