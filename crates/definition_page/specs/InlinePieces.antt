@@ -159,23 +159,13 @@ count_at (Some place) label = CountOf place label ∷ []
 abbrev mutual
   -- the calls in what isn't printed, or without tags: they count
   pub part_counts : Meaning → Inline → List Piece
-  part_counts m (Data b) = []
-  part_counts m (Escape b) = []
-  part_counts m (Character text) = []
-  part_counts m (Code text) = []
-  part_counts m (Math text) = []
-  part_counts m (Autolink is_email text) = []
-  part_counts m (Literal kind text) = []
-  part_counts m (Html html) = []
-  part_counts m EscapedBreak = []
-  part_counts m TrailingBreak = []
-  part_counts m (LineEnd code) = []
   part_counts m (Emphasis kids) = inline_counts m kids
   part_counts m (Strong kids) = inline_counts m kids
   part_counts m (Strikethrough kids) = inline_counts m kids
   part_counts m (Link target kids) = inline_counts m kids
   part_counts m (Image target kids) = inline_counts m kids
   part_counts m (Call label) = count_at (first_match label m.footnotes) (normal_label label)
+  part_counts m i = []
 
   pub inline_counts : Meaning → Inlines → List Piece
   inline_counts m Nil = []

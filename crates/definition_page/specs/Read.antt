@@ -112,9 +112,8 @@ after_code top is_closed bs = if top && not is_closed then without_ending bs els
 
 -- the number of an ordered item
 abbrev pub container_number : Container → Option ℕ
-container_number Quote = None
 container_number (Item item) = item.number
-container_number (Footnote label) = None
+container_number c = None
 
 -- the number of the first item of a list (CommonMark 5.3)
 abbrev pub list_number : tree.Blocks → Option ℕ
