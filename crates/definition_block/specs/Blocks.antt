@@ -2,6 +2,7 @@
 use Rattle.std.specs.Prelude.{ℕ, Bool, List, Option}
 use Rattle.definition_text.specs.BlockLines.{BlockLine}
 use Rattle.markdown_options.specs.declared.line_ending.LineEnding.{LineEnding}
+use Rattle.definition_text.specs.Columns.{Code}
 use Rattle.definition_block.specs.Container.{Container}
 
 -- A child of a container: a paragraph; a heading of a rank; a thematic break; indented code; fenced code with its info, and whether it was closed; an HTML
@@ -17,7 +18,7 @@ mutual
     FencedCode : List ℕ → Bool → List BlockLine → Block
     Html : List BlockLine → Block
     Table : List BlockLine → Block
-    Definition : List ℕ → List ℕ → Option (List ℕ) → Block
+    Definition : List Code → List Code → Option (List Code) → Block
     Holds : Container → Blocks → Block
     Items : Blocks → Block
     Ending : Option LineEnding → Block

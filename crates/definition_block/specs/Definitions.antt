@@ -2,10 +2,10 @@
 use Rattle.std.specs.Prelude.{ℕ, suc, zero, ◌+◌, ◌-◌, if◌then◌else◌, List, [], ◌∷◌, ◌++◌, Option, None, Some, take, drop, length}
 use Rattle.std.specs.List.{count_by}
 use Rattle.markdown_options.specs.declared.configuration.Constructs.{Constructs}
+use Rattle.definition_text.specs.Columns.{Code}
 use Rattle.definition_text.specs.BlockLines.{BlockLine, last_ending, own_lines}
-use Rattle.definition_block.specs.Container.{Container, Quote, Item, Footnote}
-use Rattle.definition_block.specs.Blocks.{Block, Paragraph, Heading, Break, IndentedCode, FencedCode, Html, Table, Definition, Holds, Items, Ending, Blank}
-use Rattle.definition_block.specs.Blocks.{Blocks, Nil, Cons, join, block_and_ending}
+use Rattle.definition_block.specs.Container.{Container, Footnote}
+use Rattle.definition_block.specs.Blocks.{Block, Definition, Holds, Items, Blocks, Nil, Cons, join, block_and_ending}
 use Rattle.definition_text.specs.Content.{is_eol, content_of}
 use Rattle.definition_inline.specs.Definition.{Definition as LinkDefinition, definition, definition_at}
 
@@ -18,12 +18,12 @@ abbrev pub cut_into : Blocks → List BlockLine → Cut
 cut_into definitions left = record { definitions = definitions; left = left }
 
 -- how many lines a content has
-abbrev pub line_count : List ℕ → ℕ
+abbrev pub line_count : List Code → ℕ
 line_count [] = 0
 line_count (c ∷ cs) = 1 + count_by is_eol (c ∷ cs)
 
 -- how many of these lines stand before the rest of their content
-abbrev pub lines_before : List ℕ → List BlockLine → ℕ
+abbrev pub lines_before : List Code → List BlockLine → ℕ
 lines_before rest ls = length ls - line_count rest
 
 -- a definition on these lines, and the ending of the last one
@@ -50,45 +50,27 @@ cut on ls = if on.definition then cut_most (length ls) ls else cut_into Nil ls
 -- the definitions in a document, in the order of the text, repeats kept; each is alone, so that nothing follows it (CommonMark 4.7)
 abbrev mutual
   pub block_definitions : Block → List LinkDefinition
-  block_definitions (Paragraph ls) = []
-  block_definitions (Heading rank ls) = []
-  block_definitions Break = []
-  block_definitions (IndentedCode ls) = []
-  block_definitions (FencedCode info closed ls) = []
-  block_definitions (Html ls) = []
-  block_definitions (Table ls) = []
   block_definitions (Definition label destination title) = definition label destination title [] ∷ []
   block_definitions (Holds c kids) = definitions kids
   block_definitions (Items items) = definitions items
-  block_definitions (Ending ending) = []
-  block_definitions (Blank ending) = []
+  block_definitions b = []
 
   pub definitions : Blocks → List LinkDefinition
   definitions Nil = []
   definitions (Cons b bs) = block_definitions b ++ definitions bs
 
 -- the label of a footnote definition
-abbrev pub container_footnotes : Container → List (List ℕ)
-container_footnotes Quote = []
-container_footnotes (Item item) = []
+abbrev pub container_footnotes : Container → List (List Code)
 container_footnotes (Footnote label) = label ∷ []
+container_footnotes c = []
 
 -- the labels of the footnote definitions in a document, as they are written, in the order in which these end, repeats kept: one ends after those in it
 abbrev mutual
-  pub block_footnotes : Block → List (List ℕ)
-  block_footnotes (Paragraph ls) = []
-  block_footnotes (Heading rank ls) = []
-  block_footnotes Break = []
-  block_footnotes (IndentedCode ls) = []
-  block_footnotes (FencedCode info closed ls) = []
-  block_footnotes (Html ls) = []
-  block_footnotes (Table ls) = []
-  block_footnotes (Definition label destination title) = []
+  pub block_footnotes : Block → List (List Code)
   block_footnotes (Holds c kids) = footnotes kids ++ container_footnotes c
   block_footnotes (Items items) = footnotes items
-  block_footnotes (Ending ending) = []
-  block_footnotes (Blank ending) = []
+  block_footnotes b = []
 
-  pub footnotes : Blocks → List (List ℕ)
+  pub footnotes : Blocks → List (List Code)
   footnotes Nil = []
   footnotes (Cons b bs) = block_footnotes b ++ footnotes bs

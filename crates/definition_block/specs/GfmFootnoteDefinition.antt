@@ -1,11 +1,11 @@
 -- Footnote definitions (in neither standard):
 --     start     ::= small_indent '[^' label ']:' white*, where the label has no white space
 --     continues ::= column_of_space{4}, or a blank rest
-use Rattle.std.specs.Prelude.{ℕ, Bool, false, not, if◌then◌else◌, ◌&&◌, List, Option, None, Some}
+use Rattle.std.specs.Prelude.{Bool, false, not, if◌then◌else◌, ◌&&◌, List, Option, None, Some}
 use Rattle.std.specs.List.{list_any}
 use Rattle.markdown_options.specs.declared.configuration.Constructs.{Constructs}
 use Rattle.definition_text.specs.Ascii.{colon, left_bracket, caret}
-use Rattle.definition_text.specs.Columns.{Rest, bare}
+use Rattle.definition_text.specs.Columns.{Code, Rest, bare}
 use Rattle.definition_text.specs.Indents.{small_indent}
 use Rattle.definition_text.specs.Content.{Part, part, is_space, closed_by}
 use Rattle.definition_inline.specs.Label.{label_end, is_label}
@@ -16,11 +16,11 @@ use Rattle.definition_block.specs.BlockQuote.{after_byte}
 use Rattle.definition_block.specs.ListItem.{item_continues}
 
 -- the label of a footnote: that of a link, without white space
-abbrev pub is_footnote_label : List ℕ → Bool
+abbrev pub is_footnote_label : List Code → Bool
 is_footnote_label text = is_label text && not (list_any is_space text)
 
 -- a label, and the rest after the colon that follows it
-abbrev pub label_before : List ℕ → Option Rest → Option Part
+abbrev pub label_before : List Code → Option Rest → Option Part
 label_before label None = None
 label_before label (Some rest) = Some (part label rest)
 

@@ -6,7 +6,7 @@ use Rattle.markdown_options.specs.declared.configuration.Constructs.{Constructs}
 use Rattle.definition_text.specs.Ascii.{right_parenthesis, asterisk, plus, hyphen, dot}
 use Rattle.definition_text.specs.declared.beside.Kind.TheVariants.{Whitespace}
 use Rattle.definition_block.specs.Container.{Item as ItemContainer}
-use Rattle.definition_text.specs.Columns.{Rest, bare, indent, is_blank}
+use Rattle.definition_text.specs.Columns.{Code, Rest, bare, indent, is_blank}
 use Rattle.definition_text.specs.Indents.{small_indent}
 use Rattle.definition_block.specs.ThematicBreak.{is_break}
 use Rattle.definition_block.specs.ContainerLine.{ContainerLine, container_line}
@@ -22,11 +22,11 @@ pub record Marker : Type 0 where
 abbrev pub marker_of : ℕ → Option ℕ → ℕ → Rest → Marker
 marker_of byte number size rest = record { byte = byte; number = number; size = size; rest = rest }
 
-abbrev pub is_digit : ℕ → Bool
+abbrev pub is_digit : Code → Bool
 is_digit code = is_ascii_digit code
 
 -- the number that digits stand for
-abbrev pub number_of : List ℕ → ℕ
+abbrev pub number_of : List Code → ℕ
 number_of digits = fold (λ number digit. number * 10 + (digit - 48)) 0 digits
 
 -- the marker of a bullet: `-`, `+` or `*`

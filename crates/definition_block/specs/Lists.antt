@@ -1,7 +1,7 @@
 -- Lists: neighbouring items are put together after the lines are read (CommonMark 5.3).
 use Rattle.std.specs.Prelude.{ℕ, suc, Bool, false, if◌then◌else◌, ◌==◌, ◌&&◌, ◌||◌, not, leb}
-use Rattle.definition_block.specs.Container.{Container, Quote, Item, Footnote}
-use Rattle.definition_block.specs.Tree.{Block, Paragraph, Heading, Break, IndentedCode, FencedCode, Html, Table, Definition, Holds, Items, Ending, Blank}
+use Rattle.definition_block.specs.Container.{Container, Item}
+use Rattle.definition_block.specs.Tree.{Block, Holds, Items}
 use Rattle.definition_block.specs.Tree.{Blocks, Nil, Cons, join, one, is_ending}
 
 -- ---- neighbours
@@ -44,9 +44,8 @@ is_loose items = has_gap items || has_gap_inside items
 
 -- the marker byte of an item, or 0: items of one list have the same, which says whether they are ordered, too (CommonMark 5.3)
 abbrev pub container_marker : Container → ℕ
-container_marker Quote = 0
 container_marker (Item item) = item.marker
-container_marker (Footnote label) = 0
+container_marker c = 0
 
 abbrev pub item_marker : Block → ℕ
 item_marker (Holds c kids) = container_marker c
@@ -79,18 +78,8 @@ before b bs = if item_marker b == 0 then Cons b bs else before_list (item_marker
 -- children with their items put into lists, and so in each container
 abbrev mutual
   pub grouped_block : Block → Block
-  grouped_block (Paragraph ls) = Paragraph ls
-  grouped_block (Heading rank ls) = Heading rank ls
-  grouped_block Break = Break
-  grouped_block (IndentedCode ls) = IndentedCode ls
-  grouped_block (FencedCode info closed ls) = FencedCode info closed ls
-  grouped_block (Html ls) = Html ls
-  grouped_block (Table ls) = Table ls
-  grouped_block (Definition label destination title) = Definition label destination title
   grouped_block (Holds c kids) = Holds c (group_items kids)
-  grouped_block (Items kids) = Items kids
-  grouped_block (Ending ending) = Ending ending
-  grouped_block (Blank ending) = Blank ending
+  grouped_block b = b
 
   pub group_items : Blocks → Blocks
   group_items Nil = Nil

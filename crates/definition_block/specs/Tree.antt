@@ -128,10 +128,7 @@ close on (Inside c kids inner) = holds c (join kids (close on inner))
 -- the lines of the open paragraph, none where it isn't open
 abbrev pub leaf_text : OpenLeaf → List BlockLine
 leaf_text (Text ls) = ls
-leaf_text (Indented ls pending) = []
-leaf_text (Fenced fence ending ls) = []
-leaf_text (OpenHtml kind ls) = []
-leaf_text (OpenTable ls) = []
+leaf_text leaf = []
 
 abbrev pub open_text : Opening → List BlockLine
 open_text (Leaf leaf) = leaf_text leaf
@@ -157,10 +154,8 @@ has_table (Inside c kids inner) = false
 -- one more line of the open paragraph, or of the open table
 abbrev pub leaf_with_line : BlockLine → OpenLeaf → OpenLeaf
 leaf_with_line line (Text ls) = Text (ls ++ line ∷ [])
-leaf_with_line line (Indented ls pending) = Indented ls pending
-leaf_with_line line (Fenced fence ending ls) = Fenced fence ending ls
-leaf_with_line line (OpenHtml kind ls) = OpenHtml kind ls
 leaf_with_line line (OpenTable ls) = OpenTable (ls ++ line ∷ [])
+leaf_with_line line leaf = leaf
 
 abbrev pub with_line : BlockLine → Opening → Opening
 with_line line (Leaf leaf) = Leaf (leaf_with_line line leaf)
@@ -195,11 +190,10 @@ html_takes kind ls rest beside = if ends_before_blank kind && is_blank rest then
 
 -- what an open leaf makes of a rest, where it takes it before anything else may start
 abbrev pub takes : Constructs → OpenLeaf → Rest → Beside → Option Tree
-takes on (Text ls) rest beside = None
 takes on (Indented ls pending) rest beside = indented_takes on ls pending rest beside
 takes on (Fenced fence opening ls) rest beside = fenced_takes on fence opening ls rest beside
 takes on (OpenHtml kind ls) rest beside = html_takes kind ls rest beside
-takes on (OpenTable ls) rest beside = None
+takes on leaf rest beside = None
 
 abbrev pub or_heading : Option LineEnding → Option Atx → Option Tree
 or_heading ending None = None

@@ -3,6 +3,7 @@ use Rattle.std.specs.Prelude.{ℕ, ◌-◌, Bool, true, false, not, if◌then◌
 use Rattle.std.specs.List.{prefix_len}
 use Rattle.markdown_options.specs.declared.configuration.ParseOptions.{ParseOptions}
 use Rattle.definition_text.specs.Ascii.{asterisk, underscore}
+use Rattle.definition_text.specs.Columns.{Code}
 use Rattle.definition_text.specs.declared.beside.Kind.{Kind}
 use Rattle.definition_text.specs.declared.beside.Kind.TheVariants.{Whitespace, Punctuation, Other}
 use Rattle.definition_text.specs.InlineCode.{InlineCode}
@@ -45,7 +46,7 @@ abbrev pub closes : ℕ → Kind → Kind → Bool
 closes marker before after = opens marker after before
 
 -- a byte whose runs may form spans: `*` or `_` (CommonMark 6.2), or `~` (GFM 6.5)
-abbrev pub is_marker : ParseOptions → ℕ → Bool
+abbrev pub is_marker : ParseOptions → Code → Bool
 is_marker options code =
     (options.constructs.attention && ((code == asterisk) || (code == underscore))) || (options.constructs.gfm_strikethrough && is_tilde code)
 

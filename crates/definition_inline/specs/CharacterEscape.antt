@@ -1,12 +1,13 @@
 -- Backslash escapes (CommonMark 2.4): a backslash before ASCII punctuation.
-use Rattle.std.specs.Prelude.{ℕ, if◌then◌else◌, ◌==◌, ◌&&◌, List, [], ◌∷◌, Option, None, Some}
+use Rattle.std.specs.Prelude.{if◌then◌else◌, ◌==◌, ◌&&◌, List, [], ◌∷◌, Option, None, Some}
 use Rattle.std.specs.Char.{is_ascii_punctuation}
 use Rattle.markdown_options.specs.declared.configuration.Constructs.{Constructs}
 use Rattle.definition_text.specs.Ascii.{backslash}
+use Rattle.definition_text.specs.Columns.{Code}
 use Rattle.definition_inline.specs.Inline.{Leaf, leaf, Escape}
 
 -- a backslash and the ASCII punctuation after it (CommonMark 2.4)
-abbrev pub escape_at : Constructs → List ℕ → Option Leaf
+abbrev pub escape_at : Constructs → List Code → Option Leaf
 escape_at on [] = None
 escape_at on (c ∷ []) = None
 escape_at on (c ∷ next ∷ cs) =

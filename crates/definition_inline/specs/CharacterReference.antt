@@ -5,6 +5,7 @@ use Rattle.std.specs.Int.{is_in_range}
 use Rattle.std.specs.List.{prefix_len, fold}
 use Rattle.markdown_options.specs.declared.configuration.Constructs.{Constructs}
 use Rattle.definition_text.specs.Ascii.{number_sign, ampersand, semicolon, capital_x, small_x}
+use Rattle.definition_text.specs.Columns.{Code}
 use Rattle.definition_text.specs.Content.{Part, part}
 use Rattle.definition_inline.specs.Inline.{Leaf, leaf, Character}
 
@@ -16,18 +17,18 @@ pub data CharacterName : Type 0 where
 -- a reference: its name or number, and what follows it
 pub record CharacterReference : Type 0 where
   pub name : CharacterName
-  pub rest : List ℕ
+  pub rest : List Code
 
-abbrev pub character_reference : CharacterName → List ℕ → CharacterReference
+abbrev pub character_reference : CharacterName → List Code → CharacterReference
 character_reference name rest = record { name = name; rest = rest }
 
 -- a text before a `;`
-abbrev pub before_semicolon : List ℕ → List ℕ → Option Part
+abbrev pub before_semicolon : List Code → List Code → Option Part
 before_semicolon text [] = None
 before_semicolon text (c ∷ cs) = if c == semicolon then Some (part text cs) else None
 
 -- the codes ahead that pass a test, from 1 to so many of them, before a `;`
-abbrev pub part_to_semicolon : (ℕ → Bool) → ℕ → List ℕ → Option Part
+abbrev pub part_to_semicolon : (Code → Bool) → ℕ → List Code → Option Part
 part_to_semicolon test most content =
     let size = prefix_len test content in
     if nat_le 1 size && nat_le size most then before_semicolon (take size content) (drop size content) else None
@@ -47,20 +48,20 @@ reference_by_name None = None
 reference_by_name (Some name) = Some (character_reference (Named name.text) name.rest)
 
 -- a reference by number after its `&#` (CommonMark 2.5)
-abbrev pub number_reference : List ℕ → Option CharacterReference
+abbrev pub number_reference : List Code → Option CharacterReference
 number_reference [] = None
 number_reference (c ∷ cs) =
     if (c == small_x) || (c == capital_x) then reference_by_number 16 (part_to_semicolon is_ascii_hexdigit 6 cs)
     else reference_by_number 10 (part_to_semicolon is_ascii_digit 7 (c ∷ cs))
 
 -- a reference after its `&` (CommonMark 2.5)
-abbrev pub reference_after : List ℕ → Option CharacterReference
+abbrev pub reference_after : List Code → Option CharacterReference
 reference_after [] = None
 reference_after (c ∷ cs) =
     if c == number_sign then number_reference cs else reference_by_name (part_to_semicolon is_ascii_alphanumeric 31 (c ∷ cs))
 
 -- a reference by its form alone: names aren't looked up (CommonMark 2.5)
-abbrev pub reference_form : List ℕ → Option CharacterReference
+abbrev pub reference_form : List Code → Option CharacterReference
 reference_form [] = None
 reference_form (c ∷ cs) = if c == ampersand then reference_after cs else None
 
@@ -94,10 +95,10 @@ reference_leaf size None = None
 reference_leaf size (Some text) = Some (leaf (Character text ∷ []) size)
 
 -- a reference of this form in a content
-abbrev pub reference_of : Names → List ℕ → Option CharacterReference → Option Leaf
+abbrev pub reference_of : Names → List Code → Option CharacterReference → Option Leaf
 reference_of names content None = None
 reference_of names content (Some found) = reference_leaf (length content - length found.rest) (reference_text names found.name)
 
 -- a character reference, whose name the table has (CommonMark 2.5)
-abbrev pub reference_at : Constructs → Names → List ℕ → Option Leaf
+abbrev pub reference_at : Constructs → Names → List Code → Option Leaf
 reference_at on names content = if on.character_reference then reference_of names content (reference_form content) else None

@@ -8,7 +8,7 @@ use Rattle.definition_text.specs.Ascii.{left_parenthesis, right_parenthesis, dot
 use Rattle.definition_text.specs.Ascii.{delete}
 use Rattle.definition_text.specs.declared.beside.Kind.{Kind}
 use Rattle.definition_text.specs.Bytes.{is_letter, is_letter_or_digit, same_caselessly, begins_with}
-use Rattle.definition_text.specs.Columns.{is_white}
+use Rattle.definition_text.specs.Columns.{Code, is_white}
 use Rattle.definition_text.specs.Content.{is_eol, is_space}
 use Rattle.definition_text.specs.InlineCode.{InlineCode, codes_of, is_continuation}
 use Rattle.definition_inline.specs.Attention.{is_other}
@@ -18,21 +18,21 @@ use Rattle.definition_inline.specs.Inline.{Cons, Leaf, leaf}
 -- ---- where a literal begins
 
 -- one of the bytes of a text
-abbrev pub is_among : List ℕ → ℕ → Bool
+abbrev pub is_among : List ℕ → Code → Bool
 is_among text code = list_any (λ other. code == other) text
 
 -- `www.` begins a literal after nothing, a space, a tab or one of these bytes (GFM 6.9)
-abbrev pub may_precede_www : Option ℕ → Bool
+abbrev pub may_precede_www : Option Code → Bool
 may_precede_www None = true
 may_precede_www (Some code) = is_white code || is_among (codes "(*_[]~") code
 
 -- a protocol begins a literal after anything but a letter (GFM 6.9)
-abbrev pub may_precede_protocol : Option ℕ → Bool
+abbrev pub may_precede_protocol : Option Code → Bool
 may_precede_protocol None = true
 may_precede_protocol (Some code) = not (is_letter code)
 
 -- a content begins with a text, in either case
-abbrev pub begins_caselessly : List ℕ → List ℕ → Bool
+abbrev pub begins_caselessly : List ℕ → List Code → Bool
 begins_caselessly text content = same_caselessly text (take (length text) content)
 
 -- what a literal begins with: its kind, and how many codes that is
@@ -43,11 +43,11 @@ pub record LiteralStart : Type 0 where
 abbrev pub literal_start : LiteralKind → ℕ → LiteralStart
 literal_start kind size = record { kind = kind; size = size }
 
-abbrev pub www_start : Option ℕ → List ℕ → Option LiteralStart
+abbrev pub www_start : Option Code → List Code → Option LiteralStart
 www_start previous content =
     if may_precede_www previous && begins_caselessly (codes "www.") content then Some (literal_start Www 4) else None
 
-abbrev pub protocol_start : Option ℕ → List ℕ → Option LiteralStart
+abbrev pub protocol_start : Option Code → List Code → Option LiteralStart
 protocol_start previous content =
     if not (may_precede_protocol previous) then None
     else (if begins_caselessly (codes "http://") content then Some (literal_start Protocol 7)
@@ -60,11 +60,11 @@ or_start None other = other
 or_start (Some start) other = Some start
 
 -- `www.`, `http://` or `https://` comes first, after this code of its line (GFM 6.9)
-abbrev pub literal_start_at : Option ℕ → List ℕ → Option LiteralStart
+abbrev pub literal_start_at : Option Code → List Code → Option LiteralStart
 literal_start_at previous content = or_start (www_start previous content) (protocol_start previous content)
 
 -- a control character of ASCII, or a line ending
-abbrev pub is_control : ℕ → Bool
+abbrev pub is_control : Code → Bool
 is_control code = nat_lt code 32 || ((code == delete) || is_eol code)
 
 -- a character of this kind comes first, which is no whitespace, punctuation or control character
@@ -75,65 +75,65 @@ begins_name kind (c ∷ cs) = is_other kind && not (is_control c.code)
 -- ---- where it ends
 
 -- nothing, white space, `(` or `[` comes first
-abbrev pub ends_label : List ℕ → Bool
+abbrev pub ends_label : List Code → Bool
 ends_label [] = true
 ends_label (c ∷ cs) = is_space c || ((c == left_parenthesis) || (c == left_bracket))
 
 -- white space or `<`, or a `]` that may end a label
-abbrev pub ends_literal : ℕ → List ℕ → Bool
+abbrev pub ends_literal : Code → List Code → Bool
 ends_literal code after = is_space code || ((code == less_than) || ((code == right_bracket) && ends_label after))
 
 -- the codes up to there (GFM 6.9)
-abbrev pub literal_run : List ℕ → List ℕ
+abbrev pub literal_run : List Code → List Code
 literal_run [] = []
 literal_run (c ∷ cs) = if ends_literal c cs then [] else c ∷ literal_run cs
 
 -- a byte that no literal ends with (GFM 6.9)
-abbrev pub is_trailing : ℕ → Bool
+abbrev pub is_trailing : Code → Bool
 is_trailing code = is_among (codes "!\"'*,.:;?_~") code
 
 -- how many of this byte a text has
-abbrev pub count_of : ℕ → List ℕ → ℕ
+abbrev pub count_of : ℕ → List Code → ℕ
 count_of byte text = length (filter (λ b. b == byte) text)
 
 -- a text has more `)` than `(`
-abbrev pub has_more_closed : List ℕ → Bool
+abbrev pub has_more_closed : List Code → Bool
 has_more_closed text = nat_lt (count_of left_parenthesis text) (count_of right_parenthesis text)
 
 -- the last code is cut from a text: one that no literal ends with, or a `)` where there are more of them than `(` (GFM 6.9)
-abbrev pub is_cut : ℕ → List ℕ → Bool
+abbrev pub is_cut : Code → List Code → Bool
 is_cut code before = is_trailing code || ((code == right_parenthesis) && has_more_closed (code ∷ before))
 
 -- how many codes of a text, backwards, what looks like a character reference has before its `;`
-abbrev pub name_size : List ℕ → ℕ
+abbrev pub name_size : List Code → ℕ
 name_size backwards =
     let size = prefix_len is_letter_or_digit backwards in
     if nat_le 1 size && begins_with (codes "&") (drop size backwards) then size + 1 else 0
 
 -- what is cut with this code besides: before a `;` what looks like a character reference (GFM 6.9)
-abbrev pub cut_more : ℕ → List ℕ → ℕ
+abbrev pub cut_more : Code → List Code → ℕ
 cut_more code before = if code == semicolon then name_size before else 0
 
 -- a text backwards without what is cut from its end, where so many codes are cut already
-abbrev pub without_tail : ℕ → List ℕ → List ℕ
+abbrev pub without_tail : ℕ → List Code → List Code
 without_tail k [] = []
 without_tail zero (c ∷ before) = if is_cut c before then without_tail (cut_more c before) before else c ∷ before
 without_tail (suc k) (c ∷ before) = without_tail k before
 
 -- what a literal has after its start (GFM 6.9)
-abbrev pub literal_name : List ℕ → List ℕ
+abbrev pub literal_name : List Code → List Code
 literal_name after = reverse (without_tail 0 (reverse (literal_run after)))
 
 -- ---- its domain
 
 -- the domain that comes first, as many characters as are neither whitespace nor punctuation, or `-`, `.` or `_`, where the kind of the first is given (GFM 6.9)
-abbrev pub domain : Kind → List InlineCode → List ℕ
+abbrev pub domain : Kind → List InlineCode → List Code
 domain kind [] = []
 domain kind (c ∷ cs) =
     if is_continuation c.code || (is_other kind || is_among (codes "-._") c.code) then c.code ∷ domain c.after cs else []
 
 -- `_` stands in one of the last parts of a text between its dots, so many, given backwards
-abbrev pub low_line_in : ℕ → List ℕ → Bool
+abbrev pub low_line_in : ℕ → List Code → Bool
 low_line_in zero backwards = false
 low_line_in (suc n) [] = false
 low_line_in (suc n) (c ∷ cs) =
@@ -141,13 +141,13 @@ low_line_in (suc n) (c ∷ cs) =
     else (if c == dot then low_line_in n cs else low_line_in (suc n) cs)
 
 -- `_` stands in one of the last two parts (GFM 6.9)
-abbrev pub has_low_line : List ℕ → Bool
+abbrev pub has_low_line : List Code → Bool
 has_low_line text = low_line_in 2 (reverse text)
 
 -- ---- the leaf
 
 -- a literal of this start and this name, the code before which is given; a `www.` at its domain's start holds no `_`, so that it needn't be looked at (GFM 6.9)
-abbrev pub named_literal : LiteralStart → List InlineCode → InlineCode → List ℕ → Option Leaf
+abbrev pub named_literal : LiteralStart → List InlineCode → InlineCode → List Code → Option Leaf
 named_literal start content last name =
     let after = drop start.size content in
     if begins_name last.after after && not (has_low_line (domain last.after (take (length name) after)))

@@ -1,17 +1,18 @@
 -- The inline structure of a content (CommonMark 6).
 use Rattle.std.specs.Prelude.{ℕ, Bool, List, Option, None, Some}
+use Rattle.definition_text.specs.Columns.{Code as ContentCode}
 
 -- What a link or an image leads to: the destination and the title of a resource, or the label of a definition; each is given by its codes as they are written.
 pub data Target : Type 0 where
-  Resource : List ℕ → Option (List ℕ) → Target
-  Reference : List ℕ → Target
+  Resource : List ContentCode → Option (List ContentCode) → Target
+  Reference : List ContentCode → Target
 
 -- where a link or an image leads: a destination and a title, by their codes as they are written
 pub record Linked : Type 0 where
-  pub destination : List ℕ
-  pub title : Option (List ℕ)
+  pub destination : List ContentCode
+  pub title : Option (List ContentCode)
 
-abbrev pub linked : List ℕ → Option (List ℕ) → Linked
+abbrev pub linked : List ContentCode → Option (List ContentCode) → Linked
 linked destination title = record { destination = destination; title = title }
 
 -- what a literal leads to: `http://` and its text; its text, which begins with a protocol; or `mailto:` and its text (GFM 6.9)
@@ -31,18 +32,18 @@ mutual
     Character : List ℕ → Inline
     Code : List ℕ → Inline
     Math : List ℕ → Inline
-    Autolink : Bool → List ℕ → Inline
-    Literal : LiteralKind → List ℕ → Inline
-    Html : List ℕ → Inline
+    Autolink : Bool → List ContentCode → Inline
+    Literal : LiteralKind → List ContentCode → Inline
+    Html : List ContentCode → Inline
     EscapedBreak : Inline
     TrailingBreak : Inline
-    LineEnd : ℕ → Inline
+    LineEnd : ContentCode → Inline
     Emphasis : Inlines → Inline
     Strong : Inlines → Inline
     Strikethrough : Inlines → Inline
     Link : Target → Inlines → Inline
     Image : Target → Inlines → Inline
-    Call : List ℕ → Inline
+    Call : List ContentCode → Inline
 
   pub data Inlines : Type 0 where
     Nil : Inlines

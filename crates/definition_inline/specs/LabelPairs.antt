@@ -1,6 +1,7 @@
 -- Which label starts and `]` go together, and what they form, as a grammar (CommonMark 6.3). The scan of a content is proved to read by it.
 use Rattle.std.specs.Prelude.{◌≡◌, ◌+◌, ℕ, Bool, true, false, ◌&&◌, ◌==◌, List, [], ◌∷◌, ◌++◌, Option, None, Some, drop, map}
 use Rattle.definition_text.specs.Ascii.{right_bracket}
+use Rattle.definition_text.specs.Columns.{Code}
 use Rattle.definition_text.specs.InlineCode.{InlineCode, codes_of}
 use Rattle.definition_inline.specs.Inline.{Data, Leaf}
 use Rattle.definition_inline.specs.Attention.{Run, run_at}
@@ -12,11 +13,11 @@ use Rattle.definition_inline.specs.Scan.{with_link_or_call, ended_by}
 -- A stretch of a content: tokens; a label start with the codes after it; a `]` with the codes from it on, and what it forms, if anything.
 pub data Stretch : Type 0 where
   Plain : List Token → Stretch
-  Start : LabelStart → List ℕ → Stretch
-  End : List ℕ → Option LinkOrCall → Stretch
+  Start : LabelStart → List Code → Stretch
+  End : List Code → Option LinkOrCall → Stretch
 
 -- a `]` that may end a label
-abbrev pub is_label_end : InlineContext → ℕ → Bool
+abbrev pub is_label_end : InlineContext → Code → Bool
 is_label_end context code = context.options.constructs.label_end && (code == right_bracket)
 
 -- how many codes after a `]` belong to what it forms
@@ -49,7 +50,7 @@ pub data AreStretches (context : InlineContext) : List InlineCode → List Stret
       → AreStretches context cs others → AreStretches context (c ∷ cs) (Plain (Item (Data c.code) ∷ []) ∷ others)
 
 -- a label start between the text before it and the text after it
-abbrev pub open_label : LabelStart → List ℕ → Text → OpenLabel
+abbrev pub open_label : LabelStart → List Code → Text → OpenLabel
 open_label start from outer = record { start = start; from = from; outer = outer }
 
 -- the text with what a label start and its `]` form; where they form nothing, both are text
@@ -63,22 +64,24 @@ pub data IsText (context : InlineContext) : Bool → List Stretch → Text → T
   Nothing : (top : Bool) → IsText context top [] (text [] false)
   More : (top : Bool) (ss : List Stretch) (t : Text) (tokens : List Token) → IsText context top ss t
       → IsText context top (ss ++ Plain tokens ∷ []) (with_tokens t tokens)
-  Pair : (top : Bool) (before between : List Stretch) (start : LabelStart) (from content : List ℕ) (outer inner : Text) → IsText context top before outer
+  Pair : (top : Bool) (before between : List Stretch) (start : LabelStart) (from content : List Code) (outer inner : Text) → IsText context top before outer
       → IsText context false between inner → (end : Option LinkOrCall) → end ≡ ended_by context content (open_label start from outer) inner
       → IsText context top (before ++ Start start from ∷ (between ++ End content end ∷ [])) (ended_text (open_label start from outer) inner end)
-  LeftOver : (ss : List Stretch) (t : Text) (content : List ℕ) → IsText context true ss t
+  LeftOver : (ss : List Stretch) (t : Text) (content : List Code) → IsText context true ss t
       → IsText context true (ss ++ End content None ∷ []) (with_tokens t (Item (Data right_bracket) ∷ []))
 
 -- the same after a label start that no `]` matches, with others that are left over
 pub data IsRest (context : InlineContext) : List Stretch → Text → Type 0 where
   Last : (ss : List Stretch) (t : Text) → IsText context false ss t → IsRest context ss t
-  OneMore : (ss others : List Stretch) (start : LabelStart) (from : List ℕ) (outer inner : Text) → IsText context false ss outer → IsRest context others inner
+  OneMore : (ss others : List Stretch) (start : LabelStart) (from : List Code) (outer inner : Text)
+      → IsText context false ss outer → IsRest context others inner
       → IsRest context (ss ++ Start start from ∷ others) (with_plain_start (open_label start from outer) inner)
 
 -- the text of a whole content: a label start that no `]` matches is text
 pub data IsWhole (context : InlineContext) : List Stretch → Text → Type 0 where
   AllMatched : (ss : List Stretch) (t : Text) → IsText context true ss t → IsWhole context ss t
-  SomeLeft : (ss others : List Stretch) (start : LabelStart) (from : List ℕ) (outer inner : Text) → IsText context true ss outer → IsRest context others inner
+  SomeLeft : (ss others : List Stretch) (start : LabelStart) (from : List Code) (outer inner : Text)
+      → IsText context true ss outer → IsRest context others inner
       → IsWhole context (ss ++ Start start from ∷ others) (with_plain_start (open_label start from outer) inner)
 
 -- a content stands for a text: by its stretches

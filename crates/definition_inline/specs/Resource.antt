@@ -1,6 +1,7 @@
 -- The resource of a link or an image (CommonMark 6.3): `(`, an optional destination with an optional title, `)`, with white space between.
-use Rattle.std.specs.Prelude.{ℕ, Bool, false, if◌then◌else◌, ◌==◌, ◌&&◌, ◌||◌, List, [], ◌∷◌, Option, None, Some}
+use Rattle.std.specs.Prelude.{Bool, false, if◌then◌else◌, ◌==◌, ◌&&◌, ◌||◌, List, [], ◌∷◌, Option, None, Some}
 use Rattle.definition_text.specs.Ascii.{space, double_quote, single_quote, left_parenthesis, right_parenthesis}
+use Rattle.definition_text.specs.Columns.{Code}
 use Rattle.definition_text.specs.Content.{Part}
 use Rattle.definition_inline.specs.Space.{after_white, begins_with_space}
 use Rattle.definition_inline.specs.Destination.{destination_at}
@@ -8,23 +9,23 @@ use Rattle.definition_inline.specs.Title.{title_at}
 
 -- a resource: its destination, empty where none is written, its title, and what follows its `)`
 pub record LinkResource : Type 0 where
-  pub destination : List ℕ
-  pub title : Option (List ℕ)
-  pub rest : List ℕ
+  pub destination : List Code
+  pub title : Option (List Code)
+  pub rest : List Code
 
 -- a resource ends here: white space, and a `)` (CommonMark 6.3)
-abbrev pub resource_end : List ℕ → Option (List ℕ) → List ℕ → Option LinkResource
+abbrev pub resource_end : List Code → Option (List Code) → List Code → Option LinkResource
 resource_end destination title [] = None
 resource_end destination title (c ∷ cs) =
     if c == right_parenthesis then Some (record { destination = destination; title = title; rest = cs }) else None
 
 -- a resource with this title, if there is one
-abbrev pub with_title : List ℕ → Option Part → Option LinkResource
+abbrev pub with_title : List Code → Option Part → Option LinkResource
 with_title destination None = None
 with_title destination (Some title) = resource_end destination (Some title.text) (after_white title.rest)
 
 -- whether a title is opened here
-abbrev pub opens_title : List ℕ → Bool
+abbrev pub opens_title : List Code → Bool
 opens_title [] = false
 opens_title (c ∷ cs) = (c == double_quote) || ((c == single_quote) || (c == left_parenthesis))
 
@@ -41,12 +42,12 @@ with_destination None = None
 with_destination (Some destination) = after_destination destination
 
 -- a resource after its `(` and white space (CommonMark 6.3)
-abbrev pub resource_inside : List ℕ → Option LinkResource
+abbrev pub resource_inside : List Code → Option LinkResource
 resource_inside [] = None
 resource_inside (c ∷ cs) =
     if c == right_parenthesis then resource_end [] None (c ∷ cs) else with_destination (destination_at (Some space) (c ∷ cs))
 
 -- a resource, whose destination has parentheses at most 32 deep (CommonMark 6.3)
-abbrev pub resource_at : List ℕ → Option LinkResource
+abbrev pub resource_at : List Code → Option LinkResource
 resource_at [] = None
 resource_at (c ∷ cs) = if c == left_parenthesis then resource_inside (after_white cs) else None

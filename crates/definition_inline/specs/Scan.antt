@@ -6,7 +6,7 @@ use Rattle.std.specs.List.{fold, prefix_len}
 use Rattle.markdown_options.specs.declared.configuration.Constructs.{Constructs}
 use Rattle.markdown_options.specs.declared.configuration.ParseOptions.{ParseOptions}
 use Rattle.definition_text.specs.Ascii.{right_bracket}
-use Rattle.definition_text.specs.Columns.{is_white}
+use Rattle.definition_text.specs.Columns.{Code, is_white}
 use Rattle.definition_text.specs.Bytes.{begins_with}
 use Rattle.definition_text.specs.Content.{before}
 use Rattle.definition_text.specs.InlineCode.{InlineCode, codes_of}
@@ -29,14 +29,14 @@ use Rattle.definition_inline.specs.Spans.{Token, Item, Delimiters, with_spans}
 pub record InlineContext : Type 0 where
   pub options : ParseOptions
   pub names : Names
-  pub is_defined : List ℕ → Bool
-  pub is_footnote : List ℕ → Bool
+  pub is_defined : List Code → Bool
+  pub is_footnote : List Code → Bool
 
 -- ---- constructs that hold no other
 
 -- the construct that a content begins with, if it holds no other; two of them begin with one byte only where the first of them goes first: an escape and a
 -- break, an autolink and HTML
-abbrev pub leaf_at : InlineContext → List ℕ → Option Leaf
+abbrev pub leaf_at : InlineContext → List Code → Option Leaf
 leaf_at context content =
     or_else (escape_at context.options.constructs content)
     (or_else (escaped_break_at context.options.constructs content)
@@ -60,15 +60,15 @@ pub data LabelStart : Type 0 where
   ImageStart : LabelStart
 
 -- `![` starts an image (CommonMark 6.4), unless `!` stands before a call
-abbrev pub starts_image : Constructs → List ℕ → Bool
+abbrev pub starts_image : Constructs → List Code → Bool
 starts_image on content = on.label_start_image && begins_with (codes "![") content && not (starts_marked_call on content)
 
 -- `[` starts a link (CommonMark 6.3), and `[^` a call
-abbrev pub starts_link : Constructs → List ℕ → Bool
+abbrev pub starts_link : Constructs → List Code → Bool
 starts_link on content = (on.label_start_link && begins_with (codes "[") content) || starts_call on content
 
 -- what a content begins with, if it starts a label (CommonMark 6.3 and 6.4)
-abbrev pub label_start_at : Constructs → List ℕ → Option LabelStart
+abbrev pub label_start_at : Constructs → List Code → Option LabelStart
 label_start_at on content = if starts_image on content then Some ImageStart else (if starts_link on content then Some LinkStart else None)
 
 -- the bytes of a label start
@@ -118,7 +118,7 @@ text tokens holds_link = record { tokens = tokens; holds_link = holds_link }
 -- a label start that is open: what it starts, the codes of the content after it, and the text before it
 pub record OpenLabel : Type 0 where
   pub start : LabelStart
-  pub from : List ℕ
+  pub from : List Code
   pub outer : Text
 
 -- the text after the innermost label start that is open, and the open label starts, the innermost first
@@ -153,7 +153,7 @@ pub data Step : Type 0 where
   Next : ℕ → Reading → Step
 
 -- a byte of text
-abbrev pub data_step : ℕ → Reading → Step
+abbrev pub data_step : Code → Reading → Step
 data_step code r = Next 0 (read_tokens (Item (Data code) ∷ []) r)
 
 -- a `]` after the innermost label start that is open: that one is used up, and both are text where nothing is formed (CommonMark 6.3)
@@ -162,40 +162,40 @@ ended_step label others inner None = Next 0 (read_tokens (Item (Data right_brack
 ended_step label others inner (Some found) = Next (formed_size found) (reading (with_link_or_call label found inner) others)
 
 -- what the text between a label start and a `]` forms, given what follows that
-abbrev pub formed_at : InlineContext → LabelStart → List ℕ → List ℕ → Option LinkOrCall
+abbrev pub formed_at : InlineContext → LabelStart → List Code → List Code → Option LinkOrCall
 formed_at context LinkStart between rest =
     call_or_link context.options.constructs context.is_defined between rest (called_label context.options.constructs context.is_footnote between)
 formed_at context ImageStart between rest = link_or_image context.is_defined between rest
 
 -- what a `]` forms with a label start that is open (CommonMark 6.3)
-abbrev pub ended_by : InlineContext → List ℕ → OpenLabel → Text → Option LinkOrCall
+abbrev pub ended_by : InlineContext → List Code → OpenLabel → Text → Option LinkOrCall
 ended_by context content label inner =
     if may_form label.start inner.holds_link then formed_at context label.start (before label.from content) (drop 1 content) else None
 
 -- a `]`, where these label starts are open
-abbrev pub label_end_step : InlineContext → List ℕ → Text → List OpenLabel → Step
+abbrev pub label_end_step : InlineContext → List Code → Text → List OpenLabel → Step
 label_end_step context content inner [] = data_step right_bracket (reading inner [])
 label_end_step context content inner (label ∷ others) = ended_step label others inner (ended_by context content label inner)
 
 -- a place at which nothing starts: a `]`, or a byte of text
-abbrev pub last_step : InlineContext → ℕ → List ℕ → Reading → Step
+abbrev pub last_step : InlineContext → Code → List Code → Reading → Step
 last_step context code content r =
     if context.options.constructs.label_end && (code == right_bracket) then label_end_step context content r.now r.open_labels else data_step code r
 
 -- a label start, or another place
-abbrev pub label_step : InlineContext → ℕ → List ℕ → Reading → Option LabelStart → Step
+abbrev pub label_step : InlineContext → Code → List Code → Reading → Option LabelStart → Step
 label_step context code content r None = last_step context code content r
 label_step context code content r (Some start) =
     Next (start_more start)
     (reading (text [] false) (record { start = start; from = drop (1 + start_more start) content; outer = r.now } ∷ r.open_labels))
 
 -- a run, or another place
-abbrev pub run_step : InlineContext → ℕ → List ℕ → Reading → Option Run → Step
+abbrev pub run_step : InlineContext → Code → List Code → Reading → Option Run → Step
 run_step context code content r None = label_step context code content r (label_start_at context.options.constructs content)
 run_step context code content r (Some run) = Next (run.left - 1) (read_tokens (Delimiters run ∷ []) r)
 
 -- a construct that holds no other, or another place
-abbrev pub leaf_step : InlineContext → ℕ → List ℕ → Reading → Option Run → Option Leaf → Step
+abbrev pub leaf_step : InlineContext → Code → List Code → Reading → Option Run → Option Leaf → Step
 leaf_step context code content r run None = run_step context code content r run
 leaf_step context code content r run (Some found) = Next (found.size - 1) (read_tokens (map Item found.parts) r)
 

@@ -5,8 +5,8 @@ use Rattle.markdown_options.specs.declared.line_ending.LineEnding.{LineEnding}
 use Rattle.definition_text.specs.Ascii.{backslash, vertical_bar}
 use Rattle.definition_text.specs.BlockLines.{BlockLine, spaced_line}
 use Rattle.definition_text.specs.Lines.{ending_text}
-use Rattle.definition_inline.specs.Inline.{Inline, Data, Escape, Character, Code, Math, Autolink, Literal, Html, EscapedBreak, TrailingBreak, LineEnd, Emphasis}
-use Rattle.definition_inline.specs.Inline.{Strong, Strikethrough, Link, Image, Call, Inlines, Nil, Cons}
+use Rattle.definition_inline.specs.Inline.{Inline, Code, Math, Emphasis}
+use Rattle.definition_inline.specs.Inline.{Strong, Strikethrough, Link, Image, Inlines, Nil, Cons}
 use Rattle.definition_block.specs.declared.align_kind.AlignKind.{AlignKind}
 use Rattle.definition_block.specs.declared.align_kind.AlignKind.TheVariants as align
 use Rattle.definition_block.specs.GfmTable.{delimiters}
@@ -58,23 +58,14 @@ cell_code (c ∷ cs) = if escapes_bar c cs then cell_code cs else c ∷ cell_cod
 -- inline structure as it stands in a cell
 abbrev mutual
   pub part_in_cell : Inline → Inline
-  part_in_cell (Data b) = Data b
-  part_in_cell (Escape b) = Escape b
-  part_in_cell (Character text) = Character text
   part_in_cell (Code text) = Code (cell_code text)
   part_in_cell (Math text) = Math (cell_code text)
-  part_in_cell (Autolink is_email text) = Autolink is_email text
-  part_in_cell (Literal kind text) = Literal kind text
-  part_in_cell (Html html) = Html html
-  part_in_cell EscapedBreak = EscapedBreak
-  part_in_cell TrailingBreak = TrailingBreak
-  part_in_cell (LineEnd code) = LineEnd code
   part_in_cell (Emphasis kids) = Emphasis (in_cell kids)
   part_in_cell (Strong kids) = Strong (in_cell kids)
   part_in_cell (Strikethrough kids) = Strikethrough (in_cell kids)
   part_in_cell (Link target kids) = Link target (in_cell kids)
   part_in_cell (Image target kids) = Image target (in_cell kids)
-  part_in_cell (Call label) = Call label
+  part_in_cell i = i
 
   pub in_cell : Inlines → Inlines
   in_cell Nil = Nil

@@ -3,7 +3,7 @@ use Rattle.std.specs.Prelude.{ℕ, Bool, true, false, if◌then◌else◌, ◌||
 use Rattle.std.specs.List.{flat_map}
 use Rattle.markdown_options.specs.declared.configuration.Constructs.{Constructs}
 use Rattle.markdown_options.specs.declared.configuration.CompileOptions.{CompileOptions}
-use Rattle.definition_text.specs.Columns.{bytes_of, bare}
+use Rattle.definition_text.specs.Columns.{Code as ContentCode, bytes_of, bare}
 use Rattle.definition_text.specs.Content.{is_eol}
 use Rattle.definition_text.specs.Encode.{plain}
 use Rattle.definition_inline.specs.Inline.{Target, Resource, Reference, Linked, linked, LiteralKind, Www, Protocol, Email, Inline, Data, Escape, Character}
@@ -22,8 +22,8 @@ pub record Meaning : Type 0 where
   pub on : Constructs
   pub compile : CompileOptions
   pub names : List ℕ → Option (List ℕ)
-  pub definition : List ℕ → Option Linked
-  pub footnotes : List (List ℕ)
+  pub definition : List ContentCode → Option Linked
+  pub footnotes : List (List ContentCode)
 
 -- ---- raw HTML
 
@@ -33,22 +33,22 @@ raw_html options html = if options.allow_dangerous_html then AsItIs (filter_if o
 
 -- the lines of raw HTML by its codes, each with the code of its ending
 pub record HtmlLine : Type 0 where
-  pub line : List ℕ
-  pub ending : List ℕ
+  pub line : List ContentCode
+  pub ending : List ContentCode
 
-abbrev pub html_text_line : List ℕ → List ℕ → HtmlLine
+abbrev pub html_text_line : List ContentCode → List ContentCode → HtmlLine
 html_text_line line ending = record { line = line; ending = ending }
 
-abbrev pub in_first_line : ℕ → List HtmlLine → List HtmlLine
+abbrev pub in_first_line : ContentCode → List HtmlLine → List HtmlLine
 in_first_line code [] = html_text_line (code ∷ []) [] ∷ []
 in_first_line code (first ∷ others) = html_text_line (code ∷ first.line) first.ending ∷ others
 
-abbrev pub html_lines : List ℕ → List HtmlLine
+abbrev pub html_lines : List ContentCode → List HtmlLine
 html_lines [] = []
 html_lines (c ∷ cs) = if is_eol c then html_text_line [] (c ∷ []) ∷ html_lines cs else in_first_line c (html_lines cs)
 
 -- a line, and its ending as it is
-abbrev pub html_line_says : CompileOptions → List ℕ → List ℕ → List Said
+abbrev pub html_line_says : CompileOptions → List ContentCode → List ContentCode → List Said
 html_line_says options line ending = raw_html options (bytes_of line) ∷ map EndOfLine ending
 
 -- a later line, without the spaces and tabs at its start (CommonMark 6.6)
@@ -59,7 +59,7 @@ abbrev pub html_lines_say : CompileOptions → List HtmlLine → List Said
 html_lines_say options [] = []
 html_lines_say options (first ∷ others) = html_line_says options first.line first.ending ++ flat_map (later_line_says options) others
 
-abbrev pub html_says : CompileOptions → List ℕ → List Said
+abbrev pub html_says : CompileOptions → List ContentCode → List Said
 html_says options html = html_lines_say options (html_lines html)
 
 -- ---- links
@@ -75,7 +75,7 @@ abbrev pub image_url : CompileOptions → List ℕ → List ℕ
 image_url options url = permitted_url (options.allow_any_img_src || options.allow_dangerous_protocol) src_protocols url
 
 -- where a link or an image leads, by what the definition of a label leads to
-abbrev pub leads_to : (List ℕ → Option Linked) → Target → Linked
+abbrev pub leads_to : (List ContentCode → Option Linked) → Target → Linked
 leads_to definition (Resource destination title) = linked destination title
 leads_to definition (Reference label) = unwrap_or (definition label) (linked [] None)
 
@@ -159,23 +159,13 @@ count_at (Some place) label = CountOf place label ∷ []
 abbrev mutual
   -- the calls in what isn't printed, or without tags: they count
   pub part_counts : Meaning → Inline → List Piece
-  part_counts m (Data b) = []
-  part_counts m (Escape b) = []
-  part_counts m (Character text) = []
-  part_counts m (Code text) = []
-  part_counts m (Math text) = []
-  part_counts m (Autolink is_email text) = []
-  part_counts m (Literal kind text) = []
-  part_counts m (Html html) = []
-  part_counts m EscapedBreak = []
-  part_counts m TrailingBreak = []
-  part_counts m (LineEnd code) = []
   part_counts m (Emphasis kids) = inline_counts m kids
   part_counts m (Strong kids) = inline_counts m kids
   part_counts m (Strikethrough kids) = inline_counts m kids
   part_counts m (Link target kids) = inline_counts m kids
   part_counts m (Image target kids) = inline_counts m kids
   part_counts m (Call label) = count_at (first_match label m.footnotes) (normal_label label)
+  part_counts m i = []
 
   pub inline_counts : Meaning → Inlines → List Piece
   inline_counts m Nil = []

@@ -1,6 +1,7 @@
 -- A page: the blocks of a document with their inline structure, as it is printed.
 use Rattle.std.specs.Prelude.{ℕ, Bool, List, Option, None, Some}
 use Rattle.markdown_options.specs.declared.line_ending.LineEnding.{LineEnding}
+use Rattle.definition_text.specs.Columns.{Code}
 use Rattle.definition_text.specs.BlockLines.{BlockLine}
 use Rattle.definition_inline.specs.Definition as link
 use Rattle.definition_inline.specs.Inline.{Inlines}
@@ -23,7 +24,7 @@ mutual
     Quote : Blocks → Block
     ItemList : Option ℕ → Bool → Blocks → Block
     Item : Blocks → Block
-    Footnote : List ℕ → Blocks → Block
+    Footnote : List Code → Blocks → Block
     Ending : LineEnding → Block
     Blank : LineEnding → Block
 
@@ -36,7 +37,7 @@ mutual
 pub record Page : Type 0 where
   pub blocks : Blocks
   pub definitions : List link.Definition
-  pub footnotes : List (List ℕ)
+  pub footnotes : List (List Code)
   pub ends_blank : Bool
 
 -- an ending before these blocks, if there is one

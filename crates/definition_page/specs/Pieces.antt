@@ -36,10 +36,7 @@ print default out (Void t) = out ++ void_tag t
 print default out (Says said) = out ++ said_bytes said
 print default out Eol = out ++ default
 print default out Fresh = if is_fresh out then out else out ++ default
-print default out (CallOf place label) = out
-print default out (CountOf place label) = out
-print default out NoteStart = out
-print default out NoteEnd = out
+print default out piece = out
 
 -- pieces without footnotes, one after another
 abbrev pub layout : List ℕ → List Piece → List ℕ

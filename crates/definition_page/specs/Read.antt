@@ -4,7 +4,7 @@ use Rattle.markdown_options.specs.declared.configuration.ParseOptions.{ParseOpti
 use Rattle.definition_text.specs.declared.beside.Kind.{Kind}
 use Rattle.definition_text.specs.declared.beside.Kind.TheVariants.{Whitespace}
 use Rattle.definition_text.specs.BlockLines.{BlockLine, own_lines}
-use Rattle.definition_text.specs.Columns.{code_byte}
+use Rattle.definition_text.specs.Columns.{Code, code_byte}
 use Rattle.definition_text.specs.InlineCode.{InlineCode, codes_of, inline_content, with_kinds}
 use Rattle.definition_text.specs.Lines.{without_mark, kind_before_text}
 use Rattle.definition_inline.specs.Inline.{Inlines}
@@ -26,8 +26,8 @@ use Rattle.definition_page.specs.Page.{Page, cons_ending, cons_blank}
 pub record Reading : Type 0 where
   pub options : ParseOptions
   pub tables : TextTables
-  pub is_defined : List ℕ → Bool
-  pub is_footnote : List ℕ → Bool
+  pub is_defined : List Code → Bool
+  pub is_footnote : List Code → Bool
 
 abbrev pub reading : TextTables → ParseOptions → Targets → Reading
 reading tables options t =
@@ -112,9 +112,8 @@ after_code top is_closed bs = if top && not is_closed then without_ending bs els
 
 -- the number of an ordered item
 abbrev pub container_number : Container → Option ℕ
-container_number Quote = None
 container_number (Item item) = item.number
-container_number (Footnote label) = None
+container_number c = None
 
 -- the number of the first item of a list (CommonMark 5.3)
 abbrev pub list_number : tree.Blocks → Option ℕ

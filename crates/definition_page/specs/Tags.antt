@@ -2,6 +2,7 @@
 use Rattle.std.specs.Prelude.{ℕ, List, [], ◌∷◌, ◌++◌, codes}
 use Rattle.std.specs.List.{flat_map}
 use Rattle.std.specs.Fmt.{decimal}
+use Rattle.definition_text.specs.Columns.{Code}
 use Rattle.definition_text.specs.Encode.{encode, plain}
 use Rattle.definition_inline.specs.Strings.{eol_bytes}
 
@@ -9,7 +10,7 @@ use Rattle.definition_inline.specs.Strings.{eol_bytes}
 pub data Said : Type 0 where
   Words : List ℕ → Said
   AsItIs : List ℕ → Said
-  EndOfLine : ℕ → Said
+  EndOfLine : Code → Said
   Number : ℕ → Said
 
 abbrev pub said_bytes : Said → List ℕ

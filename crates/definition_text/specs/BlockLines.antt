@@ -1,20 +1,21 @@
 -- The lines of a block (CommonMark 3).
-use Rattle.std.specs.Prelude.{ℕ, List, [], ◌∷◌, Option, None}
+use Rattle.std.specs.Prelude.{List, [], ◌∷◌, Option, None}
 use Rattle.markdown_options.specs.declared.line_ending.LineEnding.{LineEnding}
+use Rattle.definition_text.specs.Columns.{Code}
 use Rattle.definition_text.specs.declared.beside.Kind.{Kind}
 use Rattle.definition_text.specs.declared.beside.Kind.TheVariants.{Whitespace}
 
 -- a line of a block: what it holds after the prefixes of containers, its ending, and the kind of the character before it in the text
 pub record BlockLine : Type 0 where
-  pub codes : List ℕ
+  pub codes : List Code
   pub ending : Option LineEnding
   pub before : Kind
 
-abbrev pub block_line : List ℕ → Option LineEnding → Kind → BlockLine
+abbrev pub block_line : List Code → Option LineEnding → Kind → BlockLine
 block_line codes ending before = record { codes = codes; ending = ending; before = before }
 
 -- a line after whitespace, or at the start of a text's line
-abbrev pub spaced_line : List ℕ → Option LineEnding → BlockLine
+abbrev pub spaced_line : List Code → Option LineEnding → BlockLine
 spaced_line codes ending = block_line codes ending Whitespace
 
 -- the ending of the last line, or this one where there is none

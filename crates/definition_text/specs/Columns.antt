@@ -3,13 +3,18 @@ use Rattle.std.specs.Prelude.{ℕ, ◌+◌, ◌-◌, ◌%◌, Bool, not, if◌th
 use Rattle.std.specs.List.{prefix_len, suffix_len, list_all, filter}
 use Rattle.definition_text.specs.Ascii.{tab, space}
 
--- A rest of a line is a list of codes, one for each column: a byte, or 256 for each column of a tab after its first. Where a prefix ends inside a tab, the rest
--- begins with the columns that are left of it.
+-- A code is a number that stands for a byte, for a column of a tab after its first (256), or, in a content, for a line ending (10, 13, and 257 for CR LF).
+-- Codes.antt has the three as a type. A byte is its own code, so what is asked of codes can be asked of bytes, too.
+abbrev pub Code : Type 0
+Code = ℕ
+
+-- A rest of a line is a list of codes, one for each column: its bytes, and 256 for each column of a tab after its first. Where a prefix ends inside a tab, the
+-- rest begins with the columns that are left of it.
 abbrev pub Rest : Type 0
-Rest = List ℕ
+Rest = List Code
 
 -- the code of a column of a tab after its first
-abbrev pub tab_column : ℕ
+abbrev pub tab_column : Code
 tab_column = 256
 
 -- how many columns a tab at this column has after its first, where tab stops are 4 columns apart and the first column is 0
@@ -28,7 +33,7 @@ abbrev pub whole : List ℕ → Rest
 whole content = codes_from 0 content
 
 -- a space, a tab, or a column of a tab
-abbrev pub is_white : ℕ → Bool
+abbrev pub is_white : Code → Bool
 is_white code = (code == space) || (code == tab) || (code == tab_column)
 
 -- only spaces and tabs
@@ -43,10 +48,11 @@ indent rest = prefix_len is_white rest
 abbrev pub bare : Rest → Rest
 bare rest = drop (indent rest) rest
 
-abbrev pub is_tab_column : ℕ → Bool
+abbrev pub is_tab_column : Code → Bool
 is_tab_column code = code == tab_column
 
-abbrev pub is_byte : ℕ → Bool
+-- a code of a rest that is a byte: no line ending is a code of a rest
+abbrev pub is_byte : Code → Bool
 is_byte code = not (is_tab_column code)
 
 -- the bytes of a rest
@@ -54,14 +60,14 @@ abbrev pub bytes_of : Rest → List ℕ
 bytes_of rest = filter is_byte rest
 
 -- a column that is left of a tab as a byte: a space
-abbrev pub code_byte : ℕ → ℕ
+abbrev pub code_byte : Code → ℕ
 code_byte code = if is_tab_column code then space else code
 
 -- a rest as it stands in a block: the columns left of a tab that a prefix ended in, and the bytes
-abbrev pub block_codes : Rest → List ℕ
+abbrev pub block_codes : Rest → List Code
 block_codes rest = take (prefix_len is_tab_column rest) rest ++ bytes_of rest
 
--- without the spaces and tabs at both ends
+-- bytes or codes without the spaces and tabs at both ends
 abbrev pub trim : List ℕ → List ℕ
 trim text =
     let rest = drop (prefix_len is_white text) text in

@@ -7,4 +7,5 @@ pub mod Runs
 pub mod Encode
 pub mod Bytes
 pub mod Content
+pub mod Codes
 pub mod InlineCode

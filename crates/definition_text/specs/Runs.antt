@@ -1,4 +1,4 @@
--- Runs of one byte at the front of a text.
+-- Runs of one byte at the front of a text, which is of bytes or codes.
 use Rattle.std.specs.Prelude.{ℕ, Bool, ◌==◌, ◌&&◌, leb, List, drop}
 use Rattle.std.specs.List.{prefix_len, list_all}
 use Rattle.definition_text.specs.Columns.{is_white}

@@ -9,3 +9,4 @@ pub mod EscapedString
 pub mod NestedLinks
 pub mod Matching
 pub mod References
+pub mod LabelPairs

@@ -5,3 +5,4 @@ pub mod Escaped
 pub mod NestedLinks
 pub mod Matching
 pub mod References
+pub mod LabelPairs

@@ -1,4 +1,5 @@
 //! Labels and references.
+ghost use Rattle.laws_inline.specs.LabelPairs.{ScanReads};
 ghost use Rattle.laws_inline.specs.Matching.{LabelsMatch, NoLabelMatches, FirstLabelMatches};
 ghost use Rattle.laws_inline.specs.References.{ReferencesAreDefined};
 
@@ -23,4 +24,10 @@ pub fn first_match_law()
 #[tactic(auto, using(crate::proofs::References::references_are_defined))]
 pub fn references_law()
     ensures { ReferencesAreDefined }
+{}
+
+/// Each label start goes together with the `]` that matches it as parentheses do, and forms what the text between and what follows say (CommonMark 6.3).
+#[tactic(auto, using(crate::proofs::LabelPairs::scan_reads_by_pairs))]
+pub fn label_pairs_law()
+    ensures { ScanReads }
 {}

@@ -3,22 +3,30 @@ use crate::examples::examples;
 use markdown::RunError;
 
 const EXAMPLES: [(&str, &str); 8] = [
+    // 219
     ("aaa\n\nbbb\n", "<p>aaa</p>\n<p>bbb</p>\n"),
+    // 220
     (
         "aaa\nbbb\n\nccc\nddd\n",
         "<p>aaa\nbbb</p>\n<p>ccc\nddd</p>\n",
     ),
+    // 221
     ("aaa\n\n\nbbb\n", "<p>aaa</p>\n<p>bbb</p>\n"),
+    // 222
     ("  aaa\n bbb\n", "<p>aaa\nbbb</p>\n"),
+    // 223
     (
         "aaa\n             bbb\n                                       ccc\n",
         "<p>aaa\nbbb\nccc</p>\n",
     ),
+    // 224
     ("   aaa\nbbb\n", "<p>aaa\nbbb</p>\n"),
+    // 225
     (
         "    aaa\nbbb\n",
         "<pre><code>aaa\n</code></pre>\n<p>bbb</p>\n",
     ),
+    // 226
     ("aaa     \nbbb     \n", "<p>aaa<br />\nbbb</p>\n"),
 ];
 

@@ -3,7 +3,9 @@ use crate::examples::examples;
 use markdown::RunError;
 
 const EXAMPLES: [(&str, &str); 2] = [
+    // 648
     ("foo\nbaz\n", "<p>foo\nbaz</p>\n"),
+    // 649
     ("foo \n baz\n", "<p>foo\nbaz</p>\n"),
 ];
 

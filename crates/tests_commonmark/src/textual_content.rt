@@ -3,8 +3,11 @@ use crate::examples::examples;
 use markdown::RunError;
 
 const EXAMPLES: [(&str, &str); 3] = [
+    // 650
     ("hello $.;'there\n", "<p>hello $.;'there</p>\n"),
+    // 651
     ("Foo χρῆν\n", "<p>Foo χρῆν</p>\n"),
+    // 652
     ("Multiple     spaces\n", "<p>Multiple     spaces</p>\n"),
 ];
 
