@@ -19,7 +19,7 @@ pub fn around<M, T, A: Allocator>(
     ensures open_events { OnOk result (open_after [] tokenizer.new.events.items ≡ open_after [] tokenizer.old.events.items) }
     ensures parse_state { tokenizer.new.parse_state ≡ tokenizer.old.parse_state }
     ensures skips { tokenizer.new.skips ≡ tokenizer.old.skips }
-    ensures memory { IfErr result (λ message. IsOutOfMemory message) }
+    ensures memory { IfErr result IsOutOfMemory }
 {
     tokenizer.enter(name)?;
     tokenizer.consume();
@@ -35,7 +35,7 @@ pub fn begin<M, T, A: Allocator>(
     ensures open_events { OnOk result (open_after [] tokenizer.new.events.items ≡ name ∷ open_after [] tokenizer.old.events.items) }
     ensures parse_state { tokenizer.new.parse_state ≡ tokenizer.old.parse_state }
     ensures skips { tokenizer.new.skips ≡ tokenizer.old.skips }
-    ensures memory { IfErr result (λ message. IsOutOfMemory message) }
+    ensures memory { IfErr result IsOutOfMemory }
 {
     tokenizer.enter(name)
 }
@@ -51,7 +51,7 @@ pub fn leave<M, T, A: Allocator>(
     ensures kept { OnOk result (kept_state tokenizer.new.tokenize_state ≡ kept_state tokenizer.old.tokenize_state) }
     ensures parse_state { tokenizer.new.parse_state ≡ tokenizer.old.parse_state }
     ensures skips { tokenizer.new.skips ≡ tokenizer.old.skips }
-    ensures memory { IfErr result (λ message. IsOutOfMemory message) }
+    ensures memory { IfErr result IsOutOfMemory }
 {
     tokenizer.exit(name)
 }

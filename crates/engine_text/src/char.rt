@@ -72,7 +72,7 @@ pub fn classify_opt<T: Tables>(character: Option<char>, tables: &T) -> Kind
 /// Shows a character by its code, and by itself if it can be seen, as `` `a` (U+0061) ``.
 pub fn format<A: Allocator>(alloc: A, character: char) -> Result<String<A>, Message>
     ensures text { IfOk result (λ text. string_bytes text ≡ character_text character) }
-    ensures memory { IfErr result (λ message. IsOutOfMemory message) }
+    ensures memory { IfErr result IsOutOfMemory }
 {
     Ok(character_text(alloc, character as u32)?)
 }
@@ -80,7 +80,7 @@ pub fn format<A: Allocator>(alloc: A, character: char) -> Result<String<A>, Mess
 /// Shows a character, or `end of file`.
 pub fn format_opt<A: Allocator>(alloc: A, character: Option<char>) -> Result<String<A>, Message>
     ensures text { IfOk result (λ text. string_bytes text ≡ text_or_end character) }
-    ensures memory { IfErr result (λ message. IsOutOfMemory message) }
+    ensures memory { IfErr result IsOutOfMemory }
 {
     match character {
         Some(character) => format(alloc, character),
@@ -91,7 +91,7 @@ pub fn format_opt<A: Allocator>(alloc: A, character: Option<char>) -> Result<Str
 /// Shows a byte as the character of that code.
 pub fn format_byte<A: Allocator>(alloc: A, byte: u8) -> Result<String<A>, Message>
     ensures text { IfOk result (λ text. string_bytes text ≡ character_text byte) }
-    ensures memory { IfErr result (λ message. IsOutOfMemory message) }
+    ensures memory { IfErr result IsOutOfMemory }
 {
     Ok(character_text(alloc, u32::from(byte))?)
 }
@@ -99,7 +99,7 @@ pub fn format_byte<A: Allocator>(alloc: A, byte: u8) -> Result<String<A>, Messag
 /// Shows a byte, or `end of file`.
 pub fn format_byte_opt<A: Allocator>(alloc: A, byte: Option<u8>) -> Result<String<A>, Message>
     ensures text { IfOk result (λ text. string_bytes text ≡ text_or_end byte) }
-    ensures memory { IfErr result (λ message. IsOutOfMemory message) }
+    ensures memory { IfErr result IsOutOfMemory }
 {
     match byte {
         Some(byte) => format_byte(alloc, byte),

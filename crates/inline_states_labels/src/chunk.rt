@@ -46,7 +46,7 @@ pub fn enter_chunk<M, T, A: Allocator>(
     ensures became { OnOk result (Became (with_enter name (chunk_link (config tokenizer.old)) (config tokenizer.old)) tokenizer.old tokenizer.new) }
     ensures parse_state { tokenizer.new.parse_state ≡ tokenizer.old.parse_state }
     ensures skips { tokenizer.new.skips ≡ tokenizer.old.skips }
-    ensures memory { IfErr result (λ message. IsOutOfMemory message) }
+    ensures memory { IfErr result IsOutOfMemory }
 {
     let link = link_after(&tokenizer.events);
     tokenizer.enter_link(name, link)
@@ -60,7 +60,7 @@ pub fn enter_part<M, T, A: Allocator>(
     ensures became { OnOk result (Became (with_enter name (part_link (config tokenizer.old)) (config tokenizer.old)) tokenizer.old tokenizer.new) }
     ensures parse_state { tokenizer.new.parse_state ≡ tokenizer.old.parse_state }
     ensures skips { tokenizer.new.skips ≡ tokenizer.old.skips }
-    ensures memory { IfErr result (λ message. IsOutOfMemory message) }
+    ensures memory { IfErr result IsOutOfMemory }
 {
     if tokenizer.tokenize_state.connect {
         return enter_chunk(tokenizer, name);
@@ -76,7 +76,7 @@ pub fn around_part<M, T, A: Allocator>(
     ensures became { OnOk result (Became (with_part name (config tokenizer.old)) tokenizer.old tokenizer.new) }
     ensures parse_state { tokenizer.new.parse_state ≡ tokenizer.old.parse_state }
     ensures skips { tokenizer.new.skips ≡ tokenizer.old.skips }
-    ensures memory { IfErr result (λ message. IsOutOfMemory message) }
+    ensures memory { IfErr result IsOutOfMemory }
 {
     enter_part(tokenizer, name)?;
     tokenizer.consume();

@@ -26,7 +26,7 @@ pub fn resolve_data<M, T, A: Allocator + Clone>(
 ) -> Result<(), Message>
     ensures became { OnOk result (config tokenizer.new ≡ resolve_data (config tokenizer.old)) }
     ensures parse_state { tokenizer.new.parse_state ≡ tokenizer.old.parse_state }
-    ensures memory { IfErr result (λ message. IsOutOfMemory message) }
+    ensures memory { IfErr result IsOutOfMemory }
 {
     let edits = data_edits(tokenizer.events.allocator().clone()?, &tokenizer.events)?;
     make(tokenizer, edits)
@@ -38,7 +38,7 @@ pub fn resolve_label<M, T, A: Allocator + Clone>(
 ) -> Result<(), Message>
     ensures became { OnOk result (config tokenizer.new ≡ resolve_label (config tokenizer.old)) }
     ensures parse_state { tokenizer.new.parse_state ≡ tokenizer.old.parse_state }
-    ensures memory { IfErr result (λ message. IsOutOfMemory message) }
+    ensures memory { IfErr result IsOutOfMemory }
 {
     let alloc = tokenizer.events.allocator().clone()?;
     let edits = label_edits(&alloc, &tokenizer.events, &tokenizer.tokenize_state)?;
@@ -52,7 +52,7 @@ pub fn resolve_attention<M, T: Tables, A: Allocator + Clone>(
     ensures became { OnOk result (config tokenizer.new
         ≡ resolve_attention (T.punctuation_of (read_with tokenizer.old).tables) (read_with tokenizer.old) (config tokenizer.old)) }
     ensures parse_state { tokenizer.new.parse_state ≡ tokenizer.old.parse_state }
-    ensures memory { IfErr result (λ message. IsOutOfMemory message) }
+    ensures memory { IfErr result IsOutOfMemory }
 {
     let alloc = tokenizer.events.allocator().clone()?;
     let edits = attention_edits(&alloc, tokenizer.parse_state, &tokenizer.events)?;
@@ -65,7 +65,7 @@ fn name_spans<M, T, A: Allocator + Clone>(
 ) -> Result<(), Message>
     ensures became { OnOk result (config tokenizer.new ≡ name_spans (config tokenizer.old)) }
     ensures parse_state { tokenizer.new.parse_state ≡ tokenizer.old.parse_state }
-    ensures memory { IfErr result (λ message. IsOutOfMemory message) }
+    ensures memory { IfErr result IsOutOfMemory }
 {
     let alloc = tokenizer.events.allocator().clone()?;
     let edits = span_edits(&alloc, &tokenizer.events)?;
@@ -79,7 +79,7 @@ fn name_emails<M, T: Tables, A: Allocator + Clone>(
     ensures became { let kept = read_with tokenizer.old in
         OnOk result (config tokenizer.new ≡ name_emails (T.punctuation_of kept.tables) kept (config tokenizer.old)) }
     ensures parse_state { tokenizer.new.parse_state ≡ tokenizer.old.parse_state }
-    ensures memory { IfErr result (λ message. IsOutOfMemory message) }
+    ensures memory { IfErr result IsOutOfMemory }
 {
     let alloc = tokenizer.events.allocator().clone()?;
     let edits = email_edits(&alloc, tokenizer.parse_state.bytes, &tokenizer.events)?;
@@ -93,7 +93,7 @@ fn name_text<M, T: Tables, A: Allocator + Clone>(
     ensures became { let kept = read_with tokenizer.old in
         OnOk result (config tokenizer.new ≡ name_text (T.punctuation_of kept.tables) kept (config tokenizer.old)) }
     ensures parse_state { tokenizer.new.parse_state ≡ tokenizer.old.parse_state }
-    ensures memory { IfErr result (λ message. IsOutOfMemory message) }
+    ensures memory { IfErr result IsOutOfMemory }
 {
     name_emails(tokenizer)?;
     name_spans(tokenizer)
@@ -106,7 +106,7 @@ fn trim_text<M, T: Tables, A: Allocator + Clone>(
     ensures became { let kept = read_with tokenizer.old in
         OnOk result (config tokenizer.new ≡ trim_text (T.punctuation_of kept.tables) kept (config tokenizer.old)) }
     ensures parse_state { tokenizer.new.parse_state ≡ tokenizer.old.parse_state }
-    ensures memory { IfErr result (λ message. IsOutOfMemory message) }
+    ensures memory { IfErr result IsOutOfMemory }
 {
     let trimming = Trimming {
         in_text: true,
@@ -125,7 +125,7 @@ fn link_text<M, T: Tables, A: Allocator + Clone>(
     ensures became { let kept = read_with tokenizer.old in
         OnOk result (config tokenizer.new ≡ link_text (T.punctuation_of kept.tables) kept (config tokenizer.old)) }
     ensures parse_state { tokenizer.new.parse_state ≡ tokenizer.old.parse_state }
-    ensures memory { IfErr result (λ message. IsOutOfMemory message) }
+    ensures memory { IfErr result IsOutOfMemory }
 {
     if !tokenizer
         .parse_state
@@ -156,7 +156,7 @@ pub fn resolve_text<M, T: Tables, A: Allocator + Clone>(
     ensures became { let kept = read_with tokenizer.old in
         OnOk result (config tokenizer.new ≡ resolve_text (T.punctuation_of kept.tables) kept (config tokenizer.old)) }
     ensures parse_state { tokenizer.new.parse_state ≡ tokenizer.old.parse_state }
-    ensures memory { IfErr result (λ message. IsOutOfMemory message) }
+    ensures memory { IfErr result IsOutOfMemory }
 {
     name_text(tokenizer)?;
     trim_text(tokenizer)?;
@@ -172,7 +172,7 @@ fn trim_string<M, T: Tables, A: Allocator + Clone>(
     ensures became { let kept = read_with tokenizer.old in
         OnOk result (config tokenizer.new ≡ trim_string (T.punctuation_of kept.tables) kept (config tokenizer.old)) }
     ensures parse_state { tokenizer.new.parse_state ≡ tokenizer.old.parse_state }
-    ensures memory { IfErr result (λ message. IsOutOfMemory message) }
+    ensures memory { IfErr result IsOutOfMemory }
 {
     let trimming = Trimming {
         in_text: false,
@@ -191,7 +191,7 @@ pub fn resolve_string<M, T: Tables, A: Allocator + Clone>(
     ensures became { let kept = read_with tokenizer.old in
         OnOk result (config tokenizer.new ≡ resolve_string (T.punctuation_of kept.tables) kept (config tokenizer.old)) }
     ensures parse_state { tokenizer.new.parse_state ≡ tokenizer.old.parse_state }
-    ensures memory { IfErr result (λ message. IsOutOfMemory message) }
+    ensures memory { IfErr result IsOutOfMemory }
 {
     trim_string(tokenizer)?;
     join_chunks(tokenizer);
@@ -207,7 +207,7 @@ pub fn resolve<M, T: Tables, A: Allocator + Clone>(
     ensures config { OnOk result (config tokenizer.new
         ≡ (inline_resolved (T.punctuation_of (read_with tokenizer.old).tables) (read_with tokenizer.old) (config tokenizer.old) name).config) }
     ensures parse_state { tokenizer.new.parse_state ≡ tokenizer.old.parse_state }
-    ensures memory { IfErr result (λ message. IsOutOfMemory message) }
+    ensures memory { IfErr result IsOutOfMemory }
 {
     match name {
         Name::Data => resolve_data(tokenizer),

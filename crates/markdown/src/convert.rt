@@ -44,7 +44,7 @@ pub fn to_html<A: Allocator + Clone>(alloc: A, value: &str) -> Result<String<A>,
     ensures escaped { IfOk result (λ page. SaysEscapedLine default_options value.now (string_bytes page)) }
     ensures endings { IfOk result (λ page. EndsPage builtin_tables default_options value.now (string_bytes page)) }
     ensures lists { IfOk result (λ page. ListsPage builtin_tables default_options value.now (string_bytes page)) }
-    ensures memory { IfErr result (λ message. IsOutOfMemory message) }
+    ensures memory { IfErr result IsOutOfMemory }
 {
     to_html_with_options(alloc, value, &Options::default())
 }
@@ -70,7 +70,7 @@ pub fn to_html_with_options<A: Allocator + Clone>(
     ensures escaped { IfOk result (λ page. SaysEscapedLine options.now value.now (string_bytes page)) }
     ensures endings { IfOk result (λ page. EndsPage builtin_tables options.now value.now (string_bytes page)) }
     ensures lists { IfOk result (λ page. ListsPage builtin_tables options.now value.now (string_bytes page)) }
-    ensures memory { IfErr result (λ message. IsOutOfMemory message) }
+    ensures memory { IfErr result IsOutOfMemory }
 {
     to_html_with_tables(alloc, value, options, &Builtin)
 }
@@ -101,7 +101,7 @@ pub fn to_html_with_tables<T: Tables, A: Allocator + Clone>(
         EndsPage (text_tables (T.reference_of tables.now) (T.punctuation_of tables.now)) options.now value.now (string_bytes page)) }
     ensures lists { IfOk result (λ page.
         ListsPage (text_tables (T.reference_of tables.now) (T.punctuation_of tables.now)) options.now value.now (string_bytes page)) }
-    ensures memory { IfErr result (λ message. IsOutOfMemory message) }
+    ensures memory { IfErr result IsOutOfMemory }
 {
     let (before, text) = without_mark(value);
     let page = print(alloc, before, text, options, tables)?;
