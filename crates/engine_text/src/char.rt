@@ -2,20 +2,14 @@
 ghost use Rattle.std.specs.Prelude.{◌≡◌, ◌<◌, ◌^◌, ◌++◌, [], ◌∷◌, take, drop, slice_get, IsUtf8, IfErr, IfOk, OnOk, string_bytes};
 ghost use Rattle.std.specs.Str.{IsCharBoundary, chars};
 ghost use Rattle.markdown_options.specs.Messages.{IsOutOfMemory};
-ghost use Rattle.engine_text.specs.Characters.{IsLast, kind_of, kind_of_any};
+ghost use Rattle.definition_text.specs.InlineCode.{character_kind};
+ghost use Rattle.engine_text.specs.Characters.{IsLast, kind_of_any};
 ghost use Rattle.engine_text.specs.CharacterTexts.{hex_digit, code_text, character_text, text_or_end};
 
 use markdown_options::{Message, Tables};
 use std::alloc::{AllocError, Allocator};
 
-/// What a character is to the runs of emphasis beside it (CommonMark 6.2).
-#[derive(Clone, Copy, Debug, PartialEq, Eq)]
-pub enum Kind {
-    /// White space, or no character.
-    Whitespace,
-    Punctuation,
-    Other,
-}
+pub use definition_text::Kind;
 
 /// The character that ends at an index.
 pub fn before_index(bytes: &[u8], index: usize) -> Option<char>
@@ -48,7 +42,7 @@ pub fn kind_after_index<T: Tables>(bytes: &[u8], index: usize, tables: &T) -> Ki
 
 /// The kind of a character (CommonMark 2.1).
 pub fn classify<T: Tables>(character: char, tables: &T) -> Kind
-    ensures { result ≡ kind_of (T.punctuation_of tables.now) character }
+    ensures { result ≡ character_kind (T.punctuation_of tables.now) character }
 {
     if character.is_whitespace() {
         Kind::Whitespace

@@ -20,7 +20,7 @@ ghost use Rattle.inline_runs.specs.Paired.{IsPaired};
 ghost use Rattle.inline_runs.specs.View.{pair_view, pairs_view, run_view, runs_view};
 ghost use Rattle.engine_edits.specs.Edits.{edits_of, with_edit};
 ghost use Rattle.markdown_engine.specs.Context.{context};
-ghost use Rattle.inline_states_resolvers.specs.Attention.{attention_edits, beside, run_of_enter, is_event, last_of, place_later, names_of, run_edit};
+ghost use Rattle.inline_states_resolvers.specs.Attention.{attention_edits, run_of_enter, is_event, last_of, place_later, names_of, run_edit};
 ghost use Rattle.inline_states_resolvers.specs.Attention.{empty_search, run_edits, run_from, replace_run, search_to, span_end, span_start, tell_after};
 ghost use Rattle.inline_states_resolvers.specs.Attention.{with_data, with_end_of, with_event, with_run, with_start_of};
 ghost use Rattle.inline_states_resolvers.specs.Attention.{with_index, with_text_end, with_text_start};
@@ -28,27 +28,15 @@ ghost use Rattle.inline_states_resolvers.specs.Each.{enter_event, exit_event, pl
 ghost use Rattle.inline_states_resolvers.specs.Views.{search_view, run_events_view};
 
 use crate::label_end::{later, place_at};
-use definition_text::Kind as Beside;
 use engine_edits::EditMap;
 use engine_text::bytes::{code_after, code_before};
-use engine_text::char::{Kind as EngineKind, classify_opt};
+use engine_text::char::classify_opt;
 use inline_runs::{Pair, Pairing, Run, RunSpans, bytes_by, pair_runs, run_between};
 use markdown_engine::event::{Event, Kind, Name};
 use markdown_engine::place::Point;
 use markdown_engine::{Message, ParseState};
 use markdown_options::Tables;
 use std::alloc::{AllocError, Allocator};
-
-/// The kind of a character beside a run; no character counts as white space.
-fn beside<T: Tables>(tables: &T, code: Option<char>) -> Beside
-    ensures { result ≡ beside (T.punctuation_of tables.now) code }
-{
-    match classify_opt(code, tables) {
-        EngineKind::Whitespace => Beside::Whitespace,
-        EngineKind::Punctuation => Beside::Punctuation,
-        EngineKind::Other => Beside::Other,
-    }
-}
 
 /// A byte of a text, or 0 past its end.
 fn byte_at(bytes: &[u8], index: usize) -> u8
@@ -69,8 +57,8 @@ fn run_from<T: Tables, A: Allocator>(
     ensures { run_view result
         ≡ run_from parse_state.now.options.now (T.punctuation_of parse_state.now.tables.now) parse_state.now.bytes.now from to }
 {
-    let before = beside(parse_state.tables, code_before(parse_state.bytes, from));
-    let after = beside(parse_state.tables, code_after(parse_state.bytes, to));
+    let before = classify_opt(code_before(parse_state.bytes, from), parse_state.tables);
+    let after = classify_opt(code_after(parse_state.bytes, to), parse_state.tables);
     let marker = byte_at(parse_state.bytes, from);
     run_between(
         parse_state.options,
