@@ -1,7 +1,7 @@
 //! Chunks of strings: data, white space and line endings that are read together later.
 ghost use Rattle.std.specs.Prelude.{◌≡◌, [], OnOk, IfErr, Some};
 ghost use Rattle.markdown_options.specs.Messages.{IsOutOfMemory};
-ghost use Rattle.markdown_engine.specs.Machine.{Became, config, with_enter};
+ghost use Rattle.markdown_engine.specs.Machine.{Became, config, with_enter, KeepsParseState};
 ghost use Rattle.inline_states_labels.specs.Chunk.{link_after, chunk_link, part_link, with_part};
 
 use markdown_engine::Message;
@@ -44,7 +44,7 @@ pub fn enter_chunk<M, T, A: Allocator>(
     name: Name,
 ) -> Result<(), Message>
     ensures became { OnOk result (Became (with_enter name (chunk_link (config tokenizer.old)) (config tokenizer.old)) tokenizer.old tokenizer.new) }
-    ensures parse_state { tokenizer.new.parse_state ≡ tokenizer.old.parse_state }
+    ensures parse_state { KeepsParseState tokenizer.old tokenizer.new }
     ensures skips { tokenizer.new.skips ≡ tokenizer.old.skips }
     ensures memory { IfErr result IsOutOfMemory }
 {
@@ -58,7 +58,7 @@ pub fn enter_part<M, T, A: Allocator>(
     name: Name,
 ) -> Result<(), Message>
     ensures became { OnOk result (Became (with_enter name (part_link (config tokenizer.old)) (config tokenizer.old)) tokenizer.old tokenizer.new) }
-    ensures parse_state { tokenizer.new.parse_state ≡ tokenizer.old.parse_state }
+    ensures parse_state { KeepsParseState tokenizer.old tokenizer.new }
     ensures skips { tokenizer.new.skips ≡ tokenizer.old.skips }
     ensures memory { IfErr result IsOutOfMemory }
 {
@@ -74,7 +74,7 @@ pub fn around_part<M, T, A: Allocator>(
     name: Name,
 ) -> Result<(), Message>
     ensures became { OnOk result (Became (with_part name (config tokenizer.old)) tokenizer.old tokenizer.new) }
-    ensures parse_state { tokenizer.new.parse_state ≡ tokenizer.old.parse_state }
+    ensures parse_state { KeepsParseState tokenizer.old tokenizer.new }
     ensures skips { tokenizer.new.skips ≡ tokenizer.old.skips }
     ensures memory { IfErr result IsOutOfMemory }
 {

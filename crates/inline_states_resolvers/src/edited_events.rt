@@ -2,7 +2,7 @@
 ghost use Rattle.std.specs.Prelude.{◌≡◌, OnOk, IfErr, IfOk, length, true};
 ghost use Rattle.markdown_options.specs.Messages.{IsOutOfMemory};
 ghost use Rattle.engine_edits.specs.Edits.{edits_of};
-ghost use Rattle.markdown_engine.specs.Machine.{Became, config};
+ghost use Rattle.markdown_engine.specs.Machine.{Became, config, KeepsParseState};
 ghost use Rattle.inline_states_resolvers.specs.EditedEvents.{edited_events, is_ordered, with_edited_events};
 ghost use Rattle.engine_edits.specs.Replacement.{IsOrdered};
 
@@ -74,7 +74,7 @@ pub fn make<M, T, A: Allocator + Clone>(
     edits: EditMap<A>,
 ) -> Result<(), Message>
     ensures became { OnOk result (Became (with_edited_events (edits_of edits) (config tokenizer.old)) tokenizer.old tokenizer.new) }
-    ensures parse_state { tokenizer.new.parse_state ≡ tokenizer.old.parse_state }
+    ensures parse_state { KeepsParseState tokenizer.old tokenizer.new }
     ensures memory { IfErr result IsOutOfMemory }
 {
     tokenizer.events = edited_events(edits, tokenizer.point, &tokenizer.events)?;

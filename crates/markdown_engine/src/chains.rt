@@ -13,7 +13,7 @@ ghost use Rattle.markdown_engine.specs.Chains.{SubtokenizesIn, after_chunk, chai
 ghost use Rattle.markdown_engine.specs.Chains.{starts_line, with_chunks};
 ghost use Rattle.markdown_engine.specs.Context.{context};
 ghost use Rattle.markdown_engine.specs.Evaluation.{AreReadingOf};
-ghost use Rattle.markdown_engine.specs.Machine.{bytes_of, config, fresh_config, source};
+ghost use Rattle.markdown_engine.specs.Machine.{bytes_of, config, fresh_config, source, KeepsParseState};
 ghost use Rattle.markdown_engine.specs.Resolving.{found_in, nothing_found};
 ghost use Rattle.markdown_engine.specs.Standing.{LinksLeadIn};
 ghost use Rattle.markdown_engine.specs.Together.{StaysBalanced};
@@ -85,7 +85,7 @@ fn skip_before<'a, M, T, A: Allocator + Clone>(
     ensures config { config tokenizer.new ≡ config tokenizer.old }
     ensures attempts { tokenizer.new.attempts ≡ tokenizer.old.attempts }
     ensures failed { tokenizer.new.failed ≡ tokenizer.old.failed }
-    ensures parse_state { tokenizer.new.parse_state ≡ tokenizer.old.parse_state }
+    ensures parse_state { KeepsParseState tokenizer.old tokenizer.new }
     ensures memory { IfErr result IsOutOfMemory }
 {
     if starts_line(tokenizer.parse_state.bytes, end, start) {

@@ -5,7 +5,7 @@ ghost use Rattle.engine_events.specs.declared.state.State.TheVariants as states;
 ghost use Rattle.markdown_engine.specs.Reading.{Steps, mark, restore, continuation, with_byte};
 ghost use Rattle.std.specs.BTreeMap.{insert_entry};
 ghost use Rattle.markdown_engine.specs.Machine.{Around, Became, Began, HasEnded, HasFlushed, HasPushed, HasReached, IsRefused, SameText, Shows, frame_at};
-ghost use Rattle.markdown_engine.specs.Machine.{bytes_of, config, past_byte, with_enter, with_exit, read_with, view_config, source};
+ghost use Rattle.markdown_engine.specs.Machine.{bytes_of, config, past_byte, with_enter, with_exit, read_with, view_config, source, KeepsParseState};
 ghost use Rattle.markdown_engine.specs.Machine.{to_run_first, to_run_last};
 ghost use Rattle.markdown_engine.specs.Resolvers.{AreOnce, is_registered};
 ghost use Rattle.markdown_engine.specs.VirtualText.{is_before, line_start};
@@ -173,7 +173,7 @@ impl<'a, M, T, A: Allocator + Clone> Tokenizer<'a, M, T, A> {
         ensures err { OnErr result (self.new.skips.entries ≡ self.old.skips.entries) }
         ensures config { config self.new ≡ config self.old }
         ensures attempts { self.new.attempts ≡ self.old.attempts }
-        ensures parse_state { self.new.parse_state ≡ self.old.parse_state }
+        ensures parse_state { KeepsParseState self.old self.new }
         ensures failed { self.new.failed ≡ self.old.failed }
         ensures memory { IfErr result IsOutOfMemory }
     {
