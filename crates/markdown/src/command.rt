@@ -2,7 +2,7 @@
 ghost use Rattle.std.specs.Prelude.{◌≡◌, ◌≤◌, ◌⊎◌, ◌==◌, ℕ, List, [], IfOk, IfErr, OnOk, is_ok};
 ghost use Rattle.std.specs.Prelude.{map, option_map, string_bytes, true, false, None};
 ghost use Rattle.std.specs.Io.KnownBytes.{Keeps};
-ghost use Rattle.markdown_options.specs.Mdx.{has_mdx};
+ghost use Rattle.markdown_options.specs.Mdx.{HasNoMdx};
 ghost use Rattle.markdown_definition.specs.TextTables.{text_tables};
 ghost use Rattle.markdown_definition.specs.Html.{html};
 ghost use Rattle.markdown_tables.specs.Rows.{names_of};
@@ -97,7 +97,7 @@ fn page<R: Read, W: Write>(
 ) -> Result<(), Fault>
     requires reader { has_failed reader.old ≡ false }
     requires writer { has_failed writer.old ≡ false }
-    requires without_mdx { has_mdx settings.now.options.parse.constructs ≡ false }
+    requires without_mdx { HasNoMdx settings.now.options }
     ensures page { EndsBy (option_map string_bytes settings.now.references) settings.now.options
         R.remaining W.contents reader.old reader.new writer.old writer.new (is_ok result) }
     ensures status { IfErr result (λ fault. status_of fault ≡ 1) }
@@ -135,7 +135,7 @@ fn print<R: Read, W: Write, T: Tables>(
 ) -> Result<(), Fault>
     requires reader { has_failed reader.old ≡ false }
     requires writer { has_failed writer.old ≡ false }
-    requires without_mdx { has_mdx options.now.parse.constructs ≡ false }
+    requires without_mdx { HasNoMdx options.now }
     ensures page { Ends R.remaining W.contents reader.old reader.new writer.old writer.new (is_ok result) (λ text.
         html (text_tables (T.reference_of tables.now) (T.punctuation_of tables.now)) text options.now) }
     ensures status { IfErr result (λ fault. status_of fault ≡ 1) }

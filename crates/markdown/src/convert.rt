@@ -1,6 +1,6 @@
 //! From a text to HTML.
-ghost use Rattle.std.specs.Prelude.{◌≡◌, ◌/◌, ◌≤◌, ◌↔◌, IsTrue, IfOk, IfErr, length, string_bytes, false};
-ghost use Rattle.markdown_options.specs.Mdx.{has_mdx};
+ghost use Rattle.std.specs.Prelude.{◌≡◌, ◌/◌, ◌≤◌, ◌↔◌, IsTrue, IfOk, IfErr, length, string_bytes};
+ghost use Rattle.markdown_options.specs.Mdx.{HasNoMdx};
 ghost use Rattle.markdown_options.specs.Messages.{IsOutOfMemory};
 ghost use Rattle.markdown_options.specs.Defaults.{default_options};
 ghost use Rattle.markdown_definition.specs.Html.{html};
@@ -63,7 +63,7 @@ pub fn to_html_with_options<A: Allocator + Clone>(
     options: &Options,
 ) -> Result<String<A>, Message>
     requires size { length value.now ≤ SIZE_MAX }
-    requires without_mdx { has_mdx options.now.parse.constructs ≡ false }
+    requires without_mdx { HasNoMdx options.now }
     ensures page { IfOk result (λ page. string_bytes page ≡ html builtin_tables value.now options.now) }
     ensures safe { IfOk result (λ page. AreSafe options.now.compile → HasOneReading (string_bytes page)) }
     ensures quotes { IfOk result (λ page. QuotesPage builtin_tables options.now value.now (string_bytes page)) }
@@ -90,7 +90,7 @@ pub fn to_html_with_tables<T: Tables, A: Allocator + Clone>(
     tables: &T,
 ) -> Result<String<A>, Message>
     requires size { length value.now ≤ SIZE_MAX }
-    requires without_mdx { has_mdx options.now.parse.constructs ≡ false }
+    requires without_mdx { HasNoMdx options.now }
     ensures page { IfOk result (λ page.
         string_bytes page ≡ html (text_tables (T.reference_of tables.now) (T.punctuation_of tables.now)) value.now options.now) }
     ensures safe { IfOk result (λ page. AreSafe options.now.compile → HasOneReading (string_bytes page)) }
@@ -117,7 +117,7 @@ fn print<T: Tables, A: Allocator + Clone>(
     tables: &T,
 ) -> Result<String<A>, AllocError>
     requires size { length text.now ≤ SIZE_MAX }
-    requires without_mdx { has_mdx options.now.parse.constructs ≡ false }
+    requires without_mdx { HasNoMdx options.now }
     ensures { IfOk result (λ page.
         string_bytes page ≡ marked_html (text_tables (T.reference_of tables.now) (T.punctuation_of tables.now)) before text.now options.now) }
 {

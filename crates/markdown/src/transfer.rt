@@ -3,7 +3,7 @@ ghost use Rattle.std.specs.Prelude.{◌≡◌, ◌≤◌, ◌<◌, ◌+◌, ◌-
 ghost use Rattle.std.specs.Prelude.{IfOk, IfErr, OnOk, IfSome, IsTrue, is_err, is_ok, true, false, length, vec_len, string_bytes};
 ghost use Rattle.std.specs.Io.{appended_bytes, StartsWith};
 ghost use Rattle.std.specs.Io.KnownBytes.{Appends, Consumes, IsAtEnd, Keeps};
-ghost use Rattle.markdown_options.specs.Mdx.{has_mdx};
+ghost use Rattle.markdown_options.specs.Mdx.{HasNoMdx};
 ghost use Rattle.markdown_definition.specs.Html.{html};
 ghost use Rattle.markdown_definition.specs.TextTables.{text_tables};
 ghost use Rattle.markdown.specs.Watched.{device, has_failed, has_ended};
@@ -61,7 +61,7 @@ pub fn run<A: Allocator + Clone, R: Read, W: Write, T: Tables>(
     options: &Options,
     tables: &T,
 ) -> Result<(), RunError>
-    requires without_mdx { has_mdx options.now.parse.constructs ≡ false }
+    requires without_mdx { HasNoMdx options.now }
     requires reader { has_failed reader.old ≡ false }
     requires writer { has_failed writer.old ≡ false }
 
@@ -101,7 +101,7 @@ fn page_of<A: Allocator + Clone, T: Tables>(
     options: &Options,
     tables: &T,
 ) -> Result<String<A>, RunError>
-    requires without_mdx { has_mdx options.now.parse.constructs ≡ false }
+    requires without_mdx { HasNoMdx options.now }
     requires fits { length bytes.now ≤ SIZE_MAX }
     ensures ok { IfOk result (λ page.
         string_bytes page ≡ html (text_tables (T.reference_of tables.now) (T.punctuation_of tables.now)) bytes.now options.now) }

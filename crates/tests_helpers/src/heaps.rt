@@ -1,6 +1,5 @@
 //! Heaps of a fixed size, in which memory runs out.
-ghost use Rattle.std.specs.Prelude.{◌≡◌, false};
-ghost use Rattle.markdown_options.specs.Mdx.{has_mdx};
+ghost use Rattle.markdown_options.specs.Mdx.{HasNoMdx};
 
 use linked_list_allocator::LocalHeap;
 use markdown::{Builtin, Options, RunError, Watched, run};
@@ -26,7 +25,7 @@ pub(crate) fn prints_in_growing_heaps(
     want: &str,
     options: &Options,
 ) -> Result<bool, RunError>
-    requires { has_mdx options.now.parse.constructs ≡ false }
+    requires { HasNoMdx options.now }
 {
     let growth = if text.len() < LONG {
         UNIT
