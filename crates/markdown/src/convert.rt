@@ -4,11 +4,11 @@ ghost use Rattle.markdown_options.specs.Mdx.{HasNoMdx};
 ghost use Rattle.markdown_options.specs.Messages.{IsOutOfMemory};
 ghost use Rattle.markdown_options.specs.Defaults.{default_options};
 ghost use Rattle.markdown_definition.specs.Html.{html};
+ghost use Rattle.html_contents.specs.Texts.{tables_by};
 ghost use Rattle.html_bytes.specs.Html.{marked_html, default_ending};
 ghost use Rattle.laws_safe_page.specs.SafeHtml.{AreSafe, HasOneReading};
 ghost use Rattle.markdown.specs.PageLaws.{QuotesPage, SaysEscapedLine, EndsPage, ListsPage};
 ghost use Rattle.markdown_tables.specs.Builtin.{builtin_tables};
-ghost use Rattle.markdown_definition.specs.TextTables.{text_tables};
 
 use block_parser::block_rows;
 use block_targets::{definition_contents, document_definitions, document_footnotes};
@@ -92,15 +92,15 @@ pub fn to_html_with_tables<T: Tables, A: Allocator + Clone>(
     requires size { length value.now ≤ SIZE_MAX }
     requires without_mdx { HasNoMdx options.now }
     ensures page { IfOk result (λ page.
-        string_bytes page ≡ html (text_tables (T.reference_of tables.now) (T.punctuation_of tables.now)) value.now options.now) }
+        string_bytes page ≡ html (tables_by T.Tables tables.now) value.now options.now) }
     ensures safe { IfOk result (λ page. AreSafe options.now.compile → HasOneReading (string_bytes page)) }
     ensures quotes { IfOk result (λ page.
-        QuotesPage (text_tables (T.reference_of tables.now) (T.punctuation_of tables.now)) options.now value.now (string_bytes page)) }
+        QuotesPage (tables_by T.Tables tables.now) options.now value.now (string_bytes page)) }
     ensures escaped { IfOk result (λ page. SaysEscapedLine options.now value.now (string_bytes page)) }
     ensures endings { IfOk result (λ page.
-        EndsPage (text_tables (T.reference_of tables.now) (T.punctuation_of tables.now)) options.now value.now (string_bytes page)) }
+        EndsPage (tables_by T.Tables tables.now) options.now value.now (string_bytes page)) }
     ensures lists { IfOk result (λ page.
-        ListsPage (text_tables (T.reference_of tables.now) (T.punctuation_of tables.now)) options.now value.now (string_bytes page)) }
+        ListsPage (tables_by T.Tables tables.now) options.now value.now (string_bytes page)) }
     ensures memory { IfErr result IsOutOfMemory }
 {
     let (before, text) = without_mark(value);
@@ -119,7 +119,7 @@ fn print<T: Tables, A: Allocator + Clone>(
     requires size { length text.now ≤ SIZE_MAX }
     requires without_mdx { HasNoMdx options.now }
     ensures { IfOk result (λ page.
-        string_bytes page ≡ marked_html (text_tables (T.reference_of tables.now) (T.punctuation_of tables.now)) before text.now options.now) }
+        string_bytes page ≡ marked_html (tables_by T.Tables tables.now) before text.now options.now) }
 {
     let blocks = block_rows(alloc.clone()?, before, text, &options.parse.constructs)?;
     let ending = default_ending(text, options.compile.default_line_ending);

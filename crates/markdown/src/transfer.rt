@@ -5,7 +5,7 @@ ghost use Rattle.std.specs.Io.{appended_bytes, StartsWith};
 ghost use Rattle.std.specs.Io.KnownBytes.{Appends, Consumes, IsAtEnd, Keeps};
 ghost use Rattle.markdown_options.specs.Mdx.{HasNoMdx};
 ghost use Rattle.markdown_definition.specs.Html.{html};
-ghost use Rattle.markdown_definition.specs.TextTables.{text_tables};
+ghost use Rattle.html_contents.specs.Texts.{tables_by};
 ghost use Rattle.markdown.specs.Watched.{device, has_failed, has_ended};
 ghost use Rattle.markdown.specs.Faults.{is_read_error, is_write_error, is_size_error, is_utf8_error};
 ghost use Rattle.markdown.specs.Faults.{read_failed, write_failed, size_failed, utf8_failed, reads_all, gave_none};
@@ -67,7 +67,7 @@ pub fn run<A: Allocator + Clone, R: Read, W: Write, T: Tables>(
 
     // All of the page was written, and nothing else.
     ensures ok { OnOk result (IfSome (R.remaining (device reader.old)) (λ text.
-        let page = html (text_tables (T.reference_of tables.now) (T.punctuation_of tables.now)) text options.now in
+        let page = html (tables_by T.Tables tables.now) text options.now in
         Appends (W.contents (device writer.old)) (W.contents (device writer.new)) page)) }
 
     // `Read` comes exactly where the reader failed, `Write` and `Stopped` where the writer did.
@@ -76,7 +76,7 @@ pub fn run<A: Allocator + Clone, R: Read, W: Write, T: Tables>(
 
     // What was written is then a beginning of the page, and otherwise nothing.
     ensures beginning { IfErr result (λ e. is_write_error e ≡ true → IfSome (R.remaining (device reader.old)) (λ text.
-        let page = html (text_tables (T.reference_of tables.now) (T.punctuation_of tables.now)) text options.now in
+        let page = html (tables_by T.Tables tables.now) text options.now in
         AppendsBeginning (W.contents (device writer.old)) (W.contents (device writer.new)) page)) }
     ensures nothing { IfErr result (λ e. is_write_error e ≡ false → Keeps (W.contents (device writer.old)) (W.contents (device writer.new))) }
 
@@ -104,7 +104,7 @@ fn page_of<A: Allocator + Clone, T: Tables>(
     requires without_mdx { HasNoMdx options.now }
     requires fits { length bytes.now ≤ SIZE_MAX }
     ensures ok { IfOk result (λ page.
-        string_bytes page ≡ html (text_tables (T.reference_of tables.now) (T.punctuation_of tables.now)) bytes.now options.now) }
+        string_bytes page ≡ html (tables_by T.Tables tables.now) bytes.now options.now) }
     ensures utf8 { RefusesUtf8 bytes.now (utf8_failed result) }
     ensures others { IfErr result (λ e. (is_read_error e ≡ false) × (is_write_error e ≡ false) × (is_size_error e ≡ false)) }
 {
