@@ -104,12 +104,12 @@ pub fn to_html_with_tables<T: Tables, A: Allocator + Clone>(
     ensures memory { IfErr result IsOutOfMemory }
 {
     let (before, text) = without_mark(value);
-    let page = print(alloc, before, text, options, tables)?;
+    let page = page_after(alloc, before, text, options, tables)?;
     Ok(page)
 }
 
 /// The HTML of a text without a byte order mark, after a character of a kind.
-fn print<T: Tables, A: Allocator + Clone>(
+fn page_after<T: Tables, A: Allocator + Clone>(
     alloc: A,
     before: Kind,
     text: &str,

@@ -13,7 +13,7 @@ ghost use Rattle.markdown.specs.Transfer.{AppendsBeginning, RefusesPast, Refuses
 
 use crate::convert::{SIZE_MAX, to_html_with_tables};
 use crate::watched::Watched;
-use markdown_options::{Options, Tables};
+use markdown_options::{Message, Options, Tables};
 use std::alloc::{AllocError, Allocator};
 use std::io::{self, Read, Write};
 use thiserror::Error;
@@ -42,6 +42,17 @@ impl From<AllocError> for RunError {
     ghost from_gives = { λ _ e. e ≡ Memory };
 
     fn from(_error: AllocError) -> RunError {
+        RunError::Memory
+    }
+}
+
+/// The only message that a conversion answers says that memory was refused.
+impl From<Message> for RunError {
+    ghost use Rattle.markdown.specs.declared.transfer.RunError.TheVariants.{Memory};
+
+    ghost from_gives = { λ _ e. e ≡ Memory };
+
+    fn from(_message: Message) -> RunError {
         RunError::Memory
     }
 }
@@ -109,9 +120,7 @@ fn page_of<A: Allocator + Clone, T: Tables>(
     ensures others { IfErr result (λ e. (is_read_error e ≡ false) × (is_write_error e ≡ false) × (is_size_error e ≡ false)) }
 {
     match str::from_utf8(bytes) {
-        Ok(text) => {
-            to_html_with_tables(alloc, text, options, tables).map_err(|_| RunError::Memory)
-        }
+        Ok(text) => Ok(to_html_with_tables(alloc, text, options, tables)?),
         Err(_) => Err(RunError::Utf8),
     }
 }

@@ -43,7 +43,7 @@ fn is_right(alloc: Global, text: &str, want: &str, options: &Options) -> Result<
     if !fits(text) {
         return Ok(false);
     }
-    let page = to_html_with_options(alloc, text, options).map_err(|_| RunError::Memory)?;
+    let page = to_html_with_options(alloc, text, options)?;
     if page.as_str() != want {
         return Ok(false);
     }
@@ -79,7 +79,7 @@ fn is_safe(alloc: Global, page: &str, options: &Options) -> Result<bool, RunErro
     {
         return Ok(true);
     }
-    is_safe_page(alloc, page).map_err(|_| RunError::Memory)
+    Ok(is_safe_page(alloc, page)?)
 }
 
 /// Whether a text that is read is written as this page.

@@ -34,7 +34,7 @@ pub(crate) fn prints_in_growing_heaps(
     };
     for steps in 0..STEPS {
         let size = steps.saturating_mul(growth).saturating_add(BUFFER - UNIT);
-        let heap = LocalHeap::new(alloc, size).map_err(|_| RunError::Memory)?;
+        let heap = LocalHeap::new(alloc, size)?;
         let mut reader = Watched::new(text.as_bytes());
         let mut writer = Watched::new(Vec::new(alloc));
         let result = run(&heap, &mut reader, &mut writer, options, &Builtin);

@@ -109,7 +109,7 @@ fn html(alloc: Global, text: &str, options: &Options) -> Result<String, RunError
     if !fits(text) {
         return Err(RunError::Memory);
     }
-    to_html_with_options(alloc, text, options).map_err(|_| RunError::Memory)
+    Ok(to_html_with_options(alloc, text, options)?)
 }
 
 /// Whether nothing of a text is read otherwise in a container, where the text's front aside it has

@@ -9,9 +9,9 @@ use tests_helpers::first_wrong;
 fn is_joined(alloc: Global, first: &str, second: &str, options: &Options) -> Result<bool, RunError>
     requires { HasNoMdx options.now }
 {
-    let mut text = String::from_str(alloc, first).map_err(|_| RunError::Memory)?;
-    text.push_str("\n\n").map_err(|_| RunError::Memory)?;
-    text.push_str(second).map_err(|_| RunError::Memory)?;
+    let mut text = String::from_str(alloc, first)?;
+    text.push_str("\n\n")?;
+    text.push_str(second)?;
     Ok(fits(&text) && to_html_with_options(alloc, &text, options).is_ok())
 }
 
