@@ -66,13 +66,13 @@ abbrev pub with_start_of : ℕ → RunEvents → Pair → RunEvents
 with_start_of marker w pair = let q = place_later pair.taken w.point in with_more w (span_start (names_of (span_of marker pair)) w.point q) q
 
 -- so many bytes are data
-abbrev pub with_data : ℕ → RunEvents → RunEvents
-with_data n w = let q = place_later n w.point in if n == 0 then w else with_more w (enter_event names.Data w.point ∷ exit_event names.Data q ∷ []) q
+abbrev pub with_held_data : ℕ → RunEvents → RunEvents
+with_held_data n w = let q = place_later n w.point in if n == 0 then w else with_more w (enter_event names.Data w.point ∷ exit_event names.Data q ∷ []) q
 
 -- a run at a place: its first bytes end spans, its last begin some, and those between are data
 abbrev pub replace_run : ℕ → List Pair → ℕ → List Pair → Point → RunEvents
 replace_run marker closed text started p =
-    fold (with_start_of marker) (with_data text (fold (with_end_of marker) (record { events = []; point = p }) closed)) started
+    fold (with_start_of marker) (with_held_data text (fold (with_end_of marker) (record { events = []; point = p }) closed)) started
 
 -- how many bytes of a run are held as they are
 abbrev pub held_size : List SpanRow → ℕ

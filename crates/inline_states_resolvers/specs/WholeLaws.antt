@@ -26,8 +26,8 @@ flip (n ∷ ns) = flip ns ++ n ∷ []
 last_place : (names : List Name) (n : Name) → length (names ++ n ∷ []) ≡ length names + 1
 last_place names n = length-append names (n ∷ [])
 
-last_of : (names : List Name) (n : Name) → innermost (names ++ n ∷ []) ≡ Some n
-last_of names n =
+innermost_last : (names : List Name) (n : Name) → innermost (names ++ n ∷ []) ≡ Some n
+innermost_last names n =
     let size = last_place names n in
     let at : length (names ++ n ∷ []) - 1 ≡ length names = omega (arith, size) in
     let less : length names < length (names ++ n ∷ []) = omega (arith, size) in
@@ -59,7 +59,7 @@ by_kind Enter name names es on h = (tt, on (name ∷ names) h)
 by_kind Exit name [] es on h = absurd (let e : false ≡ true = h in cc)
 by_kind Exit name (n ∷ ns) es on h =
     let both = and_parts _ _ h in
-    let is : same_name n name ≡ true = ap (is_it name) (sym (last_of (flip ns) n)) ∙ both.0 in
+    let is : same_name n name ≡ true = ap (is_it name) (sym (innermost_last (flip ns) n)) ∙ both.0 in
     let same : n ≡ name = same_true the_type tt n name is in
     let rest : is_nested (flip ns) es ≡ true = ap (λ (z : List Name). is_nested z es) (sym (front_of (flip ns) n)) ∙ both.1 in
     ((ns, ap (λ (z : Name). z ∷ ns) same), on ns rest)

@@ -22,7 +22,7 @@ ghost use Rattle.engine_edits.specs.Edits.{edits_of, with_edit};
 ghost use Rattle.markdown_engine.specs.Context.{context};
 ghost use Rattle.inline_states_resolvers.specs.Attention.{attention_edits, run_of_enter, is_event, last_of, place_later, names_of, run_edit};
 ghost use Rattle.inline_states_resolvers.specs.Attention.{empty_search, run_edits, run_from, replace_run, search_to, span_end, span_start, tell_after};
-ghost use Rattle.inline_states_resolvers.specs.Attention.{with_data, with_end_of, with_event, with_run, with_start_of};
+ghost use Rattle.inline_states_resolvers.specs.Attention.{with_held_data, with_end_of, with_event, with_run, with_start_of};
 ghost use Rattle.inline_states_resolvers.specs.Attention.{with_index, with_text_end, with_text_start};
 ghost use Rattle.inline_states_resolvers.specs.Each.{enter_event, exit_event, place_at};
 ghost use Rattle.inline_states_resolvers.specs.Views.{search_view, run_events_view};
@@ -212,7 +212,7 @@ impl<A: Allocator> Writing<A> {
 
     /// So many bytes are data.
     fn hold(&mut self, size: usize) -> Result<(), Message>
-        ensures written { OnOk result (run_events_view self.new ≡ with_data size (run_events_view self.old)) }
+        ensures written { OnOk result (run_events_view self.new ≡ with_held_data size (run_events_view self.old)) }
         ensures memory { IfErr result IsOutOfMemory }
     {
         if size == 0 {
