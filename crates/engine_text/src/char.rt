@@ -6,10 +6,9 @@ ghost use Rattle.definition_text.specs.InlineCode.{character_kind};
 ghost use Rattle.engine_text.specs.Characters.{IsLast, kind_of_any};
 ghost use Rattle.engine_text.specs.CharacterTexts.{hex_digit, code_text, character_text, text_or_end};
 
+pub use definition_text::Kind;
 use markdown_options::{Message, Tables};
 use std::alloc::{AllocError, Allocator};
-
-pub use definition_text::Kind;
 
 /// The character that ends at an index.
 pub fn before_index(bytes: &[u8], index: usize) -> Option<char>
