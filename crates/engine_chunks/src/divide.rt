@@ -27,7 +27,7 @@ pub fn divide_events<A: Allocator + Clone>(
 ) -> Result<(usize, usize), Message>
     ensures edits { OnOk result (edits_of map.new ≡ with_division events.now link_index child_events.now acc_before (edits_of map.old)) }
     ensures counts { IfOk result (λ after. after ≡ counts events.now (chunks events.now link_index) child_events.now 0 acc_before.0 acc_before.1) }
-    ensures memory { IfErr result (λ message. IsOutOfMemory message) }
+    ensures memory { IfErr result IsOutOfMemory }
 {
     let chain = chunks(alloc.clone()?, events, link_index)?;
     let mut places = Vec::new(alloc.clone()?);
@@ -75,7 +75,7 @@ fn add_parts<A: Allocator + Clone>(
     places: &[Option<usize>],
 ) -> Result<(), Message>
     ensures edits { OnOk result (edits_of map.new ≡ with_division_at events.now chain.now children.now places.now 0 (edits_of map.old)) }
-    ensures memory { IfErr result (λ message. IsOutOfMemory message) }
+    ensures memory { IfErr result IsOutOfMemory }
 {
     let mut from = 0;
     for chunk in chain {

@@ -38,7 +38,7 @@ impl<A: Allocator + Clone> EditMap<A> {
     pub fn add(&mut self, index: usize, remove: usize, add: Vec<Event, A>) -> Result<(), Message>
         ensures edits { OnOk result (edits_of self.new ≡ with_edit false index remove add.items (edits_of self.old)) }
         ensures err { OnErr result (edits_of self.new ≡ edits_of self.old) }
-        ensures memory { IfErr result (λ message. IsOutOfMemory message) }
+        ensures memory { IfErr result IsOutOfMemory }
     {
         self.merge(false, index, remove, add)?;
         Ok(())
@@ -53,7 +53,7 @@ impl<A: Allocator + Clone> EditMap<A> {
     ) -> Result<(), Message>
         ensures edits { OnOk result (edits_of self.new ≡ with_edit true index remove add.items (edits_of self.old)) }
         ensures err { OnErr result (edits_of self.new ≡ edits_of self.old) }
-        ensures memory { IfErr result (λ message. IsOutOfMemory message) }
+        ensures memory { IfErr result IsOutOfMemory }
     {
         self.merge(true, index, remove, add)?;
         Ok(())
@@ -181,7 +181,7 @@ impl<A: Allocator + Clone> EditMap<A> {
         ensures spent { OnOk result (edits_of self.new ≡ []) }
         ensures err { OnErr result (events.new.items ≡ events.old.items) }
         ensures err_edits { OnErr result (edits_of self.new ≡ edits_of self.old) }
-        ensures memory { IfErr result (λ message. IsOutOfMemory message) }
+        ensures memory { IfErr result IsOutOfMemory }
     {
         let all = self.events_after(events)?;
         *events = all;

@@ -33,7 +33,7 @@ use Rattle.engine_programs.specs.Sorts.{is_nok, leads, left_open, may_end, nok_f
 use Rattle.engine_programs.specs.Sorts.{waits_lower, wants_end}
 use Rattle.engine_programs.specs.Stacks.{Ahead, At, Far, HasByte, IsValid, Mark, Marks, MayExit, NokGoes, OkGoes, Suits, below, ends_back, left_by}
 use Rattle.engine_programs.specs.Stacks.{must_go_well, needs_byte, needs_end, program_waits, program_weight}
-use Rattle.engine_programs.specs.NameLaws.{by_byte_each, either_way, exit_here, feed_among, fixed_same, has_each, has_none, has_some, implied}
+use Rattle.engine_programs.specs.NameLaws.{by_byte_each, either_way, exit_here, feed_among, fixed_same, has_each, has_none, has_some, implies_holds}
 use Rattle.engine_programs.specs.NameLaws.{names_same, nested_on, none_is, not_so, not_true, or_false, or_first, or_second, token_is, tokens_are}
 use Rattle.engine_programs.specs.StackLaws.{SameBelow, all_same, below_same, far_less, far_weak, marks_more, marks_same, plain_same}
 
@@ -92,12 +92,12 @@ module _ (sorts : Name → Sort) (size : ℕ) where
       let g = and_parts _ _ f.1 in
       record {
         names = tokens_are _ _ a.0;
-        moves = implied _ _ b.0;
-        yields = implied _ _ c.0;
-        sure = implied _ _ d.0;
-        plain = implied _ _ e.0;
-        ends = implied _ _ f.0;
-        firm = implied _ _ g.0;
+        moves = implies_holds _ _ b.0;
+        yields = implies_holds _ _ c.0;
+        sure = implies_holds _ _ d.0;
+        plain = implies_holds _ _ e.0;
+        ends = implies_holds _ _ f.0;
+        firm = implies_holds _ _ g.0;
         leaves = tokens_are _ _ g.1;
       }
 
@@ -212,7 +212,7 @@ module _ (sorts : Name → Sort) (size : ℕ) where
           let o = on_parts n z (sorts m).open_tokens z.moved (may_end z) m a.0 in
           record {
             valid = record {
-              stands = (at_on n m st start z c o i, i.ahead, λ e. i.fed (implied _ _ d.1 e));
+              stands = (at_on n m st start z c o i, i.ahead, λ e. i.fed (implies_holds _ _ d.1 e));
               tidy = i.tidy;
               marks = i.marks;
               unedited = i.unedited;
@@ -228,8 +228,8 @@ module _ (sorts : Name → Sort) (size : ℕ) where
             valid = record {
               stands = (
                 ends_well n st start z c (tokens_are _ _ a.0) i,
-                far_weak sorts size st (remaining size c.point) z.moved (needs_byte sorts size st) (λ e. implied _ _ b.0 (i.suits.yields e)) i.far,
-                λ e. ends_here n st start z c (implied _ _ b.1 (i.suits.firm e)) i,
+                far_weak sorts size st (remaining size c.point) z.moved (needs_byte sorts size st) (λ e. implies_holds _ _ b.0 (i.suits.yields e)) i.far,
+                λ e. ends_here n st start z c (implies_holds _ _ b.1 (i.suits.firm e)) i,
               );
               tidy = i.tidy;
               marks = i.marks;
@@ -282,15 +282,15 @@ module _ (sorts : Name → Sort) (size : ℕ) where
           let o = on_parts n z tokens (z.moved || (sorts r).after) (not a.check || may_end z) r b.0 in (
             suits_on n z tokens (z.moved || (sorts r).after) (not a.check || may_end z) r st o i.suits,
             not_true _ d.1,
-            λ e. not_true _ (and_parts _ _ (implied _ _ k e)).1,
-            λ e. eqb-true _ _ (implied _ _ d.0 e),
+            λ e. not_true _ (and_parts _ _ (implies_holds _ _ k e)).1,
+            λ e. eqb-true _ _ (implies_holds _ _ d.0 e),
             far_either (sorts r).after (sorts r).moved z.moved st (remaining size a.point) o.moves (rw p i.far),
           )
       ok_goes (states.Retry r) n st start z c a m p h k i = absurd (let f : false ≡ true = h in cc)
       ok_goes states.Ok n st start z c a m p h k i =
           let b = and_parts _ _ h in (
-            far_weak sorts size st (remaining size a.point) z.moved (needs_byte sorts size st) (λ e. implied _ _ b.1 (i.suits.yields e)) (rw p i.far),
-            λ e. sym i.suits.leaves ∙ none_is _ (implied _ _ b.0 e),
+            far_weak sorts size st (remaining size a.point) z.moved (needs_byte sorts size st) (λ e. implies_holds _ _ b.1 (i.suits.yields e)) (rw p i.far),
+            λ e. sym i.suits.leaves ∙ none_is _ (implies_holds _ _ b.0 e),
           )
       ok_goes states.Nok n st start z c a m p h k i = not_so _ _ i.suits.sure (not_true _ h)
 
@@ -309,7 +309,7 @@ module _ (sorts : Name → Sort) (size : ℕ) where
       nok_goes states.Ok n st start z c a p q h i =
           let b = and_parts _ _ h in (
             sym (q ∙ (tokens_are _ _ b.0 ∙ i.suits.leaves)),
-            far_weak sorts size st (remaining size a.point) z.moved (needs_byte sorts size st) (λ e. implied _ _ (and_parts _ _ b.1).0 (i.suits.yields e))
+            far_weak sorts size st (remaining size a.point) z.moved (needs_byte sorts size st) (λ e. implies_holds _ _ (and_parts _ _ b.1).0 (i.suits.yields e))
                 (rw p i.far),
           )
       nok_goes states.Nok n st start z c a p q h i = tt
@@ -340,11 +340,11 @@ module _ (sorts : Name → Sort) (size : ℕ) where
             stays_there = not_true _ b.0;
             lower = c.0;
             yields = d.0;
-            sure = implied _ _ e.0;
-            plain = implied _ _ f.0;
-            firm = implied _ _ g.0;
+            sure = implies_holds _ _ e.0;
+            plain = implies_holds _ _ f.0;
+            firm = implies_holds _ _ g.0;
             leaves = tokens_are _ _ k.0;
-            ends = implied _ _ k.1;
+            ends = implies_holds _ _ k.1;
           }
 
       record GoesBack (n : Name) (z : Sight) (check : Bool) (ok nok : State) : Type 0 where
@@ -352,7 +352,7 @@ module _ (sorts : Name → Sort) (size : ℕ) where
         ends : (wants_end sorts nok (sorts n).firm || (check && wants_end sorts ok (sorts n).firm)) ≡ true → may_end z ≡ true
 
       back_parts : (n : Name) (z : Sight) (check : Bool) (ok nok : State) → goes_back sorts n z check ok nok ≡ true → GoesBack n z check ok nok
-      back_parts n z check ok nok h = let a = and_parts _ _ h in record { around = tokens_are _ _ a.0; ends = implied _ _ a.1 }
+      back_parts n z check ok nok h = let a = and_parts _ _ h in record { around = tokens_are _ _ a.0; ends = implies_holds _ _ a.1 }
 
       wants_more : (s : State) (a b : Bool) → (a ≡ true → b ≡ true) → wants_end sorts s a ≡ true → wants_end sorts s b ≡ true
       wants_more (states.Error m) a b h e = e
@@ -404,7 +404,7 @@ module _ (sorts : Name → Sort) (size : ℕ) where
           let a = mark (frame_at check ok nok c) in
           record {
             suits = record {
-              yields = λ w. (and_parts _ _ (implied _ _ b.yields w)).0;
+              yields = λ w. (and_parts _ _ (implies_holds _ _ b.yields w)).0;
               sure = λ w. let p = and_parts (is_nok nok) (must_go_well sorts size st) w in b.sure (and_from _ _ p.0 (i.suits.sure p.1));
               plain = λ w. let p = and_parts (sorts n).plain (all_fixed z.open_tokens) (b.plain w) in
                   and_from _ _ (ap all_fixed g.around ∙ p.1) (i.suits.plain p.0);
@@ -447,7 +447,7 @@ module _ (sorts : Name → Sort) (size : ℕ) where
           let b = begins_parts n z check ok nok m p.0 in
           record {
             valid = record {
-              stands = (at_begin check ok nok n m st start z c g b i, i.ahead, λ q. i.fed (implied _ _ p.1 q));
+              stands = (at_begin check ok nok n m st start z c g b i, i.ahead, λ q. i.fed (implies_holds _ _ p.1 q));
               tidy = i.tidy;
               marks = marked check ok nok n m st start z c g b ho hn i;
               unedited = i.unedited;

@@ -22,9 +22,9 @@ pub either_way : {A : Type 0} (P : A → Type 0) (t : Bool) (x y : A) → (t ≡
 either_way P true x y h k = h refl
 either_way P false x y h k = k refl
 
-pub implied : (a b : Bool) → implies a b ≡ true → a ≡ true → b ≡ true
-implied true b h e = h
-implied false b h e = absurd (let f : false ≡ true = e in cc)
+pub implies_holds : (a b : Bool) → implies a b ≡ true → a ≡ true → b ≡ true
+implies_holds true b h e = h
+implies_holds false b h e = absurd (let f : false ≡ true = e in cc)
 
 pub not_true : (a : Bool) → not a ≡ true → a ≡ false
 not_true true h = absurd (let f : false ≡ true = h in cc)

@@ -2,7 +2,7 @@
 ghost use Rattle.std.specs.Prelude.{◌≡◌, [], ◌∷◌, OnOk, IfErr, None};
 ghost use Rattle.markdown_options.specs.Messages.{IsOutOfMemory};
 ghost use Rattle.markdown_engine.specs.KeptState.{kept_state};
-ghost use Rattle.markdown_engine.specs.Machine.{Became, config, past_byte, with_enter, with_exit};
+ghost use Rattle.markdown_engine.specs.Machine.{Became, config, past_byte, with_enter, with_exit, KeepsParseState};
 ghost use Rattle.markdown_engine.specs.Order.{IsInnermost, open_after, outer};
 
 use markdown_engine::Message;
@@ -17,9 +17,9 @@ pub fn around<M, T, A: Allocator>(
 ) -> Result<(), Message>
     ensures became { OnOk result (Became (with_exit name (past_byte (with_enter name None (config tokenizer.old)))) tokenizer.old tokenizer.new) }
     ensures open_events { OnOk result (open_after [] tokenizer.new.events.items ≡ open_after [] tokenizer.old.events.items) }
-    ensures parse_state { tokenizer.new.parse_state ≡ tokenizer.old.parse_state }
+    ensures parse_state { KeepsParseState tokenizer.old tokenizer.new }
     ensures skips { tokenizer.new.skips ≡ tokenizer.old.skips }
-    ensures memory { IfErr result (λ message. IsOutOfMemory message) }
+    ensures memory { IfErr result IsOutOfMemory }
 {
     tokenizer.enter(name)?;
     tokenizer.consume();
@@ -33,9 +33,9 @@ pub fn begin<M, T, A: Allocator>(
 ) -> Result<(), Message>
     ensures became { OnOk result (Became (with_enter name None (config tokenizer.old)) tokenizer.old tokenizer.new) }
     ensures open_events { OnOk result (open_after [] tokenizer.new.events.items ≡ name ∷ open_after [] tokenizer.old.events.items) }
-    ensures parse_state { tokenizer.new.parse_state ≡ tokenizer.old.parse_state }
+    ensures parse_state { KeepsParseState tokenizer.old tokenizer.new }
     ensures skips { tokenizer.new.skips ≡ tokenizer.old.skips }
-    ensures memory { IfErr result (λ message. IsOutOfMemory message) }
+    ensures memory { IfErr result IsOutOfMemory }
 {
     tokenizer.enter(name)
 }
@@ -49,9 +49,9 @@ pub fn leave<M, T, A: Allocator>(
     ensures became { OnOk result (Became (with_exit name (config tokenizer.old)) tokenizer.old tokenizer.new) }
     ensures open_events { OnOk result (open_after [] tokenizer.new.events.items ≡ outer (open_after [] tokenizer.old.events.items)) }
     ensures kept { OnOk result (kept_state tokenizer.new.tokenize_state ≡ kept_state tokenizer.old.tokenize_state) }
-    ensures parse_state { tokenizer.new.parse_state ≡ tokenizer.old.parse_state }
+    ensures parse_state { KeepsParseState tokenizer.old tokenizer.new }
     ensures skips { tokenizer.new.skips ≡ tokenizer.old.skips }
-    ensures memory { IfErr result (λ message. IsOutOfMemory message) }
+    ensures memory { IfErr result IsOutOfMemory }
 {
     tokenizer.exit(name)
 }

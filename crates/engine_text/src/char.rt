@@ -2,20 +2,13 @@
 ghost use Rattle.std.specs.Prelude.{◌≡◌, ◌<◌, ◌^◌, ◌++◌, [], ◌∷◌, take, drop, slice_get, IsUtf8, IfErr, IfOk, OnOk, string_bytes};
 ghost use Rattle.std.specs.Str.{IsCharBoundary, chars};
 ghost use Rattle.markdown_options.specs.Messages.{IsOutOfMemory};
-ghost use Rattle.engine_text.specs.Characters.{IsLast, kind_of, kind_of_any};
+ghost use Rattle.definition_text.specs.InlineCode.{character_kind};
+ghost use Rattle.engine_text.specs.Characters.{IsLast, kind_of_any};
 ghost use Rattle.engine_text.specs.CharacterTexts.{hex_digit, code_text, character_text, text_or_end};
 
+pub use definition_text::Kind;
 use markdown_options::{Message, Tables};
 use std::alloc::{AllocError, Allocator};
-
-/// What a character is to the runs of emphasis beside it (CommonMark 6.2).
-#[derive(Clone, Copy, Debug, PartialEq, Eq)]
-pub enum Kind {
-    /// White space, or no character.
-    Whitespace,
-    Punctuation,
-    Other,
-}
 
 /// The character that ends at an index.
 pub fn before_index(bytes: &[u8], index: usize) -> Option<char>
@@ -48,7 +41,7 @@ pub fn kind_after_index<T: Tables>(bytes: &[u8], index: usize, tables: &T) -> Ki
 
 /// The kind of a character (CommonMark 2.1).
 pub fn classify<T: Tables>(character: char, tables: &T) -> Kind
-    ensures { result ≡ kind_of (T.punctuation_of tables.now) character }
+    ensures { result ≡ character_kind (T.punctuation_of tables.now) character }
 {
     if character.is_whitespace() {
         Kind::Whitespace
@@ -72,7 +65,7 @@ pub fn classify_opt<T: Tables>(character: Option<char>, tables: &T) -> Kind
 /// Shows a character by its code, and by itself if it can be seen, as `` `a` (U+0061) ``.
 pub fn format<A: Allocator>(alloc: A, character: char) -> Result<String<A>, Message>
     ensures text { IfOk result (λ text. string_bytes text ≡ character_text character) }
-    ensures memory { IfErr result (λ message. IsOutOfMemory message) }
+    ensures memory { IfErr result IsOutOfMemory }
 {
     Ok(character_text(alloc, character as u32)?)
 }
@@ -80,7 +73,7 @@ pub fn format<A: Allocator>(alloc: A, character: char) -> Result<String<A>, Mess
 /// Shows a character, or `end of file`.
 pub fn format_opt<A: Allocator>(alloc: A, character: Option<char>) -> Result<String<A>, Message>
     ensures text { IfOk result (λ text. string_bytes text ≡ text_or_end character) }
-    ensures memory { IfErr result (λ message. IsOutOfMemory message) }
+    ensures memory { IfErr result IsOutOfMemory }
 {
     match character {
         Some(character) => format(alloc, character),
@@ -91,7 +84,7 @@ pub fn format_opt<A: Allocator>(alloc: A, character: Option<char>) -> Result<Str
 /// Shows a byte as the character of that code.
 pub fn format_byte<A: Allocator>(alloc: A, byte: u8) -> Result<String<A>, Message>
     ensures text { IfOk result (λ text. string_bytes text ≡ character_text byte) }
-    ensures memory { IfErr result (λ message. IsOutOfMemory message) }
+    ensures memory { IfErr result IsOutOfMemory }
 {
     Ok(character_text(alloc, u32::from(byte))?)
 }
@@ -99,7 +92,7 @@ pub fn format_byte<A: Allocator>(alloc: A, byte: u8) -> Result<String<A>, Messag
 /// Shows a byte, or `end of file`.
 pub fn format_byte_opt<A: Allocator>(alloc: A, byte: Option<u8>) -> Result<String<A>, Message>
     ensures text { IfOk result (λ text. string_bytes text ≡ text_or_end byte) }
-    ensures memory { IfErr result (λ message. IsOutOfMemory message) }
+    ensures memory { IfErr result IsOutOfMemory }
 {
     match byte {
         Some(byte) => format_byte(alloc, byte),

@@ -35,7 +35,7 @@ impl<A: Allocator> Location<A> {
     pub fn new(alloc: A, bytes: &[u8]) -> Result<Location<A>, Message>
         requires { length bytes.now < 2 ^ 61 }
         ensures lines { IfOk result (λ location. Locates location bytes.now) }
-        ensures memory { IfErr result (λ message. IsOutOfMemory message) }
+        ensures memory { IfErr result IsOutOfMemory }
     {
         Ok(Location {
             starts: line_starts(alloc, bytes)?,

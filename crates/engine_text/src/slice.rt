@@ -127,7 +127,7 @@ impl<'a> Slice<'a> {
     pub fn serialize<A: Allocator>(&self, alloc: A) -> Result<String<A>, Message>
         requires { IsUtf8 self.now.bytes.now }
         ensures text { IfOk result (λ text. string_bytes text ≡ serialization self.now) }
-        ensures memory { IfErr result (λ message. IsOutOfMemory message) }
+        ensures memory { IfErr result IsOutOfMemory }
     {
         let mut text = String::new(alloc);
         push_spaces(&mut text, self.before)?;

@@ -12,7 +12,7 @@ use std::alloc::Allocator;
 pub fn article<A: Allocator + Clone>(alloc: A, comment: &str) -> Result<String<A>, Message>
     requires size { length comment.now < 2 ^ 61 }
     ensures page { IfOk result (λ page. string_bytes page ≡ article comment.now) }
-    ensures memory { IfErr result (λ message. IsOutOfMemory message) }
+    ensures memory { IfErr result IsOutOfMemory }
 {
     let html = to_html(alloc.clone()?, comment)?;
     let mut page = String::new(alloc);

@@ -1,8 +1,7 @@
 //! A page with each feature, from standard input to its HTML on standard output, by the library.
 #![tactic(auto)]
 
-ghost use Rattle.std.specs.Prelude.{◌≡◌, false};
-ghost use Rattle.markdown_options.specs.Mdx.{has_mdx};
+ghost use Rattle.markdown_options.specs.Mdx.{HasNoMdx};
 
 use markdown::{Builtin, Options, RunError, Watched, run};
 use std::io::Write;
@@ -16,7 +15,7 @@ fn main(rt: HostRuntime) -> Result<(), RunError> {
 
 /// All that can be read.
 fn options() -> Options
-    ensures { has_mdx result.parse.constructs ≡ false }
+    ensures { HasNoMdx result }
 {
     let mut options = Options::gfm();
     options.parse.constructs.math_text = true;

@@ -8,7 +8,7 @@ use Rattle.inline_parser.specs.Scanned.{HasTargets}
 use Rattle.inline_rows.specs.declared.row.Linked.{Linked}
 use Rattle.inline_rows.specs.View.{linked_view}
 use Rattle.markdown_options.specs.declared.tables.Tables as tables
-use Rattle.definition_page.specs.TextTables.{text_tables}
+use Rattle.definition_page.specs.TextTables.{TextTables, text_tables}
 use Rattle.html_bytes.specs.Document.{Document, document}
 use Rattle.html_bytes.specs.Layout.{lay}
 use Rattle.html_bytes.specs.Pieces.{Piece}
@@ -21,9 +21,13 @@ pub record KnowsTargets {T A : Type 0} (texts : Texts T A) (ds : Targets) : Type
   pub has_labels : HasTargets texts.labels.now texts.footnotes.now ds
   pub leads : map linked_view texts.links.now ≡ map (λ (d : Definition). inline.linked d.destination d.title) ds.definitions
 
+-- what tables say of names and of punctuation
+abbrev pub tables_by : {T : Type 0} → tables.Ghosts T → T → TextTables
+tables_by g t = text_tables (g.reference_of t) (g.punctuation_of t)
+
 -- the document whose texts are read by these, with what its labels lead to
 abbrev pub document_by : {T A : Type 0} → tables.Ghosts T → Texts T A → Targets → Document
-document_by g texts ds = document texts.options.now (text_tables (g.reference_of texts.tables.now) (g.punctuation_of texts.tables.now)) ds
+document_by g texts ds = document texts.options.now (tables_by g texts.tables.now) ds
 
 -- these pieces and no others of a document are laid out, whatever the default ending, unless memory ran out
 abbrev pub LaysOut : {A B C : Type 0} → Document → Result B C → Output A → Output A → List Piece → Type 0

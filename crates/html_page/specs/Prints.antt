@@ -39,3 +39,7 @@ LaysOut options old new pieces = page_view new ≡ layout_after options old.defa
 -- a page grows by these bytes
 abbrev pub Prints : {A : Type 0} → Page A → Page A → List ℕ → Type 0
 Prints old new bytes = page_view new ≡ with_bytes bytes (page_view old)
+
+-- a page keeps its default ending
+abbrev pub KeepsEnding : {A : Type 0} → Page A → Page A → Type 0
+KeepsEnding old new = new.default_ending ≡ old.default_ending

@@ -2,6 +2,7 @@
 ghost use Rattle.std.specs.Prelude.{◌≡◌, OnOk};
 ghost use Rattle.markdown_options.specs.LineEndings.{ending_bytes};
 ghost use Rattle.html_page.specs.PrinterView.{enter_quote, leave_quote, printer_view};
+ghost use Rattle.html_page.specs.Prints.{KeepsEnding};
 
 use crate::level::Holder;
 use crate::printer::Printer;
@@ -10,7 +11,7 @@ use std::alloc::{AllocError, Allocator};
 impl<A: Allocator + Clone> Printer<A> {
     /// A block quote starts (CommonMark 5.1).
     pub(crate) fn enter_quote(&mut self) -> Result<(), AllocError>
-        ensures default { self.new.page.default_ending ≡ self.old.page.default_ending }
+        ensures default { KeepsEnding self.old.page self.new.page }
         ensures printed { OnOk result (printer_view self.new ≡ enter_quote (ending_bytes self.old.page.default_ending) (printer_view self.old)) }
     {
         self.page.fresh()?;
@@ -20,7 +21,7 @@ impl<A: Allocator + Clone> Printer<A> {
 
     /// A block quote ends.
     pub(crate) fn leave_quote(&mut self) -> Result<(), AllocError>
-        ensures default { self.new.page.default_ending ≡ self.old.page.default_ending }
+        ensures default { KeepsEnding self.old.page self.new.page }
         ensures printed { OnOk result (printer_view self.new ≡ leave_quote (ending_bytes self.old.page.default_ending) (printer_view self.old)) }
     {
         self.page.fresh()?;

@@ -11,7 +11,7 @@ ghost use Rattle.block_rows.specs.Rows.{piece_lines};
 ghost use Rattle.html_contents.specs.Texts.{document_by};
 ghost use Rattle.html_page.specs.Levels.{standing_at};
 ghost use Rattle.html_escape.specs.Prints as escape;
-ghost use Rattle.html_page.specs.Prints.{LaysOut, Prints, page_view, with_bytes, with_fresh};
+ghost use Rattle.html_page.specs.Prints.{LaysOut, Prints, page_view, with_bytes, with_fresh, KeepsEnding};
 
 use crate::page::Page;
 use block_rows::Piece;
@@ -29,7 +29,7 @@ impl<A: Allocator + Clone> Page<A> {
         top: bool,
         lines: &[Piece<'_>],
     ) -> Result<(), AllocError>
-        ensures default { self.new.default_ending ≡ self.old.default_ending }
+        ensures default { KeepsEnding self.old self.new }
         ensures printed { (ds : Targets) → HaveNoEnding info.now → let code = FencedCode info.now closed (piece_lines lines.now) in
             let d = document_by T.Tables texts.now ds in
             OnOk result (LaysOut d.options.compile self.old self.new (block_pieces d (standing_at top) false false code)) }
@@ -48,7 +48,7 @@ impl<A: Allocator + Clone> Page<A> {
 
     /// Prints the class of code with an info, which has no line ending.
     fn class<T: Tables>(&mut self, texts: &Texts<'_, T, A>, info: &str) -> Result<(), AllocError>
-        ensures default { self.new.default_ending ≡ self.old.default_ending }
+        ensures default { KeepsEnding self.old self.new }
         ensures printed { (ds : Targets) → HaveNoEnding info.now →
             OnOk result (Prints self.old self.new (class_of (document_by T.Tables texts.now ds) info.now)) }
     {
@@ -63,7 +63,7 @@ impl<A: Allocator + Clone> Page<A> {
         top: bool,
         lines: &[Piece<'_>],
     ) -> Result<(), AllocError>
-        ensures default { self.new.default_ending ≡ self.old.default_ending }
+        ensures default { KeepsEnding self.old self.new }
         ensures printed { (options : CompileOptions) → OnOk result (LaysOut options self.old self.new (fenced_content top closed (piece_lines lines.now))) }
     {
         self.code(lines)?;
@@ -83,7 +83,7 @@ impl<A: Allocator + Clone> Page<A> {
 
     /// Prints the last ending of code, and asks for a fresh line.
     fn end_content(&mut self, ending: Option<LineEnding>) -> Result<(), AllocError>
-        ensures default { self.new.default_ending ≡ self.old.default_ending }
+        ensures default { KeepsEnding self.old self.new }
         ensures printed { OnOk result (page_view self.new ≡
             with_fresh (ending_bytes self.old.default_ending) (with_bytes (ending_text ending) (page_view self.old))) }
     {

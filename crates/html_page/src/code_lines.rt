@@ -1,12 +1,12 @@
 //! Lines of code (CommonMark 4.4 and 4.5).
-ghost use Rattle.std.specs.Prelude.{◌≡◌, ◌++◌, map, replicate, OnOk};
+ghost use Rattle.std.specs.Prelude.{◌++◌, map, replicate, OnOk};
 ghost use Rattle.definition_text.specs.Columns.{tab_column, code_byte};
 ghost use Rattle.definition_text.specs.Encode.{encode};
 ghost use Rattle.definition_text.specs.BlockLines.{own_lines};
 ghost use Rattle.html_bytes.specs.Html.{code_of};
 ghost use Rattle.block_rows.specs.Rows.{piece_lines};
 ghost use Rattle.html_escape.specs.Prints as escape;
-ghost use Rattle.html_page.specs.Prints.{Prints};
+ghost use Rattle.html_page.specs.Prints.{Prints, KeepsEnding};
 
 use crate::page::Page;
 use block_rows::{Piece, push_columns, push_ending};
@@ -16,7 +16,7 @@ use std::alloc::{AllocError, Allocator};
 impl<A: Allocator + Clone> Page<A> {
     /// Prints lines of code without the last ending.
     pub(crate) fn code(&mut self, lines: &[Piece<'_>]) -> Result<(), AllocError>
-        ensures default { self.new.default_ending ≡ self.old.default_ending }
+        ensures default { KeepsEnding self.old self.new }
         ensures printed { OnOk result (Prints self.old self.new (code_of (own_lines (piece_lines lines.now)))) }
     {
         push_code_lines(&mut self.out.html, lines)

@@ -2,6 +2,7 @@
 ghost use Rattle.std.specs.Prelude.{◌≡◌, OnOk};
 ghost use Rattle.markdown_options.specs.LineEndings.{ending_bytes};
 ghost use Rattle.html_page.specs.PrinterView.{leave_quote, exit, leave_item, leave_list, within, within_at, outside, printer_view};
+ghost use Rattle.html_page.specs.Prints.{KeepsEnding};
 
 use crate::level::{Holder, Level};
 use crate::printer::Printer;
@@ -10,7 +11,7 @@ use std::alloc::{AllocError, Allocator};
 impl<A: Allocator + Clone> Printer<A> {
     /// The innermost container ends, and with the last item its list.
     pub(crate) fn exit(&mut self) -> Result<(), AllocError>
-        ensures default { self.new.page.default_ending ≡ self.old.page.default_ending }
+        ensures default { KeepsEnding self.old.page self.new.page }
         ensures printed { OnOk result (printer_view self.new ≡ exit (ending_bytes self.old.page.default_ending) (printer_view self.old)) }
     {
         match self.level.holder {

@@ -1,6 +1,6 @@
 //! Footnote definitions, whose blocks are printed at the page's end (in neither standard).
 ghost use Rattle.std.specs.Prelude.{◌≡◌, OnOk};
-ghost use Rattle.html_page.specs.Prints.{page_view, footnote_text_started, footnote_text_left};
+ghost use Rattle.html_page.specs.Prints.{page_view, footnote_text_started, footnote_text_left, KeepsEnding};
 ghost use Rattle.html_page.specs.PrinterView.{enter_footnote, leave_footnote, printer_view};
 
 use crate::level::Holder;
@@ -12,7 +12,7 @@ use std::alloc::{AllocError, Allocator};
 impl<A: Allocator + Clone> Page<A> {
     /// The content of a footnote starts.
     fn start_footnote(&mut self) -> Result<(), AllocError>
-        ensures default { self.new.default_ending ≡ self.old.default_ending }
+        ensures default { KeepsEnding self.old self.new }
         ensures printed { OnOk result (page_view self.new ≡ footnote_text_started (page_view self.old)) }
     {
         self.out.start_footnote()
@@ -20,7 +20,7 @@ impl<A: Allocator + Clone> Page<A> {
 
     /// The content of a footnote ends.
     fn end_footnote(&mut self) -> Result<(), AllocError>
-        ensures default { self.new.default_ending ≡ self.old.default_ending }
+        ensures default { KeepsEnding self.old self.new }
         ensures printed { OnOk result (page_view self.new ≡ footnote_text_left (page_view self.old)) }
     {
         self.out.end_footnote()
@@ -30,7 +30,7 @@ impl<A: Allocator + Clone> Page<A> {
 impl<A: Allocator + Clone> Printer<A> {
     /// A footnote definition starts: what it holds is printed into a text of its own.
     pub(crate) fn enter_footnote(&mut self) -> Result<(), AllocError>
-        ensures default { self.new.page.default_ending ≡ self.old.page.default_ending }
+        ensures default { KeepsEnding self.old.page self.new.page }
         ensures printed { OnOk result (printer_view self.new ≡ enter_footnote (printer_view self.old)) }
     {
         let around = self.level.after(Row::EnterFootnote);
@@ -40,7 +40,7 @@ impl<A: Allocator + Clone> Printer<A> {
 
     /// A footnote definition ends: the text around it goes on.
     pub(crate) fn leave_footnote(&mut self) -> Result<(), AllocError>
-        ensures default { self.new.page.default_ending ≡ self.old.page.default_ending }
+        ensures default { KeepsEnding self.old.page self.new.page }
         ensures printed { OnOk result (printer_view self.new ≡ leave_footnote (printer_view self.old)) }
     {
         self.page.end_footnote()?;

@@ -20,7 +20,7 @@ ghost use Rattle.html_contents.specs.Texts.{KnowsTargets, document_by};
 ghost use Rattle.html_page.specs.GfmTable.{CellsAreClear, IsClearIf, next_cell_pieces};
 ghost use Rattle.html_page.specs.Printable.{AreClear};
 ghost use Rattle.html_escape.specs.Prints as escape;
-ghost use Rattle.html_page.specs.Prints.{LaysOut, Prints};
+ghost use Rattle.html_page.specs.Prints.{LaysOut, Prints, KeepsEnding};
 
 use crate::page::Page;
 use block_cells::{Cell, Cells, read_delimiters};
@@ -38,7 +38,7 @@ impl<A: Allocator + Clone> Page<A> {
         lines: &[Piece<'_>],
     ) -> Result<(), AllocError>
         requires { 2 ≤ length lines.now }
-        ensures default { self.new.default_ending ≡ self.old.default_ending }
+        ensures default { KeepsEnding self.old self.new }
         ensures printed { (ds : Targets) → KnowsTargets texts.now ds → AreClear (piece_lines lines.now) →
             let d = document_by T.Tables texts.now ds in
             OnOk result (LaysOut d.options.compile self.old self.new (table_pieces d (own_lines (piece_lines lines.now)))) }
@@ -61,7 +61,7 @@ impl<A: Allocator + Clone> Page<A> {
         aligns: &[AlignKind],
         line: &Piece<'_>,
     ) -> Result<(), AllocError>
-        ensures default { self.new.default_ending ≡ self.old.default_ending }
+        ensures default { KeepsEnding self.old self.new }
         ensures printed { (ds : Targets) → KnowsTargets texts.now ds → HaveNoEnding (piece_line line.now).codes →
             let d = document_by T.Tables texts.now ds in
             OnOk result (LaysOut d.options.compile self.old self.new (head_pieces d aligns.now (piece_line line.now))) }
@@ -81,7 +81,7 @@ impl<A: Allocator + Clone> Page<A> {
         ending: Option<LineEnding>,
         rows: &[Piece<'_>],
     ) -> Result<(), AllocError>
-        ensures default { self.new.default_ending ≡ self.old.default_ending }
+        ensures default { KeepsEnding self.old self.new }
         ensures printed { (ds : Targets) → KnowsTargets texts.now ds → AreClear (piece_lines rows.now) →
             let d = document_by T.Tables texts.now ds in
             OnOk result (LaysOut d.options.compile self.old self.new (body_pieces d aligns.now ending (own_lines (piece_lines rows.now)))) }
@@ -103,7 +103,7 @@ impl<A: Allocator + Clone> Page<A> {
         aligns: &[AlignKind],
         rows: &[Piece<'_>],
     ) -> Result<(), AllocError>
-        ensures default { self.new.default_ending ≡ self.old.default_ending }
+        ensures default { KeepsEnding self.old self.new }
         ensures printed { (ds : Targets) → KnowsTargets texts.now ds → AreClear (piece_lines rows.now) →
             let d = document_by T.Tables texts.now ds in
             OnOk result (LaysOut d.options.compile self.old self.new (flat_map (body_row_pieces d aligns.now) (own_lines (piece_lines rows.now)))) }
@@ -125,7 +125,7 @@ impl<A: Allocator + Clone> Page<A> {
         aligns: &[AlignKind],
         line: &Piece<'_>,
     ) -> Result<(), AllocError>
-        ensures default { self.new.default_ending ≡ self.old.default_ending }
+        ensures default { KeepsEnding self.old self.new }
         ensures printed { (ds : Targets) → KnowsTargets texts.now ds → HaveNoEnding (piece_line line.now).codes →
             let d = document_by T.Tables texts.now ds in
             OnOk result (LaysOut d.options.compile self.old self.new (row_pieces d name.now aligns.now (piece_line line.now))) }
@@ -145,7 +145,7 @@ impl<A: Allocator + Clone> Page<A> {
         aligns: &[AlignKind],
         line: &Piece<'_>,
     ) -> Result<(), AllocError>
-        ensures default { self.new.default_ending ≡ self.old.default_ending }
+        ensures default { KeepsEnding self.old self.new }
         ensures printed { (ds : Targets) → KnowsTargets texts.now ds → HaveNoEnding (piece_line line.now).codes →
             let d = document_by T.Tables texts.now ds in
             OnOk result (LaysOut d.options.compile self.old self.new (cells_pieces d name.now aligns.now (line_cells (piece_line line.now)))) }
@@ -164,7 +164,7 @@ impl<A: Allocator + Clone> Page<A> {
         texts: &Texts<'_, T, A>,
         cells: Cells<'_>,
     ) -> Result<(), AllocError>
-        ensures default { self.new.default_ending ≡ self.old.default_ending }
+        ensures default { KeepsEnding self.old self.new }
         ensures printed { (ds : Targets) → KnowsTargets texts.now ds → CellsAreClear (cells_left cells.entry) →
             let d = document_by T.Tables texts.now ds in
             OnOk result (LaysOut d.options.compile self.old self.new (flat_map (cell_counts d) (cells_left cells.entry))) }
@@ -184,7 +184,7 @@ impl<A: Allocator + Clone> Page<A> {
         align: AlignKind,
         cell: Option<Cell<'_>>,
     ) -> Result<(), AllocError>
-        ensures default { self.new.default_ending ≡ self.old.default_ending }
+        ensures default { KeepsEnding self.old self.new }
         ensures printed { (ds : Targets) → KnowsTargets texts.now ds → IsClearIf cell.entry →
             let d = document_by T.Tables texts.now ds in
             OnOk result (LaysOut d.options.compile self.old self.new (next_cell_pieces d name.now align cell.entry)) }
@@ -203,7 +203,7 @@ impl<A: Allocator + Clone> Page<A> {
         align: AlignKind,
         cell: &Cell<'_>,
     ) -> Result<(), AllocError>
-        ensures default { self.new.default_ending ≡ self.old.default_ending }
+        ensures default { KeepsEnding self.old self.new }
         ensures printed { (ds : Targets) → KnowsTargets texts.now ds →
             HaveNoEnding (piece_line cell.now.line).codes →
             let d = document_by T.Tables texts.now ds in
@@ -217,7 +217,7 @@ impl<A: Allocator + Clone> Page<A> {
 
     /// Prints a cell that is missing.
     fn missing_cell(&mut self, name: &str, align: AlignKind) -> Result<(), AllocError>
-        ensures default { self.new.default_ending ≡ self.old.default_ending }
+        ensures default { KeepsEnding self.old self.new }
         ensures printed { (options : CompileOptions) → OnOk result (LaysOut options self.old self.new (missing_pieces name.now align)) }
     {
         self.fresh()?;
@@ -227,7 +227,7 @@ impl<A: Allocator + Clone> Page<A> {
 
     /// Prints the tag of a cell.
     fn cell_tag(&mut self, name: &str, align: AlignKind) -> Result<(), AllocError>
-        ensures default { self.new.default_ending ≡ self.old.default_ending }
+        ensures default { KeepsEnding self.old self.new }
         ensures printed { OnOk result (Prints self.old self.new (tag_of_cell name.now align)) }
     {
         push_cell_tag(&mut self.out.html, name, align)
@@ -235,7 +235,7 @@ impl<A: Allocator + Clone> Page<A> {
 
     /// Prints the end of a cell.
     fn cell_end(&mut self, name: &str) -> Result<(), AllocError>
-        ensures default { self.new.default_ending ≡ self.old.default_ending }
+        ensures default { KeepsEnding self.old self.new }
         ensures printed { OnOk result (Prints self.old self.new (end_of_cell name.now)) }
     {
         push_cell_end(&mut self.out.html, name)

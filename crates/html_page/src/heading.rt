@@ -1,7 +1,7 @@
 //! The tags of headings (CommonMark 4.2 and 4.3).
 ghost use Rattle.std.specs.Prelude.{◌≡◌, ◌≤◌, ◌+◌, ◌++◌, ◌∷◌, [], OnOk, codes};
 ghost use Rattle.html_escape.specs.Prints as escape;
-ghost use Rattle.html_page.specs.Prints.{Prints};
+ghost use Rattle.html_page.specs.Prints.{Prints, KeepsEnding};
 
 use crate::page::Page;
 use std::alloc::{AllocError, Allocator};
@@ -10,7 +10,7 @@ impl<A: Allocator + Clone> Page<A> {
     /// Prints a tag that ends with a rank.
     pub(crate) fn heading_tag(&mut self, name: &str, rank: u8) -> Result<(), AllocError>
         requires { (1 ≤ rank) × (rank ≤ 6) }
-        ensures default { self.new.default_ending ≡ self.old.default_ending }
+        ensures default { KeepsEnding self.old self.new }
         ensures printed { OnOk result (Prints self.old self.new (name.now ++ (48 + rank) ∷ codes ">")) }
     {
         push_heading_tag(&mut self.out.html, name, rank)

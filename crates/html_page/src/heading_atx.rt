@@ -1,5 +1,5 @@
 //! ATX headings (CommonMark 4.2).
-ghost use Rattle.std.specs.Prelude.{◌≡◌, ◌≤◌, ◌∷◌, [], List, OnOk, true, false};
+ghost use Rattle.std.specs.Prelude.{◌≤◌, ◌∷◌, [], List, OnOk, true, false};
 ghost use Rattle.definition_page.specs.Targets.{Targets};
 ghost use Rattle.definition_text.specs.BlockLines.{own_lines};
 ghost use Rattle.definition_block.specs.Tree.{Heading};
@@ -8,7 +8,7 @@ ghost use Rattle.html_bytes.specs.Html.{block_pieces};
 ghost use Rattle.block_rows.specs.ParagraphLines.{HaveNoEnding};
 ghost use Rattle.block_rows.specs.Rows.{piece_line};
 ghost use Rattle.html_contents.specs.Texts.{KnowsTargets, document_by};
-ghost use Rattle.html_page.specs.Prints.{LaysOut};
+ghost use Rattle.html_page.specs.Prints.{LaysOut, KeepsEnding};
 
 use crate::page::Page;
 use block_rows::Piece;
@@ -25,7 +25,7 @@ impl<A: Allocator + Clone> Page<A> {
         line: &Piece<'_>,
     ) -> Result<(), AllocError>
         requires { (1 ≤ rank) × (rank ≤ 6) }
-        ensures default { self.new.default_ending ≡ self.old.default_ending }
+        ensures default { KeepsEnding self.old self.new }
         ensures printed { (ds : Targets) → KnowsTargets texts.now ds →
             HaveNoEnding (piece_line line.now).codes → let ls = own_lines (piece_line line.now ∷ []) in
             let d = document_by T.Tables texts.now ds in

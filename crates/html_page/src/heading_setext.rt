@@ -1,5 +1,5 @@
 //! Setext headings (CommonMark 4.3).
-ghost use Rattle.std.specs.Prelude.{◌≡◌, ◌≤◌, List, OnOk, true, false};
+ghost use Rattle.std.specs.Prelude.{◌≤◌, List, OnOk, true, false};
 ghost use Rattle.html_bytes.specs.Document.{text_of};
 ghost use Rattle.definition_page.specs.Targets.{Targets};
 ghost use Rattle.definition_text.specs.BlockLines.{own_lines};
@@ -9,7 +9,7 @@ ghost use Rattle.html_bytes.specs.Html.{block_pieces};
 ghost use Rattle.block_rows.specs.Rows.{piece_lines};
 ghost use Rattle.html_contents.specs.Texts.{KnowsTargets, document_by};
 ghost use Rattle.html_page.specs.Printable.{AreHeadingLines};
-ghost use Rattle.html_page.specs.Prints.{LaysOut};
+ghost use Rattle.html_page.specs.Prints.{LaysOut, KeepsEnding};
 
 use crate::page::Page;
 use block_rows::Piece;
@@ -26,7 +26,7 @@ impl<A: Allocator + Clone> Page<A> {
         lines: &[Piece<'_>],
     ) -> Result<(), AllocError>
         requires { (1 ≤ rank) × (rank ≤ 6) }
-        ensures default { self.new.default_ending ≡ self.old.default_ending }
+        ensures default { KeepsEnding self.old self.new }
         ensures printed { (ds : Targets) → KnowsTargets texts.now ds →
             let ls = own_lines (piece_lines lines.now) in AreHeadingLines ls →
             let d = document_by T.Tables texts.now ds in
@@ -44,7 +44,7 @@ impl<A: Allocator + Clone> Page<A> {
         texts: &Texts<'_, T, A>,
         lines: &[Piece<'_>],
     ) -> Result<(), AllocError>
-        ensures default { self.new.default_ending ≡ self.old.default_ending }
+        ensures default { KeepsEnding self.old self.new }
         ensures printed { (ds : Targets) → KnowsTargets texts.now ds →
             let ls = own_lines (piece_lines lines.now) in AreHeadingLines ls →
             let d = document_by T.Tables texts.now ds in OnOk result (LaysOut d.options.compile self.old self.new (text_of d ls)) }

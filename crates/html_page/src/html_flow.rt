@@ -2,7 +2,7 @@
 //!
 //! Where raw HTML isn't allowed, it is printed as text. Where it is, the tag filter may print the
 //! `<` of some tags as a reference (GFM 6.11).
-ghost use Rattle.std.specs.Prelude.{◌≡◌, ℕ, replicate, ◌++◌, ◌∷◌, [], OnOk};
+ghost use Rattle.std.specs.Prelude.{ℕ, replicate, ◌++◌, ◌∷◌, [], OnOk};
 ghost use Rattle.definition_text.specs.BlockLines.{own_lines};
 ghost use Rattle.definition_text.specs.Columns.{bytes_of, tab_column};
 ghost use Rattle.html_bytes.specs.Html.{html_of};
@@ -10,7 +10,7 @@ ghost use Rattle.html_bytes.specs.RawHtml.{raw_html};
 ghost use Rattle.html_bytes.specs.Pieces.{Bytes, Fresh};
 ghost use Rattle.block_rows.specs.Rows.{piece_lines};
 ghost use Rattle.html_escape.specs.Prints as escape;
-ghost use Rattle.html_page.specs.Prints.{LaysOut, Prints};
+ghost use Rattle.html_page.specs.Prints.{LaysOut, Prints, KeepsEnding};
 
 use crate::page::Page;
 use block_rows::{Piece, push_ending};
@@ -25,7 +25,7 @@ impl<A: Allocator + Clone> Page<A> {
         options: &CompileOptions,
         lines: &[Piece<'_>],
     ) -> Result<(), AllocError>
-        ensures default { self.new.default_ending ≡ self.old.default_ending }
+        ensures default { KeepsEnding self.old self.new }
         ensures printed { OnOk result (LaysOut options.now self.old self.new (Fresh ∷ Bytes (html_of options.now (own_lines (piece_lines lines.now))) ∷ [])) }
     {
         self.fresh()?;
@@ -38,7 +38,7 @@ impl<A: Allocator + Clone> Page<A> {
         options: &CompileOptions,
         lines: &[Piece<'_>],
     ) -> Result<(), AllocError>
-        ensures default { self.new.default_ending ≡ self.old.default_ending }
+        ensures default { KeepsEnding self.old self.new }
         ensures printed { OnOk result (Prints self.old self.new (html_of options.now (own_lines (piece_lines lines.now)))) }
     {
         push_html_lines(&mut self.out.html, options, lines)

@@ -2,7 +2,7 @@
 ghost use Rattle.std.specs.Prelude.{◌≡◌, OnOk};
 ghost use Rattle.html_bytes.specs.Html.{number_tag, number_end};
 ghost use Rattle.html_escape.specs.Prints as escape;
-ghost use Rattle.html_page.specs.Prints.{Prints};
+ghost use Rattle.html_page.specs.Prints.{Prints, KeepsEnding};
 ghost use Rattle.markdown_options.specs.LineEndings.{ending_bytes};
 ghost use Rattle.html_page.specs.PrinterView.{enter_list, leave_list, printer_view};
 
@@ -14,7 +14,7 @@ use std::alloc::{AllocError, Allocator};
 impl<A: Allocator + Clone> Page<A> {
     /// Prints the tag of a list by the number of its first item.
     pub(crate) fn list_tag(&mut self, number: Option<u32>) -> Result<(), AllocError>
-        ensures default { self.new.default_ending ≡ self.old.default_ending }
+        ensures default { KeepsEnding self.old self.new }
         ensures printed { OnOk result (Prints self.old self.new (number_tag number)) }
     {
         push_list_tag(&mut self.out.html, number)
@@ -22,7 +22,7 @@ impl<A: Allocator + Clone> Page<A> {
 
     /// Prints the end of a list by the number of its first item.
     pub(crate) fn list_end(&mut self, number: Option<u32>) -> Result<(), AllocError>
-        ensures default { self.new.default_ending ≡ self.old.default_ending }
+        ensures default { KeepsEnding self.old self.new }
         ensures printed { OnOk result (Prints self.old self.new (number_end number)) }
     {
         self.say(list_end(number))
@@ -32,7 +32,7 @@ impl<A: Allocator + Clone> Page<A> {
 impl<A: Allocator + Clone> Printer<A> {
     /// A list starts (CommonMark 5.3).
     pub(crate) fn enter_list(&mut self, number: Option<u32>, tight: bool) -> Result<(), AllocError>
-        ensures default { self.new.page.default_ending ≡ self.old.page.default_ending }
+        ensures default { KeepsEnding self.old.page self.new.page }
         ensures printed { OnOk result (printer_view self.new ≡ enter_list (ending_bytes self.old.page.default_ending) number tight (printer_view self.old)) }
     {
         self.page.fresh()?;
@@ -42,7 +42,7 @@ impl<A: Allocator + Clone> Printer<A> {
 
     /// A list ends, if one is open.
     pub(crate) fn leave_list(&mut self) -> Result<(), AllocError>
-        ensures default { self.new.page.default_ending ≡ self.old.page.default_ending }
+        ensures default { KeepsEnding self.old.page self.new.page }
         ensures printed { OnOk result (printer_view self.new ≡ leave_list (ending_bytes self.old.page.default_ending) (printer_view self.old)) }
     {
         if let Holder::List { number } = self.level.holder {

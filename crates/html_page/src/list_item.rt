@@ -2,6 +2,7 @@
 ghost use Rattle.std.specs.Prelude.{◌≡◌, OnOk};
 ghost use Rattle.markdown_options.specs.LineEndings.{ending_bytes};
 ghost use Rattle.html_page.specs.PrinterView.{enter_item, enter_list, start_item, leave_item, printer_view};
+ghost use Rattle.html_page.specs.Prints.{KeepsEnding};
 
 use crate::level::Holder;
 use crate::printer::Printer;
@@ -10,7 +11,7 @@ use std::alloc::{AllocError, Allocator};
 impl<A: Allocator + Clone> Printer<A> {
     /// An item starts (CommonMark 5.2). It goes on the list that is open, or starts one.
     pub(crate) fn enter_item(&mut self, number: Option<u32>) -> Result<(), AllocError>
-        ensures default { self.new.page.default_ending ≡ self.old.page.default_ending }
+        ensures default { KeepsEnding self.old.page self.new.page }
         ensures printed { OnOk result (printer_view self.new ≡ enter_item (ending_bytes self.old.page.default_ending) number (printer_view self.old)) }
     {
         let place = self.places.pop().unwrap_or_default();
@@ -22,7 +23,7 @@ impl<A: Allocator + Clone> Printer<A> {
 
     /// An item starts, in a list that is open.
     fn start_item(&mut self, last: bool) -> Result<(), AllocError>
-        ensures default { self.new.page.default_ending ≡ self.old.page.default_ending }
+        ensures default { KeepsEnding self.old.page self.new.page }
         ensures printed { OnOk result (printer_view self.new ≡ start_item (ending_bytes self.old.page.default_ending) last (printer_view self.old)) }
     {
         self.page.fresh()?;
@@ -32,7 +33,7 @@ impl<A: Allocator + Clone> Printer<A> {
 
     /// An item ends. No fresh line stands after a paragraph of a tight item.
     pub(crate) fn leave_item(&mut self) -> Result<(), AllocError>
-        ensures default { self.new.page.default_ending ≡ self.old.page.default_ending }
+        ensures default { KeepsEnding self.old.page self.new.page }
         ensures printed { OnOk result (printer_view self.new ≡ leave_item (ending_bytes self.old.page.default_ending) (printer_view self.old)) }
     {
         if !self.level.plain {

@@ -26,7 +26,7 @@ pub(crate) struct Page<A: Allocator + Clone> {
 }
 
 impl<A: Allocator + Clone> Page<A> {
-    ghost use Rattle.html_page.specs.Prints.{LaysOut, Prints, page_view, with_fresh};
+    ghost use Rattle.html_page.specs.Prints.{LaysOut, Prints, page_view, with_fresh, KeepsEnding};
 
     /// Prints a block, or the ending of a line. A block takes its lines from the front of these.
     /// A definition (CommonMark 4.7) prints nothing, nor does any other row here.
@@ -39,7 +39,7 @@ impl<A: Allocator + Clone> Page<A> {
     ) -> Result<(), AllocError>
         requires enough { row_size row ≤ length lines.now }
         requires printable { IsPrintableRow (row_value row (piece_lines lines.now)) }
-        ensures default { self.new.default_ending ≡ self.old.default_ending }
+        ensures default { KeepsEnding self.old self.new }
         ensures printed { (ds : Targets) → KnowsTargets texts.now ds →
             let d = document_by T.Tables texts.now ds in
             OnOk result (LaysOut d.options.compile self.old self.new (row_pieces d level (row_value row (piece_lines lines.now)))) }
@@ -83,7 +83,7 @@ impl<A: Allocator + Clone> Page<A> {
         level: Level,
         ending: Option<LineEnding>,
     ) -> Result<(), AllocError>
-        ensures default { self.new.default_ending ≡ self.old.default_ending }
+        ensures default { KeepsEnding self.old self.new }
         ensures printed { (d : Document) → OnOk result (LaysOut d.options.compile self.old self.new (row_pieces d level (Single (Ending ending)))) }
     {
         if level.silent {
@@ -94,7 +94,7 @@ impl<A: Allocator + Clone> Page<A> {
 
     /// Prints an ending, if there is one.
     pub(crate) fn push_ending(&mut self, ending: Option<LineEnding>) -> Result<(), AllocError>
-        ensures default { self.new.default_ending ≡ self.old.default_ending }
+        ensures default { KeepsEnding self.old self.new }
         ensures printed { OnOk result (Prints self.old self.new (ending_text ending)) }
     {
         push_ending(&mut self.out.html, ending)
@@ -102,7 +102,7 @@ impl<A: Allocator + Clone> Page<A> {
 
     /// Asks for a fresh line.
     pub(crate) fn fresh(&mut self) -> Result<(), AllocError>
-        ensures default { self.new.default_ending ≡ self.old.default_ending }
+        ensures default { KeepsEnding self.old self.new }
         ensures printed { OnOk result (page_view self.new ≡ with_fresh (ending_bytes self.old.default_ending) (page_view self.old)) }
     {
         push_fresh(&mut self.out.html, self.default_ending)
@@ -110,7 +110,7 @@ impl<A: Allocator + Clone> Page<A> {
 
     /// Prints the default ending.
     pub(crate) fn eol(&mut self) -> Result<(), AllocError>
-        ensures default { self.new.default_ending ≡ self.old.default_ending }
+        ensures default { KeepsEnding self.old self.new }
         ensures printed { OnOk result (Prints self.old self.new (ending_bytes self.old.default_ending)) }
     {
         self.say(self.default_ending.as_str())
@@ -118,7 +118,7 @@ impl<A: Allocator + Clone> Page<A> {
 
     /// Prints a text as it is.
     pub(crate) fn say(&mut self, text: &str) -> Result<(), AllocError>
-        ensures default { self.new.default_ending ≡ self.old.default_ending }
+        ensures default { KeepsEnding self.old self.new }
         ensures printed { OnOk result (Prints self.old self.new text.now) }
     {
         self.out.html.push_str(text)

@@ -1,5 +1,5 @@
 //! Paragraphs (CommonMark 4.8).
-ghost use Rattle.std.specs.Prelude.{◌≡◌, ◌<◌, ℕ, List, slice_index, OnOk, true, false};
+ghost use Rattle.std.specs.Prelude.{◌<◌, ℕ, List, slice_index, OnOk, true, false};
 ghost use Rattle.definition_page.specs.Targets.{Targets};
 ghost use Rattle.block_rows.specs.ParagraphLines.{AreLines};
 ghost use Rattle.definition_text.specs.BlockLines.{own_lines};
@@ -8,7 +8,7 @@ ghost use Rattle.html_bytes.specs.Html.{block_pieces};
 ghost use Rattle.block_rows.specs.Rows.{piece_lines, whole_lines};
 ghost use Rattle.html_contents.specs.Texts.{KnowsTargets, document_by};
 ghost use Rattle.html_page.specs.Levels.{standing_first};
-ghost use Rattle.html_page.specs.Prints.{LaysOut};
+ghost use Rattle.html_page.specs.Prints.{LaysOut, KeepsEnding};
 
 use crate::page::Page;
 use block_rows::Piece;
@@ -26,7 +26,7 @@ impl<A: Allocator + Clone> Page<A> {
         first: bool,
         lines: &[Piece<'_>],
     ) -> Result<(), AllocError>
-        ensures default { self.new.default_ending ≡ self.old.default_ending }
+        ensures default { KeepsEnding self.old self.new }
         ensures printed { (ds : Targets) → KnowsTargets texts.now ds → AreLines (piece_lines lines.now) →
             let paragraph = Paragraph (own_lines (piece_lines lines.now)) in
             let d = document_by T.Tables texts.now ds in
@@ -50,7 +50,7 @@ impl<A: Allocator + Clone> Page<A> {
         count: usize,
         text: &str,
     ) -> Result<(), AllocError>
-        ensures default { self.new.default_ending ≡ self.old.default_ending }
+        ensures default { KeepsEnding self.old self.new }
         ensures printed { (ds : Targets) → KnowsTargets texts.now ds →
             let paragraph = Paragraph (own_lines (whole_lines count text.now)) in
             let d = document_by T.Tables texts.now ds in

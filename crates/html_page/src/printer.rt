@@ -10,6 +10,7 @@ ghost use Rattle.block_rows.specs.Rows.{rows_size, row_size, piece_lines, rows_o
 ghost use Rattle.html_contents.specs.Texts.{KnowsTargets, document_by};
 ghost use Rattle.html_page.specs.Printable.{IsPrintableRow, ArePrintable, CanBePrinted};
 ghost use Rattle.html_page.specs.PrinterView.{ends_blank_rows, is_blank_row, printer_view, print_row};
+ghost use Rattle.html_page.specs.Prints.{KeepsEnding};
 
 use crate::level::{Holder, Level};
 use crate::loose::{Place, places};
@@ -41,7 +42,7 @@ impl<A: Allocator + Clone> Printer<A> {
     ) -> Result<(), AllocError>
         requires enough { row_size row ≤ length lines.now }
         requires printable { IsPrintableRow (row_value row (piece_lines lines.now)) }
-        ensures default { self.new.page.default_ending ≡ self.old.page.default_ending }
+        ensures default { KeepsEnding self.old.page self.new.page }
         ensures printed { (ds : Targets) → KnowsTargets texts.now ds →
             let d = document_by T.Tables texts.now ds in let value = row_value row (piece_lines lines.now) in
             OnOk result (printer_view self.new ≡ print_row d (ending_bytes self.old.page.default_ending) (printer_view self.old) value) }

@@ -8,7 +8,7 @@ use Rattle.definition_text.specs.Content.{after_return_code, content_codes}
 use Rattle.engine_events.specs.Columns.{tab_size}
 use Rattle.engine_events.specs.declared.place.Point.{Point}
 use Rattle.markdown_engine.specs.declared.virtual_text.VirtualByte.{VirtualByte}
-use Rattle.markdown_engine.specs.VirtualText.{as_byte, feeds, given, in_line, in_tab, is_before, is_feed, next_line, tab_column}
+use Rattle.markdown_engine.specs.VirtualText.{as_byte, feeds, byte_given, in_line, in_tab, is_before, is_feed, next_line, tab_column}
 use Rattle.inline_codes.specs.Codes.{Fills, Sees, byte, column, full, nothing, tab, text_byte}
 use Rattle.inline_codes.specs.TextCodes.{TextCodesLaw, whole_text}
 
@@ -36,14 +36,14 @@ module _ (bytes : List ℕ) where
   at_end p h = or_from (nat_lt p.index (length bytes)) ((p.index == length bytes) && nat_lt p.vs 0) (le-ltb p.index (length bytes) h)
       (both_no (p.index == length bytes) (nat_lt p.vs 0) (no_column p.vs))
 
-  byte_there : (p : Point) (v : VirtualByte) → p.index < length bytes → given bytes p (get_or bytes p.index 0) ≡ v
+  byte_there : (p : Point) (v : VirtualByte) → p.index < length bytes → byte_given bytes p (get_or bytes p.index 0) ≡ v
       → (whole_text bytes).byte ((whole_text bytes).start p) ≡ Some v
   byte_there p v h k =
-      ap (whole_text bytes).byte (stays p) ∙ (ap (λ (b : Bool). if b then Some (given bytes p (get_or bytes p.index 0)) else None) (before_end p h)
+      ap (whole_text bytes).byte (stays p) ∙ (ap (λ (b : Bool). if b then Some (byte_given bytes p (get_or bytes p.index 0)) else None) (before_end p h)
       ∙ ap (λ (w : VirtualByte). Some w) k)
 
   none_there : (p : Point) → length bytes ≤ p.index → (whole_text bytes).byte ((whole_text bytes).start p) ≡ None
-  none_there p h = ap (whole_text bytes).byte (stays p) ∙ ap (λ (b : Bool). if b then Some (given bytes p (get_or bytes p.index 0)) else None) (at_end p h)
+  none_there p h = ap (whole_text bytes).byte (stays p) ∙ ap (λ (b : Bool). if b then Some (byte_given bytes p (get_or bytes p.index 0)) else None) (at_end p h)
 
   -- ---- tabs
 
@@ -56,8 +56,8 @@ module _ (bytes : List ℕ) where
     pub index : end.index ≡ p.index + 1
     pub vs : end.vs ≡ 0
 
-  tab_given : (p : Point) → get_or bytes p.index 0 ≡ 9 → given bytes p (get_or bytes p.index 0) ≡ tab_column p
-  tab_given p h = ap (given bytes p) h
+  tab_given : (p : Point) → get_or bytes p.index 0 ≡ 9 → byte_given bytes p (get_or bytes p.index 0) ≡ tab_column p
+  tab_given p h = ap (byte_given bytes p) h
 
   -- a column after the first
   later_column : (p : Point) (last : Bool) → (p.vs == 0) ≡ false → ((tab_size p.column == 1) || nat_le 3 p.vs) ≡ last
@@ -128,7 +128,7 @@ module _ (bytes : List ℕ) where
 
   -- another byte than a tab and a CR
   plain_given : (p : Point) (b : ℕ) (is : Bool) → (b == 9) ≡ false → (b == 13) ≡ false → (b == 10) ≡ is
-      → given bytes p b ≡ as_byte b (if is then next_line 1 p else in_line p)
+      → byte_given bytes p b ≡ as_byte b (if is then next_line 1 p else in_line p)
   plain_given p b true h k l = rw (h, l) (ap (λ (n : ℕ). as_byte n (next_line 1 p)) (sym (eqb-true b 10 l)))
   plain_given p b false h k l = rw (h, l, k) refl
 
@@ -143,17 +143,17 @@ module _ (bytes : List ℕ) where
       → Rest p.index → Sees (whole_text bytes) p (b ∷ content_codes (drop (p.index + 1) bytes))
   on_plain p b h e no_tab no_return low rest = elim (cases_Bool (b == 10)) [
     | inl feed ↦ byte no_tab (byte_there p (as_byte (text_byte b) (next_line 1 p)) h
-        (ap (given bytes p) e ∙ (plain_given p b true no_tab no_return feed ∙ ap (λ (n : ℕ). as_byte n (next_line 1 p)) (feed_seen b feed))))
+        (ap (byte_given bytes p) e ∙ (plain_given p b true no_tab no_return feed ∙ ap (λ (n : ℕ). as_byte n (next_line 1 p)) (feed_seen b feed))))
         (rest (next_line 1 p) (omega arith) refl)
     | inr other ↦ byte no_tab (byte_there p (as_byte (text_byte b) (in_line p)) h
-        (ap (given bytes p) e ∙ (plain_given p b false no_tab no_return other ∙ ap (λ (n : ℕ). as_byte n (in_line p)) (other_seen b other no_return low))))
+        (ap (byte_given bytes p) e ∙ (plain_given p b false no_tab no_return other ∙ ap (λ (n : ℕ). as_byte n (in_line p)) (other_seen b other no_return low))))
         (rest (in_line p) (omega arith) refl)
   ]
 
   -- a CR, with the LF that may follow it
   return_given : (p : Point) (follows : Bool) → get_or bytes p.index 0 ≡ 13 → feeds bytes (p.index + 1) ≡ follows
-      → given bytes p (get_or bytes p.index 0) ≡ as_byte 10 (next_line (if follows then 2 else 1) p)
-  return_given p follows h k = ap (given bytes p) h ∙ ap (λ (b : Bool). as_byte 10 (next_line (if b then 2 else 1) p)) k
+      → byte_given bytes p (get_or bytes p.index 0) ≡ as_byte 10 (next_line (if follows then 2 else 1) p)
+  return_given p follows h k = ap (byte_given bytes p) h ∙ ap (λ (b : Bool). as_byte 10 (next_line (if b then 2 else 1) p)) k
 
   feeds_there : (index : ℕ) → index < length bytes → feeds bytes index ≡ (get_or bytes index 0 == 10)
   feeds_there index h = ap is_feed (slice_get-get_or bytes index 0 h)

@@ -4,7 +4,7 @@ use Rattle.std.proofs.lemmas.Bool.{cases_Bool, ne_eqb}
 use Rattle.std.specs.Char.{is_ascii_alphanumeric}
 use Rattle.engine_events.specs.declared.place.Point.{Point}
 use Rattle.markdown_engine.specs.declared.virtual_text.VirtualByte.{VirtualByte}
-use Rattle.markdown_engine.specs.VirtualText.{Source, as_byte, given, in_line, is_before, one_more, place_in, text_to, virtual_byte}
+use Rattle.markdown_engine.specs.VirtualText.{Source, as_byte, byte_given, in_line, is_before, one_more, place_in, text_to, virtual_byte}
 use Rattle.inline_codes.specs.TextBytes.{Shows, StandsAt, TextBytesLaw}
 
 no_letter : (b : Bool) → is_ascii_alphanumeric (if b then 9 else 32) ≡ false
@@ -12,17 +12,17 @@ no_letter true = refl
 no_letter false = refl
 
 -- another byte than those of a line ending and a tab
-plain : (bytes : List ℕ) (p : Point) (v : ℕ) → (v == 9) ≡ false → (v == 10) ≡ false → (v == 13) ≡ false → given bytes p v ≡ as_byte v (in_line p)
+plain : (bytes : List ℕ) (p : Point) (v : ℕ) → (v == 9) ≡ false → (v == 10) ≡ false → (v == 13) ≡ false → byte_given bytes p v ≡ as_byte v (in_line p)
 plain bytes p v h k l = rw (h, k, l) refl
 
 -- of a tab and a line ending no letter is given
-white : (bytes : List ℕ) (p : Point) (v : ℕ) → (v == 9) ≡ true → is_ascii_alphanumeric (given bytes p v).byte ≡ false
+white : (bytes : List ℕ) (p : Point) (v : ℕ) → (v == 9) ≡ true → is_ascii_alphanumeric (byte_given bytes p v).byte ≡ false
 white bytes p v h = rw h (no_letter (p.vs == 0))
 
-feed : (bytes : List ℕ) (p : Point) (v : ℕ) → (v == 9) ≡ false → (v == 10) ≡ true → is_ascii_alphanumeric (given bytes p v).byte ≡ false
+feed : (bytes : List ℕ) (p : Point) (v : ℕ) → (v == 9) ≡ false → (v == 10) ≡ true → is_ascii_alphanumeric (byte_given bytes p v).byte ≡ false
 feed bytes p v h k = rw (h, k) refl
 
-return : (bytes : List ℕ) (p : Point) (v : ℕ) → (v == 9) ≡ false → (v == 10) ≡ false → (v == 13) ≡ true → is_ascii_alphanumeric (given bytes p v).byte ≡ false
+return : (bytes : List ℕ) (p : Point) (v : ℕ) → (v == 9) ≡ false → (v == 10) ≡ false → (v == 13) ≡ true → is_ascii_alphanumeric (byte_given bytes p v).byte ≡ false
 return bytes p v h k l = rw (h, k, l) refl
 
 module _ (s : Source) (to : ℕ × ℕ) where
@@ -36,7 +36,7 @@ module _ (s : Source) (to : ℕ × ℕ) where
       → virtual_byte s.bytes p ≡ as_byte (slice_index s.bytes p.index) (in_line p)
   is_plain p q b e letter =
       let v = slice_index s.bytes p.index in
-      let is : is_ascii_alphanumeric (given s.bytes p v).byte ≡ true = ap (λ (g : VirtualByte). is_ascii_alphanumeric g.byte) e ∙ letter in
+      let is : is_ascii_alphanumeric (byte_given s.bytes p v).byte ≡ true = ap (λ (g : VirtualByte). is_ascii_alphanumeric g.byte) e ∙ letter in
       elim (cases_Bool (v == 9)) [
         | inl h ↦ absurd (let f : false ≡ true = sym (white s.bytes p v h) ∙ is in cc)
         | inr h ↦ elim (cases_Bool (v == 10)) [

@@ -3,7 +3,7 @@ use Rattle.inline_leaves.specs.declared.byte_class.ByteClass.{ByteClass}
 use Rattle.inline_leaves.specs.declared.byte_class.ByteClass.TheVariants.{Scheme, Uri, Email, Domain}
 use Rattle.definition_inline.specs.Autolink.{is_scheme_byte, is_uri_byte, is_email_byte, is_domain_byte}
 use Rattle.std.specs.Prelude.{Bool, if◌then◌else◌, ◌&&◌, ◌≡◌, ◌<◌, ◌≤◌, ◌+◌, ◌-◌, ℕ, true, List, [], ◌∷◌, Option, None, Some, drop, length, map, slice_index}
-use Rattle.std.specs.Prelude.{take}
+use Rattle.std.specs.Prelude.{IfSome, take}
 use Rattle.std.specs.Option.{option_map}
 use Rattle.markdown_options.specs.declared.configuration.Constructs.{Constructs}
 use Rattle.definition_inline.specs.HardBreak.{is_trailing_break}
@@ -61,6 +61,10 @@ pub record IsAfter (content rest : List ℕ) : Type 0 where
   pub place : rest ≡ drop (length content - length rest) content
   pub fewer : length (content_codes rest) < length (content_codes content)
   pub codes : content_codes rest ≡ drop (size_before content rest) (content_codes content)
+
+-- a construct, if one was found, leaves a rest of the content
+abbrev pub LeavesRest : List ℕ → Option Leaf → Type 0
+LeavesRest content found = IfSome found (λ leaf. IsAfter content leaf.after.now)
 
 -- a place after an ASCII byte, and not inside a line ending
 pub record IsEnd (content : List ℕ) (end : ℕ) : Type 0 where

@@ -10,7 +10,7 @@ ghost use Rattle.std.specs.Prelude.{◌≡◌, IfSome, drop};
 ghost use Rattle.std.specs.Option.{option_map};
 ghost use Rattle.definition_inline.specs.Autolink.{autolink_at, autolink_after, closed_autolink, uri_end, email_end, domain_end, is_domain, is_domain_label};
 ghost use Rattle.definition_text.specs.Content.{content_codes};
-ghost use Rattle.inline_leaves.specs.Leaves.{found_leaf, address_leaf, codes_after, IsAddress, IsAfter, IsPlain};
+ghost use Rattle.inline_leaves.specs.Leaves.{found_leaf, address_leaf, codes_after, IsAddress, IsPlain, LeavesRest};
 
 use crate::byte_class::{ByteClass, prefix_size};
 use crate::cut::{cut_after, text_between};
@@ -31,7 +31,7 @@ struct Address {
 /// An autolink (CommonMark 6.5).
 pub fn autolink_at<'a>(on: &Constructs, content: &'a str) -> Option<Leaf<'a>>
     ensures read { found_leaf content.now result ≡ autolink_at on.now (content_codes content.now) }
-    ensures place { IfSome result (λ found. IsAfter content.now found.after.now) }
+    ensures place { LeavesRest content.now result }
 {
     let bytes = content.as_bytes();
     if !on.autolink || !bytes.starts_with(b"<") {

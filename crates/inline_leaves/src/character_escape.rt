@@ -4,7 +4,7 @@
 ghost use Rattle.std.specs.Prelude.{◌≡◌, IfSome};
 ghost use Rattle.definition_inline.specs.CharacterEscape.{escape_at};
 ghost use Rattle.definition_text.specs.Content.{content_codes};
-ghost use Rattle.inline_leaves.specs.Leaves.{found_leaf, escape_leaf, IsAfter, IsEscape};
+ghost use Rattle.inline_leaves.specs.Leaves.{found_leaf, escape_leaf, IsEscape, LeavesRest};
 
 use crate::cut::{cut_after, text_between};
 use crate::leaf::{Leaf, LeafPart};
@@ -13,7 +13,7 @@ use markdown_options::Constructs;
 /// A backslash before ASCII punctuation (CommonMark 2.4).
 pub fn escape_at<'a>(on: &Constructs, content: &'a str) -> Option<Leaf<'a>>
     ensures read { found_leaf content.now result ≡ escape_at on.now (content_codes content.now) }
-    ensures place { IfSome result (λ found. IsAfter content.now found.after.now) }
+    ensures place { LeavesRest content.now result }
 {
     let _byte = escaped_byte(on, content.as_bytes())?;
     Some(Leaf {

@@ -4,12 +4,12 @@
 //!     name      ::= letter_or_digit{1,31}
 //!
 //! `inline_references` finds them. Which names there are, tables say.
-ghost use Rattle.std.specs.Prelude.{◌≡◌, IfSome};
+ghost use Rattle.std.specs.Prelude.{◌≡◌};
 ghost use Rattle.std.specs.Option.{option_map};
 ghost use Rattle.definition_inline.specs.CharacterReference.{reference_at};
 ghost use Rattle.definition_text.specs.Content.{content_codes};
 ghost use Rattle.inline_references.specs.Markers.{value_text};
-ghost use Rattle.inline_leaves.specs.Leaves.{found_leaf, character_parts, parts_of, IsAfter};
+ghost use Rattle.inline_leaves.specs.Leaves.{found_leaf, character_parts, parts_of, LeavesRest};
 
 use crate::leaf::{Leaf, LeafPart};
 use inline_references::character_reference;
@@ -22,7 +22,7 @@ pub fn reference_at<'a, T: Tables>(
     content: &'a str,
 ) -> Option<Leaf<'a>>
     ensures read { found_leaf content.now result ≡ reference_at on.now (T.reference_of tables.now) (content_codes content.now) }
-    ensures place { IfSome result (λ found. IsAfter content.now found.after.now) }
+    ensures place { LeavesRest content.now result }
 {
     if !on.character_reference {
         return None;

@@ -1,11 +1,11 @@
 //! Code spans (CommonMark 6.1).
 //!
 //!     code_text ::= raw_text, of backticks
-ghost use Rattle.std.specs.Prelude.{◌≡◌, IfOk, IfSome};
+ghost use Rattle.std.specs.Prelude.{◌≡◌, IfOk};
 ghost use Rattle.definition_inline.specs.CodeText.{code_text_at};
 ghost use Rattle.definition_text.specs.Content.{content_codes};
 ghost use Rattle.inline_links.specs.Codes.{IsRest};
-ghost use Rattle.inline_leaves.specs.Leaves.{found_leaf, IsAfter};
+ghost use Rattle.inline_leaves.specs.Leaves.{found_leaf, LeavesRest};
 
 use crate::leaf::Leaf;
 use crate::raw_runs::RawMarker;
@@ -23,7 +23,7 @@ pub fn code_text_at<'a, A: Allocator + Clone>(
     requires { IsRest searches.old.content.now rest.now }
     ensures content { searches.new.content ≡ searches.old.content }
     ensures read { IfOk result (λ found. found_leaf rest.now found ≡ code_text_at on.now (content_codes rest.now)) }
-    ensures place { IfOk result (λ found. IfSome found (λ leaf. IsAfter rest.now leaf.after.now)) }
+    ensures place { IfOk result (LeavesRest rest.now) }
 {
     raw_text_at(RawMarker::Backtick, on.code_text, searches, rest)
 }

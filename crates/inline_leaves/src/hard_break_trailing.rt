@@ -3,11 +3,11 @@
 //!
 //!     hard_break_trailing ::= ' ' ' '+, before an ending that isn't the last code
 //!     line_spaces         ::= (space | tab)+, before an ending or at the end of the content
-ghost use Rattle.std.specs.Prelude.{◌≡◌, ◌==◌, IfSome};
+ghost use Rattle.std.specs.Prelude.{◌≡◌, ◌==◌};
 ghost use Rattle.std.specs.List.{list_all};
 ghost use Rattle.definition_inline.specs.HardBreak.{is_trailing_break, line_spaces_at};
 ghost use Rattle.definition_text.specs.Content.{content_codes};
-ghost use Rattle.inline_leaves.specs.Leaves.{found_leaf, parts_of, spaces_parts, IsAfter};
+ghost use Rattle.inline_leaves.specs.Leaves.{found_leaf, parts_of, spaces_parts, LeavesRest};
 
 use crate::cut::cut_after;
 use crate::leaf::{Leaf, LeafPart};
@@ -21,7 +21,7 @@ use markdown_options::constants::HARD_BREAK_PREFIX_SIZE_MIN;
 /// (CommonMark 6.7 and 6.8).
 pub fn line_spaces_at<'a>(on: &Constructs, content: &'a str) -> Option<Leaf<'a>>
     ensures read { found_leaf content.now result ≡ line_spaces_at on.now (content_codes content.now) }
-    ensures place { IfSome result (λ found. IsAfter content.now found.after.now) }
+    ensures place { LeavesRest content.now result }
 {
     let bytes = content.as_bytes();
     let size = white_size(bytes);

@@ -13,7 +13,7 @@ ghost use Rattle.definition_inline.specs.HtmlText.{after_first, comment, instruc
 ghost use Rattle.definition_text.specs.Bytes.{begins_with};
 ghost use Rattle.definition_text.specs.Content.{content_codes};
 ghost use Rattle.inline_tags.specs.Views.{place_of};
-ghost use Rattle.inline_leaves.specs.Leaves.{found_leaf, IsAfter};
+ghost use Rattle.inline_leaves.specs.Leaves.{found_leaf, LeavesRest};
 ghost use Rattle.inline_leaves.specs.HtmlText.{line_feed, is_end, tag_after, open_after, closing_after, html_after, IsClosed, ClosesText};
 
 use crate::cut::{cut_after, text_before};
@@ -27,7 +27,7 @@ use text_bytes::begins_with_letter;
 /// Raw HTML (CommonMark 6.6).
 pub fn html_text_at<'a>(on: &Constructs, content: &'a str) -> Option<Leaf<'a>>
     ensures read { found_leaf content.now result ≡ html_text_at on.now (content_codes content.now) }
-    ensures place { IfSome result (λ found. IsAfter content.now found.after.now) }
+    ensures place { LeavesRest content.now result }
 {
     let bytes = content.as_bytes();
     if !on.html_text || !bytes.starts_with(b"<") {

@@ -1,8 +1,8 @@
 //! What a content begins with (CommonMark 6).
-ghost use Rattle.std.specs.Prelude.{◌≡◌, IfOk, IfSome};
+ghost use Rattle.std.specs.Prelude.{◌≡◌, IfOk};
 ghost use Rattle.definition_text.specs.Content.{content_codes};
 ghost use Rattle.inline_links.specs.Codes.{IsRest};
-ghost use Rattle.inline_leaves.specs.Leaves.{found_leaf, IsAfter};
+ghost use Rattle.inline_leaves.specs.Leaves.{found_leaf, LeavesRest};
 ghost use Rattle.inline_leaves.specs.Scanned.{leaf_in};
 
 use crate::autolink::autolink_at;
@@ -29,7 +29,7 @@ pub fn leaf_at<'a, T: Tables, A: Allocator + Clone>(
     requires { IsRest searches.old.content.now rest.now }
     ensures content { searches.new.content ≡ searches.old.content }
     ensures read { IfOk result (λ found. found_leaf rest.now found ≡ leaf_in options.now (T.reference_of tables.now) (content_codes rest.now)) }
-    ensures place { IfOk result (λ found. IfSome found (λ leaf. IsAfter rest.now leaf.after.now)) }
+    ensures place { IfOk result (LeavesRest rest.now) }
 {
     if rest.is_empty() {
         return Ok(None);

@@ -2,11 +2,11 @@
 //!
 //!     ending   ::= CR LF | CR | LF
 //!     line_end ::= ending (space | tab)*
-ghost use Rattle.std.specs.Prelude.{◌≡◌, IfSome, MatchOption, false};
+ghost use Rattle.std.specs.Prelude.{◌≡◌, MatchOption, false};
 ghost use Rattle.definition_text.specs.Content.{content_codes};
 ghost use Rattle.definition_inline.specs.Strings.{begins_with_eol};
 ghost use Rattle.definition_inline.specs.HardBreak.{line_end_at, ends_inner_line, ends_here};
-ghost use Rattle.inline_leaves.specs.Leaves.{found_leaf, IsAfter, ReadsEnding};
+ghost use Rattle.inline_leaves.specs.Leaves.{found_leaf, ReadsEnding, LeavesRest};
 
 use crate::cut::cut_after;
 use crate::leaf::{Leaf, LeafPart};
@@ -26,7 +26,7 @@ pub struct Ending {
 /// A line ending, with the spaces and tabs at the start of the next line (CommonMark 6.8).
 pub fn line_end_at(content: &str) -> Option<Leaf<'_>>
     ensures read { found_leaf content.now result ≡ line_end_at (content_codes content.now) }
-    ensures place { IfSome result (λ found. IsAfter content.now found.after.now) }
+    ensures place { LeavesRest content.now result }
 {
     let bytes = content.as_bytes();
     let found = ending_at(bytes)?;

@@ -3,12 +3,12 @@
 //!     math_text ::= raw_text, of dollars
 //!
 //! A run of one dollar opens math only where `math_text_single_dollar` is on.
-ghost use Rattle.std.specs.Prelude.{◌≡◌, IfOk, IfSome};
+ghost use Rattle.std.specs.Prelude.{◌≡◌, IfOk};
 ghost use Rattle.definition_inline.specs.MathText.{may_open_math, math_text_at};
 ghost use Rattle.definition_text.specs.Content.{content_codes};
 ghost use Rattle.definition_text.specs.Runs.{run as run_of};
 ghost use Rattle.inline_links.specs.Codes.{IsRest};
-ghost use Rattle.inline_leaves.specs.Leaves.{found_leaf, IsAfter};
+ghost use Rattle.inline_leaves.specs.Leaves.{found_leaf, LeavesRest};
 
 use crate::leaf::Leaf;
 use crate::raw_runs::RawMarker;
@@ -27,7 +27,7 @@ pub fn math_text_at<'a, A: Allocator + Clone>(
     requires { IsRest searches.old.content.now rest.now }
     ensures content { searches.new.content ≡ searches.old.content }
     ensures read { IfOk result (λ found. found_leaf rest.now found ≡ math_text_at options.now (content_codes rest.now)) }
-    ensures place { IfOk result (λ found. IfSome found (λ leaf. IsAfter rest.now leaf.after.now)) }
+    ensures place { IfOk result (LeavesRest rest.now) }
 {
     let may_open = may_open_math(options, rest.as_bytes());
     raw_text_at(RawMarker::Dollar, may_open, searches, rest)

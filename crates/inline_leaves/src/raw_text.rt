@@ -3,11 +3,11 @@
 //!     raw_text ::= run text run
 //!
 //! Both runs have the same number of bytes, and the text has no run of as many.
-ghost use Rattle.std.specs.Prelude.{◌≡◌, IfOk, IfSome};
+ghost use Rattle.std.specs.Prelude.{◌≡◌, IfOk};
 ghost use Rattle.definition_inline.specs.CodeText.{raw_at};
 ghost use Rattle.definition_text.specs.Content.{content_codes};
 ghost use Rattle.inline_links.specs.Codes.{IsRest};
-ghost use Rattle.inline_leaves.specs.Leaves.{found_leaf, IsAfter};
+ghost use Rattle.inline_leaves.specs.Leaves.{found_leaf, LeavesRest};
 ghost use Rattle.inline_leaves.specs.RawRuns.{marker_byte};
 
 use crate::cut::{cut_after, text_before};
@@ -28,7 +28,7 @@ pub(crate) fn raw_text_at<'a, A: Allocator + Clone>(
     requires { IsRest searches.old.content.now rest.now }
     ensures content { searches.new.content ≡ searches.old.content }
     ensures read { IfOk result (λ found. found_leaf rest.now found ≡ raw_at (marker_byte marker) may_open (content_codes rest.now)) }
-    ensures place { IfOk result (λ found. IfSome found (λ leaf. IsAfter rest.now leaf.after.now)) }
+    ensures place { IfOk result (LeavesRest rest.now) }
 {
     if !may_open {
         return Ok(None);

@@ -45,7 +45,7 @@ impl<'a, A: Allocator + Clone> Searches<'a, A> {
     ghost use Rattle.definition_text.specs.Runs.{run};
     ghost use Rattle.definition_inline.specs.HtmlText.{html_text_at};
     ghost use Rattle.definition_text.specs.Content.{content_codes};
-    ghost use Rattle.inline_leaves.specs.Leaves.{found_leaf, IsAfter, IsRun};
+    ghost use Rattle.inline_leaves.specs.Leaves.{found_leaf, IsRun, LeavesRest};
 
     /// Before any search in a content.
     pub fn new(alloc: A, content: &'a str) -> Searches<'a, A>
@@ -121,7 +121,7 @@ impl<'a, A: Allocator + Clone> Searches<'a, A> {
         requires { IsRest self.old.content.now rest.now }
         ensures content { self.new.content ≡ self.old.content }
         ensures read { found_leaf rest.now result ≡ html_text_at on.now (content_codes rest.now) }
-        ensures place { IfSome result (λ found. IsAfter rest.now found.after.now) }
+        ensures place { LeavesRest rest.now result }
     {
         // What is found here is found again by the call below: each byte is searched twice at most.
         if self.lacks_end(rest.as_bytes()) {

@@ -1,11 +1,12 @@
 -- What was read, in codes.
-use Rattle.std.specs.Prelude.{ℕ, List, Option, None, Some}
+use Rattle.std.specs.Prelude.{ℕ, List, Option, None, Some, IfSome}
 use Rattle.std.specs.Borrow.{Bor}
 use Rattle.std.specs.Option.{option_map}
 use Rattle.definition_text.specs.Content.{content_codes, part}
 use Rattle.definition_text.specs.Content as content
 use Rattle.definition_inline.specs.Definition.{definition}
 use Rattle.definition_inline.specs.Definition as link_definition
+use Rattle.inline_links.specs.Codes.{IsShorterRest}
 use Rattle.inline_links.specs.declared.part.Part.{Part}
 use Rattle.definition_inline.specs.Resource as resource
 use Rattle.inline_links.specs.declared.resource.LinkResource.{LinkResource}
@@ -37,3 +38,7 @@ resource_of read =
 abbrev pub found_resource : Option LinkResource → Option resource.LinkResource
 found_resource None = None
 found_resource (Some read) = Some (resource_of read)
+
+-- what was read of a content, if anything, leaves a rest of it that is shorter
+abbrev pub LeavesShorterRest : List ℕ → Option Part → Type 0
+LeavesShorterRest content found = IfSome found (λ read. IsShorterRest content read.rest.now)

@@ -7,13 +7,12 @@
 //!
 //! A bare destination doesn't begin with `<`, and has no space, no line ending and no control
 //! character but NUL.
-ghost use Rattle.std.specs.Prelude.{◌≡◌, IfSome, ◌<◌, ◌≤◌, ◌+◌, ◌^◌, ◌&&◌, ◌==◌, drop, false, length};
+ghost use Rattle.std.specs.Prelude.{◌≡◌, ◌<◌, ◌≤◌, ◌+◌, ◌^◌, ◌&&◌, ◌==◌, drop, false, length};
 ghost use Rattle.std.specs.List.{prefix_len};
 ghost use Rattle.definition_text.specs.Content.{content_codes, closed_by, up_to};
 ghost use Rattle.definition_inline.specs.Destination.{ends_angle, angle_end, is_control, open_after, is_too_deep, ends_bare, bare_end, if_any, destination_at};
-ghost use Rattle.inline_links.specs.Codes.{IsShorterRest};
 ghost use Rattle.inline_links.specs.Bare.{is_plain};
-ghost use Rattle.inline_links.specs.View.{found_part};
+ghost use Rattle.inline_links.specs.View.{found_part, LeavesShorterRest};
 
 use crate::code::{is_eol, is_space, may_escape, next_code};
 use crate::part::{Part, closed_by, from, up_to};
@@ -40,7 +39,7 @@ const PLAIN: ByteClass = ByteClass {
 /// A destination; the greatest depth of its parentheses is given, if there is one (CommonMark 6.3).
 pub fn destination(content: &[u8], depth: Option<usize>) -> Option<Part<'_>>
     ensures read { found_part result ≡ destination_at depth (content_codes content.now) }
-    ensures place { IfSome result (λ read. IsShorterRest content.now read.rest.now) }
+    ensures place { LeavesShorterRest content.now result }
 {
     let first = next_code(content, 0)?;
     if first.code == LESS {
@@ -53,7 +52,7 @@ pub fn destination(content: &[u8], depth: Option<usize>) -> Option<Part<'_>>
 /// The text up to the `>` that closes it.
 fn angle(content: &[u8]) -> Option<Part<'_>>
     ensures read { found_part result ≡ closed_by (content_codes content.now) (angle_end false (content_codes content.now)) }
-    ensures place { IfSome result (λ read. IsShorterRest content.now read.rest.now) }
+    ensures place { LeavesShorterRest content.now result }
 {
     let mut escaped = false;
     let mut end = 0;
@@ -80,7 +79,7 @@ fn ends_angle(escaped: bool, code: u16) -> bool
 /// The text without spaces and control characters, whose parentheses are balanced.
 fn bare(content: &[u8], depth: Option<usize>) -> Option<Part<'_>>
     ensures read { found_part result ≡ if_any (up_to (content_codes content.now) (bare_end depth false 0 (content_codes content.now))) }
-    ensures place { IfSome result (λ read. IsShorterRest content.now read.rest.now) }
+    ensures place { LeavesShorterRest content.now result }
 {
     let mut escaped = false;
     let mut opened = 0;

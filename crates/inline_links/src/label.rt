@@ -5,14 +5,13 @@
 //!
 //! The text isn't white space alone, and has at most 999 bytes; line endings, and spaces and tabs
 //! right after one, aren't counted.
-ghost use Rattle.std.specs.Prelude.{◌≡◌, ◌+◌, ◌≤◌, IfSome, drop, false, length, nat_le};
+ghost use Rattle.std.specs.Prelude.{◌≡◌, ◌+◌, ◌≤◌, drop, false, length, nat_le};
 ghost use Rattle.std.specs.List.{prefix_len};
 ghost use Rattle.definition_text.specs.Content.{content_codes, closed_by};
 ghost use Rattle.definition_inline.specs.Label.{ends_label, has_text, is_label, label_at, label_end, label_size};
 ghost use Rattle.definition_inline.specs.LabelEnd.{has_no_bracket};
-ghost use Rattle.inline_links.specs.Codes.{IsShorterRest};
 ghost use Rattle.inline_links.specs.Unmarked.{is_unmarked};
-ghost use Rattle.inline_links.specs.View.{found_part};
+ghost use Rattle.inline_links.specs.View.{found_part, LeavesShorterRest};
 
 use crate::code::{at_line_start, is_space, may_escape, next_code};
 use crate::destination::stays;
@@ -33,7 +32,7 @@ const MARKS: ByteSet = ByteSet {
 /// A label, with its text between the brackets (CommonMark 6.3).
 pub fn label(content: &[u8]) -> Option<Part<'_>>
     ensures read { found_part result ≡ label_at (content_codes content.now) }
-    ensures place { IfSome result (λ read. IsShorterRest content.now read.rest.now) }
+    ensures place { LeavesShorterRest content.now result }
 {
     let first = next_code(content, 0)?;
     if first.code != OPEN {
@@ -50,7 +49,7 @@ pub fn label(content: &[u8]) -> Option<Part<'_>>
 /// The text up to the bracket that closes it.
 fn label_text(content: &[u8]) -> Option<Part<'_>>
     ensures read { found_part result ≡ closed_by (content_codes content.now) (label_end false (content_codes content.now)) }
-    ensures place { IfSome result (λ read. IsShorterRest content.now read.rest.now) }
+    ensures place { LeavesShorterRest content.now result }
 {
     let mut escaped = false;
     let mut end = after_unmarked(content, 0);

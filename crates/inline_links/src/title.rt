@@ -4,11 +4,10 @@
 //!     text  ::= ('\' (close | '\') | code that doesn't close)*
 //!
 //! Between parentheses `(` is escaped too. The text has no blank line.
-ghost use Rattle.std.specs.Prelude.{◌≡◌, IfSome, false};
+ghost use Rattle.std.specs.Prelude.{◌≡◌, false};
 ghost use Rattle.definition_text.specs.Content.{content_codes, closed_by};
 ghost use Rattle.definition_inline.specs.Title.{ends_title, ends_blank_line, title_end, title_close, title_at};
-ghost use Rattle.inline_links.specs.Codes.{IsShorterRest};
-ghost use Rattle.inline_links.specs.View.{found_part};
+ghost use Rattle.inline_links.specs.View.{found_part, LeavesShorterRest};
 
 use crate::code::{at_line_start, is_eol, may_escape, next_code};
 use crate::part::{Part, closed_by, from};
@@ -24,7 +23,7 @@ const CLOSING_PARENTHESIS: u16 = b')' as u16;
 /// A title, with its text (CommonMark 6.3).
 pub fn title(content: &[u8]) -> Option<Part<'_>>
     ensures read { found_part result ≡ title_at (content_codes content.now) }
-    ensures place { IfSome result (λ read. IsShorterRest content.now read.rest.now) }
+    ensures place { LeavesShorterRest content.now result }
 {
     let first = next_code(content, 0)?;
     let close = title_close(first.code)?;
@@ -45,7 +44,7 @@ fn title_close(code: u16) -> Option<u16>
 /// The text up to the code that closes it.
 fn title_text(content: &[u8], close: u16) -> Option<Part<'_>>
     ensures read { found_part result ≡ closed_by (content_codes content.now) (title_end close false false (content_codes content.now)) }
-    ensures place { IfSome result (λ read. IsShorterRest content.now read.rest.now) }
+    ensures place { LeavesShorterRest content.now result }
 {
     let mut escaped = false;
     let mut start = false;

@@ -11,7 +11,7 @@ ghost use Rattle.definition_text.specs.InlineCode.{is_continuation};
 ghost use Rattle.definition_inline.specs.GfmAutolinkLiteral.{begins_caselessly, is_control, is_among, literal_at};
 ghost use Rattle.definition_inline.specs.GfmAutolinkLiteral.{literal_name, literal_start_at, may_precede_protocol, may_precede_www};
 ghost use Rattle.inline_content.specs.View.{view_at};
-ghost use Rattle.inline_leaves.specs.Leaves.{found_leaf, size_before, IsAfter};
+ghost use Rattle.inline_leaves.specs.Leaves.{found_leaf, size_before, LeavesRest};
 ghost use Rattle.inline_links.specs.Codes.{IsRest};
 ghost use Rattle.inline_literals.specs.Literals.{begins_domain, begins_name, begins_other, domain_size};
 ghost use Rattle.inline_literals.specs.Literals.{may_begin, size_after, start_view, AreInVain, IsNameEnd, KnowsNames, StartsLiteral};
@@ -46,7 +46,7 @@ pub fn literal_at<'a, T: Tables>(
     requires known { KnowsNames (T.punctuation_of tables.now) content.text.now known.old }
     ensures known { KnowsNames (T.punctuation_of tables.now) content.entry.text.now known.new }
     ensures read { found_leaf rest.now result ≡ literal_at on.now (view_at (T.punctuation_of tables.now) content.entry rest.now) }
-    ensures place { IfSome result (λ found. IsAfter rest.now found.after.now) }
+    ensures place { LeavesRest rest.now result }
 {
     if !on.gfm_autolink_literal || !may_begin(rest.as_bytes()) {
         return None;

@@ -3,6 +3,7 @@ use Rattle.std.specs.Prelude.{◌≡◌, ◌<◌, ◌≤◌, ◌==◌, ◌&&◌,
 use Rattle.std.specs.List.{list_all}
 use Rattle.std.specs.Str.{IsCharBoundary}
 use Rattle.markdown_options.specs.declared.configuration.ParseOptions.{ParseOptions}
+use Rattle.markdown_options.specs.declared.tables.Tables as tables
 use Rattle.definition_text.specs.Ascii.{carriage_return}
 use Rattle.definition_text.specs.Content.{content_codes}
 use Rattle.definition_page.specs.InlinePieces.{leads_to}
@@ -59,6 +60,10 @@ pub record IsPlaced {A : Type 0} (is_punctuation : ℕ → Bool) (content : Cont
   pub labels : StartsBefore s.rest.now s.reading
   pub sound : IsSound s.reading
 
+-- so it is in a source, by the punctuation of its tables
+abbrev pub IsPlacedBy : {T A : Type 0} → tables.Ghosts T → Source T A → Scanner A → Type 0
+IsPlacedBy g source s = IsPlaced (g.punctuation_of source.tables.now) source.content s
+
 -- what a `]` forms with the innermost label start that is open, if there is one
 abbrev pub ended_here : InlineContext → List ℕ → List scan.OpenLabel → scan.Text → Option LinkOrCall
 ended_here context content [] inner = None
@@ -100,6 +105,10 @@ GoesOn names is_punctuation source old result new =
     (ds : Targets) (final : scan.Reading) → HasTargets source.labels.now source.footnotes.now ds →
     Follows source.options.now names is_punctuation ds source.content old final
     → OnOk result (Follows source.options.now names is_punctuation ds source.content new final)
+
+-- so it is by the names and the punctuation of a source's tables
+abbrev pub GoesOnBy : {T A B C : Type 0} → tables.Ghosts T → Source T A → Scanner A → Result B C → Scanner A → Type 0
+GoesOnBy g source old result new = GoesOn (g.reference_of source.tables.now) (g.punctuation_of source.tables.now) source old result new
 
 -- what is left stays a rest of the content, unless memory ran out
 abbrev pub StaysPlaced : {A B C : Type 0} → Scanner A → Result B C → Scanner A → Type 0

@@ -25,8 +25,8 @@ ghost use Rattle.inline_leaves.specs.Leaves.{parts_of, size_before, IsAfter};
 ghost use Rattle.inline_content.specs.declared.content.Content.{Content as SeenContent};
 ghost use Rattle.inline_rows.specs.View.{data_rows, rows_view};
 ghost use Rattle.inline_label_ends.specs.Ends.{IsAfterFormed, IsFormed};
-ghost use Rattle.inline_parser.specs.Scanned.{context_by, ended_here, has_no_return, HasTargets, IsPlace, IsPlaced, IsRunFront, IsSingle, StartsLabel};
-ghost use Rattle.inline_parser.specs.Scanned.{GoesOn, HasNoLeaf, HasNoLeafHere, HasNoRun, Shortens, StaysPlaced};
+ghost use Rattle.inline_parser.specs.Scanned.{context_by, ended_here, has_no_return, HasTargets, IsPlace, IsPlacedBy, IsRunFront, IsSingle, StartsLabel};
+ghost use Rattle.inline_parser.specs.Scanned.{GoesOnBy, HasNoLeaf, HasNoLeafHere, HasNoRun, Shortens, StaysPlaced};
 ghost use Rattle.inline_parser.specs.Shows.{with_open_label, start_view, IsSound, Shows, ShowsThen, StartsBefore};
 
 use crate::gfm_autolink_literal::rows_with_literals;
@@ -186,11 +186,11 @@ fn first_byte(text: &str) -> &str
 impl<'a, A: Allocator + Clone> Scanner<'a, A> {
     /// Reads what comes next.
     fn step<T: Tables>(&mut self, source: &Source<'a, T, A>) -> Result<(), AllocError>
-        requires placed { IsPlaced (T.punctuation_of source.now.tables.now) source.now.content self.old }
+        requires placed { IsPlacedBy T.Tables source.now self.old }
         requires some { 0 < length self.old.rest.now }
-        ensures placed { OnOk result (IsPlaced (T.punctuation_of source.now.tables.now) source.now.content self.new) }
+        ensures placed { OnOk result (IsPlacedBy T.Tables source.now self.new) }
         ensures shorter { Shortens self.old result self.new }
-        ensures read { GoesOn (T.reference_of source.now.tables.now) (T.punctuation_of source.now.tables.now) source.now self.old result self.new }
+        ensures read { GoesOnBy T.Tables source.now self.old result self.new }
     {
         let has_literals = source.options.constructs.gfm_autolink_literal;
         let size = text_size(has_literals, self.rest.as_bytes());
@@ -205,13 +205,13 @@ impl<'a, A: Allocator + Clone> Scanner<'a, A> {
 
     /// A literal, a run, a label start, a `]`, or a byte of text.
     fn literal_or_run<T: Tables>(&mut self, source: &Source<'a, T, A>) -> Result<(), AllocError>
-        requires placed { IsPlaced (T.punctuation_of source.now.tables.now) source.now.content self.old }
+        requires placed { IsPlacedBy T.Tables source.now self.old }
         requires some { 0 < length self.old.rest.now }
         requires no_leaf { HasNoLeaf (T.reference_of source.now.tables.now) source.now self.old.rest.now }
         requires first { IsSingle self.old.rest.now }
-        ensures placed { OnOk result (IsPlaced (T.punctuation_of source.now.tables.now) source.now.content self.new) }
+        ensures placed { OnOk result (IsPlacedBy T.Tables source.now self.new) }
         ensures shorter { Shortens self.old result self.new }
-        ensures read { GoesOn (T.reference_of source.now.tables.now) (T.punctuation_of source.now.tables.now) source.now self.old result self.new }
+        ensures read { GoesOnBy T.Tables source.now self.old result self.new }
     {
         match literal_at(
             &source.options.constructs,
@@ -254,13 +254,13 @@ impl<'a, A: Allocator + Clone> Scanner<'a, A> {
 
     /// A run, a label start, a `]`, or a byte of text.
     fn run_or_label<T: Tables>(&mut self, source: &Source<'a, T, A>) -> Result<(), AllocError>
-        requires placed { IsPlaced (T.punctuation_of source.now.tables.now) source.now.content self.old }
+        requires placed { IsPlacedBy T.Tables source.now self.old }
         requires some { 0 < length self.old.rest.now }
         requires no_leaf { HasNoLeafHere (T.reference_of source.now.tables.now) (T.punctuation_of source.now.tables.now) source.now self.old.rest.now }
         requires first { IsSingle self.old.rest.now }
-        ensures placed { OnOk result (IsPlaced (T.punctuation_of source.now.tables.now) source.now.content self.new) }
+        ensures placed { OnOk result (IsPlacedBy T.Tables source.now self.new) }
         ensures shorter { Shortens self.old result self.new }
-        ensures read { GoesOn (T.reference_of source.now.tables.now) (T.punctuation_of source.now.tables.now) source.now self.old result self.new }
+        ensures read { GoesOnBy T.Tables source.now self.old result self.new }
     {
         match source
             .content
@@ -287,14 +287,14 @@ impl<'a, A: Allocator + Clone> Scanner<'a, A> {
 
     /// A label start, a `]`, or a byte of text.
     fn label_or_byte<T: Tables>(&mut self, source: &Source<'a, T, A>) -> Result<(), AllocError>
-        requires placed { IsPlaced (T.punctuation_of source.now.tables.now) source.now.content self.old }
+        requires placed { IsPlacedBy T.Tables source.now self.old }
         requires some { 0 < length self.old.rest.now }
         requires no_leaf { HasNoLeafHere (T.reference_of source.now.tables.now) (T.punctuation_of source.now.tables.now) source.now self.old.rest.now }
         requires first { IsSingle self.old.rest.now }
         requires no_run { HasNoRun (T.punctuation_of source.now.tables.now) source.now self.old.rest.now }
-        ensures placed { OnOk result (IsPlaced (T.punctuation_of source.now.tables.now) source.now.content self.new) }
+        ensures placed { OnOk result (IsPlacedBy T.Tables source.now self.new) }
         ensures shorter { Shortens self.old result self.new }
-        ensures read { GoesOn (T.reference_of source.now.tables.now) (T.punctuation_of source.now.tables.now) source.now self.old result self.new }
+        ensures read { GoesOnBy T.Tables source.now self.old result self.new }
     {
         if let Some(start) = label_start_at(&source.options.constructs, self.rest) {
             return self.start(start);
@@ -325,16 +325,16 @@ impl<'a, A: Allocator + Clone> Scanner<'a, A> {
 
     /// A `]`: what it forms, or else text (CommonMark 6.3 and 6.4).
     fn end<T: Tables>(&mut self, source: &Source<'a, T, A>) -> Result<(), AllocError>
-        requires placed { IsPlaced (T.punctuation_of source.now.tables.now) source.now.content self.old }
+        requires placed { IsPlacedBy T.Tables source.now self.old }
         requires some { 0 < length self.old.rest.now }
         requires no_leaf { HasNoLeafHere (T.reference_of source.now.tables.now) (T.punctuation_of source.now.tables.now) source.now self.old.rest.now }
         requires first { IsSingle self.old.rest.now }
         requires no_run { HasNoRun (T.punctuation_of source.now.tables.now) source.now self.old.rest.now }
         requires no_start { label_start_at source.now.options.now.constructs (content_codes self.old.rest.now) ≡ None }
         requires bracket { (source.now.options.now.constructs.label_end && (slice_index self.old.rest.now 0 == 93)) ≡ true }
-        ensures placed { OnOk result (IsPlaced (T.punctuation_of source.now.tables.now) source.now.content self.new) }
+        ensures placed { OnOk result (IsPlacedBy T.Tables source.now self.new) }
         ensures shorter { Shortens self.old result self.new }
-        ensures read { GoesOn (T.reference_of source.now.tables.now) (T.punctuation_of source.now.tables.now) source.now self.old result self.new }
+        ensures read { GoesOnBy T.Tables source.now self.old result self.new }
     {
         let after = cut_after(self.rest, 1);
         match self.innermost_label_end(source, after)? {

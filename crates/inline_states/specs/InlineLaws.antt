@@ -17,7 +17,7 @@ use Rattle.markdown_engine.specs.Resolving.{ResolvesAt, settles_whole}
 use Rattle.engine_programs.specs.Bodies.{names_of, step_by}
 use Rattle.engine_programs.specs.Sorts.{fits, implies}
 use Rattle.engine_programs.specs.Stacks.{program_rank, program_valid}
-use Rattle.engine_programs.specs.NameLaws.{implied}
+use Rattle.engine_programs.specs.NameLaws.{implies_holds}
 use Rattle.engine_programs.specs.ProgramLaws.{program_begins, program_lawful, program_open, program_resolves}
 use Rattle.inline_states_table.specs.declared.Group.{Group}
 use Rattle.inline_states_table.specs.declared.Group.TheVariants as groups
@@ -40,12 +40,12 @@ whole_fits n = refl
 module _ {T : Type 0} (texts : List ℕ → Option (List ℕ)) (is_punctuation : ℕ → Bool) (x : Context T) where
   -- each group has its own test
   group_fits : (g : Group) (n : InlineName) → inline_group n ≡ g → fits sorts 64 (Inline n) (body_of texts is_punctuation x g n) ≡ true
-  group_fits groups.Leaves n e = implied _ _ (leaves_fit Inlines texts x n) (ap (λ (g : Group). same_group g groups.Leaves) e)
-  group_fits groups.Html n e = implied _ _ (html_fits Inlines x n) (ap (λ (g : Group). same_group g groups.Html) e)
-  group_fits groups.Labels n e = implied _ _ (labels_fit Inlines x n) (ap (λ (g : Group). same_group g groups.Labels) e)
-  group_fits groups.Ends n e = implied _ _ (ends_fit Inlines x n) (ap (λ (g : Group). same_group g groups.Ends) e)
-  group_fits groups.Gfm n e = implied _ _ (gfm_fits Inlines is_punctuation x n) (ap (λ (g : Group). same_group g groups.Gfm) e)
-  group_fits groups.Whole n e = implied _ _ (whole_fits n) (ap (λ (g : Group). same_group g groups.Whole) e)
+  group_fits groups.Leaves n e = implies_holds _ _ (leaves_fit Inlines texts x n) (ap (λ (g : Group). same_group g groups.Leaves) e)
+  group_fits groups.Html n e = implies_holds _ _ (html_fits Inlines x n) (ap (λ (g : Group). same_group g groups.Html) e)
+  group_fits groups.Labels n e = implies_holds _ _ (labels_fit Inlines x n) (ap (λ (g : Group). same_group g groups.Labels) e)
+  group_fits groups.Ends n e = implies_holds _ _ (ends_fit Inlines x n) (ap (λ (g : Group). same_group g groups.Ends) e)
+  group_fits groups.Gfm n e = implies_holds _ _ (gfm_fits Inlines is_punctuation x n) (ap (λ (g : Group). same_group g groups.Gfm) e)
+  group_fits groups.Whole n e = implies_holds _ _ (whole_fits n) (ap (λ (g : Group). same_group g groups.Whole) e)
 
   -- the bodies fit the table
   inline_fits : (n : Name) → fits sorts 64 n (bodies texts is_punctuation x n) ≡ true

@@ -26,7 +26,7 @@ pub fn read_text<T: Tables, A: Allocator + Clone>(
         (T.reference_of parse_state.now.tables.now) (T.punctuation_of parse_state.now.tables.now) (context parse_state.now) starts.entry events.items) }
     ensures balanced { IfOk result (λ events. IsBalanced events.items) }
     ensures order { IfOk result (λ events. AreInOrder events.items) }
-    ensures memory { IfErr result (λ message. IsOutOfMemory message) }
+    ensures memory { IfErr result IsOutOfMemory }
 {
     let machine = Inlines { starts };
     let mut tokenizer = Tokenizer::new(alloc, START, parse_state, machine)?;
@@ -50,7 +50,7 @@ pub fn read_text_in_ranges<T: Tables, A: Allocator + Clone>(
         (T.reference_of parse_state.now.tables.now) (T.punctuation_of parse_state.now.tables.now) (context parse_state.now) starts.entry events.items) }
     ensures balanced { IfOk result (λ events. IsBalanced events.items) }
     ensures order { IfOk result (λ events. AreInOrder events.items) }
-    ensures memory { IfErr result (λ message. IsOutOfMemory message) }
+    ensures memory { IfErr result IsOutOfMemory }
 {
     let machine = Inlines { starts };
     let mut tokenizer = Tokenizer::new(alloc, START, parse_state, machine)?;
@@ -71,7 +71,7 @@ pub fn resolved_text<T: Tables, A: Allocator + Clone>(
         (T.reference_of parse_state.now.tables.now) (T.punctuation_of parse_state.now.tables.now) (context parse_state.now) starts.entry events.items) }
     ensures balanced { IfOk result (λ events. IsBalanced events.items) }
     ensures order { IfOk result (λ events. AreInOrder events.items) }
-    ensures memory { IfErr result (λ message. IsOutOfMemory message) }
+    ensures memory { IfErr result IsOutOfMemory }
 {
     let machine = Inlines { starts };
     let mut tokenizer = Tokenizer::new(alloc, START, parse_state, machine)?;
@@ -89,7 +89,7 @@ pub fn read_string<T: Tables, A: Allocator + Clone>(
         (T.reference_of parse_state.now.tables.now) (T.punctuation_of parse_state.now.tables.now) (context parse_state.now) events.items) }
     ensures balanced { IfOk result (λ events. IsBalanced events.items) }
     ensures order { IfOk result (λ events. AreInOrder events.items) }
-    ensures memory { IfErr result (λ message. IsOutOfMemory message) }
+    ensures memory { IfErr result IsOutOfMemory }
 {
     let machine = Inlines { starts: &[] };
     let mut tokenizer = Tokenizer::new(alloc, START, parse_state, machine)?;
@@ -109,7 +109,7 @@ pub fn resolved_string<T: Tables, A: Allocator + Clone>(
         (T.reference_of parse_state.now.tables.now) (T.punctuation_of parse_state.now.tables.now) (context parse_state.now) events.items) }
     ensures balanced { IfOk result (λ events. IsBalanced events.items) }
     ensures order { IfOk result (λ events. AreInOrder events.items) }
-    ensures memory { IfErr result (λ message. IsOutOfMemory message) }
+    ensures memory { IfErr result IsOutOfMemory }
 {
     let machine = Inlines { starts: &[] };
     let mut tokenizer = Tokenizer::new(alloc, START, parse_state, machine)?;

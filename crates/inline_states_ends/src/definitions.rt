@@ -124,7 +124,7 @@ fn is_defined<M, T, A: Allocator>(
     labels: &Vec<String<A>, A>,
 ) -> Result<bool, Message>
     ensures known { IfOk result (λ known. known ≡ is_start_defined (bytes_of tokenizer.now) (map string_bytes labels.now.items) (config tokenizer.now)) }
-    ensures memory { IfErr result (λ message. IsOutOfMemory message) }
+    ensures memory { IfErr result IsOutOfMemory }
 {
     let Some(start) = tokenizer.tokenize_state.label_starts.last() else {
         return Ok(false);
@@ -144,7 +144,7 @@ pub(crate) fn is_link_defined<M, T, A: Allocator>(
     tokenizer: &Tokenizer<'_, M, T, A>,
 ) -> Result<bool, Message>
     ensures known { IfOk result (λ known. known ≡ is_start_defined (bytes_of tokenizer.now) (definitions_of tokenizer.now) (config tokenizer.now)) }
-    ensures memory { IfErr result (λ message. IsOutOfMemory message) }
+    ensures memory { IfErr result IsOutOfMemory }
 {
     is_defined(tokenizer, &tokenizer.parse_state.definitions)
 }
@@ -154,7 +154,7 @@ pub(crate) fn is_call_defined<M, T, A: Allocator>(
     tokenizer: &Tokenizer<'_, M, T, A>,
 ) -> Result<bool, Message>
     ensures known { IfOk result (λ known. known ≡ is_start_defined (bytes_of tokenizer.now) (footnotes_of tokenizer.now) (config tokenizer.now)) }
-    ensures memory { IfErr result (λ message. IsOutOfMemory message) }
+    ensures memory { IfErr result IsOutOfMemory }
 {
     is_defined(tokenizer, &tokenizer.parse_state.gfm_footnote_definitions)
 }
@@ -164,7 +164,7 @@ pub(crate) fn is_reference_defined<M, T, A: Allocator>(
     tokenizer: &Tokenizer<'_, M, T, A>,
 ) -> Result<bool, Message>
     ensures known { IfOk result (λ known. known ≡ is_reference_defined (bytes_of tokenizer.now) (definitions_of tokenizer.now) (config tokenizer.now)) }
-    ensures memory { IfErr result (λ message. IsOutOfMemory message) }
+    ensures memory { IfErr result IsOutOfMemory }
 {
     let labels = &tokenizer.parse_state.definitions;
     let text = label_text(

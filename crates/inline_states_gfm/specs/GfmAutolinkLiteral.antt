@@ -3,13 +3,13 @@ use Rattle.std.specs.Prelude.{ℕ, Bool, true, false, not, nat_le, nat_lt, is_no
 use Rattle.std.specs.Prelude.{refl}
 use Rattle.std.specs.Char.{is_ascii_alphabetic, is_ascii_alphanumeric}
 use denote.Enum.Bare.{sameb}
+use Rattle.definition_text.specs.contracts.beside.Kind.{the_type}
+use Rattle.definition_text.specs.declared.beside.Kind.TheVariants.{Other}
 use Rattle.engine_events.specs.declared.event.Name.TheVariants as names
 use Rattle.engine_events.specs.declared.state.Inline.TheVariants as inline_states
 use Rattle.engine_events.specs.declared.state.State.TheVariants as states
 use Rattle.engine_text.specs.Bytes.{first_code, goes_on, width}
 use Rattle.engine_text.specs.Characters.{kind_of_any}
-use Rattle.engine_text.specs.contracts.char.Kind.{the_type}
-use Rattle.engine_text.specs.declared.char.Kind.TheVariants.{Other}
 use Rattle.markdown_engine.specs.Reading.{Config}
 use Rattle.engine_programs.specs.Bodies.{FixedName, Body, Answer, Consume, Enter, Exit, Keep, Tries, Byte, On, Test, has}
 use Rattle.inline_states_table.specs.Words.{next, retry, more}

@@ -1,7 +1,7 @@
 //! Chunks of strings: data, white space and line endings that are read together later.
 ghost use Rattle.std.specs.Prelude.{◌≡◌, [], OnOk, IfErr, Some};
 ghost use Rattle.markdown_options.specs.Messages.{IsOutOfMemory};
-ghost use Rattle.markdown_engine.specs.Machine.{Became, config, with_enter};
+ghost use Rattle.markdown_engine.specs.Machine.{Became, config, with_enter, KeepsParseState};
 ghost use Rattle.inline_states_labels.specs.Chunk.{link_after, chunk_link, part_link, with_part};
 
 use markdown_engine::Message;
@@ -44,9 +44,9 @@ pub fn enter_chunk<M, T, A: Allocator>(
     name: Name,
 ) -> Result<(), Message>
     ensures became { OnOk result (Became (with_enter name (chunk_link (config tokenizer.old)) (config tokenizer.old)) tokenizer.old tokenizer.new) }
-    ensures parse_state { tokenizer.new.parse_state ≡ tokenizer.old.parse_state }
+    ensures parse_state { KeepsParseState tokenizer.old tokenizer.new }
     ensures skips { tokenizer.new.skips ≡ tokenizer.old.skips }
-    ensures memory { IfErr result (λ message. IsOutOfMemory message) }
+    ensures memory { IfErr result IsOutOfMemory }
 {
     let link = link_after(&tokenizer.events);
     tokenizer.enter_link(name, link)
@@ -58,9 +58,9 @@ pub fn enter_part<M, T, A: Allocator>(
     name: Name,
 ) -> Result<(), Message>
     ensures became { OnOk result (Became (with_enter name (part_link (config tokenizer.old)) (config tokenizer.old)) tokenizer.old tokenizer.new) }
-    ensures parse_state { tokenizer.new.parse_state ≡ tokenizer.old.parse_state }
+    ensures parse_state { KeepsParseState tokenizer.old tokenizer.new }
     ensures skips { tokenizer.new.skips ≡ tokenizer.old.skips }
-    ensures memory { IfErr result (λ message. IsOutOfMemory message) }
+    ensures memory { IfErr result IsOutOfMemory }
 {
     if tokenizer.tokenize_state.connect {
         return enter_chunk(tokenizer, name);
@@ -74,9 +74,9 @@ pub fn around_part<M, T, A: Allocator>(
     name: Name,
 ) -> Result<(), Message>
     ensures became { OnOk result (Became (with_part name (config tokenizer.old)) tokenizer.old tokenizer.new) }
-    ensures parse_state { tokenizer.new.parse_state ≡ tokenizer.old.parse_state }
+    ensures parse_state { KeepsParseState tokenizer.old tokenizer.new }
     ensures skips { tokenizer.new.skips ≡ tokenizer.old.skips }
-    ensures memory { IfErr result (λ message. IsOutOfMemory message) }
+    ensures memory { IfErr result IsOutOfMemory }
 {
     enter_part(tokenizer, name)?;
     tokenizer.consume();

@@ -4,16 +4,12 @@ use Rattle.std.specs.Prelude.{slice_index_or, unwrap_or, Option, None, Some}
 use Rattle.std.specs.List.{fold}
 use denote.Enum.Bare.{sameb}
 use Rattle.markdown_options.specs.declared.configuration.ParseOptions.{ParseOptions}
-use Rattle.definition_text.specs.declared.beside.Kind.{Kind as Beside}
-use Rattle.definition_text.specs.declared.beside.Kind.TheVariants.{Whitespace, Punctuation, Other}
 use Rattle.definition_inline.specs.Attention.{Run, run_between}
 use Rattle.definition_inline.specs.Pairing.{Pair, pairs}
 use Rattle.definition_inline.specs.Spans.{IsEmphasis, IsStrikethrough, IsStrong, Closes, Holds, Opens, Span, SpanRow, run_rows, span_of}
 use Rattle.inline_runs.specs.Paired.{closed_at, opened_at}
 use Rattle.engine_text.specs.Bytes.{code_after, code_before}
 use Rattle.engine_text.specs.Characters.{kind_of_any}
-use Rattle.engine_text.specs.declared.char.Kind.{Kind as EngineKind}
-use Rattle.engine_text.specs.declared.char.Kind.TheVariants as engine_kinds
 use Rattle.engine_events.specs.contracts.event.Kind.{the_type}
 use Rattle.engine_events.specs.declared.event.Event.{Event}
 use Rattle.engine_events.specs.declared.event.Kind.{Kind}
@@ -29,20 +25,11 @@ use Rattle.inline_states_resolvers.specs.Each.{enter_event, exit_event, later, p
 
 -- ---- runs
 
-abbrev pub beside_kind : EngineKind → Beside
-beside_kind engine_kinds.Whitespace = Whitespace
-beside_kind engine_kinds.Punctuation = Punctuation
-beside_kind engine_kinds.Other = Other
-
--- the kind of a character beside a run, or of none
-abbrev pub beside : (ℕ → Bool) → Option ℕ → Beside
-beside is_punctuation code = beside_kind (kind_of_any is_punctuation code)
-
 -- the run of a byte from an index of the text up to another
 abbrev pub run_from : ParseOptions → (ℕ → Bool) → List ℕ → ℕ → ℕ → Run
 run_from options is_punctuation bytes from to =
     run_between options (unwrap_or (slice_get bytes from) 0) (to - from)
-    (beside is_punctuation (code_before bytes from)) (beside is_punctuation (code_after bytes to))
+    (kind_of_any is_punctuation (code_before bytes from)) (kind_of_any is_punctuation (code_after bytes to))
 
 -- ---- what a run becomes
 
@@ -79,13 +66,13 @@ abbrev pub with_start_of : ℕ → RunEvents → Pair → RunEvents
 with_start_of marker w pair = let q = place_later pair.taken w.point in with_more w (span_start (names_of (span_of marker pair)) w.point q) q
 
 -- so many bytes are data
-abbrev pub with_data : ℕ → RunEvents → RunEvents
-with_data n w = let q = place_later n w.point in if n == 0 then w else with_more w (enter_event names.Data w.point ∷ exit_event names.Data q ∷ []) q
+abbrev pub with_held_data : ℕ → RunEvents → RunEvents
+with_held_data n w = let q = place_later n w.point in if n == 0 then w else with_more w (enter_event names.Data w.point ∷ exit_event names.Data q ∷ []) q
 
 -- a run at a place: its first bytes end spans, its last begin some, and those between are data
 abbrev pub replace_run : ℕ → List Pair → ℕ → List Pair → Point → RunEvents
 replace_run marker closed text started p =
-    fold (with_start_of marker) (with_data text (fold (with_end_of marker) (record { events = []; point = p }) closed)) started
+    fold (with_start_of marker) (with_held_data text (fold (with_end_of marker) (record { events = []; point = p }) closed)) started
 
 -- how many bytes of a run are held as they are
 abbrev pub held_size : List SpanRow → ℕ

@@ -26,8 +26,8 @@ flip (n ∷ ns) = flip ns ++ n ∷ []
 last_place : (names : List Name) (n : Name) → length (names ++ n ∷ []) ≡ length names + 1
 last_place names n = length-append names (n ∷ [])
 
-last_of : (names : List Name) (n : Name) → innermost (names ++ n ∷ []) ≡ Some n
-last_of names n =
+innermost_last : (names : List Name) (n : Name) → innermost (names ++ n ∷ []) ≡ Some n
+innermost_last names n =
     let size = last_place names n in
     let at : length (names ++ n ∷ []) - 1 ≡ length names = omega (arith, size) in
     let less : length names < length (names ++ n ∷ []) = omega (arith, size) in
@@ -59,21 +59,21 @@ by_kind Enter name names es on h = (tt, on (name ∷ names) h)
 by_kind Exit name [] es on h = absurd (let e : false ≡ true = h in cc)
 by_kind Exit name (n ∷ ns) es on h =
     let both = and_parts _ _ h in
-    let is : same_name n name ≡ true = ap (is_it name) (sym (last_of (flip ns) n)) ∙ both.0 in
+    let is : same_name n name ≡ true = ap (is_it name) (sym (innermost_last (flip ns) n)) ∙ both.0 in
     let same : n ≡ name = same_true the_type tt n name is in
     let rest : is_nested (flip ns) es ≡ true = ap (λ (z : List Name). is_nested z es) (sym (front_of (flip ns) n)) ∙ both.1 in
     ((ns, ap (λ (z : Name). z ∷ ns) same), on ns rest)
 
-nested : (names : List Name) (es : List Event) → is_nested (flip names) es ≡ true → Closes names es
-nested names [] h = (tt, none_left names h)
-nested names (e ∷ es) h =
-    let k = by_kind e.kind e.name names es (λ more. nested more es) h in
+nested_closes : (names : List Name) (es : List Event) → is_nested (flip names) es ≡ true → Closes names es
+nested_closes names [] h = (tt, none_left names h)
+nested_closes names (e ∷ es) h =
+    let k = by_kind e.kind e.name names es (λ more. nested_closes more es) h in
     ((k.0, k.1.0), k.1.1)
 
 -- ---- places
 
-reached : (p q : Point) → reaches p q ≡ true → Reaches p q
-reached p q h =
+reaches_holds : (p q : Point) → reaches p q ≡ true → Reaches p q
+reaches_holds p q h =
     let both = and_parts _ _ h in
     record {
       index = leb-true p.index q.index both.0;
@@ -81,13 +81,13 @@ reached p q h =
     }
 
 in_order : (from : Point) (es : List Event) (to : Point) → is_in_order from es to ≡ true → InOrder from es to
-in_order from [] to h = reached from to h
+in_order from [] to h = reaches_holds from to h
 in_order from (e ∷ es) to h =
     let both = and_parts _ _ h in
-    (reached from (point_of e) both.0, in_order (point_of e) es to both.1)
+    (reaches_holds from (point_of e) both.0, in_order (point_of e) es to both.1)
 
 pub whole : (es : List Event) (to : Point) → is_whole es to ≡ true → AreWhole es to
 unfolding is_whole
 whole es to h =
     let both = and_parts _ _ h in
-    (nested [] es both.0, in_order text_start es to both.1)
+    (nested_closes [] es both.0, in_order text_start es to both.1)

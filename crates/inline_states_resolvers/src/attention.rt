@@ -20,35 +20,23 @@ ghost use Rattle.inline_runs.specs.Paired.{IsPaired};
 ghost use Rattle.inline_runs.specs.View.{pair_view, pairs_view, run_view, runs_view};
 ghost use Rattle.engine_edits.specs.Edits.{edits_of, with_edit};
 ghost use Rattle.markdown_engine.specs.Context.{context};
-ghost use Rattle.inline_states_resolvers.specs.Attention.{attention_edits, beside, run_of_enter, is_event, last_of, place_later, names_of, run_edit};
+ghost use Rattle.inline_states_resolvers.specs.Attention.{attention_edits, run_of_enter, is_event, last_of, place_later, names_of, run_edit};
 ghost use Rattle.inline_states_resolvers.specs.Attention.{empty_search, run_edits, run_from, replace_run, search_to, span_end, span_start, tell_after};
-ghost use Rattle.inline_states_resolvers.specs.Attention.{with_data, with_end_of, with_event, with_run, with_start_of};
+ghost use Rattle.inline_states_resolvers.specs.Attention.{with_held_data, with_end_of, with_event, with_run, with_start_of};
 ghost use Rattle.inline_states_resolvers.specs.Attention.{with_index, with_text_end, with_text_start};
 ghost use Rattle.inline_states_resolvers.specs.Each.{enter_event, exit_event, place_at};
 ghost use Rattle.inline_states_resolvers.specs.Views.{search_view, run_events_view};
 
 use crate::label_end::{later, place_at};
-use definition_text::Kind as Beside;
 use engine_edits::EditMap;
 use engine_text::bytes::{code_after, code_before};
-use engine_text::char::{Kind as EngineKind, classify_opt};
+use engine_text::char::classify_opt;
 use inline_runs::{Pair, Pairing, Run, RunSpans, bytes_by, pair_runs, run_between};
 use markdown_engine::event::{Event, Kind, Name};
 use markdown_engine::place::Point;
 use markdown_engine::{Message, ParseState};
 use markdown_options::Tables;
 use std::alloc::{AllocError, Allocator};
-
-/// The kind of a character beside a run; no character counts as white space.
-fn beside<T: Tables>(tables: &T, code: Option<char>) -> Beside
-    ensures { result ≡ beside (T.punctuation_of tables.now) code }
-{
-    match classify_opt(code, tables) {
-        EngineKind::Whitespace => Beside::Whitespace,
-        EngineKind::Punctuation => Beside::Punctuation,
-        EngineKind::Other => Beside::Other,
-    }
-}
 
 /// A byte of a text, or 0 past its end.
 fn byte_at(bytes: &[u8], index: usize) -> u8
@@ -69,8 +57,8 @@ fn run_from<T: Tables, A: Allocator>(
     ensures { run_view result
         ≡ run_from parse_state.now.options.now (T.punctuation_of parse_state.now.tables.now) parse_state.now.bytes.now from to }
 {
-    let before = beside(parse_state.tables, code_before(parse_state.bytes, from));
-    let after = beside(parse_state.tables, code_after(parse_state.bytes, to));
+    let before = classify_opt(code_before(parse_state.bytes, from), parse_state.tables);
+    let after = classify_opt(code_after(parse_state.bytes, to), parse_state.tables);
     let marker = byte_at(parse_state.bytes, from);
     run_between(
         parse_state.options,
@@ -167,7 +155,7 @@ impl<A: Allocator> Writing<A> {
     /// The span of a pair of runs of this byte ends.
     fn end(&mut self, marker: u8, pair: &Pair) -> Result<(), Message>
         ensures written { OnOk result (run_events_view self.new ≡ with_end_of marker (run_events_view self.old) (pair_view pair.now)) }
-        ensures memory { IfErr result (λ message. IsOutOfMemory message) }
+        ensures memory { IfErr result IsOutOfMemory }
     {
         let names = names_of(marker, pair);
         let from = self.point;
@@ -185,7 +173,7 @@ impl<A: Allocator> Writing<A> {
     /// The span of a pair of runs of this byte begins.
     fn start(&mut self, marker: u8, pair: &Pair) -> Result<(), Message>
         ensures written { OnOk result (run_events_view self.new ≡ with_start_of marker (run_events_view self.old) (pair_view pair.now)) }
-        ensures memory { IfErr result (λ message. IsOutOfMemory message) }
+        ensures memory { IfErr result IsOutOfMemory }
     {
         let names = names_of(marker, pair);
         let from = self.point;
@@ -203,7 +191,7 @@ impl<A: Allocator> Writing<A> {
     /// The spans of pairs of runs of this byte end.
     fn end_all(&mut self, marker: u8, closed: &[Pair]) -> Result<(), Message>
         ensures written { OnOk result (run_events_view self.new ≡ fold (with_end_of marker) (run_events_view self.old) (pairs_view closed.now)) }
-        ensures memory { IfErr result (λ message. IsOutOfMemory message) }
+        ensures memory { IfErr result IsOutOfMemory }
     {
         for index in 0..closed.len() {
             self.end(marker, &closed[index])?;
@@ -214,7 +202,7 @@ impl<A: Allocator> Writing<A> {
     /// The spans of pairs of runs of this byte begin.
     fn start_all(&mut self, marker: u8, opened: &[Pair]) -> Result<(), Message>
         ensures written { OnOk result (run_events_view self.new ≡ fold (with_start_of marker) (run_events_view self.old) (pairs_view opened.now)) }
-        ensures memory { IfErr result (λ message. IsOutOfMemory message) }
+        ensures memory { IfErr result IsOutOfMemory }
     {
         for index in 0..opened.len() {
             self.start(marker, &opened[index])?;
@@ -224,8 +212,8 @@ impl<A: Allocator> Writing<A> {
 
     /// So many bytes are data.
     fn hold(&mut self, size: usize) -> Result<(), Message>
-        ensures written { OnOk result (run_events_view self.new ≡ with_data size (run_events_view self.old)) }
-        ensures memory { IfErr result (λ message. IsOutOfMemory message) }
+        ensures written { OnOk result (run_events_view self.new ≡ with_held_data size (run_events_view self.old)) }
+        ensures memory { IfErr result IsOutOfMemory }
     {
         if size == 0 {
             return Ok(());
@@ -250,7 +238,7 @@ fn replace_run<A: Allocator>(
 ) -> Result<Vec<Event, A>, Message>
     ensures events { IfOk result (λ all. all.items
         ≡ (replace_run marker (pairs_view spans.entry.closed.now) spans.entry.text (pairs_view spans.entry.opened.now) point).events) }
-    ensures memory { IfErr result (λ message. IsOutOfMemory message) }
+    ensures memory { IfErr result IsOutOfMemory }
 {
     let mut writing = Writing {
         events: Vec::new(alloc),
@@ -285,7 +273,7 @@ fn add_run<A: Allocator + Clone>(
     requires paired { IsPaired pairing.now (runs_view runs.now) }
     requires place { place < length runs.now }
     ensures edits { OnOk result (edits_of edits.new ≡ run_edit events.now entries.now (runs_view runs.now) place (edits_of edits.old)) }
-    ensures memory { IfErr result (λ message. IsOutOfMemory message) }
+    ensures memory { IfErr result IsOutOfMemory }
 {
     let entry = entry_at(entries, place);
     let point = place_at(events, entry);
@@ -311,7 +299,7 @@ fn add_runs<A: Allocator + Clone>(
 ) -> Result<(), Message>
     ensures edits { OnOk result (edits_of edits.new
         ≡ run_edits events.now entries.now (runs_view runs.now) (length runs.now) (edits_of edits.old)) }
-    ensures memory { IfErr result (λ message. IsOutOfMemory message) }
+    ensures memory { IfErr result IsOutOfMemory }
 {
     pair_runs(runs, pairing)?;
     for place in 0..runs.len() {
@@ -347,7 +335,7 @@ impl<A: Allocator + Clone> Search<A> {
     /// Nothing is found.
     fn new(alloc: &A) -> Result<Search<A>, Message>
         ensures sought { IfOk result (λ search. search_view search ≡ empty_search) }
-        ensures memory { IfErr result (λ message. IsOutOfMemory message) }
+        ensures memory { IfErr result IsOutOfMemory }
     {
         Ok(Search {
             entries: Vec::new(alloc.clone()?),
@@ -361,7 +349,7 @@ impl<A: Allocator + Clone> Search<A> {
     /// The runs after so many are those of a container.
     fn tell_after(&mut self, alloc: &A, events: &[Event], count: usize) -> Result<(), Message>
         ensures sought { OnOk result (search_view self.new ≡ tell_after events.now count (search_view self.old)) }
-        ensures memory { IfErr result (λ message. IsOutOfMemory message) }
+        ensures memory { IfErr result IsOutOfMemory }
     {
         add_runs(
             &mut self.edits,
@@ -396,7 +384,7 @@ impl<A: Allocator + Clone> Search<A> {
     /// A label's text ends.
     fn end_text(&mut self, alloc: &A, events: &[Event]) -> Result<(), Message>
         ensures sought { OnOk result (search_view self.new ≡ with_text_end events.now (search_view self.old)) }
-        ensures memory { IfErr result (λ message. IsOutOfMemory message) }
+        ensures memory { IfErr result IsOutOfMemory }
     {
         let innermost = self.starts.len().saturating_sub(1);
         let start = entry_at(&self.starts, innermost);
@@ -416,7 +404,7 @@ impl<A: Allocator + Clone> Search<A> {
         ensures sought { OnOk result (search_view self.new
             ≡ with_index (T.punctuation_of parse_state.now.tables.now) (context parse_state.now)
             events.now index (slice_get events.now index) (search_view self.old)) }
-        ensures memory { IfErr result (λ message. IsOutOfMemory message) }
+        ensures memory { IfErr result IsOutOfMemory }
     {
         let event = &events[index];
         if is_event(Kind::Enter, Name::AttentionSequence, event) {
@@ -450,7 +438,7 @@ pub fn attention_edits<T: Tables, A: Allocator + Clone>(
 ) -> Result<EditMap<A>, Message>
     ensures edits { IfOk result (λ edits. edits_of edits
         ≡ attention_edits (T.punctuation_of parse_state.now.tables.now) (context parse_state.now) events.now) }
-    ensures memory { IfErr result (λ message. IsOutOfMemory message) }
+    ensures memory { IfErr result IsOutOfMemory }
 {
     let mut search = Search::new(alloc)?;
     for index in 0..events.len() {

@@ -60,7 +60,7 @@ fn add_email<A: Allocator + Clone>(
 ) -> Result<(), Message>
     requires { index < 2 ^ 63 }
     ensures edits { OnOk result (edits_of edits.new ≡ email_edit bytes.now events.now index (edits_of edits.old)) }
-    ensures memory { IfErr result (λ message. IsOutOfMemory message) }
+    ensures memory { IfErr result IsOutOfMemory }
 {
     if !is_email(bytes, events, index) {
         return Ok(());
@@ -85,7 +85,7 @@ pub fn email_edits<A: Allocator + Clone>(
     events: &[Event],
 ) -> Result<EditMap<A>, Message>
     ensures edits { IfOk result (λ edits. edits_of edits ≡ email_edits bytes.now events.now (length events.now)) }
-    ensures memory { IfErr result (λ message. IsOutOfMemory message) }
+    ensures memory { IfErr result IsOutOfMemory }
 {
     let mut edits = EditMap::new(alloc.clone()?);
     for index in 0..events.len() {

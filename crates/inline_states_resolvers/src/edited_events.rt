@@ -2,7 +2,7 @@
 ghost use Rattle.std.specs.Prelude.{◌≡◌, OnOk, IfErr, IfOk, length, true};
 ghost use Rattle.markdown_options.specs.Messages.{IsOutOfMemory};
 ghost use Rattle.engine_edits.specs.Edits.{edits_of};
-ghost use Rattle.markdown_engine.specs.Machine.{Became, config};
+ghost use Rattle.markdown_engine.specs.Machine.{Became, config, KeepsParseState};
 ghost use Rattle.inline_states_resolvers.specs.EditedEvents.{edited_events, is_ordered, with_edited_events};
 ghost use Rattle.engine_edits.specs.Replacement.{IsOrdered};
 
@@ -25,7 +25,7 @@ fn is_ordered<A: Allocator>(edits: &EditMap<A>, size: usize) -> bool
 /// The same events.
 fn same<A: Allocator>(alloc: A, events: &[Event]) -> Result<Vec<Event, A>, Message>
     ensures events { IfOk result (λ all. all.items ≡ events.now) }
-    ensures memory { IfErr result (λ message. IsOutOfMemory message) }
+    ensures memory { IfErr result IsOutOfMemory }
 {
     let mut all = Vec::new(alloc);
     all.extend_from_slice(events)?;
@@ -42,7 +42,7 @@ fn whole_only<A: Allocator + Clone>(
     requires ordered { IsOrdered 0 (edits_of edits) (length events.now.items) }
     requires is_ordered { is_ordered 0 (edits_of edits) (length events.now.items) ≡ true }
     ensures events { IfOk result (λ all. all.items ≡ edited_events (edits_of edits) to events.now.items) }
-    ensures memory { IfErr result (λ message. IsOutOfMemory message) }
+    ensures memory { IfErr result IsOutOfMemory }
 {
     let mut all = same(events.allocator().clone()?, events)?;
     edits.consume(&mut all)?;
@@ -60,7 +60,7 @@ fn edited_events<A: Allocator + Clone>(
     events: &Vec<Event, A>,
 ) -> Result<Vec<Event, A>, Message>
     ensures events { IfOk result (λ all. all.items ≡ edited_events (edits_of edits) to events.now.items) }
-    ensures memory { IfErr result (λ message. IsOutOfMemory message) }
+    ensures memory { IfErr result IsOutOfMemory }
 {
     if is_ordered(&edits, events.len()) {
         return whole_only(edits, to, events);
@@ -74,8 +74,8 @@ pub fn make<M, T, A: Allocator + Clone>(
     edits: EditMap<A>,
 ) -> Result<(), Message>
     ensures became { OnOk result (Became (with_edited_events (edits_of edits) (config tokenizer.old)) tokenizer.old tokenizer.new) }
-    ensures parse_state { tokenizer.new.parse_state ≡ tokenizer.old.parse_state }
-    ensures memory { IfErr result (λ message. IsOutOfMemory message) }
+    ensures parse_state { KeepsParseState tokenizer.old tokenizer.new }
+    ensures memory { IfErr result IsOutOfMemory }
 {
     tokenizer.events = edited_events(edits, tokenizer.point, &tokenizer.events)?;
     Ok(())

@@ -47,7 +47,7 @@ impl<A: Allocator> Linking<A> {
     /// Data comes next, if that isn't empty.
     fn hold(&mut self, run: &[u8]) -> Result<(), Message>
         ensures held { OnOk result (linking_view self.new [] ≡ with_data (linking_view self.old run.now)) }
-        ensures memory { IfErr result (λ message. IsOutOfMemory message) }
+        ensures memory { IfErr result IsOutOfMemory }
     {
         let end = place_past(self.point, run);
         push_if(
@@ -64,7 +64,7 @@ impl<A: Allocator> Linking<A> {
     /// An address comes next.
     fn link(&mut self, kind: LiteralKind, text: &[u8]) -> Result<(), Message>
         ensures linked { OnOk result (linking_view self.new [] ≡ with_address (kind_view kind) text.now (linking_view self.old [])) }
-        ensures memory { IfErr result (λ message. IsOutOfMemory message) }
+        ensures memory { IfErr result IsOutOfMemory }
     {
         let end = place_past(self.point, text);
         let name = address_name(kind, text);
@@ -81,7 +81,7 @@ fn address_events<A: Allocator>(
     point: Point,
 ) -> Result<Vec<Event, A>, Message>
     ensures events { IfOk result (λ all. all.items ≡ address_events point run.now) }
-    ensures memory { IfErr result (λ message. IsOutOfMemory message) }
+    ensures memory { IfErr result IsOutOfMemory }
 {
     let mut linking = Linking {
         events: Vec::new(alloc),
@@ -156,7 +156,7 @@ fn add_addresses<A: Allocator + Clone>(
 ) -> Result<(), Message>
     requires { index < 2 ^ 63 }
     ensures edits { OnOk result (edits_of edits.new ≡ address_edit bytes.now events.now links index (edits_of edits.old)) }
-    ensures memory { IfErr result (λ message. IsOutOfMemory message) }
+    ensures memory { IfErr result IsOutOfMemory }
 {
     if links != 0 {
         return Ok(());
@@ -180,7 +180,7 @@ pub fn address_edits<A: Allocator + Clone>(
     events: &[Event],
 ) -> Result<EditMap<A>, Message>
     ensures edits { IfOk result (λ edits. edits_of edits ≡ address_edits bytes.now events.now (length events.now)) }
-    ensures memory { IfErr result (λ message. IsOutOfMemory message) }
+    ensures memory { IfErr result IsOutOfMemory }
 {
     let mut edits = EditMap::new(alloc.clone()?);
     let mut links = 0;

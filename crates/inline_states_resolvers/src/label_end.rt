@@ -62,7 +62,7 @@ fn group_name(kind: LabelKind) -> Name
 /// A list of given events.
 fn event_list<A: Allocator>(alloc: A, events: &[Event]) -> Result<Vec<Event, A>, Message>
     ensures events { IfOk result (λ all. all.items ≡ events.now) }
-    ensures memory { IfErr result (λ message. IsOutOfMemory message) }
+    ensures memory { IfErr result IsOutOfMemory }
 {
     let mut all = Vec::new(alloc);
     all.extend_from_slice(events)?;
@@ -77,7 +77,7 @@ fn add_start<A: Allocator + Clone>(
     label: &Label,
 ) -> Result<(), Message>
     ensures edits { OnOk result (edits_of edits.new ≡ with_start events.now label.now (edits_of edits.old)) }
-    ensures memory { IfErr result (λ message. IsOutOfMemory message) }
+    ensures memory { IfErr result IsOutOfMemory }
 {
     let (from, to) = label.start;
     let group = enters(events, group_name(label.kind), from);
@@ -96,7 +96,7 @@ fn link_start<A: Allocator>(
     to: usize,
 ) -> Result<Vec<Event, A>, Message>
     ensures events { IfOk result (λ all. all.items ≡ link_start events.now from to) }
-    ensures memory { IfErr result (λ message. IsOutOfMemory message) }
+    ensures memory { IfErr result IsOutOfMemory }
 {
     let after = later(2, from);
     event_list(
@@ -123,7 +123,7 @@ fn add_link_start<A: Allocator + Clone>(
     label: &Label,
 ) -> Result<(), Message>
     ensures edits { OnOk result (edits_of edits.new ≡ with_link_start events.now label.now (edits_of edits.old)) }
-    ensures memory { IfErr result (λ message. IsOutOfMemory message) }
+    ensures memory { IfErr result IsOutOfMemory }
 {
     let (from, to) = label.start;
     edits.add(from, 6, link_start(alloc.clone()?, events, from, to)?)?;
@@ -138,7 +138,7 @@ fn add_end<A: Allocator + Clone>(
     label: &Label,
 ) -> Result<(), Message>
     ensures edits { OnOk result (edits_of edits.new ≡ with_end events.now label.now (edits_of edits.old)) }
-    ensures memory { IfErr result (λ message. IsOutOfMemory message) }
+    ensures memory { IfErr result IsOutOfMemory }
 {
     let (from, to) = label.end;
     let text = exits(events, Name::LabelText, from);
@@ -158,7 +158,7 @@ fn add_label<A: Allocator + Clone>(
     label: &Label,
 ) -> Result<(), Message>
     ensures edits { OnOk result (edits_of edits.new ≡ with_label events.now (edits_of edits.old) label.now) }
-    ensures memory { IfErr result (λ message. IsOutOfMemory message) }
+    ensures memory { IfErr result IsOutOfMemory }
 {
     if label.kind == LabelKind::GfmUndefinedFootnote {
         add_link_start(edits, alloc, events, label)?;
@@ -176,7 +176,7 @@ fn add_loose<A: Allocator + Clone>(
     start: &LabelStart,
 ) -> Result<(), Message>
     ensures edits { OnOk result (edits_of edits.new ≡ with_loose events.now (edits_of edits.old) start.now) }
-    ensures memory { IfErr result (λ message. IsOutOfMemory message) }
+    ensures memory { IfErr result IsOutOfMemory }
 {
     let (from, to) = start.start;
     let enter = enters(events, Name::Data, from);
@@ -207,7 +207,7 @@ fn add_labels<A: Allocator + Clone>(
     labels: &[Label],
 ) -> Result<(), Message>
     ensures edits { OnOk result (edits_of edits.new ≡ fold (with_label events.now) (edits_of edits.old) labels.now) }
-    ensures memory { IfErr result (λ message. IsOutOfMemory message) }
+    ensures memory { IfErr result IsOutOfMemory }
 {
     for index in 0..labels.len() {
         add_label(edits, alloc, events, &labels[index])?;
@@ -223,7 +223,7 @@ fn add_all_loose<A: Allocator + Clone>(
     starts: &[LabelStart],
 ) -> Result<(), Message>
     ensures edits { OnOk result (edits_of edits.new ≡ fold (with_loose events.now) (edits_of edits.old) starts.now) }
-    ensures memory { IfErr result (λ message. IsOutOfMemory message) }
+    ensures memory { IfErr result IsOutOfMemory }
 {
     for index in 0..starts.len() {
         add_loose(edits, alloc, events, &starts[index])?;
@@ -238,7 +238,7 @@ pub fn label_edits<A: Allocator + Clone>(
     state: &TokenizeState<A>,
 ) -> Result<EditMap<A>, Message>
     ensures edits { IfOk result (λ edits. edits_of edits ≡ label_edits events.now (kept_state state.now)) }
-    ensures memory { IfErr result (λ message. IsOutOfMemory message) }
+    ensures memory { IfErr result IsOutOfMemory }
 {
     let mut edits = EditMap::new(alloc.clone()?);
     add_labels(&mut edits, alloc, events, &state.labels)?;

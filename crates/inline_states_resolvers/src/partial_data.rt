@@ -49,7 +49,7 @@ fn add_seam<A: Allocator + Clone>(
 ) -> Result<(), Message>
     requires { index < 2 ^ 64 - 1 }
     ensures edits { OnOk result (edits_of edits.new ≡ seam_edit events.now index (edits_of edits.old)) }
-    ensures memory { IfErr result (λ message. IsOutOfMemory message) }
+    ensures memory { IfErr result IsOutOfMemory }
 {
     if is_seam(events, index) {
         edits.add(index, 2, Vec::new(alloc))?;
@@ -61,7 +61,7 @@ fn add_seam<A: Allocator + Clone>(
 #[tactic(auto, using(crate::proofs::Steps::data_more, crate::proofs::Steps::data_start))]
 pub fn data_edits<A: Allocator + Clone>(alloc: A, events: &[Event]) -> Result<EditMap<A>, Message>
     ensures edits { IfOk result (λ edits. edits_of edits ≡ data_edits events.now (length events.now)) }
-    ensures memory { IfErr result (λ message. IsOutOfMemory message) }
+    ensures memory { IfErr result IsOutOfMemory }
 {
     let mut edits = EditMap::new(alloc.clone()?);
     for index in 0..events.len() {

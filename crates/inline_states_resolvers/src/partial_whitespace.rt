@@ -172,7 +172,7 @@ pub(crate) fn push_around<A: Allocator>(
     to: Point,
 ) -> Result<(), Message>
     ensures events { OnOk result (events.new.items ≡ events.old.items ++ around name from to) }
-    ensures memory { IfErr result (λ message. IsOutOfMemory message) }
+    ensures memory { IfErr result IsOutOfMemory }
 {
     events.extend_from_slice(&[
         Event::new(Kind::Enter, name, from, None),
@@ -190,7 +190,7 @@ pub(crate) fn push_if<A: Allocator>(
     to: Point,
 ) -> Result<(), Message>
     ensures events { OnOk result (events.new.items ≡ events.old.items ++ around_if there name from to) }
-    ensures memory { IfErr result (λ message. IsOutOfMemory message) }
+    ensures memory { IfErr result IsOutOfMemory }
 {
     if there {
         push_around(events, name, from, to)?;
@@ -209,7 +209,7 @@ fn trimmed_data<A: Allocator>(
     requires tail { sizes.1 ≤ length part.now }
     requires head { sizes.0 ≤ length part.now }
     ensures events { IfOk result (λ all. all.items ≡ trimmed_data part.now sizes.0 sizes.1 breaks ends.0 ends.1) }
-    ensures memory { IfErr result (λ message. IsOutOfMemory message) }
+    ensures memory { IfErr result IsOutOfMemory }
 {
     let (head, tail) = sizes;
     let (from, to) = ends;
@@ -278,7 +278,7 @@ fn add_part<A: Allocator + Clone>(
     requires index { index < 2 ^ 63 }
     requires head { head ≤ length part.now }
     ensures edits { OnOk result (edits_of edits.new ≡ part_edit trimming.now.in_text trimming.now.hard events.now index part.now head (edits_of edits.old)) }
-    ensures memory { IfErr result (λ message. IsOutOfMemory message) }
+    ensures memory { IfErr result IsOutOfMemory }
 {
     let tail = tail_size(ends(trimming.in_text, events, index), &part[head..]);
     add_white(
@@ -305,7 +305,7 @@ fn add_white<A: Allocator + Clone>(
     requires index { index < 2 ^ 63 }
     requires sizes { sizes.0 + sizes.1 ≤ length part.now }
     ensures edits { OnOk result (edits_of edits.new ≡ white_edit hard events.now index part.now sizes.0 sizes.1 (edits_of edits.old)) }
-    ensures memory { IfErr result (λ message. IsOutOfMemory message) }
+    ensures memory { IfErr result IsOutOfMemory }
 {
     let (head, tail) = sizes;
     if head + tail == 0 {
@@ -330,7 +330,7 @@ fn add_index<A: Allocator + Clone>(
     requires { index < 2 ^ 63 }
     ensures edits { OnOk result (edits_of edits.new
         ≡ index_edit trimming.now.in_text trimming.now.hard trimming.now.bytes.now events.now index (edits_of edits.old)) }
-    ensures memory { IfErr result (λ message. IsOutOfMemory message) }
+    ensures memory { IfErr result IsOutOfMemory }
 {
     if !is_data_at(Kind::Enter, events, index) {
         return Ok(());
@@ -352,7 +352,7 @@ pub fn white_edits<A: Allocator + Clone>(
 ) -> Result<EditMap<A>, Message>
     ensures edits { IfOk result (λ edits. edits_of edits
         ≡ white_edits trimming.now.in_text trimming.now.hard trimming.now.bytes.now events.now (length events.now)) }
-    ensures memory { IfErr result (λ message. IsOutOfMemory message) }
+    ensures memory { IfErr result IsOutOfMemory }
 {
     let mut edits = EditMap::new(alloc.clone()?);
     for index in 0..events.len() {

@@ -69,7 +69,7 @@ fn add_inner<A: Allocator + Clone>(
 ) -> Result<(), Message>
     requires { index < 2 ^ 63 }
     ensures edits { OnOk result (edits_of edits.new ≡ inner_edit events.now span.name span.sequence span.content index (edits_of edits.old)) }
-    ensures memory { IfErr result (λ message. IsOutOfMemory message) }
+    ensures memory { IfErr result IsOutOfMemory }
 {
     if !is_inner(events, span, index) {
         return Ok(());
@@ -90,7 +90,7 @@ fn add_span<A: Allocator + Clone>(
 ) -> Result<(), Message>
     requires { index < 2 ^ 63 }
     ensures edits { OnOk result (edits_of edits.new ≡ span_edit events.now index (edits_of edits.old)) }
-    ensures memory { IfErr result (λ message. IsOutOfMemory message) }
+    ensures memory { IfErr result IsOutOfMemory }
 {
     add_inner(edits, alloc, events, CODE, index)?;
     add_inner(edits, alloc, events, MATH, index)
@@ -100,7 +100,7 @@ fn add_span<A: Allocator + Clone>(
 #[tactic(auto, using(crate::proofs::Steps::spans_more, crate::proofs::Steps::spans_start))]
 pub fn span_edits<A: Allocator + Clone>(alloc: &A, events: &[Event]) -> Result<EditMap<A>, Message>
     ensures edits { IfOk result (λ edits. edits_of edits ≡ span_edits events.now (length events.now)) }
-    ensures memory { IfErr result (λ message. IsOutOfMemory message) }
+    ensures memory { IfErr result IsOutOfMemory }
 {
     let mut edits = EditMap::new(alloc.clone()?);
     for index in 0..events.len() {

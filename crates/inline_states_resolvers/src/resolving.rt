@@ -1,7 +1,7 @@
 //! The resolvers of texts and strings.
 ghost use Rattle.std.specs.Prelude.{◌≡◌, OnOk, IfErr};
 ghost use Rattle.markdown_options.specs.Messages.{IsOutOfMemory};
-ghost use Rattle.markdown_engine.specs.Machine.{config, read_with};
+ghost use Rattle.markdown_engine.specs.Machine.{config, read_with, KeepsParseState};
 ghost use Rattle.inline_states_resolvers.specs.Resolving.{resolve_attention, resolve_data, inline_resolved, join_chunks, resolve_label, resolved_config};
 ghost use Rattle.inline_states_resolvers.specs.Resolving.{resolve_string, link_text, name_emails, name_spans, name_text, resolve_text, trim_string, trim_text};
 
@@ -25,8 +25,8 @@ pub fn resolve_data<M, T, A: Allocator + Clone>(
     tokenizer: &mut Tokenizer<'_, M, T, A>,
 ) -> Result<(), Message>
     ensures became { OnOk result (config tokenizer.new ≡ resolve_data (config tokenizer.old)) }
-    ensures parse_state { tokenizer.new.parse_state ≡ tokenizer.old.parse_state }
-    ensures memory { IfErr result (λ message. IsOutOfMemory message) }
+    ensures parse_state { KeepsParseState tokenizer.old tokenizer.new }
+    ensures memory { IfErr result IsOutOfMemory }
 {
     let edits = data_edits(tokenizer.events.allocator().clone()?, &tokenizer.events)?;
     make(tokenizer, edits)
@@ -37,8 +37,8 @@ pub fn resolve_label<M, T, A: Allocator + Clone>(
     tokenizer: &mut Tokenizer<'_, M, T, A>,
 ) -> Result<(), Message>
     ensures became { OnOk result (config tokenizer.new ≡ resolve_label (config tokenizer.old)) }
-    ensures parse_state { tokenizer.new.parse_state ≡ tokenizer.old.parse_state }
-    ensures memory { IfErr result (λ message. IsOutOfMemory message) }
+    ensures parse_state { KeepsParseState tokenizer.old tokenizer.new }
+    ensures memory { IfErr result IsOutOfMemory }
 {
     let alloc = tokenizer.events.allocator().clone()?;
     let edits = label_edits(&alloc, &tokenizer.events, &tokenizer.tokenize_state)?;
@@ -51,8 +51,8 @@ pub fn resolve_attention<M, T: Tables, A: Allocator + Clone>(
 ) -> Result<(), Message>
     ensures became { OnOk result (config tokenizer.new
         ≡ resolve_attention (T.punctuation_of (read_with tokenizer.old).tables) (read_with tokenizer.old) (config tokenizer.old)) }
-    ensures parse_state { tokenizer.new.parse_state ≡ tokenizer.old.parse_state }
-    ensures memory { IfErr result (λ message. IsOutOfMemory message) }
+    ensures parse_state { KeepsParseState tokenizer.old tokenizer.new }
+    ensures memory { IfErr result IsOutOfMemory }
 {
     let alloc = tokenizer.events.allocator().clone()?;
     let edits = attention_edits(&alloc, tokenizer.parse_state, &tokenizer.events)?;
@@ -64,8 +64,8 @@ fn name_spans<M, T, A: Allocator + Clone>(
     tokenizer: &mut Tokenizer<'_, M, T, A>,
 ) -> Result<(), Message>
     ensures became { OnOk result (config tokenizer.new ≡ name_spans (config tokenizer.old)) }
-    ensures parse_state { tokenizer.new.parse_state ≡ tokenizer.old.parse_state }
-    ensures memory { IfErr result (λ message. IsOutOfMemory message) }
+    ensures parse_state { KeepsParseState tokenizer.old tokenizer.new }
+    ensures memory { IfErr result IsOutOfMemory }
 {
     let alloc = tokenizer.events.allocator().clone()?;
     let edits = span_edits(&alloc, &tokenizer.events)?;
@@ -78,8 +78,8 @@ fn name_emails<M, T: Tables, A: Allocator + Clone>(
 ) -> Result<(), Message>
     ensures became { let kept = read_with tokenizer.old in
         OnOk result (config tokenizer.new ≡ name_emails (T.punctuation_of kept.tables) kept (config tokenizer.old)) }
-    ensures parse_state { tokenizer.new.parse_state ≡ tokenizer.old.parse_state }
-    ensures memory { IfErr result (λ message. IsOutOfMemory message) }
+    ensures parse_state { KeepsParseState tokenizer.old tokenizer.new }
+    ensures memory { IfErr result IsOutOfMemory }
 {
     let alloc = tokenizer.events.allocator().clone()?;
     let edits = email_edits(&alloc, tokenizer.parse_state.bytes, &tokenizer.events)?;
@@ -92,8 +92,8 @@ fn name_text<M, T: Tables, A: Allocator + Clone>(
 ) -> Result<(), Message>
     ensures became { let kept = read_with tokenizer.old in
         OnOk result (config tokenizer.new ≡ name_text (T.punctuation_of kept.tables) kept (config tokenizer.old)) }
-    ensures parse_state { tokenizer.new.parse_state ≡ tokenizer.old.parse_state }
-    ensures memory { IfErr result (λ message. IsOutOfMemory message) }
+    ensures parse_state { KeepsParseState tokenizer.old tokenizer.new }
+    ensures memory { IfErr result IsOutOfMemory }
 {
     name_emails(tokenizer)?;
     name_spans(tokenizer)
@@ -105,8 +105,8 @@ fn trim_text<M, T: Tables, A: Allocator + Clone>(
 ) -> Result<(), Message>
     ensures became { let kept = read_with tokenizer.old in
         OnOk result (config tokenizer.new ≡ trim_text (T.punctuation_of kept.tables) kept (config tokenizer.old)) }
-    ensures parse_state { tokenizer.new.parse_state ≡ tokenizer.old.parse_state }
-    ensures memory { IfErr result (λ message. IsOutOfMemory message) }
+    ensures parse_state { KeepsParseState tokenizer.old tokenizer.new }
+    ensures memory { IfErr result IsOutOfMemory }
 {
     let trimming = Trimming {
         in_text: true,
@@ -124,8 +124,8 @@ fn link_text<M, T: Tables, A: Allocator + Clone>(
 ) -> Result<(), Message>
     ensures became { let kept = read_with tokenizer.old in
         OnOk result (config tokenizer.new ≡ link_text (T.punctuation_of kept.tables) kept (config tokenizer.old)) }
-    ensures parse_state { tokenizer.new.parse_state ≡ tokenizer.old.parse_state }
-    ensures memory { IfErr result (λ message. IsOutOfMemory message) }
+    ensures parse_state { KeepsParseState tokenizer.old tokenizer.new }
+    ensures memory { IfErr result IsOutOfMemory }
 {
     if !tokenizer
         .parse_state
@@ -143,7 +143,7 @@ fn link_text<M, T: Tables, A: Allocator + Clone>(
 /// Gives each chunk the one after it.
 fn join_chunks<M, T, A: Allocator>(tokenizer: &mut Tokenizer<'_, M, T, A>)
     ensures became { config tokenizer.new ≡ join_chunks (config tokenizer.old) }
-    ensures parse_state { tokenizer.new.parse_state ≡ tokenizer.old.parse_state }
+    ensures parse_state { KeepsParseState tokenizer.old tokenizer.new }
 {
     link_all(&mut tokenizer.events);
 }
@@ -155,8 +155,8 @@ pub fn resolve_text<M, T: Tables, A: Allocator + Clone>(
 ) -> Result<(), Message>
     ensures became { let kept = read_with tokenizer.old in
         OnOk result (config tokenizer.new ≡ resolve_text (T.punctuation_of kept.tables) kept (config tokenizer.old)) }
-    ensures parse_state { tokenizer.new.parse_state ≡ tokenizer.old.parse_state }
-    ensures memory { IfErr result (λ message. IsOutOfMemory message) }
+    ensures parse_state { KeepsParseState tokenizer.old tokenizer.new }
+    ensures memory { IfErr result IsOutOfMemory }
 {
     name_text(tokenizer)?;
     trim_text(tokenizer)?;
@@ -171,8 +171,8 @@ fn trim_string<M, T: Tables, A: Allocator + Clone>(
 ) -> Result<(), Message>
     ensures became { let kept = read_with tokenizer.old in
         OnOk result (config tokenizer.new ≡ trim_string (T.punctuation_of kept.tables) kept (config tokenizer.old)) }
-    ensures parse_state { tokenizer.new.parse_state ≡ tokenizer.old.parse_state }
-    ensures memory { IfErr result (λ message. IsOutOfMemory message) }
+    ensures parse_state { KeepsParseState tokenizer.old tokenizer.new }
+    ensures memory { IfErr result IsOutOfMemory }
 {
     let trimming = Trimming {
         in_text: false,
@@ -190,8 +190,8 @@ pub fn resolve_string<M, T: Tables, A: Allocator + Clone>(
 ) -> Result<(), Message>
     ensures became { let kept = read_with tokenizer.old in
         OnOk result (config tokenizer.new ≡ resolve_string (T.punctuation_of kept.tables) kept (config tokenizer.old)) }
-    ensures parse_state { tokenizer.new.parse_state ≡ tokenizer.old.parse_state }
-    ensures memory { IfErr result (λ message. IsOutOfMemory message) }
+    ensures parse_state { KeepsParseState tokenizer.old tokenizer.new }
+    ensures memory { IfErr result IsOutOfMemory }
 {
     trim_string(tokenizer)?;
     join_chunks(tokenizer);
@@ -206,8 +206,8 @@ pub fn resolve<M, T: Tables, A: Allocator + Clone>(
 ) -> Result<(), Message>
     ensures config { OnOk result (config tokenizer.new
         ≡ (inline_resolved (T.punctuation_of (read_with tokenizer.old).tables) (read_with tokenizer.old) (config tokenizer.old) name).config) }
-    ensures parse_state { tokenizer.new.parse_state ≡ tokenizer.old.parse_state }
-    ensures memory { IfErr result (λ message. IsOutOfMemory message) }
+    ensures parse_state { KeepsParseState tokenizer.old tokenizer.new }
+    ensures memory { IfErr result IsOutOfMemory }
 {
     match name {
         Name::Data => resolve_data(tokenizer),

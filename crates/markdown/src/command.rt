@@ -1,13 +1,13 @@
 //! The program, over any reader and writer.
 ghost use Rattle.std.specs.Prelude.{◌≡◌, ◌≤◌, ◌⊎◌, ◌==◌, ℕ, List, [], IfOk, IfErr, OnOk, is_ok};
-ghost use Rattle.std.specs.Prelude.{map, option_map, string_bytes, true, false, None};
+ghost use Rattle.std.specs.Prelude.{option_map, string_bytes, true, false, None};
 ghost use Rattle.std.specs.Io.KnownBytes.{Keeps};
-ghost use Rattle.markdown_options.specs.Mdx.{has_mdx};
-ghost use Rattle.markdown_definition.specs.TextTables.{text_tables};
+ghost use Rattle.markdown_options.specs.Mdx.{HasNoMdx};
 ghost use Rattle.markdown_definition.specs.Html.{html};
+ghost use Rattle.html_contents.specs.Texts.{tables_by};
 ghost use Rattle.markdown_tables.specs.Rows.{names_of};
 ghost use Rattle.markdown_tables.specs.RowsFaults.{text_fault};
-ghost use Rattle.markdown_settings.specs.Settings.{faults_of, options_of, path_of, HasFault};
+ghost use Rattle.markdown_settings.specs.Settings.{faults_of, options_of, path_of, HasFault, word_texts};
 ghost use Rattle.markdown.specs.Endings.{Ends, EndsBy};
 ghost use Rattle.markdown.specs.Statuses.{status_of};
 ghost use Rattle.markdown.specs.Tables.{file_names};
@@ -38,16 +38,16 @@ pub fn program<R: Read, W: Write, F: Write>(
     requires writer { has_failed writer.old ≡ false }
 
     // Words without a fault ask for a page: 0 where all of it was written, and otherwise 1.
-    ensures page { faults_of (map string_bytes words.now) ≡ [] → EndsBy (path_of (map string_bytes words.now)) (options_of (map string_bytes words.now))
+    ensures page { faults_of (word_texts words.now) ≡ [] → EndsBy (path_of (word_texts words.now)) (options_of (word_texts words.now))
         R.remaining W.contents reader.old reader.new writer.old writer.new (result == 0) }
-    ensures asked { faults_of (map string_bytes words.now) ≡ [] → result ≤ 1 }
+    ensures asked { faults_of (word_texts words.now) ≡ [] → result ≤ 1 }
 
     // Others may ask for the help, and nothing is read for them.
-    ensures help { result ≡ 0 → (faults_of (map string_bytes words.now) ≡ []) ⊎ HasFault (faults_of (map string_bytes words.now)) true }
-    ensures unread { ¬ (faults_of (map string_bytes words.now) ≡ []) → reader.new ≡ reader.old }
+    ensures help { result ≡ 0 → (faults_of (word_texts words.now) ≡ []) ⊎ HasFault (faults_of (word_texts words.now)) true }
+    ensures unread { ¬ (faults_of (word_texts words.now) ≡ []) → reader.new ≡ reader.old }
 
     // 2: the words are no command line, and nothing was written.
-    ensures words { result ≡ 2 → HasFault (faults_of (map string_bytes words.now)) false }
+    ensures words { result ≡ 2 → HasFault (faults_of (word_texts words.now)) false }
     ensures nothing { result ≡ 2 → Keeps (W.contents (device writer.old)) (W.contents (device writer.new)) }
 
     // 0: there is no complaint.
@@ -72,12 +72,12 @@ fn obey<R: Read, W: Write>(
 ) -> Result<(), Fault>
     requires reader { has_failed reader.old ≡ false }
     requires writer { has_failed writer.old ≡ false }
-    ensures page { faults_of (map string_bytes words.now) ≡ [] → EndsBy (path_of (map string_bytes words.now)) (options_of (map string_bytes words.now))
+    ensures page { faults_of (word_texts words.now) ≡ [] → EndsBy (path_of (word_texts words.now)) (options_of (word_texts words.now))
         R.remaining W.contents reader.old reader.new writer.old writer.new (is_ok result) }
-    ensures asked { faults_of (map string_bytes words.now) ≡ [] → IfErr result (λ fault. status_of fault ≡ 1) }
-    ensures help { OnOk result ((faults_of (map string_bytes words.now) ≡ []) ⊎ HasFault (faults_of (map string_bytes words.now)) true) }
-    ensures unread { ¬ (faults_of (map string_bytes words.now) ≡ []) → reader.new ≡ reader.old }
-    ensures words { IfErr result (λ fault. status_of fault ≡ 2 → HasFault (faults_of (map string_bytes words.now)) false) }
+    ensures asked { faults_of (word_texts words.now) ≡ [] → IfErr result (λ fault. status_of fault ≡ 1) }
+    ensures help { OnOk result ((faults_of (word_texts words.now) ≡ []) ⊎ HasFault (faults_of (word_texts words.now)) true) }
+    ensures unread { ¬ (faults_of (word_texts words.now) ≡ []) → reader.new ≡ reader.old }
+    ensures words { IfErr result (λ fault. status_of fault ≡ 2 → HasFault (faults_of (word_texts words.now)) false) }
     ensures nothing { IfErr result (λ fault. status_of fault ≡ 2 → Keeps (W.contents (device writer.old)) (W.contents (device writer.new))) }
 {
     match settings(rt.alloc(), words) {
@@ -97,7 +97,7 @@ fn page<R: Read, W: Write>(
 ) -> Result<(), Fault>
     requires reader { has_failed reader.old ≡ false }
     requires writer { has_failed writer.old ≡ false }
-    requires without_mdx { has_mdx settings.now.options.parse.constructs ≡ false }
+    requires without_mdx { HasNoMdx settings.now.options }
     ensures page { EndsBy (option_map string_bytes settings.now.references) settings.now.options
         R.remaining W.contents reader.old reader.new writer.old writer.new (is_ok result) }
     ensures status { IfErr result (λ fault. status_of fault ≡ 1) }
@@ -135,9 +135,9 @@ fn print<R: Read, W: Write, T: Tables>(
 ) -> Result<(), Fault>
     requires reader { has_failed reader.old ≡ false }
     requires writer { has_failed writer.old ≡ false }
-    requires without_mdx { has_mdx options.now.parse.constructs ≡ false }
+    requires without_mdx { HasNoMdx options.now }
     ensures page { Ends R.remaining W.contents reader.old reader.new writer.old writer.new (is_ok result) (λ text.
-        html (text_tables (T.reference_of tables.now) (T.punctuation_of tables.now)) text options.now) }
+        html (tables_by T.Tables tables.now) text options.now) }
     ensures status { IfErr result (λ fault. status_of fault ≡ 1) }
 {
     run(alloc, reader, writer, options, tables).map_err(Fault::Run)?;

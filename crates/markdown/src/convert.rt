@@ -1,14 +1,14 @@
 //! From a text to HTML.
-ghost use Rattle.std.specs.Prelude.{◌≡◌, ◌/◌, ◌≤◌, ◌↔◌, IsTrue, IfOk, IfErr, length, string_bytes, false};
-ghost use Rattle.markdown_options.specs.Mdx.{has_mdx};
+ghost use Rattle.std.specs.Prelude.{◌≡◌, ◌/◌, ◌≤◌, ◌↔◌, IsTrue, IfOk, IfErr, length, string_bytes};
+ghost use Rattle.markdown_options.specs.Mdx.{HasNoMdx};
 ghost use Rattle.markdown_options.specs.Messages.{IsOutOfMemory};
 ghost use Rattle.markdown_options.specs.Defaults.{default_options};
 ghost use Rattle.markdown_definition.specs.Html.{html};
+ghost use Rattle.html_contents.specs.Texts.{tables_by};
 ghost use Rattle.html_bytes.specs.Html.{marked_html, default_ending};
 ghost use Rattle.laws_safe_page.specs.SafeHtml.{AreSafe, HasOneReading};
 ghost use Rattle.markdown.specs.PageLaws.{QuotesPage, SaysEscapedLine, EndsPage, ListsPage};
 ghost use Rattle.markdown_tables.specs.Builtin.{builtin_tables};
-ghost use Rattle.markdown_definition.specs.TextTables.{text_tables};
 
 use block_parser::block_rows;
 use block_targets::{definition_contents, document_definitions, document_footnotes};
@@ -44,7 +44,7 @@ pub fn to_html<A: Allocator + Clone>(alloc: A, value: &str) -> Result<String<A>,
     ensures escaped { IfOk result (λ page. SaysEscapedLine default_options value.now (string_bytes page)) }
     ensures endings { IfOk result (λ page. EndsPage builtin_tables default_options value.now (string_bytes page)) }
     ensures lists { IfOk result (λ page. ListsPage builtin_tables default_options value.now (string_bytes page)) }
-    ensures memory { IfErr result (λ message. IsOutOfMemory message) }
+    ensures memory { IfErr result IsOutOfMemory }
 {
     to_html_with_options(alloc, value, &Options::default())
 }
@@ -63,14 +63,14 @@ pub fn to_html_with_options<A: Allocator + Clone>(
     options: &Options,
 ) -> Result<String<A>, Message>
     requires size { length value.now ≤ SIZE_MAX }
-    requires without_mdx { has_mdx options.now.parse.constructs ≡ false }
+    requires without_mdx { HasNoMdx options.now }
     ensures page { IfOk result (λ page. string_bytes page ≡ html builtin_tables value.now options.now) }
     ensures safe { IfOk result (λ page. AreSafe options.now.compile → HasOneReading (string_bytes page)) }
     ensures quotes { IfOk result (λ page. QuotesPage builtin_tables options.now value.now (string_bytes page)) }
     ensures escaped { IfOk result (λ page. SaysEscapedLine options.now value.now (string_bytes page)) }
     ensures endings { IfOk result (λ page. EndsPage builtin_tables options.now value.now (string_bytes page)) }
     ensures lists { IfOk result (λ page. ListsPage builtin_tables options.now value.now (string_bytes page)) }
-    ensures memory { IfErr result (λ message. IsOutOfMemory message) }
+    ensures memory { IfErr result IsOutOfMemory }
 {
     to_html_with_tables(alloc, value, options, &Builtin)
 }
@@ -90,26 +90,26 @@ pub fn to_html_with_tables<T: Tables, A: Allocator + Clone>(
     tables: &T,
 ) -> Result<String<A>, Message>
     requires size { length value.now ≤ SIZE_MAX }
-    requires without_mdx { has_mdx options.now.parse.constructs ≡ false }
+    requires without_mdx { HasNoMdx options.now }
     ensures page { IfOk result (λ page.
-        string_bytes page ≡ html (text_tables (T.reference_of tables.now) (T.punctuation_of tables.now)) value.now options.now) }
+        string_bytes page ≡ html (tables_by T.Tables tables.now) value.now options.now) }
     ensures safe { IfOk result (λ page. AreSafe options.now.compile → HasOneReading (string_bytes page)) }
     ensures quotes { IfOk result (λ page.
-        QuotesPage (text_tables (T.reference_of tables.now) (T.punctuation_of tables.now)) options.now value.now (string_bytes page)) }
+        QuotesPage (tables_by T.Tables tables.now) options.now value.now (string_bytes page)) }
     ensures escaped { IfOk result (λ page. SaysEscapedLine options.now value.now (string_bytes page)) }
     ensures endings { IfOk result (λ page.
-        EndsPage (text_tables (T.reference_of tables.now) (T.punctuation_of tables.now)) options.now value.now (string_bytes page)) }
+        EndsPage (tables_by T.Tables tables.now) options.now value.now (string_bytes page)) }
     ensures lists { IfOk result (λ page.
-        ListsPage (text_tables (T.reference_of tables.now) (T.punctuation_of tables.now)) options.now value.now (string_bytes page)) }
-    ensures memory { IfErr result (λ message. IsOutOfMemory message) }
+        ListsPage (tables_by T.Tables tables.now) options.now value.now (string_bytes page)) }
+    ensures memory { IfErr result IsOutOfMemory }
 {
     let (before, text) = without_mark(value);
-    let page = print(alloc, before, text, options, tables)?;
+    let page = page_after(alloc, before, text, options, tables)?;
     Ok(page)
 }
 
 /// The HTML of a text without a byte order mark, after a character of a kind.
-fn print<T: Tables, A: Allocator + Clone>(
+fn page_after<T: Tables, A: Allocator + Clone>(
     alloc: A,
     before: Kind,
     text: &str,
@@ -117,9 +117,9 @@ fn print<T: Tables, A: Allocator + Clone>(
     tables: &T,
 ) -> Result<String<A>, AllocError>
     requires size { length text.now ≤ SIZE_MAX }
-    requires without_mdx { has_mdx options.now.parse.constructs ≡ false }
+    requires without_mdx { HasNoMdx options.now }
     ensures { IfOk result (λ page.
-        string_bytes page ≡ marked_html (text_tables (T.reference_of tables.now) (T.punctuation_of tables.now)) before text.now options.now) }
+        string_bytes page ≡ marked_html (tables_by T.Tables tables.now) before text.now options.now) }
 {
     let blocks = block_rows(alloc.clone()?, before, text, &options.parse.constructs)?;
     let ending = default_ending(text, options.compile.default_line_ending);

@@ -3,9 +3,9 @@ ghost use Rattle.std.specs.Prelude.{◌≡◌, ◌≤◌, ◌<◌, ◌+◌, ◌-
 ghost use Rattle.std.specs.Prelude.{IfOk, IfErr, OnOk, IfSome, IsTrue, is_err, is_ok, true, false, length, vec_len, string_bytes};
 ghost use Rattle.std.specs.Io.{appended_bytes, StartsWith};
 ghost use Rattle.std.specs.Io.KnownBytes.{Appends, Consumes, IsAtEnd, Keeps};
-ghost use Rattle.markdown_options.specs.Mdx.{has_mdx};
+ghost use Rattle.markdown_options.specs.Mdx.{HasNoMdx};
 ghost use Rattle.markdown_definition.specs.Html.{html};
-ghost use Rattle.markdown_definition.specs.TextTables.{text_tables};
+ghost use Rattle.html_contents.specs.Texts.{tables_by};
 ghost use Rattle.markdown.specs.Watched.{device, has_failed, has_ended};
 ghost use Rattle.markdown.specs.Faults.{is_read_error, is_write_error, is_size_error, is_utf8_error};
 ghost use Rattle.markdown.specs.Faults.{read_failed, write_failed, size_failed, utf8_failed, reads_all, gave_none};
@@ -13,7 +13,7 @@ ghost use Rattle.markdown.specs.Transfer.{AppendsBeginning, RefusesPast, Refuses
 
 use crate::convert::{SIZE_MAX, to_html_with_tables};
 use crate::watched::Watched;
-use markdown_options::{Options, Tables};
+use markdown_options::{Message, Options, Tables};
 use std::alloc::{AllocError, Allocator};
 use std::io::{self, Read, Write};
 use thiserror::Error;
@@ -46,6 +46,17 @@ impl From<AllocError> for RunError {
     }
 }
 
+/// The only message that a conversion answers says that memory was refused.
+impl From<Message> for RunError {
+    ghost use Rattle.markdown.specs.declared.transfer.RunError.TheVariants.{Memory};
+
+    ghost from_gives = { λ _ e. e ≡ Memory };
+
+    fn from(_message: Message) -> RunError {
+        RunError::Memory
+    }
+}
+
 /// How many bytes are asked of a reader at once.
 const CHUNK: usize = 65536;
 
@@ -61,13 +72,13 @@ pub fn run<A: Allocator + Clone, R: Read, W: Write, T: Tables>(
     options: &Options,
     tables: &T,
 ) -> Result<(), RunError>
-    requires without_mdx { has_mdx options.now.parse.constructs ≡ false }
+    requires without_mdx { HasNoMdx options.now }
     requires reader { has_failed reader.old ≡ false }
     requires writer { has_failed writer.old ≡ false }
 
     // All of the page was written, and nothing else.
     ensures ok { OnOk result (IfSome (R.remaining (device reader.old)) (λ text.
-        let page = html (text_tables (T.reference_of tables.now) (T.punctuation_of tables.now)) text options.now in
+        let page = html (tables_by T.Tables tables.now) text options.now in
         Appends (W.contents (device writer.old)) (W.contents (device writer.new)) page)) }
 
     // `Read` comes exactly where the reader failed, `Write` and `Stopped` where the writer did.
@@ -76,7 +87,7 @@ pub fn run<A: Allocator + Clone, R: Read, W: Write, T: Tables>(
 
     // What was written is then a beginning of the page, and otherwise nothing.
     ensures beginning { IfErr result (λ e. is_write_error e ≡ true → IfSome (R.remaining (device reader.old)) (λ text.
-        let page = html (text_tables (T.reference_of tables.now) (T.punctuation_of tables.now)) text options.now in
+        let page = html (tables_by T.Tables tables.now) text options.now in
         AppendsBeginning (W.contents (device writer.old)) (W.contents (device writer.new)) page)) }
     ensures nothing { IfErr result (λ e. is_write_error e ≡ false → Keeps (W.contents (device writer.old)) (W.contents (device writer.new))) }
 
@@ -101,17 +112,15 @@ fn page_of<A: Allocator + Clone, T: Tables>(
     options: &Options,
     tables: &T,
 ) -> Result<String<A>, RunError>
-    requires without_mdx { has_mdx options.now.parse.constructs ≡ false }
+    requires without_mdx { HasNoMdx options.now }
     requires fits { length bytes.now ≤ SIZE_MAX }
     ensures ok { IfOk result (λ page.
-        string_bytes page ≡ html (text_tables (T.reference_of tables.now) (T.punctuation_of tables.now)) bytes.now options.now) }
+        string_bytes page ≡ html (tables_by T.Tables tables.now) bytes.now options.now) }
     ensures utf8 { RefusesUtf8 bytes.now (utf8_failed result) }
     ensures others { IfErr result (λ e. (is_read_error e ≡ false) × (is_write_error e ≡ false) × (is_size_error e ≡ false)) }
 {
     match str::from_utf8(bytes) {
-        Ok(text) => {
-            to_html_with_tables(alloc, text, options, tables).map_err(|_| RunError::Memory)
-        }
+        Ok(text) => Ok(to_html_with_tables(alloc, text, options, tables)?),
         Err(_) => Err(RunError::Utf8),
     }
 }

@@ -1,6 +1,6 @@
 //! The options that a sum of flags asks for.
 ghost use Rattle.std.specs.Prelude.{◌≡◌, ◌<◌, IfSome, false};
-ghost use Rattle.markdown_options.specs.Mdx.{has_mdx};
+ghost use Rattle.markdown_options.specs.Mdx.{has_mdx, HasNoMdx};
 ghost use Rattle.markdown_c.specs.Flags.{flagged_constructs, flagged_options, has_flag, options_of};
 
 use markdown::{CompileOptions, Constructs, Options, ParseOptions};
@@ -50,7 +50,7 @@ const ALL: u32 = DANGEROUS
 /// The options that a sum of flags asks for, if it has no others.
 pub(crate) fn options_of(flags: u32) -> Option<Options>
     ensures options { result ≡ options_of flags }
-    ensures without_mdx { IfSome result (λ options. has_mdx options.parse.constructs ≡ false) }
+    ensures without_mdx { IfSome result HasNoMdx }
 {
     if flags > ALL {
         return None;
@@ -91,7 +91,7 @@ fn flagged_constructs(flags: u32) -> Constructs
 /// The default options, with what the flags change.
 fn flagged_options(flags: u32) -> Options
     ensures options { result ≡ flagged_options flags }
-    ensures without_mdx { has_mdx result.parse.constructs ≡ false }
+    ensures without_mdx { HasNoMdx result }
 {
     Options {
         parse: ParseOptions {

@@ -6,7 +6,7 @@ use Rattle.std.proofs.lemmas.Bool.Decides.{nat_tests}
 use Rattle.engine_events.specs.declared.place.Point.{Point}
 use Rattle.engine_events.specs.Columns.{tab_size}
 use Rattle.markdown_engine.specs.declared.virtual_text.VirtualByte.{VirtualByte}
-use Rattle.markdown_engine.specs.VirtualText.{virtual_byte, byte_before, place_in, Skips, is_before, given, tab_column, in_line, in_tab, next_line, as_byte}
+use Rattle.markdown_engine.specs.VirtualText.{virtual_byte, byte_before, place_in, Skips, is_before, byte_given, tab_column, in_line, in_tab, next_line, as_byte}
 use Rattle.markdown_engine.specs.VirtualText.{feeds}
 use Rattle.markdown_engine.specs.Laws.{remaining, IsRead, IsFed}
 use Rattle.markdown_engine.specs.Order.{Reaches}
@@ -42,7 +42,7 @@ module _ (size : ℕ) (p : Point) (low : p.index < size) where
   below_three : nat_le 3 p.vs ≡ false → p.vs < 3
   below_three e = grind (arith, nat_tests, e)
 
-  given_less : (bytes : List ℕ) (b : ℕ) → Less (given bytes p b)
+  given_less : (bytes : List ℕ) (b : ℕ) → Less (byte_given bytes p b)
   given_less bytes b =
       by_test (b == 9) (tab_column p) (if b == 10 then as_byte 10 (next_line 1 p) else if b == 13
       then as_byte 10 (next_line (if feeds bytes (p.index + 1) then 2 else 1) p) else as_byte b (in_line p))
@@ -54,7 +54,7 @@ module _ (size : ℕ) (p : Point) (low : p.index < size) where
       (λ _. by_test (b == 13) (as_byte 10 (next_line (if feeds bytes (p.index + 1) then 2 else 1) p)) (as_byte b (in_line p))
       (λ _. feed_less (feeds bytes (p.index + 1))) (λ _. line_less b)))
 
-  pub given_falls : (bytes : List ℕ) (b : ℕ) → remaining size (given bytes p b).next < remaining size p
+  pub given_falls : (bytes : List ℕ) (b : ℕ) → remaining size (byte_given bytes p b).next < remaining size p
   unfolding Less
   given_falls bytes b = given_less bytes b
 
@@ -80,7 +80,7 @@ module _ (p : Point) where
   unfolding Later
   line_later b = record { index = omega arith; column = λ e. omega arith }
 
-  given_later : (bytes : List ℕ) (b : ℕ) → Later (given bytes p b)
+  given_later : (bytes : List ℕ) (b : ℕ) → Later (byte_given bytes p b)
   given_later bytes b =
       let line = as_byte b (in_line p) in
       let return = as_byte 10 (next_line (if feeds bytes (p.index + 1) then 2 else 1) p) in

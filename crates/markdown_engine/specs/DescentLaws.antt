@@ -8,8 +8,8 @@ use Rattle.markdown_engine.specs.Descent.{AllBelow, DescendsAt, Weighs, all_wait
 use Rattle.markdown_engine.specs.Laws.{FallsAt, HoldsAt}
 use Rattle.markdown_engine.specs.Reading.{Steps, with_byte, mark, continuation}
 
-one_more : (n w : ℕ) → n ^ (w + 1) ≡ n ^ w * n
-one_more n w = rw add-one (pow-suc n w)
+power_more : (n w : ℕ) → n ^ (w + 1) ≡ n ^ w * n
+power_more n w = rw add-one (pow-suc n w)
 
 module _ (most : ℕ) (waits : Attempt → ℕ) where
   base : ℕ
@@ -46,7 +46,7 @@ module _ (most : ℕ) (waits : Attempt → ℕ) where
       let least = some w in
       let wait = below_all w attempts b in
       let joined = waits_more stack attempts in
-      let power : base ^ (w + 1) ≡ q * base = one_more base w in
+      let power : base ^ (w + 1) ≡ q * base = power_more base w in
       let two = mul-add q (length attempts) 2 in
       let room = mul-le-mul_left q (let k : length attempts + 2 ≤ most + 1 = omega arith in k) in
       omega arith
@@ -60,8 +60,8 @@ module _ (most : ℕ) (waits : Attempt → ℕ) where
       let joined = waits_more stack (a ∷ []) in
       omega arith
 
-before : (v w : ℕ) → v < w → (w - 1) + 1 ≡ w
-before v w h = omega arith
+weight_before : (v w : ℕ) → v < w → (w - 1) + 1 ≡ w
+weight_before v w h = omega arith
 
 -- whatever descends has a rank that falls
 pub descends : {M : Type 0} (size : ℕ) (valid : HoldsAt M) (step : Steps M) (most : ℕ) (weight : Weighs M) (waits : Attempt → ℕ)
@@ -73,7 +73,7 @@ descends size valid step most weight waits d = record {
   called = λ c stack n h.
       let e = step c n in
       let w = weight c (states.Retry n) in
-      let same = before (weight e.config e.state) w (d.called c stack n h) in
+      let same = weight_before (weight e.config e.state) w (d.called c stack n h) in
       let fewer : length (map mark e.pushed) < most = rw (length-map e.pushed mark) (d.fewer c stack n h) in
       let lower = call_falls most waits (weight e.config e.state) (w - 1) stack (map mark e.pushed) (rw same (d.called c stack n h)) fewer
       (rw same (d.pushed c stack n h)) in

@@ -114,6 +114,10 @@ module _ {M T A : Type 0} where
     pub attempts : t.attempts.items ≡ []
     pub state : (s ≡ states.Ok) ⊎ (s ≡ states.Nok)
 
+  -- what is read, and by which options and tables, is the same
+  abbrev pub KeepsParseState : Tokenizer M T A → Tokenizer M T A → Type 0
+  KeepsParseState old new = new.parse_state ≡ old.parse_state
+
   -- neither the text nor what is skipped was touched
   pub record SameText (old new : Tokenizer M T A) : Type 0 where
     pub parse_state : new.parse_state ≡ old.parse_state

@@ -41,8 +41,8 @@ abbrev pub feeds : List ℕ → ℕ → Bool
 feeds bytes index = is_feed (slice_get bytes index)
 
 -- what a byte gives, and the place after it
-abbrev pub given : List ℕ → Point → ℕ → VirtualByte
-given bytes p b =
+abbrev pub byte_given : List ℕ → Point → ℕ → VirtualByte
+byte_given bytes p b =
     if b == 9 then tab_column p
     else if b == 10 then as_byte 10 (next_line 1 p)
     else if b == 13 then as_byte 10 (next_line (if feeds bytes (p.index + 1) then 2 else 1) p)
@@ -50,7 +50,7 @@ given bytes p b =
 
 -- the byte of the virtual text at a place
 abbrev pub virtual_byte : List ℕ → Point → VirtualByte
-virtual_byte bytes p = given bytes p (slice_index bytes p.index)
+virtual_byte bytes p = byte_given bytes p (slice_index bytes p.index)
 
 -- whether a place is before an index and a column of a tab there
 abbrev pub is_before : ℕ × ℕ → Point → Bool

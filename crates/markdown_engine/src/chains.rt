@@ -13,7 +13,7 @@ ghost use Rattle.markdown_engine.specs.Chains.{SubtokenizesIn, after_chunk, chai
 ghost use Rattle.markdown_engine.specs.Chains.{starts_line, with_chunks};
 ghost use Rattle.markdown_engine.specs.Context.{context};
 ghost use Rattle.markdown_engine.specs.Evaluation.{AreReadingOf};
-ghost use Rattle.markdown_engine.specs.Machine.{bytes_of, config, fresh_config, source};
+ghost use Rattle.markdown_engine.specs.Machine.{bytes_of, config, fresh_config, source, KeepsParseState};
 ghost use Rattle.markdown_engine.specs.Resolving.{found_in, nothing_found};
 ghost use Rattle.markdown_engine.specs.Standing.{LinksLeadIn};
 ghost use Rattle.markdown_engine.specs.Together.{StaysBalanced};
@@ -85,8 +85,8 @@ fn skip_before<'a, M, T, A: Allocator + Clone>(
     ensures config { config tokenizer.new ≡ config tokenizer.old }
     ensures attempts { tokenizer.new.attempts ≡ tokenizer.old.attempts }
     ensures failed { tokenizer.new.failed ≡ tokenizer.old.failed }
-    ensures parse_state { tokenizer.new.parse_state ≡ tokenizer.old.parse_state }
-    ensures memory { IfErr result (λ message. IsOutOfMemory message) }
+    ensures parse_state { KeepsParseState tokenizer.old tokenizer.new }
+    ensures memory { IfErr result IsOutOfMemory }
 {
     if starts_line(tokenizer.parse_state.bytes, end, start) {
         tokenizer.define_skip(start)?;
@@ -110,7 +110,7 @@ fn skip_before_chunks<'a, M, T, A: Allocator + Clone>(
     ensures attempts { tokenizer.new.attempts.items ≡ tokenizer.old.attempts.items }
     ensures failed { tokenizer.new.failed ≡ tokenizer.old.failed }
     ensures parse_state { tokenizer.new.parse_state.now ≡ tokenizer.old.parse_state.now }
-    ensures memory { IfErr result (λ message. IsOutOfMemory message) }
+    ensures memory { IfErr result IsOutOfMemory }
 {
     let mut end = tokenizer.point;
     for chunk in chain {
@@ -135,7 +135,7 @@ fn read_chain<M: Machine<T> + Copy, T: Tables, A: Allocator + Clone>(
     requires begins { M.valid (context parse_state.now) (fresh_config (place_at events.now first) (M.seen machine)) [] (states.Next (first_state content)) }
     ensures reads { IfOk result (λ read. ReadsChainIn M.step M.resolved (context parse_state.now) (M.seen machine)
         events.now (first, content) read.0.items (found_in read.1)) }
-    ensures memory { IfErr result (λ message. IsOutOfMemory message) }
+    ensures memory { IfErr result IsOutOfMemory }
 {
     let chain = chunks(alloc.clone()?, events, first)?;
     let start = place_at(events, first);
@@ -161,7 +161,7 @@ fn divide_chains<M: Machine<T> + Copy, T: Tables, A: Allocator + Clone>(
     ensures divides { IfOk result (λ found. DividesIn M.step M.resolved (context parse_state.now) (M.seen machine)
         filter events.now (edits_of map.old) (edits_of map.new) (found_in found)) }
     ensures done { IfOk result (λ found. found.done ≡ is_empty (chains filter events.now)) }
-    ensures memory { IfErr result (λ message. IsOutOfMemory message) }
+    ensures memory { IfErr result IsOutOfMemory }
 {
     let mut counts = (0, 0);
     let mut found = nothing_found(alloc.clone()?)?;
@@ -201,7 +201,7 @@ pub fn subtokenize<M: Machine<T> + Copy, T: Tables, A: Allocator + Clone>(
         (option_copied filter.entry) events.old.items events.new.items (found_in found)) }
     ensures done { IfOk result (λ found. found.done ≡ is_empty (chains (option_copied filter.entry) events.old.items)) }
     ensures err { OnErr result (events.new.items ≡ events.old.items) }
-    ensures memory { IfErr result (λ message. IsOutOfMemory message) }
+    ensures memory { IfErr result IsOutOfMemory }
 {
     let alloc = events.allocator().clone()?;
     let mut map = EditMap::new(alloc.clone()?);

@@ -60,7 +60,7 @@ impl<'a, M: Machine<T>, T: Tables, A: Allocator + Clone> Tokenizer<'a, M, T, A> 
         ensures whole { OnOk result (AreWhole self.new.events.items self.new.point) }
         ensures err { OnErr result (self.new.failed ≡ true) }
         ensures failed { self.old.failed ≡ true → IsErr result }
-        ensures memory { IfErr result (λ message. IsOutOfMemory message) }
+        ensures memory { IfErr result IsOutOfMemory }
     {
         self.flush_to(self.end, state, resolve)
     }
@@ -77,7 +77,7 @@ impl<'a, M: Machine<T>, T: Tables, A: Allocator + Clone> Tokenizer<'a, M, T, A> 
         ensures whole { OnOk result (AreWhole self.new.events.items self.new.point) }
         ensures err { OnErr result (self.new.failed ≡ true) }
         ensures failed { self.old.failed ≡ true → IsErr result }
-        ensures memory { IfErr result (λ message. IsOutOfMemory message) }
+        ensures memory { IfErr result IsOutOfMemory }
     {
         let to = (self.parse_state.bytes.len(), 0);
         self.flush_to(to, state, true)
@@ -97,7 +97,7 @@ impl<'a, M: Machine<T>, T: Tables, A: Allocator + Clone> Tokenizer<'a, M, T, A> 
         ensures whole { OnOk result (AreWhole self.new.events.items self.new.point) }
         ensures err { OnErr result (self.new.failed ≡ true) }
         ensures failed { self.old.failed ≡ true → IsErr result }
-        ensures memory { IfErr result (λ message. IsOutOfMemory message) }
+        ensures memory { IfErr result IsOutOfMemory }
     {
         if self.failed {
             return Err(Message::out_of_memory());
@@ -119,7 +119,7 @@ impl<'a, M: Machine<T>, T: Tables, A: Allocator + Clone> Tokenizer<'a, M, T, A> 
         ensures completed { IfOk result (λ found. Completes M.seen M.step M.resolved to resolve state self.old self.new (found_in found)) }
         ensures done { IfOk result (λ found. found.done ≡ false) }
         ensures whole { OnOk result (AreWhole self.new.events.items self.new.point) }
-        ensures memory { IfErr result (λ message. IsOutOfMemory message) }
+        ensures memory { IfErr result IsOutOfMemory }
     {
         if let State::Error(message) = self.finish(to, state) {
             return Err(*message);
@@ -138,7 +138,7 @@ impl<'a, M: Machine<T>, T: Tables, A: Allocator + Clone> Tokenizer<'a, M, T, A> 
         ensures resolved { OnOk result (IsResolved M.seen (resolve_all (M.resolved (read_with self.old)) (view_config M.seen self.old)) self.new found.new) }
         ensures done { found.new.done ≡ found.old.done }
         ensures whole { OnOk result (AreWhole self.new.events.items self.new.point) }
-        ensures memory { IfErr result (λ message. IsOutOfMemory message) }
+        ensures memory { IfErr result IsOutOfMemory }
     {
         let none = Vec::new(self.events.allocator().clone()?);
         let names = mem::replace(&mut self.resolvers, none);
@@ -157,7 +157,7 @@ impl<'a, M: Machine<T>, T: Tables, A: Allocator + Clone> Tokenizer<'a, M, T, A> 
             (M.resolved (read_with self.old)) names.now (view_config M.seen self.old) (found_in found.old)) self.new found.new) }
         ensures settled { OnOk result (M.settled (read_with self.old) (view_config M.seen self.new) []) }
         ensures done { found.new.done ≡ found.old.done }
-        ensures memory { IfErr result (λ message. IsOutOfMemory message) }
+        ensures memory { IfErr result IsOutOfMemory }
     {
         for name in names {
             let more = M::resolve(self, *name)?;

@@ -31,7 +31,7 @@ impl<'a, T: Tables, A: Allocator + Clone> ParseState<'a, T, A> {
         tables: &'a T,
     ) -> Result<ParseState<'a, T, A>, Message>
         ensures state { IfOk result (λ state. context state ≡ without_labels bytes.now options.now tables.now) }
-        ensures memory { IfErr result (λ message. IsOutOfMemory message) }
+        ensures memory { IfErr result IsOutOfMemory }
     {
         Ok(ParseState {
             bytes,

@@ -5,7 +5,7 @@ ghost use Rattle.engine_events.specs.declared.state.State.TheVariants as states;
 ghost use Rattle.markdown_engine.specs.Reading.{Steps, mark, restore, continuation, with_byte};
 ghost use Rattle.std.specs.BTreeMap.{insert_entry};
 ghost use Rattle.markdown_engine.specs.Machine.{Around, Became, Began, HasEnded, HasFlushed, HasPushed, HasReached, IsRefused, SameText, Shows, frame_at};
-ghost use Rattle.markdown_engine.specs.Machine.{bytes_of, config, past_byte, with_enter, with_exit, read_with, view_config, source};
+ghost use Rattle.markdown_engine.specs.Machine.{bytes_of, config, past_byte, with_enter, with_exit, read_with, view_config, source, KeepsParseState};
 ghost use Rattle.markdown_engine.specs.Machine.{to_run_first, to_run_last};
 ghost use Rattle.markdown_engine.specs.Resolvers.{AreOnce, is_registered};
 ghost use Rattle.markdown_engine.specs.VirtualText.{is_before, line_start};
@@ -64,7 +64,7 @@ pub trait Machine<T: Tables> {
         ensures config { OnOk result (view_config seen tokenizer.new ≡ (resolved (read_with tokenizer.old) (view_config seen tokenizer.old) name).config) }
         ensures found { IfOk result (λ found. found_of found ≡ (resolved (read_with tokenizer.old) (view_config seen tokenizer.old) name).found) }
         ensures parse_state { tokenizer.new.parse_state.now ≡ tokenizer.old.parse_state.now }
-        ensures memory { IfErr result (λ message. IsOutOfMemory message) };
+        ensures memory { IfErr result IsOutOfMemory };
 
     // The laws of reading: a state only adds events, and answers `Next` after exactly one `consume`
     // and `Retry` after none; each turn of the tokenizer keeps what holds; reading ends; events are
@@ -140,7 +140,7 @@ impl<'a, M, T, A: Allocator + Clone> Tokenizer<'a, M, T, A> {
         ensures skips { IfOk result (λ tokenizer. tokenizer.skips.entries ≡ []) }
         ensures end { IfOk result (λ tokenizer. tokenizer.end ≡ (0, 0)) }
         ensures failed { IfOk result (λ tokenizer. tokenizer.failed ≡ false) }
-        ensures memory { IfErr result (λ message. IsOutOfMemory message) }
+        ensures memory { IfErr result IsOutOfMemory }
     {
         Ok(Tokenizer {
             parse_state,
@@ -173,9 +173,9 @@ impl<'a, M, T, A: Allocator + Clone> Tokenizer<'a, M, T, A> {
         ensures err { OnErr result (self.new.skips.entries ≡ self.old.skips.entries) }
         ensures config { config self.new ≡ config self.old }
         ensures attempts { self.new.attempts ≡ self.old.attempts }
-        ensures parse_state { self.new.parse_state ≡ self.old.parse_state }
+        ensures parse_state { KeepsParseState self.old self.new }
         ensures failed { self.new.failed ≡ self.old.failed }
-        ensures memory { IfErr result (λ message. IsOutOfMemory message) }
+        ensures memory { IfErr result IsOutOfMemory }
     {
         let start = line_start(self.parse_state.bytes, point.index);
         if self.skips.insert(start, point).is_err() {
@@ -190,7 +190,7 @@ impl<'a, M, T, A: Allocator> Tokenizer<'a, M, T, A> {
     pub fn enter(&mut self, name: EventName) -> Result<(), Message>
         ensures became { OnOk result (Became (with_enter name None (config self.old)) self.old self.new) }
         ensures text { SameText self.old self.new }
-        ensures memory { IfErr result (λ message. IsOutOfMemory message) }
+        ensures memory { IfErr result IsOutOfMemory }
     {
         self.add(Event::new(Kind::Enter, name, self.point, None))?;
         Ok(())
@@ -203,7 +203,7 @@ impl<'a, M, T, A: Allocator> Tokenizer<'a, M, T, A> {
     pub fn enter_link(&mut self, name: EventName, link: Link) -> Result<(), Message>
         ensures became { OnOk result (Became (with_enter name (Some link) (config self.old)) self.old self.new) }
         ensures text { SameText self.old self.new }
-        ensures memory { IfErr result (λ message. IsOutOfMemory message) }
+        ensures memory { IfErr result IsOutOfMemory }
     {
         self.add(Event::new(Kind::Enter, name, self.point, Some(link)))?;
         Ok(())
@@ -214,7 +214,7 @@ impl<'a, M, T, A: Allocator> Tokenizer<'a, M, T, A> {
         requires { IsInnermost name self.old.events.items }
         ensures became { OnOk result (Became (with_exit name (config self.old)) self.old self.new) }
         ensures text { SameText self.old self.new }
-        ensures memory { IfErr result (λ message. IsOutOfMemory message) }
+        ensures memory { IfErr result IsOutOfMemory }
     {
         let point = if self.previous == Some(b'\n') {
             self.line_start
@@ -255,7 +255,7 @@ impl<'a, M, T, A: Allocator> Tokenizer<'a, M, T, A> {
     /// and on with another.
     pub fn attempt(&mut self, ok: State, nok: State) -> Result<(), Message>
         ensures began { Began (frame_at false ok nok (config self.old)) self.old self.new result }
-        ensures memory { IfErr result (λ message. IsOutOfMemory message) }
+        ensures memory { IfErr result IsOutOfMemory }
     {
         self.begin(false, ok, nok)
     }
@@ -263,7 +263,7 @@ impl<'a, M, T, A: Allocator> Tokenizer<'a, M, T, A> {
     /// Looks ahead: goes back here in any case, and on with one state or the other.
     pub fn check(&mut self, ok: State, nok: State) -> Result<(), Message>
         ensures began { Began (frame_at true ok nok (config self.old)) self.old self.new result }
-        ensures memory { IfErr result (λ message. IsOutOfMemory message) }
+        ensures memory { IfErr result IsOutOfMemory }
     {
         self.begin(true, ok, nok)
     }
@@ -271,7 +271,7 @@ impl<'a, M, T, A: Allocator> Tokenizer<'a, M, T, A> {
     /// Begins an attempt here.
     fn begin(&mut self, check: bool, ok: State, nok: State) -> Result<(), Message>
         ensures began { Began (frame_at check ok nok (config self.old)) self.old self.new result }
-        ensures memory { IfErr result (λ message. IsOutOfMemory message) }
+        ensures memory { IfErr result IsOutOfMemory }
     {
         let attempt = Attempt {
             check,
@@ -297,7 +297,7 @@ impl<'a, M, T, A: Allocator> Tokenizer<'a, M, T, A> {
         ensures there { is_registered name self.old.resolvers.items ≡ true → IsOk result }
         ensures err { OnErr result (config self.new ≡ config self.old) }
         ensures text { SameText self.old self.new }
-        ensures memory { IfErr result (λ message. IsOutOfMemory message) }
+        ensures memory { IfErr result IsOutOfMemory }
     {
         if self.resolvers.contains(&name) {
             return Ok(());
@@ -315,7 +315,7 @@ impl<'a, M, T, A: Allocator> Tokenizer<'a, M, T, A> {
         ensures there { is_registered name self.old.resolvers.items ≡ true → IsOk result }
         ensures err { OnErr result (config self.new ≡ config self.old) }
         ensures text { SameText self.old self.new }
-        ensures memory { IfErr result (λ message. IsOutOfMemory message) }
+        ensures memory { IfErr result IsOutOfMemory }
     {
         if self.resolvers.contains(&name) {
             return Ok(());

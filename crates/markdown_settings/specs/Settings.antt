@@ -1,5 +1,6 @@
 -- What the words of the command line ask for.
-use Rattle.std.specs.Prelude.{◌≡◌, ⊤, Bool, true, false, List, Option, codes}
+use Rattle.std.specs.Prelude.{◌≡◌, ⊤, Bool, true, false, List, Option, codes, map, string_bytes}
+use Rattle.std.specs.declared.string.String.{String}
 use Rattle.clap.specs.Words.{Kinds, IsAmong, Row, Text, fault_of, first_of, matches_of, takes}
 use Rattle.clap.specs.declared.error.kind.ErrorKind.{ErrorKind}
 use Rattle.clap.specs.declared.error.kind.ErrorKind.TheVariants.{DisplayHelp, DisplayVersion}
@@ -8,6 +9,10 @@ use Rattle.markdown_settings.specs.declared.settings_error.SettingsError.{Settin
 use Rattle.markdown_settings.specs.declared.settings_error.SettingsError.TheVariants.{Help, Words, Memory}
 use Rattle.markdown_settings.specs.Command.{markdown_command}
 use Rattle.markdown_settings.specs.Flags.{flag_options, is_true_text}
+
+-- the bytes of each word
+abbrev pub word_texts : {A : Type 0} → List (String A) → List Text
+word_texts words = map string_bytes words
 
 -- the matches of the command for the words
 unfoldable pub rows_of_words : List Text → List Row

@@ -1,6 +1,6 @@
 //! The options that flags ask for.
-ghost use Rattle.std.specs.Prelude.{◌≡◌, false};
-ghost use Rattle.markdown_options.specs.Mdx.{has_mdx};
+ghost use Rattle.std.specs.Prelude.{◌≡◌};
+ghost use Rattle.markdown_options.specs.Mdx.{HasNoMdx};
 ghost use Rattle.markdown_settings.specs.Flags.{flag_options, parse_of, printed_as};
 
 use markdown_options::{CompileOptions, Constructs, Options, ParseOptions};
@@ -17,7 +17,7 @@ pub struct Settings {
 /// The options of these flags.
 pub(crate) fn flag_options(gfm: bool, dangerous: bool, plain: bool) -> Options
     ensures options { result ≡ flag_options gfm dangerous plain }
-    ensures without_mdx { has_mdx result.parse.constructs ≡ false }
+    ensures without_mdx { HasNoMdx result }
 {
     Options {
         parse: parse_of(gfm, plain),

@@ -1,9 +1,9 @@
 //! Reading the words of the command line.
-ghost use Rattle.std.specs.Prelude.{◌≡◌, IfOk, IfErr, OnOk, [], true, codes, map, option_map, string_bytes, false};
+ghost use Rattle.std.specs.Prelude.{◌≡◌, IfOk, IfErr, OnOk, [], true, codes, option_map, string_bytes};
 ghost use Rattle.clap.specs.Words.{first_value, found_of, kind_of, Kinds, IsAmong};
-ghost use Rattle.markdown_options.specs.Mdx.{has_mdx};
+ghost use Rattle.markdown_options.specs.Mdx.{HasNoMdx};
 ghost use Rattle.markdown_settings.specs.Flags.{found_options, is_found};
-ghost use Rattle.markdown_settings.specs.Settings.{faults_of, options_of, path_of, takes_words, HasFault, Refuses};
+ghost use Rattle.markdown_settings.specs.Settings.{faults_of, options_of, path_of, takes_words, HasFault, Refuses, word_texts};
 
 use crate::command::command;
 use crate::flags::{Settings, flag_options};
@@ -18,14 +18,14 @@ use std::alloc::{AllocError, Global};
 /// off, and `--references` is followed by the path of a file.
 pub fn settings(alloc: Global, words: &[String]) -> Result<Settings, SettingsError>
     // The options and the path are those of the command's matches for the words.
-    ensures options { IfOk result (λ s. s.options ≡ options_of (map string_bytes words.now)) }
-    ensures references { IfOk result (λ s. option_map string_bytes s.references ≡ path_of (map string_bytes words.now)) }
-    ensures without_mdx { IfOk result (λ s. has_mdx s.options.parse.constructs ≡ false) }
+    ensures options { IfOk result (λ s. s.options ≡ options_of (word_texts words.now)) }
+    ensures references { IfOk result (λ s. option_map string_bytes s.references ≡ path_of (word_texts words.now)) }
+    ensures without_mdx { IfOk result (λ s. HasNoMdx s.options) }
 
     // The words are refused only where the command finds a fault in them.
-    ensures faultless { OnOk result (faults_of (map string_bytes words.now) ≡ []) }
-    ensures refused { IfErr result (λ e. Refuses (faults_of (map string_bytes words.now)) e) }
-    ensures taken { takes_words (map string_bytes words.now) ≡ true → IfErr result (λ e. e ≡ SettingsError.Memory) }
+    ensures faultless { OnOk result (faults_of (word_texts words.now) ≡ []) }
+    ensures refused { IfErr result (λ e. Refuses (faults_of (word_texts words.now)) e) }
+    ensures taken { takes_words (word_texts words.now) ≡ true → IfErr result (λ e. e ≡ SettingsError.Memory) }
 {
     let command = command(alloc)?;
     match command.try_get_matches_from(words) {
@@ -39,7 +39,7 @@ fn settings_of(alloc: Global, matches: &ArgMatches<'_>) -> Result<Settings, Sett
     ensures options { IfOk result (λ s.
         s.options ≡ found_options (found_of matches.now)) }
     ensures references { IfOk result (λ s. option_map string_bytes s.references ≡ first_value (found_of matches.now) (codes "references")) }
-    ensures without_mdx { IfOk result (λ s. has_mdx s.options.parse.constructs ≡ false) }
+    ensures without_mdx { IfOk result (λ s. HasNoMdx s.options) }
     ensures memory { IfErr result (λ e. e ≡ SettingsError.Memory) }
 {
     let references = path(alloc, matches)?;

@@ -1,6 +1,5 @@
 //! Link reference definitions (CommonMark 4.7): texts and their HTML, where links are text.
-ghost use Rattle.std.specs.Prelude.{◌≡◌, false};
-ghost use Rattle.markdown_options.specs.Mdx.{has_mdx};
+ghost use Rattle.markdown_options.specs.Mdx.{HasNoMdx};
 
 use markdown::{Options, RunError};
 use tests_helpers::{blocks, first_wrong};
@@ -139,7 +138,7 @@ const TEXTS: [(&str, &str); 3] = [
 
 /// Blocks without definitions.
 fn without_definitions() -> Options
-    ensures { has_mdx result.parse.constructs ≡ false }
+    ensures { HasNoMdx result }
 {
     let mut options = blocks();
     options.parse.constructs.definition = false;

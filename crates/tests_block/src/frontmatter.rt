@@ -1,6 +1,5 @@
 //! Frontmatter (in neither standard): texts and their HTML.
-ghost use Rattle.std.specs.Prelude.{◌≡◌, false};
-ghost use Rattle.markdown_options.specs.Mdx.{has_mdx};
+ghost use Rattle.markdown_options.specs.Mdx.{HasNoMdx};
 
 use markdown::{Options, RunError};
 use tests_helpers::{blocks, first_wrong};
@@ -23,7 +22,7 @@ const FRONTMATTER: [(&str, &str); 6] = [
 
 /// The blocks of CommonMark, and frontmatter.
 fn options() -> Options
-    ensures { has_mdx result.parse.constructs ≡ false }
+    ensures { HasNoMdx result }
 {
     let mut options = blocks();
     options.parse.constructs.frontmatter = true;

@@ -1,6 +1,5 @@
 //! Tables (GFM 4.10): texts and their HTML.
-ghost use Rattle.std.specs.Prelude.{◌≡◌, false};
-ghost use Rattle.markdown_options.specs.Mdx.{has_mdx};
+ghost use Rattle.markdown_options.specs.Mdx.{HasNoMdx};
 
 use markdown::{Options, RunError};
 use tests_helpers::first_wrong;
@@ -218,7 +217,7 @@ const AMONG_BLOCKS: [(&str, &str); 32] = [
 
 /// The default options, with tables.
 fn with_tables() -> Options
-    ensures { has_mdx result.parse.constructs ≡ false }
+    ensures { HasNoMdx result }
 {
     let mut options = Options::default();
     options.parse.constructs.gfm_table = true;

@@ -1,6 +1,5 @@
 //! Math (in neither standard): texts and their HTML.
-ghost use Rattle.std.specs.Prelude.{◌≡◌, false};
-ghost use Rattle.markdown_options.specs.Mdx.{has_mdx};
+ghost use Rattle.markdown_options.specs.Mdx.{HasNoMdx};
 
 use markdown::{Options, RunError};
 use tests_helpers::{blocks, first_wrong, plain};
@@ -39,8 +38,8 @@ const ALONE: [(&str, &str); 1] = [(
 
 /// These options, with math.
 fn with_math(options: Options) -> Options
-    requires { has_mdx options.parse.constructs ≡ false }
-    ensures { has_mdx result.parse.constructs ≡ false }
+    requires { HasNoMdx options }
+    ensures { HasNoMdx result }
 {
     let mut options = options;
     options.parse.constructs.math_flow = true;

@@ -1,6 +1,5 @@
 //! Examples by number, compared with the page, and tried by the laws of pages.
-ghost use Rattle.std.specs.Prelude.{◌≡◌, false};
-ghost use Rattle.markdown_options.specs.Mdx.{has_mdx};
+ghost use Rattle.markdown_options.specs.Mdx.{HasNoMdx};
 
 use markdown::{Builtin, CompileOptions, Options, ParseOptions, RunError, Watched, run};
 use std::process::Abort;
@@ -8,7 +7,7 @@ use tests_helpers::broken_law;
 
 /// The standard prints HTML of the text, and any URL, as they are.
 fn options() -> Options
-    ensures { has_mdx result.parse.constructs ≡ false }
+    ensures { HasNoMdx result }
 {
     Options {
         parse: ParseOptions::default(),

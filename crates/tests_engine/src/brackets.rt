@@ -152,7 +152,7 @@ pub fn read_whole<T: Tables, A: Allocator + Clone>(
     ensures reads { IfOk result (λ events. IsBracketsReading parse_state.now.bytes.now machine events.items) }
     ensures balanced { IfOk result (λ events. IsBalanced events.items) }
     ensures order { IfOk result (λ events. AreInOrder events.items) }
-    ensures memory { IfErr result (λ message. IsOutOfMemory message) }
+    ensures memory { IfErr result IsOutOfMemory }
 {
     read_at_once(alloc, parse_state, machine, BEGINNING)
 }
@@ -169,7 +169,7 @@ pub fn read_in_ranges<T: Tables, A: Allocator + Clone>(
     ensures reads { IfOk result (λ events. IsBracketsReading parse_state.now.bytes.now machine events.items) }
     ensures balanced { IfOk result (λ events. IsBalanced events.items) }
     ensures order { IfOk result (λ events. AreInOrder events.items) }
-    ensures memory { IfErr result (λ message. IsOutOfMemory message) }
+    ensures memory { IfErr result IsOutOfMemory }
 {
     let mut tokenizer = Tokenizer::new(alloc, START, parse_state, machine)?;
     match tokenizer.read_in_ranges(cuts, ITEMS) {
@@ -187,7 +187,7 @@ pub fn read_both_ways<T: Tables, A: Allocator + Clone>(
 ) -> Result<(Vec<Event, A>, Vec<Event, A>), Message>
     requires { AreCuts (0, 0) cuts.now (length parse_state.now.bytes.now) }
     ensures same { IfOk result (λ both. both.0.items ≡ both.1.items) }
-    ensures memory { IfErr result (λ message. IsOutOfMemory message) }
+    ensures memory { IfErr result IsOutOfMemory }
 {
     let whole = read_whole(alloc.clone()?, parse_state, machine)?;
     let parts = read_in_ranges(alloc, parse_state, machine, cuts)?;
@@ -205,7 +205,7 @@ pub fn read_groups<T: Tables, A: Allocator + Clone>(
 ) -> Result<Option<Subresult<A>>, Message>
     ensures read { IfOk result (λ found. ReadsChains (λ x. brackets_step) (λ x. resolves_nothing) (context parse_state.now) machine
         (option_copied filter.entry) events.old.items events.new.items found) }
-    ensures memory { IfErr result (λ message. IsOutOfMemory message) }
+    ensures memory { IfErr result IsOutOfMemory }
 {
     read_chains(events, parse_state, machine, filter)
 }

@@ -77,7 +77,7 @@ pub fn read_letters<T: Tables, A: Allocator + Clone>(
 ) -> Result<Option<Subresult<A>>, Message>
     ensures read { IfOk result (λ found. ReadsChains (λ x. letter_step) (λ x. resolves_nothing) (context parse_state.now) machine
         (option_copied filter.entry) events.old.items events.new.items found) }
-    ensures memory { IfErr result (λ message. IsOutOfMemory message) }
+    ensures memory { IfErr result IsOutOfMemory }
 {
     read_chains(events, parse_state, machine, filter)
 }

@@ -179,7 +179,7 @@ pub fn read_pairs<T: Tables, A: Allocator + Clone>(
     ensures reads { IfOk result (λ events. IsPairsReading parse_state.now.bytes.now machine events.items) }
     ensures balanced { IfOk result (λ events. IsBalanced events.items) }
     ensures order { IfOk result (λ events. AreInOrder events.items) }
-    ensures memory { IfErr result (λ message. IsOutOfMemory message) }
+    ensures memory { IfErr result IsOutOfMemory }
 {
     read_at_once(alloc, parse_state, machine, BEGINNING)
 }

@@ -29,7 +29,7 @@ pub fn read_at_once<M: Machine<T> + Drop, T: Tables, A: Allocator + Clone>(
     ensures reads { IfOk result (λ events. IsReading (M.step (context parse_state.now)) first parse_state.now.bytes.now (M.seen machine) events.items) }
     ensures balanced { IfOk result (λ events. IsBalanced events.items) }
     ensures order { IfOk result (λ events. AreInOrder events.items) }
-    ensures memory { IfErr result (λ message. IsOutOfMemory message) }
+    ensures memory { IfErr result IsOutOfMemory }
 {
     let mut tokenizer = Tokenizer::new(alloc, START, parse_state, machine)?;
     match tokenizer.read_at_once(State::Next(first)) {
@@ -50,7 +50,7 @@ pub fn read_chains<M: Machine<T> + Copy, T: Tables, A: Allocator + Clone>(
     requires begins { MayBegin (M.valid (context parse_state.now)) (M.seen machine) events.old.items (chains (option_copied filter) events.old.items) }
     ensures read { IfOk result (λ found. ReadsChains M.step M.resolved (context parse_state.now) (M.seen machine)
         (option_copied filter.entry) events.old.items events.new.items found) }
-    ensures memory { IfErr result (λ message. IsOutOfMemory message) }
+    ensures memory { IfErr result IsOutOfMemory }
 {
     let alloc = events.allocator().clone()?;
     if !are_places(parse_state.bytes, events) || !are_apart(&alloc, events, filter)? {

@@ -26,7 +26,7 @@ pub struct Wrapped;
 /// A list of one.
 fn one<E: Drop, A: Allocator>(alloc: A, item: E) -> Result<Vec<E, A>, Message>
     ensures one { IfOk result (λ all. all.items ≡ item ∷ []) }
-    ensures memory { IfErr result (λ message. IsOutOfMemory message) }
+    ensures memory { IfErr result IsOutOfMemory }
 {
     let mut all = Vec::new(alloc);
     if all.push(item).is_err() {
@@ -108,7 +108,7 @@ pub fn read_wrapped<T: Tables, A: Allocator + Clone>(
     ensures found { IfOk result (λ both. found_in both.1 ≡ found_one_label) }
     ensures balanced { IfOk result (λ both. IsBalanced both.0.items) }
     ensures order { IfOk result (λ both. AreInOrder both.0.items) }
-    ensures memory { IfErr result (λ message. IsOutOfMemory message) }
+    ensures memory { IfErr result IsOutOfMemory }
 {
     let mut tokenizer = Tokenizer::new(alloc, START, parse_state, machine)?;
     let state = tokenizer.push((0, 0), (parse_state.bytes.len(), 0), BYTES);

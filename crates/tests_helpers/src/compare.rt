@@ -1,8 +1,8 @@
 //! Texts and their HTML, compared.
-ghost use Rattle.std.specs.Prelude.{◌≡◌, false, true, IfOk, None};
+ghost use Rattle.std.specs.Prelude.{◌≡◌, true, IfOk, None};
 ghost use Rattle.std.specs.List.{All};
 ghost use Rattle.tests_helpers.specs.Compare.{HasPage};
-ghost use Rattle.markdown_options.specs.Mdx.{has_mdx};
+ghost use Rattle.markdown_options.specs.Mdx.{HasNoMdx};
 ghost use Rattle.markdown_definition.specs.Html.{html};
 ghost use Rattle.markdown_tables.specs.Builtin.{builtin_tables};
 
@@ -22,7 +22,7 @@ pub fn first_wrong<'a>(
     rows: &[(&'a str, &str)],
     options: &Options,
 ) -> Result<Option<&'a str>, RunError>
-    requires { has_mdx options.now.parse.constructs ≡ false }
+    requires { HasNoMdx options.now }
     ensures { IfOk result (λ found. found ≡ None → All (HasPage options.now) rows.now) }
 {
     for row in rows {
@@ -37,13 +37,13 @@ pub fn first_wrong<'a>(
 /// Whether a text's page is this one, by either call and in heaps of every size, and keeps the laws. Then it is the page of the
 /// definition.
 fn is_right(alloc: Global, text: &str, want: &str, options: &Options) -> Result<bool, RunError>
-    requires { has_mdx options.now.parse.constructs ≡ false }
+    requires { HasNoMdx options.now }
     ensures { IfOk result (λ right. right ≡ true → html builtin_tables text.now options.now ≡ want.now) }
 {
     if !fits(text) {
         return Ok(false);
     }
-    let page = to_html_with_options(alloc, text, options).map_err(|_| RunError::Memory)?;
+    let page = to_html_with_options(alloc, text, options)?;
     if page.as_str() != want {
         return Ok(false);
     }
@@ -79,12 +79,12 @@ fn is_safe(alloc: Global, page: &str, options: &Options) -> Result<bool, RunErro
     {
         return Ok(true);
     }
-    is_safe_page(alloc, page).map_err(|_| RunError::Memory)
+    Ok(is_safe_page(alloc, page)?)
 }
 
 /// Whether a text that is read is written as this page.
 fn runs_to(alloc: Global, text: &str, want: &str, options: &Options) -> Result<bool, RunError>
-    requires { has_mdx options.now.parse.constructs ≡ false }
+    requires { HasNoMdx options.now }
 {
     let mut reader = Watched::new(text.as_bytes());
     let mut writer = Watched::new(Vec::new(alloc));

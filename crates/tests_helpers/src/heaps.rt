@@ -1,6 +1,5 @@
 //! Heaps of a fixed size, in which memory runs out.
-ghost use Rattle.std.specs.Prelude.{◌≡◌, false};
-ghost use Rattle.markdown_options.specs.Mdx.{has_mdx};
+ghost use Rattle.markdown_options.specs.Mdx.{HasNoMdx};
 
 use linked_list_allocator::LocalHeap;
 use markdown::{Builtin, Options, RunError, Watched, run};
@@ -26,7 +25,7 @@ pub(crate) fn prints_in_growing_heaps(
     want: &str,
     options: &Options,
 ) -> Result<bool, RunError>
-    requires { has_mdx options.now.parse.constructs ≡ false }
+    requires { HasNoMdx options.now }
 {
     let growth = if text.len() < LONG {
         UNIT
@@ -35,7 +34,7 @@ pub(crate) fn prints_in_growing_heaps(
     };
     for steps in 0..STEPS {
         let size = steps.saturating_mul(growth).saturating_add(BUFFER - UNIT);
-        let heap = LocalHeap::new(alloc, size).map_err(|_| RunError::Memory)?;
+        let heap = LocalHeap::new(alloc, size)?;
         let mut reader = Watched::new(text.as_bytes());
         let mut writer = Watched::new(Vec::new(alloc));
         let result = run(&heap, &mut reader, &mut writer, options, &Builtin);

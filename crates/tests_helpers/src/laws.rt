@@ -1,7 +1,6 @@
 //! The laws of pages, tried on a text: quoted once and twice, listed, escaped, with other line
 //! endings. A law is tried where its premises hold of the text and the options.
-ghost use Rattle.std.specs.Prelude.{◌≡◌, false};
-ghost use Rattle.markdown_options.specs.Mdx.{has_mdx};
+ghost use Rattle.markdown_options.specs.Mdx.{HasNoMdx};
 
 use markdown::{Options, RunError, fits, to_html_with_options};
 use std::alloc::{AllocError, Global};
@@ -15,7 +14,7 @@ pub fn broken_law(
     text: &str,
     options: &Options,
 ) -> Result<Option<&'static str>, RunError>
-    requires { has_mdx options.now.parse.constructs ≡ false }
+    requires { HasNoMdx options.now }
 {
     if !quotes(alloc, text, options)? {
         return Ok(Some("a quoted text prints a quote of its page"));
@@ -34,7 +33,7 @@ pub fn broken_law(
 
 /// Whether the pages of a text quoted once and twice are quotes of its page, where it is quotable.
 fn quotes(alloc: Global, text: &str, options: &Options) -> Result<bool, RunError>
-    requires { has_mdx options.now.parse.constructs ≡ false }
+    requires { HasNoMdx options.now }
 {
     if text.is_empty() || !keeps_in_containers(text, options) || has_mark(text) {
         return Ok(true);
@@ -52,7 +51,7 @@ fn quotes(alloc: Global, text: &str, options: &Options) -> Result<bool, RunError
 /// Whether the page of a quoted text is the quote of the text's page, line endings beside tags
 /// aside.
 fn is_quoted(alloc: Global, text: &str, quoted: &str, options: &Options) -> Result<bool, RunError>
-    requires { has_mdx options.now.parse.constructs ≡ false }
+    requires { HasNoMdx options.now }
 {
     let page = html(alloc, text, options)?;
     let want = wrapped(alloc, "<blockquote>", &page, "</blockquote>")?;
@@ -63,7 +62,7 @@ fn is_quoted(alloc: Global, text: &str, quoted: &str, options: &Options) -> Resu
 /// Whether the page of a listed text is a list around the text's page, line endings beside tags
 /// aside. Two blocks are put before the text, so that it is listable.
 fn lists(alloc: Global, text: &str, options: &Options) -> Result<bool, RunError>
-    requires { has_mdx options.now.parse.constructs ≡ false }
+    requires { HasNoMdx options.now }
 {
     let on = &options.parse.constructs;
     if !keeps_in_containers(text, options) || !on.list_item || on.gfm_task_list_item {
@@ -79,7 +78,7 @@ fn lists(alloc: Global, text: &str, options: &Options) -> Result<bool, RunError>
 /// Whether a text with another ending has the page with that ending, where it has an LF, and
 /// neither CR nor `&`.
 fn ends(alloc: Global, text: &str, ending: &str, options: &Options) -> Result<bool, RunError>
-    requires { has_mdx options.now.parse.constructs ≡ false }
+    requires { HasNoMdx options.now }
 {
     if !has(text, '\n') || has(text, '\r') || has(text, '&') {
         return Ok(true);
@@ -91,7 +90,7 @@ fn ends(alloc: Global, text: &str, ending: &str, options: &Options) -> Result<bo
 
 /// Whether a text as one line, escaped, prints a paragraph that says that line.
 fn escapes(alloc: Global, text: &str, options: &Options) -> Result<bool, RunError>
-    requires { has_mdx options.now.parse.constructs ≡ false }
+    requires { HasNoMdx options.now }
 {
     let spaced = in_one_line(alloc, text)?;
     let line = spaced.trim_matches(' ');
@@ -105,12 +104,12 @@ fn escapes(alloc: Global, text: &str, options: &Options) -> Result<bool, RunErro
 
 /// The page of a text.
 fn html(alloc: Global, text: &str, options: &Options) -> Result<String, RunError>
-    requires { has_mdx options.now.parse.constructs ≡ false }
+    requires { HasNoMdx options.now }
 {
     if !fits(text) {
         return Err(RunError::Memory);
     }
-    to_html_with_options(alloc, text, options).map_err(|_| RunError::Memory)
+    Ok(to_html_with_options(alloc, text, options)?)
 }
 
 /// Whether nothing of a text is read otherwise in a container, where the text's front aside it has

@@ -1,12 +1,11 @@
 //! Options with few constructs on.
-ghost use Rattle.std.specs.Prelude.{◌≡◌, false};
-ghost use Rattle.markdown_options.specs.Mdx.{has_mdx};
+ghost use Rattle.markdown_options.specs.Mdx.{HasNoMdx};
 
 use markdown::{CompileOptions, Constructs, Options, ParseOptions};
 
 /// Every construct off.
 pub fn plain() -> Options
-    ensures { has_mdx result.parse.constructs ≡ false }
+    ensures { HasNoMdx result }
 {
     Options {
         parse: ParseOptions {
@@ -19,7 +18,7 @@ pub fn plain() -> Options
 
 /// All blocks of CommonMark, and no inline construct.
 pub fn blocks() -> Options
-    ensures { has_mdx result.parse.constructs ≡ false }
+    ensures { HasNoMdx result }
 {
     Options {
         parse: ParseOptions {

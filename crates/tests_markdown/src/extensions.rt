@@ -1,6 +1,5 @@
 //! Extensions: texts and their HTML.
-ghost use Rattle.std.specs.Prelude.{◌≡◌, false};
-ghost use Rattle.markdown_options.specs.Mdx.{has_mdx};
+ghost use Rattle.markdown_options.specs.Mdx.{HasNoMdx};
 
 use crate::joined::first_fault;
 use markdown::{Options, RunError};
@@ -248,7 +247,7 @@ const OFF: [(&str, &str); 4] = [
 
 /// CommonMark with strikethrough, task list items, math and frontmatter.
 pub(crate) fn extensions() -> Options
-    ensures { has_mdx result.parse.constructs ≡ false }
+    ensures { HasNoMdx result }
 {
     let mut options = Options::default();
     options.parse.constructs.gfm_strikethrough = true;

@@ -1,6 +1,4 @@
 //! Task list items (GFM 5.3): texts and their HTML.
-ghost use Rattle.std.specs.Prelude.{◌≡◌, false};
-ghost use Rattle.markdown_options.specs.Mdx.{has_mdx};
 
 use crate::extensions::extensions;
 use crate::joined::first_fault;

@@ -1,6 +1,5 @@
 //! Texts after each other, with an empty line between.
-ghost use Rattle.std.specs.Prelude.{◌≡◌, false};
-ghost use Rattle.markdown_options.specs.Mdx.{has_mdx};
+ghost use Rattle.markdown_options.specs.Mdx.{HasNoMdx};
 
 use markdown::{Options, RunError, fits, to_html_with_options};
 use std::alloc::Global;
@@ -8,11 +7,11 @@ use tests_helpers::first_wrong;
 
 /// Whether a text is printed with another after it and an empty line between.
 fn is_joined(alloc: Global, first: &str, second: &str, options: &Options) -> Result<bool, RunError>
-    requires { has_mdx options.now.parse.constructs ≡ false }
+    requires { HasNoMdx options.now }
 {
-    let mut text = String::from_str(alloc, first).map_err(|_| RunError::Memory)?;
-    text.push_str("\n\n").map_err(|_| RunError::Memory)?;
-    text.push_str(second).map_err(|_| RunError::Memory)?;
+    let mut text = String::from_str(alloc, first)?;
+    text.push_str("\n\n")?;
+    text.push_str(second)?;
     Ok(fits(&text) && to_html_with_options(alloc, &text, options).is_ok())
 }
 
@@ -23,7 +22,7 @@ pub(crate) fn first_unjoined(
     others: &[(&'static str, &'static str)],
     options: &Options,
 ) -> Result<Option<&'static str>, RunError>
-    requires { has_mdx options.now.parse.constructs ≡ false }
+    requires { HasNoMdx options.now }
 {
     for (first, _) in rows {
         for (second, _) in others {
@@ -41,7 +40,7 @@ pub(crate) fn first_fault(
     rows: &[(&'static str, &'static str)],
     options: &Options,
 ) -> Result<Option<&'static str>, RunError>
-    requires { has_mdx options.now.parse.constructs ≡ false }
+    requires { HasNoMdx options.now }
 {
     match first_wrong(alloc, rows, options)? {
         None => first_unjoined(alloc, rows, rows, options),

@@ -1,6 +1,5 @@
 //! Texts of one table before and after those of another, with an empty line between.
-ghost use Rattle.std.specs.Prelude.{◌≡◌, false};
-ghost use Rattle.markdown_options.specs.Mdx.{has_mdx};
+ghost use Rattle.markdown_options.specs.Mdx.{HasNoMdx};
 
 use crate::extensions::{FRONTMATTER, MATH_FLOW, MATH_TEXT, STRIKETHROUGH, extensions};
 use crate::gfm_autolink_literal::{EMAILS, LITERALS};
@@ -17,7 +16,7 @@ use std::alloc::Global;
 
 /// CommonMark with every extension.
 fn everything() -> Options
-    ensures { has_mdx result.parse.constructs ≡ false }
+    ensures { HasNoMdx result }
 {
     let mut options = Options::gfm();
     options.parse.constructs.math_text = true;

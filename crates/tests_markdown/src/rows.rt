@@ -1,6 +1,5 @@
 //! Texts and their HTML.
-ghost use Rattle.std.specs.Prelude.{◌≡◌, false};
-ghost use Rattle.markdown_options.specs.Mdx.{has_mdx};
+ghost use Rattle.markdown_options.specs.Mdx.{HasNoMdx};
 
 use crate::joined::first_fault;
 use markdown::{Builtin, Options, RunError, Watched, run};
@@ -124,7 +123,7 @@ pub(crate) const LEAVES: [(&str, &str); 43] = [
 
 /// Four leaf blocks, and nothing else.
 pub(crate) fn leaves() -> Options
-    ensures { has_mdx result.parse.constructs ≡ false }
+    ensures { HasNoMdx result }
 {
     let mut options = plain();
     options.parse.constructs.code_fenced = true;

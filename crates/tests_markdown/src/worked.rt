@@ -1,6 +1,5 @@
 //! Texts for rules that are easily read wrongly, and their HTML: in heaps of every size, a byte a call, and every two of them.
-ghost use Rattle.std.specs.Prelude.{◌≡◌, false};
-ghost use Rattle.markdown_options.specs.Mdx.{has_mdx};
+ghost use Rattle.markdown_options.specs.Mdx.{HasNoMdx};
 
 use crate::devices::Short;
 use crate::extensions::FRONTMATTER;
@@ -137,7 +136,7 @@ fn first_wrong_by_bytes<'a>(
     rows: &[(&'a str, &str)],
     options: &Options,
 ) -> Result<Option<&'a str>, RunError>
-    requires { has_mdx options.now.parse.constructs ≡ false }
+    requires { HasNoMdx options.now }
 {
     for (text, want) in rows {
         let mut reader = Watched::new(Short::new(text.as_bytes(), 1, 1000));

@@ -3,7 +3,6 @@ use Rattle.std.specs.List.{fold}
 use Rattle.std.proofs.lemmas.List.{take_all}
 use Rattle.definition_page.specs.InlinePieces.{leads_to}
 use Rattle.html_bytes.specs.Layout.{lay}
-use Rattle.html_bytes.specs.Meaning.{inline_meaning}
 use Rattle.html_footnotes.specs.Output.{output_view}
 use Rattle.inline_rows.specs.InlineRows as rows_of
 use Rattle.inline_rows.specs.declared.row.InlineRow.{InlineRow}
@@ -12,11 +11,12 @@ use Rattle.html_inline.specs.Counts.{rows_counts}
 use Rattle.html_inline.specs.Opens.{place_target}
 use Rattle.html_inline.proofs.Counts.{counts_more, rows_counted, shown_counts}
 use Rattle.html_inline.proofs.count.count_rows.Goals as goal
+use Rattle.html_inline.specs.Prints.{meaning_by}
 
 pub loop-row-preserved : goal.loop-row-preserved
 loop-row-preserved g c = λ definition footnotes default held.
     let p = c.args.printing.now in
-    let meaning = inline_meaning p.on.now p.compile.now (g.T.Tables.reference_of p.tables.now) definition footnotes in
+    let meaning = meaning_by (g.T.Tables.reference_of p.tables.now) p definition footnotes in
     let at = place_target p.definitions.now in
     counts_more meaning at default c.args.rows.now c.loop-row.row-index _ (output_view c.args.out.now) (output_view c.loop-row.out)
     (output_view c.count_row.new.out) c.loop-row-test.true
@@ -25,7 +25,7 @@ loop-row-preserved g c = λ definition footnotes default held.
 pub returns : goal.returns
 returns g c = λ definition footnotes default is held rows_are.
     let p = c.args.printing.now in
-    let meaning = inline_meaning p.on.now p.compile.now (g.T.Tables.reference_of p.tables.now) definition footnotes in
+    let meaning = meaning_by (g.T.Tables.reference_of p.tables.now) p definition footnotes in
     let at = place_target p.definitions.now in
     let rows = c.args.rows.now in
     let laid = fold (lay meaning.compile default) (output_view c.args.out.now) in

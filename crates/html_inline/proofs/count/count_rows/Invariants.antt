@@ -2,19 +2,19 @@ use Rattle.std.proofs.Common.{◌≡◌, ℕ, List, Option, take}
 use Rattle.std.specs.List.{fold}
 use Rattle.definition_inline.specs.Inline as inline
 use Rattle.html_bytes.specs.Layout.{lay}
-use Rattle.html_bytes.specs.Meaning.{inline_meaning}
 use Rattle.html_footnotes.specs.Output.{output_view}
 use Rattle.inline_labels.specs.Table.{HasLabels}
 use Rattle.inline_rows.specs.View.{rows_view}
 use Rattle.html_inline.specs.Counts.{rows_counts}
 use Rattle.html_inline.specs.Opens.{place_target}
 use Rattle.html_inline.proofs.count.count_rows.Given as goal
+use Rattle.html_inline.specs.Prints.{meaning_by}
 
 -- the calls among the rows so far are counted
 abbrev pub invariant-loop-row : goal.invariant-loop-row
 invariant-loop-row g l =
     (definition : List ℕ → Option inline.Linked) (footnotes : List (List ℕ)) (default : List ℕ) → HasLabels l.printing.footnotes.now footnotes →
-    let meaning = inline_meaning l.printing.on.now l.printing.compile.now (g.T.Tables.reference_of l.printing.tables.now) definition footnotes in
+    let meaning = meaning_by (g.T.Tables.reference_of l.printing.tables.now) l.printing definition footnotes in
     output_view l.out
     ≡ fold (lay meaning.compile default) (output_view l.fn.out) (rows_counts meaning
     (rows_view (place_target l.printing.definitions.now) (take l.row-index l.rows)))

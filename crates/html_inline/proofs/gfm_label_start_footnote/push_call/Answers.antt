@@ -3,7 +3,6 @@ use Rattle.std.specs.Prelude.{map, reverse}
 use Rattle.std.proofs.lemmas.Result.{on_ok_weaker}
 use Rattle.definition_text.specs.Content.{content_codes}
 use Rattle.definition_inline.specs.LabelMatch.{first_match, normal_label, place_of}
-use Rattle.html_bytes.specs.Meaning.{inline_meaning}
 use Rattle.html_bytes.specs.Layout.{lay}
 use Rattle.html_bytes.specs.Pieces.{CallOf, CountOf}
 use Rattle.html_footnotes.specs.Output.{output_view}
@@ -12,11 +11,12 @@ use Rattle.html_inline.specs.Opens.{opened_view, place_target}
 use Rattle.html_inline.specs.Printed.{is_described}
 use Rattle.html_inline.proofs.FootnoteCalls.{uncalled, counted, called}
 use Rattle.html_inline.proofs.gfm_label_start_footnote.push_call.Goals as goal
+use Rattle.html_inline.specs.Prints.{meaning_by}
 
 pub returns-in-None-clause-laid : goal.returns-in-None-clause-laid
 returns-in-None-clause-laid g c = λ definition footnotes rows held.
     let p = c.args.printing.now in
-    let meaning = inline_meaning p.on.now p.compile.now (g.T.Tables.reference_of p.tables.now) definition footnotes in
+    let meaning = meaning_by (g.T.Tables.reference_of p.tables.now) p definition footnotes in
     let view = opened_view meaning (place_target p.definitions.now) rows in
     let label = content_codes c.args.label.now in
     let normalized : c.as_str-label.result.now ≡ normal_label label =
@@ -28,7 +28,7 @@ returns-in-None-clause-laid g c = λ definition footnotes rows held.
 pub returns-then-is_described-clause-laid : goal.returns-then-is_described-clause-laid
 returns-then-is_described-clause-laid g c = λ definition footnotes rows held.
     let p = c.args.printing.now in
-    let meaning = inline_meaning p.on.now p.compile.now (g.T.Tables.reference_of p.tables.now) definition footnotes in
+    let meaning = meaning_by (g.T.Tables.reference_of p.tables.now) p definition footnotes in
     let view = opened_view meaning (place_target p.definitions.now) rows in
     let described = is_described (map view (reverse c.args.scratch.now.stack.items)) in
     let label = content_codes c.args.label.now in
@@ -49,7 +49,7 @@ returns-then-is_described-clause-laid g c = λ definition footnotes rows held.
 pub returns-else-is_described-clause-laid : goal.returns-else-is_described-clause-laid
 returns-else-is_described-clause-laid g c = λ definition footnotes rows held.
     let p = c.args.printing.now in
-    let meaning = inline_meaning p.on.now p.compile.now (g.T.Tables.reference_of p.tables.now) definition footnotes in
+    let meaning = meaning_by (g.T.Tables.reference_of p.tables.now) p definition footnotes in
     let view = opened_view meaning (place_target p.definitions.now) rows in
     let described = is_described (map view (reverse c.args.scratch.now.stack.items)) in
     let label = content_codes c.args.label.now in

@@ -1,6 +1,5 @@
 use Rattle.std.proofs.Common.{◌≡◌, ◌++◌, List, true, false, string_bytes, sym, ap, ◌∙◌, refl}
 use Rattle.std.specs.Prelude.{map, reverse}
-use Rattle.html_bytes.specs.Meaning.{inline_meaning}
 use Rattle.html_footnotes.specs.Output.{output_view}
 use Rattle.html_inline.specs.declared.stack.OpenPart.{OpenPart}
 use Rattle.html_inline.specs.declared.stack.OpenPart.TheVariants as open_part
@@ -9,11 +8,12 @@ use Rattle.html_inline.specs.Printed.{new_part, is_described, image_start, image
 use Rattle.inline_rows.specs.View.{target_linked}
 use Rattle.html_inline.proofs.OpenStack.{entered, entered_silent}
 use Rattle.html_inline.proofs.rows.enter_image.Goals as goal
+use Rattle.html_inline.specs.Prints.{meaning_by}
 
 pub returns-then-is_described : goal.returns-then-is_described
 returns-then-is_described g c = λ definition footnotes rows is.
     let p = c.args.printing.now in
-    let meaning = inline_meaning p.on.now p.compile.now (g.T.Tables.reference_of p.tables.now) definition footnotes in
+    let meaning = meaning_by (g.T.Tables.reference_of p.tables.now) p definition footnotes in
     let at = place_target p.definitions.now in
     let linked = target_linked at c.args.target in
     let view = opened_view meaning at rows in
@@ -27,7 +27,7 @@ returns-then-is_described g c = λ definition footnotes rows is.
 pub returns : goal.returns
 returns g c = λ definition footnotes rows is.
     let p = c.args.printing.now in
-    let meaning = inline_meaning p.on.now p.compile.now (g.T.Tables.reference_of p.tables.now) definition footnotes in
+    let meaning = meaning_by (g.T.Tables.reference_of p.tables.now) p definition footnotes in
     let at = place_target p.definitions.now in
     let linked = target_linked at c.args.target in
     let view = opened_view meaning at rows in

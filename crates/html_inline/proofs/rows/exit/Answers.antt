@@ -1,15 +1,15 @@
 use Rattle.std.proofs.Common.{◌≡◌, ◌++◌, [], ◌∷◌, string_bytes}
 use Rattle.std.proofs.lemmas.Result.{on_ok_weaker}
-use Rattle.html_bytes.specs.Meaning.{inline_meaning}
 use Rattle.html_footnotes.specs.Output.{output_view}
 use Rattle.html_inline.specs.Opens.{opened_view, place_target}
 use Rattle.html_inline.proofs.OpenStack.{left}
 use Rattle.html_inline.proofs.rows.exit.Goals as goal
+use Rattle.html_inline.specs.Prints.{meaning_by}
 
 pub returns-in-Some : goal.returns-in-Some
 returns-in-Some g c = λ definition footnotes.
     let p = c.args.printing.now in
-    let meaning = inline_meaning p.on.now p.compile.now (g.T.Tables.reference_of p.tables.now) definition footnotes in
+    let meaning = meaning_by (g.T.Tables.reference_of p.tables.now) p definition footnotes in
     let at = place_target p.definitions.now in
     let view = opened_view meaning at c.args.rows.now in
     let popped : c.args.scratch.now.stack.items ≡ c.pop.new.self.items ++ c.in-Some.part ∷ [] = c.in-Some.ensures.items in

@@ -1,17 +1,17 @@
 use Rattle.std.proofs.Common.{◌≡◌, ◌++◌, List, Bool, true, false, string_bytes, sym, ap, ◌∙◌, subst}
 use Rattle.std.specs.Prelude.{OnOk, map, reverse}
-use Rattle.html_bytes.specs.Meaning.{inline_meaning}
 use Rattle.inline_leaves.specs.Leaves.{parts_of}
 use Rattle.html_inline.specs.declared.stack.OpenPart.{OpenPart}
 use Rattle.html_inline.specs.Opens.{opened_view, place_target}
 use Rattle.html_inline.specs.GfmTable.{inline_in_cell}
 use Rattle.html_inline.specs.Printed.{is_described, parts_html}
 use Rattle.html_inline.proofs.rows.push_part.Goals as goal
+use Rattle.html_inline.specs.Prints.{meaning_by}
 
 pub returns-then-is_described-clause-printed : goal.returns-then-is_described-clause-printed
 returns-then-is_described-clause-printed g c = λ definition footnotes rows.
     let p = c.args.printing.now in
-    let meaning = inline_meaning p.on.now p.compile.now (g.T.Tables.reference_of p.tables.now) definition footnotes in
+    let meaning = meaning_by (g.T.Tables.reference_of p.tables.now) p definition footnotes in
     let at = place_target p.definitions.now in
     let view = opened_view meaning at rows in
     let h : is_described (map view (reverse c.args.scratch.now.stack.items)) ≡ true =
@@ -24,7 +24,7 @@ returns-then-is_described-clause-printed g c = λ definition footnotes rows.
 pub returns-else-is_described-clause-printed : goal.returns-else-is_described-clause-printed
 returns-else-is_described-clause-printed g c = λ definition footnotes rows.
     let p = c.args.printing.now in
-    let meaning = inline_meaning p.on.now p.compile.now (g.T.Tables.reference_of p.tables.now) definition footnotes in
+    let meaning = meaning_by (g.T.Tables.reference_of p.tables.now) p definition footnotes in
     let at = place_target p.definitions.now in
     let view = opened_view meaning at rows in
     let h : is_described (map view (reverse c.args.scratch.now.stack.items)) ≡ false =

@@ -3,7 +3,6 @@ use Rattle.std.specs.Prelude.{map, reverse}
 use Rattle.std.specs.List.{fold}
 use Rattle.std.proofs.lemmas.Result.{on_ok_weaker}
 use Rattle.html_bytes.specs.Layout.{with_text}
-use Rattle.html_bytes.specs.Meaning.{inline_meaning}
 use Rattle.inline_leaves.specs.Leaves.{parts_of}
 use Rattle.inline_rows.specs.declared.row.InlineRow.{InlineRow}
 use Rattle.inline_rows.specs.View.{row_view}
@@ -15,11 +14,12 @@ use Rattle.definition_text.specs.Content.{content_codes}
 use Rattle.definition_text.specs.Encode.{encode}
 use Rattle.html_inline.proofs.OpenStack.{leaf_printed, text_printed}
 use Rattle.html_inline.proofs.rows.push_row.Goals as goal
+use Rattle.html_inline.specs.Prints.{meaning_by}
 
 pub returns-in-Text : goal.returns-in-Text
 returns-in-Text g c = λ definition footnotes held.
     let p = c.args.printing.now in
-    let meaning = inline_meaning p.on.now p.compile.now (g.T.Tables.reference_of p.tables.now) definition footnotes in
+    let meaning = meaning_by (g.T.Tables.reference_of p.tables.now) p definition footnotes in
     let at = place_target p.definitions.now in
     let view = opened_view meaning at c.args.rows.now in
     let stack = map view (reverse c.args.scratch.now.stack.items) in
@@ -34,7 +34,7 @@ returns-in-Text g c = λ definition footnotes held.
 pub returns-in-Leaf : goal.returns-in-Leaf
 returns-in-Leaf g c = λ definition footnotes held.
     let p = c.args.printing.now in
-    let meaning = inline_meaning p.on.now p.compile.now (g.T.Tables.reference_of p.tables.now) definition footnotes in
+    let meaning = meaning_by (g.T.Tables.reference_of p.tables.now) p definition footnotes in
     let at = place_target p.definitions.now in
     let view = opened_view meaning at c.args.rows.now in
     let stack = map view (reverse c.args.scratch.now.stack.items) in
@@ -50,7 +50,7 @@ returns-in-Leaf g c = λ definition footnotes held.
 pub returns-in-EnterSpan : goal.returns-in-EnterSpan
 returns-in-EnterSpan g c = λ definition footnotes held.
     let p = c.args.printing.now in
-    let meaning = inline_meaning p.on.now p.compile.now (g.T.Tables.reference_of p.tables.now) definition footnotes in
+    let meaning = meaning_by (g.T.Tables.reference_of p.tables.now) p definition footnotes in
     let at = place_target p.definitions.now in
     let view = opened_view meaning at c.args.rows.now in
     let stack = map view (reverse c.args.scratch.now.stack.items) in
@@ -62,7 +62,7 @@ returns-in-EnterSpan g c = λ definition footnotes held.
 pub returns-in-EnterLink : goal.returns-in-EnterLink
 returns-in-EnterLink g c = λ definition footnotes held.
     let p = c.args.printing.now in
-    let meaning = inline_meaning p.on.now p.compile.now (g.T.Tables.reference_of p.tables.now) definition footnotes in
+    let meaning = meaning_by (g.T.Tables.reference_of p.tables.now) p definition footnotes in
     let at = place_target p.definitions.now in
     let view = opened_view meaning at c.args.rows.now in
     let stack = map view (reverse c.args.scratch.now.stack.items) in
@@ -74,7 +74,7 @@ returns-in-EnterLink g c = λ definition footnotes held.
 pub returns-in-EnterImage : goal.returns-in-EnterImage
 returns-in-EnterImage g c = λ definition footnotes held.
     let p = c.args.printing.now in
-    let meaning = inline_meaning p.on.now p.compile.now (g.T.Tables.reference_of p.tables.now) definition footnotes in
+    let meaning = meaning_by (g.T.Tables.reference_of p.tables.now) p definition footnotes in
     let at = place_target p.definitions.now in
     let view = opened_view meaning at c.args.rows.now in
     let stack = map view (reverse c.args.scratch.now.stack.items) in
@@ -87,7 +87,7 @@ returns-in-EnterImage g c = λ definition footnotes held.
 pub returns-in-Call : goal.returns-in-Call
 returns-in-Call g c = λ definition footnotes held.
     let p = c.args.printing.now in
-    let meaning = inline_meaning p.on.now p.compile.now (g.T.Tables.reference_of p.tables.now) definition footnotes in
+    let meaning = meaning_by (g.T.Tables.reference_of p.tables.now) p definition footnotes in
     let at = place_target p.definitions.now in
     let view = opened_view meaning at c.args.rows.now in
     let stack = map view (reverse c.args.scratch.now.stack.items) in
@@ -103,7 +103,7 @@ returns-in-Call g c = λ definition footnotes held.
 pub returns-in-Exit : goal.returns-in-Exit
 returns-in-Exit g c = λ definition footnotes held.
     let p = c.args.printing.now in
-    let meaning = inline_meaning p.on.now p.compile.now (g.T.Tables.reference_of p.tables.now) definition footnotes in
+    let meaning = meaning_by (g.T.Tables.reference_of p.tables.now) p definition footnotes in
     let at = place_target p.definitions.now in
     let view = opened_view meaning at c.args.rows.now in
     let stack = map view (reverse c.args.scratch.now.stack.items) in

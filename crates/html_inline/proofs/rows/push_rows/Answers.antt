@@ -2,7 +2,6 @@ use Rattle.std.proofs.Common.{◌≡◌, List, [], ap, ◌∙◌, take}
 use Rattle.std.specs.List.{fold}
 use Rattle.std.proofs.lemmas.List.{take_all}
 use Rattle.inline_rows.specs.InlineRows as rows_of
-use Rattle.html_bytes.specs.Meaning.{inline_meaning}
 use Rattle.html_footnotes.specs.Output.{output_view}
 use Rattle.inline_rows.specs.declared.row.InlineRow.{InlineRow}
 use Rattle.inline_rows.specs.View.{rows_view}
@@ -14,11 +13,12 @@ use Rattle.html_inline.proofs.CellRows.{rows_shown, fold_shown}
 use Rattle.html_inline.proofs.OpenStack.{rows_step}
 use Rattle.html_inline.proofs.RowsPrinted.{content_printed}
 use Rattle.html_inline.proofs.rows.push_rows.Goals as goal
+use Rattle.html_inline.specs.Prints.{meaning_by}
 
 pub loop-place-preserved : goal.loop-place-preserved
 loop-place-preserved g c = λ definition footnotes held.
     let p = c.args.printing.now in
-    let meaning = inline_meaning p.on.now p.compile.now (g.T.Tables.reference_of p.tables.now) definition footnotes in
+    let meaning = meaning_by (g.T.Tables.reference_of p.tables.now) p definition footnotes in
     let at = place_target p.definitions.now in
     let rows = c.args.rows.now in
     rows_step p.cell meaning at (printed_at (output_view c.args.out.now) [])
@@ -29,7 +29,7 @@ loop-place-preserved g c = λ definition footnotes held.
 pub returns : goal.returns
 returns g c = λ definition footnotes default is held rows_are.
     let p = c.args.printing.now in
-    let meaning = inline_meaning p.on.now p.compile.now (g.T.Tables.reference_of p.tables.now) definition footnotes in
+    let meaning = meaning_by (g.T.Tables.reference_of p.tables.now) p definition footnotes in
     let at = place_target p.definitions.now in
     let rows = c.args.rows.now in
     let out = output_view c.args.out.now in

@@ -1,7 +1,6 @@
 use Rattle.std.proofs.Common.{◌≡◌, ℕ, List, Option, [], take}
 use Rattle.std.specs.List.{fold}
 use Rattle.definition_inline.specs.Inline as inline
-use Rattle.html_bytes.specs.Meaning.{inline_meaning}
 use Rattle.html_footnotes.specs.Output.{output_view}
 use Rattle.inline_labels.specs.Table.{HasLabels}
 use Rattle.inline_rows.specs.View.{rows_view}
@@ -9,12 +8,13 @@ use Rattle.html_inline.specs.Opens.{place_target, printed_of}
 use Rattle.html_inline.specs.Printed.{printed_at}
 use Rattle.html_inline.specs.GfmTable.{row_printed_in}
 use Rattle.html_inline.proofs.rows.push_rows.Given as goal
+use Rattle.html_inline.specs.Prints.{meaning_by}
 
 -- the rows so far are printed
 abbrev pub invariant-loop-place : goal.invariant-loop-place
 invariant-loop-place g l =
     (definition : List ℕ → Option inline.Linked) (footnotes : List (List ℕ)) → HasLabels l.printing.footnotes.now footnotes →
-    let meaning = inline_meaning l.printing.on.now l.printing.compile.now (g.T.Tables.reference_of l.printing.tables.now) definition footnotes in
+    let meaning = meaning_by (g.T.Tables.reference_of l.printing.tables.now) l.printing definition footnotes in
     let at = place_target l.printing.definitions.now in
     printed_of meaning at l.rows (output_view l.out) l.scratch.stack.items
     ≡ fold (row_printed_in l.printing.cell meaning) (printed_at (output_view l.fn.out) []) (rows_view at (take l.place l.rows))

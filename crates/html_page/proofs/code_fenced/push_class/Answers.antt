@@ -1,16 +1,15 @@
 use Rattle.std.proofs.Common.{◌≡◌, ◌++◌, ◌==◌, false, string_bytes, length, codes, sym, ap, ◌∙◌, subst, append_assoc, rules}
 use Rattle.std.specs.Result.{OnOk}
 use Rattle.definition_text.specs.Encode.{encode}
-use Rattle.html_bytes.specs.Document.{document, info_of}
-use Rattle.definition_page.specs.TextTables.{text_tables}
+use Rattle.html_bytes.specs.Document.{info_of}
 use Rattle.html_bytes.specs.Html.{class_of}
+use Rattle.html_contents.specs.Texts.{document_by}
 use Rattle.html_page.proofs.CodeFencedLemmas.{class_some}
 use Rattle.html_page.proofs.code_fenced.push_class.Goals as goal
 
 pub returns : goal.returns
 returns g c = λ ds clear.
-    let d = document c.args.texts.now.options.now (text_tables (g.T.Tables.reference_of c.args.texts.now.tables.now)
-    (g.T.Tables.punctuation_of c.args.texts.now.tables.now)) ds in
+    let d = document_by g.T.Tables c.args.texts.now ds in
     let html = string_bytes c.args.out.now in
     let info = c.args.info.now in
     let some : (length info == 0) ≡ false = sym c.is_empty.ensures ∙ c.if-is_empty.false in

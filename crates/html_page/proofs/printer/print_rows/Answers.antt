@@ -5,8 +5,6 @@ use Rattle.markdown_options.specs.declared.line_ending.LineEnding.{LineEnding}
 use Rattle.markdown_options.specs.LineEndings.{ending_bytes}
 use Rattle.block_rows.specs.declared.row.Row.{Row}
 use Rattle.block_rows.specs.declared.row.Row.TheVariants.{Paragraph}
-use Rattle.html_bytes.specs.Document.{document}
-use Rattle.definition_page.specs.TextTables.{text_tables}
 use Rattle.definition_text.specs.BlockLines.{BlockLine}
 use Rattle.block_rows.specs.Rows.{RowsValue, row_value, piece_lines, piece_line, rows_value, row_size}
 use Rattle.html_page.specs.Printable.{IsPrintableRow}
@@ -16,6 +14,7 @@ use Rattle.definition_page.specs.Layout.{Laid}
 use Rattle.html_bytes.specs.Layout.{with_footnotes, lay}
 use Rattle.html_page.specs.Prints.{page_view, with_fresh}
 use Rattle.html_bytes.specs.Html.{last_piece}
+use Rattle.html_contents.specs.Texts.{document_by}
 use Rattle.html_page.specs.declared.printer.Printer.{Printer}
 use Rattle.html_page.proofs.RowsOf.{rows_html_of}
 use Rattle.block_rows.proofs.RowSteps.{shown_more, taken_more, left_more}
@@ -50,8 +49,7 @@ loop-row-preserved g c =
     record {
       same_default = c.in_ok-row.ensures.default ∙ k.same_default;
       printed = λ ds has.
-          let d = document c.args.texts.now.options.now (text_tables (g.T.Tables.reference_of c.args.texts.now.tables.now)
-          (g.T.Tables.punctuation_of c.args.texts.now.tables.now)) ds in
+          let d = document_by g.T.Tables c.args.texts.now ds in
           c.in_ok-row.ensures.printed ds has
           ∙ ap (λ (e : LineEnding). print_row d (ending_bytes e) (printer_view c.loop-row.printer) (row_value row rest)) k.same_default
           ∙ ap (λ (ls : List BlockLine). print_row d default (printer_view c.loop-row.printer) (row_value row ls)) at
@@ -67,8 +65,7 @@ loop-row-preserved g c =
 
 pub returns : goal.returns
 returns g c = λ ds has bs rows_are can.
-    let d = document c.args.texts.now.options.now (text_tables (g.T.Tables.reference_of c.args.texts.now.tables.now)
-    (g.T.Tables.punctuation_of c.args.texts.now.tables.now)) ds in
+    let d = document_by g.T.Tables c.args.texts.now ds in
     let o = d.options.compile in
     let rows = c.args.rows.now in
     let all = piece_lines c.args.pieces.now in

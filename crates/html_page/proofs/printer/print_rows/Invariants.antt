@@ -1,9 +1,7 @@
 use Rattle.std.proofs.Common.{◌≡◌, ◌≤◌, ◌+◌, length, take, drop}
 use Rattle.markdown_options.specs.LineEndings.{ending_bytes}
-use Rattle.html_bytes.specs.Document.{document}
 use Rattle.definition_page.specs.Targets.{Targets}
-use Rattle.definition_page.specs.TextTables.{text_tables}
-use Rattle.html_contents.specs.Texts.{KnowsTargets}
+use Rattle.html_contents.specs.Texts.{KnowsTargets, document_by}
 use Rattle.block_rows.specs.Rows.{rows_size, piece_lines, rows_value}
 use Rattle.html_page.specs.PrinterView.{print_all, blank_page, printer_view}
 use Rattle.html_page.proofs.printer.print_rows.Given as goal
@@ -14,7 +12,7 @@ invariant-loop-row g l = record {
   same_default : l.printer.page.default_ending ≡ l.fn.default_ending;
   printed : (ds : Targets) → KnowsTargets l.texts ds →
       printer_view l.printer ≡ print_all
-      (document l.texts.options.now (text_tables (g.T.Tables.reference_of l.texts.tables.now) (g.T.Tables.punctuation_of l.texts.tables.now)) ds)
+      (document_by g.T.Tables l.texts ds)
       (ending_bytes l.fn.default_ending) (blank_page (rows_value l.rows (piece_lines l.pieces)).rows)
       (rows_value (take l.row-index l.rows) (piece_lines l.pieces)).rows;
   left : (rows_value (take l.row-index l.rows) (piece_lines l.pieces)).left ≡ piece_lines (drop l.at l.pieces);

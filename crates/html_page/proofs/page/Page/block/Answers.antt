@@ -6,11 +6,10 @@ use Rattle.block_rows.specs.declared.row.Row.{Row}
 use Rattle.definition_text.specs.Columns.{is_byte, bytes_of}
 use Rattle.definition_text.specs.BlockLines.{own_lines, BlockLine}
 use Rattle.definition_block.specs.Tree.{Paragraph, Heading, IndentedCode, FencedCode, Html, Table}
-use Rattle.html_bytes.specs.Document.{document}
 use Rattle.block_rows.specs.ParagraphLines.{HaveNoEnding, AreLines}
-use Rattle.definition_page.specs.TextTables.{text_tables}
 use Rattle.definition_page.specs.Read.{on_page}
 use Rattle.html_bytes.specs.Html.{block_pieces}
+use Rattle.html_contents.specs.Texts.{document_by}
 use Rattle.block_rows.specs.Rows.{whole_lines, row_value, row_size, first_codes, piece_line, piece_lines}
 use Rattle.html_page.specs.Levels.{row_pieces, standing_of, standing_at, standing_first}
 use Rattle.html_page.specs.Prints.{layout_after, page_view}
@@ -23,8 +22,7 @@ use Rattle.html_page.proofs.page.Page.block.Goals as goal
 
 pub returns-in-Paragraph-clause-printed : goal.returns-in-Paragraph-clause-printed
 returns-in-Paragraph-clause-printed g c = λ ds has.
-    let d = document c.args.texts.now.options.now (text_tables (g.T.Tables.reference_of c.args.texts.now.tables.now)
-    (g.T.Tables.punctuation_of c.args.texts.now.tables.now)) ds in
+    let d = document_by g.T.Tables c.args.texts.now ds in
     let page = c.args.self.now in
     let before = page_view page in
     let after = page_view c.paragraph.new.self in
@@ -40,8 +38,7 @@ returns-in-Paragraph-clause-printed g c = λ ds has.
 
 pub returns-in-WholeParagraph-clause-printed : goal.returns-in-WholeParagraph-clause-printed
 returns-in-WholeParagraph-clause-printed g c = λ ds has.
-    let d = document c.args.texts.now.options.now (text_tables (g.T.Tables.reference_of c.args.texts.now.tables.now)
-    (g.T.Tables.punctuation_of c.args.texts.now.tables.now)) ds in
+    let d = document_by g.T.Tables c.args.texts.now ds in
     let page = c.args.self.now in
     let before = page_view page in
     let after = page_view c.whole_paragraph.new.self in
@@ -58,8 +55,7 @@ returns-in-WholeParagraph-clause-printed g c = λ ds has.
 
 pub returns-in-Heading-clause-printed : goal.returns-in-Heading-clause-printed
 returns-in-Heading-clause-printed g c = λ ds has.
-    let d = document c.args.texts.now.options.now (text_tables (g.T.Tables.reference_of c.args.texts.now.tables.now)
-    (g.T.Tables.punctuation_of c.args.texts.now.tables.now)) ds in
+    let d = document_by g.T.Tables c.args.texts.now ds in
     let page = c.args.self.now in
     let before = page_view page in
     let after = page_view c.heading_atx.new.self in
@@ -77,8 +73,7 @@ returns-in-Heading-clause-printed g c = λ ds has.
 
 pub returns-in-SetextHeading-clause-printed : goal.returns-in-SetextHeading-clause-printed
 returns-in-SetextHeading-clause-printed g c = λ ds has.
-    let d = document c.args.texts.now.options.now (text_tables (g.T.Tables.reference_of c.args.texts.now.tables.now)
-    (g.T.Tables.punctuation_of c.args.texts.now.tables.now)) ds in
+    let d = document_by g.T.Tables c.args.texts.now ds in
     let page = c.args.self.now in
     let before = page_view page in
     let after = page_view c.heading_setext.new.self in
@@ -96,8 +91,7 @@ returns-in-SetextHeading-clause-printed g c = λ ds has.
 
 pub returns-in-Break-clause-printed : goal.returns-in-Break-clause-printed
 returns-in-Break-clause-printed g c = λ ds has.
-    let d = document c.args.texts.now.options.now (text_tables (g.T.Tables.reference_of c.args.texts.now.tables.now)
-    (g.T.Tables.punctuation_of c.args.texts.now.tables.now)) ds in
+    let d = document_by g.T.Tables c.args.texts.now ds in
     let page = c.args.self.now in
     let before = page_view page in
     let after = page_view c.thematic_break.new.self in
@@ -108,8 +102,7 @@ returns-in-Break-clause-printed g c = λ ds has.
 
 pub returns-in-Html-clause-printed : goal.returns-in-Html-clause-printed
 returns-in-Html-clause-printed g c = λ ds has.
-    let d = document c.args.texts.now.options.now (text_tables (g.T.Tables.reference_of c.args.texts.now.tables.now)
-    (g.T.Tables.punctuation_of c.args.texts.now.tables.now)) ds in
+    let d = document_by g.T.Tables c.args.texts.now ds in
     let page = c.args.self.now in
     let before = page_view page in
     let after = page_view c.html_block.new.self in
@@ -130,8 +123,7 @@ table-requires g c =
 
 pub returns-in-Table-clause-printed : goal.returns-in-Table-clause-printed
 returns-in-Table-clause-printed g c = λ ds has.
-    let d = document c.args.texts.now.options.now (text_tables (g.T.Tables.reference_of c.args.texts.now.tables.now)
-    (g.T.Tables.punctuation_of c.args.texts.now.tables.now)) ds in
+    let d = document_by g.T.Tables c.args.texts.now ds in
     let page = c.args.self.now in
     let before = page_view page in
     let after = page_view c.table.new.self in
@@ -150,8 +142,7 @@ returns-in-Table-clause-printed g c = λ ds has.
 
 pub returns-in-IndentedCode-clause-printed : goal.returns-in-IndentedCode-clause-printed
 returns-in-IndentedCode-clause-printed g c = λ ds has.
-    let d = document c.args.texts.now.options.now (text_tables (g.T.Tables.reference_of c.args.texts.now.tables.now)
-    (g.T.Tables.punctuation_of c.args.texts.now.tables.now)) ds in
+    let d = document_by g.T.Tables c.args.texts.now ds in
     let page = c.args.self.now in
     let before = page_view page in
     let after = page_view c.indented_code.new.self in
@@ -164,8 +155,7 @@ returns-in-IndentedCode-clause-printed g c = λ ds has.
 
 pub returns-in-FencedCode-clause-printed : goal.returns-in-FencedCode-clause-printed
 returns-in-FencedCode-clause-printed g c = λ ds has.
-    let d = document c.args.texts.now.options.now (text_tables (g.T.Tables.reference_of c.args.texts.now.tables.now)
-    (g.T.Tables.punctuation_of c.args.texts.now.tables.now)) ds in
+    let d = document_by g.T.Tables c.args.texts.now ds in
     let page = c.args.self.now in
     let before = page_view page in
     let after = page_view c.fenced_code.new.self in
@@ -187,8 +177,7 @@ returns-in-FencedCode-clause-printed g c = λ ds has.
 
 pub returns-in-UnclosedCode-clause-printed : goal.returns-in-UnclosedCode-clause-printed
 returns-in-UnclosedCode-clause-printed g c = λ ds has.
-    let d = document c.args.texts.now.options.now (text_tables (g.T.Tables.reference_of c.args.texts.now.tables.now)
-    (g.T.Tables.punctuation_of c.args.texts.now.tables.now)) ds in
+    let d = document_by g.T.Tables c.args.texts.now ds in
     let page = c.args.self.now in
     let before = page_view page in
     let after = page_view c.fenced_code-in-UnclosedCode.new.self in
@@ -211,8 +200,7 @@ returns-in-UnclosedCode-clause-printed g c = λ ds has.
 
 pub returns-in-Ending-clause-printed : goal.returns-in-Ending-clause-printed
 returns-in-Ending-clause-printed g c = λ ds has.
-    let d = document c.args.texts.now.options.now (text_tables (g.T.Tables.reference_of c.args.texts.now.tables.now)
-    (g.T.Tables.punctuation_of c.args.texts.now.tables.now)) ds in
+    let d = document_by g.T.Tables c.args.texts.now ds in
     let page = c.args.self.now in
     let after = page_view c.line_ending.new.self in
     subst (λ (row : Row). OnOk c.line_ending.result (after ≡ layout_after d.options.compile page.default_ending (page_view page)

@@ -1,16 +1,14 @@
 use Rattle.std.proofs.Common.{◌≡◌, ◌∙◌, subst}
 use Rattle.std.specs.Result.{OnOk}
-use Rattle.html_bytes.specs.Document.{document}
 use Rattle.block_rows.specs.Rows.{piece_lines}
-use Rattle.definition_page.specs.TextTables.{text_tables}
 use Rattle.html_page.specs.Prints.{page_view}
 use Rattle.html_page.proofs.CodeFencedLemmas.{closed_laid, open_laid}
 use Rattle.html_page.proofs.page.Page.fenced_code.Goals as goal
+use Rattle.html_contents.specs.Texts.{document_by}
 
 pub returns-then-closed-clause-printed : goal.returns-then-closed-clause-printed
 returns-then-closed-clause-printed g c = λ ds clear.
-    let d = document c.args.texts.now.options.now (text_tables (g.T.Tables.reference_of c.args.texts.now.tables.now)
-    (g.T.Tables.punctuation_of c.args.texts.now.tables.now)) ds in
+    let d = document_by g.T.Tables c.args.texts.now ds in
     let page = c.args.self.now in
     let inner = c.in_ok-say-2.ensures.default ∙ c.in_ok-class.ensures.default ∙ c.in_ok-say.ensures.default ∙ c.in_ok-fresh.ensures.default in
     closed_laid d page.default_ending c.say-2.new.self.default_ending c.args.info.now c.args.top c.args.closed (piece_lines c.args.lines.now)
@@ -21,8 +19,7 @@ returns-then-closed-clause-printed g c = λ ds clear.
 
 pub returns-clause-printed : goal.returns-clause-printed
 returns-clause-printed g c = λ ds clear.
-    let d = document c.args.texts.now.options.now (text_tables (g.T.Tables.reference_of c.args.texts.now.tables.now)
-    (g.T.Tables.punctuation_of c.args.texts.now.tables.now)) ds in
+    let d = document_by g.T.Tables c.args.texts.now ds in
     let page = c.args.self.now in
     let inner = c.in_ok-say-2.ensures.default ∙ c.in_ok-class.ensures.default ∙ c.in_ok-say.ensures.default ∙ c.in_ok-fresh.ensures.default in
     let after = c.in_ok-say-3.ensures.default ∙ c.in_ok-fenced_content.ensures.default ∙ inner in

@@ -3,10 +3,10 @@ use Rattle.std.proofs.lemmas.List.{length-map}
 use Rattle.std.specs.Result.{OnOk}
 use Rattle.markdown_options.specs.LineEndings.{ending_bytes}
 use Rattle.block_rows.proofs.RowSteps.{no_piece}
-use Rattle.html_bytes.specs.Document.{document, text_of}
+use Rattle.html_bytes.specs.Document.{text_of}
+use Rattle.html_contents.specs.Texts.{document_by}
 use Rattle.definition_text.specs.BlockLines.{BlockLine, own_lines}
 use Rattle.block_rows.specs.Rows.{piece_line, piece_lines}
-use Rattle.definition_page.specs.TextTables.{text_tables}
 use Rattle.html_footnotes.specs.Output.{output_view}
 use Rattle.html_page.specs.Prints.{layout_after, page_view}
 use Rattle.html_page.specs.Printable.{AreHeadingLines}
@@ -15,8 +15,7 @@ use Rattle.html_page.proofs.page.Page.heading_text.Goals as goal
 
 pub returns-then-lines-eq1-clause-printed : goal.returns-then-lines-eq1-clause-printed
 returns-then-lines-eq1-clause-printed g c = λ ds has fits.
-    let d = document c.args.texts.now.options.now (text_tables (g.T.Tables.reference_of c.args.texts.now.tables.now)
-    (g.T.Tables.punctuation_of c.args.texts.now.tables.now)) ds in
+    let d = document_by g.T.Tables c.args.texts.now ds in
     let pieces = c.args.lines.now in
     let page = c.args.self.now in
     let one = one_line pieces no_piece c.if-lines-eq1.true in

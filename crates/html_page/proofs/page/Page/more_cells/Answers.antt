@@ -1,9 +1,9 @@
 use Rattle.std.proofs.Common.{◌≡◌, ◌∷◌, sym, ap, ◌∙◌, subst}
 use Rattle.std.specs.List.{flat_map}
 use Rattle.markdown_options.specs.LineEndings.{ending_bytes}
-use Rattle.definition_page.specs.TextTables.{text_tables}
 use Rattle.block_cells.specs.GfmTable.{cell_view, cells_left}
-use Rattle.html_bytes.specs.Document.{cell_counts, document}
+use Rattle.html_bytes.specs.Document.{cell_counts}
+use Rattle.html_contents.specs.Texts.{document_by}
 use Rattle.html_page.specs.GfmTable.{CellsAreClear}
 use Rattle.html_page.specs.Prints.{layout_after, page_view}
 use Rattle.html_page.proofs.GfmTableLemmas.{counts_more}
@@ -21,8 +21,7 @@ loop-cell-preserved g c =
       same_default = k.same_default;
       clear = λ clear. (subst CellsAreClear steps (k.clear clear)).1;
       printed = λ ds has clear.
-          let d = document c.args.texts.now.options.now (text_tables (g.T.Tables.reference_of c.args.texts.now.tables.now)
-          (g.T.Tables.punctuation_of c.args.texts.now.tables.now)) ds in
+          let d = document_by g.T.Tables c.args.texts.now ds in
           let here = page_view c.loop-cell.self in
           ap (λ x. layout_after d.options.compile e x (flat_map (cell_counts d) left))
           (c.in_ok-count_cell.ensures ds has (subst CellsAreClear steps (k.clear clear)).0 (ending_bytes e))
@@ -32,8 +31,7 @@ loop-cell-preserved g c =
 
 pub returns-clause-printed : goal.returns-clause-printed
 returns-clause-printed g c = λ ds has clear.
-    let d = document c.args.texts.now.options.now (text_tables (g.T.Tables.reference_of c.args.texts.now.tables.now)
-    (g.T.Tables.punctuation_of c.args.texts.now.tables.now)) ds in
+    let d = document_by g.T.Tables c.args.texts.now ds in
     let e = c.args.self.now.default_ending in
     ap (λ cs. layout_after d.options.compile e (page_view c.loop-cell.self) (flat_map (cell_counts d) cs)) (sym c.in_default.ensures.steps.0)
     ∙ c.loop-cell.invariant.printed ds has clear

@@ -1,9 +1,8 @@
 use Rattle.std.proofs.Common.{◌≡◌, length}
 use Rattle.std.specs.List.{flat_map}
 use Rattle.definition_page.specs.Targets.{Targets}
-use Rattle.definition_page.specs.TextTables.{text_tables}
-use Rattle.html_bytes.specs.Document.{cell_counts, document}
-use Rattle.html_contents.specs.Texts.{KnowsTargets}
+use Rattle.html_bytes.specs.Document.{cell_counts}
+use Rattle.html_contents.specs.Texts.{KnowsTargets, document_by}
 use Rattle.block_cells.specs.GfmTable.{cells_left}
 use Rattle.html_page.specs.GfmTable.{CellsAreClear}
 use Rattle.html_page.specs.Prints.{layout_after, page_view}
@@ -15,7 +14,7 @@ invariant-loop-cell g l = record {
   same_default : l.self.default_ending ≡ l.initial.self.default_ending;
   clear : CellsAreClear (cells_left l.cells) → CellsAreClear (cells_left l.left);
   printed : (ds : Targets) → KnowsTargets l.texts ds → CellsAreClear (cells_left l.cells) →
-      let d = document l.texts.options.now (text_tables (g.T.Tables.reference_of l.texts.tables.now) (g.T.Tables.punctuation_of l.texts.tables.now)) ds in
+      let d = document_by g.T.Tables l.texts ds in
       layout_after d.options.compile l.initial.self.default_ending (page_view l.self) (flat_map (cell_counts d) (cells_left l.left))
       ≡ layout_after d.options.compile l.initial.self.default_ending (page_view l.initial.self) (flat_map (cell_counts d) (cells_left l.cells));
 }

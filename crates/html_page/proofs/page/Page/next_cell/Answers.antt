@@ -1,16 +1,14 @@
 use Rattle.std.proofs.Common.{◌≡◌, Option, sym, subst}
 use Rattle.std.specs.Result.{OnOk}
-use Rattle.html_bytes.specs.Document.{document}
-use Rattle.definition_page.specs.TextTables.{text_tables}
 use Rattle.block_cells.specs.declared.gfm_table.Cell.{Cell}
 use Rattle.html_page.specs.GfmTable.{next_cell_pieces}
 use Rattle.html_page.specs.Prints.{layout_after, page_view}
 use Rattle.html_page.proofs.page.Page.next_cell.Goals as goal
+use Rattle.html_contents.specs.Texts.{document_by}
 
 pub returns-in-None-clause-printed : goal.returns-in-None-clause-printed
 returns-in-None-clause-printed g c = λ ds has clear.
-    let d = document c.args.texts.now.options.now (text_tables (g.T.Tables.reference_of c.args.texts.now.tables.now)
-    (g.T.Tables.punctuation_of c.args.texts.now.tables.now)) ds in
+    let d = document_by g.T.Tables c.args.texts.now ds in
     let page = c.args.self.now in
     subst (λ (cell : Option Cell). OnOk c.missing_cell.result (page_view c.missing_cell.new.self
     ≡ layout_after d.options.compile page.default_ending (page_view page) (next_cell_pieces d c.args.name.now c.args.align cell)))

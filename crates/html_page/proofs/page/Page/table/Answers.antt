@@ -7,9 +7,8 @@ use Rattle.markdown_options.specs.LineEndings.{ending_bytes}
 use Rattle.definition_text.specs.BlockLines.{BlockLine, own_lines}
 use Rattle.definition_block.specs.declared.align_kind.AlignKind.{AlignKind}
 use Rattle.definition_page.specs.GfmTable.{line_aligns}
-use Rattle.definition_page.specs.TextTables.{text_tables}
-use Rattle.html_bytes.specs.Document.{document}
 use Rattle.html_bytes.specs.GfmTable.{body_pieces, head_pieces, table_pieces}
+use Rattle.html_contents.specs.Texts.{document_by}
 use Rattle.block_rows.proofs.RowSteps.{no_piece}
 use Rattle.block_rows.specs.Rows.{piece_line, piece_lines}
 use Rattle.html_page.specs.Printable.{AreClear}
@@ -19,8 +18,7 @@ use Rattle.html_page.proofs.page.Page.table.Goals as goal
 
 pub returns-clause-printed : goal.returns-clause-printed
 returns-clause-printed g c = λ ds has clear.
-    let d = document c.args.texts.now.options.now (text_tables (g.T.Tables.reference_of c.args.texts.now.tables.now)
-    (g.T.Tables.punctuation_of c.args.texts.now.tables.now)) ds in
+    let d = document_by g.T.Tables c.args.texts.now ds in
     let o = d.options.compile in
     let e = c.args.self.now.default_ending in
     let default = ending_bytes e in

@@ -2,8 +2,6 @@ use Rattle.std.proofs.Common.{◌≡◌, ◌+◌, refl, sym, ap, ◌∙◌, drop
 use Rattle.std.proofs.lemmas.List.{drop_more}
 use Rattle.markdown_options.specs.declared.line_ending.LineEnding.{LineEnding}
 use Rattle.markdown_options.specs.LineEndings.{ending_bytes}
-use Rattle.html_bytes.specs.Document.{document}
-use Rattle.definition_page.specs.TextTables.{text_tables}
 use Rattle.definition_block.specs.declared.align_kind.AlignKind.{AlignKind}
 use Rattle.definition_block.specs.declared.align_kind.AlignKind.TheVariants as kind
 use Rattle.block_cells.specs.GfmTable.{cells_left}
@@ -16,6 +14,7 @@ use Rattle.std.proofs.Common.{subst}
 use Rattle.std.specs.List.{flat_map}
 use Rattle.std.specs.Result.{OnOk}
 use Rattle.html_bytes.specs.Document.{cell_counts}
+use Rattle.html_contents.specs.Texts.{document_by}
 use Rattle.html_page.proofs.page.Page.table_cells.Goals as goal
 
 pub loop-align-init : goal.loop-align-init
@@ -25,8 +24,7 @@ loop-align-init g c =
       same_default = refl;
       clear = λ clear. subst CellsAreClear (sym c.new-cells.ensures) (cells_clear line clear);
       printed = λ ds has clear.
-          let d = document c.args.texts.now.options.now (text_tables (g.T.Tables.reference_of c.args.texts.now.tables.now)
-          (g.T.Tables.punctuation_of c.args.texts.now.tables.now)) ds in
+          let d = document_by g.T.Tables c.args.texts.now ds in
           ap (λ cs. layout_after d.options.compile c.args.self.now.default_ending (page_view c.args.self.now)
           (cells_pieces d c.args.name.now c.args.aligns.now cs)) c.new-cells.ensures;
     }
@@ -46,8 +44,7 @@ loop-align-preserved g c =
       same_default = c.in_ok-next_cell.ensures.default ∙ k.same_default;
       clear = λ clear. (clear_taken cs left cell c.next-cell.ensures.steps (k.clear clear)).1;
       printed = λ ds has clear.
-          let d = document c.args.texts.now.options.now (text_tables (g.T.Tables.reference_of c.args.texts.now.tables.now)
-          (g.T.Tables.punctuation_of c.args.texts.now.tables.now)) ds in
+          let d = document_by g.T.Tables c.args.texts.now ds in
           let o = d.options.compile in
           let here = page_view c.loop-align.self in
           let ps = next_cell_pieces d name align cell in
@@ -62,8 +59,7 @@ loop-align-preserved g c =
 
 pub returns-clause-printed : goal.returns-clause-printed
 returns-clause-printed g c = λ ds has clear.
-    let d = document c.args.texts.now.options.now (text_tables (g.T.Tables.reference_of c.args.texts.now.tables.now)
-    (g.T.Tables.punctuation_of c.args.texts.now.tables.now)) ds in
+    let d = document_by g.T.Tables c.args.texts.now ds in
     let aligns = c.args.aligns.now in
     let o = d.options.compile in
     let e = c.args.self.now.default_ending in

@@ -1,10 +1,8 @@
 use Rattle.std.proofs.Common.{◌≡◌, drop}
 use Rattle.definition_page.specs.Targets.{Targets}
-use Rattle.definition_page.specs.TextTables.{text_tables}
 use Rattle.definition_block.specs.GfmTable.{line_cells}
-use Rattle.html_bytes.specs.Document.{document}
 use Rattle.html_bytes.specs.GfmTable.{cells_pieces}
-use Rattle.html_contents.specs.Texts.{KnowsTargets}
+use Rattle.html_contents.specs.Texts.{KnowsTargets, document_by}
 use Rattle.block_cells.specs.GfmTable.{cells_left}
 use Rattle.block_rows.specs.ParagraphLines.{HaveNoEnding}
 use Rattle.block_rows.specs.Rows.{piece_line}
@@ -18,7 +16,7 @@ invariant-loop-align g l = record {
   same_default : l.self.default_ending ≡ l.initial.self.default_ending;
   clear : HaveNoEnding (piece_line l.line).codes → CellsAreClear (cells_left l.cells);
   printed : (ds : Targets) → KnowsTargets l.texts ds → HaveNoEnding (piece_line l.line).codes →
-      let d = document l.texts.options.now (text_tables (g.T.Tables.reference_of l.texts.tables.now) (g.T.Tables.punctuation_of l.texts.tables.now)) ds in
+      let d = document_by g.T.Tables l.texts ds in
       layout_after d.options.compile l.initial.self.default_ending (page_view l.self) (cells_pieces d l.name (drop l.align-index l.aligns) (cells_left l.cells))
       ≡ layout_after d.options.compile l.initial.self.default_ending (page_view l.initial.self)
       (cells_pieces d l.name l.aligns (line_cells (piece_line l.line)));

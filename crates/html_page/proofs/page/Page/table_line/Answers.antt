@@ -3,19 +3,17 @@ use Rattle.std.specs.Result.{OnOk}
 use Rattle.std.specs.Prelude.{codes}
 use Rattle.markdown_options.specs.declared.line_ending.LineEnding.{LineEnding}
 use Rattle.markdown_options.specs.LineEndings.{ending_bytes}
-use Rattle.html_bytes.specs.Document.{document}
-use Rattle.definition_page.specs.TextTables.{text_tables}
 use Rattle.definition_block.specs.GfmTable.{line_cells}
 use Rattle.block_rows.specs.Rows.{piece_line}
 use Rattle.html_bytes.specs.GfmTable.{cells_pieces}
+use Rattle.html_contents.specs.Texts.{document_by}
 use Rattle.html_page.specs.Prints.{layout_after, page_view, with_bytes, with_fresh}
 use Rattle.html_page.proofs.GfmTableLemmas.{row_laid}
 use Rattle.html_page.proofs.page.Page.table_line.Goals as goal
 
 pub returns-clause-printed : goal.returns-clause-printed
 returns-clause-printed g c = λ ds has clear.
-    let d = document c.args.texts.now.options.now (text_tables (g.T.Tables.reference_of c.args.texts.now.tables.now)
-    (g.T.Tables.punctuation_of c.args.texts.now.tables.now)) ds in
+    let d = document_by g.T.Tables c.args.texts.now ds in
     let o = d.options.compile in
     let e = c.args.self.now.default_ending in
     let default = ending_bytes e in

@@ -3,8 +3,6 @@ use Rattle.std.specs.List.{flat_map}
 use Rattle.std.proofs.lemmas.List.{map_more}
 use Rattle.markdown_options.specs.declared.line_ending.LineEnding.{LineEnding}
 use Rattle.markdown_options.specs.LineEndings.{ending_bytes}
-use Rattle.html_bytes.specs.Document.{document}
-use Rattle.definition_page.specs.TextTables.{text_tables}
 use Rattle.std.specs.Prelude.{codes}
 use Rattle.definition_text.specs.BlockLines.{BlockLine, own_lines, last_ending}
 use Rattle.definition_text.specs.Lines.{ending_text}
@@ -12,6 +10,7 @@ use Rattle.block_rows.proofs.OwnLines.{last_ending_more}
 use Rattle.block_rows.proofs.RowSteps.{no_piece}
 use Rattle.block_rows.specs.Rows.{piece_line, piece_lines}
 use Rattle.html_bytes.specs.GfmTable.{row_pieces, body_row_pieces}
+use Rattle.html_contents.specs.Texts.{document_by}
 use Rattle.html_page.specs.Prints.{layout_after, page_view, with_bytes}
 use Rattle.html_page.proofs.GfmTableLemmas.{rows_more, clear_at}
 use Rattle.html_page.proofs.page.Page.table_rows.Goals as goal
@@ -31,8 +30,7 @@ loop-row-preserved g c =
     record {
       same_default = c.in_ok-table_line.ensures.default ∙ same;
       printed = λ ds has clear.
-          let d = document c.args.texts.now.options.now (text_tables (g.T.Tables.reference_of c.args.texts.now.tables.now)
-          (g.T.Tables.punctuation_of c.args.texts.now.tables.now)) ds in
+          let d = document_by g.T.Tables c.args.texts.now ds in
           let o = d.options.compile in
           let row = row_pieces d (codes "td") aligns line in
           let so_far = layout_after o e start (flat_map (body_row_pieces d aligns) (own_lines before)) in

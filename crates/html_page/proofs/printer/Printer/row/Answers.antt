@@ -2,8 +2,6 @@ use Rattle.std.proofs.Common.{◌≡◌, ◌∙◌, ap, sym, subst}
 use Rattle.std.specs.Prelude.{reverse}
 use Rattle.markdown_options.specs.LineEndings.{ending_bytes}
 use Rattle.definition_page.specs.Layout.{Laid}
-use Rattle.definition_page.specs.TextTables.{text_tables}
-use Rattle.html_bytes.specs.Document.{document}
 use Rattle.block_rows.specs.declared.row.Row.{Row}
 use Rattle.block_rows.specs.declared.row.Row.TheVariants as row
 use Rattle.block_rows.specs.Rows.{piece_lines, row_value}
@@ -12,12 +10,12 @@ use Rattle.html_page.specs.Levels.{level_after}
 use Rattle.html_page.specs.Prints.{page_view}
 use Rattle.html_page.specs.PrinterView.{printer_at, printer_view, print_row}
 use Rattle.html_page.proofs.printer.Printer.row.Goals as goal
+use Rattle.html_contents.specs.Texts.{document_by}
 
 pub returns-in_ok-line_ending-in-Ending-clause-printed :
     goal.returns-in_ok-line_ending-in-Ending-clause-printed
 returns-in_ok-line_ending-in-Ending-clause-printed g c = λ ds has.
-    let d = document c.args.texts.now.options.now (text_tables (g.T.Tables.reference_of c.args.texts.now.tables.now)
-    (g.T.Tables.punctuation_of c.args.texts.now.tables.now)) ds in
+    let d = document_by g.T.Tables c.args.texts.now ds in
     let p = c.args.self.now in
     let lines = piece_lines c.args.lines.now in
     let after = page_view c.line_ending.new.self in

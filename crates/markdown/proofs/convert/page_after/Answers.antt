@@ -22,7 +22,7 @@ use Rattle.html_page.specs.Printable.{ArePrintable}
 use Rattle.html_page.proofs.RowsOf.{printable_rows_of}
 use Rattle.html_page.proofs.Printable.{blocks_printable}
 use Rattle.markdown.proofs.FootnoteLabels.{bare_rows}
-use Rattle.markdown.proofs.convert.print.Goals as goal
+use Rattle.markdown.proofs.convert.page_after.Goals as goal
 
 -- rows and pieces that were lent are those that were read
 read_again : (on : Constructs) (before : Kind) (text : List ℕ) (rows : List Row) (pieces : List Piece)
