@@ -10,7 +10,7 @@ use Rattle.definition_text.specs.Bytes.{begins_with}
 use Rattle.definition_text.specs.Columns.{trim}
 use Rattle.definition_text.specs.declared.beside.Kind.TheVariants.{Whitespace}
 use Rattle.definition_block.specs.declared.align_kind.AlignKind.{AlignKind}
-use Rattle.definition_block.specs.GfmTable.{Cell, cells, delimiter, delimiters, alignments_of, and_alignment, some_alignments, is_bar_or_colon}
+use Rattle.definition_block.specs.GfmTable.{Cell, cells, column_delimiter, delimiters, alignments_of, and_alignment, some_alignments, is_bar_or_colon}
 
 -- a text that doesn't begin with a colon
 pub no_colon : (text : List ℕ) → ((rest : List ℕ) → text ≢ 58 ∷ rest) → begins_with (codes ":") text ≡ false
@@ -23,10 +23,10 @@ no_colon (b ∷ bs) none =
 
 module _ (all : Option (List AlignKind)) (items : List AlignKind) (c : Cell) (cs left : List Cell) where
   pub in_front : all ≡ option_map (λ more. items ++ more) (alignments_of cs) → cs ≡ c ∷ left
-      → all ≡ option_map (λ more. items ++ more) (and_alignment (delimiter (trim c.codes)) (alignments_of left))
+      → all ≡ option_map (λ more. items ++ more) (and_alignment (column_delimiter (trim c.codes)) (alignments_of left))
   in_front h e = h ∙ ap (λ l. option_map (λ more. items ++ more) (alignments_of l)) e
 
-  pub one_more : (a : AlignKind) → all ≡ option_map (λ more. items ++ more) (alignments_of cs) → cs ≡ c ∷ left → delimiter (trim c.codes) ≡ Some a
+  pub one_more : (a : AlignKind) → all ≡ option_map (λ more. items ++ more) (alignments_of cs) → cs ≡ c ∷ left → column_delimiter (trim c.codes) ≡ Some a
       → all ≡ option_map (λ more. (items ++ a ∷ []) ++ more) (alignments_of left)
   one_more a h e f = in_front h e ∙ ap (λ d. option_map (λ more. items ++ more) (and_alignment d (alignments_of left))) f ∙ go (alignments_of left)
     where
@@ -35,7 +35,7 @@ module _ (all : Option (List AlignKind)) (items : List AlignKind) (c : Cell) (cs
       go None = refl
       go (Some others) = ap Some (sym (append_assoc items (a ∷ []) others))
 
-  pub no_more : all ≡ option_map (λ more. items ++ more) (alignments_of cs) → cs ≡ c ∷ left → delimiter (trim c.codes) ≡ None → all ≡ None
+  pub no_more : all ≡ option_map (λ more. items ++ more) (alignments_of cs) → cs ≡ c ∷ left → column_delimiter (trim c.codes) ≡ None → all ≡ None
   no_more h e f = in_front h e ∙ ap (λ d. option_map (λ more. items ++ more) (and_alignment d (alignments_of left))) f
 
 -- a line with a cell that is no delimiter

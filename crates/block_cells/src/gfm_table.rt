@@ -213,7 +213,7 @@ fn is_bar_or_colon(byte: u8) -> bool
 
 /// How a column is aligned, where this is a delimiter.
 fn delimiter(text: &str) -> Option<AlignKind>
-    ensures { result ≡ spec.delimiter text.now }
+    ensures { result ≡ spec.column_delimiter text.now }
 {
     match text.strip_prefix(':') {
         Some(dashes) => after_dashes(true, dashes),

@@ -7,7 +7,7 @@ use Rattle.definition_text.specs.BlockLines.{BlockLine, own_lines}
 use Rattle.definition_block.specs.Blocks.{Nil, join}
 use Rattle.definition_text.specs.Content.{content_of, content_text}
 use Rattle.definition_block.specs.Tree.{is_some_line}
-use Rattle.definition_block.specs.Definitions.{Cut, cut_into, cut_after, cut_most, definition_lines}
+use Rattle.definition_block.specs.Definitions.{DefinitionCut, cut_into, cut_after, cut_most, definition_lines}
 use Rattle.definition_inline.specs.Definition.{definition_at}
 use Rattle.block_rows.specs.ParagraphLines.{AreLines}
 use Rattle.block_rows.proofs.DefinitionLines.{cut_enough}
@@ -15,7 +15,7 @@ use Rattle.block_definitions.specs.declared.front.DefinitionEnd.{DefinitionEnd}
 use Rattle.block_definitions.specs.Ends.{EndsAt}
 
 -- all definitions that these lines can have
-abbrev pub cut_all : List BlockLine → Cut
+abbrev pub cut_all : List BlockLine → DefinitionCut
 cut_all ls = cut_most (length ls) ls
 
 pub cut_none : (ls : List BlockLine) → definition_at (content_of (own_lines ls)) ≡ None → cut_all ls ≡ cut_into Nil ls
@@ -34,7 +34,7 @@ cut_one content (line ∷ others) end h =
     ap (λ o. cut_after o ls (cut_most (length others))) h.found
     ∙ ap (λ count. cut_into (join (definition_lines h.read (take count ls)) (cut_most (length others) (drop count ls)).definitions)
     (cut_most (length others) (drop count ls)).left) (sym h.count)
-    ∙ ap (λ (more : Cut). cut_into (join (definition_lines h.read (take end.lines ls)) more.definitions) more.left)
+    ∙ ap (λ (more : DefinitionCut). cut_into (join (definition_lines h.read (take end.lines ls)) more.definitions) more.left)
     (cut_enough (length others) (length left) left h.clean (omega (arith, rest, n)) (omega arith))
 
 -- ---- after some of them
@@ -53,7 +53,7 @@ left_after content ls at first end k h =
     record {
       clean = subst AreLines lines h.clean;
       rest = sym (drop-drop end.bytes at content) ∙ h.left ∙ ap content_text lines;
-      same = k.same ∙ ap (λ (x : Cut). x.left) (cut_one (drop at content) (drop first ls) end h) ∙ ap (λ x. (cut_all x).left) lines;
+      same = k.same ∙ ap (λ (x : DefinitionCut). x.left) (cut_one (drop at content) (drop first ls) end h) ∙ ap (λ x. (cut_all x).left) lines;
     }
 
 left_if : (n len : ℕ) (ls : List BlockLine) → n + length ls ≡ len → ltb n len ≡ is_some_line ls

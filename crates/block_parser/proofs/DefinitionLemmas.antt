@@ -13,7 +13,7 @@ use Rattle.std.specs.Option.{option_map}
 use Rattle.definition_text.specs.Columns.{code_byte}
 use Rattle.definition_text.specs.Content.{content_of, content_text}
 use Rattle.definition_inline.specs.Definition.{definition, definition_at}
-use Rattle.definition_block.specs.Definitions.{Cut, cut_into, cut_most, cut, definition_lines, lines_before}
+use Rattle.definition_block.specs.Definitions.{DefinitionCut, cut_into, cut_most, definition_cut, definition_lines, lines_before}
 use Rattle.block_rows.specs.ParagraphLines.{AreLines}
 use Rattle.block_rows.specs.Rows.{Single, definition_on, definition_value, row_value, block_rows, piece_line, piece_lines}
 use Rattle.block_rows.proofs.DefinitionLines.{definition_cuts}
@@ -29,26 +29,26 @@ use Rattle.block_parser.proofs.Trees.{join-assoc, join-nil}
 
 -- ---- whether any are cut
 
-pub cut_on : (on : Constructs) (ls : List BlockLine) → on.definition ≡ true → cut on ls ≡ cut_all ls
+pub cut_on : (on : Constructs) (ls : List BlockLine) → on.definition ≡ true → definition_cut on ls ≡ cut_all ls
 cut_on on ls h = cond-true on.definition _ _ h
 
-pub cut_off : (on : Constructs) (ls : List BlockLine) → on.definition ≡ false → cut on ls ≡ cut_into Nil ls
+pub cut_off : (on : Constructs) (ls : List BlockLine) → on.definition ≡ false → definition_cut on ls ≡ cut_into Nil ls
 cut_off on ls h = cond-false on.definition _ _ h
 
-either : (b : Bool) (x y : Cut) → x ≡ y → (if b then x else y) ≡ y
+either : (b : Bool) (x y : DefinitionCut) → x ≡ y → (if b then x else y) ≡ y
 either true x y h = h
 either false x y h = refl
 
-pub cut_not : (on : Constructs) (ls : List BlockLine) → definition_at (content_of (own_lines ls)) ≡ None → cut on ls ≡ cut_into Nil ls
+pub cut_not : (on : Constructs) (ls : List BlockLine) → definition_at (content_of (own_lines ls)) ≡ None → definition_cut on ls ≡ cut_into Nil ls
 cut_not on ls none = either on.definition (cut_all ls) (cut_into Nil ls) (cut_none ls none)
 
 -- whether lines are left after them
 pub more_left : (on : Constructs) (ls : List BlockLine) (pieces : List Piece) → on.definition ≡ true → ls ≡ piece_lines pieces
-    → is_some_line (cut_most (length pieces) (piece_lines pieces)).left ≡ is_some_line (cut on ls).left
+    → is_some_line (cut_most (length pieces) (piece_lines pieces)).left ≡ is_some_line (definition_cut on ls).left
 more_left on ls pieces is same =
     ap (λ n. is_some_line (cut_most n (piece_lines pieces)).left) (sym (length-map pieces piece_line))
     ∙ ap (λ xs. is_some_line (cut_all xs).left) (sym same)
-    ∙ ap (λ (x : Cut). is_some_line x.left) (sym (cut_on on ls is))
+    ∙ ap (λ (x : DefinitionCut). is_some_line x.left) (sym (cut_on on ls is))
 
 -- ---- the ending of the last line
 
@@ -127,7 +127,7 @@ one_more p q content around kids ls k end h reads =
       clean = h.clean;
       rest = h.left;
       same =
-          k.same ∙ ap (λ (x : Cut). cut_into (join k.definitions x.definitions) x.left) (cut_one content k.left end h)
+          k.same ∙ ap (λ (x : DefinitionCut). cut_into (join k.definitions x.definitions) x.left) (cut_one content k.left end h)
           ∙ ap (λ (bs : Blocks). cut_into bs others.left) (sym (join-assoc k.definitions more others.definitions));
     }
 
@@ -135,9 +135,9 @@ one_more p q content around kids ls k end h reads =
 pub all_cut : {A : Type 0} (on : Constructs) (p : Parser A) (content : List ℕ) (around : List Level) (kids : Blocks) (ls : List BlockLine)
     (k : Cutting p content around kids ls)
     → on.definition ≡ true → definition_at (content_of (own_lines k.left)) ≡ None
-    → HasRead p (spine around (join kids (cut on ls).definitions) (Text (cut on ls).left))
+    → HasRead p (spine around (join kids (definition_cut on ls).definitions) (Text (definition_cut on ls).left))
 all_cut on p content around kids ls k is none =
-    subst (λ (x : Cut). HasRead p (spine around (join kids x.definitions) (Text x.left)))
+    subst (λ (x : DefinitionCut). HasRead p (spine around (join kids x.definitions) (Text x.left)))
     (ap (λ (bs : Blocks). cut_into bs k.left) (sym (join-nil k.definitions))
-    ∙ ap (λ (x : Cut). cut_into (join k.definitions x.definitions) x.left) (sym (cut_none k.left none)) ∙ sym k.same ∙ sym (cut_on on ls is))
+    ∙ ap (λ (x : DefinitionCut). cut_into (join k.definitions x.definitions) x.left) (sym (cut_none k.left none)) ∙ sym k.same ∙ sym (cut_on on ls is))
     k.reads

@@ -22,7 +22,7 @@ use Rattle.definition_block.specs.Tree.{Inside, Tree, beside_in, grow, goes_on, 
 use Rattle.block_rows.specs.Rows.{definition_on, definition_value, BlockRow, Single, rows_of}
 use Rattle.block_parser.specs.Spine.{Level, level, Spine, spine, spine_at, spine_of, spine_after, containers_of}
 use Rattle.block_parser.specs.Waits.{is_one_blank_row}
-use Rattle.block_parser.specs.Shows.{InText, InIndented, InFenced, InHtml, InTable, state_of, lone, is_nil, Written}
+use Rattle.block_parser.specs.Shows.{InText, InIndented, InFenced, InHtml, InTable, state_of, lone, is_nil, AreWritten}
 use Rattle.block_parser.specs.View.{Descent, leaf_grown}
 use Rattle.block_parser.proofs.Trees.{join-nil}
 use Rattle.block_parser.proofs.Closing.{opening_depth, length-around, length-containers}
@@ -221,7 +221,7 @@ one-row (a ∷ b ∷ rows) = two a
 pub began_is : (rows waiting : List Row) (bare : Bool) (pool : List BlockLine) (containers : List Container) (around : List Level) (kids inner_kids : Blocks)
     (c : Container) (inner : Opening)
     → let s = spine_at around kids (Inside c inner_kids inner) in
-    (left : List BlockLine) → Written rows waiting bare pool s.around s.kids left → containers ≡ containers_of s.around
+    (left : List BlockLine) → AreWritten rows waiting bare pool s.around s.kids left → containers ≡ containers_of s.around
     → ((length around + 1 == length containers) && is_nothing (Leaf s.leaf) && (bare && is_one_blank_row waiting)) ≡ began_blank inner_kids inner
 began_is rows waiting bare pool containers around kids inner_kids c (Leaf leaf) left h opened =
     let last : (length around + 1 == length containers) ≡ true =

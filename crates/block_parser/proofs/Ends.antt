@@ -7,7 +7,7 @@ use Rattle.std.proofs.lemmas.List.{append-nil, take-map, drop-map, length-map}
 use Rattle.definition_block.specs.Container.{Container, Quote, Item, Footnote}
 use Rattle.block_rows.specs.declared.row.Row.{Row}
 use Rattle.definition_block.specs.Tree.{Block, Paragraph, Heading, Break, IndentedCode, FencedCode, Html, Table, Definition, Holds, Items, Ending, Blank}
-use Rattle.definition_block.specs.Tree.{Blocks, Nil, Cons, join, one, is_ending, all_endings, front, trailing, without_last, last_of, holds}
+use Rattle.definition_block.specs.Tree.{Blocks, Nil, Cons, join, one, is_ending, all_endings, front, trailing, without_last, last_of, container_block}
 use Rattle.block_rows.specs.Rows.{BlockRow, Single, Exit, start_row, block_rows, rows_of}
 use Rattle.block_parser.specs.Waits.{inside, outside}
 use Rattle.block_parser.specs.Shows.{lone}
@@ -106,7 +106,7 @@ left_over Quote kids = last_of kids
 left_over (Item item) kids = trailing kids
 left_over (Footnote label) kids = trailing kids
 
-pub holds_parts : (c : Container) (kids : Blocks) → holds c kids ≡ join (one (holding c kids)) (left_over c kids)
+pub holds_parts : (c : Container) (kids : Blocks) → container_block c kids ≡ join (one (holding c kids)) (left_over c kids)
 holds_parts Quote kids = refl
 holds_parts (Item item) kids = refl
 holds_parts (Footnote label) kids = refl
@@ -121,14 +121,14 @@ holding-block Quote kids = refl
 holding-block (Item item) kids = refl
 holding-block (Footnote label) kids = refl
 
-pub front-holds : (before kids : Blocks) (c : Container) → front (join before (holds c kids)) ≡ join before (one (holding c kids))
+pub front-holds : (before kids : Blocks) (c : Container) → front (join before (container_block c kids)) ≡ join before (one (holding c kids))
 front-holds before kids c =
     ap (λ x. front (join before x)) (holds_parts c kids)
     ∙ ap front (sym (join-assoc before (one (holding c kids)) (left_over c kids)))
     ∙ front-more (join before (one (holding c kids))) (left_over c kids) (left_over-all c kids)
     ∙ front-block before (holding c kids) (holding-block c kids)
 
-pub trailing-holds : (before kids : Blocks) (c : Container) → trailing (join before (holds c kids)) ≡ left_over c kids
+pub trailing-holds : (before kids : Blocks) (c : Container) → trailing (join before (container_block c kids)) ≡ left_over c kids
 trailing-holds before kids c =
     ap (λ x. trailing (join before x)) (holds_parts c kids)
     ∙ ap trailing (sym (join-assoc before (one (holding c kids)) (left_over c kids)))

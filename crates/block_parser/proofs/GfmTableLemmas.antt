@@ -9,7 +9,7 @@ use Rattle.definition_text.specs.BlockLines.{BlockLine, own_lines, last_ending}
 use Rattle.definition_text.specs.Columns.{Rest, bare, bytes_of}
 use Rattle.definition_text.specs.Indents.{small_indent}
 use Rattle.definition_block.specs.declared.align_kind.AlignKind.{AlignKind}
-use Rattle.definition_block.specs.Definitions.{cut, cut_into, cut_most}
+use Rattle.definition_block.specs.Definitions.{definition_cut, cut_into, cut_most}
 use Rattle.definition_block.specs.GfmTable.{alignments_of, cells, delimiter_row, delimiters, is_bar_or_colon, is_head, line_cells, some_alignments}
 use Rattle.definition_block.specs.Tree.{Nil, Paragraph, Tree, block_and_ending, is_some_line, paragraph_of, table_if}
 use Rattle.block_rows.specs.declared.row.Piece.{Piece}
@@ -68,28 +68,28 @@ and-none false = refl
 module _ (on : Constructs) (row : BlockLine) where
   -- a table of these lines, where both hold
   abbrev pub table_where : Bool → List BlockLine → Option Tree
-  table_where made ls = if made then Some (table_from_cut (cut on ls) row) else None
+  table_where made ls = if made then Some (table_from_cut (definition_cut on ls) row) else None
 
   columns_fit : (o : Option (List AlignKind)) (ls : List BlockLine) → HasColumns o
-      → table_if on o ls row ≡ table_where (fits (unwrap_or o []) ls && is_some_line (cut on ls).left) ls
+      → table_if on o ls row ≡ table_where (fits (unwrap_or o []) ls && is_some_line (definition_cut on ls).left) ls
   columns_fit None ls h = refl
   columns_fit (Some []) ls h = absurd h
-  columns_fit (Some (align ∷ aligns)) ls h = ap (λ b. table_where b ls) (and-swap (is_some_line (cut on ls).left) (is_head (length (align ∷ aligns)) ls))
+  columns_fit (Some (align ∷ aligns)) ls h = ap (λ b. table_where b ls) (and-swap (is_some_line (definition_cut on ls).left) (is_head (length (align ∷ aligns)) ls))
 
   module _ (r : Rest) where
     -- a table, where the last line has a cell for each column and some line is left
     pub row_fits : (ls : List BlockLine) → table_if on (delimiter_row on r) ls row
-        ≡ table_where (fits (unwrap_or (delimiter_row on r) []) ls && is_some_line (cut on ls).left) ls
+        ≡ table_where (fits (unwrap_or (delimiter_row on r) []) ls && is_some_line (definition_cut on ls).left) ls
     row_fits ls = columns_fit (delimiter_row on r) ls (row_columns on r)
 
     pub fits_not : (columns : List AlignKind) (ls : List BlockLine) → columns ≡ unwrap_or (delimiter_row on r) [] → fits columns ls ≡ false
         → table_if on (delimiter_row on r) ls row ≡ None
-    fits_not columns ls is h = row_fits ls ∙ ap (λ b. table_where (b && is_some_line (cut on ls).left) ls) (ap (λ x. fits x ls) (sym is) ∙ h)
+    fits_not columns ls is h = row_fits ls ∙ ap (λ b. table_where (b && is_some_line (definition_cut on ls).left) ls) (ap (λ x. fits x ls) (sym is) ∙ h)
 
     pub fits_so : (columns : List AlignKind) (ls : List BlockLine) (some : Bool) → columns ≡ unwrap_or (delimiter_row on r) [] → fits columns ls ≡ true
-        → some ≡ is_some_line (cut on ls).left → table_if on (delimiter_row on r) ls row ≡ table_where some ls
+        → some ≡ is_some_line (definition_cut on ls).left → table_if on (delimiter_row on r) ls row ≡ table_where some ls
     fits_so columns ls some is h left =
-        row_fits ls ∙ ap (λ b. table_where (b && is_some_line (cut on ls).left) ls) (ap (λ x. fits x ls) (sym is) ∙ h) ∙ ap (λ b. table_where b ls) (sym left)
+        row_fits ls ∙ ap (λ b. table_where (b && is_some_line (definition_cut on ls).left) ls) (ap (λ x. fits x ls) (sym is) ∙ h) ∙ ap (λ b. table_where b ls) (sym left)
 
     -- no paragraph is open
     none_cut : (b : Bool) → (if b then cut_most 0 [] else cut_into Nil []).left ≡ []

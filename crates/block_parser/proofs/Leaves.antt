@@ -14,7 +14,7 @@ use Rattle.block_rows.specs.declared.row.Row.{Row}
 use Rattle.block_rows.specs.declared.row.Row.TheVariants as row
 use Rattle.block_rows.specs.declared.row.Piece.{Piece}
 use Rattle.definition_text.specs.BlockLines.{BlockLine, last_ending, own_lines}
-use Rattle.definition_block.specs.Tree.{Block, IndentedCode, Ending, Blank, Blocks, Nil, join, one, block_and_ending, holds, OpenLeaf, Text, Indented, Leaf}
+use Rattle.definition_block.specs.Tree.{Block, IndentedCode, Ending, Blank, Blocks, Nil, join, one, block_and_ending, container_block, OpenLeaf, Text, Indented, Leaf}
 use Rattle.definition_block.specs.Tree.{is_nothing, close_leaf, is_some_line, blanks, is_ending, front}
 use Rattle.block_rows.proofs.Pieces.{lines_from}
 use Rattle.block_rows.specs.Rows.{whole_line, Single, start_row, block_rows, row_value, rows_of, rows_value, value_with, row_size, rows_size, piece_line}
@@ -23,7 +23,7 @@ use Rattle.block_parser.specs.declared.parser.Parser.{Parser}
 use Rattle.block_parser.specs.Spine.{Level, level, spine, rows_around}
 use Rattle.block_parser.specs.Waits.{enter_row, inside, outside}
 use Rattle.block_parser.specs.View.{HasRead}
-use Rattle.block_parser.specs.Shows.{LeafState, state_of, leaf_lines, lone, Written, Shows}
+use Rattle.block_parser.specs.Shows.{LeafState, state_of, leaf_lines, lone, AreWritten, Shows}
 use Rattle.block_parser.proofs.Trees.{join-assoc, join-nil}
 use Rattle.block_parser.proofs.Shown.{left_count, left_shown}
 use Rattle.block_parser.proofs.Written.{with_block, with_ending, with_line, without_lines, with_enter, with_exit}
@@ -43,7 +43,7 @@ piece_pushed old p new l pushed is = ap piece_lines pushed ∙ map-append piece_
 pub written_as : (rows rows2 waiting waiting2 : List Row) (bare bare2 : Bool) (pool pool2 : List BlockLine) (around : List Level) (kids : Blocks)
     (left left2 : List BlockLine)
     → rows2 ≡ rows → waiting2 ≡ waiting → bare2 ≡ bare → pool2 ≡ pool → left2 ≡ left
-    → Written rows waiting bare pool around kids left → Written rows2 waiting2 bare2 pool2 around kids left2
+    → AreWritten rows waiting bare pool around kids left → AreWritten rows2 waiting2 bare2 pool2 around kids left2
 written_as rows rows2 waiting waiting2 bare bare2 pool pool2 around kids left left2 r w b p l h = record {
   rows_stand = ap (λ x. rows_value x pool2) r ∙ ap (rows_value rows) p ∙ h.rows_stand ∙ ap (value_with (rows_around around ++ rows_of (front kids))) (sym l);
   waiting_stand = ap (map lone) w ∙ h.waiting_stand;
@@ -67,15 +67,15 @@ shows_line rows waiting bare containers pool pool2 state state2 around kids leaf
 -- ---- a block, and the ending of its last line
 
 pub written_ended : (rows waiting : List Row) (bare : Bool) (pool : List BlockLine) (around : List Level) (kids : Blocks) (left : List BlockLine)
-    → Written rows waiting bare pool around kids left → (r : Row) (b : Block) (ending : Option LineEnding) → rows_size waiting ≡ 0
+    → AreWritten rows waiting bare pool around kids left → (r : Row) (b : Block) (ending : Option LineEnding) → rows_size waiting ≡ 0
     → block_rows b ≡ row_value r left ∷ [] → is_ending b ≡ false
     → (rows2 waiting2 waiting3 : List Row) (bare2 : Bool) (left2 : List BlockLine) → rows2 ≡ (rows ++ waiting) ++ r ∷ [] → waiting2 ≡ []
     → waiting3 ≡ waiting2 ++ row.Ending ending ∷ [] → bare2 ≡ false → left2 ≡ drop (row_size r) left
-    → Written rows2 waiting3 bare2 pool around (join kids (block_and_ending b ending)) left2
+    → AreWritten rows2 waiting3 bare2 pool around (join kids (block_and_ending b ending)) left2
 written_ended rows waiting bare pool around kids left h r b ending none is other rows2 waiting2 waiting3 bare2 left2 rows_are none_wait waits is_bare left_are =
     let k = with_ending ((rows ++ waiting) ++ r ∷ []) [] false pool around (join kids (one b)) (drop (row_size r) left)
     (with_block rows waiting bare pool around kids left h r b none is other) (row.Ending ending) (Ending ending) refl refl in
-    subst (λ (bs : Blocks). Written rows2 waiting3 bare2 pool around bs left2) (join-assoc kids (one b) (one (Ending ending)))
+    subst (λ (bs : Blocks). AreWritten rows2 waiting3 bare2 pool around bs left2) (join-assoc kids (one b) (one (Ending ending)))
     (written_as ((rows ++ waiting) ++ r ∷ []) rows2 (row.Ending ending ∷ []) waiting3 false bare2 pool pool around
     (join (join kids (one b)) (one (Ending ending))) (drop (row_size r) left) left2
     rows_are (waits ∙ ap (λ x. x ++ row.Ending ending ∷ []) none_wait) is_bare refl left_are k)
@@ -83,7 +83,7 @@ written_ended rows waiting bare pool around kids left h r b ending none is other
 -- ---- the open leaf takes all lines that are left
 
 pub all_left : (rows waiting : List Row) (bare : Bool) (pool : List BlockLine) (around : List Level) (kids : Blocks) (left : List BlockLine)
-    → Written rows waiting bare pool around kids left → rows_size rows ≤ length pool → rows_size rows + length left ≡ length pool
+    → AreWritten rows waiting bare pool around kids left → rows_size rows ≤ length pool → rows_size rows + length left ≡ length pool
 all_left rows waiting bare pool around kids left h le = left_count rows pool _ h.rows_stand le
 
 -- ---- whether a paragraph is open
@@ -104,17 +104,17 @@ blank_row piece = row.Blank piece.ending
 -- their endings wait
 pub with_blanks : (rows waiting : List Row) (bare : Bool) (pool : List BlockLine) (around : List Level) (kids : Blocks) (left : List BlockLine)
     (pieces : List Piece)
-    → Written rows waiting bare pool around kids left
-    → Written rows (waiting ++ map blank_row pieces) bare pool around (join kids (blanks (piece_lines pieces))) left
+    → AreWritten rows waiting bare pool around kids left
+    → AreWritten rows (waiting ++ map blank_row pieces) bare pool around (join kids (blanks (piece_lines pieces))) left
 with_blanks rows waiting bare pool around kids left [] h =
-    subst (λ (bs : Blocks). Written rows (waiting ++ []) bare pool around bs left) (sym (join-nil kids))
-    (subst (λ (w : List Row). Written rows w bare pool around kids left) (sym (append-nil waiting)) h)
+    subst (λ (bs : Blocks). AreWritten rows (waiting ++ []) bare pool around bs left) (sym (join-nil kids))
+    (subst (λ (w : List Row). AreWritten rows w bare pool around kids left) (sym (append-nil waiting)) h)
 with_blanks rows waiting bare pool around kids left (p ∷ ps) h =
     let k = with_blanks rows (waiting ++ blank_row p ∷ []) bare pool around (join kids (one (Blank p.ending))) left ps
     (with_ending rows waiting bare pool around kids left h (blank_row p) (Blank p.ending) refl refl) in
-    subst (λ (bs : Blocks). Written rows (waiting ++ map blank_row (p ∷ ps)) bare pool around bs left)
+    subst (λ (bs : Blocks). AreWritten rows (waiting ++ map blank_row (p ∷ ps)) bare pool around bs left)
     (join-assoc kids (one (Blank p.ending)) (blanks (piece_lines ps)))
-    (subst (λ (w : List Row). Written rows w bare pool around (join (join kids (one (Blank p.ending))) (blanks (piece_lines ps))) left)
+    (subst (λ (w : List Row). AreWritten rows w bare pool around (join (join kids (one (Blank p.ending))) (blanks (piece_lines ps))) left)
     (append_assoc waiting (blank_row p ∷ []) (map blank_row ps)) k)
 
 -- one more of them
@@ -138,12 +138,12 @@ blanks_more waiting0 waiting waiting2 pieces start i d le lt so_far pushed =
 -- indented code is closed: its lines, its ending, and the endings of the blank lines after it
 pub written_indented : (on : Constructs) (rows waiting : List Row) (bare : Bool) (pieces : List Piece) (around : List Level) (kids : Blocks)
     (ls pending : List BlockLine)
-    → Written rows waiting bare (piece_lines pieces) around kids (ls ++ pending) → rows_size rows ≤ length (piece_lines pieces) → rows_size waiting ≡ 0
+    → AreWritten rows waiting bare (piece_lines pieces) around kids (ls ++ pending) → rows_size rows ≤ length (piece_lines pieces) → rows_size waiting ≡ 0
     → (count n : ℕ) (ending : Option LineEnding) → count ≡ length ls → ending ≡ last_ending ls → n ≡ rows_size rows + count
     → (rows2 waiting2 waiting3 waiting4 : List Row) (bare2 : Bool) → rows2 ≡ (rows ++ waiting) ++ row.IndentedCode count ∷ [] → waiting2 ≡ []
     → waiting3 ≡ waiting2 ++ row.Ending ending ∷ []
     → waiting4 ≡ waiting3 ++ map blank_row (drop n pieces) → bare2 ≡ false → rows_size rows2 ≡ n
-    → Written rows2 waiting4 bare2 (piece_lines (take n pieces)) around (join kids (close_leaf on (Indented ls pending))) []
+    → AreWritten rows2 waiting4 bare2 (piece_lines (take n pieces)) around (join kids (close_leaf on (Indented ls pending))) []
 written_indented on rows waiting bare pieces around kids ls pending h le none count n ending all last n_is rows2 waiting2 waiting3 waiting4 bare2 rows_are
     none_wait waits blank is_bare taken =
     let pool = piece_lines pieces in
@@ -164,7 +164,7 @@ written_indented on rows waiting bare pieces around kids ls pending h le none co
     ∙ ap (λ e. join kids (join (block_and_ending code e) (blanks (piece_lines (drop n pieces))))) last
     ∙ ap (λ x. join kids (join (block_and_ending code (last_ending ls)) (blanks x))) left_over in
     let fits : rows_size rows2 ≤ length pool = omega (arith, taken, n_is, all, c, length-append ls pending) in
-    subst (λ (bs : Blocks). Written rows2 waiting4 bare2 (piece_lines (take n pieces)) around bs []) children
+    subst (λ (bs : Blocks). AreWritten rows2 waiting4 bare2 (piece_lines (take n pieces)) around bs []) children
     (written_as rows2 rows2 (waiting3 ++ map blank_row (drop n pieces)) waiting4 bare2 bare2 (take (rows_size rows2) pool) (piece_lines (take n pieces)) around
     (join (join kids (block_and_ending code ending)) (blanks (piece_lines (drop n pieces)))) [] []
     refl blank refl (sym (take-map piece_line n pieces) ∙ ap (λ k. take k pool) (sym taken)) refl
@@ -174,8 +174,8 @@ written_indented on rows waiting bare pieces around kids ls pending h le none co
 -- ---- a line alone, and a container
 
 pub longer : (rows waiting : List Row) (bare : Bool) (pool : List BlockLine) (around : List Level) (kids : Blocks) (left : List BlockLine)
-    → Written rows waiting bare pool around kids left → (l : BlockLine) → rows_size rows ≤ length pool
-    → Written rows waiting bare (pool ++ l ∷ []) around kids (left ++ l ∷ [])
+    → AreWritten rows waiting bare pool around kids left → (l : BlockLine) → rows_size rows ≤ length pool
+    → AreWritten rows waiting bare (pool ++ l ∷ []) around kids (left ++ l ∷ [])
 longer rows waiting bare pool around kids left h l le = with_line rows waiting bare pool around kids left h l le
 
 pub enter_shown : (c : Container) (left : List BlockLine) → row_size (enter_row c) ≡ 0 → row_value (enter_row c) left ≡ start_row c
@@ -184,10 +184,10 @@ enter_shown (Item item) left none = refl
 enter_shown (Footnote label) left none = absurd (omega (arith, none))
 
 pub entered_as : (rows waiting : List Row) (bare : Bool) (pool : List BlockLine) (around : List Level) (kids : Blocks) (left : List BlockLine)
-    → Written rows waiting bare pool around kids left → (c : Container) → rows_size waiting ≡ 0 → row_value (enter_row c) left ≡ start_row c
+    → AreWritten rows waiting bare pool around kids left → (c : Container) → rows_size waiting ≡ 0 → row_value (enter_row c) left ≡ start_row c
     → (rows2 waiting2 : List Row) (bare2 : Bool) (left2 : List BlockLine) → rows2 ≡ (rows ++ waiting) ++ enter_row c ∷ [] → waiting2 ≡ [] → bare2 ≡ true
     → left2 ≡ drop (row_size (enter_row c)) left
-    → Written rows2 waiting2 bare2 pool (level c kids ∷ around) Nil left2
+    → AreWritten rows2 waiting2 bare2 pool (level c kids ∷ around) Nil left2
 entered_as rows waiting bare pool around kids left h c none is rows2 waiting2 bare2 left2 r w b l =
     written_as ((rows ++ waiting) ++ enter_row c ∷ []) rows2 [] waiting2 true bare2 pool pool (level c kids ∷ around) Nil
     (drop (row_size (enter_row c)) left) left2 r w b refl l
@@ -203,21 +203,21 @@ inside_none (Item item) waiting none = refl
 inside_none (Footnote label) waiting none = refl
 
 pub exited_as : (rows waiting : List Row) (bare : Bool) (pool : List BlockLine) (around : List Level) (l : Level) (kids : Blocks) (left : List BlockLine)
-    → Written rows waiting bare pool (l ∷ around) kids left → rows_size waiting ≡ 0
+    → AreWritten rows waiting bare pool (l ∷ around) kids left → rows_size waiting ≡ 0
     → (rows2 waiting2 : List Row) (bare2 : Bool) (c : Container) → c ≡ l.container → rows2 ≡ (rows ++ inside c waiting) ++ row.Exit ∷ []
     → waiting2 ≡ outside c waiting → bare2 ≡ false
-    → Written rows2 waiting2 bare2 pool around (join l.before (holds l.container kids)) left
+    → AreWritten rows2 waiting2 bare2 pool around (join l.before (container_block l.container kids)) left
 exited_as rows waiting bare pool around l kids left h none rows2 waiting2 bare2 c is r w b =
     let same = l.container in
     written_as ((rows ++ inside same waiting) ++ row.Exit ∷ []) rows2 (outside same waiting) waiting2 false bare2 pool pool around
-    (join l.before (holds same kids)) left left
+    (join l.before (container_block same kids)) left left
     (r ∙ ap (λ x. (rows ++ inside x waiting) ++ row.Exit ∷ []) is) (w ∙ ap (λ x. outside x waiting) is) b refl refl
     (with_exit rows waiting bare pool around same l.before kids left h (inside_none same waiting none))
 
 pub blank_as : (rows waiting : List Row) (bare : Bool) (pool : List BlockLine) (around : List Level) (kids : Blocks)
-    → Written rows waiting bare pool around kids [] → (ending : Option LineEnding)
+    → AreWritten rows waiting bare pool around kids [] → (ending : Option LineEnding)
     → (rows2 waiting2 : List Row) (bare2 : Bool) → rows2 ≡ rows → waiting2 ≡ waiting ++ row.Blank ending ∷ [] → bare2 ≡ bare
-    → Written rows2 waiting2 bare2 pool around (join kids (one (Blank ending))) []
+    → AreWritten rows2 waiting2 bare2 pool around (join kids (one (Blank ending))) []
 blank_as rows waiting bare pool around kids h ending rows2 waiting2 bare2 r w b =
     written_as rows rows2 (waiting ++ row.Blank ending ∷ []) waiting2 bare bare2 pool pool around (join kids (one (Blank ending))) [] [] r w b refl refl
     (with_ending rows waiting bare pool around kids [] h (row.Blank ending) (Blank ending) refl refl)
@@ -226,7 +226,7 @@ blank_as rows waiting bare pool around kids h ending rows2 waiting2 bare2 r w b 
 
 -- the lines that are left are the last ones
 pub lines_left : (rows waiting : List Row) (bare : Bool) (pool : List BlockLine) (around : List Level) (kids : Blocks) (left : List BlockLine)
-    → Written rows waiting bare pool around kids left → left ≡ drop (rows_size rows) pool
+    → AreWritten rows waiting bare pool around kids left → left ≡ drop (rows_size rows) pool
 lines_left rows waiting bare pool around kids left h = left_shown rows pool _ h.rows_stand
 
 pub lines_of : {A : Type 0} (p : Parser A) (around : List Level) (kids : Blocks) (leaf : OpenLeaf) → HasRead p (spine around kids leaf)
@@ -253,8 +253,8 @@ lines_first p around kids leaf h pieces same count n is =
 
 -- another line in their place
 pub whole_written : (rows waiting : List Row) (bare : Bool) (pool : List BlockLine) (around : List Level) (kids : Blocks) (left : List BlockLine)
-    → Written rows waiting bare pool around kids left → (l : BlockLine) → rows_size rows ≤ length pool
-    → Written rows waiting bare (take (rows_size rows) pool ++ l ∷ []) around kids (l ∷ [])
+    → AreWritten rows waiting bare pool around kids left → (l : BlockLine) → rows_size rows ≤ length pool
+    → AreWritten rows waiting bare (take (rows_size rows) pool ++ l ∷ []) around kids (l ∷ [])
 whole_written rows waiting bare pool around kids left h l le =
     let front = take (rows_size rows) pool in
     with_line rows waiting bare front around kids [] (without_lines rows waiting bare pool around kids left h le) l

@@ -13,7 +13,7 @@ use Rattle.definition_block.specs.ContainerLine.{ContainerLine}
 use Rattle.definition_block.specs.ContainerStart.{ContainerStart}
 use Rattle.definition_block.specs.ThematicBreak.{is_break}
 use Rattle.definition_block.specs.BlockQuote.{after_byte, after_mark, quote_prefix}
-use Rattle.definition_block.specs.ListItem.{Marker, marker_of, is_digit, number_of, bullet, delimiter, ordered_marker, marker, gap, is_item, item, item_after}
+use Rattle.definition_block.specs.ListItem.{Marker, marker_of, is_digit, number_of, bullet, after_number, ordered_marker, marker, gap, is_item, item, item_after}
 use Rattle.definition_block.specs.ListItem.{item_start}
 use Rattle.definition_text.specs.Content.{Part, may_escape, closed_by}
 use Rattle.definition_inline.specs.Label.{ends_label, label_end}
@@ -82,7 +82,7 @@ bullet-shorter n [] le = tt
 bullet-shorter n (code ∷ codes) le =
     choose_if (MarkerShorter n) ((code == 45) || (code == 43) || (code == 42)) (Some (marker_of code None 1 codes)) None (λ h. omega (arith, le)) (λ h. tt)
 
-delimiter-shorter : (n number digits : ℕ) (rest : Rest) → length rest ≤ n → MarkerShorter n (delimiter number digits rest)
+delimiter-shorter : (n number digits : ℕ) (rest : Rest) → length rest ≤ n → MarkerShorter n (after_number number digits rest)
 delimiter-shorter n number digits [] le = tt
 delimiter-shorter n number digits (code ∷ codes) le =
     choose_if (MarkerShorter n) ((code == 46) || (code == 41)) (Some (marker_of code (Some number) (digits + 1) codes)) None (λ h. omega (arith, le)) (λ h. tt)
@@ -91,7 +91,7 @@ marker-shorter : (n : ℕ) (rest : Rest) → length rest ≤ n → MarkerShorter
 marker-shorter n rest le =
     let digits = prefix_len is_digit rest in
     choose_if (MarkerShorter n) (digits == 0) (bullet rest) (ordered_marker digits rest) (λ h. bullet-shorter n rest le)
-    (λ h. choose_if (MarkerShorter n) (leb digits 9) (delimiter (number_of (take digits rest)) digits (drop digits rest)) None
+    (λ h. choose_if (MarkerShorter n) (leb digits 9) (after_number (number_of (take digits rest)) digits (drop digits rest)) None
     (λ k. delimiter-shorter n (number_of (take digits rest)) digits (drop digits rest) (omega (arith, le, length-drop digits rest))) (λ k. tt))
 
 item-shorter : (n columns : ℕ) (interrupts : Bool) (o : Option Marker) → MarkerShorter n o → Shorter n (item_after columns interrupts o)

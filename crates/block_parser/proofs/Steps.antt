@@ -16,12 +16,12 @@ use Rattle.definition_block.specs.HtmlFlow.{html_start, ends_before_blank}
 use Rattle.definition_block.specs.HeadingAtx.{Atx, heading_atx}
 use Rattle.definition_block.specs.HeadingSetext.{underline}
 use Rattle.definition_block.specs.ThematicBreak.{is_break}
-use Rattle.definition_block.specs.Definitions.{cut, cut_into, cut_most}
+use Rattle.definition_block.specs.Definitions.{definition_cut, cut_into, cut_most}
 use Rattle.block_rows.specs.ParagraphLines.{AreLines}
 use Rattle.definition_text.specs.BlockLines.{BlockLine, spaced_line, own_lines}
 use Rattle.definition_block.specs.Tree.{Heading, Break, FencedCode, Blank, Blocks, Nil, join, one, block_and_ending, OpenLeaf, Text, Indented, Fenced, OpenHtml}
 use Rattle.definition_block.specs.Tree.{OpenTable, Opening, Leaf, Inside, Tree, tree, nothing, close, after, leaf_text, open_text, text_here, is_some_line}
-use Rattle.definition_block.specs.Tree.{has_text, is_table_leaf, has_table, makes_table, with_line, rest_line, leaf_line, begun, or_fence, or_html, or_heading}
+use Rattle.definition_block.specs.Tree.{has_text, is_table_leaf, has_table, makes_table, with_line, rest_line, leaf_line, leaf_tree_or, or_fence, or_html, or_heading}
 use Rattle.definition_block.specs.Tree.{html_with, break_or_text, text_line_of, tree_or, turns, heading_if, heading_of, new}
 use Rattle.block_parser.specs.Spine.{Level, level, Spine, spine, spine_at, spine_after}
 use Rattle.block_parser.specs.HeadingSetext.{IsText, heading_blocks, heading_tree}
@@ -78,7 +78,7 @@ either_fence ending (Some f) p other = refl
 
 module _ (on : Constructs) (away : Opening) (r : Rest) (e : Beside) where
   abbrev rest_of_leaves : Option Tree → Tree
-  rest_of_leaves o = begun on o away (tree_or (turns on away r e.ending) (break_or_text on away r e))
+  rest_of_leaves o = leaf_tree_or on o away (tree_or (turns on away r e.ending) (break_or_text on away r e))
 
   abbrev html_or_heading : Option ℕ → Option Tree
   html_or_heading o = or_html r e o (or_heading e.ending (heading_atx on r))
@@ -161,7 +161,7 @@ module _ (on : Constructs) (r : Rest) (e : Option LineEnding) where
 
   none_here : (o : Option ℕ) → heading_if on o [] e ≡ None
   none_here None = refl
-  none_here (Some rank) = not_headed rank (cut on []).definitions (cut on []).left (ap is_some_line (none_cut on.definition))
+  none_here (Some rank) = not_headed rank (definition_cut on []).definitions (definition_cut on []).left (ap is_some_line (none_cut on.definition))
 
   pub turns_nothing : (away : Opening) → text_here away ≡ [] → turns on away r e ≡ None
   turns_nothing away none = ap (λ ls. heading_if on (underline on r) ls e) none ∙ none_here (underline on r)
@@ -170,12 +170,12 @@ module _ (on : Constructs) (r : Rest) (e : Option LineEnding) where
   turns_not away is = ap (λ o. heading_if on o (text_here away) e) is
 
   -- the definitions take the whole of it, or a heading of what is left
-  pub turns_none : (ls : List BlockLine) (rank : ℕ) → underline on r ≡ Some rank → is_some_line (cut on ls).left ≡ false → turns on (Leaf (Text ls)) r e ≡ None
-  turns_none ls rank is none = ap (λ o. heading_if on o ls e) is ∙ not_headed rank (cut on ls).definitions (cut on ls).left none
+  pub turns_none : (ls : List BlockLine) (rank : ℕ) → underline on r ≡ Some rank → is_some_line (definition_cut on ls).left ≡ false → turns on (Leaf (Text ls)) r e ≡ None
+  turns_none ls rank is none = ap (λ o. heading_if on o ls e) is ∙ not_headed rank (definition_cut on ls).definitions (definition_cut on ls).left none
 
-  pub turns_some : (ls : List BlockLine) (rank : ℕ) → underline on r ≡ Some rank → is_some_line (cut on ls).left ≡ true
+  pub turns_some : (ls : List BlockLine) (rank : ℕ) → underline on r ≡ Some rank → is_some_line (definition_cut on ls).left ≡ true
       → turns on (Leaf (Text ls)) r e ≡ heading_tree on (Some rank) (Leaf (Text ls)) e
-  turns_some ls rank is some = ap (λ o. heading_if on o ls e) is ∙ is_headed rank (cut on ls).definitions (cut on ls).left some
+  turns_some ls rank is some = ap (λ o. heading_if on o ls e) is ∙ is_headed rank (definition_cut on ls).definitions (definition_cut on ls).left some
 
 -- whether a paragraph is open where all containers are
 pub here_or_not : (depth count : ℕ) (away : Opening) → (opening_depth away ≡ 0 → (depth == count) ≡ true) → ((depth == count) && has_text away) ≡ false
@@ -263,9 +263,9 @@ goes_row on P Q r e more around kids (Inside c inner_kids inner) some h = let wr
 -- a paragraph becomes a table
 pub tabled_here : (on : Constructs) (P Q : Spine → Type 0) (row : BlockLine)
     → ((around : List Level) (kids : Blocks) (ls : List BlockLine) → AreLines ls → P (spine around kids (Text ls))
-    → Q (spine_after around kids (table_from_cut (cut on ls) row)))
+    → Q (spine_after around kids (table_from_cut (definition_cut on ls) row)))
     → (around : List Level) (kids : Blocks) (away : Opening) → IsText away → AreLines (open_text away) → P (spine_at around kids away)
-    → Q (spine_after around kids (table_from_cut (cut on (text_here away)) row))
+    → Q (spine_after around kids (table_from_cut (definition_cut on (text_here away)) row))
 tabled_here on P Q row reads around kids (Leaf (Text ls)) is clean h = reads around kids ls clean h
 tabled_here on P Q row reads around kids (Leaf (Indented ls pending)) is clean h = absurd is
 tabled_here on P Q row reads around kids (Leaf (Fenced f opening ls)) is clean h = absurd is

@@ -6,11 +6,11 @@ use Rattle.definition_block.specs.Container.{Container}
 use Rattle.block_rows.specs.declared.row.Row.{Row}
 use Rattle.block_rows.specs.declared.row.Row.TheVariants as row
 use Rattle.definition_text.specs.BlockLines.{BlockLine}
-use Rattle.definition_block.specs.Tree.{Block, Blocks, Nil, Cons, join, one, is_ending, all_endings, front, trailing, holds}
+use Rattle.definition_block.specs.Tree.{Block, Blocks, Nil, Cons, join, one, is_ending, all_endings, front, trailing, container_block}
 use Rattle.block_rows.specs.Rows.{Exit, start_row, block_rows, rows_of, row_value, rows_value, value_with, row_size, rows_size}
 use Rattle.block_parser.specs.Spine.{Level, level, rows_around}
 use Rattle.block_parser.specs.Waits.{inside, outside}
-use Rattle.block_parser.specs.Shows.{lone, is_nil, Written}
+use Rattle.block_parser.specs.Shows.{lone, is_nil, AreWritten}
 use Rattle.block_parser.proofs.Trees.{rows_of-join, rows_of-one, rows-split, front-more, front-block, trailing-more, trailing-block}
 use Rattle.block_parser.proofs.Ends.{holding, front-holds, trailing-holds, inside-rows, outside-rows}
 use Rattle.block_parser.proofs.Shown.{one_row_shown, more_lone, pool_more, cut_shown}
@@ -21,7 +21,7 @@ nil-block Nil b = refl
 nil-block (Cons c bs) b = refl
 
 module _ (rows waiting : List Row) (bare : Bool) (pool : List BlockLine) (around : List Level) (kids : Blocks) (left : List BlockLine) where
-  module _ (h : Written rows waiting bare pool around kids left) where
+  module _ (h : AreWritten rows waiting bare pool around kids left) where
     -- all that was read
     pub settled : rows_size waiting ≡ 0 → rows_value (rows ++ waiting) pool ≡ value_with (rows_around around ++ rows_of kids) left
     settled none =
@@ -32,7 +32,7 @@ module _ (rows waiting : List Row) (bare : Bool) (pool : List BlockLine) (around
 
     -- a block
     pub with_block : (r : Row) (b : Block) → rows_size waiting ≡ 0 → block_rows b ≡ row_value r left ∷ [] → is_ending b ≡ false
-        → Written ((rows ++ waiting) ++ r ∷ []) [] false pool around (join kids (one b)) (drop (row_size r) left)
+        → AreWritten ((rows ++ waiting) ++ r ∷ []) [] false pool around (join kids (one b)) (drop (row_size r) left)
     with_block r b none is other = record {
       rows_stand =
           one_row_shown (rows ++ waiting) pool r _ (settled none)
@@ -46,7 +46,7 @@ module _ (rows waiting : List Row) (bare : Bool) (pool : List BlockLine) (around
 
     -- the ending of a line
     pub with_ending : (r : Row) (b : Block) → block_rows b ≡ lone r ∷ [] → is_ending b ≡ true
-        → Written rows (waiting ++ r ∷ []) bare pool around (join kids (one b)) left
+        → AreWritten rows (waiting ++ r ∷ []) bare pool around (join kids (one b)) left
     with_ending r b is ending =
         let all : all_endings (one b) ≡ true = ap (λ x. x && true) ending in
         record {
@@ -62,7 +62,7 @@ module _ (rows waiting : List Row) (bare : Bool) (pool : List BlockLine) (around
 
     -- the start of a container
     pub with_enter : (r : Row) (c : Container) → rows_size waiting ≡ 0 → row_value r left ≡ start_row c
-        → Written ((rows ++ waiting) ++ r ∷ []) [] true pool (level c kids ∷ around) Nil (drop (row_size r) left)
+        → AreWritten ((rows ++ waiting) ++ r ∷ []) [] true pool (level c kids ∷ around) Nil (drop (row_size r) left)
     with_enter r c none is = record {
       rows_stand =
           one_row_shown (rows ++ waiting) pool r _ (settled none)
@@ -73,7 +73,7 @@ module _ (rows waiting : List Row) (bare : Bool) (pool : List BlockLine) (around
     }
 
     -- one more line
-    pub with_line : (l : BlockLine) → rows_size rows ≤ length pool → Written rows waiting bare (pool ++ l ∷ []) around kids (left ++ l ∷ [])
+    pub with_line : (l : BlockLine) → rows_size rows ≤ length pool → AreWritten rows waiting bare (pool ++ l ∷ []) around kids (left ++ l ∷ [])
     with_line l le = record {
       rows_stand = pool_more rows pool _ l le h.rows_stand;
       waiting_stand = h.waiting_stand;
@@ -81,7 +81,7 @@ module _ (rows waiting : List Row) (bare : Bool) (pool : List BlockLine) (around
     }
 
     -- without the lines that are left
-    pub without_lines : rows_size rows ≤ length pool → Written rows waiting bare (take (rows_size rows) pool) around kids []
+    pub without_lines : rows_size rows ≤ length pool → AreWritten rows waiting bare (take (rows_size rows) pool) around kids []
     without_lines le = record {
       rows_stand = cut_shown rows pool _ le h.rows_stand;
       waiting_stand = h.waiting_stand;
@@ -91,8 +91,8 @@ module _ (rows waiting : List Row) (bare : Bool) (pool : List BlockLine) (around
 -- the end of a container
 pub with_exit : (rows waiting : List Row) (bare : Bool) (pool : List BlockLine) (around : List Level) (c : Container) (before kids : Blocks)
     (left : List BlockLine)
-    → Written rows waiting bare pool (level c before ∷ around) kids left → rows_size (inside c waiting) ≡ 0
-    → Written ((rows ++ inside c waiting) ++ row.Exit ∷ []) (outside c waiting) false pool around (join before (holds c kids)) left
+    → AreWritten rows waiting bare pool (level c before ∷ around) kids left → rows_size (inside c waiting) ≡ 0
+    → AreWritten ((rows ++ inside c waiting) ++ row.Exit ∷ []) (outside c waiting) false pool around (join before (container_block c kids)) left
 with_exit rows waiting bare pool around c before kids left h none =
     let outer = rows_around around ++ rows_of before in
     let in_it = map lone (inside c waiting) in

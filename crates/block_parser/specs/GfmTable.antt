@@ -3,7 +3,7 @@ use Rattle.std.specs.Prelude.{Bool, false, if◌then◌else◌, List, [], ◌∷
 use Rattle.markdown_options.specs.declared.configuration.Constructs.{Constructs}
 use Rattle.definition_text.specs.BlockLines.{BlockLine}
 use Rattle.definition_block.specs.declared.align_kind.AlignKind.{AlignKind}
-use Rattle.definition_block.specs.Definitions.{Cut, cut}
+use Rattle.definition_block.specs.Definitions.{DefinitionCut, definition_cut}
 use Rattle.definition_block.specs.GfmTable.{is_head}
 use Rattle.definition_block.specs.Tree.{Opening, Tree, text_here, table_of}
 
@@ -13,9 +13,9 @@ fits [] ls = false
 fits (align ∷ aligns) ls = is_head (length (align ∷ aligns)) ls
 
 -- a table, where a paragraph was cut after its definitions
-abbrev pub table_from_cut : Cut → BlockLine → Tree
+abbrev pub table_from_cut : DefinitionCut → BlockLine → Tree
 table_from_cut parts row = table_of parts.definitions parts.left row
 
 -- a table of the open paragraph, if it is one
 abbrev pub table_tree : Constructs → Bool → Opening → BlockLine → Option Tree
-table_tree on made away row = if made then Some (table_from_cut (cut on (text_here away)) row) else None
+table_tree on made away row = if made then Some (table_from_cut (definition_cut on (text_here away)) row) else None

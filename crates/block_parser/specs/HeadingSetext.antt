@@ -2,14 +2,14 @@
 use Rattle.std.specs.Prelude.{ℕ, List, Option, None, Some}
 use Rattle.markdown_options.specs.declared.configuration.Constructs.{Constructs}
 use Rattle.markdown_options.specs.declared.line_ending.LineEnding.{LineEnding}
-use Rattle.definition_block.specs.Definitions.{cut}
+use Rattle.definition_block.specs.Definitions.{definition_cut}
 use Rattle.definition_text.specs.BlockLines.{BlockLine, own_lines}
 use Rattle.definition_block.specs.Tree.{Blocks, Heading, join, block_and_ending, Text, Indented, Fenced, OpenHtml, OpenTable, Opening, Leaf, Inside, Tree, tree}
 use Rattle.definition_block.specs.Tree.{nothing, text_here}
 
 -- the definitions at the front of a paragraph, and a heading of what is left of it
 abbrev pub heading_blocks : Constructs → ℕ → List BlockLine → Option LineEnding → Blocks
-heading_blocks on rank ls ending = let parts = cut on ls in join parts.definitions (block_and_ending (Heading rank (own_lines parts.left)) ending)
+heading_blocks on rank ls ending = let parts = definition_cut on ls in join parts.definitions (block_and_ending (Heading rank (own_lines parts.left)) ending)
 
 -- a heading of a rank, if there is one
 abbrev pub heading_tree : Constructs → Option ℕ → Opening → Option LineEnding → Option Tree

@@ -41,13 +41,13 @@ is_nil Nil = true
 is_nil (Cons b bs) = false
 
 -- the rows stand for what was read but for the endings at the end, which wait, and leave these lines
-pub record Written (rows waiting : List Row) (bare : Bool) (pool : List BlockLine) (around : List Level) (kids : Blocks) (left : List BlockLine) : Type 0 where
+pub record AreWritten (rows waiting : List Row) (bare : Bool) (pool : List BlockLine) (around : List Level) (kids : Blocks) (left : List BlockLine) : Type 0 where
   pub rows_stand : rows_value rows pool ≡ value_with (rows_around around ++ rows_of (front kids)) left
   pub waiting_stand : map lone waiting ≡ rows_of (trailing kids)
   pub is_bare : bare ≡ is_nil (front kids)
 
 -- and the lines are those of the open leaf
 pub record Shows (rows waiting : List Row) (bare : Bool) (containers : List Container) (pool : List BlockLine) (state : LeafState) (s : Spine) : Type 0 where
-  pub written : Written rows waiting bare pool s.around s.kids (leaf_lines s.leaf)
+  pub written : AreWritten rows waiting bare pool s.around s.kids (leaf_lines s.leaf)
   pub opened : containers ≡ containers_of s.around
   pub same_state : state ≡ state_of s.leaf

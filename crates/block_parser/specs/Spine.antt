@@ -1,7 +1,7 @@
 -- A tree that is being read, seen from its innermost container.
 use Rattle.std.specs.Prelude.{List, [], ◌∷◌, ◌++◌}
 use Rattle.definition_block.specs.Container.{Container}
-use Rattle.definition_block.specs.Tree.{Blocks, join, holds, OpenLeaf, Opening, Leaf, Inside, Tree}
+use Rattle.definition_block.specs.Tree.{Blocks, join, container_block, OpenLeaf, Opening, Leaf, Inside, Tree}
 use Rattle.block_rows.specs.Rows.{BlockRow, start_row, rows_of}
 
 -- a container that is open, and the children of its parent before it
@@ -45,7 +45,7 @@ containers_of (l ∷ ls) = containers_of ls ++ l.container ∷ []
 -- the innermost container is closed
 abbrev pub without_innermost_at : List Level → Blocks → OpenLeaf → Spine
 without_innermost_at [] kids leaf = spine [] kids leaf
-without_innermost_at (l ∷ ls) kids leaf = spine ls (join l.before (holds l.container kids)) leaf
+without_innermost_at (l ∷ ls) kids leaf = spine ls (join l.before (container_block l.container kids)) leaf
 
 abbrev pub without_innermost : Spine → Spine
 without_innermost s = without_innermost_at s.around s.kids s.leaf

@@ -69,5 +69,5 @@ pub record Inner {A : Type 0} (p : Parser A) (around : List Level) (kids : Block
   pub grows : spine_after around kids from ≡ spine_after inner inner_kids to
 
 -- all containers that a rest starts are open, and the rest after them starts none
-abbrev pub Entered : {A : Type 0} → Constructs → Rest → Beside → Rest → Beside → Parser A → List Level → Blocks → Type 0
-Entered on rest beside after here p around kids = Inner p around kids (new_inside on beside rest) (leaf_line on nothing after here)
+abbrev pub IsEntered : {A : Type 0} → Constructs → Rest → Beside → Rest → Beside → Parser A → List Level → Blocks → Type 0
+IsEntered on rest beside after here p around kids = Inner p around kids (new_inside on beside rest) (leaf_line on nothing after here)

@@ -18,7 +18,7 @@ impl<'a, A: Allocator> Parser<'a, A> {
     ghost use Rattle.std.specs.Prelude.{◌≡◌, ◌≤◌, ◌+◌, ◌∷◌, [], true, false, List, OnOk, IfOk, drop, take, vec_len};
     ghost use Rattle.definition_text.specs.BlockLines.{BlockLine, last_ending};
     ghost use Rattle.definition_block.specs.Tree as tree;
-    ghost use Rattle.definition_block.specs.Definitions.{cut, cut_into};
+    ghost use Rattle.definition_block.specs.Definitions.{definition_cut, cut_into};
     ghost use Rattle.block_rows.specs.ParagraphLines.{AreLines};
     ghost use Rattle.block_rows.specs.declared.row.Row.TheVariants as row_variant;
     ghost use Rattle.block_rows.specs.Rows.{block_rows, row_value};
@@ -27,7 +27,7 @@ impl<'a, A: Allocator> Parser<'a, A> {
 
     /// The definitions at the front of the open paragraph become rows.
     pub(crate) fn cut_definitions(&mut self, on: &Constructs) -> Result<(), AllocError>
-        ensures read { OnOk result ((ls : List BlockLine) → AreLines ls → let parts = cut on.now ls in
+        ensures read { OnOk result ((ls : List BlockLine) → AreLines ls → let parts = definition_cut on.now ls in
             Becomes self.old self.new (tree.Text ls) (tree.tree parts.definitions (tree.Leaf (tree.Text parts.left)))) }
         ensures containers { self.new.open ≡ self.old.open }
     {
@@ -50,7 +50,7 @@ impl<'a, A: Allocator> Parser<'a, A> {
     fn may_define(&self, on: &Constructs) -> bool
         ensures on { result ≡ true → on.now.definition ≡ true }
         ensures uncut { result ≡ false → (around : List Level) (kids : tree.Blocks) (ls : List BlockLine) → AreLines ls →
-            HasRead self.now (spine around kids (tree.Text ls)) → cut on.now ls ≡ cut_into tree.Nil ls }
+            HasRead self.now (spine around kids (tree.Text ls)) → definition_cut on.now ls ≡ cut_into tree.Nil ls }
     {
         on.definition && may_begin(&self.pieces[self.lines_in_rows..])
     }
@@ -58,7 +58,7 @@ impl<'a, A: Allocator> Parser<'a, A> {
     /// Whether something is left of the open paragraph after the definitions at its front.
     pub(crate) fn leaves_text(&mut self, on: &Constructs) -> Result<bool, AllocError>
         ensures left { IfOk result (λ some. (around : List Level) (kids : tree.Blocks) (ls : List BlockLine) → AreLines ls →
-            HasRead self.old (spine around kids (tree.Text ls)) → some ≡ tree.is_some_line (cut on.now ls).left) }
+            HasRead self.old (spine around kids (tree.Text ls)) → some ≡ tree.is_some_line (definition_cut on.now ls).left) }
         ensures kept { (s : Spine) → HasRead self.old s → HasRead self.new s }
         ensures containers { self.new.open ≡ self.old.open }
     {

@@ -24,7 +24,7 @@ impl<'a, A: Allocator> Parser<'a, A> {
     ghost use Rattle.std.specs.Prelude.{◌≡◌, ◌==◌, ◌&&◌, ◌-◌, ◌++◌, ◌∷◌, [], true, IfOk, OnOk, List, drop, take, length, vec_len};
     ghost use Rattle.markdown_options.specs.declared.configuration.Constructs.{Constructs as ConstructsOf};
     ghost use Rattle.definition_text.specs.BlockLines.{BlockLine, last_ending};
-    ghost use Rattle.definition_block.specs.Definitions.{cut};
+    ghost use Rattle.definition_block.specs.Definitions.{definition_cut};
     ghost use Rattle.definition_block.specs.GfmTable.{delimiter_row};
     ghost use Rattle.definition_block.specs.Tree as tree;
     ghost use Rattle.block_rows.specs.ParagraphLines.{AreLines};
@@ -83,7 +83,7 @@ impl<'a, A: Allocator> Parser<'a, A> {
         beside: Beside,
     ) -> Result<(), AllocError>
         ensures { OnOk result ((ls : List BlockLine) → AreLines ls →
-            Becomes self.old self.new (tree.Text ls) (table_from_cut (cut on.now ls) (tree.rest_line (rest_of rest.entry) beside))) }
+            Becomes self.old self.new (tree.Text ls) (table_from_cut (definition_cut on.now ls) (tree.rest_line (rest_of rest.entry) beside))) }
     {
         self.cut_definitions(on)?;
         self.close_before_head()?;

@@ -75,7 +75,7 @@ impl<'a, A: Allocator> Parser<'a, A> {
     ghost use Rattle.block_parser.specs.Spine.{Level, Spine, level, spine, spine_at, spine_of, without_innermost};
     ghost use Rattle.block_parser.specs.Quotes.{NoQuoteFrom, NoneBeganBlank};
     ghost use Rattle.block_parser.specs.Shows.{leaf_lines};
-    ghost use Rattle.block_parser.specs.View.{Becomes, Closes, HasRead, Adds, Grows, Descent, Entered};
+    ghost use Rattle.block_parser.specs.View.{Becomes, Closes, HasRead, Adds, Grows, Descent, IsEntered};
     ghost use Rattle.definition_block.specs.Container.{Container as Holder};
     ghost use Rattle.definition_text.specs.BlockLines.{BlockLine, last_ending};
     ghost use Rattle.block_parser.specs.Waits.{enter_row};
@@ -281,7 +281,7 @@ impl<'a, A: Allocator> Parser<'a, A> {
         beside: Beside,
     ) -> Result<(Cursor<'a>, Beside), AllocError>
         ensures { IfOk result (λ inside. (around : List Level) (kids : tree.Blocks) → HasRead self.old (spine around kids (tree.Text [])) →
-            Entered on.now (rest_of rest.entry) beside (rest_of inside.0) inside.1 self.new around kids) }
+            IsEntered on.now (rest_of rest.entry) beside (rest_of inside.0) inside.1 self.new around kids) }
     {
         let mut inside = rest;
         let mut here = beside;

@@ -14,7 +14,7 @@ use Rattle.definition_block.specs.Blocks.{Nil, join}
 use Rattle.definition_text.specs.Content.{is_eol, line_ending_code, ending_code, content_of}
 use Rattle.block_rows.specs.ParagraphLines.{HaveNoEnding, AreLines}
 use Rattle.definition_inline.specs.Definition.{Definition as LinkDefinition, definition, definition_at}
-use Rattle.definition_block.specs.Definitions.{Cut, cut_into, cut_after, cut_most, definition_lines, line_count, lines_before}
+use Rattle.definition_block.specs.Definitions.{DefinitionCut, cut_into, cut_after, cut_most, definition_lines, line_count, lines_before}
 use Rattle.definition_inline.proofs.DefinitionAlone.{definition_alone}
 
 is_ending_code : (e : LineEnding) → is_eol (line_ending_code e) ≡ true
@@ -200,7 +200,7 @@ no_lines : (most : ℕ) → cut_most most [] ≡ cut_into Nil []
 no_lines zero = refl
 no_lines (suc most) = refl
 
-same_cuts : (some other : List BlockLine → Cut) (ls : List BlockLine) (o : Option LinkDefinition)
+same_cuts : (some other : List BlockLine → DefinitionCut) (ls : List BlockLine) (o : Option LinkDefinition)
     → ((d : LinkDefinition) → definition_at (content_of (own_lines ls)) ≡ Some d
     → some (drop (lines_before d.rest ls) ls) ≡ other (drop (lines_before d.rest ls) ls))
     → definition_at (content_of (own_lines ls)) ≡ o → cut_after o ls some ≡ cut_after o ls other

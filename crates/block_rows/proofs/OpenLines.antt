@@ -18,7 +18,7 @@ use Rattle.definition_text.specs.Indents.{small_indent}
 use Rattle.definition_block.specs.ContainerLine.{ContainerLine}
 use Rattle.definition_block.specs.ContainerStart.{ContainerStart}
 use Rattle.definition_block.specs.BlockQuote.{after_byte, after_mark, quote_prefix}
-use Rattle.definition_block.specs.ListItem.{Marker, is_digit, number_of, bullet, delimiter, marker, gap, is_item, item_after, item_start, is_inside}
+use Rattle.definition_block.specs.ListItem.{Marker, is_digit, number_of, bullet, after_number, marker, gap, is_item, item_after, item_start, is_inside}
 use Rattle.definition_block.specs.GfmFootnoteDefinition.{is_footnote_label, label_before, with_colon, after_open, after_bracket, footnote_mark, footnote_of}
 use Rattle.definition_block.specs.GfmFootnoteDefinition.{footnote_start}
 use Rattle.definition_block.specs.Containers.{continues, quote_or, footnote_or, starts}
@@ -31,14 +31,14 @@ use Rattle.definition_block.specs.HeadingSetext.{underline}
 use Rattle.definition_block.specs.ThematicBreak.{is_break}
 use Rattle.definition_text.specs.Content.{Part, is_eol, closed_by, may_escape}
 use Rattle.definition_inline.specs.Label.{ends_label, label_end}
-use Rattle.definition_block.specs.Definitions.{cut}
+use Rattle.definition_block.specs.Definitions.{definition_cut}
 use Rattle.definition_block.specs.declared.align_kind.AlignKind.{AlignKind}
 use Rattle.definition_block.specs.GfmTable.{delimiter_row, is_head}
 use Rattle.block_rows.specs.ParagraphLines.{HaveNoEnding, AreLines}
 use Rattle.definition_text.specs.BlockLines.{BlockLine}
 use Rattle.definition_block.specs.Tree.{Blocks, OpenLeaf, Text, Indented, Fenced, OpenHtml, OpenTable, Opening, Leaf, Inside, Tree, nothing, empty_tree}
 use Rattle.definition_block.specs.Tree.{open_text, has_text, has_table, is_some_line, table_if, makes_table, with_line, rest_line, takes, html_with, or_heading}
-use Rattle.definition_block.specs.Tree.{or_fence, or_html, begins, text_line_of, break_or_text, text_here, heading_of, heading_if, turns, begun, tree_or}
+use Rattle.definition_block.specs.Tree.{or_fence, or_html, begins, text_line_of, break_or_text, text_here, heading_of, heading_if, turns, leaf_tree_or, tree_or}
 use Rattle.definition_block.specs.Tree.{leaf_line, start, new, began_blank, goes_on, grow, beside_in, beside_line, step, steps}
 
 -- ---- codes without a line ending
@@ -197,7 +197,7 @@ clear_bullet : (rest : Rest) → HaveNoEnding rest → MarkerClear (bullet rest)
 clear_bullet [] h = tt
 clear_bullet (c ∷ cs) h = cond_both (eqb c 45 || eqb c 43 || eqb c 42) _ _ MarkerClear (λ _. h.1) (λ _. tt)
 
-clear_delimiter : (number digits : ℕ) (rest : Rest) → HaveNoEnding rest → MarkerClear (delimiter number digits rest)
+clear_delimiter : (number digits : ℕ) (rest : Rest) → HaveNoEnding rest → MarkerClear (after_number number digits rest)
 clear_delimiter number digits [] h = tt
 clear_delimiter number digits (c ∷ cs) h = cond_both (eqb c 46 || eqb c 41) _ _ MarkerClear (λ _. h.1) (λ _. tt)
 
@@ -299,7 +299,7 @@ module _ (on : Constructs) (e : LineEnding) (beside : Beside) where
   open_taken None other p q = q
   open_taken (Some t) other p q = p
 
-  open_begun : (o : Option Tree) (away : Opening) (other : Tree) → SomeOpenTo o → OpenTo other → OpenTo (begun on o away other)
+  open_begun : (o : Option Tree) (away : Opening) (other : Tree) → SomeOpenTo o → OpenTo other → OpenTo (leaf_tree_or on o away other)
   open_begun None away other p q = q
   open_begun (Some t) away other p q = p
 
@@ -340,7 +340,7 @@ module _ (on : Constructs) (e : LineEnding) (beside : Beside) where
 
   open_underlined : (o : Option ℕ) (ls : List BlockLine) → SomeOpenTo (heading_if on o ls beside.ending)
   open_underlined None ls = tt
-  open_underlined (Some rank) ls = open_heading rank (cut on ls).definitions (cut on ls).left
+  open_underlined (Some rank) ls = open_heading rank (definition_cut on ls).definitions (definition_cut on ls).left
 
   -- a line on the open paragraph, or the first of one
   open_with_line : (line : BlockLine) (now : Opening) → HaveNoEnding line.codes → 0 < length line.codes → AreLinesTo (Some e) (open_text now)
@@ -362,7 +362,7 @@ module _ (on : Constructs) (e : LineEnding) (beside : Beside) where
   open_table : (o : Option (List AlignKind)) (ls : List BlockLine) (row : BlockLine) → SomeOpenTo (table_if on o ls row)
   open_table None ls row = tt
   open_table (Some columns) ls row =
-      cond_both (is_some_line (cut on ls).left && is_head (length columns) ls) _ _ SomeOpenTo (λ _. tt) (λ _. tt)
+      cond_both (is_some_line (definition_cut on ls).left && is_head (length columns) ls) _ _ SomeOpenTo (λ _. tt) (λ _. tt)
 
   open_break_or_text : (away : Opening) (rest : Rest) → HaveNoEnding rest → is_blank rest ≡ false → AreLinesTo (Some e) (open_text away)
       → OpenTo (break_or_text on away rest beside)

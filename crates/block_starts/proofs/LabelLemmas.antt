@@ -6,7 +6,7 @@ use Rattle.std.specs.Option.{option_map}
 use Rattle.std.proofs.lemmas.Bool.{cases_Bool, cond-true, cond-false, eqb-true, eq-eqb, ne_eqb, or_parts, or_from}
 use Rattle.std.proofs.lemmas.List.{take_at, length-append, drop_more, drop_all}
 use Rattle.definition_text.specs.Columns.{Rest, codes_from, is_white}
-use Rattle.definition_text.specs.Content.{part, is_eol, is_space, may_escape, before, closed_by}
+use Rattle.definition_text.specs.Content.{part, is_eol, is_space, may_escape, text_before, closed_by}
 use Rattle.definition_inline.specs.Label.{ends_label, label_end, has_text, label_size, is_label}
 use Rattle.definition_block.specs.BlockQuote.{after_byte}
 use Rattle.definition_block.specs.GfmFootnoteDefinition.{is_footnote_label, label_before, with_colon}
@@ -53,7 +53,7 @@ short_label text h =
     and_true false = refl
 
 -- what stands before the rest of a list
-before-append : (front rest : List ℕ) → before (front ++ rest) rest ≡ front
+before-append : (front rest : List ℕ) → text_before (front ++ rest) rest ≡ front
 before-append front rest =
     let n : length (front ++ rest) - length rest ≡ length front = omega (arith, length-append front rest) in
     ap (λ k. take k (front ++ rest)) n ∙ take_at front rest (length front) refl
@@ -137,7 +137,7 @@ is_label_before column bs n f =
     let text = take n bs in
     let after = codes_from (column + n + 1) (drop (n + 1) bs) in
     ap (λ o. with_colon (closed_by (codes_from column bs) o)) f.closes
-    ∙ ap (λ x. with_colon (Some (part (before x (93 ∷ after)) after))) f.parts
+    ∙ ap (λ x. with_colon (Some (part (text_before x (93 ∷ after)) after))) f.parts
     ∙ ap (λ x. with_colon (Some (part x after))) (before-append text (93 ∷ after))
     ∙ ap (λ x. if x then label_before text (after_byte 58 after) else None) (short_label text f.dark)
 
@@ -211,10 +211,10 @@ no_label_at : (rest : Rest) (o : Option Rest) → ((r : Rest) → o ≡ Some r �
 no_label_at rest None h = refl
 no_label_at rest (Some r) h =
     let front = h r refl in
-    let text : before rest r ≡ front.0 = ap (λ x. before x r) front.1 ∙ before-append front.0 r in
-    let none : is_footnote_label (before rest r) ≡ false =
+    let text : text_before rest r ≡ front.0 = ap (λ x. text_before x r) front.1 ∙ before-append front.0 r in
+    let none : is_footnote_label (text_before rest r) ≡ false =
     ap is_footnote_label text ∙ ap (λ x. is_label front.0 && not x) front.2 ∙ and_false (is_label front.0) in
-    cond-false (is_footnote_label (before rest r)) _ _ none
+    cond-false (is_footnote_label (text_before rest r)) _ _ none
   where
     and_false : (x : Bool) → (x && false) ≡ false
     and_false true = refl

@@ -11,7 +11,7 @@ use Rattle.definition_text.specs.Indents.{outdent, small_indent}
 use Rattle.definition_block.specs.BlockQuote.{after_byte, after_mark, quote_prefix}
 use Rattle.definition_block.specs.ContainerStart.{ContainerStart}
 use Rattle.definition_block.specs.ThematicBreak.{is_break}
-use Rattle.definition_block.specs.ListItem.{is_digit, bullet, delimiter, marker, item_after, item_start, is_inside}
+use Rattle.definition_block.specs.ListItem.{is_digit, bullet, after_number, marker, item_after, item_start, is_inside}
 use Rattle.definition_block.specs.GfmFootnoteDefinition.{after_bracket, footnote_mark, footnote_of, footnote_start}
 use Rattle.definition_block.specs.Containers.{quote_or, footnote_or, starts}
 use Rattle.block_starts.specs.Marks.{NoMark, is_mark, begins_container, may_start}
@@ -40,7 +40,7 @@ bullet_none (b ∷ bs) never =
     (or_from (eqb b 45 || eqb b 43) (eqb b 42) (or_from (eqb b 45) (eqb b 43) (other_byte b 45 none refl) (other_byte b 43 none refl))
     (other_byte b 42 none refl))
 
-pub delimiter_none : (number digits : ℕ) (rest : Rest) → NoMark rest → delimiter number digits rest ≡ None
+pub delimiter_none : (number digits : ℕ) (rest : Rest) → NoMark rest → after_number number digits rest ≡ None
 delimiter_none number digits [] never = refl
 delimiter_none number digits (b ∷ bs) never =
     let none = never b bs refl in

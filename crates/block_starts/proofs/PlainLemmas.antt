@@ -24,7 +24,7 @@ use Rattle.definition_block.specs.HtmlFlow.{starts_raw, starts_declaration, star
 use Rattle.definition_block.specs.HeadingAtx.{atx_of, heading_atx}
 use Rattle.definition_block.specs.HeadingSetext.{underline_of, underline}
 use Rattle.definition_block.specs.ThematicBreak.{is_break_text, is_break}
-use Rattle.definition_block.specs.GfmTable.{Cell, cell, in_first_cell, is_bar, parts, without_blank_first, without_blank_last, delimiter}
+use Rattle.definition_block.specs.GfmTable.{Cell, cell, in_first_cell, is_bar, parts, without_blank_first, without_blank_last, column_delimiter}
 use Rattle.definition_block.specs.GfmTable.{and_alignment, alignments_of, is_bar_or_colon, some_alignments, delimiters, delimiter_row}
 use Rattle.block_starts.specs.Marks.{may_start}
 use Rattle.block_starts.specs.Plain.{begins_block, is_plain_byte, begins_plain}
@@ -183,12 +183,12 @@ no_break_text (b ∷ bs) plain =
 -- ---- rows of delimiters
 
 -- a cell that begins with such a byte is no delimiter
-no_delimiter : (b : ℕ) (bs : List ℕ) → is_plain_byte b ≡ true → delimiter (trim (b ∷ bs)) ≡ None
+no_delimiter : (b : ℕ) (bs : List ℕ) → is_plain_byte b ≡ true → column_delimiter (trim (b ∷ bs)) ≡ None
 no_delimiter b bs plain =
     let same : drop (prefix_len is_white (b ∷ bs)) (b ∷ bs) ≡ b ∷ bs = ap (λ n. drop n (b ∷ bs)) (cond-false (is_white b) _ 0 (no_white b plain)) in
-    ap (λ rest. delimiter (take (length rest - suffix_len is_white rest) rest)) same ∙ front (length (b ∷ bs) - suffix_len is_white (b ∷ bs))
+    ap (λ rest. column_delimiter (take (length rest - suffix_len is_white rest) rest)) same ∙ front (length (b ∷ bs) - suffix_len is_white (b ∷ bs))
   where
-    front : (n : ℕ) → delimiter (take n (b ∷ bs)) ≡ None
+    front : (n : ℕ) → column_delimiter (take n (b ∷ bs)) ≡ None
     front zero = refl
     front (suc n) =
         cond-false (begins_with (codes ":") (b ∷ take n bs)) _ _ (no_and (58 == b) _ (another b 58 plain refl))

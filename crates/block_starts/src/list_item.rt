@@ -91,7 +91,7 @@ fn is_bullet(byte: u8) -> bool
 /// The byte after the digits of an ordered marker.
 fn delimiter(number: u32, digits: usize, rest: Cursor<'_>) -> Option<Marker<'_>>
     requires { digits ≤ 9 }
-    ensures { marker_if result ≡ spec.delimiter number digits (rest_of rest.entry) }
+    ensures { marker_if result ≡ spec.after_number number digits (rest_of rest.entry) }
 {
     let Some((byte, after)) = rest.split_first() else {
         return None;

@@ -9,7 +9,7 @@ use Rattle.definition_block.specs.Definitions.{footnotes}
 use Rattle.block_rows.specs.declared.row.Row.{Row}
 use Rattle.block_rows.specs.declared.row.Row.TheVariants as row
 use Rattle.block_rows.specs.Rows.{RowsValue, row_value, rows_of, rows_value, show_row, value_with}
-use Rattle.block_targets.specs.GfmFootnoteDefinition.{Noted, labels_so_far, note_exit, note_row, note_rows, nothing_noted, starts_footnote}
+use Rattle.block_targets.specs.GfmFootnoteDefinition.{LabelsSoFar, labels_so_far, note_exit, note_row, note_rows, nothing_noted, starts_footnote}
 use Rattle.block_targets.proofs.Notes.{notes_of}
 
 -- no container that is open has a label
@@ -19,7 +19,7 @@ AreUnnamed (None ∷ containers) = AreUnnamed containers
 AreUnnamed (Some label ∷ containers) = ⊥
 
 -- no footnote definition ended, and none is open
-abbrev IsUnnamed : Noted → Type 0
+abbrev IsUnnamed : LabelsSoFar → Type 0
 IsUnnamed n = (n.ended ≡ []) × AreUnnamed n.containers
 
 exit_unnamed : (ended : List (List ℕ)) (containers : List (Option (List ℕ))) → IsUnnamed (labels_so_far ended containers)
@@ -28,7 +28,7 @@ exit_unnamed ended [] h = h
 exit_unnamed ended (None ∷ containers) h = (h.0, h.1)
 exit_unnamed ended (Some label ∷ containers) h = absurd h.1
 
-row_unnamed : (n : Noted) (r : Row) (ls : List BlockLine) → starts_footnote r ≡ false → IsUnnamed n → IsUnnamed (note_row n (row_value r ls))
+row_unnamed : (n : LabelsSoFar) (r : Row) (ls : List BlockLine) → starts_footnote r ≡ false → IsUnnamed n → IsUnnamed (note_row n (row_value r ls))
 row_unnamed n (row.Paragraph count) ls off h = h
 row_unnamed n (row.WholeParagraph count) ls off h = h
 row_unnamed n (row.Heading rank) ls off h = h
@@ -58,5 +58,5 @@ rows_unnamed s (r ∷ rows) off h =
 pub no_footnotes : (rows : List Row) (ls : List BlockLine) (bs : Blocks) → list_any starts_footnote rows ≡ false
     → (rows_value rows ls).rows ≡ rows_of bs → footnotes bs ≡ []
 no_footnotes rows ls bs off is =
-    sym (ap (λ (n : Noted). n.ended) (ap note_rows is ∙ notes_of bs [] []))
+    sym (ap (λ (n : LabelsSoFar). n.ended) (ap note_rows is ∙ notes_of bs [] []))
     ∙ (rows_unnamed (value_with [] ls) rows off (refl, tt)).0

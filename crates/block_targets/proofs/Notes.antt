@@ -12,7 +12,7 @@ use Rattle.definition_block.specs.Blocks.{Block, Paragraph, Heading, Break, Inde
 use Rattle.definition_block.specs.Blocks.{Blocks, Nil, Cons}
 use Rattle.definition_block.specs.Definitions.{block_footnotes, footnotes}
 use Rattle.block_rows.specs.Rows.{Exit, block_rows, rows_of}
-use Rattle.block_targets.specs.GfmFootnoteDefinition.{Noted, labels_so_far, note_row}
+use Rattle.block_targets.specs.GfmFootnoteDefinition.{LabelsSoFar, labels_so_far, note_row}
 
 nothing_more : (ended : List (List ℕ)) (containers : _) → labels_so_far ended containers ≡ labels_so_far (ended ++ []) containers
 nothing_more ended containers = ap (λ x. labels_so_far x containers) (sym (append-nil ended))
@@ -30,15 +30,15 @@ mutual
   notes_in (Definition label destination title) ended containers = nothing_more ended containers
   notes_in (Holds Quote kids) ended containers =
       fold-append note_row (labels_so_far ended (None ∷ containers)) (rows_of kids) (Exit ∷ [])
-      ∙ ap (λ (n : Noted). note_row n Exit) (notes_of kids ended (None ∷ containers))
+      ∙ ap (λ (n : LabelsSoFar). note_row n Exit) (notes_of kids ended (None ∷ containers))
       ∙ ap (λ x. labels_so_far (ended ++ x) containers) (sym (append-nil (footnotes kids)))
   notes_in (Holds (Item item) kids) ended containers =
       fold-append note_row (labels_so_far ended (None ∷ containers)) (rows_of kids) (Exit ∷ [])
-      ∙ ap (λ (n : Noted). note_row n Exit) (notes_of kids ended (None ∷ containers))
+      ∙ ap (λ (n : LabelsSoFar). note_row n Exit) (notes_of kids ended (None ∷ containers))
       ∙ ap (λ x. labels_so_far (ended ++ x) containers) (sym (append-nil (footnotes kids)))
   notes_in (Holds (Footnote label) kids) ended containers =
       fold-append note_row (labels_so_far ended (Some label ∷ containers)) (rows_of kids) (Exit ∷ [])
-      ∙ ap (λ (n : Noted). note_row n Exit) (notes_of kids ended (Some label ∷ containers))
+      ∙ ap (λ (n : LabelsSoFar). note_row n Exit) (notes_of kids ended (Some label ∷ containers))
       ∙ ap (λ x. labels_so_far x containers) (append_assoc ended (footnotes kids) (label ∷ []))
   notes_in (Items items) ended containers = notes_of items ended containers
   notes_in (Ending ending) ended containers = nothing_more ended containers
@@ -49,7 +49,7 @@ mutual
   notes_of Nil ended containers = nothing_more ended containers
   notes_of (Cons b bs) ended containers =
       fold-append note_row (labels_so_far ended containers) (block_rows b) (rows_of bs)
-      ∙ ap (λ (n : Noted). fold note_row n (rows_of bs)) (notes_in b ended containers)
+      ∙ ap (λ (n : LabelsSoFar). fold note_row n (rows_of bs)) (notes_in b ended containers)
       ∙ notes_of bs (ended ++ block_footnotes b) containers
       ∙ ap (λ x. labels_so_far x containers) (append_assoc ended (block_footnotes b) (footnotes bs))
 

@@ -30,30 +30,30 @@ starts_footnote (row.Ending ending) = false
 starts_footnote (row.Blank ending) = false
 
 -- the labels of those that ended, and for each container that is open its label, if it has one, the innermost first
-pub record Noted : Type 0 where
+pub record LabelsSoFar : Type 0 where
   pub ended : List (List ℕ)
   pub containers : List (Option (List ℕ))
 
-abbrev pub labels_so_far : List (List ℕ) → List (Option (List ℕ)) → Noted
+abbrev pub labels_so_far : List (List ℕ) → List (Option (List ℕ)) → LabelsSoFar
 labels_so_far ended containers = record { ended = ended; containers = containers }
 
-abbrev pub nothing_noted : Noted
+abbrev pub nothing_noted : LabelsSoFar
 nothing_noted = labels_so_far [] []
 
 -- the innermost container ends
-abbrev pub note_exit : List (List ℕ) → List (Option (List ℕ)) → Noted
+abbrev pub note_exit : List (List ℕ) → List (Option (List ℕ)) → LabelsSoFar
 note_exit ended [] = labels_so_far ended []
 note_exit ended (None ∷ containers) = labels_so_far ended containers
 note_exit ended (Some label ∷ containers) = labels_so_far (ended ++ label ∷ []) containers
 
-abbrev pub note_row : Noted → BlockRow → Noted
+abbrev pub note_row : LabelsSoFar → BlockRow → LabelsSoFar
 note_row n (Single b) = n
 note_row n EnterQuote = labels_so_far n.ended (None ∷ n.containers)
 note_row n (EnterItem marker number) = labels_so_far n.ended (None ∷ n.containers)
 note_row n (EnterFootnote label) = labels_so_far n.ended (Some label ∷ n.containers)
 note_row n Exit = note_exit n.ended n.containers
 
-abbrev pub note_rows : List BlockRow → Noted
+abbrev pub note_rows : List BlockRow → LabelsSoFar
 note_rows rows = fold note_row nothing_noted rows
 
 -- whether a row that starts a footnote definition has a label without white space
@@ -73,6 +73,6 @@ pub record HasEnded {A : Type 0} (found : Footnotes A) (ended : List (List ℕ))
   pub names : map (λ name. content_codes name.now) found.names.items ≡ ended
 
 -- these were read
-pub record HasNoted {A : Type 0} (found : Footnotes A) (n : Noted) : Type 0 where
+pub record HasLabelsSoFar {A : Type 0} (found : Footnotes A) (n : LabelsSoFar) : Type 0 where
   pub ended : HasEnded found n.ended
   pub containers : map (λ name. option_map (λ text. content_codes text.now) name) (reverse found.containers.items) ≡ n.containers

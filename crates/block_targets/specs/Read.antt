@@ -2,14 +2,14 @@
 use Rattle.std.specs.Prelude.{◌≡◌, Bool, true, false, List, [], Option, None, Some, String, map, string_bytes}
 use Rattle.std.specs.Option.{option_map}
 use Rattle.definition_text.specs.Content.{content_codes}
-use Rattle.definition_inline.specs.Inline.{Linked, linked}
+use Rattle.definition_inline.specs.Inline.{LinkTexts, link_texts}
 use Rattle.definition_inline.specs.Definition.{Definition, definition, definition_at}
 use Rattle.definition_page.specs.Targets.{labels_of, no_definition}
 use Rattle.block_rows.specs.declared.row.Row.{Row}
 use Rattle.block_rows.specs.declared.row.Row.TheVariants as row
 use Rattle.inline_labels.specs.Table.{HasLabels}
 use Rattle.inline_links.specs.declared.text.TextDefinition.{TextDefinition}
-use Rattle.inline_rows.specs.View.{linked_view}
+use Rattle.inline_rows.specs.View.{link_texts_view}
 use Rattle.block_targets.specs.declared.contents.DefinitionContents.{DefinitionContents}
 use Rattle.block_targets.specs.declared.definitions.Definitions.{Definitions}
 
@@ -47,8 +47,8 @@ abbrev pub read_of : TextDefinition → Definition
 read_of read = definition (content_codes read.label.now) (content_codes read.destination.now) (option_map (λ text. content_codes text.now) read.title) []
 
 -- where a definition leads
-abbrev pub leads : Definition → Linked
-leads d = linked d.destination d.title
+abbrev pub leads : Definition → LinkTexts
+leads d = link_texts d.destination d.title
 
 -- each content is that of one of these definitions
 pub record HasContents {A : Type 0} (contents : DefinitionContents A) (ds : List Definition) : Type 0 where
@@ -57,4 +57,4 @@ pub record HasContents {A : Type 0} (contents : DefinitionContents A) (ds : List
 -- the labels of these definitions, and where each leads
 pub record HasDefinitions {A : Type 0} (found : Definitions A) (ds : List Definition) : Type 0 where
   pub has_labels : HasLabels found.labels (labels_of ds)
-  pub each : map linked_view found.links.items ≡ map leads ds
+  pub each : map link_texts_view found.links.items ≡ map leads ds

@@ -7,7 +7,7 @@ ghost use Rattle.block_targets.specs.Read.{HasContents, HasDefinitions, alone, r
 use crate::contents::DefinitionContents;
 use inline_labels::LabelTable;
 use inline_links::text::{TextDefinition, definition_of};
-use inline_rows::Linked;
+use inline_rows::LinkTexts;
 use std::alloc::{AllocError, Allocator};
 
 /// The definitions of a document.
@@ -16,7 +16,7 @@ pub struct Definitions<'c, A: Allocator + Clone> {
     /// The place of the first definition for each label.
     pub labels: LabelTable<A>,
     /// Where the definition at each place leads.
-    pub links: Vec<Linked<'c>, A>,
+    pub links: Vec<LinkTexts<'c>, A>,
 }
 
 /// Reads definitions: in the order of the text, with those that are there again, so that the first
@@ -51,7 +51,7 @@ impl<'c, A: Allocator + Clone> Definitions<'c, A> {
     {
         let definition = read_definition(content);
         self.labels.insert(definition.label, self.links.len())?;
-        self.links.push(Linked {
+        self.links.push(LinkTexts {
             destination: definition.destination,
             title: definition.title,
         })?;

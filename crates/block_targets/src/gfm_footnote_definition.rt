@@ -6,7 +6,7 @@ ghost use Rattle.definition_text.specs.Content.{content_codes};
 ghost use Rattle.definition_block.specs.Blocks.{Blocks};
 ghost use Rattle.definition_block.specs.Definitions.{footnotes};
 ghost use Rattle.block_rows.specs.Rows.{rows_size, row_size, piece_lines, row_value, rows_of, rows_value};
-ghost use Rattle.block_targets.specs.GfmFootnoteDefinition.{HasEnded, HasNoted, Noted, labels_so_far, nothing_noted};
+ghost use Rattle.block_targets.specs.GfmFootnoteDefinition.{HasEnded, HasLabelsSoFar, LabelsSoFar, labels_so_far, nothing_noted};
 ghost use Rattle.block_targets.specs.GfmFootnoteDefinition.{are_bare_rows, is_bare_row, note_exit, note_row};
 ghost use Rattle.block_targets.specs.GfmFootnoteDefinition.{starts_footnote};
 
@@ -35,7 +35,7 @@ pub fn document_footnotes<'a, A: Allocator + Clone>(
 ) -> Result<Footnotes<'a, A>, AllocError>
     requires enough { rows_size rows.now ≤ length pieces.now }
     ensures { (bs : Blocks) → (rows_value rows.now (piece_lines pieces.now)).rows ≡ rows_of bs → are_bare_rows (rows_of bs) ≡ true →
-        IfOk result (λ found. HasNoted found (labels_so_far (footnotes bs) [])) }
+        IfOk result (λ found. HasLabelsSoFar found (labels_so_far (footnotes bs) [])) }
 {
     let mut found = Footnotes::new(alloc)?;
     if !has_footnotes(rows) {
@@ -58,7 +58,7 @@ fn has_footnotes(rows: &[Row]) -> bool
 
 impl<'a, A: Allocator + Clone> Footnotes<'a, A> {
     fn new(alloc: A) -> Result<Footnotes<'a, A>, AllocError>
-        ensures { IfOk result (λ found. HasNoted found nothing_noted) }
+        ensures { IfOk result (λ found. HasLabelsSoFar found nothing_noted) }
     {
         Ok(Footnotes {
             labels: LabelTable::new(alloc.clone()?)?,
@@ -70,8 +70,8 @@ impl<'a, A: Allocator + Clone> Footnotes<'a, A> {
     /// Reads a row. The start of a footnote definition takes its label from the front of these.
     fn row(&mut self, row: Row, lines: &[Piece<'a>]) -> Result<(), AllocError>
         requires enough { row_size row ≤ length lines.now }
-        ensures read { (n : Noted) → HasNoted self.old n → is_bare_row (row_value row (piece_lines lines.now)) ≡ true →
-            OnOk result (HasNoted self.new (note_row n (row_value row (piece_lines lines.now)))) }
+        ensures read { (n : LabelsSoFar) → HasLabelsSoFar self.old n → is_bare_row (row_value row (piece_lines lines.now)) ≡ true →
+            OnOk result (HasLabelsSoFar self.new (note_row n (row_value row (piece_lines lines.now)))) }
     {
         match row {
             Row::EnterQuote => self.enter(None),
@@ -84,8 +84,8 @@ impl<'a, A: Allocator + Clone> Footnotes<'a, A> {
 
     /// A container starts, with its label if it is a footnote definition.
     fn enter(&mut self, label: Option<&'a str>) -> Result<(), AllocError>
-        ensures read { (n : Noted) → HasNoted self.old n → OnOk result (
-            HasNoted self.new (labels_so_far n.ended (option_map (λ text. content_codes text.now) label.entry ∷ n.containers))) }
+        ensures read { (n : LabelsSoFar) → HasLabelsSoFar self.old n → OnOk result (
+            HasLabelsSoFar self.new (labels_so_far n.ended (option_map (λ text. content_codes text.now) label.entry ∷ n.containers))) }
     {
         self.containers.push(label)?;
         Ok(())
@@ -93,7 +93,7 @@ impl<'a, A: Allocator + Clone> Footnotes<'a, A> {
 
     /// The innermost container ends.
     fn exit(&mut self) -> Result<(), AllocError>
-        ensures read { (n : Noted) → HasNoted self.old n → OnOk result (HasNoted self.new (note_exit n.ended n.containers)) }
+        ensures read { (n : LabelsSoFar) → HasLabelsSoFar self.old n → OnOk result (HasLabelsSoFar self.new (note_exit n.ended n.containers)) }
     {
         match self.containers.pop() {
             Some(Some(label)) => self.end(label),

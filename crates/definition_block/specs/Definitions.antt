@@ -10,11 +10,11 @@ use Rattle.definition_text.specs.Content.{is_eol, content_of}
 use Rattle.definition_inline.specs.Definition.{Definition as LinkDefinition, definition, definition_at}
 
 -- the definitions at the front of a paragraph, each with the ending of its last line, and the lines after them
-pub record Cut : Type 0 where
+pub record DefinitionCut : Type 0 where
   pub definitions : Blocks
   pub left : List BlockLine
 
-abbrev pub cut_into : Blocks → List BlockLine → Cut
+abbrev pub cut_into : Blocks → List BlockLine → DefinitionCut
 cut_into definitions left = record { definitions = definitions; left = left }
 
 -- how many lines a content has
@@ -31,7 +31,7 @@ abbrev pub definition_lines : LinkDefinition → List BlockLine → Blocks
 definition_lines d ls = block_and_ending (Definition d.label d.destination d.title) (last_ending ls)
 
 -- a definition before what more cuts of the lines after it give
-abbrev pub cut_after : Option LinkDefinition → List BlockLine → (List BlockLine → Cut) → Cut
+abbrev pub cut_after : Option LinkDefinition → List BlockLine → (List BlockLine → DefinitionCut) → DefinitionCut
 cut_after None ls more = cut_into Nil ls
 cut_after (Some d) ls more =
     let count = lines_before d.rest ls in
@@ -39,13 +39,13 @@ cut_after (Some d) ls more =
     cut_into (join (definition_lines d (take count ls)) others.definitions) others.left
 
 -- at most so many definitions, one after another
-abbrev pub cut_most : ℕ → List BlockLine → Cut
+abbrev pub cut_most : ℕ → List BlockLine → DefinitionCut
 cut_most zero ls = cut_into Nil ls
 cut_most (suc most) ls = cut_after (definition_at (content_of (own_lines ls))) ls (cut_most most)
 
 -- a paragraph's lines, cut after all definitions at its front, each of which has a line at least (CommonMark 4.7)
-abbrev pub cut : Constructs → List BlockLine → Cut
-cut on ls = if on.definition then cut_most (length ls) ls else cut_into Nil ls
+abbrev pub definition_cut : Constructs → List BlockLine → DefinitionCut
+definition_cut on ls = if on.definition then cut_most (length ls) ls else cut_into Nil ls
 
 -- the definitions in a document, in the order of the text, repeats kept; each is alone, so that nothing follows it (CommonMark 4.7)
 abbrev mutual

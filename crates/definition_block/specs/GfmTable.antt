@@ -79,8 +79,8 @@ abbrev pub after_dashes : Bool → List Code → Option AlignKind
 after_dashes left text = if run hyphen text == 0 then None else option_map (alignment left) (right_colon (after_run hyphen text))
 
 -- how a column is aligned, where this is a delimiter: dashes, at least one, with a colon at either end or not (GFM 4.10)
-abbrev pub delimiter : List Code → Option AlignKind
-delimiter text = if begins_with (codes ":") text then after_dashes true (drop 1 text) else after_dashes false text
+abbrev pub column_delimiter : List Code → Option AlignKind
+column_delimiter text = if begins_with (codes ":") text then after_dashes true (drop 1 text) else after_dashes false text
 
 -- one more alignment before others, if all of these are there
 abbrev pub and_alignment : Option AlignKind → Option (List AlignKind) → Option (List AlignKind)
@@ -90,7 +90,7 @@ and_alignment (Some first) others = option_map (λ more. first ∷ more) others
 -- how columns are aligned, where all these cells are delimiters
 abbrev pub alignments_of : List Cell → Option (List AlignKind)
 alignments_of [] = Some []
-alignments_of (c ∷ cs) = and_alignment (delimiter (trim c.codes)) (alignments_of cs)
+alignments_of (c ∷ cs) = and_alignment (column_delimiter (trim c.codes)) (alignments_of cs)
 
 abbrev pub is_bar_or_colon : Code → Bool
 is_bar_or_colon code = (code == vertical_bar) || (code == colon)

@@ -35,14 +35,14 @@ bullet [] = None
 bullet (code ∷ codes) = if (code == hyphen) || (code == plus) || (code == asterisk) then Some (marker_of code None 1 codes) else None
 
 -- the `.` or `)` after the digits of an ordered marker
-abbrev pub delimiter : ℕ → ℕ → Rest → Option Marker
-delimiter number digits [] = None
-delimiter number digits (code ∷ codes) =
+abbrev pub after_number : ℕ → ℕ → Rest → Option Marker
+after_number number digits [] = None
+after_number number digits (code ∷ codes) =
     if (code == dot) || (code == right_parenthesis) then Some (marker_of code (Some number) (digits + 1) codes) else None
 
 -- 1 to 9 digits and a delimiter
 abbrev pub ordered_marker : ℕ → Rest → Option Marker
-ordered_marker digits rest = if leb digits 9 then delimiter (number_of (take digits rest)) digits (drop digits rest) else None
+ordered_marker digits rest = if leb digits 9 then after_number (number_of (take digits rest)) digits (drop digits rest) else None
 
 -- the marker that a rest begins with
 abbrev pub marker : Rest → Option Marker

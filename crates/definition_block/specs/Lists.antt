@@ -72,8 +72,8 @@ before_list marker item bs =
     then Cons (Items (Cons item (join (endings_of bs) (list_items (after_endings bs))))) (rest_of (after_endings bs))
     else Cons (Items (one item)) bs
 
-abbrev pub before : Block → Blocks → Blocks
-before b bs = if item_marker b == 0 then Cons b bs else before_list (item_marker b) b bs
+abbrev pub put_before : Block → Blocks → Blocks
+put_before b bs = if item_marker b == 0 then Cons b bs else before_list (item_marker b) b bs
 
 -- children with their items put into lists, and so in each container
 abbrev mutual
@@ -83,4 +83,4 @@ abbrev mutual
 
   pub group_items : Blocks → Blocks
   group_items Nil = Nil
-  group_items (Cons b bs) = before (grouped_block b) (group_items bs)
+  group_items (Cons b bs) = put_before (grouped_block b) (group_items bs)

@@ -23,7 +23,7 @@ use Rattle.definition_block.specs.HtmlFlow.{html_start, html_ends_here, ends_bef
 use Rattle.definition_block.specs.HeadingAtx.{Atx, heading_atx}
 use Rattle.definition_block.specs.HeadingSetext.{underline}
 use Rattle.definition_block.specs.ThematicBreak.{is_break}
-use Rattle.definition_block.specs.Definitions.{Cut, cut}
+use Rattle.definition_block.specs.Definitions.{DefinitionCut, definition_cut}
 use Rattle.definition_block.specs.declared.align_kind.AlignKind.{AlignKind}
 use Rattle.definition_block.specs.GfmTable.{delimiter_row, is_head}
 
@@ -71,12 +71,12 @@ paragraph_of [] = Nil
 paragraph_of (line ∷ others) = block_and_ending (Paragraph (own_lines (line ∷ others))) (last_ending (line ∷ others))
 
 -- a paragraph after the definitions at its front, which are none of its lines (CommonMark 4.7)
-abbrev pub with_paragraph : Cut → Blocks
+abbrev pub with_paragraph : DefinitionCut → Blocks
 with_paragraph parts = join parts.definitions (paragraph_of parts.left)
 
 -- the children that are finished where this leaf is closed
 abbrev pub close_leaf : Constructs → OpenLeaf → Blocks
-close_leaf on (Text ls) = with_paragraph (cut on ls)
+close_leaf on (Text ls) = with_paragraph (definition_cut on ls)
 close_leaf on (Indented ls pending) = join (block_and_ending (IndentedCode (own_lines ls)) (last_ending ls)) (blanks pending)
 close_leaf on (Fenced fence ending ls) = block_and_ending (FencedCode fence.info false ls) (last_ending_or ending ls)
 close_leaf on (OpenHtml kind ls) = block_and_ending (Html (own_lines ls)) (last_ending ls)
@@ -113,15 +113,15 @@ last_of (Cons b (Cons c bs)) = last_of (Cons c bs)
 
 -- A container ends right before the ending of its last line. Each line of a quote has its marker; blank lines at the end of an item or a footnote definition
 -- are not its own.
-abbrev pub holds : Container → Blocks → Blocks
-holds Quote kids = Cons (Holds Quote (without_last kids)) (last_of kids)
-holds (Item item) kids = Cons (Holds (Item item) (front kids)) (trailing kids)
-holds (Footnote label) kids = Cons (Holds (Footnote label) (front kids)) (trailing kids)
+abbrev pub container_block : Container → Blocks → Blocks
+container_block Quote kids = Cons (Holds Quote (without_last kids)) (last_of kids)
+container_block (Item item) kids = Cons (Holds (Item item) (front kids)) (trailing kids)
+container_block (Footnote label) kids = Cons (Holds (Footnote label) (front kids)) (trailing kids)
 
 -- the children that are finished where this is closed
 abbrev pub close : Constructs → Opening → Blocks
 close on (Leaf leaf) = close_leaf on leaf
-close on (Inside c kids inner) = holds c (join kids (close on inner))
+close on (Inside c kids inner) = container_block c (join kids (close on inner))
 
 -- ---- a line
 
@@ -243,7 +243,7 @@ heading_of rank definitions (line ∷ others) ending =
 -- the same for an underline of a rank, where there is one
 abbrev pub heading_if : Constructs → Option ℕ → List BlockLine → Option LineEnding → Option Tree
 heading_if on None ls ending = None
-heading_if on (Some rank) ls ending = let parts = cut on ls in heading_of rank parts.definitions parts.left ending
+heading_if on (Some rank) ls ending = let parts = definition_cut on ls in heading_of rank parts.definitions parts.left ending
 
 -- what an underline makes of the open paragraph: a heading (CommonMark 4.3)
 abbrev pub turns : Constructs → Opening → Rest → Option LineEnding → Option Tree
@@ -260,16 +260,16 @@ table_of definitions ls row =
 abbrev pub table_if : Constructs → Option (List AlignKind) → List BlockLine → BlockLine → Option Tree
 table_if on None ls row = None
 table_if on (Some columns) ls row =
-    let parts = cut on ls in
+    let parts = definition_cut on ls in
     if is_some_line parts.left && is_head (length columns) ls then Some (table_of parts.definitions parts.left row) else None
 
 -- what a row of delimiters makes of the open paragraph: a table (GFM 4.10)
 abbrev pub makes_table : Constructs → Opening → Rest → Beside → Option Tree
 makes_table on away rest beside = table_if on (delimiter_row on rest) (text_here away) (rest_line rest beside)
 
-abbrev pub begun : Constructs → Option Tree → Opening → Tree → Tree
-begun on None away other = other
-begun on (Some t) away other = after on away t
+abbrev pub leaf_tree_or : Constructs → Option Tree → Opening → Tree → Tree
+leaf_tree_or on None away other = other
+leaf_tree_or on (Some t) away other = after on away t
 
 -- what takes the line, or something other
 abbrev pub tree_or : Option Tree → Tree → Tree
@@ -286,7 +286,7 @@ break_or_text on away rest beside =
 abbrev pub leaf_line : Constructs → Opening → Rest → Beside → Tree
 leaf_line on away rest beside =
     if is_blank rest then after on away (tree (one (Blank beside.ending)) nothing)
-    else begun on (begins on (has_text away) rest beside) away (tree_or (turns on away rest beside.ending) (break_or_text on away rest beside))
+    else leaf_tree_or on (begins on (has_text away) rest beside) away (tree_or (turns on away rest beside.ending) (break_or_text on away rest beside))
 
 -- what stands beside the rest that a container leaves of a line, after a character of this kind
 abbrev pub beside_in : Kind → Beside → Beside

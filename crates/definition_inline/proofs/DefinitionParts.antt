@@ -8,7 +8,7 @@ use Rattle.std.proofs.lemmas.List.{length-append}
 use Rattle.std.specs.Prelude.{unwrap_or}
 use Rattle.std.specs.List.{prefix_len}
 use Rattle.definition_text.specs.Columns.{is_white}
-use Rattle.definition_text.specs.Content.{Part, part, is_eol, may_escape, at_line_start, before, up_to, closed_by}
+use Rattle.definition_text.specs.Content.{Part, part, is_eol, may_escape, at_line_start, text_before, up_to, closed_by}
 use Rattle.definition_inline.specs.Space.{after_spaces, after_ending, after_white, begins_with_space}
 use Rattle.definition_inline.specs.Label.{ends_label, label_end, is_label, if_label, label_at}
 use Rattle.definition_inline.specs.Destination.{ends_angle, angle_end, is_control, open_after, ends_bare, bare_end, unless_empty, if_any, destination_at}
@@ -19,7 +19,7 @@ the_same x y h = ap (λ o. unwrap_or o x) h
 
 -- ---- what stands before a rest
 
-pub before_rest : (u r : List ℕ) → before (u ++ r) r ≡ u
+pub before_rest : (u r : List ℕ) → text_before (u ++ r) r ≡ u
 before_rest u r =
     let e : length (u ++ r) - length r ≡ length u = let h = length-append u r in omega arith in
     ap (λ n. take n (u ++ r)) e ∙ take-append_seam u r
@@ -100,9 +100,9 @@ closes f k cs off p h = go (f cs) refl
     go None e = absurd (none-some p (sym (ap (closed_by cs) e) ∙ h))
     go (Some rest) e =
         let t = off rest e in
-        let found : part (before cs rest) (drop 1 rest) ≡ p = the_same (part (before cs rest) (drop 1 rest)) p (sym (ap (closed_by cs) e) ∙ h) in
+        let found : part (text_before cs rest) (drop 1 rest) ≡ p = the_same (part (text_before cs rest) (drop 1 rest)) p (sym (ap (closed_by cs) e) ∙ h) in
         let text : p.text ≡ t.front =
-        ap (λ q. q.text) (sym found) ∙ ap (λ r. before cs r) t.same ∙ ap (λ xs. before xs (k ∷ t.after)) t.here ∙ before_rest t.front (k ∷ t.after) in
+        ap (λ q. q.text) (sym found) ∙ ap (λ r. text_before cs r) t.same ∙ ap (λ xs. text_before xs (k ∷ t.after)) t.here ∙ before_rest t.front (k ∷ t.after) in
         let after : p.rest ≡ t.after = ap (λ q. q.rest) (sym found) ∙ ap (λ r. drop 1 r) t.same in
         record {
           here = t.here ∙ ap (λ r. t.front ++ k ∷ r) (sym after) ∙ ap (λ u. u ++ k ∷ p.rest) (sym text);
@@ -209,18 +209,18 @@ bare_off e opened (c ∷ cs) rest h = elim (cases_Bool (ends_bare e opened c)) [
 ]
 
 bare_found : (cs : List ℕ) (o : Option (List ℕ)) (p : Part) → if_any (up_to cs o) ≡ Some p
-    → (o ≡ Some p.rest) × (p.text ≡ before cs p.rest) × (x : ℕ) × (xs : List ℕ) × (p.text ≡ x ∷ xs)
+    → (o ≡ Some p.rest) × (p.text ≡ text_before cs p.rest) × (x : ℕ) × (xs : List ℕ) × (p.text ≡ x ∷ xs)
 bare_found cs None p h = absurd (none-some p h)
-bare_found cs (Some rest) p h = go (before cs rest) refl
+bare_found cs (Some rest) p h = go (text_before cs rest) refl
   where
-    go : (text : List ℕ) → before cs rest ≡ text → (Some rest ≡ Some p.rest) × (p.text ≡ before cs p.rest) × (x : ℕ) × (xs : List ℕ) × (p.text ≡ x ∷ xs)
-    go [] e = absurd (none-some p (sym (ap (λ t. unless_empty t (part (before cs rest) rest)) e) ∙ h))
+    go : (text : List ℕ) → text_before cs rest ≡ text → (Some rest ≡ Some p.rest) × (p.text ≡ text_before cs p.rest) × (x : ℕ) × (xs : List ℕ) × (p.text ≡ x ∷ xs)
+    go [] e = absurd (none-some p (sym (ap (λ t. unless_empty t (part (text_before cs rest) rest)) e) ∙ h))
     go (x ∷ xs) e =
-        let same : part (before cs rest) rest ≡ p =
-        the_same (part (before cs rest) rest) p (sym (ap (λ t. unless_empty t (part (before cs rest) rest)) e) ∙ h) in
+        let same : part (text_before cs rest) rest ≡ p =
+        the_same (part (text_before cs rest) rest) p (sym (ap (λ t. unless_empty t (part (text_before cs rest) rest)) e) ∙ h) in
         let after : rest ≡ p.rest = ap (λ q. q.rest) same in
-        let text : before cs rest ≡ p.text = ap (λ q. q.text) same in
-        (ap Some after, sym text ∙ ap (before cs) after, x, xs, sym text ∙ e)
+        let text : text_before cs rest ≡ p.text = ap (λ q. q.text) same in
+        (ap Some after, sym text ∙ ap (text_before cs) after, x, xs, sym text ∙ e)
 
 abbrev head : List ℕ → ℕ
 head [] = 0
@@ -234,7 +234,7 @@ bare_reads cs p c others whole plain h =
     let x = found.2 in
     let xs = found.3 in
     let text : p.text ≡ x ∷ xs = found.4 in
-    let front : off.front ≡ x ∷ xs = sym (before_rest off.front p.rest) ∙ ap (λ l. before l p.rest) (sym off.here) ∙ sym found.1 ∙ text in
+    let front : off.front ≡ x ∷ xs = sym (before_rest off.front p.rest) ∙ ap (λ l. text_before l p.rest) (sym off.here) ∙ sym found.1 ∙ text in
     let here : cs ≡ x ∷ (xs ++ p.rest) = off.here ∙ ap (λ l. l ++ p.rest) front in
     let same : x ≡ c = ap head (sym here ∙ whole) in
     record {

@@ -15,8 +15,8 @@ use Rattle.definition_text.specs.Columns.{is_white, indent, bare}
 use Rattle.definition_text.specs.Bytes.{begins_with, after_all, begins_with_letter, lower, without_slash}
 use Rattle.definition_text.specs.InlineCode.{InlineCode, codes_of}
 use Rattle.definition_text.specs.Runs.{run, after_run}
-use Rattle.definition_text.specs.Content.{Part, part, before, up_to}
-use Rattle.definition_inline.specs.HtmlTags.{followed_by, is_tag_space, tag_space, is_tag_name_byte, after_tag_name, begins_attribute, is_attribute_byte}
+use Rattle.definition_text.specs.Content.{Part, part, text_before, up_to}
+use Rattle.definition_inline.specs.HtmlTags.{then_part, is_tag_space, tag_space, is_tag_name_byte, after_tag_name, begins_attribute, is_attribute_byte}
 use Rattle.definition_inline.specs.HtmlTags.{is_unquoted, quoted_value, unquoted_value, value, value_or, specification, attribute, has_attribute, attributes}
 use Rattle.definition_inline.specs.HtmlTags.{tag_end, open_end, closing_end, open_rest, closing_rest, open_tag, closing_tag}
 use Rattle.definition_inline.specs.Inline.{Reference, Escape, Autolink, Literal, Www, Protocol, EscapedBreak, LineEnd, Leaf, leaf, or_else}
@@ -174,7 +174,7 @@ fit_raw_found : (marker : ℕ) (content rest : List ℕ) (n : ℕ) (found : Opti
 fit_raw_found marker content rest n None some size p = record { some = some; within = omega arith }
 fit_raw_found marker content rest n (Some closing) some size p =
     let room : n ≤ length closing = omega (arith, prefix_len-le-length (λ b. b == marker) closing, p.size) in
-    let inner : length (before rest closing) ≤ length rest - length closing = omega (arith, length-take (length rest - length closing) rest) in
+    let inner : length (text_before rest closing) ≤ length rest - length closing = omega (arith, length-take (length rest - length closing) rest) in
     record { some = omega arith; within = omega (arith, p.within) }
 
 fit_raw : (marker : ℕ) (may_open : Bool) (content : List ℕ) → MayFit (length content) (raw_at marker may_open content)
@@ -235,10 +235,10 @@ fit_closed : (is_email : Bool) (content : List ℕ) (found : Option (List ℕ)) 
     → MayFit (length content + 1) (closed_autolink is_email content found)
 fit_closed is_email content None p = tt
 fit_closed is_email content (Some rest) p =
-    fit_if (length content + 1) (begins_with (codes ">") rest) (leaf (Autolink is_email (before content rest) ∷ []) (length (before content rest) + 2))
+    fit_if (length content + 1) (begins_with (codes ">") rest) (leaf (Autolink is_email (text_before content rest) ∷ []) (length (text_before content rest) + 2))
     (λ e.
     let room = not_empty 62 [] rest e in
-    let size : length (before content rest) ≤ length content - length rest = omega (arith, length-take (length content - length rest) content) in
+    let size : length (text_before content rest) ≤ length content - length rest = omega (arith, length-take (length content - length rest) content) in
     record { some = omega arith; within = omega arith })
 
 fit_autolink_after : (content : List ℕ) → MayFit (length content + 1) (autolink_after content)
@@ -261,7 +261,7 @@ fit_autolink on content =
 
 -- a part of a tag, and another one after it
 leaves_after : (most : ℕ) (o : Option (List ℕ)) (next : List ℕ → Option (List ℕ)) → Leaves most o → ((rest : List ℕ) → Leaves (length rest) (next rest))
-    → Leaves most (followed_by o next)
+    → Leaves most (then_part o next)
 leaves_after most None next p q = tt
 leaves_after most (Some rest) next p q = leaves_more (length rest) most (next rest) p (q rest)
 
@@ -302,7 +302,7 @@ leaves_attribute (b ∷ bs) =
 leaves_attributes : (most : ℕ) (bytes : List ℕ) → Leaves (length bytes) (attributes most bytes)
 leaves_attributes zero bytes = omega arith
 leaves_attributes (suc most) bytes =
-    cond_both (has_attribute bytes) (followed_by (attribute (tag_space bytes)) (attributes most)) (Some bytes) (Leaves (length bytes))
+    cond_both (has_attribute bytes) (then_part (attribute (tag_space bytes)) (attributes most)) (Some bytes) (Leaves (length bytes))
     (λ _. leaves_after (length bytes) (attribute (tag_space bytes)) (attributes most)
     (leaves_more (length (tag_space bytes)) (length bytes) (attribute (tag_space bytes)) (after_test is_tag_space bytes) (leaves_attribute (tag_space bytes)))
     (leaves_attributes most))
@@ -331,7 +331,7 @@ leaves_closing_end bytes = leaves_more (length (tag_space bytes)) (length bytes)
 
 leaves_open : (bytes : List ℕ) → Leaves (length bytes) (open_rest bytes)
 leaves_open bytes =
-    leaves_after (length bytes) (followed_by (after_tag_name bytes) (attributes (length bytes))) open_end
+    leaves_after (length bytes) (then_part (after_tag_name bytes) (attributes (length bytes))) open_end
     (leaves_after (length bytes) (after_tag_name bytes) (attributes (length bytes)) (leaves_name bytes) (leaves_attributes (length bytes))) leaves_open_end
 
 leaves_closing : (bytes : List ℕ) → Leaves (length bytes) (closing_rest bytes)

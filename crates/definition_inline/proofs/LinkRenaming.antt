@@ -7,7 +7,7 @@ use Rattle.std.specs.List.{prefix_len}
 use Rattle.std.specs.Option.{option_map}
 use Rattle.std.specs.Prelude.{nat_le}
 use Rattle.definition_text.specs.Columns.{is_white, code_byte}
-use Rattle.definition_text.specs.Content.{Part, part, is_eol, is_space, may_escape, at_line_start, before, up_to, closed_by}
+use Rattle.definition_text.specs.Content.{Part, part, is_eol, is_space, may_escape, at_line_start, text_before, up_to, closed_by}
 use Rattle.definition_inline.specs.Space.{after_spaces, after_ending, after_white, begins_with_space}
 use Rattle.definition_inline.specs.Label.{ends_label, label_end, has_text, label_size, is_label, if_label, label_at}
 use Rattle.definition_inline.specs.Destination.{ends_angle, angle_end, is_control, open_after, is_too_deep, ends_bare, bare_end, unless_empty, if_any}
@@ -56,7 +56,7 @@ module _ (f : ℕ → ℕ) (renames : Renames f) where
   start_same : (s : Bool) (c : ℕ) → at_line_start s (f c) ≡ at_line_start s c
   start_same s c = ap (λ b. b || (s && is_white (f c))) (renames.ending c) ∙ ap (λ b. is_eol c || (s && b)) (renames.white c)
 
-  before_renamed : (content rest : List ℕ) → before (map f content) (map f rest) ≡ map f (before content rest)
+  before_renamed : (content rest : List ℕ) → text_before (map f content) (map f rest) ≡ map f (text_before content rest)
   before_renamed content rest =
       ap (λ n. take (n - length (map f rest)) (map f content)) (length-map content f)
       ∙ ap (λ n. take (length content - n) (map f content)) (length-map rest f)
@@ -71,7 +71,7 @@ module _ (f : ℕ → ℕ) (renames : Renames f) where
   closed_renamed content None = refl
   closed_renamed content (Some rest) =
       ap (λ text. Some (part text (drop 1 (map f rest)))) (before_renamed content rest)
-      ∙ ap (λ r. Some (part (map f (before content rest)) r)) (rest_renamed rest)
+      ∙ ap (λ r. Some (part (map f (text_before content rest)) r)) (rest_renamed rest)
 
   up_to_renamed : (content : List ℕ) (rest : Option (List ℕ)) → up_to (map f content) (option_map (map f) rest)
       ≡ option_map (renamed_part f) (up_to content rest)

@@ -10,7 +10,7 @@ use Rattle.std.proofs.lemmas.List.{append-nil, get_or-take, get_or_append_left, 
 use Rattle.definition_inline.specs.Attention.{Run}
 use Rattle.definition_inline.specs.Pairing.{Pair, OpenRun, open_run, Pairing, pairing, is_eligible, taken_by, without, openers_of, pair_of, with_opener}
 use Rattle.definition_inline.specs.Pairing.{with_pair, up_to_nearest, nearest, close, next_run, placed_from, pairs}
-use Rattle.definition_inline.specs.NextPair.{no_run, run_of, taken_at, total_taken, left_at, is_inside, last_closer, IsEligiblePair, IsNextPair}
+use Rattle.definition_inline.specs.NextPair.{no_run, run_by_place, taken_at, total_taken, left_at, is_inside, last_closer, IsEligiblePair, IsNextPair}
 use Rattle.definition_inline.specs.NextPair.{AreNext, NoMore}
 use Rattle.definition_inline.specs.NextPair.{NextIs}
 use Rattle.definition_inline.proofs.NearestOpener.{nearest_eligible, none_after}
@@ -32,13 +32,13 @@ neither false y e = refl
 -- a run that it takes nothing of
 left_same : (runs : List Run) (p : Pair) (ps : List Pair) (place : ℕ) → taken_at place p ≡ 0 → left_at runs (p ∷ ps) place ≡ left_at runs ps place
 left_same runs p ps place none =
-    let e : taken_at place p + total_taken ps place ≡ total_taken ps place = omega (arith, none) in ap (λ n. without n (open_run (run_of runs place) place)) e
+    let e : taken_at place p + total_taken ps place ≡ total_taken ps place = omega (arith, none) in ap (λ n. without n (open_run (run_by_place runs place) place)) e
 
 -- a run that it takes some of
 left_less : (runs : List Run) (p : Pair) (ps : List Pair) (place : ℕ) → taken_at place p ≡ p.taken
     → left_at runs (p ∷ ps) place ≡ without p.taken (left_at runs ps place)
 left_less runs p ps place some =
-    let r = run_of runs place in
+    let r = run_by_place runs place in
     let e : r.left - (taken_at place p + total_taken ps place) ≡ r.left - total_taken ps place - p.taken = omega (arith, some) in
     ap (λ n. open_run (record r { left = n }) place) e
 
@@ -445,7 +445,7 @@ closes (suc n) runs ps place s h fuel =
     ]
 
 -- a run of which nothing was taken
-left_fresh : (runs : List Run) (ps : List Pair) (place : ℕ) (r : Run) → total_taken ps place ≡ 0 → run_of runs place ≡ r
+left_fresh : (runs : List Run) (ps : List Pair) (place : ℕ) (r : Run) → total_taken ps place ≡ 0 → run_by_place runs place ≡ r
     → left_at runs ps place ≡ open_run r place
 left_fresh runs ps place r none there =
     let e : r.left - total_taken ps place ≡ r.left = omega arith in
@@ -457,7 +457,7 @@ eligible_may_close o c h = grind (arith, common_steps)
 -- past the runs nothing closes
 none_past : (runs : List Run) (ps : List Pair) (i j : ℕ) → length runs ≤ j → IsEligiblePair runs ps i j → ⊥
 none_past runs ps i j past pair =
-    let there : run_of runs j ≡ no_run = get_or_past runs j no_run past in
+    let there : run_by_place runs j ≡ no_run = get_or_past runs j no_run past in
     let shut : (left_at runs ps j).run.may_close ≡ false = ap (λ (r : Run). r.may_close) there in
     both_ways (left_at runs ps j).run.may_close shut (eligible_may_close (left_at runs ps i) (left_at runs ps j) pair.eligible)
 
@@ -481,7 +481,7 @@ rest done [] runs place ps s e size h fresh =
       ]);
     }
 rest done (r ∷ others) runs place ps s e size h fresh =
-    let there : run_of runs place ≡ r =
+    let there : run_by_place runs place ≡ r =
     ap (λ n. get_or runs n no_run) (sym size) ∙ ap (λ xs. get_or xs (length done) no_run) e ∙ get_or-append_seam done r others no_run in
     let left : left_at runs ps place ≡ open_run r place = left_fresh runs ps place r fresh there in
     let bound : (left_at runs ps place).run.left ≡ r.left = ap (λ (x : OpenRun). x.run.left) left in

@@ -6,7 +6,7 @@ use Rattle.markdown_options.specs.declared.configuration.Constructs.{Constructs}
 use Rattle.definition_text.specs.Ascii.{plus, hyphen, dot, less_than, greater_than, delete}
 use Rattle.definition_text.specs.Columns.{Code}
 use Rattle.definition_text.specs.Bytes.{is_letter_or_digit, after_all, begins_with_letter, begins_with}
-use Rattle.definition_text.specs.Content.{before}
+use Rattle.definition_text.specs.Content.{text_before}
 use Rattle.definition_inline.specs.Inline.{Leaf, leaf, Autolink, or_else}
 
 -- a byte of a scheme: a letter, a digit, `+`, `.` or `-` (CommonMark 6.5)
@@ -75,7 +75,7 @@ email_end content =
 abbrev pub closed_autolink : Bool → List Code → Option (List Code) → Option Leaf
 closed_autolink is_email content None = None
 closed_autolink is_email content (Some rest) =
-    if begins_with (codes ">") rest then Some (leaf (Autolink is_email (before content rest) ∷ []) (length (before content rest) + 2)) else None
+    if begins_with (codes ">") rest then Some (leaf (Autolink is_email (text_before content rest) ∷ []) (length (text_before content rest) + 2)) else None
 
 -- an autolink after its `<` (CommonMark 6.5)
 abbrev pub autolink_after : List Code → Option Leaf

@@ -64,24 +64,24 @@ abbrev pub literal_start_at : Option Code → List Code → Option LiteralStart
 literal_start_at previous content = or_start (www_start previous content) (protocol_start previous content)
 
 -- a control character of ASCII, or a line ending
-abbrev pub is_control : Code → Bool
-is_control code = nat_lt code 32 || ((code == delete) || is_eol code)
+abbrev pub is_control_or_ending : Code → Bool
+is_control_or_ending code = nat_lt code 32 || ((code == delete) || is_eol code)
 
 -- a character of this kind comes first, which is no whitespace, punctuation or control character
 abbrev pub begins_name : Kind → List InlineCode → Bool
 begins_name kind [] = false
-begins_name kind (c ∷ cs) = is_other kind && not (is_control c.code)
+begins_name kind (c ∷ cs) = is_other kind && not (is_control_or_ending c.code)
 
 -- ---- where it ends
 
 -- nothing, white space, `(` or `[` comes first
-abbrev pub ends_label : List Code → Bool
-ends_label [] = true
-ends_label (c ∷ cs) = is_space c || ((c == left_parenthesis) || (c == left_bracket))
+abbrev pub follows_label : List Code → Bool
+follows_label [] = true
+follows_label (c ∷ cs) = is_space c || ((c == left_parenthesis) || (c == left_bracket))
 
 -- white space or `<`, or a `]` that may end a label
 abbrev pub ends_literal : Code → List Code → Bool
-ends_literal code after = is_space code || ((code == less_than) || ((code == right_bracket) && ends_label after))
+ends_literal code after = is_space code || ((code == less_than) || ((code == right_bracket) && follows_label after))
 
 -- the codes up to there (GFM 6.9)
 abbrev pub literal_run : List Code → List Code

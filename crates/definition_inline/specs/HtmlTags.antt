@@ -6,9 +6,9 @@ use Rattle.definition_text.specs.Columns.{is_white}
 use Rattle.definition_text.specs.Bytes.{is_letter, is_letter_or_digit, begins_with, after_all, without_slash}
 
 -- a part, if there is one, and another after it
-abbrev pub followed_by : Option (List ℕ) → (List ℕ → Option (List ℕ)) → Option (List ℕ)
-followed_by None part = None
-followed_by (Some rest) part = part rest
+abbrev pub then_part : Option (List ℕ) → (List ℕ → Option (List ℕ)) → Option (List ℕ)
+then_part None part = None
+then_part (Some rest) part = part rest
 
 -- white space in a tag: spaces, tabs and a line ending
 abbrev pub is_tag_space : ℕ → Bool
@@ -89,7 +89,7 @@ has_attribute bytes = begins_with_tag_space bytes && begins_with_attribute (tag_
 -- attributes, each after white space; at most so many
 abbrev pub attributes : ℕ → List ℕ → Option (List ℕ)
 attributes zero bytes = Some bytes
-attributes (suc most) bytes = if has_attribute bytes then followed_by (attribute (tag_space bytes)) (attributes most) else Some bytes
+attributes (suc most) bytes = if has_attribute bytes then then_part (attribute (tag_space bytes)) (attributes most) else Some bytes
 
 -- `>`
 abbrev pub tag_end : List ℕ → Option (List ℕ)
@@ -106,11 +106,11 @@ closing_end bytes = tag_end (tag_space bytes)
 
 -- an open tag after its `<`: a tag name, attributes, of which each has a byte at least, and the end
 abbrev pub open_rest : List ℕ → Option (List ℕ)
-open_rest bytes = followed_by (followed_by (after_tag_name bytes) (attributes (length bytes))) open_end
+open_rest bytes = then_part (then_part (after_tag_name bytes) (attributes (length bytes))) open_end
 
 -- a closing tag after its `</`: a tag name, and the end
 abbrev pub closing_rest : List ℕ → Option (List ℕ)
-closing_rest bytes = followed_by (after_tag_name bytes) closing_end
+closing_rest bytes = then_part (after_tag_name bytes) closing_end
 
 -- what follows the open tag that bytes begin with (CommonMark 6.6)
 abbrev pub open_tag : List ℕ → Option (List ℕ)

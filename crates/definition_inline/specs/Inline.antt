@@ -8,12 +8,12 @@ pub data Target : Type 0 where
   Reference : List ContentCode → Target
 
 -- where a link or an image leads: a destination and a title, by their codes as they are written
-pub record Linked : Type 0 where
+pub record LinkTexts : Type 0 where
   pub destination : List ContentCode
   pub title : Option (List ContentCode)
 
-abbrev pub linked : List ContentCode → Option (List ContentCode) → Linked
-linked destination title = record { destination = destination; title = title }
+abbrev pub link_texts : List ContentCode → Option (List ContentCode) → LinkTexts
+link_texts destination title = record { destination = destination; title = title }
 
 -- what a literal leads to: `http://` and its text; its text, which begins with a protocol; or `mailto:` and its text (GFM 6.9)
 pub data LiteralKind : Type 0 where

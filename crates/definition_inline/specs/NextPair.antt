@@ -9,8 +9,8 @@ use Rattle.definition_inline.specs.Pairing.{Pair, OpenRun, open_run, is_eligible
 abbrev pub no_run : Run
 no_run = record { marker = 0; left = 0; may_open = false; may_close = false }
 
-abbrev pub run_of : List Run → ℕ → Run
-run_of runs place = slice_index_or runs place no_run
+abbrev pub run_by_place : List Run → ℕ → Run
+run_by_place runs place = slice_index_or runs place no_run
 
 -- how many bytes of the run at a place a pair takes
 abbrev pub taken_at : ℕ → Pair → ℕ
@@ -23,7 +23,7 @@ total_taken (p ∷ ps) place = taken_at place p + total_taken ps place
 
 -- what is left of the run at a place
 abbrev pub left_at : List Run → List Pair → ℕ → OpenRun
-left_at runs so_far place = without (total_taken so_far place) (open_run (run_of runs place) place)
+left_at runs so_far place = without (total_taken so_far place) (open_run (run_by_place runs place) place)
 
 -- a place strictly inside of a pair
 abbrev pub is_within : ℕ → Pair → Bool

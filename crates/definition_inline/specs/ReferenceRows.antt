@@ -34,19 +34,19 @@ is_code digits =
     nat_le 1 (length digits) && nat_le (length digits) 6 && list_all is_ascii_hexdigit digits && is_scalar (digits_value 16 digits)
 
 -- the character of a code
-abbrev pub code_text : List ℕ → Option (List ℕ)
-code_text digits = if is_code digits then Some (encode_utf8 (digits_value 16 digits)) else None
+abbrev pub scalar_text : List ℕ → Option (List ℕ)
+scalar_text digits = if is_code digits then Some (encode_utf8 (digits_value 16 digits)) else None
 
 -- what follows the first code: nothing, or `+` and a code
 abbrev pub second_text : List ℕ → Option (List ℕ)
 second_text [] = Some []
-second_text (b ∷ bs) = if b == plus then code_text bs else None
+second_text (b ∷ bs) = if b == plus then scalar_text bs else None
 
 -- the characters of one or two codes
 abbrev pub codes_text : List ℕ → Option (List ℕ)
 codes_text bytes =
     option_and_then (λ first. option_map (λ second. first ++ second) (second_text (after_all is_ascii_hexdigit bytes)))
-    (code_text (take_while is_ascii_hexdigit bytes))
+    (scalar_text (take_while is_ascii_hexdigit bytes))
 
 -- the row that a line is
 abbrev pub row_of : List ℕ → Option Row

@@ -20,9 +20,9 @@ resource_end destination title (c ∷ cs) =
     if c == right_parenthesis then Some (record { destination = destination; title = title; rest = cs }) else None
 
 -- a resource with this title, if there is one
-abbrev pub with_title : List Code → Option Part → Option LinkResource
-with_title destination None = None
-with_title destination (Some title) = resource_end destination (Some title.text) (after_white title.rest)
+abbrev pub resource_with_title : List Code → Option Part → Option LinkResource
+resource_with_title destination None = None
+resource_with_title destination (Some title) = resource_end destination (Some title.text) (after_white title.rest)
 
 -- whether a title is opened here
 abbrev pub opens_title : List Code → Bool
@@ -33,19 +33,19 @@ opens_title (c ∷ cs) = (c == double_quote) || ((c == single_quote) || (c == le
 abbrev pub after_destination : Part → Option LinkResource
 after_destination destination =
     let next = after_white destination.rest in
-    if begins_with_space destination.rest && opens_title next then with_title destination.text (title_at next)
+    if begins_with_space destination.rest && opens_title next then resource_with_title destination.text (title_at next)
     else resource_end destination.text None next
 
 -- a resource with this destination, if there is one
-abbrev pub with_destination : Option Part → Option LinkResource
-with_destination None = None
-with_destination (Some destination) = after_destination destination
+abbrev pub resource_with_destination : Option Part → Option LinkResource
+resource_with_destination None = None
+resource_with_destination (Some destination) = after_destination destination
 
 -- a resource after its `(` and white space (CommonMark 6.3)
 abbrev pub resource_inside : List Code → Option LinkResource
 resource_inside [] = None
 resource_inside (c ∷ cs) =
-    if c == right_parenthesis then resource_end [] None (c ∷ cs) else with_destination (destination_at (Some space) (c ∷ cs))
+    if c == right_parenthesis then resource_end [] None (c ∷ cs) else resource_with_destination (destination_at (Some space) (c ∷ cs))
 
 -- a resource, whose destination has parentheses at most 32 deep (CommonMark 6.3)
 abbrev pub resource_at : List Code → Option LinkResource

@@ -8,7 +8,7 @@ use Rattle.markdown_options.specs.declared.configuration.ParseOptions.{ParseOpti
 use Rattle.definition_text.specs.Ascii.{right_bracket}
 use Rattle.definition_text.specs.Columns.{Code, is_white}
 use Rattle.definition_text.specs.Bytes.{begins_with}
-use Rattle.definition_text.specs.Content.{before}
+use Rattle.definition_text.specs.Content.{text_before}
 use Rattle.definition_text.specs.InlineCode.{InlineCode, codes_of}
 use Rattle.definition_inline.specs.Inline.{Target, Inline, Data, Link, Image, Call, Inlines, Leaf, or_else}
 use Rattle.definition_inline.specs.CharacterEscape.{escape_at}
@@ -170,7 +170,7 @@ formed_at context ImageStart between rest = link_or_image context.is_defined bet
 -- what a `]` forms with a label start that is open (CommonMark 6.3)
 abbrev pub ended_by : InlineContext → List Code → OpenLabel → Text → Option LinkOrCall
 ended_by context content label inner =
-    if may_form label.start inner.holds_link then formed_at context label.start (before label.from content) (drop 1 content) else None
+    if may_form label.start inner.holds_link then formed_at context label.start (text_before label.from content) (drop 1 content) else None
 
 -- a `]`, where these label starts are open
 abbrev pub label_end_step : InlineContext → List Code → Text → List OpenLabel → Step

@@ -6,7 +6,7 @@ use Rattle.markdown_options.specs.LineEndings.{ending_bytes}
 use Rattle.definition_text.specs.BlockLines.{BlockLine}
 use Rattle.definition_text.specs.Lines.{ending_text}
 use Rattle.definition_text.specs.Columns.{code_byte, bytes_of}
-use Rattle.definition_page.specs.Tags.{Said, Words, Number, Attribute, attribute, Tag, tag, bare_tag}
+use Rattle.definition_page.specs.Tags.{PrintedPart, Words, Number, Attribute, attribute, Tag, tag, bare_tag}
 use Rattle.definition_page.specs.Pieces.{Piece, Void, Says, Eol, Fresh, NoteStart, NoteEnd}
 use Rattle.definition_page.specs.InlinePieces.{Meaning, raw_html, element, inline_pieces}
 use Rattle.definition_page.specs.GfmTable.{table_pieces}
@@ -27,14 +27,14 @@ inside tight = record { top = false; tight = tight }
 -- ---- lines
 
 -- a line of code with its ending; the columns that are left of a tab are spaces
-abbrev pub code_line : BlockLine → List Said
+abbrev pub code_line : BlockLine → List PrintedPart
 code_line line = Words (map code_byte line.codes) ∷ Words (ending_text line.ending) ∷ []
 
 -- a line of HTML with its ending; the columns that are left of a tab aren't printed
-abbrev pub html_line : CompileOptions → BlockLine → List Said
+abbrev pub html_line : CompileOptions → BlockLine → List PrintedPart
 html_line options line = raw_html options (bytes_of line.codes) ∷ Words (ending_text line.ending) ∷ []
 
-abbrev pub says : List Said → List Piece
+abbrev pub says : List PrintedPart → List Piece
 says parts = map Says parts
 
 -- ---- tags

@@ -86,19 +86,19 @@ footnotes_pieces options notes = flat_map (footnote_pieces options) notes
 -- ---- the section
 
 -- the element of the heading
-abbrev pub heading_name : CompileOptions → List ℕ
-heading_name options = encode (text_or options.gfm_footnote_label_tag_name (codes "h2"))
+abbrev pub section_heading_name : CompileOptions → List ℕ
+section_heading_name options = encode (text_or options.gfm_footnote_label_tag_name (codes "h2"))
 
 -- the start tag of the heading, where its attributes are those that all have, or are given and printed as they are
-abbrev pub heading_tag : {A : Type 0} → List ℕ → Option (String A) → Tag
-heading_tag name None = tag name (attribute (codes "id") (codes "footnote-label") ∷ attribute (codes "class") (codes "sr-only") ∷ [])
-heading_tag name (Some attributes) = bare_tag (name ++ codes " id=\"footnote-label\" " ++ string_bytes attributes)
+abbrev pub section_heading_tag : {A : Type 0} → List ℕ → Option (String A) → Tag
+section_heading_tag name None = tag name (attribute (codes "id") (codes "footnote-label") ∷ attribute (codes "class") (codes "sr-only") ∷ [])
+section_heading_tag name (Some attributes) = bare_tag (name ++ codes " id=\"footnote-label\" " ++ string_bytes attributes)
 
 abbrev pub heading_pieces : CompileOptions → List Piece
 heading_pieces options =
-    Open (heading_tag (heading_name options) options.gfm_footnote_label_attributes)
+    Open (section_heading_tag (section_heading_name options) options.gfm_footnote_label_attributes)
     ∷ Says (Words (text_or options.gfm_footnote_label (codes "Footnotes")))
-    ∷ Close (heading_name options)
+    ∷ Close (section_heading_name options)
     ∷ []
 
 abbrev pub section_tag : Tag

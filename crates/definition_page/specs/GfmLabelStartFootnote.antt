@@ -2,7 +2,7 @@
 use Rattle.std.specs.Prelude.{ℕ, if◌then◌else◌, nat_le, List, [], ◌∷◌, Option, None, Some, String, string_bytes, codes}
 use Rattle.markdown_options.specs.declared.configuration.CompileOptions.{CompileOptions}
 use Rattle.definition_page.specs.Urls.{percent}
-use Rattle.definition_page.specs.Tags.{Said, Words, Number, Attribute, attribute, Tag, tag, bare_tag}
+use Rattle.definition_page.specs.Tags.{PrintedPart, Words, Number, Attribute, attribute, Tag, tag, bare_tag}
 use Rattle.definition_page.specs.Pieces.{Piece, Says}
 use Rattle.definition_page.specs.InlinePieces.{element}
 
@@ -22,19 +22,19 @@ abbrev pub id_prefix : CompileOptions → List ℕ
 id_prefix options = text_or options.gfm_footnote_clobber_prefix (codes "user-content-")
 
 -- the id of a footnote
-abbrev pub footnote_id : CompileOptions → List ℕ → List Said
+abbrev pub footnote_id : CompileOptions → List ℕ → List PrintedPart
 footnote_id options label = Words (id_prefix options) ∷ Words (codes "fn-") ∷ Words (percent label) ∷ []
 
 -- what tells the calls of one footnote apart, from the second one on
-abbrev pub count_says : ℕ → List Said
+abbrev pub count_says : ℕ → List PrintedPart
 count_says count = if nat_le count 1 then [] else Words (codes "-") ∷ Number count ∷ []
 
 -- the id of a call
-abbrev pub call_id : CompileOptions → List ℕ → ℕ → List Said
+abbrev pub call_id : CompileOptions → List ℕ → ℕ → List PrintedPart
 call_id options label count = Words (id_prefix options) ∷ Words (codes "fnref-") ∷ Words (percent label) ∷ count_says count
 
 -- an attribute that leads to this id on the page
-abbrev pub leads_to_id : List Said → Attribute
+abbrev pub leads_to_id : List PrintedPart → Attribute
 leads_to_id id = record { name = codes "href"; value = Words (codes "#") ∷ id }
 
 -- the start tag of a call

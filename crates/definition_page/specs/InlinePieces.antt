@@ -6,14 +6,14 @@ use Rattle.markdown_options.specs.declared.configuration.CompileOptions.{Compile
 use Rattle.definition_text.specs.Columns.{Code as ContentCode, bytes_of, bare}
 use Rattle.definition_text.specs.Content.{is_eol}
 use Rattle.definition_text.specs.Encode.{plain}
-use Rattle.definition_inline.specs.Inline.{Target, Resource, Reference, Linked, linked, LiteralKind, Www, Protocol, Email, Inline, Data, Escape, Character}
+use Rattle.definition_inline.specs.Inline.{Target, Resource, Reference, LinkTexts, link_texts, LiteralKind, Www, Protocol, Email, Inline, Data, Escape, Character}
 use Rattle.definition_inline.specs.Inline.{Code, Math, Autolink, Literal, Html, EscapedBreak, TrailingBreak, LineEnd, Emphasis, Strong, Strikethrough, Link}
 use Rattle.definition_inline.specs.Inline.{Image, Call, Inlines, Nil, Cons}
 use Rattle.definition_inline.specs.LabelMatch.{normal_label, first_match}
 use Rattle.definition_inline.specs.Strings.{string_text}
 use Rattle.definition_page.specs.GfmTagfilter.{filter_if}
 use Rattle.definition_page.specs.Urls.{percent, sanitize, permits, href_protocols, src_protocols}
-use Rattle.definition_page.specs.Tags.{Said, Words, AsItIs, EndOfLine, Attribute, attribute, Tag, tag, bare_tag}
+use Rattle.definition_page.specs.Tags.{PrintedPart, Words, AsItIs, EndOfLine, Attribute, attribute, Tag, tag, bare_tag}
 use Rattle.definition_page.specs.Pieces.{Piece, Open, Close, Void, Says, CallOf, CountOf}
 
 -- what is printed by: the constructs that are on, the options, the texts of named characters, what the definition of a label leads to, and the labels of the
@@ -22,13 +22,13 @@ pub record Meaning : Type 0 where
   pub on : Constructs
   pub compile : CompileOptions
   pub names : List ℕ → Option (List ℕ)
-  pub definition : List ContentCode → Option Linked
+  pub definition : List ContentCode → Option LinkTexts
   pub footnotes : List (List ContentCode)
 
 -- ---- raw HTML
 
 -- raw HTML is printed as it is where that is allowed, and otherwise as text
-abbrev pub raw_html : CompileOptions → List ℕ → Said
+abbrev pub raw_html : CompileOptions → List ℕ → PrintedPart
 raw_html options html = if options.allow_dangerous_html then AsItIs (filter_if options html) else Words html
 
 -- the lines of raw HTML by its codes, each with the code of its ending
@@ -48,18 +48,18 @@ html_lines [] = []
 html_lines (c ∷ cs) = if is_eol c then html_text_line [] (c ∷ []) ∷ html_lines cs else in_first_line c (html_lines cs)
 
 -- a line, and its ending as it is
-abbrev pub html_line_says : CompileOptions → List ContentCode → List ContentCode → List Said
+abbrev pub html_line_says : CompileOptions → List ContentCode → List ContentCode → List PrintedPart
 html_line_says options line ending = raw_html options (bytes_of line) ∷ map EndOfLine ending
 
 -- a later line, without the spaces and tabs at its start (CommonMark 6.6)
-abbrev pub later_line_says : CompileOptions → HtmlLine → List Said
+abbrev pub later_line_says : CompileOptions → HtmlLine → List PrintedPart
 later_line_says options l = html_line_says options (bare l.line) l.ending
 
-abbrev pub html_lines_say : CompileOptions → List HtmlLine → List Said
+abbrev pub html_lines_say : CompileOptions → List HtmlLine → List PrintedPart
 html_lines_say options [] = []
 html_lines_say options (first ∷ others) = html_line_says options first.line first.ending ++ flat_map (later_line_says options) others
 
-abbrev pub html_says : CompileOptions → List ContentCode → List Said
+abbrev pub html_says : CompileOptions → List ContentCode → List PrintedPart
 html_says options html = html_lines_say options (html_lines html)
 
 -- ---- links
@@ -75,12 +75,12 @@ abbrev pub image_url : CompileOptions → List ℕ → List ℕ
 image_url options url = permitted_url (options.allow_any_img_src || options.allow_dangerous_protocol) src_protocols url
 
 -- where a link or an image leads, by what the definition of a label leads to
-abbrev pub leads_to : (List ContentCode → Option Linked) → Target → Linked
-leads_to definition (Resource destination title) = linked destination title
-leads_to definition (Reference label) = unwrap_or (definition label) (linked [] None)
+abbrev pub leads_to : (List ContentCode → Option LinkTexts) → Target → LinkTexts
+leads_to definition (Resource destination title) = link_texts destination title
+leads_to definition (Reference label) = unwrap_or (definition label) (link_texts [] None)
 
 -- the URL of a destination: its text, in which NUL is U+FFFD (CommonMark 6.3)
-abbrev pub url_of : Meaning → Linked → List ℕ
+abbrev pub url_of : Meaning → LinkTexts → List ℕ
 url_of m target = plain (string_text m.on m.names target.destination)
 
 -- the attribute of a title that isn't empty
@@ -93,11 +93,11 @@ title_attribute m None = []
 title_attribute m (Some title) = title_attributes (string_text m.on m.names title)
 
 -- the start tag of a link (CommonMark 6.3)
-abbrev pub link_tag : Meaning → Linked → Tag
+abbrev pub link_tag : Meaning → LinkTexts → Tag
 link_tag m target = tag (codes "a") (attribute (codes "href") (link_url m.compile (url_of m target)) ∷ title_attribute m target.title)
 
 -- the tag of an image, with what its description says (CommonMark 6.4)
-abbrev pub image_tag : Meaning → Linked → List Said → Tag
+abbrev pub image_tag : Meaning → LinkTexts → List PrintedPart → Tag
 image_tag m target description =
     tag (codes "img")
     (attribute (codes "src") (image_url m.compile (url_of m target))
@@ -122,7 +122,7 @@ math_tag = tag (codes "code") (attribute (codes "class") (codes "language-math m
 -- ---- the description of an image: what its parts say, without tags (CommonMark 6.4)
 
 abbrev mutual
-  pub part_says : CompileOptions → Inline → List Said
+  pub part_says : CompileOptions → Inline → List PrintedPart
   part_says options (Data b) = Words (b ∷ []) ∷ []
   part_says options (Escape b) = Words (b ∷ []) ∷ []
   part_says options (Character text) = Words text ∷ []
@@ -141,7 +141,7 @@ abbrev mutual
   part_says options (Image target kids) = description options kids
   part_says options (Call label) = []
 
-  pub description : CompileOptions → Inlines → List Said
+  pub description : CompileOptions → Inlines → List PrintedPart
   description options Nil = []
   description options (Cons i is) = part_says options i ++ description options is
 

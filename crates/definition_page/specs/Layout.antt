@@ -27,29 +27,29 @@ latest_call place number (c ∷ cs) =
 
 -- what was laid out: the innermost text that is open, which is the page or the content of a footnote, those around it, the contents of the footnotes that have
 -- ended, and the footnotes that are called
-pub record Laid : Type 0 where
+pub record LayoutState : Type 0 where
   pub text : List ℕ
   pub outer : List (List ℕ)
   pub notes : List (List ℕ)
   pub called : List NoteCalls
 
-abbrev pub laid : List ℕ → List (List ℕ) → List (List ℕ) → List NoteCalls → Laid
-laid text outer notes called = record { text = text; outer = outer; notes = notes; called = called }
+abbrev pub layout_state : List ℕ → List (List ℕ) → List (List ℕ) → List NoteCalls → LayoutState
+layout_state text outer notes called = record { text = text; outer = outer; notes = notes; called = called }
 
 -- where the innermost text ends, which is the content of a footnote, the one around it goes on
-abbrev pub note_end : List ℕ → List (List ℕ) → List (List ℕ) → List NoteCalls → Laid
-note_end text [] notes called = laid text [] notes called
-note_end text (around ∷ others) notes called = laid around others (notes ++ text ∷ []) called
+abbrev pub note_end : List ℕ → List (List ℕ) → List (List ℕ) → List NoteCalls → LayoutState
+note_end text [] notes called = layout_state text [] notes called
+note_end text (around ∷ others) notes called = layout_state around others (notes ++ text ∷ []) called
 
 -- one more piece, where the default ending is given
-abbrev pub lay : CompileOptions → List ℕ → Laid → Piece → Laid
+abbrev pub lay : CompileOptions → List ℕ → LayoutState → Piece → LayoutState
 lay options default l (CallOf place label) =
     let called = once_more place label l.called in
-    laid (fold (print default) l.text (call_pieces options (latest_call place 1 called))) l.outer l.notes called
-lay options default l (CountOf place label) = laid l.text l.outer l.notes (once_more place label l.called)
-lay options default l NoteStart = laid [] (l.text ∷ l.outer) l.notes l.called
+    layout_state (fold (print default) l.text (call_pieces options (latest_call place 1 called))) l.outer l.notes called
+lay options default l (CountOf place label) = layout_state l.text l.outer l.notes (once_more place label l.called)
+lay options default l NoteStart = layout_state [] (l.text ∷ l.outer) l.notes l.called
 lay options default l NoteEnd = note_end l.text l.outer l.notes l.called
-lay options default l piece = laid (print default l.text piece) l.outer l.notes l.called
+lay options default l piece = layout_state (print default l.text piece) l.outer l.notes l.called
 
 -- a footnote that is called, with its content
 abbrev pub note_of : List (List ℕ) → NoteCalls → Footnote
@@ -58,4 +58,4 @@ note_of notes c = record { label = c.label; calls = c.count; html = slice_index_
 -- a page, and after it the footnotes that are called
 abbrev pub page_layout : CompileOptions → List ℕ → List Piece → List ℕ
 page_layout options default pieces =
-    let l = fold (lay options default) (laid [] [] [] []) pieces in fold (print default) l.text (section_pieces options (map (note_of l.notes) l.called))
+    let l = fold (lay options default) (layout_state [] [] [] []) pieces in fold (print default) l.text (section_pieces options (map (note_of l.notes) l.called))

@@ -2,7 +2,7 @@
 use Rattle.std.specs.Prelude.{ℕ, Bool, true, if◌then◌else◌, ◌==◌, ◌||◌, List, [], ◌++◌, Option, None, Some, slice_get, length, ◌-◌}
 use Rattle.std.specs.List.{fold}
 use Rattle.definition_text.specs.Ascii.{line_feed, carriage_return}
-use Rattle.definition_page.specs.Tags.{Said, said_bytes, Tag, start_tag, end_tag, void_tag}
+use Rattle.definition_page.specs.Tags.{PrintedPart, said_bytes, Tag, start_tag, end_tag, void_tag}
 
 -- a start tag, an end tag by its name, the tag of an element that holds nothing, a part of a text or of raw HTML, the default ending, or that ending unless
 -- nothing, CR or LF stands before; and what footnotes need: a call, and one that isn't printed but counts, each with the place of its footnote, in the order in
@@ -11,7 +11,7 @@ pub data Piece : Type 0 where
   Open : Tag → Piece
   Close : List ℕ → Piece
   Void : Tag → Piece
-  Says : Said → Piece
+  Says : PrintedPart → Piece
   Eol : Piece
   Fresh : Piece
   CallOf : ℕ → List ℕ → Piece

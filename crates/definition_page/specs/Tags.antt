@@ -7,13 +7,13 @@ use Rattle.definition_text.specs.Encode.{encode, plain}
 use Rattle.definition_inline.specs.Strings.{eol_bytes}
 
 -- a part of what is printed: text, in which the four bytes of HTML are references; HTML as it is; the code of a line ending; or a number
-pub data Said : Type 0 where
-  Words : List ℕ → Said
-  AsItIs : List ℕ → Said
-  EndOfLine : Code → Said
-  Number : ℕ → Said
+pub data PrintedPart : Type 0 where
+  Words : List ℕ → PrintedPart
+  AsItIs : List ℕ → PrintedPart
+  EndOfLine : Code → PrintedPart
+  Number : ℕ → PrintedPart
 
-abbrev pub said_bytes : Said → List ℕ
+abbrev pub said_bytes : PrintedPart → List ℕ
 said_bytes (Words text) = encode text
 said_bytes (AsItIs html) = plain html
 said_bytes (EndOfLine code) = eol_bytes code
@@ -21,7 +21,7 @@ said_bytes (Number n) = decimal n
 
 pub record Attribute : Type 0 where
   pub name : List ℕ
-  pub value : List Said
+  pub value : List PrintedPart
 
 -- an attribute whose value is a text
 abbrev pub attribute : List ℕ → List ℕ → Attribute

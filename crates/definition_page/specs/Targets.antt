@@ -6,7 +6,7 @@ use Rattle.definition_block.specs.Blocks.{Blocks}
 use Rattle.definition_inline.specs.Definition.{Definition, definition}
 use Rattle.definition_block.specs.Definitions.{definitions, footnotes}
 use Rattle.definition_inline.specs.LabelMatch.{first_match}
-use Rattle.definition_inline.specs.Inline.{Linked, linked}
+use Rattle.definition_inline.specs.Inline.{LinkTexts, link_texts}
 
 -- a definition whose columns that are left of a tab are spaces
 abbrev pub with_spaces : Definition → Definition
@@ -24,11 +24,11 @@ abbrev pub no_definition : Definition
 no_definition = definition [] [] None []
 
 -- where the definition at a place leads
-abbrev pub linked_at : List Definition → ℕ → Linked
-linked_at ds place = let d = slice_index_or ds place no_definition in linked d.destination d.title
+abbrev pub linked_at : List Definition → ℕ → LinkTexts
+linked_at ds place = let d = slice_index_or ds place no_definition in link_texts d.destination d.title
 
 -- where the first definition leads whose label matches this one (CommonMark 6.3)
-abbrev pub linked_by : List Definition → List Code → Option Linked
+abbrev pub linked_by : List Definition → List Code → Option LinkTexts
 linked_by ds label = option_map (linked_at ds) (first_match label (labels_of ds))
 
 -- whether a label is that of a definition

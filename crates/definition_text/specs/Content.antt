@@ -68,18 +68,18 @@ abbrev pub part : List Code → List Code → Part
 part text rest = record { text = text; rest = rest }
 
 -- what stands before the rest of a content
-abbrev pub before : List Code → List Code → List Code
-before content rest = take (length content - length rest) content
+abbrev pub text_before : List Code → List Code → List Code
+text_before content rest = take (length content - length rest) content
 
 -- a text that ends where the rest begins, if there is one
 abbrev pub up_to : List Code → Option (List Code) → Option Part
 up_to content None = None
-up_to content (Some rest) = Some (part (before content rest) rest)
+up_to content (Some rest) = Some (part (text_before content rest) rest)
 
 -- the same, where the rest begins with the code that closes the text
 abbrev pub closed_by : List Code → Option (List Code) → Option Part
 closed_by content None = None
-closed_by content (Some rest) = Some (part (before content rest) (drop 1 rest))
+closed_by content (Some rest) = Some (part (text_before content rest) (drop 1 rest))
 
 -- whether this code is a backslash that may escape the next one, given whether the code before it was (CommonMark 2.4)
 abbrev pub may_escape : Bool → Code → Bool

@@ -26,7 +26,7 @@ use Rattle.definition_page.specs.Targets.{Targets, linked_by}
 use Rattle.definition_page.specs.TextTables.{TextTables}
 use Rattle.definition_page.specs.Tags.{Words, Number, said_bytes, Attribute, Tag, tag, bare_tag, attribute, start_tag, end_tag, void_tag, attribute_bytes}
 use Rattle.definition_page.specs.Pieces.{Piece, Close, Void, Says, Eol, Fresh, NoteEnd}
-use Rattle.definition_page.specs.Layout.{Laid, laid, lay}
+use Rattle.definition_page.specs.Layout.{LayoutState, layout_state, lay}
 use Rattle.definition_page.specs.InlinePieces.{Meaning, element, inline_pieces}
 use Rattle.definition_page.specs.Page as page
 use Rattle.definition_page.specs.Read.{Reading, reading, context_of, Standing, on_page, in_container, in_item, next_standing, text_content, read_text}
@@ -122,7 +122,7 @@ module _ (options : CompileOptions) (default : List ℕ) where
   ending_same ending false l = ap (add l) (ending_said ending)
 
   -- an ending that isn't there
-  no_ending : (silent : Bool) (more : List bytes.Piece) (l : Laid)
+  no_ending : (silent : Bool) (more : List bytes.Piece) (l : LayoutState)
       → fold (bytes_layout.lay options default) l more ≡ fold (bytes_layout.lay options default) l (cond silent [] (bytes.Bytes [] ∷ []) ++ more)
   no_ending true more l = refl
   no_ending false more l = ap (λ x. fold (bytes_layout.lay options default) x more) (sym (add_nil l))
@@ -385,7 +385,7 @@ module _ (default : List ℕ) (options : Options) (tables : TextTables) (ds : Ta
       (old.block_pieces d s tight silent (tree.Holds (Footnote label) kids))
   footnote_same s tight silent before label kids same l =
       joined options.compile default (children_pieces m (record { top = false; tight = false }) None (read_blocks r in_container kids)) (NoteEnd ∷ [])
-      (old.children_pieces d in_container false false kids) (bytes.NoteEnd ∷ []) same (λ l. refl) (laid [] (l.text ∷ l.outer) l.notes l.called)
+      (old.children_pieces d in_container false false kids) (bytes.NoteEnd ∷ []) same (λ l. refl) (layout_state [] (l.text ∷ l.outer) l.notes l.called)
 
   -- ---- all blocks
 

@@ -115,7 +115,7 @@ footnotes_same options (n ∷ ns) default out =
 -- ---- the section
 
 attributes_same : {A : Type 0} (name : List ℕ) (attributes : Option (String A))
-    → start_tag (note.heading_tag name attributes) ≡ codes "<" ++ name ++ codes " id=\"footnote-label\" " ++ call.text_or attributes (codes "class=\"sr-only\"")
+    → start_tag (note.section_heading_tag name attributes) ≡ codes "<" ++ name ++ codes " id=\"footnote-label\" " ++ call.text_or attributes (codes "class=\"sr-only\"")
     ++ codes ">"
 attributes_same name None = moved name (codes " id=\"footnote-label\" ") (codes "class=\"sr-only\"") (codes ">")
   where
@@ -128,8 +128,8 @@ attributes_same name (Some attributes) = moved name (codes " id=\"footnote-label
 
 heading_same : (options : CompileOptions) (default : List ℕ) → Same default (note.heading_pieces options) (bytes.Bytes (heading_html options) ∷ [])
 heading_same options default out =
-    ap (λ x. ((out ++ x) ++ encode (call.text_or options.gfm_footnote_label (codes "Footnotes"))) ++ end_tag (note.heading_name options))
-    (attributes_same (note.heading_name options) options.gfm_footnote_label_attributes)
+    ap (λ x. ((out ++ x) ++ encode (call.text_or options.gfm_footnote_label (codes "Footnotes"))) ++ end_tag (note.section_heading_name options))
+    (attributes_same (note.section_heading_name options) options.gfm_footnote_label_attributes)
     ∙ simp append_assoc
 
 pub section_same : (options : CompileOptions) (ns : List note.Footnote) (default : List ℕ)

@@ -4,10 +4,10 @@ use Rattle.std.specs.List.{fold, flat_map}
 use Rattle.std.proofs.lemmas.List.{append-nil}
 use Rattle.std.proofs.lemmas.List.Sums.{fold-append}
 use Rattle.markdown_options.specs.declared.configuration.CompileOptions.{CompileOptions}
-use Rattle.definition_page.specs.Tags.{Said, said_bytes, Tag, start_tag, end_tag}
+use Rattle.definition_page.specs.Tags.{PrintedPart, said_bytes, Tag, start_tag, end_tag}
 use Rattle.definition_page.specs.Pieces.{Piece, Close, Says, Fresh}
 use Rattle.definition_page.specs.InlinePieces.{element}
-use Rattle.definition_page.specs.Layout.{Laid, laid, lay}
+use Rattle.definition_page.specs.Layout.{LayoutState, layout_state, lay}
 use Rattle.html_bytes.specs.Pieces as bytes
 use Rattle.html_bytes.specs.Layout as bytes_layout
 use Rattle.html_bytes.specs.Layout.{with_text}
@@ -15,28 +15,28 @@ use Rattle.html_bytes.specs.Layout.{with_text}
 -- ---- texts that grow
 
 -- more bytes of the innermost text
-abbrev pub add : Laid → List ℕ → Laid
+abbrev pub add : LayoutState → List ℕ → LayoutState
 add l more = with_text l (l.text ++ more)
 
 -- a fresh line in it
-abbrev pub fresh : List ℕ → Laid → Laid
+abbrev pub fresh : List ℕ → LayoutState → LayoutState
 fresh default l = with_text l (bytes.print default l.text bytes.Fresh)
 
-pub add_nil : (l : Laid) → add l [] ≡ l
-add_nil l = ap (λ t. laid t l.outer l.notes l.called) (append-nil l.text)
+pub add_nil : (l : LayoutState) → add l [] ≡ l
+add_nil l = ap (λ t. layout_state t l.outer l.notes l.called) (append-nil l.text)
 
-pub add_add : (l : Laid) (a b : List ℕ) → add (add l a) b ≡ add l (a ++ b)
-add_add l a b = ap (λ t. laid t l.outer l.notes l.called) (append_assoc l.text a b)
+pub add_add : (l : LayoutState) (a b : List ℕ) → add (add l a) b ≡ add l (a ++ b)
+add_add l a b = ap (λ t. layout_state t l.outer l.notes l.called) (append_assoc l.text a b)
 
 -- ---- pieces that lay out the same
 
 module _ (options : CompileOptions) (default : List ℕ) where
   abbrev pub Same : List Piece → List bytes.Piece → Type 0
-  Same ps bs = (l : Laid) → fold (lay options default) l ps ≡ fold (bytes_layout.lay options default) l bs
+  Same ps bs = (l : LayoutState) → fold (lay options default) l ps ≡ fold (bytes_layout.lay options default) l bs
 
   -- pieces that add bytes
   abbrev pub Adds : List Piece → List ℕ → Type 0
-  Adds ps more = (l : Laid) → fold (lay options default) l ps ≡ add l more
+  Adds ps more = (l : LayoutState) → fold (lay options default) l ps ≡ add l more
 
   pub none_same : Same [] []
   none_same l = refl
@@ -84,6 +84,6 @@ module _ (options : CompileOptions) (default : List ℕ) where
       ∙ add_add l (start_tag t ++ more) (end_tag t.name)
 
   -- pieces that say something
-  pub says_added : (parts : List Said) → Adds (map Says parts) (flat_map said_bytes parts)
+  pub says_added : (parts : List PrintedPart) → Adds (map Says parts) (flat_map said_bytes parts)
   says_added [] l = sym (add_nil l)
   says_added (p ∷ ps) l = says_added ps (add l (said_bytes p)) ∙ add_add l (said_bytes p) (flat_map said_bytes ps)

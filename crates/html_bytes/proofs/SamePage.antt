@@ -9,7 +9,7 @@ use Rattle.definition_block.specs.Tree.{blocks}
 use Rattle.definition_page.specs.TextTables.{TextTables}
 use Rattle.definition_page.specs.Targets.{document_targets}
 use Rattle.definition_page.specs.Pieces.{Piece, print}
-use Rattle.definition_page.specs.Layout.{Laid, laid, note_of, page_layout}
+use Rattle.definition_page.specs.Layout.{LayoutState, layout_state, note_of, page_layout}
 use Rattle.definition_page.specs.GfmFootnoteDefinition.{section_pieces}
 use Rattle.definition_page.specs.BlockPieces.{at_top, children_pieces, fresh_unless}
 use Rattle.definition_page.specs.DocumentPieces.{default_ending}
@@ -32,9 +32,9 @@ last_same options default false l = refl
 pub page_same : (options : CompileOptions) (default : List ℕ) (ps : List Piece) (bs : List bytes.Piece) → Same options default ps bs
     → page_layout options default ps ≡ bytes_layout.page_layout options default bs
 page_same options default ps bs same =
-    let shown : Laid → List ℕ = λ l. fold (print default) l.text (section_pieces options (map (note_of l.notes) l.called)) in
+    let shown : LayoutState → List ℕ = λ l. fold (print default) l.text (section_pieces options (map (note_of l.notes) l.called)) in
     let l = fold (bytes_layout.lay options default) bytes_layout.nothing_laid bs in
-    ap shown (same (laid [] [] [] [])) ∙ section_same options (map (note_of l.notes) l.called) default l.text
+    ap shown (same (layout_state [] [] [] [])) ∙ section_same options (map (note_of l.notes) l.called) default l.text
 
 -- the HTML of a text, by the definition and in bytes
 pub html_is : (tables : TextTables) (text : List ℕ) (options : Options)

@@ -7,14 +7,14 @@ use Rattle.markdown_options.specs.declared.configuration.Constructs.{Constructs}
 use Rattle.markdown_options.specs.declared.configuration.CompileOptions.{CompileOptions}
 use Rattle.definition_text.specs.Columns.{bytes_of, bare}
 use Rattle.definition_text.specs.Encode.{encode, encoded_byte, plain}
-use Rattle.definition_inline.specs.Inline.{Linked, Inline, Data, Escape, Character, Code, Math, Autolink, Literal, Html, EscapedBreak, TrailingBreak, LineEnd}
+use Rattle.definition_inline.specs.Inline.{LinkTexts, Inline, Data, Escape, Character, Code, Math, Autolink, Literal, Html, EscapedBreak, TrailingBreak, LineEnd}
 use Rattle.definition_inline.specs.Inline.{Emphasis, Strong, Strikethrough, Link, Image, Call, Inlines, Nil, Cons}
 use Rattle.definition_inline.specs.Strings.{string_text, eol_bytes}
 use Rattle.definition_page.specs.Urls.{percent, sanitize, permits, href_protocols, src_protocols}
 use Rattle.definition_page.specs.GfmTagfilter.{filter_if}
-use Rattle.definition_page.specs.Tags.{Said, Words, AsItIs, EndOfLine, said_bytes, attribute, attribute_bytes, tag, bare_tag, start_tag, end_tag, void_tag}
+use Rattle.definition_page.specs.Tags.{PrintedPart, Words, AsItIs, EndOfLine, said_bytes, attribute, attribute_bytes, tag, bare_tag, start_tag, end_tag, void_tag}
 use Rattle.definition_inline.specs.LabelMatch.{first_match, normal_label}
-use Rattle.definition_page.specs.Layout.{laid, lay, once_more, latest_call}
+use Rattle.definition_page.specs.Layout.{layout_state, lay, once_more, latest_call}
 use Rattle.definition_page.specs.Pieces.{Says}
 use Rattle.definition_page.specs.InlinePieces as page
 use Rattle.definition_page.specs.InlinePieces.{Meaning, HtmlLine, html_lines, leads_to, address, literal_address, element, part_says}
@@ -100,19 +100,19 @@ image_parts a s v q r d e t g = simp (append_assoc, append-nil)
 -- ---- the inline structure under the options of a document
 
 -- what is printed by, of pieces and of bytes
-abbrev pub piece_meaning : Constructs → CompileOptions → (List ℕ → Option (List ℕ)) → (List ℕ → Option Linked) → List (List ℕ) → Meaning
+abbrev pub piece_meaning : Constructs → CompileOptions → (List ℕ → Option (List ℕ)) → (List ℕ → Option LinkTexts) → List (List ℕ) → Meaning
 piece_meaning on options names definition footnotes =
     record { on = on; compile = options; names = names; definition = definition; footnotes = footnotes }
 
 title_said : (on : Constructs) (options : CompileOptions) (names : List ℕ → Option (List ℕ)) (definition : List ℕ
-    → Option Linked) (footnotes : List (List ℕ)) (title : Option (List ℕ))
+    → Option LinkTexts) (footnotes : List (List ℕ)) (title : Option (List ℕ))
     → flat_map attribute_bytes (page.title_attribute (piece_meaning on options names definition footnotes) title)
     ≡ title_attribute (inline_meaning on options names definition footnotes) title
 title_said on options names definition footnotes None = refl
 title_said on options names definition footnotes (Some title) = titled_said (string_text on names title)
 
 link_said : (on : Constructs) (options : CompileOptions) (names : List ℕ → Option (List ℕ)) (definition : List ℕ
-    → Option Linked) (footnotes : List (List ℕ)) (target : Linked)
+    → Option LinkTexts) (footnotes : List (List ℕ)) (target : LinkTexts)
     → start_tag (page.link_tag (piece_meaning on options names definition footnotes) target) ≡ link_tag
     (inline_meaning on options names definition footnotes) target
 link_said on options names definition footnotes target =
@@ -131,7 +131,7 @@ autolink_said options url =
     ∙ ap (λ x. codes "<a href=\"" ++ x ++ codes "\">") (url_said options.allow_dangerous_protocol href_protocols url)
 
 image_said : (on : Constructs) (options : CompileOptions) (names : List ℕ → Option (List ℕ)) (definition : List ℕ
-    → Option Linked) (footnotes : List (List ℕ)) (target : Linked) (text : List Said)
+    → Option LinkTexts) (footnotes : List (List ℕ)) (target : LinkTexts) (text : List PrintedPart)
     → void_tag (page.image_tag (piece_meaning on options names definition footnotes) target text) ≡ image_tag
     (inline_meaning on options names definition footnotes) target (flat_map said_bytes text)
 image_said on options names definition footnotes target text =
@@ -176,7 +176,7 @@ mutual
 
 -- ---- pieces
 
-module _ (on : Constructs) (options : CompileOptions) (names : List ℕ → Option (List ℕ)) (definition : List ℕ → Option Linked) (footnotes : List (List ℕ))
+module _ (on : Constructs) (options : CompileOptions) (names : List ℕ → Option (List ℕ)) (definition : List ℕ → Option LinkTexts) (footnotes : List (List ℕ))
     (default : List ℕ) where
   abbrev m : Meaning
   m = piece_meaning on options names definition footnotes
@@ -189,7 +189,7 @@ module _ (on : Constructs) (options : CompileOptions) (names : List ℕ → Opti
   call_same None label l = refl
   call_same (Some place) label l =
       let called = once_more place label l.called in
-      ap (λ t. laid t l.outer l.notes called) (call_printed options (latest_call place 1 called) default l.text)
+      ap (λ t. layout_state t l.outer l.notes called) (call_printed options (latest_call place 1 called) default l.text)
 
   count_same : (place : Option ℕ) (label : List ℕ) → Same options default (page.count_at place label) (count_at place label)
   count_same None label l = refl

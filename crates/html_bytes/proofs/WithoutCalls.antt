@@ -7,7 +7,7 @@ use Rattle.markdown_options.specs.declared.configuration.CompileOptions.{Compile
 use Rattle.definition_inline.specs.Inline.{Inline, Data, Escape, Character, Code, Math, Autolink, Literal, Html, EscapedBreak, TrailingBreak, LineEnd, Emphasis}
 use Rattle.definition_inline.specs.Inline.{Strong, Strikethrough, Link, Image, Call, Inlines, Nil, Cons}
 use Rattle.definition_page.specs.InlinePieces.{leads_to}
-use Rattle.definition_page.specs.Layout.{Laid}
+use Rattle.definition_page.specs.Layout.{LayoutState}
 use Rattle.html_bytes.specs.InlineHtml.{InlineMeaning, link_tag, image_tag, description, part_html, inline_html, part_counts, inline_counts, part_pieces}
 use Rattle.html_bytes.specs.InlineHtml.{inline_pieces}
 use Rattle.html_bytes.specs.Layout.{lay}
@@ -69,7 +69,7 @@ module _ (meaning : InlineMeaning) where
 module _ (options : CompileOptions) (default : List ℕ) where
   -- pieces that add bytes to the innermost text
   abbrev pub AddsBytes : List Piece → List ℕ → Type 0
-  AddsBytes ps more = (l : Laid) → fold (lay options default) l ps ≡ add l more
+  AddsBytes ps more = (l : LayoutState) → fold (lay options default) l ps ≡ add l more
 
   pub adds_append : (ps qs : List Piece) (a b : List ℕ) → AddsBytes ps a → AddsBytes qs b → AddsBytes (ps ++ qs) (a ++ b)
   adds_append ps qs a b h k l =

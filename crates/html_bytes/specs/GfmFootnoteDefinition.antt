@@ -5,7 +5,7 @@ use Rattle.std.specs.Fmt.{decimal}
 use Rattle.markdown_options.specs.declared.configuration.CompileOptions.{CompileOptions}
 use Rattle.definition_text.specs.Encode.{encode, plain}
 use Rattle.definition_page.specs.GfmLabelStartFootnote.{text_or}
-use Rattle.definition_page.specs.GfmFootnoteDefinition.{Footnote, arrow, heading_name, paragraph_end}
+use Rattle.definition_page.specs.GfmFootnoteDefinition.{Footnote, arrow, section_heading_name, paragraph_end}
 use Rattle.html_bytes.specs.GfmLabelStartFootnote.{footnote_id, call_id}
 use Rattle.html_bytes.specs.Pieces.{Piece, Bytes, Fresh}
 
@@ -54,14 +54,14 @@ abbrev pub footnotes_pieces : CompileOptions → List Footnote → List Piece
 footnotes_pieces options notes = flat_map (footnote_pieces options) notes
 
 -- the heading
-abbrev pub heading_tag : CompileOptions → List ℕ
-heading_tag options =
-    codes "<" ++ heading_name options ++ codes " id=\"footnote-label\" "
+abbrev pub section_heading_tag : CompileOptions → List ℕ
+section_heading_tag options =
+    codes "<" ++ section_heading_name options ++ codes " id=\"footnote-label\" "
     ++ text_or options.gfm_footnote_label_attributes (codes "class=\"sr-only\"") ++ codes ">"
 
 abbrev pub heading_html : CompileOptions → List ℕ
 heading_html options =
-    heading_tag options ++ encode (text_or options.gfm_footnote_label (codes "Footnotes")) ++ codes "</" ++ heading_name options ++ codes ">"
+    section_heading_tag options ++ encode (text_or options.gfm_footnote_label (codes "Footnotes")) ++ codes "</" ++ section_heading_name options ++ codes ">"
 
 -- the section of these footnotes
 abbrev pub listed_pieces : CompileOptions → List Footnote → List Piece

@@ -9,7 +9,7 @@ use Rattle.definition_page.specs.InlinePieces.{HtmlLine, html_lines, leads_to, a
 use Rattle.html_bytes.specs.RawHtml.{raw_html}
 use Rattle.html_bytes.specs.Pieces.{Piece, Bytes, CallOf, CountOf}
 use Rattle.definition_inline.specs.LabelMatch.{first_match, normal_label}
-use Rattle.definition_inline.specs.Inline.{Linked, Inline, Data, Escape, Character, Code, Math, Autolink, Literal, Html, EscapedBreak, TrailingBreak, LineEnd}
+use Rattle.definition_inline.specs.Inline.{LinkTexts, Inline, Data, Escape, Character, Code, Math, Autolink, Literal, Html, EscapedBreak, TrailingBreak, LineEnd}
 use Rattle.definition_inline.specs.Inline.{Emphasis, Strong, Strikethrough, Link, Image, Call, Inlines, Nil, Cons}
 use Rattle.definition_inline.specs.Strings.{string_text, eol_bytes}
 
@@ -19,13 +19,13 @@ pub record InlineMeaning : Type 0 where
   pub on : Constructs
   pub compile : CompileOptions
   pub names : List ℕ → Option (List ℕ)
-  pub definition : List ℕ → Option Linked
+  pub definition : List ℕ → Option LinkTexts
   pub footnotes : List (List ℕ)
   pub link_url : List ℕ → List ℕ
   pub image_url : List ℕ → List ℕ
 
 -- the URL of a destination: its text, in which NUL is U+FFFD (CommonMark 6.3)
-abbrev pub url_of : InlineMeaning → Linked → List ℕ
+abbrev pub url_of : InlineMeaning → LinkTexts → List ℕ
 url_of meaning target = plain (string_text meaning.on meaning.names target.destination)
 
 -- the attribute of a title that isn't empty
@@ -84,12 +84,12 @@ abbrev mutual
 -- ---- HTML without calls of footnotes, which print a number
 
 -- the start tag of a link (CommonMark 6.3)
-abbrev pub link_tag : InlineMeaning → Linked → List ℕ
+abbrev pub link_tag : InlineMeaning → LinkTexts → List ℕ
 link_tag meaning target =
     codes "<a href=\"" ++ meaning.link_url (url_of meaning target) ++ codes "\"" ++ title_attribute meaning target.title ++ codes ">"
 
 -- the tag of an image with its description (CommonMark 6.4)
-abbrev pub image_tag : InlineMeaning → Linked → List ℕ → List ℕ
+abbrev pub image_tag : InlineMeaning → LinkTexts → List ℕ → List ℕ
 image_tag meaning target text =
     codes "<img src=\"" ++ meaning.image_url (url_of meaning target) ++ codes "\" alt=\"" ++ text ++ codes "\""
     ++ title_attribute meaning target.title ++ codes " />"

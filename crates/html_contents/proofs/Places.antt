@@ -5,24 +5,24 @@ use Rattle.std.proofs.Math.ListN.{get_or-map}
 use Rattle.definition_inline.specs.Inline as inline
 use Rattle.definition_inline.specs.Definition.{Definition}
 use Rattle.definition_page.specs.Targets.{linked_at, no_definition}
-use Rattle.inline_rows.specs.declared.row.Linked.{Linked}
+use Rattle.inline_rows.specs.declared.row.LinkTexts.{LinkTexts}
 use Rattle.inline_rows.specs.declared.row.LinkTarget.{LinkTarget}
 use Rattle.inline_rows.specs.declared.row.LinkTarget.TheVariants.{Resource, Definition as ByPlace}
 use Rattle.inline_rows.specs.declared.row.InlineRow.{InlineRow}
 use Rattle.inline_rows.specs.declared.row.InlineRow.TheVariants.{Text, Leaf, EnterSpan, EnterLink, EnterImage, Call, Exit}
-use Rattle.inline_rows.specs.View.{linked_view, target_linked, row_view, rows_view}
+use Rattle.inline_rows.specs.View.{link_texts_view, target_texts, row_view, rows_view}
 use Rattle.inline_rows.specs.InlineRows as rows
 use Rattle.html_inline.specs.Opens.{nowhere, place_target}
 
-abbrev leads_to_one : Definition → inline.Linked
-leads_to_one d = inline.linked d.destination d.title
+abbrev leads_to_one : Definition → inline.LinkTexts
+leads_to_one d = inline.link_texts d.destination d.title
 
-pub same_place : (links : List Linked) (ds : List Definition) → map linked_view links ≡ map leads_to_one ds → (place : ℕ)
+pub same_place : (links : List LinkTexts) (ds : List Definition) → map link_texts_view links ≡ map leads_to_one ds → (place : ℕ)
     → place_target links place ≡ linked_at ds place
 same_place links ds is place = ap (λ l. slice_index_or l place nowhere) is ∙ get_or-map leads_to_one ds place no_definition
 
-module _ (at beside : ℕ → inline.Linked) (same : (place : ℕ) → at place ≡ beside place) where
-  same_target : (t : LinkTarget) → target_linked at t ≡ target_linked beside t
+module _ (at beside : ℕ → inline.LinkTexts) (same : (place : ℕ) → at place ≡ beside place) where
+  same_target : (t : LinkTarget) → target_texts at t ≡ target_texts beside t
   same_target (Resource l) = refl
   same_target (ByPlace place) = same place
 

@@ -20,7 +20,7 @@ use html_inline::{Printing, Scratch, count_rows, push_encoded_string, push_plain
 use inline_content::{Content, line_content, whole_content};
 use inline_labels::LabelTable;
 use inline_parser::{Room, content_start, inline_rows, is_plain};
-use inline_rows::Linked;
+use inline_rows::LinkTexts;
 use markdown_options::{Options, Tables};
 use std::alloc::{AllocError, Allocator};
 
@@ -34,7 +34,7 @@ pub struct Texts<'a, T, A: Allocator + Clone> {
     /// The labels of its footnote definitions.
     pub footnotes: &'a LabelTable<A>,
     /// Where the link reference definitions lead, in the order of the text.
-    pub links: &'a [Linked<'a>],
+    pub links: &'a [LinkTexts<'a>],
 }
 
 impl<'a, T: Tables, A: Allocator + Clone> Texts<'a, T, A> {

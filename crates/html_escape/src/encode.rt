@@ -16,7 +16,7 @@ const NUL: ByteSet = ByteSet {
 };
 
 /// NUL, `"`, `&`, `<` and `>`.
-const ENCODED: ByteSet = ByteSet {
+const ENCODED_BYTES: ByteSet = ByteSet {
     first: [
         0, 2, b'"', 4, 5, 6, b'&', 8, 9, 10, 11, 12, b'<', 14, b'>', 0,
     ],
@@ -36,7 +36,7 @@ impl Replacement for Text {
     ghost printed = { λ text. text_byte text.html };
 
     fn candidates(&self) -> ByteSet {
-        if self.html { ENCODED } else { NUL }
+        if self.html { ENCODED_BYTES } else { NUL }
     }
 
     fn replacement(&self, byte: u8, _after: &[u8]) -> Option<&'static str> {

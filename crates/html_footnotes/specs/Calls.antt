@@ -1,10 +1,10 @@
 -- Numbers of the footnotes that are called.
 use Rattle.std.specs.Prelude.{◌≡◌, ℕ, suc, if◌then◌else◌, ◌==◌, List, [], ◌∷◌, slice_index_or, slice_set, string_bytes}
 use Rattle.definition_page.specs.Layout as layout
-use Rattle.html_footnotes.specs.declared.calls.Called.{Called}
+use Rattle.html_footnotes.specs.declared.calls.CalledFootnote.{CalledFootnote}
 
 -- a footnote that is called
-abbrev pub called_view : {A : Type 0} → Called A → layout.NoteCalls
+abbrev pub called_view : {A : Type 0} → CalledFootnote A → layout.NoteCalls
 called_view c = record { place = c.place; label = string_bytes c.label; count = c.count }
 
 -- a footnote that is called for the first time

@@ -1,14 +1,14 @@
 -- What was printed of a page.
 use Rattle.std.specs.Prelude.{◌≡◌, ℕ, List, OnOk, Result, map, reverse, string_bytes}
 use Rattle.markdown_options.specs.declared.configuration.CompileOptions.{CompileOptions}
-use Rattle.definition_page.specs.Layout.{Laid, laid}
+use Rattle.definition_page.specs.Layout.{LayoutState, layout_state}
 use Rattle.html_bytes.specs.Layout.{lay}
 use Rattle.html_bytes.specs.Pieces.{Piece}
 use Rattle.html_footnotes.specs.declared.output.Output.{Output}
 
 -- the innermost text that is open, those around it, the contents of the footnotes that have ended, and the footnotes that are called
-abbrev pub output_view : {A : Type 0} → Output A → Laid
-output_view o = laid (string_bytes o.html) (reverse (map string_bytes o.outer.items)) (map string_bytes o.notes.items) o.calls
+abbrev pub output_view : {A : Type 0} → Output A → LayoutState
+output_view o = layout_state (string_bytes o.html) (reverse (map string_bytes o.outer.items)) (map string_bytes o.notes.items) o.calls
 
 -- this piece and no other is laid out, where the default ending is given, unless memory ran out
 abbrev pub Lays : {A B C : Type 0} → CompileOptions → List ℕ → Result B C → Output A → Output A → Piece → Type 0

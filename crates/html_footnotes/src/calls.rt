@@ -13,7 +13,7 @@ use std::marker::Model;
 
 /// A footnote that is called.
 #[derive(Drop)]
-pub(crate) struct Called<A: Allocator> {
+pub(crate) struct CalledFootnote<A: Allocator> {
     /// Its place among the footnotes of the document, in the order in which these end.
     pub(crate) place: usize,
     /// Its label as labels are matched.
@@ -25,7 +25,7 @@ pub(crate) struct Called<A: Allocator> {
 /// The footnotes that are called, in the order of their first calls.
 #[derive(Drop)]
 pub struct Calls<A: Allocator> {
-    called: Vec<Called<A>, A>,
+    called: Vec<CalledFootnote<A>, A>,
     // By a footnote's place its number, and 0 while it isn't called.
     numbers: Vec<usize, A>,
     alloc: A,
@@ -100,7 +100,7 @@ impl<A: Allocator + Clone> Calls<A> {
 }
 
 /// A footnote with its content, of the contents of the footnotes that have ended.
-fn footnote_of<'a, A: Allocator>(called: &'a Called<A>, notes: &'a [String<A>]) -> Footnote<'a>
+fn footnote_of<'a, A: Allocator>(called: &'a CalledFootnote<A>, notes: &'a [String<A>]) -> Footnote<'a>
     ensures { note_view result ≡ note_of (map string_bytes notes.now) (called_view called.now) }
 {
     let html = match notes.get(called.place) {
@@ -117,7 +117,7 @@ fn footnote_of<'a, A: Allocator>(called: &'a Called<A>, notes: &'a [String<A>]) 
 /// These footnotes with their contents.
 fn footnotes_of<'a, A: Allocator>(
     alloc: A,
-    called: &'a [Called<A>],
+    called: &'a [CalledFootnote<A>],
     notes: &'a [String<A>],
 ) -> Result<Vec<Footnote<'a>, A>, AllocError>
     ensures { IfOk result (λ footnotes. map note_view footnotes.items ≡ map (note_of (map string_bytes notes.now)) (map called_view called.now)) }
@@ -149,7 +149,7 @@ fn one_more(count: usize) -> Result<usize, AllocError>
 }
 
 /// Counts one more call of one of these footnotes. After an error nothing has changed.
-fn raise<A: Allocator>(called: &mut Vec<Called<A>, A>, at: usize) -> Result<(), AllocError>
+fn raise<A: Allocator>(called: &mut Vec<CalledFootnote<A>, A>, at: usize) -> Result<(), AllocError>
     requires { at < vec_len called.old }
     ensures raised { OnOk result (IsRaised (map called_view called.old.items) (map called_view called.new.items) at) }
     ensures same { OnErr result (called.new.items ≡ called.old.items) }
@@ -163,7 +163,7 @@ fn raise<A: Allocator>(called: &mut Vec<Called<A>, A>, at: usize) -> Result<(), 
 /// changed.
 fn add<A: Allocator>(
     alloc: A,
-    called: &mut Vec<Called<A>, A>,
+    called: &mut Vec<CalledFootnote<A>, A>,
     numbers: &mut Vec<usize, A>,
     place: usize,
     label: &str,
@@ -174,7 +174,7 @@ fn add<A: Allocator>(
     ensures same { OnErr result ((called.new.items ≡ called.old.items) × (numbers.new.items ≡ numbers.old.items)) }
 {
     let label = String::from_str(alloc, label)?;
-    called.push(Called {
+    called.push(CalledFootnote {
         place,
         label,
         count: 1,

@@ -6,9 +6,9 @@
 ghost use Rattle.std.specs.Prelude.{◌≡◌, ◌≤◌, IfSome, OnOk, length, map, string_bytes};
 ghost use Rattle.std.specs.Str.{IsCharBoundary};
 ghost use Rattle.markdown_options.specs.LineEndings.{ending_bytes};
-ghost use Rattle.definition_page.specs.GfmFootnoteDefinition.{ended_size, ends_line, heading_name, paragraph_end};
+ghost use Rattle.definition_page.specs.GfmFootnoteDefinition.{ended_size, ends_line, section_heading_name, paragraph_end};
 ghost use Rattle.html_bytes.specs.GfmFootnoteDefinition.{back_html, back_tag, backs_html, count_html, footnote_pieces, footnotes_pieces};
-ghost use Rattle.html_bytes.specs.GfmFootnoteDefinition.{heading_html, heading_tag, listed_pieces, section_pieces, space_after};
+ghost use Rattle.html_bytes.specs.GfmFootnoteDefinition.{heading_html, section_heading_tag, listed_pieces, section_pieces, space_after};
 ghost use Rattle.html_escape.specs.Prints.{Prints};
 ghost use Rattle.html_footnotes.specs.Footnotes.{LaysOut, note_view, with_ways_back};
 
@@ -87,7 +87,7 @@ fn push_heading_tag<A: Allocator>(
     out: &mut String<A>,
     compile: &CompileOptions,
 ) -> Result<(), AllocError>
-    ensures { Prints result out.old out.new (heading_tag compile.now) }
+    ensures { Prints result out.old out.new (section_heading_tag compile.now) }
 {
     out.push_str("<")?;
     push_heading_name(out, compile)?;
@@ -101,7 +101,7 @@ fn push_heading_name<A: Allocator>(
     out: &mut String<A>,
     compile: &CompileOptions,
 ) -> Result<(), AllocError>
-    ensures { Prints result out.old out.new (heading_name compile.now) }
+    ensures { Prints result out.old out.new (section_heading_name compile.now) }
 {
     push_encoded(out, text_or(&compile.gfm_footnote_label_tag_name, "h2"))
 }

@@ -52,11 +52,11 @@ pub(crate) fn push_call_id<A: Allocator>(
     )?;
     out.push_str("fnref-")?;
     push_sanitized(out, label)?;
-    push_count(out, count)
+    push_id_count(out, count)
 }
 
 /// Prints what tells the calls of one footnote apart.
-fn push_count<A: Allocator>(out: &mut String<A>, count: usize) -> Result<(), AllocError>
+fn push_id_count<A: Allocator>(out: &mut String<A>, count: usize) -> Result<(), AllocError>
     ensures { Prints result out.old out.new (count_of count) }
 {
     if count <= 1 {

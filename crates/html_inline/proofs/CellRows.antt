@@ -3,12 +3,12 @@ use Rattle.std.proofs.Common.{◌≡◌, Bool, true, false, List, [], ◌∷◌,
 use Rattle.std.specs.Prelude.{map}
 use Rattle.std.specs.List.{fold}
 use Rattle.std.proofs.lemmas.List.{map-append}
-use Rattle.definition_inline.specs.Inline.{Target, Linked, Inline, Data, Escape, Character, Code, Math, Autolink, Literal, Html, EscapedBreak, TrailingBreak}
+use Rattle.definition_inline.specs.Inline.{Target, LinkTexts, Inline, Data, Escape, Character, Code, Math, Autolink, Literal, Html, EscapedBreak, TrailingBreak}
 use Rattle.definition_inline.specs.Inline.{LineEnd, Emphasis, Strong, Strikethrough, Link, Image, Call, Inlines, Nil, Cons}
 use Rattle.definition_page.specs.GfmTable.{part_in_cell, in_cell}
 use Rattle.html_bytes.specs.InlineHtml.{InlineMeaning}
 use Rattle.inline_rows.specs.InlineRows.{InlineRow, Part, EnterSpan, EnterLink, EnterImage, Leave, part_rows, inline_rows}
-use Rattle.html_inline.specs.Printed.{Printed, with_row}
+use Rattle.html_inline.specs.Printed.{PrintState, with_row}
 use Rattle.html_inline.specs.GfmTable.{parts_in_cell, inline_in_cell, row_in_cell, row_printed_in}
 
 part_unshown : (i : Inline) → inline_in_cell false i ≡ i
@@ -41,7 +41,7 @@ rows_unshown : (rows : List InlineRow) → map (row_in_cell false) rows ≡ rows
 rows_unshown [] = refl
 rows_unshown (r ∷ rs) = ap (λ x. x ∷ map (row_in_cell false) rs) (row_unshown r) ∙ ap (λ l. r ∷ l) (rows_unshown rs)
 
-module _ (leads : Target → Linked) where
+module _ (leads : Target → LinkTexts) where
   -- where a part starts, its kids stand, and it ends
   around : (first : InlineRow) (kids : Inlines) → map (row_in_cell true) (inline_rows leads kids) ≡ inline_rows leads (in_cell kids)
       → first ∷ map (row_in_cell true) (inline_rows leads kids ++ Leave ∷ []) ≡ first ∷ (inline_rows leads (in_cell kids) ++ Leave ∷ [])
@@ -79,7 +79,7 @@ module _ (leads : Target → Linked) where
   rows_shown false is = rows_unshown (inline_rows leads is)
 
 -- rows that are shown one by one
-pub fold_shown : (cell : Bool) (meaning : InlineMeaning) (p : Printed) (rows : List InlineRow)
+pub fold_shown : (cell : Bool) (meaning : InlineMeaning) (p : PrintState) (rows : List InlineRow)
     → fold (row_printed_in cell meaning) p rows ≡ fold (with_row meaning) p (map (row_in_cell cell) rows)
 fold_shown cell meaning p [] = refl
 fold_shown cell meaning p (r ∷ rs) = fold_shown cell meaning (row_printed_in cell meaning p r) rs

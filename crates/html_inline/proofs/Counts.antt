@@ -6,10 +6,10 @@ use Rattle.std.proofs.lemmas.List.{append-nil, take_more}
 use Rattle.std.proofs.lemmas.List.Concat.{flat_map-append}
 use Rattle.std.proofs.lemmas.List.Sums.{fold-append}
 use Rattle.definition_inline.specs.Inline as inline
-use Rattle.definition_inline.specs.Inline.{Target, Linked, Inline, Data, Escape, Character, Code, Math, Autolink, Literal, Html, EscapedBreak, TrailingBreak}
+use Rattle.definition_inline.specs.Inline.{Target, LinkTexts, Inline, Data, Escape, Character, Code, Math, Autolink, Literal, Html, EscapedBreak, TrailingBreak}
 use Rattle.definition_inline.specs.Inline.{LineEnd, Emphasis, Strong, Strikethrough, Link, Image, Call, Inlines, Nil, Cons}
 use Rattle.definition_page.specs.GfmTable.{part_in_cell, in_cell}
-use Rattle.definition_page.specs.Layout.{Laid}
+use Rattle.definition_page.specs.Layout.{LayoutState}
 use Rattle.html_bytes.specs.InlineHtml.{InlineMeaning, part_counts, inline_counts}
 use Rattle.html_bytes.specs.Layout.{lay}
 use Rattle.inline_leaves.specs.declared.leaf.LeafPart.{LeafPart}
@@ -25,7 +25,7 @@ use Rattle.html_inline.specs.GfmTable.{parts_in_cell}
 module _ (meaning : InlineMeaning) where
   -- ---- the rows of inline structure
 
-  module _ (leads : Target → Linked) where
+  module _ (leads : Target → LinkTexts) where
     around : (first : InlineRow) (kids : Inlines) → row_counts meaning first ≡ [] → rows_counts meaning (inline_rows leads kids) ≡ inline_counts meaning kids
         → rows_counts meaning (first ∷ (inline_rows leads kids ++ Leave ∷ [])) ≡ inline_counts meaning kids
     around first kids none h =
@@ -123,7 +123,7 @@ module _ (meaning : InlineMeaning) where
 
   -- ---- one more row
 
-  pub counts_more : (at : ℕ → Linked) (default : List ℕ) (rows : List row.InlineRow) (i : ℕ) (d : row.InlineRow) (start before after : Laid) → i < length rows
+  pub counts_more : (at : ℕ → LinkTexts) (default : List ℕ) (rows : List row.InlineRow) (i : ℕ) (d : row.InlineRow) (start before after : LayoutState) → i < length rows
       → before ≡ fold (lay meaning.compile default) start (rows_counts meaning (rows_view at (take i rows)))
       → after ≡ fold (lay meaning.compile default) before (rows_counts meaning (row_view at (get_or rows i d)))
       → after ≡ fold (lay meaning.compile default) start (rows_counts meaning (rows_view at (take (i + 1) rows)))
@@ -135,7 +135,7 @@ module _ (meaning : InlineMeaning) where
       ap (rows_view at) (take_more rows i d lt)
       ∙ flat_map-append (row_view at) (take i rows) (get_or rows i d ∷ [])
       ∙ ap (λ s. front ++ s) (append-nil next) in
-      f ∙ ap (λ (l : Laid). fold one_more l (rows_counts meaning next)) e
+      f ∙ ap (λ (l : LayoutState). fold one_more l (rows_counts meaning next)) e
       ∙ sym (fold-append one_more start (rows_counts meaning front) (rows_counts meaning next))
       ∙ ap (fold one_more start) (sym (flat_map-append (row_counts meaning) front next))
       ∙ ap (λ rs. fold one_more start (rows_counts meaning rs)) (sym last)

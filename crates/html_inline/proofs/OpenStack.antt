@@ -11,7 +11,7 @@ use Rattle.definition_text.specs.Encode.{encode, encoded_byte}
 use Rattle.definition_inline.specs.CharacterReference.{number_of, numbered_text}
 use Rattle.definition_inline.specs.CodeText.{code_text}
 use Rattle.definition_inline.specs.Inline as inline
-use Rattle.definition_page.specs.Layout.{Laid}
+use Rattle.definition_page.specs.Layout.{LayoutState}
 use Rattle.html_bytes.specs.InlineHtml.{InlineMeaning}
 use Rattle.html_bytes.specs.Layout.{with_text}
 use Rattle.inline_leaves.specs.Leaves.{kind_view, parts_of}
@@ -23,14 +23,14 @@ use Rattle.inline_rows.specs.View.{data_rows, row_view, rows_view}
 use Rattle.html_inline.specs.declared.stack.OpenPart.{OpenPart}
 use Rattle.html_inline.specs.declared.stack.OpenPart.TheVariants.{Silent}
 use Rattle.html_inline.specs.GfmTable.{inline_in_cell, row_printed_in}
-use Rattle.html_inline.specs.Printed.{Opened, new_part, Printed, printed_at, is_described, html_of_part, parts_html, enter, leave, with_more}
+use Rattle.html_inline.specs.Printed.{OpenElement, new_part, PrintState, printed_at, is_described, html_of_part, parts_html, enter, leave, with_more}
 
 -- one more stands on the stack
-pub stack_more : (view : OpenPart → Opened) (items : List OpenPart) (part : OpenPart)
+pub stack_more : (view : OpenPart → OpenElement) (items : List OpenPart) (part : OpenPart)
     → map view (reverse (items ++ part ∷ [])) ≡ view part ∷ map view (reverse items)
 stack_more view items part = ap (map view) (reverse-append items (part ∷ []))
 
-pub entered_silent : (view : OpenPart → Opened) (start : List ℕ) (o : Opened) (l : Laid) (items after : List OpenPart) → view Silent ≡ new_part true []
+pub entered_silent : (view : OpenPart → OpenElement) (start : List ℕ) (o : OpenElement) (l : LayoutState) (items after : List OpenPart) → view Silent ≡ new_part true []
     → after ≡ items ++ Silent ∷ [] → is_described (map view (reverse items)) ≡ true
     → printed_at l (map view (reverse after)) ≡ enter start o (printed_at l (map view (reverse items)))
 entered_silent view start o l items after silent pushed h =
@@ -38,7 +38,7 @@ entered_silent view start o l items after silent pushed h =
     ∙ ap (printed_at l) (stack_more view items Silent ∙ ap (λ s. s ∷ map view (reverse items)) silent)
     ∙ sym (cond-true (is_described (map view (reverse items))) _ _ h)
 
-pub entered : (view : OpenPart → Opened) (start : List ℕ) (o : Opened) (l : Laid) (text : List ℕ) (items after : List OpenPart) (part : OpenPart)
+pub entered : (view : OpenPart → OpenElement) (start : List ℕ) (o : OpenElement) (l : LayoutState) (text : List ℕ) (items after : List OpenPart) (part : OpenPart)
     → view part ≡ o
     → after ≡ items ++ part ∷ [] → is_described (map view (reverse items)) ≡ false → text ≡ l.text ++ start
     → printed_at (with_text l text) (map view (reverse after)) ≡ enter start o (printed_at l (map view (reverse items)))
@@ -48,7 +48,7 @@ entered view start o l text items after part is pushed h e =
     ∙ ap (λ x. printed_at (with_text l x) (o ∷ map view (reverse items))) e
     ∙ sym (cond-false (is_described (map view (reverse items))) _ _ h)
 
-pub left : (view : OpenPart → Opened) (l : Laid) (text : List ℕ) (items after : List OpenPart) (part : OpenPart)
+pub left : (view : OpenPart → OpenElement) (l : LayoutState) (text : List ℕ) (items after : List OpenPart) (part : OpenPart)
     → items ≡ after ++ part ∷ [] → text ≡ l.text ++ (view part).ending
     → printed_at (with_text l text) (map view (reverse after)) ≡ leave l (map view (reverse items))
 left view l text items after part popped e =
@@ -58,18 +58,18 @@ left view l text items after part popped e =
 -- ---- rows
 
 -- a text that grew by nothing, and one that grew twice
-pub no_more : (l : Laid) → l ≡ with_more l []
+pub no_more : (l : LayoutState) → l ≡ with_more l []
 no_more l = ap (with_text l) (sym (append-nil l.text))
 
-pub more_after : (l : Laid) (a b : List ℕ) → with_more (with_more l a) b ≡ with_more l (a ++ b)
+pub more_after : (l : LayoutState) (a b : List ℕ) → with_more (with_more l a) b ≡ with_more l (a ++ b)
 more_after l a b = ap (with_text l) (append_assoc l.text a b)
 
-module _ (cell : Bool) (meaning : InlineMeaning) (stack : List Opened) where
+module _ (cell : Bool) (meaning : InlineMeaning) (stack : List OpenElement) where
   data_either : (described : Bool) (b : ℕ) → html_of_part meaning described (inline.Data b) ≡ encoded_byte b
   data_either true b = refl
   data_either false b = refl
 
-  pub text_printed : (l : Laid) (text : List ℕ) → fold (row_printed_in cell meaning) (printed_at l stack) (data_rows text)
+  pub text_printed : (l : LayoutState) (text : List ℕ) → fold (row_printed_in cell meaning) (printed_at l stack) (data_rows text)
       ≡ printed_at (with_more l (encode text)) stack
   text_printed l [] = ap (λ x. printed_at x stack) (no_more l)
   text_printed l (b ∷ bs) =
@@ -83,14 +83,14 @@ module _ (cell : Bool) (meaning : InlineMeaning) (stack : List Opened) where
 
   -- parts that are printed as they should be
   abbrev ArePrinted : List inline.Inline → Type 0
-  ArePrinted parts = (l : Laid) → fold (row_printed_in cell meaning) (printed_at l stack) (map rows_of.Part parts)
+  ArePrinted parts = (l : LayoutState) → fold (row_printed_in cell meaning) (printed_at l stack) (map rows_of.Part parts)
       ≡ printed_at (with_more l (shown_parts parts)) stack
 
   none_printed : ArePrinted []
   none_printed l = ap (λ x. printed_at x stack) (no_more l)
 
   more_parts : (i : inline.Inline) (is : List inline.Inline)
-      → ((l : Laid) → row_printed_in cell meaning (printed_at l stack) (rows_of.Part i)
+      → ((l : LayoutState) → row_printed_in cell meaning (printed_at l stack) (rows_of.Part i)
       ≡ printed_at (with_more l (html_of_part meaning (is_described stack) (inline_in_cell cell i))) stack)
       → ArePrinted is → ArePrinted (i ∷ is)
   more_parts i is first are l =
@@ -107,7 +107,7 @@ module _ (cell : Bool) (meaning : InlineMeaning) (stack : List Opened) where
   bytes_printed [] = none_printed
   bytes_printed (b ∷ bs) = more_parts (inline.Data b) (map inline.Data bs) (λ l. refl) (bytes_printed bs)
 
-  pub leaf_printed : (part : LeafPart) (l : Laid)
+  pub leaf_printed : (part : LeafPart) (l : LayoutState)
       → fold (row_printed_in cell meaning) (printed_at l stack) (map rows_of.Part (parts_of part))
       ≡ printed_at (with_more l (parts_html meaning (is_described stack) (map (inline_in_cell cell) (parts_of part)))) stack
   leaf_printed (leaf.Escape text) = escapes_printed text.now
@@ -125,7 +125,7 @@ module _ (cell : Bool) (meaning : InlineMeaning) (stack : List Opened) where
   leaf_printed leaf.Spaces = none_printed
 
 -- one more row
-pub rows_more : (cell : Bool) (meaning : InlineMeaning) (at : ℕ → inline.Linked) (start : Printed) (rows : List InlineRow) (i : ℕ) (d : InlineRow)
+pub rows_more : (cell : Bool) (meaning : InlineMeaning) (at : ℕ → inline.LinkTexts) (start : PrintState) (rows : List InlineRow) (i : ℕ) (d : InlineRow)
     → i < length rows
     → fold (row_printed_in cell meaning) start (rows_view at (take (i + 1) rows))
     ≡ fold (row_printed_in cell meaning) (fold (row_printed_in cell meaning) start (rows_view at (take i rows))) (row_view at (get_or rows i d))
@@ -135,10 +135,10 @@ rows_more cell meaning at start rows i d lt =
     ∙ ap (λ s. rows_view at (take i rows) ++ s) (append-nil (row_view at (get_or rows i d))))
     ∙ fold-append (row_printed_in cell meaning) start (rows_view at (take i rows)) (row_view at (get_or rows i d))
 
-pub rows_step : (cell : Bool) (meaning : InlineMeaning) (at : ℕ → inline.Linked) (start before after : Printed) (rows : List InlineRow) (i : ℕ) (d : InlineRow)
+pub rows_step : (cell : Bool) (meaning : InlineMeaning) (at : ℕ → inline.LinkTexts) (start before after : PrintState) (rows : List InlineRow) (i : ℕ) (d : InlineRow)
     → i < length rows
     → before ≡ fold (row_printed_in cell meaning) start (rows_view at (take i rows))
     → after ≡ fold (row_printed_in cell meaning) before (row_view at (get_or rows i d))
     → after ≡ fold (row_printed_in cell meaning) start (rows_view at (take (i + 1) rows))
 rows_step cell meaning at start before after rows i d lt e f =
-    f ∙ ap (λ (q : Printed). fold (row_printed_in cell meaning) q (row_view at (get_or rows i d))) e ∙ sym (rows_more cell meaning at start rows i d lt)
+    f ∙ ap (λ (q : PrintState). fold (row_printed_in cell meaning) q (row_view at (get_or rows i d))) e ∙ sym (rows_more cell meaning at start rows i d lt)

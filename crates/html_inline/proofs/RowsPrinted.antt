@@ -4,20 +4,20 @@ use Rattle.std.specs.List.{fold}
 use Rattle.std.proofs.lemmas.List.{append-nil}
 use Rattle.std.proofs.lemmas.List.Sums.{fold-append}
 use Rattle.definition_inline.specs.LabelMatch.{first_match, normal_label}
-use Rattle.definition_inline.specs.Inline.{Linked, Inline, Data, Escape, Character, Code, Math, Autolink, Literal, Html, EscapedBreak, TrailingBreak, LineEnd}
+use Rattle.definition_inline.specs.Inline.{LinkTexts, Inline, Data, Escape, Character, Code, Math, Autolink, Literal, Html, EscapedBreak, TrailingBreak, LineEnd}
 use Rattle.definition_inline.specs.Inline.{Emphasis, Strong, Strikethrough, Link, Image, Call, Inlines, Nil, Cons}
 use Rattle.definition_page.specs.InlinePieces.{leads_to}
-use Rattle.definition_page.specs.Layout.{Laid}
+use Rattle.definition_page.specs.Layout.{LayoutState}
 use Rattle.html_bytes.specs.InlineHtml.{InlineMeaning, title_attribute, link_tag, image_tag, description, part_description, part_html, call_at, count_at}
 use Rattle.html_bytes.specs.InlineHtml.{part_counts, inline_counts, part_pieces, inline_pieces}
 use Rattle.html_bytes.specs.Layout.{lay, with_text}
 use Rattle.html_bytes.specs.Pieces.{Piece, Bytes}
 use Rattle.inline_rows.specs.InlineRows.{InlineRow, Leave, part_rows, inline_rows}
-use Rattle.html_inline.specs.Printed.{Opened, new_part, printed_at, is_described, image_start, image_end, with_more, call_row, laid_out, enter, with_row}
+use Rattle.html_inline.specs.Printed.{OpenElement, new_part, printed_at, is_described, image_start, image_end, with_more, call_row, laid_out, enter, with_row}
 use Rattle.html_inline.proofs.OpenStack.{no_more}
 
 -- what the description of an image stands between
-image_parts : (meaning : InlineMeaning) (target : Linked) (text : List ℕ)
+image_parts : (meaning : InlineMeaning) (target : LinkTexts) (text : List ℕ)
     → image_tag meaning target text ≡ image_start meaning target ++ (text ++ image_end meaning target)
 image_parts meaning target text =
     let start = image_start meaning target in
@@ -28,35 +28,35 @@ image_parts meaning target text =
 
 module _ (meaning : InlineMeaning) (default : List ℕ) where
   -- pieces laid out
-  abbrev laid_by : Laid → List Piece → Laid
+  abbrev laid_by : LayoutState → List Piece → LayoutState
   laid_by l pieces = fold (lay meaning.compile default) l pieces
 
   abbrev rows_of : Inlines → List InlineRow
   rows_of is = inline_rows (leads_to meaning.definition) is
 
   -- what is laid out after a part, and after parts: in a description what they say, and the calls there
-  abbrev part_after : Bool → Inline → Laid → Laid
+  abbrev part_after : Bool → Inline → LayoutState → LayoutState
   part_after described i l =
       cond described (with_text (laid_by l (part_counts meaning i)) (l.text ++ part_description meaning.compile i)) (laid_by l (part_pieces meaning i))
 
-  abbrev all_after : Bool → Inlines → Laid → Laid
+  abbrev all_after : Bool → Inlines → LayoutState → LayoutState
   all_after described is l =
       cond described (with_text (laid_by l (inline_counts meaning is)) (l.text ++ description meaning.compile is)) (laid_by l (inline_pieces meaning is))
 
   -- parts that are printed as they should be, wherever they stand
   abbrev ArePrinted : Inlines → Type 0
-  ArePrinted is = (l : Laid) (stack : List Opened) → fold (with_row meaning) (printed_at l stack) (rows_of is)
+  ArePrinted is = (l : LayoutState) (stack : List OpenElement) → fold (with_row meaning) (printed_at l stack) (rows_of is)
       ≡ printed_at (all_after (is_described stack) is l) stack
 
   -- ---- calls that count don't see the text
 
-  count_beside : (label : List ℕ) (place : Option ℕ) (l : Laid) (text : List ℕ)
+  count_beside : (label : List ℕ) (place : Option ℕ) (l : LayoutState) (text : List ℕ)
       → laid_by (with_text l text) (count_at place label) ≡ with_text (laid_by l (count_at place label)) text
   count_beside label None l text = refl
   count_beside label (Some place) l text = refl
 
   mutual
-    part_counts_beside : (i : Inline) (l : Laid) (text : List ℕ) → laid_by (with_text l text) (part_counts meaning i)
+    part_counts_beside : (i : Inline) (l : LayoutState) (text : List ℕ) → laid_by (with_text l text) (part_counts meaning i)
         ≡ with_text (laid_by l (part_counts meaning i)) text
     part_counts_beside (Data b) l text = refl
     part_counts_beside (Escape b) l text = refl
@@ -76,7 +76,7 @@ module _ (meaning : InlineMeaning) (default : List ℕ) where
     part_counts_beside (Image target kids) l text = counts_beside kids l text
     part_counts_beside (Call label) l text = count_beside (normal_label label) (first_match label meaning.footnotes) l text
 
-    counts_beside : (is : Inlines) (l : Laid) (text : List ℕ) → laid_by (with_text l text) (inline_counts meaning is)
+    counts_beside : (is : Inlines) (l : LayoutState) (text : List ℕ) → laid_by (with_text l text) (inline_counts meaning is)
         ≡ with_text (laid_by l (inline_counts meaning is)) text
     counts_beside Nil l text = refl
     counts_beside (Cons i is) l text =
@@ -88,7 +88,7 @@ module _ (meaning : InlineMeaning) (default : List ℕ) where
   -- ---- parts that hold others
 
   -- rows between a start and an end
-  nested : (start : List ℕ) (o : Opened) (kids : Inlines) → ArePrinted kids → (l : Laid) (stack : List Opened)
+  nested : (start : List ℕ) (o : OpenElement) (kids : Inlines) → ArePrinted kids → (l : LayoutState) (stack : List OpenElement)
       → fold (with_row meaning) (enter start o (printed_at l stack)) (rows_of kids ++ Leave ∷ [])
       ≡ printed_at (cond (is_described stack) (all_after true kids l) (with_more (all_after o.described kids (with_more l start)) o.ending)) stack
   nested start o kids are l stack = by_case (is_described stack)
@@ -105,7 +105,7 @@ module _ (meaning : InlineMeaning) (default : List ℕ) where
           ∙ ap (λ p. with_row meaning p Leave) (are (with_more l start) (o ∷ stack))
 
   -- a span or a link, which prints its content between two tags
-  between : (start ending : List ℕ) (kids : Inlines) → ArePrinted kids → (l : Laid) (stack : List Opened)
+  between : (start ending : List ℕ) (kids : Inlines) → ArePrinted kids → (l : LayoutState) (stack : List OpenElement)
       → fold (with_row meaning) (enter start (new_part false ending) (printed_at l stack)) (rows_of kids ++ Leave ∷ [])
       ≡ printed_at (cond (is_described stack) (all_after true kids l) (laid_by l (Bytes start ∷ inline_pieces meaning kids ++ Bytes ending ∷ []))) stack
   between start ending kids are l stack =
@@ -114,7 +114,7 @@ module _ (meaning : InlineMeaning) (default : List ℕ) where
       (sym (fold-append (lay meaning.compile default) (with_more l start) (inline_pieces meaning kids) (Bytes ending ∷ [])))
 
   -- an image, which prints its description inside its tag and counts the calls there
-  described_between : (target : Linked) (kids : Inlines) (l : Laid)
+  described_between : (target : LinkTexts) (kids : Inlines) (l : LayoutState)
       → with_more (all_after true kids (with_more l (image_start meaning target))) (image_end meaning target)
       ≡ laid_by (with_more l (image_tag meaning target (description meaning.compile kids))) (inline_counts meaning kids)
   described_between target kids l =
@@ -126,7 +126,7 @@ module _ (meaning : InlineMeaning) (default : List ℕ) where
       (append_assoc (l.text ++ start) says ending ∙ append_assoc l.text start (says ++ ending) ∙ ap (λ s. l.text ++ s) (sym (image_parts meaning target says)))
       ∙ sym (counts_beside kids l (l.text ++ image_tag meaning target says))
 
-  image_printed : (target : Linked) (kids : Inlines) → ArePrinted kids → (l : Laid) (stack : List Opened)
+  image_printed : (target : LinkTexts) (kids : Inlines) → ArePrinted kids → (l : LayoutState) (stack : List OpenElement)
       → fold (with_row meaning) (enter (image_start meaning target) (new_part true (image_end meaning target)) (printed_at l stack))
       (rows_of kids ++ Leave ∷ [])
       ≡ printed_at (cond (is_described stack) (all_after true kids l) (laid_by (with_more l (image_tag meaning target (description meaning.compile kids)))
@@ -138,25 +138,25 @@ module _ (meaning : InlineMeaning) (default : List ℕ) where
   -- ---- all parts
 
   -- text that is printed, or said
-  either : (described : Bool) (l : Laid) (says html : List ℕ) → with_more l (cond described says html) ≡ cond described (with_more l says) (with_more l html)
+  either : (described : Bool) (l : LayoutState) (says html : List ℕ) → with_more l (cond described says html) ≡ cond described (with_more l says) (with_more l html)
   either true l says html = refl
   either false l says html = refl
 
-  counted_either : (label : List ℕ) (place : Option ℕ) (l : Laid) → laid_out meaning l (count_at place label)
+  counted_either : (label : List ℕ) (place : Option ℕ) (l : LayoutState) → laid_out meaning l (count_at place label)
       ≡ with_text (laid_by l (count_at place label)) (l.text ++ [])
   counted_either label None l = no_more l
   counted_either label (Some place) l = ap (with_text (laid_by l (count_at (Some place) label))) (sym (append-nil l.text))
 
-  called_either : (label : List ℕ) (place : Option ℕ) (l : Laid) → laid_out meaning l (call_at place label) ≡ laid_by l (call_at place label)
+  called_either : (label : List ℕ) (place : Option ℕ) (l : LayoutState) → laid_out meaning l (call_at place label) ≡ laid_by l (call_at place label)
   called_either label None l = refl
   called_either label (Some place) l = refl
 
-  call_either : (label : List ℕ) (described : Bool) (l : Laid) → laid_out meaning l (call_row meaning described label) ≡ part_after described (Call label) l
+  call_either : (label : List ℕ) (described : Bool) (l : LayoutState) → laid_out meaning l (call_row meaning described label) ≡ part_after described (Call label) l
   call_either label true l = counted_either (normal_label label) (first_match label meaning.footnotes) l
   call_either label false l = called_either (normal_label label) (first_match label meaning.footnotes) l
 
   -- a part, and parts after it
-  more_printed : (described : Bool) (i : Inline) (is : Inlines) (l : Laid)
+  more_printed : (described : Bool) (i : Inline) (is : Inlines) (l : LayoutState)
       → all_after described is (part_after described i l) ≡ all_after described (Cons i is) l
   more_printed true i is l =
       let says = part_description meaning.compile i in
@@ -167,18 +167,18 @@ module _ (meaning : InlineMeaning) (default : List ℕ) where
       ∙ ap (with_text (laid_by l (part_counts meaning i ++ inline_counts meaning is))) (append_assoc l.text says others)
   more_printed false i is l = sym (fold-append (lay meaning.compile default) l (part_pieces meaning i) (inline_pieces meaning is))
 
-  nothing_printed : (described : Bool) (l : Laid) → l ≡ all_after described Nil l
+  nothing_printed : (described : Bool) (l : LayoutState) → l ≡ all_after described Nil l
   nothing_printed true l = no_more l
   nothing_printed false l = refl
 
   -- a part that holds no other
-  said_or_printed : (says html : List ℕ) (l : Laid) (stack : List Opened)
+  said_or_printed : (says html : List ℕ) (l : LayoutState) (stack : List OpenElement)
       → printed_at (with_more l (cond (is_described stack) says html)) stack
       ≡ printed_at (cond (is_described stack) (with_more l says) (with_more l html)) stack
   said_or_printed says html l stack = ap (λ x. printed_at x stack) (either (is_described stack) l says html)
 
   mutual
-    part_rows_printed : (i : Inline) (l : Laid) (stack : List Opened)
+    part_rows_printed : (i : Inline) (l : LayoutState) (stack : List OpenElement)
         → fold (with_row meaning) (printed_at l stack) (part_rows (leads_to meaning.definition) i) ≡ printed_at (part_after (is_described stack) i l) stack
     part_rows_printed (Data b) l stack = said_or_printed (part_description meaning.compile (Data b)) (part_html meaning (Data b)) l stack
     part_rows_printed (Escape b) l stack = said_or_printed (part_description meaning.compile (Escape b)) (part_html meaning (Escape b)) l stack
@@ -202,7 +202,7 @@ module _ (meaning : InlineMeaning) (default : List ℕ) where
     part_rows_printed (Image target kids) l stack = image_printed (leads_to meaning.definition target) kids (rows_printed kids) l stack
     part_rows_printed (Call label) l stack = ap (λ x. printed_at x stack) (call_either label (is_described stack) l)
 
-    rows_printed : (is : Inlines) (l : Laid) (stack : List Opened)
+    rows_printed : (is : Inlines) (l : LayoutState) (stack : List OpenElement)
         → fold (with_row meaning) (printed_at l stack) (inline_rows (leads_to meaning.definition) is) ≡ printed_at (all_after (is_described stack) is l) stack
     rows_printed Nil l stack = ap (λ x. printed_at x stack) (nothing_printed (is_described stack) l)
     rows_printed (Cons i is) l stack =
@@ -212,7 +212,7 @@ module _ (meaning : InlineMeaning) (default : List ℕ) where
         ∙ ap (λ x. printed_at x stack) (more_printed (is_described stack) i is l)
 
   -- a whole content
-  pub content_printed : (is : Inlines) (l : Laid)
+  pub content_printed : (is : Inlines) (l : LayoutState)
       → fold (with_row meaning) (printed_at l []) (inline_rows (leads_to meaning.definition) is)
       ≡ printed_at (fold (lay meaning.compile default) l (inline_pieces meaning is)) []
   content_printed is l = rows_printed is l []

@@ -4,7 +4,7 @@ use Rattle.definition_inline.specs.Inline.{Inline, Data, Escape, Character, Code
 use Rattle.definition_inline.specs.Inline.{Strong, Strikethrough, Link, Image, Call, Inlines}
 use Rattle.definition_page.specs.GfmTable.{escapes_bar, cell_code, in_cell}
 use Rattle.html_bytes.specs.InlineHtml.{InlineMeaning}
-use Rattle.html_inline.specs.Printed.{Printed, with_row}
+use Rattle.html_inline.specs.Printed.{PrintState, with_row}
 use Rattle.inline_rows.specs.InlineRows.{InlineRow, Part, EnterSpan, EnterLink, EnterImage, Leave}
 
 -- how many bytes stand before the first backslash that escapes a bar
@@ -49,5 +49,5 @@ row_in_cell cell (EnterLink target) = EnterLink target
 row_in_cell cell (EnterImage target) = EnterImage target
 row_in_cell cell Leave = Leave
 
-abbrev pub row_printed_in : Bool → InlineMeaning → Printed → InlineRow → Printed
+abbrev pub row_printed_in : Bool → InlineMeaning → PrintState → InlineRow → PrintState
 row_printed_in cell meaning p r = with_row meaning p (row_in_cell cell r)

@@ -1,43 +1,43 @@
 -- What is open, as the definition has it.
 use Rattle.std.specs.Prelude.{ℕ, Bool, true, false, List, [], None, codes, map, reverse, slice_index_or}
 use Rattle.definition_inline.specs.Inline as inline
-use Rattle.definition_page.specs.Layout.{Laid}
+use Rattle.definition_page.specs.Layout.{LayoutState}
 use Rattle.html_bytes.specs.InlineHtml.{InlineMeaning}
 use Rattle.inline_runs.specs.View.{span_view}
-use Rattle.inline_rows.specs.declared.row.Linked.{Linked}
+use Rattle.inline_rows.specs.declared.row.LinkTexts.{LinkTexts}
 use Rattle.inline_rows.specs.declared.row.InlineRow.{InlineRow}
 use Rattle.inline_rows.specs.declared.row.InlineRow.TheVariants.{Text, Leaf, EnterSpan, EnterLink, EnterImage, Call, Exit}
-use Rattle.inline_rows.specs.View.{linked_view, target_linked}
+use Rattle.inline_rows.specs.View.{link_texts_view, target_texts}
 use Rattle.html_inline.specs.declared.stack.OpenPart.{OpenPart}
 use Rattle.html_inline.specs.declared.stack.OpenPart.TheVariants as open_part
-use Rattle.html_inline.specs.Printed.{Opened, new_part, Printed, printed_at, span_end, image_end}
+use Rattle.html_inline.specs.Printed.{OpenElement, new_part, PrintState, printed_at, span_end, image_end}
 
-abbrev pub nowhere : inline.Linked
-nowhere = inline.linked [] None
+abbrev pub nowhere : inline.LinkTexts
+nowhere = inline.link_texts [] None
 
 -- where the definition at a place leads
-abbrev pub place_target : List Linked → ℕ → inline.Linked
-place_target definitions place = slice_index_or (map linked_view definitions) place nowhere
+abbrev pub place_target : List LinkTexts → ℕ → inline.LinkTexts
+place_target definitions place = slice_index_or (map link_texts_view definitions) place nowhere
 
 -- where the image leads that a row starts
-abbrev pub image_target : (ℕ → inline.Linked) → InlineRow → inline.Linked
+abbrev pub image_target : (ℕ → inline.LinkTexts) → InlineRow → inline.LinkTexts
 image_target at (Text text) = nowhere
 image_target at (Leaf part) = nowhere
 image_target at (EnterSpan span) = nowhere
 image_target at (EnterLink target) = nowhere
-image_target at (EnterImage target) = target_linked at target
+image_target at (EnterImage target) = target_texts at target
 image_target at (Call label) = nowhere
 image_target at Exit = nowhere
 
-module _ (meaning : InlineMeaning) (at : ℕ → inline.Linked) (rows : List InlineRow) where
-  abbrev pub opened_view : OpenPart → Opened
+module _ (meaning : InlineMeaning) (at : ℕ → inline.LinkTexts) (rows : List InlineRow) where
+  abbrev pub opened_view : OpenPart → OpenElement
   opened_view (open_part.Span span) = new_part false (span_end (span_view span))
   opened_view open_part.Link = new_part false (codes "</a>")
   opened_view (open_part.Image place) = new_part true (image_end meaning (image_target at (slice_index_or rows place Exit)))
   opened_view open_part.Silent = new_part true []
 
   -- what was laid out, and what is open, the innermost last
-  abbrev pub printed_of : Laid → List OpenPart → Printed
+  abbrev pub printed_of : LayoutState → List OpenPart → PrintState
   printed_of laid stack = printed_at laid (map opened_view (reverse stack))
 
 -- whether the innermost one stands in the description of an image, or is an image

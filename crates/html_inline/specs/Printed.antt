@@ -1,9 +1,9 @@
 -- Inline structure, laid out row by row.
 use Rattle.std.specs.Prelude.{ℕ, Bool, true, false, if◌then◌else◌, List, [], ◌∷◌, ◌++◌, codes}
 use Rattle.std.specs.List.{flat_map, fold}
-use Rattle.definition_inline.specs.Inline.{Inline, Call, Linked}
+use Rattle.definition_inline.specs.Inline.{Inline, Call, LinkTexts}
 use Rattle.definition_inline.specs.LabelMatch.{first_match, normal_label}
-use Rattle.definition_page.specs.Layout.{Laid}
+use Rattle.definition_page.specs.Layout.{LayoutState}
 use Rattle.html_bytes.specs.InlineHtml.{InlineMeaning, url_of, title_attribute, link_tag, part_description, part_html, call_at, count_at}
 use Rattle.html_bytes.specs.Layout.{lay, with_text}
 use Rattle.html_bytes.specs.Pieces.{Piece, Bytes}
@@ -11,27 +11,27 @@ use Rattle.inline_rows.specs.InlineRows.{InlineRow, Part, EnterSpan, EnterLink, 
 use Rattle.definition_inline.specs.Spans.{Span, IsEmphasis, IsStrong, IsStrikethrough}
 
 -- what is open: what is printed where it ends, and whether it stands in the description of an image or is an image
-pub record Opened : Type 0 where
+pub record OpenElement : Type 0 where
   pub described : Bool
   pub ending : List ℕ
 
-abbrev pub new_part : Bool → List ℕ → Opened
+abbrev pub new_part : Bool → List ℕ → OpenElement
 new_part described ending = record { described = described; ending = ending }
 
 -- what was laid out, and what is open, the innermost first
-pub record Printed : Type 0 where
-  pub laid : Laid
-  pub stack : List Opened
+pub record PrintState : Type 0 where
+  pub laid : LayoutState
+  pub stack : List OpenElement
 
-abbrev pub printed_at : Laid → List Opened → Printed
+abbrev pub printed_at : LayoutState → List OpenElement → PrintState
 printed_at laid stack = record { laid = laid; stack = stack }
 
 -- more of the innermost text that is open
-abbrev pub with_more : Laid → List ℕ → Laid
+abbrev pub with_more : LayoutState → List ℕ → LayoutState
 with_more l bytes = with_text l (l.text ++ bytes)
 
 -- whether only a description is printed
-abbrev pub is_described : List Opened → Bool
+abbrev pub is_described : List OpenElement → Bool
 is_described [] = false
 is_described (o ∷ others) = o.described
 
@@ -46,10 +46,10 @@ span_end IsStrong = codes "</strong>"
 span_end IsStrikethrough = codes "</del>"
 
 -- the tag of an image before its description, and after it (CommonMark 6.4)
-abbrev pub image_start : InlineMeaning → Linked → List ℕ
+abbrev pub image_start : InlineMeaning → LinkTexts → List ℕ
 image_start meaning target = codes "<img src=\"" ++ meaning.image_url (url_of meaning target) ++ codes "\" alt=\""
 
-abbrev pub image_end : InlineMeaning → Linked → List ℕ
+abbrev pub image_end : InlineMeaning → LinkTexts → List ℕ
 image_end meaning target = codes "\"" ++ title_attribute meaning target.title ++ codes " />"
 
 -- the HTML of a part, or what it says in a description
@@ -72,22 +72,22 @@ part_pieces meaning described (Call label) = call_row meaning described label
 part_pieces meaning described i = Bytes (html_of_part meaning described i) ∷ []
 
 -- pieces of inline structure, none of which is the default ending
-abbrev pub laid_out : InlineMeaning → Laid → List Piece → Laid
+abbrev pub laid_out : InlineMeaning → LayoutState → List Piece → LayoutState
 laid_out meaning l pieces = fold (lay meaning.compile []) l pieces
 
 -- a part starts that holds others: in a description nothing is printed for it
-abbrev pub enter : List ℕ → Opened → Printed → Printed
+abbrev pub enter : List ℕ → OpenElement → PrintState → PrintState
 enter start o p =
     if is_described p.stack
     then printed_at p.laid (new_part true [] ∷ p.stack)
     else printed_at (with_more p.laid start) (o ∷ p.stack)
 
 -- the innermost one ends
-abbrev pub leave : Laid → List Opened → Printed
+abbrev pub leave : LayoutState → List OpenElement → PrintState
 leave l [] = printed_at l []
 leave l (o ∷ others) = printed_at (with_more l o.ending) others
 
-abbrev pub with_row : InlineMeaning → Printed → InlineRow → Printed
+abbrev pub with_row : InlineMeaning → PrintState → InlineRow → PrintState
 with_row meaning p (Part i) = printed_at (laid_out meaning p.laid (part_pieces meaning (is_described p.stack) i)) p.stack
 with_row meaning p (EnterSpan span) = enter (span_start span) (new_part false (span_end span)) p
 with_row meaning p (EnterLink target) = enter (link_tag meaning target) (new_part false (codes "</a>")) p

@@ -1,6 +1,6 @@
 -- What a printer adds to a text, and what it prints by.
 use Rattle.std.specs.Prelude.{ℕ, List, Option}
-use Rattle.definition_inline.specs.Inline.{Linked}
+use Rattle.definition_inline.specs.Inline.{LinkTexts}
 use Rattle.html_bytes.specs.InlineHtml.{InlineMeaning}
 use Rattle.html_bytes.specs.Meaning.{inline_meaning}
 pub use Rattle.html_escape.specs.Prints.{Prints}
@@ -8,7 +8,7 @@ use Rattle.html_inline.specs.declared.printing.Printing.{Printing}
 
 -- where each label leads that is defined
 abbrev pub Definitions : Type 0
-Definitions = List ℕ → Option Linked
+Definitions = List ℕ → Option LinkTexts
 
 -- what inline structure means by what names stand for, and by the labels of the document's footnotes
 abbrev pub meaning_by : {A T : Type 0} → (List ℕ → Option (List ℕ)) → Printing A T → Definitions → List (List ℕ) → InlineMeaning

@@ -51,7 +51,7 @@ fn count_row<A: Allocator + Clone>(
     footnotes: &LabelTable<A>,
     row: InlineRow<'_>,
 ) -> Result<(), AllocError>
-    ensures { (meaning : InlineMeaning) (at : ℕ → inline.Linked) (default : List ℕ) →
+    ensures { (meaning : InlineMeaning) (at : ℕ → inline.LinkTexts) (default : List ℕ) →
         HasLabels footnotes.now meaning.footnotes →
         OnOk result (output_view out.new ≡ fold (lay meaning.compile default) (output_view out.old) (rows_counts meaning (row_view at row.entry))) }
 {

@@ -2,7 +2,7 @@
 ghost use Rattle.std.specs.Prelude.{◌≡◌, ℕ, List, OnOk, string_bytes};
 ghost use Rattle.definition_text.specs.Encode.{plain};
 ghost use Rattle.html_bytes.specs.InlineHtml.{link_tag, title_attribute, title_html};
-ghost use Rattle.inline_rows.specs.View.{linked_view, target_linked};
+ghost use Rattle.inline_rows.specs.View.{link_texts_view, target_texts};
 ghost use Rattle.html_inline.specs.Kept.{text_of};
 ghost use Rattle.html_inline.specs.Printed.{image_end, image_start};
 ghost use Rattle.html_inline.specs.Opens.{place_target};
@@ -13,13 +13,13 @@ use crate::printing::Printing;
 use crate::string::{push_formed_string, push_string};
 use crate::url::{push_image_url, push_link_url};
 use html_escape::push_encoded;
-use inline_rows::{LinkTarget, Linked};
+use inline_rows::{LinkTarget, LinkTexts};
 use markdown_options::Tables;
 use std::alloc::{AllocError, Allocator};
 
 /// Where a link or an image leads. A place past the last definition leads nowhere.
-pub(crate) fn linked_at<'a>(definitions: &'a [Linked<'a>], target: LinkTarget<'a>) -> Linked<'a>
-    ensures { linked_view result ≡ target_linked (place_target definitions.now) target.entry }
+pub(crate) fn linked_at<'a>(definitions: &'a [LinkTexts<'a>], target: LinkTarget<'a>) -> LinkTexts<'a>
+    ensures { link_texts_view result ≡ target_texts (place_target definitions.now) target.entry }
 {
     match target {
         LinkTarget::Resource(linked) => linked,
@@ -27,7 +27,7 @@ pub(crate) fn linked_at<'a>(definitions: &'a [Linked<'a>], target: LinkTarget<'a
             if place < definitions.len() {
                 definitions[place]
             } else {
-                Linked {
+                LinkTexts {
                     destination: "",
                     title: None,
                 }
@@ -41,11 +41,11 @@ pub(crate) fn push_link_start<A: Allocator + Clone, T: Tables>(
     out: &mut String<A>,
     text: &mut String<A>,
     printing: &Printing<'_, A, T>,
-    linked: Linked<'_>,
+    linked: LinkTexts<'_>,
 ) -> Result<(), AllocError>
     ensures { (definition : Definitions) (footnotes : List (List ℕ)) →
         let meaning = meaning_by (T.reference_of printing.now.tables.now) printing.now definition footnotes in
-        Prints result out.old out.new (link_tag meaning (linked_view linked.entry)) }
+        Prints result out.old out.new (link_tag meaning (link_texts_view linked.entry)) }
 {
     read_url(text, printing, linked.destination)?;
     out.push_str("<a href=\"")?;
@@ -60,11 +60,11 @@ pub(crate) fn push_image_start<A: Allocator + Clone, T: Tables>(
     out: &mut String<A>,
     text: &mut String<A>,
     printing: &Printing<'_, A, T>,
-    linked: Linked<'_>,
+    linked: LinkTexts<'_>,
 ) -> Result<(), AllocError>
     ensures { (definition : Definitions) (footnotes : List (List ℕ)) →
         let meaning = meaning_by (T.reference_of printing.now.tables.now) printing.now definition footnotes in
-        Prints result out.old out.new (image_start meaning (linked_view linked.entry)) }
+        Prints result out.old out.new (image_start meaning (link_texts_view linked.entry)) }
 {
     read_url(text, printing, linked.destination)?;
     out.push_str("<img src=\"")?;
@@ -77,11 +77,11 @@ pub(crate) fn push_image_end<A: Allocator + Clone, T: Tables>(
     out: &mut String<A>,
     text: &mut String<A>,
     printing: &Printing<'_, A, T>,
-    linked: Linked<'_>,
+    linked: LinkTexts<'_>,
 ) -> Result<(), AllocError>
     ensures { (definition : Definitions) (footnotes : List (List ℕ)) →
         let meaning = meaning_by (T.reference_of printing.now.tables.now) printing.now definition footnotes in
-        Prints result out.old out.new (image_end meaning (linked_view linked.entry)) }
+        Prints result out.old out.new (image_end meaning (link_texts_view linked.entry)) }
 {
     out.push_str("\"")?;
     push_title(out, text, printing, linked)?;
@@ -105,11 +105,11 @@ fn push_title<A: Allocator + Clone, T: Tables>(
     out: &mut String<A>,
     text: &mut String<A>,
     printing: &Printing<'_, A, T>,
-    linked: Linked<'_>,
+    linked: LinkTexts<'_>,
 ) -> Result<(), AllocError>
     ensures { (definition : Definitions) (footnotes : List (List ℕ)) →
         Prints result out.old out.new (title_attribute (meaning_by (T.reference_of printing.now.tables.now) printing.now definition footnotes)
-        (linked_view linked.entry).title) }
+        (link_texts_view linked.entry).title) }
 {
     match linked.title {
         None => Ok(()),

@@ -3,7 +3,7 @@ ghost use Rattle.std.specs.Prelude.{◌≡◌, [], IfOk, string_bytes};
 
 use crate::stack::OpenPart;
 use inline_labels::LabelTable;
-use inline_rows::Linked;
+use inline_rows::LinkTexts;
 use markdown_options::{CompileOptions, Constructs};
 use std::alloc::{AllocError, Allocator};
 
@@ -17,7 +17,7 @@ pub struct Printing<'a, A: Allocator + Clone, T> {
     /// Which named characters there are.
     pub tables: &'a T,
     /// Where the definitions of the document lead, by their places.
-    pub definitions: &'a [Linked<'a>],
+    pub definitions: &'a [LinkTexts<'a>],
     /// The labels of the document's footnote definitions.
     pub footnotes: &'a LabelTable<A>,
     /// Whether it is the cell of a table, in whose code a bar may be escaped (GFM 4.10).

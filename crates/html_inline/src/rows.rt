@@ -13,7 +13,7 @@ ghost use Rattle.inline_labels.specs.Table.{HasLabels};
 ghost use Rattle.inline_rows.specs.InlineRows as rows_of;
 ghost use Rattle.inline_runs.specs.View.{span_view};
 ghost use Rattle.inline_leaves.specs.Leaves.{parts_of};
-ghost use Rattle.inline_rows.specs.View.{data_rows, linked_view, row_view, rows_view, target_linked};
+ghost use Rattle.inline_rows.specs.View.{data_rows, link_texts_view, row_view, rows_view, target_texts};
 ghost use Rattle.inline_rows.specs.declared.row.InlineRow.{InlineRow};
 ghost use Rattle.inline_rows.specs.declared.row.InlineRow.TheVariants.{Exit};
 ghost use Rattle.html_inline.specs.GfmTable.{parts_in_cell, inline_in_cell, row_printed_in};
@@ -29,7 +29,7 @@ use crate::stack::{OpenPart, is_described};
 use html_escape::push_encoded;
 use html_footnotes::Output;
 use inline_leaves::LeafPart;
-use inline_rows::{InlineRow, LinkTarget, Linked};
+use inline_rows::{InlineRow, LinkTarget, LinkTexts};
 use inline_runs::Span;
 use markdown_options::Tables;
 use std::alloc::{AllocError, Allocator};
@@ -129,7 +129,7 @@ fn enter_span<A: Allocator + Clone>(
     scratch: &mut Scratch<A>,
     span: Span,
 ) -> Result<(), AllocError>
-    ensures { (meaning : InlineMeaning) (at : ℕ → inline.Linked) (rows : List InlineRow) →
+    ensures { (meaning : InlineMeaning) (at : ℕ → inline.LinkTexts) (rows : List InlineRow) →
         OnOk result (printed_of meaning at rows (output_view out.new) scratch.new.stack.items
         ≡ with_row meaning (printed_of meaning at rows (output_view out.old) scratch.old.stack.items) (rows_of.EnterSpan (span_view span))) }
 {
@@ -153,7 +153,7 @@ fn enter_link<A: Allocator + Clone, T: Tables>(
         let meaning = meaning_by (T.reference_of printing.now.tables.now) printing.now definition footnotes in
         let at = place_target printing.now.definitions.now in
         OnOk result (printed_of meaning at rows (output_view out.new) scratch.new.stack.items
-        ≡ with_row meaning (printed_of meaning at rows (output_view out.old) scratch.old.stack.items) (rows_of.EnterLink (target_linked at target.entry))) }
+        ≡ with_row meaning (printed_of meaning at rows (output_view out.old) scratch.old.stack.items) (rows_of.EnterLink (target_texts at target.entry))) }
 {
     if is_described(scratch.stack.as_slice()) {
         scratch.stack.push(OpenPart::Silent)?;
@@ -176,10 +176,10 @@ fn enter_image<A: Allocator + Clone, T: Tables>(
     ensures { (definition : Definitions) (footnotes : List (List ℕ)) (rows : List InlineRow) →
         let meaning = meaning_by (T.reference_of printing.now.tables.now) printing.now definition footnotes in
         let at = place_target printing.now.definitions.now in
-        image_target at (slice_index_or rows place Exit) ≡ target_linked at target.entry →
+        image_target at (slice_index_or rows place Exit) ≡ target_texts at target.entry →
         OnOk result (printed_of meaning at rows (output_view out.new) scratch.new.stack.items
         ≡ with_row meaning (printed_of meaning at rows (output_view out.old) scratch.old.stack.items)
-        (rows_of.EnterImage (target_linked at target.entry))) }
+        (rows_of.EnterImage (target_texts at target.entry))) }
 {
     if is_described(scratch.stack.as_slice()) {
         scratch.stack.push(OpenPart::Silent)?;
@@ -239,15 +239,15 @@ fn image_linked<'a, A: Allocator + Clone, T>(
     printing: &Printing<'a, A, T>,
     rows: &[InlineRow<'a>],
     place: usize,
-) -> Linked<'a>
-    ensures { linked_view result ≡ image_target (place_target printing.now.definitions.now) (slice_index_or rows.now place Exit) }
+) -> LinkTexts<'a>
+    ensures { link_texts_view result ≡ image_target (place_target printing.now.definitions.now) (slice_index_or rows.now place Exit) }
 {
     if place < rows.len() {
         if let InlineRow::EnterImage(target) = rows[place] {
             return linked_at(printing.definitions, target);
         }
     }
-    Linked {
+    LinkTexts {
         destination: "",
         title: None,
     }

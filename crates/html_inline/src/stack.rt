@@ -23,7 +23,7 @@ pub(crate) enum OpenPart {
 
 /// Whether only descriptions are printed.
 pub(crate) fn is_described(stack: &[OpenPart]) -> bool
-    ensures { (meaning : InlineMeaning) (at : ℕ → inline.Linked) (rows : List InlineRow) →
+    ensures { (meaning : InlineMeaning) (at : ℕ → inline.LinkTexts) (rows : List InlineRow) →
         result ≡ is_described (map (opened_view meaning at rows) (reverse stack.now)) }
 {
     match stack.last() {

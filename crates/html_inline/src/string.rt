@@ -90,7 +90,7 @@ fn push_piece<'a, A: Allocator, T: Tables>(
     ensures shorter { IfOk result (λ rest. length rest.now < length string.now) }
 {
     if let Some(found) = string_leaf_at(on, tables, string) {
-        push_part(out, form, found.part)?;
+        push_string_part(out, form, found.part)?;
         return Ok(found.after);
     }
     let size = kept_size(string.as_bytes());
@@ -140,7 +140,7 @@ fn spaces_at(content: &str) -> Option<Leaf<'_>>
 }
 
 /// Prints what a part of a string stands for.
-fn push_part<A: Allocator>(
+fn push_string_part<A: Allocator>(
     out: &mut String<A>,
     form: Form,
     part: LeafPart<'_>,

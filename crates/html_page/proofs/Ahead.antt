@@ -8,7 +8,7 @@ use Rattle.definition_block.specs.declared.container.Item.{Item as ItemOf}
 use Rattle.definition_block.specs.Container.{Item}
 use Rattle.definition_block.specs.Tree.{Block, Holds, Items, Ending, Blank, Blocks, Nil, Cons, join, one}
 use Rattle.definition_block.specs.Lists.{endings_at_front, endings_of, after_endings, is_some_block, has_gap, has_gap_inside, is_loose, list_marker, list_items}
-use Rattle.definition_block.specs.Lists.{rest_of, before, before_list}
+use Rattle.definition_block.specs.Lists.{rest_of, put_before, before_list}
 use Rattle.html_page.specs.declared.loose.Ahead.{Ahead}
 use Rattle.html_page.specs.Loose.{before_ending, before_item, place_at}
 
@@ -87,7 +87,7 @@ listed_if true item gs = refl
 listed_if false item gs = refl
 
 pub before_item_is : (item : ItemOf) (kids gs : Blocks) → 1 ≤ item.marker
-    → before (Holds (Item item) kids) gs ≡ listed (list_marker (after_endings gs) == item.marker) (Holds (Item item) kids) gs
+    → put_before (Holds (Item item) kids) gs ≡ listed (list_marker (after_endings gs) == item.marker) (Holds (Item item) kids) gs
 before_item_is item kids gs some =
     let b = Holds (Item item) kids in
     ap (λ t. if t then Cons b gs else before_list item.marker b gs) (ne_eqb item.marker 0 (λ e. no_marker (subst (λ n. 1 ≤ n) e some)))

@@ -8,10 +8,10 @@ use Rattle.definition_block.specs.declared.container.Item.{Item as ItemOf}
 use Rattle.definition_block.specs.Container.{Quote, Item, Footnote}
 use Rattle.definition_block.specs.Tree.{Block, Paragraph, Heading, Break, IndentedCode, FencedCode, Html, Table, Definition, Holds, Items, Ending, Blank}
 use Rattle.definition_block.specs.Tree.{Blocks, Nil, Cons}
-use Rattle.definition_block.specs.Lists.{after_endings, has_gap, is_loose, list_marker, before, group_items, grouped_block}
+use Rattle.definition_block.specs.Lists.{after_endings, has_gap, is_loose, list_marker, put_before, group_items, grouped_block}
 use Rattle.html_bytes.specs.Pieces.{Piece, Bytes, Eol, Fresh, NoteStart, NoteEnd, print}
 use Rattle.html_bytes.specs.Layout.{lay as lay_piece, with_text}
-use Rattle.definition_page.specs.Layout.{Laid}
+use Rattle.definition_page.specs.Layout.{LayoutState}
 use Rattle.html_bytes.specs.Document.{Document}
 use Rattle.definition_page.specs.Read.{in_container, in_item}
 use Rattle.html_bytes.specs.Html.{block_pieces, children_pieces, ends_tight, fresh_unless, number_tag, number_end}
@@ -31,17 +31,17 @@ use Rattle.html_page.proofs.Past.{level_past, past_kind, past_plain}
 
 module _ (d : Document) (default : List ℕ) where
   -- a page after pieces
-  abbrev one_more : Laid → Piece → Laid
+  abbrev one_more : LayoutState → Piece → LayoutState
   one_more l p = lay_piece d.options.compile default l p
 
-  abbrev lay : Laid → List Piece → Laid
+  abbrev lay : LayoutState → List Piece → LayoutState
   lay out pieces = fold one_more out pieces
 
-  lay_more : (out : Laid) (ps qs : List Piece) → lay (lay out ps) qs ≡ lay out (ps ++ qs)
+  lay_more : (out : LayoutState) (ps qs : List Piece) → lay (lay out ps) qs ≡ lay out (ps ++ qs)
   lay_more out ps qs = sym (fold-append one_more out ps qs)
 
   -- the end of an item is text
-  item_end : (said : Bool) (out : Laid)
+  item_end : (said : Bool) (out : LayoutState)
       → with_text out (fold (print default) out.text (fresh_unless said ++ Bytes (codes "</li>") ∷ []))
       ≡ lay out (fresh_unless said ++ Bytes (codes "</li>") ∷ [])
   item_end true out = refl
@@ -55,22 +55,22 @@ module _ (d : Document) (default : List ℕ) where
 
   -- in a container or the document
   abbrev pub ChildrenPrinted : Blocks → Type 0
-  ChildrenPrinted bs = (l : Level) (out : Laid) (outer : List Level) (places : List Place) → is_list l.holder ≡ false
+  ChildrenPrinted bs = (l : Level) (out : LayoutState) (outer : List Level) (places : List Place) → is_list l.holder ≡ false
       → print_all d default (printer_at out l outer (places_within bs ++ places)) (rows_of bs)
       ≡ printer_at (lay out (at_level l (group_items bs))) (level_past l (group_items bs)) outer places
 
   -- on a list that is open in a level
-  abbrev on_list_at : Laid → Option ℕ → Bool → Bool → Level → List Level → List Place → PrinterView
+  abbrev on_list_at : LayoutState → Option ℕ → Bool → Bool → Level → List Level → List Place → PrinterView
   on_list_at out number tight plain l outer places = printer_at out (level_of (holder.List number) tight plain false false) (l ∷ outer) places
 
   -- after the rest of a list, and what follows it
-  abbrev list_then : Laid → Option ℕ → Bool → Level → Blocks → Blocks → List Level → List Place → PrinterView
+  abbrev list_then : LayoutState → Option ℕ → Bool → Level → Blocks → Blocks → List Level → List Place → PrinterView
   list_then out number tight l items others outer places =
       printer_at (lay (lay out (children_pieces d in_container tight false items ++ Eol ∷ Bytes (number_end number) ∷ [])) (at_level l others))
       (level_past l others) outer places
 
   abbrev pub ListPrinted : Blocks → Type 0
-  ListPrinted bs = (number : Option ℕ) (tight plain : Bool) (l : Level) (out : Laid) (outer : List Level) (places : List Place)
+  ListPrinted bs = (number : Option ℕ) (tight plain : Bool) (l : Level) (out : LayoutState) (outer : List Level) (places : List Place)
       → is_list l.holder ≡ false → 1 ≤ list_marker (after_endings (group_items bs))
       → print_all d default (on_list_at out number tight plain l outer (places_within bs ++ places)) (rows_of bs)
       ≡ list_then out number tight l (list_ahead (group_items bs)) (after_list (group_items bs)) outer places
@@ -78,7 +78,7 @@ module _ (d : Document) (default : List ℕ) where
   -- ---- an item
 
   -- the end of an item
-  item_left : (number : Option ℕ) (tight last : Bool) (l inner : Level) (out : Laid) (outer : List Level) (places : List Place)
+  item_left : (number : Option ℕ) (tight last : Bool) (l inner : Level) (out : LayoutState) (outer : List Level) (places : List Place)
       → inner.holder ≡ holder.Item last
       → print_row d default (printer_at out inner (level_of (holder.List number) tight false false false ∷ l ∷ outer) places) Exit
       ≡ leave_list_if default last (on_list_at (lay out (fresh_unless inner.plain ++ Bytes (codes "</li>") ∷ [])) number tight false l outer places)
@@ -87,7 +87,7 @@ module _ (d : Document) (default : List ℕ) where
       ∙ ap (λ x. leave_list_if default last (on_list_at x number tight false l outer places)) (item_end inner.plain out)
 
   -- an item on a list that is open
-  item_printed : (item : ItemOf) (kids : Blocks) (place : Place) (number : Option ℕ) (tight plain : Bool) (l : Level) (out : Laid) (outer : List Level)
+  item_printed : (item : ItemOf) (kids : Blocks) (place : Place) (number : Option ℕ) (tight plain : Bool) (l : Level) (out : LayoutState) (outer : List Level)
       (places : List Place)
       → ChildrenPrinted kids
       → print_all d default (on_list_at out number tight plain l outer (place ∷ (places_within kids ++ places))) (block_rows (Holds (Item item) kids))
@@ -111,7 +111,7 @@ module _ (d : Document) (default : List ℕ) where
       ∙ ap (λ ps. lay (lay out start) ps) (sym (append_assoc body (fresh_unless (ends_tight tight true gs)) end)))
 
   -- what follows an item that is printed: more of its list, or what stands after it
-  item_then : (goes_on : Bool) (bs : Blocks) (number : Option ℕ) (tight : Bool) (l : Level) (out : Laid) (outer : List Level) (places : List Place)
+  item_then : (goes_on : Bool) (bs : Blocks) (number : Option ℕ) (tight : Bool) (l : Level) (out : LayoutState) (outer : List Level) (places : List Place)
       → is_list l.holder ≡ false → (goes_on ≡ true → 1 ≤ list_marker (after_endings (group_items bs))) → ChildrenPrinted bs → ListPrinted bs
       → print_all d default (leave_list_if default (not goes_on) (on_list_at out number tight false l outer (places_within bs ++ places))) (rows_of bs)
       ≡ list_then out number tight l (on_list goes_on (group_items bs)) (off_list goes_on (group_items bs)) outer places
@@ -120,7 +120,7 @@ module _ (d : Document) (default : List ℕ) where
       children l (lay out (Eol ∷ Bytes (number_end number) ∷ [])) outer places no_list
 
   -- the pieces of an item, of what follows it on its list, and of what follows the list
-  split_list : (out : Laid) (item more end others : List Piece) → lay (lay (lay out item) (more ++ end)) others ≡ lay (lay out ((item ++ more) ++ end)) others
+  split_list : (out : LayoutState) (item more end others : List Piece) → lay (lay (lay out item) (more ++ end)) others ≡ lay (lay out ((item ++ more) ++ end)) others
   split_list out item more end others =
       ap (λ x. lay x others) (lay_more out item (more ++ end) ∙ ap (λ ps. lay out ps) (sym (append_assoc item more end)))
 
@@ -128,13 +128,13 @@ module _ (d : Document) (default : List ℕ) where
 
   -- a block, and those after it
   abbrev StepPrinted : Block → Blocks → Type 0
-  StepPrinted b bs = (l : Level) (out : Laid) (outer : List Level) (places : List Place) → is_list l.holder ≡ false
+  StepPrinted b bs = (l : Level) (out : LayoutState) (outer : List Level) (places : List Place) → is_list l.holder ≡ false
       → print_all d default (print_all d default (printer_at out l outer (places_in b (group_items bs) ++ (places_within bs ++ places))) (block_rows b))
       (rows_of bs)
-      ≡ printer_at (lay out (at_level l (before (grouped_block b) (group_items bs)))) (level_past l (before (grouped_block b) (group_items bs))) outer places
+      ≡ printer_at (lay out (at_level l (put_before (grouped_block b) (group_items bs)))) (level_past l (put_before (grouped_block b) (group_items bs))) outer places
 
   -- a block that is a row
-  leaf_step : (b : Block) (bs : Blocks) → ChildrenPrinted bs → (l : Level) (out : Laid) (outer : List Level) (places : List Place) → is_list l.holder ≡ false
+  leaf_step : (b : Block) (bs : Blocks) → ChildrenPrinted bs → (l : Level) (out : LayoutState) (outer : List Level) (places : List Place) → is_list l.holder ≡ false
       → print_all d default (print_row d default (printer_at out l outer (places_within bs ++ places)) (Single b)) (rows_of bs)
       ≡ printer_at (lay out (at_level l (Cons b (group_items bs)))) (level_past l (Cons b (group_items bs))) outer places
   leaf_step b bs children l out outer places no_list =
@@ -143,7 +143,7 @@ module _ (d : Document) (default : List ℕ) where
       children after (lay out own) outer places no_list
       ∙ ap (λ x. printer_at x (level_past after (group_items bs)) outer places) (lay_more out own (at_level after (group_items bs)))
 
-  quote_left : (l inner : Level) (out : Laid) (outer : List Level) (places : List Place) → inner.holder ≡ holder.Quote
+  quote_left : (l inner : Level) (out : LayoutState) (outer : List Level) (places : List Place) → inner.holder ≡ holder.Quote
       → print_row d default (printer_at out inner (l ∷ outer) places) Exit ≡ printer_at (lay out (Fresh ∷ Bytes (codes "</blockquote>") ∷ [])) l outer places
   quote_left l inner out outer places is = ap (λ (k : Holder). exit_of default k (printer_at out inner (l ∷ outer) places)) is
 
@@ -164,7 +164,7 @@ module _ (d : Document) (default : List ℕ) where
       ∙ ap (λ x. printer_at x (level_past (after_block l) (group_items bs)) outer places)
       (lay_more out (start ++ (body ++ end)) (at_level (after_block l) (group_items bs)))
 
-  footnote_left : (l inner : Level) (out : Laid) (outer : List Level) (places : List Place) → inner.holder ≡ holder.Footnote
+  footnote_left : (l inner : Level) (out : LayoutState) (outer : List Level) (places : List Place) → inner.holder ≡ holder.Footnote
       → print_row d default (printer_at out inner (l ∷ outer) places) Exit ≡ printer_at (lay out (NoteEnd ∷ [])) l outer places
   footnote_left l inner out outer places is = ap (λ (k : Holder). exit_of default k (printer_at out inner (l ∷ outer) places)) is
 
@@ -186,7 +186,7 @@ module _ (d : Document) (default : List ℕ) where
       (lay_more out (start ++ (body ++ end)) (at_level (after_footnote l) (group_items bs)))
 
   -- the list that an item starts, if none is open
-  list_started : (item : ItemOf) (kids : Blocks) (place : Place) (l : Level) (out : Laid) (outer : List Level) (places : List Place) → is_list l.holder ≡ false
+  list_started : (item : ItemOf) (kids : Blocks) (place : Place) (l : Level) (out : LayoutState) (outer : List Level) (places : List Place) → is_list l.holder ≡ false
       → print_all d default (printer_at out l outer (place ∷ places)) (block_rows (Holds (Item item) kids))
       ≡ print_all d default (on_list_at (lay out (Fresh ∷ Bytes (number_tag item.number) ∷ [])) item.number (not place.loose) true (after_block l) outer
       (place ∷ places)) (block_rows (Holds (Item item) kids))
@@ -219,7 +219,7 @@ module _ (d : Document) (default : List ℕ) where
       let items = on_list goes_on gs in
       let others = off_list goes_on gs in
       let body = λ (t : Bool). children_pieces d in_container t false (Cons b items) in
-      let at = λ (x : Laid). printer_at x (level_past (after_block l) others) outer places in
+      let at = λ (x : LayoutState). printer_at x (level_past (after_block l) others) outer places in
       ap (λ (p : PrinterView). print_all d default p (rows_of bs))
       (list_started item kids place l out outer (places_within kids ++ left) no_list
       ∙ item_printed item kids place item.number tight true (after_block l) (lay out start) outer left k)
@@ -233,16 +233,16 @@ module _ (d : Document) (default : List ℕ) where
   -- ---- blocks on a list
 
   abbrev OnListPrinted : Block → Blocks → Type 0
-  OnListPrinted b bs = (number : Option ℕ) (tight plain : Bool) (l : Level) (out : Laid) (outer : List Level) (places : List Place)
-      → is_list l.holder ≡ false → 1 ≤ list_marker (after_endings (before (grouped_block b) (group_items bs)))
+  OnListPrinted b bs = (number : Option ℕ) (tight plain : Bool) (l : Level) (out : LayoutState) (outer : List Level) (places : List Place)
+      → is_list l.holder ≡ false → 1 ≤ list_marker (after_endings (put_before (grouped_block b) (group_items bs)))
       → print_all d default (print_all d default (on_list_at out number tight plain l outer (places_in b (group_items bs) ++ (places_within bs ++ places)))
       (block_rows b)) (rows_of bs)
-      ≡ list_then out number tight l (list_ahead (before (grouped_block b) (group_items bs)))
-      (after_list (before (grouped_block b) (group_items bs))) outer places
+      ≡ list_then out number tight l (list_ahead (put_before (grouped_block b) (group_items bs)))
+      (after_list (put_before (grouped_block b) (group_items bs))) outer places
 
   -- an ending, by what it prints
   ending_on_list : (own : List Piece) (bs : Blocks) → ListPrinted bs
-      → (number : Option ℕ) (tight plain : Bool) (l : Level) (out : Laid) (outer : List Level) (places : List Place)
+      → (number : Option ℕ) (tight plain : Bool) (l : Level) (out : LayoutState) (outer : List Level) (places : List Place)
       → is_list l.holder ≡ false → 1 ≤ list_marker (after_endings (group_items bs))
       → print_all d default (on_list_at (lay out own) number tight plain l outer (places_within bs ++ places)) (rows_of bs)
       ≡ printer_at (lay (lay out ((own ++ children_pieces d in_container tight false (list_ahead (group_items bs))) ++ Eol ∷ Bytes (number_end number) ∷ []))

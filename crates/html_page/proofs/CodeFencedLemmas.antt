@@ -15,7 +15,7 @@ use Rattle.definition_text.specs.BlockLines.{BlockLine, own_lines, last_ending}
 use Rattle.definition_block.specs.Tree.{FencedCode}
 use Rattle.html_bytes.specs.Pieces.{Piece as PrinterView, Bytes, Fresh}
 use Rattle.html_bytes.specs.Layout.{lay, with_text}
-use Rattle.definition_page.specs.Layout.{Laid}
+use Rattle.definition_page.specs.Layout.{LayoutState}
 use Rattle.markdown_options.specs.declared.configuration.CompileOptions.{CompileOptions}
 use Rattle.html_bytes.specs.Document.{Document, info_of}
 use Rattle.definition_page.specs.Read.{Standing}
@@ -34,7 +34,7 @@ class_some d [] some = let wrong : true ≡ false = some in cc
 class_some d (b ∷ bs) some = refl
 
 -- content with the ending of its last line
-whole_laid : (e : LineEnding) (out : Laid) (ls : List BlockLine)
+whole_laid : (e : LineEnding) (out : LayoutState) (ls : List BlockLine)
     → with_fresh (ending_bytes e) (with_bytes (code_of ls) out)
     ≡ with_fresh (ending_bytes e) (with_bytes (ending_text (last_ending ls)) (with_bytes (code_of (own_lines ls)) out))
 whole_laid e out ls =
@@ -46,7 +46,7 @@ abbrev pub content_ending : Bool → Bool → LineEnding → List BlockLine → 
 content_ending top closed e ls = if top || closed then last_ending ls else Some e
 
 -- content with that ending
-pub content_laid : (options : CompileOptions) (e : LineEnding) (out : Laid) (top closed : Bool) (ls : List BlockLine) → 0 < length ls
+pub content_laid : (options : CompileOptions) (e : LineEnding) (out : LayoutState) (top closed : Bool) (ls : List BlockLine) → 0 < length ls
     → layout_after options e out (fenced_content top closed ls)
     ≡ with_fresh (ending_bytes e) (with_bytes (ending_text (content_ending top closed e ls)) (with_bytes (code_of (own_lines ls)) out))
 content_laid options e out top closed [] some = absurd (omega arith)
@@ -55,13 +55,13 @@ content_laid options e out false true (l ∷ ls) some = whole_laid e out (l ∷ 
 content_laid options e out false false (l ∷ ls) some = refl
 
 -- what stands after the content of code that isn't closed
-end_laid : (options : CompileOptions) (e : LineEnding) (out : Laid) (content : List PrinterView)
+end_laid : (options : CompileOptions) (e : LineEnding) (out : LayoutState) (content : List PrinterView)
     → with_fresh (ending_bytes e) (with_bytes (codes "</code></pre>") (layout_after options e out content))
     ≡ layout_after options e out (content ++ Bytes (codes "</code></pre>") ∷ fresh_unless false)
 end_laid options e out content = sym (fold-append (lay options (ending_bytes e)) out content (Bytes (codes "</code></pre>") ∷ Fresh ∷ []))
 
 -- the start tag, step by step
-tag_laid : (d : Document) (e : LineEnding) (info : List ℕ) (out fresh tag class start : Laid)
+tag_laid : (d : Document) (e : LineEnding) (info : List ℕ) (out fresh tag class start : LayoutState)
     → fresh ≡ with_fresh (ending_bytes e) out → tag ≡ with_bytes (codes "<pre><code") fresh → class ≡ with_bytes (class_of d info) tag
     → start ≡ with_bytes (codes ">") class
     → start ≡ with_bytes (codes "<pre><code" ++ class_of d info ++ codes ">") (with_fresh (ending_bytes e) out)
@@ -75,7 +75,7 @@ tag_laid d e info out fresh tag class start is_fresh is_tag is_class is_start =
 
 -- code that isn't closed, step by step
 pub open_laid : (d : Document) (e inner after : LineEnding) (info : List ℕ) (top closed : Bool) (ls : List BlockLine)
-    (out fresh tag class start content end : Laid)
+    (out fresh tag class start content end : LayoutState)
     → closed ≡ false → inner ≡ e → after ≡ e
     → fresh ≡ with_fresh (ending_bytes e) out → tag ≡ with_bytes (codes "<pre><code") fresh → class ≡ with_bytes (class_of d info) tag
     → start ≡ with_bytes (codes ">") class
@@ -93,7 +93,7 @@ open_laid d e inner after info top closed ls out fresh tag class start content e
     ∙ ap (λ b. layout_after o e first (body ++ Bytes (codes "</code></pre>") ∷ fresh_unless b)) (sym not_closed)
 
 -- code that is closed
-pub closed_laid : (d : Document) (e inner : LineEnding) (info : List ℕ) (top closed : Bool) (ls : List BlockLine) (out fresh tag class start content end : Laid)
+pub closed_laid : (d : Document) (e inner : LineEnding) (info : List ℕ) (top closed : Bool) (ls : List BlockLine) (out fresh tag class start content end : LayoutState)
     → closed ≡ true → inner ≡ e
     → fresh ≡ with_fresh (ending_bytes e) out → tag ≡ with_bytes (codes "<pre><code") fresh → class ≡ with_bytes (class_of d info) tag
     → start ≡ with_bytes (codes ">") class
@@ -124,7 +124,7 @@ content_is count pieces =
     ∙ sym (take-map piece_line count (drop 1 pieces))
     ∙ ap (take count) (sym (drop-map piece_line 1 pieces))
 
-pub fenced_laid : (d : Document) (e : LineEnding) (out : Laid) (s : Standing) (tight silent closed : Bool) (count : ℕ) (pieces : List Piece)
+pub fenced_laid : (d : Document) (e : LineEnding) (out : LayoutState) (s : Standing) (tight silent closed : Bool) (count : ℕ) (pieces : List Piece)
     → 1 + count ≤ length pieces → list_all is_byte (first_codes (piece_lines pieces)) ≡ true
     → layout_after d.options.compile e out (block_pieces d (standing_at s.top) false false
     (FencedCode (get_or pieces 0 no_piece).text.now closed (piece_lines (take count (take (length pieces - 1) (drop 1 pieces))))))

@@ -26,7 +26,7 @@ use Rattle.block_cells.specs.GfmTable.{cell_view}
 use Rattle.html_bytes.specs.GfmTable.{cell_pieces, missing_pieces, cells_pieces, row_pieces, body_row_pieces, body_pieces, head_pieces, table_pieces}
 use Rattle.html_bytes.specs.Pieces.{Piece, Bytes, Fresh}
 use Rattle.html_bytes.specs.Layout.{lay, with_text}
-use Rattle.definition_page.specs.Layout.{Laid}
+use Rattle.definition_page.specs.Layout.{LayoutState}
 use Rattle.html_page.specs.Prints.{with_bytes, with_fresh}
 use Rattle.html_page.specs.GfmTable.{next_cell_pieces, IsClearIf, CellsAreClear}
 use Rattle.html_page.specs.Printable.{AreClear}
@@ -60,10 +60,10 @@ cells_clear line h =
 -- ---- rows of a body
 
 module _ (default : List ℕ) (d : Document) (aligns : List AlignKind) where
-  abbrev one_more : Laid → Piece → Laid
+  abbrev one_more : LayoutState → Piece → LayoutState
   one_more l p = lay d.options.compile default l p
 
-  abbrev past : Laid → List Piece → Laid
+  abbrev past : LayoutState → List Piece → LayoutState
   past out ps = fold one_more out ps
 
   abbrev body : BlockLine → List Piece
@@ -73,18 +73,18 @@ module _ (default : List ℕ) (d : Document) (aligns : List AlignKind) where
   rows ls = flat_map (body_row_pieces d aligns) ls
 
   -- one row prints no ending
-  nothing_more : (out : Laid) → with_bytes [] out ≡ out
+  nothing_more : (out : LayoutState) → with_bytes [] out ≡ out
   nothing_more out = ap (with_text out) (append-nil out.text)
 
-  one_row : (l : BlockLine) (out : Laid) → past out (rows (own_lines (l ∷ []))) ≡ past out (body l)
+  one_row : (l : BlockLine) (out : LayoutState) → past out (rows (own_lines (l ∷ []))) ≡ past out (body l)
   one_row l out =
       ap (past out) (append-nil (body l ++ Bytes [] ∷ [])) ∙ fold-append one_more out (body l) (Bytes [] ∷ []) ∙ nothing_more (past out (body l))
 
-  ended_row : (l : BlockLine) (out : Laid) → past out (body_row_pieces d aligns l) ≡ with_bytes (ending_text l.ending) (past out (body l))
+  ended_row : (l : BlockLine) (out : LayoutState) → past out (body_row_pieces d aligns l) ≡ with_bytes (ending_text l.ending) (past out (body l))
   ended_row l out = fold-append one_more out (body l) (Bytes (ending_text l.ending) ∷ [])
 
   -- and one more prints the ending before it
-  pub rows_more : (ls : List BlockLine) (l : BlockLine) (out : Laid)
+  pub rows_more : (ls : List BlockLine) (l : BlockLine) (out : LayoutState)
       → past (with_bytes (ending_text (last_ending ls)) (past out (rows (own_lines ls)))) (body l) ≡ past out (rows (own_lines (ls ++ l ∷ [])))
   rows_more [] l out = ap (λ x. past x (body l)) (nothing_more out) ∙ sym (one_row l out)
   rows_more (a ∷ []) l out =
@@ -115,17 +115,17 @@ two_lines (a ∷ []) p le = absurd (omega (arith, le))
 two_lines (a ∷ b ∷ others) p le = refl
 
 module _ (default : List ℕ) (d : Document) (head delimiters : BlockLine) (ls : List BlockLine) where
-  abbrev next : Laid → Piece → Laid
+  abbrev next : LayoutState → Piece → LayoutState
   next l p = lay d.options.compile default l p
 
-  abbrev laid : Laid → List Piece → Laid
+  abbrev laid : LayoutState → List Piece → LayoutState
   laid out ps = fold next out ps
 
   abbrev columns : List AlignKind
   columns = line_aligns delimiters
 
   -- printed in turn
-  pub table_laid : (out : Laid)
+  pub table_laid : (out : LayoutState)
       → (let start = with_fresh default (with_bytes (codes "<table>") (with_fresh default out)) in
       with_bytes (codes "</table>") (with_fresh default (laid (laid start (head_pieces d columns head))
       (body_pieces d columns delimiters.ending (own_lines ls)))))
@@ -142,14 +142,14 @@ module _ (default : List ℕ) (d : Document) (head delimiters : BlockLine) (ls :
 -- ---- printed in turn
 
 module _ (default : List ℕ) (d : Document) (aligns : List AlignKind) (line : BlockLine) where
-  abbrev piece_after : Laid → Piece → Laid
+  abbrev piece_after : LayoutState → Piece → LayoutState
   piece_after l p = lay d.options.compile default l p
 
-  abbrev after : Laid → List Piece → Laid
+  abbrev after : LayoutState → List Piece → LayoutState
   after out ps = fold piece_after out ps
 
   -- a row
-  pub row_laid : (name : List ℕ) (out : Laid)
+  pub row_laid : (name : List ℕ) (out : LayoutState)
       → with_bytes (codes "</tr>") (with_fresh default (after (with_bytes (codes "<tr>") (with_fresh default out))
       (cells_pieces d name aligns (line_cells line))))
       ≡ after out (row_pieces d name aligns line)
@@ -158,7 +158,7 @@ module _ (default : List ℕ) (d : Document) (aligns : List AlignKind) (line : B
       (Fresh ∷ Bytes (codes "</tr>") ∷ []))
 
   -- a head
-  pub head_laid : (out : Laid)
+  pub head_laid : (out : LayoutState)
       → with_bytes (codes "</thead>")
       (with_fresh default (with_bytes (ending_text line.ending) (after (with_bytes (codes "<thead>") out) (row_pieces d (codes "th") aligns line))))
       ≡ after out (head_pieces d aligns line)
@@ -167,7 +167,7 @@ module _ (default : List ℕ) (d : Document) (aligns : List AlignKind) (line : B
       (Bytes (ending_text line.ending) ∷ Fresh ∷ Bytes (codes "</thead>") ∷ []))
 
 -- a body
-some_body : (default : List ℕ) (d : Document) (aligns : List AlignKind) (ending : Option LineEnding) (ls : List BlockLine) (out : Laid) → 0 < length ls
+some_body : (default : List ℕ) (d : Document) (aligns : List AlignKind) (ending : Option LineEnding) (ls : List BlockLine) (out : LayoutState) → 0 < length ls
     → with_bytes (codes "</tbody>")
     (with_fresh default (fold (lay d.options.compile default) (with_bytes (codes "<tbody>") (with_bytes (ending_text ending) out))
     (flat_map (body_row_pieces d aligns) ls)))
@@ -183,7 +183,7 @@ own_some [] some = absurd (omega arith)
 own_some (a ∷ []) some = some
 own_some (a ∷ b ∷ others) some = omega arith
 
-pub body_laid : (default : List ℕ) (d : Document) (aligns : List AlignKind) (ending : Option LineEnding) (ls : List BlockLine) (out : Laid) → 0 < length ls
+pub body_laid : (default : List ℕ) (d : Document) (aligns : List AlignKind) (ending : Option LineEnding) (ls : List BlockLine) (out : LayoutState) → 0 < length ls
     → with_bytes (codes "</tbody>")
     (with_fresh default (fold (lay d.options.compile default) (with_bytes (codes "<tbody>") (with_bytes (ending_text ending) out))
     (flat_map (body_row_pieces d aligns) (own_lines ls))))
@@ -192,7 +192,7 @@ body_laid default d aligns ending ls out some = some_body default d aligns endin
 
 -- a cell after those so far
 pub cells_more : (default : List ℕ) (d : Document) (name : List ℕ) (align : AlignKind) (aligns : List AlignKind) (cs left : List Cell) (cell : Option CellOf)
-    (out : Laid)
+    (out : LayoutState)
     → MatchOption cell ((cs ≡ []) × (left ≡ [])) (λ c. cs ≡ cell_view c ∷ left)
     → fold (lay d.options.compile default) out (cells_pieces d name (align ∷ aligns) cs)
     ≡ fold (lay d.options.compile default) (fold (lay d.options.compile default) out (next_cell_pieces d name align cell)) (cells_pieces d name aligns left)
@@ -217,13 +217,13 @@ clear_taken cs left None h p = (tt, subst CellsAreClear (sym h.1) tt)
 clear_taken cs left (Some c) h p = subst CellsAreClear h p
 
 -- after the last column
-pub no_columns : (aligns : List AlignKind) (i : ℕ) (default : List ℕ) (d : Document) (name : List ℕ) (cs : List Cell) (out : Laid) → length aligns ≤ i
+pub no_columns : (aligns : List AlignKind) (i : ℕ) (default : List ℕ) (d : Document) (name : List ℕ) (cs : List Cell) (out : LayoutState) → length aligns ≤ i
     → fold (lay d.options.compile default) out (flat_map (cell_counts d) cs) ≡ fold (lay d.options.compile default) out (cells_pieces d name (drop i aligns) cs)
 no_columns aligns i default d name cs out le =
     sym (ap (λ left. fold (lay d.options.compile default) out (cells_pieces d name left cs)) (drop_all i aligns le))
 
 -- the calls in one more cell that isn't printed
-pub counts_more : (default : List ℕ) (d : Document) (cs left : List Cell) (c : Cell) (out : Laid) → cs ≡ c ∷ left
+pub counts_more : (default : List ℕ) (d : Document) (cs left : List Cell) (c : Cell) (out : LayoutState) → cs ≡ c ∷ left
     → fold (lay d.options.compile default) (fold (lay d.options.compile default) out (cell_counts d c)) (flat_map (cell_counts d) left)
     ≡ fold (lay d.options.compile default) out (flat_map (cell_counts d) cs)
 counts_more default d cs left c out is =

@@ -11,7 +11,7 @@ use Rattle.definition_block.specs.ThematicBreak.{is_break}
 use Rattle.definition_block.specs.ContainerLine.{ContainerLine}
 use Rattle.definition_block.specs.ContainerStart.{ContainerStart}
 use Rattle.definition_block.specs.BlockQuote.{after_byte, quote_prefix}
-use Rattle.definition_block.specs.ListItem.{Marker, marker_of, is_digit, number_of, bullet, delimiter, marker, is_item, item, item_after, item_start}
+use Rattle.definition_block.specs.ListItem.{Marker, marker_of, is_digit, number_of, bullet, after_number, marker, is_item, item, item_after, item_start}
 use Rattle.definition_text.specs.Content.{Part, closed_by}
 use Rattle.definition_inline.specs.Label.{label_end}
 use Rattle.definition_block.specs.GfmFootnoteDefinition.{is_footnote_label, label_before, with_colon, after_open, after_bracket, footnote_mark, footnote_of}
@@ -53,7 +53,7 @@ bullet_fits [] = no_marker
 bullet_fits (code ∷ codes) =
     choose_if MarkerFits ((code == 45) || (code == 43) || (code == 42)) _ _ (λ h. some_marker code 1 None codes (bullet_byte code h)) no_marker
 
-delimiter_fits : (number digits : ℕ) (rest : Rest) → MarkerFits (delimiter number digits rest)
+delimiter_fits : (number digits : ℕ) (rest : Rest) → MarkerFits (after_number number digits rest)
 delimiter_fits number digits [] = no_marker
 delimiter_fits number digits (code ∷ codes) =
     choose_if MarkerFits ((code == 46) || (code == 41)) _ _ (λ h. some_marker code (digits + 1) (Some number) codes (delimiter_byte code h)) no_marker

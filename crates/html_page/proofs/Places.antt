@@ -3,7 +3,7 @@ use Rattle.std.proofs.Common.{◌≡◌, List, [], ◌∷◌, ◌++◌, refl, sy
 use Rattle.definition_block.specs.Container.{Container, Quote, Item, Footnote}
 use Rattle.definition_block.specs.Tree.{Block, Paragraph, Heading, Break, IndentedCode, FencedCode, Html, Table, Definition, Holds, Items, Ending, Blank}
 use Rattle.definition_block.specs.Tree.{Blocks, Nil, Cons}
-use Rattle.definition_block.specs.Lists.{has_gap, before, group_items, grouped_block}
+use Rattle.definition_block.specs.Lists.{has_gap, put_before, group_items, grouped_block}
 use Rattle.block_rows.specs.Rows.{BlockRow, Exit, start_row, rows_of, block_rows}
 use Rattle.html_page.specs.declared.loose.Place.{Place}
 use Rattle.html_page.specs.declared.loose.Ahead.{Ahead}
@@ -51,7 +51,7 @@ KidsPassed kids = (outer : List Ahead) (places : List Place)
 
 abbrev BlockPassed : Block → Type 0
 BlockPassed b = (gs : Blocks) (outer : List Ahead) (places : List Place)
-    → pass_rows (pass_at (ahead_of gs) outer places) (block_rows b) ≡ pass_at (ahead_of (before (grouped_block b) gs)) outer (places_in b gs ++ places)
+    → pass_rows (pass_at (ahead_of gs) outer places) (block_rows b) ≡ pass_at (ahead_of (put_before (grouped_block b) gs)) outer (places_in b gs ++ places)
 
 holds_passed : (c : Container) (kids : Blocks) → IsPrintableContainer c → KidsPassed kids → BlockPassed (Holds c kids)
 holds_passed Quote kids some k gs outer places =
@@ -72,7 +72,7 @@ more_passed b bs h k outer places =
     pass_rows-append (pass_at nothing_ahead outer places) (block_rows b) (rows_of bs)
     ∙ ap (λ p. pass_rows p (block_rows b)) (k outer places)
     ∙ h gs outer (places_within bs ++ places)
-    ∙ ap (λ ps. pass_at (ahead_of (before (grouped_block b) gs)) outer ps) (sym (append_assoc (places_in b gs) (places_within bs) places))
+    ∙ ap (λ ps. pass_at (ahead_of (put_before (grouped_block b) gs)) outer ps) (sym (append_assoc (places_in b gs) (places_within bs) places))
 
 mutual
   pub block_passed : (b : Block) → IsPrintable b → BlockPassed b

@@ -31,7 +31,7 @@ use Rattle.definition_block.specs.HeadingSetext.{underline_of, underline}
 use Rattle.definition_block.specs.HtmlFlow.{html_start, html_ends_here, ends_before_blank}
 use Rattle.definition_text.specs.Content.{content_of}
 use Rattle.definition_inline.specs.Definition.{Definition as LinkDefinition, definition_at}
-use Rattle.definition_block.specs.Definitions.{Cut, cut_into, cut_after, cut_most, cut, definition_lines, lines_before}
+use Rattle.definition_block.specs.Definitions.{DefinitionCut, cut_into, cut_after, cut_most, definition_cut, definition_lines, lines_before}
 use Rattle.block_rows.specs.ParagraphLines.{HaveNoEnding, AreLines}
 use Rattle.block_rows.proofs.OpenLines.{AreTextLines, AreLinesTo, LineClear, StartedClear, clear-take, clear-drop, clear-filter, clear_codes, clear_block}
 use Rattle.block_rows.proofs.OpenLines.{clear_bare, clear_start, clear_continue, lines_of_text, are_lines, open_step}
@@ -41,9 +41,9 @@ use Rattle.definition_text.specs.BlockLines.{BlockLine, spaced_line, own_lines}
 use Rattle.definition_block.specs.Tree.{leaf_text, open_text, beside_in, beside_line, in_container, Block, Paragraph, Heading, Break, IndentedCode, FencedCode}
 use Rattle.definition_block.specs.Tree.{Html, Table, Definition, Holds, Items, Ending, Blank, Blocks, Nil, Cons, join, one, block_and_ending, OpenLeaf, Text}
 use Rattle.definition_block.specs.Tree.{Indented, Fenced, OpenHtml, OpenTable, Opening, Leaf, Inside, Tree, tree, nothing, empty_tree, paragraph_of, close_leaf}
-use Rattle.definition_block.specs.Tree.{close, blanks, is_ending, all_endings, front, trailing, without_last, last_of, holds, has_text, has_table, is_some_line}
+use Rattle.definition_block.specs.Tree.{close, blanks, is_ending, all_endings, front, trailing, without_last, last_of, container_block, has_text, has_table, is_some_line}
 use Rattle.definition_block.specs.Tree.{table_of, table_if, makes_table, with_line, rest_line, html_with, takes, tree_or, or_heading, or_fence, or_html, begins}
-use Rattle.definition_block.specs.Tree.{text_here, heading_of, heading_if, turns, after, text_line_of, break_or_text, begun, leaf_line, start, new, began_blank}
+use Rattle.definition_block.specs.Tree.{text_here, heading_of, heading_if, turns, after, text_line_of, break_or_text, leaf_tree_or, leaf_line, start, new, began_blank}
 use Rattle.definition_block.specs.Tree.{goes_on, grow, step, steps, blocks_at_end, children_after, blocks}
 use Rattle.block_rows.specs.Rows.{RowsValue, rows_value, value_with, rows_of}
 use Rattle.block_rows.specs.declared.row.Row.{Row}
@@ -219,7 +219,7 @@ without_last_printable Nil h = tt
 without_last_printable (Cons b Nil) h = choose CanBePrinted (is_ending b) Nil (one b) tt h
 without_last_printable (Cons b (Cons c bs)) h = (h.0, without_last_printable (Cons c bs) h.1)
 
-holds_printable : (c : Container) (kids : Blocks) → IsPrintableContainer c → CanBePrinted kids → CanBePrinted (holds c kids)
+holds_printable : (c : Container) (kids : Blocks) → IsPrintableContainer c → CanBePrinted kids → CanBePrinted (container_block c kids)
 holds_printable Quote kids h k = ((tt, without_last_printable kids k), last_printable kids)
 holds_printable (Item item) kids h k = ((h, front_printable kids k), trailing_printable kids)
 holds_printable (Footnote label) kids h k = ((h, front_printable kids k), trailing_printable kids)
@@ -230,7 +230,7 @@ blanks_printable (l ∷ ls) = (tt, blanks_printable ls)
 
 -- ---- definitions at the front of a paragraph
 
-cut_after_printable : (o : Option LinkDefinition) (ls : List BlockLine) (more : List BlockLine → Cut)
+cut_after_printable : (o : Option LinkDefinition) (ls : List BlockLine) (more : List BlockLine → DefinitionCut)
     → ((left : List BlockLine) → CanBePrinted (more left).definitions) → CanBePrinted (cut_after o ls more).definitions
 cut_after_printable None ls more h = tt
 cut_after_printable (Some d) ls more h =
@@ -241,8 +241,8 @@ cut_most_printable : (most : ℕ) (ls : List BlockLine) → CanBePrinted (cut_mo
 cut_most_printable zero ls = tt
 cut_most_printable (suc most) ls = cut_after_printable (definition_at (content_of (own_lines ls))) ls (cut_most most) (cut_most_printable most)
 
-cut_printable : (on : Constructs) (ls : List BlockLine) → CanBePrinted (cut on ls).definitions
-cut_printable on ls = choose (λ (c : Cut). CanBePrinted c.definitions) on.definition (cut_most (length ls) ls) (cut_into Nil ls)
+cut_printable : (on : Constructs) (ls : List BlockLine) → CanBePrinted (definition_cut on ls).definitions
+cut_printable on ls = choose (λ (c : DefinitionCut). CanBePrinted c.definitions) on.definition (cut_most (length ls) ls) (cut_into Nil ls)
     (cut_most_printable (length ls) ls) tt
 
 -- the lines that are left of a paragraph
@@ -252,7 +252,7 @@ lines_left (suc n) [] h = tt
 lines_left (suc n) (a ∷ []) h = lines_left n [] tt
 lines_left (suc n) (a ∷ b ∷ others) h = lines_left n (b ∷ others) h.3
 
-cut_after_left : (o : Option LinkDefinition) (ls : List BlockLine) (more : List BlockLine → Cut)
+cut_after_left : (o : Option LinkDefinition) (ls : List BlockLine) (more : List BlockLine → DefinitionCut)
     → AreLines ls → ((left : List BlockLine) → AreLines left → AreLines (more left).left) → AreLines (cut_after o ls more).left
 cut_after_left None ls more h k = h
 cut_after_left (Some d) ls more h k = let count = lines_before d.rest ls in k (drop count ls) (lines_left count ls h)
@@ -261,8 +261,8 @@ cut_most_left : (most : ℕ) (ls : List BlockLine) → AreLines ls → AreLines 
 cut_most_left zero ls h = h
 cut_most_left (suc most) ls h = cut_after_left (definition_at (content_of (own_lines ls))) ls (cut_most most) h (cut_most_left most)
 
-cut_left : (on : Constructs) (ls : List BlockLine) → AreLines ls → AreLines (cut on ls).left
-cut_left on ls h = choose (λ (c : Cut). AreLines c.left) on.definition (cut_most (length ls) ls) (cut_into Nil ls) (cut_most_left (length ls) ls h) h
+cut_left : (on : Constructs) (ls : List BlockLine) → AreLines ls → AreLines (definition_cut on ls).left
+cut_left on ls h = choose (λ (c : DefinitionCut). AreLines c.left) on.definition (cut_most (length ls) ls) (cut_into Nil ls) (cut_most_left (length ls) ls h) h
 
 paragraph_printable : (ls : List BlockLine) → AreLines ls → CanBePrinted (paragraph_of ls)
 paragraph_printable [] h = tt
@@ -336,7 +336,7 @@ some_fits t h k = record { tree = fits t h k }
 
 leaf_closed : (on : Constructs) (leaf : OpenLeaf) → LeafFits leaf → AreLines (leaf_text leaf) → CanBePrinted (close_leaf on leaf)
 leaf_closed on (Text ls) h clean =
-    joined (cut on ls).definitions (paragraph_of (cut on ls).left) (cut_printable on ls) (paragraph_printable (cut on ls).left (cut_left on ls clean))
+    joined (definition_cut on ls).definitions (paragraph_of (definition_cut on ls).left) (cut_printable on ls) (paragraph_printable (definition_cut on ls).left (cut_left on ls clean))
 leaf_closed on (Indented ls pending) h clean = (tt, (tt, blanks_printable pending))
 leaf_closed on (Fenced fence opening ls) h clean = (h, (tt, tt))
 leaf_closed on (OpenHtml kind ls) h clean = (tt, (tt, tt))
@@ -414,7 +414,7 @@ module _ (on : Constructs) (e : Beside) (r : Rest) where
 
   underlined_fits : (o : Option ℕ) (ls : List BlockLine) → RankFits o → AreLines ls → OptionFits (heading_if on o ls e.ending)
   underlined_fits None ls h clean = record { tree = tt }
-  underlined_fits (Some rank) ls h clean = heading_of_fits rank (cut on ls).definitions (cut on ls).left h.rank (cut_printable on ls) (cut_left on ls clean)
+  underlined_fits (Some rank) ls h clean = heading_of_fits rank (definition_cut on ls).definitions (definition_cut on ls).left h.rank (cut_printable on ls) (cut_left on ls clean)
 
   -- the lines of the open paragraph where the line is in all of its containers
   lines_here : (away : Opening) → AreLines (open_text away) → AreLines (text_here away)
@@ -433,13 +433,13 @@ module _ (on : Constructs) (e : Beside) (r : Rest) where
   table_if_fits : (o : Option (List AlignKind)) (ls : List BlockLine) → HaveNoEnding r → AreLines ls → OptionFits (table_if on o ls (rest_line r e))
   table_if_fits None ls clear clean = record { tree = tt }
   table_if_fits (Some columns) ls clear clean =
-      let left = (cut on ls).left in
+      let left = (definition_cut on ls).left in
       let front = take (length left - 1) left in
       let clean_left = cut_left on ls clean in
       choose_if OptionFits (is_some_line left && is_head (length columns) ls) _ None
       (λ both.
-      some_fits (table_of (cut on ls).definitions left (rest_line r e))
-      (joined (cut on ls).definitions (paragraph_of front) (cut_printable on ls) (paragraph_printable front (lines_taken (length left - 1) left clean_left)))
+      some_fits (table_of (definition_cut on ls).definitions left (rest_line r e))
+      (joined (definition_cut on ls).definitions (paragraph_of front) (cut_printable on ls) (paragraph_printable front (lines_taken (length left - 1) left clean_left)))
       (headed_table left (rest_line r e) (and_parts (is_some_line left) (is_head (length columns) ls) both).0 clean_left (clear_block r clear)))
       record { tree = tt }
 
@@ -450,7 +450,7 @@ module _ (on : Constructs) (e : Beside) (r : Rest) where
       (taken_fits (makes_table on away r e) (text_line_of on away r e) (table_if_fits (delimiter_row on r) (text_here away) clear (lines_here away h.lines))
       (text_fits away clear h))
 
-  begun_fits : (o : Option Tree) (away : Opening) (other : Tree) → CanClose away → OptionFits o → TreeFits other → TreeFits (begun on o away other)
+  begun_fits : (o : Option Tree) (away : Opening) (other : Tree) → CanClose away → OptionFits o → TreeFits other → TreeFits (leaf_tree_or on o away other)
   begun_fits None away other h k l = l
   begun_fits (Some t) away other h k l = after_fits on away t h k.tree
 

@@ -8,7 +8,7 @@ use Rattle.definition_block.specs.Tree.{Block, Paragraph, Heading, Break, Indent
 use Rattle.definition_block.specs.Tree.{Blocks, Nil, Cons}
 use Rattle.definition_block.specs.Lists.{group_items}
 use Rattle.html_bytes.specs.Layout.{with_footnotes, lay, nothing_laid, page_layout}
-use Rattle.definition_page.specs.Layout.{Laid}
+use Rattle.definition_page.specs.Layout.{LayoutState}
 use Rattle.html_bytes.specs.Document.{Document}
 use Rattle.definition_page.specs.Read.{ends_blank, is_blank_ending}
 use Rattle.definition_page.specs.Read.{on_page}
@@ -58,7 +58,7 @@ rows_html_of d default bs h =
     let pieces = children_pieces d on_page false false (group_items bs) in
     let start = new_level holder.Document false in
     let o = d.options.compile in
-    let last = λ (out : Laid) (blank : Bool). with_footnotes o default (fold (lay o default) out (last_piece blank)) in
+    let last = λ (out : LayoutState) (blank : Bool). with_footnotes o default (fold (lay o default) out (last_piece blank)) in
     let blank = ends_blank_rows (rows_of bs) in
     ap (λ (ps : List Place). last (print_all d default (printer_at nothing_laid start [] ps) (rows_of bs)).out blank)
     (ap (λ (p : PassView). p.places) (blocks_passed bs h [] []))

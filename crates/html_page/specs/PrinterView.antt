@@ -4,7 +4,7 @@ use Rattle.std.specs.List.{fold}
 use Rattle.html_bytes.specs.Document.{Document}
 use Rattle.html_bytes.specs.Pieces.{Piece, Bytes, Eol, Fresh, print}
 use Rattle.html_bytes.specs.Layout.{with_footnotes, lay, nothing_laid, with_text}
-use Rattle.definition_page.specs.Layout.{Laid}
+use Rattle.definition_page.specs.Layout.{LayoutState}
 use Rattle.definition_page.specs.Read.{is_blank_ending}
 use Rattle.html_bytes.specs.Html.{number_tag, number_end, fresh_unless, last_piece}
 use Rattle.html_footnotes.specs.Output.{output_view}
@@ -20,12 +20,12 @@ use Rattle.html_page.specs.Levels.{is_list, new_level, after_block, after_footno
 
 -- a page, the level that is open, the levels around it, and the places of the items to come
 pub record PrinterView : Type 0 where
-  pub out : Laid
+  pub out : LayoutState
   pub level : Level
   pub outer : List Level
   pub places : List Place
 
-abbrev pub printer_at : Laid → Level → List Level → List Place → PrinterView
+abbrev pub printer_at : LayoutState → Level → List Level → List Place → PrinterView
 printer_at out level outer places = record { out = out; level = level; outer = outer; places = places }
 
 abbrev pub no_place : Place
@@ -54,7 +54,7 @@ abbrev pub outside : PrinterView → PrinterView
 outside p = outside_to p.outer p
 
 -- with something else laid out
-abbrev pub with_laid : Laid → PrinterView → PrinterView
+abbrev pub with_laid : LayoutState → PrinterView → PrinterView
 with_laid l p = printer_at l p.level p.outer p.places
 
 -- a footnote definition starts, in a text of its own, and ends

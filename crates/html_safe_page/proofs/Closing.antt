@@ -5,7 +5,7 @@ use Rattle.definition_text.specs.Encode.{encode, encoded_byte, plain, plain_byte
 use Rattle.html_safe_page.specs.Table.{start_rows, void_rows}
 use Rattle.html_safe_page.specs.SafePage.{Plain, kind, spell_kind, spell_letter, spell_text, Tag, spell_tag, Items, End, Letter, Void, Element, void_end}
 use Rattle.html_safe_page.specs.SafePage.{spell_before, spell, join, is_tag_of, is_safe, IsSafePage}
-use Rattle.html_safe_page.specs.Closed.{element, void, Closed}
+use Rattle.html_safe_page.specs.Closed.{element, void, Closure}
 use Rattle.html_safe_page.proofs.Text.{by_kind, plain_other}
 use Rattle.html_safe_page.proofs.Inserted.{spelled_append, put_in}
 
@@ -95,7 +95,7 @@ safe_append one other a b = (
   ),
 )
 
-pub closed : Closed
+pub closed : Closure
 closed = record {
   nothing = safe_text [];
   line_feed = safe_text (10 ∷ []);

@@ -12,7 +12,7 @@ element tag inside = less_than ∷ spell_tag tag (greater_than ∷ (inside ++ (l
 abbrev pub void : Tag → List ℕ
 void tag = less_than ∷ spell_tag tag (void_end ++ codes ">")
 
-pub record Closed : Type 0 where
+pub record Closure : Type 0 where
   pub nothing : IsSafePage []
   pub line_feed : IsSafePage (codes "\n")
   pub carriage_return : IsSafePage (codes "\r")

@@ -1,7 +1,7 @@
 //! Whether a page is safe.
 ghost use Rattle.std.specs.Prelude.{◌≡◌, ◌↔◌, IfOk, IsTrue};
 ghost use Rattle.html_safe_page.specs.SafePage.{IsSafePage, OneReading};
-ghost use Rattle.html_safe_page.specs.Closed.{Closed};
+ghost use Rattle.html_safe_page.specs.Closed.{Closure};
 ghost use Rattle.html_safe_page.specs.Machine.{split_tag, follows, if_goes_on};
 ghost use Rattle.html_safe_page.specs.Views.{split_of, open_names};
 
@@ -17,7 +17,7 @@ pub fn has_one_reading()
 /// What safe pages are made of: texts, line endings, void tags, and elements, in a row, and one
 /// put before a tag of another one.
 pub fn is_closed()
-    ensures { Closed }
+    ensures { Closure }
 {}
 
 /// The bytes of a tag before its `>`, and what follows that.

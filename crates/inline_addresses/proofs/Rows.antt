@@ -2,13 +2,13 @@
 use Rattle.std.proofs.Common.{◌≡◌, ℕ, zero, suc, List, [], ◌∷◌, ◌++◌, refl, sym, ap, ◌∙◌, map, append_assoc}
 use Rattle.std.proofs.lemmas.List.{append-nil}
 use Rattle.definition_inline.specs.GfmAutolinkLiteral.{with_addresses, parts_before, without_literals, with_literals}
-use Rattle.definition_inline.specs.Inline.{Target, Linked, Inline, Data, Escape, Character, Code, Math, Autolink, Literal, Html, EscapedBreak, TrailingBreak}
+use Rattle.definition_inline.specs.Inline.{Target, LinkTexts, Inline, Data, Escape, Character, Code, Math, Autolink, Literal, Html, EscapedBreak, TrailingBreak}
 use Rattle.definition_inline.specs.Inline.{LineEnd, Emphasis, Strong, Strikethrough, Link, Image, Call, Inlines, Nil, Cons}
 use Rattle.definition_inline.specs.Spans.{IsEmphasis, IsStrong, IsStrikethrough}
 use Rattle.inline_rows.specs.InlineRows.{InlineRow, Part, EnterSpan, EnterLink, EnterImage, Leave, part_rows, inline_rows}
 use Rattle.inline_addresses.specs.Addresses.{parts_rows, run_parts, linked_rows}
 
-module _ (leads : Target → Linked) where
+module _ (leads : Target → LinkTexts) where
   -- ---- rows of parts
 
   pub parts_join : (is js : List Inline) → parts_rows leads (is ++ js) ≡ parts_rows leads is ++ parts_rows leads js

@@ -5,7 +5,7 @@ use Rattle.std.proofs.lemmas.Bool.{cond-false}
 use Rattle.std.proofs.lemmas.List.{append-nil, map-append}
 use Rattle.definition_inline.specs.GfmAutolinkLiteral.{parts_from, with_literals}
 use Rattle.definition_inline.specs.Inline as inline
-use Rattle.definition_inline.specs.Inline.{Target, Linked, Inlines, Data}
+use Rattle.definition_inline.specs.Inline.{Target, LinkTexts, Inlines, Data}
 use Rattle.inline_leaves.specs.declared.leaf.LeafPart.TheVariants as part
 use Rattle.inline_rows.specs.InlineRows.{Part, inline_rows}
 use Rattle.inline_rows.specs.View.{data_rows, row_view, rows_view}
@@ -45,7 +45,7 @@ no_link : (literal text : Option (List ℕ)) → has_link literal text ≡ false
 no_link None text e = (refl, e)
 no_link (Some literal) text e = absurd (let wrong : true ≡ false = e in cc)
 
-module _ (leads : Target → Linked) (at : ℕ → Linked) where
+module _ (leads : Target → LinkTexts) (at : ℕ → LinkTexts) where
   -- a run without an `@` is text
   run_is_text : (n : ℕ) (run : List ℕ) → HasNone run → parts_rows leads (run_parts n run) ≡ data_rows run
   run_is_text zero run none = ap (parts_rows leads) (no_address [] run none) ∙ text_parts leads run

@@ -9,7 +9,7 @@ use Rattle.std.proofs.lemmas.Str.{IsCharBoundary-after_ascii}
 use Rattle.std.proofs.lemmas.Grind.{flat_map-append}
 use Rattle.definition_inline.specs.GfmAutolinkLiteral.{with_addresses}
 use Rattle.definition_inline.specs.Inline as inline
-use Rattle.definition_inline.specs.Inline.{Target, Linked, Data}
+use Rattle.definition_inline.specs.Inline.{Target, LinkTexts, Data}
 use Rattle.inline_leaves.specs.Leaves.{kind_view, parts_of}
 use Rattle.inline_leaves.specs.declared.leaf.LeafPart.{LeafPart}
 use Rattle.inline_leaves.specs.declared.leaf.LeafPart.TheVariants as part
@@ -29,7 +29,7 @@ pub data_parts : (bytes : List ℕ) → map Part (map Data bytes) ≡ data_rows 
 data_parts [] = refl
 data_parts (b ∷ bs) = ap (λ l. Part (Data b) ∷ l) (data_parts bs)
 
-module _ (leads : Target → Linked) (at : ℕ → Linked) where
+module _ (leads : Target → LinkTexts) (at : ℕ → LinkTexts) where
   -- text makes the run longer
   pub run_longer : (n : ℕ) (run bytes : List ℕ) (rest : List rows.InlineRow)
       → linked_rows leads n run (data_rows bytes ++ rest) ≡ linked_rows leads n (run ++ bytes) rest

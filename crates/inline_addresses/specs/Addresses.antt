@@ -4,7 +4,7 @@ use Rattle.std.specs.List.{flat_map, list_any}
 use Rattle.definition_text.specs.Ascii.{line_feed, at_sign}
 use Rattle.definition_inline.specs.GfmAutolinkLiteral.{with_addresses}
 use Rattle.definition_inline.specs.Inline as inline
-use Rattle.definition_inline.specs.Inline.{Target, Linked, Inline, Data}
+use Rattle.definition_inline.specs.Inline.{Target, LinkTexts, Inline, Data}
 use Rattle.inline_rows.specs.InlineRows as rows
 use Rattle.inline_rows.specs.InlineRows.{Part, EnterLink, Leave, part_rows}
 use Rattle.inline_leaves.specs.declared.leaf.LeafPart.{LeafPart}
@@ -17,7 +17,7 @@ use Rattle.inline_addresses.specs.declared.walk.Walk.{Walk}
 -- ---- rows of the definition
 
 -- the rows of parts
-abbrev pub parts_rows : (Target → Linked) → List Inline → List rows.InlineRow
+abbrev pub parts_rows : (Target → LinkTexts) → List Inline → List rows.InlineRow
 parts_rows leads parts = flat_map (part_rows leads) parts
 
 -- how many parts are open after a row, counted from the link on in which it stands; none is where it stands in no link
@@ -39,7 +39,7 @@ row_linked (suc n) (Part (inline.Literal kind text)) = map (λ b. Part (Data b))
 row_linked n r = r ∷ []
 
 -- rows with email addresses, and links without literals, where a run of text stands before
-abbrev pub linked_rows : (Target → Linked) → ℕ → List ℕ → List rows.InlineRow → List rows.InlineRow
+abbrev pub linked_rows : (Target → LinkTexts) → ℕ → List ℕ → List rows.InlineRow → List rows.InlineRow
 linked_rows leads n run [] = parts_rows leads (run_parts n run)
 linked_rows leads n run (Part (Data b) ∷ rs) = linked_rows leads n (run ++ b ∷ []) rs
 linked_rows leads n run (r ∷ rs) = parts_rows leads (run_parts n run) ++ (row_linked n r ++ linked_rows leads (depth_after n r) [] rs)
@@ -104,7 +104,7 @@ row_depth (suc n) r = suc n
 -- ---- a walk over them
 
 -- what a walk makes of the rows of the definition that are left
-abbrev pub walk_rows : {A : Type 0} → (Target → Linked) → (ℕ → Linked) → Walk A → List rows.InlineRow → List rows.InlineRow
+abbrev pub walk_rows : {A : Type 0} → (Target → LinkTexts) → (ℕ → LinkTexts) → Walk A → List rows.InlineRow → List rows.InlineRow
 walk_rows leads at walk rest = rows_view at walk.rows.items ++ linked_rows leads walk.depth (take walk.size walk.text.now) rest
 
 -- a text comes next after the first bytes of another, so many

@@ -2,7 +2,7 @@
 ghost use Rattle.std.specs.Prelude.{◌≡◌, [], ℕ, false};
 ghost use Rattle.std.specs.Option.{option_map};
 ghost use Rattle.definition_inline.specs.GfmAutolinkLiteral.{with_literals};
-ghost use Rattle.definition_inline.specs.Inline.{Target, Linked, Inlines};
+ghost use Rattle.definition_inline.specs.Inline.{Target, LinkTexts, Inlines};
 ghost use Rattle.inline_rows.specs.InlineRows.{inline_rows};
 ghost use Rattle.inline_rows.specs.View.{rows_view};
 ghost use Rattle.inline_addresses.specs.Addresses.{has_at_sign, row_may_link};
@@ -13,7 +13,7 @@ use inline_rows::InlineRow;
 /// Whether an `@` stands in the text of rows, or a literal is among them: only then an address may
 /// be found in them, or a literal made text (GFM 6.9).
 pub fn may_link(rows: &[InlineRow<'_>]) -> bool
-    ensures { (leads : Target → Linked) (at : ℕ → Linked) (kids : Inlines) → result ≡ false → rows_view at rows.now ≡ inline_rows leads kids →
+    ensures { (leads : Target → LinkTexts) (at : ℕ → LinkTexts) (kids : Inlines) → result ≡ false → rows_view at rows.now ≡ inline_rows leads kids →
         rows_view at rows.now ≡ inline_rows leads (with_literals [] kids) }
 {
     for row in rows {

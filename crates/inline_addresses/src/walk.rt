@@ -5,7 +5,7 @@ ghost use Rattle.std.specs.List.{flat_map};
 ghost use Rattle.std.specs.Option.{option_map};
 ghost use Rattle.std.specs.Str.{IsCharBoundary};
 ghost use Rattle.definition_inline.specs.GfmAutolinkLiteral.{with_addresses, with_literals};
-ghost use Rattle.definition_inline.specs.Inline.{Target, Linked, Inlines};
+ghost use Rattle.definition_inline.specs.Inline.{Target, LinkTexts, Inlines};
 ghost use Rattle.inline_rows.specs.InlineRows as seen;
 ghost use Rattle.inline_rows.specs.View.{row_view, rows_view};
 ghost use Rattle.inline_addresses.specs.Addresses.{literal_text, part_text, parts_rows, row_depth, row_linked};
@@ -87,7 +87,7 @@ pub fn linked_rows<'a, A: Allocator>(
     rows: &[InlineRow<'a>],
 ) -> Result<Vec<InlineRow<'a>, A>, AllocError>
     requires { text.now ≡ rows_text rows.now }
-    ensures { (leads : Target → Linked) (at : ℕ → Linked) (kids : Inlines) → rows_view at rows.now ≡ seen.inline_rows leads kids →
+    ensures { (leads : Target → LinkTexts) (at : ℕ → LinkTexts) (kids : Inlines) → rows_view at rows.now ≡ seen.inline_rows leads kids →
         IfOk result (λ linked. rows_view at linked.items ≡ seen.inline_rows leads (with_literals [] kids)) }
 {
     let mut walk = Walk {
@@ -112,7 +112,7 @@ impl<'a, A: Allocator> Walk<'a, A> {
         ensures within { OnOk result (self.new.size ≤ length self.new.text.now) }
         ensures text { OnOk result (drop self.new.size self.new.text.now
             ≡ drop (length (text_or_end (row_text row.entry))) (drop self.old.size self.old.text.now)) }
-        ensures rows { (leads : Target → Linked) (at : ℕ → Linked) (rest : List seen.InlineRow) →
+        ensures rows { (leads : Target → LinkTexts) (at : ℕ → LinkTexts) (rest : List seen.InlineRow) →
             OnOk result (walk_rows leads at self.new rest ≡ walk_rows leads at self.old (row_view at row.entry ++ rest)) }
     {
         match text_of(row) {
@@ -132,7 +132,7 @@ impl<'a, A: Allocator> Walk<'a, A> {
         ensures depth { OnOk result (self.new.depth ≤ self.old.depth + 1) }
         ensures within { OnOk result (self.new.size ≤ length self.new.text.now) }
         ensures text { OnOk result (drop self.new.size self.new.text.now ≡ drop 1 (drop self.old.size self.old.text.now)) }
-        ensures rows { (leads : Target → Linked) (at : ℕ → Linked) (rest : List seen.InlineRow) →
+        ensures rows { (leads : Target → LinkTexts) (at : ℕ → LinkTexts) (rest : List seen.InlineRow) →
             OnOk result (walk_rows leads at self.new rest ≡ walk_rows leads at self.old (row_view at row.entry ++ rest)) }
     {
         self.end_run()?;
@@ -149,7 +149,7 @@ impl<'a, A: Allocator> Walk<'a, A> {
         ensures text { self.new.text.now ≡ self.old.text.now }
         ensures size { self.new.size ≡ self.old.size }
         ensures depth { self.new.depth ≡ self.old.depth }
-        ensures rows { (leads : Target → Linked) (at : ℕ → Linked) →
+        ensures rows { (leads : Target → LinkTexts) (at : ℕ → LinkTexts) →
             OnOk result (rows_view at self.new.rows.items
             ≡ rows_view at self.old.rows.items ++ parts_rows leads (run_parts self.old.depth (take self.old.size self.old.text.now))) }
     {
@@ -168,7 +168,7 @@ fn push_addresses<'a, A: Allocator>(
     rows: &mut Vec<InlineRow<'a>, A>,
     run: &'a str,
 ) -> Result<(), AllocError>
-    ensures { (leads : Target → Linked) (at : ℕ → Linked) →
+    ensures { (leads : Target → LinkTexts) (at : ℕ → LinkTexts) →
         OnOk result (rows_view at rows.new.items ≡ rows_view at rows.old.items ++ parts_rows leads (with_addresses run.now)) }
 {
     let mut rest = run;
@@ -203,7 +203,7 @@ fn rest_from(text: &str, at: usize) -> &str
 
 /// A row that is no text: in a link a literal is text (CommonMark 6.3).
 fn linked_row<'a>(depth: usize, row: InlineRow<'a>) -> InlineRow<'a>
-    ensures { (at : ℕ → Linked) → row_view at result ≡ flat_map (row_linked depth) (row_view at row.entry) }
+    ensures { (at : ℕ → LinkTexts) → row_view at result ≡ flat_map (row_linked depth) (row_view at row.entry) }
 {
     if depth == 0 {
         return row;

@@ -1,7 +1,7 @@
 -- What the answers on a label end stand for.
 use Rattle.std.specs.Prelude.{◌≡◌, ◌-◌, ℕ, ⊤, Bool, if◌then◌else◌, ◌&&◌, List, Option, None, Some, is_some, drop, length}
 use Rattle.definition_text.specs.Content.{content_codes}
-use Rattle.definition_inline.specs.Inline.{Target, linked}
+use Rattle.definition_inline.specs.Inline.{Target, link_texts}
 use Rattle.definition_inline.specs.Inline as inline
 use Rattle.definition_inline.specs.LabelEnd.{LinkTail, is_label_text, label_end_at}
 use Rattle.definition_inline.specs.LabelEnd as ends
@@ -10,10 +10,10 @@ use Rattle.inline_links.specs.Codes.{IsCut, IsRest}
 use Rattle.inline_leaves.specs.Leaves.{size_before}
 use Rattle.inline_rows.specs.declared.row.LinkTarget.{LinkTarget}
 use Rattle.inline_rows.specs.declared.row.LinkTarget.TheVariants.{Resource, Definition}
-use Rattle.inline_rows.specs.View.{linked_view}
+use Rattle.inline_rows.specs.View.{link_texts_view}
 use Rattle.inline_label_ends.specs.declared.forms.LabelEnd.{LabelEnd}
-use Rattle.inline_label_ends.specs.declared.gfm_label_start_footnote.Formed.{Formed}
-use Rattle.inline_label_ends.specs.declared.gfm_label_start_footnote.Formed.TheVariants.{Leads, Calls}
+use Rattle.inline_label_ends.specs.declared.gfm_label_start_footnote.LabelForm.{LabelForm}
+use Rattle.inline_label_ends.specs.declared.gfm_label_start_footnote.LabelForm.TheVariants.{Leads, Calls}
 
 -- whether a label matches one of these
 abbrev pub is_among : List (List ℕ) → List ℕ → Bool
@@ -25,7 +25,7 @@ label_among ls text = if is_label_text text && is_among ls text then Some text e
 
 -- a target of the definition, where these are the labels of the definitions: the same destination and title, or the place of the first label that matches
 abbrev pub IsTarget : List (List ℕ) → LinkTarget → Target → Type 0
-IsTarget ls (Resource found) (inline.Resource destination title) = linked_view found ≡ linked destination title
+IsTarget ls (Resource found) (inline.Resource destination title) = link_texts_view found ≡ link_texts destination title
 IsTarget ls (Resource found) (inline.Reference label) = ⊥
 IsTarget ls (Definition place) (inline.Resource destination title) = ⊥
 IsTarget ls (Definition place) (inline.Reference label) = first_match label ls ≡ Some place
@@ -54,7 +54,7 @@ pub record IsAfterEnd (content rest : List ℕ) : Type 0 where
   pub codes : content_codes rest ≡ drop (size_before content rest) (content_codes content)
 
 -- what follows what is formed, where this follows the `]`
-abbrev pub IsAfterFormed : List ℕ → Formed → Type 0
+abbrev pub IsAfterFormed : List ℕ → LabelForm → Type 0
 IsAfterFormed rest (Leads found) = IsAfterEnd rest found.after.now
 IsAfterFormed rest (Calls found) = ⊤
 
@@ -64,7 +64,7 @@ IsReference ls label None = first_match label ls ≡ None
 IsReference ls label (Some found) = IsTarget ls found.target (inline.Reference label)
 
 -- the same thing is formed as in the definition, where these are the labels of the link reference definitions
-abbrev pub IsFormed : List (List ℕ) → List ℕ → Option Formed → Option ends.LinkOrCall → Type 0
+abbrev pub IsFormed : List (List ℕ) → List ℕ → Option LabelForm → Option ends.LinkOrCall → Type 0
 IsFormed ls rest None None = ⊤
 IsFormed ls rest None (Some formed) = ⊥
 IsFormed ls rest (Some found) None = ⊥

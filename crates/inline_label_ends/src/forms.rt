@@ -19,7 +19,7 @@ ghost use Rattle.inline_label_ends.specs.Ends.{IsAfterEnd, EndsAs, IsReference};
 use crate::text::is_label_text;
 use inline_labels::LabelTable;
 use inline_links::text::{label_of, resource_of};
-use inline_rows::{LinkTarget, Linked};
+use inline_rows::{LinkTarget, LinkTexts};
 use std::alloc::{AllocError, Allocator};
 
 /// What a label end forms, and the content after it.
@@ -42,7 +42,7 @@ pub fn label_end<'a, A: Allocator + Clone>(
 {
     if let Some(resource) = resource_of(rest) {
         return Ok(Some(LabelEnd {
-            target: LinkTarget::Resource(Linked {
+            target: LinkTarget::Resource(LinkTexts {
                 destination: resource.destination,
                 title: resource.title,
             }),

@@ -20,7 +20,7 @@ use std::alloc::{AllocError, Allocator};
 
 /// What a `]` forms with the label start before it.
 #[derive(Clone, Copy)]
-pub enum Formed<'a> {
+pub enum LabelForm<'a> {
     /// A link or an image (CommonMark 6.3 and 6.4).
     Leads(LabelEnd<'a>),
     /// A call of the footnote with this label. Nothing after the `]` belongs to it.
@@ -36,7 +36,7 @@ pub fn call_or_link<'a, A: Allocator + Clone>(
     footnotes: &LabelTable<A>,
     text: &'a str,
     rest: &'a str,
-) -> Result<Option<Formed<'a>>, AllocError>
+) -> Result<Option<LabelForm<'a>>, AllocError>
     ensures read { (ls notes : List (List ℕ)) → HasLabels labels.now ls → HasLabels footnotes.now notes →
         let text = content_codes text.now in
         let label = called_label on.now (is_among notes) text in
@@ -44,7 +44,7 @@ pub fn call_or_link<'a, A: Allocator + Clone>(
     ensures place { IfOk result (λ found. IfSome found (λ formed. IsAfterFormed rest.now formed)) }
 {
     if let Some(label) = called_label(on, footnotes, text)? {
-        return Ok(Some(Formed::Calls(label)));
+        return Ok(Some(LabelForm::Calls(label)));
     }
     if on.label_start_link {
         link_or_image(labels, text, rest)
@@ -59,13 +59,13 @@ pub fn link_or_image<'a, A: Allocator + Clone>(
     labels: &LabelTable<A>,
     text: &'a str,
     rest: &'a str,
-) -> Result<Option<Formed<'a>>, AllocError>
+) -> Result<Option<LabelForm<'a>>, AllocError>
     ensures read { (ls : List (List ℕ)) → HasLabels labels.now ls →
         IfOk result (λ found. IsFormed ls rest.now found (link_or_image (is_among ls) (content_codes text.now) (content_codes rest.now))) }
     ensures place { IfOk result (λ found. IfSome found (λ formed. IsAfterFormed rest.now formed)) }
 {
     match label_end(labels, text, rest)? {
-        Some(end) => Ok(Some(Formed::Leads(end))),
+        Some(end) => Ok(Some(LabelForm::Leads(end))),
         None => Ok(None),
     }
 }

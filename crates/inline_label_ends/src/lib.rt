@@ -6,4 +6,4 @@ pub mod gfm_label_start_footnote;
 mod text;
 
 pub use forms::{LabelEnd, label_end};
-pub use gfm_label_start_footnote::{Formed, call_or_link, link_or_image};
+pub use gfm_label_start_footnote::{LabelForm, call_or_link, link_or_image};

@@ -8,7 +8,7 @@ use Rattle.std.proofs.lemmas.Bool.{cases_Bool, cond-false, cond-true, eqb-true, 
 use Rattle.std.proofs.lemmas.List.{drop-drop, length-drop, length-take-le, get_or-drop}
 use Rattle.std.proofs.lemmas.List.Sums.{prefix_len-le-length}
 use Rattle.markdown_options.specs.declared.configuration.Constructs.{Constructs}
-use Rattle.definition_text.specs.Content.{before, content_codes}
+use Rattle.definition_text.specs.Content.{text_before, content_codes}
 use Rattle.definition_text.specs.Bytes.{after_all, begins_with, begins_with_letter}
 use Rattle.definition_inline.specs.Inline.{leaf, Autolink}
 use Rattle.definition_inline.specs.Autolink.{is_scheme_byte, is_uri_byte, begins_with_scheme, after_uri, uri_end, is_email_byte, is_domain_byte, is_domain}
@@ -142,7 +142,7 @@ closed_codes email xs n plain there =
     let all = content_codes xs in
     let rest = content_codes (drop n xs) in
     let size : length all - length rest ≡ n = omega (arith, plain_size n xs plain.within plain.plain) in
-    let text : before all rest ≡ take n xs = ap (λ k. take k all) size ∙ plain_take n xs plain.within plain.plain in
+    let text : text_before all rest ≡ take n xs = ap (λ k. take k all) size ∙ plain_take n xs plain.within plain.plain in
     sym (cond-true (begins_with (codes ">") rest) _ _ (one_code 62 (drop n xs) refl refl ∙ there)
     ∙ ap (λ t. Some (leaf (Autolink email t ∷ []) (length t + 2))) text
     ∙ ap (λ k. Some (leaf (Autolink email (take n xs) ∷ []) (k + 2))) (length-take-le n xs plain.within))

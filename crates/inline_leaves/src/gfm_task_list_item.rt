@@ -100,12 +100,12 @@ fn is_apart_in_bytes(bytes: &[u8]) -> bool
 {
     match bytes {
         [] => false,
-        [first, others @ ..] => is_space_byte(*first) && !are_spaces(others),
+        [first, others @ ..] => is_space_byte(*first) && !is_all_space(others),
     }
 }
 
 /// Whether all bytes are white space.
-fn are_spaces(bytes: &[u8]) -> bool
+fn is_all_space(bytes: &[u8]) -> bool
     ensures { result ≡ list_all is_space_code bytes.now }
 {
     bytes.iter().all(|b| is_space_byte(*b))

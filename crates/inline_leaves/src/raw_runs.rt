@@ -56,7 +56,7 @@ pub(crate) struct LastRun {
 }
 
 /// Where the first run of exactly so many of a byte begins.
-pub(crate) fn closing_run(marker: u8, bytes: &[u8], size: usize) -> Option<usize>
+pub(crate) fn first_run(marker: u8, bytes: &[u8], size: usize) -> Option<usize>
     requires { 0 < size }
     ensures read { option_map (λ end. drop end bytes.now) result ≡ run_of marker size false bytes.now }
     ensures run { IfSome result (λ end. IsRun marker bytes.now end size) }

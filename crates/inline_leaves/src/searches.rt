@@ -10,7 +10,7 @@ ghost use Rattle.inline_leaves.specs.declared.raw_runs.RawMarker.TheVariants.{Ba
 
 use crate::html_text::{begins_cdata, html_text_at, text_end};
 use crate::leaf::Leaf;
-use crate::raw_runs::{LastRun, RawMarker, closing_run, last_end, last_runs};
+use crate::raw_runs::{LastRun, RawMarker, first_run, last_end, last_runs};
 use inline_links::part::from;
 use markdown_options::Constructs;
 use std::alloc::{AllocError, Allocator};
@@ -81,7 +81,7 @@ impl<'a, A: Allocator + Clone> Searches<'a, A> {
         if self.lacks_run(marker, rest, size) {
             return Ok(None);
         }
-        let found = closing_run(marker.byte(), rest, size);
+        let found = first_run(marker.byte(), rest, size);
         if found.is_none() && self.runs(marker).is_none() {
             let content = self.content.as_bytes();
             let runs = last_runs(self.alloc.clone()?, marker.byte(), content)?;

@@ -6,7 +6,7 @@ use Rattle.std.proofs.lemmas.Bool.{cases_Bool, cond-false, cond-true, eqb-true, 
 use Rattle.std.proofs.lemmas.List.{take_at, length-append}
 use Rattle.std.proofs.lemmas.Option.{none-some, cond_some}
 use Rattle.definition_text.specs.Columns.{is_white}
-use Rattle.definition_text.specs.Content.{Part, is_eol, is_space, may_escape, at_line_start, before, closed_by, up_to}
+use Rattle.definition_text.specs.Content.{Part, is_eol, is_space, may_escape, at_line_start, text_before, closed_by, up_to}
 use Rattle.definition_inline.specs.Label.{ends_label, label_end, is_label, if_label, label_at}
 use Rattle.definition_inline.specs.Destination.{ends_angle, angle_end, is_control, open_after, is_too_deep, ends_bare, bare_end, unless_empty, if_any}
 use Rattle.definition_inline.specs.Destination.{destination_at}
@@ -65,9 +65,9 @@ title_closes close escaped start (c ∷ cs) r e = elim (cases_Bool (ends_title c
 ]
 
 -- what stands before a rest
-pub before_is : (cs front rest : List ℕ) → cs ≡ front ++ rest → before cs rest ≡ front
+pub before_is : (cs front rest : List ℕ) → cs ≡ front ++ rest → text_before cs rest ≡ front
 before_is cs front rest e =
-    ap (λ x. before x rest) e
+    ap (λ x. text_before x rest) e
     ∙ take_at front rest (length (front ++ rest) - length rest) (omega (arith, length-append front rest))
 
 pub closed_whole : (close : ℕ) (cs : List ℕ) (end : Option (List ℕ)) (p : Part) → ((r : List ℕ) → end ≡ Some r → Closes close cs r)

@@ -16,7 +16,7 @@ use Rattle.definition_inline.specs.Attention.{is_other}
 use Rattle.definition_inline.specs.Inline.{Leaf, leaf, Literal, Www, Protocol}
 use Rattle.definition_inline.specs.GfmAutolinkLiteral as literal
 use Rattle.definition_inline.specs.GfmAutolinkLiteral.{LiteralStart, literal_start, or_start, may_precede_www, may_precede_protocol, begins_caselessly}
-use Rattle.definition_inline.specs.GfmAutolinkLiteral.{is_control, domain, ends_literal, has_low_line, is_cut, cut_more, without_tail, literal_run}
+use Rattle.definition_inline.specs.GfmAutolinkLiteral.{is_control_or_ending, domain, ends_literal, has_low_line, is_cut, cut_more, without_tail, literal_run}
 use Rattle.definition_inline.specs.GfmAutolinkLiteral.{literal_name, literal_start_at, named_literal, literal_after, literal_at}
 use Rattle.definition_inline.proofs.GfmAutolinkLiteral.{no_start_at}
 use Rattle.inline_content.specs.declared.mark.Mark.{Mark}
@@ -130,7 +130,7 @@ module _ (p : ℕ → Bool) (end : Kind) (marks : List Mark) where
   names_begin [] place previous before = refl
   names_begin (b ∷ bs) place previous before =
       let codes_side : List ℕ → Bool = λ cs. literal.begins_name (first_kind p end (line_rest cs)) (view_from p end marks place previous before cs) in
-      let bytes_side : ℕ → List ℕ → Bool = λ c cs. is_other (first_kind p Whitespace (line_rest cs)) && not (is_control c) in
+      let bytes_side : ℕ → List ℕ → Bool = λ c cs. is_other (first_kind p Whitespace (line_rest cs)) && not (is_control_or_ending c) in
       elim (cases_Bool (eqb b 13)) [
         | inl h ↦
             let e = eqb-true b 13 h in

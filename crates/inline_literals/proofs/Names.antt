@@ -10,7 +10,7 @@ use Rattle.std.proofs.lemmas.List.Sums.{prefix_len_passes}
 use Rattle.std.proofs.Math.Seq.{drop-cons, take-suc}
 use Rattle.definition_text.specs.Bytes.{is_letter_or_digit, begins_with}
 use Rattle.definition_text.specs.Content.{content_codes}
-use Rattle.definition_inline.specs.GfmAutolinkLiteral.{ends_label, ends_literal, literal_run, count_of, has_more_closed, is_trailing, is_cut, name_size}
+use Rattle.definition_inline.specs.GfmAutolinkLiteral.{follows_label, ends_literal, literal_run, count_of, has_more_closed, is_trailing, is_cut, name_size}
 use Rattle.definition_inline.specs.GfmAutolinkLiteral.{cut_more, without_tail, low_line_in}
 use Rattle.inline_leaves.specs.Leaves.{IsPlain}
 use Rattle.inline_leaves.proofs.Codes.{at_return, plain_code}
@@ -28,13 +28,13 @@ backwards_before (suc n) xs some h = backwards_at n xs (suc n - 1) (omega arith)
 
 -- ---- where a literal ends
 
-pub label_codes : (xs : List ℕ) → ends_label (content_codes xs) ≡ ends_label xs
+pub label_codes : (xs : List ℕ) → follows_label (content_codes xs) ≡ follows_label xs
 label_codes [] = refl
 label_codes (b ∷ bs) = elim (cases_Bool (eqb b 13)) [
   | inl h ↦
       let e = eqb-true b 13 h in
-      ap (λ x. ends_label (content_codes (x ∷ bs))) e ∙ at_return ends_label true bs (λ cs. refl) (λ cs. refl) ∙ sym (ap (λ x. ends_label (x ∷ bs)) e)
-  | inr h ↦ ap ends_label (cond-false (eqb b 13) _ _ h)
+      ap (λ x. follows_label (content_codes (x ∷ bs))) e ∙ at_return follows_label true bs (λ cs. refl) (λ cs. refl) ∙ sym (ap (λ x. follows_label (x ∷ bs)) e)
+  | inr h ↦ ap follows_label (cond-false (eqb b 13) _ _ h)
 ]
 
 -- a byte that ends a literal

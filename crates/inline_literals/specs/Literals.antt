@@ -9,7 +9,7 @@ use Rattle.definition_text.specs.Content.{content_codes}
 use Rattle.definition_text.specs.InlineCode.{first_kind, is_continuation}
 use Rattle.definition_inline.specs.Attention.{is_other}
 use Rattle.definition_inline.specs.GfmAutolinkLiteral as literal
-use Rattle.definition_inline.specs.GfmAutolinkLiteral.{begins_caselessly, has_low_line, is_among, is_control, is_trailing, literal_name, literal_start}
+use Rattle.definition_inline.specs.GfmAutolinkLiteral.{begins_caselessly, has_low_line, is_among, is_control_or_ending, is_trailing, literal_name, literal_start}
 use Rattle.inline_content.specs.View.{line_rest}
 use Rattle.inline_leaves.specs.Leaves.{kind_view, IsPlain}
 use Rattle.inline_literals.specs.declared.gfm_autolink_literal.LiteralStart.{LiteralStart}
@@ -51,7 +51,7 @@ module _ (p : ℕ → Bool) where
   -- bytes after the start of a literal begin as they have to
   abbrev pub begins_name : List ℕ → Bool
   begins_name [] = false
-  begins_name (b ∷ bs) = begins_other (b ∷ bs) && not (is_control b)
+  begins_name (b ∷ bs) = begins_other (b ∷ bs) && not (is_control_or_ending b)
 
   -- a byte belongs to a domain, with those after it
   abbrev pub begins_domain : ℕ → List ℕ → Bool

@@ -8,7 +8,7 @@ ghost use Rattle.std.specs.Option.{option_map};
 ghost use Rattle.std.specs.Str.{IsCharBoundary};
 ghost use Rattle.definition_text.specs.Content.{content_codes};
 ghost use Rattle.definition_text.specs.InlineCode.{is_continuation};
-ghost use Rattle.definition_inline.specs.GfmAutolinkLiteral.{begins_caselessly, is_control, is_among, literal_at};
+ghost use Rattle.definition_inline.specs.GfmAutolinkLiteral.{begins_caselessly, is_control_or_ending, is_among, literal_at};
 ghost use Rattle.definition_inline.specs.GfmAutolinkLiteral.{literal_name, literal_start_at, may_precede_protocol, may_precede_www};
 ghost use Rattle.inline_content.specs.View.{view_at};
 ghost use Rattle.inline_leaves.specs.Leaves.{found_leaf, size_before, LeavesRest};

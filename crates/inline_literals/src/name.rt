@@ -6,7 +6,7 @@ ghost use Rattle.std.specs.Prelude.{◌≡◌, ◌<◌, ◌≤◌, ◌+◌, ◌-
 ghost use Rattle.std.specs.List.{prefix_len, suffix_len};
 ghost use Rattle.definition_text.specs.Bytes.{is_letter_or_digit};
 ghost use Rattle.definition_text.specs.Content.{content_codes};
-ghost use Rattle.definition_inline.specs.GfmAutolinkLiteral.{count_of, cut_more, ends_label, ends_literal, is_trailing};
+ghost use Rattle.definition_inline.specs.GfmAutolinkLiteral.{count_of, cut_more, follows_label, ends_literal, is_trailing};
 ghost use Rattle.definition_inline.specs.GfmAutolinkLiteral.{literal_name, literal_run, low_line_in, has_low_line, without_tail};
 ghost use Rattle.inline_leaves.specs.Leaves.{IsPlain};
 ghost use Rattle.inline_literals.specs.Literals.{is_in_reference, is_kept, HasLowLineAt};
@@ -47,7 +47,7 @@ fn ends_literal(byte: u8, after: &[u8]) -> bool
 
 /// Whether nothing, white space, `(` or `[` comes first.
 fn ends_label(text: &[u8]) -> bool
-    ensures { result ≡ ends_label (content_codes text.now) }
+    ensures { result ≡ follows_label (content_codes text.now) }
 {
     text.is_empty() || is_space(text[0]) || text[0] == b'(' || text[0] == b'['
 }

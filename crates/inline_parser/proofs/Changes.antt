@@ -15,7 +15,7 @@ use Rattle.definition_inline.specs.LabelEnd.{LinkTail, LinkOrCall, Leads, Calls}
 use Rattle.definition_inline.specs.Spans.{Token, Item, Delimiters, with_spans}
 use Rattle.inline_runs.specs.View.{run_view}
 use Rattle.inline_runs.specs.declared.run.Run.{Run}
-use Rattle.inline_rows.specs.View.{rows_view, row_view, data_rows, target_linked}
+use Rattle.inline_rows.specs.View.{rows_view, row_view, data_rows, target_texts}
 use Rattle.inline_rows.specs.declared.row.InlineRow.{InlineRow}
 use Rattle.inline_rows.specs.declared.row.InlineRow.TheVariants.{Exit}
 use Rattle.inline_rows.specs.declared.row.LinkTarget.{LinkTarget}
@@ -129,7 +129,7 @@ bytes_rows b (suc n) row e = ap₂ (λ x xs. x ∷ xs) e (bytes_rows b n row e)
 
 -- ---- what is read
 
-module _ (leads : Target → inline.Linked) (at : ℕ → inline.Linked) where
+module _ (leads : Target → inline.LinkTexts) (at : ℕ → inline.LinkTexts) where
   pub items_pushed : (rows new : List InlineRow) (row : InlineRow) (runs : List Run) (slots : List ℕ) (opens : List OpenLabel) (labels : List scan.OpenLabel)
       (ts : List Token) (parts : List Inline)
       → new ≡ rows ++ row ∷ [] → ShowsBy leads at rows runs slots opens labels ts → rows_view at (row ∷ []) ≡ flat_map (part_rows leads) parts
@@ -201,7 +201,7 @@ module _ (leads : Target → inline.Linked) (at : ℕ → inline.Linked) where
   pub last_formed : (rows all new : List InlineRow) (runs new_runs : List Run) (slots new_slots : List ℕ) (o : OpenLabel) (opens : List OpenLabel)
       (labels : List scan.OpenLabel) (now : scan.Text)
       (target : LinkTarget) (e : LinkTail) (holds_link : Bool) (enter : InlineRow) (makes : Bool)
-      → (inner : IsInner leads at rows runs slots o opens labels now.tokens) → target_linked at target ≡ leads e.target
+      → (inner : IsInner leads at rows runs slots o opens labels now.tokens) → target_texts at target ≡ leads e.target
       → AreTold leads at inner.outer_rows now.tokens all
       → new ≡ set all o.row enter ++ Exit ∷ [] → enter ≡ enter_row o.start target → new_runs ≡ take o.runs runs → new_slots ≡ take o.runs slots
       → holds_link ≡ (o.holds_link || makes) → makes ≡ makes_link (start_view o.start) now.holds_link

@@ -5,8 +5,8 @@ use Rattle.std.specs.List.{All, slice_get}
 use Rattle.std.proofs.lemmas.Bool.{cond-true, cond-false, true≢false}
 use Rattle.std.proofs.lemmas.Option.{slice_get_within, slice_get-get_or, get_or_from_slice_get}
 use Rattle.std.proofs.lemmas.List.{length-append, take_at, get_or-drop, take-append-drop, drop_more, length-drop}
-use Rattle.definition_text.specs.Content.{content_codes, before}
-use Rattle.definition_inline.specs.Inline.{Target, Linked}
+use Rattle.definition_text.specs.Content.{content_codes, text_before}
+use Rattle.definition_inline.specs.Inline.{Target, LinkTexts}
 use Rattle.definition_inline.specs.Scan as scan
 use Rattle.definition_inline.specs.Scan.{InlineContext, formed_at, may_form}
 use Rattle.inline_runs.specs.declared.run.Run.{Run}
@@ -26,7 +26,7 @@ bracket_cut from (suc n) e = cut_at from (suc n) n (omega arith) (λ return feed
 
 -- the codes before a `]`
 pub before_bracket : (from rest after : List ℕ) → IsRest from rest → rest ≡ 93 ∷ after
-    → before (content_codes from) (content_codes rest) ≡ content_codes (take (length from - length rest) from)
+    → text_before (content_codes from) (content_codes rest) ≡ content_codes (take (length from - length rest) from)
 before_bracket from rest after place bracket =
     let n = length from - length rest in
     let here : get_or from n 0 ≡ 93 =
@@ -75,7 +75,7 @@ innermost_rest rest xs o e all =
 
 -- ---- what it forms
 
-module _ (leads : Target → Linked) (at : ℕ → Linked) (context : InlineContext) (content : List ℕ) where
+module _ (leads : Target → LinkTexts) (at : ℕ → LinkTexts) (context : InlineContext) (content : List ℕ) where
   -- no label start is open
   pub none_ends : (rows : List InlineRow) (runs : List Run) (slots : List ℕ) (all : List OpenLabel) (labels : List scan.OpenLabel) (now : scan.Text)
       → all ≡ [] → ShowsBy leads at rows runs slots (reverse all) labels now.tokens → ended_here context content labels now ≡ None
@@ -93,18 +93,18 @@ module _ (leads : Target → Linked) (at : ℕ → Linked) (context : InlineCont
       let there = readings.has_label leads at rows runs slots o opens labels now.tokens s2 in
       let may : may_form there.label.start now.holds_link ≡ false = sym (ap₂ (λ a b. may_form a b) there.is.start same) ∙ not in
       ap (λ ls. ended_here context content ls now) there.labels_are
-      ∙ cond-false (may_form there.label.start now.holds_link) (formed_at context there.label.start (before there.label.from content) (drop 1 content)) None may
+      ∙ cond-false (may_form there.label.start now.holds_link) (formed_at context there.label.start (text_before there.label.from content) (drop 1 content)) None may
 
   -- the innermost may form something
   pub last_may : (rows : List InlineRow) (runs : List Run) (slots : List ℕ) (all opens : List OpenLabel) (o : OpenLabel) (labels : List scan.OpenLabel)
       (now : scan.Text) (holds_link : Bool)
       → reverse all ≡ o ∷ opens → holds_link ≡ now.holds_link → may_form (start_view o.start) holds_link ≡ true
       → ShowsBy leads at rows runs slots (reverse all) labels now.tokens
-      → ended_here context content labels now ≡ formed_at context (start_view o.start) (before (content_codes o.from.now) content) (drop 1 content)
+      → ended_here context content labels now ≡ formed_at context (start_view o.start) (text_before (content_codes o.from.now) content) (drop 1 content)
   last_may rows runs slots all opens o labels now holds_link e same is s =
       let s2 = subst (λ os. ShowsBy leads at rows runs slots os labels now.tokens) e s in
       let there = readings.has_label leads at rows runs slots o opens labels now.tokens s2 in
       let may : may_form there.label.start now.holds_link ≡ true = sym (ap₂ (λ a b. may_form a b) there.is.start same) ∙ is in
       ap (λ ls. ended_here context content ls now) there.labels_are
-      ∙ cond-true (may_form there.label.start now.holds_link) (formed_at context there.label.start (before there.label.from content) (drop 1 content)) None may
-      ∙ ap₂ (λ s f. formed_at context s (before f content) (drop 1 content)) (sym there.is.start) (sym there.is.from)
+      ∙ cond-true (may_form there.label.start now.holds_link) (formed_at context there.label.start (text_before there.label.from content) (drop 1 content)) None may
+      ∙ ap₂ (λ s f. formed_at context s (text_before f content) (drop 1 content)) (sym there.is.start) (sym there.is.from)

@@ -39,8 +39,8 @@ use Rattle.inline_leaves.proofs.Codes.{end_after, plain_code, plain_take, plain_
 use Rattle.inline_literals.specs.Literals.{may_begin}
 use Rattle.inline_literals.proofs.Found.{none_first}
 use Rattle.inline_label_ends.specs.declared.forms.LabelEnd.{LabelEnd}
-use Rattle.inline_label_ends.specs.declared.gfm_label_start_footnote.Formed.{Formed}
-use Rattle.inline_label_ends.specs.declared.gfm_label_start_footnote.Formed.TheVariants.{Leads, Calls}
+use Rattle.inline_label_ends.specs.declared.gfm_label_start_footnote.LabelForm.{LabelForm}
+use Rattle.inline_label_ends.specs.declared.gfm_label_start_footnote.LabelForm.TheVariants.{Leads, Calls}
 use Rattle.inline_label_ends.specs.Ends.{IsAfterEnd, IsAfterFormed, IsEnd, IsFormed}
 use Rattle.inline_label_ends.proofs.Rests.{after_same}
 use Rattle.inline_parser.specs.declared.label.LabelStart.{LabelStart}
@@ -153,7 +153,7 @@ end_next rest after a = record {
 }
 
 -- the place after what was formed
-pub some_place : {rest : List ℕ} {o : Option Formed} {found : LabelEnd} → o ≡ Some (Leads found) → IfSome o (IsAfterFormed rest)
+pub some_place : {rest : List ℕ} {o : Option LabelForm} {found : LabelEnd} → o ≡ Some (Leads found) → IfSome o (IsAfterFormed rest)
     → IsAfterEnd rest found.after.now
 some_place {rest} is h = subst (λ x. IfSome x (IsAfterFormed rest)) is h
 

@@ -13,7 +13,7 @@ use Rattle.definition_inline.specs.Scan as scan
 use Rattle.definition_inline.specs.Scan.{label_part}
 use Rattle.definition_inline.specs.Spans.{Token, Item, with_spans}
 use Rattle.inline_runs.specs.declared.run.Run.{Run}
-use Rattle.inline_rows.specs.View.{rows_view, row_view, target_linked}
+use Rattle.inline_rows.specs.View.{rows_view, row_view, target_texts}
 use Rattle.inline_rows.specs.declared.row.LinkTarget.{LinkTarget}
 use Rattle.inline_rows.specs.declared.row.InlineRow.{InlineRow}
 use Rattle.inline_rows.specs.declared.row.InlineRow.TheVariants.{Exit}
@@ -25,9 +25,9 @@ use Rattle.inline_parser.specs.declared.label.OpenLabel.{OpenLabel}
 use Rattle.inline_parser.specs.Shows.{AreOpen, NoneOpen, Inside, ShowsBy, start_view, enter_row}
 use Rattle.inline_parser.proofs.Readings.{has_label}
 
-module _ (leads : Target → inline.Linked) (at : ℕ → inline.Linked) where
+module _ (leads : Target → inline.LinkTexts) (at : ℕ → inline.LinkTexts) where
   -- the rows of what is formed
-  formed_rows : (s : LabelStart) (target : LinkTarget) (t : Target) (told : List InlineRow) (kids : Inlines) → target_linked at target ≡ leads t
+  formed_rows : (s : LabelStart) (target : LinkTarget) (t : Target) (told : List InlineRow) (kids : Inlines) → target_texts at target ≡ leads t
       → rows_view at told ≡ inline_rows leads kids
       → rows_view at (enter_row s target ∷ (told ++ Exit ∷ [])) ≡ flat_map (part_rows leads) (label_part (start_view s) t kids ∷ [])
   formed_rows start.Link target t told kids e is =
@@ -48,7 +48,7 @@ module _ (leads : Target → inline.Linked) (at : ℕ → inline.Linked) where
   form_outer : (outer_rows : List InlineRow) (outer_runs : List Run) (outer_slots : List ℕ) (o : OpenLabel) (opens : List OpenLabel) (label : scan.OpenLabel)
       (labels : List scan.OpenLabel)
       (target : LinkTarget) (t : Target) (all : List InlineRow) (kids : Inlines)
-      → AreOpen leads at outer_rows outer_runs outer_slots (o ∷ opens) (label ∷ labels) → target_linked at target ≡ leads t
+      → AreOpen leads at outer_rows outer_runs outer_slots (o ∷ opens) (label ∷ labels) → target_texts at target ≡ leads t
       → take (length outer_rows) all ≡ outer_rows → rows_view at (drop (length outer_rows) all) ≡ inline_rows leads kids
       → ShowsBy leads at (set all o.row (enter_row o.start target) ++ Exit ∷ []) outer_runs outer_slots opens labels
       (label.outer.tokens ++ Item (label_part label.start t kids) ∷ [])
@@ -130,7 +130,7 @@ module _ (leads : Target → inline.Linked) (at : ℕ → inline.Linked) where
     pub start : start_view o.start ≡ label.start
     pub rows_are : rows ≡ outer_rows ++ inner_rows
     pub inner : IsContainer leads at inner_rows (length outer_rows) (drop o.runs runs) (drop o.runs slots) tokens
-    pub formed : (target : LinkTarget) (t : Target) (all : List InlineRow) → target_linked at target ≡ leads t → AreTold leads at outer_rows tokens all
+    pub formed : (target : LinkTarget) (t : Target) (all : List InlineRow) → target_texts at target ≡ leads t → AreTold leads at outer_rows tokens all
         → ShowsBy leads at (set all o.row (enter_row o.start target) ++ Exit ∷ []) (take o.runs runs) (take o.runs slots) opens others
         (label.outer.tokens ++ Item (label_part label.start t (with_spans tokens)) ∷ [])
     pub called : (call : InlineRow) (name : List ℕ) → rows_view at (call ∷ []) ≡ flat_map (part_rows leads) (inline.Call name ∷ [])

@@ -7,7 +7,7 @@ use Rattle.std.proofs.lemmas.List.{append-nil, drop_all, take_all}
 use Rattle.markdown_options.specs.declared.configuration.ParseOptions.{ParseOptions}
 use Rattle.definition_text.specs.Content.{content_codes}
 use Rattle.definition_inline.specs.GfmAutolinkLiteral.{with_literals}
-use Rattle.definition_inline.specs.Inline.{Target, Linked, linked, Data}
+use Rattle.definition_inline.specs.Inline.{Target, LinkTexts, link_texts, Data}
 use Rattle.definition_inline.specs.Scan as scan
 use Rattle.definition_inline.specs.Scan.{inlines_from, read_tokens, spans_from, whole_text}
 use Rattle.definition_inline.specs.Spans.{Item, with_spans}
@@ -30,11 +30,11 @@ use Rattle.inline_parser.proofs.Whole as whole
 abbrev start : scan.Reading
 start = scan.reading (scan.text [] false) []
 
-nowhere : ℕ → Linked
-nowhere place = linked [] None
+nowhere : ℕ → LinkTexts
+nowhere place = link_texts [] None
 
 -- the rows of text
-told : (leads : Target → Linked) (text : Bor (List ℕ)) → data_rows text.now ≡ inline_rows leads (with_spans (map Item (map Data text.now)))
+told : (leads : Target → LinkTexts) (text : Bor (List ℕ)) → data_rows text.now ≡ inline_rows leads (with_spans (map Item (map Data text.now)))
 told leads text =
     let at = nowhere in
     let rows = Text text ∷ [] in
@@ -62,7 +62,7 @@ module _ (options : ParseOptions) (names : List ℕ → Option (List ℕ)) (p : 
       ∙ ap (λ bs. read_tokens (map (λ i. Item i) (map (λ b. Data b) bs)) start) (take_all n rest (omega arith))
 
   -- its rows
-  pub plain_rows : (leads : Target → Linked) (text : Bor (List ℕ)) → IsPlace content.text.now text.now
+  pub plain_rows : (leads : Target → LinkTexts) (text : Bor (List ℕ)) → IsPlace content.text.now text.now
       → options.constructs.gfm_autolink_literal ≡ false
       → ((k : ℕ) → k < length text.now → is_text_at (drop k (content_codes text.now)) ≡ true)
       → ((k : ℕ) → k < length text.now → get_or text.now k 0 ≡ 13 → ⊥)

@@ -18,7 +18,7 @@ use Rattle.inline_parser.specs.declared.label.OpenLabel.{OpenLabel}
 use Rattle.inline_parser.specs.Shows.{IsOpen, AreOpen, NoneOpen, Inside, ShowsBy}
 
 -- the rows of a label start that forms nothing
-start_rows : (leads : Target → inline.Linked) (start : scan.LabelStart) → data_rows (start_bytes start) ++ []
+start_rows : (leads : Target → inline.LinkTexts) (start : scan.LabelStart) → data_rows (start_bytes start) ++ []
     ≡ flat_map (part_rows leads) (map Data (start_bytes start))
 start_rows leads LinkStart = refl
 start_rows leads ImageStart = refl
@@ -27,7 +27,7 @@ start_items : (start : scan.LabelStart) → map Item (map Data (start_bytes star
 start_items LinkStart = refl
 start_items ImageStart = refl
 
-module _ (leads : Target → inline.Linked) (at : ℕ → inline.Linked) where
+module _ (leads : Target → inline.LinkTexts) (at : ℕ → inline.LinkTexts) where
   -- parts that are read whole
   pub shows_items : (rows more : List InlineRow) (runs : List Run) (slots : List ℕ) (opens : List OpenLabel) (labels : List scan.OpenLabel) (ts : List Token)
       (parts : List Inline)

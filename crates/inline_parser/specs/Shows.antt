@@ -67,7 +67,7 @@ pub record IsOpen (o : OpenLabel) (label : scan.OpenLabel) (row_count run_count 
   pub holds_link : o.holds_link ≡ label.outer.holds_link
 
 -- the rows, the runs and their slots up to the innermost label start that is open, the innermost first
-pub data AreOpen (leads : Target → inline.Linked) (at : ℕ → inline.Linked) : List InlineRow → List Run → List ℕ → List OpenLabel → List scan.OpenLabel
+pub data AreOpen (leads : Target → inline.LinkTexts) (at : ℕ → inline.LinkTexts) : List InlineRow → List Run → List ℕ → List OpenLabel → List scan.OpenLabel
     → Type 0 where
   NoneOpen : AreOpen leads at [] [] [] [] []
   Inside : (rows more : List InlineRow) (runs more_runs : List Run) (slots more_slots : List ℕ) (opens : List OpenLabel) (labels : List scan.OpenLabel)
@@ -79,7 +79,7 @@ pub data AreOpen (leads : Target → inline.Linked) (at : ℕ → inline.Linked)
       → AreOpen leads at ((rows ++ more) ++ row ∷ []) (runs ++ more_runs) (slots ++ more_slots) (o ∷ opens) (label ∷ labels)
 
 -- rows, runs, slots and open label starts that stand for those of the definition, and the tokens after the innermost
-pub record ShowsBy (leads : Target → inline.Linked) (at : ℕ → inline.Linked) (rows : List InlineRow) (runs : List Run) (slots : List ℕ) (opens : List OpenLabel)
+pub record ShowsBy (leads : Target → inline.LinkTexts) (at : ℕ → inline.LinkTexts) (rows : List InlineRow) (runs : List Run) (slots : List ℕ) (opens : List OpenLabel)
     (labels : List scan.OpenLabel) (tokens : List Token) : Type 0 where
   pub outer_rows : List InlineRow
   pub now_rows : List InlineRow
@@ -93,13 +93,13 @@ pub record ShowsBy (leads : Target → inline.Linked) (at : ℕ → inline.Linke
   pub outer : AreOpen leads at outer_rows outer_runs outer_slots opens labels
   pub now : IsContainer leads at now_rows (length outer_rows) now_runs now_slots tokens
 
-pub record Shows {A : Type 0} (leads : Target → inline.Linked) (at : ℕ → inline.Linked) (s : Reading A) (r : scan.Reading) : Type 0 where
+pub record Shows {A : Type 0} (leads : Target → inline.LinkTexts) (at : ℕ → inline.LinkTexts) (s : Reading A) (r : scan.Reading) : Type 0 where
   pub by : ShowsBy leads at s.rows.items s.runs.items s.slots.items (reverse s.labels.items) r.open_labels r.now.tokens
   pub holds_link : s.holds_link ≡ r.now.holds_link
 
 -- where the old reading shows what was read, the new one shows this, unless memory ran out
 abbrev pub ShowsThen : {A B C : Type 0} → Reading A → Result B C → Reading A → (scan.Reading → scan.Reading) → Type 0
-ShowsThen old result new next = (leads : Target → inline.Linked) (at : ℕ → inline.Linked) (r : scan.Reading) → Shows leads at old r
+ShowsThen old result new next = (leads : Target → inline.LinkTexts) (at : ℕ → inline.LinkTexts) (r : scan.Reading) → Shows leads at old r
     → OnOk result (Shows leads at new (next r))
 
 -- ---- places

@@ -1,7 +1,7 @@
 //! Email addresses in a content, and links without literals, once its spans are paired (GFM 6.9).
 ghost use Rattle.std.specs.Prelude.{◌≡◌, [], ℕ, IfOk};
 ghost use Rattle.definition_inline.specs.GfmAutolinkLiteral.{with_literals};
-ghost use Rattle.definition_inline.specs.Inline.{Target, Linked, Inlines};
+ghost use Rattle.definition_inline.specs.Inline.{Target, LinkTexts, Inlines};
 ghost use Rattle.inline_rows.specs.InlineRows as seen;
 ghost use Rattle.inline_rows.specs.View.{rows_view};
 
@@ -16,7 +16,7 @@ pub(crate) fn rows_with_literals<'a, A: Allocator + Clone>(
     room: &'a mut Room<A>,
     rows: Vec<InlineRow<'a>, A>,
 ) -> Result<Vec<InlineRow<'a>, A>, AllocError>
-    ensures { (leads : Target → Linked) (at : ℕ → Linked) (kids : Inlines) → rows_view at rows.entry.items ≡ seen.inline_rows leads kids →
+    ensures { (leads : Target → LinkTexts) (at : ℕ → LinkTexts) (kids : Inlines) → rows_view at rows.entry.items ≡ seen.inline_rows leads kids →
         IfOk result (λ linked. rows_view at linked.items ≡ seen.inline_rows leads (with_literals [] kids)) }
 {
     if may_link(&rows) {

@@ -6,7 +6,7 @@
 ghost use Rattle.std.specs.Prelude.{◌≡◌, OnOk, IfOk};
 ghost use Rattle.std.specs.Prelude.{ℕ, false, List, ◌∷◌, ◌++◌, [], length, map, replicate};
 ghost use Rattle.definition_text.specs.Content.{content_codes};
-ghost use Rattle.definition_inline.specs.Inline.{Target, Linked, Data};
+ghost use Rattle.definition_inline.specs.Inline.{Target, LinkTexts, Data};
 ghost use Rattle.definition_inline.specs.LabelEnd.{LinkTail, Leads, Calls};
 ghost use Rattle.inline_rows.specs.InlineRows.{inline_rows};
 ghost use Rattle.definition_inline.specs.Scan as scan;
@@ -14,7 +14,7 @@ ghost use Rattle.definition_inline.specs.Scan.{read_tokens, whole_text};
 ghost use Rattle.definition_inline.specs.Spans.{Item, Delimiters, Token, with_spans};
 ghost use Rattle.inline_leaves.specs.Leaves.{parts_of};
 ghost use Rattle.inline_runs.specs.View.{run_view};
-ghost use Rattle.inline_rows.specs.View.{rows_view, target_linked};
+ghost use Rattle.inline_rows.specs.View.{rows_view, target_texts};
 ghost use Rattle.inline_rows.specs.declared.row.InlineRow.{InlineRow as SeenRow};
 ghost use Rattle.inline_spans.specs.Container.{IsContainer, AreTold, AreWithin};
 ghost use Rattle.inline_links.specs.Codes.{IsRest};
@@ -50,7 +50,8 @@ pub(crate) struct Reading<'a, A: Allocator> {
 impl<'a, A: Allocator + Clone> Reading<'a, A> {
     /// Before anything is read, in room that is left empty until the end.
     pub(crate) fn new(room: &mut Room<A>) -> Result<Reading<'a, A>, AllocError>
-        ensures nothing { (leads : Target → Linked) (at : ℕ → Linked) → IfOk result (λ reading. Shows leads at reading (scan.reading (scan.text [] false) [])) }
+        ensures nothing { (leads : Target → LinkTexts) (at : ℕ → LinkTexts) →
+            IfOk result (λ reading. Shows leads at reading (scan.reading (scan.text [] false) [])) }
         ensures sound { IfOk result IsSound }
         ensures none { IfOk result (λ reading. reading.labels.items ≡ []) }
     {
@@ -72,7 +73,7 @@ impl<'a, A: Allocator + Clone> Reading<'a, A> {
     /// back.
     pub(crate) fn finish(self, room: &mut Room<A>) -> Result<Vec<InlineRow<'a>, A>, AllocError>
         requires sound { IsSound self }
-        ensures read { (leads : Target → Linked) (at : ℕ → Linked) (r : scan.Reading) → Shows leads at self.entry r →
+        ensures read { (leads : Target → LinkTexts) (at : ℕ → LinkTexts) (r : scan.Reading) → Shows leads at self.entry r →
             IfOk result (λ rows. rows_view at rows.items ≡ inline_rows leads (with_spans (whole_text r).tokens)) }
     {
         let Reading {
@@ -157,7 +158,8 @@ impl<'a, A: Allocator> Reading<'a, A> {
         requires sound { IsSound self.old }
         ensures sound { IsSound self.new }
         ensures from { (rest : List ℕ) → StartsBefore rest self.old → StartsBefore rest self.new }
-        ensures read { (leads : Target → Linked) (at : ℕ → Linked) (r : scan.Reading) → Shows leads at self.old r → Shows leads at self.new (unformed_last r) }
+        ensures read { (leads : Target → LinkTexts) (at : ℕ → LinkTexts) (r : scan.Reading) → Shows leads at self.old r →
+            Shows leads at self.new (unformed_last r) }
     {
         if let Some(label) = self.labels.pop() {
             self.holds_link = label.around_holds_link(self.holds_link);
@@ -169,7 +171,7 @@ impl<'a, A: Allocator> Reading<'a, A> {
         requires sound { IsSound self.old }
         ensures sound { OnOk result (IsSound self.new) }
         ensures from { KeepsStarts self.old result self.new }
-        ensures read { (leads : Target → Linked) (at : ℕ → Linked) (r : scan.Reading) (e : LinkTail) → target_linked at target.entry ≡ leads e.target →
+        ensures read { (leads : Target → LinkTexts) (at : ℕ → LinkTexts) (r : scan.Reading) (e : LinkTail) → target_texts at target.entry ≡ leads e.target →
             Shows leads at self.old r → OnOk result (Shows leads at self.new (formed_last (Leads e) r)) }
     {
         let Some(label) = self.labels.pop() else {
@@ -195,7 +197,7 @@ impl<'a, A: Allocator> Reading<'a, A> {
         requires sound { IsSound self.old }
         ensures sound { OnOk result (IsSound self.new) }
         ensures from { KeepsStarts self.old result self.new }
-        ensures read { (leads : Target → Linked) (at : ℕ → Linked) (r : scan.Reading) → Shows leads at self.old r →
+        ensures read { (leads : Target → LinkTexts) (at : ℕ → LinkTexts) (r : scan.Reading) → Shows leads at self.old r →
             OnOk result (Shows leads at self.new (formed_last (Calls (content_codes name.now)) r)) }
     {
         let Some(label) = self.labels.pop() else {
@@ -219,7 +221,7 @@ fn tell_inner<A: Allocator>(
 ) -> Result<(), AllocError>
     requires { AreWithin runs.now slots.now (length rows.old.items) }
     ensures length { length rows.new.items ≡ length rows.old.items }
-    ensures told { (leads : Target → Linked) (at : ℕ → Linked) (outer inner : List SeenRow) (tokens : List Token) →
+    ensures told { (leads : Target → LinkTexts) (at : ℕ → LinkTexts) (outer inner : List SeenRow) (tokens : List Token) →
         rows.old.items ≡ outer ++ inner → IsContainer leads at inner (length outer) runs.now slots.now tokens →
         OnOk result (AreTold leads at outer tokens rows.new.items) }
 {

@@ -10,7 +10,7 @@ ghost use Rattle.markdown_options.specs.declared.configuration.ParseOptions.{Par
 ghost use Rattle.definition_text.specs.Columns.{is_white};
 ghost use Rattle.definition_text.specs.Bytes.{begins_with};
 ghost use Rattle.definition_text.specs.Content.{content_codes};
-ghost use Rattle.definition_inline.specs.Inline.{Target, Linked, Data};
+ghost use Rattle.definition_inline.specs.Inline.{Target, LinkTexts, Data};
 ghost use Rattle.definition_page.specs.InlinePieces.{leads_to};
 ghost use Rattle.inline_rows.specs.InlineRows.{inline_rows};
 ghost use Rattle.definition_inline.specs.Scan as scan;
@@ -35,7 +35,7 @@ use crate::plain::text_size;
 use crate::reading::Reading;
 use crate::room::Room;
 use inline_content::Content;
-use inline_label_ends::{Formed, call_or_link, link_or_image};
+use inline_label_ends::{LabelForm, call_or_link, link_or_image};
 use inline_labels::LabelTable;
 use inline_leaves::Leaf;
 use inline_leaves::cut::{cut_after, text_before};
@@ -143,7 +143,7 @@ pub fn content_start<'a>(content: Content<'a>) -> &'a str
 /// Whether what is left of a content is text alone: nothing starts in it. While literals are on
 /// (GFM 6.9) this is said of no content, since text may hold addresses.
 pub fn is_plain(options: &ParseOptions, start: &str) -> bool
-    ensures { result ≡ true → (names : List ℕ → Option (List ℕ)) (is_punctuation : ℕ → Bool) (ds : Targets) (leads : Target → Linked)
+    ensures { result ≡ true → (names : List ℕ → Option (List ℕ)) (is_punctuation : ℕ → Bool) (ds : Targets) (leads : Target → LinkTexts)
         (content : SeenContent) → IsPlace content.text.now start.now →
         data_rows start.now ≡ inline_rows leads (inlines_from (context_by options.now names ds) (view_at is_punctuation content start.now)) }
 {
@@ -338,12 +338,12 @@ impl<'a, A: Allocator + Clone> Scanner<'a, A> {
     {
         let after = cut_after(self.rest, 1);
         match self.innermost_label_end(source, after)? {
-            Some(Formed::Leads(end)) => {
+            Some(LabelForm::Leads(end)) => {
                 self.reading.form(end.target)?;
                 self.rest = end.after;
                 Ok(())
             }
-            Some(Formed::Calls(label)) => {
+            Some(LabelForm::Calls(label)) => {
                 self.reading.call(label)?;
                 self.rest = after;
                 Ok(())
@@ -361,10 +361,10 @@ impl<'a, A: Allocator + Clone> Scanner<'a, A> {
         &self,
         source: &Source<'a, T, A>,
         after: &'a str,
-    ) -> Result<Option<Formed<'a>>, AllocError>
+    ) -> Result<Option<LabelForm<'a>>, AllocError>
         requires placed { StartsBefore self.now.rest.now self.now.reading }
         requires bracket { self.now.rest.now ≡ 93 ∷ after.now }
-        ensures read { (leads : Target → Linked) (at : ℕ → Linked) (r : scan.Reading) (names : List ℕ → Option (List ℕ)) (ds : Targets) →
+        ensures read { (leads : Target → LinkTexts) (at : ℕ → LinkTexts) (r : scan.Reading) (names : List ℕ → Option (List ℕ)) (ds : Targets) →
             HasTargets source.now.labels.now source.now.footnotes.now ds → Shows leads at self.now.reading r →
             IfOk result (λ found. IsFormed (labels_of ds.definitions) after.now found
             (ended_here (context_by source.now.options.now names ds) (content_codes self.now.rest.now) r.open_labels r.now)) }
@@ -391,7 +391,7 @@ fn formed_at<'a, T, A: Allocator + Clone>(
     start: LabelStart,
     text: &'a str,
     after: &'a str,
-) -> Result<Option<Formed<'a>>, AllocError>
+) -> Result<Option<LabelForm<'a>>, AllocError>
     ensures read { (names : List ℕ → Option (List ℕ)) (ds : Targets) → HasTargets source.now.labels.now source.now.footnotes.now ds →
         IfOk result (λ found. IsFormed (labels_of ds.definitions) after.now found
         (formed_at (context_by source.now.options.now names ds) (start_view start) (content_codes text.now) (content_codes after.now))) }

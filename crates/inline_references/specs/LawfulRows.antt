@@ -15,7 +15,7 @@ use Rattle.std.proofs.Math.Utf8.{low_scalar}
 use Rattle.markdown_options.specs.References.{IsReferenceName}
 use Rattle.definition_text.specs.Bytes.{after_all}
 use Rattle.definition_text.specs.Lines.{TextLine, lines}
-use Rattle.definition_inline.specs.ReferenceRows.{Row, row, is_name, is_scalar, is_code, code_text, second_text, codes_text, row_of, rows, text_in}
+use Rattle.definition_inline.specs.ReferenceRows.{Row, row, is_name, is_scalar, is_code, scalar_text, second_text, codes_text, row_of, rows, text_in}
 use Rattle.definition_inline.specs.BuiltinReferences.{builtin_text, builtin_rows, builtin_names}
 
 -- a name and a text as tables may have them
@@ -44,7 +44,7 @@ record IsText (text : List ℕ) : Type 0 where
   nonempty : 0 < length text
   utf8 : IsUtf8 text
 
-code_is_text : (digits text : List ℕ) → code_text digits ≡ Some text → IsText text
+code_is_text : (digits text : List ℕ) → scalar_text digits ≡ Some text → IsText text
 code_is_text digits text h =
     let code = digits_value 16 digits in
     elim (cases_Bool (is_code digits)) [
@@ -63,16 +63,16 @@ second_is_text : (bytes text : List ℕ) → second_text bytes ≡ Some text →
 second_is_text [] text h = let is : [] ≡ text = cc in subst IsUtf8 is IsUtf8-nil
 second_is_text (b ∷ bs) text h =
     elim (cases_Bool (eqb b 43)) [
-      | inl p ↦ (code_is_text bs text (sym (cond-true (eqb b 43) (code_text bs) None p) ∙ h)).utf8
-      | inr p ↦ let e = sym (cond-false (eqb b 43) (code_text bs) None p) ∙ h in cc
+      | inl p ↦ (code_is_text bs text (sym (cond-true (eqb b 43) (scalar_text bs) None p) ∙ h)).utf8
+      | inr p ↦ let e = sym (cond-false (eqb b 43) (scalar_text bs) None p) ∙ h in cc
     ]
 
 -- two parts, where the first is a text
-joined : (first second : Option (List ℕ)) (text : List ℕ) → ((t : List ℕ) → first ≡ Some t → IsText t) → ((t : List ℕ) → second ≡ Some t → IsUtf8 t)
+joined_text : (first second : Option (List ℕ)) (text : List ℕ) → ((t : List ℕ) → first ≡ Some t → IsText t) → ((t : List ℕ) → second ≡ Some t → IsUtf8 t)
     → option_and_then (λ one. option_map (λ two. one ++ two) second) first ≡ Some text → IsText text
-joined None second text f s h = cc
-joined (Some one) None text f s h = cc
-joined (Some one) (Some two) text f s h =
+joined_text None second text f s h = cc
+joined_text (Some one) None text f s h = cc
+joined_text (Some one) (Some two) text f s h =
     let is : one ++ two ≡ text = cc in
     let known = f one refl in
     record {
@@ -82,7 +82,7 @@ joined (Some one) (Some two) text f s h =
 
 codes_are_text : (bytes text : List ℕ) → codes_text bytes ≡ Some text → IsText text
 codes_are_text bytes text h =
-    joined (code_text (take_while is_ascii_hexdigit bytes)) (second_text (after_all is_ascii_hexdigit bytes)) text
+    joined_text (scalar_text (take_while is_ascii_hexdigit bytes)) (second_text (after_all is_ascii_hexdigit bytes)) text
     (code_is_text (take_while is_ascii_hexdigit bytes)) (second_is_text (after_all is_ascii_hexdigit bytes)) h
 
 pub name_is_lawful : (name : List ℕ) → is_name name ≡ true → IsReferenceName name

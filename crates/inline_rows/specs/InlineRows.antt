@@ -1,6 +1,6 @@
 -- The rows of inline structure: what the inline parser hands to the printer.
 use Rattle.std.specs.Prelude.{List, [], ◌∷◌, ◌++◌}
-use Rattle.definition_inline.specs.Inline.{Target, Linked, Inline, Data, Escape, Character, Code, Math, Autolink, Literal, Html, EscapedBreak, TrailingBreak}
+use Rattle.definition_inline.specs.Inline.{Target, LinkTexts, Inline, Data, Escape, Character, Code, Math, Autolink, Literal, Html, EscapedBreak, TrailingBreak}
 use Rattle.definition_inline.specs.Inline.{LineEnd, Emphasis, Strong, Strikethrough, Link, Image, Call, Inlines, Nil, Cons}
 use Rattle.definition_inline.specs.Spans.{Span, IsEmphasis, IsStrong, IsStrikethrough}
 
@@ -8,12 +8,12 @@ use Rattle.definition_inline.specs.Spans.{Span, IsEmphasis, IsStrong, IsStriketh
 pub data InlineRow : Type 0 where
   Part : Inline → InlineRow
   EnterSpan : Span → InlineRow
-  EnterLink : Linked → InlineRow
-  EnterImage : Linked → InlineRow
+  EnterLink : LinkTexts → InlineRow
+  EnterImage : LinkTexts → InlineRow
   Leave : InlineRow
 
 -- the rows of inline structure, where it is known where targets lead
-module _ (leads : Target → Linked) where
+module _ (leads : Target → LinkTexts) where
   abbrev mutual
     pub part_rows : Inline → List InlineRow
     part_rows (Data b) = Part (Data b) ∷ []

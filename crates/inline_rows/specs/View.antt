@@ -3,39 +3,39 @@ use Rattle.std.specs.Prelude.{ℕ, List, [], ◌∷◌, map}
 use Rattle.std.specs.List.{flat_map}
 use Rattle.std.specs.Option.{option_map}
 use Rattle.definition_text.specs.Content.{content_codes}
-use Rattle.definition_inline.specs.Inline.{linked, Inline, Data}
+use Rattle.definition_inline.specs.Inline.{link_texts, Inline, Data}
 use Rattle.definition_inline.specs.Inline as inline
 use Rattle.inline_rows.specs.InlineRows as rows
 use Rattle.inline_leaves.specs.Leaves.{parts_of}
 use Rattle.inline_runs.specs.View.{span_view}
-use Rattle.inline_rows.specs.declared.row.Linked.{Linked}
+use Rattle.inline_rows.specs.declared.row.LinkTexts.{LinkTexts}
 use Rattle.inline_rows.specs.declared.row.LinkTarget.{LinkTarget}
 use Rattle.inline_rows.specs.declared.row.LinkTarget.TheVariants.{Resource, Definition}
 use Rattle.inline_rows.specs.declared.row.InlineRow.{InlineRow}
 use Rattle.inline_rows.specs.declared.row.InlineRow.TheVariants.{Text, Leaf, EnterSpan, EnterLink, EnterImage, Call, Exit}
 
 -- where a link leads, by codes
-abbrev pub linked_view : Linked → inline.Linked
-linked_view l = linked (content_codes l.destination.now) (option_map (λ text. content_codes text.now) l.title)
+abbrev pub link_texts_view : LinkTexts → inline.LinkTexts
+link_texts_view l = link_texts (content_codes l.destination.now) (option_map (λ text. content_codes text.now) l.title)
 
 -- where a target leads, given where the definitions lead by their places
-abbrev pub target_linked : (ℕ → inline.Linked) → LinkTarget → inline.Linked
-target_linked at (Resource linked) = linked_view linked
-target_linked at (Definition place) = at place
+abbrev pub target_texts : (ℕ → inline.LinkTexts) → LinkTarget → inline.LinkTexts
+target_texts at (Resource linked) = link_texts_view linked
+target_texts at (Definition place) = at place
 
 -- parts of a text
 abbrev pub data_rows : List ℕ → List rows.InlineRow
 data_rows bytes = map (λ b. rows.Part (Data b)) bytes
 
 -- the definition's rows that a row stands for
-abbrev pub row_view : (ℕ → inline.Linked) → InlineRow → List rows.InlineRow
+abbrev pub row_view : (ℕ → inline.LinkTexts) → InlineRow → List rows.InlineRow
 row_view at (Text text) = data_rows text.now
 row_view at (Leaf part) = map rows.Part (parts_of part)
 row_view at (EnterSpan span) = rows.EnterSpan (span_view span) ∷ []
-row_view at (EnterLink target) = rows.EnterLink (target_linked at target) ∷ []
-row_view at (EnterImage target) = rows.EnterImage (target_linked at target) ∷ []
+row_view at (EnterLink target) = rows.EnterLink (target_texts at target) ∷ []
+row_view at (EnterImage target) = rows.EnterImage (target_texts at target) ∷ []
 row_view at (Call label) = rows.Part (inline.Call (content_codes label.now)) ∷ []
 row_view at Exit = rows.Leave ∷ []
 
-abbrev pub rows_view : (ℕ → inline.Linked) → List InlineRow → List rows.InlineRow
+abbrev pub rows_view : (ℕ → inline.LinkTexts) → List InlineRow → List rows.InlineRow
 rows_view at rows = flat_map (row_view at) rows

@@ -4,7 +4,7 @@ use inline_runs::Span;
 
 /// Where a link or an image leads, as it is written (CommonMark 6.3).
 #[derive(Clone, Copy)]
-pub struct Linked<'a> {
+pub struct LinkTexts<'a> {
     /// The destination, empty where none is written, without the brackets around it.
     pub destination: &'a str,
     /// The title, without the quotes or parentheses around it.
@@ -15,7 +15,7 @@ pub struct Linked<'a> {
 #[derive(Clone, Copy)]
 pub enum LinkTarget<'a> {
     /// A resource.
-    Resource(Linked<'a>),
+    Resource(LinkTexts<'a>),
     /// The definition at this place among those of the document.
     Definition(usize),
 }

@@ -9,7 +9,7 @@ use Rattle.inline_runs.specs.declared.openers.Opener.{Opener}
 use Rattle.inline_runs.specs.declared.openers.Want.{Want}
 use Rattle.inline_runs.specs.declared.openers.Floor.{Floor}
 use Rattle.inline_runs.specs.declared.openers.Openers.{Openers}
-use Rattle.inline_runs.specs.Floors.{fits, FitsAt, IsFloor, IsFloorOf, Known}
+use Rattle.inline_runs.specs.Floors.{fits, FitsAt, IsFloor, IsFloorOf, AreOpenersAt}
 
 -- one more opener that doesn't fit
 pub one_less : (openers : List Opener) (w : Want) (n : ℕ) (e : Opener) → 0 < n → n ≤ length openers
@@ -69,7 +69,7 @@ floor_pushed openers o w floor young is = record {
 }
 
 -- what is known of openers is known later
-pub known_later : {A : Type 0} (o : Openers A) (now later : ℕ) → now ≤ later → Known o now → Known o later
+pub known_later : {A : Type 0} (o : Openers A) (now later : ℕ) → now ≤ later → AreOpenersAt o now → AreOpenersAt o later
 known_later o now later le known = record {
   early = All-weaker (λ (p : Opener). p.placed.place < now) (λ (p : Opener). p.placed.place < later) (λ p h. omega arith) o.openers.items known.early;
   floors =
@@ -79,7 +79,7 @@ known_later o now later le known = record {
 
 -- and of the first of them
 pub known_taken : {A : Type 0} (old new : Openers A) (n now : ℕ) → new.openers.items ≡ take n old.openers.items → new.floors.items ≡ old.floors.items
-    → Known old now → Known new now
+    → AreOpenersAt old now → AreOpenersAt new now
 known_taken old new n now is same known = record {
   early = subst (λ os. All (λ (p : Opener). p.placed.place < now) os) (sym is)
       (All-take (λ (p : Opener). p.placed.place < now) n old.openers.items known.early);
@@ -92,7 +92,7 @@ known_taken old new n now is same known = record {
 
 -- and with an opener that is as it is since now
 pub known_pushed : {A : Type 0} (old new : Openers A) (o : Opener) (now later : ℕ) → new.openers.items ≡ old.openers.items ++ o ∷ []
-    → new.floors.items ≡ old.floors.items → o.since ≡ now → now ≤ later → o.placed.place < later → Known old now → Known new later
+    → new.floors.items ≡ old.floors.items → o.since ≡ now → now ≤ later → o.placed.place < later → AreOpenersAt old now → AreOpenersAt new later
 known_pushed old new o now later is same since le early known =
     let before = known_later old now later le known in
     record {

@@ -5,7 +5,7 @@ use Rattle.std.proofs.lemmas.Bool.{cases_lt}
 use Rattle.std.proofs.lemmas.List.{length-append, get_or_append_left, get_or_push, reverse-append, drop_at, take_rest}
 use Rattle.std.proofs.lemmas.List.Sums.{sum_by_push, sum_by-cons}
 use Rattle.inline_runs.specs.declared.pair.Pair.{Pair}
-use Rattle.inline_runs.specs.declared.spans.Laid.{Laid}
+use Rattle.inline_runs.specs.declared.spans.RunLayout.{RunLayout}
 use Rattle.inline_runs.specs.declared.pairs.Ends.{Ends}
 use Rattle.inline_runs.specs.Threads.{closed_by, opened_by, IsEnds}
 use Rattle.inline_runs.specs.Laid.{pair_bytes, bytes, text_at, AreTexts}
@@ -31,13 +31,13 @@ text_is ps all same opened place size start left text e ends is_same is_opened i
     ∙ bytes-reverse (opened_by place ps) in
     omega arith
 
-pub text_pushed : (ps : List Pair) (sizes : List ℕ) (laid : List Laid) (l : Laid) → l.text ≡ text_at ps (length laid) (slice_index sizes (length laid))
+pub text_pushed : (ps : List Pair) (sizes : List ℕ) (laid : List RunLayout) (l : RunLayout) → l.text ≡ text_at ps (length laid) (slice_index sizes (length laid))
     → AreTexts ps sizes laid
     → AreTexts ps sizes (laid ++ l ∷ [])
 text_pushed ps sizes laid l is texts i d lt =
     elim (cases_lt i (length laid)) [
-      | inl old ↦ ap (λ (m : Laid). m.text) (get_or_append_left laid (l ∷ []) d i old) ∙ texts i d old
+      | inl old ↦ ap (λ (m : RunLayout). m.text) (get_or_append_left laid (l ∷ []) d i old) ∙ texts i d old
       | inr new ↦
           let at : length laid ≡ i = omega (arith, length-append laid (l ∷ [])) in
-          ap (λ (m : Laid). m.text) (get_or_push laid l d i at) ∙ is ∙ ap (λ k. text_at ps k (slice_index sizes k)) at
+          ap (λ (m : RunLayout). m.text) (get_or_push laid l d i at) ∙ is ∙ ap (λ k. text_at ps k (slice_index sizes k)) at
     ]

@@ -17,7 +17,7 @@ use Rattle.inline_runs.specs.Paired.{run_sizes}
 use Rattle.inline_runs.specs.declared.pair.Pair.{Pair}
 use Rattle.inline_runs.specs.declared.pairs.Ends.{Ends}
 use Rattle.inline_runs.specs.declared.run.Run.{Run}
-use Rattle.inline_runs.specs.declared.spans.Laid.{Laid}
+use Rattle.inline_runs.specs.declared.spans.RunLayout.{RunLayout}
 
 filter_view : (f : PairOf → Bool) (ps : List Pair) → filter f (pairs_view ps) ≡ pairs_view (filter (λ (p : Pair). f (pair_view p)) ps)
 filter_view f [] = refl
@@ -65,7 +65,7 @@ pub closed_is : (runs : List RunOf) (ps same : List Pair) (place : ℕ) (e : End
 closed_is runs ps same place e ends is are =
     ap (λ qs. pairs_view (slice_range qs e.first_closed e.closed_end)) is ∙ ap pairs_view ends.closed ∙ closed_of runs ps place are
 
-pub opened_is : (runs : List RunOf) (ps all same : List Pair) (place : ℕ) (l : Laid) → IsLaid ps place all l → same ≡ all → pairs_view ps ≡ pairs runs
+pub opened_is : (runs : List RunOf) (ps all same : List Pair) (place : ℕ) (l : RunLayout) → IsLaid ps place all l → same ≡ all → pairs_view ps ≡ pairs runs
     → pairs_view (slice_range same l.start l.end) ≡ reverse (filter (λ (p : PairOf). p.opener == place) (pairs runs))
 opened_is runs ps all same place l laid is are =
     ap (λ qs. pairs_view (slice_range qs l.start l.end)) is ∙ ap pairs_view laid.opened ∙ reverse_view (opened_by place ps)

@@ -4,13 +4,13 @@ use Rattle.definition_inline.specs.Attention.{Run as RunOf}
 use Rattle.definition_inline.specs.GfmStrikethrough.{is_tilde, are_fitting}
 use Rattle.definition_inline.specs.Pairing.{OpenRun as PlacedOf, open_run}
 use Rattle.inline_runs.specs.View.{run_view}
-use Rattle.inline_runs.specs.declared.openers.Placed.{Placed}
+use Rattle.inline_runs.specs.declared.openers.PlacedRun.{PlacedRun}
 use Rattle.inline_runs.specs.declared.openers.Opener.{Opener}
 use Rattle.inline_runs.specs.declared.openers.Want.{Want}
 use Rattle.inline_runs.specs.declared.openers.Floor.{Floor}
 use Rattle.inline_runs.specs.declared.openers.Openers.{Openers}
 
-abbrev pub placed_view : Placed → PlacedOf
+abbrev pub placed_view : PlacedRun → PlacedOf
 placed_view p = open_run (run_view p.run) p.place
 
 abbrev pub opener_view : Opener → PlacedOf
@@ -52,6 +52,6 @@ pub record IsFloorOf (openers : List Opener) (now : ℕ) (f : Floor) : Type 0 wh
   pub floor : IsFloor openers f.want f.place
 
 -- what is known of openers while the run at a place is read: they stand before it, and the floors are floors
-pub record Known {A : Type 0} (o : Openers A) (now : ℕ) : Type 0 where
+pub record AreOpenersAt {A : Type 0} (o : Openers A) (now : ℕ) : Type 0 where
   pub early : All (λ (p : Opener). p.placed.place < now) o.openers.items
   pub floors : All (IsFloorOf o.openers.items now) o.floors.items

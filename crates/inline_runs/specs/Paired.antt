@@ -6,12 +6,12 @@ use Rattle.definition_inline.specs.Pairing.{Pair as PairOf, OpenRun as PlacedOf,
 use Rattle.definition_inline.specs.Inline.{Data}
 use Rattle.definition_inline.specs.Spans.{SpanRow, Holds, Opens, Closes, span_of, run_rows}
 use Rattle.inline_runs.specs.View.{pair_view, pairs_view}
-use Rattle.inline_runs.specs.Floors.{Known, openers_view, placed_view}
-use Rattle.inline_runs.specs.Threads.{Threaded}
+use Rattle.inline_runs.specs.Floors.{AreOpenersAt, openers_view, placed_view}
+use Rattle.inline_runs.specs.Threads.{HasThreads}
 use Rattle.inline_runs.specs.Laid.{AreLaid, AreTexts}
 use Rattle.inline_runs.specs.declared.pair.Pair.{Pair}
 use Rattle.inline_runs.specs.declared.spans.RunSpans.{RunSpans}
-use Rattle.inline_runs.specs.declared.openers.Placed.{Placed}
+use Rattle.inline_runs.specs.declared.openers.PlacedRun.{PlacedRun}
 use Rattle.inline_runs.specs.declared.pairing.Pairing.{Pairing}
 
 -- the openers and the pairs so far, as the definition has them
@@ -20,8 +20,8 @@ state p = pairing (openers_view p.openers) (pairs_view p.pairs.pairs.items)
 
 -- what is known while the run at a place is read
 pub record IsSound {A : Type 0} (p : Pairing A) (place : ℕ) : Type 0 where
-  pub openers : Known p.openers place
-  pub threads : Threaded p.pairs
+  pub openers : AreOpenersAt p.openers place
+  pub threads : HasThreads p.pairs
   pub runs : length p.pairs.ends.items ≡ place
 
 -- of how many runs it is known what they become
@@ -30,7 +30,7 @@ run_count p = length p.opened.laid.items
 
 -- of each run it is known which pairs it is in
 pub record IsComplete {A : Type 0} (p : Pairing A) : Type 0 where
-  pub threads : Threaded p.pairs
+  pub threads : HasThreads p.pairs
   pub laid : AreLaid p.pairs.pairs.items p.opened.opened.items p.opened.laid.items
   pub runs : length p.pairs.ends.items ≡ run_count p
 
@@ -63,8 +63,8 @@ abbrev pub opened_at : ℕ → List RunOf → List PairOf
 opened_at place runs = filter (λ (p : PairOf). p.opener == place) (pairs runs)
 
 -- the opener that a run pairs with, and what is left of the run then
-abbrev pub nearest_opener : {A : Type 0} → Pairing A → Placed → PlacedOf
+abbrev pub nearest_opener : {A : Type 0} → Pairing A → PlacedRun → PlacedOf
 nearest_opener p closer = nearest (openers_view p.openers) (placed_view closer)
 
-abbrev pub rest_of_closer : {A : Type 0} → Pairing A → Placed → PlacedOf
+abbrev pub rest_of_closer : {A : Type 0} → Pairing A → PlacedRun → PlacedOf
 rest_of_closer p closer = without (taken_by (nearest_opener p closer) (placed_view closer)) (placed_view closer)

@@ -48,8 +48,8 @@ pub record AreThreaded (ps : List Pair) (es : List Ends) (first : ℕ) : Type 0 
   pub within : first ≤ length ps
   pub now : drop first ps ≡ closed_by (length es) ps
 
-abbrev pub Threaded : {A : Type 0} → Pairs A → Type 0
-Threaded p = AreThreaded p.pairs.items p.ends.items p.first
+abbrev pub HasThreads : {A : Type 0} → Pairs A → Type 0
+HasThreads p = AreThreaded p.pairs.items p.ends.items p.first
 
 -- one more pair is found
 abbrev pub Adds : {A : Type 0} → Pairs A → Pairs A → PairOf → Type 0

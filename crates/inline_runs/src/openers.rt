@@ -15,18 +15,18 @@ use std::alloc::{AllocError, Allocator};
 
 /// A run with its place among the runs of its container.
 #[derive(Clone, Copy)]
-pub(crate) struct Placed {
+pub(crate) struct PlacedRun {
     pub(crate) run: Run,
     pub(crate) place: usize,
 }
 
-impl Placed {
+impl PlacedRun {
     /// What is left of it when it opens or closes a span.
-    pub(crate) fn without(self, double: bool) -> Placed
+    pub(crate) fn without(self, double: bool) -> PlacedRun
         requires { bytes_by double ≤ self.run.size }
         ensures { placed_view result ≡ without (bytes_by double) (placed_view self) }
     {
-        Placed {
+        PlacedRun {
             run: Run {
                 size: self.run.size - bytes_by(double),
                 ..self.run
@@ -39,7 +39,7 @@ impl Placed {
 /// A run that may open spans, as it is since a run was read.
 #[derive(Clone, Copy)]
 pub(crate) struct Opener {
-    pub(crate) placed: Placed,
+    pub(crate) placed: PlacedRun,
     /// The place of the run since which so many of its bytes are left.
     pub(crate) since: usize,
 }
@@ -148,7 +148,7 @@ pub(crate) struct Openers<A: Allocator> {
 
 impl<A: Allocator> Openers<A> {
     ghost use Rattle.std.specs.Prelude.{◌≤◌, ◌<◌};
-    ghost use Rattle.inline_runs.specs.Floors.{Known, openers_view};
+    ghost use Rattle.inline_runs.specs.Floors.{AreOpenersAt, openers_view};
 
     pub(crate) fn new(openers: Vec<Opener, A>, floors: Vec<Floor, A>) -> Openers<A>
         ensures { result.openers ≡ openers }
@@ -159,17 +159,17 @@ impl<A: Allocator> Openers<A> {
     /// No runs.
     pub(crate) fn clear(&mut self)
         ensures none { openers_view self.new ≡ [] }
-        ensures known { Known self.new 0 }
+        ensures known { AreOpenersAt self.new 0 }
     {
         self.openers.clear();
         self.floors.clear();
     }
 
     /// A run that has something left and may open is an opener from now on.
-    pub(crate) fn open(&mut self, placed: Placed, now: usize) -> Result<(), AllocError>
-        requires { Known self.old now }
+    pub(crate) fn open(&mut self, placed: PlacedRun, now: usize) -> Result<(), AllocError>
+        requires { AreOpenersAt self.old now }
         ensures openers { OnOk result (openers_view self.new ≡ openers_view self.old ++ openers_of (placed_view placed)) }
-        ensures known { (n : ℕ) → now ≤ n → placed.place < n → OnOk result (Known self.new n) }
+        ensures known { (n : ℕ) → now ≤ n → placed.place < n → OnOk result (AreOpenersAt self.new n) }
     {
         if placed.run.may_open && placed.run.size != 0 {
             self.openers.push(Opener { placed, since: now })?;
@@ -178,13 +178,13 @@ impl<A: Allocator> Openers<A> {
     }
 
     /// The nearest opener, which is the last of so many, goes, and all those after it.
-    pub(crate) fn take(&mut self, count: usize) -> Placed
+    pub(crate) fn take(&mut self, count: usize) -> PlacedRun
         requires some { 0 < count }
         requires within { count ≤ length (openers_view self.old) }
         ensures opener { (d : PlacedOf) → placed_view result ≡ slice_index_or (openers_view self.old) (count - 1) d }
         ensures openers { openers_view self.new ≡ take (count - 1) (openers_view self.old) }
-        ensures place { (n : ℕ) → Known self.old n → result.place < n }
-        ensures known { (n : ℕ) → Known self.old n → Known self.new n }
+        ensures place { (n : ℕ) → AreOpenersAt self.old n → result.place < n }
+        ensures known { (n : ℕ) → AreOpenersAt self.old n → AreOpenersAt self.new n }
     {
         let opener = self.openers[count - 1].placed;
         self.openers.truncate(count - 1);
@@ -192,11 +192,11 @@ impl<A: Allocator> Openers<A> {
     }
 
     /// How many openers stand up to the nearest that may pair with a run; 0 if none may.
-    pub(crate) fn up_to_nearest(&mut self, closer: &Placed) -> Result<usize, AllocError>
-        requires { Known self.old closer.now.place }
+    pub(crate) fn up_to_nearest(&mut self, closer: &PlacedRun) -> Result<usize, AllocError>
+        requires { AreOpenersAt self.old closer.now.place }
         ensures nearest { IfOk result (λ count. count ≡ up_to_nearest (openers_view self.old) (placed_view closer.now)) }
         ensures openers { OnOk result (openers_view self.new ≡ openers_view self.old) }
-        ensures known { OnOk result (Known self.new closer.now.place) }
+        ensures known { OnOk result (AreOpenersAt self.new closer.now.place) }
     {
         if !can_close(&closer.run) {
             return Ok(0);
@@ -211,7 +211,7 @@ impl<A: Allocator> Openers<A> {
 
     /// Up to an opener that is older than this none fits.
     fn floor_of(&self, want: &Want) -> usize
-        requires { (n : ℕ) × Known self.now n }
+        requires { (n : ℕ) × AreOpenersAt self.now n }
         ensures { IsFloor self.now.openers.items want.now result }
     {
         for floor in &self.floors {
@@ -224,10 +224,10 @@ impl<A: Allocator> Openers<A> {
 
     /// No opener fits.
     fn raise(&mut self, want: Want, now: usize) -> Result<(), AllocError>
-        requires known { Known self.old now }
+        requires known { AreOpenersAt self.old now }
         requires none { (k : ℕ) → k < length self.old.openers.items → FitsAt self.old.openers.items k want false }
         ensures openers { OnOk result (self.new.openers ≡ self.old.openers) }
-        ensures known { OnOk result (Known self.new now) }
+        ensures known { OnOk result (AreOpenersAt self.new now) }
     {
         let floor = Floor { want, place: now };
         for i in 0..self.floors.len() {

@@ -10,11 +10,11 @@ ghost use Rattle.inline_runs.specs.View.{runs_view, pairs_view};
 ghost use Rattle.inline_runs.specs.Floors.{placed_view, openers_view};
 ghost use Rattle.inline_runs.specs.Paired.{IsPaired, BecomesRows, closed_at, opened_at};
 
-use crate::openers::{Openers, Placed};
+use crate::openers::{Openers, PlacedRun};
 use crate::pair::{Pair, is_double};
 use crate::pairs::Pairs;
 use crate::run::Run;
-use crate::spans::{Opened, RunSpans};
+use crate::spans::{OpenedPairs, RunSpans};
 use std::alloc::{AllocError, Allocator};
 
 /// The pairs of the runs of one container. It can be used again for another container, with no
@@ -23,7 +23,7 @@ use std::alloc::{AllocError, Allocator};
 pub struct Pairing<A: Allocator> {
     openers: Openers<A>,
     pairs: Pairs<A>,
-    opened: Opened<A>,
+    opened: OpenedPairs<A>,
 }
 
 impl<A: Allocator + Clone> Pairing<A> {
@@ -34,14 +34,14 @@ impl<A: Allocator + Clone> Pairing<A> {
         Ok(Pairing {
             openers: Openers::new(Vec::new(alloc.clone()?), Vec::new(alloc.clone()?)),
             pairs: Pairs::new(Vec::new(alloc.clone()?), Vec::new(alloc.clone()?)),
-            opened: Opened::new(Vec::new(alloc.clone()?), Vec::new(alloc)),
+            opened: OpenedPairs::new(Vec::new(alloc.clone()?), Vec::new(alloc)),
         })
     }
 }
 
 impl<A: Allocator> Pairing<A> {
     ghost use Rattle.inline_runs.specs.Paired.{nearest_opener, rest_of_closer, state, IsSound, IsComplete, run_count, run_sizes};
-    ghost use Rattle.inline_runs.specs.Threads.{Threaded};
+    ghost use Rattle.inline_runs.specs.Threads.{HasThreads};
     ghost use Rattle.inline_runs.specs.Laid.{AreTexts};
 
     /// The pairs, in the order of their closers, and of one closer the innermost first.
@@ -70,7 +70,7 @@ impl<A: Allocator> Pairing<A> {
 
     /// What each run becomes, now that all pairs are known.
     fn lay_out(&mut self, runs: &[Run]) -> Result<(), AllocError>
-        requires threads { Threaded self.old.pairs }
+        requires threads { HasThreads self.old.pairs }
         requires count { length self.old.pairs.ends.items ≡ length runs.now }
         ensures pairs { OnOk result (self.new.pairs ≡ self.old.pairs) }
         ensures complete { OnOk result (IsComplete self.new) }
@@ -85,7 +85,7 @@ impl<A: Allocator> Pairing<A> {
     }
 
     /// One more run: it closes what it can, and what is left of it may open.
-    fn next_run(&mut self, run: Placed) -> Result<(), AllocError>
+    fn next_run(&mut self, run: PlacedRun) -> Result<(), AllocError>
         requires { IsSound self.old run.place }
         ensures state { OnOk result (state self.new ≡ next_run (state self.old) (placed_view run)) }
         ensures sound { OnOk result (IsSound self.new (run.place + 1)) }
@@ -104,7 +104,7 @@ impl<A: Allocator> Pairing<A> {
 
     /// A run closes a span of the nearest opener, which is the last of so many, and is answered
     /// as it is then.
-    fn close(&mut self, count: usize, closer: Placed) -> Result<Placed, AllocError>
+    fn close(&mut self, count: usize, closer: PlacedRun) -> Result<PlacedRun, AllocError>
         requires sound { IsSound self.old closer.place }
         requires nearest { count ≡ up_to_nearest (openers_view self.old.openers) (placed_view closer) }
         requires some { 0 < count }
@@ -115,7 +115,7 @@ impl<A: Allocator> Pairing<A> {
     {
         let opener = self.openers.take(count);
         let double = is_double(&opener.run, &closer.run);
-        self.pairs.close(opener.place, double)?;
+        self.pairs.add_pair(opener.place, double)?;
         self.openers.open(opener.without(double), closer.place)?;
         Ok(closer.without(double))
     }
@@ -129,7 +129,7 @@ pub fn pair_runs<A: Allocator>(runs: &[Run], pairing: &mut Pairing<A>) -> Result
     pairing.openers.clear();
     pairing.pairs.clear();
     for (place, run) in runs.iter().enumerate() {
-        pairing.next_run(Placed { run: *run, place })?;
+        pairing.next_run(PlacedRun { run: *run, place })?;
     }
     pairing.lay_out(runs)
 }

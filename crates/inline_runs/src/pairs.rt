@@ -27,14 +27,14 @@ pub(crate) struct Pairs<A: Allocator> {
 }
 
 impl<A: Allocator> Pairs<A> {
-    ghost use Rattle.inline_runs.specs.Threads.{Adds, Threaded, pair_between};
+    ghost use Rattle.inline_runs.specs.Threads.{Adds, HasThreads, pair_between};
 
     pub(crate) fn new(pairs: Vec<Pair, A>, ends: Vec<Ends, A>) -> Pairs<A>
         requires pairs { pairs.items ≡ [] }
         requires ends { ends.items ≡ [] }
         ensures pairs { result.pairs.items ≡ [] }
         ensures ends { result.ends.items ≡ [] }
-        ensures threaded { Threaded result }
+        ensures threaded { HasThreads result }
     {
         Pairs {
             pairs,
@@ -47,7 +47,7 @@ impl<A: Allocator> Pairs<A> {
     pub(crate) fn clear(&mut self)
         ensures pairs { self.new.pairs.items ≡ [] }
         ensures ends { self.new.ends.items ≡ [] }
-        ensures threaded { Threaded self.new }
+        ensures threaded { HasThreads self.new }
     {
         self.pairs.clear();
         self.ends.clear();
@@ -55,12 +55,12 @@ impl<A: Allocator> Pairs<A> {
     }
 
     /// The run that is being read closes a span of this opener.
-    pub(crate) fn close(&mut self, opener: usize, double: bool) -> Result<(), AllocError>
-        requires threaded { Threaded self.old }
+    pub(crate) fn add_pair(&mut self, opener: usize, double: bool) -> Result<(), AllocError>
+        requires threaded { HasThreads self.old }
         requires opener { opener < length self.old.ends.items }
         ensures pairs { OnOk result (Adds self.old self.new (pair_between opener (length self.old.ends.items) (bytes_by double))) }
         ensures ends { OnOk result (length self.new.ends.items ≡ length self.old.ends.items) }
-        ensures threaded { OnOk result (Threaded self.new) }
+        ensures threaded { OnOk result (HasThreads self.new) }
     {
         self.pairs.push(Pair {
             opener,
@@ -74,10 +74,10 @@ impl<A: Allocator> Pairs<A> {
 
     /// The run that is being read closes nothing more.
     pub(crate) fn finish(&mut self) -> Result<(), AllocError>
-        requires { Threaded self.old }
+        requires { HasThreads self.old }
         ensures pairs { OnOk result (self.new.pairs.items ≡ self.old.pairs.items) }
         ensures ends { OnOk result (length self.new.ends.items ≡ length self.old.ends.items + 1) }
-        ensures threaded { OnOk result (Threaded self.new) }
+        ensures threaded { OnOk result (HasThreads self.new) }
     {
         let end = self.pairs.len();
         self.ends.push(Ends {

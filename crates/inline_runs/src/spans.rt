@@ -3,7 +3,7 @@
 //!     run ::= (end of a span)* byte* (start of a span)*
 ghost use Rattle.std.specs.Prelude.{◌≡◌, ◌++◌, ◌-◌, ◌<◌, ◌≤◌, ◌+◌, ℕ, List, [], length, reverse, slice_index, OnOk};
 ghost use Rattle.std.specs.List.{sum_by};
-ghost use Rattle.inline_runs.specs.Threads.{opened_by, AreLinked, IsLast, Threaded};
+ghost use Rattle.inline_runs.specs.Threads.{opened_by, AreLinked, IsLast, HasThreads};
 ghost use Rattle.inline_runs.specs.Laid.{HasTexts, IsLaidOut, pair_bytes};
 
 use crate::pair::{Pair, bytes_by};
@@ -24,7 +24,7 @@ pub struct RunSpans<'a> {
 
 /// How many bytes of a run are text, and which pairs it opens.
 #[derive(Clone, Copy)]
-pub(crate) struct Laid {
+pub(crate) struct RunLayout {
     pub(crate) text: usize,
     /// The first of them in the list of opened pairs.
     pub(crate) start: usize,
@@ -34,20 +34,20 @@ pub(crate) struct Laid {
 
 /// The pairs again, in the order in which their spans start.
 #[derive(Drop)]
-pub(crate) struct Opened<A: Allocator> {
+pub(crate) struct OpenedPairs<A: Allocator> {
     pub(crate) opened: Vec<Pair, A>,
     /// One for each run.
-    pub(crate) laid: Vec<Laid, A>,
+    pub(crate) laid: Vec<RunLayout, A>,
 }
 
-impl<A: Allocator> Opened<A> {
+impl<A: Allocator> OpenedPairs<A> {
     ghost use Rattle.std.specs.Prelude.{◌≡◌};
 
-    pub(crate) fn new(opened: Vec<Pair, A>, laid: Vec<Laid, A>) -> Opened<A>
+    pub(crate) fn new(opened: Vec<Pair, A>, laid: Vec<RunLayout, A>) -> OpenedPairs<A>
         requires { laid.items ≡ [] }
         ensures { result.laid.items ≡ [] }
     {
-        Opened { opened, laid }
+        OpenedPairs { opened, laid }
     }
 
     /// No pairs.
@@ -61,7 +61,7 @@ impl<A: Allocator> Opened<A> {
 
     /// One more run, which had so many bytes.
     pub(crate) fn add(&mut self, pairs: &Pairs<A>, size: usize) -> Result<(), AllocError>
-        requires threads { Threaded pairs.now }
+        requires threads { HasThreads pairs.now }
         requires run { length self.old.laid.items < length pairs.now.ends.items }
         ensures laid { IsLaidOut pairs.now self.old → OnOk result (IsLaidOut pairs.now self.new) }
         ensures texts { (sizes : List ℕ) → size ≡ slice_index sizes (length self.old.laid.items)
@@ -70,16 +70,16 @@ impl<A: Allocator> Opened<A> {
     {
         let ends = pairs.ends[self.laid.len()];
         let start = self.opened.len();
-        self.open(&pairs.pairs, ends.last_opened)?;
+        self.open_pairs(&pairs.pairs, ends.last_opened)?;
         let closed = &pairs.pairs[ends.first_closed..ends.closed_end];
         let text = left_after(left_after(size, closed), &self.opened[start..]);
         let end = self.opened.len();
-        self.laid.push(Laid { text, start, end })?;
+        self.laid.push(RunLayout { text, start, end })?;
         Ok(())
     }
 
     /// Adds the last of so many pairs, and those before it with the same opener, the last first.
-    fn open(&mut self, pairs: &[Pair], count: usize) -> Result<(), AllocError>
+    fn open_pairs(&mut self, pairs: &[Pair], count: usize) -> Result<(), AllocError>
         requires links { AreLinked pairs.now }
         requires within { count ≤ length pairs.now }
         ensures opened { (place : ℕ) → IsLast place pairs.now count

@@ -2,7 +2,7 @@
 use Rattle.std.proofs.Common.{◌≡◌, ℕ, suc, ◌+◌, ◌-◌, ◌<◌, List, [], ◌∷◌, ◌++◌, refl, sym, ap, ◌∙◌, length, arith, subst, append_assoc}
 use Rattle.std.specs.List.{fold}
 use Rattle.std.proofs.lemmas.List.{append-nil, nil_from_length}
-use Rattle.definition_inline.specs.Inline.{Target, Linked, Inline, Inlines, Nil, Cons, followed_by}
+use Rattle.definition_inline.specs.Inline.{Target, LinkTexts, Inline, Inlines, Nil, Cons, followed_by}
 use Rattle.inline_rows.specs.InlineRows as rows
 use Rattle.inline_rows.specs.InlineRows.{part_rows, inline_rows}
 use Rattle.definition_inline.specs.Spans.{Span, IsEmphasis, IsStrong, IsStrikethrough, SpanRow, Holds, Opens, Closes, OpenSpan, nest, span_part, nest_row}
@@ -16,7 +16,7 @@ Nests before (Holds i ∷ rs) after = Nests before rs after
 Nests before (Opens span ∷ rs) after = Nests (before + 1) rs after
 Nests before (Closes ∷ rs) after = (0 < before) × Nests (before - 1) rs after
 
-module _ (leads : Target → Linked) where
+module _ (leads : Target → LinkTexts) where
   -- the rows of the spans that are open
   abbrev around_rows : List OpenSpan → List rows.InlineRow
   around_rows [] = []

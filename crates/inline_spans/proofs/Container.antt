@@ -20,23 +20,23 @@ use Rattle.inline_spans.specs.Container.{text_of, AreBytes, IsContainer, NoRows,
 
 -- ---- one row
 
-data_are : (leads : Target → inline.Linked) (bytes : List ℕ) → data_rows bytes ≡ flat_map (part_rows leads) (map Data bytes)
+data_are : (leads : Target → inline.LinkTexts) (bytes : List ℕ) → data_rows bytes ≡ flat_map (part_rows leads) (map Data bytes)
 data_are leads [] = refl
 data_are leads (b ∷ bs) = ap (λ xs. rows.Part (Data b) ∷ xs) (data_are leads bs)
 
-bytes_are : (leads : Target → inline.Linked) (bytes : List ℕ) → map rows.Part (map Data bytes) ≡ flat_map (part_rows leads) (map Data bytes)
+bytes_are : (leads : Target → inline.LinkTexts) (bytes : List ℕ) → map rows.Part (map Data bytes) ≡ flat_map (part_rows leads) (map Data bytes)
 bytes_are leads [] = refl
 bytes_are leads (b ∷ bs) = ap (λ xs. rows.Part (Data b) ∷ xs) (bytes_are leads bs)
 
-pub text_rows : (leads : Target → inline.Linked) (at : ℕ → inline.Linked) (text : _)
+pub text_rows : (leads : Target → inline.LinkTexts) (at : ℕ → inline.LinkTexts) (text : _)
     → rows_view at (Text text ∷ []) ≡ flat_map (part_rows leads) (map Data text.now)
 text_rows leads at text = append-nil (data_rows text.now) ∙ data_are leads text.now
 
-escapes_are : (leads : Target → inline.Linked) (bytes : List ℕ) → map rows.Part (map inline.Escape bytes) ≡ flat_map (part_rows leads) (map inline.Escape bytes)
+escapes_are : (leads : Target → inline.LinkTexts) (bytes : List ℕ) → map rows.Part (map inline.Escape bytes) ≡ flat_map (part_rows leads) (map inline.Escape bytes)
 escapes_are leads [] = refl
 escapes_are leads (b ∷ bs) = ap (λ xs. rows.Part (inline.Escape b) ∷ xs) (escapes_are leads bs)
 
-pub leaf_rows : (leads : Target → inline.Linked) (at : ℕ → inline.Linked) (part : LeafPart)
+pub leaf_rows : (leads : Target → inline.LinkTexts) (at : ℕ → inline.LinkTexts) (part : LeafPart)
     → rows_view at (Leaf part ∷ []) ≡ flat_map (part_rows leads) (parts_of part)
 leaf_rows leads at (leaf.Escape text) = append-nil (map rows.Part (map inline.Escape text.now)) ∙ escapes_are leads text.now
 leaf_rows leads at (leaf.Character text) = refl
@@ -54,10 +54,10 @@ leaf_rows leads at leaf.Spaces = refl
 
 -- ---- more rows
 
-pub none : (leads : Target → inline.Linked) (at : ℕ → inline.Linked) (base : ℕ) → IsContainer leads at [] base [] [] []
+pub none : (leads : Target → inline.LinkTexts) (at : ℕ → inline.LinkTexts) (base : ℕ) → IsContainer leads at [] base [] [] []
 none leads at base = NoRows base
 
-module _ (leads : Target → inline.Linked) (at : ℕ → inline.Linked) where
+module _ (leads : Target → inline.LinkTexts) (at : ℕ → inline.LinkTexts) where
   pub join : (rows rows2 : List InlineRow) (base : ℕ) (runs runs2 : List Run) (slots slots2 : List ℕ) (ts ts2 : List Token)
       → IsContainer leads at rows base runs slots ts → IsContainer leads at rows2 (base + length rows) runs2 slots2 ts2
       → IsContainer leads at (rows ++ rows2) base (runs ++ runs2) (slots ++ slots2) (ts ++ ts2)

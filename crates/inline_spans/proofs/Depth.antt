@@ -7,7 +7,7 @@ use Rattle.std.proofs.lemmas.Grind.{common_steps}
 use Rattle.std.proofs.lemmas.Bool.{cases_Bool, cond-true, cond-false}
 use Rattle.std.proofs.lemmas.List.{length-reverse}
 use Rattle.definition_inline.specs.Attention.{Run}
-use Rattle.definition_inline.specs.Inline.{Target, Linked, Inline, Data}
+use Rattle.definition_inline.specs.Inline.{Target, LinkTexts, Inline, Data}
 use Rattle.inline_rows.specs.InlineRows.{inline_rows}
 use Rattle.definition_inline.specs.Pairing.{Pair, pairs}
 use Rattle.definition_inline.specs.Spans.{Token, Item, Delimiters, SpanRow, Holds, Opens, Closes, span_of, bytes_taken, run_rows, rows_from, runs_of}
@@ -128,7 +128,7 @@ rows_nest n ps place (Delimiters run ∷ ts) ordered =
     (subst (λ m. Nests (count (is_open (place + 1)) ps) (rows_from ps (place + 1) ts) (count (is_open m) ps)) more (rows_nest n ps (place + 1) ts ordered))
 
 -- the rows of the inline structure of a container
-pub emphasized_rows : (leads : Target → Linked) (ts : List Token) → inline_rows leads (with_spans ts) ≡ told_rows leads (rows_from (pairs (runs_of ts)) 0 ts)
+pub emphasized_rows : (leads : Target → LinkTexts) (ts : List Token) → inline_rows leads (with_spans ts) ≡ told_rows leads (rows_from (pairs (runs_of ts)) 0 ts)
 emphasized_rows leads ts =
     let ps = pairs (runs_of ts) in
     let n = length (runs_of ts) in

@@ -5,7 +5,7 @@ use Rattle.std.specs.List.{flat_map}
 use Rattle.std.proofs.lemmas.List.{append-nil, length-append, take_at, drop_at, drop_all, drop_more}
 use Rattle.std.proofs.lemmas.List.Concat.{flat_map-append}
 use borrow.Rule.Slice.PartMut.{put_mid}
-use Rattle.definition_inline.specs.Inline.{Target, Linked, Inline}
+use Rattle.definition_inline.specs.Inline.{Target, LinkTexts, Inline}
 use Rattle.inline_rows.specs.InlineRows as rows
 use Rattle.inline_rows.specs.InlineRows.{part_rows, inline_rows}
 use Rattle.definition_inline.specs.Pairing.{Pair, pairs}
@@ -20,7 +20,7 @@ use Rattle.inline_spans.proofs.Container.{bytes_count, runs_are}
 use Rattle.inline_spans.proofs.Depth.{emphasized_rows}
 use Rattle.inline_spans.proofs.Writes.{over_part}
 
-module _ (leads : Target → Linked) (at : ℕ → Linked) (ps : List Pair) where
+module _ (leads : Target → LinkTexts) (at : ℕ → LinkTexts) (ps : List Pair) where
   abbrev shown : ℕ → List Token → List rows.InlineRow
   shown place ts = told_rows leads (rows_from ps place ts)
 
@@ -85,7 +85,7 @@ module _ (leads : Target → Linked) (at : ℕ → Linked) (ps : List Pair) wher
       ∙ sym (flat_map-append (row_view at) more rest)
 
 -- rows of which the runs up to a place are told apart
-pub record IsTold (leads : Target → Linked) (at : ℕ → Linked) (outer : List InlineRow) (tokens : List Token) (runs : List Run) (slots : List ℕ) (place : ℕ)
+pub record IsTold (leads : Target → LinkTexts) (at : ℕ → LinkTexts) (outer : List InlineRow) (tokens : List Token) (runs : List Run) (slots : List ℕ) (place : ℕ)
     (rows : List InlineRow) : Type 0 where
   pub front : List InlineRow
   pub inner : List InlineRow
@@ -94,7 +94,7 @@ pub record IsTold (leads : Target → Linked) (at : ℕ → Linked) (outer : Lis
   pub others : IsContainer leads at inner (length (outer ++ front)) (drop place runs) (drop place slots) rest
   pub view : rows_view at front ++ shown leads at (pairs (runs_view runs)) place rest ≡ shown leads at (pairs (runs_view runs)) 0 tokens
 
-pub none_told : (leads : Target → Linked) (at : ℕ → Linked) (outer inner : List InlineRow) (tokens : List Token) (runs : List Run) (slots : List ℕ)
+pub none_told : (leads : Target → LinkTexts) (at : ℕ → LinkTexts) (outer inner : List InlineRow) (tokens : List Token) (runs : List Run) (slots : List ℕ)
     (rows : List InlineRow)
     → rows ≡ outer ++ inner → IsContainer leads at inner (length outer) runs slots tokens → IsTold leads at outer tokens runs slots 0 rows
 none_told leads at outer inner tokens runs slots rows same c =
@@ -108,7 +108,7 @@ none_told leads at outer inner tokens runs slots rows same c =
     }
 
 -- the first run that is left is written over
-module _ (leads : Target → Linked) (at : ℕ → Linked) (outer : List InlineRow) (tokens : List Token) (runs : List Run) (slots : List ℕ) (place slot : ℕ)
+module _ (leads : Target → LinkTexts) (at : ℕ → LinkTexts) (outer : List InlineRow) (tokens : List Token) (runs : List Run) (slots : List ℕ) (place slot : ℕ)
     (run : Run) (rows part : List InlineRow)
     (told : IsTold leads at outer tokens runs slots place rows)
     (f : First leads at (pairs (runs_view runs)) told.inner (length (outer ++ told.front)) run (drop (place + 1) runs) slot (drop (place + 1) slots) told.rest)
@@ -175,7 +175,7 @@ module _ (leads : Target → Linked) (at : ℕ → Linked) (outer : List InlineR
         }
 
 -- one more run
-pub one_told : (leads : Target → Linked) (at : ℕ → Linked) (outer : List InlineRow) (tokens : List Token) (runs : List Run) (slots : List ℕ) (place : ℕ)
+pub one_told : (leads : Target → LinkTexts) (at : ℕ → LinkTexts) (outer : List InlineRow) (tokens : List Token) (runs : List Run) (slots : List ℕ) (place : ℕ)
     (d : Run) (rows part : List InlineRow)
     → place < length runs → length slots ≡ length runs → length part ≡ length (take (get_or runs place d).size (drop (slice_index slots place) rows))
     → (AreBytes (get_or runs place d).marker (length (take (get_or runs place d).size (drop (slice_index slots place) rows)))
@@ -195,7 +195,7 @@ one_told leads at outer tokens runs slots place d rows part lt same_count count 
     count part_view
 
 -- all runs
-pub all_told : (leads : Target → Linked) (at : ℕ → Linked) (outer inner : List InlineRow) (tokens : List Token) (runs : List Run) (slots : List ℕ) (place : ℕ)
+pub all_told : (leads : Target → LinkTexts) (at : ℕ → LinkTexts) (outer inner : List InlineRow) (tokens : List Token) (runs : List Run) (slots : List ℕ) (place : ℕ)
     (rows : List InlineRow)
     → length runs ≤ place → IsContainer leads at inner (length outer) runs slots tokens → IsTold leads at outer tokens runs slots place rows
     → AreTold leads at outer tokens rows
@@ -221,5 +221,5 @@ all_told leads at outer inner tokens runs slots place rows past c told =
 -- of any container that the rows may have been
 pub record IsToldWhere (old : List InlineRow) (runs : List Run) (slots : List ℕ) (place : ℕ) (rows : List InlineRow) : Type 0 where
   pub count : length rows ≡ length old
-  pub told : (leads : Target → Linked) (at : ℕ → Linked) (outer inner : List InlineRow) (tokens : List Token) → old ≡ outer ++ inner
+  pub told : (leads : Target → LinkTexts) (at : ℕ → LinkTexts) (outer inner : List InlineRow) (tokens : List Token) → old ≡ outer ++ inner
       → IsContainer leads at inner (length outer) runs slots tokens → IsTold leads at outer tokens runs slots place rows

@@ -6,7 +6,7 @@ use Rattle.std.proofs.lemmas.List.{append-nil, length-map, length-append, length
 use Rattle.std.proofs.lemmas.List.{take_at, drop_at, drop_all, take-append-drop, take-map, drop-map, take-replicate, drop-replicate}
 use Rattle.std.proofs.lemmas.List.Concat.{flat_map-append}
 use borrow.Rule.Slice.PartMut.{put_mid}
-use Rattle.definition_inline.specs.Inline.{Target, Linked, Data}
+use Rattle.definition_inline.specs.Inline.{Target, LinkTexts, Data}
 use Rattle.inline_rows.specs.InlineRows as rows
 use Rattle.definition_inline.specs.GfmStrikethrough.{is_tilde}
 use Rattle.definition_inline.specs.Spans.{Holds, Opens, Closes, IsEmphasis, IsStrong, IsStrikethrough, span_of}
@@ -103,7 +103,7 @@ span_is marker p = by_case (is_tilde marker) p.double
     by_case false true = refl
     by_case false false = refl
 
-module _ (leads : Target → Linked) (at : ℕ → Linked) where
+module _ (leads : Target → LinkTexts) (at : ℕ → LinkTexts) where
   ends_view : (closed : List Pair) → rows_view at (replicate (length closed) Exit) ≡ told_rows leads (map (λ (p : Pair). Closes) closed)
   ends_view [] = refl
   ends_view (p ∷ ps) = ap (λ xs. rows.Leave ∷ xs) (ends_view ps)

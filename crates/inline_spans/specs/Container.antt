@@ -21,7 +21,7 @@ abbrev pub AreBytes : ℕ → ℕ → List InlineRow → Type 0
 AreBytes marker size rows = map text_of rows ≡ replicate size (marker ∷ [])
 
 -- rows from a place on that stand for tokens: the rows of parts, and one row for each byte of a run, of which the first has the run's slot
-pub data IsContainer (leads : Target → inline.Linked) (at : ℕ → inline.Linked) : List InlineRow → ℕ → List Run → List ℕ → List Token → Type 0 where
+pub data IsContainer (leads : Target → inline.LinkTexts) (at : ℕ → inline.LinkTexts) : List InlineRow → ℕ → List Run → List ℕ → List Token → Type 0 where
   -- no rows
   NoRows : (base : ℕ) → IsContainer leads at [] base [] [] []
   -- parts that are read whole, and what follows them
@@ -41,7 +41,7 @@ pub record AreWithin (runs : List Run) (slots : List ℕ) (count : ℕ) : Type 0
   pub ends : (i : ℕ) (d : Run) → i < length runs → slice_index slots i + (slice_index_or runs i d).size ≤ count
 
 -- the rows before a container as they were, and then those of its inline structure
-pub record AreTold (leads : Target → inline.Linked) (at : ℕ → inline.Linked) (outer : List InlineRow) (tokens : List Token)
+pub record AreTold (leads : Target → inline.LinkTexts) (at : ℕ → inline.LinkTexts) (outer : List InlineRow) (tokens : List Token)
     (rows : List InlineRow) : Type 0 where
   pub before : take (length outer) rows ≡ outer
   pub told : rows_view at (drop (length outer) rows) ≡ inline_rows leads (with_spans tokens)

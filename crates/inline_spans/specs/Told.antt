@@ -1,7 +1,7 @@
 -- What the rows of a run become.
 use Rattle.std.specs.Prelude.{◌+◌, ℕ, List, [], ◌∷◌, length}
 use Rattle.std.specs.List.{flat_map}
-use Rattle.definition_inline.specs.Inline.{Target, Linked}
+use Rattle.definition_inline.specs.Inline.{Target, LinkTexts}
 use Rattle.inline_rows.specs.InlineRows as rows
 use Rattle.inline_rows.specs.InlineRows.{part_rows}
 use Rattle.definition_inline.specs.Spans.{SpanRow, Holds, Opens, Closes}
@@ -12,12 +12,12 @@ use Rattle.inline_rows.specs.declared.row.InlineRow.{InlineRow}
 use Rattle.inline_rows.specs.declared.row.InlineRow.TheVariants.{EnterSpan}
 
 -- the rows of a part, of the start of a span and of the end of one
-abbrev pub span_row_rows : (Target → Linked) → SpanRow → List rows.InlineRow
+abbrev pub span_row_rows : (Target → LinkTexts) → SpanRow → List rows.InlineRow
 span_row_rows leads (Holds i) = part_rows leads i
 span_row_rows leads (Opens span) = rows.EnterSpan span ∷ []
 span_row_rows leads Closes = rows.Leave ∷ []
 
-abbrev pub told_rows : (Target → Linked) → List SpanRow → List rows.InlineRow
+abbrev pub told_rows : (Target → LinkTexts) → List SpanRow → List rows.InlineRow
 told_rows leads rs = flat_map (span_row_rows leads) rs
 
 -- the start of what a pair of runs of this byte stands for

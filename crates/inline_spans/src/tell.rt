@@ -3,7 +3,7 @@
 //! spans, and those between stay text. Strong emphasis takes two bytes and needs one row, so some
 //! rows are left over, which become empty text.
 ghost use Rattle.std.specs.Prelude.{◌≡◌, ◌≤◌, ◌++◌, ℕ, List, length, map, OnOk, OnErr};
-ghost use Rattle.definition_inline.specs.Inline.{Target, Linked};
+ghost use Rattle.definition_inline.specs.Inline.{Target, LinkTexts};
 ghost use Rattle.definition_inline.specs.Spans.{Token};
 ghost use Rattle.inline_runs.specs.Paired.{rows_of};
 ghost use Rattle.inline_rows.specs.View.{rows_view};
@@ -25,7 +25,7 @@ pub fn tell_apart<A: Allocator>(
 ) -> Result<(), AllocError>
     requires { AreWithin runs.now slots.now (length rows.old) }
     ensures length { length rows.new ≡ length rows.old }
-    ensures told { (leads : Target → Linked) (at : ℕ → Linked) (outer inner : List InlineRow) (tokens : List Token) → rows.old ≡ outer ++ inner
+    ensures told { (leads : Target → LinkTexts) (at : ℕ → LinkTexts) (outer inner : List InlineRow) (tokens : List Token) → rows.old ≡ outer ++ inner
         → IsContainer leads at inner (length outer) runs.now slots.now tokens → OnOk result (AreTold leads at outer tokens rows.new) }
     ensures refused { OnErr result (rows.new ≡ rows.old) }
 {
@@ -48,7 +48,7 @@ pub fn tell_apart<A: Allocator>(
 fn tell_run(rows: &mut [InlineRow<'_>], marker: u8, spans: RunSpans<'_>)
     requires { rows_needed spans ≤ length rows.old }
     ensures length { length rows.new ≡ length rows.old }
-    ensures told { (leads : Target → Linked) (at : ℕ → Linked) → AreBytes marker (length rows.old) rows.old
+    ensures told { (leads : Target → LinkTexts) (at : ℕ → LinkTexts) → AreBytes marker (length rows.old) rows.old
         → rows_view at rows.new ≡ told_rows leads (rows_of marker spans.entry) }
 {
     let text = spans.closed.len();

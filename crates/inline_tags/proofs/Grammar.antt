@@ -7,7 +7,7 @@ use Rattle.std.specs.Prelude.{codes}
 use Rattle.std.specs.List.{prefix_len}
 use Rattle.definition_text.specs.Columns.{tab_column}
 use Rattle.definition_text.specs.Bytes.{is_letter, begins_with, after_all, without_slash}
-use Rattle.definition_inline.specs.HtmlTags.{followed_by, is_tag_space, tag_space, is_tag_name_byte, begins_attribute, is_attribute_byte, is_unquoted}
+use Rattle.definition_inline.specs.HtmlTags.{then_part, is_tag_space, tag_space, is_tag_name_byte, begins_attribute, is_attribute_byte, is_unquoted}
 use Rattle.definition_inline.specs.HtmlTags.{quoted_value, value, value_or, specification, attribute, begins_with_attribute, has_attribute, attributes, tag_end}
 use Rattle.definition_inline.specs.HtmlTags.{open_end, closing_end, open_rest, closing_rest, open_tag, closing_tag}
 use Rattle.inline_tags.specs.Places.{Place, NameStart, Name, Space, Attribute, AttributeSpace, Equals, Unquoted, DoubleQuoted, SingleQuoted, Quoted, Slash}
@@ -46,23 +46,23 @@ no_equals b h = ne_eqb b 61 (λ e. true≢false (sym h ∙ ap begins_attribute e
 
 -- after a name or a value: attributes and the end
 abbrev tail : ℕ → List ℕ → Option (List ℕ)
-tail most bytes = followed_by (attributes most bytes) open_end
+tail most bytes = then_part (attributes most bytes) open_end
 
 -- after white space, which these bytes follow: an attribute and what follows it, or the end
 abbrev seen : ℕ → List ℕ → Option (List ℕ)
-seen most bytes = cond (begins_with_attribute bytes) (followed_by (attribute bytes) (tail most)) (tag_end (without_slash bytes))
+seen most bytes = cond (begins_with_attribute bytes) (then_part (attribute bytes) (tail most)) (tag_end (without_slash bytes))
 
 -- after an attribute's name and white space, which these bytes follow: a value, or what is given
 abbrev valued : ℕ → Option (List ℕ) → List ℕ → Option (List ℕ)
 valued most other [] = other
-valued most other (b ∷ bs) = cond (eqb b 61) (followed_by (value (tag_space bs)) (tail most)) other
+valued most other (b ∷ bs) = cond (eqb b 61) (then_part (value (tag_space bs)) (tail most)) other
 
 no_tail : (most : ℕ) → tail most [] ≡ None
 no_tail zero = refl
 no_tail (suc most) = refl
 
 one_attribute : (has : Bool) (first : Option (List ℕ)) (most : ℕ) (bytes : List ℕ)
-    → followed_by (cond has (followed_by first (attributes most)) (Some bytes)) open_end ≡ cond has (followed_by first (tail most)) (open_end bytes)
+    → then_part (cond has (then_part first (attributes most)) (Some bytes)) open_end ≡ cond has (then_part first (tail most)) (open_end bytes)
 one_attribute true None most bytes = refl
 one_attribute true (Some rest) most bytes = refl
 one_attribute false first most bytes = refl
@@ -72,23 +72,23 @@ tail_space : (most : ℕ) (b : ℕ) (bs : List ℕ) → is_tag_space b ≡ true 
 tail_space most b bs h =
     let rest = tag_space (b ∷ bs) in
     one_attribute (has_attribute (b ∷ bs)) (attribute rest) most (b ∷ bs)
-    ∙ ap (λ t. cond (t && begins_with_attribute rest) (followed_by (attribute rest) (tail most)) (tag_end (without_slash rest))) h
+    ∙ ap (λ t. cond (t && begins_with_attribute rest) (then_part (attribute rest) (tail most)) (tag_end (without_slash rest))) h
     ∙ ap (seen most) (passes is_tag_space b bs h)
 
 tail_end : (most : ℕ) (b : ℕ) (bs : List ℕ) → is_tag_space b ≡ false → tail (suc most) (b ∷ bs) ≡ tag_end (without_slash (b ∷ bs))
 tail_end most b bs h =
     let rest = tag_space (b ∷ bs) in
     one_attribute (has_attribute (b ∷ bs)) (attribute rest) most (b ∷ bs)
-    ∙ ap (λ t. cond (t && begins_with_attribute rest) (followed_by (attribute rest) (tail most)) (tag_end (without_slash rest))) h
+    ∙ ap (λ t. cond (t && begins_with_attribute rest) (then_part (attribute rest) (tail most)) (tag_end (without_slash rest))) h
     ∙ ap (λ bytes. tag_end (without_slash bytes)) (fails is_tag_space b bs h)
 
 -- a value or what is given, and what follows
-valued_is : (most : ℕ) (other bytes : List ℕ) → followed_by (value_or other bytes) (tail most) ≡ valued most (tail most other) bytes
+valued_is : (most : ℕ) (other bytes : List ℕ) → then_part (value_or other bytes) (tail most) ≡ valued most (tail most other) bytes
 valued_is most other [] = refl
 valued_is most other (b ∷ bs) = by_case (eqb b 61)
   where
-    by_case : (t : Bool) → followed_by (cond t (value (tag_space bs)) (Some other)) (tail most)
-        ≡ cond t (followed_by (value (tag_space bs)) (tail most)) (tail most other)
+    by_case : (t : Bool) → then_part (cond t (value (tag_space bs)) (Some other)) (tail most)
+        ≡ cond t (then_part (value (tag_space bs)) (tail most)) (tail most other)
     by_case true = refl
     by_case false = refl
 
@@ -128,12 +128,12 @@ name_space : (b : ℕ) (bs : List ℕ) → is_tag_space b ≡ true → from (aft
 name_space b bs h = ap (λ t. from (cond t AttributeSpace (cond (eqb b 61) Equals (after_part b))) bs) h
 
 name_end : (most : ℕ) (b : ℕ) (bs : List ℕ) (other : Option (List ℕ)) → is_tag_space b ≡ false
-    → rest_after Equals bs ≡ followed_by (value (tag_space bs)) (tail most) → from (after_part b) bs ≡ other
+    → rest_after Equals bs ≡ then_part (value (tag_space bs)) (tail most) → from (after_part b) bs ≡ other
     → from (after_attribute b) bs ≡ valued most other (b ∷ bs)
 name_end most b bs other h values part =
     ap (λ t. from (cond t AttributeSpace (cond (eqb b 61) Equals (after_part b))) bs) h ∙ by_case (eqb b 61)
   where
-    by_case : (t : Bool) → from (cond t Equals (after_part b)) bs ≡ cond t (followed_by (value (tag_space bs)) (tail most)) other
+    by_case : (t : Bool) → from (cond t Equals (after_part b)) bs ≡ cond t (then_part (value (tag_space bs)) (tail most)) other
     by_case true = values
     by_case false = part
 
@@ -141,14 +141,14 @@ equals_space : (b : ℕ) (bs : List ℕ) → is_tag_space b ≡ true → from (a
 equals_space b bs h = ap (λ t. from (cond t Equals (cond (eqb b 34) DoubleQuoted (cond (eqb b 39) SingleQuoted (cond (is_unquoted b) Unquoted Nowhere)))) bs) h
 
 value_reads : (most : ℕ) (b : ℕ) (bs : List ℕ) → is_tag_space b ≡ false
-    → rest_after DoubleQuoted bs ≡ followed_by (quoted_value 34 bs) (tail most) → rest_after SingleQuoted bs ≡ followed_by (quoted_value 39 bs) (tail most)
-    → rest_after Unquoted bs ≡ tail most (after_all is_unquoted bs) → from (after_equals b) bs ≡ followed_by (value (b ∷ bs)) (tail most)
+    → rest_after DoubleQuoted bs ≡ then_part (quoted_value 34 bs) (tail most) → rest_after SingleQuoted bs ≡ then_part (quoted_value 39 bs) (tail most)
+    → rest_after Unquoted bs ≡ tail most (after_all is_unquoted bs) → from (after_equals b) bs ≡ then_part (value (b ∷ bs)) (tail most)
 value_reads most b bs h double single bare =
     ap (λ t. from (cond t Equals (cond (eqb b 34) DoubleQuoted (cond (eqb b 39) SingleQuoted (cond (is_unquoted b) Unquoted Nowhere)))) bs) h
     ∙ by_case (eqb b 34) (eqb b 39) (is_unquoted b)
   where
     by_case : (d s u : Bool) → from (cond d DoubleQuoted (cond s SingleQuoted (cond u Unquoted Nowhere))) bs
-        ≡ followed_by (cond d (quoted_value 34 bs) (cond s (quoted_value 39 bs) (cond u (Some (after_all is_unquoted bs)) None))) (tail most)
+        ≡ then_part (cond d (quoted_value 34 bs) (cond s (quoted_value 39 bs) (cond u (Some (after_all is_unquoted bs)) None))) (tail most)
     by_case true s u = double
     by_case false true u = single
     by_case false false true = bare
@@ -164,7 +164,7 @@ mutual
         ap (λ p. from p bs) (cond-true (begins_attribute b) Attribute (after_part b) e)
         ∙ attribute_reads bs most (omega arith)
         ∙ sym (ap (seen most) (fails is_tag_space b bs (no_space b e))
-        ∙ ap (λ t. cond t (followed_by (cond t (specification (after_all is_attribute_byte bs)) None) (tail most)) (tag_end (without_slash (b ∷ bs)))) e)
+        ∙ ap (λ t. cond t (then_part (cond t (specification (after_all is_attribute_byte bs)) None) (tail most)) (tag_end (without_slash (b ∷ bs)))) e)
     | inr e ↦
         ap (λ p. from p bs) (cond-false (begins_attribute b) Attribute (after_part b) e)
         ∙ elim (cases_Bool (is_tag_space b)) [
@@ -172,7 +172,7 @@ mutual
           | inr k ↦
               part_end b bs k
               ∙ sym (ap (seen most) (fails is_tag_space b bs k)
-              ∙ ap (λ t. cond t (followed_by (attribute (b ∷ bs)) (tail most)) (tag_end (without_slash (b ∷ bs)))) e)
+              ∙ ap (λ t. cond t (then_part (attribute (b ∷ bs)) (tail most)) (tag_end (without_slash (b ∷ bs)))) e)
         ]
   ]
 
@@ -205,37 +205,37 @@ mutual
   quoted_reads (b ∷ bs) zero h = absurd (omega arith)
   quoted_reads (b ∷ bs) (suc most) h = part_reads most b bs (space_reads bs most (omega arith))
 
-  double_reads : (bytes : List ℕ) (most : ℕ) → length bytes ≤ most → rest_after DoubleQuoted bytes ≡ followed_by (quoted_value 34 bytes) (tail most)
+  double_reads : (bytes : List ℕ) (most : ℕ) → length bytes ≤ most → rest_after DoubleQuoted bytes ≡ then_part (quoted_value 34 bytes) (tail most)
   double_reads [] most h = refl
   double_reads (b ∷ bs) most h = elim (cases_Bool (eqb b 34)) [
     | inl e ↦
         ap (λ p. from p bs) (cond-true (eqb b 34) Quoted DoubleQuoted e) ∙ quoted_reads bs most (omega arith)
-        ∙ sym (ap (λ o. followed_by o (tail most)) (cond-true (eqb b 34) (Some bs) (quoted_value 34 bs) e))
+        ∙ sym (ap (λ o. then_part o (tail most)) (cond-true (eqb b 34) (Some bs) (quoted_value 34 bs) e))
     | inr e ↦
         ap (λ p. from p bs) (cond-false (eqb b 34) Quoted DoubleQuoted e) ∙ double_reads bs most (omega arith)
-        ∙ sym (ap (λ o. followed_by o (tail most)) (cond-false (eqb b 34) (Some bs) (quoted_value 34 bs) e))
+        ∙ sym (ap (λ o. then_part o (tail most)) (cond-false (eqb b 34) (Some bs) (quoted_value 34 bs) e))
   ]
 
-  single_reads : (bytes : List ℕ) (most : ℕ) → length bytes ≤ most → rest_after SingleQuoted bytes ≡ followed_by (quoted_value 39 bytes) (tail most)
+  single_reads : (bytes : List ℕ) (most : ℕ) → length bytes ≤ most → rest_after SingleQuoted bytes ≡ then_part (quoted_value 39 bytes) (tail most)
   single_reads [] most h = refl
   single_reads (b ∷ bs) most h = elim (cases_Bool (eqb b 39)) [
     | inl e ↦
         ap (λ p. from p bs) (cond-true (eqb b 39) Quoted SingleQuoted e) ∙ quoted_reads bs most (omega arith)
-        ∙ sym (ap (λ o. followed_by o (tail most)) (cond-true (eqb b 39) (Some bs) (quoted_value 39 bs) e))
+        ∙ sym (ap (λ o. then_part o (tail most)) (cond-true (eqb b 39) (Some bs) (quoted_value 39 bs) e))
     | inr e ↦
         ap (λ p. from p bs) (cond-false (eqb b 39) Quoted SingleQuoted e) ∙ single_reads bs most (omega arith)
-        ∙ sym (ap (λ o. followed_by o (tail most)) (cond-false (eqb b 39) (Some bs) (quoted_value 39 bs) e))
+        ∙ sym (ap (λ o. then_part o (tail most)) (cond-false (eqb b 39) (Some bs) (quoted_value 39 bs) e))
   ]
 
-  equals_reads : (bytes : List ℕ) (most : ℕ) → length bytes ≤ most → rest_after Equals bytes ≡ followed_by (value (tag_space bytes)) (tail most)
+  equals_reads : (bytes : List ℕ) (most : ℕ) → length bytes ≤ most → rest_after Equals bytes ≡ then_part (value (tag_space bytes)) (tail most)
   equals_reads [] most h = refl
   equals_reads (b ∷ bs) most h = elim (cases_Bool (is_tag_space b)) [
     | inl k ↦
         equals_space b bs k ∙ equals_reads bs most (omega arith)
-        ∙ sym (ap (λ rest. followed_by (value rest) (tail most)) (passes is_tag_space b bs k))
+        ∙ sym (ap (λ rest. then_part (value rest) (tail most)) (passes is_tag_space b bs k))
     | inr k ↦
         value_reads most b bs k (double_reads bs most (omega arith)) (single_reads bs most (omega arith)) (unquoted_reads bs most (omega arith))
-        ∙ sym (ap (λ rest. followed_by (value rest) (tail most)) (fails is_tag_space b bs k))
+        ∙ sym (ap (λ rest. then_part (value rest) (tail most)) (fails is_tag_space b bs k))
   ]
 
   attribute_space_reads : (bytes : List ℕ) (most : ℕ) → length bytes ≤ most
@@ -246,7 +246,7 @@ mutual
         let here = rest_after Space (b ∷ bs) in
         ap (λ t. from (cond t Attribute (after_attribute b)) bs) e
         ∙ sym (ap (valued most here) (fails is_tag_space b bs (no_space b e))
-        ∙ cond-false (eqb b 61) (followed_by (value (tag_space bs)) (tail most)) here (no_equals b e)
+        ∙ cond-false (eqb b 61) (then_part (value (tag_space bs)) (tail most)) here (no_equals b e)
         ∙ ap (λ t. from (cond t Attribute (after_part b)) bs) e)
     | inr e ↦
         let here = rest_after Space (b ∷ bs) in
@@ -264,14 +264,14 @@ mutual
   ]
 
   attribute_reads : (bytes : List ℕ) (most : ℕ) → length bytes ≤ most → rest_after Attribute bytes
-      ≡ followed_by (specification (after_all is_attribute_byte bytes)) (tail most)
+      ≡ then_part (specification (after_all is_attribute_byte bytes)) (tail most)
   attribute_reads [] most h = sym (no_tail most)
   attribute_reads (b ∷ bs) zero h = absurd (omega arith)
   attribute_reads (b ∷ bs) (suc most) h = elim (cases_Bool (is_attribute_byte b)) [
     | inl e ↦
         ap (λ p. from p bs) (cond-true (is_attribute_byte b) Attribute (after_attribute b) e)
         ∙ attribute_reads bs (suc most) (omega arith)
-        ∙ sym (ap (λ rest. followed_by (specification rest) (tail (suc most))) (passes is_attribute_byte b bs e))
+        ∙ sym (ap (λ rest. then_part (specification rest) (tail (suc most))) (passes is_attribute_byte b bs e))
     | inr e ↦
         let other = tail (suc most) (b ∷ bs) in
         let whole = part_reads most b bs (space_reads bs most (omega arith)) in
@@ -286,7 +286,7 @@ mutual
               ∙ sym (ap (valued (suc most) other) (fails is_tag_space b bs k))
         ]
         ∙ sym (valued_is (suc most) (b ∷ bs) (tag_space (b ∷ bs)))
-        ∙ sym (ap (λ rest. followed_by (specification rest) (tail (suc most))) (fails is_attribute_byte b bs e))
+        ∙ sym (ap (λ rest. then_part (specification rest) (tail (suc most))) (fails is_attribute_byte b bs e))
   ]
 
 pub open_reads : (bytes : List ℕ) → rest_after NameStart bytes ≡ open_rest bytes
@@ -294,11 +294,11 @@ open_reads [] = refl
 open_reads (b ∷ bs) = elim (cases_Bool (is_letter b)) [
   | inl e ↦
       ap (λ p. from p bs) (cond-true (is_letter b) Name Nowhere e) ∙ name_reads bs (length (b ∷ bs)) (omega arith)
-      ∙ sym (ap (λ o. followed_by (followed_by o (attributes (length (b ∷ bs)))) open_end)
+      ∙ sym (ap (λ o. then_part (then_part o (attributes (length (b ∷ bs)))) open_end)
       (cond-true (is_letter b) (Some (after_all is_tag_name_byte bs)) None e))
   | inr e ↦
       ap (λ p. from p bs) (cond-false (is_letter b) Name Nowhere e)
-      ∙ sym (ap (λ o. followed_by (followed_by o (attributes (length (b ∷ bs)))) open_end)
+      ∙ sym (ap (λ o. then_part (then_part o (attributes (length (b ∷ bs)))) open_end)
       (cond-false (is_letter b) (Some (after_all is_tag_name_byte bs)) None e))
 ]
 
@@ -330,10 +330,10 @@ closing_reads [] = refl
 closing_reads (b ∷ bs) = elim (cases_Bool (is_letter b)) [
   | inl e ↦
       ap (λ p. from p bs) (cond-true (is_letter b) ClosingName Nowhere e) ∙ closing_name_reads bs
-      ∙ sym (ap (λ o. followed_by o closing_end) (cond-true (is_letter b) (Some (after_all is_tag_name_byte bs)) None e))
+      ∙ sym (ap (λ o. then_part o closing_end) (cond-true (is_letter b) (Some (after_all is_tag_name_byte bs)) None e))
   | inr e ↦
       ap (λ p. from p bs) (cond-false (is_letter b) ClosingName Nowhere e)
-      ∙ sym (ap (λ o. followed_by o closing_end) (cond-false (is_letter b) (Some (after_all is_tag_name_byte bs)) None e))
+      ∙ sym (ap (λ o. then_part o closing_end) (cond-false (is_letter b) (Some (after_all is_tag_name_byte bs)) None e))
 ]
 
 -- ---- whole tags, with the bytes after their start as a slice gives them

@@ -10,7 +10,7 @@ use Rattle.std.specs.Char.{is_ascii_alphanumeric}
 use Rattle.std.specs.Int.{is_in_range}
 use Rattle.std.specs.List.{list_any, prefix_len, take_while}
 use Rattle.definition_text.specs.Bytes.{after_all, begins_with, is_letter}
-use Rattle.definition_text.specs.Content.{before}
+use Rattle.definition_text.specs.Content.{text_before}
 use Rattle.definition_inline.specs.Autolink.{after_uri, autolink_after, begins_with_scheme, closed_autolink, domain_end, email_end, is_domain, is_domain_byte}
 use Rattle.definition_inline.specs.Autolink.{is_email_byte, is_scheme_byte, is_uri_byte, uri_end}
 use Rattle.definition_inline.specs.Inline.{Autolink, Inline, Leaf, leaf, or_else}
@@ -306,11 +306,11 @@ abbrev pub left : List ℕ → Option Leaf → Option (List ℕ)
 left cs None = None
 left cs (Some leaf) = Some (drop leaf.size (60 ∷ cs))
 
-left_by : (cs : List ℕ) (parts : List Inline) (c : ℕ) (rest : List ℕ) → IsRest cs (c ∷ rest) → drop (length (before cs (c ∷ rest)) + 2) (60 ∷ cs) ≡ rest
+left_by : (cs : List ℕ) (parts : List Inline) (c : ℕ) (rest : List ℕ) → IsRest cs (c ∷ rest) → drop (length (text_before cs (c ∷ rest)) + 2) (60 ∷ cs) ≡ rest
 left_by cs parts c rest r =
     let k = r.count in
     let size : length cs - length (c ∷ rest) ≡ k = (let f = r.few in let e = ap length r.is in let g = length-drop k cs in omega (arith, e, f, g)) in
-    let all : length (before cs (c ∷ rest)) ≡ k = ap (λ (n : ℕ). length (take n cs)) size ∙ length-take-le k cs r.few in
+    let all : length (text_before cs (c ∷ rest)) ≡ k = ap (λ (n : ℕ). length (take n cs)) size ∙ length-take-le k cs r.few in
     ap (λ (n : ℕ). drop (n + 2) (60 ∷ cs)) all
     ∙ (ap (λ (n : ℕ). drop n (60 ∷ cs)) (let e : k + 2 ≡ suc (k + 1) = omega arith in e)
     ∙ (sym (drop-drop 1 k cs) ∙ sym (ap (drop 1) r.is)))
@@ -326,9 +326,9 @@ closed_left is_email cs (Some (c ∷ rest)) is = elim (cases_Bool (c == 62)) [
   where
     by_first : (first : Bool) → (c == 62) ≡ first
         → left cs (closed_autolink is_email cs (Some (c ∷ rest))) ≡ left cs (if first
-        then Some (leaf (Autolink is_email (before cs (c ∷ rest)) ∷ []) (length (before cs (c ∷ rest)) + 2)) else None)
+        then Some (leaf (Autolink is_email (text_before cs (c ∷ rest)) ∷ []) (length (text_before cs (c ∷ rest)) + 2)) else None)
     by_first first h =
-        ap (λ (b : Bool). left cs (if b then Some (leaf (Autolink is_email (before cs (c ∷ rest)) ∷ []) (length (before cs (c ∷ rest)) + 2)) else None))
+        ap (λ (b : Bool). left cs (if b then Some (leaf (Autolink is_email (text_before cs (c ∷ rest)) ∷ []) (length (text_before cs (c ∷ rest)) + 2)) else None))
         (begins_by 62 c rest first h)
 
 or_none : (cs : List ℕ) (o : Option Leaf) → left cs (or_else o None) ≡ left cs o

@@ -2,7 +2,7 @@
 use Rattle.std.proofs.Common.{◌≡◌, ◌≢◌, ℕ, eqb, [], ◌∷◌, ◌++◌, sym, refl, ap, ◌∙◌, inl, inr, append_assoc}
 use Rattle.std.proofs.lemmas.Bool.{cases_Bool, cond-true, cond-false, eqb-true, eqb-false}
 use Rattle.definition_block.specs.Tree.{Block, Holds, Items, Blocks, Nil, Cons, join, is_ending}
-use Rattle.definition_block.specs.Lists.{endings_of, after_endings, item_marker, list_marker, list_items, rest_of, before_list, before, grouped_block}
+use Rattle.definition_block.specs.Lists.{endings_of, after_endings, item_marker, list_marker, list_items, rest_of, before_list, put_before, grouped_block}
 use Rattle.definition_block.specs.Lists.{group_items}
 use Rattle.block_rows.specs.Rows.{Exit, start_row, block_rows, rows_of}
 use Rattle.laws_block.specs.GroupedRows.{ListsOnlyGroup}
@@ -46,7 +46,7 @@ rows_before_list marker item bs n =
       | inr e ↦ ap rows_of (cond-false _ _ _ e) ∙ append_assoc (block_rows item) [] (rows_of bs)
     ]
 
-rows_before : (b : Block) (bs : Blocks) → rows_of (before b bs) ≡ block_rows b ++ rows_of bs
+rows_before : (b : Block) (bs : Blocks) → rows_of (put_before b bs) ≡ block_rows b ++ rows_of bs
 rows_before b bs = elim (cases_Bool (eqb (item_marker b) 0)) [
   | inl e ↦ ap rows_of (cond-true _ _ _ e)
   | inr e ↦ ap rows_of (cond-false _ _ _ e) ∙ rows_before_list (item_marker b) b bs (eqb-false (item_marker b) 0 e)

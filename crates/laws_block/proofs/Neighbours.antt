@@ -3,7 +3,7 @@ use Rattle.std.proofs.Common.{◌≡◌, ◌≢◌, ℕ, true, false, cond, ◌&
 use Rattle.std.proofs.lemmas.Bool.{cases_Bool, cond-true, cond-false, and_parts, eqb-false, eq-eqb, ne_eqb, false≢true}
 use Rattle.definition_block.specs.Container.{Quote, Item, Footnote}
 use Rattle.definition_block.specs.Tree.{Block, Holds, Items, Ending, Blank, Blocks, Nil, Cons, join, one, is_ending, all_endings}
-use Rattle.definition_block.specs.Lists.{endings_of, after_endings, item_marker, list_marker, list_items, rest_of, before_list, before, grouped_block}
+use Rattle.definition_block.specs.Lists.{endings_of, after_endings, item_marker, list_marker, list_items, rest_of, before_list, put_before, grouped_block}
 use Rattle.definition_block.specs.Lists.{group_items}
 use Rattle.laws_block.specs.Neighbours.{IsItem, children, NeighboursAreListed, is_other, OthersPartLists}
 
@@ -128,7 +128,7 @@ other_no_list (Items items) bs p = absurd (false≢true p)
 other_no_list b bs p = refl
 
 before-parted : (x : Block) (bs : Blocks) (b : Block) (cs : Blocks) → is_other b ≡ true
-    → before x (join bs (Cons b cs)) ≡ join (before x bs) (Cons b cs)
+    → put_before x (join bs (Cons b cs)) ≡ join (put_before x bs) (Cons b cs)
 before-parted x bs b cs p = elim (cases_Bool (eqb (item_marker x) 0)) [
   | inl e ↦ cond-true _ _ _ e ∙ sym (ap (λ y. join y (Cons b cs)) (cond-true _ _ _ e))
   | inr e ↦
@@ -147,7 +147,7 @@ before-parted x bs b cs p = elim (cases_Bool (eqb (item_marker x) 0)) [
 pub others_part_lists : OthersPartLists
 others_part_lists Nil b rest p = cond-true _ _ _ (eq-eqb (item_marker (grouped_block b)) 0 (other_no_item b p))
 others_part_lists (Cons x front) b rest p =
-    ap (before (grouped_block x)) (others_part_lists front b rest p)
+    ap (put_before (grouped_block x)) (others_part_lists front b rest p)
     ∙ before-parted (grouped_block x) (group_items front) (grouped_block b) (group_items rest) (other_grouped b p)
 
 -- ---- what stands before a list
@@ -155,11 +155,11 @@ others_part_lists (Cons x front) b rest p =
 -- children in front of those that are in lists already
 abbrev onto : Blocks → Blocks → Blocks
 onto Nil bs = bs
-onto (Cons b front) bs = before (grouped_block b) (onto front bs)
+onto (Cons b front) bs = put_before (grouped_block b) (onto front bs)
 
 grouped-join : (front bs : Blocks) → group_items (join front bs) ≡ onto front (group_items bs)
 grouped-join Nil bs = refl
-grouped-join (Cons b front) bs = ap (before (grouped_block b)) (grouped-join front bs)
+grouped-join (Cons b front) bs = ap (put_before (grouped_block b)) (grouped-join front bs)
 
 -- what children in front of a list make of it, whatever follows its first item
 record Context (front : Blocks) (first : Block) : Type 0 where
@@ -181,7 +181,7 @@ more b front first c =
             earlier = c.earlier;
             marker = c.marker;
             marked = c.marked;
-            shown = λ items bs. ap (before x) (c.shown items bs) ∙ cond-true _ _ _ e;
+            shown = λ items bs. ap (put_before x) (c.shown items bs) ∙ cond-true _ _ _ e;
           }
       | inr e ↦ elim (cases_Bool (all_endings c.lists)) [
         | inl k ↦ elim (cases_Bool (eqb c.marker m)) [
@@ -192,7 +192,7 @@ more b front first c =
                 marker = m;
                 marked = λ items bs. refl;
                 shown = λ items bs.
-                    ap (before x) (c.shown items bs) ∙ cond-false _ _ _ e
+                    ap (put_before x) (c.shown items bs) ∙ cond-false _ _ _ e
                     ∙ put_over m x c.lists (Items (join c.earlier (Cons first items))) bs k refl
                     ∙ cond-true _ _ _ (ap (λ n. eqb n m) (c.marked items bs) ∙ same)
                     ∙ ap (λ is. Cons (Items (Cons x is)) bs) (sym (join_assoc c.lists c.earlier (Cons first items)));
@@ -204,7 +204,7 @@ more b front first c =
                 marker = c.marker;
                 marked = c.marked;
                 shown = λ items bs.
-                    ap (before x) (c.shown items bs) ∙ cond-false _ _ _ e
+                    ap (put_before x) (c.shown items bs) ∙ cond-false _ _ _ e
                     ∙ put_over m x c.lists (Items (join c.earlier (Cons first items))) bs k refl
                     ∙ cond-false _ _ _ (ap (λ n. eqb n m) (c.marked items bs) ∙ other);
               }
@@ -215,7 +215,7 @@ more b front first c =
               earlier = c.earlier;
               marker = c.marker;
               marked = c.marked;
-              shown = λ items bs. ap (before x) (c.shown items bs) ∙ cond-false _ _ _ e ∙ before_list-join m x c.lists (list items bs) k;
+              shown = λ items bs. ap (put_before x) (c.shown items bs) ∙ cond-false _ _ _ e ∙ before_list-join m x c.lists (list items bs) k;
             }
       ]
     ]
@@ -236,7 +236,7 @@ context (Cons b front) first = more b front first (context front first)
 record Begins (item : Block) (bs : Blocks) : Type 0 where
   later : Blocks
   after : Blocks
-  shown : before item bs ≡ Cons (Items (Cons item later)) after
+  shown : put_before item bs ≡ Cons (Items (Cons item later)) after
 
 begin : (item : Block) (bs : Blocks) → IsItem item → Begins item bs
 begin item bs p =
@@ -252,21 +252,21 @@ begin item bs p =
       | inr e ↦ record { later = Nil; after = bs; shown = cond-false _ _ _ found ∙ cond-false _ _ _ e }
     ]
 
-alone : (item : Block) → IsItem item → before item Nil ≡ one (Items (one item))
+alone : (item : Block) → IsItem item → put_before item Nil ≡ one (Items (one item))
 alone item p =
     let m = item_marker item in
     cond-false _ _ _ (ne_eqb m 0 p) ∙ cond-false _ _ _ (ne_eqb 0 m (λ e. p (sym e)))
 
 -- only endings stand between an item and a list
 together : (x : Block) (es : Blocks) (y : Block) (ys bs : Blocks) → IsItem x → all_endings es ≡ true → item_marker x ≡ item_marker y
-    → before x (join es (Cons (Items (Cons y ys)) bs)) ≡ Cons (Items (Cons x (join es (Cons y ys)))) bs
+    → put_before x (join es (Cons (Items (Cons y ys)) bs)) ≡ Cons (Items (Cons x (join es (Cons y ys)))) bs
 together x es y ys bs p k e =
     cond-false _ _ _ (ne_eqb (item_marker x) 0 p)
     ∙ put_over (item_marker x) x es (Items (Cons y ys)) bs k refl
     ∙ cond-true _ _ _ (eq-eqb (item_marker y) (item_marker x) (sym e))
 
 apart : (x : Block) (es : Blocks) (y : Block) (ys bs : Blocks) → IsItem x → all_endings es ≡ true → item_marker x ≢ item_marker y
-    → before x (join es (Cons (Items (Cons y ys)) bs)) ≡ Cons (Items (one x)) (join es (Cons (Items (Cons y ys)) bs))
+    → put_before x (join es (Cons (Items (Cons y ys)) bs)) ≡ Cons (Items (one x)) (join es (Cons (Items (Cons y ys)) bs))
 apart x es y ys bs p k e =
     cond-false _ _ _ (ne_eqb (item_marker x) 0 p)
     ∙ put_over (item_marker x) x es (Items (Cons y ys)) bs k refl
@@ -290,9 +290,9 @@ neighbours_are_listed front first endings second rest p q k =
     let is_y : IsItem y = λ e. q (sym (marker_kept second) ∙ e) in
     let c = context front x in
     let b = begin y (group_items rest) is_y in
-    let from_first : group_items (Cons first (join endings (Cons second rest))) ≡ before x (join endings (Cons (Items (Cons y b.later)) b.after)) =
-    ap (before x) (endings-grouped endings (Cons second rest) k ∙ ap (join endings) b.shown) in
-    let all : group_items (children front first endings second rest) ≡ onto front (before x (join endings (Cons (Items (Cons y b.later)) b.after))) =
+    let from_first : group_items (Cons first (join endings (Cons second rest))) ≡ put_before x (join endings (Cons (Items (Cons y b.later)) b.after)) =
+    ap (put_before x) (endings-grouped endings (Cons second rest) k ∙ ap (join endings) b.shown) in
+    let all : group_items (children front first endings second rest) ≡ onto front (put_before x (join endings (Cons (Items (Cons y b.later)) b.after))) =
     grouped-join front (Cons first (join endings (Cons second rest))) ∙ ap (onto front) from_first in
     record {
       around = record { before = c.lists; earlier = c.earlier; later = b.later; after = b.after };

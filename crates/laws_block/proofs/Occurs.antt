@@ -22,7 +22,7 @@ use Rattle.definition_block.specs.GfmFootnoteDefinition.{footnote_mark, footnote
 use Rattle.definition_block.specs.Containers.{continues, starts, quote_or, footnote_or}
 use Rattle.definition_block.proofs.GfmFootnoteDefinition.{footnote_either}
 use Rattle.definition_block.specs.BlockQuote.{quote_prefix}
-use Rattle.definition_block.specs.ListItem.{Marker, is_digit, number_of, bullet, delimiter, marker, is_item, item_after, item_start}
+use Rattle.definition_block.specs.ListItem.{Marker, is_digit, number_of, bullet, after_number, marker, is_item, item_after, item_start}
 use Rattle.definition_block.specs.CodeIndented.{starts_code_indented}
 use Rattle.definition_block.specs.CodeFenced.{Fence, first_word, is_fence_end, fence_start}
 use Rattle.definition_block.specs.MathFlow.{math_start}
@@ -36,17 +36,17 @@ use Rattle.definition_block.specs.declared.align_kind.AlignKind.{AlignKind}
 use Rattle.definition_block.specs.GfmTable.{delimiter_row, delimiters, is_head}
 use Rattle.definition_inline.specs.Definition.{Definition as LinkDefinition, definition_at}
 use Rattle.definition_text.specs.Content.{Part, content_of}
-use Rattle.definition_block.specs.Definitions.{lines_before, Cut, cut_into, cut_after, cut_most, cut}
+use Rattle.definition_block.specs.Definitions.{lines_before, DefinitionCut, cut_into, cut_after, cut_most, definition_cut}
 use Rattle.definition_text.specs.BlockLines.{own_lines, BlockLine}
 use Rattle.definition_block.specs.Tree.{one, block_and_ending, empty_tree, nothing, tree, blanks, paragraph_of, close_leaf, is_ending, all_endings, front}
-use Rattle.definition_block.specs.Tree.{trailing, without_last, last_of, holds, close, has_text, has_table, is_some_line, table_of, table_if, makes_table}
+use Rattle.definition_block.specs.Tree.{trailing, without_last, last_of, container_block, close, has_text, has_table, is_some_line, table_of, table_if, makes_table}
 use Rattle.definition_block.specs.Tree.{leaf_with_line, with_line, rest_line, indented_takes, fenced_takes, html_with, html_takes, takes, or_heading, or_fence}
-use Rattle.definition_block.specs.Tree.{or_html, begins, after, text_line_of, break_or_text, text_here, heading_of, heading_if, turns, begun, tree_or}
+use Rattle.definition_block.specs.Tree.{or_html, begins, after, text_line_of, break_or_text, text_here, heading_of, heading_if, turns, leaf_tree_or, tree_or}
 use Rattle.definition_block.specs.Tree.{leaf_line, beside_in, start, new, began_blank, goes_on, grow, beside_line, step, steps, blocks_at_end, children}
 use Rattle.definition_block.specs.Tree.{children_after, Block, Paragraph, Heading, Break, IndentedCode, FencedCode, Html, Table, Definition, Holds, Items}
 use Rattle.definition_block.specs.Tree.{Ending, Blank, Blocks, Nil, Cons, join, blocks, OpenLeaf, Text, Indented, Fenced, OpenHtml, OpenTable, Opening, Leaf}
 use Rattle.definition_block.specs.Tree.{Inside, Tree as BlockTree}
-use Rattle.definition_block.specs.Lists.{before, grouped_block, group_items}
+use Rattle.definition_block.specs.Lists.{put_before, grouped_block, group_items}
 use Rattle.laws_block.specs.ItemMarkers.{is_item_marker, is_unmarked, ItemsAreMarked}
 use Rattle.laws_block.specs.Occurs.{block_has, has, is_word, is_math, NoMath, NoFrontmatter, is_quote, is_list_item, is_footnote_definition, is_indented_code}
 use Rattle.laws_block.specs.Occurs.{is_fenced_code, is_html, is_table, is_thematic_break, is_definition, is_heading, is_one_line, is_long_heading}
@@ -135,7 +135,7 @@ marked_bullet (code ∷ codes) =
     cond_both (eqb code 45 || eqb code 43 || eqb code 42) _ _ IsMarked
     (λ e. or_left _ (eqb code 41) (or_left _ (eqb code 46) e)) (λ _. tt)
 
-marked_delimiter : (number digits : ℕ) (rest : Rest) → IsMarked (delimiter number digits rest)
+marked_delimiter : (number digits : ℕ) (rest : Rest) → IsMarked (after_number number digits rest)
 marked_delimiter number digits [] = tt
 marked_delimiter number digits (code ∷ codes) =
     cond_both (eqb code 46 || eqb code 41) _ _ IsMarked
@@ -175,7 +175,7 @@ module _ (on : Constructs) where
   may_last (Cons b Nil) p = cond_both (is_ending b) (one b) Nil (MayStand on) (λ _. p) (λ _. tt)
   may_last (Cons b (Cons c bs)) p = may_last (Cons c bs) p.1
 
-  may_hold : (c : Container) (kids : Blocks) → ContainerMayStand on c → MayStand on kids → MayStand on (holds c kids)
+  may_hold : (c : Container) (kids : Blocks) → ContainerMayStand on c → MayStand on kids → MayStand on (container_block c kids)
   may_hold Quote kids h p = ((h, may_without_last kids p), may_last kids p)
   may_hold (Item item) kids h p = ((h, may_front kids p), may_trail kids p)
   may_hold (Footnote label) kids h p = ((h, may_front kids p), may_trail kids p)
@@ -190,7 +190,7 @@ module _ (on : Constructs) where
   may_paragraph [] = tt
   may_paragraph (line ∷ others) = (tt, (tt, tt))
 
-  may_cut_after : (o : Option LinkDefinition) (ls : List BlockLine) (more : List BlockLine → Cut) → on.definition ≡ true
+  may_cut_after : (o : Option LinkDefinition) (ls : List BlockLine) (more : List BlockLine → DefinitionCut) → on.definition ≡ true
       → ((others : List BlockLine) → MayStand on (more others).definitions) → MayStand on (cut_after o ls more).definitions
   may_cut_after None ls more h p = tt
   may_cut_after (Some d) ls more h p = (h, (tt, p (drop (lines_before d.rest ls) ls)))
@@ -199,12 +199,12 @@ module _ (on : Constructs) where
   may_cut_most zero ls h = tt
   may_cut_most (suc most) ls h = may_cut_after (definition_at (content_of (own_lines ls))) ls (cut_most most) h (λ others. may_cut_most most others h)
 
-  may_cut : (ls : List BlockLine) → MayStand on (cut on ls).definitions
-  may_cut ls = cond_both on.definition (cut_most (length ls) ls) (cut_into Nil ls) (λ (parts : Cut). MayStand on parts.definitions)
+  may_cut : (ls : List BlockLine) → MayStand on (definition_cut on ls).definitions
+  may_cut ls = cond_both on.definition (cut_most (length ls) ls) (cut_into Nil ls) (λ (parts : DefinitionCut). MayStand on parts.definitions)
       (λ h. may_cut_most (length ls) ls h) (λ _. tt)
 
   may_close_leaf : (leaf : OpenLeaf) → LeafMayStand on leaf → MayStand on (close_leaf on leaf)
-  may_close_leaf (Text ls) p = may-join (cut on ls).definitions (paragraph_of (cut on ls).left) (may_cut ls) (may_paragraph (cut on ls).left)
+  may_close_leaf (Text ls) p = may-join (definition_cut on ls).definitions (paragraph_of (definition_cut on ls).left) (may_cut ls) (may_paragraph (definition_cut on ls).left)
   may_close_leaf (Indented ls pending) p = (p, (tt, may_blanks pending))
   may_close_leaf (Fenced fence ending ls) p = (p, (tt, tt))
   may_close_leaf (OpenHtml kind ls) p = (p, (tt, tt))
@@ -309,7 +309,7 @@ module _ (on : Constructs) where
       (λ _. may_after away (tree Nil (Leaf (Text (rest_line rest beside ∷ [])))) p (tt, tt))
 
   may_begun : (o : Option BlockTree) (away : Opening) (other : BlockTree) → SomeTreeMayStand o → OpeningMayStand on away → TreeMayStand on other
-      → TreeMayStand on (begun on o away other)
+      → TreeMayStand on (leaf_tree_or on o away other)
   may_begun None away other p a q = q
   may_begun (Some t) away other p a q = may_after away t a p
 
@@ -326,7 +326,7 @@ module _ (on : Constructs) where
       → SomeTreeMayStand (table_if on o ls row)
   may_table None ls row h = tt
   may_table (Some columns) ls row h =
-      let parts = cut on ls in
+      let parts = definition_cut on ls in
       cond_both (is_some_line parts.left && is_head (length columns) ls) _ _ SomeTreeMayStand
       (λ _. may_table_of parts.definitions parts.left row h (may_cut ls)) (λ _. tt)
 
@@ -361,7 +361,7 @@ module _ (on : Constructs) where
   may_underlined : (o : Option ℕ) (ls : List BlockLine) (ending : Option LineEnding) → WhereSome (λ rank. (on.heading_setext ≡ true) × (leb rank 2 ≡ true)) o
       → SomeTreeMayStand (heading_if on o ls ending)
   may_underlined None ls ending h = tt
-  may_underlined (Some rank) ls ending h = may_heading rank (cut on ls).definitions (cut on ls).left ending h (may_cut ls)
+  may_underlined (Some rank) ls ending h = may_heading rank (definition_cut on ls).definitions (definition_cut on ls).left ending h (may_cut ls)
 
   may_leaf_line : (away : Opening) (rest : Rest) (beside : Beside) → OpeningMayStand on away → TreeMayStand on (leaf_line on away rest beside)
   may_leaf_line away rest beside p =
@@ -584,7 +584,7 @@ items_are_marked on kind text = never on is_unmarked (all_marked on) kind text
 
 -- without items there is nothing to put into lists
 module _ (on : Constructs) (off : on.list_item ≡ false) where
-  before_others : (b : Block) (bs : Blocks) → BlockMayStand on b → before b bs ≡ Cons b bs
+  before_others : (b : Block) (bs : Blocks) → BlockMayStand on b → put_before b bs ≡ Cons b bs
   before_others (Holds (Item item) kids) bs p = absurd (both_ways on.list_item off p.0.0)
   before_others b bs p = refl
 
@@ -596,7 +596,7 @@ module _ (on : Constructs) (off : on.list_item ≡ false) where
     as_they_are : (bs : Blocks) → MayStand on bs → group_items bs ≡ bs
     as_they_are Nil p = refl
     as_they_are (Cons b bs) p =
-        ap (before (grouped_block b)) (as_they_are bs p.1) ∙ ap (λ x. before x bs) (block_as_it_is b p.0) ∙ before_others b bs p.0
+        ap (put_before (grouped_block b)) (as_they_are bs p.1) ∙ ap (λ x. put_before x bs) (block_as_it_is b p.0) ∙ before_others b bs p.0
 
 pub no_lists : NoLists
 no_lists on kind text off = as_they_are on off (blocks on kind text) (may_stand on kind text)

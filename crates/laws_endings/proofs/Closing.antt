@@ -3,11 +3,11 @@ use Rattle.std.proofs.Common.{◌≡◌, List, [], ◌∷◌, false, cond, ◌&&
 use Rattle.markdown_options.specs.declared.line_ending.LineEnding.{LineEnding}
 use Rattle.markdown_options.specs.declared.configuration.Constructs.{Constructs}
 use Rattle.definition_block.specs.Container.{Container, Quote, Item, Footnote}
-use Rattle.definition_block.specs.Definitions.{Cut, cut}
+use Rattle.definition_block.specs.Definitions.{DefinitionCut, definition_cut}
 use Rattle.definition_block.specs.Tree.{BlockLine, last_ending, own_lines, Block, Paragraph, Heading, Break, IndentedCode, FencedCode, Html, Table, Definition}
 use Rattle.definition_block.specs.Tree.{Holds, Items, Ending, Blank, Blocks, Nil, Cons, join, one, block_and_ending}
 use Rattle.definition_block.specs.Tree.{OpenLeaf, Text, Indented, Fenced, OpenHtml, OpenTable, Opening, Leaf, Inside, blanks, paragraph_of, with_paragraph}
-use Rattle.definition_block.specs.Tree.{close_leaf, is_ending, all_endings, front, trailing, without_last, last_of, holds, close}
+use Rattle.definition_block.specs.Tree.{close_leaf, is_ending, all_endings, front, trailing, without_last, last_of, container_block, close}
 use Rattle.laws_endings.specs.Endings.{if_ending_with, lines_with, block_with, blocks_with}
 use Rattle.laws_endings.proofs.Codes.{cond-under}
 use Rattle.laws_endings.proofs.Cuts.{last_ending_or-with, last_ending-with, own_lines-with, cut_with, join-with, cut-with}
@@ -31,12 +31,12 @@ module _ (e : LineEnding) where
   paragraph_of-with [] = refl
   paragraph_of-with (line ∷ ls) = ended-with Paragraph (λ _. refl) (line ∷ ls)
 
-  with_paragraph-with : (parts : Cut) → with_paragraph (cut_with e parts) ≡ blocks_with e (with_paragraph parts)
+  with_paragraph-with : (parts : DefinitionCut) → with_paragraph (cut_with e parts) ≡ blocks_with e (with_paragraph parts)
   with_paragraph-with parts =
       ap (join (blocks_with e parts.definitions)) (paragraph_of-with parts.left) ∙ join-with e parts.definitions (paragraph_of parts.left)
 
   close_leaf-with : (on : Constructs) (leaf : OpenLeaf) → close_leaf on (leaf_with e leaf) ≡ blocks_with e (close_leaf on leaf)
-  close_leaf-with on (Text ls) = ap with_paragraph (cut-with e on ls) ∙ with_paragraph-with (cut on ls)
+  close_leaf-with on (Text ls) = ap with_paragraph (cut-with e on ls) ∙ with_paragraph-with (definition_cut on ls)
   close_leaf-with on (Indented ls pending) =
       let code = block_and_ending (IndentedCode (own_lines ls)) (last_ending ls) in
       ap (λ bs. join bs (blanks (lines_with e pending))) (ended-with IndentedCode (λ _. refl) ls)
@@ -91,7 +91,7 @@ module _ (e : LineEnding) where
       ap (λ is. cond is (one (block_with e b)) Nil) (is_ending-with b) ∙ cond-under (blocks_with e) (is_ending b) refl refl
   last_of-with (Cons b (Cons c bs)) = last_of-with (Cons c bs)
 
-  holds-with : (c : Container) (kids : Blocks) → holds c (blocks_with e kids) ≡ blocks_with e (holds c kids)
+  holds-with : (c : Container) (kids : Blocks) → container_block c (blocks_with e kids) ≡ blocks_with e (container_block c kids)
   holds-with Quote kids =
       ap (λ bs. Cons (Holds Quote bs) (last_of (blocks_with e kids))) (without_last-with kids)
       ∙ ap (Cons (Holds Quote (blocks_with e (without_last kids)))) (last_of-with kids)
@@ -105,6 +105,6 @@ module _ (e : LineEnding) where
   pub close-with : (on : Constructs) (now : Opening) → close on (opening_with e now) ≡ blocks_with e (close on now)
   close-with on (Leaf leaf) = close_leaf-with on leaf
   close-with on (Inside c kids inner) =
-      ap (λ bs. holds c (join (blocks_with e kids) bs)) (close-with on inner)
-      ∙ ap (holds c) (join-with e kids (close on inner))
+      ap (λ bs. container_block c (join (blocks_with e kids) bs)) (close-with on inner)
+      ∙ ap (container_block c) (join-with e kids (close on inner))
       ∙ holds-with c (join kids (close on inner))

@@ -7,7 +7,7 @@ use Rattle.std.proofs.lemmas.List.{drop-map, take-map, length-map}
 use Rattle.markdown_options.specs.declared.line_ending.LineEnding.{LineEnding}
 use Rattle.markdown_options.specs.declared.line_ending.LineEnding.TheVariants.{CarriageReturnLineFeed, CarriageReturn, LineFeed}
 use Rattle.definition_text.specs.Bytes.{after_all}
-use Rattle.definition_text.specs.Content.{line_ending_code, Part, part, before, up_to, closed_by}
+use Rattle.definition_text.specs.Content.{line_ending_code, Part, part, text_before, up_to, closed_by}
 use Rattle.laws_endings.specs.Endings.{code_with, codes_with}
 
 -- a choice of two values under a function
@@ -54,7 +54,7 @@ module _ (e : LineEnding) where
   abbrev pub part_with : Part → Part
   part_with p = part (codes_with e p.text) (codes_with e p.rest)
 
-  pub before-with : (content rest : List ℕ) → before (codes_with e content) (codes_with e rest) ≡ codes_with e (before content rest)
+  pub before-with : (content rest : List ℕ) → text_before (codes_with e content) (codes_with e rest) ≡ codes_with e (text_before content rest)
   before-with content rest =
       ap (λ n. take (n - length (codes_with e rest)) (codes_with e content)) (length-map content (code_with e))
       ∙ ap (λ n. take (length content - n) (codes_with e content)) (length-map rest (code_with e))
@@ -70,4 +70,4 @@ module _ (e : LineEnding) where
   closed_by-with content None = refl
   closed_by-with content (Some rest) =
       ap (λ text. Some (part text (drop 1 (codes_with e rest)))) (before-with content rest)
-      ∙ ap (λ others. Some (part (codes_with e (before content rest)) others)) (drop-map (code_with e) 1 rest)
+      ∙ ap (λ others. Some (part (codes_with e (text_before content rest)) others)) (drop-map (code_with e) 1 rest)

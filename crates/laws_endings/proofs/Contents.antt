@@ -11,7 +11,7 @@ use Rattle.markdown_options.specs.declared.configuration.Constructs.{Constructs}
 use Rattle.markdown_options.specs.declared.configuration.ParseOptions.{ParseOptions}
 use Rattle.definition_text.specs.Bytes.{begins_with}
 use Rattle.definition_text.specs.Columns.{is_white}
-use Rattle.definition_text.specs.Content.{is_eol, before}
+use Rattle.definition_text.specs.Content.{is_eol, text_before}
 use Rattle.definition_text.specs.InlineCode.{InlineCode, codes_of}
 use Rattle.definition_inline.specs.Inline.{Target, Inline, Data, Inlines, Leaf, or_else}
 use Rattle.definition_inline.specs.CharacterEscape.{escape_at}
@@ -213,7 +213,7 @@ module _ (e : LineEnding) where
     ended_by-with : (content : List ℕ) (label : OpenLabel) (inner : Text)
         → ended_by context (codes_with e content) (open_with label) (text_with inner) ≡ if_formed e (ended_by context content label inner)
     ended_by-with content label inner =
-        let between = before label.from content in
+        let between = text_before label.from content in
         cond-under (if_formed e) (may_form label.start inner.holds_link)
         (ap (λ t. formed_at context label.start t (drop 1 (codes_with e content))) (before-with e label.from content)
         ∙ ap (formed_at context label.start (codes_with e between)) (drop-map (code_with e) 1 content)

@@ -10,7 +10,7 @@ use Rattle.definition_text.specs.BlockLines.{BlockLine, last_ending_or, last_end
 use Rattle.definition_text.specs.Content.{is_eol, ending_code, line_codes, content_of}
 use Rattle.definition_inline.specs.Definition.{Definition as LinkDefinition, definition_at}
 use Rattle.definition_block.specs.Blocks.{Definition, Ending, Blocks, Nil, Cons, join}
-use Rattle.definition_block.specs.Definitions.{Cut, cut_into, line_count, lines_before, definition_lines, cut_after, cut_most, cut}
+use Rattle.definition_block.specs.Definitions.{DefinitionCut, cut_into, line_count, lines_before, definition_lines, cut_after, cut_most, definition_cut}
 use Rattle.laws_endings.specs.Endings.{code_with, codes_with, if_ending_with, line_with, lines_with, definition_with, block_with, blocks_with}
 use Rattle.laws_endings.proofs.Codes.{cond-under, same_code}
 use Rattle.laws_endings.proofs.Definitions.{definition_at-with}
@@ -51,7 +51,7 @@ module _ (e : LineEnding) where
 
   -- ---- cuts
 
-  abbrev pub cut_with : Cut → Cut
+  abbrev pub cut_with : DefinitionCut → DefinitionCut
   cut_with parts = cut_into (blocks_with e parts.definitions) (lines_with e parts.left)
 
   pub join-with : (bs cs : Blocks) → join (blocks_with e bs) (blocks_with e cs) ≡ blocks_with e (join bs cs)
@@ -77,7 +77,7 @@ module _ (e : LineEnding) where
   defined-with : (d : LinkDefinition) (ls : List BlockLine) → definition_lines (definition_with e d) (lines_with e ls) ≡ blocks_with e (definition_lines d ls)
   defined-with d ls = ap (λ ending. Cons (block_with e (Definition d.label d.destination d.title)) (Cons (Ending ending) Nil)) (last_ending-with ls)
 
-  cut_after-with : (found : Option LinkDefinition) (ls : List BlockLine) (more : List BlockLine → Cut)
+  cut_after-with : (found : Option LinkDefinition) (ls : List BlockLine) (more : List BlockLine → DefinitionCut)
       → ((others : List BlockLine) → more (lines_with e others) ≡ cut_with (more others))
       → cut_after (option_map (definition_with e) found) (lines_with e ls) more ≡ cut_with (cut_after found ls more)
   cut_after-with None ls more same = refl
@@ -85,7 +85,7 @@ module _ (e : LineEnding) where
       let count = lines_before d.rest ls in
       let all = lines_with e ls in
       let front : ℕ → Blocks = λ n. definition_lines (definition_with e d) (take n all) in
-      let with : Blocks → Cut → Cut = λ first others. cut_into (join first others.definitions) others.left in
+      let with : Blocks → DefinitionCut → DefinitionCut = λ first others. cut_into (join first others.definitions) others.left in
       ap (λ n. with (front n) (more (drop n all))) (lines_before-with d.rest ls)
       ∙ ap (λ others. with (front count) (more others)) (drop-map (line_with e) count ls)
       ∙ ap (with (front count)) (same (drop count ls))
@@ -102,7 +102,7 @@ module _ (e : LineEnding) where
       ∙ ap (λ found. cut_after found (lines_with e ls) (cut_most most)) (definition_at-with e (content_of (own_lines ls)))
       ∙ cut_after-with (definition_at (content_of (own_lines ls))) ls (cut_most most) (cut_most-with most)
 
-  pub cut-with : (on : Constructs) (ls : List BlockLine) → cut on (lines_with e ls) ≡ cut_with (cut on ls)
+  pub cut-with : (on : Constructs) (ls : List BlockLine) → definition_cut on (lines_with e ls) ≡ cut_with (definition_cut on ls)
   cut-with on ls =
       cond-under cut_with on.definition
       (ap (λ n. cut_most n (lines_with e ls)) (length-map ls (line_with e)) ∙ cut_most-with (length ls) ls)

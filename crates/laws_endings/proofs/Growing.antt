@@ -21,14 +21,14 @@ use Rattle.definition_block.specs.HeadingSetext.{underline}
 use Rattle.definition_block.specs.ThematicBreak.{is_break}
 use Rattle.definition_block.specs.declared.align_kind.AlignKind.{AlignKind}
 use Rattle.definition_block.specs.GfmTable.{delimiter_row, is_head}
-use Rattle.definition_block.specs.Definitions.{Cut, cut}
+use Rattle.definition_block.specs.Definitions.{DefinitionCut, definition_cut}
 use Rattle.definition_block.specs.Tree.{BlockLine, block_line, spaced_line, own_lines, Paragraph, Heading, Break, IndentedCode, FencedCode, Html, Table}
 use Rattle.definition_block.specs.Tree.{Definition, Holds, Items, Ending, Blank, Blocks, Nil, Cons, join, one, block_and_ending}
 use Rattle.definition_block.specs.Tree.{OpenLeaf, Text, Indented, Fenced, OpenHtml, OpenTable, Opening, Leaf, Inside, Tree, tree, nothing, close, leaf_text}
 use Rattle.definition_block.specs.Tree.{open_text, is_some_line, has_text, has_table, table_of, table_if, makes_table, paragraph_of, leaf_with_line, with_line}
 use Rattle.definition_block.specs.Tree.{rest_line}
 use Rattle.definition_block.specs.Tree.{indented_takes, fenced_takes, html_with, takes, or_heading, or_fence, or_html, begins, after, text_line_of}
-use Rattle.definition_block.specs.Tree.{break_or_text, text_here, heading_of, heading_if, turns, begun, tree_or, leaf_line}
+use Rattle.definition_block.specs.Tree.{break_or_text, text_here, heading_of, heading_if, turns, leaf_tree_or, tree_or, leaf_line}
 use Rattle.definition_block.specs.Tree.{beside_in, start, new, in_container, is_nothing, is_one_blank, began_blank, goes_on, grow}
 use Rattle.laws_endings.specs.Endings.{if_ending_with, line_with, lines_with, blocks_with}
 use Rattle.laws_endings.proofs.Codes.{cond-under}
@@ -193,8 +193,8 @@ module _ (e : LineEnding) where
       → heading_if on rank (lines_with e ls) (if_ending_with e ending) ≡ if_tree (heading_if on rank ls ending)
   underlined-with on None ls ending = refl
   underlined-with on (Some rank) ls ending =
-      ap (λ (parts : Cut). heading_of rank parts.definitions parts.left (if_ending_with e ending)) (cut-with e on ls)
-      ∙ heading_of-with rank (cut on ls).definitions (cut on ls).left ending
+      ap (λ (parts : DefinitionCut). heading_of rank parts.definitions parts.left (if_ending_with e ending)) (cut-with e on ls)
+      ∙ heading_of-with rank (definition_cut on ls).definitions (definition_cut on ls).left ending
 
   turns-with : (on : Constructs) (away : Opening) (rest : Rest) (ending : Option LineEnding)
       → turns on (opening_with e away) rest (if_ending_with e ending) ≡ if_tree (turns on away rest ending)
@@ -225,9 +225,9 @@ module _ (e : LineEnding) where
       → table_if on o (lines_with e ls) (line_with e row) ≡ if_tree (table_if on o ls row)
   table_if-with on None ls row = refl
   table_if-with on (Some columns) ls row =
-      let parts = cut on ls in
+      let parts = definition_cut on ls in
       let count = length columns in
-      let made : Cut → Bool → Option Tree =
+      let made : DefinitionCut → Bool → Option Tree =
       λ own fits. cond (is_some_line own.left && fits) (Some (table_of own.definitions own.left (line_with e row))) None in
       ap (λ own. made own (is_head count (lines_with e ls))) (cut-with e on ls)
       ∙ ap (made (cut_with e parts)) (is_head-with e count ls)
@@ -254,7 +254,7 @@ module _ (e : LineEnding) where
   -- ---- a rest that starts no container
 
   begun-with : (on : Constructs) (found : Option Tree) (away : Opening) (other : Tree)
-      → begun on (if_tree found) (opening_with e away) (tree_with e other) ≡ tree_with e (begun on found away other)
+      → leaf_tree_or on (if_tree found) (opening_with e away) (tree_with e other) ≡ tree_with e (leaf_tree_or on found away other)
   begun-with on None away other = refl
   begun-with on (Some t) away other = after-with on away t
 
@@ -266,13 +266,13 @@ module _ (e : LineEnding) where
       let turned = turns on away rest beside.ending in
       let text = break_or_text on away rest beside in
       cond-under (tree_with e) (is_blank rest) (after-with on away (tree (one (Blank beside.ending)) nothing))
-      (ap (λ has. begun on (begins on has rest ends) now (tree_or (turns on now rest ends.ending) (break_or_text on now rest ends))) (has_text-with away)
-      ∙ ap (λ found. begun on found now (tree_or (turns on now rest ends.ending) (break_or_text on now rest ends)))
+      (ap (λ has. leaf_tree_or on (begins on has rest ends) now (tree_or (turns on now rest ends.ending) (break_or_text on now rest ends))) (has_text-with away)
+      ∙ ap (λ found. leaf_tree_or on found now (tree_or (turns on now rest ends.ending) (break_or_text on now rest ends)))
       (begins-with on (has_text away) rest beside k)
-      ∙ ap (λ found. begun on (if_tree (begins on (has_text away) rest beside)) now (tree_or found (break_or_text on now rest ends)))
+      ∙ ap (λ found. leaf_tree_or on (if_tree (begins on (has_text away) rest beside)) now (tree_or found (break_or_text on now rest ends)))
       (turns-with on away rest beside.ending)
-      ∙ ap (λ other. begun on (if_tree (begins on (has_text away) rest beside)) now (tree_or (if_tree turned) other)) (break_or_text-with on away rest beside k)
-      ∙ ap (begun on (if_tree (begins on (has_text away) rest beside)) now) (taken-with turned text)
+      ∙ ap (λ other. leaf_tree_or on (if_tree (begins on (has_text away) rest beside)) now (tree_or (if_tree turned) other)) (break_or_text-with on away rest beside k)
+      ∙ ap (leaf_tree_or on (if_tree (begins on (has_text away) rest beside)) now) (taken-with turned text)
       ∙ begun-with on (begins on (has_text away) rest beside) away (tree_or turned text))
 
   -- ---- containers

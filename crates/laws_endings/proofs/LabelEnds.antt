@@ -13,7 +13,7 @@ use Rattle.definition_inline.specs.Space.{after_white, begins_with_space}
 use Rattle.definition_inline.specs.Label.{ends_label, is_label, label_at}
 use Rattle.definition_inline.specs.Destination.{destination_at}
 use Rattle.definition_inline.specs.Title.{title_at}
-use Rattle.definition_inline.specs.Resource.{LinkResource, resource_end, with_title, opens_title, after_destination, with_destination, resource_inside}
+use Rattle.definition_inline.specs.Resource.{LinkResource, resource_end, resource_with_title, opens_title, after_destination, resource_with_destination, resource_inside}
 use Rattle.definition_inline.specs.Resource.{resource_at}
 use Rattle.definition_inline.specs.LabelEnd.{LinkTail, link_tail, has_no_bracket, is_label_text, by_text, by_label, by_resource, label_end_at, LinkOrCall}
 use Rattle.definition_inline.specs.LabelEnd.{Leads, Calls, link_or_image}
@@ -49,7 +49,7 @@ module _ (e : LineEnding) where
       ∙ cond-under if_resource (eqb c 41) refl refl
 
   with_title-with : (destination : List ℕ) (title : Option Part)
-      → with_title (codes_with e destination) (if_part title) ≡ if_resource (with_title destination title)
+      → resource_with_title (codes_with e destination) (if_part title) ≡ if_resource (resource_with_title destination title)
   with_title-with destination None = refl
   with_title-with destination (Some title) =
       ap (resource_end (codes_with e destination) (Some (codes_with e title.text))) (after_white-with e title.rest)
@@ -63,15 +63,15 @@ module _ (e : LineEnding) where
   after_destination-with destination =
       let text = codes_with e destination.text in
       let next = after_white destination.rest in
-      let either : Bool → List ℕ → Option LinkResource = λ titled more. cond titled (with_title text (title_at more)) (resource_end text None more) in
+      let either : Bool → List ℕ → Option LinkResource = λ titled more. cond titled (resource_with_title text (title_at more)) (resource_end text None more) in
       ap (λ more. either (begins_with_space (codes_with e destination.rest) && opens_title more) more) (after_white-with e destination.rest)
       ∙ ap (λ space. either (space && opens_title (codes_with e next)) (codes_with e next)) (begins_with_space-with e destination.rest)
       ∙ ap (λ opens. either (begins_with_space destination.rest && opens) (codes_with e next)) (opens_title-with next)
       ∙ cond-under if_resource (begins_with_space destination.rest && opens_title next)
-      (ap (with_title text) (title_at-with e next) ∙ with_title-with destination.text (title_at next))
+      (ap (resource_with_title text) (title_at-with e next) ∙ with_title-with destination.text (title_at next))
       (resource_end-with destination.text None next)
 
-  with_destination-with : (destination : Option Part) → with_destination (if_part destination) ≡ if_resource (with_destination destination)
+  with_destination-with : (destination : Option Part) → resource_with_destination (if_part destination) ≡ if_resource (resource_with_destination destination)
   with_destination-with None = refl
   with_destination-with (Some destination) = after_destination-with destination
 
@@ -79,9 +79,9 @@ module _ (e : LineEnding) where
   resource_inside-with [] = refl
   resource_inside-with (c ∷ cs) =
       let all = codes_with e (c ∷ cs) in
-      same_code e (λ x. cond (eqb x 41) (resource_end [] None all) (with_destination (destination_at (Some 32) all))) c refl refl
+      same_code e (λ x. cond (eqb x 41) (resource_end [] None all) (resource_with_destination (destination_at (Some 32) all))) c refl refl
       ∙ cond-under if_resource (eqb c 41) (resource_end-with [] None (c ∷ cs))
-      (ap with_destination (destination_at-with e (Some 32) (c ∷ cs)) ∙ with_destination-with (destination_at (Some 32) (c ∷ cs)))
+      (ap resource_with_destination (destination_at-with e (Some 32) (c ∷ cs)) ∙ with_destination-with (destination_at (Some 32) (c ∷ cs)))
 
   resource_at-with : (cs : List ℕ) → resource_at (codes_with e cs) ≡ if_resource (resource_at cs)
   resource_at-with [] = refl

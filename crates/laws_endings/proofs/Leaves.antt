@@ -13,7 +13,7 @@ use Rattle.markdown_options.specs.declared.configuration.Constructs.{Constructs}
 use Rattle.markdown_options.specs.declared.configuration.ParseOptions.{ParseOptions}
 use Rattle.definition_text.specs.Columns.{is_white, indent, bare}
 use Rattle.definition_text.specs.Bytes.{begins_with, begins_with_letter, is_letter, after_all}
-use Rattle.definition_text.specs.Content.{line_ending_code, is_eol, Part, part, before, up_to}
+use Rattle.definition_text.specs.Content.{line_ending_code, is_eol, Part, part, text_before, up_to}
 use Rattle.definition_text.specs.Runs.{run, after_run}
 use Rattle.definition_inline.specs.Inline.{Data, Escape, Code, Math, Autolink, Html, EscapedBreak, TrailingBreak, LineEnd, Leaf, leaf, or_else}
 use Rattle.definition_inline.specs.CharacterEscape.{escape_at}
@@ -363,9 +363,9 @@ module _ (e : LineEnding) where
       → closed_autolink is_email (codes_with e cs) (if_codes end) ≡ if_found (closed_autolink is_email cs end)
   closed_autolink-with is_email cs None = refl
   closed_autolink-with is_email cs (Some rest) =
-      let text = before cs rest in
+      let text = text_before cs rest in
       let found : List ℕ → ℕ → Option Leaf = λ inner n. Some (leaf (Autolink is_email inner ∷ []) (n + 2)) in
-      ap (λ closes. let inner = before (codes_with e cs) (codes_with e rest) in cond closes (found inner (length inner)) None) (begins-byte 62 refl refl rest)
+      ap (λ closes. let inner = text_before (codes_with e cs) (codes_with e rest) in cond closes (found inner (length inner)) None) (begins-byte 62 refl refl rest)
       ∙ cond-under if_found (begins_with (codes ">") rest)
       (ap (λ inner. found inner (length inner)) (before-with e cs rest) ∙ ap (found (codes_with e text)) (length-map text (code_with e))) refl
 

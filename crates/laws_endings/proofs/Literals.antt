@@ -18,7 +18,7 @@ use Rattle.definition_text.specs.InlineCode.{InlineCode, codes_of, is_continuati
 use Rattle.definition_inline.specs.Attention.{is_other}
 use Rattle.definition_inline.specs.Inline.{Www, Protocol, Literal, Leaf, leaf}
 use Rattle.definition_inline.specs.GfmAutolinkLiteral.{is_among, may_precede_www, may_precede_protocol, begins_caselessly, LiteralStart, literal_start}
-use Rattle.definition_inline.specs.GfmAutolinkLiteral.{or_start, www_start, protocol_start, literal_start_at, is_control, begins_name, ends_label, ends_literal}
+use Rattle.definition_inline.specs.GfmAutolinkLiteral.{or_start, www_start, protocol_start, literal_start_at, is_control_or_ending, begins_name, follows_label, ends_literal}
 use Rattle.definition_inline.specs.GfmAutolinkLiteral.{literal_run, is_trailing, count_of, has_more_closed, is_cut, name_size, cut_more, without_tail}
 use Rattle.definition_inline.specs.GfmAutolinkLiteral.{literal_name, domain, low_line_in, has_low_line, named_literal, literal_after, literal_at}
 use Rattle.laws_endings.specs.Endings.{code_with, codes_with}
@@ -86,11 +86,11 @@ module _ (e : LineEnding) where
 
   begins_name-with : (kind : Kind) (content : List InlineCode) → begins_name kind (content_with e content) ≡ begins_name kind content
   begins_name-with kind [] = refl
-  begins_name-with kind (c ∷ cs) = ap (λ control. is_other kind && not control) (same_code e is_control c.code refl refl)
+  begins_name-with kind (c ∷ cs) = ap (λ control. is_other kind && not control) (same_code e is_control_or_ending c.code refl refl)
 
   -- ---- where it ends
 
-  label-with : (cs : List ℕ) → ends_label (with cs) ≡ ends_label cs
+  label-with : (cs : List ℕ) → follows_label (with cs) ≡ follows_label cs
   label-with [] = refl
   label-with (c ∷ cs) = same_code e (λ x. is_space x || (eqb x 40 || eqb x 91)) c refl refl
 
@@ -182,7 +182,7 @@ module _ (e : LineEnding) where
 
   byte_kept : (c : ℕ) (cs : List ℕ) → ends_literal c cs ≡ false → code_with e c ≡ c
   byte_kept c cs goes =
-      let space = (or_parts (is_space c) (eqb c 60 || (eqb c 93 && ends_label cs)) goes).0 in
+      let space = (or_parts (is_space c) (eqb c 60 || (eqb c 93 && follows_label cs)) goes).0 in
       let lines = (or_parts (is_white c) (is_eol c) space).1 in
       same_byte e c (or_parts (eqb c 10) (eqb c 13) (or_parts (eqb c 10 || eqb c 13) (eqb c 257) lines).0).0
 

@@ -18,7 +18,7 @@ use Rattle.definition_block.specs.ContainerLine.{ContainerLine, container_line}
 use Rattle.definition_block.specs.ContainerStart.{ContainerStart}
 use Rattle.definition_block.specs.ThematicBreak.{is_break}
 use Rattle.definition_block.specs.BlockQuote.{after_byte, after_mark, quote_prefix}
-use Rattle.definition_block.specs.ListItem.{Marker, marker_of, is_digit, number_of, bullet, delimiter, ordered_marker, marker, gap, is_item, item, item_after}
+use Rattle.definition_block.specs.ListItem.{Marker, marker_of, is_digit, number_of, bullet, after_number, ordered_marker, marker, gap, is_item, item, item_after}
 use Rattle.definition_block.specs.ListItem.{item_start, is_inside}
 use Rattle.definition_block.specs.GfmFootnoteDefinition.{footnote_start}
 use Rattle.definition_block.specs.Containers.{continues, quote_or, footnote_or, starts}
@@ -71,7 +71,7 @@ module _ (Fine : List ℕ → Type 0) (dropped : (n : ℕ) (cs : List ℕ) → F
       cond_both (eqb code 45 || eqb code 43 || eqb code 42) (Some (marker_of code None 1 codes)) None FineMarker
       (λ _. dropped 1 (code ∷ codes) k) (λ _. tt)
 
-  delimiter_fine : (number digits : ℕ) (rest : Rest) → Fine rest → FineMarker (delimiter number digits rest)
+  delimiter_fine : (number digits : ℕ) (rest : Rest) → Fine rest → FineMarker (after_number number digits rest)
   delimiter_fine number digits [] k = tt
   delimiter_fine number digits (code ∷ codes) k =
       cond_both (eqb code 46 || eqb code 41) (Some (marker_of code (Some number) (digits + 1) codes)) None FineMarker
@@ -80,7 +80,7 @@ module _ (Fine : List ℕ → Type 0) (dropped : (n : ℕ) (cs : List ℕ) → F
   ordered_fine : (digits : ℕ) (rest : Rest) → Fine rest → FineMarker (ordered_marker digits rest)
   ordered_fine digits rest k =
       let number = number_of (take digits rest) in
-      cond_both (leb digits 9) (delimiter number digits (drop digits rest)) None FineMarker
+      cond_both (leb digits 9) (after_number number digits (drop digits rest)) None FineMarker
       (λ _. delimiter_fine number digits (drop digits rest) (dropped digits rest k)) (λ _. tt)
 
   marker_fine : (rest : Rest) → Fine rest → FineMarker (marker rest)

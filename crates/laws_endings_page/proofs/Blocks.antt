@@ -11,7 +11,7 @@ use Rattle.definition_text.specs.BlockLines.{BlockLine}
 use Rattle.definition_text.specs.Lines.{ending_text}
 use Rattle.definition_text.specs.Columns.{is_byte, is_tab_column, code_byte, bytes_of}
 use Rattle.definition_text.specs.Encode.{encode}
-use Rattle.definition_inline.specs.Inline.{Linked, Inlines, Nil as NoText}
+use Rattle.definition_inline.specs.Inline.{LinkTexts, Inlines, Nil as NoText}
 use Rattle.definition_block.specs.declared.align_kind.AlignKind.{AlignKind}
 use Rattle.definition_block.specs.declared.align_kind.AlignKind.TheVariants as kind
 use Rattle.definition_page.specs.GfmTable.{TableRow, Table as TableOf, align_attributes, cell_pieces, cells_pieces, row_pieces, ending_piece, body_row_pieces}
@@ -68,7 +68,7 @@ module _ (e : LineEnding) where
       says_append e (code_line (line_with e line)) (code_line line) (flat_map code_line (lines_with e ls)) (flat_map code_line ls) (code_line-with line p.0)
       (code_lines-with ls p.1)
 
-  module _ (m : Meaning) (other : List ℕ → Option Linked)
+  module _ (m : Meaning) (other : List ℕ → Option LinkTexts)
       (leads : (label : List ℕ) → other (codes_with e label) ≡ option_map (linked_with e) (m.definition label))
       (fits : (label : List ℕ) → WhereSome LinkedFits (m.definition label)) (notes : (m.footnotes ≡ []) ⊎ HaveNoFeeds m.compile) where
     abbrev m' : Meaning

@@ -12,7 +12,7 @@ use Rattle.definition_page.specs.Pieces.{Piece, Open, Close, Says, Fresh}
 use Rattle.definition_page.specs.InlinePieces.{element}
 use Rattle.definition_page.specs.GfmLabelStartFootnote.{text_or, footnote_id, call_id, leads_to_id}
 use Rattle.definition_page.specs.GfmFootnoteDefinition.{Footnote, back_tag, arrow, count_pieces, back_pieces, space_after, backs_pieces, ended_size, with_backs}
-use Rattle.definition_page.specs.GfmFootnoteDefinition.{content_pieces, item_tag, footnote_pieces, footnotes_pieces, heading_name, heading_tag, heading_pieces}
+use Rattle.definition_page.specs.GfmFootnoteDefinition.{content_pieces, item_tag, footnote_pieces, footnotes_pieces, section_heading_name, section_heading_tag, heading_pieces}
 use Rattle.definition_page.specs.GfmFootnoteDefinition.{section_tag, section_pieces}
 use Rattle.definition_page.specs.Layout.{NoteCalls, note_of}
 use Rattle.laws_endings.specs.Endings.{with_ending}
@@ -153,7 +153,7 @@ module _ (e : LineEnding) (options : CompileOptions) where
 
     -- ---- the section
 
-    name-with : BytesWith e (heading_name options) (heading_name options)
+    name-with : BytesWith e (section_heading_name options) (section_heading_name options)
     name-with = words-with options.gfm_footnote_label_tag_name (codes "h2") fit.heading_name (given_no_feed (codes "h2") refl)
 
     abbrev title : List ℕ
@@ -163,7 +163,7 @@ module _ (e : LineEnding) (options : CompileOptions) where
     title-with = words-with options.gfm_footnote_label (codes "Footnotes") fit.heading (given_no_feed (codes "Footnotes") refl)
 
     open_heading-with : {A : Type 0} (name : List ℕ) (attributes : Option (String A)) → BytesWith e name name → HasNoFeed attributes
-        → IsSame (Open (heading_tag name attributes) ∷ [])
+        → IsSame (Open (section_heading_tag name attributes) ∷ [])
     open_heading-with name None p q =
         let own = attribute (codes "id") (codes "footnote-label") ∷ attribute (codes "class") (codes "sr-only") ∷ [] in
         open-with e options name own own p refl
@@ -176,8 +176,8 @@ module _ (e : LineEnding) (options : CompileOptions) where
 
     heading-with : IsSame (heading_pieces options)
     heading-with =
-        let name = heading_name options in
-        let first = Open (heading_tag name options.gfm_footnote_label_attributes) in
+        let name = section_heading_name options in
+        let first = Open (section_heading_tag name options.gfm_footnote_label_attributes) in
         let says = Says (Words title) in
         more-with e options first first (says ∷ Close name ∷ []) (says ∷ Close name ∷ [])
         (open_heading-with name options.gfm_footnote_label_attributes name-with fit.heading_attributes)

@@ -6,11 +6,11 @@ use Rattle.std.proofs.lemmas.List.Elements.{All-tail}
 use Rattle.markdown_options.specs.declared.line_ending.LineEnding.{LineEnding}
 use Rattle.markdown_options.specs.declared.configuration.CompileOptions.{CompileOptions}
 use Rattle.definition_page.specs.Urls.{percent}
-use Rattle.definition_page.specs.Tags.{Said, Words, Number, Attribute, attribute, attribute_bytes}
+use Rattle.definition_page.specs.Tags.{PrintedPart, Words, Number, Attribute, attribute, attribute_bytes}
 use Rattle.definition_page.specs.Pieces.{Says, CallOf, CountOf}
 use Rattle.definition_page.specs.InlinePieces.{element}
 use Rattle.definition_page.specs.GfmLabelStartFootnote.{Call, text_or, id_prefix, footnote_id, count_says, call_id, leads_to_id, call_tag, call_pieces}
-use Rattle.definition_page.specs.Layout.{laid, once_more, latest_call}
+use Rattle.definition_page.specs.Layout.{layout_state, once_more, latest_call}
 use Rattle.laws_endings.specs.Endings.{with_ending}
 use Rattle.laws_endings_reads.proofs.Each.{Each}
 use Rattle.laws_endings_page.specs.Laws.{HasNoFeed, HaveNoFeeds}
@@ -43,7 +43,7 @@ module _ (e : LineEnding) (options : CompileOptions) (fit : HaveNoFeeds options)
   pub number-with : (n : ℕ) → SaidWith e (Number n) (Number n)
   number-with n = sym (kept e (decimal n) (decimal_no_feed n))
 
-  same-then : (s : Said) (ss : List Said) → SaidWith e s s → SaidsWith e ss ss → SaidsWith e (s ∷ ss) (s ∷ ss)
+  same-then : (s : PrintedPart) (ss : List PrintedPart) → SaidWith e s s → SaidsWith e ss ss → SaidsWith e (s ∷ ss) (s ∷ ss)
   same-then s ss p q = says_more e s s ss ss p q
 
   pub footnote_id-with : (label : List ℕ) → SaidsWith e (footnote_id options label) (footnote_id options label)
@@ -64,7 +64,7 @@ module _ (e : LineEnding) (options : CompileOptions) (fit : HaveNoFeeds options)
       same-then (Words (id_prefix options)) (Words (codes "fnref-") ∷ text) prefix-with
       (same-then (Words (codes "fnref-")) text refl (same-then (Words (percent label)) (count_says count) (label-with label) (count-with count)))
 
-  pub leads_to-with : (id : List Said) → SaidsWith e id id → BytesWith e (attribute_bytes (leads_to_id id)) (attribute_bytes (leads_to_id id))
+  pub leads_to-with : (id : List PrintedPart) → SaidsWith e id id → BytesWith e (attribute_bytes (leads_to_id id)) (attribute_bytes (leads_to_id id))
   leads_to-with id p = attribute-with e (codes "href") (Words (codes "#") ∷ id) (Words (codes "#") ∷ id) refl (same-then (Words (codes "#")) id refl p)
 
   pub same_attribute : (a : Attribute) (others : List Attribute) → BytesWith e (attribute_bytes a) (attribute_bytes a)
@@ -92,7 +92,7 @@ module _ (e : LineEnding) (options : CompileOptions) (place : ℕ) (label : List
     (λ out. refl),
     λ l may.
         let called = once_more place label l.called in (
-          ap (λ t. laid t (map (with_ending e) l.outer) (map (with_ending e) l.notes) called)
+          ap (λ t. layout_state t (map (with_ending e) l.outer) (map (with_ending e) l.notes) called)
               ((call-with e options fit (latest_call place 1 called)).0 l.text),
           inr fit,
         ),

@@ -14,7 +14,7 @@ use Rattle.markdown_options.specs.LineEndings.{ending_bytes}
 use Rattle.definition_text.specs.declared.beside.Kind.{Kind}
 use Rattle.definition_text.specs.Columns.{is_tab_column, code_byte}
 use Rattle.definition_text.specs.Lines.{TextLine, text_line, in_first_line, after_return, lines, first_of, first_line, has_mark, without_mark, kind_before_text}
-use Rattle.definition_inline.specs.Inline.{linked}
+use Rattle.definition_inline.specs.Inline.{link_texts}
 use Rattle.definition_inline.specs.Definition.{Definition}
 use Rattle.definition_inline.specs.LabelMatch.{normal_label, place_of, first_match}
 use Rattle.definition_block.specs.Tree as tree
@@ -25,7 +25,7 @@ use Rattle.definition_page.specs.Targets.{with_spaces, document_definitions, lab
 use Rattle.definition_page.specs.Targets.{is_footnote_of}
 use Rattle.definition_page.specs.Page.{Page}
 use Rattle.definition_page.specs.Pieces.{Piece}
-use Rattle.definition_page.specs.Layout.{Laid, laid, note_of, page_layout}
+use Rattle.definition_page.specs.Layout.{LayoutState, layout_state, note_of, page_layout}
 use Rattle.definition_page.specs.GfmFootnoteDefinition.{section_pieces}
 use Rattle.definition_page.specs.InlinePieces.{Meaning}
 use Rattle.definition_page.specs.BlockPieces.{at_top, fresh_unless, children_pieces}
@@ -102,7 +102,7 @@ module _ (e : LineEnding) (ds : List Definition) where
   labels-with (d ∷ all) = ap (λ labels. codes_with e d.label ∷ labels) (labels-with all)
 
   linked_at-with : (place : ℕ) → linked_at ds' place ≡ linked_with e (linked_at ds place)
-  linked_at-with place = ap (λ (d : Definition). linked d.destination d.title) (get_or-map (definition_with e) ds place no_definition)
+  linked_at-with place = ap (λ (d : Definition). link_texts d.destination d.title) (get_or-map (definition_with e) ds place no_definition)
 
   linked-with : (o : Option ℕ) → option_map (linked_at ds') o ≡ option_map (linked_with e) (option_map (linked_at ds) o)
   linked-with None = refl
@@ -133,9 +133,9 @@ module _ (e : LineEnding) (ds : List Definition) where
 page_layout-with : (e : LineEnding) (options : CompileOptions) (others ones : List Piece) → PiecesWith e options others ones
     → page_layout options (ending_bytes e) others ≡ with_ending e (page_layout options (ending_bytes LineFeed) ones)
 page_layout-with e options others ones p =
-    let both = p.1 (laid [] [] [] []) (inl refl) in
-    let l = laid_out e options (laid [] [] [] []) ones in
-    let end : Laid → List ℕ = λ x. printed_with e options x.text (section_pieces options (map (note_of x.notes) x.called)) in
+    let both = p.1 (layout_state [] [] [] []) (inl refl) in
+    let l = laid_out e options (layout_state [] [] [] []) ones in
+    let end : LayoutState → List ℕ = λ x. printed_with e options x.text (section_pieces options (map (note_of x.notes) x.called)) in
     ap end both.0 ∙ (section-with e options l.notes l.called both.1).0 l.text
 
 module _ (e : LineEnding) (tables : TextTables) (options : Options) (bs : tree.Blocks) (fit : BlocksFit bs)

@@ -21,7 +21,7 @@ use Rattle.definition_block.specs.Container.{Quote, Item, Footnote}
 use Rattle.definition_block.specs.Tree as tree
 use Rattle.definition_block.specs.Tree.{is_ending, join, one}
 use Rattle.definition_block.specs.Lists.{endings_at_front, endings_of, after_endings, is_some_block, has_gap, has_gap_inside, is_loose, item_marker}
-use Rattle.definition_block.specs.Lists.{list_marker, list_items, rest_of, before_list, before, grouped_block, group_items}
+use Rattle.definition_block.specs.Lists.{list_marker, list_items, rest_of, before_list, put_before, grouped_block, group_items}
 use Rattle.definition_block.specs.GfmTable.{Cell, cells, line_cells, delimiters as delimiters_of}
 use Rattle.definition_inline.specs.Inline.{Inlines}
 use Rattle.definition_page.specs.GfmTable.{TableRow, Table, head_line, delimiter_line, body_lines, line_aligns, in_cell}
@@ -78,7 +78,7 @@ before_list_fits marker item bs h p =
     (λ _. ((h, join_fits (endings_of bs) (list_items others) (list_fits_endings bs p) (items_fit others q)), rest_fits others q))
     (λ _. ((h, tt), p))
 
-before_fits : (b : tree.Block) (bs : tree.Blocks) → BlockFits b → BlocksFit bs → BlocksFit (before b bs)
+before_fits : (b : tree.Block) (bs : tree.Blocks) → BlockFits b → BlocksFit bs → BlocksFit (put_before b bs)
 before_fits b bs h p = cond_both (eqb (item_marker b) 0) _ _ BlocksFit (λ _. (h, p)) (λ _. before_list_fits (item_marker b) b bs h p)
 
 mutual
@@ -146,7 +146,7 @@ module _ (e : LineEnding) where
       ∙ ap (first (blocks_with e (join (endings_of bs) (list_items others)))) (rest_of-with others))
       refl
 
-  before-with : (b : tree.Block) (bs : tree.Blocks) → before (block_with e b) (blocks_with e bs) ≡ blocks_with e (before b bs)
+  before-with : (b : tree.Block) (bs : tree.Blocks) → put_before (block_with e b) (blocks_with e bs) ≡ blocks_with e (put_before b bs)
   before-with b bs =
       ap (λ m. cond (eqb m 0) (tree.Cons (block_with e b) (blocks_with e bs)) (before_list m (block_with e b) (blocks_with e bs))) (item_marker-with b)
       ∙ cond-under (blocks_with e) (eqb (item_marker b) 0) refl (before_list-with (item_marker b) b bs)
@@ -159,8 +159,8 @@ module _ (e : LineEnding) where
     pub grouped-with : (bs : tree.Blocks) → group_items (blocks_with e bs) ≡ blocks_with e (group_items bs)
     grouped-with tree.Nil = refl
     grouped-with (tree.Cons b bs) =
-        ap (λ first. before first (group_items (blocks_with e bs))) (grouped_block-with b)
-        ∙ ap (before (block_with e (grouped_block b))) (grouped-with bs)
+        ap (λ first. put_before first (group_items (blocks_with e bs))) (grouped_block-with b)
+        ∙ ap (put_before (block_with e (grouped_block b))) (grouped-with bs)
         ∙ before-with (grouped_block b) (group_items bs)
 
   -- ---- whether a list is loose

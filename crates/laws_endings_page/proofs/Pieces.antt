@@ -8,9 +8,9 @@ use Rattle.markdown_options.specs.declared.line_ending.LineEnding.{LineEnding}
 use Rattle.markdown_options.specs.declared.line_ending.LineEnding.TheVariants.{LineFeed}
 use Rattle.markdown_options.specs.declared.configuration.CompileOptions.{CompileOptions}
 use Rattle.markdown_options.specs.LineEndings.{ending_bytes}
-use Rattle.definition_page.specs.Tags.{Said, said_bytes, Attribute, attribute_bytes, tag, tag_bytes, start_tag, end_tag, void_tag}
+use Rattle.definition_page.specs.Tags.{PrintedPart, said_bytes, Attribute, attribute_bytes, tag, tag_bytes, start_tag, end_tag, void_tag}
 use Rattle.definition_page.specs.Pieces.{Piece, Open, Close, Void, Says, Eol, Fresh, NoteStart, NoteEnd, is_fresh, print}
-use Rattle.definition_page.specs.Layout.{NoteCalls, Laid, laid, note_end, lay}
+use Rattle.definition_page.specs.Layout.{NoteCalls, LayoutState, layout_state, note_end, lay}
 use Rattle.definition_page.specs.InlinePieces.{element}
 use Rattle.definition_page.proofs.PlainLayout.{ArePlain, plain_laid}
 use Rattle.laws_endings.specs.Endings.{with_ending}
@@ -28,7 +28,7 @@ module _ (e : LineEnding) where
   abbrev pub AttributesWith : List Attribute → List Attribute → Type 0
   AttributesWith others ones = BytesWith (flat_map attribute_bytes others) (flat_map attribute_bytes ones)
 
-  pub attribute-with : (name : List ℕ) (value' value : List Said) → BytesWith name name → SaidsWith e value' value
+  pub attribute-with : (name : List ℕ) (value' value : List PrintedPart) → BytesWith name name → SaidsWith e value' value
       → BytesWith (attribute_bytes (record { name = name; value = value' })) (attribute_bytes (record { name = name; value = value }))
   attribute-with name value' value p q =
       let start = codes " " ++ name in
@@ -74,14 +74,14 @@ module _ (e : LineEnding) where
   default = ending_bytes LineFeed
 
   -- texts and footnotes with this ending in place of each LF, after the same calls
-  abbrev pub laid_with : Laid → Laid
-  laid_with l = laid (with_ending e l.text) (map (with_ending e) l.outer) (map (with_ending e) l.notes) l.called
+  abbrev pub laid_with : LayoutState → LayoutState
+  laid_with l = layout_state (with_ending e l.text) (map (with_ending e) l.outer) (map (with_ending e) l.notes) l.called
 
   note_ended-with : (text : List ℕ) (outer notes : List (List ℕ)) (called : List NoteCalls)
       → note_end (with_ending e text) (map (with_ending e) outer) (map (with_ending e) notes) called ≡ laid_with (note_end text outer notes called)
   note_ended-with text [] notes called = refl
   note_ended-with text (around ∷ others) notes called =
-      ap (λ all. laid (with_ending e around) (map (with_ending e) others) all called) (sym (map-append (with_ending e) notes (text ∷ [])))
+      ap (λ all. layout_state (with_ending e around) (map (with_ending e) others) all called) (sym (map-append (with_ending e) notes (text ∷ [])))
 
   called_same : (text : List ℕ) (outer notes : List (List ℕ)) (called : List NoteCalls) → (note_end text outer notes called).called ≡ called
   called_same text [] notes called = refl
@@ -100,10 +100,10 @@ module _ (e : LineEnding) where
     abbrev pub printed_with : List ℕ → List Piece → List ℕ
     printed_with out ps = fold (print (ending_bytes e)) out ps
 
-    abbrev pub laid_out : Laid → List Piece → Laid
+    abbrev pub laid_out : LayoutState → List Piece → LayoutState
     laid_out l ps = fold (lay options default) l ps
 
-    abbrev pub laid_out_with : Laid → List Piece → Laid
+    abbrev pub laid_out_with : LayoutState → List Piece → LayoutState
     laid_out_with l ps = fold (lay options (ending_bytes e)) l ps
 
     -- after whatever was printed, pieces print what others do with this ending in place of each LF
@@ -113,7 +113,7 @@ module _ (e : LineEnding) where
     -- after whatever was laid out, so they lay out
     abbrev pub LayWith : List Piece → List Piece → Type 0
     LayWith others ones =
-        (l : Laid) → MayCall l.called → (laid_out_with (laid_with l) others ≡ laid_with (laid_out l ones)) × MayCall (laid_out l ones).called
+        (l : LayoutState) → MayCall l.called → (laid_out_with (laid_with l) others ≡ laid_with (laid_out l ones)) × MayCall (laid_out l ones).called
 
     abbrev pub PiecesWith : List Piece → List Piece → Type 0
     PiecesWith others ones = PrintWith others ones × LayWith others ones
@@ -136,7 +136,7 @@ module _ (e : LineEnding) where
                 ∙ ap (λ t. laid_out_with t others') first.0
                 ∙ next.0
                 ∙ sym (ap laid_with whole),
-            subst (λ (t : Laid). MayCall t.called) (sym whole) next.1,
+            subst (λ (t : LayoutState). MayCall t.called) (sym whole) next.1,
           ),
     )
 
@@ -151,16 +151,16 @@ module _ (e : LineEnding) where
       λ l may.
           let whole = plain_laid options default ones b l in (
             plain_laid options (ending_bytes e) others a (laid_with l)
-                ∙ ap (λ t. laid t (map (with_ending e) l.outer) (map (with_ending e) l.notes) l.called) (p l.text)
+                ∙ ap (λ t. layout_state t (map (with_ending e) l.outer) (map (with_ending e) l.notes) l.called) (p l.text)
                 ∙ sym (ap laid_with whole),
-            subst (λ (t : Laid). MayCall t.called) (sym whole) may,
+            subst (λ (t : LayoutState). MayCall t.called) (sym whole) may,
           ),
     )
 
     bytes_printed : (out others ones : List ℕ) → BytesWith others ones → with_ending e out ++ others ≡ with_ending e (out ++ ones)
     bytes_printed out others ones p = then-with e (with_ending e out) out others ones refl p
 
-    pub said-with : (other one : Said) → SaidWith e other one → PiecesWith (Says other ∷ []) (Says one ∷ [])
+    pub said-with : (other one : PrintedPart) → SaidWith e other one → PiecesWith (Says other ∷ []) (Says one ∷ [])
     said-with other one p =
         plain-with (Says other ∷ []) (Says one ∷ []) (tt, tt) (tt, tt) (λ out. bytes_printed out (said_bytes other) (said_bytes one) p)
 
@@ -210,15 +210,15 @@ module _ (e : LineEnding) where
 
     -- ---- parts of a text
 
-    all_printed : (d : List ℕ) (out : List ℕ) (ss : List Said) → fold (print d) out (map Says ss) ≡ out ++ flat_map said_bytes ss
+    all_printed : (d : List ℕ) (out : List ℕ) (ss : List PrintedPart) → fold (print d) out (map Says ss) ≡ out ++ flat_map said_bytes ss
     all_printed d out [] = sym (append-nil out)
     all_printed d out (s ∷ ss) = all_printed d (out ++ said_bytes s) ss ∙ append_assoc out (said_bytes s) (flat_map said_bytes ss)
 
-    says_plain : (ss : List Said) → ArePlain (map Says ss)
+    says_plain : (ss : List PrintedPart) → ArePlain (map Says ss)
     says_plain [] = tt
     says_plain (s ∷ ss) = (tt, says_plain ss)
 
-    pub saids-with : (others ones : List Said) → SaidsWith e others ones → PiecesWith (map Says others) (map Says ones)
+    pub saids-with : (others ones : List PrintedPart) → SaidsWith e others ones → PiecesWith (map Says others) (map Says ones)
     saids-with others ones p =
         plain-with (map Says others) (map Says ones) (says_plain others) (says_plain ones)
         (λ out. all_printed (ending_bytes e) (with_ending e out) others

@@ -8,13 +8,13 @@ use Rattle.markdown_options.specs.declared.line_ending.LineEnding.{LineEnding}
 use Rattle.markdown_options.specs.declared.line_ending.LineEnding.TheVariants.{CarriageReturnLineFeed, CarriageReturn, LineFeed}
 use Rattle.markdown_options.specs.LineEndings.{ending_bytes}
 use Rattle.definition_text.specs.Encode.{plain}
-use Rattle.definition_inline.specs.Inline.{Target, Resource, Reference, Linked, linked, LiteralKind, Inline, Data, Escape, Character, Code, Math, Autolink}
+use Rattle.definition_inline.specs.Inline.{Target, Resource, Reference, LinkTexts, link_texts, LiteralKind, Inline, Data, Escape, Character, Code, Math, Autolink}
 use Rattle.definition_inline.specs.Inline.{Literal, Html, EscapedBreak, TrailingBreak, LineEnd, Emphasis, Strong, Strikethrough, Link, Image, Call, Inlines}
 use Rattle.definition_inline.specs.Inline.{Nil, Cons}
 use Rattle.definition_inline.specs.LabelMatch.{normal_label, place_of, first_match}
 use Rattle.definition_inline.specs.Strings.{string_text}
 use Rattle.definition_page.specs.Urls.{percent, permits, sanitize, href_protocols, src_protocols}
-use Rattle.definition_page.specs.Tags.{Said, Words, EndOfLine, Attribute, attribute, attribute_bytes}
+use Rattle.definition_page.specs.Tags.{PrintedPart, Words, EndOfLine, Attribute, attribute, attribute_bytes}
 use Rattle.definition_page.specs.Pieces.{Piece, Void, Says}
 use Rattle.definition_page.specs.InlinePieces.{Meaning, permitted_url, link_url, image_url, leads_to, url_of, title_attributes, title_attribute, link_tag}
 use Rattle.definition_page.specs.InlinePieces.{image_tag, address, literal_address, math_tag, html_says, description, call_at, count_at, part_counts}
@@ -34,29 +34,29 @@ use Rattle.laws_endings_page.proofs.Pieces.{void_piece-with, element-with, saids
 use Rattle.laws_endings_page.proofs.GfmLabelStartFootnote.{call_piece-with, count_piece-with}
 
 -- where a link leads fits
-abbrev pub LinkedFits : Linked → Type 0
+abbrev pub LinkedFits : LinkTexts → Type 0
 LinkedFits l = Each Plain l.destination × TitleFits l.title
 
 module _ (e : LineEnding) where
   -- ---- where links lead
 
-  abbrev pub linked_with : Linked → Linked
-  linked_with l = linked (codes_with e l.destination) (option_map (codes_with e) l.title)
+  abbrev pub linked_with : LinkTexts → LinkTexts
+  linked_with l = link_texts (codes_with e l.destination) (option_map (codes_with e) l.title)
 
-  module _ (m : Meaning) (other : List ℕ → Option Linked) (leads : (label : List ℕ) → other (codes_with e label) ≡ option_map linked_with (m.definition label))
+  module _ (m : Meaning) (other : List ℕ → Option LinkTexts) (leads : (label : List ℕ) → other (codes_with e label) ≡ option_map linked_with (m.definition label))
       (fits : (label : List ℕ) → WhereSome LinkedFits (m.definition label)) (notes : (m.footnotes ≡ []) ⊎ HaveNoFeeds m.compile) where
     abbrev pub meaning_with : Meaning
     meaning_with = record m { definition = other }
 
-    linked_or : (o : Option Linked) → unwrap_or (option_map linked_with o) (linked [] None) ≡ linked_with (unwrap_or o (linked [] None))
+    linked_or : (o : Option LinkTexts) → unwrap_or (option_map linked_with o) (link_texts [] None) ≡ linked_with (unwrap_or o (link_texts [] None))
     linked_or None = refl
     linked_or (Some l) = refl
 
     leads_to-with : (target : Target) → leads_to other (target_with e target) ≡ linked_with (leads_to m.definition target)
     leads_to-with (Resource destination title) = refl
-    leads_to-with (Reference label) = ap (λ o. unwrap_or o (linked [] None)) (leads label) ∙ linked_or (m.definition label)
+    leads_to-with (Reference label) = ap (λ o. unwrap_or o (link_texts [] None)) (leads label) ∙ linked_or (m.definition label)
 
-    or_nowhere : (o : Option Linked) → WhereSome LinkedFits o → LinkedFits (unwrap_or o (linked [] None))
+    or_nowhere : (o : Option LinkTexts) → WhereSome LinkedFits o → LinkedFits (unwrap_or o (link_texts [] None))
     or_nowhere None p = (tt, tt)
     or_nowhere (Some l) p = p
 
@@ -64,7 +64,7 @@ module _ (e : LineEnding) where
     leads_to_fits (Resource destination title) p = p
     leads_to_fits (Reference label) p = or_nowhere (m.definition label) (fits label)
 
-    url-with : (l : Linked) → LinkedFits l → url_of meaning_with (linked_with l) ≡ url_of m l
+    url-with : (l : LinkTexts) → LinkedFits l → url_of meaning_with (linked_with l) ≡ url_of m l
     url-with l p = ap (λ cs. plain (string_text m.on m.names cs)) (codes-kept e l.destination (plains_no_feed l.destination p.0))
 
     permitted_no_feed : (all : Bool) (protocols : List (List ℕ)) (url : List ℕ) → Each IsNoFeed (permitted_url all protocols url)
@@ -132,21 +132,21 @@ module _ (e : LineEnding) where
 
     -- ---- tags of links and images
 
-    abbrev link_attributes : Meaning → Linked → List Attribute
+    abbrev link_attributes : Meaning → LinkTexts → List Attribute
     link_attributes n l = attribute (codes "href") (link_url m.compile (url_of n l)) ∷ title_attribute n l.title
 
-    link-with : (l : Linked) → LinkedFits l → AttributesWith e (link_attributes meaning_with (linked_with l)) (link_attributes m l)
+    link-with : (l : LinkTexts) → LinkedFits l → AttributesWith e (link_attributes meaning_with (linked_with l)) (link_attributes m l)
     link-with l p =
         let title' = title_attribute meaning_with (option_map (codes_with e) l.title) in
         let href = attribute (codes "href") (link_url m.compile (url_of m l)) in
         ap (λ url. flat_map attribute_bytes (attribute (codes "href") (link_url m.compile url) ∷ title')) (url-with l p)
         ∙ more_attributes e href href title' (title_attribute m l.title) (link_url-with (url_of m l)) (title-with l.title p.1)
 
-    abbrev image_attributes : Meaning → Linked → List Said → List Attribute
+    abbrev image_attributes : Meaning → LinkTexts → List PrintedPart → List Attribute
     image_attributes n l said =
         attribute (codes "src") (image_url m.compile (url_of n l)) ∷ record { name = codes "alt"; value = said } ∷ title_attribute n l.title
 
-    image-with : (l : Linked) (said' said : List Said) → LinkedFits l → SaidsWith e said' said
+    image-with : (l : LinkTexts) (said' said : List PrintedPart) → LinkedFits l → SaidsWith e said' said
         → AttributesWith e (image_attributes meaning_with (linked_with l) said') (image_attributes m l said)
     image-with l said' said p q =
         let title' = title_attribute meaning_with (option_map (codes_with e) l.title) in
@@ -263,7 +263,7 @@ module _ (e : LineEnding) where
           let to = leads_to m.definition target in
           let said' = description m.compile (inlines_with e kids) in
           let said = description m.compile kids in
-          let void : Linked → Meaning → List Said → Piece = λ l n all. Void (image_tag n l all) in
+          let void : LinkTexts → Meaning → List PrintedPart → Piece = λ l n all. Void (image_tag n l all) in
           append-with e m.compile (void (leads_to other (target_with e target)) meaning_with said' ∷ []) (void to m said ∷ [])
           (inline_counts meaning_with (inlines_with e kids)) (inline_counts m kids)
           (subst (λ l. PiecesWith e m.compile (void l meaning_with said' ∷ []) (void to m said ∷ [])) (sym (leads_to-with target))

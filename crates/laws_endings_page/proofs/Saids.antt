@@ -18,7 +18,7 @@ use Rattle.definition_inline.specs.CharacterReference.{reference_at}
 use Rattle.definition_inline.specs.HardBreak.{line_end_at}
 use Rattle.definition_inline.specs.Strings.{begins_with_eol, spaces_at, string_leaf_at, or_byte, string_parts, string_bytes, string_text}
 use Rattle.definition_page.specs.GfmTagfilter.{filter_if}
-use Rattle.definition_page.specs.Tags.{Said, Words, AsItIs, EndOfLine, said_bytes}
+use Rattle.definition_page.specs.Tags.{PrintedPart, Words, AsItIs, EndOfLine, said_bytes}
 use Rattle.definition_page.specs.InlinePieces.{raw_html, HtmlLine, html_text_line, in_first_line, html_lines, html_line_says, later_line_says, html_lines_say}
 use Rattle.definition_page.specs.InlinePieces.{html_says, part_says, description}
 use Rattle.laws_endings.specs.Endings.{with_ending, code_with, codes_with}
@@ -136,23 +136,23 @@ module _ (e : LineEnding) where
 
   -- ---- what is said
 
-  abbrev pub SaidWith : Said → Said → Type 0
+  abbrev pub SaidWith : PrintedPart → PrintedPart → Type 0
   SaidWith other one = said_bytes other ≡ with_ending e (said_bytes one)
 
-  abbrev pub SaidsWith : List Said → List Said → Type 0
+  abbrev pub SaidsWith : List PrintedPart → List PrintedPart → Type 0
   SaidsWith others ones = flat_map said_bytes others ≡ with_ending e (flat_map said_bytes ones)
 
   -- bytes one after another
   pub then-with : (xs' xs ys' ys : List ℕ) → xs' ≡ with_ending e xs → ys' ≡ with_ending e ys → xs' ++ ys' ≡ with_ending e (xs ++ ys)
   then-with xs' xs ys' ys p q = ap (λ first. first ++ ys') p ∙ ap (λ more. with_ending e xs ++ more) q ∙ sym (with-append e xs ys)
 
-  pub says_more : (s' s : Said) (ss' ss : List Said) → SaidWith s' s → SaidsWith ss' ss → SaidsWith (s' ∷ ss') (s ∷ ss)
+  pub says_more : (s' s : PrintedPart) (ss' ss : List PrintedPart) → SaidWith s' s → SaidsWith ss' ss → SaidsWith (s' ∷ ss') (s ∷ ss)
   says_more s' s ss' ss p q = then-with (said_bytes s') (said_bytes s) (flat_map said_bytes ss') (flat_map said_bytes ss) p q
 
-  pub says_one : (s' s : Said) → SaidWith s' s → SaidsWith (s' ∷ []) (s ∷ [])
+  pub says_one : (s' s : PrintedPart) → SaidWith s' s → SaidsWith (s' ∷ []) (s ∷ [])
   says_one s' s p = says_more s' s [] [] p refl
 
-  pub says_append : (xs' xs ys' ys : List Said) → SaidsWith xs' xs → SaidsWith ys' ys → SaidsWith (xs' ++ ys') (xs ++ ys)
+  pub says_append : (xs' xs ys' ys : List PrintedPart) → SaidsWith xs' xs → SaidsWith ys' ys → SaidsWith (xs' ++ ys') (xs ++ ys)
   says_append xs' xs ys' ys p q =
       flat_map-append said_bytes xs' ys'
       ∙ then-with (flat_map said_bytes xs') (flat_map said_bytes xs) (flat_map said_bytes ys') (flat_map said_bytes ys) p q

@@ -5,7 +5,7 @@ use Rattle.std.specs.List.{prefix_len}
 use Rattle.std.proofs.lemmas.Bool.{cond_both, both_ways, false_from_ne_true, eqb-true, and_parts, or_parts, or_from}
 use Rattle.definition_text.specs.Columns.{is_tab_column}
 use Rattle.definition_text.specs.Bytes.{begins_with, after_all}
-use Rattle.definition_text.specs.Content.{is_eol, Part, before, up_to, closed_by, may_escape, at_line_start}
+use Rattle.definition_text.specs.Content.{is_eol, Part, text_before, up_to, closed_by, may_escape, at_line_start}
 use Rattle.definition_inline.specs.Definition.{Definition, definition_at, next_line, definition_before, with_title, definition_with_title}
 use Rattle.definition_inline.specs.Definition.{or_definition_without_title, with_destination, with_colon, with_label}
 use Rattle.definition_inline.specs.Space.{after_spaces, after_ending, after_white, begins_with_space}
@@ -75,14 +75,14 @@ apart_then content middle rest a b =
     }
 
 -- what stands before the rest
-before_front : (front rest : List ℕ) → before (front ++ rest) rest ≡ front
+before_front : (front rest : List ℕ) → text_before (front ++ rest) rest ≡ front
 before_front front rest =
     let size : length (front ++ rest) - length rest ≡ length front = omega (arith, length-append front rest) in
     ap (λ n. take n (front ++ rest)) size ∙ take_at front rest (length front) refl
 
-pub before_apart : (content rest : List ℕ) → Apart content rest → Each IsNoEnding (before content rest)
+pub before_apart : (content rest : List ℕ) → Apart content rest → Each IsNoEnding (text_before content rest)
 before_apart content rest a =
-    subst (λ cs. Each IsNoEnding (before cs rest)) (sym a.same) (subst (Each IsNoEnding) (sym (before_front a.front rest)) a.clear)
+    subst (λ cs. Each IsNoEnding (text_before cs rest)) (sym a.same) (subst (Each IsNoEnding) (sym (before_front a.front rest)) a.clear)
 
 pub after_all_apart : (test : ℕ → Bool) (content : List ℕ) → test 10 ≡ false → test 13 ≡ false → test 257 ≡ false → Apart content (after_all test content)
 after_all_apart test content p q r =
@@ -200,11 +200,11 @@ bare_apart depth escaped opened (c ∷ cs) p =
 
 up_to_apart : (cs : List ℕ) (o : Option (List ℕ)) → Each Single cs → EndsApart cs o → DestinationFits (up_to cs o)
 up_to_apart cs None p q = tt
-up_to_apart cs (Some rest) p q = (each_plain (before cs rest) (each-take Single _ cs p) (before_apart cs rest q.0), q.1)
+up_to_apart cs (Some rest) p q = (each_plain (text_before cs rest) (each-take Single _ cs p) (before_apart cs rest q.0), q.1)
 
 closed_apart : (cs : List ℕ) (o : Option (List ℕ)) → Each Single cs → EndsApart cs o → DestinationFits (closed_by cs o)
 closed_apart cs None p q = tt
-closed_apart cs (Some rest) p q = (each_plain (before cs rest) (each-take Single _ cs p) (before_apart cs rest q.0), each-drop Single 1 rest q.1)
+closed_apart cs (Some rest) p q = (each_plain (text_before cs rest) (each-take Single _ cs p) (before_apart cs rest q.0), each-drop Single 1 rest q.1)
 
 unless_empty_fits : (text : List ℕ) (p : Part) → DestinationFits (Some p) → DestinationFits (unless_empty text p)
 unless_empty_fits [] p h = tt

@@ -9,7 +9,7 @@ use Rattle.std.proofs.lemmas.Bool.{cond_both, cond-false, and_parts}
 use Rattle.markdown_options.specs.declared.configuration.Constructs.{Constructs}
 use Rattle.definition_text.specs.Columns.{is_white, indent}
 use Rattle.definition_text.specs.Bytes.{begins_with, after_all}
-use Rattle.definition_text.specs.Content.{Part, before, up_to, is_eol}
+use Rattle.definition_text.specs.Content.{Part, text_before, up_to, is_eol}
 use Rattle.definition_text.specs.Runs.{run, after_run}
 use Rattle.definition_text.specs.InlineCode.{InlineCode, codes_of}
 use Rattle.definition_inline.specs.Inline.{Data, Escape, Autolink, Literal, EscapedBreak, TrailingBreak, LineEnd, Leaf, leaf, or_else}
@@ -22,7 +22,7 @@ use Rattle.definition_inline.specs.Autolink.{email_end, closed_autolink, autolin
 use Rattle.definition_inline.specs.HtmlText.{html_byte, html_end, html_leaf, html_text_at}
 use Rattle.definition_inline.specs.HardBreak.{line_end_at, escaped_break_at, is_trailing_break, line_spaces_at}
 use Rattle.definition_inline.specs.Space.{after_white, begins_with_space}
-use Rattle.definition_inline.specs.Resource.{LinkResource, resource_end, with_title, opens_title, with_destination, resource_inside, resource_at}
+use Rattle.definition_inline.specs.Resource.{LinkResource, resource_end, resource_with_title, opens_title, resource_with_destination, resource_inside, resource_at}
 use Rattle.definition_inline.specs.Label.{label_at}
 use Rattle.definition_inline.specs.Destination.{destination_at}
 use Rattle.definition_inline.specs.Title.{title_at}
@@ -54,22 +54,22 @@ resource_end_fits : (destination : List ℕ) (title : Option (List ℕ)) (cs : L
 resource_end_fits destination title [] p q = tt
 resource_end_fits destination title (c ∷ cs) p q = where_passed (λ (r : LinkResource). Each Plain r.destination × TitleFits r.title) (eqb c 41) _ (p, q)
 
-resource_title_fits : (destination : List ℕ) (o : Option Part) → Each Plain destination → PartFits Single o → ResourceFits (with_title destination o)
+resource_title_fits : (destination : List ℕ) (o : Option Part) → Each Plain destination → PartFits Single o → ResourceFits (resource_with_title destination o)
 resource_title_fits destination None p q = tt
 resource_title_fits destination (Some title) p q = resource_end_fits destination (Some title.text) (after_white title.rest) p q.0
 
-resource_destination_fits : (o : Option Part) → DestinationFits o → ResourceFits (with_destination o)
+resource_destination_fits : (o : Option Part) → DestinationFits o → ResourceFits (resource_with_destination o)
 resource_destination_fits None p = tt
 resource_destination_fits (Some destination) p =
     let next = after_white destination.rest in
-    cond_both (begins_with_space destination.rest && opens_title next) (with_title destination.text (title_at next)) _ ResourceFits
+    cond_both (begins_with_space destination.rest && opens_title next) (resource_with_title destination.text (title_at next)) _ ResourceFits
     (λ _. resource_title_fits destination.text (title_at next) p.0 (title_fits Single next (white_fits Single destination.rest p.1)))
     (λ _. resource_end_fits destination.text None next p.0 tt)
 
 resource_inside_fits : (cs : List ℕ) → Each Single cs → ResourceFits (resource_inside cs)
 resource_inside_fits [] p = tt
 resource_inside_fits (c ∷ cs) p =
-    cond_both (eqb c 41) (resource_end [] None (c ∷ cs)) (with_destination (destination_at (Some 32) (c ∷ cs))) ResourceFits
+    cond_both (eqb c 41) (resource_end [] None (c ∷ cs)) (resource_with_destination (destination_at (Some 32) (c ∷ cs))) ResourceFits
     (λ _. resource_end_fits [] None (c ∷ cs) tt tt)
     (λ _. resource_destination_fits (destination_at (Some 32) (c ∷ cs)) (destination_fits (Some 32) (c ∷ cs) p))
 
@@ -150,7 +150,7 @@ raw_none_fits marker content h =
 raw_fits : (marker : ℕ) (content rest : List ℕ) (o : Option (List ℕ)) → Plain marker → Each Single rest
     → LeafFits (raw_leaf marker (run marker content) content (up_to rest o))
 raw_fits marker content rest None h p = raw_none_fits marker content h
-raw_fits marker content rest (Some end) h p = (part_fits marker (before rest end) (each-take Single _ rest p), tt)
+raw_fits marker content rest (Some end) h p = (part_fits marker (text_before rest end) (each-take Single _ rest p), tt)
 
 raw_at_fits : (marker : ℕ) (may_open : Bool) (content : List ℕ) → Plain marker → Each Single content → BeginsFit (raw_at marker may_open content)
 raw_at_fits marker may_open content h p =
@@ -190,8 +190,8 @@ autolink_fits : (is_email : Bool) (content : List ℕ) (o : Option (List ℕ)) �
     → BeginsFit (closed_autolink is_email content o)
 autolink_fits is_email content None p q = tt
 autolink_fits is_email content (Some rest) p q =
-    where_passed LeafFits _ (leaf (Autolink is_email (before content rest) ∷ []) _)
-    (each_plain (before content rest) (each-take Single _ content p) (before_apart content rest q), tt)
+    where_passed LeafFits _ (leaf (Autolink is_email (text_before content rest) ∷ []) _)
+    (each_plain (text_before content rest) (each-take Single _ content p) (before_apart content rest q), tt)
 
 html_fits : (content : List ℕ) (o : Option (List ℕ)) → Each Single content → BeginsFit (html_leaf content o)
 html_fits content None p = tt

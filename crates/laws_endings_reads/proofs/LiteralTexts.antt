@@ -10,7 +10,7 @@ use Rattle.definition_text.specs.Columns.{is_white}
 use Rattle.definition_text.specs.Content.{is_eol, is_space}
 use Rattle.definition_inline.specs.Inline.{Www, Protocol}
 use Rattle.definition_inline.specs.GfmAutolinkLiteral.{may_precede_www, may_precede_protocol, begins_caselessly, LiteralStart, literal_start, or_start}
-use Rattle.definition_inline.specs.GfmAutolinkLiteral.{www_start, protocol_start, literal_start_at, ends_label, ends_literal, literal_run, is_cut, cut_more}
+use Rattle.definition_inline.specs.GfmAutolinkLiteral.{www_start, protocol_start, literal_start_at, follows_label, ends_literal, literal_run, is_cut, cut_more}
 use Rattle.definition_inline.specs.GfmAutolinkLiteral.{without_tail, literal_name}
 use Rattle.laws_endings.proofs.Literals.{is_apart}
 use Rattle.laws_endings_reads.proofs.Each.{Each, each-append}
@@ -30,7 +30,7 @@ run_plain : (cs : List ℕ) → Each Single cs → Each Plain (literal_run cs)
 run_plain [] h = tt
 run_plain (c ∷ cs) h =
     cond_both (ends_literal c cs) [] (c ∷ literal_run cs) (Each Plain) (λ _. tt)
-    (λ goes. ((h.0, (or_parts (is_white c) (is_eol c) (or_parts (is_space c) (eqb c 60 || (eqb c 93 && ends_label cs)) goes).0).1), run_plain cs h.1))
+    (λ goes. ((h.0, (or_parts (is_white c) (is_eol c) (or_parts (is_space c) (eqb c 60 || (eqb c 93 && follows_label cs)) goes).0).1), run_plain cs h.1))
 
 pub name_plain : (cs : List ℕ) → Each Single cs → Each Plain (literal_name cs)
 name_plain cs h =

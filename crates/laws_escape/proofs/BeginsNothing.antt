@@ -11,7 +11,7 @@ use Rattle.definition_text.specs.Indents.{small_indent}
 use Rattle.definition_text.specs.Bytes.{begins_with}
 use Rattle.definition_text.specs.Runs.{run}
 use Rattle.definition_block.specs.BlockQuote.{after_byte, after_mark, quote_prefix}
-use Rattle.definition_block.specs.ListItem.{is_digit, number_of, bullet, delimiter, ordered_marker, marker, item_after, item_start}
+use Rattle.definition_block.specs.ListItem.{is_digit, number_of, bullet, after_number, ordered_marker, marker, item_after, item_start}
 use Rattle.definition_block.specs.GfmFootnoteDefinition.{after_bracket, footnote_mark, footnote_of, footnote_start}
 use Rattle.definition_block.specs.Containers.{quote_or, footnote_or, starts}
 use Rattle.definition_block.specs.CodeIndented.{starts_code_indented}
@@ -32,7 +32,7 @@ pub record BeginsNothing (first : ℕ) (others : List ℕ) : Type 0 where
   pub bytes : list_all is_line_byte (first ∷ others) ≡ true
   pub no_white : is_white first ≡ false
   pub no_punctuation : (x : ℕ) → is_ascii_punctuation x ≡ true → (x == 92) ≡ false → (first == x) ≡ false
-  pub no_delimiter : (number digits : ℕ) → delimiter number digits (drop (prefix_len is_digit (first ∷ others)) (first ∷ others)) ≡ None
+  pub no_delimiter : (number digits : ℕ) → after_number number digits (drop (prefix_len is_digit (first ∷ others)) (first ∷ others)) ≡ None
 
 pub unless : {A : Type 0} (b : Bool) (o : Option A) → o ≡ None → cond b o None ≡ None
 unless b o none = cond_both b o None (λ x. x ≡ None) (λ _. none) (λ _. refl)

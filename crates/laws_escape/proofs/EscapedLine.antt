@@ -5,7 +5,7 @@ use Rattle.std.specs.List.{list_all, prefix_len}
 use Rattle.std.specs.Char.{is_ascii_punctuation}
 use Rattle.std.proofs.lemmas.Bool.{cases_Bool, cond-true, cond-false, and_parts, or_parts, or_from, ltb-true}
 use Rattle.definition_text.specs.Lines.{has_mark}
-use Rattle.definition_block.specs.ListItem.{is_digit, delimiter}
+use Rattle.definition_block.specs.ListItem.{is_digit, after_number}
 use Rattle.laws_visible.proofs.PlainText.{AreInLine, and_no}
 use Rattle.laws_inline.specs.Escaped.{with_backslashes, is_line_byte, IsTrimmedLine}
 use Rattle.laws_inline.proofs.Escaped.{no_and, other, line_byte, not_white, escaped_punctuation, escaped_other}
@@ -37,26 +37,26 @@ line_bytes (b ∷ bs) all =
     split (λ xs. list_all is_line_byte xs ≡ true) b bs (λ _. later) (λ _. later)
 
 no_delimiter_after : (number digits : ℕ) (bytes : List ℕ)
-    → delimiter number digits (drop (prefix_len is_digit (with_backslashes bytes)) (with_backslashes bytes)) ≡ None
+    → after_number number digits (drop (prefix_len is_digit (with_backslashes bytes)) (with_backslashes bytes)) ≡ None
 no_delimiter_after number digits [] = refl
 no_delimiter_after number digits (b ∷ bs) =
     let later = no_delimiter_after number digits bs in
-    split (λ xs. delimiter number digits (drop (prefix_len is_digit xs) xs) ≡ None) b bs (λ _. refl)
+    split (λ xs. after_number number digits (drop (prefix_len is_digit xs) xs) ≡ None) b bs (λ _. refl)
     (λ off. elim (cases_Bool (is_digit b)) [
       | inl digit ↦
           let one_more : prefix_len is_digit (b ∷ with_backslashes bs) ≡ suc (prefix_len is_digit (with_backslashes bs)) =
           cond-true (is_digit b) (1 + prefix_len is_digit (with_backslashes bs)) 0 digit ∙ omega arith in
-          ap (λ n. delimiter number digits (drop n (b ∷ with_backslashes bs))) one_more ∙ later
+          ap (λ n. after_number number digits (drop n (b ∷ with_backslashes bs))) one_more ∙ later
       | inr no_digit ↦
-          ap (λ n. delimiter number digits (drop n (b ∷ with_backslashes bs)))
+          ap (λ n. after_number number digits (drop n (b ∷ with_backslashes bs)))
           (cond-false (is_digit b) (1 + prefix_len is_digit (with_backslashes bs)) 0 no_digit)
           ∙ cond-false ((b == 46) || (b == 41)) _ None (or_from (b == 46) (b == 41) (other b 46 off refl) (other b 41 off refl))
     ])
 
 marks_nothing : (b : ℕ) (bs others : List ℕ) (first : ℕ) → with_backslashes (b ∷ bs) ≡ first ∷ others → (number digits : ℕ)
-    → delimiter number digits (drop (prefix_len is_digit (first ∷ others)) (first ∷ others)) ≡ None
+    → after_number number digits (drop (prefix_len is_digit (first ∷ others)) (first ∷ others)) ≡ None
 marks_nothing b bs others first are number digits =
-    ap (λ xs. delimiter number digits (drop (prefix_len is_digit xs) xs)) (sym are) ∙ no_delimiter_after number digits (b ∷ bs)
+    ap (λ xs. after_number number digits (drop (prefix_len is_digit xs) xs)) (sym are) ∙ no_delimiter_after number digits (b ∷ bs)
 
 pub begins_nothing : (b : ℕ) (bs : List ℕ) → IsTrimmedLine (b ∷ bs) → Begins (with_backslashes (b ∷ bs))
 begins_nothing b bs h =

@@ -15,7 +15,7 @@ use Rattle.definition_text.specs.BlockLines.{BlockLine, block_line}
 use Rattle.definition_text.specs.InlineCode.{inline_content}
 use Rattle.definition_block.specs.Tree.{Paragraph, block_and_ending, blocks}
 use Rattle.definition_inline.specs.Scan.{inlines}
-use Rattle.definition_page.specs.Layout.{laid}
+use Rattle.definition_page.specs.Layout.{layout_state}
 use Rattle.definition_page.specs.Targets.{no_targets}
 use Rattle.definition_page.specs.TextTables.{TextTables}
 use Rattle.html_bytes.specs.Document.{Document, document, context_of, meaning_of, text_of}
@@ -50,7 +50,7 @@ paragraph_html : (tables : TextTables) (options : Options) (ending : LineEnding)
 paragraph_html tables options ending ls said adds =
     let default = ending_bytes ending in
     let text = text_of (document options tables no_targets) ls in
-    ap (with_footnotes options.compile default) (paragraph_adds options.compile default text said adds (laid (codes "<p>") [] [] []))
+    ap (with_footnotes options.compile default) (paragraph_adds options.compile default text said adds (layout_state (codes "<p>") [] [] []))
     ∙ sym (append_assoc (codes "<p>") said (codes "</p>"))
 
 -- what the paragraph of an escaped line says

@@ -13,14 +13,14 @@ use Rattle.definition_text.specs.Runs.{run}
 use Rattle.definition_inline.specs.Label.{label_at}
 use Rattle.definition_inline.specs.Definition.{with_label, definition_at}
 use Rattle.definition_block.specs.ContainerStart.{ContainerStart}
-use Rattle.definition_block.specs.Definitions.{Cut, cut_into, cut_after, cut_most, cut}
+use Rattle.definition_block.specs.Definitions.{DefinitionCut, cut_into, cut_after, cut_most, definition_cut}
 use Rattle.definition_block.specs.Frontmatter.{is_metadata_fence, after_frontmatter}
 use Rattle.definition_block.specs.HeadingSetext.{underline}
 use Rattle.definition_block.specs.ThematicBreak.{is_break}
 use Rattle.definition_block.specs.declared.align_kind.AlignKind.{AlignKind}
 use Rattle.definition_block.specs.GfmTable.{delimiter_row, is_head}
 use Rattle.definition_block.specs.Tree.{is_some_line, table_if, Nil, Paragraph, join, block_and_ending, Text, Leaf, Tree, tree, nothing, empty_tree}
-use Rattle.definition_block.specs.Tree.{with_paragraph, rest_line, begun, tree_or, heading_if, text_line_of, break_or_text, beside_in, leaf_line, start, new}
+use Rattle.definition_block.specs.Tree.{with_paragraph, rest_line, leaf_tree_or, tree_or, heading_if, text_line_of, break_or_text, beside_in, leaf_line, start, new}
 use Rattle.definition_block.specs.Tree.{grow, beside_line, step, blocks_at_end, children, children_after, blocks}
 use Rattle.laws_visible.proofs.PlainText.{and_no, bare_other}
 use Rattle.laws_inline.specs.Escaped.{is_line_byte}
@@ -56,7 +56,7 @@ module _ (on : Constructs) (c : ℕ) (cs : List ℕ) (line : BeginsNothing c cs)
   abbrev in_paragraph : Beside → Tree
   in_paragraph beside = tree Nil (Leaf (Text (rest_line here beside ∷ [])))
 
-  cut_none : cut on [] ≡ cut_into Nil []
+  cut_none : definition_cut on [] ≡ cut_into Nil []
   cut_none = cond_both on.definition (cut_most 0 []) (cut_into Nil []) (λ x. x ≡ cut_into Nil []) (λ _. refl) (λ _. refl)
 
   its_text : (beside : Beside) → text_line_of on nothing here beside ≡ in_paragraph beside
@@ -65,14 +65,14 @@ module _ (on : Constructs) (c : ℕ) (cs : List ℕ) (line : BeginsNothing c cs)
   no_table : (o : Option (List AlignKind)) (row : BlockLine) → table_if on o [] row ≡ None
   no_table None row = refl
   no_table (Some columns) row =
-      cond-false (is_some_line (cut on []).left && is_head (length columns) []) _ _ (ap (λ (x : Cut). is_some_line x.left && false) cut_none)
+      cond-false (is_some_line (definition_cut on []).left && is_head (length columns) []) _ _ (ap (λ (x : DefinitionCut). is_some_line x.left && false) cut_none)
 
   its_leaf : (beside : Beside) → leaf_line on nothing here beside ≡ in_paragraph beside
   its_leaf beside =
       let text = break_or_text on nothing here beside in
       let turned = λ (o : Option ℕ). tree_or (heading_if on o [] beside.ending) text in
       cond-false (is_blank here) _ _ (not_blank on c cs line)
-      ∙ ap (λ o. begun on o nothing (turned (underline on here))) (no_leaf on c cs line beside)
+      ∙ ap (λ o. leaf_tree_or on o nothing (turned (underline on here))) (no_leaf on c cs line beside)
       ∙ ap turned (no_underline on c cs line)
       ∙ cond-false (is_break on here) _ _ (no_break on c cs line)
       ∙ ap (λ o. tree_or o (text_line_of on nothing here beside)) (no_table (delimiter_row on here) (rest_line here beside)) ∙ its_text beside
@@ -98,7 +98,7 @@ module _ (on : Constructs) (c : ℕ) (cs : List ℕ) (line : BeginsNothing c cs)
       ap (λ xs. with_label (label_at xs)) (bare_other c others line.no_white)
       ∙ ap with_label (cond-false (c == 91) _ _ (line.no_punctuation 91 refl refl))
 
-  uncut : (before : Kind) → cut on (alone before ∷ []) ≡ cut_into Nil (alone before ∷ [])
+  uncut : (before : Kind) → definition_cut on (alone before ∷ []) ≡ cut_into Nil (alone before ∷ [])
   uncut before =
       cond_both on.definition (cut_most 1 (alone before ∷ [])) (cut_into Nil (alone before ∷ [])) (λ x. x ≡ cut_into Nil (alone before ∷ []))
       (λ _. ap (λ o. cut_after o (alone before ∷ []) (cut_most 0)) (no_definition ((cs ++ []) ++ []))) (λ _. refl)

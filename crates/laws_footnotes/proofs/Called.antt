@@ -5,7 +5,7 @@ use Rattle.std.proofs.lemmas.Bool.Decides.{eqb_tells}
 use Rattle.std.specs.List.{fold}
 use Rattle.markdown_options.specs.declared.configuration.CompileOptions.{CompileOptions}
 use Rattle.definition_page.specs.Pieces.{Piece, Open, Close, Void, Says, Eol, Fresh, CallOf, CountOf, NoteStart, NoteEnd, print}
-use Rattle.definition_page.specs.Layout.{NoteCalls, Laid, laid, latest_call, lay, note_end, note_of, once_more}
+use Rattle.definition_page.specs.Layout.{NoteCalls, LayoutState, layout_state, latest_call, lay, note_end, note_of, once_more}
 use Rattle.definition_page.specs.GfmFootnoteDefinition.{section_pieces}
 use Rattle.laws_footnotes.specs.Footnotes.{calls_at, calls_of, laid_out, only_calls, NoCallLaw, CountedCallsLaw, CountLaw}
 
@@ -21,7 +21,7 @@ ended_called text [] notes cs = refl
 ended_called text (around ∷ others) notes cs = refl
 
 -- the footnotes that are called after one more piece
-laid_called : (options : CompileOptions) (default : List ℕ) (l : Laid) (p : Piece) → (lay options default l p).called ≡ called_by l.called p
+laid_called : (options : CompileOptions) (default : List ℕ) (l : LayoutState) (p : Piece) → (lay options default l p).called ≡ called_by l.called p
 laid_called options default l (CallOf place label) = refl
 laid_called options default l (CountOf place label) = refl
 laid_called options default l NoteStart = refl
@@ -34,7 +34,7 @@ laid_called options default l Eol = refl
 laid_called options default l Fresh = refl
 
 -- the footnotes that are called after more pieces
-pub all_called : (options : CompileOptions) (default : List ℕ) (ps : List Piece) (l : Laid)
+pub all_called : (options : CompileOptions) (default : List ℕ) (ps : List Piece) (l : LayoutState)
     → (fold (lay options default) l ps).called ≡ fold called_by l.called ps
 all_called options default [] l = refl
 all_called options default (p ∷ ps) l =
@@ -56,7 +56,7 @@ only_called (Fresh ∷ ps) cs = only_called ps cs
 
 pub counted_calls_law : CountedCallsLaw
 counted_calls_law options default ps =
-    all_called options default ps (laid [] [] [] []) ∙ only_called ps [] ∙ sym (all_called options default (only_calls ps) (laid [] [] [] []))
+    all_called options default ps (layout_state [] [] [] []) ∙ only_called ps [] ∙ sym (all_called options default (only_calls ps) (layout_state [] [] [] []))
 
 -- pieces without a call have none among them
 none_called : (ps : List Piece) → calls_of ps ≡ [] → only_calls ps ≡ []
@@ -149,6 +149,6 @@ counts_called place (Fresh ∷ ps) cs = counts_called place ps cs
 
 pub count_law : CountLaw
 count_law options default ps place =
-    let start : Laid = laid [] [] [] [] in
+    let start : LayoutState = layout_state [] [] [] [] in
     let zero_more : 0 + calls_at place (calls_of ps) ≡ calls_at place (calls_of ps) = omega arith in
     count_is place 1 (laid_out options default ps).called ∙ ap (count_in place) (all_called options default ps start) ∙ counts_called place ps [] ∙ zero_more

@@ -3,11 +3,11 @@ use Rattle.std.proofs.Common.{◌≡◌, ℕ, List, [], ◌∷◌, ◌++◌, ref
 use Rattle.std.specs.List.{fold}
 use Rattle.markdown_options.specs.declared.configuration.CompileOptions.{CompileOptions}
 use Rattle.definition_page.specs.Pieces.{Piece, Open, Close, Void, Says, Eol, Fresh, CallOf, CountOf, NoteStart, NoteEnd}
-use Rattle.definition_page.specs.Layout.{Laid, laid, lay, note_end}
+use Rattle.definition_page.specs.Layout.{LayoutState, layout_state, lay, note_end}
 use Rattle.laws_footnotes.specs.Footnotes.{HasNoNote, ContentLaw}
 
 -- pieces without a footnote keep the texts around
-pub same_outer : (options : CompileOptions) (default : List ℕ) (ps : List Piece) (l : Laid) → HasNoNote ps → (fold (lay options default) l ps).outer ≡ l.outer
+pub same_outer : (options : CompileOptions) (default : List ℕ) (ps : List Piece) (l : LayoutState) → HasNoNote ps → (fold (lay options default) l ps).outer ≡ l.outer
 same_outer options default [] l has = refl
 same_outer options default (CallOf place label ∷ ps) l has = same_outer options default ps (lay options default l (CallOf place label)) has
 same_outer options default (CountOf place label ∷ ps) l has = same_outer options default ps (lay options default l (CountOf place label)) has
@@ -21,7 +21,7 @@ same_outer options default (NoteStart ∷ ps) l has = absurd has
 same_outer options default (NoteEnd ∷ ps) l has = absurd has
 
 -- and the contents of the footnotes that have ended
-pub same_notes : (options : CompileOptions) (default : List ℕ) (ps : List Piece) (l : Laid) → HasNoNote ps → (fold (lay options default) l ps).notes ≡ l.notes
+pub same_notes : (options : CompileOptions) (default : List ℕ) (ps : List Piece) (l : LayoutState) → HasNoNote ps → (fold (lay options default) l ps).notes ≡ l.notes
 same_notes options default [] l has = refl
 same_notes options default (CallOf place label ∷ ps) l has = same_notes options default ps (lay options default l (CallOf place label)) has
 same_notes options default (CountOf place label ∷ ps) l has = same_notes options default ps (lay options default l (CountOf place label)) has
@@ -35,15 +35,15 @@ same_notes options default (NoteStart ∷ ps) l has = absurd has
 same_notes options default (NoteEnd ∷ ps) l has = absurd has
 
 -- one more piece
-pub one_more : (options : CompileOptions) (default : List ℕ) (ps : List Piece) (l : Laid) (p : Piece)
+pub one_more : (options : CompileOptions) (default : List ℕ) (ps : List Piece) (l : LayoutState) (p : Piece)
     → fold (lay options default) l (ps ++ p ∷ []) ≡ lay options default (fold (lay options default) l ps) p
 one_more options default [] l p = refl
 one_more options default (q ∷ ps) l p = one_more options default ps (lay options default l q) p
 
 pub content_law : ContentLaw
 content_law options default ps l has =
-    let start : Laid = laid [] (l.text ∷ l.outer) l.notes l.called in
-    let inner : Laid = fold (lay options default) start ps in
+    let start : LayoutState = layout_state [] (l.text ∷ l.outer) l.notes l.called in
+    let inner : LayoutState = fold (lay options default) start ps in
     one_more options default ps start NoteEnd
     ∙ ap (λ (outer : List (List ℕ)). note_end inner.text outer inner.notes inner.called) (same_outer options default ps start has)
-    ∙ ap (λ (notes : List (List ℕ)). laid l.text l.outer (notes ++ inner.text ∷ []) inner.called) (same_notes options default ps start has)
+    ∙ ap (λ (notes : List (List ℕ)). layout_state l.text l.outer (notes ++ inner.text ∷ []) inner.called) (same_notes options default ps start has)

@@ -13,7 +13,7 @@ use Rattle.definition_text.specs.BlockLines.{BlockLine}
 use Rattle.definition_block.specs.declared.align_kind.AlignKind.{AlignKind}
 use Rattle.definition_inline.specs.Inline.{Inline, Html as RawHtml, Emphasis, Strong, Strikethrough, Link, Image, Call, Inlines, Nil as NoText, Cons as Text}
 use Rattle.definition_inline.specs.LabelMatch.{normal_label, first_match}
-use Rattle.definition_page.specs.Tags.{Said, Words, Tag, tag, bare_tag}
+use Rattle.definition_page.specs.Tags.{PrintedPart, Words, Tag, tag, bare_tag}
 use Rattle.definition_page.specs.Pieces.{Piece, Open, Close, Void, Says, Eol, Fresh, CallOf, CountOf, NoteStart, NoteEnd}
 use Rattle.definition_page.specs.InlinePieces.{Meaning, element, html_says, call_at, count_at, part_counts, inline_counts, part_pieces, inline_pieces, link_tag}
 use Rattle.definition_page.specs.InlinePieces.{leads_to}
@@ -73,7 +73,7 @@ module _ (m : Meaning) where
   either_leads true xs ys a b = a
   either_leads false xs ys a b = b
 
-  says_lead : (parts : List Said) → Lead (map Says parts)
+  says_lead : (parts : List PrintedPart) → Lead (map Says parts)
   says_lead [] = no_calls
   says_lead (part ∷ parts) = says_lead parts
 

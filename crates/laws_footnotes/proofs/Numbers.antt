@@ -4,7 +4,7 @@ use Rattle.std.proofs.lemmas.Bool.{cond-true, cond-false}
 use Rattle.std.proofs.lemmas.Bool.Decides.{eqb_tells}
 use Rattle.std.specs.List.{fold}
 use Rattle.definition_page.specs.Pieces.{Piece, Open, Close, Void, Says, Eol, Fresh, CallOf, CountOf, NoteStart, NoteEnd}
-use Rattle.definition_page.specs.Layout.{NoteCalls, laid, once_more}
+use Rattle.definition_page.specs.Layout.{NoteCalls, layout_state, once_more}
 use Rattle.laws_footnotes.specs.Footnotes.{calls_of, is_among, places, NumberLaw}
 use Rattle.laws_footnotes.proofs.Called.{all_called, called_by}
 
@@ -91,7 +91,7 @@ one_more (q ∷ ps) cs p = one_more ps (called_by cs q) p
 
 pub number_law : NumberLaw
 number_law options default ps place label =
-    let start = laid [] [] [] [] in
+    let start = layout_state [] [] [] [] in
     let old = fold called_by [] ps in
     ap places (all_called options default (ps ++ CallOf place label ∷ []) start ∙ one_more ps [] (CallOf place label))
     ∙ places_once place label old

@@ -6,7 +6,7 @@ use Rattle.std.proofs.lemmas.Bool.Decides.{eqb_tells}
 use Rattle.std.specs.List.{fold}
 use Rattle.markdown_options.specs.declared.configuration.CompileOptions.{CompileOptions}
 use Rattle.definition_page.specs.Pieces.{Piece, CallOf, print}
-use Rattle.definition_page.specs.Layout.{NoteCalls, Laid, laid, latest_call}
+use Rattle.definition_page.specs.Layout.{NoteCalls, LayoutState, layout_state, latest_call}
 use Rattle.definition_page.specs.GfmLabelStartFootnote.{Call, call_pieces}
 use Rattle.laws_footnotes.specs.Footnotes.{calls_at, calls_of, laid_out}
 use Rattle.laws_footnotes.specs.Section.{NamedCall, named_call, named_calls, first_calls, number_by, label_by, PrintedCallLaw}
@@ -154,8 +154,8 @@ latest_is options default earlier later place label =
 pub printed_call_law : PrintedCallLaw
 printed_call_law options default earlier later place label =
     let before = laid_out options default earlier in
-    let laid_now = one_more options default earlier (laid [] [] [] []) (CallOf place label) in
-    let calls_now = ap (λ (l : Laid). l.called) laid_now in
-    ap (λ (l : Laid). l.text) laid_now
+    let laid_now = one_more options default earlier (layout_state [] [] [] []) (CallOf place label) in
+    let calls_now = ap (λ (l : LayoutState). l.called) laid_now in
+    ap (λ (l : LayoutState). l.text) laid_now
     ∙ ap (λ (call : Call). fold (print default) before.text (call_pieces options call))
     (ap (λ (cs : List NoteCalls). latest_call place 1 cs) (sym calls_now) ∙ latest_is options default earlier later place label)

@@ -5,7 +5,7 @@ use Rattle.std.proofs.lemmas.Bool.Decides.{eqb_tells}
 use Rattle.std.specs.List.{filter, fold}
 use Rattle.markdown_options.specs.declared.configuration.CompileOptions.{CompileOptions}
 use Rattle.definition_page.specs.Pieces.{Piece, Open, Close, Void, Says, Eol, Fresh, CallOf, CountOf, NoteStart, NoteEnd, print}
-use Rattle.definition_page.specs.Layout.{NoteCalls, laid, note_of, once_more}
+use Rattle.definition_page.specs.Layout.{NoteCalls, layout_state, note_of, once_more}
 use Rattle.definition_page.specs.GfmFootnoteDefinition.{Footnote, section_pieces}
 use Rattle.laws_footnotes.specs.Footnotes.{calls_at, calls_of, laid_out}
 use Rattle.laws_footnotes.specs.Section.{NamedCall, named_calls, first_calls, item_of, SectionLaw}
@@ -216,7 +216,7 @@ pub called_by_first : (options : CompileOptions) (default : List ℕ) (ps : List
     → (laid_out options default ps).called ≡ map (entry (named_calls ps)) (first_calls (named_calls ps))
 called_by_first options default ps =
     let ks = named_calls ps in
-    all_called options default ps (laid [] [] [] []) ∙ by_calls ps []
+    all_called options default ps (layout_state [] [] [] []) ∙ by_calls ps []
     ∙ ap (fold once []) (sym (all_kept ks)) ∙ summary (λ n. true) ks ∙ ap (map (entry ks)) (all_kept (first_calls ks))
 
 -- with their contents they are the items of the section

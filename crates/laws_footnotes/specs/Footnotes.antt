@@ -3,7 +3,7 @@ use Rattle.std.specs.Prelude.{◌≡◌, ℕ, suc, Bool, true, false, if◌then�
 use Rattle.std.specs.List.{fold}
 use Rattle.markdown_options.specs.declared.configuration.CompileOptions.{CompileOptions}
 use Rattle.definition_page.specs.Pieces.{Piece, CallOf, CountOf, NoteEnd, NoteStart}
-use Rattle.definition_page.specs.Layout.{NoteCalls, Laid, laid, latest_call, lay, page_layout}
+use Rattle.definition_page.specs.Layout.{NoteCalls, LayoutState, layout_state, latest_call, lay, page_layout}
 
 -- the places of the footnotes that these pieces call, in the order of the calls
 abbrev pub calls_of : List Piece → List ℕ
@@ -13,8 +13,8 @@ calls_of (CountOf place label ∷ ps) = place ∷ calls_of ps
 calls_of (piece ∷ ps) = calls_of ps
 
 -- the pieces of a page laid out, before its section of footnotes
-abbrev pub laid_out : CompileOptions → List ℕ → List Piece → Laid
-laid_out options default ps = fold (lay options default) (laid [] [] [] []) ps
+abbrev pub laid_out : CompileOptions → List ℕ → List Piece → LayoutState
+laid_out options default ps = fold (lay options default) (layout_state [] [] [] []) ps
 
 -- a page that calls no footnote has no section of them: its HTML is its text alone
 abbrev pub NoCallLaw : Type 0
@@ -72,6 +72,6 @@ HasNoNote (piece ∷ ps) = HasNoNote ps
 -- the content of a footnote is what was laid out between its start and its end, and it comes after those that ended earlier; the text around it goes on
 abbrev pub ContentLaw : Type 0
 ContentLaw =
-    (options : CompileOptions) (default : List ℕ) (ps : List Piece) (l : Laid) → HasNoNote ps
-    → (let inner : Laid = fold (lay options default) (laid [] (l.text ∷ l.outer) l.notes l.called) ps in
-    fold (lay options default) l (NoteStart ∷ (ps ++ NoteEnd ∷ [])) ≡ laid l.text l.outer (l.notes ++ inner.text ∷ []) inner.called)
+    (options : CompileOptions) (default : List ℕ) (ps : List Piece) (l : LayoutState) → HasNoNote ps
+    → (let inner : LayoutState = fold (lay options default) (layout_state [] (l.text ∷ l.outer) l.notes l.called) ps in
+    fold (lay options default) l (NoteStart ∷ (ps ++ NoteEnd ∷ [])) ≡ layout_state l.text l.outer (l.notes ++ inner.text ∷ []) inner.called)

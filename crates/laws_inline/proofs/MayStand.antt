@@ -8,7 +8,7 @@ use Rattle.std.proofs.lemmas.Bool.{cond_both, and_parts, or_cases, both_ways, eq
 use Rattle.markdown_options.specs.declared.configuration.Constructs.{Constructs}
 use Rattle.definition_text.specs.Columns.{indent}
 use Rattle.definition_text.specs.Bytes.{begins_with}
-use Rattle.definition_text.specs.Content.{Part, before, up_to}
+use Rattle.definition_text.specs.Content.{Part, text_before, up_to}
 use Rattle.definition_text.specs.Runs.{run, after_run}
 use Rattle.definition_text.specs.InlineCode.{InlineCode, codes_of}
 use Rattle.definition_inline.specs.Inline.{Inline, Data, Escape, Character, Code, Math, Autolink, Literal, Html, EscapedBreak, TrailingBreak, LineEnd, Emphasis}
@@ -119,7 +119,7 @@ module _ (on : Constructs) where
   may_close_autolink : (is_email : Bool) (content : List ℕ) (rest : Option (List ℕ)) → on.autolink ≡ true → MayBegin (closed_autolink is_email content rest)
   may_close_autolink is_email content None e = tt
   may_close_autolink is_email content (Some rest) e =
-      cond_both _ (Some (leaf (Autolink is_email (before content rest) ∷ []) (length (before content rest) + 2))) None MayBegin (λ _. (e, tt)) (λ _. tt)
+      cond_both _ (Some (leaf (Autolink is_email (text_before content rest) ∷ []) (length (text_before content rest) + 2))) None MayBegin (λ _. (e, tt)) (λ _. tt)
 
   may_link_after : (content : List ℕ) → on.autolink ≡ true → MayBegin (autolink_after content)
   may_link_after content e =
@@ -381,7 +381,7 @@ module _ (context : InlineContext) where
 
   may_end_by : (content : List ℕ) (label : OpenLabel) (inner : Text) → WhereSome (MayForm constructs label.start) (ended_by context content label inner)
   may_end_by content label inner =
-      let between = before label.from content in
+      let between = text_before label.from content in
       cond_both (may_form_with label.start inner.holds_link) (formed_at context label.start between (drop 1 content)) None
       (WhereSome (MayForm constructs label.start))
       (λ _. may_form_at label.start between (drop 1 content)) (λ _. tt)

@@ -7,7 +7,7 @@ use Rattle.std.specs.Option.{option_map}
 use Rattle.std.proofs.lemmas.Bool.{cond_both, or_from, or_parts, both_ways, not-true}
 use Rattle.markdown_options.specs.declared.configuration.Constructs.{Constructs}
 use Rattle.definition_text.specs.Columns.{indent}
-use Rattle.definition_text.specs.Content.{Part, before, up_to}
+use Rattle.definition_text.specs.Content.{Part, text_before, up_to}
 use Rattle.definition_text.specs.Runs.{run, after_run}
 use Rattle.definition_text.specs.InlineCode.{InlineCode, codes_of}
 use Rattle.definition_inline.specs.Inline.{Target, Inline, Data, Escape, Code, Math, Autolink, EscapedBreak, TrailingBreak, LineEnd, Emphasis, Strong}
@@ -159,7 +159,7 @@ plain_raw marker may_open content =
 
 plain_closed : (is_email : Bool) (content : List ℕ) (rest : Option (List ℕ)) → PlainLeaf (closed_autolink is_email content rest)
 plain_closed is_email content None = tt
-plain_closed is_email content (Some rest) = plain_if _ (leaf (Autolink is_email (before content rest) ∷ []) _) (tt, tt)
+plain_closed is_email content (Some rest) = plain_if _ (leaf (Autolink is_email (text_before content rest) ∷ []) _) (tt, tt)
 
 plain_after : (content : List ℕ) → PlainLeaf (autolink_after content)
 plain_after content =
@@ -383,7 +383,7 @@ module _ (context : InlineContext) where
       → IsGoodStep (label_end_step context content inner open_labels)
   good_label_end content inner [] p hs = good_read (Item (Data 93) ∷ []) (reading inner []) (refl, tt) (refl, tt) (record { now = p; open_labels = tt })
   good_label_end content inner (label ∷ others) p hs =
-      let between = before label.from content in
+      let between = text_before label.from content in
       let found = formed_at context label.start between (drop 1 content) in
       cond_both (may_form label.start inner.holds_link) found None (λ o. IsGoodStep (ended_step label others inner o))
       (λ e. good_end label others inner found e (fits_at context label.start between (drop 1 content)) hs.0 hs.1 p)

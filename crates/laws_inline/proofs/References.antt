@@ -4,7 +4,7 @@ use Rattle.std.specs.List.{fold}
 use Rattle.std.specs.Option.{option_map}
 use Rattle.std.proofs.lemmas.Bool.{cond_both, and_parts, or_from, not_from_true}
 use Rattle.markdown_options.specs.declared.configuration.Constructs.{Constructs}
-use Rattle.definition_text.specs.Content.{Part, before}
+use Rattle.definition_text.specs.Content.{Part, text_before}
 use Rattle.definition_text.specs.InlineCode.{InlineCode, codes_of}
 use Rattle.definition_inline.specs.Inline.{Reference, Inline, Data, Emphasis, Strong, Strikethrough, Link, Image, Call, Inlines, Leaf}
 use Rattle.definition_inline.specs.Label.{label_at}
@@ -169,7 +169,7 @@ module _ (context : InlineContext) where
   ended_leads : (content : List ℕ) (label : OpenLabel) (inner : Text)
       → WhereSome (LeadsSomewhere context.is_defined context.is_footnote) (ended_by context content label inner)
   ended_leads content label inner =
-      let between = before label.from content in
+      let between = text_before label.from content in
       let rest = drop 1 content in
       cond_both (may_form label.start inner.holds_link) (formed_at context label.start between rest) None
       (WhereSome (LeadsSomewhere context.is_defined context.is_footnote)) (λ _. formed_leads label.start between rest) (λ _. tt)

@@ -8,7 +8,7 @@ use Rattle.std.proofs.lemmas.Iterator.Adapters.{position_from-zero}
 use Rattle.std.proofs.lemmas.List.{map-append, length-map, get_or_at}
 use Rattle.std.proofs.lemmas.Slice.Eq.{bytes_eq-Decides}
 use Rattle.definition_inline.specs.Definition.{Definition as LinkDefinition}
-use Rattle.definition_inline.specs.Inline.{linked}
+use Rattle.definition_inline.specs.Inline.{link_texts}
 use Rattle.definition_inline.specs.LabelMatch.{normal_label, first_match}
 use Rattle.definition_block.specs.Blocks.{Block, Paragraph, Heading, Break, IndentedCode, FencedCode, Html, Table, Definition, Holds, Items, Ending, Blank}
 use Rattle.definition_block.specs.Blocks.{Blocks, Nil, Cons}
@@ -133,11 +133,11 @@ abbrev label_of : LinkDefinition → List ℕ
 label_of d = d.label
 
 leads : (label : List ℕ) (ds earlier later : List LinkDefinition) (d : LinkDefinition) → ds ≡ earlier ++ d ∷ later
-    → first_match label (labels_of (earlier ++ d ∷ later)) ≡ Some (length earlier) → linked_by ds label ≡ Some (linked d.destination d.title)
+    → first_match label (labels_of (earlier ++ d ∷ later)) ≡ Some (length earlier) → linked_by ds label ≡ Some (link_texts d.destination d.title)
 leads label ds earlier later d same found =
     ap (λ all. linked_by all label) same
     ∙ ap (option_map (linked_at (earlier ++ d ∷ later))) found
-    ∙ ap (λ (at : LinkDefinition). Some (linked at.destination at.title)) (get_or_at earlier d later no_definition (length earlier) refl)
+    ∙ ap (λ (at : LinkDefinition). Some (link_texts at.destination at.title)) (get_or_at earlier d later no_definition (length earlier) refl)
 
 pub first_definition_law : FirstDefinitionLaw
 first_definition_law bs label earlier later d same others is =

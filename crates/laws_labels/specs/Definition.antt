@@ -6,7 +6,7 @@ use Rattle.definition_text.specs.declared.beside.Kind.{Kind}
 use Rattle.definition_text.specs.declared.beside.Kind.TheVariants.{Whitespace}
 use Rattle.definition_text.specs.Lines.{first_line}
 use Rattle.definition_inline.specs.Definition.{Definition as LinkDefinition, definition}
-use Rattle.definition_inline.specs.Inline.{linked}
+use Rattle.definition_inline.specs.Inline.{link_texts}
 use Rattle.definition_inline.specs.LabelMatch.{normal_label}
 use Rattle.definition_block.specs.Blocks.{Block, Definition, Holds, Items, Blocks, Nil, Cons}
 use Rattle.definition_block.specs.Tree.{blocks}
@@ -44,7 +44,7 @@ abbrev pub FirstDefinitionLaw : Type 0
 FirstDefinitionLaw =
     (bs : Blocks) (label : List ℕ) (earlier later : List LinkDefinition) (d : LinkDefinition) → document_definitions bs ≡ earlier ++ d ∷ later
     → All (λ other. normal_label label ≢ normal_label other) (labels_of earlier) → normal_label label ≡ normal_label d.label
-    → linked_by (document_definitions bs) label ≡ Some (linked d.destination d.title)
+    → linked_by (document_definitions bs) label ≡ Some (link_texts d.destination d.title)
 
 -- with `> ` before every line of a text, each label leads where it leads in the text: no label has the prefixes in it
 abbrev pub QuotedLabelLaw : Type 0

@@ -21,12 +21,12 @@ use Rattle.definition_block.specs.HeadingSetext.{underline}
 use Rattle.definition_block.specs.ThematicBreak.{is_break}
 use Rattle.definition_block.specs.declared.align_kind.AlignKind.{AlignKind}
 use Rattle.definition_block.specs.GfmTable.{delimiter_row, is_head}
-use Rattle.definition_block.specs.Definitions.{Cut, cut_into, cut_after, cut_most, cut}
+use Rattle.definition_block.specs.Definitions.{DefinitionCut, cut_into, cut_after, cut_most, definition_cut}
 use Rattle.definition_block.specs.Tree.{BlockLine, own_lines, Break, Blank, Blocks, Nil, Cons, join, one, block_and_ending, OpenLeaf, Text, Indented, Fenced}
-use Rattle.definition_block.specs.Tree.{OpenHtml, OpenTable, Opening, Leaf, Inside, Tree, tree, nothing, paragraph_of, with_paragraph, holds, close, has_text}
+use Rattle.definition_block.specs.Tree.{OpenHtml, OpenTable, Opening, Leaf, Inside, Tree, tree, nothing, paragraph_of, with_paragraph, container_block, close, has_text}
 use Rattle.definition_block.specs.Tree.{has_table, is_some_line, table_of, table_if, makes_table, leaf_with_line, with_line, rest_line, html_with, takes}
 use Rattle.definition_block.specs.Tree.{or_heading, or_fence, or_html, begins, after, break_or_text, text_line_of, text_here, heading_of, heading_if, turns}
-use Rattle.definition_block.specs.Tree.{begun, tree_or, leaf_line, beside_in, start, new, is_nothing, is_one_blank, began_blank, goes_on, grow}
+use Rattle.definition_block.specs.Tree.{leaf_tree_or, tree_or, leaf_line, beside_in, start, new, is_nothing, is_one_blank, began_blank, goes_on, grow}
 
 -- the first of these blocks is there, and is no blank line
 abbrev IsDark : Blocks → Type 0
@@ -70,7 +70,7 @@ NoneOrDark bs = (bs ≡ Nil) ⊎ IsDark bs
 join_dark : (bs others : Blocks) → NoneOrDark bs → IsDark others → IsDark (join bs others)
 join_dark bs others h d = ⊎_elim (λ none. subst (λ x. IsDark (join x others)) (sym none) d) (λ dark. dark_join bs others dark) h
 
-cut_after_dark : (o : Option LinkDefinition) (ls : List BlockLine) (more : List BlockLine → Cut) → NoneOrDark (cut_after o ls more).definitions
+cut_after_dark : (o : Option LinkDefinition) (ls : List BlockLine) (more : List BlockLine → DefinitionCut) → NoneOrDark (cut_after o ls more).definitions
 cut_after_dark None ls more = inl refl
 cut_after_dark (Some d) ls more = inr tt
 
@@ -78,7 +78,7 @@ cut_most_dark : (most : ℕ) (ls : List BlockLine) → NoneOrDark (cut_most most
 cut_most_dark zero ls = inl refl
 cut_most_dark (suc most) ls = cut_after_dark (definition_at (content_of (own_lines ls))) ls (cut_most most)
 
-paragraph_after : (o : Option LinkDefinition) (line : BlockLine) (ls : List BlockLine) (more : List BlockLine → Cut)
+paragraph_after : (o : Option LinkDefinition) (line : BlockLine) (ls : List BlockLine) (more : List BlockLine → DefinitionCut)
     → IsDark (with_paragraph (cut_after o (line ∷ ls) more))
 paragraph_after None line ls more = tt
 paragraph_after (Some d) line ls more = tt
@@ -135,18 +135,18 @@ line_open line (Leaf leaf) = leaf_line_open line leaf
 line_open line (Inside c kids inner) = tt
 
 module _ (on : Constructs) where
-  cut_dark : (ls : List BlockLine) → NoneOrDark (cut on ls).definitions
+  cut_dark : (ls : List BlockLine) → NoneOrDark (definition_cut on ls).definitions
   cut_dark ls =
-      cond_both on.definition (cut_most (length ls) ls) (cut_into Nil ls) (λ (parts : Cut). NoneOrDark parts.definitions)
+      cond_both on.definition (cut_most (length ls) ls) (cut_into Nil ls) (λ (parts : DefinitionCut). NoneOrDark parts.definitions)
       (λ _. cut_most_dark (length ls) ls) (λ _. inl refl)
 
-  paragraph_dark : (line : BlockLine) (ls : List BlockLine) → IsDark (with_paragraph (cut on (line ∷ ls)))
+  paragraph_dark : (line : BlockLine) (ls : List BlockLine) → IsDark (with_paragraph (definition_cut on (line ∷ ls)))
   paragraph_dark line ls =
       let all = line ∷ ls in
-      cond_both on.definition (cut_most (length all) all) (cut_into Nil all) (λ (parts : Cut). IsDark (with_paragraph parts))
+      cond_both on.definition (cut_most (length all) all) (cut_into Nil all) (λ (parts : DefinitionCut). IsDark (with_paragraph parts))
       (λ _. paragraph_after (definition_at (content_of (own_lines all))) line ls (cut_most (length ls))) (λ _. tt)
 
-  holds_dark : (c : Container) (kids : Blocks) → IsDark (holds c kids)
+  holds_dark : (c : Container) (kids : Blocks) → IsDark (container_block c kids)
   holds_dark Quote kids = tt
   holds_dark (Item item) kids = tt
   holds_dark (Footnote label) kids = tt
@@ -163,7 +163,7 @@ module _ (on : Constructs) where
 
   closed_nothing : NoneOrDark (close on nothing)
   closed_nothing =
-      cond_both on.definition (cut_most 0 []) (cut_into Nil []) (λ (parts : Cut). NoneOrDark (with_paragraph parts)) (λ _. inl refl) (λ _. inl refl)
+      cond_both on.definition (cut_most 0 []) (cut_into Nil []) (λ (parts : DefinitionCut). NoneOrDark (with_paragraph parts)) (λ _. inl refl) (λ _. inl refl)
 
   close_either : (now : Opening) → NoneOrDark (close on now)
   close_either (Leaf (Text [])) = closed_nothing
@@ -205,7 +205,7 @@ module _ (on : Constructs) where
   table_begun : (o : Option (List AlignKind)) (ls : List BlockLine) (row : BlockLine) → SomeBegun (table_if on o ls row)
   table_begun None ls row = tt
   table_begun (Some columns) ls row =
-      let parts = cut on ls in
+      let parts = definition_cut on ls in
       cond_both (is_some_line parts.left && is_head (length columns) ls) _ _ SomeBegun
       (λ _. table_of_begun parts.definitions parts.left row (cut_dark ls)) (λ _. tt)
 
@@ -217,9 +217,9 @@ module _ (on : Constructs) where
 
   underlined_begun : (o : Option ℕ) (ls : List BlockLine) (ending : Option LineEnding) → SomeBegun (heading_if on o ls ending)
   underlined_begun None ls ending = tt
-  underlined_begun (Some rank) ls ending = heading_begun rank (cut on ls).definitions (cut on ls).left ending (cut_dark ls)
+  underlined_begun (Some rank) ls ending = heading_begun rank (definition_cut on ls).definitions (definition_cut on ls).left ending (cut_dark ls)
 
-  begun_begun : (o : Option Tree) (away : Opening) (other : Tree) → SomeBegun o → IsBegun other → IsBegun (begun on o away other)
+  begun_begun : (o : Option Tree) (away : Opening) (other : Tree) → SomeBegun o → IsBegun other → IsBegun (leaf_tree_or on o away other)
   begun_begun None away other p q = q
   begun_begun (Some t) away other p q = after_begun away t p
 

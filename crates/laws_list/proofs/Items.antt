@@ -17,7 +17,7 @@ use Rattle.definition_block.specs.ListItem.{item_after, item_start, item_continu
 use Rattle.definition_block.specs.ThematicBreak.{is_break, is_break_text}
 use Rattle.definition_block.specs.GfmFootnoteDefinition.{footnote_start}
 use Rattle.definition_block.specs.Containers.{quote_or, footnote_or, starts}
-use Rattle.definition_block.specs.Tree.{Block, Blocks, Nil, Cons, join, Inside, Tree, tree, nothing, empty_tree, all_endings, front, trailing, holds, beside_in}
+use Rattle.definition_block.specs.Tree.{Block, Blocks, Nil, Cons, join, Inside, Tree, tree, nothing, empty_tree, all_endings, front, trailing, container_block, beside_in}
 use Rattle.definition_block.specs.Tree.{beside_line, leaf_line, start, new, began_blank, goes_on, grow, step, steps, blocks_at_end, children, blocks}
 use Rattle.definition_block.specs.Definitions.{definitions}
 use Rattle.laws_quote.proofs.Tabs.{Tabless, Tabless-from_All, codes_from-Tabless, LinesTabless, lines_tabless}
@@ -158,12 +158,12 @@ module _ (on : Constructs) (items : on.list_item ≡ true) where
       ∙ steps-in_item ls (step on Whitespace empty_tree line) (first_begun line no_tabs.0 h) no_tabs.1
 
   text_item : (off : on.frontmatter ≡ false) (before : Kind) (text : List ℕ) → begins_dark (first_of (lines text)).content ≡ true → Tabless text
-      → blocks on before (list_lines text) ≡ holds plus_item (blocks on Whitespace text)
+      → blocks on before (list_lines text) ≡ container_block plus_item (blocks on Whitespace text)
   text_item off before text h no_tab =
       blocks-children on before (list_lines text) off
       ∙ ap (children on before) (listed_lines_law text)
       ∙ ap (blocks_at_end on) (lines_item before (lines text) h (lines_tabless text no_tab))
-      ∙ sym (ap (holds plus_item) (blocks-children on Whitespace text off))
+      ∙ sym (ap (container_block plus_item) (blocks-children on Whitespace text off))
 
 -- ---- definitions
 
@@ -177,7 +177,7 @@ pub join-front : (bs : Blocks) → join (front bs) (trailing bs) ≡ bs
 join-front Nil = refl
 join-front (Cons b bs) = join-front_by b bs (all_endings (Cons b bs)) (join-front bs)
 
-definitions-item : (kids : Blocks) → definitions (holds plus_item kids) ≡ definitions kids
+definitions-item : (kids : Blocks) → definitions (container_block plus_item kids) ≡ definitions kids
 definitions-item kids = sym (definitions-join (front kids) (trailing kids)) ∙ ap definitions (join-front kids)
 
 pub list_law : ListLaw

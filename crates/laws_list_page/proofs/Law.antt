@@ -17,7 +17,7 @@ use Rattle.definition_page.specs.Pieces.{Piece, Close, Eol}
 use Rattle.definition_page.specs.BlockPieces.{inside, last_visible, ends_plainly, fresh_unless, children_pieces}
 use Rattle.definition_page.specs.Read.{in_container, in_item, read_blocks}
 use Rattle.laws_list_page.proofs.GfmTaskListItem.{read_in_item}
-use Rattle.laws_quote_page.specs.Squeeze.{Squeezed, kept_and_run, with_byte, with_bytes, nothing_yet, squeeze}
+use Rattle.laws_quote_page.specs.Squeeze.{SqueezeState, kept_and_run, with_byte, with_bytes, nothing_yet, squeeze}
 use Rattle.laws_quote_page.proofs.Bytes.{after_text, bytes_after_text, dropped_ending}
 use Rattle.laws_quote_page.proofs.Printed.{with_piece, with_pieces, pieces_after_text, kept_at_fresh}
 use Rattle.laws_quote_page.proofs.Lists.{grouped-join}
@@ -51,7 +51,7 @@ squeeze_around bytes =
 -- ---- the page of children of a document, with these definitions
 
 module _ (tables : TextTables) (options : Options) (default : LineEnding) (ds : List Definition) where
-  abbrev kids_of : tree.Blocks → Squeezed
+  abbrev kids_of : tree.Blocks → SqueezeState
   kids_of bs = squeezed_kids tables options default ds bs
 
   -- endings at the end make no difference
@@ -70,12 +70,12 @@ module _ (tables : TextTables) (options : Options) (default : LineEnding) (ds : 
 
   -- ---- a list of one item that is loose
 
-  fresh_keeps : (said : Bool) (s : Squeezed) → (with_pieces default s (fresh_unless said)).kept ≡ s.kept
+  fresh_keeps : (said : Bool) (s : SqueezeState) → (with_pieces default s (fresh_unless said)).kept ≡ s.kept
   fresh_keeps true s = refl
   fresh_keeps false s = kept_at_fresh default s
 
   -- after what stands in the item: its end, an ending, and the list's end
-  ends_list : (s t : Squeezed) → s.kept ≡ t.kept
+  ends_list : (s t : SqueezeState) → s.kept ≡ t.kept
       → (with_pieces default s (Close (codes "li") ∷ Eol ∷ Close (codes "ul") ∷ [])).kept ≡ (with_bytes (kept_and_run t.kept None) list_end).kept
   ends_list s t e =
       let item_end = codes "</li>" in

@@ -7,8 +7,8 @@ use Rattle.markdown_options.specs.declared.line_ending.LineEnding.{LineEnding}
 use Rattle.definition_text.specs.BlockLines.{BlockLine}
 use Rattle.definition_text.specs.Columns.{bytes_of, bare}
 use Rattle.definition_text.specs.Lines.{ending_text}
-use Rattle.definition_inline.specs.Inline.{Linked, Inline, Autolink, Literal, Html, Emphasis, Strong, Strikethrough, Link, Image, Inlines, Nil, Cons}
-use Rattle.definition_page.specs.Tags.{Said, Words, EndOfLine, Attribute, attribute, Tag, tag, bare_tag}
+use Rattle.definition_inline.specs.Inline.{LinkTexts, Inline, Autolink, Literal, Html, Emphasis, Strong, Strikethrough, Link, Image, Inlines, Nil, Cons}
+use Rattle.definition_page.specs.Tags.{PrintedPart, Words, EndOfLine, Attribute, attribute, Tag, tag, bare_tag}
 use Rattle.definition_page.specs.Pieces.{Piece, Void, Says, Eol, Fresh, NoteStart, NoteEnd}
 use Rattle.definition_page.specs.InlinePieces.{Meaning, link_url, image_url, url_of, title_attribute, address, literal_address, raw_html, HtmlLine, html_lines}
 use Rattle.definition_page.specs.InlinePieces.{html_line_says, later_line_says, html_lines_say, leads_to, link_tag, image_tag, part_says, description}
@@ -66,11 +66,11 @@ module _ (m : Meaning) (compile : CompileOptions) (alike : Alike compile m.compi
     same_description (Cons i is) =
         ap (λ said. said ++ description compile is) (same_part_says i) ∙ ap (λ said. part_says m.compile i ++ said) (same_description is)
 
-  same_link_tag : (target : Linked) → link_tag other target ≡ link_tag m target
+  same_link_tag : (target : LinkTexts) → link_tag other target ≡ link_tag m target
   same_link_tag target =
       ap (λ url. tag (codes "a") (attribute (codes "href") url ∷ title_attribute m target.title)) (alike.link (url_of m target))
 
-  same_image_tag : (target : Linked) (text : List Said) → image_tag other target text ≡ image_tag m target text
+  same_image_tag : (target : LinkTexts) (text : List PrintedPart) → image_tag other target text ≡ image_tag m target text
   same_image_tag target text =
       let description : Attribute = record { name = codes "alt"; value = text } in
       ap (λ url. tag (codes "img") (attribute (codes "src") url ∷ description ∷ title_attribute m target.title)) (alike.image (url_of m target))
@@ -102,7 +102,7 @@ module _ (m : Meaning) (compile : CompileOptions) (alike : Alike compile m.compi
         ap (λ t. element t (inline_pieces other kids)) (same_link_tag (leads_to m.definition target))
         ∙ ap (element (link_tag m (leads_to m.definition target))) (same_inlines kids)
     same_part (Image target kids) =
-        let image : List Said → Tag = image_tag m (leads_to m.definition target) in
+        let image : List PrintedPart → Tag = image_tag m (leads_to m.definition target) in
         ap (λ t. Void t ∷ inline_counts other kids) (same_image_tag (leads_to m.definition target) (description compile kids))
         ∙ ap (λ said. Void (image said) ∷ inline_counts other kids) (same_description kids)
         ∙ ap (λ counts. Void (image (description m.compile kids)) ∷ counts) (same_counts kids)

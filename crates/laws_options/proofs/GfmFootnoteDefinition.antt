@@ -13,7 +13,7 @@ use Rattle.definition_block.specs.Tree as tree
 use Rattle.definition_block.specs.Tree.{blocks}
 use Rattle.definition_block.specs.Definitions.{block_footnotes, footnotes}
 use Rattle.definition_block.specs.declared.align_kind.AlignKind.{AlignKind}
-use Rattle.definition_page.specs.Tags.{Said, Tag, tag, bare_tag}
+use Rattle.definition_page.specs.Tags.{PrintedPart, Tag, tag, bare_tag}
 use Rattle.definition_page.specs.Pieces.{Piece, Close, Says, Eol, Fresh, NoteEnd}
 use Rattle.definition_page.specs.InlinePieces.{Meaning, html_says, leads_to, link_tag, call_at, count_at, part_counts, inline_counts, element, part_pieces}
 use Rattle.definition_page.specs.InlinePieces.{inline_pieces}
@@ -55,7 +55,7 @@ uncalled_append : (ps others : List Piece) → AreUncalled ps → AreUncalled ot
 uncalled_append [] others p q = q
 uncalled_append (piece ∷ ps) others p q = (p.0, uncalled_append ps others p.1 q)
 
-uncalled_says : (said : List Said) → AreUncalled (map Says said)
+uncalled_says : (said : List PrintedPart) → AreUncalled (map Says said)
 uncalled_says [] = tt
 uncalled_says (one ∷ others) = (tt, uncalled_says others)
 

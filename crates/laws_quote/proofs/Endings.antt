@@ -2,7 +2,7 @@
 use Rattle.std.proofs.Common.{◌≡◌, ◌++◌, Bool, true, false, if◌then◌else◌, refl, sym, ap, ◌∙◌, append_assoc}
 use Rattle.std.proofs.lemmas.Bool.{cond-true, cond_both}
 use Rattle.definition_block.specs.Container.{Quote}
-use Rattle.definition_block.specs.Tree.{Block, Holds, Blocks, Nil, Cons, join, one, is_ending, without_last, last_of, holds}
+use Rattle.definition_block.specs.Tree.{Block, Holds, Blocks, Nil, Cons, join, one, is_ending, without_last, last_of, container_block}
 use Rattle.definition_block.specs.Definitions.{block_definitions, definitions}
 use Rattle.laws_quote.specs.Laws.{quote_of}
 
@@ -39,5 +39,5 @@ definitions-join Nil cs = refl
 definitions-join (Cons b bs) cs =
     ap (λ ds. block_definitions b ++ ds) (definitions-join bs cs) ∙ sym (append_assoc (block_definitions b) (definitions bs) (definitions cs))
 
-pub definitions-holds : (kids : Blocks) → definitions (holds Quote kids) ≡ definitions kids
+pub definitions-holds : (kids : Blocks) → definitions (container_block Quote kids) ≡ definitions kids
 definitions-holds kids = sym (definitions-join (without_last kids) (last_of kids)) ∙ ap definitions (join-without_last kids)

@@ -8,7 +8,7 @@ use Rattle.definition_text.specs.declared.beside.Kind.TheVariants.{Whitespace}
 use Rattle.definition_block.specs.Container.{Quote}
 use Rattle.definition_text.specs.Lines.{TextLine, lines}
 use Rattle.definition_block.specs.Frontmatter.{is_metadata_fence, after_metadata_fence, after_frontmatter}
-use Rattle.definition_block.specs.Tree.{join, without_last, last_of, holds, empty_tree, step, steps, blocks_at_end, children, children_after, blocks}
+use Rattle.definition_block.specs.Tree.{join, without_last, last_of, container_block, empty_tree, step, steps, blocks_at_end, children, children_after, blocks}
 use Rattle.definition_block.specs.Definitions.{definitions}
 use Rattle.laws_quote.specs.Quoted.{marked_after_endings, quote_lines}
 use Rattle.laws_quote.specs.Laws.{quoted_line, quote_of, QuoteLaw, QuotesLaw, QuoteDefinitionsLaw}
@@ -43,12 +43,12 @@ module _ (on : Constructs) (quotes : on.block_quote ≡ true) (off : on.frontmat
 
   -- a text that isn't empty
   text_quote : (before : Kind) (b : ℕ) (bs : List ℕ) → Tabless (b ∷ bs)
-      → blocks on before (quote_lines (b ∷ bs)) ≡ holds Quote (blocks on Whitespace (b ∷ bs))
+      → blocks on before (quote_lines (b ∷ bs)) ≡ container_block Quote (blocks on Whitespace (b ∷ bs))
   text_quote before b bs no_tab =
       blocks-children on before (quote_lines (b ∷ bs)) off
       ∙ ap (children on before) (quoted_lines_law (b ∷ bs))
       ∙ ap (blocks_at_end on) (lines_quote before (lines (b ∷ bs)) (lines_some b bs) (lines_tabless (b ∷ bs) no_tab))
-      ∙ sym (ap (holds Quote) (blocks-children on Whitespace (b ∷ bs) off))
+      ∙ sym (ap (container_block Quote) (blocks-children on Whitespace (b ∷ bs) off))
 
   -- the same with `> ` n times
   text_quotes : (n b : ℕ) (bs : List ℕ) → Tabless (b ∷ bs)
@@ -60,7 +60,7 @@ module _ (on : Constructs) (quotes : on.block_quote ≡ true) (off : on.frontmat
       let one_quote = text_quote Whitespace b bs no_tab in
       text_quotes n 62 (32 ∷ marked_after_endings (b ∷ bs)) (quoted_tabless (b ∷ bs) no_tab)
       ∙ ap (λ all. join (iterate quote_of n (without_last all)) (last_of all)) one_quote
-      ∙ ap (λ inner. join (iterate quote_of n inner) (last_of (holds Quote kids))) (without_last-quote (without_last kids) kids)
+      ∙ ap (λ inner. join (iterate quote_of n inner) (last_of (container_block Quote kids))) (without_last-quote (without_last kids) kids)
       ∙ ap (λ last. join (iterate quote_of n (quote_of (without_last kids))) last) (last_of-quote (without_last kids) kids)
 
   -- the definitions, also those of the empty text, which has none

@@ -13,7 +13,7 @@ use Rattle.definition_block.specs.ContainerLine.{ContainerLine}
 use Rattle.definition_block.specs.ContainerStart.{ContainerStart}
 use Rattle.definition_block.specs.ThematicBreak.{is_break}
 use Rattle.definition_block.specs.BlockQuote.{after_byte, after_mark, quote_prefix}
-use Rattle.definition_block.specs.ListItem.{Marker, marker_of, is_digit, number_of, bullet, delimiter, ordered_marker, marker, gap, is_item, item, item_after}
+use Rattle.definition_block.specs.ListItem.{Marker, marker_of, is_digit, number_of, bullet, after_number, ordered_marker, marker, gap, is_item, item, item_after}
 use Rattle.definition_block.specs.ListItem.{item_start}
 use Rattle.definition_block.specs.GfmFootnoteDefinition.{footnote_start}
 use Rattle.definition_block.specs.Containers.{quote_or, footnote_or, starts}
@@ -60,7 +60,7 @@ bullet_below n [] le = tt
 bullet_below n (code ∷ codes) le =
     cond_both (eqb code 45 || eqb code 43 || eqb code 42) (Some (marker_of code None 1 codes)) None (MarkerBelow n) (λ _. omega (arith, le)) (λ _. tt)
 
-delimiter_below : (n number digits : ℕ) (rest : Rest) → length rest ≤ n → MarkerBelow n (delimiter number digits rest)
+delimiter_below : (n number digits : ℕ) (rest : Rest) → length rest ≤ n → MarkerBelow n (after_number number digits rest)
 delimiter_below n number digits [] le = tt
 delimiter_below n number digits (code ∷ codes) le =
     cond_both (eqb code 46 || eqb code 41) (Some (marker_of code (Some number) (digits + 1) codes)) None (MarkerBelow n) (λ _. omega (arith, le)) (λ _. tt)
@@ -68,7 +68,7 @@ delimiter_below n number digits (code ∷ codes) le =
 ordered_below : (n digits : ℕ) (rest : Rest) → length rest ≤ n → MarkerBelow n (ordered_marker digits rest)
 ordered_below n digits rest le =
     let number = number_of (take digits rest) in
-    cond_both (leb digits 9) (delimiter number digits (drop digits rest)) None (MarkerBelow n)
+    cond_both (leb digits 9) (after_number number digits (drop digits rest)) None (MarkerBelow n)
     (λ _. delimiter_below n number digits (drop digits rest) (omega (arith, le, length-drop digits rest))) (λ _. tt)
 
 marker_below : (n : ℕ) (rest : Rest) → length rest ≤ n → MarkerBelow n (marker rest)

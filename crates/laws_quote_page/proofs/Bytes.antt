@@ -8,12 +8,12 @@ use Rattle.markdown_options.specs.declared.line_ending.LineEnding.TheVariants.{C
 use Rattle.markdown_options.specs.LineEndings.{ending_bytes}
 use Rattle.definition_text.specs.Lines.{ends_line}
 use Rattle.definition_page.specs.Pieces.{ends_a_line, is_fresh}
-use Rattle.laws_quote_page.specs.Squeeze.{Squeezed, kept_and_run, run_before, run_after, with_byte, with_bytes, nothing_yet}
+use Rattle.laws_quote_page.specs.Squeeze.{SqueezeState, kept_and_run, run_before, run_after, with_byte, with_bytes, nothing_yet}
 
 -- ---- an ending
 
 -- it keeps what is kept
-pub kept_at_ending : (s : Squeezed) (ending : LineEnding) → (with_bytes s (ending_bytes ending)).kept ≡ s.kept
+pub kept_at_ending : (s : SqueezeState) (ending : LineEnding) → (with_bytes s (ending_bytes ending)).kept ≡ s.kept
 kept_at_ending s CarriageReturnLineFeed = refl
 kept_at_ending s CarriageReturn = refl
 kept_at_ending s LineFeed = refl
@@ -24,7 +24,7 @@ dropped-ending kept CarriageReturnLineFeed = refl
 dropped-ending kept CarriageReturn = refl
 dropped-ending kept LineFeed = refl
 
-pub dropped_ending : (s : Squeezed) (ending : LineEnding) → s.run ≡ None → with_bytes s (ending_bytes ending) ≡ s
+pub dropped_ending : (s : SqueezeState) (ending : LineEnding) → s.run ≡ None → with_bytes s (ending_bytes ending) ≡ s
 dropped_ending s ending e =
     ap (λ run. with_bytes (kept_and_run s.kept run) (ending_bytes ending)) e
     ∙ dropped-ending s.kept ending
@@ -32,13 +32,13 @@ dropped_ending s ending e =
 
 -- ---- a tag drops the run before it
 
-pub same_at_tag : (bytes : List ℕ) (s t : Squeezed) → s.kept ≡ t.kept → with_bytes s (60 ∷ bytes) ≡ with_bytes t (60 ∷ bytes)
+pub same_at_tag : (bytes : List ℕ) (s t : SqueezeState) → s.kept ≡ t.kept → with_bytes s (60 ∷ bytes) ≡ with_bytes t (60 ∷ bytes)
 same_at_tag bytes s t e = ap (λ kept. with_bytes (kept_and_run kept None) (60 ∷ bytes)) e
 
 -- ---- more text before all
 
 -- what is kept, after a text
-abbrev pub after_text : List ℕ → Squeezed → Squeezed
+abbrev pub after_text : List ℕ → SqueezeState → SqueezeState
 after_text text s = kept_and_run (text ++ s.kept) s.run
 
 byte_after_text : (text kept more : List ℕ) (longer other : Option (List ℕ)) (ends : Bool)
@@ -47,7 +47,7 @@ byte_after_text : (text kept more : List ℕ) (longer other : Option (List ℕ))
 byte_after_text text kept more longer other true = refl
 byte_after_text text kept more longer other false = ap (λ all. kept_and_run all other) (append_assoc text kept more)
 
-pub bytes_after_text : (text : List ℕ) (bytes : List ℕ) (s : Squeezed) → with_bytes (after_text text s) bytes ≡ after_text text (with_bytes s bytes)
+pub bytes_after_text : (text : List ℕ) (bytes : List ℕ) (s : SqueezeState) → with_bytes (after_text text s) bytes ≡ after_text text (with_bytes s bytes)
 bytes_after_text text [] s = refl
 bytes_after_text text (b ∷ bs) s =
     ap (λ t. with_bytes t bs)
@@ -87,7 +87,7 @@ last_is b (c ∷ cs) =
     let place : length (b ∷ c ∷ cs) - 1 ≡ suc (length (c ∷ cs) - 1) = omega arith in
     ap (slice_get (b ∷ c ∷ cs)) place ∙ last_is c cs
 
-bytes_fresh : (bs : List ℕ) (s : Squeezed) (last : Option ℕ) → IsFreshBy s.run (ends_a_line last)
+bytes_fresh : (bs : List ℕ) (s : SqueezeState) (last : Option ℕ) → IsFreshBy s.run (ends_a_line last)
     → IsFreshBy (with_bytes s bs).run (ends_a_line (last_from last bs))
 bytes_fresh [] s last h = h
 bytes_fresh (b ∷ bs) s last h =

@@ -30,7 +30,7 @@ use Rattle.laws_quote.proofs.Tabs.{Tabless-from_All, Tabless-to_All, quoted_tabl
 use Rattle.laws_quote.proofs.Lines.{quoted_lines_law}
 use Rattle.laws_quote.proofs.Quotes.{quote_law, quote_definitions_law}
 use Rattle.laws_quote.proofs.Endings.{join-without_last, at_last}
-use Rattle.laws_quote_page.specs.Squeeze.{Squeezed, kept_and_run, with_byte, with_bytes, nothing_yet, squeeze}
+use Rattle.laws_quote_page.specs.Squeeze.{SqueezeState, kept_and_run, with_byte, with_bytes, nothing_yet, squeeze}
 use Rattle.laws_quote_page.specs.Laws.{IsQuotable, quote_around, QuotePageLaw, QuotePagesLaw}
 use Rattle.laws_quote_page.proofs.Bytes.{after_text, bytes_after_text}
 use Rattle.laws_quote_page.proofs.Printed.{with_piece, with_pieces, pieces_printed, pieces_after_text, kept_at_fresh}
@@ -71,7 +71,7 @@ module _ (tables : TextTables) (options : Options) (default : LineEnding) (ds : 
   page_bytes bs = layout (ending_bytes default) (pieces tables options (page_with tables options.parse (targets ds []) bs))
 
   -- children in a quote, squeezed
-  abbrev pub squeezed_kids : tree.Blocks → Squeezed
+  abbrev pub squeezed_kids : tree.Blocks → SqueezeState
   squeezed_kids bs = print_siblings default meaning (inside false) None (read_blocks reading in_container (group_items bs)) nothing_yet
 
   -- it is laid out piece by piece
@@ -81,7 +81,7 @@ module _ (tables : TextTables) (options : Options) (default : LineEnding) (ds : 
       plain_page options.compile (ending_bytes default) (pieces tables options (page_with tables options.parse (targets ds []) bs))
       (document_plain meaning refl reading bs (not (ends_blank false bs)) p)
 
-  last_line : (said : Bool) (s : Squeezed) → (with_pieces default s (fresh_unless said)).kept ≡ s.kept
+  last_line : (said : Bool) (s : SqueezeState) → (with_pieces default s (fresh_unless said)).kept ≡ s.kept
   last_line true s = refl
   last_line false s = kept_at_fresh default s
 

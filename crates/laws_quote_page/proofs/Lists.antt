@@ -3,7 +3,7 @@ use Rattle.std.proofs.Common.{◌≡◌, ℕ, Bool, true, false, cond, eqb, inl,
 use Rattle.std.specs.Prelude.{◌⊎◌}
 use Rattle.std.proofs.lemmas.Bool.{cond-true, cond-false, cases_Bool, ne_eqb, eqb-false, false≢true}
 use Rattle.definition_block.specs.Tree.{Block, Items, Ending, Blank, Blocks, Nil, Cons, join, one, is_ending}
-use Rattle.definition_block.specs.Lists.{endings_of, after_endings, item_marker, list_marker, list_items, rest_of, before_list, before, grouped_block}
+use Rattle.definition_block.specs.Lists.{endings_of, after_endings, item_marker, list_marker, list_items, rest_of, before_list, put_before, grouped_block}
 use Rattle.definition_block.specs.Lists.{group_items}
 
 -- ---- what children begin with
@@ -94,7 +94,7 @@ before_list-front marker item bs last e (Before b others p q r) =
 -- ---- a child before them
 
 before-join : (b : Block) (bs : Blocks) (last : Block) → is_ending last ≡ true → (eqb (item_marker b) 0 ≡ true) ⊎ (eqb (item_marker b) 0 ≡ false)
-    → before b (join bs (one last)) ≡ join (before b bs) (one last)
+    → put_before b (join bs (one last)) ≡ join (put_before b bs) (one last)
 before-join b bs last ends (inl e) =
     cond-true (eqb (item_marker b) 0) (Cons b (join bs (one last))) (before_list (item_marker b) b (join bs (one last))) e
     ∙ sym (ap (λ bs. join bs (one last)) (cond-true (eqb (item_marker b) 0) (Cons b bs) (before_list (item_marker b) b bs) e))
@@ -113,5 +113,5 @@ grouped-ending b e = absurd (false≢true e)
 pub grouped-join : (bs : Blocks) (last : Block) → is_ending last ≡ true → group_items (join bs (one last)) ≡ join (group_items bs) (one last)
 grouped-join Nil last e = grouped-ending last e
 grouped-join (Cons b bs) last e =
-    ap (before (grouped_block b)) (grouped-join bs last e)
+    ap (put_before (grouped_block b)) (grouped-join bs last e)
     ∙ before-join (grouped_block b) (group_items bs) last e (cases_Bool (eqb (item_marker (grouped_block b)) 0))

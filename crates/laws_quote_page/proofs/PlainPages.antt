@@ -17,10 +17,10 @@ use Rattle.definition_block.specs.Container.{Quote, Item, Footnote}
 use Rattle.definition_block.specs.Blocks as tree
 use Rattle.definition_block.specs.Tree.{is_ending, one, blocks}
 use Rattle.definition_block.specs.Definitions.{block_footnotes, footnotes}
-use Rattle.definition_block.specs.Lists.{endings_of, after_endings, list_items, list_marker, rest_of, item_marker, before_list, before, grouped_block}
+use Rattle.definition_block.specs.Lists.{endings_of, after_endings, list_items, list_marker, rest_of, item_marker, before_list, put_before, grouped_block}
 use Rattle.definition_block.specs.Lists.{group_items}
 use Rattle.definition_block.specs.declared.align_kind.AlignKind.{AlignKind}
-use Rattle.definition_page.specs.Tags.{Said, tag, bare_tag}
+use Rattle.definition_page.specs.Tags.{PrintedPart, tag, bare_tag}
 use Rattle.definition_page.specs.Pieces.{Piece, Close, Eol, Fresh}
 use Rattle.definition_page.specs.InlinePieces.{Meaning, html_says, call_at, count_at, part_counts, inline_counts, element, part_pieces, inline_pieces}
 use Rattle.definition_page.specs.GfmTable.{Table, TableRow, cell_pieces, cells_pieces, row_pieces, ending_piece, body_row_pieces, head_pieces, body_pieces}
@@ -40,7 +40,7 @@ plain-append : (ps qs : List Piece) → ArePlain ps → ArePlain qs → ArePlain
 plain-append [] qs p q = q
 plain-append (x ∷ ps) qs p q = (p.0, plain-append ps qs p.1 q)
 
-plain-says : (said : List Said) → ArePlain (says said)
+plain-says : (said : List PrintedPart) → ArePlain (says said)
 plain-says [] = tt
 plain-says (s ∷ said) = (tt, plain-says said)
 
@@ -128,7 +128,7 @@ notes_in_rest : (bs : tree.Blocks) → HaveNoNotes bs → HaveNoNotes (rest_of b
 notes_in_rest tree.Nil p = tt
 notes_in_rest (tree.Cons b bs) p = p.1
 
-notes-before : (b : tree.Block) (bs : tree.Blocks) → HasNoNote b → HaveNoNotes bs → HaveNoNotes (before b bs)
+notes-before : (b : tree.Block) (bs : tree.Blocks) → HasNoNote b → HaveNoNotes bs → HaveNoNotes (put_before b bs)
 notes-before b bs p q =
     let others = after_endings bs in
     let r = notes_after_endings bs q in

@@ -8,17 +8,17 @@ use Rattle.markdown_options.specs.LineEndings.{ending_bytes}
 use Rattle.definition_text.specs.Lines.{ending_text}
 use Rattle.definition_page.specs.Tags.{Words, said_bytes, start_tag, end_tag, void_tag}
 use Rattle.definition_page.specs.Pieces.{Piece, Open, Close, Void, Says, Eol, Fresh, CallOf, CountOf, NoteStart, NoteEnd, is_fresh, print}
-use Rattle.laws_quote_page.specs.Squeeze.{Squeezed, with_byte, with_bytes, nothing_yet}
+use Rattle.laws_quote_page.specs.Squeeze.{SqueezeState, with_byte, with_bytes, nothing_yet}
 use Rattle.laws_quote_page.proofs.Bytes.{kept_at_ending, dropped_ending, after_text, bytes_after_text, IsFreshBy, fresh_by}
 
 -- a fresh line, by the run before it
-abbrev pub with_fresh : LineEnding → Squeezed → Option (List ℕ) → Squeezed
+abbrev pub with_fresh : LineEnding → SqueezeState → Option (List ℕ) → SqueezeState
 with_fresh default s None = s
 with_fresh default s (Some []) = with_bytes s (ending_bytes default)
 with_fresh default s (Some (b ∷ bs)) = s
 
 -- one more piece after what is squeezed
-abbrev pub with_piece : LineEnding → Squeezed → Piece → Squeezed
+abbrev pub with_piece : LineEnding → SqueezeState → Piece → SqueezeState
 with_piece default s (Open t) = with_bytes s (start_tag t)
 with_piece default s (Close name) = with_bytes s (end_tag name)
 with_piece default s (Void t) = with_bytes s (void_tag t)
@@ -30,7 +30,7 @@ with_piece default s (CountOf place label) = s
 with_piece default s NoteStart = s
 with_piece default s NoteEnd = s
 
-abbrev pub with_pieces : LineEnding → Squeezed → List Piece → Squeezed
+abbrev pub with_pieces : LineEnding → SqueezeState → List Piece → SqueezeState
 with_pieces default s ps = fold (with_piece default) s ps
 
 -- ---- it is what is left of what they print
@@ -67,13 +67,13 @@ module _ (default : LineEnding) where
 
   -- ---- more text before all
 
-  fresh_after_text : (text : List ℕ) (s : Squeezed) (run : Option (List ℕ))
+  fresh_after_text : (text : List ℕ) (s : SqueezeState) (run : Option (List ℕ))
       → with_fresh default (after_text text s) run ≡ after_text text (with_fresh default s run)
   fresh_after_text text s None = refl
   fresh_after_text text s (Some []) = bytes_after_text text (ending_bytes default) s
   fresh_after_text text s (Some (b ∷ bs)) = refl
 
-  piece_after_text : (text : List ℕ) (s : Squeezed) (p : Piece) → with_piece default (after_text text s) p ≡ after_text text (with_piece default s p)
+  piece_after_text : (text : List ℕ) (s : SqueezeState) (p : Piece) → with_piece default (after_text text s) p ≡ after_text text (with_piece default s p)
   piece_after_text text s (Open t) = bytes_after_text text (start_tag t) s
   piece_after_text text s (Close name) = bytes_after_text text (end_tag name) s
   piece_after_text text s (Void t) = bytes_after_text text (void_tag t) s
@@ -85,7 +85,7 @@ module _ (default : LineEnding) where
   piece_after_text text s NoteStart = refl
   piece_after_text text s NoteEnd = refl
 
-  pub pieces_after_text : (text : List ℕ) (ps : List Piece) (s : Squeezed)
+  pub pieces_after_text : (text : List ℕ) (ps : List Piece) (s : SqueezeState)
       → with_pieces default (after_text text s) ps ≡ after_text text (with_pieces default s ps)
   pieces_after_text text [] s = refl
   pieces_after_text text (p ∷ ps) s =
@@ -93,24 +93,24 @@ module _ (default : LineEnding) where
 
   -- ---- endings
 
-  kept_by_fresh : (s : Squeezed) (run : Option (List ℕ)) → (with_fresh default s run).kept ≡ s.kept
+  kept_by_fresh : (s : SqueezeState) (run : Option (List ℕ)) → (with_fresh default s run).kept ≡ s.kept
   kept_by_fresh s None = refl
   kept_by_fresh s (Some []) = kept_at_ending s default
   kept_by_fresh s (Some (b ∷ bs)) = refl
 
   -- a fresh line keeps what is kept
-  pub kept_at_fresh : (s : Squeezed) → (with_piece default s Fresh).kept ≡ s.kept
+  pub kept_at_fresh : (s : SqueezeState) → (with_piece default s Fresh).kept ≡ s.kept
   kept_at_fresh s = kept_by_fresh s s.run
 
 -- so does an ending that is said
-pub kept_at_said : (s : Squeezed) (ending : Option LineEnding) → (with_bytes s (said_bytes (Words (ending_text ending)))).kept ≡ s.kept
+pub kept_at_said : (s : SqueezeState) (ending : Option LineEnding) → (with_bytes s (said_bytes (Words (ending_text ending)))).kept ≡ s.kept
 kept_at_said s None = refl
 kept_at_said s (Some CarriageReturnLineFeed) = refl
 kept_at_said s (Some CarriageReturn) = refl
 kept_at_said s (Some LineFeed) = refl
 
 -- where runs are dropped that leaves all as it is
-pub dropped_said : (s : Squeezed) (ending : LineEnding) → s.run ≡ None → with_bytes s (said_bytes (Words (ending_bytes ending))) ≡ s
+pub dropped_said : (s : SqueezeState) (ending : LineEnding) → s.run ≡ None → with_bytes s (said_bytes (Words (ending_bytes ending))) ≡ s
 dropped_said s CarriageReturnLineFeed e = dropped_ending s CarriageReturnLineFeed e
 dropped_said s CarriageReturn e = dropped_ending s CarriageReturn e
 dropped_said s LineFeed e = dropped_ending s LineFeed e

@@ -18,7 +18,7 @@ use Rattle.definition_page.specs.Read.{Reading, Standing, on_page, in_container,
 use Rattle.definition_page.specs.Read.{read_block, read_blocks}
 use Rattle.definition_block.specs.Lists.{is_loose}
 use Rattle.definition_page.specs.BlockPieces.{Place, at_top, inside, code_line, says, info_attributes, is_silent, fenced_pieces, block_pieces, children_pieces}
-use Rattle.laws_quote_page.specs.Squeeze.{Squeezed, with_bytes}
+use Rattle.laws_quote_page.specs.Squeeze.{SqueezeState, with_bytes}
 use Rattle.laws_quote_page.proofs.Bytes.{kept_at_ending, same_at_tag}
 use Rattle.laws_quote_page.proofs.Printed.{with_piece, with_pieces, kept_at_fresh, kept_at_said, dropped_said}
 
@@ -95,13 +95,13 @@ same_after m place a b (page.Cons c bs) e = refl
 
 module _ (default : LineEnding) (m : Meaning) where
   -- what siblings print after something, where the one before them is given
-  abbrev pub print_siblings : Place → Option page.Block → page.Blocks → Squeezed → Squeezed
+  abbrev pub print_siblings : Place → Option page.Block → page.Blocks → SqueezeState → SqueezeState
   print_siblings place before bs s = with_pieces default s (children_pieces m place before bs)
 
-  abbrev print_block : Place → Option page.Block → page.Block → Squeezed → Squeezed
+  abbrev print_block : Place → Option page.Block → page.Block → SqueezeState → SqueezeState
   print_block place before b s = with_pieces default s (block_pieces m place before b)
 
-  print-cons : (place : Place) (before : Option page.Block) (b : page.Block) (bs : page.Blocks) (s : Squeezed)
+  print-cons : (place : Place) (before : Option page.Block) (b : page.Block) (bs : page.Blocks) (s : SqueezeState)
       → print_siblings place before (page.Cons b bs) s ≡ print_siblings place (Some b) bs (print_block place before b s)
   print-cons place before b bs s = fold-append (with_piece default) s (block_pieces m place before b) (children_pieces m place (Some b) bs)
 
@@ -111,7 +111,7 @@ module _ (default : LineEnding) (m : Meaning) where
   fence info ls = page.FencedCode info false ls
 
   -- an ending right after it prints nothing that is kept
-  no_ending : (place : Place) (info : Option (List ℕ)) (ls : List BlockLine) (bs : page.Blocks) (s : Squeezed) → s.run ≡ None
+  no_ending : (place : Place) (info : Option (List ℕ)) (ls : List BlockLine) (bs : page.Blocks) (s : SqueezeState) → s.run ≡ None
       → print_siblings place (Some (fence info ls)) (without_ending bs) s ≡ print_siblings place (Some (fence info ls)) bs s
   no_ending place info ls (page.Cons (page.Ending ending) bs) s e =
       ap (with_pieces default s) (same_after m place (Some (fence info ls)) (Some (page.Ending ending)) bs refl)
@@ -119,7 +119,7 @@ module _ (default : LineEnding) (m : Meaning) where
   no_ending place info ls bs s e = refl
 
   -- its last line is kept without its ending
-  kept_lines : (line : BlockLine) (others : List BlockLine) (s : Squeezed)
+  kept_lines : (line : BlockLine) (others : List BlockLine) (s : SqueezeState)
       → (with_pieces default s (says (flat_map code_line (line ∷ others)))).kept
       ≡ (with_pieces default s (says (flat_map code_line (own_lines (line ∷ others))))).kept
   kept_lines line [] s = kept_at_said (with_bytes s (said_bytes (Words (map code_byte line.codes)))) line.ending
@@ -132,7 +132,7 @@ module _ (default : LineEnding) (m : Meaning) where
   own_pieces line (next ∷ others) = refl
 
   -- after these pieces, others that keep what is kept, and a fresh line
-  kept_end : (ps more : List Piece) (s : Squeezed) → ((t : Squeezed) → (with_pieces default t more).kept ≡ t.kept)
+  kept_end : (ps more : List Piece) (s : SqueezeState) → ((t : SqueezeState) → (with_pieces default t more).kept ≡ t.kept)
       → (with_pieces default s ((ps ++ more) ++ Fresh ∷ [])).kept ≡ (with_pieces default s ps).kept
   kept_end ps more s same =
       let f = with_piece default in
@@ -141,7 +141,7 @@ module _ (default : LineEnding) (m : Meaning) where
       ∙ ap (λ t. t.kept) (fold-append f s ps more)
       ∙ same (with_pieces default s ps)
 
-  kept_code : (ls : List BlockLine) (s : Squeezed)
+  kept_code : (ls : List BlockLine) (s : SqueezeState)
       → (with_pieces default s (fenced_pieces at_top false ls)).kept ≡ (with_pieces default s (fenced_pieces (inside false) false (own_lines ls))).kept
   kept_code [] s = refl
   kept_code (line ∷ others) s =
@@ -151,10 +151,10 @@ module _ (default : LineEnding) (m : Meaning) where
       ∙ sym (ap (λ ps. (with_pieces default s ps).kept) (own_pieces line others) ∙ kept_end own (Eol ∷ []) s (λ t. kept_at_ending t default))
 
   -- what follows its lines
-  abbrev code_end : Squeezed → Squeezed
+  abbrev code_end : SqueezeState → SqueezeState
   code_end s = with_bytes (with_bytes s (end_tag (codes "code"))) (end_tag (codes "pre"))
 
-  print-end : (s : Squeezed) (ps : List Piece)
+  print-end : (s : SqueezeState) (ps : List Piece)
       → with_pieces default s (((ps ++ Close (codes "code") ∷ []) ++ Close (codes "pre") ∷ []) ++ Fresh ∷ []) ≡ code_end (with_pieces default s ps)
   print-end s ps =
       let code = Close (codes "code") ∷ [] in
@@ -164,15 +164,15 @@ module _ (default : LineEnding) (m : Meaning) where
       ∙ ap (λ t. with_pieces default t (Fresh ∷ [])) (fold-append f s (ps ++ code) pre ∙ ap (λ t. with_pieces default t pre) (fold-append f s ps code))
 
   -- what stands before them
-  abbrev code_start : Option (List ℕ) → Squeezed → Squeezed
+  abbrev code_start : Option (List ℕ) → SqueezeState → SqueezeState
   code_start info s =
       with_pieces default s (Fresh ∷ Open (bare_tag (codes "pre")) ∷ Open (tag (codes "code") (info_attributes info)) ∷ [])
 
-  print-fence : (place : Place) (before : Option page.Block) (info : Option (List ℕ)) (ls : List BlockLine) (s : Squeezed)
+  print-fence : (place : Place) (before : Option page.Block) (info : Option (List ℕ)) (ls : List BlockLine) (s : SqueezeState)
       → print_block place before (fence info ls) s ≡ code_end (with_pieces default (code_start info s) (fenced_pieces place false ls))
   print-fence place before info ls s = print-end (code_start info s) (fenced_pieces place false ls)
 
-  same_fence : (before : Option page.Block) (info : Option (List ℕ)) (ls : List BlockLine) (s : Squeezed)
+  same_fence : (before : Option page.Block) (info : Option (List ℕ)) (ls : List BlockLine) (s : SqueezeState)
       → print_block at_top before (fence info ls) s ≡ print_block (inside false) before (fence info (own_lines ls)) s
   same_fence before info ls s =
       let code = with_pieces default (code_start info s) (fenced_pieces at_top false ls) in
@@ -185,7 +185,7 @@ module _ (default : LineEnding) (m : Meaning) where
 
   -- siblings, which are read and printed at the top and in a quote
   abbrev PrintSame : page.Blocks → page.Blocks → Type 0
-  PrintSame outer inner = (before : Option page.Block) (s : Squeezed) → print_siblings at_top before outer s ≡ print_siblings (inside false) before inner s
+  PrintSame outer inner = (before : Option page.Block) (s : SqueezeState) → print_siblings at_top before outer s ≡ print_siblings (inside false) before inner s
 
   module _ (r : Reading) where
     same_cons : (b : tree.Block) (outer inner : page.Blocks) → ReadBoth m r b → PrintSame outer inner
@@ -225,7 +225,7 @@ module _ (default : LineEnding) (m : Meaning) where
     -- siblings in a quote, of which the same is kept
     abbrev KeepSame : page.Blocks → page.Blocks → Type 0
     KeepSame bs cs =
-        (before : Option page.Block) (s : Squeezed) → (print_siblings (inside false) before bs s).kept ≡ (print_siblings (inside false) before cs s).kept
+        (before : Option page.Block) (s : SqueezeState) → (print_siblings (inside false) before bs s).kept ≡ (print_siblings (inside false) before cs s).kept
 
     keep_cons : (b : page.Block) (bs cs : page.Blocks) → KeepSame bs cs → KeepSame (page.Cons b bs) (page.Cons b cs)
     keep_cons b bs cs same before s =
@@ -248,7 +248,7 @@ module _ (default : LineEnding) (m : Meaning) where
         ∙ keep_cons (fence info (own_lines ls)) bs cs same before s
         ∙ sym (ap (λ all. (print_siblings (inside false) before all s).kept) (read cs))
 
-    keep_ending : (silent : Bool) (ending : LineEnding) (s : Squeezed)
+    keep_ending : (silent : Bool) (ending : LineEnding) (s : SqueezeState)
         → (with_pieces default s (cond silent [] (Says (Words (ending_bytes ending)) ∷ []) ++ [])).kept ≡ s.kept
     keep_ending true ending s = refl
     keep_ending false ending s = kept_at_said s (Some ending)

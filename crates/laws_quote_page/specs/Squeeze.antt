@@ -6,11 +6,11 @@ use Rattle.definition_text.specs.Ascii.{less_than, greater_than}
 use Rattle.definition_text.specs.Lines.{ends_line}
 
 -- what is kept of the bytes so far, and the run of CR and LF after that; none where it is dropped whatever follows it, at the start and after `>`
-pub record Squeezed : Type 0 where
+pub record SqueezeState : Type 0 where
   pub kept : List ℕ
   pub run : Option (List ℕ)
 
-abbrev pub kept_and_run : List ℕ → Option (List ℕ) → Squeezed
+abbrev pub kept_and_run : List ℕ → Option (List ℕ) → SqueezeState
 kept_and_run kept run = record { kept = kept; run = run }
 
 -- the run that is kept before this byte: before `<` none is
@@ -22,16 +22,16 @@ abbrev pub run_after : ℕ → Option (List ℕ)
 run_after b = if b == greater_than then None else Some []
 
 -- one more byte
-abbrev pub with_byte : Squeezed → ℕ → Squeezed
+abbrev pub with_byte : SqueezeState → ℕ → SqueezeState
 with_byte s b =
     if ends_line b then kept_and_run s.kept (option_map (λ run. run ++ b ∷ []) s.run)
     else kept_and_run (s.kept ++ (run_before b s.run ++ b ∷ [])) (run_after b)
 
 -- more bytes
-abbrev pub with_bytes : Squeezed → List ℕ → Squeezed
+abbrev pub with_bytes : SqueezeState → List ℕ → SqueezeState
 with_bytes s bytes = fold with_byte s bytes
 
-abbrev pub nothing_yet : Squeezed
+abbrev pub nothing_yet : SqueezeState
 nothing_yet = kept_and_run [] None
 
 -- bytes without each whole run of CR and LF that stands at their start or end, after `>` or before `<`

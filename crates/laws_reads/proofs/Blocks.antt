@@ -27,13 +27,13 @@ use Rattle.definition_block.specs.HeadingSetext.{underline}
 use Rattle.definition_block.specs.ThematicBreak.{is_break}
 use Rattle.definition_block.specs.declared.align_kind.AlignKind.{AlignKind}
 use Rattle.definition_block.specs.GfmTable.{delimiter_row, is_head}
-use Rattle.definition_block.specs.Definitions.{lines_before, Cut, cut_into, definition_lines, cut_after, cut_most, cut}
+use Rattle.definition_block.specs.Definitions.{lines_before, DefinitionCut, cut_into, definition_lines, cut_after, cut_most, definition_cut}
 use Rattle.definition_block.specs.Tree.{Block, Paragraph, Heading, Break, IndentedCode, FencedCode, Html, Table, Definition, Holds, Items, Ending, Blank}
 use Rattle.definition_block.specs.Tree.{Blocks, Nil, Cons, join, one, block_and_ending, OpenLeaf, Text, Indented, Fenced, OpenHtml, OpenTable, Opening, Leaf}
 use Rattle.definition_block.specs.Tree.{Inside, Tree as BlockTree, tree, nothing, empty_tree, blanks, paragraph_of, close_leaf, is_ending, all_endings, front}
-use Rattle.definition_block.specs.Tree.{trailing, without_last, last_of, holds, close, leaf_text, has_text, has_table, is_some_line, table_of, table_if}
+use Rattle.definition_block.specs.Tree.{trailing, without_last, last_of, container_block, close, leaf_text, has_text, has_table, is_some_line, table_of, table_if}
 use Rattle.definition_block.specs.Tree.{makes_table, leaf_with_line, with_line, rest_line, html_with, takes, or_heading, or_fence, or_html, begins, after}
-use Rattle.definition_block.specs.Tree.{break_or_text, text_line_of, text_here, heading_of, heading_if, turns, begun, tree_or, leaf_line, beside_in, start, new}
+use Rattle.definition_block.specs.Tree.{break_or_text, text_line_of, text_here, heading_of, heading_if, turns, leaf_tree_or, tree_or, leaf_line, beside_in, start, new}
 use Rattle.definition_block.specs.Tree.{began_blank, goes_on, grow, beside_line, step, steps, children, children_after, blocks}
 use Rattle.std.specs.Prelude.{IfSome}
 use Rattle.definition_text.specs.BlockLines.{block_line}
@@ -155,7 +155,7 @@ module _ (good : Property) where
   last_of_good (Cons b Nil) p = cond_both (is_ending b) (one b) Nil BlocksGood (λ _. p) (λ _. tt)
   last_of_good (Cons b (Cons c bs)) p = last_of_good (Cons c bs) p.1
 
-  holds_good : (c : Container) (kids : Blocks) → BlocksGood kids → BlocksGood (holds c kids)
+  holds_good : (c : Container) (kids : Blocks) → BlocksGood kids → BlocksGood (container_block c kids)
   holds_good Quote kids p = (without_last_good kids p, last_of_good kids p)
   holds_good (Item item) kids p = (front_good kids p, trailing_good kids p)
   holds_good (Footnote label) kids p = (front_good kids p, trailing_good kids p)
@@ -196,10 +196,10 @@ module _ (good : Property) where
 
     -- ---- definitions
 
-    abbrev CutGood : Cut → Type 0
+    abbrev CutGood : DefinitionCut → Type 0
     CutGood parts = BlocksGood parts.definitions × LinesGood parts.left
 
-    cut_after_good : (o : Option LinkDefinition) (ls : List BlockLine) (more : List BlockLine → Cut) → DefinitionGood o → LinesGood ls
+    cut_after_good : (o : Option LinkDefinition) (ls : List BlockLine) (more : List BlockLine → DefinitionCut) → DefinitionGood o → LinesGood ls
         → ((others : List BlockLine) → LinesGood others → CutGood (more others)) → CutGood (cut_after o ls more)
     cut_after_good None ls more d p h = (tt, p)
     cut_after_good (Some d) ls more q p h =
@@ -272,12 +272,12 @@ module _ (good : Property) where
     text_here_good (Leaf leaf) p = leaf_text_good leaf p
     text_here_good (Inside c kids inner) p = tt
 
-    cut_good : (ls : List BlockLine) → LinesGood ls → CutGood (cut on ls)
+    cut_good : (ls : List BlockLine) → LinesGood ls → CutGood (definition_cut on ls)
     cut_good ls p = cond_both on.definition (cut_most (length ls) ls) (cut_into Nil ls) CutGood (λ _. cut_most_good (length ls) ls p) (λ _. (tt, p))
 
     close_leaf_good : (leaf : OpenLeaf) → LeafGood leaf → BlocksGood (close_leaf on leaf)
     close_leaf_good (Text ls) p =
-        let parts = cut_good ls p in join_good (cut on ls).definitions (paragraph_of (cut on ls).left) parts.0 (paragraph_good (cut on ls).left parts.1)
+        let parts = cut_good ls p in join_good (definition_cut on ls).definitions (paragraph_of (definition_cut on ls).left) parts.0 (paragraph_good (definition_cut on ls).left parts.1)
     close_leaf_good (Indented ls pending) p = (own_good reads.unended ls p.0, (last_good ls p.0, blanks_good pending p.1))
     close_leaf_good (Fenced fence ending ls) p = ((p.0, p.1.1), (last_or_good ending ls p.1.0 p.1.1, tt))
     close_leaf_good (OpenHtml kind ls) p = (own_good reads.unended ls p, (last_good ls p, tt))
@@ -332,8 +332,8 @@ module _ (good : Property) where
     table_good None ls row p l = tt
     table_good (Some columns) ls row p l =
         let parts = cut_good ls p in
-        cond_both (is_some_line (cut on ls).left && is_head (length columns) ls) _ _ SomeGood
-        (λ _. table_of_good (cut on ls).definitions (cut on ls).left row parts.0 parts.1 l) (λ _. tt)
+        cond_both (is_some_line (definition_cut on ls).left && is_head (length columns) ls) _ _ SomeGood
+        (λ _. table_of_good (definition_cut on ls).definitions (definition_cut on ls).left row parts.0 parts.1 l) (λ _. tt)
 
     break_good : (away : Opening) (rest : Rest) (beside : Beside) → OpeningGood away → RestGood rest → EndGood beside.ending
         → TreeGood (break_or_text on away rest beside)
@@ -347,9 +347,9 @@ module _ (good : Property) where
         → SomeGood (heading_if on o ls ending)
     underlined_good None ls ending h p f = tt
     underlined_good (Some rank) ls ending h p f =
-        let parts = cut_good ls p in heading_of_good rank (cut on ls).definitions (cut on ls).left ending h parts.0 parts.1 f
+        let parts = cut_good ls p in heading_of_good rank (definition_cut on ls).definitions (definition_cut on ls).left ending h parts.0 parts.1 f
 
-    begun_good : (o : Option BlockTree) (away : Opening) (other : BlockTree) → SomeGood o → OpeningGood away → TreeGood other → TreeGood (begun on o away other)
+    begun_good : (o : Option BlockTree) (away : Opening) (other : BlockTree) → SomeGood o → OpeningGood away → TreeGood other → TreeGood (leaf_tree_or on o away other)
     begun_good None away other p a q = q
     begun_good (Some t) away other p a q = after_good away t a p
 

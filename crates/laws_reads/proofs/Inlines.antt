@@ -2,7 +2,7 @@
 use Rattle.std.proofs.Common.{◌≡◌, ℕ, suc, zero, ◌+◌, ◌-◌, false, ◌==◌, List, [], ◌∷◌, ◌++◌, map, reverse, replicate, filter, fold, Option, None, Some, drop}
 use Rattle.std.proofs.Common.{refl}
 use Rattle.std.proofs.lemmas.Bool.{cond_both}
-use Rattle.definition_text.specs.Content.{before}
+use Rattle.definition_text.specs.Content.{text_before}
 use Rattle.definition_text.specs.InlineCode.{InlineCode, codes_of}
 use Rattle.definition_inline.specs.Inline.{Target, Inline, Data, Call, Emphasis, Strong, Strikethrough, Link, Image, Inlines, Nil, Cons, followed_by, Leaf}
 use Rattle.definition_inline.specs.Inline.{or_else}
@@ -192,7 +192,7 @@ module _ (Good : Inline → Type 0) (AllGood : Inlines → Type 0) (Leading : Ta
 
     ended_by_good : (content : List ℕ) (label : OpenLabel) (inner : Text) → Codes content → FormsGood (ended_by context content label inner)
     ended_by_good content label inner c =
-        let between = before label.from content in
+        let between = text_before label.from content in
         cond_both (may_form label.start inner.holds_link) (formed_at context label.start between (drop 1 content)) None FormsGood
         (λ _. reads.forms label.start between content c) (λ _. tt)
 

@@ -9,12 +9,12 @@ use Rattle.std.proofs.lemmas.List.Sums.{fold-append}
 use Rattle.markdown_options.specs.declared.configuration.CompileOptions.{CompileOptions}
 use Rattle.definition_text.specs.Encode.{encode, plain}
 use Rattle.definition_inline.specs.GfmAutolinkLiteral.{ends_with}
-use Rattle.definition_page.specs.Tags.{Said, Words, AsItIs, Number, said_bytes, Tag, attribute, tag, bare_tag}
+use Rattle.definition_page.specs.Tags.{PrintedPart, Words, AsItIs, Number, said_bytes, Tag, attribute, tag, bare_tag}
 use Rattle.definition_page.specs.Pieces.{Piece, Open, Close, Says, Fresh, print}
 use Rattle.definition_page.specs.InlinePieces.{element}
 use Rattle.definition_page.specs.GfmLabelStartFootnote.{Call, text_or, footnote_id, count_says, call_id, call_tag, call_pieces}
 use Rattle.definition_page.specs.GfmFootnoteDefinition.{Footnote, back_tag, arrow, count_pieces, back_pieces, space_after, backs_pieces, ended_size, with_backs}
-use Rattle.definition_page.specs.GfmFootnoteDefinition.{content_pieces, item_tag, footnote_pieces, footnotes_pieces, heading_tag, heading_pieces, section_tag}
+use Rattle.definition_page.specs.GfmFootnoteDefinition.{content_pieces, item_tag, footnote_pieces, footnotes_pieces, section_heading_tag, heading_pieces, section_tag}
 use Rattle.definition_page.specs.GfmFootnoteDefinition.{section_pieces}
 use Rattle.html_safe_page.specs.Table.{start_rows}
 use Rattle.html_safe_page.specs.SafePage.{IsSafePage}
@@ -41,7 +41,7 @@ module _ (options : CompileOptions) (label : List ℕ) where
   call_text count = value_spelled (call_id options label count) (tt, (tt, (tt, count_is_text count)))
 
   -- a URL that begins with `#` has no protocol
-  abbrev hash_text : (id : List Said) → IsText (flat_map said_bytes id) → IsText (flat_map said_bytes (Words (codes "#") ∷ id))
+  abbrev hash_text : (id : List PrintedPart) → IsText (flat_map said_bytes id) → IsText (flat_map said_bytes (Words (codes "#") ∷ id))
   hash_text id p = plain_ahead 35 (flat_map said_bytes id) refl refl p
 
   -- ---- tags
@@ -201,9 +201,9 @@ module _ (default : List ℕ) where
         let label = text_or options.gfm_footnote_label (codes "Footnotes") in
         subst (λ name.
         let bytes = encode (text_or name (codes "h2")) in
-        Adds default (Open (heading_tag bytes options.gfm_footnote_label_attributes) ∷ Says (Words label) ∷ Close bytes ∷ []))
+        Adds default (Open (section_heading_tag bytes options.gfm_footnote_label_attributes) ∷ Says (Words label) ∷ Close bytes ∷ []))
         (sym safe.no_tag_name)
-        (subst (λ attributes. Adds default (Open (heading_tag (codes "h2") attributes) ∷ Says (Words label) ∷ Close (codes "h2") ∷ []))
+        (subst (λ attributes. Adds default (Open (section_heading_tag (codes "h2") attributes) ∷ Says (Words label) ∷ Close (codes "h2") ∷ []))
         (sym safe.no_attributes)
         (adds_element default safe_heading (Says (Words label) ∷ []) heading_is_tag (adds_says default (Words label) tt)))
 

@@ -3,7 +3,7 @@ use Rattle.std.proofs.Common.{ℕ, Bool, true, false, cond, ◌&&◌, ◌==◌, 
 use Rattle.std.proofs.lemmas.Bool.{cond_both}
 use Rattle.markdown_options.specs.declared.configuration.Constructs.{Constructs}
 use Rattle.definition_text.specs.Columns.{indent}
-use Rattle.definition_text.specs.Content.{Part, before, up_to, is_eol}
+use Rattle.definition_text.specs.Content.{Part, text_before, up_to, is_eol}
 use Rattle.definition_text.specs.Runs.{run, after_run}
 use Rattle.definition_text.specs.InlineCode.{InlineCode, codes_of}
 use Rattle.definition_inline.specs.Inline.{Target, Inline, Data, Escape, Autolink, EscapedBreak, TrailingBreak, LineEnd, Emphasis, Strong, Strikethrough}
@@ -61,7 +61,7 @@ reference_reads names content (Some found) = character_reads (length content - l
 autolink_reads : (is_email : Bool) (content : List ℕ) (rest : Option (List ℕ)) → BeginsWell (closed_autolink is_email content rest)
 autolink_reads is_email content None = tt
 autolink_reads is_email content (Some rest) =
-    where_passed LeafEndsLines _ (leaf (Autolink is_email (before content rest) ∷ []) (length (before content rest) + 2)) (tt, tt)
+    where_passed LeafEndsLines _ (leaf (Autolink is_email (text_before content rest) ∷ []) (length (text_before content rest) + 2)) (tt, tt)
 
 html_reads : (content : List ℕ) (rest : Option (List ℕ)) → BeginsWell (html_leaf content rest)
 html_reads content None = tt

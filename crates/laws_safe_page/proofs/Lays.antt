@@ -3,11 +3,11 @@ use Rattle.std.proofs.Common.{◌≡◌, ℕ, true, List, [], ◌∷◌, ◌++�
 use Rattle.std.specs.List.{fold}
 use Rattle.std.proofs.lemmas.List.Sums.{fold-append}
 use Rattle.markdown_options.specs.declared.configuration.CompileOptions.{CompileOptions}
-use Rattle.definition_page.specs.Tags.{Said, Tag, start_tag}
+use Rattle.definition_page.specs.Tags.{PrintedPart, Tag, start_tag}
 use Rattle.definition_page.specs.Pieces.{Piece, Close, Void, Says, Eol, Fresh, CallOf, CountOf, NoteStart, NoteEnd}
 use Rattle.definition_page.specs.InlinePieces.{element}
 use Rattle.definition_page.specs.GfmLabelStartFootnote.{Call, call_pieces}
-use Rattle.definition_page.specs.Layout.{NoteCalls, once_more, latest_call, Laid, laid, note_end, lay}
+use Rattle.definition_page.specs.Layout.{NoteCalls, once_more, latest_call, LayoutState, layout_state, note_end, lay}
 use Rattle.html_safe_page.specs.Table.{start_rows, void_rows}
 use Rattle.html_safe_page.specs.SafePage.{IsSafePage}
 use Rattle.laws_safe_page.proofs.Each.{Each, each-append}
@@ -20,7 +20,7 @@ abbrev pub IsPrinted : List ℕ → Type 0
 IsPrinted page = IsSafePage page × (has_no_nul page ≡ true)
 
 -- a safe page was laid out after this, and footnotes ended whose contents are such pages
-pub record LaidAfter (l k : Laid) : Type 0 where
+pub record LaidAfter (l k : LayoutState) : Type 0 where
   pub within : IsAfter l.text k.text
   pub around : k.outer ≡ l.outer
   pub ended : List (List ℕ)
@@ -29,10 +29,10 @@ pub record LaidAfter (l k : Laid) : Type 0 where
 
 -- so do pieces, whatever was laid out before
 abbrev pub Lays : CompileOptions → List ℕ → List Piece → Type 0
-Lays options default pieces = (l : Laid) → LaidAfter l (fold (lay options default) l pieces)
+Lays options default pieces = (l : LayoutState) → LaidAfter l (fold (lay options default) l pieces)
 
 -- no footnote ended
-text_alone : (l : Laid) (text : List ℕ) (called : List NoteCalls) → IsAfter l.text text → LaidAfter l (laid text l.outer l.notes called)
+text_alone : (l : LayoutState) (text : List ℕ) (called : List NoteCalls) → IsAfter l.text text → LaidAfter l (layout_state text l.outer l.notes called)
 text_alone l text called p = record { within = p; around = refl; ended = []; notes_after = sym (append-nil l.notes); notes_safe = tt }
 
 module _ (options : CompileOptions) (default : List ℕ) where
@@ -54,19 +54,19 @@ module _ (options : CompileOptions) (default : List ℕ) where
         notes_safe = each-append IsPrinted first.ended second.ended first.notes_safe second.notes_safe;
       })
 
-  pub lays_says : (said : Said) → IsTextPart said → Lays options default (Says said ∷ [])
+  pub lays_says : (said : PrintedPart) → IsTextPart said → Lays options default (Says said ∷ [])
   lays_says said h l = text_alone l _ l.called (adds_says default said h l.text)
 
   pub lays_void : (t : Tag) → IsTag void_rows t → Lays options default (Void t ∷ [])
   lays_void t i l = text_alone l _ l.called (adds_void default t i l.text)
 
-  pub lays_parts : (parts : List Said) → AreTextParts parts → Lays options default (map Says parts)
+  pub lays_parts : (parts : List PrintedPart) → AreTextParts parts → Lays options default (map Says parts)
   lays_parts [] h = lays_nothing
   lays_parts (said ∷ others) h = lays_append (Says said ∷ []) (map Says others) (lays_says said h.0) (lays_parts others h.1)
 
   pub lays_element : (t : Tag) (inside : List Piece) → IsTag start_rows t → Lays options default inside → Lays options default (element t inside)
   lays_element t inside i p l =
-      let start = laid (l.text ++ start_tag t) l.outer l.notes l.called in
+      let start = layout_state (l.text ++ start_tag t) l.outer l.notes l.called in
       let k = fold (lay options default) start inside in
       let inner = p start in
       subst (LaidAfter l) (sym (fold-append (lay options default) start inside (Close t.name ∷ [])))
@@ -100,11 +100,11 @@ module _ (options : CompileOptions) (default : List ℕ) where
   -- the content of a footnote, which is laid out by itself
   pub lays_note : (inside : List Piece) → Lays options default inside → Lays options default (NoteStart ∷ inside ++ NoteEnd ∷ [])
   lays_note inside p l =
-      let start = laid [] (l.text ∷ l.outer) l.notes l.called in
+      let start = layout_state [] (l.text ∷ l.outer) l.notes l.called in
       let k = fold (lay options default) start inside in
       let inner = p start in
       let content : IsPrinted k.text = subst IsPrinted (sym inner.within.is_after) (inner.within.is_safe, inner.within.no_nul) in
-      let ended : LaidAfter l (laid l.text l.outer (k.notes ++ k.text ∷ []) k.called) =
+      let ended : LaidAfter l (layout_state l.text l.outer (k.notes ++ k.text ∷ []) k.called) =
       record {
         within = nothing_after l.text;
         around = refl;

@@ -3,7 +3,7 @@ use Rattle.std.proofs.Common.{◌≡◌, ℕ, Bool, true, false, ◌&&◌, ◌||
 use Rattle.std.proofs.lemmas.Bool.{cond_both}
 use Rattle.definition_text.specs.Encode.{encode, plain}
 use Rattle.definition_page.specs.Urls.{percent, sanitize, permits, href_protocols, src_protocols}
-use Rattle.definition_page.specs.Tags.{Said, Words, said_bytes, attribute, Attribute, Tag, tag}
+use Rattle.definition_page.specs.Tags.{PrintedPart, Words, said_bytes, attribute, Attribute, Tag, tag}
 use Rattle.definition_page.specs.InlinePieces.{Meaning, permitted_url, link_url, image_url, title_attributes, title_attribute}
 use Rattle.html_safe_page.specs.Table.{start_rows, void_rows}
 use Rattle.html_safe_page.specs.SafePage.{is_value}
@@ -53,11 +53,11 @@ module _ (m : Meaning) (safe : AreSafe m.compile) where
   link_is_tag url (Some title) = link_titled url _
 
   -- the tag of an image with a URL, a description and a title
-  abbrev image_with : List ℕ → List Said → List Attribute → Tag
+  abbrev image_with : List ℕ → List PrintedPart → List Attribute → Tag
   image_with url description title =
       tag (codes "img") (attribute (codes "src") (image_url m.compile url) ∷ record { name = codes "alt"; value = description } ∷ title)
 
-  image_titled : (url title : List ℕ) (description : List Said) → AreTextParts description
+  image_titled : (url title : List ℕ) (description : List PrintedPart) → AreTextParts description
       → IsTag void_rows (image_with url description (title_attributes title))
   unfolding void_rows
   image_titled url [] description h =
@@ -65,7 +65,7 @@ module _ (m : Meaning) (safe : AreSafe m.compile) where
   image_titled url (b ∷ bs) description h =
       ((words_text (image_url m.compile url), (value_spelled description h, (words_text (b ∷ bs), tt))), ap (λ x. x && true) (image_permitted url))
 
-  pub image_is_tag : (url : List ℕ) (title : Option (List ℕ)) (description : List Said) → AreTextParts description
+  pub image_is_tag : (url : List ℕ) (title : Option (List ℕ)) (description : List PrintedPart) → AreTextParts description
       → IsTag void_rows (image_with url description (title_attribute m title))
   image_is_tag url None description h = image_titled url [] description h
   image_is_tag url (Some title) description h = image_titled url _ description h

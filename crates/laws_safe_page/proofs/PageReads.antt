@@ -14,7 +14,7 @@ use Rattle.definition_inline.specs.Scan.{without_indent}
 use Rattle.definition_block.specs.Container.{Quote, Item, Footnote}
 use Rattle.definition_block.specs.Tree as tree
 use Rattle.definition_block.specs.Tree.{is_ending, join, one, blocks}
-use Rattle.definition_block.specs.Lists.{endings_of, after_endings, item_marker, list_marker, list_items, rest_of, before_list, before, grouped_block}
+use Rattle.definition_block.specs.Lists.{endings_of, after_endings, item_marker, list_marker, list_items, rest_of, before_list, put_before, grouped_block}
 use Rattle.definition_block.specs.Lists.{group_items}
 use Rattle.definition_block.specs.GfmTable.{Cell, line_cells}
 use Rattle.definition_page.specs.GfmTable.{head_line, body_lines, part_in_cell, in_cell}
@@ -54,7 +54,7 @@ ranked_before_list marker item bs h p =
     (λ _. ((h, ranked_join (endings_of bs) (list_items others) (ranked_endings bs p) (ranked_items others q)), ranked_rest others q))
     (λ _. ((h, tt), p))
 
-ranked_before : (b : tree.Block) (bs : tree.Blocks) → IsRanked b → AreRanked bs → AreRanked (before b bs)
+ranked_before : (b : tree.Block) (bs : tree.Blocks) → IsRanked b → AreRanked bs → AreRanked (put_before b bs)
 ranked_before b bs h p = cond_both (eqb (item_marker b) 0) _ _ AreRanked (λ _. (h, p)) (λ _. ranked_before_list (item_marker b) b bs h p)
 
 mutual

@@ -3,7 +3,7 @@ use Rattle.std.proofs.Common.{◌≡◌, ℕ, List, [], ◌∷◌, ◌++◌, tru
 use Rattle.std.specs.List.{fold}
 use Rattle.std.proofs.lemmas.Bool.{cond_both}
 use Rattle.std.proofs.lemmas.List.Sums.{fold-append}
-use Rattle.definition_page.specs.Tags.{Said, said_bytes, Tag, start_tag, end_tag, void_tag}
+use Rattle.definition_page.specs.Tags.{PrintedPart, said_bytes, Tag, start_tag, end_tag, void_tag}
 use Rattle.definition_page.specs.Pieces.{Piece, Close, Void, Says, Eol, Fresh, is_fresh, print}
 use Rattle.definition_page.specs.InlinePieces.{element}
 use Rattle.html_safe_page.specs.Table.{start_rows, void_rows}
@@ -64,7 +64,7 @@ module _ (default : List ℕ) where
       let printed = fold (print default) out pieces in
       subst (IsAfter out) (sym (fold-append (print default) out pieces others)) (both_after out printed _ (p out) (q printed))
 
-  pub adds_says : (said : Said) → IsTextPart said → Adds default (Says said ∷ [])
+  pub adds_says : (said : PrintedPart) → IsTextPart said → Adds default (Says said ∷ [])
   adds_says said h out = text_after out (said_bytes said) (said_spelled said h)
 
   pub adds_void : (t : Tag) → IsTag void_rows t → Adds default (Void t ∷ [])

@@ -9,7 +9,7 @@ use Rattle.std.proofs.lemmas.List.Folds.{list_all-append}
 use Rattle.definition_text.specs.Content.{is_eol}
 use Rattle.definition_text.specs.Encode.{replacement_character, encoded_byte, encode, plain}
 use Rattle.definition_inline.specs.Strings.{eol_bytes}
-use Rattle.definition_page.specs.Tags.{Said, Words, AsItIs, EndOfLine, Number, said_bytes}
+use Rattle.definition_page.specs.Tags.{PrintedPart, Words, AsItIs, EndOfLine, Number, said_bytes}
 use Rattle.html_safe_page.specs.SafePage.{And, Quote, Less, Greater, Plain, kind, spell_kind, spell_text}
 use Rattle.html_safe_page.proofs.Closing.{texts_append, encode_spelled}
 use Rattle.laws_safe_page.proofs.Each.{Each}
@@ -105,21 +105,21 @@ ending_spelled code h =
 -- ---- what is said
 
 -- a part that is none of raw HTML
-abbrev pub IsTextPart : Said → Type 0
+abbrev pub IsTextPart : PrintedPart → Type 0
 IsTextPart (Words text) = Unit {0}
 IsTextPart (AsItIs html) = ⊥
 IsTextPart (EndOfLine code) = is_eol code ≡ true
 IsTextPart (Number n) = Unit {0}
 
-pub said_spelled : (said : Said) → IsTextPart said → IsText (said_bytes said)
+pub said_spelled : (said : PrintedPart) → IsTextPart said → IsText (said_bytes said)
 said_spelled (Words text) h = (plain text, encode_spelled text, encode_no_nul text)
 said_spelled (AsItIs html) h = absurd h
 said_spelled (EndOfLine code) h = ending_spelled code h
 said_spelled (Number n) h = number_text n
 
-abbrev pub AreTextParts : List Said → Type 0
+abbrev pub AreTextParts : List PrintedPart → Type 0
 AreTextParts parts = Each IsTextPart parts
 
-pub value_spelled : (value : List Said) → AreTextParts value → IsText (flat_map said_bytes value)
+pub value_spelled : (value : List PrintedPart) → AreTextParts value → IsText (flat_map said_bytes value)
 value_spelled [] h = no_text
 value_spelled (said ∷ others) h = texts_joined (said_bytes said) (flat_map said_bytes others) (said_spelled said h.0) (value_spelled others h.1)

@@ -25,11 +25,11 @@ use Rattle.definition_text.specs.BlockLines.{BlockLine, own_lines}
 use Rattle.definition_block.specs.Tree.{beside_line, Block, Paragraph, Ending, Blank, Blocks, Nil, Cons, join, one, Text, Opening, Leaf, Tree, tree, empty_tree}
 use Rattle.definition_block.specs.Tree.{close_leaf, close, rest_line, grow, step, steps, blocks_at_end, children_after, blocks}
 use Rattle.definition_block.specs.Frontmatter.{after_frontmatter}
-use Rattle.definition_block.specs.Lists.{before, grouped_block, group_items}
+use Rattle.definition_block.specs.Lists.{put_before, grouped_block, group_items}
 use Rattle.definition_page.specs.Pieces.{is_fresh}
 use Rattle.html_bytes.specs.Pieces.{Piece, Bytes, Fresh, print}
 use Rattle.html_bytes.specs.Layout.{with_text, lay, nothing_laid, with_footnotes, page_layout}
-use Rattle.definition_page.specs.Layout.{Laid}
+use Rattle.definition_page.specs.Layout.{LayoutState}
 use Rattle.definition_page.specs.Read.{on_page, ends_blank}
 use Rattle.html_bytes.specs.Html.{silences, block_pieces, children_pieces, last_piece, document_pieces, default_ending, blocks_html, marked_html}
 use Rattle.definition_page.specs.Targets.{document_targets}
@@ -189,14 +189,14 @@ shows_encoded (b ∷ bs) p =
 -- ---- what pieces add to what is shown
 
 -- what is laid out has more of its innermost text, which shows this, and is the same else
-record ShowsIn (l after : Laid) (t : List ℕ) : Type 0 where
+record ShowsIn (l after : LayoutState) (t : List ℕ) : Type 0 where
   out : List ℕ
   is : after ≡ with_text l out
   shows : Shows out t
 
 -- the pieces add t to what stands before them
 abbrev PiecesShow : CompileOptions → List ℕ → List Piece → List ℕ → Type 0
-PiecesShow options default ps t = (l : Laid) (s : List ℕ) → Shows l.text s → ShowsIn l (fold (lay options default) l ps) (s ++ t)
+PiecesShow options default ps t = (l : LayoutState) (s : List ℕ) → Shows l.text s → ShowsIn l (fold (lay options default) l ps) (s ++ t)
 
 module _ (options : CompileOptions) (default : List ℕ) where
   -- no pieces, and one list of pieces after another
@@ -302,7 +302,7 @@ BlocksAreText Nil = Unit {0}
 BlocksAreText (Cons b bs) = BlockIsText b × BlocksAreText bs
 
 -- there are no items to put into lists
-no_item : (b : Block) (bs : Blocks) → BlockIsText b → before (grouped_block b) bs ≡ Cons b bs
+no_item : (b : Block) (bs : Blocks) → BlockIsText b → put_before (grouped_block b) bs ≡ Cons b bs
 no_item (Paragraph ls) bs p = refl
 no_item (Ending ending) bs p = refl
 no_item (Blank ending) bs p = refl
@@ -514,7 +514,7 @@ text_at_end ending t said p =
     (at_paragraph ending (λ o. BlocksAreText (close no_constructs o)) t.now p.now (λ ls r. text_closed ending ls r))
 
 -- where no footnote is called, the page is its text
-no_section : (options : CompileOptions) (default : List ℕ) (l : Laid) (t : List ℕ) → ShowsIn nothing_laid l t → Shows (with_footnotes options default l) t
+no_section : (options : CompileOptions) (default : List ℕ) (l : LayoutState) (t : List ℕ) → ShowsIn nothing_laid l t → Shows (with_footnotes options default l) t
 no_section options default l t p = subst (λ x. Shows (with_footnotes options default x) t) (sym p.is) p.shows
 
 -- a page shows what its blocks say

@@ -11,7 +11,7 @@ use Rattle.std.proofs.lemmas.Bool.Decides.{nat_tests}
 use Rattle.std.proofs.lemmas.Int.Digits.{digits_value-lt}
 use Rattle.definition_text.specs.Bytes.{after_all}
 use Rattle.definition_inline.specs.ReferenceRows as spec
-use Rattle.definition_inline.specs.ReferenceRows.{code_text, codes_text, is_code, is_scalar}
+use Rattle.definition_inline.specs.ReferenceRows.{scalar_text, codes_text, is_code, is_scalar}
 use Rattle.inline_references.proofs.Values.{without_sign}
 use Rattle.markdown_tables.specs.RowParts.{are_code_digits, both_texts, is_plus, IsSplitAtPlus}
 
@@ -27,7 +27,7 @@ both-nil (Some x) = ap Some (append-nil x)
 abbrev IsReading : (List ℕ → Option (List ℕ)) → Type 0
 IsReading read = (digits : List ℕ) → list_all is_ascii_hexdigit digits ≡ false → read digits ≡ None
 
-code_is_reading : IsReading code_text
+code_is_reading : IsReading scalar_text
 code_is_reading digits bad = cond-false (is_code digits) _ None (and_left _ (is_scalar (digits_value 16 digits)) (and_right _ _ bad))
 
 -- a reading of what follows a digit
@@ -78,50 +78,50 @@ one_front read is (b ∷ bs) h =
                 ap (λ d. front_at d read b bs) digit ∙ digit_front read b bs ∙ one_front (λ digits. read (b ∷ digits)) (after_digit read is b) bs
                 (omega (arith, h, place))
             | inr bad ↦
-                ap (λ d. front_at d read b bs) bad ∙ ap (both_texts (read [])) (cond-false (is_plus b) (code_text bs) None other) ∙ both-none (read [])
+                ap (λ d. front_at d read b bs) bad ∙ ap (both_texts (read [])) (cond-false (is_plus b) (scalar_text bs) None other) ∙ both-none (read [])
                 ∙ sym (no_digit read is b bs bad)
           ]
     ]
 
 -- where a `+` stands, they are the codes before and after it
 two_front : (read : List ℕ → Option (List ℕ)) → IsReading read → (bytes : List ℕ) → position_or_len is_plus bytes < length bytes
-    → read_front read bytes ≡ both_texts (read (before_first is_plus bytes)) (code_text (after_first is_plus bytes))
+    → read_front read bytes ≡ both_texts (read (before_first is_plus bytes)) (scalar_text (after_first is_plus bytes))
 two_front read is [] h = absurd (omega arith)
 two_front read is (b ∷ bs) h =
-    let parts : ℕ → Option (List ℕ) = λ n. both_texts (read (take n (b ∷ bs))) (code_text (drop (n + 1) (b ∷ bs))) in
+    let parts : ℕ → Option (List ℕ) = λ n. both_texts (read (take n (b ∷ bs))) (scalar_text (drop (n + 1) (b ∷ bs))) in
     elim (cases_Bool (is_plus b)) [
       | inl here ↦
           elim (cases_Bool (is_ascii_hexdigit b)) [
             | inl digit ↦ let not_here = plus_after b digit in cc
             | inr bad ↦
-                ap (λ d. front_at d read b bs) bad ∙ ap (λ p. both_texts (read []) (cond p (code_text bs) None)) here
+                ap (λ d. front_at d read b bs) bad ∙ ap (λ p. both_texts (read []) (cond p (scalar_text bs) None)) here
                 ∙ ap parts (sym (place_here b bs here))
           ]
       | inr other ↦
           let place = place_after b bs other in
           let m = position_or_len is_plus bs in
           let next : suc m + 1 ≡ suc (m + 1) = omega arith in
-          let split : parts (suc m) ≡ both_texts (read (b ∷ take m bs)) (code_text (drop (m + 1) bs)) =
-          ap (λ n. both_texts (read (b ∷ take m bs)) (code_text (drop n (b ∷ bs)))) next in
+          let split : parts (suc m) ≡ both_texts (read (b ∷ take m bs)) (scalar_text (drop (m + 1) bs)) =
+          ap (λ n. both_texts (read (b ∷ take m bs)) (scalar_text (drop n (b ∷ bs)))) next in
           elim (cases_Bool (is_ascii_hexdigit b)) [
             | inl digit ↦
                 ap (λ d. front_at d read b bs) digit ∙ digit_front read b bs ∙ two_front (λ digits. read (b ∷ digits)) (after_digit read is b) bs
                 (omega (arith, h, place))
                 ∙ sym split ∙ ap parts (sym place)
             | inr bad ↦
-                ap (λ d. front_at d read b bs) bad ∙ ap (both_texts (read [])) (cond-false (is_plus b) (code_text bs) None other) ∙ both-none (read [])
-                ∙ sym (ap (λ r. both_texts r (code_text (drop (m + 1) bs))) (no_digit read is b (take m bs) bad)) ∙ sym split ∙ ap parts (sym place)
+                ap (λ d. front_at d read b bs) bad ∙ ap (both_texts (read [])) (cond-false (is_plus b) (scalar_text bs) None other) ∙ both-none (read [])
+                ∙ sym (ap (λ r. both_texts r (scalar_text (drop (m + 1) bs))) (no_digit read is b (take m bs) bad)) ∙ sym split ∙ ap parts (sym place)
           ]
     ]
 
-pub one_code : (bytes : List ℕ) → position_or_len is_plus bytes ≡ length bytes → codes_text bytes ≡ code_text bytes
-one_code bytes h = one_front code_text code_is_reading bytes h
+pub one_code : (bytes : List ℕ) → position_or_len is_plus bytes ≡ length bytes → codes_text bytes ≡ scalar_text bytes
+one_code bytes h = one_front scalar_text code_is_reading bytes h
 
-pub two_codes : (bytes first second : List ℕ) → IsSplitAtPlus bytes first second → codes_text bytes ≡ both_texts (code_text first) (code_text second)
+pub two_codes : (bytes first second : List ℕ) → IsSplitAtPlus bytes first second → codes_text bytes ≡ both_texts (scalar_text first) (scalar_text second)
 two_codes bytes first second h =
-    two_front code_text code_is_reading bytes h.within
-    ∙ ap (λ f. both_texts (code_text f) (code_text (after_first is_plus bytes))) (sym h.before)
-    ∙ ap (λ s. both_texts (code_text first) (code_text s)) (sym h.after)
+    two_front scalar_text code_is_reading bytes h.within
+    ∙ ap (λ f. both_texts (scalar_text f) (scalar_text (after_first is_plus bytes))) (sym h.before)
+    ∙ ap (λ s. both_texts (scalar_text first) (scalar_text s)) (sym h.after)
 
 -- ---- the number of a code
 

@@ -8,7 +8,7 @@ ghost use Rattle.std.specs.Option.{option_map};
 ghost use Rattle.std.specs.Char.{is_ascii_alphanumeric, is_ascii_hexdigit};
 ghost use Rattle.std.specs.List.{list_all, position_or_len};
 ghost use Rattle.std.specs.Str.Parse.{digits_value};
-ghost use Rattle.definition_inline.specs.ReferenceRows.{code_text, codes_text, is_name, row_of};
+ghost use Rattle.definition_inline.specs.ReferenceRows.{scalar_text, codes_text, is_name, row_of};
 ghost use Rattle.markdown_tables.specs.RowParts.{are_code_digits, both_texts, characters_text, is_plus, row_view, IsSplitAtPlus};
 
 use markdown_options::constants::{
@@ -75,7 +75,7 @@ fn split_codes(codes: &str) -> Option<(&str, &str)>
 }
 
 fn read_one(code: &str) -> Option<Characters>
-    ensures { option_map characters_text result ≡ code_text code.now }
+    ensures { option_map characters_text result ≡ scalar_text code.now }
 {
     let first = read_code(code)?;
     Some(Characters {
@@ -85,7 +85,7 @@ fn read_one(code: &str) -> Option<Characters>
 }
 
 fn read_two(first: &str, second: &str) -> Option<Characters>
-    ensures { option_map characters_text result ≡ both_texts (code_text first.now) (code_text second.now) }
+    ensures { option_map characters_text result ≡ both_texts (scalar_text first.now) (scalar_text second.now) }
 {
     let first = read_code(first)?;
     let second = read_code(second)?;
@@ -97,7 +97,7 @@ fn read_two(first: &str, second: &str) -> Option<Characters>
 
 /// The character of a code.
 fn read_code(digits: &str) -> Option<char>
-    ensures { option_map encode_utf8 result ≡ code_text digits.now }
+    ensures { option_map encode_utf8 result ≡ scalar_text digits.now }
 {
     if !are_code_digits(digits) {
         return None;

@@ -3,7 +3,7 @@ use Rattle.std.proofs.lemmas.List.{length-map, take_rest}
 use Rattle.block_rows.proofs.Pieces.{lines_from}
 use Rattle.definition_text.specs.BlockLines.{BlockLine, own_lines}
 use Rattle.definition_text.specs.Content.{content_of, content_text}
-use Rattle.definition_block.specs.Definitions.{Cut, cut_most}
+use Rattle.definition_block.specs.Definitions.{DefinitionCut, cut_most}
 use Rattle.definition_inline.specs.Definition.{definition_at}
 use Rattle.block_rows.specs.ParagraphLines.{AreLines}
 use Rattle.definition_block.specs.Tree.{is_some_line}
@@ -47,5 +47,5 @@ returns c = λ clean is.
     let count = length-map c.args.lines.now piece_line in
     ap (λ n. ltb first n) (sym count)
     ∙ some_left first ls (omega (arith, k.lines_within, count))
-    ∙ ap is_some_line (ap (λ (x : Cut). x.left) (sym (cut_none (drop first ls) nothing)) ∙ sym l.same)
+    ∙ ap is_some_line (ap (λ (x : DefinitionCut). x.left) (sym (cut_none (drop first ls) nothing)) ∙ sym l.same)
     ∙ ap (λ n. is_some_line (cut_most n ls).left) count

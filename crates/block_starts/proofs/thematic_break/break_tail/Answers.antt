@@ -3,7 +3,7 @@ use Rattle.std.proofs.lemmas.Bool.{and_cases, and_parts, or_cases, or_parts, eqb
 use Rattle.std.proofs.lemmas.List.{drop_more}
 use Rattle.definition_text.specs.Columns.{is_white}
 use Rattle.definition_block.specs.ThematicBreak.{is_break_marker}
-use Rattle.block_starts.proofs.ThematicBreakLemmas.{holds, break_holds}
+use Rattle.block_starts.proofs.ThematicBreakLemmas.{has_only, break_holds}
 use Rattle.block_starts.proofs.thematic_break.break_tail.Goals as goal
 use Rattle.block_starts.proofs.thematic_break.break_tail.Goals.{then-not-is_space_or_tab+else-not-goes_with, else-not-is_space_or_tab}
 
@@ -23,7 +23,7 @@ returns-then-not-goes_with c = λ n long.
       | inl none ↦ let both : false ≡ true = sym none ∙ held.0 in cc
       | inr two ↦
           let parts = or_parts (eqb marker 32) (eqb marker byte) two in
-          let same = c.loop-n.invariant (eqb-false marker 32 parts.0) byte (ap (λ k. holds byte (drop k t)) (sym from) ∙ held.1) in
+          let same = c.loop-n.invariant (eqb-false marker 32 parts.0) byte (ap (λ k. has_only byte (drop k t)) (sym from) ∙ held.1) in
           eqb-false marker byte parts.1 (sym same)
     ])
 
@@ -36,7 +36,7 @@ loop-n-preserved c = λ some m h.
     let at : length t - (c.loop-n.n + 1) ≡ p = omega arith in
     let from : p + 1 ≡ length t - c.loop-n.n = omega arith in
     let front = ap (λ k. drop k t) at ∙ drop_more t p 0 within in
-    let parts = and_parts (eqb byte m || is_white byte) (holds m (drop (p + 1) t)) (ap (holds m) (sym front) ∙ h) in
+    let parts = and_parts (eqb byte m || is_white byte) (has_only m (drop (p + 1) t)) (ap (has_only m) (sym front) ∙ h) in
     elim c.if-not-is_space_or_tab.branch [
       | then-not-is_space_or_tab+else-not-goes_with w ↦
           elim (or_cases (eqb byte m) (is_white byte) parts.0) [
@@ -46,5 +46,5 @@ loop-n-preserved c = λ some m h.
                 let both : false ≡ true = sym dark ∙ white in cc
           ]
       | else-not-is_space_or_tab w ↦
-          c.loop-n.invariant (λ e. some (w.marker-is ∙ e)) m (ap (λ k. holds m (drop k t)) (sym from) ∙ parts.1) ∙ sym w.marker-is
+          c.loop-n.invariant (λ e. some (w.marker-is ∙ e)) m (ap (λ k. has_only m (drop k t)) (sym from) ∙ parts.1) ∙ sym w.marker-is
     ]

@@ -8,7 +8,7 @@ use Rattle.block_rows.specs.declared.row.Row.TheVariants.{Paragraph}
 use Rattle.definition_text.specs.BlockLines.{BlockLine}
 use Rattle.block_rows.specs.Rows.{BlockRow, RowsValue, row_value, piece_lines, piece_line, rows_value, row_size}
 use Rattle.block_rows.proofs.RowSteps.{shown_more, taken_more, left_more}
-use Rattle.block_targets.specs.GfmFootnoteDefinition.{HasNoted, are_bare_rows, is_bare_row, labels_so_far, note_row, note_rows, nothing_noted}
+use Rattle.block_targets.specs.GfmFootnoteDefinition.{HasLabelsSoFar, are_bare_rows, is_bare_row, labels_so_far, note_row, note_rows, nothing_noted}
 use Rattle.block_targets.proofs.Notes.{notes_of}
 use Rattle.block_targets.proofs.NoFootnote.{no_footnotes}
 use Rattle.block_targets.proofs.gfm_footnote_definition.document_footnotes.Goals as goal
@@ -35,7 +35,7 @@ loop-row-preserved g c =
     record {
       so_far = λ bare.
           let parts = bare_more so_far.rows next (sym (ap (λ (s : RowsValue). are_bare_rows s.rows) more) ∙ bare) in
-          subst (HasNoted c.row.new.self)
+          subst (HasLabelsSoFar c.row.new.self)
           (ap (λ (ls : List BlockLine). note_row (note_rows so_far.rows) (row_value row ls)) at
           ∙ sym (fold-append note_row nothing_noted so_far.rows (next ∷ []))
           ∙ sym (ap (λ (s : RowsValue). note_rows s.rows) more))
@@ -54,9 +54,9 @@ returns g c = λ bs rows_are bare.
     let all = piece_lines c.args.pieces.now in
     let whole : take c.loop-row.row-index rows ≡ rows = take_all c.loop-row.row-index rows c.loop-row-test.false in
     let all_rows = ap (λ (rs : List Row). (rows_value rs all).rows) whole ∙ rows_are in
-    subst (HasNoted c.loop-row.found) (ap note_rows all_rows ∙ notes_of bs [] []) (c.loop-row.invariant.so_far (ap are_bare_rows all_rows ∙ bare))
+    subst (HasLabelsSoFar c.loop-row.found) (ap note_rows all_rows ∙ notes_of bs [] []) (c.loop-row.invariant.so_far (ap are_bare_rows all_rows ∙ bare))
 
 pub returns-then-not-has_footnotes : goal.returns-then-not-has_footnotes
 returns-then-not-has_footnotes g c = λ bs rows_are bare.
     let none = no_footnotes c.args.rows.now (piece_lines c.args.pieces.now) bs (sym c.has_footnotes.ensures ∙ c.if-not-has_footnotes.true) rows_are in
-    subst (λ names. HasNoted c.in_ok-found.found (labels_so_far names [])) (sym none) c.in_ok-found.ensures
+    subst (λ names. HasLabelsSoFar c.in_ok-found.found (labels_so_far names [])) (sym none) c.in_ok-found.ensures

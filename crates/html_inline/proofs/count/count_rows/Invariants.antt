@@ -13,7 +13,7 @@ use Rattle.html_inline.specs.Prints.{meaning_by}
 -- the calls among the rows so far are counted
 abbrev pub invariant-loop-row : goal.invariant-loop-row
 invariant-loop-row g l =
-    (definition : List ℕ → Option inline.Linked) (footnotes : List (List ℕ)) (default : List ℕ) → HasLabels l.printing.footnotes.now footnotes →
+    (definition : List ℕ → Option inline.LinkTexts) (footnotes : List (List ℕ)) (default : List ℕ) → HasLabels l.printing.footnotes.now footnotes →
     let meaning = meaning_by (g.T.Tables.reference_of l.printing.tables.now) l.printing definition footnotes in
     output_view l.out
     ≡ fold (lay meaning.compile default) (output_view l.fn.out) (rows_counts meaning

@@ -6,7 +6,7 @@ use Rattle.html_inline.specs.declared.stack.OpenPart.TheVariants as open_part
 use Rattle.html_inline.specs.Opens.{opened_view, place_target}
 use Rattle.html_inline.specs.Printed.{new_part, is_described}
 use Rattle.html_bytes.specs.InlineHtml.{link_tag}
-use Rattle.inline_rows.specs.View.{target_linked}
+use Rattle.inline_rows.specs.View.{target_texts}
 use Rattle.html_inline.proofs.OpenStack.{entered, entered_silent}
 use Rattle.html_inline.proofs.rows.enter_link.Goals as goal
 use Rattle.html_inline.specs.Prints.{meaning_by}
@@ -16,7 +16,7 @@ returns-then-is_described g c = λ definition footnotes rows.
     let p = c.args.printing.now in
     let meaning = meaning_by (g.T.Tables.reference_of p.tables.now) p definition footnotes in
     let at = place_target p.definitions.now in
-    let linked = target_linked at c.args.target in
+    let linked = target_texts at c.args.target in
     let view = opened_view meaning at rows in
     let items = c.args.scratch.now.stack.items in
     let h : is_described (map view (reverse items)) ≡ true =
@@ -30,7 +30,7 @@ returns g c = λ definition footnotes rows.
     let p = c.args.printing.now in
     let meaning = meaning_by (g.T.Tables.reference_of p.tables.now) p definition footnotes in
     let at = place_target p.definitions.now in
-    let linked = target_linked at c.args.target in
+    let linked = target_texts at c.args.target in
     let view = opened_view meaning at rows in
     let items = c.args.scratch.now.stack.items in
     let out = output_view c.args.out.now in

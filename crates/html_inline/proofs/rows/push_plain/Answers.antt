@@ -7,7 +7,7 @@ use Rattle.html_bytes.specs.Layout.{with_text}
 use Rattle.html_footnotes.specs.Output.{output_view}
 use Rattle.inline_rows.specs.InlineRows as rows_of
 use Rattle.html_inline.specs.GfmTable.{parts_in_cell, row_printed_in}
-use Rattle.html_inline.specs.Printed.{Printed, printed_at, with_row}
+use Rattle.html_inline.specs.Printed.{PrintState, printed_at, with_row}
 use Rattle.html_inline.proofs.CellRows.{rows_shown, fold_shown}
 use Rattle.html_inline.proofs.OpenStack.{text_printed}
 use Rattle.html_inline.proofs.RowsPrinted.{content_printed}
@@ -19,7 +19,7 @@ returns g c = λ meaning default cell is rows_are.
     on_ok_weaker c.push_encoded.result
     (λ (e : string_bytes c.push_encoded.new.out ≡ out.text ++ encode c.args.text.now).
     ap (with_text out) e
-    ∙ ap (λ (q : Printed). q.laid)
+    ∙ ap (λ (q : PrintState). q.laid)
     (sym (text_printed cell meaning [] out c.args.text.now)
     ∙ ap (fold (row_printed_in cell meaning) (printed_at out [])) rows_are
     ∙ fold_shown cell meaning (printed_at out []) (rows_of.inline_rows (leads_to meaning.definition) is)

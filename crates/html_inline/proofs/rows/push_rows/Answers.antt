@@ -6,7 +6,7 @@ use Rattle.html_footnotes.specs.Output.{output_view}
 use Rattle.inline_rows.specs.declared.row.InlineRow.{InlineRow}
 use Rattle.inline_rows.specs.View.{rows_view}
 use Rattle.html_inline.specs.Opens.{place_target, printed_of}
-use Rattle.html_inline.specs.Printed.{Printed, printed_at, with_row}
+use Rattle.html_inline.specs.Printed.{PrintState, printed_at, with_row}
 use Rattle.definition_page.specs.InlinePieces.{leads_to}
 use Rattle.html_inline.specs.GfmTable.{parts_in_cell, row_printed_in}
 use Rattle.html_inline.proofs.CellRows.{rows_shown, fold_shown}
@@ -34,7 +34,7 @@ returns g c = λ definition footnotes default is held rows_are.
     let rows = c.args.rows.now in
     let out = output_view c.args.out.now in
     let whole : take c.loop-place.place rows ≡ rows = take_all c.loop-place.place rows c.loop-place-test.false in
-    ap (λ (q : Printed). q.laid)
+    ap (λ (q : PrintState). q.laid)
     (c.loop-place.invariant definition footnotes held
     ∙ ap (λ (rs : List InlineRow). fold (row_printed_in p.cell meaning) (printed_at out []) (rows_view at rs)) whole
     ∙ ap (λ (rs : List rows_of.InlineRow). fold (row_printed_in p.cell meaning) (printed_at out []) rs) rows_are

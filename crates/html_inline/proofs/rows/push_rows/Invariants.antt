@@ -13,7 +13,7 @@ use Rattle.html_inline.specs.Prints.{meaning_by}
 -- the rows so far are printed
 abbrev pub invariant-loop-place : goal.invariant-loop-place
 invariant-loop-place g l =
-    (definition : List ℕ → Option inline.Linked) (footnotes : List (List ℕ)) → HasLabels l.printing.footnotes.now footnotes →
+    (definition : List ℕ → Option inline.LinkTexts) (footnotes : List (List ℕ)) → HasLabels l.printing.footnotes.now footnotes →
     let meaning = meaning_by (g.T.Tables.reference_of l.printing.tables.now) l.printing definition footnotes in
     let at = place_target l.printing.definitions.now in
     printed_of meaning at l.rows (output_view l.out) l.scratch.stack.items

@@ -17,7 +17,7 @@ returns-in-Some-clause-printed g c =
     let parts = parts_of c.in-Some.found.part in
     let rest = c.in-Some.found.after.now in
     let content = c.args.string.now in
-    ap (λ x. x ++ form_bytes c.args.form (text_of on names rest)) c.in_ok-push_part.ensures
+    ap (λ x. x ++ form_bytes c.args.form (text_of on names rest)) c.in_ok-push_string_part.ensures
     ∙ formed_both c.args.form out (flat_map strings.string_bytes parts) (text_of on names rest) (text_of on names content)
     (found_text on names content rest parts c.in-Some.ensures.read c.in-Some.ensures.place)
 

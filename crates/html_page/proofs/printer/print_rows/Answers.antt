@@ -10,7 +10,7 @@ use Rattle.block_rows.specs.Rows.{RowsValue, row_value, piece_lines, piece_line,
 use Rattle.html_page.specs.Printable.{IsPrintableRow}
 use Rattle.html_page.specs.PrinterView.{PrinterView, print_row, print_all, blank_page, ends_blank_rows, rows_html, printer_view}
 use Rattle.std.specs.Result.{IfOk}
-use Rattle.definition_page.specs.Layout.{Laid}
+use Rattle.definition_page.specs.Layout.{LayoutState}
 use Rattle.html_bytes.specs.Layout.{with_footnotes, lay}
 use Rattle.html_page.specs.Prints.{page_view, with_fresh}
 use Rattle.html_bytes.specs.Html.{last_piece}
@@ -77,7 +77,7 @@ returns g c = λ ds has bs rows_are can.
     let whole : take c.loop-row.row-index rows ≡ rows = take_all c.loop-row.row-index rows c.loop-row-test.false in
     let laid_out : out ≡ (print_all d default start every).out =
     ap (λ (p : PrinterView). p.out) (k.printed ds has ∙ ap (λ (rs : List Row). print_all d default start (rows_value rs all).rows) whole) in
-    let ends = λ (x : Laid) (blank : Bool). fold (lay o default) x (last_piece blank) in
+    let ends = λ (x : LayoutState) (blank : Bool). fold (lay o default) x (last_piece blank) in
     let ended : page_view c.if-ends_blank.printer.page ≡ ends out c.ends_blank.result = elim c.if-ends_blank.branch [
       | then-ends_blank+in_ok-fresh w ↦
           ap (λ (p : Printer _). page_view p.page) w.printer-is

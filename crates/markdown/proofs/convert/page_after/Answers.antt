@@ -14,8 +14,8 @@ use Rattle.markdown_options.specs.declared.configuration.Constructs.{Constructs}
 use Rattle.definition_block.specs.Tree.{Blocks, blocks}
 use Rattle.block_rows.specs.Rows.{RowsValue, piece_lines, rows_value, value_with, rows_of}
 use Rattle.std.specs.Prelude.{map, string_bytes}
-use Rattle.inline_rows.specs.View.{linked_view}
-use Rattle.inline_rows.specs.declared.row.Linked.{Linked}
+use Rattle.inline_rows.specs.View.{link_texts_view}
+use Rattle.inline_rows.specs.declared.row.LinkTexts.{LinkTexts}
 use Rattle.markdown_definition.specs.TextTables.{TextTables, text_tables}
 use Rattle.html_contents.specs.Texts.{KnowsTargets}
 use Rattle.html_page.specs.Printable.{ArePrintable}
@@ -70,7 +70,7 @@ returns g c =
     let noted = c.in_ok-footnotes.ensures bs notes (bare_rows (rows_of bs) (printable_rows_of bs printable)) in
     let knows : KnowsTargets _ ds = record {
       has_labels = record { defined = (c.in_ok-definitions.ensures ds.definitions contents).has_labels; noted = noted.ended.has_labels };
-      leads = ap (λ (ls : List Linked). map linked_view ls) c.deref-5.ensures.value ∙ (c.in_ok-definitions.ensures ds.definitions contents).each;
+      leads = ap (λ (ls : List LinkTexts). map link_texts_view ls) c.deref-5.ensures.value ∙ (c.in_ok-definitions.ensures ds.definitions contents).each;
     } in
     IfOk-weaker c.print_rows.result _ _
     (λ page printed. page_of_blocks tables options _ _ bs (string_bytes page) ending printed)

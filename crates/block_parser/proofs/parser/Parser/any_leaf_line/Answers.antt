@@ -9,7 +9,7 @@ use Rattle.block_starts.specs.View.{rest_of}
 use Rattle.block_starts.specs.CodeFenced.{fence_view, fence_if}
 use Rattle.block_starts.specs.HeadingAtx.{atx_if}
 use Rattle.block_starts.specs.HtmlFlow.{number_of, kind_number}
-use Rattle.definition_block.specs.Definitions.{cut}
+use Rattle.definition_block.specs.Definitions.{definition_cut}
 use Rattle.block_parser.specs.HeadingSetext.{heading_blocks, heading_tree}
 use Rattle.block_parser.specs.GfmTable.{table_from_cut, table_tree}
 use Rattle.block_parser.specs.Spine.{spine_at, spine_after}
@@ -158,7 +158,7 @@ returns-then-branch g c =
     (sym c.opening_fence.ensures ∙ ap fence_if c.in_default.is) (html_is ∙ ap kind_number c.in_default-html_start.is)
     (sym c.heading_atx.ensures ∙ ap atx_if c.in_default-heading_atx.is) (c.in_ok-rank.ensures.turned around kids away e.ending deep clean h
     ∙ ap (λ o. heading_tree on o away e.ending) c.in_default-2.is) (sym c.is_break.ensures ∙ c.if-is_break.false)
-    (table_from_cut (cut on (text_here away)) (rest_line r e)) is))
+    (table_from_cut (definition_cut on (text_here away)) (rest_line r e)) is))
     (steps.tabled_here on (HasRead c.makes_table.new.self) (HasRead c.start_table.new.self) (rest_line r e)
     (λ around kids ls clean. reads ls clean around kids) around kids away
     (c.in_ok-makes_table.ensures.here around kids away deep h1 c.if-branch.true) clean h2))

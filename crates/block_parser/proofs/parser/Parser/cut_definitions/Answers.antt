@@ -5,7 +5,7 @@ use Rattle.definition_inline.specs.Definition.{definition_at}
 use Rattle.block_rows.specs.ParagraphLines.{AreLines}
 use Rattle.definition_text.specs.BlockLines.{BlockLine, own_lines}
 use Rattle.definition_block.specs.Tree.{Blocks, Definition, Text, join}
-use Rattle.definition_block.specs.Definitions.{Cut}
+use Rattle.definition_block.specs.Definitions.{DefinitionCut}
 use Rattle.block_parser.specs.Spine.{spine}
 use Rattle.block_parser.specs.View.{HasRead}
 use Rattle.block_parser.proofs.DefinitionLemmas.{Cutting, none_yet, ends_as, row_of_definition, one_more, all_cut}
@@ -16,7 +16,7 @@ use Rattle.block_parser.proofs.parser.Parser.cut_definitions.Goals as goal
 pub returns-then-not-may_define-clause-read : goal.returns-then-not-may_define-clause-read
 returns-then-not-may_define-clause-read g c = λ ls clean around kids h.
     let p = c.args.self.now in
-    subst (λ (x : Cut). HasRead p (spine around (join kids x.definitions) (Text x.left)))
+    subst (λ (x : DefinitionCut). HasRead p (spine around (join kids x.definitions) (Text x.left)))
     (sym (c.may_define.ensures.uncut c.if-not-may_define.true around kids ls clean h))
     (subst (λ (bs : Blocks). HasRead p (spine around bs (Text ls))) (sym (join-nil kids)) h)
 

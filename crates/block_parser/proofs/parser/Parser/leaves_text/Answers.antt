@@ -1,6 +1,6 @@
 use Rattle.std.proofs.Common.{sym, ap, ◌∙◌, subst, take, drop, length, ◌-◌}
 use Rattle.definition_block.specs.Tree.{Text, is_some_line}
-use Rattle.definition_block.specs.Definitions.{Cut}
+use Rattle.definition_block.specs.Definitions.{DefinitionCut}
 use Rattle.block_rows.specs.ParagraphLines.{AreLines}
 use Rattle.definition_text.specs.Content.{content_text}
 use Rattle.block_parser.specs.Spine.{spine}
@@ -10,7 +10,7 @@ use Rattle.block_parser.proofs.parser.Parser.leaves_text.Goals as goal
 
 pub returns-then-not-may_define-clause-left : goal.returns-then-not-may_define-clause-left
 returns-then-not-may_define-clause-left g c = λ around kids ls clean h.
-    c.has_text.ensures (spine around kids (Text ls)) h ∙ ap (λ (x : Cut). is_some_line x.left)
+    c.has_text.ensures (spine around kids (Text ls)) h ∙ ap (λ (x : DefinitionCut). is_some_line x.left)
     (sym (c.may_define.ensures.uncut c.if-not-may_define.true around kids ls clean h))
 
 pub returns-clause-left : goal.returns-clause-left

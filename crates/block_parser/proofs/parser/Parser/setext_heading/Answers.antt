@@ -3,7 +3,7 @@ use Rattle.std.proofs.lemmas.List.{length-map, take_all}
 use Rattle.std.proofs.lemmas.Result.{on_ok_weaker}
 use Rattle.definition_text.specs.BlockLines.{own_lines}
 use Rattle.definition_block.specs.Tree.{Blocks, Heading, Text, block_and_ending, join}
-use Rattle.definition_block.specs.Definitions.{cut}
+use Rattle.definition_block.specs.Definitions.{definition_cut}
 use Rattle.block_rows.specs.Rows.{piece_lines, piece_line, Single}
 use Rattle.block_parser.specs.Spine.{spine}
 use Rattle.block_parser.specs.View.{HasRead}
@@ -15,7 +15,7 @@ pub returns : goal.returns
 returns g c =
     on_ok_weaker c.end_leaf.result (λ reads. λ ls clean around kids h.
     let p = c.cut_definitions.new.self in
-    let parts = cut c.args.on.now ls in
+    let parts = definition_cut c.args.on.now ls in
     let kids2 = join kids parts.definitions in
     let left_lines = parts.left in
     let k = c.in_ok-cut_definitions.ensures.read ls clean around kids h in

@@ -1,6 +1,6 @@
 use Rattle.std.proofs.Common.{◌-◌, ◌++◌, ◌∷◌, [], ◌∙◌, refl, subst, take, drop, length}
 use Rattle.std.proofs.lemmas.Result.{on_ok_weaker}
-use Rattle.definition_block.specs.Definitions.{cut}
+use Rattle.definition_block.specs.Definitions.{definition_cut}
 use Rattle.definition_block.specs.Tree.{Blocks, OpenTable, Text, join, paragraph_of, rest_line}
 use Rattle.block_starts.specs.View.{rest_of}
 use Rattle.block_parser.specs.Spine.{spine}
@@ -11,7 +11,7 @@ use Rattle.block_parser.proofs.parser.Parser.start_table.Goals as goal
 pub returns : goal.returns
 returns g c =
     on_ok_weaker c.table_row.result (λ more. λ ls clean around kids h.
-    let parts = cut c.args.on.now ls in
+    let parts = definition_cut c.args.on.now ls in
     let n = length parts.left - 1 in
     let front = paragraph_of (take n parts.left) in
     let head = drop n parts.left in

@@ -6,7 +6,7 @@ use Rattle.block_rows.specs.declared.row.Piece.{Piece}
 use Rattle.block_rows.specs.declared.row.Row.{Row}
 use Rattle.block_rows.specs.declared.row.Row.TheVariants as row
 use Rattle.block_rows.specs.Rows.{EnterFootnote, first_codes, piece_lines, row_size, row_value}
-use Rattle.block_targets.specs.GfmFootnoteDefinition.{HasNoted, is_bare_row, labels_so_far, note_row}
+use Rattle.block_targets.specs.GfmFootnoteDefinition.{HasLabelsSoFar, is_bare_row, labels_so_far, note_row}
 use Rattle.block_targets.proofs.Notes.{bare_codes}
 use Rattle.block_targets.proofs.gfm_footnote_definition.Footnotes.row.Goals as goal
 
@@ -25,7 +25,7 @@ returns-in-EnterFootnote g c = record {
       ap (λ (r : Row). row_value r (piece_lines lines)) c.in-EnterFootnote.is in
       let same = label_read lines _ (subst (λ (r : Row). row_size r ≤ length lines) c.in-EnterFootnote.is c.requires.enough) (ap is_bare_row (sym is) ∙ bare) in
       on_ok_weaker c.enter-in-EnterFootnote.result
-      (subst (HasNoted c.enter-in-EnterFootnote.new.self)
+      (subst (HasLabelsSoFar c.enter-in-EnterFootnote.new.self)
       (ap (λ label. labels_so_far n.ended (Some label ∷ n.containers)) same ∙ ap (note_row n) (sym is)))
       (c.enter-in-EnterFootnote.ensures.read n h);
 }

@@ -1,7 +1,7 @@
 use Rattle.std.proofs.Common.{◌≡◌, [], ap, ◌∙◌, subst, false}
 use Rattle.std.specs.Prelude.{reverse}
 use Rattle.std.specs.Result.{OnOk}
-use Rattle.definition_page.specs.Layout.{Laid}
+use Rattle.definition_page.specs.Layout.{LayoutState}
 use Rattle.html_page.specs.declared.level.Level.{Level}
 use Rattle.html_page.specs.declared.level.Holder.TheVariants as holder
 use Rattle.html_page.specs.Levels.{after_footnote}
@@ -16,6 +16,6 @@ returns-clause-printed g c =
     let places = reverse p.places.items in
     subst (λ x. OnOk c.enter_at.result (printer_view c.enter_at.new.self ≡ x))
     (ap (λ (l : Level). within_at l holder.Footnote false (printer_at (page_view c.start_footnote.new.self) p.level outer places)) (c.after-around.ensures [])
-    ∙ ap (λ (out : Laid). within_at (after_footnote p.level) holder.Footnote false (printer_at out p.level outer places))
+    ∙ ap (λ (out : LayoutState). within_at (after_footnote p.level) holder.Footnote false (printer_at out p.level outer places))
     c.in_ok-start_footnote.ensures.printed)
     c.enter_at.ensures.printed

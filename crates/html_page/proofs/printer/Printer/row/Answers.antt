@@ -1,7 +1,7 @@
 use Rattle.std.proofs.Common.{◌≡◌, ◌∙◌, ap, sym, subst}
 use Rattle.std.specs.Prelude.{reverse}
 use Rattle.markdown_options.specs.LineEndings.{ending_bytes}
-use Rattle.definition_page.specs.Layout.{Laid}
+use Rattle.definition_page.specs.Layout.{LayoutState}
 use Rattle.block_rows.specs.declared.row.Row.{Row}
 use Rattle.block_rows.specs.declared.row.Row.TheVariants as row
 use Rattle.block_rows.specs.Rows.{piece_lines, row_value}
@@ -20,7 +20,7 @@ returns-in_ok-line_ending-in-Ending-clause-printed g c = λ ds has.
     let lines = piece_lines c.args.lines.now in
     let after = page_view c.line_ending.new.self in
     let level = c.after-self.result in
-    let at = λ (out : Laid) (l : Level). printer_at out l (reverse p.outer.items) (reverse p.places.items) in
+    let at = λ (out : LayoutState) (l : Level). printer_at out l (reverse p.outer.items) (reverse p.places.items) in
     subst (λ (row : Row). at after level ≡ print_row d (ending_bytes p.page.default_ending) (printer_view p) (row_value row lines)) (sym c.in-Ending.is)
     (ap (at after) (c.after-self.ensures lines)
-    ∙ ap (λ (out : Laid). at out (level_after p.level (row_value (row.Ending c.in-Ending.ending) lines))) (c.in_ok-line_ending-in-Ending.ensures.printed d))
+    ∙ ap (λ (out : LayoutState). at out (level_after p.level (row_value (row.Ending c.in-Ending.ending) lines))) (c.in_ok-line_ending-in-Ending.ensures.printed d))

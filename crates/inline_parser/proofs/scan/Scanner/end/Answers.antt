@@ -3,7 +3,7 @@ use Rattle.std.proofs.lemmas.Bool.{and_parts, eqb-true}
 use Rattle.definition_text.specs.Content.{content_codes}
 use Rattle.definition_inline.specs.Inline.{Data}
 use Rattle.definition_inline.specs.LabelEnd.{Leads, Calls}
-use Rattle.inline_label_ends.specs.declared.gfm_label_start_footnote.Formed.{Formed}
+use Rattle.inline_label_ends.specs.declared.gfm_label_start_footnote.LabelForm.{LabelForm}
 use Rattle.definition_inline.specs.Scan as scan
 use Rattle.definition_inline.specs.Scan.{read_tokens, start_bytes}
 use Rattle.definition_inline.specs.Spans.{Item}
@@ -41,7 +41,7 @@ returns-in_ok-form-in-Some-Leads-clause-placed g c =
     let first = follow.single_next rest c.requires.first in
     let left = c.cut_after-after.ensures.rest in
     let there = subst (λ r. IsAfterEnd r c.in-Some-Leads.end.after.now) left
-    (follow.some_place (c.in-Some-Leads.is ∙ ap (λ (x : Formed). Some x) c.in-Some-Leads.field-0-is) c.in_ok-end.ensures.place) in
+    (follow.some_place (c.in-Some-Leads.is ∙ ap (λ (x : LabelForm). Some x) c.in-Some-Leads.field-0-is) c.in_ok-end.ensures.place) in
     let next = follow.end_next (drop 1 rest) c.in-Some-Leads.end.after.now there in
     let middle = views.next_place content.text.now rest (drop 1 rest) c.requires.placed.place first in
     record {
@@ -68,12 +68,12 @@ returns-in_ok-form-in-Some-Leads-clause-read g c ds final has f =
     let left = c.cut_after-after.ensures.rest in
     let there =
     subst (λ r. IsAfterEnd r found.after.now) left
-    (follow.some_place (c.in-Some-Leads.is ∙ ap (λ (x : Formed). Some x) c.in-Some-Leads.field-0-is) c.in_ok-end.ensures.place) in
+    (follow.some_place (c.in-Some-Leads.is ∙ ap (λ (x : LabelForm). Some x) c.in-Some-Leads.field-0-is) c.in_ok-end.ensures.place) in
     let next = follow.end_next (drop 1 rest) found.after.now there in
     let ended =
-    subst (λ (o : Option Formed). IsFormed (labels_of ds.definitions) c.cut_after-after.result.now o
+    subst (λ (o : Option LabelForm). IsFormed (labels_of ds.definitions) c.cut_after-after.result.now o
     (ended_here (context_by options names ds) (content_codes rest) f.now.open_labels f.now.now))
-    (c.in-Some-Leads.is ∙ ap (λ (x : Formed). Some x) c.in-Some-Leads.field-0-is)
+    (c.in-Some-Leads.is ∙ ap (λ (x : LabelForm). Some x) c.in-Some-Leads.field-0-is)
     (c.in_ok-end.ensures.read leads at f.now names ds has f.shows) in
     let is = follow.found_is (labels_of ds.definitions) c.cut_after-after.result.now found
     (ended_here (context_by options names ds) (content_codes rest) f.now.open_labels f.now.now) ended in
@@ -116,9 +116,9 @@ returns-in_ok-call-in-Some-Calls-clause-read g c ds final has f =
     let at = linked_at ds.definitions in
     let label = content_codes c.in-Some-Calls.label.now in
     let ended =
-    subst (λ (o : Option Formed). IsFormed (labels_of ds.definitions) c.cut_after-after.result.now o
+    subst (λ (o : Option LabelForm). IsFormed (labels_of ds.definitions) c.cut_after-after.result.now o
     (ended_here (context_by options names ds) (content_codes rest) f.now.open_labels f.now.now))
-    (c.in-Some-Calls.is ∙ ap (λ (x : Formed). Some x) c.in-Some-Calls.field-0-is)
+    (c.in-Some-Calls.is ∙ ap (λ (x : LabelForm). Some x) c.in-Some-Calls.field-0-is)
     (c.in_ok-end.ensures.read leads at f.now names ds has f.shows) in
     let is = follow.call_is (labels_of ds.definitions) c.cut_after-after.result.now c.in-Some-Calls.label
     (ended_here (context_by options names ds) (content_codes rest) f.now.open_labels f.now.now) ended in
@@ -157,7 +157,7 @@ returns-in-None-clause-read g c ds final has f =
     let leads = leads_to (linked_by ds.definitions) in
     let at = linked_at ds.definitions in
     let ended =
-    subst (λ (o : Option Formed). IsFormed (labels_of ds.definitions) c.cut_after-after.result.now o
+    subst (λ (o : Option LabelForm). IsFormed (labels_of ds.definitions) c.cut_after-after.result.now o
     (ended_here (context_by options names ds) (content_codes rest) f.now.open_labels f.now.now)) c.in-None.is
     (c.in_ok-end.ensures.read leads at f.now names ds has f.shows) in
     let none = follow.none_is (labels_of ds.definitions) c.cut_after-after.result.now

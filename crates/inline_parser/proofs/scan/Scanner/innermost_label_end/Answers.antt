@@ -1,7 +1,7 @@
 use Rattle.std.proofs.Common.{◌≡◌, ◌-◌, ap, ap₂, subst, sym, ◌∙◌, length, drop, List, Option, None, Some}
 use Rattle.std.specs.Prelude.{IfOk}
 use Rattle.std.specs.List.{slice_get}
-use Rattle.definition_text.specs.Content.{before, content_codes}
+use Rattle.definition_text.specs.Content.{text_before, content_codes}
 use Rattle.definition_inline.specs.LabelEnd.{LinkOrCall}
 use Rattle.definition_inline.specs.Scan.{formed_at}
 use Rattle.definition_page.specs.Targets.{labels_of}
@@ -35,7 +35,7 @@ returns-else-not-may_form-clause-read g c leads at r names ds has h =
     let after = c.args.after.now in
     let o = c.in-Some.label.now in
     let last = sym (last_of c.deref.result.now s.labels.items (Some o) c.deref.ensures.value c.in-Some.ensures.value) in
-    let text : before (content_codes o.from.now) (content_codes rest) ≡ content_codes c.text_before-text.result.now =
+    let text : text_before (content_codes o.from.now) (content_codes rest) ≡ content_codes c.text_before-text.result.now =
     ended.before_bracket o.from.now rest after (ended.innermost_rest rest s.labels.items o last c.requires.placed) c.requires.bracket
     ∙ ap content_codes (sym c.text_before-text.ensures) in
     let behind : drop 1 (content_codes rest) ≡ content_codes after = ap (λ xs. drop 1 (content_codes xs)) c.requires.bracket in

@@ -1,6 +1,6 @@
 use Rattle.std.proofs.Common.{◌≡◌, ◌<◌, ℕ, ap, sym, subst, get_or, length, false}
 use Rattle.std.proofs.lemmas.List.Elements.{All-set, All-push}
-use Rattle.inline_runs.specs.Floors.{FitsAt, Known, IsFloorOf}
+use Rattle.inline_runs.specs.Floors.{FitsAt, AreOpenersAt, IsFloorOf}
 use Rattle.inline_runs.proofs.Floors.{new_floor}
 use Rattle.inline_runs.proofs.openers.Openers.raise.Goals as goal
 
@@ -10,7 +10,7 @@ returns-then-is_same-clause-openers g c = ap (λ s. s.openers) c.loop-i.invarian
 pub returns-then-is_same-clause-known : goal.returns-then-is_same-clause-known
 returns-then-is_same-clause-known g c =
     let s = c.loop-i.self in
-    let known : Known s c.args.now = subst (λ t. Known t c.args.now) (sym c.loop-i.invariant) c.requires.known in
+    let known : AreOpenersAt s c.args.now = subst (λ t. AreOpenersAt t c.args.now) (sym c.loop-i.invariant) c.requires.known in
     let none : (k : ℕ) → k < length s.openers.items → FitsAt s.openers.items k c.args.want false =
     subst (λ t. (k : ℕ) → k < length t.openers.items → FitsAt t.openers.items k c.args.want false) (sym c.loop-i.invariant) c.requires.none in
     record {
@@ -21,7 +21,7 @@ returns-then-is_same-clause-known g c =
 pub returns-clause-known : goal.returns-clause-known
 returns-clause-known g c =
     let s = c.loop-i.self in
-    let known : Known s c.args.now = subst (λ t. Known t c.args.now) (sym c.loop-i.invariant) c.requires.known in
+    let known : AreOpenersAt s c.args.now = subst (λ t. AreOpenersAt t c.args.now) (sym c.loop-i.invariant) c.requires.known in
     let none : (k : ℕ) → k < length s.openers.items → FitsAt s.openers.items k c.args.want false =
     subst (λ t. (k : ℕ) → k < length t.openers.items → FitsAt t.openers.items k c.args.want false) (sym c.loop-i.invariant) c.requires.none in
     record {

@@ -14,8 +14,8 @@ nearest_may openers opener closer count is some there =
     ap (λ (o : PlacedOf). is_eligible o closer) (there ∙ ap (λ n. slice_index_or openers (n - 1) closer) is)
     ∙ nearest_eligible openers closer (subst (λ n. 0 < n) is some)
 
-pub close-requires-clause-opener : goal.close-requires-clause-opener
-close-requires-clause-opener g c =
+pub add_pair-requires-clause-opener : goal.add_pair-requires-clause-opener
+add_pair-requires-clause-opener g c =
     subst (λ n. c.take-opener.result.place < n) (sym c.requires.sound.runs) (c.take-opener.ensures.place c.args.closer.place c.requires.sound.openers)
 
 pub without-requires : goal.without-requires
@@ -44,8 +44,8 @@ returns-clause-sound g c =
     let same : c.without.result.place ≡ c.take-opener.result.place = ap (λ (p : PlacedOf). p.place) c.without.ensures in
     record {
       openers = c.in_ok-open.ensures.known place (omega arith) (omega arith);
-      threads = c.in_ok-close.ensures.threaded;
-      runs = c.in_ok-close.ensures.ends ∙ c.requires.sound.runs;
+      threads = c.in_ok-add_pair.ensures.threaded;
+      runs = c.in_ok-add_pair.ensures.ends ∙ c.requires.sound.runs;
     }
 
 pub returns-clause-less : goal.returns-clause-less

@@ -4,7 +4,7 @@ use Rattle.inline_runs.specs.declared.pair.Pair.{Pair}
 use Rattle.inline_runs.specs.declared.pairs.Ends.{Ends}
 use Rattle.inline_runs.specs.Threads.{AreThreaded}
 use Rattle.inline_runs.proofs.Threads.{threaded_close}
-use Rattle.inline_runs.proofs.pairs.Pairs.close.Goals as goal
+use Rattle.inline_runs.proofs.pairs.Pairs.add_pair.Goals as goal
 
 pub returns-clause-threaded : goal.returns-clause-threaded
 returns-clause-threaded g c =

@@ -1,7 +1,7 @@
 use Rattle.std.proofs.Common.{◌≡◌, ◌≤◌, ℕ, length}
 use Rattle.inline_runs.specs.Threads.{IsLast}
 use Rattle.inline_runs.proofs.Opened.{IsOpened}
-use Rattle.inline_runs.proofs.spans.Opened.open.Given as goal
+use Rattle.inline_runs.proofs.spans.OpenedPairs.open_pairs.Given as goal
 
 -- of each opener that it may be, the pairs that are left come after those so far
 abbrev pub invariant-loop-left : goal.invariant-loop-left

@@ -2,7 +2,7 @@ use Rattle.std.proofs.Common.{◌≡◌, false, ◌-◌, ◌<◌, ◌≤◌, sym
 use Rattle.std.proofs.lemmas.List.{get_or_default}
 use Rattle.inline_runs.specs.declared.pair.Pair.{Pair}
 use Rattle.inline_runs.proofs.Opened.{IsOpened, one_opened, earlier_less}
-use Rattle.inline_runs.proofs.spans.Opened.open.Goals as goal
+use Rattle.inline_runs.proofs.spans.OpenedPairs.open_pairs.Goals as goal
 
 pub loop-left-preserved : goal.loop-left-preserved
 loop-left-preserved g c =

@@ -2,8 +2,8 @@ use Rattle.std.proofs.Common.{◌≡◌, ◌+◌, arith, eqb, drop, ap, sym, ◌
 use Rattle.std.proofs.lemmas.Bool.{cond-true, cond-false, eq-eqb, ne_eqb}
 use Rattle.definition_text.specs.Runs.{run}
 use Rattle.inline_leaves.proofs.RawTextLemmas.{past_here, found_here, run_here, run_there}
-use Rattle.inline_leaves.proofs.raw_runs.closing_run.Goals as goal
-use Rattle.inline_leaves.proofs.raw_runs.closing_run.Goals.{then-run-eq0, else-run-eq0}
+use Rattle.inline_leaves.proofs.raw_runs.first_run.Goals as goal
+use Rattle.inline_leaves.proofs.raw_runs.first_run.Goals.{then-run-eq0, else-run-eq0}
 
 pub loop-at-preserved : goal.loop-at-preserved
 loop-at-preserved c =

@@ -1,6 +1,6 @@
 use Rattle.std.proofs.Common.{◌≡◌, ◌≤◌, ◌-◌, length, drop, false}
 use Rattle.definition_inline.specs.CodeText.{run_of}
-use Rattle.inline_leaves.proofs.raw_runs.closing_run.Given as goal
+use Rattle.inline_leaves.proofs.raw_runs.first_run.Given as goal
 
 -- what is left has the answer
 abbrev pub invariant-loop-at : goal.invariant-loop-at

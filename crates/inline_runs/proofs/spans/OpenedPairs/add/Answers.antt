@@ -2,7 +2,7 @@ use Rattle.std.proofs.Common.{◌≡◌, ◌++◌, ◌∷◌, [], sym, ap, ◌�
 use Rattle.inline_runs.specs.Threads.{IsEnds, IsLast, opened_by}
 use Rattle.inline_runs.specs.Laid.{AreTexts, text_at}
 use Rattle.inline_runs.proofs.Texts.{text_is, text_pushed}
-use Rattle.inline_runs.proofs.spans.Opened.add.Goals as goal
+use Rattle.inline_runs.proofs.spans.OpenedPairs.add.Goals as goal
 
 pub returns-clause-texts : goal.returns-clause-texts
 returns-clause-texts g c = λ sizes is texts.
@@ -16,7 +16,7 @@ returns-clause-texts g c = λ sizes is texts.
     (c.requires.threads.ends place e c.requires.run) in
     let last : IsLast place c.deref.result.now e.last_opened = subst (λ qs. IsLast place qs e.last_opened) (sym c.deref.ensures.value) ends.opened in
     let opened : c.deref-3.result.now ≡ s.opened.items ++ reverse (opened_by place ps) =
-    c.deref-3.ensures.value ∙ c.in_ok-open.ensures.opened place last ∙ ap (λ qs. s.opened.items ++ reverse (opened_by place qs)) c.deref.ensures.value in
+    c.deref-3.ensures.value ∙ c.in_ok-open_pairs.ensures.opened place last ∙ ap (λ qs. s.opened.items ++ reverse (opened_by place qs)) c.deref.ensures.value in
     let text : c.left_after-text.result ≡ text_at ps place c.args.size =
     text_is ps s.opened.items c.deref-2.result.now c.deref-3.result.now place c.args.size c.len-start.result c.left_after.result c.left_after-text.result e ends
     c.deref-2.ensures.value opened
@@ -26,5 +26,5 @@ returns-clause-texts g c = λ sizes is texts.
       text = c.left_after-text.result;
       start = c.len-start.result;
       end = c.len-end.result;
-    } ∷ []) c.in_ok-open.ensures.laid in
+    } ∷ []) c.in_ok-open_pairs.ensures.laid in
     subst (AreTexts ps sizes) (sym all) (text_pushed ps sizes s.laid.items _ (text ∙ ap (text_at ps place) is) texts)

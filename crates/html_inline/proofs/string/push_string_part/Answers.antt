@@ -5,7 +5,7 @@ use Rattle.definition_inline.specs.Strings as strings
 use Rattle.inline_leaves.specs.Leaves.{parts_of}
 use Rattle.html_inline.specs.Forms.{form_bytes}
 use Rattle.html_inline.proofs.PartTexts.{data_texts, escape_texts}
-use Rattle.html_inline.proofs.string.push_part.Goals as goal
+use Rattle.html_inline.proofs.string.push_string_part.Goals as goal
 
 pub returns-in-Escape : goal.returns-in-Escape
 returns-in-Escape g c =
