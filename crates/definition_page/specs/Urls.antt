@@ -5,15 +5,16 @@ use Rattle.std.specs.Fmt.{digit_glyph}
 use Rattle.std.specs.Int.{is_in_range}
 use Rattle.std.specs.List.{list_any, take_while}
 use Rattle.std.specs.Str.{bytes_eq}
-use Rattle.definition_text.specs.Ascii.{number_sign, percent_sign, slash, colon, question_mark}
+use Rattle.definition_text.specs.Ascii.{exclamation_mark, number_sign, dollar, percent_sign, ampersand, slash, colon, semicolon, equals, question_mark, at_sign}
+use Rattle.definition_text.specs.Ascii.{underscore, tilde}
 use Rattle.definition_text.specs.Encode.{encode}
 use Rattle.definition_text.specs.Bytes.{after_all, lower}
 
 -- a byte that a URL keeps: a letter, a digit, or one of ! # $ & ' ( ) * + , - . / : ; = ? @ _ ~
 abbrev pub is_url_byte : ℕ → Bool
 is_url_byte b =
-    is_ascii_alphanumeric b || (b == 33) || is_in_range 35 36 b || is_in_range 38 47 b || is_in_range 58 59 b || (b == 61)
-    || is_in_range 63 64 b || (b == 95) || (b == 126)
+    is_ascii_alphanumeric b || (b == exclamation_mark) || is_in_range number_sign dollar b || is_in_range ampersand slash b || is_in_range colon semicolon b
+    || (b == equals) || is_in_range question_mark at_sign b || (b == underscore) || (b == tilde)
 
 -- what makes a `%` before it an escape: two letters or digits
 abbrev pub ends_escape : List ℕ → Bool

@@ -5,7 +5,7 @@ use Rattle.std.specs.Str.{bytes_eq}
 use Rattle.html_safe_page.specs.Table.{Row, start_rows, void_rows}
 use Rattle.html_safe_page.specs.SafePage.{Kind, And, Quote, Less, Greater, Plain, kind, Attribute, Tag, Items, End, Letter, Void, Element, attribute_start}
 use Rattle.html_safe_page.specs.SafePage.{void_end, is_value}
-use Rattle.definition_text.specs.Ascii.{double_quote, slash}
+use Rattle.definition_text.specs.Ascii.{double_quote, ampersand, slash, less_than, greater_than}
 
 abbrev pub and_then : {A B : Type 0} → Option A → (A → Option B) → Option B
 and_then None f = None
@@ -30,10 +30,10 @@ replace b rest = option_map (λ bs. b ∷ bs) rest
 -- the text that follows `&`, with what that begins
 abbrev pub join_reference : List ℕ → Option (List ℕ)
 join_reference text =
-    or_else (replace 38 (strip (codes "amp;") text))
-    (or_else (replace 34 (strip (codes "quot;") text))
-    (or_else (replace 60 (strip (codes "lt;") text))
-    (replace 62 (strip (codes "gt;") text))))
+    or_else (replace ampersand (strip (codes "amp;") text))
+    (or_else (replace double_quote (strip (codes "quot;") text))
+    (or_else (replace less_than (strip (codes "lt;") text))
+    (replace greater_than (strip (codes "gt;") text))))
 
 abbrev pub join_kind : Kind → ℕ → List ℕ → Option (List ℕ)
 join_kind And b text = join_reference text
@@ -115,10 +115,10 @@ replace_letters b rest = option_map (Letter b) rest
 
 abbrev pub join_letters : Items → Option Items
 join_letters items =
-    or_else (replace_letters 38 (strip_letters (codes "amp;") items))
-    (or_else (replace_letters 34 (strip_letters (codes "quot;") items))
-    (or_else (replace_letters 60 (strip_letters (codes "lt;") items))
-    (replace_letters 62 (strip_letters (codes "gt;") items))))
+    or_else (replace_letters ampersand (strip_letters (codes "amp;") items))
+    (or_else (replace_letters double_quote (strip_letters (codes "quot;") items))
+    (or_else (replace_letters less_than (strip_letters (codes "lt;") items))
+    (replace_letters greater_than (strip_letters (codes "gt;") items))))
 
 abbrev pub outside : Option Rest → Reading
 outside None = Nowhere

@@ -3,7 +3,7 @@ use Rattle.std.specs.Prelude.{◌≡◌, ◌≢◌, ℕ, Bool, false, List, [], 
 use Rattle.std.specs.List.{All}
 use Rattle.markdown_options.specs.declared.line_ending.LineEnding.{LineEnding}
 use Rattle.markdown_options.specs.declared.configuration.Constructs.{Constructs}
-use Rattle.definition_text.specs.Ascii.{line_feed}
+use Rattle.definition_text.specs.Ascii.{line_feed, carriage_return}
 use Rattle.definition_text.specs.declared.beside.Kind.{Kind}
 use Rattle.definition_text.specs.declared.beside.Kind.TheVariants.{Whitespace, Other}
 use Rattle.markdown_options.specs.declared.line_ending.LineEnding.TheVariants.{CarriageReturnLineFeed}
@@ -19,7 +19,7 @@ use Rattle.laws_endings.specs.Inlines.{content_with, inlines_with}
 
 -- no byte is CR
 abbrev pub HasNoReturn : List ℕ → Type 0
-HasNoReturn text = All (λ b. b ≢ 13) text
+HasNoReturn text = All (λ b. b ≢ carriage_return) text
 
 -- the lines of the text with an ending in place of each LF are the text's, each with that ending in place of LF
 abbrev pub EndingLinesLaw : Type 0

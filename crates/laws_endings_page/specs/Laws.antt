@@ -3,6 +3,7 @@ use Rattle.std.specs.Prelude.{◌≡◌, ◌≢◌, ℕ, true, List, [], Option,
 use Rattle.markdown_options.specs.declared.line_ending.LineEnding.{LineEnding}
 use Rattle.markdown_options.specs.declared.configuration.CompileOptions.{CompileOptions}
 use Rattle.markdown_options.specs.declared.configuration.Options.{Options}
+use Rattle.definition_text.specs.Ascii.{line_feed, ampersand}
 use Rattle.definition_page.specs.TextTables.{TextTables}
 use Rattle.definition_page.specs.GfmLabelStartFootnote.{text_or}
 use Rattle.definition_page.specs.Html.{html}
@@ -11,11 +12,11 @@ use Rattle.laws_endings.specs.Laws.{HasNoReturn}
 
 -- a text whose lines end in LF: it is UTF-8, has an LF and no CR, and no `&`, so that no character reference stands for an LF of its own
 abbrev pub EndsInFeeds : List ℕ → Type 0
-EndsInFeeds text = IsUtf8 text × Contains text 10 × HasNoReturn text × All (λ b. b ≢ 38) text
+EndsInFeeds text = IsUtf8 text × Contains text line_feed × HasNoReturn text × All (λ b. b ≢ ampersand) text
 
 -- a text of the options, where it is given, holds no LF
 abbrev pub HasNoFeed : {A : Type 0} → Option (String A) → Type 0
-HasNoFeed text = All (λ b. b ≢ 10) (text_or text [])
+HasNoFeed text = All (λ b. b ≢ line_feed) (text_or text [])
 
 -- what the options say around footnotes holds no LF
 pub record HaveNoFeeds (options : CompileOptions) : Type 0 where

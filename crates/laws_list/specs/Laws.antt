@@ -32,7 +32,7 @@ begins_dark (b ∷ bs) = not (is_white b)
 
 -- the item of `+` whose content begins two columns on
 abbrev pub plus_item : Container
-plus_item = Item (record { marker = 43; number = None; size = 2 })
+plus_item = Item (record { marker = plus; number = None; size = 2 })
 
 -- one item, which holds these
 abbrev pub item_of : Blocks → Blocks

@@ -3,7 +3,7 @@ use Rattle.std.specs.Prelude.{◌≡◌, ◌≢◌, ℕ, true, false, List, [], 
 use Rattle.std.specs.List.{All}
 use Rattle.std.specs.Fn.{iterate}
 use Rattle.markdown_options.specs.declared.configuration.Constructs.{Constructs}
-use Rattle.definition_text.specs.Ascii.{space, greater_than}
+use Rattle.definition_text.specs.Ascii.{tab, space, greater_than}
 use Rattle.definition_text.specs.declared.beside.Kind.{Kind}
 use Rattle.definition_text.specs.declared.beside.Kind.TheVariants.{Whitespace}
 use Rattle.definition_block.specs.Container.{Quote}
@@ -22,7 +22,7 @@ QuotedLinesLaw = (text : List ℕ) → lines (quote_lines text) ≡ map quoted_l
 
 -- no byte is a tab
 abbrev pub HasNoTab : List ℕ → Type 0
-HasNoTab text = All (λ b. b ≢ 9) text
+HasNoTab text = All (λ b. b ≢ tab) text
 
 -- one quote, which holds these
 abbrev pub quote_of : Blocks → Blocks

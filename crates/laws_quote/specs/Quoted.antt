@@ -1,6 +1,6 @@
 -- A text with two bytes before every line, as `> `.
 use Rattle.std.specs.Prelude.{ℕ, Bool, false, not, if◌then◌else◌, ◌==◌, ◌&&◌, ◌||◌, List, [], ◌∷◌}
-use Rattle.definition_text.specs.Ascii.{line_feed, carriage_return}
+use Rattle.definition_text.specs.Ascii.{line_feed, carriage_return, space, greater_than}
 
 -- whether an LF comes next
 abbrev pub begins_with_feed : List ℕ → Bool
@@ -24,11 +24,11 @@ pair_after_endings x y (b ∷ bs) =
 
 -- `> ` before these bytes, if there are any
 abbrev pub with_mark : List ℕ → List ℕ
-with_mark bs = pair_before 62 32 bs
+with_mark bs = pair_before greater_than space bs
 
 -- `> ` after each ending that more bytes follow
 abbrev pub marked_after_endings : List ℕ → List ℕ
-marked_after_endings bs = pair_after_endings 62 32 bs
+marked_after_endings bs = pair_after_endings greater_than space bs
 
 -- `> ` before every line
 abbrev pub quote_lines : List ℕ → List ℕ
