@@ -1,31 +1,19 @@
 -- The codes of a paragraph's content.
-use Rattle.std.proofs.Common.{◌≡◌, ℕ, ◌<◌, List, [], ◌∷◌, ◌++◌, eqb, false, Option, None, Some, length, refl, sym, ap, ◌∙◌, arith, inl, inr}
+use Rattle.std.proofs.Common.{◌≡◌, ℕ, ◌<◌, List, [], ◌∷◌, ◌++◌, Option, None, Some, length, refl, sym, ap, ◌∙◌, arith}
 use Rattle.std.specs.Prelude.{map}
 use Rattle.std.specs.List.{flat_map}
-use Rattle.std.proofs.lemmas.Bool.{cases_Bool, cond-false, cond-true, or_parts}
 use Rattle.std.proofs.lemmas.List.{length-map, map-append}
 use Rattle.markdown_options.specs.declared.line_ending.LineEnding.{LineEnding}
 use Rattle.markdown_options.specs.declared.line_ending.LineEnding.TheVariants.{CarriageReturnLineFeed, CarriageReturn, LineFeed}
-use Rattle.definition_text.specs.Lines.{ends_line}
 use Rattle.definition_text.specs.Columns.{code_byte}
 use Rattle.definition_text.specs.BlockLines.{BlockLine, block_line, own_lines}
-use Rattle.definition_text.specs.Content.{is_eol, content_codes, ending_code, content_of, line_text, content_text}
-use Rattle.block_rows.specs.ParagraphLines.{HaveNoEnding, AreLines}
-use Rattle.definition_text.proofs.ContentBytes.{IsInLine, AreFilled, block_line_bytes, content_codes_of}
+use Rattle.definition_text.specs.Content.{content_codes, ending_code, content_of, line_text, content_text}
+use Rattle.block_rows.specs.ParagraphLines.{AreLines}
+use Rattle.block_rows.proofs.InLine.{in_line}
+use Rattle.definition_text.proofs.ContentBytes.{AreFilled, block_line_bytes, content_codes_of}
 
 abbrev spaced : BlockLine → BlockLine
 spaced line = block_line (map code_byte line.codes) line.ending line.before
-
--- no byte of a line ends it
-byte_in_line : (c : ℕ) → is_eol c ≡ false → ends_line (code_byte c) ≡ false
-byte_in_line c h = elim (cases_Bool (eqb c 256)) [
-  | inl is ↦ ap ends_line (cond-true (eqb c 256) 32 c is)
-  | inr other ↦ ap ends_line (cond-false (eqb c 256) 32 c other) ∙ (or_parts (ends_line c) (eqb c 257) h).0
-]
-
-pub in_line : (cs : List ℕ) → HaveNoEnding cs → IsInLine (map code_byte cs)
-in_line [] h = tt
-in_line (c ∷ cs) h = (byte_in_line c h.0, in_line cs h.1)
 
 some_bytes : (cs : List ℕ) → 0 < length cs → 0 < length (map code_byte cs)
 some_bytes cs h = omega (arith, length-map cs code_byte, h)

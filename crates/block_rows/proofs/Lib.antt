@@ -4,3 +4,4 @@ pub mod OpenLines
 pub mod RowSteps
 pub mod DefinitionRows
 pub mod Pieces
+pub mod InLine

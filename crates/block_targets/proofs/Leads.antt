@@ -5,8 +5,8 @@ use Rattle.std.proofs.lemmas.List.{get_or-map, length-map}
 use Rattle.definition_inline.specs.Inline.{link_texts}
 use Rattle.definition_inline.specs.Definition.{Definition}
 use Rattle.definition_page.specs.Targets.{linked_at, no_definition}
-use Rattle.inline_rows.specs.declared.row.LinkTexts.{LinkTexts}
-use Rattle.inline_rows.specs.View.{link_texts_view}
+use Rattle.inline_links.specs.declared.text.LinkTexts.{LinkTexts}
+use Rattle.inline_links.specs.View.{link_texts_view}
 use Rattle.block_targets.specs.Read.{leads}
 
 -- there are as many links as definitions

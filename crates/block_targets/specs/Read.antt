@@ -9,7 +9,7 @@ use Rattle.block_rows.specs.declared.row.Row.{Row}
 use Rattle.block_rows.specs.declared.row.Row.TheVariants as row
 use Rattle.inline_labels.specs.Table.{HasLabels}
 use Rattle.inline_links.specs.declared.text.TextDefinition.{TextDefinition}
-use Rattle.inline_rows.specs.View.{link_texts_view}
+use Rattle.inline_links.specs.View.{link_texts_view}
 use Rattle.block_targets.specs.declared.contents.DefinitionContents.{DefinitionContents}
 use Rattle.block_targets.specs.declared.definitions.Definitions.{Definitions}
 

@@ -6,8 +6,8 @@ ghost use Rattle.block_targets.specs.Read.{HasContents, HasDefinitions, alone, r
 
 use crate::contents::DefinitionContents;
 use inline_labels::LabelTable;
+use inline_links::LinkTexts;
 use inline_links::text::{TextDefinition, definition_of};
-use inline_rows::LinkTexts;
 use std::alloc::{AllocError, Allocator};
 
 /// The definitions of a document.

@@ -5,12 +5,13 @@ use Rattle.std.proofs.Math.ListN.{get_or-map}
 use Rattle.definition_inline.specs.Inline as inline
 use Rattle.definition_inline.specs.Definition.{Definition}
 use Rattle.definition_page.specs.Targets.{linked_at, no_definition}
-use Rattle.inline_rows.specs.declared.row.LinkTexts.{LinkTexts}
+use Rattle.inline_links.specs.declared.text.LinkTexts.{LinkTexts}
 use Rattle.inline_rows.specs.declared.row.LinkTarget.{LinkTarget}
 use Rattle.inline_rows.specs.declared.row.LinkTarget.TheVariants.{Resource, Definition as ByPlace}
 use Rattle.inline_rows.specs.declared.row.InlineRow.{InlineRow}
 use Rattle.inline_rows.specs.declared.row.InlineRow.TheVariants.{Text, Leaf, EnterSpan, EnterLink, EnterImage, Call, Exit}
-use Rattle.inline_rows.specs.View.{link_texts_view, target_texts, row_view, rows_view}
+use Rattle.inline_links.specs.View.{link_texts_view}
+use Rattle.inline_rows.specs.View.{target_texts, row_view, rows_view}
 use Rattle.inline_rows.specs.InlineRows as rows
 use Rattle.html_inline.specs.Opens.{nowhere, place_target}
 

@@ -19,8 +19,8 @@ use html_footnotes::Output;
 use html_inline::{Printing, Scratch, count_rows, push_encoded_string, push_plain, push_rows};
 use inline_content::{Content, line_content, whole_content};
 use inline_labels::LabelTable;
+use inline_links::LinkTexts;
 use inline_parser::{Room, content_start, inline_rows, is_plain};
-use inline_rows::LinkTexts;
 use markdown_options::{Options, Tables};
 use std::alloc::{AllocError, Allocator};
 

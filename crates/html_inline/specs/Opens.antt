@@ -4,10 +4,11 @@ use Rattle.definition_inline.specs.Inline as inline
 use Rattle.definition_page.specs.Layout.{LayoutState}
 use Rattle.html_bytes.specs.InlineHtml.{InlineMeaning}
 use Rattle.inline_runs.specs.View.{span_view}
-use Rattle.inline_rows.specs.declared.row.LinkTexts.{LinkTexts}
+use Rattle.inline_links.specs.declared.text.LinkTexts.{LinkTexts}
 use Rattle.inline_rows.specs.declared.row.InlineRow.{InlineRow}
 use Rattle.inline_rows.specs.declared.row.InlineRow.TheVariants.{Text, Leaf, EnterSpan, EnterLink, EnterImage, Call, Exit}
-use Rattle.inline_rows.specs.View.{link_texts_view, target_texts}
+use Rattle.inline_links.specs.View.{link_texts_view}
+use Rattle.inline_rows.specs.View.{target_texts}
 use Rattle.html_inline.specs.declared.stack.OpenPart.{OpenPart}
 use Rattle.html_inline.specs.declared.stack.OpenPart.TheVariants as open_part
 use Rattle.html_inline.specs.Printed.{OpenElement, new_part, PrintState, printed_at, span_end, image_end}

@@ -2,7 +2,8 @@
 ghost use Rattle.std.specs.Prelude.{◌≡◌, ℕ, List, OnOk, string_bytes};
 ghost use Rattle.definition_text.specs.Encode.{plain};
 ghost use Rattle.html_bytes.specs.InlineHtml.{link_tag, title_attribute, title_html};
-ghost use Rattle.inline_rows.specs.View.{link_texts_view, target_texts};
+ghost use Rattle.inline_links.specs.View.{link_texts_view};
+ghost use Rattle.inline_rows.specs.View.{target_texts};
 ghost use Rattle.html_inline.specs.Kept.{text_of};
 ghost use Rattle.html_inline.specs.Printed.{image_end, image_start};
 ghost use Rattle.html_inline.specs.Opens.{place_target};
@@ -13,7 +14,8 @@ use crate::printing::Printing;
 use crate::string::{push_formed_string, push_string};
 use crate::url::{push_image_url, push_link_url};
 use html_escape::push_encoded;
-use inline_rows::{LinkTarget, LinkTexts};
+use inline_links::LinkTexts;
+use inline_rows::LinkTarget;
 use markdown_options::Tables;
 use std::alloc::{AllocError, Allocator};
 

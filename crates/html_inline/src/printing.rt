@@ -3,7 +3,7 @@ ghost use Rattle.std.specs.Prelude.{◌≡◌, [], IfOk, string_bytes};
 
 use crate::stack::OpenPart;
 use inline_labels::LabelTable;
-use inline_rows::LinkTexts;
+use inline_links::LinkTexts;
 use markdown_options::{CompileOptions, Constructs};
 use std::alloc::{AllocError, Allocator};
 

@@ -21,7 +21,7 @@ use Rattle.definition_text.proofs.CodeBytes.{owed_bytes}
 use Rattle.definition_text.specs.InlineCode.{InlineCode, with_kinds, inline_content, inline_code, first_kind, next_kind}
 use Rattle.definition_text.proofs.ContentBytes.{codes_in_line}
 use Rattle.inline_links.proofs.Cuts.{first_code}
-use Rattle.block_definitions.proofs.Contents.{in_line}
+use Rattle.block_rows.proofs.InLine.{in_line}
 use Rattle.inline_content.specs.declared.mark.Mark.{Mark}
 use Rattle.inline_content.specs.Marks.{kind_at}
 use Rattle.inline_content.specs.View.{width, line_rest, kind_after, kind_before, previous_after, view_from, codes_with_marks}

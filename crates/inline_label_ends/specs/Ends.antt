@@ -10,7 +10,7 @@ use Rattle.inline_links.specs.Codes.{IsCut, IsRest}
 use Rattle.inline_leaves.specs.Leaves.{size_before}
 use Rattle.inline_rows.specs.declared.row.LinkTarget.{LinkTarget}
 use Rattle.inline_rows.specs.declared.row.LinkTarget.TheVariants.{Resource, Definition}
-use Rattle.inline_rows.specs.View.{link_texts_view}
+use Rattle.inline_links.specs.View.{link_texts_view}
 use Rattle.inline_label_ends.specs.declared.forms.LabelEnd.{LabelEnd}
 use Rattle.inline_label_ends.specs.declared.gfm_label_start_footnote.LabelForm.{LabelForm}
 use Rattle.inline_label_ends.specs.declared.gfm_label_start_footnote.LabelForm.TheVariants.{Leads, Calls}

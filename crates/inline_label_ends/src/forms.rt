@@ -18,8 +18,9 @@ ghost use Rattle.inline_label_ends.specs.Ends.{IsAfterEnd, EndsAs, IsReference};
 
 use crate::text::is_label_text;
 use inline_labels::LabelTable;
+use inline_links::LinkTexts;
 use inline_links::text::{label_of, resource_of};
-use inline_rows::{LinkTarget, LinkTexts};
+use inline_rows::LinkTarget;
 use std::alloc::{AllocError, Allocator};
 
 /// What a label end forms, and the content after it.

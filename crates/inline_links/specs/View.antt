@@ -4,6 +4,8 @@ use Rattle.std.specs.Borrow.{Bor}
 use Rattle.std.specs.Option.{option_map}
 use Rattle.definition_text.specs.Content.{content_codes, part}
 use Rattle.definition_text.specs.Content as content
+use Rattle.definition_inline.specs.Inline.{link_texts}
+use Rattle.definition_inline.specs.Inline as inline
 use Rattle.definition_inline.specs.Definition.{definition}
 use Rattle.definition_inline.specs.Definition as link_definition
 use Rattle.inline_links.specs.Codes.{IsShorterRest}
@@ -11,6 +13,7 @@ use Rattle.inline_links.specs.declared.part.Part.{Part}
 use Rattle.definition_inline.specs.Resource as resource
 use Rattle.inline_links.specs.declared.resource.LinkResource.{LinkResource}
 use Rattle.inline_links.specs.declared.definition.LinkDefinition.{LinkDefinition}
+use Rattle.inline_links.specs.declared.text.LinkTexts.{LinkTexts}
 
 abbrev pub part_of : Part → content.Part
 part_of read = part (content_codes read.text.now) (content_codes read.rest.now)
@@ -42,3 +45,7 @@ found_resource (Some read) = Some (resource_of read)
 -- what was read of a content, if anything, leaves a rest of it that is shorter
 abbrev pub LeavesShorterRest : List ℕ → Option Part → Type 0
 LeavesShorterRest content found = IfSome found (λ read. IsShorterRest content read.rest.now)
+
+-- where a link leads, by codes
+abbrev pub link_texts_view : LinkTexts → inline.LinkTexts
+link_texts_view l = link_texts (content_codes l.destination.now) (title_codes l.title)

@@ -14,4 +14,4 @@ pub mod title;
 pub use definition::LinkDefinition;
 pub use part::Part;
 pub use space::{spaces, white};
-pub use text::{TextDefinition, TextPart, TextResource};
+pub use text::{LinkTexts, TextDefinition, TextPart, TextResource};

@@ -21,6 +21,15 @@ pub struct TextPart<'a> {
     pub rest: &'a str,
 }
 
+/// Where a link or an image leads, as it is written (CommonMark 6.3).
+#[derive(Clone, Copy)]
+pub struct LinkTexts<'a> {
+    /// The destination, empty where none is written, without the brackets around it.
+    pub destination: &'a str,
+    /// The title, without the quotes or parentheses around it.
+    pub title: Option<&'a str>,
+}
+
 /// A resource of a text, and what follows it.
 #[derive(Clone, Copy)]
 pub struct TextResource<'a> {

@@ -1,22 +1,17 @@
 -- Rows as the definition has them.
 use Rattle.std.specs.Prelude.{ℕ, List, [], ◌∷◌, map}
 use Rattle.std.specs.List.{flat_map}
-use Rattle.std.specs.Option.{option_map}
 use Rattle.definition_text.specs.Content.{content_codes}
-use Rattle.definition_inline.specs.Inline.{link_texts, Inline, Data}
+use Rattle.definition_inline.specs.Inline.{Inline, Data}
 use Rattle.definition_inline.specs.Inline as inline
 use Rattle.inline_rows.specs.InlineRows as rows
 use Rattle.inline_leaves.specs.Leaves.{parts_of}
 use Rattle.inline_runs.specs.View.{span_view}
-use Rattle.inline_rows.specs.declared.row.LinkTexts.{LinkTexts}
+use Rattle.inline_links.specs.View.{link_texts_view}
 use Rattle.inline_rows.specs.declared.row.LinkTarget.{LinkTarget}
 use Rattle.inline_rows.specs.declared.row.LinkTarget.TheVariants.{Resource, Definition}
 use Rattle.inline_rows.specs.declared.row.InlineRow.{InlineRow}
 use Rattle.inline_rows.specs.declared.row.InlineRow.TheVariants.{Text, Leaf, EnterSpan, EnterLink, EnterImage, Call, Exit}
-
--- where a link leads, by codes
-abbrev pub link_texts_view : LinkTexts → inline.LinkTexts
-link_texts_view l = link_texts (content_codes l.destination.now) (option_map (λ text. content_codes text.now) l.title)
 
 -- where a target leads, given where the definitions lead by their places
 abbrev pub target_texts : (ℕ → inline.LinkTexts) → LinkTarget → inline.LinkTexts

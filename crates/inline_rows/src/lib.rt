@@ -3,4 +3,4 @@
 
 pub mod row;
 
-pub use row::{InlineRow, LinkTarget, LinkTexts};
+pub use row::{InlineRow, LinkTarget};

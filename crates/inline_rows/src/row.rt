@@ -1,15 +1,7 @@
 //! A row of inline structure.
 use inline_leaves::LeafPart;
+use inline_links::LinkTexts;
 use inline_runs::Span;
-
-/// Where a link or an image leads, as it is written (CommonMark 6.3).
-#[derive(Clone, Copy)]
-pub struct LinkTexts<'a> {
-    /// The destination, empty where none is written, without the brackets around it.
-    pub destination: &'a str,
-    /// The title, without the quotes or parentheses around it.
-    pub title: Option<&'a str>,
-}
 
 /// What a link or an image leads to (CommonMark 6.3).
 #[derive(Clone, Copy)]

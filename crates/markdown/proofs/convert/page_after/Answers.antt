@@ -14,8 +14,8 @@ use Rattle.markdown_options.specs.declared.configuration.Constructs.{Constructs}
 use Rattle.definition_block.specs.Tree.{Blocks, blocks}
 use Rattle.block_rows.specs.Rows.{RowsValue, piece_lines, rows_value, value_with, rows_of}
 use Rattle.std.specs.Prelude.{map, string_bytes}
-use Rattle.inline_rows.specs.View.{link_texts_view}
-use Rattle.inline_rows.specs.declared.row.LinkTexts.{LinkTexts}
+use Rattle.inline_links.specs.View.{link_texts_view}
+use Rattle.inline_links.specs.declared.text.LinkTexts.{LinkTexts}
 use Rattle.markdown_definition.specs.TextTables.{TextTables, text_tables}
 use Rattle.html_contents.specs.Texts.{KnowsTargets}
 use Rattle.html_page.specs.Printable.{ArePrintable}
