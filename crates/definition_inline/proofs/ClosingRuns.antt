@@ -17,6 +17,14 @@ takes_left o c h = grind (arith, common_steps)
 pub takes_opener : (o c : OpenRun) → is_eligible o c ≡ true → taken_by o c ≤ o.run.left
 takes_opener o c h = grind (arith, common_steps)
 
+-- something is left of a run that closes something
+pub some_left : (s : Pairing) (c : OpenRun) → 0 < up_to_nearest s.openers c → c.run.left ≤ 0 → ⊥
+some_left s c some none =
+    let e = nearest_eligible s.openers c some in
+    let a = takes_some (nearest s.openers c) c e in
+    let b = takes_left (nearest s.openers c) c e in
+    omega arith
+
 -- a run that closes nothing
 pub stops : (n : ℕ) (s : Pairing) (c : OpenRun) → up_to_nearest s.openers c ≤ 0 → close n s c ≡ with_opener s c
 stops zero s c none = refl
@@ -35,20 +43,12 @@ goes_on n s c some =
 close_enough : (n m : ℕ) (s : Pairing) (c : OpenRun) → c.run.left ≤ n → c.run.left ≤ m → close n s c ≡ close m s c
 close_enough zero m s c h k =
     elim (cases_lt 0 (up_to_nearest s.openers c)) [
-      | inl some ↦
-          let yes = nearest_eligible s.openers c some in
-          let some_taken = takes_some (nearest s.openers c) c yes in
-          let within = takes_left (nearest s.openers c) c yes in
-          absurd (omega arith)
+      | inl some ↦ absurd (some_left s c some h)
       | inr none ↦ stops zero s c none ∙ sym (stops m s c none)
     ]
 close_enough (suc n) zero s c h k =
     elim (cases_lt 0 (up_to_nearest s.openers c)) [
-      | inl some ↦
-          let yes = nearest_eligible s.openers c some in
-          let some_taken = takes_some (nearest s.openers c) c yes in
-          let within = takes_left (nearest s.openers c) c yes in
-          absurd (omega arith)
+      | inl some ↦ absurd (some_left s c some k)
       | inr none ↦ stops (suc n) s c none ∙ sym (stops zero s c none)
     ]
 close_enough (suc n) (suc m) s c h k =

@@ -14,7 +14,7 @@ use Rattle.definition_inline.specs.NextPair.{no_run, run_by_place, taken_at, tot
 use Rattle.definition_inline.specs.NextPair.{AreNext, NoMore}
 use Rattle.definition_inline.specs.NextPair.{NextIs}
 use Rattle.definition_inline.proofs.NearestOpener.{nearest_eligible, none_after}
-use Rattle.definition_inline.proofs.ClosingRuns.{takes_some, takes_left, stops, goes_on}
+use Rattle.definition_inline.proofs.ClosingRuns.{takes_some, some_left, stops, goes_on}
 
 -- a run that has something left and may open
 abbrev is_open : OpenRun → Bool
@@ -412,11 +412,7 @@ closes : (n : ℕ) (runs : List Run) (ps : List Pair) (place : ℕ) (s : Pairing
 closes zero runs ps place s h fuel =
     let c = left_at runs ps place in
     elim (cases_lt 0 (up_to_nearest s.openers c)) [
-      | inl some ↦
-          let e = nearest_eligible s.openers c some in
-          let a = takes_some (nearest s.openers c) c e in
-          let b = takes_left (nearest s.openers c) c e in
-          absurd (omega arith)
+      | inl some ↦ absurd (some_left s c some fuel)
       | inr none ↦ passes zero runs ps place s h none
     ]
 closes (suc n) runs ps place s h fuel =

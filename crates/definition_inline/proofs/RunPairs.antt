@@ -10,7 +10,7 @@ use Rattle.definition_inline.specs.Pairing.{Pair, OpenRun, Pairing, pairing, is_
 use Rattle.definition_inline.specs.Pairing.{next_run, placed_from, pairs}
 use Rattle.definition_inline.specs.RunPairs.{ArePairs, NoRuns, Opens, Closes}
 use Rattle.definition_inline.proofs.NearestOpener.{nearest_eligible, none_after}
-use Rattle.definition_inline.proofs.ClosingRuns.{takes_some, takes_left, stops, goes_on}
+use Rattle.definition_inline.proofs.ClosingRuns.{takes_some, takes_left, some_left, stops, goes_on}
 
 -- more pairs, and what they leave to the runs behind
 record More (s t : Pairing) (runs others : List OpenRun) (rest : List Pair) : Type 0 where
@@ -34,11 +34,7 @@ closes : (n : ℕ) (s : Pairing) (c : OpenRun) (others : List OpenRun) (rest : L
     → ArePairs (close n s c).openers others rest → More s (close n s c) (c ∷ others) others rest
 closes zero s c others rest fuel h =
     elim (cases_lt 0 (up_to_nearest s.openers c)) [
-      | inl some ↦
-          let e = nearest_eligible s.openers c some in
-          let a = takes_some (nearest s.openers c) c e in
-          let b = takes_left (nearest s.openers c) c e in
-          absurd (omega arith)
+      | inl some ↦ absurd (some_left s c some fuel)
       | inr none ↦ passes zero s c others rest none h
     ]
 closes (suc n) s c others rest fuel h =

@@ -69,6 +69,11 @@ named_coded : (o : Option Part) → reference_by_name (option_map coded o) ≡ o
 named_coded None = refl
 named_coded (Some p) = refl
 
+one_of_both : (a b x y : Option CharacterReference) (t : Bool) → a ≡ option_map coded_reference x → b ≡ option_map coded_reference y
+    → cond t a b ≡ option_map coded_reference (cond t x y)
+one_of_both a b x y true e f = e
+one_of_both a b x y false e f = f
+
 number_codes : (xs : List ℕ) → number_reference (content_codes xs) ≡ option_map coded_reference (number_reference xs)
 number_codes [] = refl
 number_codes (c ∷ cs) = elim (cases_Bool (eqb c 13)) [
@@ -79,18 +84,13 @@ number_codes (c ∷ cs) = elim (cases_Bool (eqb c 13)) [
   | inr h ↦
       let codes = plain_code c cs (eqb-false c 13 h) in
       ap number_reference codes
-      ∙ by_case _ _ (reference_by_number 16 (part_to_semicolon is_ascii_hexdigit 6 cs)) (reference_by_number 10 (part_to_semicolon is_ascii_digit 7 (c ∷ cs)))
+      ∙ one_of_both _ _ (reference_by_number 16 (part_to_semicolon is_ascii_hexdigit 6 cs)) (reference_by_number 10 (part_to_semicolon is_ascii_digit 7 (c ∷ cs)))
       (eqb c 120 || eqb c 88)
       (ap (reference_by_number 16) (terminated_codes is_ascii_hexdigit 6 cs refl refl) ∙ numbered_coded 16 (part_to_semicolon is_ascii_hexdigit 6 cs))
       (ap (λ x. reference_by_number 10 (part_to_semicolon is_ascii_digit 7 x)) (sym codes)
       ∙ ap (reference_by_number 10) (terminated_codes is_ascii_digit 7 (c ∷ cs) refl refl)
       ∙ numbered_coded 10 (part_to_semicolon is_ascii_digit 7 (c ∷ cs)))
 ]
-  where
-    by_case : (a b x y : Option CharacterReference) (t : Bool) → a ≡ option_map coded_reference x → b ≡ option_map coded_reference y
-        → cond t a b ≡ option_map coded_reference (cond t x y)
-    by_case a b x y true e f = e
-    by_case a b x y false e f = f
 
 after_codes : (xs : List ℕ) → reference_after (content_codes xs) ≡ option_map coded_reference (reference_after xs)
 after_codes [] = refl
@@ -102,17 +102,12 @@ after_codes (c ∷ cs) = elim (cases_Bool (eqb c 13)) [
   | inr h ↦
       let codes = plain_code c cs (eqb-false c 13 h) in
       ap reference_after codes
-      ∙ by_case _ _ (number_reference cs) (reference_by_name (part_to_semicolon is_ascii_alphanumeric 31 (c ∷ cs))) (eqb c 35)
+      ∙ one_of_both _ _ (number_reference cs) (reference_by_name (part_to_semicolon is_ascii_alphanumeric 31 (c ∷ cs))) (eqb c 35)
       (number_codes cs)
       (ap (λ x. reference_by_name (part_to_semicolon is_ascii_alphanumeric 31 x)) (sym codes)
       ∙ ap reference_by_name (terminated_codes is_ascii_alphanumeric 31 (c ∷ cs) refl refl)
       ∙ named_coded (part_to_semicolon is_ascii_alphanumeric 31 (c ∷ cs)))
 ]
-  where
-    by_case : (a b x y : Option CharacterReference) (t : Bool) → a ≡ option_map coded_reference x → b ≡ option_map coded_reference y
-        → cond t a b ≡ option_map coded_reference (cond t x y)
-    by_case a b x y true e f = e
-    by_case a b x y false e f = f
 
 form_codes : (xs : List ℕ) → reference_form (content_codes xs) ≡ option_map coded_reference (reference_form xs)
 form_codes [] = refl

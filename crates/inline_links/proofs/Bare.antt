@@ -2,13 +2,14 @@
 use Rattle.std.proofs.Common.{◌≡◌, ℕ, zero, suc, ◌+◌, ◌-◌, ◌<◌, ◌≤◌, List, [], ◌∷◌, Bool, true, false, not, ◌||◌, ◌&&◌, Option, None, Some, refl, sym, ap, ◌∙◌}
 use Rattle.std.proofs.Common.{length, take, drop, get_or, arith, eqb, inl, inr, subst}
 use Rattle.std.specs.List.{prefix_len}
-use Rattle.std.proofs.lemmas.Bool.{cases_Bool, cond_both, cond-false, cond-true, eq-eqb, le-ltb, ne_eqb, or_parts, true≢false}
+use Rattle.std.proofs.lemmas.Bool.{cases_Bool, cond_both, cond-false, cond-true, eq-eqb, le-ltb, or_parts, true≢false}
 use Rattle.definition_text.specs.Content.{Part, content_codes, is_space, may_escape}
 use Rattle.definition_inline.specs.Destination.{is_control, open_after, is_too_deep, ends_bare, bare_end, if_any, unless_empty}
 use Rattle.inline_links.specs.Bare.{is_plain}
 use Rattle.std.proofs.lemmas.List.{drop-drop, get_or-drop}
 use Rattle.std.proofs.lemmas.List.Sums.{prefix_len_passes}
 use Rattle.inline_links.specs.Codes.{IsCut}
+use Rattle.inline_links.proofs.Runs.{one_more, after_none, after_some}
 use Rattle.inline_links.proofs.Cuts.{codes_some, first_code, cut_at}
 
 -- before a code that ends it
@@ -85,38 +86,20 @@ one_passed depth escaped opened b bs shallow h =
 pub run_passed : (depth : Option ℕ) (escaped : Bool) (opened : ℕ) (bytes : List ℕ) → is_too_deep depth opened ≡ false
     → bare_end depth escaped opened (content_codes bytes)
     ≡ bare_end depth (escaped && eqb (prefix_len is_plain bytes) 0) opened (content_codes (drop (prefix_len is_plain bytes) bytes))
-run_passed depth escaped opened [] shallow = ap (λ t. bare_end depth t opened []) (sym (both escaped))
-  where
-    both : (t : Bool) → (t && true) ≡ t
-    both true = refl
-    both false = refl
+run_passed depth escaped opened [] shallow = ap (λ t. bare_end depth t opened []) (sym (after_none escaped))
 run_passed depth escaped opened (b ∷ bs) shallow = elim (cases_Bool (is_plain b)) [
   | inl h ↦
       let n = prefix_len is_plain bs in
-      let size : prefix_len is_plain (b ∷ bs) ≡ suc n = cond-true (is_plain b) (1 + n) 0 h ∙ one n in
+      let size : prefix_len is_plain (b ∷ bs) ≡ suc n = cond-true (is_plain b) (1 + n) 0 h ∙ one_more n in
       one_passed depth escaped opened b bs shallow h
       ∙ run_passed depth false opened bs shallow
-      ∙ ap (λ t. bare_end depth t opened (content_codes (drop n bs))) (sym (ap (λ t. escaped && t) (some n) ∙ none escaped))
+      ∙ ap (λ t. bare_end depth t opened (content_codes (drop n bs))) (sym (after_some escaped n))
       ∙ sym (ap (λ k. bare_end depth (escaped && eqb k 0) opened (content_codes (drop k (b ∷ bs)))) size)
   | inr h ↦
       let size : prefix_len is_plain (b ∷ bs) ≡ 0 = cond-false (is_plain b) _ _ h in
-      ap (λ t. bare_end depth t opened (content_codes (b ∷ bs))) (sym (both escaped))
+      ap (λ t. bare_end depth t opened (content_codes (b ∷ bs))) (sym (after_none escaped))
       ∙ sym (ap (λ k. bare_end depth (escaped && eqb k 0) opened (content_codes (drop k (b ∷ bs)))) size)
 ]
-  where
-    some : (n : ℕ) → eqb (suc n) 0 ≡ false
-    some n = ne_eqb (suc n) 0 (λ e. omega (arith, e))
-
-    one : (n : ℕ) → 1 + n ≡ suc n
-    one n = omega arith
-
-    none : (t : Bool) → (t && false) ≡ false
-    none true = refl
-    none false = refl
-
-    both : (t : Bool) → (t && true) ≡ t
-    both true = refl
-    both false = refl
 
 -- a cut after a run of bytes of which none is CR is a cut, too
 pub cut_after_run : (p : ℕ → Bool) → p 13 ≡ false → (bytes : List ℕ) (at : ℕ) → at ≤ length bytes → IsCut bytes at

@@ -8,6 +8,7 @@ use Rattle.definition_text.specs.Content.{content_codes, at_line_start, may_esca
 use Rattle.definition_inline.specs.Label.{ends_label, label_end, label_size}
 use Rattle.definition_inline.specs.LabelEnd.{has_no_bracket}
 use Rattle.inline_links.specs.Unmarked.{is_unmarked}
+use Rattle.inline_links.proofs.Runs.{one_more, after_none, after_some}
 use Rattle.inline_links.proofs.Cuts.{first_code}
 
 -- what is known of such a byte
@@ -51,38 +52,20 @@ module _ (A : Type 0) (f : Bool → List ℕ → A) (goes_on : (escaped : Bool) 
   -- past so many of them
   pub run_passed : (escaped : Bool) (bytes : List ℕ)
       → f escaped (content_codes bytes) ≡ f (escaped && eqb (prefix_len is_unmarked bytes) 0) (content_codes (drop (prefix_len is_unmarked bytes) bytes))
-  run_passed escaped [] = ap (λ t. f t []) (sym (both escaped))
-    where
-      both : (t : Bool) → (t && true) ≡ t
-      both true = refl
-      both false = refl
+  run_passed escaped [] = ap (λ t. f t []) (sym (after_none escaped))
   run_passed escaped (b ∷ bs) = elim (cases_Bool (is_unmarked b)) [
     | inl h ↦
         let n = prefix_len is_unmarked bs in
-        let size : prefix_len is_unmarked (b ∷ bs) ≡ suc n = cond-true (is_unmarked b) (1 + n) 0 h ∙ one n in
+        let size : prefix_len is_unmarked (b ∷ bs) ≡ suc n = cond-true (is_unmarked b) (1 + n) 0 h ∙ one_more n in
         one_passed escaped b bs h
         ∙ run_passed false bs
-        ∙ ap (λ t. f t (content_codes (drop n bs))) (sym (ap (λ t. escaped && t) (some n) ∙ none escaped))
+        ∙ ap (λ t. f t (content_codes (drop n bs))) (sym (after_some escaped n))
         ∙ sym (ap (λ k. f (escaped && eqb k 0) (content_codes (drop k (b ∷ bs)))) size)
     | inr h ↦
         let size : prefix_len is_unmarked (b ∷ bs) ≡ 0 = cond-false (is_unmarked b) _ _ h in
-        ap (λ t. f t (content_codes (b ∷ bs))) (sym (both escaped))
+        ap (λ t. f t (content_codes (b ∷ bs))) (sym (after_none escaped))
         ∙ sym (ap (λ k. f (escaped && eqb k 0) (content_codes (drop k (b ∷ bs)))) size)
   ]
-    where
-      some : (n : ℕ) → eqb (suc n) 0 ≡ false
-      some n = ne_eqb (suc n) 0 (λ e. omega (arith, e))
-
-      one : (n : ℕ) → 1 + n ≡ suc n
-      one n = omega arith
-
-      none : (t : Bool) → (t && false) ≡ false
-      none true = refl
-      none false = refl
-
-      both : (t : Bool) → (t && true) ≡ t
-      both true = refl
-      both false = refl
 
   -- past a code that ends nothing, and the run after it
   pub next_passed : (escaped : Bool) (c : ℕ) (content codes : List ℕ) (next end : ℕ) → codes ≡ c ∷ content_codes (drop next content)
