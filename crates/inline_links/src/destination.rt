@@ -18,9 +18,9 @@ use crate::code::{is_eol, is_space, may_escape, next_code};
 use crate::part::{Part, closed_by, from, up_to};
 use text_search::{ByteClass, run_of};
 
-const PARENTHESIS: u16 = b'(' as u16;
+pub(crate) const PARENTHESIS: u16 = b'(' as u16;
 
-const CLOSING_PARENTHESIS: u16 = b')' as u16;
+pub(crate) const CLOSING_PARENTHESIS: u16 = b')' as u16;
 
 const LESS: u16 = b'<' as u16;
 

@@ -10,15 +10,12 @@ ghost use Rattle.definition_inline.specs.Title.{ends_title, ends_blank_line, tit
 ghost use Rattle.inline_links.specs.View.{found_part, LeavesShorterRest};
 
 use crate::code::{at_line_start, is_eol, may_escape, next_code};
+use crate::destination::{CLOSING_PARENTHESIS, PARENTHESIS};
 use crate::part::{Part, closed_by, from};
 
 const QUOTE: u16 = b'"' as u16;
 
 const APOSTROPHE: u16 = b'\'' as u16;
-
-const PARENTHESIS: u16 = b'(' as u16;
-
-const CLOSING_PARENTHESIS: u16 = b')' as u16;
 
 /// A title, with its text (CommonMark 6.3).
 pub fn title(content: &[u8]) -> Option<Part<'_>>
