@@ -5,12 +5,7 @@ use markdown::{Options, RunError};
 use tests_helpers::first_wrong;
 
 /// Heads, rows of delimiters, and cells.
-const TABLES: [(&str, &str); 26] = [
-    (
-        "| abc | defghi |\n:-: | -----------:\nbar | baz",
-        "<table>\n<thead>\n<tr>\n<th align=\"center\">abc</th>\n<th align=\"right\">defghi</th>\n</tr>\n</thead>\n\
-         <tbody>\n<tr>\n<td align=\"center\">bar</td>\n<td align=\"right\">baz</td>\n</tr>\n</tbody>\n</table>",
-    ),
+const TABLES: [(&str, &str); 25] = [
     (
         "a\n:-",
         "<table>\n<thead>\n<tr>\n<th align=\"left\">a</th>\n</tr>\n</thead>\n</table>",
@@ -93,7 +88,7 @@ const TABLES: [(&str, &str); 26] = [
 ];
 
 /// Tables among other blocks.
-const AMONG_BLOCKS: [(&str, &str); 32] = [
+const AMONG_BLOCKS: [(&str, &str); 25] = [
     (
         "| a | b |\n| - | - |\n| c |\n| d | e | f |",
         "<table>\n<thead>\n<tr>\n<th>a</th>\n<th>b</th>\n</tr>\n</thead>\n<tbody>\n<tr>\n<td>c</td>\n<td></td>\n\
@@ -102,38 +97,6 @@ const AMONG_BLOCKS: [(&str, &str); 32] = [
     (
         "| `a\\|b` |\n| - |",
         "<table>\n<thead>\n<tr>\n<th><code>a|b</code></th>\n</tr>\n</thead>\n</table>",
-    ),
-    (
-        "| foo | bar |\n| --- | --- |\n| baz | bim |",
-        "<table>\n<thead>\n<tr>\n<th>foo</th>\n<th>bar</th>\n</tr>\n</thead>\n<tbody>\n<tr>\n<td>baz</td>\n<td>bim</td>\n</tr>\n</tbody>\n</table>",
-    ),
-    (
-        "| f\\|oo  |\n| ------ |\n| b `\\|` az |\n| b **\\|** im |",
-        "<table>\n<thead>\n<tr>\n<th>f|oo</th>\n</tr>\n</thead>\n<tbody>\n<tr>\n<td>b <code>|</code> az</td>\n\
-         </tr>\n<tr>\n<td>b <strong>|</strong> im</td>\n</tr>\n</tbody>\n</table>",
-    ),
-    (
-        "| abc | def |\n| --- | --- |\n| bar | baz |\n> bar",
-        "<table>\n<thead>\n<tr>\n<th>abc</th>\n<th>def</th>\n</tr>\n</thead>\n<tbody>\n<tr>\n<td>bar</td>\n\
-         <td>baz</td>\n</tr>\n</tbody>\n</table>\n<blockquote>\n<p>bar</p>\n</blockquote>",
-    ),
-    (
-        "| abc | def |\n| --- | --- |\n| bar | baz |\nbar\n\nbar",
-        "<table>\n<thead>\n<tr>\n<th>abc</th>\n<th>def</th>\n</tr>\n</thead>\n<tbody>\n<tr>\n<td>bar</td>\n\
-         <td>baz</td>\n</tr>\n<tr>\n<td>bar</td>\n<td></td>\n</tr>\n</tbody>\n</table>\n<p>bar</p>",
-    ),
-    (
-        "| abc | def |\n| --- |\n| bar |",
-        "<p>| abc | def |\n| --- |\n| bar |</p>",
-    ),
-    (
-        "| abc | def |\n| --- | --- |\n| bar |\n| bar | baz | boo |",
-        "<table>\n<thead>\n<tr>\n<th>abc</th>\n<th>def</th>\n</tr>\n</thead>\n<tbody>\n<tr>\n<td>bar</td>\n\
-         <td></td>\n</tr>\n<tr>\n<td>bar</td>\n<td>baz</td>\n</tr>\n</tbody>\n</table>",
-    ),
-    (
-        "| abc | def |\n| --- | --- |",
-        "<table>\n<thead>\n<tr>\n<th>abc</th>\n<th>def</th>\n</tr>\n</thead>\n</table>",
     ),
     (
         "[a]: b\n| [a] |\n|-|\n| ![a] |",

@@ -5,7 +5,7 @@ use crate::joined::first_fault;
 use markdown::{Options, RunError};
 
 /// Task list items (GFM 5.3).
-pub(crate) const TASKS: [(&str, &str); 42] = [
+pub(crate) const TASKS: [(&str, &str); 40] = [
     (
         "- [ ] a",
         "<ul>\n<li><input type=\"checkbox\" disabled=\"\" /> a</li>\n</ul>",
@@ -17,17 +17,6 @@ pub(crate) const TASKS: [(&str, &str); 42] = [
     (
         "* [X] a",
         "<ul>\n<li><input type=\"checkbox\" disabled=\"\" checked=\"\" /> a</li>\n</ul>",
-    ),
-    (
-        "- [ ] foo\n- [x] bar",
-        "<ul>\n<li><input type=\"checkbox\" disabled=\"\" /> foo</li>\n<li><input type=\"checkbox\" disabled=\"\" checked=\"\" /> bar</li>\n</ul>",
-    ),
-    (
-        "- [x] foo\n  - [ ] bar\n  - [x] baz\n- [ ] bim",
-        "<ul>\n<li><input type=\"checkbox\" disabled=\"\" checked=\"\" /> foo\n<ul>\n\
-         <li><input type=\"checkbox\" disabled=\"\" /> bar</li>\n\
-         <li><input type=\"checkbox\" disabled=\"\" checked=\"\" /> baz</li>\n</ul>\n</li>\n\
-         <li><input type=\"checkbox\" disabled=\"\" /> bim</li>\n</ul>",
     ),
     (
         "1. [x] a\n2. [ ] b",
