@@ -1,10 +1,9 @@
-use Rattle.std.proofs.Common.{◌≡◌, ◌==◌, ◌∷◌, None, sym, ap, ◌∙◌, length, arith, vec_len}
-use Rattle.std.proofs.lemmas.Bool.{and_parts, eqb-true, eq-eqb}
+use Rattle.std.proofs.Common.{◌≡◌, ◌∷◌, None, sym, ap, ◌∙◌}
 use Rattle.std.proofs.lemmas.Result.{IfOk-weaker}
 use Rattle.block_rows.specs.ParagraphLines.{AreLines}
 use Rattle.definition_block.specs.GfmTable.{delimiter_row}
-use Rattle.definition_block.specs.Tree.{Text, has_text, open_text, table_if, text_here}
-use Rattle.block_starts.specs.View.{rest_of, container_views}
+use Rattle.definition_block.specs.Tree.{Text, open_text, table_if, text_here}
+use Rattle.block_starts.specs.View.{rest_of}
 use Rattle.block_parser.specs.GfmTable.{fits, table_tree}
 use Rattle.block_parser.specs.HeadingSetext.{IsText}
 use Rattle.block_parser.specs.Spine.{spine_at}
@@ -12,25 +11,14 @@ use Rattle.block_parser.specs.View.{HasRead}
 use Rattle.block_parser.proofs.GfmTableLemmas as tables
 use Rattle.block_parser.proofs.Leaves as leaves
 use Rattle.block_parser.proofs.Steps as steps
-use Rattle.block_parser.proofs.Closing as closing
-use Rattle.block_parser.proofs.Descending as descending
+use Rattle.block_parser.proofs.Interrupting as interrupting
 use Rattle.block_parser.proofs.parser.Parser.makes_table.Goals as goal
 
 pub returns-then-not-interrupts-clause-made : goal.returns-then-not-interrupts-clause-made
 returns-then-not-interrupts-clause-made g c = λ around kids away row deep clean h.
     let p = c.args.self.now in
     let not_here = sym (c.interrupts.ensures around kids away deep h) ∙ c.if-not-interrupts.true in
-    tables.lines_not c.args.on.now row (rest_of c.args.rest) (text_here away) (steps.here_or_not c.args.depth (vec_len p.open) away
-    (λ none. eq-eqb c.args.depth (vec_len p.open) (omega (
-      arith,
-      deep,
-      none,
-      p.open.ok.0,
-      closing.views_length p.open.items,
-      ap length h.opened,
-      closing.length-containers (spine_at around kids away).around,
-      closing.length-around around kids away,
-    ))) not_here)
+    tables.lines_not c.args.on.now row (rest_of c.args.rest) (text_here away) (interrupting.nothing_here p c.args.depth around kids away deep h not_here)
 
 pub returns-then-not-has_head-clause-made : goal.returns-then-not-has_head-clause-made
 returns-then-not-has_head-clause-made g c = λ around kids away row deep clean h.
@@ -38,10 +26,9 @@ returns-then-not-has_head-clause-made g c = λ around kids away row deep clean h
     let on = c.args.on.now in
     let r = rest_of c.args.rest in
     let columns = c.read_row.new.aligns.items in
-    let both = and_parts (c.args.depth == vec_len p.open) (has_text away) (sym (c.interrupts.ensures around kids away deep h) ∙ c.if-not-interrupts.false) in
-    let none = descending.no_deeper (container_views p.open.items) around kids away h.opened
-    (omega (arith, deep, eqb-true c.args.depth (vec_len p.open) both.0, p.open.ok.0, closing.views_length p.open.items)) in
-    steps.text_leaf_here (λ x. HasRead p (spine_at around kids x) → table_if on (delimiter_row on r) (text_here x) row ≡ None) away none both.1
+    let here = interrupting.text_is_here p c.args.depth around kids away deep h
+    (sym (c.interrupts.ensures around kids away deep h) ∙ c.if-not-interrupts.false) in
+    steps.text_leaf_here (λ x. HasRead p (spine_at around kids x) → table_if on (delimiter_row on r) (text_here x) row ≡ None) away here.depth_is here.text
     (λ l ls reads. tables.fits_not on row r columns (l ∷ ls) c.in_ok-read_row.ensures
     (ap (fits columns) (leaves.lines_of p around kids (Text (l ∷ ls)) reads) ∙ sym c.has_head.ensures ∙ c.if-not-has_head.true)) h
 
@@ -53,11 +40,10 @@ returns-clause-made g c =
     let on = c.args.on.now in
     let r = rest_of c.args.rest in
     let columns = c.read_row.new.aligns.items in
-    let both = and_parts (c.args.depth == vec_len p.open) (has_text away) (sym (c.interrupts.ensures around kids away deep h) ∙ c.if-not-interrupts.false) in
-    let none = descending.no_deeper (container_views p.open.items) around kids away h.opened
-    (omega (arith, deep, eqb-true c.args.depth (vec_len p.open) both.0, p.open.ok.0, closing.views_length p.open.items)) in
+    let here = interrupting.text_is_here p c.args.depth around kids away deep h
+    (sym (c.interrupts.ensures around kids away deep h) ∙ c.if-not-interrupts.false) in
     steps.text_leaf_here (λ x. AreLines (open_text x) → HasRead p (spine_at around kids x)
-    → table_if on (delimiter_row on r) (text_here x) row ≡ table_tree on made x row) away none both.1
+    → table_if on (delimiter_row on r) (text_here x) row ≡ table_tree on made x row) away here.depth_is here.text
     (λ l ls are reads. tables.fits_so on row r columns (l ∷ ls) made c.in_ok-read_row.ensures
     (ap (fits columns) (leaves.lines_of p around kids (Text (l ∷ ls)) reads) ∙ sym c.has_head.ensures ∙ c.if-not-has_head.false)
     (left around kids (l ∷ ls) are reads)) clean h)
@@ -68,8 +54,7 @@ returns-clause-here g c =
     IfOk-weaker c.leaves_text.result _ _
     (λ made left. λ around kids away deep h is.
     let p = c.args.self.now in
-    let both = and_parts (c.args.depth == vec_len p.open) (has_text away) (sym (c.interrupts.ensures around kids away deep h) ∙ c.if-not-interrupts.false) in
-    let none = descending.no_deeper (container_views p.open.items) around kids away h.opened
-    (omega (arith, deep, eqb-true c.args.depth (vec_len p.open) both.0, p.open.ok.0, closing.views_length p.open.items)) in
-    steps.text_leaf_here IsText away none both.1 (λ l ls. tt))
+    let here = interrupting.text_is_here p c.args.depth around kids away deep h
+    (sym (c.interrupts.ensures around kids away deep h) ∙ c.if-not-interrupts.false) in
+    steps.text_leaf_here IsText away here.depth_is here.text (λ l ls. tt))
     c.leaves_text.ensures.left
