@@ -74,7 +74,8 @@ module _ (on : Constructs) (row : BlockLine) where
       → table_if on o ls row ≡ table_where (fits (unwrap_or o []) ls && is_some_line (definition_cut on ls).left) ls
   columns_fit None ls h = refl
   columns_fit (Some []) ls h = absurd h
-  columns_fit (Some (align ∷ aligns)) ls h = ap (λ b. table_where b ls) (and-swap (is_some_line (definition_cut on ls).left) (is_head (length (align ∷ aligns)) ls))
+  columns_fit (Some (align ∷ aligns)) ls h =
+      ap (λ b. table_where b ls) (and-swap (is_some_line (definition_cut on ls).left) (is_head (length (align ∷ aligns)) ls))
 
   module _ (r : Rest) where
     -- a table, where the last line has a cell for each column and some line is left
@@ -89,7 +90,8 @@ module _ (on : Constructs) (row : BlockLine) where
     pub fits_so : (columns : List AlignKind) (ls : List BlockLine) (some : Bool) → columns ≡ unwrap_or (delimiter_row on r) [] → fits columns ls ≡ true
         → some ≡ is_some_line (definition_cut on ls).left → table_if on (delimiter_row on r) ls row ≡ table_where some ls
     fits_so columns ls some is h left =
-        row_fits ls ∙ ap (λ b. table_where (b && is_some_line (definition_cut on ls).left) ls) (ap (λ x. fits x ls) (sym is) ∙ h) ∙ ap (λ b. table_where b ls) (sym left)
+        row_fits ls ∙ ap (λ b. table_where (b && is_some_line (definition_cut on ls).left) ls) (ap (λ x. fits x ls) (sym is) ∙ h)
+        ∙ ap (λ b. table_where b ls) (sym left)
 
     -- no paragraph is open
     none_cut : (b : Bool) → (if b then cut_most 0 [] else cut_into Nil []).left ≡ []

@@ -21,7 +21,8 @@ use Rattle.block_rows.specs.ParagraphLines.{AreLines}
 use Rattle.definition_text.specs.BlockLines.{BlockLine, spaced_line, own_lines}
 use Rattle.definition_block.specs.Tree.{Heading, Break, FencedCode, Blank, Blocks, Nil, join, one, block_and_ending, OpenLeaf, Text, Indented, Fenced, OpenHtml}
 use Rattle.definition_block.specs.Tree.{OpenTable, Opening, Leaf, Inside, Tree, tree, nothing, close, after, leaf_text, open_text, text_here, is_some_line}
-use Rattle.definition_block.specs.Tree.{has_text, is_table_leaf, has_table, makes_table, with_line, rest_line, leaf_line, leaf_tree_or, or_fence, or_html, or_heading}
+use Rattle.definition_block.specs.Tree.{has_text, is_table_leaf, has_table, makes_table, with_line, rest_line, leaf_line, leaf_tree_or, or_fence, or_html}
+use Rattle.definition_block.specs.Tree.{or_heading}
 use Rattle.definition_block.specs.Tree.{html_with, break_or_text, text_line_of, tree_or, turns, heading_if, heading_of, new}
 use Rattle.block_parser.specs.Spine.{Level, level, Spine, spine, spine_at, spine_after}
 use Rattle.block_parser.specs.HeadingSetext.{IsText, heading_blocks, heading_tree}
@@ -170,7 +171,8 @@ module _ (on : Constructs) (r : Rest) (e : Option LineEnding) where
   turns_not away is = ap (λ o. heading_if on o (text_here away) e) is
 
   -- the definitions take the whole of it, or a heading of what is left
-  pub turns_none : (ls : List BlockLine) (rank : ℕ) → underline on r ≡ Some rank → is_some_line (definition_cut on ls).left ≡ false → turns on (Leaf (Text ls)) r e ≡ None
+  pub turns_none : (ls : List BlockLine) (rank : ℕ) → underline on r ≡ Some rank → is_some_line (definition_cut on ls).left ≡ false
+      → turns on (Leaf (Text ls)) r e ≡ None
   turns_none ls rank is none = ap (λ o. heading_if on o ls e) is ∙ not_headed rank (definition_cut on ls).definitions (definition_cut on ls).left none
 
   pub turns_some : (ls : List BlockLine) (rank : ℕ) → underline on r ≡ Some rank → is_some_line (definition_cut on ls).left ≡ true

@@ -41,7 +41,8 @@ is_nil Nil = true
 is_nil (Cons b bs) = false
 
 -- the rows stand for what was read but for the endings at the end, which wait, and leave these lines
-pub record AreWritten (rows waiting : List Row) (bare : Bool) (pool : List BlockLine) (around : List Level) (kids : Blocks) (left : List BlockLine) : Type 0 where
+pub record AreWritten (rows waiting : List Row) (bare : Bool) (pool : List BlockLine) (around : List Level) (kids : Blocks)
+    (left : List BlockLine) : Type 0 where
   pub rows_stand : rows_value rows pool ≡ value_with (rows_around around ++ rows_of (front kids)) left
   pub waiting_stand : map lone waiting ≡ rows_of (trailing kids)
   pub is_bare : bare ≡ is_nil (front kids)

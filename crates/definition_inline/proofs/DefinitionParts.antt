@@ -213,7 +213,8 @@ bare_found : (cs : List ℕ) (o : Option (List ℕ)) (p : Part) → if_any (up_t
 bare_found cs None p h = absurd (none-some p h)
 bare_found cs (Some rest) p h = go (text_before cs rest) refl
   where
-    go : (text : List ℕ) → text_before cs rest ≡ text → (Some rest ≡ Some p.rest) × (p.text ≡ text_before cs p.rest) × (x : ℕ) × (xs : List ℕ) × (p.text ≡ x ∷ xs)
+    go : (text : List ℕ) → text_before cs rest ≡ text → (Some rest ≡ Some p.rest) × (p.text ≡ text_before cs p.rest) × (x : ℕ) × (xs : List ℕ)
+        × (p.text ≡ x ∷ xs)
     go [] e = absurd (none-some p (sym (ap (λ t. unless_empty t (part (text_before cs rest) rest)) e) ∙ h))
     go (x ∷ xs) e =
         let same : part (text_before cs rest) rest ≡ p =

@@ -235,7 +235,8 @@ fit_closed : (is_email : Bool) (content : List ℕ) (found : Option (List ℕ)) 
     → MayFit (length content + 1) (closed_autolink is_email content found)
 fit_closed is_email content None p = tt
 fit_closed is_email content (Some rest) p =
-    fit_if (length content + 1) (begins_with (codes ">") rest) (leaf (Autolink is_email (text_before content rest) ∷ []) (length (text_before content rest) + 2))
+    fit_if (length content + 1) (begins_with (codes ">") rest)
+    (leaf (Autolink is_email (text_before content rest) ∷ []) (length (text_before content rest) + 2))
     (λ e.
     let room = not_empty 62 [] rest e in
     let size : length (text_before content rest) ≤ length content - length rest = omega (arith, length-take (length content - length rest) content) in

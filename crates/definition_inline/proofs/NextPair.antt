@@ -32,7 +32,8 @@ neither false y e = refl
 -- a run that it takes nothing of
 left_same : (runs : List Run) (p : Pair) (ps : List Pair) (place : ℕ) → taken_at place p ≡ 0 → left_at runs (p ∷ ps) place ≡ left_at runs ps place
 left_same runs p ps place none =
-    let e : taken_at place p + total_taken ps place ≡ total_taken ps place = omega (arith, none) in ap (λ n. without n (open_run (run_by_place runs place) place)) e
+    let e : taken_at place p + total_taken ps place ≡ total_taken ps place = omega (arith, none) in
+    ap (λ n. without n (open_run (run_by_place runs place) place)) e
 
 -- a run that it takes some of
 left_less : (runs : List Run) (p : Pair) (ps : List Pair) (place : ℕ) → taken_at place p ≡ p.taken

@@ -6,7 +6,8 @@ use Rattle.markdown_options.specs.declared.configuration.CompileOptions.{Compile
 use Rattle.definition_text.specs.Columns.{Code as ContentCode, bytes_of, bare}
 use Rattle.definition_text.specs.Content.{is_eol}
 use Rattle.definition_text.specs.Encode.{plain}
-use Rattle.definition_inline.specs.Inline.{Target, Resource, Reference, LinkTexts, link_texts, LiteralKind, Www, Protocol, Email, Inline, Data, Escape, Character}
+use Rattle.definition_inline.specs.Inline.{Target, Resource, Reference, LinkTexts, link_texts, LiteralKind, Www, Protocol, Email, Inline, Data, Escape}
+use Rattle.definition_inline.specs.Inline.{Character}
 use Rattle.definition_inline.specs.Inline.{Code, Math, Autolink, Literal, Html, EscapedBreak, TrailingBreak, LineEnd, Emphasis, Strong, Strikethrough, Link}
 use Rattle.definition_inline.specs.Inline.{Image, Call, Inlines, Nil, Cons}
 use Rattle.definition_inline.specs.LabelMatch.{normal_label, first_match}

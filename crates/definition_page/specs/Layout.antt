@@ -58,4 +58,5 @@ note_of notes c = record { label = c.label; calls = c.count; html = slice_index_
 -- a page, and after it the footnotes that are called
 abbrev pub page_layout : CompileOptions → List ℕ → List Piece → List ℕ
 page_layout options default pieces =
-    let l = fold (lay options default) (layout_state [] [] [] []) pieces in fold (print default) l.text (section_pieces options (map (note_of l.notes) l.called))
+    let l = fold (lay options default) (layout_state [] [] [] []) pieces in
+    fold (print default) l.text (section_pieces options (map (note_of l.notes) l.called))

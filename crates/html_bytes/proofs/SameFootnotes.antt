@@ -115,7 +115,8 @@ footnotes_same options (n ∷ ns) default out =
 -- ---- the section
 
 attributes_same : {A : Type 0} (name : List ℕ) (attributes : Option (String A))
-    → start_tag (note.section_heading_tag name attributes) ≡ codes "<" ++ name ++ codes " id=\"footnote-label\" " ++ call.text_or attributes (codes "class=\"sr-only\"")
+    → start_tag (note.section_heading_tag name attributes) ≡ codes "<" ++ name ++ codes " id=\"footnote-label\" "
+    ++ call.text_or attributes (codes "class=\"sr-only\"")
     ++ codes ">"
 attributes_same name None = moved name (codes " id=\"footnote-label\" ") (codes "class=\"sr-only\"") (codes ">")
   where

@@ -9,7 +9,8 @@ use Rattle.definition_page.specs.InlinePieces.{HtmlLine, html_lines, leads_to, a
 use Rattle.html_bytes.specs.RawHtml.{raw_html}
 use Rattle.html_bytes.specs.Pieces.{Piece, Bytes, CallOf, CountOf}
 use Rattle.definition_inline.specs.LabelMatch.{first_match, normal_label}
-use Rattle.definition_inline.specs.Inline.{LinkTexts, Inline, Data, Escape, Character, Code, Math, Autolink, Literal, Html, EscapedBreak, TrailingBreak, LineEnd}
+use Rattle.definition_inline.specs.Inline.{LinkTexts, Inline, Data, Escape, Character, Code, Math, Autolink, Literal, Html, EscapedBreak, TrailingBreak}
+use Rattle.definition_inline.specs.Inline.{LineEnd}
 use Rattle.definition_inline.specs.Inline.{Emphasis, Strong, Strikethrough, Link, Image, Call, Inlines, Nil, Cons}
 use Rattle.definition_inline.specs.Strings.{string_text, eol_bytes}
 

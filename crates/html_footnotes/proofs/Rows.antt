@@ -10,7 +10,8 @@ use Rattle.html_footnotes.specs.declared.calls.CalledFootnote.{CalledFootnote}
 use Rattle.html_footnotes.specs.Calls.{called_view, number_of, with_one_more}
 
 -- one more call of a row is one more call of what it shows
-pub row_raised : {A : Type 0} (rows : List (CalledFootnote A)) (at : ℕ) (x y : CalledFootnote A) (count : ℕ) (d : layout.NoteCalls) → at < length rows → x ≡ get_or rows at x
+pub row_raised : {A : Type 0} (rows : List (CalledFootnote A)) (at : ℕ) (x y : CalledFootnote A) (count : ℕ) (d : layout.NoteCalls) → at < length rows
+    → x ≡ get_or rows at x
     → y ≡ get_or rows at y
     → count ≡ y.count + 1 → map called_view (slice_set rows at (record { place = x.place; label = x.label; count = count }))
     ≡ slice_set (map called_view rows) at (with_one_more (get_or (map called_view rows) at d))

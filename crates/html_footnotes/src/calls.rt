@@ -100,7 +100,10 @@ impl<A: Allocator + Clone> Calls<A> {
 }
 
 /// A footnote with its content, of the contents of the footnotes that have ended.
-fn footnote_of<'a, A: Allocator>(called: &'a CalledFootnote<A>, notes: &'a [String<A>]) -> Footnote<'a>
+fn footnote_of<'a, A: Allocator>(
+    called: &'a CalledFootnote<A>,
+    notes: &'a [String<A>],
+) -> Footnote<'a>
     ensures { note_view result ≡ note_of (map string_bytes notes.now) (called_view called.now) }
 {
     let html = match notes.get(called.place) {

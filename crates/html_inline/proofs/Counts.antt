@@ -123,7 +123,8 @@ module _ (meaning : InlineMeaning) where
 
   -- ---- one more row
 
-  pub counts_more : (at : ℕ → LinkTexts) (default : List ℕ) (rows : List row.InlineRow) (i : ℕ) (d : row.InlineRow) (start before after : LayoutState) → i < length rows
+  pub counts_more : (at : ℕ → LinkTexts) (default : List ℕ) (rows : List row.InlineRow) (i : ℕ) (d : row.InlineRow) (start before after : LayoutState)
+      → i < length rows
       → before ≡ fold (lay meaning.compile default) start (rows_counts meaning (rows_view at (take i rows)))
       → after ≡ fold (lay meaning.compile default) before (rows_counts meaning (row_view at (get_or rows i d)))
       → after ≡ fold (lay meaning.compile default) start (rows_counts meaning (rows_view at (take (i + 1) rows)))

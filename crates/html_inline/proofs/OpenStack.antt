@@ -30,7 +30,8 @@ pub stack_more : (view : OpenPart → OpenElement) (items : List OpenPart) (part
     → map view (reverse (items ++ part ∷ [])) ≡ view part ∷ map view (reverse items)
 stack_more view items part = ap (map view) (reverse-append items (part ∷ []))
 
-pub entered_silent : (view : OpenPart → OpenElement) (start : List ℕ) (o : OpenElement) (l : LayoutState) (items after : List OpenPart) → view Silent ≡ new_part true []
+pub entered_silent : (view : OpenPart → OpenElement) (start : List ℕ) (o : OpenElement) (l : LayoutState) (items after : List OpenPart)
+    → view Silent ≡ new_part true []
     → after ≡ items ++ Silent ∷ [] → is_described (map view (reverse items)) ≡ true
     → printed_at l (map view (reverse after)) ≡ enter start o (printed_at l (map view (reverse items)))
 entered_silent view start o l items after silent pushed h =
@@ -38,7 +39,8 @@ entered_silent view start o l items after silent pushed h =
     ∙ ap (printed_at l) (stack_more view items Silent ∙ ap (λ s. s ∷ map view (reverse items)) silent)
     ∙ sym (cond-true (is_described (map view (reverse items))) _ _ h)
 
-pub entered : (view : OpenPart → OpenElement) (start : List ℕ) (o : OpenElement) (l : LayoutState) (text : List ℕ) (items after : List OpenPart) (part : OpenPart)
+pub entered : (view : OpenPart → OpenElement) (start : List ℕ) (o : OpenElement) (l : LayoutState) (text : List ℕ) (items after : List OpenPart)
+    (part : OpenPart)
     → view part ≡ o
     → after ≡ items ++ part ∷ [] → is_described (map view (reverse items)) ≡ false → text ≡ l.text ++ start
     → printed_at (with_text l text) (map view (reverse after)) ≡ enter start o (printed_at l (map view (reverse items)))
@@ -135,7 +137,8 @@ rows_more cell meaning at start rows i d lt =
     ∙ ap (λ s. rows_view at (take i rows) ++ s) (append-nil (row_view at (get_or rows i d))))
     ∙ fold-append (row_printed_in cell meaning) start (rows_view at (take i rows)) (row_view at (get_or rows i d))
 
-pub rows_step : (cell : Bool) (meaning : InlineMeaning) (at : ℕ → inline.LinkTexts) (start before after : PrintState) (rows : List InlineRow) (i : ℕ) (d : InlineRow)
+pub rows_step : (cell : Bool) (meaning : InlineMeaning) (at : ℕ → inline.LinkTexts) (start before after : PrintState) (rows : List InlineRow) (i : ℕ)
+    (d : InlineRow)
     → i < length rows
     → before ≡ fold (row_printed_in cell meaning) start (rows_view at (take i rows))
     → after ≡ fold (row_printed_in cell meaning) before (row_view at (get_or rows i d))

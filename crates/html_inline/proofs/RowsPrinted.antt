@@ -4,7 +4,8 @@ use Rattle.std.specs.List.{fold}
 use Rattle.std.proofs.lemmas.List.{append-nil}
 use Rattle.std.proofs.lemmas.List.Sums.{fold-append}
 use Rattle.definition_inline.specs.LabelMatch.{first_match, normal_label}
-use Rattle.definition_inline.specs.Inline.{LinkTexts, Inline, Data, Escape, Character, Code, Math, Autolink, Literal, Html, EscapedBreak, TrailingBreak, LineEnd}
+use Rattle.definition_inline.specs.Inline.{LinkTexts, Inline, Data, Escape, Character, Code, Math, Autolink, Literal, Html, EscapedBreak, TrailingBreak}
+use Rattle.definition_inline.specs.Inline.{LineEnd}
 use Rattle.definition_inline.specs.Inline.{Emphasis, Strong, Strikethrough, Link, Image, Call, Inlines, Nil, Cons}
 use Rattle.definition_page.specs.InlinePieces.{leads_to}
 use Rattle.definition_page.specs.Layout.{LayoutState}
@@ -138,7 +139,8 @@ module _ (meaning : InlineMeaning) (default : List ℕ) where
   -- ---- all parts
 
   -- text that is printed, or said
-  either : (described : Bool) (l : LayoutState) (says html : List ℕ) → with_more l (cond described says html) ≡ cond described (with_more l says) (with_more l html)
+  either : (described : Bool) (l : LayoutState) (says html : List ℕ)
+      → with_more l (cond described says html) ≡ cond described (with_more l says) (with_more l html)
   either true l says html = refl
   either false l says html = refl
 
@@ -151,7 +153,8 @@ module _ (meaning : InlineMeaning) (default : List ℕ) where
   called_either label None l = refl
   called_either label (Some place) l = refl
 
-  call_either : (label : List ℕ) (described : Bool) (l : LayoutState) → laid_out meaning l (call_row meaning described label) ≡ part_after described (Call label) l
+  call_either : (label : List ℕ) (described : Bool) (l : LayoutState)
+      → laid_out meaning l (call_row meaning described label) ≡ part_after described (Call label) l
   call_either label true l = counted_either (normal_label label) (first_match label meaning.footnotes) l
   call_either label false l = called_either (normal_label label) (first_match label meaning.footnotes) l
 

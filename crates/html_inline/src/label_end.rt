@@ -20,7 +20,10 @@ use markdown_options::Tables;
 use std::alloc::{AllocError, Allocator};
 
 /// Where a link or an image leads. A place past the last definition leads nowhere.
-pub(crate) fn linked_at<'a>(definitions: &'a [LinkTexts<'a>], target: LinkTarget<'a>) -> LinkTexts<'a>
+pub(crate) fn linked_at<'a>(
+    definitions: &'a [LinkTexts<'a>],
+    target: LinkTarget<'a>,
+) -> LinkTexts<'a>
     ensures { link_texts_view result ≡ target_texts (place_target definitions.now) target.entry }
 {
     match target {

@@ -120,7 +120,8 @@ module _ (d : Document) (default : List ℕ) where
       children l (lay out (Eol ∷ Bytes (number_end number) ∷ [])) outer places no_list
 
   -- the pieces of an item, of what follows it on its list, and of what follows the list
-  split_list : (out : LayoutState) (item more end others : List Piece) → lay (lay (lay out item) (more ++ end)) others ≡ lay (lay out ((item ++ more) ++ end)) others
+  split_list : (out : LayoutState) (item more end others : List Piece)
+      → lay (lay (lay out item) (more ++ end)) others ≡ lay (lay out ((item ++ more) ++ end)) others
   split_list out item more end others =
       ap (λ x. lay x others) (lay_more out item (more ++ end) ∙ ap (λ ps. lay out ps) (sym (append_assoc item more end)))
 
@@ -131,10 +132,12 @@ module _ (d : Document) (default : List ℕ) where
   StepPrinted b bs = (l : Level) (out : LayoutState) (outer : List Level) (places : List Place) → is_list l.holder ≡ false
       → print_all d default (print_all d default (printer_at out l outer (places_in b (group_items bs) ++ (places_within bs ++ places))) (block_rows b))
       (rows_of bs)
-      ≡ printer_at (lay out (at_level l (put_before (grouped_block b) (group_items bs)))) (level_past l (put_before (grouped_block b) (group_items bs))) outer places
+      ≡ printer_at (lay out (at_level l (put_before (grouped_block b) (group_items bs))))
+      (level_past l (put_before (grouped_block b) (group_items bs))) outer places
 
   -- a block that is a row
-  leaf_step : (b : Block) (bs : Blocks) → ChildrenPrinted bs → (l : Level) (out : LayoutState) (outer : List Level) (places : List Place) → is_list l.holder ≡ false
+  leaf_step : (b : Block) (bs : Blocks) → ChildrenPrinted bs → (l : Level) (out : LayoutState) (outer : List Level) (places : List Place)
+      → is_list l.holder ≡ false
       → print_all d default (print_row d default (printer_at out l outer (places_within bs ++ places)) (Single b)) (rows_of bs)
       ≡ printer_at (lay out (at_level l (Cons b (group_items bs)))) (level_past l (Cons b (group_items bs))) outer places
   leaf_step b bs children l out outer places no_list =
@@ -186,7 +189,8 @@ module _ (d : Document) (default : List ℕ) where
       (lay_more out (start ++ (body ++ end)) (at_level (after_footnote l) (group_items bs)))
 
   -- the list that an item starts, if none is open
-  list_started : (item : ItemOf) (kids : Blocks) (place : Place) (l : Level) (out : LayoutState) (outer : List Level) (places : List Place) → is_list l.holder ≡ false
+  list_started : (item : ItemOf) (kids : Blocks) (place : Place) (l : Level) (out : LayoutState) (outer : List Level) (places : List Place)
+      → is_list l.holder ≡ false
       → print_all d default (printer_at out l outer (place ∷ places)) (block_rows (Holds (Item item) kids))
       ≡ print_all d default (on_list_at (lay out (Fresh ∷ Bytes (number_tag item.number) ∷ [])) item.number (not place.loose) true (after_block l) outer
       (place ∷ places)) (block_rows (Holds (Item item) kids))

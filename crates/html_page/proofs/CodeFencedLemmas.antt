@@ -93,7 +93,8 @@ open_laid d e inner after info top closed ls out fresh tag class start content e
     ∙ ap (λ b. layout_after o e first (body ++ Bytes (codes "</code></pre>") ∷ fresh_unless b)) (sym not_closed)
 
 -- code that is closed
-pub closed_laid : (d : Document) (e inner : LineEnding) (info : List ℕ) (top closed : Bool) (ls : List BlockLine) (out fresh tag class start content end : LayoutState)
+pub closed_laid : (d : Document) (e inner : LineEnding) (info : List ℕ) (top closed : Bool) (ls : List BlockLine)
+    (out fresh tag class start content end : LayoutState)
     → closed ≡ true → inner ≡ e
     → fresh ≡ with_fresh (ending_bytes e) out → tag ≡ with_bytes (codes "<pre><code") fresh → class ≡ with_bytes (class_of d info) tag
     → start ≡ with_bytes (codes ">") class

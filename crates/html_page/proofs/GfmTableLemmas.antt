@@ -183,7 +183,8 @@ own_some [] some = absurd (omega arith)
 own_some (a ∷ []) some = some
 own_some (a ∷ b ∷ others) some = omega arith
 
-pub body_laid : (default : List ℕ) (d : Document) (aligns : List AlignKind) (ending : Option LineEnding) (ls : List BlockLine) (out : LayoutState) → 0 < length ls
+pub body_laid : (default : List ℕ) (d : Document) (aligns : List AlignKind) (ending : Option LineEnding) (ls : List BlockLine) (out : LayoutState)
+    → 0 < length ls
     → with_bytes (codes "</tbody>")
     (with_fresh default (fold (lay d.options.compile default) (with_bytes (codes "<tbody>") (with_bytes (ending_text ending) out))
     (flat_map (body_row_pieces d aligns) (own_lines ls))))

@@ -41,9 +41,11 @@ use Rattle.definition_text.specs.BlockLines.{BlockLine, spaced_line, own_lines}
 use Rattle.definition_block.specs.Tree.{leaf_text, open_text, beside_in, beside_line, in_container, Block, Paragraph, Heading, Break, IndentedCode, FencedCode}
 use Rattle.definition_block.specs.Tree.{Html, Table, Definition, Holds, Items, Ending, Blank, Blocks, Nil, Cons, join, one, block_and_ending, OpenLeaf, Text}
 use Rattle.definition_block.specs.Tree.{Indented, Fenced, OpenHtml, OpenTable, Opening, Leaf, Inside, Tree, tree, nothing, empty_tree, paragraph_of, close_leaf}
-use Rattle.definition_block.specs.Tree.{close, blanks, is_ending, all_endings, front, trailing, without_last, last_of, container_block, has_text, has_table, is_some_line}
+use Rattle.definition_block.specs.Tree.{close, blanks, is_ending, all_endings, front, trailing, without_last, last_of, container_block, has_text, has_table}
+use Rattle.definition_block.specs.Tree.{is_some_line}
 use Rattle.definition_block.specs.Tree.{table_of, table_if, makes_table, with_line, rest_line, html_with, takes, tree_or, or_heading, or_fence, or_html, begins}
-use Rattle.definition_block.specs.Tree.{text_here, heading_of, heading_if, turns, after, text_line_of, break_or_text, leaf_tree_or, leaf_line, start, new, began_blank}
+use Rattle.definition_block.specs.Tree.{text_here, heading_of, heading_if, turns, after, text_line_of, break_or_text, leaf_tree_or, leaf_line, start, new}
+use Rattle.definition_block.specs.Tree.{began_blank}
 use Rattle.definition_block.specs.Tree.{goes_on, grow, step, steps, blocks_at_end, children_after, blocks}
 use Rattle.block_rows.specs.Rows.{RowsValue, rows_value, value_with, rows_of}
 use Rattle.block_rows.specs.declared.row.Row.{Row}
@@ -336,7 +338,8 @@ some_fits t h k = record { tree = fits t h k }
 
 leaf_closed : (on : Constructs) (leaf : OpenLeaf) → LeafFits leaf → AreLines (leaf_text leaf) → CanBePrinted (close_leaf on leaf)
 leaf_closed on (Text ls) h clean =
-    joined (definition_cut on ls).definitions (paragraph_of (definition_cut on ls).left) (cut_printable on ls) (paragraph_printable (definition_cut on ls).left (cut_left on ls clean))
+    joined (definition_cut on ls).definitions (paragraph_of (definition_cut on ls).left) (cut_printable on ls)
+    (paragraph_printable (definition_cut on ls).left (cut_left on ls clean))
 leaf_closed on (Indented ls pending) h clean = (tt, (tt, blanks_printable pending))
 leaf_closed on (Fenced fence opening ls) h clean = (h, (tt, tt))
 leaf_closed on (OpenHtml kind ls) h clean = (tt, (tt, tt))
@@ -414,7 +417,8 @@ module _ (on : Constructs) (e : Beside) (r : Rest) where
 
   underlined_fits : (o : Option ℕ) (ls : List BlockLine) → RankFits o → AreLines ls → OptionFits (heading_if on o ls e.ending)
   underlined_fits None ls h clean = record { tree = tt }
-  underlined_fits (Some rank) ls h clean = heading_of_fits rank (definition_cut on ls).definitions (definition_cut on ls).left h.rank (cut_printable on ls) (cut_left on ls clean)
+  underlined_fits (Some rank) ls h clean =
+      heading_of_fits rank (definition_cut on ls).definitions (definition_cut on ls).left h.rank (cut_printable on ls) (cut_left on ls clean)
 
   -- the lines of the open paragraph where the line is in all of its containers
   lines_here : (away : Opening) → AreLines (open_text away) → AreLines (text_here away)
@@ -439,7 +443,8 @@ module _ (on : Constructs) (e : Beside) (r : Rest) where
       choose_if OptionFits (is_some_line left && is_head (length columns) ls) _ None
       (λ both.
       some_fits (table_of (definition_cut on ls).definitions left (rest_line r e))
-      (joined (definition_cut on ls).definitions (paragraph_of front) (cut_printable on ls) (paragraph_printable front (lines_taken (length left - 1) left clean_left)))
+      (joined (definition_cut on ls).definitions (paragraph_of front) (cut_printable on ls)
+      (paragraph_printable front (lines_taken (length left - 1) left clean_left)))
       (headed_table left (rest_line r e) (and_parts (is_some_line left) (is_head (length columns) ls) both).0 clean_left (clear_block r clear)))
       record { tree = tt }
 

@@ -15,7 +15,8 @@ use Rattle.definition_inline.specs.Space.{after_spaces, after_ending, after_whit
 use Rattle.definition_inline.specs.Label.{label_at}
 use Rattle.definition_inline.specs.Destination.{destination_at}
 use Rattle.definition_inline.specs.Title.{title_at}
-use Rattle.definition_inline.specs.Resource.{LinkResource, resource_at, resource_inside, resource_end, resource_with_title, resource_with_destination, after_destination}
+use Rattle.definition_inline.specs.Resource.{LinkResource, resource_at, resource_inside, resource_end, resource_with_title, resource_with_destination}
+use Rattle.definition_inline.specs.Resource.{after_destination}
 use Rattle.definition_inline.specs.Resource.{opens_title}
 use Rattle.inline_links.specs.Texts.{IsText, code_text}
 use Rattle.inline_links.proofs.Splits.{is_ascii_code, begins_ascii, white_ascii, eol_ascii, label_whole, title_whole, destination_whole}
@@ -270,7 +271,8 @@ destined p r d t e =
       | inr h ↦ resource_ends p.text None next r d tt w.text (sym (cond-false test _ _ h) ∙ e)
     ])
 
-with_destined : (cs : List ℕ) (o : Option Part) (r : LinkResource) → ((p : Part) → o ≡ Some p → PartText cs p) → resource_with_destination o ≡ Some r → ResourceText cs r
+with_destined : (cs : List ℕ) (o : Option Part) (r : LinkResource) → ((p : Part) → o ≡ Some p → PartText cs p) → resource_with_destination o ≡ Some r
+    → ResourceText cs r
 with_destined cs None r h e = absurd (none-some r e)
 with_destined cs (Some p) r h e = let k = h p refl in further cs k.front p.rest r k.whole (destined p r k.text k.rest e)
 

@@ -9,7 +9,8 @@ use Rattle.definition_text.specs.Content.{content_codes}
 use Rattle.definition_text.specs.InlineCode.{first_kind, is_continuation}
 use Rattle.definition_inline.specs.Attention.{is_other}
 use Rattle.definition_inline.specs.GfmAutolinkLiteral as literal
-use Rattle.definition_inline.specs.GfmAutolinkLiteral.{begins_caselessly, has_low_line, is_among, is_control_or_ending, is_trailing, literal_name, literal_start}
+use Rattle.definition_inline.specs.GfmAutolinkLiteral.{begins_caselessly, has_low_line, is_among, is_control_or_ending, is_trailing, literal_name}
+use Rattle.definition_inline.specs.GfmAutolinkLiteral.{literal_start}
 use Rattle.inline_content.specs.View.{line_rest}
 use Rattle.inline_leaves.specs.Leaves.{kind_view, IsPlain}
 use Rattle.inline_literals.specs.declared.gfm_autolink_literal.LiteralStart.{LiteralStart}

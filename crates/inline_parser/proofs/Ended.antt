@@ -93,7 +93,8 @@ module _ (leads : Target → LinkTexts) (at : ℕ → LinkTexts) (context : Inli
       let there = readings.has_label leads at rows runs slots o opens labels now.tokens s2 in
       let may : may_form there.label.start now.holds_link ≡ false = sym (ap₂ (λ a b. may_form a b) there.is.start same) ∙ not in
       ap (λ ls. ended_here context content ls now) there.labels_are
-      ∙ cond-false (may_form there.label.start now.holds_link) (formed_at context there.label.start (text_before there.label.from content) (drop 1 content)) None may
+      ∙ cond-false (may_form there.label.start now.holds_link)
+      (formed_at context there.label.start (text_before there.label.from content) (drop 1 content)) None may
 
   -- the innermost may form something
   pub last_may : (rows : List InlineRow) (runs : List Run) (slots : List ℕ) (all opens : List OpenLabel) (o : OpenLabel) (labels : List scan.OpenLabel)
@@ -106,5 +107,6 @@ module _ (leads : Target → LinkTexts) (at : ℕ → LinkTexts) (context : Inli
       let there = readings.has_label leads at rows runs slots o opens labels now.tokens s2 in
       let may : may_form there.label.start now.holds_link ≡ true = sym (ap₂ (λ a b. may_form a b) there.is.start same) ∙ is in
       ap (λ ls. ended_here context content ls now) there.labels_are
-      ∙ cond-true (may_form there.label.start now.holds_link) (formed_at context there.label.start (text_before there.label.from content) (drop 1 content)) None may
+      ∙ cond-true (may_form there.label.start now.holds_link)
+      (formed_at context there.label.start (text_before there.label.from content) (drop 1 content)) None may
       ∙ ap₂ (λ s f. formed_at context s (text_before f content) (drop 1 content)) (sym there.is.start) (sym there.is.from)

@@ -79,7 +79,8 @@ pub data AreOpen (leads : Target → inline.LinkTexts) (at : ℕ → inline.Link
       → AreOpen leads at ((rows ++ more) ++ row ∷ []) (runs ++ more_runs) (slots ++ more_slots) (o ∷ opens) (label ∷ labels)
 
 -- rows, runs, slots and open label starts that stand for those of the definition, and the tokens after the innermost
-pub record ShowsBy (leads : Target → inline.LinkTexts) (at : ℕ → inline.LinkTexts) (rows : List InlineRow) (runs : List Run) (slots : List ℕ) (opens : List OpenLabel)
+pub record ShowsBy (leads : Target → inline.LinkTexts) (at : ℕ → inline.LinkTexts) (rows : List InlineRow) (runs : List Run) (slots : List ℕ)
+    (opens : List OpenLabel)
     (labels : List scan.OpenLabel) (tokens : List Token) : Type 0 where
   pub outer_rows : List InlineRow
   pub now_rows : List InlineRow

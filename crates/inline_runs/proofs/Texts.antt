@@ -31,7 +31,8 @@ text_is ps all same opened place size start left text e ends is_same is_opened i
     ∙ bytes-reverse (opened_by place ps) in
     omega arith
 
-pub text_pushed : (ps : List Pair) (sizes : List ℕ) (laid : List RunLayout) (l : RunLayout) → l.text ≡ text_at ps (length laid) (slice_index sizes (length laid))
+pub text_pushed : (ps : List Pair) (sizes : List ℕ) (laid : List RunLayout) (l : RunLayout)
+    → l.text ≡ text_at ps (length laid) (slice_index sizes (length laid))
     → AreTexts ps sizes laid
     → AreTexts ps sizes (laid ++ l ∷ [])
 text_pushed ps sizes laid l is texts i d lt =

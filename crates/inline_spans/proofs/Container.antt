@@ -32,7 +32,8 @@ pub text_rows : (leads : Target → inline.LinkTexts) (at : ℕ → inline.LinkT
     → rows_view at (Text text ∷ []) ≡ flat_map (part_rows leads) (map Data text.now)
 text_rows leads at text = append-nil (data_rows text.now) ∙ data_are leads text.now
 
-escapes_are : (leads : Target → inline.LinkTexts) (bytes : List ℕ) → map rows.Part (map inline.Escape bytes) ≡ flat_map (part_rows leads) (map inline.Escape bytes)
+escapes_are : (leads : Target → inline.LinkTexts) (bytes : List ℕ)
+    → map rows.Part (map inline.Escape bytes) ≡ flat_map (part_rows leads) (map inline.Escape bytes)
 escapes_are leads [] = refl
 escapes_are leads (b ∷ bs) = ap (λ xs. rows.Part (inline.Escape b) ∷ xs) (escapes_are leads bs)
 

@@ -85,7 +85,8 @@ module _ (leads : Target → LinkTexts) (at : ℕ → LinkTexts) (ps : List Pair
       ∙ sym (flat_map-append (row_view at) more rest)
 
 -- rows of which the runs up to a place are told apart
-pub record IsTold (leads : Target → LinkTexts) (at : ℕ → LinkTexts) (outer : List InlineRow) (tokens : List Token) (runs : List Run) (slots : List ℕ) (place : ℕ)
+pub record IsTold (leads : Target → LinkTexts) (at : ℕ → LinkTexts) (outer : List InlineRow) (tokens : List Token) (runs : List Run) (slots : List ℕ)
+    (place : ℕ)
     (rows : List InlineRow) : Type 0 where
   pub front : List InlineRow
   pub inner : List InlineRow
@@ -195,7 +196,8 @@ one_told leads at outer tokens runs slots place d rows part lt same_count count 
     count part_view
 
 -- all runs
-pub all_told : (leads : Target → LinkTexts) (at : ℕ → LinkTexts) (outer inner : List InlineRow) (tokens : List Token) (runs : List Run) (slots : List ℕ) (place : ℕ)
+pub all_told : (leads : Target → LinkTexts) (at : ℕ → LinkTexts) (outer inner : List InlineRow) (tokens : List Token) (runs : List Run) (slots : List ℕ)
+    (place : ℕ)
     (rows : List InlineRow)
     → length runs ≤ place → IsContainer leads at inner (length outer) runs slots tokens → IsTold leads at outer tokens runs slots place rows
     → AreTold leads at outer tokens rows

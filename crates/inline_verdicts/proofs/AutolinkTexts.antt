@@ -328,7 +328,8 @@ closed_left is_email cs (Some (c ∷ rest)) is = elim (cases_Bool (c == 62)) [
         → left cs (closed_autolink is_email cs (Some (c ∷ rest))) ≡ left cs (if first
         then Some (leaf (Autolink is_email (text_before cs (c ∷ rest)) ∷ []) (length (text_before cs (c ∷ rest)) + 2)) else None)
     by_first first h =
-        ap (λ (b : Bool). left cs (if b then Some (leaf (Autolink is_email (text_before cs (c ∷ rest)) ∷ []) (length (text_before cs (c ∷ rest)) + 2)) else None))
+        ap (λ (b : Bool). left cs (if b then Some (leaf (Autolink is_email (text_before cs (c ∷ rest)) ∷ [])
+        (length (text_before cs (c ∷ rest)) + 2)) else None))
         (begins_by 62 c rest first h)
 
 or_none : (cs : List ℕ) (o : Option Leaf) → left cs (or_else o None) ≡ left cs o

@@ -39,7 +39,8 @@ use Rattle.definition_text.specs.Content.{Part, content_of}
 use Rattle.definition_block.specs.Definitions.{lines_before, DefinitionCut, cut_into, cut_after, cut_most, definition_cut}
 use Rattle.definition_text.specs.BlockLines.{own_lines, BlockLine}
 use Rattle.definition_block.specs.Tree.{one, block_and_ending, empty_tree, nothing, tree, blanks, paragraph_of, close_leaf, is_ending, all_endings, front}
-use Rattle.definition_block.specs.Tree.{trailing, without_last, last_of, container_block, close, has_text, has_table, is_some_line, table_of, table_if, makes_table}
+use Rattle.definition_block.specs.Tree.{trailing, without_last, last_of, container_block, close, has_text, has_table, is_some_line, table_of, table_if}
+use Rattle.definition_block.specs.Tree.{makes_table}
 use Rattle.definition_block.specs.Tree.{leaf_with_line, with_line, rest_line, indented_takes, fenced_takes, html_with, html_takes, takes, or_heading, or_fence}
 use Rattle.definition_block.specs.Tree.{or_html, begins, after, text_line_of, break_or_text, text_here, heading_of, heading_if, turns, leaf_tree_or, tree_or}
 use Rattle.definition_block.specs.Tree.{leaf_line, beside_in, start, new, began_blank, goes_on, grow, beside_line, step, steps, blocks_at_end, children}
@@ -204,7 +205,8 @@ module _ (on : Constructs) where
       (λ h. may_cut_most (length ls) ls h) (λ _. tt)
 
   may_close_leaf : (leaf : OpenLeaf) → LeafMayStand on leaf → MayStand on (close_leaf on leaf)
-  may_close_leaf (Text ls) p = may-join (definition_cut on ls).definitions (paragraph_of (definition_cut on ls).left) (may_cut ls) (may_paragraph (definition_cut on ls).left)
+  may_close_leaf (Text ls) p =
+      may-join (definition_cut on ls).definitions (paragraph_of (definition_cut on ls).left) (may_cut ls) (may_paragraph (definition_cut on ls).left)
   may_close_leaf (Indented ls pending) p = (p, (tt, may_blanks pending))
   may_close_leaf (Fenced fence ending ls) p = (p, (tt, tt))
   may_close_leaf (OpenHtml kind ls) p = (p, (tt, tt))

@@ -271,7 +271,8 @@ module _ (e : LineEnding) where
       (begins-with on (has_text away) rest beside k)
       ∙ ap (λ found. leaf_tree_or on (if_tree (begins on (has_text away) rest beside)) now (tree_or found (break_or_text on now rest ends)))
       (turns-with on away rest beside.ending)
-      ∙ ap (λ other. leaf_tree_or on (if_tree (begins on (has_text away) rest beside)) now (tree_or (if_tree turned) other)) (break_or_text-with on away rest beside k)
+      ∙ ap (λ other. leaf_tree_or on (if_tree (begins on (has_text away) rest beside)) now (tree_or (if_tree turned) other))
+      (break_or_text-with on away rest beside k)
       ∙ ap (leaf_tree_or on (if_tree (begins on (has_text away) rest beside)) now) (taken-with turned text)
       ∙ begun-with on (begins on (has_text away) rest beside) away (tree_or turned text))
 

@@ -365,7 +365,8 @@ module _ (e : LineEnding) where
   closed_autolink-with is_email cs (Some rest) =
       let text = text_before cs rest in
       let found : List ℕ → ℕ → Option Leaf = λ inner n. Some (leaf (Autolink is_email inner ∷ []) (n + 2)) in
-      ap (λ closes. let inner = text_before (codes_with e cs) (codes_with e rest) in cond closes (found inner (length inner)) None) (begins-byte 62 refl refl rest)
+      ap (λ closes. let inner = text_before (codes_with e cs) (codes_with e rest) in cond closes (found inner (length inner)) None)
+      (begins-byte 62 refl refl rest)
       ∙ cond-under if_found (begins_with (codes ">") rest)
       (ap (λ inner. found inner (length inner)) (before-with e cs rest) ∙ ap (found (codes_with e text)) (length-map text (code_with e))) refl
 

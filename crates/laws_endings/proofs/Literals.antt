@@ -18,7 +18,8 @@ use Rattle.definition_text.specs.InlineCode.{InlineCode, codes_of, is_continuati
 use Rattle.definition_inline.specs.Attention.{is_other}
 use Rattle.definition_inline.specs.Inline.{Www, Protocol, Literal, Leaf, leaf}
 use Rattle.definition_inline.specs.GfmAutolinkLiteral.{is_among, may_precede_www, may_precede_protocol, begins_caselessly, LiteralStart, literal_start}
-use Rattle.definition_inline.specs.GfmAutolinkLiteral.{or_start, www_start, protocol_start, literal_start_at, is_control_or_ending, begins_name, follows_label, ends_literal}
+use Rattle.definition_inline.specs.GfmAutolinkLiteral.{or_start, www_start, protocol_start, literal_start_at, is_control_or_ending, begins_name, follows_label}
+use Rattle.definition_inline.specs.GfmAutolinkLiteral.{ends_literal}
 use Rattle.definition_inline.specs.GfmAutolinkLiteral.{literal_run, is_trailing, count_of, has_more_closed, is_cut, name_size, cut_more, without_tail}
 use Rattle.definition_inline.specs.GfmAutolinkLiteral.{literal_name, domain, low_line_in, has_low_line, named_literal, literal_after, literal_at}
 use Rattle.laws_endings.specs.Endings.{code_with, codes_with}

@@ -12,7 +12,8 @@ use Rattle.definition_page.specs.Pieces.{Piece, Open, Close, Says, Fresh}
 use Rattle.definition_page.specs.InlinePieces.{element}
 use Rattle.definition_page.specs.GfmLabelStartFootnote.{text_or, footnote_id, call_id, leads_to_id}
 use Rattle.definition_page.specs.GfmFootnoteDefinition.{Footnote, back_tag, arrow, count_pieces, back_pieces, space_after, backs_pieces, ended_size, with_backs}
-use Rattle.definition_page.specs.GfmFootnoteDefinition.{content_pieces, item_tag, footnote_pieces, footnotes_pieces, section_heading_name, section_heading_tag, heading_pieces}
+use Rattle.definition_page.specs.GfmFootnoteDefinition.{content_pieces, item_tag, footnote_pieces, footnotes_pieces, section_heading_name, section_heading_tag}
+use Rattle.definition_page.specs.GfmFootnoteDefinition.{heading_pieces}
 use Rattle.definition_page.specs.GfmFootnoteDefinition.{section_tag, section_pieces}
 use Rattle.definition_page.specs.Layout.{NoteCalls, note_of}
 use Rattle.laws_endings.specs.Endings.{with_ending}

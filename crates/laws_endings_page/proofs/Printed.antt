@@ -8,7 +8,8 @@ use Rattle.markdown_options.specs.declared.line_ending.LineEnding.{LineEnding}
 use Rattle.markdown_options.specs.declared.line_ending.LineEnding.TheVariants.{CarriageReturnLineFeed, CarriageReturn, LineFeed}
 use Rattle.markdown_options.specs.LineEndings.{ending_bytes}
 use Rattle.definition_text.specs.Encode.{plain}
-use Rattle.definition_inline.specs.Inline.{Target, Resource, Reference, LinkTexts, link_texts, LiteralKind, Inline, Data, Escape, Character, Code, Math, Autolink}
+use Rattle.definition_inline.specs.Inline.{Target, Resource, Reference, LinkTexts, link_texts, LiteralKind, Inline, Data, Escape, Character, Code, Math}
+use Rattle.definition_inline.specs.Inline.{Autolink}
 use Rattle.definition_inline.specs.Inline.{Literal, Html, EscapedBreak, TrailingBreak, LineEnd, Emphasis, Strong, Strikethrough, Link, Image, Call, Inlines}
 use Rattle.definition_inline.specs.Inline.{Nil, Cons}
 use Rattle.definition_inline.specs.LabelMatch.{normal_label, place_of, first_match}
@@ -43,7 +44,8 @@ module _ (e : LineEnding) where
   abbrev pub linked_with : LinkTexts → LinkTexts
   linked_with l = link_texts (codes_with e l.destination) (option_map (codes_with e) l.title)
 
-  module _ (m : Meaning) (other : List ℕ → Option LinkTexts) (leads : (label : List ℕ) → other (codes_with e label) ≡ option_map linked_with (m.definition label))
+  module _ (m : Meaning) (other : List ℕ → Option LinkTexts)
+      (leads : (label : List ℕ) → other (codes_with e label) ≡ option_map linked_with (m.definition label))
       (fits : (label : List ℕ) → WhereSome LinkedFits (m.definition label)) (notes : (m.footnotes ≡ []) ⊎ HaveNoFeeds m.compile) where
     abbrev pub meaning_with : Meaning
     meaning_with = record m { definition = other }

@@ -22,7 +22,8 @@ use Rattle.definition_inline.specs.Autolink.{email_end, closed_autolink, autolin
 use Rattle.definition_inline.specs.HtmlText.{html_byte, html_end, html_leaf, html_text_at}
 use Rattle.definition_inline.specs.HardBreak.{line_end_at, escaped_break_at, is_trailing_break, line_spaces_at}
 use Rattle.definition_inline.specs.Space.{after_white, begins_with_space}
-use Rattle.definition_inline.specs.Resource.{LinkResource, resource_end, resource_with_title, opens_title, resource_with_destination, resource_inside, resource_at}
+use Rattle.definition_inline.specs.Resource.{LinkResource, resource_end, resource_with_title, opens_title, resource_with_destination, resource_inside}
+use Rattle.definition_inline.specs.Resource.{resource_at}
 use Rattle.definition_inline.specs.Label.{label_at}
 use Rattle.definition_inline.specs.Destination.{destination_at}
 use Rattle.definition_inline.specs.Title.{title_at}

@@ -10,7 +10,8 @@ use Rattle.definition_text.specs.InlineCode.{InlineCode, codes_of, is_continuati
 use Rattle.definition_inline.specs.Attention.{is_other}
 use Rattle.definition_inline.specs.Inline.{Www, Protocol, Literal, Leaf, leaf}
 use Rattle.definition_inline.specs.GfmAutolinkLiteral.{is_among, may_precede_www, may_precede_protocol, begins_caselessly, LiteralStart, literal_start}
-use Rattle.definition_inline.specs.GfmAutolinkLiteral.{or_start, www_start, protocol_start, literal_start_at, is_control_or_ending, begins_name, literal_name, domain}
+use Rattle.definition_inline.specs.GfmAutolinkLiteral.{or_start, www_start, protocol_start, literal_start_at, is_control_or_ending, begins_name, literal_name}
+use Rattle.definition_inline.specs.GfmAutolinkLiteral.{domain}
 use Rattle.definition_inline.specs.GfmAutolinkLiteral.{has_low_line, named_literal, literal_after, literal_at}
 use Rattle.laws_endings_reads.specs.Kinds.{counts_after, goes_on, IsAlike, AreAlike}
 

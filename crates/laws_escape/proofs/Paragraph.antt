@@ -20,7 +20,8 @@ use Rattle.definition_block.specs.ThematicBreak.{is_break}
 use Rattle.definition_block.specs.declared.align_kind.AlignKind.{AlignKind}
 use Rattle.definition_block.specs.GfmTable.{delimiter_row, is_head}
 use Rattle.definition_block.specs.Tree.{is_some_line, table_if, Nil, Paragraph, join, block_and_ending, Text, Leaf, Tree, tree, nothing, empty_tree}
-use Rattle.definition_block.specs.Tree.{with_paragraph, rest_line, leaf_tree_or, tree_or, heading_if, text_line_of, break_or_text, beside_in, leaf_line, start, new}
+use Rattle.definition_block.specs.Tree.{with_paragraph, rest_line, leaf_tree_or, tree_or, heading_if, text_line_of, break_or_text, beside_in, leaf_line, start}
+use Rattle.definition_block.specs.Tree.{new}
 use Rattle.definition_block.specs.Tree.{grow, beside_line, step, blocks_at_end, children, children_after, blocks}
 use Rattle.laws_visible.proofs.PlainText.{and_no, bare_other}
 use Rattle.laws_inline.specs.Escaped.{is_line_byte}
@@ -65,7 +66,8 @@ module _ (on : Constructs) (c : ℕ) (cs : List ℕ) (line : BeginsNothing c cs)
   no_table : (o : Option (List AlignKind)) (row : BlockLine) → table_if on o [] row ≡ None
   no_table None row = refl
   no_table (Some columns) row =
-      cond-false (is_some_line (definition_cut on []).left && is_head (length columns) []) _ _ (ap (λ (x : DefinitionCut). is_some_line x.left && false) cut_none)
+      cond-false (is_some_line (definition_cut on []).left && is_head (length columns) []) _ _
+      (ap (λ (x : DefinitionCut). is_some_line x.left && false) cut_none)
 
   its_leaf : (beside : Beside) → leaf_line on nothing here beside ≡ in_paragraph beside
   its_leaf beside =

@@ -7,7 +7,8 @@ use Rattle.definition_page.specs.Layout.{LayoutState, layout_state, lay, note_en
 use Rattle.laws_footnotes.specs.Footnotes.{HasNoNote, ContentLaw}
 
 -- pieces without a footnote keep the texts around
-pub same_outer : (options : CompileOptions) (default : List ℕ) (ps : List Piece) (l : LayoutState) → HasNoNote ps → (fold (lay options default) l ps).outer ≡ l.outer
+pub same_outer : (options : CompileOptions) (default : List ℕ) (ps : List Piece) (l : LayoutState) → HasNoNote ps
+    → (fold (lay options default) l ps).outer ≡ l.outer
 same_outer options default [] l has = refl
 same_outer options default (CallOf place label ∷ ps) l has = same_outer options default ps (lay options default l (CallOf place label)) has
 same_outer options default (CountOf place label ∷ ps) l has = same_outer options default ps (lay options default l (CountOf place label)) has
@@ -21,7 +22,8 @@ same_outer options default (NoteStart ∷ ps) l has = absurd has
 same_outer options default (NoteEnd ∷ ps) l has = absurd has
 
 -- and the contents of the footnotes that have ended
-pub same_notes : (options : CompileOptions) (default : List ℕ) (ps : List Piece) (l : LayoutState) → HasNoNote ps → (fold (lay options default) l ps).notes ≡ l.notes
+pub same_notes : (options : CompileOptions) (default : List ℕ) (ps : List Piece) (l : LayoutState) → HasNoNote ps
+    → (fold (lay options default) l ps).notes ≡ l.notes
 same_notes options default [] l has = refl
 same_notes options default (CallOf place label ∷ ps) l has = same_notes options default ps (lay options default l (CallOf place label)) has
 same_notes options default (CountOf place label ∷ ps) l has = same_notes options default ps (lay options default l (CountOf place label)) has

@@ -119,7 +119,8 @@ module _ (on : Constructs) where
   may_close_autolink : (is_email : Bool) (content : List ℕ) (rest : Option (List ℕ)) → on.autolink ≡ true → MayBegin (closed_autolink is_email content rest)
   may_close_autolink is_email content None e = tt
   may_close_autolink is_email content (Some rest) e =
-      cond_both _ (Some (leaf (Autolink is_email (text_before content rest) ∷ []) (length (text_before content rest) + 2))) None MayBegin (λ _. (e, tt)) (λ _. tt)
+      cond_both _ (Some (leaf (Autolink is_email (text_before content rest) ∷ []) (length (text_before content rest) + 2))) None MayBegin (λ _. (e, tt))
+      (λ _. tt)
 
   may_link_after : (content : List ℕ) → on.autolink ≡ true → MayBegin (autolink_after content)
   may_link_after content e =

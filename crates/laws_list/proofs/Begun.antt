@@ -23,7 +23,8 @@ use Rattle.definition_block.specs.declared.align_kind.AlignKind.{AlignKind}
 use Rattle.definition_block.specs.GfmTable.{delimiter_row, is_head}
 use Rattle.definition_block.specs.Definitions.{DefinitionCut, cut_into, cut_after, cut_most, definition_cut}
 use Rattle.definition_block.specs.Tree.{BlockLine, own_lines, Break, Blank, Blocks, Nil, Cons, join, one, block_and_ending, OpenLeaf, Text, Indented, Fenced}
-use Rattle.definition_block.specs.Tree.{OpenHtml, OpenTable, Opening, Leaf, Inside, Tree, tree, nothing, paragraph_of, with_paragraph, container_block, close, has_text}
+use Rattle.definition_block.specs.Tree.{OpenHtml, OpenTable, Opening, Leaf, Inside, Tree, tree, nothing, paragraph_of, with_paragraph, container_block, close}
+use Rattle.definition_block.specs.Tree.{has_text}
 use Rattle.definition_block.specs.Tree.{has_table, is_some_line, table_of, table_if, makes_table, leaf_with_line, with_line, rest_line, html_with, takes}
 use Rattle.definition_block.specs.Tree.{or_heading, or_fence, or_html, begins, after, break_or_text, text_line_of, text_here, heading_of, heading_if, turns}
 use Rattle.definition_block.specs.Tree.{leaf_tree_or, tree_or, leaf_line, beside_in, start, new, is_nothing, is_one_blank, began_blank, goes_on, grow}

@@ -17,7 +17,8 @@ use Rattle.definition_block.specs.ListItem.{item_after, item_start, item_continu
 use Rattle.definition_block.specs.ThematicBreak.{is_break, is_break_text}
 use Rattle.definition_block.specs.GfmFootnoteDefinition.{footnote_start}
 use Rattle.definition_block.specs.Containers.{quote_or, footnote_or, starts}
-use Rattle.definition_block.specs.Tree.{Block, Blocks, Nil, Cons, join, Inside, Tree, tree, nothing, empty_tree, all_endings, front, trailing, container_block, beside_in}
+use Rattle.definition_block.specs.Tree.{Block, Blocks, Nil, Cons, join, Inside, Tree, tree, nothing, empty_tree, all_endings, front, trailing, container_block}
+use Rattle.definition_block.specs.Tree.{beside_in}
 use Rattle.definition_block.specs.Tree.{beside_line, leaf_line, start, new, began_blank, goes_on, grow, step, steps, blocks_at_end, children, blocks}
 use Rattle.definition_block.specs.Definitions.{definitions}
 use Rattle.laws_quote.proofs.Tabs.{Tabless, Tabless-from_All, codes_from-Tabless, LinesTabless, lines_tabless}

@@ -31,9 +31,11 @@ use Rattle.definition_block.specs.Definitions.{lines_before, DefinitionCut, cut_
 use Rattle.definition_block.specs.Tree.{Block, Paragraph, Heading, Break, IndentedCode, FencedCode, Html, Table, Definition, Holds, Items, Ending, Blank}
 use Rattle.definition_block.specs.Tree.{Blocks, Nil, Cons, join, one, block_and_ending, OpenLeaf, Text, Indented, Fenced, OpenHtml, OpenTable, Opening, Leaf}
 use Rattle.definition_block.specs.Tree.{Inside, Tree as BlockTree, tree, nothing, empty_tree, blanks, paragraph_of, close_leaf, is_ending, all_endings, front}
-use Rattle.definition_block.specs.Tree.{trailing, without_last, last_of, container_block, close, leaf_text, has_text, has_table, is_some_line, table_of, table_if}
+use Rattle.definition_block.specs.Tree.{trailing, without_last, last_of, container_block, close, leaf_text, has_text, has_table, is_some_line, table_of}
+use Rattle.definition_block.specs.Tree.{table_if}
 use Rattle.definition_block.specs.Tree.{makes_table, leaf_with_line, with_line, rest_line, html_with, takes, or_heading, or_fence, or_html, begins, after}
-use Rattle.definition_block.specs.Tree.{break_or_text, text_line_of, text_here, heading_of, heading_if, turns, leaf_tree_or, tree_or, leaf_line, beside_in, start, new}
+use Rattle.definition_block.specs.Tree.{break_or_text, text_line_of, text_here, heading_of, heading_if, turns, leaf_tree_or, tree_or, leaf_line, beside_in}
+use Rattle.definition_block.specs.Tree.{start, new}
 use Rattle.definition_block.specs.Tree.{began_blank, goes_on, grow, beside_line, step, steps, children, children_after, blocks}
 use Rattle.std.specs.Prelude.{IfSome}
 use Rattle.definition_text.specs.BlockLines.{block_line}
@@ -277,7 +279,8 @@ module _ (good : Property) where
 
     close_leaf_good : (leaf : OpenLeaf) → LeafGood leaf → BlocksGood (close_leaf on leaf)
     close_leaf_good (Text ls) p =
-        let parts = cut_good ls p in join_good (definition_cut on ls).definitions (paragraph_of (definition_cut on ls).left) parts.0 (paragraph_good (definition_cut on ls).left parts.1)
+        let parts = cut_good ls p in
+        join_good (definition_cut on ls).definitions (paragraph_of (definition_cut on ls).left) parts.0 (paragraph_good (definition_cut on ls).left parts.1)
     close_leaf_good (Indented ls pending) p = (own_good reads.unended ls p.0, (last_good ls p.0, blanks_good pending p.1))
     close_leaf_good (Fenced fence ending ls) p = ((p.0, p.1.1), (last_or_good ending ls p.1.0 p.1.1, tt))
     close_leaf_good (OpenHtml kind ls) p = (own_good reads.unended ls p, (last_good ls p, tt))
@@ -349,7 +352,8 @@ module _ (good : Property) where
     underlined_good (Some rank) ls ending h p f =
         let parts = cut_good ls p in heading_of_good rank (definition_cut on ls).definitions (definition_cut on ls).left ending h parts.0 parts.1 f
 
-    begun_good : (o : Option BlockTree) (away : Opening) (other : BlockTree) → SomeGood o → OpeningGood away → TreeGood other → TreeGood (leaf_tree_or on o away other)
+    begun_good : (o : Option BlockTree) (away : Opening) (other : BlockTree) → SomeGood o → OpeningGood away → TreeGood other
+        → TreeGood (leaf_tree_or on o away other)
     begun_good None away other p a q = q
     begun_good (Some t) away other p a q = after_good away t a p
 

@@ -514,7 +514,8 @@ text_at_end ending t said p =
     (at_paragraph ending (λ o. BlocksAreText (close no_constructs o)) t.now p.now (λ ls r. text_closed ending ls r))
 
 -- where no footnote is called, the page is its text
-no_section : (options : CompileOptions) (default : List ℕ) (l : LayoutState) (t : List ℕ) → ShowsIn nothing_laid l t → Shows (with_footnotes options default l) t
+no_section : (options : CompileOptions) (default : List ℕ) (l : LayoutState) (t : List ℕ) → ShowsIn nothing_laid l t
+    → Shows (with_footnotes options default l) t
 no_section options default l t p = subst (λ x. Shows (with_footnotes options default x) t) (sym p.is) p.shows
 
 -- a page shows what its blocks say
