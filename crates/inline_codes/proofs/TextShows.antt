@@ -22,7 +22,8 @@ white bytes p v h = rw h (no_letter (p.vs == 0))
 feed : (bytes : List ℕ) (p : Point) (v : ℕ) → (v == 9) ≡ false → (v == 10) ≡ true → is_ascii_alphanumeric (byte_given bytes p v).byte ≡ false
 feed bytes p v h k = rw (h, k) refl
 
-return : (bytes : List ℕ) (p : Point) (v : ℕ) → (v == 9) ≡ false → (v == 10) ≡ false → (v == 13) ≡ true → is_ascii_alphanumeric (byte_given bytes p v).byte ≡ false
+return : (bytes : List ℕ) (p : Point) (v : ℕ) → (v == 9) ≡ false → (v == 10) ≡ false → (v == 13) ≡ true
+    → is_ascii_alphanumeric (byte_given bytes p v).byte ≡ false
 return bytes p v h k l = rw (h, k, l) refl
 
 module _ (s : Source) (to : ℕ × ℕ) where

@@ -21,7 +21,8 @@ use Rattle.definition_block.specs.CodeFenced.{fence_start}
 use Rattle.definition_block.specs.MathFlow.{math_start}
 use Rattle.definition_block.specs.HeadingAtx.{atx, begins_apart, ends_apart, without_run, without_closing, atx_of, heading_atx}
 use Rattle.definition_block.specs.HeadingSetext.{underline}
-use Rattle.definition_block.specs.Tree.{Block, Paragraph, Heading, Break, IndentedCode, FencedCode, Html, Table, Definition, Holds, Items, Ending, Blank, Blocks}
+use Rattle.definition_block.specs.Tree.{Block, Paragraph, Heading, Break, IndentedCode, FencedCode, Html, Table, Definition, Holds, Items, Ending, Blank}
+use Rattle.definition_block.specs.Tree.{Blocks}
 use Rattle.definition_block.specs.Tree.{Nil, Cons, blocks}
 use Rattle.laws_endings.proofs.Rests.{starts-fine, continues-fine}
 use Rattle.laws_each.proofs.Each.{Each, each-append, each-take, each-drop, each_filter, each_same, WhereSome}

@@ -6,7 +6,8 @@ use Rattle.std.proofs.lemmas.Bool.Decides.{nat_tests}
 use Rattle.engine_events.specs.declared.place.Point.{Point}
 use Rattle.engine_events.specs.Columns.{tab_size}
 use Rattle.markdown_engine.specs.declared.virtual_text.VirtualByte.{VirtualByte}
-use Rattle.markdown_engine.specs.VirtualText.{virtual_byte, byte_before, place_in, Skips, is_before, byte_given, tab_column, in_line, in_tab, next_line, as_byte}
+use Rattle.markdown_engine.specs.VirtualText.{virtual_byte, byte_before, place_in, Skips, is_before, byte_given, tab_column, in_line, in_tab, next_line}
+use Rattle.markdown_engine.specs.VirtualText.{as_byte}
 use Rattle.markdown_engine.specs.VirtualText.{feeds}
 use Rattle.markdown_engine.specs.Laws.{remaining, IsRead, IsFed}
 use Rattle.markdown_engine.specs.Order.{Reaches}
