@@ -85,7 +85,7 @@ number_codes (c ∷ cs) = elim (cases_Bool (eqb c 13)) [
       let codes = plain_code c cs (eqb-false c 13 h) in
       ap number_reference codes
       ∙ one_of_both _ _ (reference_by_number 16 (part_to_semicolon is_ascii_hexdigit 6 cs))
-          (reference_by_number 10 (part_to_semicolon is_ascii_digit 7 (c ∷ cs)))
+      (reference_by_number 10 (part_to_semicolon is_ascii_digit 7 (c ∷ cs)))
       (eqb c 120 || eqb c 88)
       (ap (reference_by_number 16) (terminated_codes is_ascii_hexdigit 6 cs refl refl) ∙ numbered_coded 16 (part_to_semicolon is_ascii_hexdigit 6 cs))
       (ap (λ x. reference_by_number 10 (part_to_semicolon is_ascii_digit 7 x)) (sym codes)
