@@ -1,2 +1,3 @@
+pub mod AreCodes
 pub mod TextSees
 pub mod TextShows

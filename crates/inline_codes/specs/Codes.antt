@@ -1,12 +1,17 @@
 -- The virtual text beside the codes of a content.
-use Rattle.std.specs.Prelude.{◌≡◌, ℕ, ◌+◌, ◌≤◌, false, if◌then◌else◌, ◌==◌, List, [], ◌∷◌, None, Some}
+use Rattle.std.specs.Prelude.{◌≡◌, ℕ, ◌+◌, ◌≤◌, Bool, false, if◌then◌else◌, ◌==◌, nat_lt, List, [], ◌∷◌, None, Some}
 use Rattle.engine_events.specs.declared.place.Point.{Point}
 use Rattle.markdown_engine.specs.VirtualText.{Text, as_byte}
+use Rattle.definition_text.specs.Columns.{code_byte}
 use Rattle.definition_text.specs.Content.{is_eol}
 
--- the byte by which a code is seen: any line ending is one line feed (CommonMark 2.1)
+-- the byte by which a code is seen: any line ending is one line feed, and a column that is left of a tab is a space (CommonMark 2.1 and 2.2)
 abbrev pub text_byte : ℕ → ℕ
-text_byte code = if is_eol code then 10 else code
+text_byte code = if is_eol code then 10 else code_byte code
+
+-- a code: a byte, 256 for a column that is left of a tab, or 257 for CR LF
+abbrev pub is_code : ℕ → Bool
+is_code code = nat_lt code 258
 
 -- so many spaces lead from a place to another: the further columns of a tab (CommonMark 2.2)
 pub data Fills (text : Text) : ℕ → Point → Point → Type 0 where

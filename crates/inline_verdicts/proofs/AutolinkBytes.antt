@@ -1,17 +1,17 @@
 -- The bytes of autolinks by the states and by the definition.
 use Rattle.std.proofs.Common.{◌≡◌, ◌∙◌, ℕ, ◌<◌, ◌≤◌, Bool, true, false, not, nat_le, nat_lt, ◌==◌, ◌&&◌, ◌||◌, if◌then◌else◌, List, [], ◌∷◌, inl, inr, refl}
-use Rattle.std.proofs.Common.{sym, ap, subst, arith}
-use Rattle.std.proofs.lemmas.Bool.{agree_below_at, and_parts, and_right, cases_Bool, cases_lt, eqb-true, le-leb, le-ltb, lt-leb, lt-ltb, ltb-true, ne_eqb}
+use Rattle.std.proofs.Common.{sym, ap, arith}
+use Rattle.std.proofs.lemmas.Bool.{agree_below_at, and_parts, and_right, cases_lt, eqb-false, eqb-true, le-leb, le-ltb, lt-leb, lt-ltb, ltb-true, ne_eqb}
 use Rattle.std.proofs.lemmas.Bool.{or_cases, or_from, or_parts}
 use Rattle.std.specs.Prelude.{codes}
 use Rattle.std.specs.Char.{is_ascii_alphanumeric}
 use Rattle.std.specs.Int.{is_in_range}
 use Rattle.std.specs.List.{list_all, list_any}
+use Rattle.definition_text.specs.Columns.{code_byte}
 use Rattle.definition_text.specs.Content.{is_eol}
 use Rattle.definition_inline.specs.Autolink.{is_email_byte, is_scheme_byte, is_uri_byte}
-use Rattle.inline_codes.specs.Codes.{text_byte}
+use Rattle.inline_codes.specs.Codes.{is_code, text_byte}
 use Rattle.inline_states_html.specs.Autolink.{ends_url, is_atext}
-use Rattle.inline_verdicts.specs.Autolink.{is_whole_code}
 use Rattle.inline_verdicts.proofs.AutolinkStates.{is_scheme}
 
 -- ---- names of emails
@@ -90,16 +90,23 @@ eol_bare c h = elim (or_cases ((c == 10) || (c == 13)) (c == 257) h) [
   | inr both ↦ ap is_uri_byte (eqb-true c 257 both)
 ]
 
-whole_small : (c : ℕ) → is_whole_code c ≡ true → is_eol c ≡ false → nat_lt c 256 ≡ true
-whole_small c whole plain = elim (or_cases (nat_lt c 256) (c == 257) whole) [
-  | inl h ↦ h
-  | inr h ↦ absurd (let f = (or_parts ((c == 10) || (c == 13)) (c == 257) plain).1 in let g : false ≡ true = sym f ∙ h in cc)
-]
+-- a code that is neither a column of a tab nor a line ending is a byte
+small : (c : ℕ) → is_code c ≡ true → (c == 256) ≡ false → (c == 257) ≡ false → nat_lt c 256 ≡ true
+small c is column both =
+    let low = ltb-true c 258 is in
+    let no_column = eqb-false c 256 column in
+    let no_both = eqb-false c 257 both in
+    lt-ltb c 256 (omega (arith, low, no_column, no_both))
 
-uri_by : (c : ℕ) (eol : Bool) → is_eol c ≡ eol → is_whole_code c ≡ true → (c == 62) ≡ false → ends_url (if eol then 10 else c) ≡ not (is_uri_byte c)
-uri_by c true h whole other = sym (ap not (eol_bare c h))
-uri_by c false h whole other = uri_small c (whole_small c whole h) other
+by_column : (c : ℕ) (column : Bool) → (c == 256) ≡ column → is_code c ≡ true → (c == 257) ≡ false → (c == 62) ≡ false
+    → ends_url (if column then 32 else c) ≡ not (is_uri_byte c)
+by_column c true h is both other = sym (ap (λ (b : ℕ). not (is_uri_byte b)) (eqb-true c 256 h))
+by_column c false h is both other = uri_small c (small c is h both) other
+
+uri_by : (c : ℕ) (eol : Bool) → is_eol c ≡ eol → is_code c ≡ true → (c == 62) ≡ false → ends_url (if eol then 10 else code_byte c) ≡ not (is_uri_byte c)
+uri_by c true h is other = sym (ap not (eol_bare c h))
+uri_by c false h is other = by_column c (c == 256) refl is (or_parts ((c == 10) || (c == 13)) (c == 257) h).1 other
 
 -- of the codes that are no `>` just those of a URI go on
-pub uri_byte : (c : ℕ) → is_whole_code c ≡ true → (c == 62) ≡ false → ends_url (text_byte c) ≡ not (is_uri_byte c)
-uri_byte c whole other = uri_by c (is_eol c) refl whole other
+pub uri_byte : (c : ℕ) → is_code c ≡ true → (c == 62) ≡ false → ends_url (text_byte c) ≡ not (is_uri_byte c)
+uri_byte c is other = uri_by c (is_eol c) refl is other

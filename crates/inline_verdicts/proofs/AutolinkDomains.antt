@@ -1,13 +1,12 @@
 -- A domain, byte by byte, is what the definition calls one.
 use Rattle.std.proofs.Common.{◌≡◌, ◌∙◌, ℕ, suc, ◌+◌, ◌-◌, ◌<◌, ◌≤◌, Bool, true, false, not, nat_le, nat_lt, ◌==◌, ◌&&◌, ◌||◌, if◌then◌else◌, List, [], ◌∷◌}
-use Rattle.std.proofs.Common.{length, drop, Option, Some, None, slice_index, inl, inr, refl, sym, ap, subst, arith}
-use Rattle.std.proofs.lemmas.Bool.{and_left, and_right, cases_Bool, eqb-false, eqb-true, le-leb, le-ltb, lt-leb, lt-ltb, ltb-false, ltb-true, ne_eqb, or_from}
+use Rattle.std.proofs.Common.{length, Option, Some, None, slice_index, inl, inr, refl, sym, ap, arith}
+use Rattle.std.proofs.lemmas.Bool.{and_left, and_right, cases_Bool, eqb-true, le-leb, lt-leb, ltb-false, ltb-true, or_from}
 use Rattle.std.proofs.lemmas.Bool.{or_left}
 use Rattle.std.proofs.lemmas.List.Sums.{take_while-cons}
-use Rattle.std.specs.Prelude.{codes}
 use Rattle.std.specs.Char.{is_ascii_alphanumeric}
-use Rattle.std.specs.List.{list_all, prefix_len, take_while}
-use Rattle.definition_text.specs.Bytes.{after_all, begins_with}
+use Rattle.std.specs.List.{list_all, take_while}
+use Rattle.definition_text.specs.Bytes.{after_all}
 use Rattle.definition_inline.specs.Autolink.{between_dots, domain_end, in_first, is_domain, is_domain_byte, is_domain_label}
 use Rattle.inline_verdicts.proofs.ReferenceValues.{apart}
 use Rattle.inline_verdicts.proofs.Stretches.{rest_more, rest_none}

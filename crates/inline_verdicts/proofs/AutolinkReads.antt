@@ -1,10 +1,10 @@
 -- The states of autolinks read what the definition calls one, and nothing else.
 use Rattle.std.proofs.Common.{◌≡◌, ◌∙◌, ℕ, ◌+◌, ◌<◌, ◌≤◌, Bool, true, false, not, nat_lt, ◌==◌, ◌&&◌, if◌then◌else◌, List, [], ◌∷◌, ◌++◌, Option, Some, None}
 use Rattle.std.proofs.Common.{inl, inr, refl, sym, ap, subst, arith, append_assoc}
-use Rattle.std.proofs.lemmas.Bool.{and_parts, cases_Bool, eqb-true, ltb-false, ltb-true, or_parts}
+use Rattle.std.proofs.lemmas.Bool.{and_parts, cases_Bool, eqb-true, ltb-true}
 use Rattle.std.specs.Char.{is_ascii_alphabetic, is_ascii_alphanumeric}
 use Rattle.std.specs.List.{list_all}
-use Rattle.definition_text.specs.Bytes.{after_all, is_letter}
+use Rattle.definition_text.specs.Bytes.{is_letter}
 use Rattle.definition_inline.specs.Autolink.{autolink_after, is_email_byte, is_scheme_byte, is_uri_byte}
 use Rattle.definition_inline.specs.Inline.{Leaf}
 use Rattle.engine_events.specs.Events.{event}
@@ -25,8 +25,8 @@ use Rattle.markdown_engine.specs.VirtualText.{Text, as_byte, is_feed}
 use Rattle.inline_states_html.specs.Autolink.{ends_url, is_atext}
 use Rattle.inline_states_table.specs.Words.{more, next, retry}
 use Rattle.inline_states.specs.declared.inlines.Inlines.{Inlines}
-use Rattle.inline_codes.specs.Codes.{Sees, byte, nothing, tab, text_byte}
-use Rattle.inline_verdicts.specs.Autolink.{AddressVerdict, AutolinkVerdict, autolink_events, is_whole_code}
+use Rattle.inline_codes.specs.Codes.{Sees, byte, is_code, nothing, tab, text_byte}
+use Rattle.inline_verdicts.specs.Autolink.{AddressVerdict, AutolinkVerdict, autolink_events}
 use Rattle.inline_verdicts.specs.Verdicts.{Reads}
 use Rattle.inline_verdicts.proofs.AutolinkBytes.{name_byte, scheme_byte, uri_byte}
 use Rattle.inline_verdicts.proofs.AutolinkDomains.{Place, domain_read, past_greater, size_at, starting, within}
@@ -187,10 +187,10 @@ module _ {T : Type 0} (texts : List ℕ → Option (List ℕ)) (is_punctuation :
 
   -- ---- URIs
 
-  url_reads : (cs : List ℕ) (k : ℕ) → list_all is_whole_code cs ≡ true → Goes inline_states.AutolinkUrlInside (sized k) uri_read cs
-  url_reads [] k whole d q h at (nothing e) = stops inline_states.AutolinkUrlInside d (AutolinkStates.url_ends texts is_punctuation x d (end_at at e))
-  url_reads (c ∷ cs) k whole d q h at (byte {q = r} no_tab e s) =
-      let parts = and_parts (is_whole_code c) (list_all is_whole_code cs) whole in
+  url_reads : (cs : List ℕ) (k : ℕ) → list_all is_code cs ≡ true → Goes inline_states.AutolinkUrlInside (sized k) uri_read cs
+  url_reads [] k are d q h at (nothing e) = stops inline_states.AutolinkUrlInside d (AutolinkStates.url_ends texts is_punctuation x d (end_at at e))
+  url_reads (c ∷ cs) k are d q h at (byte {q = r} no_tab e s) =
+      let parts = and_parts (is_code c) (list_all is_code cs) are in
       elim (cases_Bool (c == 62)) [
         | inl is ↦
             let same : c ≡ 62 = eqb-true c 62 is in
@@ -202,20 +202,20 @@ module _ {T : Type 0} (texts : List ℕ → Option (List ℕ)) (is_punctuation :
             let ends = uri_byte c parts.0 other in
             elim (cases_Bool (is_uri_byte c)) [
               | inl is ↦
-                  let calm = calm_by is_uri_byte (text_byte c) d refl (seen_sort is_uri_byte refl refl refl c ∙ is) (byte_at at e) in
+                  let calm = calm_by is_uri_byte (text_byte c) d refl (seen_sort is_uri_byte refl refl refl refl c ∙ is) (byte_at at e) in
                   subst (λ (l : List ℕ). Outcome d (retry inline_states.AutolinkUrlInside) (past_greater l)) (sym (rest_more is_uri_byte c cs is))
                   (goes inline_states.AutolinkUrlInside inline_states.AutolinkUrlInside d (past_byte d) (uri_read cs)
-                  (AutolinkStates.url_by texts is_punctuation x (text_byte c) d false false (byte_at at e) (seen_as_itself 62 refl c ∙ other)
+                  (AutolinkStates.url_by texts is_punctuation x (text_byte c) d false false (byte_at at e) (seen_as_itself 62 refl refl c ∙ other)
                   (ends ∙ ap not is))
                   (url_reads cs k parts.1 (feed text (past_byte d)) r (past (sized k) d h calm) (next_at d (past_byte d) q r (text_byte c) at e refl) s))
               | inr is ↦
                   subst (λ (l : List ℕ). Outcome d (retry inline_states.AutolinkUrlInside) (past_greater l)) (sym (rest_none is_uri_byte c cs is))
                   (subst (λ (b : Bool). Outcome d (retry inline_states.AutolinkUrlInside) (if b then Some cs else None)) (sym other)
                   (stops inline_states.AutolinkUrlInside d (AutolinkStates.url_by texts is_punctuation x (text_byte c) d false true (byte_at at e)
-                  (seen_as_itself 62 refl c ∙ other) (ends ∙ ap not is))))
+                  (seen_as_itself 62 refl refl c ∙ other) (ends ∙ ap not is))))
             ]
       ]
-  url_reads (c ∷ cs) k whole d q h at (tab {q = r} few e f s) =
+  url_reads (c ∷ cs) k are d q h at (tab {q = r} few e f s) =
       stops inline_states.AutolinkUrlInside d (AutolinkStates.url_by texts is_punctuation x 9 d false true (byte_at at e) refl refl)
 
   -- ---- domains
@@ -248,19 +248,19 @@ module _ {T : Type 0} (texts : List ℕ → Option (List ℕ)) (is_punctuation :
       → Outcome d (retry inline_states.AutolinkEmailValue) (label_read n c cs)
   label_reads n c d q r cs rest h at e s = elim (cases_Bool (c == 45)) [
     | inl is ↦
-        let same : (text_byte c == 45) ≡ true = seen_as_itself 45 refl c ∙ is in
+        let same : (text_byte c == 45) ≡ true = seen_as_itself 45 refl refl c ∙ is in
         subst (λ (b : Bool). Outcome d (retry inline_states.AutolinkEmailValue) (if b then (if nat_lt n 63 then domain_read (within (n + 1) true) cs else None)
         else if is_ascii_alphanumeric c then (if nat_lt n 63 then domain_read (within (n + 1) false) cs else None) else None)) (sym is)
         (label_longer n c true d q r cs rest h at e s (calm_by (λ (b : ℕ). b == 45) (text_byte c) d refl same (byte_at at e))
         (λ few less. AutolinkStates.value_by texts is_punctuation x (text_byte c) d true (is_ascii_alphanumeric (text_byte c)) few (byte_at at e) same refl
         (few_by n 63 d few h less)))
     | inr dash ↦
-        let apart_dash : (text_byte c == 45) ≡ false = seen_as_itself 45 refl c ∙ dash in
+        let apart_dash : (text_byte c == 45) ≡ false = seen_as_itself 45 refl refl c ∙ dash in
         subst (λ (b : Bool). Outcome d (retry inline_states.AutolinkEmailValue) (if b then (if nat_lt n 63 then domain_read (within (n + 1) true) cs else None)
         else if is_ascii_alphanumeric c then (if nat_lt n 63 then domain_read (within (n + 1) false) cs else None) else None)) (sym dash)
         (elim (cases_Bool (is_ascii_alphanumeric c)) [
           | inl is ↦
-              let same : is_ascii_alphanumeric (text_byte c) ≡ true = seen_sort is_ascii_alphanumeric refl refl refl c ∙ is in
+              let same : is_ascii_alphanumeric (text_byte c) ≡ true = seen_sort is_ascii_alphanumeric refl refl refl refl c ∙ is in
               subst (λ (b : Bool). Outcome d (retry inline_states.AutolinkEmailValue) (if b
               then (if nat_lt n 63 then domain_read (within (n + 1) false) cs else None) else None)) (sym is)
               (label_longer n c false d q r cs rest h at e s (calm_by is_ascii_alphanumeric (text_byte c) d refl same (byte_at at e))
@@ -271,7 +271,7 @@ module _ {T : Type 0} (texts : List ℕ → Option (List ℕ)) (is_punctuation :
               then (if nat_lt n 63 then domain_read (within (n + 1) false) cs else None) else None)) (sym is)
               (stops inline_states.AutolinkEmailValue d
               (AutolinkStates.value_by texts is_punctuation x (text_byte c) d false false (nat_lt d.tokenize_state.size 63) (byte_at at e) apart_dash
-              (seen_sort is_ascii_alphanumeric refl refl refl c ∙ is) refl))
+              (seen_sort is_ascii_alphanumeric refl refl refl refl c ∙ is) refl))
         ])
   ]
 
@@ -305,12 +305,12 @@ module _ {T : Type 0} (texts : List ℕ → Option (List ℕ)) (is_punctuation :
         subst (λ (b : Bool). Outcome d (retry inline_states.AutolinkEmailAtSignOrDot) (if b then domain_read (within 1 false) cs else None)) (sym is)
         (subst (λ (o : Option (List ℕ)). Outcome d (retry inline_states.AutolinkEmailAtSignOrDot) o) (first_letter c cs is)
         (hands inline_states.AutolinkEmailAtSignOrDot inline_states.AutolinkEmailValue d d (label_read 0 c cs)
-        (AutolinkStates.label_starts_by texts is_punctuation x (text_byte c) d true (byte_at at e) (seen_sort is_ascii_alphanumeric refl refl refl c ∙ is))
+        (AutolinkStates.label_starts_by texts is_punctuation x (text_byte c) d true (byte_at at e) (seen_sort is_ascii_alphanumeric refl refl refl refl c ∙ is))
         (label_reads 0 c d q r cs rest h at e s)))
     | inr is ↦
         subst (λ (b : Bool). Outcome d (retry inline_states.AutolinkEmailAtSignOrDot) (if b then domain_read (within 1 false) cs else None)) (sym is)
         (stops inline_states.AutolinkEmailAtSignOrDot d (AutolinkStates.label_starts_by texts is_punctuation x (text_byte c) d false (byte_at at e)
-        (seen_sort is_ascii_alphanumeric refl refl refl c ∙ is)))
+        (seen_sort is_ascii_alphanumeric refl refl refl refl c ∙ is)))
   ]
 
   letter_reads : (n c : ℕ) (d : Config Inlines) (q r : Point) (cs : List ℕ) → Domains cs → Within (sized n) d → At text d q
@@ -318,7 +318,7 @@ module _ {T : Type 0} (texts : List ℕ → Option (List ℕ)) (is_punctuation :
       → Outcome d (retry inline_states.AutolinkEmailLabel) (domain_read (within n false) (c ∷ cs))
   letter_reads n c d q r cs rest h at e s = elim (cases_Bool (c == 46)) [
     | inl is ↦
-        let same : (text_byte c == 46) ≡ true = seen_as_itself 46 refl c ∙ is in
+        let same : (text_byte c == 46) ≡ true = seen_as_itself 46 refl refl c ∙ is in
         let calm = calm_by (λ (b : ℕ). b == 46) (text_byte c) d refl same (byte_at at e) in
         let f = AutolinkStates.sized 0 d in
         subst (λ (o : Option (List ℕ)). Outcome d (retry inline_states.AutolinkEmailLabel) o)
@@ -338,8 +338,8 @@ module _ {T : Type 0} (texts : List ℕ → Option (List ℕ)) (is_punctuation :
       | inr greater ↦
           subst (λ (o : Option (List ℕ)). Outcome d (retry inline_states.AutolinkEmailLabel) o) (sym (lettered n c cs dot greater))
           (hands inline_states.AutolinkEmailLabel inline_states.AutolinkEmailValue d d (label_read n c cs)
-          (AutolinkStates.label_by texts is_punctuation x (text_byte c) d false false (byte_at at e) (seen_as_itself 46 refl c ∙ dot)
-          (seen_as_itself 62 refl c ∙ greater)) (label_reads n c d q r cs rest h at e s))
+          (AutolinkStates.label_by texts is_punctuation x (text_byte c) d false false (byte_at at e) (seen_as_itself 46 refl refl c ∙ dot)
+          (seen_as_itself 62 refl refl c ∙ greater)) (label_reads n c d q r cs rest h at e s))
     ]
   ]
 
@@ -359,7 +359,7 @@ module _ {T : Type 0} (texts : List ℕ → Option (List ℕ)) (is_punctuation :
   email_reads [] k resets d q h at (nothing e) = stops inline_states.AutolinkEmailAtext d (AutolinkStates.name_ends texts is_punctuation x d (end_at at e))
   email_reads (c ∷ cs) k resets d q h at (byte {q = r} no_tab e s) = elim (cases_Bool (c == 64)) [
     | inl is ↦
-        let same : (text_byte c == 64) ≡ true = seen_as_itself 64 refl c ∙ is in
+        let same : (text_byte c == 64) ≡ true = seen_as_itself 64 refl refl c ∙ is in
         let calm = calm_by (λ (b : ℕ). b == 64) (text_byte c) d refl same (byte_at at e) in
         let f = AutolinkStates.sized 0 d in
         subst (λ (b : Bool). Outcome d (retry inline_states.AutolinkEmailAtext) (if b then domain_read starting cs else if is_email_byte c then email_read cs
@@ -369,8 +369,8 @@ module _ {T : Type 0} (texts : List ℕ → Option (List ℕ)) (is_punctuation :
         (domain_reads cs starting (omega arith) (feed text (past_byte f)) r (past (sized 0) f (resized k 0 d resets h) calm)
         (next_at d (past_byte f) q r (text_byte c) at e refl) s))
     | inr other ↦
-        let same : is_atext (text_byte c) ≡ is_email_byte c = name_byte (text_byte c) ∙ seen_sort is_email_byte refl refl refl c in
-        let apart_at : (text_byte c == 64) ≡ false = seen_as_itself 64 refl c ∙ other in
+        let same : is_atext (text_byte c) ≡ is_email_byte c = name_byte (text_byte c) ∙ seen_sort is_email_byte refl refl refl refl c in
+        let apart_at : (text_byte c == 64) ≡ false = seen_as_itself 64 refl refl c ∙ other in
         subst (λ (b : Bool). Outcome d (retry inline_states.AutolinkEmailAtext) (if b then domain_read starting cs else if is_email_byte c then email_read cs
         else None)) (sym other)
         (elim (cases_Bool (is_email_byte c)) [
@@ -396,9 +396,9 @@ module _ {T : Type 0} (texts : List ℕ → Option (List ℕ)) (is_punctuation :
       → (c == 9) ≡ false → text.byte (text.start q) ≡ Some (as_byte (text_byte c) r) → Sees text r cs → is_scheme_byte c ≡ true → (c == 58) ≡ false
       → Outcome d (retry inline_states.AutolinkSchemeInsideOrEmailAtext) (if nat_lt n 32 then scheme_read (n + 1) cs else email_read (c ∷ cs))
   scheme_longer cs n c rest d q r h at no_tab e s is colon =
-      let same : AutolinkStates.is_scheme (text_byte c) ≡ true = scheme_byte (text_byte c) ∙ (seen_sort is_scheme_byte refl refl refl c ∙ is) in
-      let apart_colon : (text_byte c == 58) ≡ false = seen_as_itself 58 refl c ∙ colon in
-      let calm = calm_by is_scheme_byte (text_byte c) d refl (seen_sort is_scheme_byte refl refl refl c ∙ is) (byte_at at e) in
+      let same : AutolinkStates.is_scheme (text_byte c) ≡ true = scheme_byte (text_byte c) ∙ (seen_sort is_scheme_byte refl refl refl refl c ∙ is) in
+      let apart_colon : (text_byte c == 58) ≡ false = seen_as_itself 58 refl refl c ∙ colon in
+      let calm = calm_by is_scheme_byte (text_byte c) d refl (seen_sort is_scheme_byte refl refl refl refl c ∙ is) (byte_at at e) in
       elim (cases_Bool (nat_lt n 32)) [
         | inl less ↦
             let few = ltb-true n 32 less in
@@ -417,14 +417,14 @@ module _ {T : Type 0} (texts : List ℕ → Option (List ℕ)) (is_punctuation :
             (email_reads (c ∷ cs) (sized n) refl d q h at (byte no_tab e s)))
       ]
 
-  scheme_reads : (cs : List ℕ) (n : ℕ) → list_all is_whole_code cs ≡ true → Goes inline_states.AutolinkSchemeInsideOrEmailAtext (sized n) (scheme_read n) cs
-  scheme_reads [] n whole d q h at (nothing e) =
+  scheme_reads : (cs : List ℕ) (n : ℕ) → list_all is_code cs ≡ true → Goes inline_states.AutolinkSchemeInsideOrEmailAtext (sized n) (scheme_read n) cs
+  scheme_reads [] n are d q h at (nothing e) =
       stops inline_states.AutolinkSchemeInsideOrEmailAtext d (AutolinkStates.scheme_ends texts is_punctuation x d (end_at at e))
-  scheme_reads (c ∷ cs) n whole d q h at (byte {q = r} no_tab e s) =
-      let parts = and_parts (is_whole_code c) (list_all is_whole_code cs) whole in
+  scheme_reads (c ∷ cs) n are d q h at (byte {q = r} no_tab e s) =
+      let parts = and_parts (is_code c) (list_all is_code cs) are in
       elim (cases_Bool (c == 58)) [
         | inl is ↦
-            let same : (text_byte c == 58) ≡ true = seen_as_itself 58 refl c ∙ is in
+            let same : (text_byte c == 58) ≡ true = seen_as_itself 58 refl refl c ∙ is in
             let calm = calm_by (λ (b : ℕ). b == 58) (text_byte c) d refl same (byte_at at e) in
             subst (λ (o : Option (List ℕ)). Outcome d (retry inline_states.AutolinkSchemeInsideOrEmailAtext) o)
             (sym (ap (λ (b : ℕ). scheme_read n (b ∷ cs)) (eqb-true c 58 is)))
@@ -441,52 +441,52 @@ module _ {T : Type 0} (texts : List ℕ → Option (List ℕ)) (is_punctuation :
                   then (if nat_lt n 32 then scheme_read (n + 1) cs else email_read (c ∷ cs)) else email_read (c ∷ cs))) (sym is)
                   (scheme_longer cs n c (scheme_reads cs (n + 1) parts.1) d q r h at no_tab e s is colon)
               | inr is ↦
-                  let same : AutolinkStates.is_scheme (text_byte c) ≡ false = scheme_byte (text_byte c) ∙ (seen_sort is_scheme_byte refl refl refl c ∙ is) in
+                  let same : AutolinkStates.is_scheme (text_byte c) ≡ false = scheme_byte (text_byte c) ∙ (seen_sort is_scheme_byte refl refl refl refl c ∙ is) in
                   subst (λ (b : Bool). Outcome d (retry inline_states.AutolinkSchemeInsideOrEmailAtext) (if b
                   then (if nat_lt n 32 then scheme_read (n + 1) cs else email_read (c ∷ cs)) else email_read (c ∷ cs))) (sym is)
                   (hands inline_states.AutolinkSchemeInsideOrEmailAtext inline_states.AutolinkEmailAtext d d (email_read (c ∷ cs))
                   (AutolinkStates.scheme_by texts is_punctuation x (text_byte c) d false false (nat_lt d.tokenize_state.size 32) (byte_at at e)
-                  (seen_as_itself 58 refl c ∙ colon) same refl)
+                  (seen_as_itself 58 refl refl c ∙ colon) same refl)
                   (email_reads (c ∷ cs) (sized n) refl d q h at (byte no_tab e s)))
             ])
       ]
-  scheme_reads (c ∷ cs) n whole d q h at (tab {q = r} few e f s) =
+  scheme_reads (c ∷ cs) n are d q h at (tab {q = r} few e f s) =
       hands inline_states.AutolinkSchemeInsideOrEmailAtext inline_states.AutolinkEmailAtext d d None
       (AutolinkStates.scheme_by texts is_punctuation x 9 d false false (nat_lt d.tokenize_state.size 32) (byte_at at e) refl refl refl)
       (stops inline_states.AutolinkEmailAtext d (AutolinkStates.name_by texts is_punctuation x 9 d false false (byte_at at e) refl refl))
 
   -- ---- the first bytes
 
-  second_reads : (cs : List ℕ) → list_all is_whole_code cs ≡ true → Goes inline_states.AutolinkSchemeOrEmailAtext c0.tokenize_state second_read cs
-  second_reads [] whole d q h at (nothing e) =
+  second_reads : (cs : List ℕ) → list_all is_code cs ≡ true → Goes inline_states.AutolinkSchemeOrEmailAtext c0.tokenize_state second_read cs
+  second_reads [] are d q h at (nothing e) =
       stops inline_states.AutolinkSchemeOrEmailAtext d (AutolinkStates.second_ends texts is_punctuation x d (end_at at e))
-  second_reads (c ∷ cs) whole d q h at (byte {q = r} no_tab e s) = elim (cases_Bool (is_scheme_byte c)) [
+  second_reads (c ∷ cs) are d q h at (byte {q = r} no_tab e s) = elim (cases_Bool (is_scheme_byte c)) [
     | inl is ↦
-        let same : AutolinkStates.is_scheme (text_byte c) ≡ true = scheme_byte (text_byte c) ∙ (seen_sort is_scheme_byte refl refl refl c ∙ is) in
+        let same : AutolinkStates.is_scheme (text_byte c) ≡ true = scheme_byte (text_byte c) ∙ (seen_sort is_scheme_byte refl refl refl refl c ∙ is) in
         let f = AutolinkStates.sized 1 d in
         subst (λ (b : Bool). Outcome d (retry inline_states.AutolinkSchemeOrEmailAtext) (if b then scheme_read 1 (c ∷ cs) else email_read (c ∷ cs))) (sym is)
         (hands inline_states.AutolinkSchemeOrEmailAtext inline_states.AutolinkSchemeInsideOrEmailAtext d f (scheme_read 1 (c ∷ cs))
         (AutolinkStates.second_by texts is_punctuation x (text_byte c) d true (byte_at at e) same)
-        (scheme_reads (c ∷ cs) 1 whole f q (resized c0.tokenize_state 1 d refl h) (still_at refl refl refl at) (byte no_tab e s)))
+        (scheme_reads (c ∷ cs) 1 are f q (resized c0.tokenize_state 1 d refl h) (still_at refl refl refl at) (byte no_tab e s)))
     | inr is ↦
-        let same : AutolinkStates.is_scheme (text_byte c) ≡ false = scheme_byte (text_byte c) ∙ (seen_sort is_scheme_byte refl refl refl c ∙ is) in
+        let same : AutolinkStates.is_scheme (text_byte c) ≡ false = scheme_byte (text_byte c) ∙ (seen_sort is_scheme_byte refl refl refl refl c ∙ is) in
         subst (λ (b : Bool). Outcome d (retry inline_states.AutolinkSchemeOrEmailAtext) (if b then scheme_read 1 (c ∷ cs) else email_read (c ∷ cs))) (sym is)
         (hands inline_states.AutolinkSchemeOrEmailAtext inline_states.AutolinkEmailAtext d d (email_read (c ∷ cs))
         (AutolinkStates.second_by texts is_punctuation x (text_byte c) d false (byte_at at e) same)
         (email_reads (c ∷ cs) c0.tokenize_state refl d q h at (byte no_tab e s)))
   ]
-  second_reads (c ∷ cs) whole d q h at (tab {q = r} few e f s) =
+  second_reads (c ∷ cs) are d q h at (tab {q = r} few e f s) =
       hands inline_states.AutolinkSchemeOrEmailAtext inline_states.AutolinkEmailAtext d d None
       (AutolinkStates.second_by texts is_punctuation x 9 d false (byte_at at e) refl)
       (stops inline_states.AutolinkEmailAtext d (AutolinkStates.name_by texts is_punctuation x 9 d false false (byte_at at e) refl refl))
 
-  address_reads : (cs : List ℕ) → list_all is_whole_code cs ≡ true → Goes inline_states.AutolinkOpen c0.tokenize_state address_read cs
-  address_reads [] whole d q h at (nothing e) = stops inline_states.AutolinkOpen d (AutolinkStates.open_ends texts is_punctuation x d (end_at at e))
-  address_reads (c ∷ cs) whole d q h at (byte {q = r} no_tab e s) =
-      let parts = and_parts (is_whole_code c) (list_all is_whole_code cs) whole in
+  address_reads : (cs : List ℕ) → list_all is_code cs ≡ true → Goes inline_states.AutolinkOpen c0.tokenize_state address_read cs
+  address_reads [] are d q h at (nothing e) = stops inline_states.AutolinkOpen d (AutolinkStates.open_ends texts is_punctuation x d (end_at at e))
+  address_reads (c ∷ cs) are d q h at (byte {q = r} no_tab e s) =
+      let parts = and_parts (is_code c) (list_all is_code cs) are in
       elim (cases_Bool (is_letter c)) [
         | inl is ↦
-            let same : is_ascii_alphabetic (text_byte c) ≡ true = seen_sort is_ascii_alphabetic refl refl refl c ∙ is in
+            let same : is_ascii_alphabetic (text_byte c) ≡ true = seen_sort is_ascii_alphabetic refl refl refl refl c ∙ is in
             let calm = calm_by is_ascii_alphabetic (text_byte c) d refl same (byte_at at e) in
             subst (λ (b : Bool). Outcome d (retry inline_states.AutolinkOpen) (if b then second_read cs else if c == 64 then None else email_read (c ∷ cs)))
             (sym is)
@@ -494,29 +494,29 @@ module _ {T : Type 0} (texts : List ℕ → Option (List ℕ)) (is_punctuation :
             (AutolinkStates.open_by texts is_punctuation x (text_byte c) d true (text_byte c == 64) (byte_at at e) same refl)
             (second_reads cs parts.1 (feed text (past_byte d)) r (past c0.tokenize_state d h calm) (next_at d (past_byte d) q r (text_byte c) at e refl) s))
         | inr is ↦
-            let same : is_ascii_alphabetic (text_byte c) ≡ false = seen_sort is_ascii_alphabetic refl refl refl c ∙ is in
+            let same : is_ascii_alphabetic (text_byte c) ≡ false = seen_sort is_ascii_alphabetic refl refl refl refl c ∙ is in
             subst (λ (b : Bool). Outcome d (retry inline_states.AutolinkOpen) (if b then second_read cs else if c == 64 then None else email_read (c ∷ cs)))
             (sym is)
             (elim (cases_Bool (c == 64)) [
               | inl sign ↦
                   subst (λ (b : Bool). Outcome d (retry inline_states.AutolinkOpen) (if b then None else email_read (c ∷ cs))) (sym sign)
                   (stops inline_states.AutolinkOpen d (AutolinkStates.open_by texts is_punctuation x (text_byte c) d false true (byte_at at e) same
-                  (seen_as_itself 64 refl c ∙ sign)))
+                  (seen_as_itself 64 refl refl c ∙ sign)))
               | inr other ↦
                   subst (λ (b : Bool). Outcome d (retry inline_states.AutolinkOpen) (if b then None else email_read (c ∷ cs))) (sym other)
                   (hands inline_states.AutolinkOpen inline_states.AutolinkEmailAtext d d (email_read (c ∷ cs))
-                  (AutolinkStates.open_by texts is_punctuation x (text_byte c) d false false (byte_at at e) same (seen_as_itself 64 refl c ∙ other))
+                  (AutolinkStates.open_by texts is_punctuation x (text_byte c) d false false (byte_at at e) same (seen_as_itself 64 refl refl c ∙ other))
                   (email_reads (c ∷ cs) c0.tokenize_state refl d q h at (byte no_tab e s)))
             ])
       ]
-  address_reads (c ∷ cs) whole d q h at (tab {q = r} few e f s) =
+  address_reads (c ∷ cs) are d q h at (tab {q = r} few e f s) =
       hands inline_states.AutolinkOpen inline_states.AutolinkEmailAtext d d None
       (AutolinkStates.open_by texts is_punctuation x 9 d false false (byte_at at e) refl refl)
       (stops inline_states.AutolinkEmailAtext d (AutolinkStates.name_by texts is_punctuation x 9 d false false (byte_at at e) refl refl))
 
 module _ {T : Type 0} (texts : List ℕ → Option (List ℕ)) (is_punctuation : ℕ
     → Bool) (x : Context T) (text : Text) (c : Config Inlines) (p q : Point) (cs : List ℕ)
-    (whole : list_all is_whole_code cs ≡ true) (s : Sees text q cs) where
+    (are : list_all is_code cs ≡ true) (s : Sees text q cs) where
   abbrev at_mark : Config Inlines
   at_mark = with_byte c p (Some (as_byte 60 q))
 
@@ -542,7 +542,7 @@ module _ {T : Type 0} (texts : List ℕ → Option (List ℕ)) (is_punctuation :
   Outcome_at o = Outcome texts is_punctuation x text at_mark begun_events begun (retry inline_states.AutolinkOpen) o
 
   outcome : Outcome_at (address_read cs)
-  outcome = address_reads texts is_punctuation x text at_mark begun_events cs whole begun q (
+  outcome = address_reads texts is_punctuation x text at_mark begun_events cs are begun q (
     begun_here,
     refl,
   ) (fed text (AutolinkStates.autolink_begun at_mark) q refl) s
@@ -582,4 +582,4 @@ module _ {T : Type 0} (texts : List ℕ → Option (List ℕ)) (is_punctuation :
   )
 
 pub autolink_verdict : (T : Type 0) → AutolinkVerdict T
-autolink_verdict T texts is_punctuation x text c p q cs whole s = by_switch texts is_punctuation x text c p q cs whole s x.options.constructs.autolink refl
+autolink_verdict T texts is_punctuation x text c p q cs are s = by_switch texts is_punctuation x text c p q cs are s x.options.constructs.autolink refl

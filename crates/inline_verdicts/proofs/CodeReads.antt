@@ -51,7 +51,7 @@ module _ {T : Type 0} (texts : List ℕ → Option (List ℕ)) (is_punctuation :
   math_starts c p q on b h k = rw (h, k) refl
 
   may_open : (cs : List ℕ)
-      → (x.options.constructs.math_text && not (refused texts is_punctuation x text math_names 36 refl refl refl refl (suc (run_length 36 cs))))
+      → (x.options.constructs.math_text && not (refused texts is_punctuation x text math_names 36 refl refl refl refl refl (suc (run_length 36 cs))))
       ≡ may_open_math x.options (run_length 36 (36 ∷ cs))
   may_open cs =
       alone x.options.constructs.math_text x.options.math_text_single_dollar (suc (run_length 36 cs) == 1)
@@ -63,7 +63,7 @@ code_text T texts is_punctuation x text c p q cs few s =
     (λ (on : Bool). SpanVerdict text (Reads texts is_punctuation x text (at_byte c p 96 q) (retry inline_states.RawTextStart)) code_names 96 (at_byte c p 96 q)
     p q (96 ∷ cs) (if begins_run 96 c then of_span (raw_at 96 on (96 ∷ cs)) else None))
     (always x.options.constructs.code_text)
-    (span_verdict texts is_punctuation x text code_names 96 refl refl refl refl c p q cs few s x.options.constructs.code_text
+    (span_verdict texts is_punctuation x text code_names 96 refl refl refl refl refl c p q cs few s x.options.constructs.code_text
     (code_starts texts is_punctuation x text c p q))
 
 pub math_text : (T : Type 0) → MathTextVerdict T
@@ -72,5 +72,5 @@ math_text T texts is_punctuation x text c p q cs few s =
     (λ (on : Bool). SpanVerdict text (Reads texts is_punctuation x text (at_byte c p 36 q) (retry inline_states.RawTextStart)) math_names 36 (at_byte c p 36 q)
     p q (36 ∷ cs) (if begins_run 36 c then of_span (raw_at 36 on (36 ∷ cs)) else None))
     (may_open texts is_punctuation x text cs)
-    (span_verdict texts is_punctuation x text math_names 36 refl refl refl refl c p q cs few s x.options.constructs.math_text
+    (span_verdict texts is_punctuation x text math_names 36 refl refl refl refl refl c p q cs few s x.options.constructs.math_text
     (math_starts texts is_punctuation x text c p q))

@@ -1,5 +1,5 @@
 -- A name of letters and digits stands in the bytes as it stands in the codes.
-use Rattle.std.proofs.Common.{◌≡◌, ◌∙◌, ℕ, zero, suc, ◌+◌, ◌-◌, ◌<◌, ◌≤◌, Bool, true, false, ◌&&◌, ◌||◌, if◌then◌else◌, List, [], ◌∷◌, length, take, drop}
+use Rattle.std.proofs.Common.{◌≡◌, ◌∙◌, ℕ, zero, suc, ◌+◌, ◌-◌, ◌<◌, ◌≤◌, Bool, true, false, ◌==◌, ◌&&◌, ◌||◌, if◌then◌else◌, List, [], ◌∷◌, length, take, drop}
 use Rattle.std.proofs.Common.{get_or, is_some, Option, Some, None, inl, inr, refl, sym, ap, subst, arith}
 use Rattle.std.proofs.lemmas.Bool.{and_parts, cases_lt, le-leb, leb-true, or_cases}
 use Rattle.std.proofs.lemmas.List.{drop_more, get_or_past}
@@ -7,6 +7,7 @@ use Rattle.std.proofs.lemmas.Str.{IsUtf8-from_ascii, is_utf8-from_IsUtf8}
 use Rattle.std.specs.Char.{is_ascii_alphanumeric}
 use Rattle.std.specs.Int.{is_in_range}
 use Rattle.std.specs.Str.{IsAscii}
+use Rattle.definition_text.specs.Columns.{code_byte}
 use Rattle.definition_text.specs.Content.{is_eol}
 use Rattle.engine_events.specs.declared.place.Point.{Point}
 use Rattle.engine_events.specs.Columns.{between}
@@ -38,9 +39,13 @@ more_ascii b bs h k (suc i) = k i
 no_ascii : IsAscii []
 no_ascii i = omega arith
 
-code_of : (c b : ℕ) (is : Bool) → is_eol c ≡ is → (if is then 10 else c) ≡ b → is_ascii_alphanumeric b ≡ true → c ≡ b
+code_by : (c b : ℕ) (is : Bool) → (if is then 32 else c) ≡ b → is_ascii_alphanumeric b ≡ true → c ≡ b
+code_by c b true e k = absurd (let f : is_ascii_alphanumeric 32 ≡ true = ap is_ascii_alphanumeric e ∙ k in let g : false ≡ true = f in cc)
+code_by c b false e k = e
+
+code_of : (c b : ℕ) (is : Bool) → is_eol c ≡ is → (if is then 10 else code_byte c) ≡ b → is_ascii_alphanumeric b ≡ true → c ≡ b
 code_of c b true h e k = absurd (let f : is_ascii_alphanumeric 10 ≡ true = ap is_ascii_alphanumeric e ∙ k in let g : false ≡ true = f in cc)
-code_of c b false h e k = e
+code_of c b false h e k = code_by c b (c == 256) e k
 
 module _ (bytes : List ℕ) (text : Text) (shows : Shows bytes text) where
   -- so many bytes from a place on are the first of these codes

@@ -368,12 +368,16 @@ module _ {T : Type 0} (texts : List ℕ → Option (List ℕ)) (is_punctuation :
 
     -- ---- all codes
 
-    module _ (plain_code : is_eol m ≡ false) (no_tab : (9 == m) ≡ false) (no_space : (32 == m) ≡ false) (some : 0 < n) where
+    module _ (plain_code : is_eol m ≡ false) (no_tab : (9 == m) ≡ false) (no_space : (32 == m) ≡ false) (no_column : (256 == m) ≡ false)
+        (some : 0 < n) where
+      itself : (c : ℕ) → (text_byte c == m) ≡ (c == m)
+      itself c = seen_as_itself m plain_code (no_space ∙ sym no_column) c
+
       is_no_other : (v : ℕ) → is_other m v ≡ true → (v == m) ≡ false
       is_no_other v is = (or_parts (v == 10) (v == m) (not-true ((v == 10) || (v == m)) is)).1
 
       code_apart : (c : ℕ) → sight text (is_other m) c ≡ true → (c == m) ≡ false
-      code_apart c is = sym (seen_as_itself m plain_code c) ∙ is_no_other (text_byte c) is
+      code_apart c is = sym (itself c) ∙ is_no_other (text_byte c) is
 
       tab_is_other : is_other m 9 ≡ true
       tab_is_other = ap not no_tab
@@ -383,7 +387,7 @@ module _ {T : Type 0} (texts : List ℕ → Option (List ℕ)) (is_punctuation :
 
       other_seen : (code : ℕ) → is_eol code ≡ false → (code == m) ≡ false → is_other m (text_byte code) ≡ true
       other_seen code line other =
-          ap not (or_from (text_byte code == 10) (text_byte code == m) (seen_feed code ∙ line) (seen_as_itself m plain_code code ∙ other))
+          ap not (or_from (text_byte code == 10) (text_byte code == m) (seen_feed code ∙ line) (itself code ∙ other))
 
       sized : (is : Bool) (code : ℕ) (cs : List ℕ) → (code == m) ≡ true → (run_length m cs + 1 == n) ≡ is → by_size is code cs ≡ run_of m n false (code ∷ cs)
       sized true code cs same wanted = sym (at_run m n some code cs true same wanted)
@@ -416,7 +420,7 @@ module _ {T : Type 0} (texts : List ℕ → Option (List ℕ)) (is_punctuation :
           → text.byte (text.start q) ≡ Some (as_byte m r) → (code == m) ≡ true → Sees text r cs → (is : Bool) → (run_length m cs + 1 == n) ≡ is
           → Outcome c (retry inline_states.RawTextBetween) es (Pieces text given m n q) (run_of m n false (code ∷ cs))
       run_by size short c q r es b code cs few low h at e same s is wanted =
-          let f = run_seen text (λ i. i == m) no_tab (seen_as_itself m plain_code) cs s in
+          let f = run_seen text (λ i. i == m) no_tab itself cs s in
           let all : run_length m cs ≤ length cs = run_within m cs in
           subst (λ (o : Option (List ℕ)). Outcome c (retry inline_states.RawTextBetween) es (Pieces text given m n q) o) (sized is code cs same wanted)
           (run_reads es b c code cs is wanted (omega (arith, all, low)) e f h at
@@ -426,7 +430,7 @@ module _ {T : Type 0} (texts : List ℕ → Option (List ℕ)) (is_punctuation :
       seen_line code h = eqb-true (text_byte code) 10 (seen_feed code ∙ h)
 
       seen_same : (code : ℕ) → (code == m) ≡ true → text_byte code ≡ m
-      seen_same code h = eqb-true (text_byte code) m (seen_as_itself m plain_code code ∙ h)
+      seen_same code h = eqb-true (text_byte code) m (itself code ∙ h)
 
       pub goes : (size : ℕ) → GoesUpTo size
       goes size [] few low c q es b h at (nothing e) = (

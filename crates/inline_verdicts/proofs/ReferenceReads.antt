@@ -179,7 +179,7 @@ module _ {T : Type 0} (texts : List ℕ → Option (List ℕ)) (is_punctuation :
         → is_ascii_alphanumeric code ≡ true
         → Verdict_by (reference_of texts all (reference_by_name (part_to_semicolon is_ascii_alphanumeric 31 (code ∷ ds))))
     by_letter code ds r is e t letter =
-        let same : is_ascii_alphanumeric (text_byte code) ≡ true = seen_sort is_ascii_alphanumeric refl refl refl code ∙ letter in
+        let same : is_ascii_alphanumeric (text_byte code) ≡ true = seen_sort is_ascii_alphanumeric refl refl refl refl code ∙ letter in
         let first = byte_at begun_at e in
         let d = ReferenceStates.value_begun 38 begun in
         let one : (k : ℕ) → k + 1 ≡ 1 + k = λ k. omega arith in
@@ -249,7 +249,7 @@ module _ {T : Type 0} (texts : List ℕ → Option (List ℕ)) (is_punctuation :
           → ((code == 120) || (code == 88)) ≡ false → is_ascii_digit code ≡ true
           → Verdict_by (reference_of texts all (reference_by_number 10 (part_to_semicolon is_ascii_digit 7 (code ∷ es))))
       by_digit code es v more f t no_x digit =
-          let same : is_ascii_digit (text_byte code) ≡ true = seen_sort is_ascii_digit refl refl refl code ∙ digit in
+          let same : is_ascii_digit (text_byte code) ≡ true = seen_sort is_ascii_digit refl refl refl refl code ∙ digit in
           let first = byte_at hash_at f in
           let d = ReferenceStates.value_begun 35 hash in
           let one : (k : ℕ) → k + 1 ≡ 1 + k = λ k. omega arith in
@@ -262,7 +262,7 @@ module _ {T : Type 0} (texts : List ℕ → Option (List ℕ)) (is_punctuation :
           (λ z w reads. from_hash z w (goes_to texts is_punctuation x text (Inline inline_states.CharacterReferenceNumeric)
           (Inline inline_states.CharacterReferenceValue) hash d z w
           (ReferenceStates.numeric_by texts is_punctuation x (text_byte code) hash false true first
-          (seen_sort (λ (b : ℕ). (b == 120) || (b == 88)) refl refl refl code ∙ no_x) same) reads))
+          (seen_sort (λ (b : ℕ). (b == 120) || (b == 88)) refl refl refl refl code ∙ no_x) same) reads))
           (hash_read code es more) (prefix_by is_ascii_digit code es true digit) (rest_more is_ascii_digit code es digit)
           (λ k end st some. number_known texts x.bytes 35 (1 + k) (text.start end).index refl some)
           (λ count to end st some few semicolon. (
@@ -281,7 +281,7 @@ module _ {T : Type 0} (texts : List ℕ → Option (List ℕ)) (is_punctuation :
           → ((code == 120) || (code == 88)) ≡ true
           → Verdict_by (reference_of texts all (reference_by_number 16 (part_to_semicolon is_ascii_hexdigit 6 es)))
       by_x code es v more f t is_x =
-          let same : ((text_byte code == 120) || (text_byte code == 88)) ≡ true = seen_sort (λ (b : ℕ). (b == 120) || (b == 88)) refl refl refl code ∙ is_x in
+          let same : ((text_byte code == 120) || (text_byte code == 88)) ≡ true = seen_sort (λ (b : ℕ). (b == 120) || (b == 88)) refl refl refl refl code ∙ is_x in
           let first = byte_at hash_at f in
           let calm : is_feed hash.current ≡ false = ap is_feed first ∙ apart (λ (b : ℕ). (b == 120) || (b == 88)) 10 (text_byte code) refl same in
           let place = hash_at.next (as_byte (text_byte code) v) f in
@@ -333,8 +333,8 @@ module _ {T : Type 0} (texts : List ℕ → Option (List ℕ)) (is_punctuation :
             else reference_by_number 10 (part_to_semicolon is_ascii_digit 7 (code ∷ es))))) (sym h)
             (elim (cases_Bool (is_ascii_digit code)) [
               | inl k ↦ by_digit code es v more f t h k
-              | inr k ↦ no_digit code es (text_byte code) v f (seen_sort (λ (b : ℕ). (b == 120) || (b == 88)) refl refl refl code ∙ h)
-                  (seen_sort is_ascii_digit refl refl refl code ∙ k) k
+              | inr k ↦ no_digit code es (text_byte code) v f (seen_sort (λ (b : ℕ). (b == 120) || (b == 88)) refl refl refl refl code ∙ h)
+                  (seen_sort is_ascii_digit refl refl refl refl code ∙ k) k
             ])
       ]
       by_numeric (code ∷ es) more (tab {q = v} few f _ t) = no_digit 9 es 9 v f refl refl refl
@@ -361,7 +361,7 @@ module _ {T : Type 0} (texts : List ℕ → Option (List ℕ)) (is_punctuation :
           else reference_by_name (part_to_semicolon is_ascii_alphanumeric 31 (code ∷ ds))))) (sym h)
           (elim (cases_Bool (is_ascii_alphanumeric code)) [
             | inl k ↦ by_letter code ds r is e t k
-            | inr k ↦ no_letter code ds (text_byte code) r e (seen_as_itself 35 refl code ∙ h) (seen_sort is_ascii_alphanumeric refl refl refl code ∙ k) k
+            | inr k ↦ no_letter code ds (text_byte code) r e (seen_as_itself 35 refl refl code ∙ h) (seen_sort is_ascii_alphanumeric refl refl refl refl code ∙ k) k
           ])
     ]
     by_code (code ∷ ds) is (tab {q = r} few e _ t) = no_letter 9 ds 9 r e refl refl refl

@@ -49,6 +49,7 @@ pub record Kind : Type 0 where
   pub no_feed : sort 10 ≡ false
   pub no_return : sort 13 ≡ false
   pub no_both : sort 257 ≡ false
+  pub no_column : sort 32 ≡ sort 256
   pub no_semicolon : sort 59 ≡ false
 
 abbrev pub name_kind : Kind
@@ -63,6 +64,7 @@ name_kind = record {
   no_feed = refl;
   no_return = refl;
   no_both = refl;
+  no_column = refl;
   no_semicolon = refl;
 }
 
@@ -78,6 +80,7 @@ decimal_kind = record {
   no_feed = refl;
   no_return = refl;
   no_both = refl;
+  no_column = refl;
   no_semicolon = refl;
 }
 
@@ -93,6 +96,7 @@ hexadecimal_kind = record {
   no_feed = refl;
   no_return = refl;
   no_both = refl;
+  no_column = refl;
   no_semicolon = refl;
 }
 
@@ -195,7 +199,7 @@ module _ {T : Type 0} (texts : List ℕ → Option (List ℕ)) (is_punctuation :
     total = j + n
 
     value : Run text kind.sort q cs
-    value = run_seen text kind.sort kind.no_tab (seen_sort kind.sort kind.no_feed kind.no_return kind.no_both) cs s
+    value = run_seen text kind.sort kind.no_tab (seen_sort kind.sort kind.no_feed kind.no_return kind.no_both kind.no_column) cs s
 
     capped : StretchEnd texts is_punctuation x text (Inline inline_states.CharacterReferenceValue) kind.sort kind.most (Within es) c total value.end
     capped =
@@ -314,7 +318,7 @@ module _ {T : Type 0} (texts : List ℕ → Option (List ℕ)) (is_punctuation :
           let f : text.byte (text.start value.end) ≡ Some (as_byte 59 r) = e ∙ ap (λ (b : ℕ). Some (as_byte (text_byte b) r)) (eqb-true code 59 h) in
           subst (λ (o : Option Part). Outcome (if nat_le 1 total && nat_le total kind.most then o else None)) (sym (an_end code rest h))
           (at_semicolon d r code rest st is f s few)
-      | inr h ↦ at_other d (text_byte code) r (code ∷ rest) st e (seen_as_itself 59 refl code ∙ h) (no_end code rest h)
+      | inr h ↦ at_other d (text_byte code) r (code ∷ rest) st e (seen_as_itself 59 refl refl code ∙ h) (no_end code rest h)
     ]
     by_rest d (code ∷ rest) is (tab {q = r} few e _ s) st most = at_other d 9 r (9 ∷ rest) st e refl refl
 

@@ -95,7 +95,7 @@ fewer m k cs few = let e = length-drop k cs in omega (arith, e, few)
 
 module _ {T : Type 0} (texts : List ℕ → Option (List ℕ)) (is_punctuation : ℕ
     → Bool) (x : Context T) (text : Text) (given : SpanNames) (m : ℕ) (plain_code : is_eol m ≡ false) (no_feed : (m == 10) ≡ false) (no_tab : (9 == m) ≡ false)
-    (no_space : (32 == m) ≡ false) where
+    (no_space : (32 == m) ≡ false) (no_column : (256 == m) ≡ false) where
   -- a run of this size opens none
   abbrev pub refused : ℕ → Bool
   refused n = (m == 36) && (n == 1) && not x.options.math_text_single_dollar
@@ -106,7 +106,7 @@ module _ {T : Type 0} (texts : List ℕ → Option (List ℕ)) (is_punctuation :
     size = suc (run_length m cs)
 
     opening : Run text (λ b. b == m) q cs
-    opening = run_seen text (λ b. b == m) no_tab (seen_as_itself m plain_code) cs s
+    opening = run_seen text (λ b. b == m) no_tab (seen_as_itself m plain_code (no_space ∙ sym no_column)) cs s
 
     -- at the first byte of the run
     abbrev pub at_mark : Config Inlines
@@ -181,7 +181,7 @@ module _ {T : Type 0} (texts : List ℕ → Option (List ℕ)) (is_punctuation :
     inside_reads : Outcome texts is_punctuation x text given m size at_mark closed (retry inline_states.RawTextBetween) ready HasPieces
         (run_of m size false (after_run m cs))
     inside_reads =
-        goes texts is_punctuation x text given m size at_mark no_feed plain_code no_tab no_space (omega arith) (length (after_run m cs)) (after_run m cs)
+        goes texts is_punctuation x text given m size at_mark no_feed plain_code no_tab no_space no_column (omega arith) (length (after_run m cs)) (after_run m cs)
         (omega arith) (fewer m (run_length m cs) cs few) closed opening.end ready 0
         (exits texts is_punctuation x text given m size at_mark after.tokenize_state.token_2 given.sequence
         (ap (λ (k : KeptState). k.token_2) after_here.kept) after_here opened_all.held.1 opened_all.at)

@@ -3,6 +3,7 @@ use Rattle.std.proofs.Common.{◌≡◌, ◌∙◌, ℕ, suc, ◌+◌, Bool, tru
 use Rattle.std.proofs.Common.{arith}
 use Rattle.std.proofs.lemmas.Bool.{cases_Bool, ne_eqb}
 use Rattle.std.specs.List.{prefix_len}
+use Rattle.definition_text.specs.Columns.{code_byte}
 use Rattle.definition_text.specs.Content.{is_eol}
 use Rattle.engine_events.specs.declared.place.Point.{Point}
 use Rattle.markdown_engine.specs.Reading.{byte_of}
@@ -10,6 +11,7 @@ use Rattle.markdown_engine.specs.VirtualText.{Text, as_byte}
 use Rattle.engine_programs.specs.Bodies.{has}
 use Rattle.inline_codes.specs.Codes.{Fills, Sees, byte, column, full, nothing, tab, text_byte}
 use Rattle.inline_verdicts.specs.Stretch.{Stretch, ended, longer}
+use Rattle.inline_verdicts.proofs.Seen.{seen_column}
 
 drop_next : (k c : ℕ) (cs : List ℕ) → drop (1 + k) (c ∷ cs) ≡ drop k cs
 drop_next k c cs = ap (λ (n : ℕ). drop n (c ∷ cs)) (let e : 1 + k ≡ suc k = omega arith in e)
@@ -28,13 +30,13 @@ rest_none p c cs h = ap (λ (n : ℕ). drop n (c ∷ cs)) (prefix_by p c cs fals
 pub eol_differs : (m c : ℕ) → is_eol m ≡ false → is_eol c ≡ true → (c == m) ≡ false
 eol_differs m c plain h = ne_eqb c m (λ e. let f : true ≡ false = sym h ∙ (ap is_eol e ∙ plain) in absurd (cc))
 
-seen_by : (m c : ℕ) (is : Bool) → is_eol m ≡ false → is_eol c ≡ is → ((if is then 10 else c) == m) ≡ (c == m)
-seen_by m c true plain h = eol_differs m 10 plain refl ∙ sym (eol_differs m c plain h)
-seen_by m c false plain h = refl
+seen_by : (m c : ℕ) (is : Bool) → is_eol m ≡ false → (32 == m) ≡ (256 == m) → is_eol c ≡ is → ((if is then 10 else code_byte c) == m) ≡ (c == m)
+seen_by m c true plain same h = eol_differs m 10 plain refl ∙ sym (eol_differs m c plain h)
+seen_by m c false plain same h = seen_column (λ b. b == m) same c
 
--- a byte that is no line ending is a code's only where it is the code
-pub seen_as_itself : (m : ℕ) → is_eol m ≡ false → (c : ℕ) → (text_byte c == m) ≡ (c == m)
-seen_as_itself m plain c = seen_by m c (is_eol c) plain refl
+-- a byte that is neither a line ending nor a space is a code's only where it is the code
+pub seen_as_itself : (m : ℕ) → is_eol m ≡ false → (32 == m) ≡ (256 == m) → (c : ℕ) → (text_byte c == m) ≡ (c == m)
+seen_as_itself m plain same c = seen_by m c (is_eol c) plain same refl
 
 module _ (text : Text) (is : ℕ → Bool) where
   no_byte : {p : Point} → text.byte (text.start p) ≡ None → has is (byte_of (text.byte (text.start p))) ≡ false

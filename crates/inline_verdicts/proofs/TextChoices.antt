@@ -85,11 +85,11 @@ reference_choice T texts is_punctuation x text c q cs shows column h s =
     _ _ _ _ _ (reference_verdict T texts is_punctuation x text c (text.start c.point) q cs shows column s)
 
 pub autolink_choice : (T : Type 0) → AutolinkChoice T
-autolink_choice T texts is_punctuation x text c q cs whole h s =
+autolink_choice T texts is_punctuation x text c q cs are h s =
     of_autolink text _ _
     (choice texts is_punctuation x text c (Some (as_byte less_than q)) inline_states.TextBefore inline_states.TextBeforeHtml
     (retry inline_states.AutolinkStart) h (at_autolink texts is_punctuation x text c q))
-    _ _ _ _ _ (autolink_verdict T texts is_punctuation x text c (text.start c.point) q cs whole s)
+    _ _ _ _ _ (autolink_verdict T texts is_punctuation x text c (text.start c.point) q cs are s)
 
 pub code_choice : (T : Type 0) → CodeTextChoice T
 code_choice T texts is_punctuation x text c q cs few h s =

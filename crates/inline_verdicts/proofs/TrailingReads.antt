@@ -1,16 +1,16 @@
 -- Spaces and tabs at the end of data become what the definition has there.
-use Rattle.std.proofs.Common.{◌≡◌, ◌∙◌, ℕ, suc, zero, ◌+◌, ◌-◌, ◌<◌, ◌≤◌, Bool, true, false, not, nat_le, nat_lt, ◌==◌, ◌&&◌, ◌||◌, if◌then◌else◌, is_some}
-use Rattle.std.proofs.Common.{List, [], ◌∷◌, ◌++◌, length, take, drop, reverse, slice_get, Option, Some, None, inl, inr, refl, sym, ap, subst, arith}
+use Rattle.std.proofs.Common.{◌≡◌, ◌∙◌, ℕ, suc, zero, ◌+◌, ◌-◌, ◌<◌, ◌≤◌, Bool, true, false, not, nat_le, nat_lt, ◌==◌, ◌&&◌, if◌then◌else◌, is_some}
+use Rattle.std.proofs.Common.{List, [], ◌∷◌, ◌++◌, length, take, drop, reverse, slice_get, Option, Some, None, inl, inr, refl, sym, ap, arith}
 use Rattle.std.proofs.lemmas.Bool.{and_from, and_left, and_parts, and_right, cases_Bool, cases_lt, eq-eqb, eqb-true, leb-false, leb-true, ne_eqb, not-true}
 use Rattle.std.proofs.lemmas.List.{drop-drop, length-drop, length-reverse, reverse-append}
 use Rattle.std.proofs.lemmas.List.Folds.{prefix_len-append}
-use Rattle.std.proofs.lemmas.List.Sums.{prefix_len-le-length, suffix_len-le-length, take_while-cons}
-use Rattle.std.specs.List.{list_all, prefix_len, suffix_len, take_while}
+use Rattle.std.proofs.lemmas.List.Sums.{prefix_len-le-length, suffix_len-le-length}
+use Rattle.std.specs.List.{list_all, prefix_len, suffix_len}
 use Rattle.markdown_options.specs.declared.configuration.Constructs.{Constructs}
 use Rattle.definition_text.specs.Columns.{bare, indent, is_white}
 use Rattle.definition_text.specs.Content.{is_eol}
 use Rattle.definition_inline.specs.HardBreak.{ends_here, ends_inner_line, is_trailing_break, line_spaces_at}
-use Rattle.definition_inline.specs.Inline.{Inline, Leaf, TrailingBreak, leaf}
+use Rattle.definition_inline.specs.Inline.{Leaf, TrailingBreak, leaf}
 use Rattle.engine_edits.specs.Edits.{EditAt, with_edit}
 use Rattle.engine_events.specs.declared.event.Event.{Event}
 use Rattle.engine_events.specs.declared.event.Kind.TheVariants.{Enter, Exit}
@@ -20,7 +20,7 @@ use Rattle.inline_states_resolvers.specs.Data.{is_data}
 use Rattle.inline_states_resolvers.specs.Each.{place_at}
 use Rattle.inline_states_resolvers.specs.Whitespace.{around, around_if, are_spaces, begins, data_part, ends, head_size, is_line, is_space, may_break, part_edit}
 use Rattle.inline_states_resolvers.specs.Whitespace.{place_past, tail_name, tail_size, trimmed_data}
-use Rattle.inline_verdicts.specs.HardBreakTrailing.{EarlierVerdict, Follows, TrailingVerdict, cut_after, cut_before, data_edit, data_events, is_break, is_inner}
+use Rattle.inline_verdicts.specs.HardBreakTrailing.{EarlierVerdict, Follows, TrailingVerdict, cut_before, data_edit, is_break, is_inner}
 use Rattle.inline_verdicts.specs.HardBreakTrailing.{white_events}
 
 -- ---- what ends a list

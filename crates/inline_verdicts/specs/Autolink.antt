@@ -4,7 +4,7 @@
 --     uri ::= letter 1*31(letter | digit | '+' | '-' | '.') ':' *byte, of which none is a control character, a space, '<' or '>'
 --     email ::= 1*email_byte '@' label *('.' label)
 --     label ::= 1 to 63 letters, digits and '-', with no '-' at either end
-use Rattle.std.specs.Prelude.{◌≡◌, ℕ, Bool, true, false, nat_lt, ◌==◌, ◌||◌, List, [], ◌∷◌, drop, Option, None, Some}
+use Rattle.std.specs.Prelude.{◌≡◌, ℕ, Bool, true, false, List, [], ◌∷◌, drop, Option, None, Some}
 use Rattle.std.specs.List.{list_all}
 use Rattle.definition_text.specs.Ascii.{greater_than, less_than}
 use Rattle.definition_inline.specs.Autolink.{autolink_at}
@@ -16,12 +16,11 @@ use Rattle.engine_events.specs.declared.event.Name.TheVariants as names
 use Rattle.engine_events.specs.declared.place.Point.{Point}
 use Rattle.engine_events.specs.declared.state.Inline.TheVariants as inline_states
 use Rattle.markdown_engine.specs.Context.{Context}
-use Rattle.markdown_engine.specs.KeptState.{KeptState}
 use Rattle.markdown_engine.specs.Reading.{Config}
 use Rattle.markdown_engine.specs.VirtualText.{Text, as_byte}
 use Rattle.inline_states_table.specs.Words.{retry}
 use Rattle.inline_states.specs.declared.inlines.Inlines.{Inlines}
-use Rattle.inline_codes.specs.Codes.{Sees}
+use Rattle.inline_codes.specs.Codes.{Sees, is_code}
 use Rattle.inline_verdicts.specs.Choices.{Chooses, byte_at}
 use Rattle.inline_verdicts.specs.RawText.{piece}
 use Rattle.inline_verdicts.specs.Verdicts.{Comes, Leaves, Reads, at_byte}
@@ -32,10 +31,6 @@ autolink_events p q to end =
     event Enter names.Autolink p None ∷ piece names.AutolinkMarker p q (piece names.AutolinkProtocol q to
     (piece names.AutolinkMarker to end (event Exit names.Autolink end None ∷ [])))
 
--- a byte, or the one code of CR and LF
-abbrev pub is_whole_code : ℕ → Bool
-is_whole_code code = nat_lt code 256 || (code == 257)
-
 -- the attempt fails where there is no autolink; otherwise it goes well, with the autolink's events, up to where what it leaves of the codes is seen
 abbrev pub AddressVerdict : Text → Comes → Config Inlines → Point → Point → List ℕ → Option Leaf → Type 0
 AddressVerdict text comes c p q codes None = (d : Config Inlines) × comes d false
@@ -43,11 +38,11 @@ AddressVerdict text comes c p q codes (Some leaf) =
     (d : Config Inlines) × (size : ℕ) × (to : Point) × (end : Point) × comes d true × (text.byte (text.start to) ≡ Some (as_byte greater_than end))
     × Leaves c d (record c.tokenize_state { size = size }) (autolink_events p q (text.start to) end) end × Sees text end (drop leaf.size codes)
 
--- at a `<`, after which these codes are seen, an autolink is read exactly where the definition has one, if no code is a column left of a tab
+-- at a `<`, after which these codes are seen, an autolink is read exactly where the definition has one
 abbrev pub AutolinkVerdict : Type 0 → Type 0
 AutolinkVerdict T =
     (texts : List ℕ → Option (List ℕ)) (is_punctuation : ℕ → Bool) (x : Context T) (text : Text) (c : Config Inlines) (p q : Point) (cs : List ℕ)
-    → list_all is_whole_code cs ≡ true → Sees text q cs
+    → list_all is_code cs ≡ true → Sees text q cs
     → AddressVerdict text (Reads texts is_punctuation x text (at_byte c p less_than q) (retry inline_states.AutolinkStart)) (at_byte c p less_than q) p q
     (less_than ∷ cs) (autolink_at x.options.constructs (less_than ∷ cs))
 
@@ -55,6 +50,6 @@ AutolinkVerdict T =
 abbrev pub AutolinkChoice : Type 0 → Type 0
 AutolinkChoice T =
     (texts : List ℕ → Option (List ℕ)) (is_punctuation : ℕ → Bool) (x : Context T) (text : Text) (c : Config Inlines) (q : Point) (cs : List ℕ)
-    → list_all is_whole_code cs ≡ true → text.byte (text.start c.point) ≡ Some (as_byte less_than q) → Sees text q cs
+    → list_all is_code cs ≡ true → text.byte (text.start c.point) ≡ Some (as_byte less_than q) → Sees text q cs
     → AddressVerdict text (Chooses texts is_punctuation x text c inline_states.TextBefore (byte_at text c less_than q) inline_states.TextBeforeHtml)
     (byte_at text c less_than q) (text.start c.point) q (less_than ∷ cs) (autolink_at x.options.constructs (less_than ∷ cs))

@@ -2,7 +2,7 @@
 ghost use Rattle.inline_verdicts.specs.Autolink.{AutolinkChoice, AutolinkVerdict};
 
 /// An attempt at an autolink goes well exactly where the definition has one, with its events and up
-/// to its end: by a URI or by an email address, in a content with no column that is left of a tab.
+/// to its end: by a URI or by an email address.
 pub fn autolink_verdict<T>()
     ensures { AutolinkVerdict T }
 {}
