@@ -1,9 +1,13 @@
--- The content of a paragraph's lines, and codes without an ending.
-use Rattle.std.proofs.Common.{◌≡◌, ℕ, List, [], ◌∷◌, eqb, sym, ap, ◌∙◌}
+-- The content of a paragraph's lines and of one line, and codes without an ending.
+use Rattle.std.proofs.Common.{◌≡◌, ℕ, Bool, List, [], ◌∷◌, None, eqb, map, sym, ap, ◌∙◌}
 use Rattle.std.proofs.lemmas.Bool.{or_parts}
 use Rattle.std.proofs.lemmas.List.{append-nil}
-use Rattle.definition_text.specs.BlockLines.{BlockLine}
+use Rattle.std.proofs.lemmas.List.Concat.{flat_map-cons}
+use Rattle.definition_text.specs.declared.beside.Kind.{Kind}
+use Rattle.definition_text.specs.BlockLines.{BlockLine, block_line, own_lines}
+use Rattle.definition_text.specs.Columns.{code_byte}
 use Rattle.definition_text.specs.Content.{content_codes}
+use Rattle.definition_text.specs.InlineCode.{inline_content, line_content, with_kinds}
 use Rattle.definition_text.specs.Lines.{ends_line}
 use Rattle.block_rows.specs.ParagraphLines.{HaveNoEnding, AreLines}
 use Rattle.definition_text.proofs.ContentBytes.{IsInLine, codes_in_line}
@@ -21,3 +25,11 @@ in_line (c ∷ cs) h = ((or_parts (ends_line c) (eqb c 257) h.0).0, in_line cs h
 -- codes without an ending are their own content
 pub plain_codes : (text : List ℕ) → HaveNoEnding text → content_codes text ≡ text
 plain_codes text h = ap content_codes (sym (append-nil text)) ∙ codes_in_line text [] (in_line text h) ∙ append-nil text
+
+-- the content of one line
+pub line_alone : (is_punctuation : ℕ → Bool) (after : Kind) (line : BlockLine)
+    → inline_content is_punctuation after (own_lines (line ∷ [])) ≡ with_kinds is_punctuation None line.before after (map code_byte line.codes)
+line_alone is_punctuation after line =
+    flat_map-cons (line_content is_punctuation after) (block_line line.codes None line.before) []
+    ∙ append-nil (line_content is_punctuation after (block_line line.codes None line.before))
+    ∙ ap (λ codes. with_kinds is_punctuation None line.before after (map code_byte codes)) (append-nil line.codes)

@@ -1,0 +1,26 @@
+use Rattle.std.proofs.Common.{◌≡◌, subst, ◌∙◌}
+use Rattle.std.specs.List.{fold}
+use Rattle.std.specs.Prelude.{OnOk}
+use Rattle.definition_inline.specs.Scan.{inlines}
+use Rattle.definition_page.specs.GfmTable.{in_cell}
+use Rattle.block_rows.specs.Rows.{piece_line}
+use Rattle.html_bytes.specs.Document.{context_of, meaning_of}
+use Rattle.html_bytes.specs.InlineHtml.{inline_counts}
+use Rattle.html_bytes.specs.Layout.{lay}
+use Rattle.html_footnotes.specs.Output.{output_view}
+use Rattle.html_contents.specs.Texts.{document_by}
+use Rattle.html_contents.proofs.Contents.{line_alone}
+use Rattle.html_contents.proofs.texts.Texts.count_cell.Goals as goal
+
+pub returns : goal.returns
+returns g c = λ ds known plain default.
+    let texts = c.args.self.now in
+    let cell = c.args.cell.now in
+    let is_punctuation = g.T.Tables.punctuation_of texts.tables.now in
+    let d = document_by g.T.Tables texts ds in
+    subst (λ content. OnOk c.count_content.result
+    (output_view c.count_content.new.out
+    ≡ fold (lay texts.options.now.compile default) (output_view c.args.out.now)
+    (inline_counts (meaning_of d) (in_cell (inlines (context_of d) content)))))
+    (c.in_ok-content.ensures is_punctuation plain ∙ line_alone is_punctuation cell.after (piece_line cell.line))
+    (c.count_content.ensures ds known default)
