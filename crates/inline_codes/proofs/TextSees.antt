@@ -1,5 +1,6 @@
 -- The virtual text of bytes gives their codes, byte by byte.
-use Rattle.std.proofs.Common.{◌≡◌, ◌≢◌, ◌∙◌, ℕ, zero, suc, ◌+◌, ◌-◌, ◌^◌, ◌<◌, ◌≤◌, Bool, true, false, not, ◌==◌, ◌&&◌, ◌||◌, nat_lt, nat_le, if◌then◌else◌, List, [], ◌∷◌}
+use Rattle.std.proofs.Common.{◌≡◌, ◌≢◌, ◌∙◌, ℕ, zero, suc, ◌+◌, ◌-◌, ◌^◌, ◌<◌, ◌≤◌, Bool, true, false, not, ◌==◌, ◌&&◌, ◌||◌, nat_lt, nat_le, if◌then◌else◌}
+use Rattle.std.proofs.Common.{List, [], ◌∷◌}
 use Rattle.std.proofs.Common.{◌++◌, length, drop, get_or, replicate, Some, None, inl, inr, refl, sym, ap, subst, add-one, arith}
 use Rattle.std.proofs.lemmas.Bool.{cases_Bool, cases_lt, eqb-false, eqb-true, le-leb, le-ltb, leb-false, leb-true, lt-ltb, ne_eqb, or_cases, or_from, or_parts}
 use Rattle.std.proofs.lemmas.List.{drop_all, drop_more, get_or_past}
@@ -186,7 +187,8 @@ module _ (bytes : List ℕ) where
         (ap (byte_given bytes p) e ∙ (plain_given p b true no_tab no_return feed ∙ ap (λ (n : ℕ). as_byte n (next_line 1 p)) (feed_seen b feed))))
         (rest (next_line 1 p) (omega arith) refl)
     | inr other ↦ byte no_tab (byte_there p (as_byte (text_byte b) (in_line p)) h
-        (ap (byte_given bytes p) e ∙ (plain_given p b false no_tab no_return other ∙ ap (λ (n : ℕ). as_byte n (in_line p)) (other_seen b other no_return low whole))))
+        (ap (byte_given bytes p) e ∙ (plain_given p b false no_tab no_return other
+        ∙ ap (λ (n : ℕ). as_byte n (in_line p)) (other_seen b other no_return low whole))))
         (rest (in_line p) (omega arith) refl)
   ]
 

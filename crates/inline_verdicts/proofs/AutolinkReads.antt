@@ -441,7 +441,8 @@ module _ {T : Type 0} (texts : List ℕ → Option (List ℕ)) (is_punctuation :
                   then (if nat_lt n 32 then scheme_read (n + 1) cs else email_read (c ∷ cs)) else email_read (c ∷ cs))) (sym is)
                   (scheme_longer cs n c (scheme_reads cs (n + 1) parts.1) d q r h at no_tab e s is colon)
               | inr is ↦
-                  let same : AutolinkStates.is_scheme (text_byte c) ≡ false = scheme_byte (text_byte c) ∙ (seen_sort is_scheme_byte refl refl refl refl c ∙ is) in
+                  let same : AutolinkStates.is_scheme (text_byte c) ≡ false = scheme_byte (text_byte c)
+                  ∙ (seen_sort is_scheme_byte refl refl refl refl c ∙ is) in
                   subst (λ (b : Bool). Outcome d (retry inline_states.AutolinkSchemeInsideOrEmailAtext) (if b
                   then (if nat_lt n 32 then scheme_read (n + 1) cs else email_read (c ∷ cs)) else email_read (c ∷ cs))) (sym is)
                   (hands inline_states.AutolinkSchemeInsideOrEmailAtext inline_states.AutolinkEmailAtext d d (email_read (c ∷ cs))

@@ -281,7 +281,8 @@ module _ {T : Type 0} (texts : List ℕ → Option (List ℕ)) (is_punctuation :
           → ((code == 120) || (code == 88)) ≡ true
           → Verdict_by (reference_of texts all (reference_by_number 16 (part_to_semicolon is_ascii_hexdigit 6 es)))
       by_x code es v more f t is_x =
-          let same : ((text_byte code == 120) || (text_byte code == 88)) ≡ true = seen_sort (λ (b : ℕ). (b == 120) || (b == 88)) refl refl refl refl code ∙ is_x in
+          let same : ((text_byte code == 120) || (text_byte code == 88)) ≡ true = seen_sort (λ (b : ℕ). (b == 120) || (b == 88)) refl refl refl refl code
+          ∙ is_x in
           let first = byte_at hash_at f in
           let calm : is_feed hash.current ≡ false = ap is_feed first ∙ apart (λ (b : ℕ). (b == 120) || (b == 88)) 10 (text_byte code) refl same in
           let place = hash_at.next (as_byte (text_byte code) v) f in
@@ -361,7 +362,8 @@ module _ {T : Type 0} (texts : List ℕ → Option (List ℕ)) (is_punctuation :
           else reference_by_name (part_to_semicolon is_ascii_alphanumeric 31 (code ∷ ds))))) (sym h)
           (elim (cases_Bool (is_ascii_alphanumeric code)) [
             | inl k ↦ by_letter code ds r is e t k
-            | inr k ↦ no_letter code ds (text_byte code) r e (seen_as_itself 35 refl refl code ∙ h) (seen_sort is_ascii_alphanumeric refl refl refl refl code ∙ k) k
+            | inr k ↦ no_letter code ds (text_byte code) r e (seen_as_itself 35 refl refl code ∙ h)
+                (seen_sort is_ascii_alphanumeric refl refl refl refl code ∙ k) k
           ])
     ]
     by_code (code ∷ ds) is (tab {q = r} few e _ t) = no_letter 9 ds 9 r e refl refl refl

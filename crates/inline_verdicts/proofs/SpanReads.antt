@@ -181,7 +181,8 @@ module _ {T : Type 0} (texts : List ℕ → Option (List ℕ)) (is_punctuation :
     inside_reads : Outcome texts is_punctuation x text given m size at_mark closed (retry inline_states.RawTextBetween) ready HasPieces
         (run_of m size false (after_run m cs))
     inside_reads =
-        goes texts is_punctuation x text given m size at_mark no_feed plain_code no_tab no_space no_column (omega arith) (length (after_run m cs)) (after_run m cs)
+        goes texts is_punctuation x text given m size at_mark no_feed plain_code no_tab no_space no_column (omega arith) (length (after_run m cs))
+        (after_run m cs)
         (omega arith) (fewer m (run_length m cs) cs few) closed opening.end ready 0
         (exits texts is_punctuation x text given m size at_mark after.tokenize_state.token_2 given.sequence
         (ap (λ (k : KeptState). k.token_2) after_here.kept) after_here opened_all.held.1 opened_all.at)
