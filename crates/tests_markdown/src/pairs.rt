@@ -44,20 +44,36 @@ fn first_apart(
     Ok(None)
 }
 
+/// The first worked text after which another can't stand, those of frontmatter, of the tag filter and of no construct among them.
+fn first_worked_apart(alloc: Global, options: &Options) -> Result<Option<&'static str>, RunError>
+    requires { HasNoMdx options.now }
+{
+    let tables = [
+        COMMONMARK.as_slice(),
+        GFM.as_slice(),
+        FRONTMATTER.as_slice(),
+        FILTERED.as_slice(),
+        PLAIN.as_slice(),
+    ];
+    for rows in tables {
+        for others in tables {
+            let found = first_unjoined(alloc, rows, others, options)?;
+            if found.is_some() {
+                return Ok(found);
+            }
+        }
+    }
+    Ok(None)
+}
+
 #[test]
 fn prints_worked_texts_beside_each_other(rt: HostRuntime) -> Result<(), RunError> {
-    let default = Options::default();
-    assert_eq!(rt; first_unjoined(rt.alloc(), &GFM, &GFM, &default)?, None);
-    assert_eq!(rt;
-        first_unjoined(rt.alloc(), &GFM, &COMMONMARK, &default)?,
-        None
-    );
-    assert_eq!(rt;
-        first_unjoined(rt.alloc(), &COMMONMARK, &GFM, &default)?,
-        None
-    );
-    assert_eq!(rt; first_apart(rt.alloc(), &COMMONMARK)?, None);
-    assert_eq!(rt; first_apart(rt.alloc(), &GFM)?, None);
+    assert_eq!(rt; first_worked_apart(rt.alloc(), &Options::default())?, None);
+    assert_eq!(rt; first_worked_apart(rt.alloc(), &Options::gfm())?, None);
+    let mut options = everything();
+    assert_eq!(rt; first_worked_apart(rt.alloc(), &options)?, None);
+    options.compile.allow_dangerous_html = true;
+    assert_eq!(rt; first_worked_apart(rt.alloc(), &options)?, None);
     Ok(())
 }
 
@@ -65,15 +81,13 @@ fn prints_worked_texts_beside_each_other(rt: HostRuntime) -> Result<(), RunError
 fn prints_worked_texts_beside_blocks(rt: HostRuntime) -> Result<(), RunError> {
     assert_eq!(rt; first_apart(rt.alloc(), &LEAVES)?, None);
     assert_eq!(rt; first_apart(rt.alloc(), &CONTAINERS)?, None);
-    assert_eq!(rt; first_apart(rt.alloc(), &PLAIN)?, None);
     Ok(())
 }
 
 #[test]
-fn prints_worked_texts_beside_math_and_frontmatter(rt: HostRuntime) -> Result<(), RunError> {
+fn prints_worked_texts_beside_math(rt: HostRuntime) -> Result<(), RunError> {
     assert_eq!(rt; first_apart(rt.alloc(), &MATH_FLOW)?, None);
     assert_eq!(rt; first_apart(rt.alloc(), &MATH_TEXT)?, None);
-    assert_eq!(rt; first_apart(rt.alloc(), &FRONTMATTER)?, None);
     Ok(())
 }
 
@@ -113,7 +127,6 @@ fn prints_worked_texts_beside_email_addresses(rt: HostRuntime) -> Result<(), Run
 #[test]
 fn prints_worked_texts_beside_examples(rt: HostRuntime) -> Result<(), RunError> {
     assert_eq!(rt; first_apart(rt.alloc(), &EXAMPLES)?, None);
-    assert_eq!(rt; first_apart(rt.alloc(), &FILTERED)?, None);
     Ok(())
 }
 

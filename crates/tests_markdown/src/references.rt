@@ -1,5 +1,6 @@
 //! Rows of names, read from a text.
 use crate::devices::Short;
+use linked_list_allocator::LocalHeap;
 use markdown::{Options, Rows, RowsError, Tables, Watched, fits, run, to_html_with_tables};
 use std::test::Fail;
 
@@ -53,6 +54,38 @@ fn answers_the_first_fault(rt: HostRuntime) {
             Err(fault) => assert_eq!(rt; fault, want, "at {text:?}"),
         }
     }
+}
+
+/// In heaps that grow the answer is the text's own or want of memory, and in the largest one the text's own.
+#[test]
+fn reads_rows_in_growing_heaps(rt: HostRuntime) -> Result<(), Fail> {
+    for (text, own) in [
+        ("amp=41\n\nzz=1F600+FE0F\r\nb=42", None),
+        (
+            "amp=41\n\nzz=42\r\nb=42\nzz=43",
+            Some(RowsError::Repeated(5)),
+        ),
+    ] {
+        let mut last = None;
+        for steps in 0..256 {
+            let heap = LocalHeap::new(rt.alloc(), 16 * steps)?;
+            let fault = match Rows::read(&heap, text) {
+                Ok(rows) => {
+                    assert_eq!(rt; rows.reference("zz"), Some("😀\u{FE0F}"), "at {steps}");
+                    assert_eq!(rt; rows.reference("b"), Some("B"), "at {steps}");
+                    None
+                }
+                Err(fault) => Some(fault),
+            };
+            assert!(rt;
+                fault == own || fault == Some(RowsError::Memory),
+                "at {steps}"
+            );
+            last = fault;
+        }
+        assert_eq!(rt; last, own, "at {text:?}");
+    }
+    Ok(())
 }
 
 /// Rows, a text and its HTML by their names.

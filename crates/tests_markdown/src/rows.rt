@@ -3,6 +3,7 @@ ghost use Rattle.markdown_options.specs.Mdx.{HasNoMdx};
 
 use crate::joined::first_fault;
 use markdown::{Builtin, Options, RunError, Watched, run};
+use std::alloc::Global;
 use tests_helpers::plain;
 
 /// Texts and their HTML, with every construct off.
@@ -157,11 +158,20 @@ fn prints_endings_of_options(rt: HostRuntime) -> Result<(), RunError> {
     Ok(())
 }
 
+/// Whether bytes are refused as no UTF-8, with nothing written.
+fn is_refused(alloc: Global, bytes: &[u8], options: &Options) -> bool
+    requires { has_mdx options.now.parse.constructs ≡ false }
+{
+    let mut reader = Watched::new(bytes);
+    let mut writer = Watched::new(Vec::new(alloc));
+    let result = run(alloc, &mut reader, &mut writer, options, &Builtin);
+    matches!(result, Err(RunError::Utf8)) && writer.into_inner().is_empty()
+}
+
 #[test]
 fn refuses_other_bytes(rt: HostRuntime) {
-    let mut reader = Watched::new(&b"a\xFF"[..]);
-    let mut writer = Watched::new(Vec::new(rt.alloc()));
-    let result = run(rt.alloc(), &mut reader, &mut writer, &plain(), &Builtin);
-    assert!(rt; matches!(result, Err(RunError::Utf8)));
-    assert!(rt; writer.into_inner().is_empty());
+    let default = Options::default();
+    assert!(rt; is_refused(rt.alloc(), b"\xFF", &default));
+    assert!(rt; is_refused(rt.alloc(), b"a\xFF", &default));
+    assert!(rt; is_refused(rt.alloc(), b"a\xFF", &plain()));
 }
