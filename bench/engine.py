@@ -4,7 +4,7 @@
     engine.py [PROGRAM] [BYTES] [plain|dense]
 
 PROGRAM is `crates/engine_bench`, which counts steps, or `engine_bench_text`, events, or `inline_bench_rows`, rows, built by
-`rt run`. A plain text has paragraphs of words, a dense one a construct in every four bytes. The best of 20 rounds counts;
+`rt run`. A plain text has paragraphs of words, a dense one a construct in every seven bytes. The best of 20 rounds counts;
 reading the text is part of the time.
 """
 import os

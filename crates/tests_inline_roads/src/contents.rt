@@ -1,4 +1,7 @@
 //! Contents of the tests of each construct, with a blank line between them.
+use crate::examples::{
+    ALL, BESIDE, BREAKS, CODE, HTML, LINKS, MORE_READINGS, READINGS, REFERENCES, RUNS, TEXTS,
+};
 
 /// Those of escapes (CommonMark 2.4).
 const CHARACTER_ESCAPE: &str =
@@ -1815,7 +1818,7 @@ const GFM_TASK_LIST_ITEM: &str = "- [ ] a
   b";
 
 /// All of them.
-pub const CONTENTS: [&str; 13] = [
+pub const CONTENTS: [&str; 24] = [
     CHARACTER_ESCAPE,
     CHARACTER_REFERENCE,
     CODE_TEXT,
@@ -1829,4 +1832,15 @@ pub const CONTENTS: [&str; 13] = [
     GFM_AUTOLINK_LITERAL,
     GFM_LABEL_START_FOOTNOTE,
     GFM_TASK_LIST_ITEM,
+    ALL,
+    RUNS,
+    LINKS,
+    HTML,
+    BREAKS,
+    REFERENCES,
+    CODE,
+    READINGS,
+    MORE_READINGS,
+    TEXTS,
+    BESIDE,
 ];

@@ -8,6 +8,8 @@ mod contents;
 #[cfg(test)]
 mod events;
 #[cfg(test)]
+mod examples;
+#[cfg(test)]
 mod generate;
 #[cfg(test)]
 mod parts;
