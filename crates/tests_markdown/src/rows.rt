@@ -160,7 +160,7 @@ fn prints_endings_of_options(rt: HostRuntime) -> Result<(), RunError> {
 
 /// Whether bytes are refused as no UTF-8, with nothing written.
 fn is_refused(alloc: Global, bytes: &[u8], options: &Options) -> bool
-    requires { has_mdx options.now.parse.constructs ≡ false }
+    requires { HasNoMdx options.now }
 {
     let mut reader = Watched::new(bytes);
     let mut writer = Watched::new(Vec::new(alloc));
