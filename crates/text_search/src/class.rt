@@ -1,9 +1,9 @@
 //! The first bytes that are of a class.
-ghost use Rattle.std.specs.Prelude.{◌≡◌, ℕ, ◌+◌, ◌%◌, ◌/◌, ◌<◌, ◌≤◌, true, false, length, map, slice_index};
-ghost use Rattle.std.specs.List.{position_or_len};
+ghost use Rattle.std.specs.Prelude.{◌≡◌, ℕ, ◌+◌, ◌%◌, ◌/◌, ◌<◌, ◌≤◌, true, false, not, length, map, slice_index};
+ghost use Rattle.std.specs.List.{position_or_len, prefix_len};
 ghost use Rattle.text_search.specs.Classes.{is_outside};
 
-use crate::set::{LANES, by_half, first_set};
+use crate::set::{END_SIZE, LANES, by_half, ends, first_set};
 use std::simd::prelude::*;
 
 /// A class of bytes: a byte is of it where what the two tables have for its halves share a bit.
@@ -34,8 +34,25 @@ pub fn run_of(bytes: &[u8], class: ByteClass) -> usize
     last + run_in(bytes, last, class)
 }
 
-/// The same in few bytes, looked at one by one.
+/// The same in fewer than 16 bytes: the first 8 and the last 8 are looked at together, fewer one by
+/// one.
 fn run_in_few(bytes: &[u8], class: ByteClass) -> usize
+    requires { length bytes.now < LANES }
+    ensures { result ≡ position_or_len (is_outside class) bytes.now }
+{
+    if bytes.len() < END_SIZE {
+        return run_one_by_one(bytes, class);
+    }
+    let run = lanes_in(ends(bytes), class);
+    if run < END_SIZE {
+        run
+    } else {
+        bytes.len() + run - LANES
+    }
+}
+
+/// The same, one byte after another.
+fn run_one_by_one(bytes: &[u8], class: ByteClass) -> usize
     ensures { result ≡ position_or_len (is_outside class) bytes.now }
 {
     let mut at = 0;
@@ -52,7 +69,13 @@ fn run_in(bytes: &[u8], at: usize, class: ByteClass) -> usize
     ensures passed { (k : ℕ) → at ≤ k → k < at + result → is_outside class (slice_index bytes.now k) ≡ false }
     ensures hit { result < LANES → is_outside class (slice_index bytes.now (at + result)) ≡ true }
 {
-    let lanes = u8x16::from_slice(&bytes[at..]);
+    lanes_in(u8x16::from_slice(&bytes[at..]), class)
+}
+
+/// How many lanes are of a class, from the first.
+fn lanes_in(lanes: u8x16, class: ByteClass) -> usize
+    ensures { result ≡ prefix_len (λ byte. not (is_outside class byte)) lanes }
+{
     let stops = (by_half(lanes, class.lower) & by_upper_half(lanes, class.upper)).simd_eq(
         u8x16::splat(0),
     );

@@ -1,7 +1,7 @@
 //! The next byte of a set.
-ghost use Rattle.std.specs.Prelude.{◌≡◌, ℕ, ◌+◌, ◌%◌, ◌<◌, ◌≤◌, true, false, length, map, slice_index};
-ghost use Rattle.std.specs.List.{position_or_len};
-ghost use Rattle.text_search.specs.Sets.{first_set, holds};
+ghost use Rattle.std.specs.Prelude.{◌≡◌, ℕ, ◌+◌, ◌%◌, ◌<◌, ◌≤◌, true, false, not, length, map, slice_index};
+ghost use Rattle.std.specs.List.{position_or_len, prefix_len};
+ghost use Rattle.text_search.specs.Sets.{ends, first_set, holds};
 
 use std::simd::prelude::*;
 
@@ -16,6 +16,9 @@ pub struct ByteSet {
 
 /// How many bytes are looked at together.
 pub(crate) const LANES: usize = 16;
+
+/// How many of the first and of the last bytes are looked at together where there are fewer.
+pub(crate) const END_SIZE: usize = 8;
 
 /// How many bytes come before the first one of a set: all of them, where there is none.
 pub fn next_of(bytes: &[u8], set: ByteSet) -> usize
@@ -36,8 +39,25 @@ pub fn next_of(bytes: &[u8], set: ByteSet) -> usize
     last + run_in(bytes, last, set)
 }
 
-/// The same in few bytes, looked at one by one.
+/// The same in fewer than 16 bytes: the first 8 and the last 8 are looked at together, fewer one by
+/// one.
 fn next_in_few(bytes: &[u8], set: ByteSet) -> usize
+    requires { length bytes.now < LANES }
+    ensures { result ≡ position_or_len (holds set) bytes.now }
+{
+    if bytes.len() < END_SIZE {
+        return next_one_by_one(bytes, set);
+    }
+    let run = lanes_before(ends(bytes), set);
+    if run < END_SIZE {
+        run
+    } else {
+        bytes.len() + run - LANES
+    }
+}
+
+/// The same, one byte after another.
+fn next_one_by_one(bytes: &[u8], set: ByteSet) -> usize
     ensures { result ≡ position_or_len (holds set) bytes.now }
 {
     let mut at = 0;
@@ -54,9 +74,25 @@ fn run_in(bytes: &[u8], at: usize, set: ByteSet) -> usize
     ensures passed { (k : ℕ) → at ≤ k → k < at + result → holds set (slice_index bytes.now k) ≡ false }
     ensures hit { result < LANES → holds set (slice_index bytes.now (at + result)) ≡ true }
 {
-    let lanes = u8x16::from_slice(&bytes[at..]);
+    lanes_before(u8x16::from_slice(&bytes[at..]), set)
+}
+
+/// How many lanes come before the first that a set holds.
+fn lanes_before(lanes: u8x16, set: ByteSet) -> usize
+    ensures { result ≡ prefix_len (λ byte. not (holds set byte)) lanes }
+{
     let hits = lanes.simd_eq(by_half(lanes, set.first)) | lanes.simd_eq(by_half(lanes, set.second));
     first_set(hits.to_bitmask(), LANES)
+}
+
+/// The first 8 and the last 8 of some bytes, one after another.
+pub(crate) fn ends(bytes: &[u8]) -> u8x16
+    requires { END_SIZE ≤ length bytes.now }
+    ensures { result ≡ ends bytes.now }
+{
+    let first = u8x8::from_slice(bytes);
+    let last = u8x8::from_slice(&bytes[bytes.len() - END_SIZE..]);
+    first.shuffle(last, [0, 1, 2, 3, 4, 5, 6, 7, 8, 9, 10, 11, 12, 13, 14, 15])
 }
 
 /// What a table has for the lower half of each lane.

@@ -1,14 +1,22 @@
-use Rattle.std.proofs.Common.{sym, arith}
-use Rattle.std.proofs.lemmas.List.Sums.{position_or_len_is}
+use Rattle.std.proofs.Common.{ap, ◌∙◌, not, arith}
+use Rattle.std.specs.List.{prefix_len}
 use Rattle.text_search.specs.Sets.{holds}
+use Rattle.text_search.proofs.Ends.{within, ends_early, ends_late}
 use Rattle.text_search.proofs.set.next_in_few.Goals as goal
 
-pub returns-else-not-holds : goal.returns-else-not-holds
-returns-else-not-holds c =
-    sym (position_or_len_is (holds c.args.set) c.args.bytes.now c.loop-at.at 0 c.loop-at.invariant.0 c.loop-at.invariant.1
-    (λ inside. sym c.if-not-holds.ensures))
+pub overflow_add-result : goal.overflow_add-result
+overflow_add-result c =
+    let run = c.lanes_before-run.ensures ∙ ap (prefix_len (λ byte. not (holds c.args.set byte))) c.ends.ensures in
+    omega (arith, within (holds c.args.set) c.args.bytes.now c.lanes_before-run.result c.if-bytes-lt-END_SIZE.false (omega (arith, c.requires)) run, c.requires)
 
-pub returns-after-loop-at : goal.returns-after-loop-at
-returns-after-loop-at c =
-    sym (position_or_len_is (holds c.args.set) c.args.bytes.now c.loop-at.at 0 c.loop-at.invariant.0 c.loop-at.invariant.1
-    (λ inside. absurd (omega (arith, c.loop-at-test.false, inside))))
+pub returns-then-run-lt-END_SIZE : goal.returns-then-run-lt-END_SIZE
+returns-then-run-lt-END_SIZE c =
+    ends_early (holds c.args.set) c.args.bytes.now c.lanes_before-run.result c.if-bytes-lt-END_SIZE.false (omega (arith, c.requires))
+    (c.lanes_before-run.ensures ∙ ap (prefix_len (λ byte. not (holds c.args.set byte))) c.ends.ensures)
+    c.if-run-lt-END_SIZE.true
+
+pub returns-else-run-lt-END_SIZE : goal.returns-else-run-lt-END_SIZE
+returns-else-run-lt-END_SIZE c =
+    ends_late (holds c.args.set) c.args.bytes.now c.lanes_before-run.result c.if-bytes-lt-END_SIZE.false (omega (arith, c.requires))
+    (c.lanes_before-run.ensures ∙ ap (prefix_len (λ byte. not (holds c.args.set byte))) c.ends.ensures)
+    c.if-run-lt-END_SIZE.false

@@ -1,6 +1,6 @@
 use Rattle.std.proofs.Common.{◌≡◌, ℕ, ◌-◌, ◌<◌, ◌≤◌, false, length, get_or}
 use Rattle.text_search.specs.Sets.{holds}
-use Rattle.text_search.proofs.set.next_in_few.Given as goal
+use Rattle.text_search.proofs.set.next_one_by_one.Given as goal
 
 -- no byte so far is one of the set
 abbrev pub invariant-loop-at : goal.invariant-loop-at

@@ -1,6 +1,6 @@
 use Rattle.std.proofs.Common.{◌≡◌, ℕ, ◌-◌, ◌<◌, ◌≤◌, false, length, get_or}
 use Rattle.text_search.specs.Classes.{is_outside}
-use Rattle.text_search.proofs.class.run_in_few.Given as goal
+use Rattle.text_search.proofs.class.run_one_by_one.Given as goal
 
 -- each byte so far is of the class
 abbrev pub invariant-loop-at : goal.invariant-loop-at
