@@ -23,13 +23,13 @@ use Rattle.block_parser.proofs.Trees.{join-nil}
 
 -- ---- nothing begins on a plain rest but text
 
-module _ (on : Constructs) (away : Opening) (r : Rest) (e : Beside) (plain : is_plain r ≡ true) where
-  both : (leb (indent r) 3 ≡ true) × (begins_plain (bytes_of (bare r)) ≡ true)
-  both = and_parts (leb (indent r) 3) (begins_plain (bytes_of (bare r))) plain
+module _ (on : Constructs) (away : Opening) (r : Rest) (e : Beside) (plain : is_plain on r ≡ true) where
+  both : (leb (indent r) 3 ≡ true) × (begins_plain on (bytes_of (bare r)) ≡ true)
+  both = and_parts (leb (indent r) 3) (begins_plain on (bytes_of (bare r))) plain
 
   pub plain_leaf : leaf_line on away r e ≡ text_line_of on away r e
   plain_leaf =
-      text_leaf on away r e (plain_not_blank r both.1) (plain_not_code on r (has_text away) both.0)
+      text_leaf on away r e (plain_not_blank on r both.1) (plain_not_code on r (has_text away) both.0)
       (ap (λ o. option_or o (math_start on r)) (plain_fence on r both.1) ∙ plain_math on r both.1)
       (plain_html on r both.1 (has_text away)) (plain_heading on r both.1)
       (turns_not on r e.ending away (plain_underline on r both.1))
@@ -61,7 +61,7 @@ module _ (on : Constructs) (P Q : Spine → Type 0) (e : Beside) where
   text_grows r more kids (l ∷ ls) h = goes_longer on P Q r e more [] kids (Leaf (Text (l ∷ ls))) refl h
 
   -- a plain line is one
-  pub plain_grows : (r : Rest) → is_plain r ≡ true
+  pub plain_grows : (r : Rest) → is_plain on r ≡ true
       → ((around : List Level) (kids : Blocks) (ls : List BlockLine) → P (spine around kids (Text ls))
       → Q (spine around kids (Text (ls ++ rest_line r e ∷ []))))
       → (kids : Blocks) (now : Opening) → IsText now → P (spine_at [] kids now) → Q (spine_after [] kids (grow on e now r))

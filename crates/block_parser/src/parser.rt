@@ -100,7 +100,7 @@ impl<'a, A: Allocator> Parser<'a, A> {
         if line.content.is_empty() {
             return self.empty_line(on, line.ending);
         }
-        if !is_plain_line(line.content) {
+        if !is_plain_line(on, line.content) {
             return self.any_line(on, before, line);
         }
         let beside = Beside {
@@ -304,7 +304,7 @@ impl<'a, A: Allocator> Parser<'a, A> {
         requires depth { depth ≤ vec_len self.old.open }
         ensures { OnOk result (Grows self.old self.new depth (λ away. tree.leaf_line on.now away (rest_of rest.entry) beside)) }
     {
-        if is_plain(rest) {
+        if is_plain(on, rest) {
             self.more_text(on, depth, rest, beside)
         } else {
             self.any_leaf_line(on, depth, rest, beside)
