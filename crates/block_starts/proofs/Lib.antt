@@ -5,3 +5,4 @@ pub mod MarkLemmas
 pub mod ContainerLemmas
 pub mod PlainLemmas
 mod LabelLemmas
+mod HtmlEnds

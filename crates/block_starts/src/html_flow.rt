@@ -1,12 +1,13 @@
 //! Where HTML blocks start and end (CommonMark 4.6). A line is given by its bytes after the spaces
 //! and tabs ahead.
 ghost use Rattle.std.specs.Prelude.{◌≡◌, codes};
+ghost use Rattle.std.specs.List.{list_any};
 ghost use Rattle.definition_text.specs.Bytes.{begins_with, somewhere};
 ghost use Rattle.definition_block.specs.HtmlFlow.{element_name, after_element_name, ends_name, starts_raw, starts_declaration, begins_with_block_name};
 ghost use Rattle.definition_block.specs.HtmlFlow.{starts_basic, stands_alone, starts_complete, html_kind, begins_with_raw_end, html_ends};
 ghost use Rattle.definition_block.specs.HtmlNames.{is_raw_name, is_block_name};
 ghost use Rattle.inline_tags.specs.Views.{rest_of};
-ghost use Rattle.block_starts.specs.HtmlFlow.{number_of, kind_number};
+ghost use Rattle.block_starts.specs.HtmlFlow.{is_greater_than, number_of, kind_number};
 
 use inline_tags::tags::{closing_tag, open_tag, tag_name};
 use markdown_options::constants::{
@@ -14,6 +15,13 @@ use markdown_options::constants::{
 };
 use text_bytes::{
     begins_with_letter, holds, is_blank, is_one_of, is_short_one_of, is_space_or_tab, without_slash,
+};
+use text_search::{ByteSet, next_of};
+
+/// The byte with which each text ends that ends an HTML block.
+const GREATER_THAN: ByteSet = ByteSet {
+    first: [1, 0, 0, 0, 0, 0, 0, 0, 0, 0, 0, 0, 0, 0, b'>', 0],
+    second: [1, 0, 0, 0, 0, 0, 0, 0, 0, 0, 0, 0, 0, 0, 0, 0],
 };
 
 /// The kinds of HTML blocks, in the order of CommonMark 4.6.
@@ -148,6 +156,23 @@ fn stands_alone(after_tag: Option<&[u8]>) -> bool
 /// Whether a block of this kind ends on a line (CommonMark 4.6). The last two kinds end before a
 /// blank line.
 pub fn html_ends(kind: HtmlKind, line: &[u8]) -> bool
+    ensures { result ≡ html_ends (number_of kind) line.now }
+{
+    match kind {
+        HtmlKind::Basic | HtmlKind::Complete => false,
+        _ => holds_greater_than(line) && holds_end(kind, line),
+    }
+}
+
+/// Whether a `>` stands in a line.
+fn holds_greater_than(line: &[u8]) -> bool
+    ensures { result ≡ list_any is_greater_than line.now }
+{
+    next_of(line, GREATER_THAN) < line.len()
+}
+
+/// Whether the text stands in a line that ends a block of this kind.
+fn holds_end(kind: HtmlKind, line: &[u8]) -> bool
     ensures { result ≡ html_ends (number_of kind) line.now }
 {
     match kind {
