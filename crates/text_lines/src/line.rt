@@ -94,6 +94,7 @@ fn split_first(text: &str) -> (Line<'_>, &str)
 
 /// The content of the first line, its ending, and what follows it. The empty text begins with an
 /// empty line.
+#[inline(always)]
 pub fn next_line(text: &str) -> (&str, Option<LineEnding>, &str)
     ensures first { text_line result.0.now result.1 ≡ first_line text.now }
     ensures shorter { length result.0.now + length result.2.now ≤ length text.now }

@@ -16,6 +16,7 @@ pub struct ByteClass {
 }
 
 /// How many bytes of a class come first.
+#[inline(always)]
 pub fn run_of(bytes: &[u8], class: ByteClass) -> usize
     ensures { result ≡ position_or_len (is_outside class) bytes.now }
 {
@@ -63,6 +64,7 @@ fn run_one_by_one(bytes: &[u8], class: ByteClass) -> usize
 }
 
 /// How many of the 16 bytes from a place are of a class, from the first.
+#[inline(always)]
 fn run_in(bytes: &[u8], at: usize, class: ByteClass) -> usize
     requires { at + LANES ≤ length bytes.now }
     ensures within { result ≤ LANES }
@@ -73,6 +75,7 @@ fn run_in(bytes: &[u8], at: usize, class: ByteClass) -> usize
 }
 
 /// How many lanes are of a class, from the first.
+#[inline(always)]
 fn lanes_in(lanes: u8x16, class: ByteClass) -> usize
     ensures { result ≡ prefix_len (λ byte. not (is_outside class byte)) lanes }
 {
@@ -83,6 +86,7 @@ fn lanes_in(lanes: u8x16, class: ByteClass) -> usize
 }
 
 /// What a table has for the upper half of each lane.
+#[inline(always)]
 fn by_upper_half(lanes: u8x16, table: [u8; 16]) -> u8x16
     ensures { result ≡ map (λ byte. slice_index table (byte / 16)) lanes }
 {

@@ -21,6 +21,7 @@ pub(crate) const LANES: usize = 16;
 pub(crate) const END_SIZE: usize = 8;
 
 /// How many bytes come before the first one of a set: all of them, where there is none.
+#[inline(always)]
 pub fn next_of(bytes: &[u8], set: ByteSet) -> usize
     ensures { result ≡ position_or_len (holds set) bytes.now }
 {
@@ -68,6 +69,7 @@ fn next_one_by_one(bytes: &[u8], set: ByteSet) -> usize
 }
 
 /// How many of the 16 bytes from a place come before the first one of a set.
+#[inline(always)]
 fn run_in(bytes: &[u8], at: usize, set: ByteSet) -> usize
     requires { at + LANES ≤ length bytes.now }
     ensures within { result ≤ LANES }
@@ -78,6 +80,7 @@ fn run_in(bytes: &[u8], at: usize, set: ByteSet) -> usize
 }
 
 /// How many lanes come before the first that a set holds.
+#[inline(always)]
 fn lanes_before(lanes: u8x16, set: ByteSet) -> usize
     ensures { result ≡ prefix_len (λ byte. not (holds set byte)) lanes }
 {
@@ -96,6 +99,7 @@ pub(crate) fn ends(bytes: &[u8]) -> u8x16
 }
 
 /// What a table has for the lower half of each lane.
+#[inline(always)]
 pub(crate) fn by_half(lanes: u8x16, table: [u8; 16]) -> u8x16
     ensures { result ≡ map (λ byte. slice_index table (byte % 16)) lanes }
 {
