@@ -9,16 +9,16 @@ use Rattle.engine_events.specs.declared.event.Name.{Name}
 use Rattle.engine_events.specs.declared.resolve.Name.{Name as Resolver}
 use Rattle.engine_events.specs.declared.state.State.TheVariants as states
 use Rattle.engine_edits.specs.Edits.{EditAt, edit_at}
-use Rattle.engine_edits.specs.Replacement.{Places, events_after, places, with_new_links, replacement}
+use Rattle.engine_edits.specs.Replacement.{Places, places, with_new_links, replacement}
 use Rattle.engine_chunks.specs.Chunks.{chunks, part_size}
-use Rattle.engine_chunks.specs.Parts.{counts, with_division, with_division_at, places_of}
+use Rattle.engine_chunks.specs.Parts.{counts, with_division, places_of}
 use Rattle.markdown_engine.specs.Chains.{AreApart, ArePlaces, Chain, Divides, MayBegin, ReadsChain, Subtokenizes, chains, chunks_of, first_state, place_at}
 use Rattle.markdown_engine.specs.Laws.{HoldsAt, LawfulAt, RanksAt}
 use Rattle.markdown_engine.specs.Machine.{fresh_config}
-use Rattle.markdown_engine.specs.Order.{AreWhole, IsBalanced, IsNested, open_after}
+use Rattle.markdown_engine.specs.Order.{IsBalanced, IsNested, open_after}
 use Rattle.markdown_engine.specs.OrderLaws.{nested_append, nested_front, nested_in, opened_append}
 use Rattle.markdown_engine.specs.Reading.{Config, Steps}
-use Rattle.markdown_engine.specs.Resolving.{FoundLabels, Resolves, ResolvesAt, SettlesAt, found_both, nothing_found, resolve_all, resolve_each}
+use Rattle.markdown_engine.specs.Resolving.{FoundLabels, Resolves, ResolvesAt, SettlesAt, found_both, nothing_found, resolve_each}
 use Rattle.markdown_engine.specs.ResolvingLaws.{still_nested, still_opened}
 use Rattle.markdown_engine.specs.Together.{AreTogether, AreTogetherFrom, EachHasPlace, EachTogether, children_to}
 use Rattle.markdown_engine.proofs.ChainLaws.{EditsSoFar, after_edits, chunk_edits, edits_made, none_made, part_of}

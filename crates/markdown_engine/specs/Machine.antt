@@ -21,7 +21,7 @@ use Rattle.markdown_engine.specs.Resolvers.{with_first, with_last}
 use Rattle.markdown_engine.specs.VirtualText.{Source, Text, Walks, is_before, is_feed, place_in, text_to}
 use Rattle.engine_events.specs.declared.place.Point.{Point}
 use Rattle.markdown_engine.specs.Laws.{HoldsAt, remaining}
-use Rattle.markdown_engine.specs.Order.{Reaches}
+use Rattle.markdown_engine.specs.Order.{AreWhole, Reaches}
 
 module _ {M T A : Type 0} where
   abbrev pub config : Tokenizer M T A → Config M
@@ -109,9 +109,29 @@ module _ {M T A : Type 0} where
     pub attempts : new.attempts.items ≡ old.attempts.items
     pub same : Around old new
 
+  -- memory was refused, so that nothing can be read any more
+  abbrev pub HasFailed : Tokenizer M T A → Type 0
+  HasFailed t = t.failed ≡ true
+
+  -- what was read is whole
+  abbrev pub IsWhole : Tokenizer M T A → Type 0
+  IsWhole t = AreWhole t.events.items t.point
+
+  -- memory was refused, or what was read is whole
+  abbrev pub IsWholeUnlessRefused : Tokenizer M T A → State → Type 0
+  IsWholeUnlessRefused t s = IsRefused s ⊎ IsWhole t
+
+  -- no attempt waits
+  abbrev pub NothingWaits : Tokenizer M T A → Type 0
+  NothingWaits t = t.attempts.items ≡ []
+
+  -- the attempts that wait are the same
+  abbrev pub KeepsAttempts : Tokenizer M T A → Tokenizer M T A → Type 0
+  KeepsAttempts old new = new.attempts ≡ old.attempts
+
   -- nothing waits any more
   pub record HasEnded (t : Tokenizer M T A) (s : State) : Type 0 where
-    pub attempts : t.attempts.items ≡ []
+    pub attempts : NothingWaits t
     pub state : (s ≡ states.Ok) ⊎ (s ≡ states.Nok)
 
   -- what is read, and by which options and tables, is the same
@@ -126,7 +146,7 @@ module _ {M T A : Type 0} where
   -- a part of a call changed the configuration so
   pub record Became (c : Config M) (old new : Tokenizer M T A) : Type 0 where
     pub config : config new ≡ c
-    pub attempts : new.attempts ≡ old.attempts
+    pub attempts : KeepsAttempts old new
     pub text : SameText old new
 
   -- an attempt begins, unless memory is wanted; nothing else changes
@@ -140,10 +160,26 @@ module _ {M T A : Type 0} where
   HasReached to t (states.Error m) = Unit {0}
   HasReached to t (states.Next n) = is_before to (place_in t.skips.entries t.point) ≡ false
   HasReached to t (states.Retry n) = ⊥
-  HasReached to t states.Ok = t.attempts.items ≡ []
-  HasReached to t states.Nok = t.attempts.items ≡ []
+  HasReached to t states.Ok = NothingWaits t
+  HasReached to t states.Nok = NothingWaits t
 
 module _ {M V T A : Type 0} (view : M → V) where
+  -- the machine may go on with a state
+  abbrev pub IsValid : HoldsAt V → Tokenizer M T A → State → Type 0
+  IsValid valid t s = valid (view_config view t) t.attempts.items s
+
+  -- the same, with no attempt that waits
+  abbrev pub IsValidAlone : HoldsAt V → Tokenizer M T A → State → Type 0
+  IsValidAlone valid t s = valid (view_config view t) [] s
+
+  -- the tokenizer failed, or the state is valid
+  abbrev pub IsValidUnlessFailed : HoldsAt V → Tokenizer M T A → State → Type 0
+  IsValidUnlessFailed valid t s = HasFailed t ⊎ IsValid valid t s
+
+  -- memory was refused, or the state is valid
+  abbrev pub IsValidUnlessRefused : HoldsAt V → Tokenizer M T A → State → Type 0
+  IsValidUnlessRefused valid t s = IsRefused s ⊎ IsValid valid t s
+
   -- a call did what the step says
   pub record Did (e : Effect V) (old new : Tokenizer M T A) (s : State) : Type 0 where
     pub config : view_config view new ≡ e.config
@@ -204,7 +240,7 @@ module _ {M V T A : Type 0} (view : M → V) where
   pub record Turn (valid : HoldsAt V) (step : Steps V) (to : ℕ × ℕ) (end : Bool) (first : Tokenizer M T A) (given : State) (t : Tokenizer M T A)
       (s : State) : Type 0 where
     pub same : Around first t
-    pub holds : IsRefused s ⊎ valid (view_config view t) t.attempts.items s
+    pub holds : IsValidUnlessRefused valid t s
     pub reads : IsRefused s ⊎ GoesAll step (source first) to end given first t s
 
 -- of a state that works on any machine: all of the machine is seen

@@ -29,6 +29,14 @@ module _ {A : Type 0} where
   found_of None = nothing_found
   found_of (Some r) = found_in r
 
+  -- something is left to be read
+  abbrev pub IsNotDone : Subresult A → Type 0
+  IsNotDone r = r.done ≡ false
+
+  -- whether something is left stays
+  abbrev pub KeepsDone : Subresult A → Subresult A → Type 0
+  KeepsDone old new = new.done ≡ old.done
+
 -- what a resolver leaves, and what it found
 pub record ResolverResult (M : Type 0) : Type 0 where
   pub config : Config M

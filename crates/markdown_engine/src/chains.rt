@@ -13,7 +13,7 @@ ghost use Rattle.markdown_engine.specs.Chains.{SubtokenizesIn, after_chunk, chai
 ghost use Rattle.markdown_engine.specs.Chains.{starts_line, with_chunks};
 ghost use Rattle.markdown_engine.specs.Context.{context};
 ghost use Rattle.markdown_engine.specs.Evaluation.{AreReadingOf};
-ghost use Rattle.markdown_engine.specs.Machine.{bytes_of, config, fresh_config, source, KeepsParseState};
+ghost use Rattle.markdown_engine.specs.Machine.{KeepsAttempts, KeepsParseState, bytes_of, config, fresh_config, source};
 ghost use Rattle.markdown_engine.specs.Resolving.{found_in, nothing_found};
 ghost use Rattle.markdown_engine.specs.Standing.{LinksLeadIn};
 ghost use Rattle.markdown_engine.specs.Together.{StaysBalanced};
@@ -83,7 +83,7 @@ fn skip_before<'a, M, T, A: Allocator + Clone>(
     requires { start.index ≤ length (bytes_of tokenizer.old) }
     ensures source { OnOk result (source tokenizer.new ≡ after_chunk end start (source tokenizer.old)) }
     ensures config { config tokenizer.new ≡ config tokenizer.old }
-    ensures attempts { tokenizer.new.attempts ≡ tokenizer.old.attempts }
+    ensures attempts { KeepsAttempts tokenizer.old tokenizer.new }
     ensures failed { tokenizer.new.failed ≡ tokenizer.old.failed }
     ensures parse_state { KeepsParseState tokenizer.old tokenizer.new }
     ensures memory { IfErr result IsOutOfMemory }

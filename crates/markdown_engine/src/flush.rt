@@ -1,6 +1,6 @@
 //! The end of a text: it is handed in, and resolvers run.
-ghost use Rattle.std.specs.Prelude.{◌≡◌, false, OnOk, IfOk};
-ghost use Rattle.markdown_engine.specs.Resolving.{found_in, found_of, found_both, nothing_found};
+ghost use Rattle.std.specs.Prelude.{◌≡◌, OnOk, IfOk};
+ghost use Rattle.markdown_engine.specs.Resolving.{IsNotDone, KeepsDone, found_in, found_of, found_both, nothing_found};
 
 use crate::tokenizer::{Machine, Tokenizer};
 use engine_events::{State, Subresult, resolve};
@@ -11,7 +11,7 @@ use std::mem;
 /// Nothing was found.
 pub(crate) fn nothing_found<A: Allocator + Clone>(alloc: A) -> Result<Subresult<A>, AllocError>
     ensures found { IfOk result (λ found. found_in found ≡ nothing_found) }
-    ensures done { IfOk result (λ found. found.done ≡ false) }
+    ensures done { IfOk result IsNotDone }
 {
     Ok(Subresult {
         done: false,
@@ -26,7 +26,7 @@ pub(crate) fn add_found<A: Allocator>(
     more: Option<Subresult<A>>,
 ) -> Result<(), AllocError>
     ensures found { OnOk result (found_in found.new ≡ found_both (found_in found.old) (found_of more)) }
-    ensures done { found.new.done ≡ found.old.done }
+    ensures done { KeepsDone found.old found.new }
 {
     if let Some(mut more) = more {
         found.definitions.append(&mut more.definitions)?;
@@ -38,13 +38,13 @@ pub(crate) fn add_found<A: Allocator>(
 }
 
 impl<'a, M: Machine<T>, T: Tables, A: Allocator + Clone> Tokenizer<'a, M, T, A> {
-    ghost use Rattle.std.specs.Prelude.{◌≡◌, ◌⊎◌, IfErr, IfOk, IsErr, OnErr, OnOk, [], false, length, true};
+    ghost use Rattle.std.specs.Prelude.{◌≡◌, IfErr, IfOk, IsErr, OnErr, OnOk, [], length, true};
     ghost use Rattle.markdown_options.specs.Messages.{IsOutOfMemory};
     ghost use Rattle.engine_events.specs.declared.state.State.TheVariants as states;
-    ghost use Rattle.markdown_engine.specs.Machine.{Completes, IsResolved, bytes_of, read_with, view_config};
+    ghost use Rattle.markdown_engine.specs.Machine.{Completes, HasFailed, IsResolved, IsValid, IsValidUnlessFailed, IsWhole};
+    ghost use Rattle.markdown_engine.specs.Machine.{bytes_of, read_with, view_config};
     ghost use Rattle.markdown_engine.specs.Evaluation.{IsReadingOf};
-    ghost use Rattle.markdown_engine.specs.Order.{AreWhole};
-    ghost use Rattle.markdown_engine.specs.Resolving.{found_in, nothing_found, resolve_all, resolve_each};
+    ghost use Rattle.markdown_engine.specs.Resolving.{IsNotDone, KeepsDone, found_in, nothing_found, resolve_all, resolve_each};
     ghost use Rattle.markdown_engine.specs.VirtualText.{IsCut};
 
     /// Hands in the end where the last range ended, and, if that is asked for, runs the resolvers in
@@ -53,13 +53,13 @@ impl<'a, M: Machine<T>, T: Tables, A: Allocator + Clone> Tokenizer<'a, M, T, A> 
     /// Once memory was refused, an error is answered.
     pub fn flush(&mut self, state: State, resolve: bool) -> Result<Subresult<A>, Message>
         requires end { IsCut (bytes_of self.old) self.old.end }
-        requires valid { (self.old.failed ≡ true) ⊎ M.valid (read_with self.old) (view_config M.seen self.old) self.old.attempts.items state }
+        requires valid { IsValidUnlessFailed M.seen (M.valid (read_with self.old)) self.old state }
         ensures completed { IfOk result (λ found. Completes M.seen M.step M.resolved self.old.end resolve state self.old self.new (found_in found)) }
         ensures evaluated { IfOk result (λ found. IsReadingOf M.seen M.step M.rank M.resolved self.old.end resolve state self.old self.new (found_in found)) }
-        ensures done { IfOk result (λ found. found.done ≡ false) }
-        ensures whole { OnOk result (AreWhole self.new.events.items self.new.point) }
-        ensures err { OnErr result (self.new.failed ≡ true) }
-        ensures failed { self.old.failed ≡ true → IsErr result }
+        ensures done { IfOk result IsNotDone }
+        ensures whole { OnOk result (IsWhole self.new) }
+        ensures err { OnErr result (HasFailed self.new) }
+        ensures failed { HasFailed self.old → IsErr result }
         ensures memory { IfErr result IsOutOfMemory }
     {
         self.flush_to(self.end, state, resolve)
@@ -70,13 +70,13 @@ impl<'a, M: Machine<T>, T: Tables, A: Allocator + Clone> Tokenizer<'a, M, T, A> 
     ///
     /// Once memory was refused, an error is answered.
     pub fn read_and_resolve(&mut self, state: State) -> Result<Subresult<A>, Message>
-        requires valid { (self.old.failed ≡ true) ⊎ M.valid (read_with self.old) (view_config M.seen self.old) self.old.attempts.items state }
+        requires valid { IsValidUnlessFailed M.seen (M.valid (read_with self.old)) self.old state }
         ensures completed { IfOk result (λ found. Completes M.seen M.step M.resolved
             (length (bytes_of self.old), 0) true state self.old self.new (found_in found)) }
-        ensures done { IfOk result (λ found. found.done ≡ false) }
-        ensures whole { OnOk result (AreWhole self.new.events.items self.new.point) }
-        ensures err { OnErr result (self.new.failed ≡ true) }
-        ensures failed { self.old.failed ≡ true → IsErr result }
+        ensures done { IfOk result IsNotDone }
+        ensures whole { OnOk result (IsWhole self.new) }
+        ensures err { OnErr result (HasFailed self.new) }
+        ensures failed { HasFailed self.old → IsErr result }
         ensures memory { IfErr result IsOutOfMemory }
     {
         let to = (self.parse_state.bytes.len(), 0);
@@ -91,12 +91,12 @@ impl<'a, M: Machine<T>, T: Tables, A: Allocator + Clone> Tokenizer<'a, M, T, A> 
         resolve: bool,
     ) -> Result<Subresult<A>, Message>
         requires to { IsCut (bytes_of self.old) to }
-        requires valid { (self.old.failed ≡ true) ⊎ M.valid (read_with self.old) (view_config M.seen self.old) self.old.attempts.items state }
+        requires valid { IsValidUnlessFailed M.seen (M.valid (read_with self.old)) self.old state }
         ensures completed { IfOk result (λ found. Completes M.seen M.step M.resolved to resolve state self.old self.new (found_in found)) }
-        ensures done { IfOk result (λ found. found.done ≡ false) }
-        ensures whole { OnOk result (AreWhole self.new.events.items self.new.point) }
-        ensures err { OnErr result (self.new.failed ≡ true) }
-        ensures failed { self.old.failed ≡ true → IsErr result }
+        ensures done { IfOk result IsNotDone }
+        ensures whole { OnOk result (IsWhole self.new) }
+        ensures err { OnErr result (HasFailed self.new) }
+        ensures failed { HasFailed self.old → IsErr result }
         ensures memory { IfErr result IsOutOfMemory }
     {
         if self.failed {
@@ -115,10 +115,10 @@ impl<'a, M: Machine<T>, T: Tables, A: Allocator + Clone> Tokenizer<'a, M, T, A> 
         resolve: bool,
     ) -> Result<Subresult<A>, Message>
         requires to { IsCut (bytes_of self.old) to }
-        requires valid { M.valid (read_with self.old) (view_config M.seen self.old) self.old.attempts.items state }
+        requires valid { IsValid M.seen (M.valid (read_with self.old)) self.old state }
         ensures completed { IfOk result (λ found. Completes M.seen M.step M.resolved to resolve state self.old self.new (found_in found)) }
-        ensures done { IfOk result (λ found. found.done ≡ false) }
-        ensures whole { OnOk result (AreWhole self.new.events.items self.new.point) }
+        ensures done { IfOk result IsNotDone }
+        ensures whole { OnOk result (IsWhole self.new) }
         ensures memory { IfErr result IsOutOfMemory }
     {
         if let State::Error(message) = self.finish(to, state) {
@@ -136,8 +136,8 @@ impl<'a, M: Machine<T>, T: Tables, A: Allocator + Clone> Tokenizer<'a, M, T, A> 
         requires settled { M.settled (read_with self.old) (record (view_config M.seen self.old) { resolvers = [] }) self.old.resolvers.items }
         requires nothing { found_in found.old ≡ nothing_found }
         ensures resolved { OnOk result (IsResolved M.seen (resolve_all (M.resolved (read_with self.old)) (view_config M.seen self.old)) self.new found.new) }
-        ensures done { found.new.done ≡ found.old.done }
-        ensures whole { OnOk result (AreWhole self.new.events.items self.new.point) }
+        ensures done { KeepsDone found.old found.new }
+        ensures whole { OnOk result (IsWhole self.new) }
         ensures memory { IfErr result IsOutOfMemory }
     {
         let none = Vec::new(self.events.allocator().clone()?);
@@ -156,7 +156,7 @@ impl<'a, M: Machine<T>, T: Tables, A: Allocator + Clone> Tokenizer<'a, M, T, A> 
         ensures resolved { OnOk result (IsResolved M.seen (resolve_each
             (M.resolved (read_with self.old)) names.now (view_config M.seen self.old) (found_in found.old)) self.new found.new) }
         ensures settled { OnOk result (M.settled (read_with self.old) (view_config M.seen self.new) []) }
-        ensures done { found.new.done ≡ found.old.done }
+        ensures done { KeepsDone found.old found.new }
         ensures memory { IfErr result IsOutOfMemory }
     {
         for name in names {

@@ -4,16 +4,16 @@ ghost use Rattle.markdown_options.specs.Messages.{IsOutOfMemory};
 ghost use Rattle.engine_events.specs.declared.state.State.TheVariants as states;
 ghost use Rattle.markdown_engine.specs.Reading.{Steps, mark, restore, continuation, with_byte};
 ghost use Rattle.std.specs.BTreeMap.{insert_entry};
-ghost use Rattle.markdown_engine.specs.Machine.{Around, Became, Began, HasEnded, HasFlushed, HasPushed, HasReached, IsRefused, SameText, Shows, frame_at};
+ghost use Rattle.markdown_engine.specs.Machine.{Became, Began, HasEnded, HasFlushed, HasPushed, HasReached, IsRefused, SameText, Shows, frame_at};
 ghost use Rattle.markdown_engine.specs.Machine.{bytes_of, config, past_byte, with_enter, with_exit, read_with, view_config, source, KeepsParseState};
-ghost use Rattle.markdown_engine.specs.Machine.{to_run_first, to_run_last};
+ghost use Rattle.markdown_engine.specs.Machine.{KeepsAttempts, to_run_first, to_run_last};
 ghost use Rattle.markdown_engine.specs.Resolvers.{AreOnce, is_registered};
 ghost use Rattle.markdown_engine.specs.VirtualText.{is_before, line_start};
 ghost use Rattle.markdown_engine.specs.Laws.{Holds, Ranks, Lawful};
 ghost use Rattle.markdown_engine.specs.Context.{Context};
-ghost use Rattle.markdown_engine.specs.Resolving.{Resolves, Settles, Resolving, found_of, found_in, nothing_found};
+ghost use Rattle.markdown_engine.specs.Resolving.{Resolves, Settles, Resolving, found_of};
 ghost use Rattle.engine_events.specs.declared.resolve.Name.{Name as Resolver};
-ghost use Rattle.markdown_engine.specs.Order.{IsInnermost, AreWhole};
+ghost use Rattle.markdown_engine.specs.Order.{IsInnermost};
 
 use crate::attempt::Attempt;
 use crate::parse_state::ParseState;
@@ -121,7 +121,7 @@ impl<'a, M, T, A: Allocator + Clone> Tokenizer<'a, M, T, A> {
     ghost use Rattle.std.specs.Prelude.{◌≡◌, [], None, false, IfOk, IfErr, OnOk, OnErr, length, ◌≤◌};
     ghost use Rattle.std.specs.Ordering.{nat_cmp};
     ghost use Rattle.std.specs.BTreeMap.{insert_entry};
-    ghost use Rattle.markdown_engine.specs.Machine.{bytes_of, config, fresh_config};
+    ghost use Rattle.markdown_engine.specs.Machine.{KeepsAttempts, NothingWaits, bytes_of, config, fresh_config};
     ghost use Rattle.markdown_engine.specs.VirtualText.{line_start};
     ghost use Rattle.markdown_options.specs.Messages.{IsOutOfMemory};
 
@@ -135,7 +135,7 @@ impl<'a, M, T, A: Allocator + Clone> Tokenizer<'a, M, T, A> {
     where
         M: Drop,
         ensures config { IfOk result (λ tokenizer. config tokenizer ≡ fresh_config point machine) }
-        ensures attempts { IfOk result (λ tokenizer. tokenizer.attempts.items ≡ []) }
+        ensures attempts { IfOk result NothingWaits }
         ensures parse_state { IfOk result (λ tokenizer. tokenizer.parse_state.now ≡ parse_state.now) }
         ensures skips { IfOk result (λ tokenizer. tokenizer.skips.entries ≡ []) }
         ensures end { IfOk result (λ tokenizer. tokenizer.end ≡ (0, 0)) }
@@ -172,7 +172,7 @@ impl<'a, M, T, A: Allocator + Clone> Tokenizer<'a, M, T, A> {
             insert_entry nat_cmp self.old.skips.entries (line_start self.old.parse_state.now.bytes.now point.index) point) }
         ensures err { OnErr result (self.new.skips.entries ≡ self.old.skips.entries) }
         ensures config { config self.new ≡ config self.old }
-        ensures attempts { self.new.attempts ≡ self.old.attempts }
+        ensures attempts { KeepsAttempts self.old self.new }
         ensures parse_state { KeepsParseState self.old self.new }
         ensures failed { self.new.failed ≡ self.old.failed }
         ensures memory { IfErr result IsOutOfMemory }
@@ -329,7 +329,7 @@ impl<'a, M, T, A: Allocator> Tokenizer<'a, M, T, A> {
     /// Goes back to the mark of an attempt.
     fn free(&mut self, attempt: &Attempt)
         ensures config { config self.new ≡ restore attempt.now (config self.old) }
-        ensures attempts { self.new.attempts ≡ self.old.attempts }
+        ensures attempts { KeepsAttempts self.old self.new }
         ensures text { SameText self.old self.new }
     {
         self.events.truncate(attempt.events);
@@ -343,7 +343,7 @@ impl<'a, M, T, A: Allocator> Tokenizer<'a, M, T, A> {
     /// Goes back to the mark of an attempt, unless it went well and isn't a check.
     fn resume(&mut self, attempt: &Attempt, well: bool)
         ensures config { config self.new ≡ continuation attempt.now (config self.old) well }
-        ensures attempts { self.new.attempts ≡ self.old.attempts }
+        ensures attempts { KeepsAttempts self.old self.new }
         ensures text { SameText self.old self.new }
     {
         if !well || attempt.check {
@@ -354,7 +354,7 @@ impl<'a, M, T, A: Allocator> Tokenizer<'a, M, T, A> {
     /// Hands in the byte of a place, or the text's end there.
     fn hand(&mut self, place: Point, given: Option<VirtualByte>)
         ensures config { config self.new ≡ with_byte (config self.old) place given }
-        ensures attempts { self.new.attempts ≡ self.old.attempts }
+        ensures attempts { KeepsAttempts self.old self.new }
         ensures text { SameText self.old self.new }
     {
         self.point = place;
@@ -372,8 +372,9 @@ impl<'a, M: Machine<T>, T: Tables, A: Allocator> Tokenizer<'a, M, T, A> {
     ghost use Rattle.markdown_engine.specs.Evaluation.{StaysReadingFrom};
     ghost use Rattle.markdown_engine.specs.Laws.{MovesOn};
     ghost use Rattle.std.specs.Prelude.{◌≡◌, ◌≤◌, ◌<◌, [], length, true, false, ◌⊎◌};
-    ghost use Rattle.markdown_engine.specs.Machine.{AreCuts, HasEnded, HasFlushed, OpensRange, HasPushed, HasPushedFrom, ReadWhole, HasReached, IsRefused};
-    ghost use Rattle.markdown_engine.specs.Machine.{bytes_of, read_with, view_config, source};
+    ghost use Rattle.markdown_engine.specs.Machine.{AreCuts, HasEnded, HasFailed, HasFlushed, OpensRange, HasPushed, HasPushedFrom, ReadWhole};
+    ghost use Rattle.markdown_engine.specs.Machine.{HasReached, IsRefused, IsValidAlone, IsValidUnlessFailed, IsValidUnlessRefused, IsWholeUnlessRefused};
+    ghost use Rattle.markdown_engine.specs.Machine.{NothingWaits, bytes_of, read_with, view_config, source};
     ghost use Rattle.markdown_engine.specs.VirtualText.{IsCut, byte_before, place_in, text_to};
     ghost use Rattle.markdown_engine.specs.Outcomes.{HasOutcome, HasRun};
 
@@ -399,13 +400,13 @@ impl<'a, M: Machine<T>, T: Tables, A: Allocator> Tokenizer<'a, M, T, A> {
     /// Reads up to the end of a range, which may be the text's end, too.
     fn read(&mut self, to: (usize, usize), end: bool, state: State) -> State
         requires to { IsCut (bytes_of self.old) to }
-        requires valid { IsRefused state ⊎ M.valid (read_with self.old) (view_config M.seen self.old) self.old.attempts.items state }
-        ensures valid { IsRefused result ⊎ M.valid (read_with self.old) (view_config M.seen self.new) self.new.attempts.items result }
+        requires valid { IsValidUnlessRefused M.seen (M.valid (read_with self.old)) self.old state }
+        ensures valid { IsValidUnlessRefused M.seen (M.valid (read_with self.old)) self.new result }
         ensures reads { HasPushed M.seen (M.step (read_with self.old)) to end state self.old self.new result }
         ensures reached { HasReached to self.new result }
         ensures moves_on { MovesOn result }
         ensures ends { end ≡ true → IsRefused result ⊎ HasEnded self.new result }
-        ensures failed { IsRefused result → self.new.failed ≡ true }
+        ensures failed { IsRefused result → HasFailed self.new }
     {
         let mut next = state;
         'turns: loop {
@@ -464,16 +465,16 @@ impl<'a, M: Machine<T>, T: Tables, A: Allocator> Tokenizer<'a, M, T, A> {
         requires from { IsCut (bytes_of self.old) from }
         requires to { IsCut (bytes_of self.old) to }
         requires moves_on { MovesOn state }
-        requires valid { (self.old.failed ≡ true) ⊎ M.valid (read_with self.old) (view_config M.seen self.old) self.old.attempts.items state }
-        ensures valid { (self.new.failed ≡ true) ⊎ M.valid (read_with self.old) (view_config M.seen self.new) self.new.attempts.items result }
-        ensures reads { (self.new.failed ≡ true) ⊎ HasPushedFrom M.seen (M.step (read_with self.old)) from to state self.old self.new result }
-        ensures evaluated { (self.new.failed ≡ true) ⊎ StaysReadingFrom M.seen M.step M.rank from to state self.old self.new result }
+        requires valid { IsValidUnlessFailed M.seen (M.valid (read_with self.old)) self.old state }
+        ensures valid { IsValidUnlessFailed M.seen (M.valid (read_with self.old)) self.new result }
+        ensures reads { HasFailed self.new ⊎ HasPushedFrom M.seen (M.step (read_with self.old)) from to state self.old self.new result }
+        ensures evaluated { HasFailed self.new ⊎ StaysReadingFrom M.seen M.step M.rank from to state self.old self.new result }
         ensures moves_on { MovesOn result }
         ensures reached { HasReached to self.new result }
         ensures end { self.new.end ≡ to }
         ensures parse_state { self.new.parse_state.now ≡ self.old.parse_state.now }
-        ensures failed { self.old.failed ≡ true → self.new.failed ≡ true }
-        ensures refused { self.new.failed ≡ true → IsRefused result }
+        ensures failed { HasFailed self.old → HasFailed self.new }
+        ensures refused { HasFailed self.new → IsRefused result }
     {
         let next = if self.failed {
             State::out_of_memory()
@@ -489,26 +490,26 @@ impl<'a, M: Machine<T>, T: Tables, A: Allocator> Tokenizer<'a, M, T, A> {
     /// Reads on, up to an index and a column of a tab there, where the text ends.
     pub(crate) fn finish(&mut self, to: (usize, usize), state: State) -> State
         requires to { IsCut (bytes_of self.old) to }
-        requires valid { IsRefused state ⊎ M.valid (read_with self.old) (view_config M.seen self.old) self.old.attempts.items state }
+        requires valid { IsValidUnlessRefused M.seen (M.valid (read_with self.old)) self.old state }
         ensures reads { IsRefused result ⊎ HasFlushed M.seen (text_to (source self.old) to) (M.step (read_with self.old)) state self.old self.new result }
-        ensures valid { IsRefused result ⊎ M.valid (read_with self.old) (view_config M.seen self.new) [] result }
+        ensures valid { IsRefused result ⊎ IsValidAlone M.seen (M.valid (read_with self.old)) self.new result }
         ensures parse_state { self.new.parse_state.now ≡ self.old.parse_state.now }
         ensures total { IsRefused state ⊎ HasOutcome (text_to (source self.old) to) (M.step (read_with self.old)) (view_config M.seen self.old)
             self.old.attempts.items state }
-        ensures whole { IsRefused result ⊎ AreWhole self.new.events.items self.new.point }
-        ensures failed { IsRefused result → self.new.failed ≡ true }
+        ensures whole { IsWholeUnlessRefused self.new result }
+        ensures failed { IsRefused result → HasFailed self.new }
     {
         self.read(to, true, state)
     }
 
     /// Reads a text at once.
     pub fn read_at_once(&mut self, state: State) -> State
-        requires fresh { self.old.attempts.items ≡ [] }
-        requires valid { M.valid (read_with self.old) (view_config M.seen self.old) [] state }
+        requires fresh { NothingWaits self.old }
+        requires valid { IsValidAlone M.seen (M.valid (read_with self.old)) self.old state }
         ensures reads { IsRefused result ⊎ ReadWhole M.seen (source self.old) (M.step (read_with self.old)) state self.old self.new result }
         ensures total { HasRun (text_to (source self.old) (length (bytes_of self.old), 0)) (M.step (read_with self.old)) (view_config M.seen self.old) state }
-        ensures whole { IsRefused result ⊎ AreWhole self.new.events.items self.new.point }
-        ensures failed { IsRefused result → self.new.failed ≡ true }
+        ensures whole { IsWholeUnlessRefused self.new result }
+        ensures failed { IsRefused result → HasFailed self.new }
     {
         let to = (self.parse_state.bytes.len(), 0);
         self.finish(to, state)
@@ -518,11 +519,11 @@ impl<'a, M: Machine<T>, T: Tables, A: Allocator> Tokenizer<'a, M, T, A> {
     /// of these places, an index and a column of a tab there, and the last at the text's end.
     pub fn read_in_ranges(&mut self, cuts: &[(usize, usize)], state: State) -> State
         requires cuts { AreCuts (0, 0) cuts.now (length (bytes_of self.old)) }
-        requires fresh { self.old.attempts.items ≡ [] }
-        requires valid { M.valid (read_with self.old) (view_config M.seen self.old) [] state }
+        requires fresh { NothingWaits self.old }
+        requires valid { IsValidAlone M.seen (M.valid (read_with self.old)) self.old state }
         ensures reads { IsRefused result ⊎ ReadWhole M.seen (source self.old) (M.step (read_with self.old)) state self.old self.new result }
-        ensures whole { IsRefused result ⊎ AreWhole self.new.events.items self.new.point }
-        ensures failed { IsRefused result → self.new.failed ≡ true }
+        ensures whole { IsWholeUnlessRefused self.new result }
+        ensures failed { IsRefused result → HasFailed self.new }
     {
         let mut next = state;
         for cut in cuts {
@@ -538,7 +539,8 @@ impl<'a, M: Machine<T>, T: Tables, A: Allocator> Tokenizer<'a, M, T, A> {
 
 impl<'a, M: Machine<T>, T: Tables, A: Allocator + Clone> Tokenizer<'a, M, T, A> {
     ghost use Rattle.std.specs.Prelude.{◌≡◌, ◌≤◌, ◌<◌, [], length, ◌⊎◌};
-    ghost use Rattle.markdown_engine.specs.Machine.{ReadWhole, IsRefused, bytes_of, read_with, view_config, source};
+    ghost use Rattle.markdown_engine.specs.Machine.{HasFailed, IsRefused, IsValidAlone, IsWholeUnlessRefused, NothingWaits, ReadWhole};
+    ghost use Rattle.markdown_engine.specs.Machine.{bytes_of, read_with, source};
     ghost use Rattle.markdown_engine.specs.VirtualText.{line_start, with_skip};
 
     /// Reads a text in two ranges, the second of which is read from a later place of its line: what
@@ -547,11 +549,11 @@ impl<'a, M: Machine<T>, T: Tables, A: Allocator + Clone> Tokenizer<'a, M, T, A> 
         requires cut { cut < length (bytes_of self.old) }
         requires within { point.index ≤ length (bytes_of self.old) }
         requires line { cut ≤ line_start self.old.parse_state.now.bytes.now point.index }
-        requires fresh { self.old.attempts.items ≡ [] }
-        requires valid { M.valid (read_with self.old) (view_config M.seen self.old) [] state }
+        requires fresh { NothingWaits self.old }
+        requires valid { IsValidAlone M.seen (M.valid (read_with self.old)) self.old state }
         ensures reads { IsRefused result ⊎ ReadWhole M.seen (with_skip (source self.old) point) (M.step (read_with self.old)) state self.old self.new result }
-        ensures whole { IsRefused result ⊎ AreWhole self.new.events.items self.new.point }
-        ensures failed { IsRefused result → self.new.failed ≡ true }
+        ensures whole { IsWholeUnlessRefused self.new result }
+        ensures failed { IsRefused result → HasFailed self.new }
     {
         let first = self.read((cut, 0), false, state);
         if let State::Error(_) = first {
