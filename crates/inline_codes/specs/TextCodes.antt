@@ -12,9 +12,13 @@ use Rattle.inline_codes.specs.Codes.{Sees, is_code}
 abbrev pub whole_text : List ℕ → Text
 whole_text bytes = text_to (without_skips bytes) (length bytes, 0)
 
+-- these are bytes
+abbrev pub AreBytes : List ℕ → Type 0
+AreBytes bytes = (i : ℕ) → slice_index bytes i < 256
+
 -- from a place that isn't inside of a tab, a text gives the codes of its bytes from there on
 abbrev pub TextCodesLaw : Type 0
-TextCodesLaw = (bytes : List ℕ) → ((i : ℕ) → slice_index bytes i < 256) → (p : Point) → p.vs ≡ 0
+TextCodesLaw = (bytes : List ℕ) → AreBytes bytes → (p : Point) → p.vs ≡ 0
     → Sees (whole_text bytes) p (content_codes (drop p.index bytes))
 
 -- how many columns are left of a tab at a place inside of it: those up to its tab stop, and of four at most
@@ -23,9 +27,9 @@ columns_left p = min (tab_size p.column) (4 - p.vs)
 
 -- from a place inside of a tab, it gives a code for each column that is left of that, and then the codes of the bytes after it
 abbrev pub TabCodesLaw : Type 0
-TabCodesLaw = (bytes : List ℕ) → ((i : ℕ) → slice_index bytes i < 256) → (p : Point) → slice_index bytes p.index ≡ 9 → 0 < p.vs → p.vs ≤ 3
+TabCodesLaw = (bytes : List ℕ) → AreBytes bytes → (p : Point) → slice_index bytes p.index ≡ 9 → 0 < p.vs → p.vs ≤ 3
     → p.column + 3 < 2 ^ 64 → Sees (whole_text bytes) p (replicate (columns_left p) tab_column ++ content_codes (drop (p.index + 1) bytes))
 
 -- the codes of bytes are codes
 abbrev pub AreCodesLaw : Type 0
-AreCodesLaw = (bytes : List ℕ) → ((i : ℕ) → slice_index bytes i < 256) → list_all is_code (content_codes bytes) ≡ true
+AreCodesLaw = (bytes : List ℕ) → AreBytes bytes → list_all is_code (content_codes bytes) ≡ true
