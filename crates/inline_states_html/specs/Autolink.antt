@@ -6,7 +6,7 @@ use Rattle.engine_events.specs.declared.event.Name.TheVariants as names
 use Rattle.engine_events.specs.declared.state.Inline.TheVariants as inline_states
 use Rattle.engine_events.specs.declared.state.State.TheVariants as states
 use Rattle.engine_programs.specs.Bodies.{FixedName, Body, Answer, Consume, Enter, Exit, Keep, Byte, On, Test, around}
-use Rattle.inline_states_table.specs.Words.{next, retry, more}
+use Rattle.inline_states_table.specs.Words.{next, retry, count_anew, count_one}
 use Rattle.definition_text.specs.Ascii.{exclamation_mark, asterisk, plus, hyphen, dot, colon, less_than, equals, greater_than, question_mark, at_sign, delete}
 
 -- a byte of the name of an email
@@ -57,8 +57,7 @@ module _ {M : Type 0} where
       (On (λ b. b == colon) (Consume (Answer (next inline_states.AutolinkUrlInside)))
       (On (λ b. (b == plus) || (b == hyphen) || (b == dot) || is_ascii_alphanumeric b)
       (Test (λ c. nat_lt c.tokenize_state.size 32)
-      (Keep (λ c. record c.tokenize_state { size = more c.tokenize_state.size }) (λ c i. refl)
-      (Consume (Answer (next inline_states.AutolinkSchemeInsideOrEmailAtext))))
+      (count_one (Consume (Answer (next inline_states.AutolinkSchemeInsideOrEmailAtext))))
       (Answer (retry inline_states.AutolinkEmailAtext)))
       (Answer (retry inline_states.AutolinkEmailAtext))))
 
@@ -73,7 +72,7 @@ module _ {M : Type 0} where
   autolink_email_atext =
       Byte (Answer states.Nok)
       (On (λ b. b == at_sign)
-      (Keep (λ c. record c.tokenize_state { size = 0 }) (λ c i. refl) (Consume (Answer (next inline_states.AutolinkEmailAtSignOrDot))))
+      (count_anew (Consume (Answer (next inline_states.AutolinkEmailAtSignOrDot))))
       (On is_atext (Consume (Answer (next inline_states.AutolinkEmailAtext))) (Answer states.Nok)))
 
   -- after the `@` or a dot
@@ -86,7 +85,7 @@ module _ {M : Type 0} where
   autolink_email_label =
       Byte (Answer states.Nok)
       (On (λ b. b == dot)
-      (Keep (λ c. record c.tokenize_state { size = 0 }) (λ c i. refl) (Consume (Answer (next inline_states.AutolinkEmailAtSignOrDot))))
+      (count_anew (Consume (Answer (next inline_states.AutolinkEmailAtSignOrDot))))
       (On (λ b. b == greater_than) autolink_end (Answer (retry inline_states.AutolinkEmailValue))))
 
   -- in a label, at any byte
@@ -95,12 +94,10 @@ module _ {M : Type 0} where
       Byte (Answer states.Nok)
       (On (λ b. b == hyphen)
       (Test (λ c. nat_lt c.tokenize_state.size 63)
-      (Keep (λ c. record c.tokenize_state { size = more c.tokenize_state.size }) (λ c i. refl)
-      (Consume (Answer (next inline_states.AutolinkEmailValue))))
+      (count_one (Consume (Answer (next inline_states.AutolinkEmailValue))))
       (Answer states.Nok))
       (On is_ascii_alphanumeric
       (Test (λ c. nat_lt c.tokenize_state.size 63)
-      (Keep (λ c. record c.tokenize_state { size = more c.tokenize_state.size }) (λ c i. refl)
-      (Consume (Answer (next inline_states.AutolinkEmailLabel))))
+      (count_one (Consume (Answer (next inline_states.AutolinkEmailLabel))))
       (Answer states.Nok))
       (Answer states.Nok)))

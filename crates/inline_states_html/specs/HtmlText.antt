@@ -5,7 +5,7 @@ use Rattle.engine_events.specs.declared.event.Name.TheVariants as names
 use Rattle.engine_events.specs.declared.state.Inline.TheVariants as inline_states
 use Rattle.engine_events.specs.declared.state.State.TheVariants as states
 use Rattle.engine_programs.specs.Bodies.{FixedName, Body, Answer, Consume, Enter, Exit, Keep, Tries, Byte, On, AfterFeed, Test, around, has}
-use Rattle.inline_states_table.specs.Words.{next, retry, more, at_marker}
+use Rattle.inline_states_table.specs.Words.{next, retry, at_marker, count_anew, count_one}
 use Rattle.engine_events.specs.declared.state.Inline.{Inline as InlineName}
 use Rattle.definition_text.specs.Ascii.{tab, line_feed, space, exclamation_mark, double_quote, single_quote, hyphen, dot, slash, colon, less_than, equals}
 use Rattle.definition_text.specs.Ascii.{greater_than, question_mark, left_bracket, right_bracket, underscore, backtick}
@@ -44,7 +44,7 @@ module _ {M : Type 0} where
       Byte (Answer states.Nok)
       (On (λ b. b == hyphen) (Consume (Answer (next inline_states.HtmlTextCommentOpenInside)))
       (On (λ b. b == left_bracket)
-      (Keep (λ c. record c.tokenize_state { size = 0 }) (λ c i. refl) (Consume (Answer (next inline_states.HtmlTextCdataOpenInside))))
+      (count_anew (Consume (Answer (next inline_states.HtmlTextCdataOpenInside))))
       (On is_ascii_alphabetic (Consume (Answer (next inline_states.HtmlTextDeclaration))) (Answer states.Nok))))
 
   -- after `<!-`
@@ -77,8 +77,7 @@ module _ {M : Type 0} where
   html_text_cdata_open_inside =
       Byte (Answer states.Nok)
       (Test (λ c. has (is_prefix_byte c.tokenize_state.size) c.current)
-      (Keep (λ c. record c.tokenize_state { size = more c.tokenize_state.size }) (λ c i. refl)
-      (Consume
+      (count_one (Consume
       (Test (λ c. c.tokenize_state.size == 6) (Answer (next inline_states.HtmlTextCdata))
       (Answer (next inline_states.HtmlTextCdataOpenInside)))))
       (Answer states.Nok))
