@@ -4,7 +4,7 @@
 --     uri ::= letter 1*31(letter | digit | '+' | '-' | '.') ':' *byte, of which none is a control character, a space, '<' or '>'
 --     email ::= 1*email_byte '@' label *('.' label)
 --     label ::= 1 to 63 letters, digits and '-', with no '-' at either end
-use Rattle.std.specs.Prelude.{◌≡◌, ℕ, Bool, true, false, List, [], ◌∷◌, drop, Option, None, Some}
+use Rattle.std.specs.Prelude.{◌≡◌, ℕ, true, false, List, [], ◌∷◌, drop, Option, None, Some}
 use Rattle.std.specs.List.{list_all}
 use Rattle.definition_text.specs.Ascii.{greater_than, less_than}
 use Rattle.definition_inline.specs.Autolink.{autolink_at}
@@ -15,15 +15,13 @@ use Rattle.engine_events.specs.declared.event.Kind.TheVariants.{Enter, Exit}
 use Rattle.engine_events.specs.declared.event.Name.TheVariants as names
 use Rattle.engine_events.specs.declared.place.Point.{Point}
 use Rattle.engine_events.specs.declared.state.Inline.TheVariants as inline_states
-use Rattle.markdown_engine.specs.Context.{Context}
 use Rattle.markdown_engine.specs.Reading.{Config}
 use Rattle.markdown_engine.specs.VirtualText.{Text, as_byte}
-use Rattle.inline_states_table.specs.Words.{retry}
 use Rattle.inline_states.specs.declared.inlines.Inlines.{Inlines}
 use Rattle.inline_codes.specs.Codes.{Sees, is_code}
-use Rattle.inline_verdicts.specs.Choices.{Chooses, byte_at}
+use Rattle.inline_verdicts.specs.Beginnings.{Beginning, AtByte, BeforeByte, AreSeen, ComesNext, all_codes, at_hand, attempt, choice}
 use Rattle.inline_verdicts.specs.RawText.{piece}
-use Rattle.inline_verdicts.specs.Verdicts.{Comes, Leaves, Reads, at_byte}
+use Rattle.inline_verdicts.specs.Verdicts.{Comes, Leaves}
 
 -- the events of an autolink: its `<` is from p to q, what it leads to goes on from there to a third place, and its `>` from there to the end
 abbrev pub autolink_events : Point → Point → Point → Point → List Event
@@ -38,18 +36,17 @@ AddressVerdict text comes c p q codes (Some leaf) =
     (d : Config Inlines) × (size : ℕ) × (to : Point) × (end : Point) × comes d true × (text.byte (text.start to) ≡ Some (as_byte greater_than end))
     × Leaves c d (record c.tokenize_state { size = size }) (autolink_events p q (text.start to) end) end × Sees text end (drop leaf.size codes)
 
+-- an attempt there reads an autolink exactly where the definition has one
+abbrev pub ReadsAutolink : {T : Type 0} → Beginning T → Comes → Type 0
+ReadsAutolink here comes =
+    AddressVerdict here.text comes (at_hand here) here.place here.after (all_codes here) (autolink_at here.context.options.constructs (all_codes here))
+
 -- at a `<`, after which these codes are seen, an autolink is read exactly where the definition has one
 abbrev pub AutolinkVerdict : Type 0 → Type 0
 AutolinkVerdict T =
-    (texts : List ℕ → Option (List ℕ)) (is_punctuation : ℕ → Bool) (x : Context T) (text : Text) (c : Config Inlines) (p q : Point) (cs : List ℕ)
-    → list_all is_code cs ≡ true → Sees text q cs
-    → AddressVerdict text (Reads texts is_punctuation x text (at_byte c p less_than q) (retry inline_states.AutolinkStart)) (at_byte c p less_than q) p q
-    (less_than ∷ cs) (autolink_at x.options.constructs (less_than ∷ cs))
+    AtByte T less_than (λ here. list_all is_code here.rest ≡ true → AreSeen here → ReadsAutolink here (attempt here inline_states.AutolinkStart))
 
 -- before a part of a text that begins so, reading goes on after an autolink exactly where the definition has one, and otherwise with HTML
 abbrev pub AutolinkChoice : Type 0 → Type 0
-AutolinkChoice T =
-    (texts : List ℕ → Option (List ℕ)) (is_punctuation : ℕ → Bool) (x : Context T) (text : Text) (c : Config Inlines) (q : Point) (cs : List ℕ)
-    → list_all is_code cs ≡ true → text.byte (text.start c.point) ≡ Some (as_byte less_than q) → Sees text q cs
-    → AddressVerdict text (Chooses texts is_punctuation x text c inline_states.TextBefore (byte_at text c less_than q) inline_states.TextBeforeHtml)
-    (byte_at text c less_than q) (text.start c.point) q (less_than ∷ cs) (autolink_at x.options.constructs (less_than ∷ cs))
+AutolinkChoice T = BeforeByte T less_than (λ here. list_all is_code here.rest ≡ true → ComesNext here → AreSeen here
+    → ReadsAutolink here (choice here inline_states.TextBefore inline_states.TextBeforeHtml))

@@ -14,18 +14,16 @@ use Rattle.engine_events.specs.declared.event.Kind.TheVariants.{Enter, Exit}
 use Rattle.engine_events.specs.declared.event.Name.TheVariants as names
 use Rattle.engine_events.specs.declared.place.Point.{Point}
 use Rattle.engine_events.specs.declared.state.Inline.TheVariants as inline_states
-use Rattle.markdown_engine.specs.Context.{Context}
 use Rattle.markdown_engine.specs.KeptState.{KeptState}
 use Rattle.markdown_engine.specs.Reading.{Config}
 use Rattle.markdown_engine.specs.VirtualText.{Text, as_byte}
-use Rattle.inline_states_table.specs.Words.{retry}
 use Rattle.inline_states.specs.declared.inlines.Inlines.{Inlines}
 use Rattle.inline_codes.specs.Codes.{Sees}
 use Rattle.inline_codes.specs.TextBytes.{Shows}
-use Rattle.inline_verdicts.specs.Choices.{Chooses, byte_at}
+use Rattle.inline_verdicts.specs.Beginnings.{Beginning, AtByte, BeforeByte, AreSeen, ComesNext, all_codes, at_hand, attempt, choice}
 use Rattle.inline_verdicts.specs.RawText.{piece}
 use Rattle.inline_verdicts.specs.Stretch.{Stretch}
-use Rattle.inline_verdicts.specs.Verdicts.{Comes, Leaves, Reads, at_byte}
+use Rattle.inline_verdicts.specs.Verdicts.{Comes, Leaves}
 
 -- the events of a reference: its `&` is from p to q, and these events follow; its value is between the next two places, and its `;` goes on to the end
 abbrev pub reference_events : Point → Point → List Event → Point → Point → Point → List Event
@@ -68,19 +66,20 @@ ReferenceVerdict text comes c p q codes (Some leaf) =
     (d : Config Inlines) × (marker : ℕ) × (size : ℕ) × (added : List Event) × (end : Point) × comes d true × IsReference text p q marker size added end
     × Leaves c d (referring marker size c.tokenize_state) added end × Sees text end (drop leaf.size codes)
 
+-- an attempt there reads a reference exactly where the definition has one by the same texts of names
+abbrev pub ReadsReference : {T : Type 0} → Beginning T → Comes → Type 0
+ReadsReference here comes =
+    ReferenceVerdict here.text comes (at_hand here) here.place here.after (all_codes here)
+    (reference_at here.context.options.constructs here.texts (all_codes here))
+
 -- at an `&`, after which these codes are seen, a reference is read exactly where the definition has one by the same texts of names,
 -- if the letters and digits of the text stand in the bytes in which names are looked up
 abbrev pub CharacterReferenceVerdict : Type 0 → Type 0
-CharacterReferenceVerdict T =
-    (texts : List ℕ → Option (List ℕ)) (is_punctuation : ℕ → Bool) (x : Context T) (text : Text) (c : Config Inlines) (p q : Point) (cs : List ℕ)
-    → Shows x.bytes text → 0 < (text.start q).column → Sees text q cs
-    → ReferenceVerdict text (Reads texts is_punctuation x text (at_byte c p ampersand q) (retry inline_states.CharacterReferenceStart))
-    (at_byte c p ampersand q) p q (ampersand ∷ cs) (reference_at x.options.constructs texts (ampersand ∷ cs))
+CharacterReferenceVerdict T = AtByte T ampersand (λ here. Shows here.context.bytes here.text → 0 < (here.text.start here.after).column → AreSeen here
+    → ReadsReference here (attempt here inline_states.CharacterReferenceStart))
 
 -- before a part of a text that begins so, reading goes on after a reference exactly where the definition has one, and otherwise with data
 abbrev pub CharacterReferenceChoice : Type 0 → Type 0
 CharacterReferenceChoice T =
-    (texts : List ℕ → Option (List ℕ)) (is_punctuation : ℕ → Bool) (x : Context T) (text : Text) (c : Config Inlines) (q : Point) (cs : List ℕ)
-    → Shows x.bytes text → 0 < (text.start q).column → text.byte (text.start c.point) ≡ Some (as_byte ampersand q) → Sees text q cs
-    → ReferenceVerdict text (Chooses texts is_punctuation x text c inline_states.TextBefore (byte_at text c ampersand q) inline_states.TextBeforeData)
-    (byte_at text c ampersand q) (text.start c.point) q (ampersand ∷ cs) (reference_at x.options.constructs texts (ampersand ∷ cs))
+    BeforeByte T ampersand (λ here. Shows here.context.bytes here.text → 0 < (here.text.start here.after).column → ComesNext here → AreSeen here
+    → ReadsReference here (choice here inline_states.TextBefore inline_states.TextBeforeData))

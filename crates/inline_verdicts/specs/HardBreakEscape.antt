@@ -1,5 +1,5 @@
 -- What the states of a hard break by a backslash come to (CommonMark 6.7).
-use Rattle.std.specs.Prelude.{◌≡◌, ℕ, Bool, true, not, List, [], ◌∷◌, Option, None, Some}
+use Rattle.std.specs.Prelude.{◌≡◌, ℕ, Bool, true, not, List, [], ◌∷◌, None}
 use Rattle.definition_text.specs.Ascii.{backslash}
 use Rattle.definition_text.specs.Content.{is_eol}
 use Rattle.definition_inline.specs.HardBreak.{escaped_break_at}
@@ -9,14 +9,10 @@ use Rattle.engine_events.specs.declared.event.Kind.TheVariants.{Enter, Exit}
 use Rattle.engine_events.specs.declared.event.Name.TheVariants as names
 use Rattle.engine_events.specs.declared.place.Point.{Point}
 use Rattle.engine_events.specs.declared.state.Inline.TheVariants as inline_states
-use Rattle.markdown_engine.specs.Context.{Context}
 use Rattle.markdown_engine.specs.Reading.{Config}
-use Rattle.markdown_engine.specs.VirtualText.{Text, as_byte}
-use Rattle.inline_states_table.specs.Words.{retry}
 use Rattle.inline_states.specs.declared.inlines.Inlines.{Inlines}
-use Rattle.inline_codes.specs.Codes.{Sees}
-use Rattle.inline_verdicts.specs.Choices.{Chooses, byte_at}
-use Rattle.inline_verdicts.specs.Verdicts.{Reads, Verdict, at_byte}
+use Rattle.inline_verdicts.specs.Beginnings.{Beginning, AtByte, BeforeByte, AreSeen, ComesNext, all_codes, at_hand, attempt, choice}
+use Rattle.inline_verdicts.specs.Verdicts.{Comes, Verdict}
 
 -- the events of a hard break between two places
 abbrev pub break_events : Point → Point → List Event
@@ -28,20 +24,18 @@ ends_apart [] = true
 ends_apart (c ∷ []) = not (is_eol c)
 ends_apart (c ∷ next ∷ cs) = ends_apart (next ∷ cs)
 
--- at a backslash, after which these codes are seen, a hard break is read exactly where the definition has one; reading then stands where the line ending is
--- read from
+-- an attempt there, at a configuration, reads a hard break exactly where the definition has one; reading then stands where the line ending is read from
+abbrev pub ReadsBreak : {T : Type 0} → Beginning T → Config Inlines → Comes → Type 0
+ReadsBreak here at comes =
+    Verdict here.text comes at (all_codes here) (λ end. break_events here.place (here.text.start end)) here.text.start
+    (escaped_break_at here.context.options.constructs (all_codes here))
+
+-- at a backslash, after which these codes are seen, a hard break is read exactly where the definition has one
 abbrev pub BreakVerdict : Type 0 → Type 0
 BreakVerdict T =
-    (texts : List ℕ → Option (List ℕ)) (is_punctuation : ℕ → Bool) (x : Context T) (text : Text) (c : Config Inlines) (p q : Point) (cs : List ℕ)
-    → Sees text q cs → ends_apart cs ≡ true
-    → Verdict text (Reads texts is_punctuation x text (at_byte c p backslash q) (retry inline_states.HardBreakEscapeStart)) (at_byte c p backslash q)
-    (backslash ∷ cs) (λ end. break_events p (text.start end)) text.start (escaped_break_at x.options.constructs (backslash ∷ cs))
+    AtByte T backslash (λ here. AreSeen here → ends_apart here.rest ≡ true → ReadsBreak here (at_hand here) (attempt here inline_states.HardBreakEscapeStart))
 
 -- after an escape was attempted there in vain, reading goes on after a hard break exactly where the definition has one, and otherwise with data
 abbrev pub BreakChoice : Type 0 → Type 0
-BreakChoice T =
-    (texts : List ℕ → Option (List ℕ)) (is_punctuation : ℕ → Bool) (x : Context T) (text : Text) (c : Config Inlines) (q : Point) (cs : List ℕ)
-    → text.byte (text.start c.point) ≡ Some (as_byte backslash q) → Sees text q cs → ends_apart cs ≡ true
-    → Verdict text (Chooses texts is_punctuation x text c inline_states.TextBeforeHardBreakEscape (byte_at text c backslash q) inline_states.TextBeforeData)
-    (byte_at text c backslash q) (backslash ∷ cs) (λ end. break_events (text.start c.point) (text.start end)) text.start
-    (escaped_break_at x.options.constructs (backslash ∷ cs))
+BreakChoice T = BeforeByte T backslash (λ here. ComesNext here → AreSeen here → ends_apart here.rest ≡ true
+    → ReadsBreak here (at_hand here) (choice here inline_states.TextBeforeHardBreakEscape inline_states.TextBeforeData))

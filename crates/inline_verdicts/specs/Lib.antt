@@ -1,5 +1,6 @@
 pub mod Verdicts
 pub mod Choices
+pub mod Beginnings
 pub mod Text
 pub mod Stretch
 pub mod CharacterEscape

@@ -11,8 +11,10 @@ use Rattle.engine_events.specs.declared.place.Point.{Point}
 use Rattle.markdown_engine.specs.KeptState.{KeptState}
 use Rattle.markdown_engine.specs.Reading.{Config}
 use Rattle.markdown_engine.specs.VirtualText.{Text, as_byte}
+use Rattle.inline_states_leaves.specs.RawText.{begins_run}
 use Rattle.inline_states.specs.declared.inlines.Inlines.{Inlines}
 use Rattle.inline_codes.specs.Codes.{Sees}
+use Rattle.inline_verdicts.specs.Beginnings.{Beginning, all_codes, at_hand}
 use Rattle.inline_verdicts.specs.Stretch.{Stretch}
 use Rattle.inline_verdicts.specs.Verdicts.{Comes, Leaves}
 
@@ -71,3 +73,9 @@ SpanVerdict text comes given marker c p q codes None = (d : Config Inlines) × c
 SpanVerdict text comes given marker c p q codes (Some leaf) =
     (d : Config Inlines) × (size : ℕ) × (added : List Event) × (end : Point) × comes d true × IsSpan text given marker p q size added end
     × Leaves c d (spanning given marker size size c.tokenize_state) added (text.start end) × Sees text end (drop leaf.size codes)
+
+-- an attempt at a byte reads a span of such names exactly where a run begins and this leaf of the definition is a span
+abbrev pub ReadsSpan : {T : Type 0} → SpanNames → Option Leaf → Beginning T → Comes → Type 0
+ReadsSpan given found here comes =
+    SpanVerdict here.text comes given here.byte (at_hand here) here.place here.after (all_codes here)
+    (if begins_run here.byte here.config then of_span found else None)
