@@ -6,7 +6,7 @@ use Rattle.engine_events.specs.declared.state.Inline.TheVariants as inline_state
 use Rattle.engine_events.specs.declared.state.State.TheVariants as states
 use Rattle.markdown_engine.specs.Reading.{Config}
 use Rattle.engine_programs.specs.Bodies.{FixedName, Body, Answer, Consume, Enter, Exit, Keep, Byte, On, Test, around, has}
-use Rattle.inline_states_table.specs.Words.{next, more}
+use Rattle.inline_states_table.specs.Words.{next, count_one}
 use Rattle.engine_events.specs.Columns.{between}
 use Rattle.std.specs.Str.{is_utf8}
 use Rattle.definition_text.specs.Ascii.{number_sign, ampersand, semicolon, capital_x, small_x}
@@ -77,6 +77,5 @@ module _ {M : Type 0} where
       (Exit (FixedName names.CharacterReferenceValue)
       (around (FixedName names.CharacterReferenceMarkerSemi) (Exit (FixedName names.CharacterReference) (Answer states.Ok))))
       (Test (λ c. has (goes_on c.tokenize_state.marker c.tokenize_state.size) c.current)
-      (Keep (λ c. record c.tokenize_state { size = more c.tokenize_state.size }) (λ c i. refl)
-      (Consume (Answer (next inline_states.CharacterReferenceValue))))
+      (count_one (Consume (Answer (next inline_states.CharacterReferenceValue))))
       (Answer states.Nok)))

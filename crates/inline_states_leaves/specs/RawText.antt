@@ -5,7 +5,7 @@ use Rattle.engine_events.specs.declared.state.Inline.TheVariants as inline_state
 use Rattle.engine_events.specs.declared.state.State.TheVariants as states
 use Rattle.markdown_engine.specs.Reading.{Config}
 use Rattle.engine_programs.specs.Bodies.{FixedName, HeldName, Body, Answer, Consume, Enter, Exit, Keep, Hold, Byte, On, Test, around, has}
-use Rattle.inline_states_table.specs.Words.{next, retry, more, at_marker}
+use Rattle.inline_states_table.specs.Words.{next, retry, more, at_marker, count_one}
 use Rattle.engine_events.specs.contracts.event.Name.{the_type}
 use Rattle.engine_events.specs.declared.event.Event.{Event}
 use Rattle.engine_events.specs.declared.event.Name.{Name as EventName}
@@ -43,8 +43,7 @@ module _ {M : Type 0} where
   raw_text_sequence_open single =
       Byte (Answer states.Nok)
       (Test at_marker
-      (Keep (λ c. record c.tokenize_state { size = more c.tokenize_state.size }) (λ c i. refl)
-      (Consume (Answer (next inline_states.RawTextSequenceOpen))))
+      (count_one (Consume (Answer (next inline_states.RawTextSequenceOpen))))
       (Test (λ c. (c.tokenize_state.marker == dollar) && (c.tokenize_state.size == 1) && not single) (Answer states.Nok)
       (Exit (HeldName 2) (Answer (retry inline_states.RawTextBetween)))))
 
