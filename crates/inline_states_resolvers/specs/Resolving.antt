@@ -1,9 +1,11 @@
 -- What the resolvers of texts and strings do: each makes its edits, if these leave whole events.
-use Rattle.std.specs.Prelude.{ℕ, Bool, true, false, if◌then◌else◌, length}
+use Rattle.std.specs.Prelude.{◌≡◌, ℕ, Bool, true, false, if◌then◌else◌, length}
 use Rattle.engine_chunks.specs.Joins.{link_all}
 use Rattle.engine_events.specs.declared.resolve.Name.{Name as Resolver}
 use Rattle.engine_events.specs.declared.resolve.Name.TheVariants as resolvers
+use Rattle.markdown_engine.specs.declared.tokenizer.Tokenizer.{Tokenizer}
 use Rattle.markdown_engine.specs.Context.{Context}
+use Rattle.markdown_engine.specs.Machine.{config, read_with}
 use Rattle.markdown_engine.specs.Reading.{Config}
 use Rattle.markdown_engine.specs.Resolving.{Resolves, nothing_found}
 use Rattle.inline_states_resolvers.specs.Attention.{attention_edits}
@@ -70,3 +72,7 @@ module _ {T M : Type 0} (is_punctuation : ℕ → Bool) (x : Context T) where
 
   unfoldable pub inline_resolved : Resolves M
   inline_resolved c n = record { config = resolved_config c n; found = nothing_found }
+
+-- what a tokenizer comes to is what these edits make of it, by the table of punctuation and by what it reads with
+abbrev pub HasEdited : {M T A : Type 0} → (T → ℕ → Bool) → ((ℕ → Bool) → Context T → Config M → Config M) → Tokenizer M T A → Tokenizer M T A → Type 0
+HasEdited punctuation_of edit old new = config new ≡ edit (punctuation_of (read_with old).tables) (read_with old) (config old)

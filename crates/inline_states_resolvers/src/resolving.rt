@@ -2,8 +2,9 @@
 ghost use Rattle.std.specs.Prelude.{◌≡◌, OnOk, IfErr};
 ghost use Rattle.markdown_options.specs.Messages.{IsOutOfMemory};
 ghost use Rattle.markdown_engine.specs.Machine.{config, read_with, KeepsParseState};
-ghost use Rattle.inline_states_resolvers.specs.Resolving.{resolve_attention, resolve_data, inline_resolved, join_chunks, resolve_label, resolved_config};
-ghost use Rattle.inline_states_resolvers.specs.Resolving.{resolve_string, link_text, name_emails, name_spans, name_text, resolve_text, trim_string, trim_text};
+ghost use Rattle.inline_states_resolvers.specs.Resolving.{HasEdited, inline_resolved, join_chunks, link_text, name_emails, name_spans, name_text};
+ghost use Rattle.inline_states_resolvers.specs.Resolving.{resolve_attention, resolve_data, resolve_label, resolve_string, resolve_text};
+ghost use Rattle.inline_states_resolvers.specs.Resolving.{resolved_config, trim_string, trim_text};
 
 use crate::attention::attention_edits;
 use crate::autolink::email_edits;
@@ -49,8 +50,7 @@ pub fn resolve_label<M, T, A: Allocator + Clone>(
 pub fn resolve_attention<M, T: Tables, A: Allocator + Clone>(
     tokenizer: &mut Tokenizer<'_, M, T, A>,
 ) -> Result<(), Message>
-    ensures became { OnOk result (config tokenizer.new
-        ≡ resolve_attention (T.punctuation_of (read_with tokenizer.old).tables) (read_with tokenizer.old) (config tokenizer.old)) }
+    ensures became { OnOk result (HasEdited T.punctuation_of resolve_attention tokenizer.old tokenizer.new) }
     ensures parse_state { KeepsParseState tokenizer.old tokenizer.new }
     ensures memory { IfErr result IsOutOfMemory }
 {
@@ -76,8 +76,7 @@ fn name_spans<M, T, A: Allocator + Clone>(
 fn name_emails<M, T: Tables, A: Allocator + Clone>(
     tokenizer: &mut Tokenizer<'_, M, T, A>,
 ) -> Result<(), Message>
-    ensures became { let kept = read_with tokenizer.old in
-        OnOk result (config tokenizer.new ≡ name_emails (T.punctuation_of kept.tables) kept (config tokenizer.old)) }
+    ensures became { OnOk result (HasEdited T.punctuation_of name_emails tokenizer.old tokenizer.new) }
     ensures parse_state { KeepsParseState tokenizer.old tokenizer.new }
     ensures memory { IfErr result IsOutOfMemory }
 {
@@ -90,8 +89,7 @@ fn name_emails<M, T: Tables, A: Allocator + Clone>(
 fn name_text<M, T: Tables, A: Allocator + Clone>(
     tokenizer: &mut Tokenizer<'_, M, T, A>,
 ) -> Result<(), Message>
-    ensures became { let kept = read_with tokenizer.old in
-        OnOk result (config tokenizer.new ≡ name_text (T.punctuation_of kept.tables) kept (config tokenizer.old)) }
+    ensures became { OnOk result (HasEdited T.punctuation_of name_text tokenizer.old tokenizer.new) }
     ensures parse_state { KeepsParseState tokenizer.old tokenizer.new }
     ensures memory { IfErr result IsOutOfMemory }
 {
@@ -103,8 +101,7 @@ fn name_text<M, T: Tables, A: Allocator + Clone>(
 fn trim_text<M, T: Tables, A: Allocator + Clone>(
     tokenizer: &mut Tokenizer<'_, M, T, A>,
 ) -> Result<(), Message>
-    ensures became { let kept = read_with tokenizer.old in
-        OnOk result (config tokenizer.new ≡ trim_text (T.punctuation_of kept.tables) kept (config tokenizer.old)) }
+    ensures became { OnOk result (HasEdited T.punctuation_of trim_text tokenizer.old tokenizer.new) }
     ensures parse_state { KeepsParseState tokenizer.old tokenizer.new }
     ensures memory { IfErr result IsOutOfMemory }
 {
@@ -122,8 +119,7 @@ fn trim_text<M, T: Tables, A: Allocator + Clone>(
 fn link_text<M, T: Tables, A: Allocator + Clone>(
     tokenizer: &mut Tokenizer<'_, M, T, A>,
 ) -> Result<(), Message>
-    ensures became { let kept = read_with tokenizer.old in
-        OnOk result (config tokenizer.new ≡ link_text (T.punctuation_of kept.tables) kept (config tokenizer.old)) }
+    ensures became { OnOk result (HasEdited T.punctuation_of link_text tokenizer.old tokenizer.new) }
     ensures parse_state { KeepsParseState tokenizer.old tokenizer.new }
     ensures memory { IfErr result IsOutOfMemory }
 {
@@ -153,8 +149,7 @@ fn join_chunks<M, T, A: Allocator>(tokenizer: &mut Tokenizer<'_, M, T, A>)
 pub fn resolve_text<M, T: Tables, A: Allocator + Clone>(
     tokenizer: &mut Tokenizer<'_, M, T, A>,
 ) -> Result<(), Message>
-    ensures became { let kept = read_with tokenizer.old in
-        OnOk result (config tokenizer.new ≡ resolve_text (T.punctuation_of kept.tables) kept (config tokenizer.old)) }
+    ensures became { OnOk result (HasEdited T.punctuation_of resolve_text tokenizer.old tokenizer.new) }
     ensures parse_state { KeepsParseState tokenizer.old tokenizer.new }
     ensures memory { IfErr result IsOutOfMemory }
 {
@@ -169,8 +164,7 @@ pub fn resolve_text<M, T: Tables, A: Allocator + Clone>(
 fn trim_string<M, T: Tables, A: Allocator + Clone>(
     tokenizer: &mut Tokenizer<'_, M, T, A>,
 ) -> Result<(), Message>
-    ensures became { let kept = read_with tokenizer.old in
-        OnOk result (config tokenizer.new ≡ trim_string (T.punctuation_of kept.tables) kept (config tokenizer.old)) }
+    ensures became { OnOk result (HasEdited T.punctuation_of trim_string tokenizer.old tokenizer.new) }
     ensures parse_state { KeepsParseState tokenizer.old tokenizer.new }
     ensures memory { IfErr result IsOutOfMemory }
 {
@@ -188,8 +182,7 @@ fn trim_string<M, T: Tables, A: Allocator + Clone>(
 pub fn resolve_string<M, T: Tables, A: Allocator + Clone>(
     tokenizer: &mut Tokenizer<'_, M, T, A>,
 ) -> Result<(), Message>
-    ensures became { let kept = read_with tokenizer.old in
-        OnOk result (config tokenizer.new ≡ resolve_string (T.punctuation_of kept.tables) kept (config tokenizer.old)) }
+    ensures became { OnOk result (HasEdited T.punctuation_of resolve_string tokenizer.old tokenizer.new) }
     ensures parse_state { KeepsParseState tokenizer.old tokenizer.new }
     ensures memory { IfErr result IsOutOfMemory }
 {
