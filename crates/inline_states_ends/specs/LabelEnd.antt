@@ -8,7 +8,7 @@ use Rattle.engine_events.specs.declared.state.State.TheVariants as states
 use Rattle.markdown_engine.specs.Context.{Context}
 use Rattle.markdown_engine.specs.Reading.{Config}
 use Rattle.engine_programs.specs.Bodies.{FixedName, Body, Answer, Enter, Exit, Keep, Hold, RegisterFirst, Tries, Byte, On, Test, around}
-use Rattle.inline_states_table.specs.Words.{next, retry}
+use Rattle.inline_states_table.specs.Words.{next, retry, disconnect}
 use Rattle.engine_events.specs.contracts.label.LabelKind.{the_type}
 use Rattle.engine_events.specs.declared.label.Label.{Label}
 use Rattle.engine_events.specs.declared.label.LabelKind.TheVariants as kinds
@@ -152,8 +152,7 @@ module _ {M : Type 0} where
   label_end_resource_start =
       Byte (Answer states.Nok)
       (On (λ b. b == left_parenthesis)
-      (Keep (λ c. record c.tokenize_state { connect = false }) (λ c i. refl)
-      (Enter (FixedName names.Resource) (around (FixedName names.ResourceMarker) (Answer (next inline_states.LabelEndResourceBefore)))))
+      (disconnect (Enter (FixedName names.Resource) (around (FixedName names.ResourceMarker) (Answer (next inline_states.LabelEndResourceBefore)))))
       (Answer states.Nok))
 
   -- after the `(`
