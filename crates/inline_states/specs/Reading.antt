@@ -9,7 +9,7 @@ use Rattle.engine_events.specs.declared.state.State.TheVariants as states
 use Rattle.markdown_engine.specs.Context.{Context}
 use Rattle.markdown_engine.specs.Machine.{fresh_config}
 use Rattle.markdown_engine.specs.Order.{text_start}
-use Rattle.markdown_engine.specs.Reading.{Config, Runs}
+use Rattle.markdown_engine.specs.Reading.{Config, Runs, Steps}
 use Rattle.markdown_engine.specs.Resolving.{resolve_all}
 use Rattle.markdown_engine.specs.VirtualText.{Text, text_to, without_skips}
 use Rattle.engine_programs.specs.Bodies.{step_by}
@@ -21,19 +21,23 @@ use Rattle.inline_states.specs.Inlines.{bodies}
 abbrev pub text_of : List ℕ → Text
 text_of bytes = text_to (without_skips bytes) (length bytes, 0)
 
-module _ {T : Type 0} (texts : List ℕ → Option (List ℕ)) (is_punctuation : ℕ → Bool) (x : Context T) where
+-- by the tables' texts of names and their punctuation, and by what a text is read with
+module _ {T : Type 0} (texts_of : T → List ℕ → Option (List ℕ)) (punctuation_of : T → ℕ → Bool) (x : Context T) where
+  abbrev pub inline_step : Steps Inlines
+  inline_step = step_by (bodies (texts_of x.tables) (punctuation_of x.tables) x)
+
   -- these are the events of the one reading of a text, from a state on
   pub record IsReading (first : InlineName) (machine : Inlines) (events : List Event) : Type 0 where
     pub config : Config Inlines
     pub well : Bool
-    pub runs : Runs (text_of x.bytes) (step_by (bodies texts is_punctuation x)) (fresh_config text_start machine) [] (states.Next (Inline first)) config well
+    pub runs : Runs (text_of x.bytes) inline_step (fresh_config text_start machine) [] (states.Next (Inline first)) config well
     pub read : events ≡ config.events
 
   -- these are the events of that reading once its resolvers ran
   pub record IsResolved (first : InlineName) (machine : Inlines) (events : List Event) : Type 0 where
     pub read : Config Inlines
-    pub runs : Runs (text_of x.bytes) (step_by (bodies texts is_punctuation x)) (fresh_config text_start machine) [] (states.Next (Inline first)) read true
-    pub are : events ≡ (resolve_all (inline_resolved is_punctuation x) read).config.events
+    pub runs : Runs (text_of x.bytes) inline_step (fresh_config text_start machine) [] (states.Next (Inline first)) read true
+    pub are : events ≡ (resolve_all (inline_resolved (punctuation_of x.tables) x) read).config.events
 
   -- the events of a text, where contents that may begin with a check begin at these places
   abbrev pub AreTextEvents : Bor (List ℕ) → List Event → Type 0

@@ -1,6 +1,7 @@
 -- What the states of `text` do.
 use Rattle.std.specs.Prelude.{true, false, refl, ◌==◌, ◌||◌}
 use Rattle.engine_events.specs.declared.resolve.Name.TheVariants as resolvers
+use Rattle.engine_events.specs.declared.state.Inline.{Inline as InlineName}
 use Rattle.engine_events.specs.declared.state.Inline.TheVariants as inline_states
 use Rattle.engine_events.specs.declared.state.State.TheVariants as states
 use Rattle.engine_programs.specs.Bodies.{Body, Answer, Keep, Register, Tries, Byte, On}
@@ -9,45 +10,41 @@ use Rattle.definition_text.specs.Ascii.{exclamation_mark, dollar, ampersand, ast
 use Rattle.definition_text.specs.Ascii.{tilde}
 
 module _ {M : Type 0} where
+  -- an attempt by the second state at a part, after which the next part comes; where there is none, the first state
+  abbrev pub part_or : InlineName → InlineName → Body M
+  part_or other start = Tries false (next inline_states.TextBefore) (next other) (retry start)
+
+  -- where there is none, data
+  abbrev pub part_or_data : InlineName → Body M
+  part_or_data start = part_or inline_states.TextBeforeData start
+
   -- before each part
   abbrev pub text_before : Body M
   text_before =
       Byte (Register resolvers.Data (Register resolvers.Text (Answer states.Ok)))
-      (On (λ b. b == exclamation_mark) (Tries false (next inline_states.TextBefore) (next inline_states.TextBeforeData)
-      (retry inline_states.LabelStartImageStart))
-      (On (λ b. (b == dollar) || (b == backtick))
-      (Tries false (next inline_states.TextBefore) (next inline_states.TextBeforeData) (retry inline_states.RawTextStart))
-      (On (λ b. b == ampersand)
-      (Tries false (next inline_states.TextBefore) (next inline_states.TextBeforeData) (retry inline_states.CharacterReferenceStart))
-      (On (λ b. (b == asterisk) || (b == underscore) || (b == tilde))
-      (Tries false (next inline_states.TextBefore) (next inline_states.TextBeforeData) (retry inline_states.AttentionStart))
-      (On (λ b. b == less_than) (Tries false (next inline_states.TextBefore) (next inline_states.TextBeforeHtml) (retry inline_states.AutolinkStart))
-      (On (λ b. (b == 72) || (b == 104))
-      (Tries false (next inline_states.TextBefore) (next inline_states.TextBeforeData) (retry inline_states.GfmAutolinkLiteralProtocolStart))
-      (On (λ b. (b == 87) || (b == 119))
-      (Tries false (next inline_states.TextBefore) (next inline_states.TextBeforeData) (retry inline_states.GfmAutolinkLiteralWwwStart))
-      (On (λ b. b == left_bracket)
-      (Tries false (next inline_states.TextBefore) (next inline_states.TextBeforeLabelStartLink) (retry inline_states.GfmLabelStartFootnoteStart))
-      (On (λ b. b == backslash)
-      (Tries false (next inline_states.TextBefore) (next inline_states.TextBeforeHardBreakEscape) (retry inline_states.CharacterEscapeStart))
-      (On (λ b. b == right_bracket)
-      (Tries false (next inline_states.TextBefore) (next inline_states.TextBeforeData) (retry inline_states.LabelEndStart))
+      (On (λ b. b == exclamation_mark) (part_or_data inline_states.LabelStartImageStart)
+      (On (λ b. (b == dollar) || (b == backtick)) (part_or_data inline_states.RawTextStart)
+      (On (λ b. b == ampersand) (part_or_data inline_states.CharacterReferenceStart)
+      (On (λ b. (b == asterisk) || (b == underscore) || (b == tilde)) (part_or_data inline_states.AttentionStart)
+      (On (λ b. b == less_than) (part_or inline_states.TextBeforeHtml inline_states.AutolinkStart)
+      (On (λ b. (b == 72) || (b == 104)) (part_or_data inline_states.GfmAutolinkLiteralProtocolStart)
+      (On (λ b. (b == 87) || (b == 119)) (part_or_data inline_states.GfmAutolinkLiteralWwwStart)
+      (On (λ b. b == left_bracket) (part_or inline_states.TextBeforeLabelStartLink inline_states.GfmLabelStartFootnoteStart)
+      (On (λ b. b == backslash) (part_or inline_states.TextBeforeHardBreakEscape inline_states.CharacterEscapeStart)
+      (On (λ b. b == right_bracket) (part_or_data inline_states.LabelEndStart)
       (Answer (retry inline_states.TextBeforeData))))))))))))
 
   -- at a `<` that begins no autolink
   abbrev pub text_before_html : Body M
-  text_before_html =
-      Tries false (next inline_states.TextBefore) (next inline_states.TextBeforeData) (retry inline_states.HtmlTextStart)
+  text_before_html = part_or_data inline_states.HtmlTextStart
 
   -- at a backslash that escapes nothing
   abbrev pub text_before_hard_break_escape : Body M
-  text_before_hard_break_escape =
-      Tries false (next inline_states.TextBefore) (next inline_states.TextBeforeData) (retry inline_states.HardBreakEscapeStart)
+  text_before_hard_break_escape = part_or_data inline_states.HardBreakEscapeStart
 
   -- at a `[` that begins no footnote call
   abbrev pub text_before_label_start_link : Body M
-  text_before_label_start_link =
-      Tries false (next inline_states.TextBefore) (next inline_states.TextBeforeData) (retry inline_states.LabelStartLinkStart)
+  text_before_label_start_link = part_or_data inline_states.LabelStartLinkStart
 
   -- where no construct is
   abbrev pub text_before_data : Body M

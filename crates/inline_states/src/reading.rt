@@ -22,8 +22,7 @@ pub fn read_text<T: Tables, A: Allocator + Clone>(
     parse_state: &ParseState<'_, T, A>,
     starts: &[usize],
 ) -> Result<Vec<Event, A>, Message>
-    ensures reads { IfOk result (λ events. AreTextEvents
-        (T.reference_of parse_state.now.tables.now) (T.punctuation_of parse_state.now.tables.now) (context parse_state.now) starts.entry events.items) }
+    ensures reads { IfOk result (λ events. AreTextEvents T.reference_of T.punctuation_of (context parse_state.now) starts.entry events.items) }
     ensures balanced { IfOk result (λ events. IsBalanced events.items) }
     ensures order { IfOk result (λ events. AreInOrder events.items) }
     ensures memory { IfErr result IsOutOfMemory }
@@ -46,8 +45,7 @@ pub fn read_text_in_ranges<T: Tables, A: Allocator + Clone>(
     cuts: &[(usize, usize)],
 ) -> Result<Vec<Event, A>, Message>
     requires cuts { AreCuts (0, 0) cuts.now (length parse_state.now.bytes.now) }
-    ensures reads { IfOk result (λ events. AreTextEvents
-        (T.reference_of parse_state.now.tables.now) (T.punctuation_of parse_state.now.tables.now) (context parse_state.now) starts.entry events.items) }
+    ensures reads { IfOk result (λ events. AreTextEvents T.reference_of T.punctuation_of (context parse_state.now) starts.entry events.items) }
     ensures balanced { IfOk result (λ events. IsBalanced events.items) }
     ensures order { IfOk result (λ events. AreInOrder events.items) }
     ensures memory { IfErr result IsOutOfMemory }
@@ -67,8 +65,7 @@ pub fn resolved_text<T: Tables, A: Allocator + Clone>(
     parse_state: &ParseState<'_, T, A>,
     starts: &[usize],
 ) -> Result<Vec<Event, A>, Message>
-    ensures reads { IfOk result (λ events. AreResolvedTextEvents
-        (T.reference_of parse_state.now.tables.now) (T.punctuation_of parse_state.now.tables.now) (context parse_state.now) starts.entry events.items) }
+    ensures reads { IfOk result (λ events. AreResolvedTextEvents T.reference_of T.punctuation_of (context parse_state.now) starts.entry events.items) }
     ensures balanced { IfOk result (λ events. IsBalanced events.items) }
     ensures order { IfOk result (λ events. AreInOrder events.items) }
     ensures memory { IfErr result IsOutOfMemory }
@@ -85,8 +82,7 @@ pub fn read_string<T: Tables, A: Allocator + Clone>(
     alloc: A,
     parse_state: &ParseState<'_, T, A>,
 ) -> Result<Vec<Event, A>, Message>
-    ensures reads { IfOk result (λ events. AreStringEvents
-        (T.reference_of parse_state.now.tables.now) (T.punctuation_of parse_state.now.tables.now) (context parse_state.now) events.items) }
+    ensures reads { IfOk result (λ events. AreStringEvents T.reference_of T.punctuation_of (context parse_state.now) events.items) }
     ensures balanced { IfOk result (λ events. IsBalanced events.items) }
     ensures order { IfOk result (λ events. AreInOrder events.items) }
     ensures memory { IfErr result IsOutOfMemory }
@@ -105,8 +101,7 @@ pub fn resolved_string<T: Tables, A: Allocator + Clone>(
     alloc: A,
     parse_state: &ParseState<'_, T, A>,
 ) -> Result<Vec<Event, A>, Message>
-    ensures reads { IfOk result (λ events. AreResolvedStringEvents
-        (T.reference_of parse_state.now.tables.now) (T.punctuation_of parse_state.now.tables.now) (context parse_state.now) events.items) }
+    ensures reads { IfOk result (λ events. AreResolvedStringEvents T.reference_of T.punctuation_of (context parse_state.now) events.items) }
     ensures balanced { IfOk result (λ events. IsBalanced events.items) }
     ensures order { IfOk result (λ events. AreInOrder events.items) }
     ensures memory { IfErr result IsOutOfMemory }
