@@ -1,26 +1,36 @@
 //! The texts of paragraphs, headings and info strings (CommonMark 4.2, 4.3, 4.5 and 4.8).
-ghost use Rattle.std.specs.Prelude.{◌≡◌, ◌++◌, ◌∷◌, [], List, OnOk, string_bytes, true};
+ghost use Rattle.std.specs.Prelude.{◌≡◌, ◌++◌, ◌∷◌, [], ℕ, Bool, List, OnOk, string_bytes, true};
+ghost use Rattle.std.specs.List.{fold};
 ghost use Rattle.html_bytes.specs.Document.{context_of, meaning_of, text_of, paragraph_of, info_of};
 ghost use Rattle.definition_text.specs.Encode.{encode};
-ghost use Rattle.html_bytes.specs.InlineHtml.{inline_counts, inline_pieces};
+ghost use Rattle.html_bytes.specs.InlineHtml.{InlineMeaning, inline_counts, inline_pieces};
+ghost use Rattle.html_bytes.specs.Layout.{lay};
+ghost use Rattle.html_footnotes.specs.Output.{output_view};
+ghost use Rattle.definition_page.specs.InlinePieces.{leads_to};
 ghost use Rattle.definition_page.specs.Targets.{Targets};
+ghost use Rattle.inline_rows.specs.InlineRows.{inline_rows};
+ghost use Rattle.inline_rows.specs.View.{data_rows};
+ghost use Rattle.definition_inline.specs.Inline.{Inlines};
 ghost use Rattle.block_rows.specs.ParagraphLines.{HaveNoEnding, AreLines};
 ghost use Rattle.block_rows.specs.Rows.{piece_line, piece_lines, whole_lines};
 ghost use Rattle.definition_inline.specs.Scan.{inlines, inlines_from};
 ghost use Rattle.definition_text.specs.BlockLines.{own_lines};
 ghost use Rattle.inline_content.specs.View.{content_view, view_at};
 ghost use Rattle.inline_parser.specs.Scanned.{IsPlace};
+ghost use Rattle.inline_parser.specs.Verbatim.{alone_bytes};
 ghost use Rattle.html_inline.specs.GfmTable.{parts_in_cell};
 
 use crate::buffers::TextBuffers;
 use block_rows::Piece;
 use definition_text::Kind;
 use html_footnotes::Output;
-use html_inline::{Printing, Scratch, count_rows, push_encoded_string, push_plain, push_rows};
+use html_inline::{
+    Printing, Scratch, count_rows, push_encoded_string, push_plain, push_rows, push_verbatim,
+};
 use inline_content::{Content, line_content, whole_content};
 use inline_labels::LabelTable;
 use inline_links::LinkTexts;
-use inline_parser::{Room, content_start, inline_rows, is_plain};
+use inline_parser::{Room, TextAlone, content_start, inline_rows, text_alone};
 use markdown_options::{Options, Tables};
 use std::alloc::{AllocError, Allocator};
 
@@ -154,8 +164,8 @@ impl<'a, T: Tables, A: Allocator + Clone> Texts<'a, T, A> {
             LaysOut d result out.old out.new (inline_pieces (meaning_of d) (parts_in_cell cell structure)) }
     {
         let parse = &self.options.parse;
-        if is_plain(parse, start) {
-            return push_plain(out, start);
+        if let Some(text) = text_alone(parse, start) {
+            return push_text_alone(out, text);
         }
         let rows = inline_rows(
             room,
@@ -209,5 +219,21 @@ impl<'a, T: Tables, A: Allocator + Clone> Texts<'a, T, A> {
             cell: true,
         };
         count_rows(out, scratch, &printing, rows.as_slice())
+    }
+}
+
+/// Prints a content that is text alone, in a cell of a table or not.
+fn push_text_alone<A: Allocator + Clone>(
+    out: &mut Output<A>,
+    text: TextAlone<'_>,
+) -> Result<(), AllocError>
+    ensures { (meaning : InlineMeaning) (default : List ℕ) (cell : Bool) (is : Inlines) →
+        data_rows (alone_bytes text.entry) ≡ inline_rows (leads_to meaning.definition) is →
+        OnOk result (output_view out.new
+        ≡ fold (lay meaning.compile default) (output_view out.old) (inline_pieces meaning (parts_in_cell cell is))) }
+{
+    match text {
+        TextAlone::Any(text) => push_plain(out, text),
+        TextAlone::Verbatim(verbatim) => push_verbatim(out, verbatim),
     }
 }

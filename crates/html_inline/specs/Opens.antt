@@ -6,7 +6,7 @@ use Rattle.html_bytes.specs.InlineHtml.{InlineMeaning}
 use Rattle.inline_runs.specs.View.{span_view}
 use Rattle.inline_links.specs.declared.text.LinkTexts.{LinkTexts}
 use Rattle.inline_rows.specs.declared.row.InlineRow.{InlineRow}
-use Rattle.inline_rows.specs.declared.row.InlineRow.TheVariants.{Text, Leaf, EnterSpan, EnterLink, EnterImage, Call, Exit}
+use Rattle.inline_rows.specs.declared.row.InlineRow.TheVariants.{Text, Verbatim, Leaf, EnterSpan, EnterLink, EnterImage, Call, Exit}
 use Rattle.inline_links.specs.View.{link_texts_view}
 use Rattle.inline_rows.specs.View.{target_texts}
 use Rattle.html_inline.specs.declared.stack.OpenPart.{OpenPart}
@@ -23,6 +23,7 @@ place_target definitions place = slice_index_or (map link_texts_view definitions
 -- where the image leads that a row starts
 abbrev pub image_target : (ℕ → inline.LinkTexts) → InlineRow → inline.LinkTexts
 image_target at (Text text) = nowhere
+image_target at (Verbatim verbatim) = nowhere
 image_target at (Leaf part) = nowhere
 image_target at (EnterSpan span) = nowhere
 image_target at (EnterLink target) = nowhere

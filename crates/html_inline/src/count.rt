@@ -58,6 +58,7 @@ fn count_row<A: Allocator + Clone>(
     match row {
         InlineRow::Call(label) => count_call(out, text, footnotes, label),
         InlineRow::Text(_) => Ok(()),
+        InlineRow::Verbatim(_) => Ok(()),
         InlineRow::Leaf(_) => Ok(()),
         InlineRow::EnterSpan(_) => Ok(()),
         InlineRow::EnterLink(_) => Ok(()),

@@ -31,7 +31,7 @@ use html_escape::push_encoded;
 use html_footnotes::Output;
 use inline_leaves::LeafPart;
 use inline_links::LinkTexts;
-use inline_rows::{InlineRow, LinkTarget};
+use inline_rows::{InlineRow, LinkTarget, VerbatimText};
 use inline_runs::Span;
 use markdown_options::Tables;
 use std::alloc::{AllocError, Allocator};
@@ -69,6 +69,19 @@ pub fn push_plain<A: Allocator + Clone>(out: &mut Output<A>, text: &str) -> Resu
     push_encoded(&mut out.html, text)
 }
 
+/// Prints a content that is text alone and is printed as it is, in a cell of a table or not.
+pub fn push_verbatim<A: Allocator + Clone>(
+    out: &mut Output<A>,
+    verbatim: VerbatimText<'_>,
+) -> Result<(), AllocError>
+    ensures { (meaning : InlineMeaning) (default : List ℕ) (cell : Bool) (is : inline.Inlines) →
+        data_rows verbatim.entry.text.now ≡ rows_of.inline_rows (leads_to meaning.definition) is →
+        OnOk result (output_view out.new
+        ≡ fold (lay meaning.compile default) (output_view out.old) (inline_pieces meaning (parts_in_cell cell is))) }
+{
+    out.html.push_str(verbatim.text)
+}
+
 /// Prints a row, which stands at a place.
 fn push_row<A: Allocator + Clone, T: Tables>(
     out: &mut Output<A>,
@@ -89,6 +102,7 @@ fn push_row<A: Allocator + Clone, T: Tables>(
 {
     match row {
         InlineRow::Text(text) => push_encoded(&mut out.html, text),
+        InlineRow::Verbatim(verbatim) => out.html.push_str(verbatim.text),
         InlineRow::Leaf(part) => push_part(&mut out.html, scratch, printing, part),
         InlineRow::EnterSpan(span) => enter_span(out, scratch, span),
         InlineRow::EnterLink(target) => enter_link(out, scratch, printing, target),

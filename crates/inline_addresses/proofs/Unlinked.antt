@@ -61,6 +61,7 @@ module _ (leads : Target → LinkTexts) (at : ℕ → LinkTexts) where
   -- a row that stands for text alone is that text
   row_is_text : (r : InlineRow) → row_view at r ≡ text_or leads at (row_view at r) (row_text r)
   row_is_text (row.Text text) = refl
+  row_is_text (row.Verbatim verbatim) = refl
   row_is_text (row.Leaf (part.Escape text)) = escape_is_text text.now
   row_is_text (row.Leaf (part.Unclosed text)) = data_parts text.now
   row_is_text (row.Leaf (part.Literal kind text)) = refl

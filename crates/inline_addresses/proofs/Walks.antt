@@ -88,6 +88,7 @@ module _ (leads : Target → LinkTexts) (at : ℕ → LinkTexts) where
   pub row_after : (n : ℕ) (run : List ℕ) (r : InlineRow) (rest : List rows.InlineRow)
       → linked_rows leads n run (row_view at r ++ rest) ≡ after n run (row_view at r) (row_depth n r) rest (row_text r)
   row_after n run (row.Text text) rest = run_longer n run text.now rest
+  row_after n run (row.Verbatim verbatim) rest = run_longer n run verbatim.text.now rest
   row_after zero run (row.Leaf p) rest = leaf_after zero run p rest
   row_after zero run (row.EnterSpan span) rest = refl
   row_after zero run (row.EnterLink to) rest = refl
@@ -205,6 +206,7 @@ module _ (leads : Target → LinkTexts) (at : ℕ → LinkTexts) where
   -- in a link, a literal is text, and any other row stays as it is
   pub row_in_link : (n : ℕ) (r : InlineRow) → flat_map (row_linked (suc n)) (row_view at r) ≡ text_or (row_view at r) (literal_text r)
   row_in_link n (row.Text text) = text_linked n text.now
+  row_in_link n (row.Verbatim verbatim) = text_linked n verbatim.text.now
   row_in_link n (row.Leaf (part.Escape text)) = escapes_linked n text.now
   row_in_link n (row.Leaf (part.Unclosed text)) = ap (flat_map (row_linked (suc n))) (data_parts text.now) ∙ text_linked n text.now ∙ sym (data_parts text.now)
   row_in_link n (row.Leaf (part.Literal kind text)) = append-nil (data_rows text.now)

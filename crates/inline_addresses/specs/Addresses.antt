@@ -61,6 +61,7 @@ part_text part = None
 -- the text that a row stands for, if that is all
 abbrev pub row_text : InlineRow → Option (List ℕ)
 row_text (row.Text text) = Some text.now
+row_text (row.Verbatim verbatim) = Some verbatim.text.now
 row_text (row.Leaf part) = part_text part
 row_text r = None
 

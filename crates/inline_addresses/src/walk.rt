@@ -58,6 +58,7 @@ pub(crate) fn text_of<'a>(row: InlineRow<'a>) -> Option<&'a str>
 {
     match row {
         InlineRow::Text(text) => Some(text),
+        InlineRow::Verbatim(verbatim) => Some(verbatim.text),
         InlineRow::Leaf(part) => text_of_part(part),
         InlineRow::EnterSpan(_)
         | InlineRow::EnterLink(_)

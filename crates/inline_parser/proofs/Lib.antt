@@ -12,3 +12,4 @@ pub mod Whole
 pub mod Placed
 pub mod Ended
 pub mod PlainText
+pub mod Verbatim

@@ -1,3 +1,4 @@
 pub mod Shows
 pub mod Scanned
 pub mod Plain
+pub mod Verbatim

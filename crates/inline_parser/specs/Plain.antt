@@ -2,7 +2,7 @@
 use Rattle.std.specs.Prelude.{◌≡◌, ◌<◌, ◌≤◌, ℕ, Bool, true, false, not, if◌then◌else◌, ◌==◌, ◌||◌, List, [], ◌∷◌, drop, length, slice_index}
 use Rattle.std.specs.Char.{to_ascii_lowercase}
 use Rattle.definition_text.specs.Ascii.{exclamation_mark, dollar, ampersand, asterisk, less_than, left_bracket, backslash, right_bracket, underscore, backtick}
-use Rattle.definition_text.specs.Ascii.{tilde}
+use Rattle.definition_text.specs.Ascii.{tilde, double_quote, greater_than}
 use Rattle.definition_text.specs.Columns.{is_white, bare}
 use Rattle.definition_text.specs.Content.{is_eol}
 use Rattle.definition_inline.specs.HardBreak.{ends_here}
@@ -34,9 +34,17 @@ pub record IsStart (has_literals : Bool) (bytes : List ℕ) (stop : ℕ) : Type 
   pub bare : has_literals ≡ true → (k : ℕ) → k < stop → may_begin (drop k bytes) ≡ false
   pub stops : stop < length bytes → starts_here (drop stop bytes) ≡ true
 
--- the first of these bytes is one of those, or such a letter
-abbrev pub starts_or_letter : ℕ → Bool
-starts_or_letter code = starts code || is_literal_letter code
+-- a byte at which nothing starts and that is printed as something else: NUL, `"` or `>`
+abbrev pub is_replaced : ℕ → Bool
+is_replaced code = (code == 0) || ((code == double_quote) || (code == greater_than))
+
+-- something may start at this byte, or it is printed as something else
+abbrev pub stops : ℕ → Bool
+stops code = starts code || is_replaced code
+
+-- the same, or a literal may begin with this letter
+abbrev pub stops_or_letter : ℕ → Bool
+stops_or_letter code = is_literal_letter code || stops code
 
 -- the first code is text: white space before something else on its line, or a code at which nothing starts
 abbrev pub is_text_at : List ℕ → Bool

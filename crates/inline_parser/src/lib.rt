@@ -9,4 +9,4 @@ pub mod room;
 pub mod scan;
 
 pub use room::Room;
-pub use scan::{content_start, inline_rows, is_plain};
+pub use scan::{TextAlone, content_start, inline_rows, text_alone};

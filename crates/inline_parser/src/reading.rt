@@ -23,7 +23,7 @@ ghost use Rattle.inline_parser.specs.Shows.{Shows, ShowsThen, StartsBefore, Keep
 use crate::label::{LabelStart, OpenLabel};
 use crate::room::Room;
 use inline_leaves::LeafPart;
-use inline_rows::{InlineRow, LinkTarget};
+use inline_rows::{InlineRow, LinkTarget, VerbatimText};
 use inline_runs::{Pairing, Run};
 use inline_spans::tell_apart;
 use std::alloc::{AllocError, Allocator};
@@ -100,6 +100,17 @@ impl<'a, A: Allocator> Reading<'a, A> {
         ensures read { ShowsThen self.old result self.new (read_tokens (map Item (map Data text.now))) }
     {
         self.rows.push(InlineRow::Text(text))?;
+        Ok(())
+    }
+
+    /// Text that is printed as it is.
+    pub(crate) fn verbatim(&mut self, verbatim: VerbatimText<'a>) -> Result<(), AllocError>
+        requires sound { IsSound self.old }
+        ensures sound { OnOk result (IsSound self.new) }
+        ensures from { KeepsStarts self.old result self.new }
+        ensures read { ShowsThen self.old result self.new (read_tokens (map Item (map Data verbatim.entry.text.now))) }
+    {
+        self.rows.push(InlineRow::Verbatim(verbatim))?;
         Ok(())
     }
 

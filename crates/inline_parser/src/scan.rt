@@ -27,11 +27,12 @@ ghost use Rattle.inline_rows.specs.View.{data_rows, rows_view};
 ghost use Rattle.inline_label_ends.specs.Ends.{IsAfterFormed, IsFormed};
 ghost use Rattle.inline_parser.specs.Scanned.{context_by, ended_here, has_no_return, HasTargets, IsPlace, IsPlacedBy, IsRunFront, IsSingle, StartsLabel};
 ghost use Rattle.inline_parser.specs.Scanned.{GoesOnBy, HasNoLeaf, HasNoLeafHere, HasNoRun, Shortens, StaysPlaced};
+ghost use Rattle.inline_parser.specs.Verbatim.{alone_bytes, AreVerbatim, TellsVerbatim};
 ghost use Rattle.inline_parser.specs.Shows.{with_open_label, start_view, IsSound, Shows, ShowsThen, StartsBefore};
 
 use crate::gfm_autolink_literal::rows_with_literals;
 use crate::label::{LabelStart, OpenLabel};
-use crate::plain::text_size;
+use crate::plain::{Front, text_front};
 use crate::reading::Reading;
 use crate::room::Room;
 use inline_content::Content;
@@ -43,7 +44,7 @@ use inline_leaves::leaf_at::leaf_at;
 use inline_leaves::searches::Searches;
 use inline_leaves::space::white_size;
 use inline_literals::{NamesInVain, literal_at};
-use inline_rows::InlineRow;
+use inline_rows::{InlineRow, VerbatimText};
 use inline_runs::Run;
 use markdown_options::{Constructs, ParseOptions, Tables};
 use std::alloc::{AllocError, Allocator};
@@ -67,6 +68,15 @@ pub(crate) struct Scanner<'a, A: Allocator> {
     /// What is left of it.
     pub(crate) rest: &'a str,
     pub(crate) reading: Reading<'a, A>,
+}
+
+/// A content that is text alone.
+#[derive(Clone, Copy)]
+pub enum TextAlone<'a> {
+    /// Some of it may be printed as something else.
+    Any(&'a str),
+    /// It is printed as it is.
+    Verbatim(VerbatimText<'a>),
 }
 
 /// The inline structure of a content from a place on, as rows (CommonMark 6), where these are the
@@ -140,18 +150,35 @@ pub fn content_start<'a>(content: Content<'a>) -> &'a str
     after_white(content.text())
 }
 
-/// Whether what is left of a content is text alone: nothing starts in it. While literals are on
+/// What is left of a content, if it is text alone: nothing starts in it. While literals are on
 /// (GFM 6.9) this is said of no content, since text may hold addresses.
-pub fn is_plain(options: &ParseOptions, start: &str) -> bool
-    ensures { result ≡ true → (names : List ℕ → Option (List ℕ)) (is_punctuation : ℕ → Bool) (ds : Targets) (leads : Target → LinkTexts)
-        (content : SeenContent) → IsPlace content.text.now start.now →
-        data_rows start.now ≡ inline_rows leads (inlines_from (context_by options.now names ds) (view_at is_punctuation content start.now)) }
+pub fn text_alone<'a>(options: &ParseOptions, start: &'a str) -> Option<TextAlone<'a>>
+    ensures { (names : List ℕ → Option (List ℕ)) (is_punctuation : ℕ → Bool) (ds : Targets) (leads : Target → LinkTexts) (content : SeenContent) →
+        IsPlace content.text.now start.now → IfSome result (λ alone. data_rows (alone_bytes alone)
+        ≡ inline_rows leads (inlines_from (context_by options.now names ds) (view_at is_punctuation content start.now))) }
 {
     if options.constructs.gfm_autolink_literal {
-        return false;
+        return None;
     }
-    let size = text_size(false, start.as_bytes());
-    size > 0 && size == start.len()
+    let text = text_front(false, start.as_bytes());
+    if text.size > 0 && text.size == start.len() {
+        Some(alone_by(text, start))
+    } else {
+        None
+    }
+}
+
+/// A text that is all at its front.
+fn alone_by<'a>(front: Front, text: &'a str) -> TextAlone<'a>
+    requires whole { front.size ≡ length text.now }
+    requires verbatim { TellsVerbatim text.now front }
+    ensures { alone_bytes result ≡ text.now }
+{
+    if front.is_verbatim {
+        TextAlone::Verbatim(VerbatimText { text })
+    } else {
+        TextAlone::Any(text)
+    }
 }
 
 /// A text after its spaces and tabs.
@@ -193,9 +220,9 @@ impl<'a, A: Allocator + Clone> Scanner<'a, A> {
         ensures read { GoesOnBy T.Tables source.now self.old result self.new }
     {
         let has_literals = source.options.constructs.gfm_autolink_literal;
-        let size = text_size(has_literals, self.rest.as_bytes());
-        if size > 0 {
-            return self.text(size);
+        let text = text_front(has_literals, self.rest.as_bytes());
+        if text.size > 0 {
+            return self.front(text);
         }
         match leaf_at(source.options, source.tables, &mut self.searches, self.rest)? {
             Some(leaf) => self.leaf(leaf),
@@ -223,6 +250,39 @@ impl<'a, A: Allocator + Clone> Scanner<'a, A> {
             Some(leaf) => self.leaf(leaf),
             None => self.run_or_label(source),
         }
+    }
+
+    /// The text at the front.
+    fn front(&mut self, front: Front) -> Result<(), AllocError>
+        requires sound { IsSound self.old.reading }
+        requires boundary { IsCharBoundary self.old.rest.now front.size }
+        requires next { IsAfter self.old.rest.now (drop front.size self.old.rest.now) }
+        requires verbatim { TellsVerbatim self.old.rest.now front }
+        ensures placed { StaysPlaced self.old result self.new }
+        ensures rest { OnOk result (self.new.rest.now ≡ drop front.size self.old.rest.now) }
+        ensures read { ShowsThen self.old.reading result self.new.reading (read_tokens (map Item (map Data (take front.size self.old.rest.now)))) }
+    {
+        if front.is_verbatim {
+            self.verbatim(front.size)
+        } else {
+            self.text(front.size)
+        }
+    }
+
+    /// Bytes of text that are printed as they are, so many.
+    fn verbatim(&mut self, size: usize) -> Result<(), AllocError>
+        requires sound { IsSound self.old.reading }
+        requires boundary { IsCharBoundary self.old.rest.now size }
+        requires next { IsAfter self.old.rest.now (drop size self.old.rest.now) }
+        requires verbatim { AreVerbatim self.old.rest.now size }
+        ensures placed { StaysPlaced self.old result self.new }
+        ensures rest { OnOk result (self.new.rest.now ≡ drop size self.old.rest.now) }
+        ensures read { ShowsThen self.old.reading result self.new.reading (read_tokens (map Item (map Data (take size self.old.rest.now)))) }
+    {
+        let text = text_before(self.rest, size);
+        self.reading.verbatim(VerbatimText { text })?;
+        self.rest = rest_from(self.rest, size);
+        Ok(())
     }
 
     /// Bytes of text, so many.

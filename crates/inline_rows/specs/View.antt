@@ -11,7 +11,7 @@ use Rattle.inline_links.specs.View.{link_texts_view}
 use Rattle.inline_rows.specs.declared.row.LinkTarget.{LinkTarget}
 use Rattle.inline_rows.specs.declared.row.LinkTarget.TheVariants.{Resource, Definition}
 use Rattle.inline_rows.specs.declared.row.InlineRow.{InlineRow}
-use Rattle.inline_rows.specs.declared.row.InlineRow.TheVariants.{Text, Leaf, EnterSpan, EnterLink, EnterImage, Call, Exit}
+use Rattle.inline_rows.specs.declared.row.InlineRow.TheVariants.{Text, Verbatim, Leaf, EnterSpan, EnterLink, EnterImage, Call, Exit}
 
 -- where a target leads, given where the definitions lead by their places
 abbrev pub target_texts : (ℕ → inline.LinkTexts) → LinkTarget → inline.LinkTexts
@@ -25,6 +25,7 @@ data_rows bytes = map (λ b. rows.Part (Data b)) bytes
 -- the definition's rows that a row stands for
 abbrev pub row_view : (ℕ → inline.LinkTexts) → InlineRow → List rows.InlineRow
 row_view at (Text text) = data_rows text.now
+row_view at (Verbatim verbatim) = data_rows verbatim.text.now
 row_view at (Leaf part) = map rows.Part (parts_of part)
 row_view at (EnterSpan span) = rows.EnterSpan (span_view span) ∷ []
 row_view at (EnterLink target) = rows.EnterLink (target_texts at target) ∷ []

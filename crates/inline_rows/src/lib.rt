@@ -3,4 +3,4 @@
 
 pub mod row;
 
-pub use row::{InlineRow, LinkTarget};
+pub use row::{InlineRow, LinkTarget, VerbatimText};

@@ -1,4 +1,7 @@
 //! A row of inline structure.
+ghost use Rattle.std.specs.Prelude.{◌≡◌};
+ghost use Rattle.definition_text.specs.Encode.{encode};
+
 use inline_leaves::LeafPart;
 use inline_links::LinkTexts;
 use inline_runs::Span;
@@ -12,11 +15,20 @@ pub enum LinkTarget<'a> {
     Definition(usize),
 }
 
+/// Text that is printed as it is: it has no NUL, `"`, `&`, `<` and `>`.
+#[derive(Clone, Copy)]
+pub struct VerbatimText<'a> {
+    pub text: &'a str,
+    pub ghost same: { encode text.now ≡ text.now },
+}
+
 /// A part that holds no other, or where one starts or ends that holds others.
 #[derive(Clone, Copy)]
 pub enum InlineRow<'a> {
     /// Bytes that are text.
     Text(&'a str),
+    /// The same, where they are printed as they are.
+    Verbatim(VerbatimText<'a>),
     /// A construct that holds no other.
     Leaf(LeafPart<'a>),
     /// The start of emphasis, strong emphasis or strikethrough (CommonMark 6.2 and GFM 6.5).

@@ -18,7 +18,7 @@ use Rattle.inline_runs.specs.declared.pair.Span.TheVariants.{Emphasis, Strong, S
 use Rattle.inline_runs.specs.declared.spans.RunSpans.{RunSpans}
 use Rattle.inline_rows.specs.View.{row_view, rows_view, data_rows}
 use Rattle.inline_rows.specs.declared.row.InlineRow.{InlineRow}
-use Rattle.inline_rows.specs.declared.row.InlineRow.TheVariants.{Text, Leaf, EnterSpan, EnterLink, EnterImage, Call, Exit}
+use Rattle.inline_rows.specs.declared.row.InlineRow.TheVariants.{Text, Verbatim, Leaf, EnterSpan, EnterLink, EnterImage, Call, Exit}
 use Rattle.inline_spans.specs.Container.{text_of, AreBytes}
 use Rattle.inline_spans.specs.Told.{start_row, span_row_rows, told_rows, rows_needed}
 
@@ -119,6 +119,7 @@ module _ (leads : Target → LinkTexts) (at : ℕ → LinkTexts) where
 
   byte_view : (row : InlineRow) (marker : ℕ) → text_of row ≡ marker ∷ [] → row_view at row ≡ rows.Part (Data marker) ∷ []
   byte_view (Text text) marker is = ap data_rows is
+  byte_view (Verbatim verbatim) marker is = absurd (cons_nil marker [] (sym is))
   byte_view (Leaf part) marker is = absurd (cons_nil marker [] (sym is))
   byte_view (EnterSpan span) marker is = absurd (cons_nil marker [] (sym is))
   byte_view (EnterLink target) marker is = absurd (cons_nil marker [] (sym is))

@@ -78,6 +78,7 @@ fn shape(rt: &HostRuntime, options: &ParseOptions, line: &str) -> Result<String,
     for row in &rows {
         match row {
             InlineRow::Text(text) => shape.push_str(text)?,
+            InlineRow::Verbatim(verbatim) => shape.push_str(verbatim.text)?,
             InlineRow::Leaf(LeafPart::Literal { text, .. }) => {
                 shape.push_str("<")?;
                 shape.push_str(text)?;

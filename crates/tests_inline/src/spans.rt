@@ -12,6 +12,7 @@ fn shape(rt: &HostRuntime, rows: &[InlineRow<'_>]) -> Result<String, Fail> {
     for row in rows {
         shape.push_str(match row {
             InlineRow::Text(text) => text,
+            InlineRow::Verbatim(verbatim) => verbatim.text,
             InlineRow::EnterSpan(Span::Emphasis) => "(",
             InlineRow::EnterSpan(Span::Strong) => "[",
             InlineRow::EnterSpan(Span::Strikethrough) => "{",

@@ -102,6 +102,10 @@ fn push_row(out: &mut Vec<u8>, row: &InlineRow<'_>) -> Result<(), Fail> {
             out.extend_from_slice(text.as_bytes())?;
             Ok(())
         },
+        InlineRow::Verbatim(verbatim) => {
+            out.extend_from_slice(verbatim.text.as_bytes())?;
+            Ok(())
+        },
         InlineRow::Leaf(part) => push_leaf(out, part),
         InlineRow::EnterSpan(Span::Emphasis) => push_part(out, b"+", b"emphasis"),
         InlineRow::EnterSpan(Span::Strong) => push_part(out, b"+", b"strong"),

@@ -28,6 +28,11 @@ returns-in-Text g c = λ meaning at default held.
     sym (ap (λ (row : InlineRow). fold (lay meaning.compile default) (output_view c.args.out.now) (rows_counts meaning (row_view at row))) c.in-Text.is
     ∙ ap (fold (lay meaning.compile default) (output_view c.args.out.now)) (data_counts meaning c.in-Text.field-0.now))
 
+pub returns-in-Verbatim : goal.returns-in-Verbatim
+returns-in-Verbatim g c = λ meaning at default held.
+    sym (ap (λ (row : InlineRow). fold (lay meaning.compile default) (output_view c.args.out.now) (rows_counts meaning (row_view at row))) c.in-Verbatim.is
+    ∙ ap (fold (lay meaning.compile default) (output_view c.args.out.now)) (data_counts meaning c.in-Verbatim.field-0.text.now))
+
 pub returns-in-Leaf : goal.returns-in-Leaf
 returns-in-Leaf g c = λ meaning at default held.
     sym (ap (λ (row : InlineRow). fold (lay meaning.compile default) (output_view c.args.out.now) (rows_counts meaning (row_view at row))) c.in-Leaf.is

@@ -6,7 +6,7 @@ use Rattle.html_bytes.specs.Layout.{lay}
 use Rattle.html_footnotes.specs.Output.{output_view}
 use Rattle.inline_rows.specs.InlineRows as rows_of
 use Rattle.inline_rows.specs.declared.row.InlineRow.{InlineRow}
-use Rattle.inline_rows.specs.View.{rows_view}
+use Rattle.inline_rows.specs.View.{row_view, rows_view}
 use Rattle.html_inline.specs.Counts.{rows_counts}
 use Rattle.html_inline.specs.Opens.{place_target}
 use Rattle.html_inline.proofs.Counts.{counts_more, rows_counted, shown_counts}
@@ -18,9 +18,10 @@ loop-row-preserved g c = λ definition footnotes default held.
     let p = c.args.printing.now in
     let meaning = meaning_by (g.T.Tables.reference_of p.tables.now) p definition footnotes in
     let at = place_target p.definitions.now in
-    counts_more meaning at default c.args.rows.now c.loop-row.row-index _ (output_view c.args.out.now) (output_view c.loop-row.out)
+    let laid = λ (r : InlineRow). fold (lay meaning.compile default) (output_view c.loop-row.out) (rows_counts meaning (row_view at r)) in
+    counts_more meaning at default c.args.rows.now c.loop-row.row-index c.row-item.result (output_view c.args.out.now) (output_view c.loop-row.out)
     (output_view c.count_row.new.out) c.loop-row-test.true
-    (c.loop-row.invariant definition footnotes default held) (c.in_ok-count_row.ensures meaning at default held)
+    (c.loop-row.invariant definition footnotes default held) (c.in_ok-count_row.ensures meaning at default held ∙ ap laid c.row-item.is)
 
 pub returns : goal.returns
 returns g c = λ definition footnotes default is held rows_are.

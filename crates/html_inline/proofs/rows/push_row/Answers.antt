@@ -1,5 +1,5 @@
-use Rattle.std.proofs.Common.{◌≡◌, ◌++◌, string_bytes, sym, ap, ◌∙◌}
-use Rattle.std.specs.Prelude.{map, reverse}
+use Rattle.std.proofs.Common.{◌≡◌, ◌++◌, string_bytes, sym, ap, ◌∙◌, rules}
+use Rattle.std.specs.Prelude.{map, reverse, OnOk}
 use Rattle.std.specs.List.{fold}
 use Rattle.std.proofs.lemmas.Result.{on_ok_weaker}
 use Rattle.html_bytes.specs.Layout.{with_text}
@@ -30,6 +30,24 @@ returns-in-Text g c = λ definition footnotes held.
     (λ (e : string_bytes c.push_encoded.new.out ≡ out.text ++ encode c.in-Text.text.now).
     ap (λ x. printed_at (with_text out x) stack) e ∙ sym (text_printed p.cell meaning stack out c.in-Text.text.now) ∙ ap row_is (sym c.in-Text.is))
     c.push_encoded.ensures
+
+pub returns-in-Verbatim : goal.returns-in-Verbatim
+returns-in-Verbatim g c = λ definition footnotes held.
+    let p = c.args.printing.now in
+    let meaning = meaning_by (g.T.Tables.reference_of p.tables.now) p definition footnotes in
+    let at = place_target p.definitions.now in
+    let view = opened_view meaning at c.args.rows.now in
+    let stack = map view (reverse c.args.scratch.now.stack.items) in
+    let out = output_view c.args.out.now in
+    let old = printed_at out stack in
+    let row_is = λ (r : InlineRow). fold (row_printed_in p.cell meaning) old (row_view at r) in
+    let verbatim = c.in-Verbatim.verbatim in
+    let printed : OnOk c.push_str.result (string_bytes c.push_str.new.self ≡ out.text ++ verbatim.text.now) = search rules in
+    on_ok_weaker c.push_str.result
+    (λ (e : string_bytes c.push_str.new.self ≡ out.text ++ verbatim.text.now).
+    ap (λ x. printed_at (with_text out x) stack) (e ∙ ap (λ t. out.text ++ t) (sym verbatim.same))
+    ∙ sym (text_printed p.cell meaning stack out verbatim.text.now) ∙ ap row_is (sym c.in-Verbatim.is))
+    printed
 
 pub returns-in-Leaf : goal.returns-in-Leaf
 returns-in-Leaf g c = λ definition footnotes held.

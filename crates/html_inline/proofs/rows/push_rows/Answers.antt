@@ -1,10 +1,11 @@
-use Rattle.std.proofs.Common.{◌≡◌, List, [], ap, ◌∙◌, take}
+use Rattle.std.proofs.Common.{◌≡◌, List, [], sym, ap, ◌∙◌, take}
 use Rattle.std.specs.List.{fold}
-use Rattle.std.proofs.lemmas.List.{take_all}
+use Rattle.std.proofs.lemmas.List.{get_or_default, take_all}
 use Rattle.inline_rows.specs.InlineRows as rows_of
 use Rattle.html_footnotes.specs.Output.{output_view}
 use Rattle.inline_rows.specs.declared.row.InlineRow.{InlineRow}
-use Rattle.inline_rows.specs.View.{rows_view}
+use Rattle.inline_rows.specs.declared.row.InlineRow.TheVariants.{Exit}
+use Rattle.inline_rows.specs.View.{row_view, rows_view}
 use Rattle.html_inline.specs.Opens.{place_target, printed_of}
 use Rattle.html_inline.specs.Printed.{PrintState, printed_at, with_row}
 use Rattle.definition_page.specs.InlinePieces.{leads_to}
@@ -15,16 +16,22 @@ use Rattle.html_inline.proofs.RowsPrinted.{content_printed}
 use Rattle.html_inline.proofs.rows.push_rows.Goals as goal
 use Rattle.html_inline.specs.Prints.{meaning_by}
 
+pub push_row-requires : goal.push_row-requires
+push_row-requires g c =
+    get_or_default c.args.rows.now c.loop-place.place Exit c.row-item.result c.loop-place-test.true ∙ sym c.row-item.is
+
 pub loop-place-preserved : goal.loop-place-preserved
 loop-place-preserved g c = λ definition footnotes held.
     let p = c.args.printing.now in
     let meaning = meaning_by (g.T.Tables.reference_of p.tables.now) p definition footnotes in
     let at = place_target p.definitions.now in
     let rows = c.args.rows.now in
-    rows_step p.cell meaning at (printed_at (output_view c.args.out.now) [])
-    (printed_of meaning at rows (output_view c.loop-place.out) c.loop-place.scratch.stack.items)
+    let before = printed_of meaning at rows (output_view c.loop-place.out) c.loop-place.scratch.stack.items in
+    rows_step p.cell meaning at (printed_at (output_view c.args.out.now) []) before
     (printed_of meaning at rows (output_view c.push_row.new.out) c.push_row.new.scratch.stack.items)
-    rows c.loop-place.place _ c.loop-place-test.true (c.loop-place.invariant definition footnotes held) (c.in_ok-push_row.ensures definition footnotes held)
+    rows c.loop-place.place c.row-item.result c.loop-place-test.true (c.loop-place.invariant definition footnotes held)
+    (c.in_ok-push_row.ensures definition footnotes held
+    ∙ ap (λ (r : InlineRow). fold (row_printed_in p.cell meaning) before (row_view at r)) c.row-item.is)
 
 pub returns : goal.returns
 returns g c = λ definition footnotes default is held rows_are.

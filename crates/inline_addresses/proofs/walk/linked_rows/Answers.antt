@@ -1,7 +1,8 @@
-use Rattle.std.proofs.Common.{◌≡◌, ◌+◌, ◌∙◌, [], ap, arith, drop, sym}
+use Rattle.std.proofs.Common.{◌≡◌, ◌+◌, ◌++◌, ◌∙◌, [], ap, arith, drop, length, subst, sym}
 use Rattle.std.proofs.lemmas.List.{drop_all}
-use Rattle.inline_rows.specs.View.{rows_view}
-use Rattle.inline_addresses.specs.Addresses.{linked_rows, walk_rows}
+use Rattle.inline_rows.specs.declared.row.InlineRow.{InlineRow}
+use Rattle.inline_rows.specs.View.{row_view, rows_view}
+use Rattle.inline_addresses.specs.Addresses.{linked_rows, row_text, text_or_end, walk_rows, IsNext}
 use Rattle.inline_addresses.proofs.Rows.{rows_linked}
 use Rattle.inline_addresses.proofs.Walks.{after_row, next_row, rows_left}
 use Rattle.inline_addresses.proofs.walk.linked_rows.Goals as goal
@@ -9,21 +10,27 @@ use Rattle.inline_addresses.proofs.walk.linked_rows.Goals as goal
 pub step-requires-clause-next : goal.step-requires-clause-next
 step-requires-clause-next g c =
     let walk = c.loop-row.walk in
-    next_row walk.text.now walk.size c.args.rows.now c.loop-row.row-index _ c.loop-row.invariant.within c.loop-row-test.true c.loop-row.invariant.text
+    let row = c.row-item.result in
+    subst (λ (r : InlineRow). IsNext walk.text.now walk.size (text_or_end (row_text r))) (sym c.row-item.is)
+    (next_row walk.text.now walk.size c.args.rows.now c.loop-row.row-index row c.loop-row.invariant.within c.loop-row-test.true c.loop-row.invariant.text)
 
 pub loop-row-preserved : goal.loop-row-preserved
 loop-row-preserved g c =
     let walk = c.loop-row.walk in
     let rows = c.args.rows.now in
     let i = c.loop-row.row-index in
+    let row = c.row-item.result in
     let next = c.in_ok-step.ensures in
     record {
       depth = omega (arith, next.depth, c.loop-row.invariant.depth);
       within = next.within;
-      text = next.text ∙ after_row walk.text.now walk.size rows i _ c.loop-row-test.true c.loop-row.invariant.text;
+      text =
+          next.text ∙ ap (λ (r : InlineRow). drop (length (text_or_end (row_text r))) (drop walk.size walk.text.now)) c.row-item.is
+          ∙ after_row walk.text.now walk.size rows i row c.loop-row-test.true c.loop-row.invariant.text;
       rows = λ leads at.
           next.rows leads at (rows_view at (drop (i + 1) rows))
-          ∙ ap (walk_rows leads at walk) (rows_left leads at rows i _ c.loop-row-test.true)
+          ∙ ap (λ (r : InlineRow). walk_rows leads at walk (row_view at r ++ rows_view at (drop (i + 1) rows))) c.row-item.is
+          ∙ ap (walk_rows leads at walk) (rows_left leads at rows i row c.loop-row-test.true)
           ∙ c.loop-row.invariant.rows leads at;
     }
 

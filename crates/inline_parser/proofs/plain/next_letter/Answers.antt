@@ -5,19 +5,19 @@ use Rattle.std.proofs.lemmas.List.{get_or-drop, length-drop}
 use Rattle.std.proofs.lemmas.List.Sums.{prefix_len-le-length}
 use Rattle.text_search.specs.Sets.{holds}
 use Rattle.text_search.proofs.Sets.{first_by}
-use Rattle.inline_parser.specs.declared.plain.TheConstants.{STARTS_OR_LETTERS}
-use Rattle.inline_parser.specs.Plain.{starts_or_letter}
+use Rattle.inline_parser.specs.declared.plain.TheConstants.{STOPS_OR_LETTERS}
+use Rattle.inline_parser.specs.Plain.{stops_or_letter}
 use Rattle.inline_parser.proofs.plain.next_letter.Goals as goal
 
 -- the first byte of a rest of bytes
-first : (bytes rest : List ℕ) (at n : ℕ) → ((k : ℕ) → Fits w8 (get_or bytes k 0)) → rest ≡ drop at bytes → n ≡ position_or_len (holds STARTS_OR_LETTERS) rest
-    → n ≡ position_or_len starts_or_letter (drop at bytes)
+first : (bytes rest : List ℕ) (at n : ℕ) → ((k : ℕ) → Fits w8 (get_or bytes k 0)) → rest ≡ drop at bytes → n ≡ position_or_len (holds STOPS_OR_LETTERS) rest
+    → n ≡ position_or_len stops_or_letter (drop at bytes)
 first bytes rest at n fits e is =
-    is ∙ ap (position_or_len (holds STARTS_OR_LETTERS)) e
-    ∙ first_by (holds STARTS_OR_LETTERS) starts_or_letter (drop at bytes) refl (λ k. subst (Fits w8) (sym (get_or-drop at bytes k 0)) (fits (at + k)))
+    is ∙ ap (position_or_len (holds STOPS_OR_LETTERS)) e
+    ∙ first_by (holds STOPS_OR_LETTERS) stops_or_letter (drop at bytes) refl (λ k. subst (Fits w8) (sym (get_or-drop at bytes k 0)) (fits (at + k)))
 
-within : (bytes : List ℕ) (at n : ℕ) → at ≤ length bytes → n ≡ position_or_len starts_or_letter (drop at bytes) → at + n ≤ length bytes
-within bytes at n le is = omega (arith, le, is, length-drop at bytes, prefix_len-le-length (λ b. not (starts_or_letter b)) (drop at bytes))
+within : (bytes : List ℕ) (at n : ℕ) → at ≤ length bytes → n ≡ position_or_len stops_or_letter (drop at bytes) → at + n ≤ length bytes
+within bytes at n le is = omega (arith, le, is, length-drop at bytes, prefix_len-le-length (λ b. not (stops_or_letter b)) (drop at bytes))
 
 pub overflow_add-result : goal.overflow_add-result
 overflow_add-result c =

@@ -1,10 +1,13 @@
-use Rattle.std.proofs.Common.{ap, ◌∙◌}
+use Rattle.std.proofs.Common.{◌≡◌, Option, IfSome, ap, ◌∙◌, subst}
 use Rattle.html_bytes.specs.Document.{context_of, document, meaning_of}
 use Rattle.definition_inline.specs.Scan.{inlines_from}
 use Rattle.definition_page.specs.Targets.{linked_at, linked_by}
 use Rattle.inline_content.specs.View.{view_at}
 use Rattle.html_inline.specs.Opens.{place_target}
-use Rattle.inline_rows.specs.View.{rows_view}
+use Rattle.inline_rows.specs.InlineRows.{inline_rows}
+use Rattle.inline_rows.specs.View.{data_rows, rows_view}
+use Rattle.inline_parser.specs.declared.scan.TextAlone.{TextAlone}
+use Rattle.inline_parser.specs.Verbatim.{alone_bytes}
 use Rattle.definition_page.specs.InlinePieces.{leads_to}
 use Rattle.definition_page.specs.TextTables.{text_tables}
 use Rattle.html_contents.proofs.Places.{same_place, same_rows}
@@ -23,11 +26,14 @@ returns g c = λ ds known default.
     ∙ c.in_ok-rows.ensures ds known.has_labels)
 
 -- text alone
-pub returns-then-is_plain : goal.returns-then-is_plain
-returns-then-is_plain g c = λ ds known default.
+pub returns-in-Some : goal.returns-in-Some
+returns-in-Some g c = λ ds known default.
     let texts = c.args.self.now in
     let names = g.T.Tables.reference_of texts.tables.now in
     let is_punctuation = g.T.Tables.punctuation_of texts.tables.now in
     let d = document texts.options.now (text_tables names is_punctuation) ds in
-    c.push_plain.ensures (meaning_of d) default c.args.cell (inlines_from (context_of d) (view_at is_punctuation c.args.content c.args.start.now))
-    (c.is_plain.ensures c.if-is_plain.true names is_punctuation ds (leads_to (linked_by ds.definitions)) c.args.content c.requires)
+    let leads = leads_to (linked_by ds.definitions) in
+    let structure = inlines_from (context_of d) (view_at is_punctuation c.args.content c.args.start.now) in
+    c.push_text_alone.ensures (meaning_of d) default c.args.cell structure
+    (subst (λ (o : Option TextAlone). IfSome o (λ alone. data_rows (alone_bytes alone) ≡ inline_rows leads structure)) c.in-Some.is
+    (c.text_alone.ensures names is_punctuation ds leads c.args.content c.requires))

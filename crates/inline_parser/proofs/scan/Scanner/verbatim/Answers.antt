@@ -1,0 +1,35 @@
+use Rattle.std.proofs.Common.{◌≡◌, ℕ, List, subst, sym, map}
+use Rattle.definition_text.specs.Encode.{encode}
+use Rattle.definition_inline.specs.Inline.{Data}
+use Rattle.definition_inline.specs.Scan.{read_tokens}
+use Rattle.definition_inline.specs.Spans.{Item}
+use Rattle.inline_leaves.specs.Leaves.{IsAfter}
+use Rattle.inline_parser.specs.Shows.{Shows}
+use Rattle.inline_parser.proofs.Verbatim.{front_same}
+use Rattle.inline_parser.proofs.Placed.{place_after, labels_after}
+use Rattle.inline_parser.proofs.scan.Scanner.verbatim.Goals as goal
+
+pub invariant_of-verbatim : goal.invariant_of-verbatim
+invariant_of-verbatim g c = record {
+  same =
+      subst (λ (bytes : List ℕ). encode bytes ≡ bytes) (sym c.text_before-text.ensures)
+      (front_same c.args.self.now.rest.now c.args.size c.requires.verbatim);
+}
+
+pub returns-clause-placed : goal.returns-clause-placed
+returns-clause-placed g c is_punctuation content p =
+    let s = c.args.self.now in
+    let after = c.rest_from-self.result.now in
+    let a : IsAfter s.rest.now after = subst (IsAfter s.rest.now) (sym c.rest_from-self.ensures) c.requires.next in
+    record {
+      searched = p.searched;
+      known = p.known;
+      place = place_after content.text.now s.rest.now after p.place a;
+      labels = c.in_ok-verbatim.ensures.from after (labels_after s.rest.now after s.reading.labels.items a p.labels);
+      sound = c.in_ok-verbatim.ensures.sound;
+    }
+
+pub returns-clause-read : goal.returns-clause-read
+returns-clause-read g c leads at r h =
+    subst (λ text. Shows leads at c.verbatim.new.self (read_tokens (map Item (map Data text)) r)) c.text_before-text.ensures
+    (c.in_ok-verbatim.ensures.read leads at r h)
