@@ -1,7 +1,7 @@
 -- Definitions that are cut from the front of the open paragraph.
 use Rattle.std.proofs.Common.{◌≡◌, ◌∷◌, [], ◌<◌, ◌≤◌, ℕ, zero, suc, if◌then◌else◌, Bool, true, false, List, Option, None, Some, refl, sym, ap, ◌∙◌, subst, take}
 use Rattle.std.proofs.Common.{drop, length, arith}
-use Rattle.std.proofs.lemmas.Bool.{cond-true, cond-false}
+use Rattle.std.proofs.lemmas.Bool.{cond-true, cond-false, cond_both}
 use Rattle.std.proofs.lemmas.List.{length-map}
 use Rattle.markdown_options.specs.declared.line_ending.LineEnding.{LineEnding}
 use Rattle.markdown_options.specs.declared.configuration.Constructs.{Constructs}
@@ -12,8 +12,8 @@ use Rattle.definition_block.specs.Tree.{Blocks, Nil, join, Definition, Text, is_
 use Rattle.std.specs.Option.{option_map}
 use Rattle.definition_text.specs.Columns.{code_byte}
 use Rattle.definition_text.specs.Content.{content_of, content_text}
-use Rattle.definition_inline.specs.Definition.{definition, definition_at}
-use Rattle.definition_block.specs.Definitions.{DefinitionCut, cut_into, cut_most, definition_cut, definition_lines, lines_before}
+use Rattle.definition_inline.specs.Definition.{Definition as LinkDefinition, definition, definition_at}
+use Rattle.definition_block.specs.Definitions.{DefinitionCut, cut_after, cut_into, cut_most, definition_cut, definition_lines, lines_before}
 use Rattle.block_rows.specs.ParagraphLines.{AreLines}
 use Rattle.block_rows.specs.Rows.{Single, definition_on, definition_value, row_value, block_rows, piece_line, piece_lines}
 use Rattle.block_rows.proofs.DefinitionLines.{definition_cuts}
@@ -141,3 +141,21 @@ all_cut on p content around kids ls k is none =
     (ap (λ (bs : Blocks). cut_into bs k.left) (sym (join-nil k.definitions))
     ∙ ap (λ (x : DefinitionCut). cut_into (join k.definitions x.definitions) x.left) (sym (cut_none k.left none)) ∙ sym k.same ∙ sym (cut_on on ls is))
     k.reads
+
+-- ---- what is left has the lines of a paragraph
+
+left_clean : (more : List BlockLine → DefinitionCut) (ls : List BlockLine) (o : Option LinkDefinition) → AreLines ls
+    → ((d : LinkDefinition) → definition_at (content_of (own_lines ls)) ≡ Some d → AreLines (more (drop (lines_before d.rest ls) ls)).left)
+    → definition_at (content_of (own_lines ls)) ≡ o → AreLines (cut_after o ls more).left
+left_clean more ls None h m e = h
+left_clean more ls (Some d) h m e = m d e
+
+most_clean : (most : ℕ) (ls : List BlockLine) → AreLines ls → AreLines (cut_most most ls).left
+most_clean zero ls h = h
+most_clean (suc most) ls h =
+    left_clean (cut_most most) ls (definition_at (content_of (own_lines ls))) h
+    (λ d e. most_clean most (drop (lines_before d.rest ls) ls) (definition_cuts ls d h e).left) refl
+
+pub cut_clean : (on : Constructs) (ls : List BlockLine) → AreLines ls → AreLines (definition_cut on ls).left
+cut_clean on ls h =
+    cond_both on.definition (cut_most (length ls) ls) (cut_into Nil ls) (λ parts. AreLines parts.left) (λ _. most_clean (length ls) ls h) (λ _. h)

@@ -8,7 +8,6 @@ use Rattle.std.proofs.lemmas.List.{drop-drop, take_more, get_or-drop, length-dro
 use Rattle.std.proofs.lemmas.List.Sums.{sum_by-append}
 use Rattle.markdown_options.specs.declared.line_ending.LineEnding.{LineEnding}
 use Rattle.markdown_options.specs.declared.configuration.Constructs.{Constructs}
-use Rattle.definition_text.specs.Lines.{TextLine}
 use Rattle.definition_block.specs.Container.{Container, Quote, Item, Footnote}
 use Rattle.block_rows.specs.declared.row.Row.{Row}
 use Rattle.block_rows.specs.declared.row.Row.TheVariants as row
@@ -18,7 +17,7 @@ use Rattle.definition_block.specs.Tree.{Block, IndentedCode, Ending, Blank, Bloc
 use Rattle.definition_block.specs.Tree.{Leaf}
 use Rattle.definition_block.specs.Tree.{is_nothing, close_leaf, is_some_line, blanks, is_ending, front}
 use Rattle.block_rows.proofs.Pieces.{lines_from}
-use Rattle.block_rows.specs.Rows.{whole_line, Single, start_row, block_rows, row_value, rows_of, rows_value, value_with, row_size, rows_size, piece_line}
+use Rattle.block_rows.specs.Rows.{Single, start_row, block_rows, row_value, rows_of, rows_value, value_with, row_size, rows_size, piece_line}
 use Rattle.block_rows.specs.Rows.{piece_lines}
 use Rattle.block_parser.specs.declared.parser.Parser.{Parser}
 use Rattle.block_parser.specs.Spine.{Level, level, spine, rows_around}
@@ -260,27 +259,3 @@ whole_written rows waiting bare pool around kids left h l le =
     let front = take (rows_size rows) pool in
     with_line rows waiting bare front around kids [] (without_lines rows waiting bare pool around kids left h le) l
     (omega (arith, length-take (rows_size rows) pool))
-
--- one more line of pieces is a whole line
-pub whole_more : (pieces : List Piece) (i : ℕ) (d : Piece) (all : List BlockLine) (l : TextLine) (before after : List TextLine) → i < length pieces
-    → all ≡ map piece_line (take i pieces) ++ map whole_line before → before ≡ l ∷ after → piece_line (get_or pieces i d) ≡ whole_line l
-    → all ≡ map piece_line (take (i + 1) pieces) ++ map whole_line after
-whole_more pieces i d all l before after lt so_far first same =
-    so_far ∙ ap (λ ls. map piece_line (take i pieces) ++ map whole_line ls) first
-    ∙ ap (λ x. map piece_line (take i pieces) ++ x ∷ map whole_line after) (sym same)
-    ∙ sym (append_assoc (map piece_line (take i pieces)) (piece_line (get_or pieces i d) ∷ []) (map whole_line after))
-    ∙ ap (λ x. x ++ map whole_line after) (sym (map-append piece_line (take i pieces) (get_or pieces i d ∷ []))
-    ∙ ap (map piece_line) (sym (take_more pieces i d lt)))
-
--- all of them are
-pub whole_all : (pieces : List Piece) (i : ℕ) (all rest : List TextLine) → length pieces ≤ i
-    → map whole_line all ≡ map piece_line (take i pieces) ++ map whole_line rest
-    → piece_lines pieces ≡ map whole_line (take (length pieces) all)
-whole_all pieces i all rest le h =
-    let n = length pieces in
-    let front = piece_lines pieces in
-    let long : length front ≡ n = length-map pieces piece_line in
-    sym (sym (take-map whole_line n all)
-    ∙ ap (take n) (h ∙ ap (λ ps. map piece_line ps ++ map whole_line rest) (take_all i pieces le))
-    ∙ take-append-le n front (map whole_line rest) (omega (arith, long))
-    ∙ take_all n front (omega (arith, long)))

@@ -38,9 +38,9 @@ row_longer (row.UnclosedCode n) out [] more le = absurd (omega arith)
 row_longer (row.UnclosedCode n) out (l ∷ ls) more le =
     ap (λ front. value_with (out ++ Single (FencedCode l.codes false front) ∷ []) (drop (1 + n) ((l ∷ ls) ++ more))) (take-append-le n ls more (omega arith))
     ∙ ap (value_with (out ++ Single (FencedCode l.codes false (take n ls)) ∷ [])) (drop-append-le (1 + n) (l ∷ ls) more le)
-row_longer (row.WholeParagraph n) out [] more le = absurd (omega arith)
-row_longer (row.WholeParagraph n) out (l ∷ ls) more le =
-    ap (value_with (out ++ Single (Paragraph (own_lines (whole_lines n (bytes_of l.codes)))) ∷ [])) (drop-append-le 1 (l ∷ ls) more le)
+row_longer row.WholeParagraph out [] more le = absurd (omega arith)
+row_longer row.WholeParagraph out (l ∷ ls) more le =
+    ap (value_with (out ++ Single (Paragraph (own_lines (whole_lines (bytes_of l.codes)))) ∷ [])) (drop-append-le 1 (l ∷ ls) more le)
 row_longer (row.SetextHeading rank n) out ls more le =
     ap (λ front. value_with (out ++ Single (Heading rank (own_lines front)) ∷ []) (drop n (ls ++ more))) (take-append-le n ls more le)
     ∙ ap (value_with (out ++ Single (Heading rank (own_lines (take n ls))) ∷ [])) (drop-append-le n ls more le)
@@ -99,7 +99,7 @@ none_taken : (r : Row) (left : List BlockLine) → row_size r ≡ 0 → row_valu
 none_taken (row.Paragraph n) left h =
     ap (λ (k : ℕ). Single (Paragraph (own_lines (take k left)))) h ∙ sym (ap (λ (k : ℕ). Single (Paragraph (own_lines (take k [])))) h)
 none_taken (row.Heading rank) left h = absurd (omega (arith, h))
-none_taken (row.WholeParagraph n) left h = absurd (omega (arith, h))
+none_taken row.WholeParagraph left h = absurd (omega (arith, h))
 none_taken (row.SetextHeading rank n) left h =
     ap (λ (k : ℕ). Single (Heading rank (own_lines (take k left)))) h ∙ sym (ap (λ (k : ℕ). Single (Heading rank (own_lines (take k [])))) h)
 none_taken (row.Html n) left h = ap (λ (k : ℕ). Single (Html (own_lines (take k left)))) h ∙ sym (ap (λ (k : ℕ). Single (Html (own_lines (take k [])))) h)

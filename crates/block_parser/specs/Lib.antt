@@ -8,3 +8,4 @@ pub mod HeadingSetext
 pub mod GfmTable
 pub mod Fences
 pub mod Frontmatter
+pub mod Whole

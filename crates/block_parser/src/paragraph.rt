@@ -1,11 +1,14 @@
 //! Paragraphs (CommonMark 4.8).
 //!
 //!     paragraph ::= text_line+, which no other block begins, and after the first no blank one ends
-ghost use Rattle.std.specs.Prelude.{◌≡◌, ◌<◌, true, None, ◌^◌, length};
+ghost use Rattle.std.specs.Prelude.{◌≡◌, ◌++◌, None, IfSome};
 ghost use Rattle.definition_text.specs.BlockLines.{spaced_line};
-ghost use Rattle.block_rows.specs.Rows.{piece_line, piece_lines, whole_line, whole_lines};
+ghost use Rattle.definition_text.specs.Content.{line_text};
+ghost use Rattle.definition_text.specs.Lines.{ending_text};
+ghost use Rattle.block_rows.specs.ParagraphLines.{AreLines};
+ghost use Rattle.block_rows.specs.Rows.{piece_line, piece_lines, whole_lines};
+ghost use Rattle.block_parser.specs.Whole.{IsWhole};
 ghost use Rattle.definition_text.specs.Columns.{bytes_of};
-ghost use Rattle.text_lines.specs.Rest.{view_line};
 
 use crate::definition::last_ending;
 use crate::leaf::OpenLeaf;
@@ -15,14 +18,9 @@ use block_starts::Cursor;
 use definition_text::{Beside, Kind};
 use markdown_options::{Constructs, LineEnding};
 use std::alloc::{AllocError, Allocator};
-use text_lines::{Line, Lines};
-
-/// How many whole lines a paragraph has at least that is kept as one: a few are printed faster one
-/// by one, many need less memory so.
-const WHOLE_LINES_MIN: usize = 8;
 
 impl<'a, A: Allocator> Parser<'a, A> {
-    ghost use Rattle.std.specs.Prelude.{◌≡◌, OnOk, List, true, false, drop, ◌+◌, ◌-◌, ◌++◌, ◌∷◌, [], length};
+    ghost use Rattle.std.specs.Prelude.{◌≡◌, OnOk, IfSome, List, drop, ◌++◌, ◌∷◌, []};
     ghost use Rattle.definition_text.specs.BlockLines.{BlockLine, own_lines};
     ghost use Rattle.definition_block.specs.Tree as tree;
     ghost use Rattle.block_rows.specs.ParagraphLines.{AreLines};
@@ -60,9 +58,10 @@ impl<'a, A: Allocator> Parser<'a, A> {
         self.close_paragraph()
     }
 
-    /// The lines that are left of the open paragraph, if there are any, are a paragraph.
+    /// The lines that are left of the open paragraph, if there are any, are a paragraph. From two
+    /// lines on it is kept as one, where they are whole.
     fn close_paragraph(&mut self) -> Result<(), AllocError>
-        ensures read { OnOk result ((ls : List BlockLine) → Closes self.old self.new (tree.Text ls) (tree.paragraph_of ls)) }
+        ensures read { OnOk result ((ls : List BlockLine) → AreLines ls → Closes self.old self.new (tree.Text ls) (tree.paragraph_of ls)) }
         ensures containers { self.new.open ≡ self.old.open }
     {
         let count = self.pieces.len() - self.lines_in_rows;
@@ -70,41 +69,38 @@ impl<'a, A: Allocator> Parser<'a, A> {
             return Ok(());
         }
         let ending = last_ending(&self.pieces[self.lines_in_rows..]);
-        if self.has_whole_lines() {
-            return self.close_whole(count, ending);
+        if count == 1 {
+            return self.end_leaf(Row::Paragraph(1), ending);
         }
-        self.end_leaf(Row::Paragraph(count), ending)
+        match self.whole_text() {
+            Some(text) => self.close_whole(text, ending),
+            None => self.end_leaf(Row::Paragraph(count), ending),
+        }
     }
 
-    /// Whether the lines of the open leaf are many, and whole lines of the text, from that of
-    /// `paragraph` on.
-    pub(crate) fn has_whole_lines(&self) -> bool
-        ensures { result ≡ true →
-            drop self.now.lines_in_rows (piece_lines self.now.pieces.items) ≡
-            whole_lines (length self.now.pieces.items - self.now.lines_in_rows) self.now.paragraph.now }
+    /// The text of the lines of the open leaf, where they are the whole lines of the text from that
+    /// of `paragraph` on.
+    fn whole_text(&self) -> Option<&'a str>
+        ensures { IfSome result (λ text.
+            let ls = drop self.now.lines_in_rows (piece_lines self.now.pieces.items) in AreLines ls → whole_lines text.now ≡ ls) }
     {
-        let lines = &self.pieces[self.lines_in_rows..];
-        lines.len() >= WHOLE_LINES_MIN && are_whole(self.paragraph, lines)
+        first_lines(self.paragraph, &self.pieces[self.lines_in_rows..])
     }
 
-    /// The open paragraph ends. Its lines are kept as one.
-    pub(crate) fn close_whole(
-        &mut self,
-        count: usize,
-        ending: Option<LineEnding>,
-    ) -> Result<(), AllocError>
-        ensures read { OnOk result ((ls : List BlockLine) → ls ≡ whole_lines count self.old.paragraph.now →
+    /// The open paragraph ends. Its lines are kept as one, which is their text.
+    fn close_whole(&mut self, text: &'a str, ending: Option<LineEnding>) -> Result<(), AllocError>
+        ensures read { OnOk result ((ls : List BlockLine) → ls ≡ whole_lines text.now →
             Closes self.old self.new (tree.Text ls) (tree.block_and_ending (tree.Paragraph (own_lines ls)) ending)) }
         ensures containers { self.new.open ≡ self.old.open }
     {
         self.leaf = NOTHING;
         self.pieces.truncate(self.lines_in_rows);
-        self.pieces.push(whole(self.paragraph))?;
-        self.end_leaf(Row::WholeParagraph(count), ending)
+        self.pieces.push(whole(text))?;
+        self.end_leaf(Row::WholeParagraph, ending)
     }
 }
 
-/// The lines of a paragraph that are whole lines of the text.
+/// The text of a paragraph as one line of it.
 fn whole<'a>(text: &'a str) -> Piece<'a>
     ensures line { piece_line result ≡ spaced_line text.now None }
     ensures bytes { bytes_of text.now ≡ text.now }
@@ -117,29 +113,39 @@ fn whole<'a>(text: &'a str) -> Piece<'a>
     }
 }
 
-/// Whether a text begins with these lines.
-fn are_whole(text: &str, pieces: &[Piece<'_>]) -> bool
-    requires { length text.now < 2 ^ 61 }
-    ensures { result ≡ true → piece_lines pieces.now ≡ whole_lines (length pieces.now) text.now }
+/// The front of a text that these lines are, where it begins with them.
+fn first_lines<'a>(text: &'a str, pieces: &[Piece<'_>]) -> Option<&'a str>
+    ensures { IfSome result (λ front. AreLines (piece_lines pieces.now) → whole_lines front.now ≡ piece_lines pieces.now) }
 {
-    let mut lines = Lines::new(text);
+    let mut rest = text;
     for piece in pieces {
-        let Some(line) = lines.next() else {
-            return false;
-        };
-        if !is_line(*piece, line) {
-            return false;
-        }
+        rest = after_line(rest, *piece)?;
     }
-    true
+    Some(&text[..text.len() - rest.len()])
 }
 
-/// Whether a line of a block is this whole line.
-fn is_line(piece: Piece<'_>, line: Line<'_>) -> bool
-    ensures { result ≡ true → piece_line piece.entry ≡ whole_line (view_line line.entry) }
+/// What follows a line in a text that begins with it, as a whole line.
+fn after_line<'a>(text: &'a str, piece: Piece<'_>) -> Option<&'a str>
+    ensures line { IfSome result (λ rest. text.now ≡ line_text (piece_line piece.entry) ++ rest.now) }
+    ensures whole { IfSome result (λ rest. IsWhole (piece_line piece.entry)) }
 {
-    piece.owed == 0
-        && piece.before == Kind::Whitespace
-        && piece.ending == line.ending
-        && piece.text == line.content
+    if piece.owed != 0 {
+        return None;
+    }
+    if piece.before != Kind::Whitespace {
+        return None;
+    }
+    let after = text.strip_prefix(piece.text)?;
+    let rest = after.strip_prefix(ending_of(piece.ending))?;
+    Some(rest)
+}
+
+/// The bytes of an ending, if there is one.
+fn ending_of(ending: Option<LineEnding>) -> &'static str
+    ensures { result.now ≡ ending_text ending }
+{
+    match ending {
+        Some(ending) => ending.as_str(),
+        None => "",
+    }
 }

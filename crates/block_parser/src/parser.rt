@@ -57,8 +57,6 @@ pub(crate) struct Parser<'a, A: Allocator> {
     ghost counted: { lines_in_rows ≡ rows_size rows.rows.items },
     ghost enough: { lines_in_rows + lines_needed leaf ≤ vec_len pieces },
     ghost no_quotes: { NoQuoteFrom quotes_end (container_views open.items) },
-    ghost rest_fits: { length rest.now < 2 ^ 61 },
-    ghost paragraph_fits: { length paragraph.now < 2 ^ 61 },
 }
 
 /// No leaf is open.

@@ -72,7 +72,7 @@ value_with rows left = record { rows = rows; left = left }
 -- how many lines a row takes: fenced code takes its info as one before its lines
 abbrev pub row_size : Row → ℕ
 row_size (row.Paragraph count) = count
-row_size (row.WholeParagraph count) = 1
+row_size row.WholeParagraph = 1
 row_size (row.Heading rank) = 1
 row_size (row.SetextHeading rank count) = count
 row_size row.Break = 0
@@ -97,12 +97,12 @@ abbrev pub first_codes : List BlockLine → List ℕ
 first_codes [] = []
 first_codes (line ∷ others) = line.codes
 
--- the first lines of a text, so many, as lines of a block
+-- the lines of a text as lines of a block
 abbrev pub whole_line : TextLine → BlockLine
 whole_line line = spaced_line line.content line.ending
 
-abbrev pub whole_lines : ℕ → List ℕ → List BlockLine
-whole_lines count text = map whole_line (take count (lines text))
+abbrev pub whole_lines : List ℕ → List BlockLine
+whole_lines text = map whole_line (lines text)
 
 -- the definition that is read off the bytes of these lines
 abbrev pub definition_on : List BlockLine → Option LinkDefinition
@@ -115,7 +115,7 @@ definition_value (Some d) = Definition d.label d.destination d.title
 -- what a row stands for: it takes its lines from the front of those that are left
 abbrev pub row_value : Row → List BlockLine → BlockRow
 row_value (row.Paragraph count) left = Single (Paragraph (own_lines (take count left)))
-row_value (row.WholeParagraph count) left = Single (Paragraph (own_lines (whole_lines count (bytes_of (first_codes left)))))
+row_value row.WholeParagraph left = Single (Paragraph (own_lines (whole_lines (bytes_of (first_codes left)))))
 row_value (row.Heading rank) left = Single (Heading rank (own_lines (take 1 left)))
 row_value (row.SetextHeading rank count) left = Single (Heading rank (own_lines (take count left)))
 row_value row.Break left = Single Break

@@ -26,9 +26,9 @@ pub struct Piece<'a> {
 pub enum Row {
     /// A paragraph of so many lines, at least one (CommonMark 4.8).
     Paragraph(usize),
-    /// A paragraph of so many whole lines that stand right after another in the text. Its one line
-    /// is the text from the first of them on, up to the end.
-    WholeParagraph(usize),
+    /// A paragraph of whole lines that stand right after another in the text. Its one line is the
+    /// text of them, with their endings.
+    WholeParagraph,
     /// An ATX heading of a rank, from 1 to 6. Its one line is its content (CommonMark 4.2).
     Heading(u8),
     /// A setext heading of a rank, 1 or 2, and of so many lines, at least one (CommonMark 4.3).
@@ -76,7 +76,7 @@ impl Row {
             | Row::Html(count)
             | Row::Table(count)
             | Row::Definition(count) => count,
-            Row::Heading(_) | Row::WholeParagraph(_) | Row::EnterFootnote => 1,
+            Row::Heading(_) | Row::WholeParagraph | Row::EnterFootnote => 1,
             Row::FencedCode(count) | Row::UnclosedCode(count) => 1 + count,
             Row::Break
             | Row::EnterQuote

@@ -12,7 +12,7 @@ use Rattle.block_targets.specs.Read.{is_definition}
 
 none_in : (r : Row) (ls : List BlockLine) → is_definition r ≡ false → row_definitions (row_value r ls) ++ [] ≡ []
 none_in (row.Paragraph count) ls h = refl
-none_in (row.WholeParagraph count) ls h = refl
+none_in row.WholeParagraph ls h = refl
 none_in (row.Heading rank) ls h = refl
 none_in (row.SetextHeading rank count) ls h = refl
 none_in row.Break ls h = refl

@@ -30,7 +30,7 @@ exit_unnamed ended (Some label ∷ containers) h = absurd h.1
 
 row_unnamed : (n : LabelsSoFar) (r : Row) (ls : List BlockLine) → starts_footnote r ≡ false → IsUnnamed n → IsUnnamed (note_row n (row_value r ls))
 row_unnamed n (row.Paragraph count) ls off h = h
-row_unnamed n (row.WholeParagraph count) ls off h = h
+row_unnamed n row.WholeParagraph ls off h = h
 row_unnamed n (row.Heading rank) ls off h = h
 row_unnamed n (row.SetextHeading rank count) ls off h = h
 row_unnamed n row.Break ls off h = h

@@ -12,7 +12,7 @@ use Rattle.block_targets.specs.declared.gfm_footnote_definition.Footnotes.{Footn
 -- whether a row starts a footnote definition
 abbrev pub starts_footnote : Row → Bool
 starts_footnote (row.Paragraph count) = false
-starts_footnote (row.WholeParagraph count) = false
+starts_footnote row.WholeParagraph = false
 starts_footnote (row.Heading rank) = false
 starts_footnote (row.SetextHeading rank count) = false
 starts_footnote row.Break = false

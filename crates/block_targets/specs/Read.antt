@@ -16,7 +16,7 @@ use Rattle.block_targets.specs.declared.definitions.Definitions.{Definitions}
 -- whether a row is a definition
 abbrev pub is_definition : Row → Bool
 is_definition (row.Paragraph count) = false
-is_definition (row.WholeParagraph count) = false
+is_definition row.WholeParagraph = false
 is_definition (row.Heading rank) = false
 is_definition (row.SetextHeading rank count) = false
 is_definition row.Break = false

@@ -104,21 +104,19 @@ impl<'a, T: Tables, A: Allocator + Clone> Texts<'a, T, A> {
         self.push_content(out, &mut buffers.scratch, &mut buffers.room, false, content)
     }
 
-    /// Prints a paragraph of the first lines of a text, so many, without the last ending (CommonMark
-    /// 4.8 and GFM 5.3).
+    /// Prints a paragraph of the lines of a text, without the last ending (CommonMark 4.8 and GFM 5.3).
     pub fn push_whole(
         &self,
         out: &mut Output<A>,
         buffers: &mut TextBuffers<A>,
         first: bool,
-        count: usize,
         text: &str,
     ) -> Result<(), AllocError>
         ensures { (ds : Targets) → KnowsTargets self.now ds →
             let d = document_by T.Tables self.now ds in
-            LaysOut d result out.old out.new (paragraph_of d first (own_lines (whole_lines count text.now))) }
+            LaysOut d result out.old out.new (paragraph_of d first (own_lines (whole_lines text.now))) }
     {
-        let content = whole_content(count, text);
+        let content = whole_content(text);
         self.push_checked(out, &mut buffers.scratch, &mut buffers.room, first, content)
     }
 

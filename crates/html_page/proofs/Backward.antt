@@ -25,7 +25,7 @@ no_ending (Some d) = refl
 same_without_lines : (p : PassView) (r : Row) (ls : List BlockLine) → pass_row p (row_value r ls) ≡ pass_bare p r
 same_without_lines p (row.Paragraph count) ls = refl
 same_without_lines p (row.Heading rank) ls = refl
-same_without_lines p (row.WholeParagraph count) ls = refl
+same_without_lines p row.WholeParagraph ls = refl
 same_without_lines p (row.SetextHeading rank count) ls = refl
 same_without_lines p row.Break ls = refl
 same_without_lines p (row.IndentedCode count) ls = refl
@@ -58,7 +58,7 @@ passed_backward p (r ∷ rows) ls =
 same_places : (p : PassView) (r : Row) (ls : List BlockLine) → starts_item r ≡ false → (pass_row p (row_value r ls)).places ≡ p.places
 same_places p (row.Paragraph count) ls h = refl
 same_places p (row.Heading rank) ls h = refl
-same_places p (row.WholeParagraph count) ls h = refl
+same_places p row.WholeParagraph ls h = refl
 same_places p (row.SetextHeading rank count) ls h = refl
 same_places p row.Break ls h = refl
 same_places p (row.IndentedCode count) ls h = refl

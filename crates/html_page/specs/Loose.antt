@@ -85,7 +85,7 @@ places_of rows = (pass_rows pass_start rows).places
 abbrev pub starts_item : Row → Bool
 starts_item (row.Paragraph count) = false
 starts_item (row.Heading rank) = false
-starts_item (row.WholeParagraph count) = false
+starts_item row.WholeParagraph = false
 starts_item (row.SetextHeading rank count) = false
 starts_item row.Break = false
 starts_item (row.IndentedCode count) = false

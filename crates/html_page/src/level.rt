@@ -52,7 +52,7 @@ impl Level {
         ensures { (ls : List BlockLine) → result ≡ level_after self (row_value row ls) }
     {
         let (plain, silent, first) = match row {
-            Row::Paragraph(_) | Row::WholeParagraph(_) => (self.tight, self.tight, false),
+            Row::Paragraph(_) | Row::WholeParagraph => (self.tight, self.tight, false),
             Row::Definition(_) | Row::EnterFootnote => (self.plain, true, false),
             Row::UnclosedCode(_) => (false, self.is_document(), false),
             Row::Ending(None) | Row::Blank(None) => (self.plain, self.silent, self.first),

@@ -52,8 +52,8 @@ impl<A: Allocator + Clone> Page<A> {
                 level.first,
                 &lines[..count],
             ),
-            Row::WholeParagraph(count) => {
-                self.whole_paragraph(texts, level.tight, level.first, count, lines[0].text)
+            Row::WholeParagraph => {
+                self.whole_paragraph(texts, level.tight, level.first, lines[0].text)
             }
             Row::Heading(rank) => self.heading_atx(texts, rank, &lines[0]),
             Row::SetextHeading { rank, count } => self.heading_setext(texts, rank, &lines[..count]),

@@ -41,28 +41,27 @@ impl<A: Allocator + Clone> Page<A> {
         self.say("</p>")
     }
 
-    /// Prints a paragraph of the first lines of a text, so many (CommonMark 4.8).
+    /// Prints a paragraph of the lines of a text (CommonMark 4.8).
     pub(crate) fn whole_paragraph<T: Tables>(
         &mut self,
         texts: &Texts<'_, T, A>,
         tight: bool,
         first: bool,
-        count: usize,
         text: &str,
     ) -> Result<(), AllocError>
         ensures default { KeepsEnding self.old self.new }
         ensures printed { (ds : Targets) → KnowsTargets texts.now ds →
-            let paragraph = Paragraph (own_lines (whole_lines count text.now)) in
+            let paragraph = Paragraph (own_lines (whole_lines text.now)) in
             let d = document_by T.Tables texts.now ds in
             OnOk result (LaysOut d.options.compile self.old self.new (block_pieces d (standing_first first) tight false paragraph)) }
         ensures bytes { (k : ℕ) → slice_index text.now k < 256 }
     {
         if tight {
-            return texts.push_whole(&mut self.out, &mut self.buffers, first, count, text);
+            return texts.push_whole(&mut self.out, &mut self.buffers, first, text);
         }
         self.fresh()?;
         self.say("<p>")?;
-        texts.push_whole(&mut self.out, &mut self.buffers, first, count, text)?;
+        texts.push_whole(&mut self.out, &mut self.buffers, first, text)?;
         self.say("</p>")
     }
 }

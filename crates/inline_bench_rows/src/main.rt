@@ -27,7 +27,7 @@ fn main(rt: HostRuntime) -> io::Result<()> {
     };
     let mut count: usize = 0;
     for paragraph in input.split("\n\n") {
-        let content = whole_content(paragraph.len(), paragraph);
+        let content = whole_content(paragraph);
         let start = content_start(content);
         let Ok(rows) = inline_rows(
             &mut room, &options, &Builtin, &labels, &footnotes, content, start,

@@ -4,6 +4,6 @@ pub mod Marked
 pub mod Places
 pub mod Runs
 pub mod Lined
-pub mod FirstLines
+pub mod WholeLines
 pub mod Utf8Bytes
 pub mod PreviousCodes

@@ -1,5 +1,6 @@
 pub mod Marks
 pub mod View
+pub mod Endings
 pub mod Lines
 pub mod Buffers
 pub mod Ends

@@ -68,6 +68,6 @@ abbrev pub kind_at_place : (ℕ → Bool) → Content → ℕ → List ℕ → K
 kind_at_place is_punctuation content place others =
     kind_between is_punctuation content.marks.now 0 (kind_at content.marks.now 0) (content_codes (take place content.text.now)) others
 
--- the codes of the first lines of a text, so many, without the last ending
-abbrev pub whole_view : (ℕ → Bool) → ℕ → List ℕ → List InlineCode
-whole_view is_punctuation count text = inline_content is_punctuation Whitespace (own_lines (whole_lines count text))
+-- the codes of the lines of a text, without the last ending
+abbrev pub whole_view : (ℕ → Bool) → List ℕ → List InlineCode
+whole_view is_punctuation text = inline_content is_punctuation Whitespace (own_lines (whole_lines text))

@@ -1,38 +1,48 @@
 //! The content of whole lines, which stand right after another in the text (CommonMark 4.8).
-ghost use Rattle.std.specs.Prelude.{◌≡◌, ℕ, Bool, [], take};
-ghost use Rattle.std.specs.Str.{IsCharBoundary};
+ghost use Rattle.std.specs.Prelude.{◌≡◌, ℕ, Bool, []};
+ghost use Rattle.definition_text.specs.Ascii.{line_feed, carriage_return};
 ghost use Rattle.definition_text.specs.Content.{content_text};
 ghost use Rattle.block_rows.specs.Rows.{whole_lines};
+ghost use Rattle.inline_content.specs.Endings.{without_last};
 ghost use Rattle.inline_content.specs.View.{content_view, whole_view};
 
 use crate::content::Content;
 use definition_text::Kind;
-use text_lines::line::next_line;
 
-/// The content of the first lines of a text, so many, without the last ending.
-pub fn whole_content(count: usize, text: &str) -> Content<'_>
-    ensures { (is_punctuation : ℕ → Bool) → content_view is_punctuation result ≡ whole_view is_punctuation count text.now }
+/// The content of the lines of a text, without the last ending.
+pub fn whole_content(text: &str) -> Content<'_>
+    ensures { (is_punctuation : ℕ → Bool) → content_view is_punctuation result ≡ whole_view is_punctuation text.now }
 {
     Content {
-        text: whole_text(count, text),
+        text: without_ending(text),
         marks: &[],
         after: Kind::Whitespace,
     }
 }
 
-/// The first lines of a text, so many, without the last ending.
-fn whole_text(count: usize, text: &str) -> &str
-    ensures { result.now ≡ content_text (whole_lines count text.now) }
+/// A text without its last line ending (CommonMark 2.1).
+fn without_ending(text: &str) -> &str
+    ensures { result.now ≡ content_text (whole_lines text.now) }
 {
-    let mut end = 0;
-    let mut rest = text;
-    for _i in 0..count {
-        if rest.is_empty() {
-            return &text[..end];
-        }
-        let (line, _, after) = next_line(rest);
-        end = text.len() - rest.len() + line.len();
-        rest = after;
+    without_return(without_feed(text))
+}
+
+/// A text without an LF at its end.
+fn without_feed(text: &str) -> &str
+    ensures { result.now ≡ without_last line_feed text.now }
+{
+    match text.strip_suffix('\n') {
+        Some(front) => front,
+        None => text,
     }
-    &text[..end]
+}
+
+/// A text without a CR at its end.
+fn without_return(text: &str) -> &str
+    ensures { result.now ≡ without_last carriage_return text.now }
+{
+    match text.strip_suffix('\r') {
+        Some(front) => front,
+        None => text,
+    }
 }

@@ -11,7 +11,7 @@ use tests_helpers::Names;
 
 /// The kind and the text of the literal that a line begins with, and what follows it.
 fn first(line: &str) -> Option<(LiteralKind, &str, &str)> {
-    let content = whole_content(1, line);
+    let content = whole_content(line);
     let mut known = NamesInVain::new();
     let found = literal_at(
         &Constructs::gfm(),
@@ -63,7 +63,7 @@ fn literals(rt: HostRuntime) -> Result<(), Fail> {
 fn shape(rt: &HostRuntime, options: &ParseOptions, line: &str) -> Result<String, Fail> {
     let labels = LabelTable::new(rt.alloc())?;
     let footnotes = LabelTable::new(rt.alloc())?;
-    let content = whole_content(1, line);
+    let content = whole_content(line);
     let mut room = Room::new(rt.alloc())?;
     let rows = inline_rows(
         &mut room,

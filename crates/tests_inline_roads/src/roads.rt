@@ -83,7 +83,7 @@ impl Roads {
     /// A content by its rows, spelled. It may begin with a check.
     pub fn by_rows(&self, rt: &HostRuntime, text: &str) -> Result<Vec<u8>, Fail> {
         let mut out = Vec::new(rt.alloc());
-        let content = whole_content(text.len(), text);
+        let content = whole_content(text);
         let mut start = content_start(content);
         let first = start.len() == text.len();
         if let Some(check) = check_at(&self.options.constructs, first, start) {

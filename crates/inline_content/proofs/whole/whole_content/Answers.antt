@@ -2,9 +2,9 @@ use Rattle.std.proofs.Common.{[], ap, ◌∙◌}
 use Rattle.definition_text.specs.declared.beside.Kind.TheVariants.{Whitespace}
 use Rattle.inline_content.specs.View.{codes_with_marks}
 use Rattle.inline_content.proofs.Utf8Bytes.{utf8_bytes}
-use Rattle.inline_content.proofs.FirstLines.{whole_view}
+use Rattle.inline_content.proofs.WholeLines.{whole_view}
 use Rattle.inline_content.proofs.whole.whole_content.Goals as goal
 
 pub returns : goal.returns
-returns c = λ p. ap (codes_with_marks p Whitespace []) c.whole_text.ensures
-    ∙ whole_view p Whitespace c.args.count c.args.text.now (utf8_bytes c.args.text.now c.utf8.text)
+returns c = λ p. ap (codes_with_marks p Whitespace []) c.without_ending.ensures
+    ∙ whole_view p Whitespace c.args.text.now (utf8_bytes c.args.text.now c.utf8.text)

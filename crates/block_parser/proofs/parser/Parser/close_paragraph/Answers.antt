@@ -4,6 +4,7 @@ use Rattle.std.proofs.lemmas.Result.{on_ok_weaker}
 use Rattle.markdown_options.specs.declared.line_ending.LineEnding.{LineEnding}
 use Rattle.definition_text.specs.BlockLines.{BlockLine, last_ending, own_lines}
 use Rattle.definition_block.specs.Tree.{Blocks, Paragraph, block_and_ending, join, Text, paragraph_of}
+use Rattle.block_rows.specs.ParagraphLines.{AreLines}
 use Rattle.block_rows.specs.Rows.{piece_lines, piece_line, Single, whole_lines}
 use Rattle.block_parser.specs.Spine.{Level, spine}
 use Rattle.block_parser.specs.View.{HasRead}
@@ -12,7 +13,7 @@ use Rattle.block_parser.proofs.Leaves as leaves
 use Rattle.block_parser.proofs.parser.Parser.close_paragraph.Goals as goal
 
 pub returns-then-count-eq0-clause-read : goal.returns-then-count-eq0-clause-read
-returns-then-count-eq0-clause-read g c = λ ls around kids h.
+returns-then-count-eq0-clause-read g c = λ ls _ around kids h.
     let p = c.args.self.now in
     let pool = piece_lines p.pieces.items in
     let left = leaves.all_left p.rows.rows.items p.rows.waiting.items p.rows.bare pool around kids ls h.written (leaves.enough_lines p) in
@@ -24,9 +25,9 @@ returns-then-count-eq0-clause-read g c = λ ls around kids h.
     none_case kids around [] none h = subst (λ (bs : Blocks). HasRead c.args.self.now (spine around bs (Text []))) (sym (join-nil kids)) h
     none_case kids around (l ∷ ls) none h = absurd (omega (arith, none))
 
-pub returns-then-has_whole_lines-clause-read : goal.returns-then-has_whole_lines-clause-read
-returns-then-has_whole_lines-clause-read g c =
-    on_ok_weaker c.close_whole.result (λ reads. λ ls around kids h.
+pub returns-in-Some-clause-read : goal.returns-in-Some-clause-read
+returns-in-Some-clause-read g c =
+    on_ok_weaker c.close_whole.result (λ reads. λ ls clean around kids h.
     let p = c.args.self.now in
     let pool = piece_lines p.pieces.items in
     let left = leaves.all_left p.rows.rows.items p.rows.waiting.items p.rows.bare pool around kids ls h.written (leaves.enough_lines p) in
@@ -36,9 +37,7 @@ returns-then-has_whole_lines-clause-read g c =
     let lines_left : ls ≡ drop p.lines_in_rows pool = leaves.lines_of p around kids (Text ls) h in
     let last : c.last_ending-ending.result ≡ last_ending ls =
     c.last_ending-ending.ensures ∙ ap last_ending (sym (leaves.lines_here p around kids (Text ls) h c.deref.result.now c.deref.ensures.value)) in
-    let same_count : length p.pieces.items - p.lines_in_rows ≡ count = omega (arith, p.pieces.ok.0, c.len.ensures) in
-    let whole_is : ls ≡ whole_lines count p.paragraph.now =
-    lines_left ∙ c.has_whole_lines.ensures c.if-has_whole_lines.true ∙ ap (λ n. whole_lines n p.paragraph.now) same_count in
+    let whole_is : ls ≡ whole_lines c.in-Some.text.now = lines_left ∙ sym (c.in-Some.ensures (subst AreLines lines_left clean)) in
     some_case kids around ls all last (reads ls whole_is around kids h))
     c.close_whole.ensures.read
   where
@@ -51,9 +50,9 @@ returns-then-has_whole_lines-clause-read g c =
         subst (λ (e : Option LineEnding). HasRead c.close_whole.new.self (spine around (join kids (block_and_ending (Paragraph (own_lines (l ∷ ls))) e))
         (Text []))) last h
 
-pub returns-clause-read : goal.returns-clause-read
-returns-clause-read g c =
-    on_ok_weaker c.end_leaf.result (λ reads. λ ls around kids h.
+pub returns-then-count-eq1-clause-read : goal.returns-then-count-eq1-clause-read
+returns-then-count-eq1-clause-read g c =
+    on_ok_weaker c.end_leaf.result (λ reads. λ ls _ around kids h.
     let p = c.args.self.now in
     let pool = piece_lines p.pieces.items in
     let left = leaves.all_left p.rows.rows.items p.rows.waiting.items p.rows.bare pool around kids ls h.written (leaves.enough_lines p) in
@@ -62,7 +61,7 @@ returns-clause-read g c =
     let all : count ≡ length ls = omega (arith, left, long, p.counted, p.pieces.ok.0, c.len.ensures) in
     let last : c.last_ending-ending.result ≡ last_ending ls =
     c.last_ending-ending.ensures ∙ ap last_ending (sym (leaves.lines_here p around kids (Text ls) h c.deref.result.now c.deref.ensures.value)) in
-    let k = reads (Text ls) (Paragraph (own_lines ls)) (ap (λ x. Single (Paragraph (own_lines x)) ∷ []) (sym (take_all count ls (omega (arith, all))))) refl
+    let k = reads (Text ls) (Paragraph (own_lines ls)) (ap (λ x. Single (Paragraph (own_lines x)) ∷ []) (sym (take_all 1 ls (omega (arith, all, c.if-count-eq1.true))))) refl
     around kids h in
     some_case kids around ls all last k)
     c.end_leaf.ensures.read
@@ -74,4 +73,29 @@ returns-clause-read g c =
     some_case kids around [] all last h = absurd (c.if-count-eq0.false all)
     some_case kids around (l ∷ ls) all last h =
         subst (λ (e : Option LineEnding). HasRead c.end_leaf.new.self (spine around (join kids (block_and_ending (Paragraph (own_lines (l ∷ ls))) e))
+        (Text []))) last h
+
+pub returns-in-None-clause-read : goal.returns-in-None-clause-read
+returns-in-None-clause-read g c =
+    on_ok_weaker c.end_leaf-in-None.result (λ reads. λ ls _ around kids h.
+    let p = c.args.self.now in
+    let pool = piece_lines p.pieces.items in
+    let left = leaves.all_left p.rows.rows.items p.rows.waiting.items p.rows.bare pool around kids ls h.written (leaves.enough_lines p) in
+    let long = length-map p.pieces.items piece_line in
+    let count = c.len.result - p.lines_in_rows in
+    let all : count ≡ length ls = omega (arith, left, long, p.counted, p.pieces.ok.0, c.len.ensures) in
+    let last : c.last_ending-ending.result ≡ last_ending ls =
+    c.last_ending-ending.ensures ∙ ap last_ending (sym (leaves.lines_here p around kids (Text ls) h c.deref.result.now c.deref.ensures.value)) in
+    let k = reads (Text ls) (Paragraph (own_lines ls)) (ap (λ x. Single (Paragraph (own_lines x)) ∷ []) (sym (take_all count ls (omega (arith, all))))) refl
+    around kids h in
+    some_case kids around ls all last k)
+    c.end_leaf-in-None.ensures.read
+  where
+    some_case : (kids : Blocks) (around : List Level) (ls : List BlockLine) → c.len.result - c.args.self.now.lines_in_rows ≡ length ls
+        → c.last_ending-ending.result ≡ last_ending ls
+        → HasRead c.end_leaf-in-None.new.self (spine around (join kids (block_and_ending (Paragraph (own_lines ls)) c.last_ending-ending.result)) (Text []))
+        → HasRead c.end_leaf-in-None.new.self (spine around (join kids (paragraph_of ls)) (Text []))
+    some_case kids around [] all last h = absurd (c.if-count-eq0.false all)
+    some_case kids around (l ∷ ls) all last h =
+        subst (λ (e : Option LineEnding). HasRead c.end_leaf-in-None.new.self (spine around (join kids (block_and_ending (Paragraph (own_lines (l ∷ ls))) e))
         (Text []))) last h

@@ -12,7 +12,7 @@ returns-clause-read g c =
     on_ok_weaker c.end_leaf.result (λ reads. λ ls is around kids h.
     let p = c.args.self.now in
     let pool = piece_lines p.pieces.items in
-    let text = p.paragraph.now in
+    let text = c.args.text.now in
     let l = spaced_line text None in
     let front = take p.lines_in_rows p.pieces.items in
     let cut : piece_lines c.truncate.new.self.items ≡ take (rows_size p.rows.rows.items) pool =
@@ -23,6 +23,6 @@ returns-clause-read g c =
     (take (rows_size p.rows.rows.items) pool ++ l ∷ []) (piece_lines c.push.new.self.items) around kids (l ∷ []) (l ∷ [])
     refl refl refl (pushed ∙ ap (λ x. x ++ l ∷ []) cut) refl w in
     reads (Text (l ∷ [])) (Paragraph (own_lines ls))
-    (ap (λ x. Single (Paragraph (own_lines x)) ∷ []) (is ∙ ap (whole_lines c.args.count) (sym c.whole.ensures.bytes))) refl
+    (ap (λ x. Single (Paragraph (own_lines x)) ∷ []) (is ∙ ap whole_lines (sym c.whole.ensures.bytes))) refl
     around kids record { written = mid; opened = h.opened; same_state = refl })
     c.end_leaf.ensures.read

@@ -44,13 +44,12 @@ returns-in-WholeParagraph-clause-printed g c = λ ds has.
     let after = page_view c.whole_paragraph.new.self in
     let lines = c.args.lines.now in
     let piece = get_or lines 0 no_piece in
-    let count = c.in-WholeParagraph.count in
     let some : 1 ≤ length lines = subst (λ (row : Row). row_size row ≤ length lines) c.in-WholeParagraph.is c.requires.enough in
     let bytes : (k : ℕ) → get_or piece.text.now k 0 < 256 = c.whole_paragraph.ensures.bytes in
     subst (λ (row : Row). OnOk c.whole_paragraph.result (after ≡ layout_after d.options.compile page.default_ending before
     (row_pieces d c.args.level (row_value row (piece_lines lines))))) (sym c.in-WholeParagraph.is)
     (subst (λ (text : List ℕ). OnOk c.whole_paragraph.result (after ≡ layout_after d.options.compile page.default_ending before
-    (block_pieces d (standing_first c.args.level.first) c.args.level.tight false (Paragraph (own_lines (whole_lines count text))))))
+    (block_pieces d (standing_first c.args.level.first) c.args.level.tight false (Paragraph (own_lines (whole_lines text))))))
     (sym (ap bytes_of (first_codes_of lines no_piece some) ∙ bytes_owed piece.owed piece.text.now bytes)) (c.whole_paragraph.ensures.printed ds has))
 
 pub returns-in-Heading-clause-printed : goal.returns-in-Heading-clause-printed

@@ -1,0 +1,191 @@
+-- Whole lines of a text, which are the lines of their own bytes.
+use Rattle.std.proofs.Common.{◌≡◌, ℕ, zero, suc, ◌+◌, ◌-◌, ◌≤◌, ◌<◌, true, false, eqb, List, [], ◌∷◌, ◌++◌, Option, None, Some, refl, sym, ap, ◌∙◌, get_or, subst, length, take, append_assoc, arith}
+use Rattle.std.specs.Prelude.{map, replicate}
+use Rattle.std.specs.List.{flat_map}
+use Rattle.std.proofs.lemmas.Bool.{cond-false, true≢false, ne_eqb}
+use Rattle.std.specs.Str.{IsUtf8, IsCharBoundary}
+use Rattle.std.proofs.lemmas.Str.{IsCharBoundary-at_seam}
+use Rattle.std.proofs.lemmas.List.{append-nil, length-append, map-append, take_all, take_at, take_more}
+use Rattle.std.proofs.lemmas.List.Concat.{flat_map-append}
+use Rattle.markdown_options.specs.declared.line_ending.LineEnding.{LineEnding}
+use Rattle.markdown_options.specs.declared.line_ending.LineEnding.TheVariants.{CarriageReturnLineFeed, CarriageReturn, LineFeed}
+use Rattle.definition_text.specs.Lines.{TextLine, text_line, in_first_line, lines, ending_text}
+use Rattle.definition_text.specs.Columns.{tab_column}
+use Rattle.definition_text.specs.declared.beside.Kind.TheVariants.{Whitespace}
+use Rattle.definition_text.specs.BlockLines.{BlockLine, block_line}
+use Rattle.definition_text.specs.Content.{is_eol, line_text}
+use Rattle.definition_text.proofs.CodeBytes.{code_bytes}
+use Rattle.block_rows.specs.ParagraphLines.{HaveNoEnding, AreLines}
+use Rattle.block_rows.specs.declared.row.Piece.{Piece}
+use Rattle.block_rows.specs.Rows.{whole_line, whole_lines, piece_line, piece_lines}
+use Rattle.block_parser.specs.Whole.{IsWhole}
+
+abbrev pub AreWhole : List BlockLine → Type 0
+AreWhole [] = Unit {0}
+AreWhole (l ∷ ls) = IsWhole l × AreWhole ls
+
+pub none_whole : AreWhole []
+none_whole = tt
+
+more_whole : (ls : List BlockLine) (l : BlockLine) → AreWhole ls → IsWhole l → AreWhole (ls ++ l ∷ [])
+more_whole [] l h w = (w, tt)
+more_whole (k ∷ ks) l h w = (h.0, more_whole ks l h.1 w)
+
+-- ---- the first line of bytes
+
+-- these bytes stand before lines
+abbrev with_front : List ℕ → List TextLine → List TextLine
+with_front [] ls = ls
+with_front (c ∷ cs) ls = in_first_line c (with_front cs ls)
+
+other_byte : (c e : ℕ) → is_eol e ≡ true → is_eol c ≡ false → eqb c e ≡ false
+other_byte c e is h = ne_eqb c e (λ same. true≢false (sym is ∙ ap is_eol (sym same) ∙ h))
+
+front_read : (cs rest : List ℕ) → HaveNoEnding cs → lines (cs ++ rest) ≡ with_front cs (lines rest)
+front_read [] rest h = refl
+front_read (c ∷ cs) rest h =
+    cond-false (eqb c 10) _ _ (other_byte c 10 refl h.0) ∙ cond-false (eqb c 13) _ _ (other_byte c 13 refl h.0)
+    ∙ ap (in_first_line c) (front_read cs rest h.1)
+
+front_line : (cs : List ℕ) (ending : Option LineEnding) (others : List TextLine)
+    → with_front cs (text_line [] ending ∷ others) ≡ text_line cs ending ∷ others
+front_line [] ending others = refl
+front_line (c ∷ cs) ending others = ap (in_first_line c) (front_line cs ending others)
+
+front_end : (c : ℕ) (cs : List ℕ) → with_front (c ∷ cs) [] ≡ text_line (c ∷ cs) None ∷ []
+front_end c [] = refl
+front_end c (d ∷ ds) = ap (in_first_line c) (front_end d ds)
+
+-- no LF stands there
+abbrev NoFeed : List ℕ → Type 0
+NoFeed [] = Unit {0}
+NoFeed (b ∷ bs) = eqb b 10 ≡ false
+
+ending_read : (e : LineEnding) (rest : List ℕ) → NoFeed rest → lines (ending_text (Some e) ++ rest) ≡ text_line [] (Some e) ∷ lines rest
+ending_read LineFeed rest h = refl
+ending_read CarriageReturnLineFeed rest h = refl
+ending_read CarriageReturn [] h = refl
+ending_read CarriageReturn (b ∷ bs) h = cond-false (eqb b 10) _ _ h
+
+line_bytes : (l : BlockLine) → IsWhole l → line_text l ≡ l.codes ++ ending_text l.ending
+line_bytes l w = ap (λ x. x ++ ending_text l.ending) (code_bytes l.codes w.1)
+
+-- a line that has an ending
+line_read : (l : BlockLine) (e : LineEnding) (rest : List ℕ) → IsWhole l → HaveNoEnding l.codes → l.ending ≡ Some e → NoFeed rest
+    → lines (line_text l ++ rest) ≡ text_line l.codes l.ending ∷ lines rest
+line_read l e rest w clear is other =
+    ap (λ x. lines (x ++ rest)) (line_bytes l w ∙ ap (λ o. l.codes ++ ending_text o) is)
+    ∙ ap lines (append_assoc l.codes (ending_text (Some e)) rest)
+    ∙ front_read l.codes (ending_text (Some e) ++ rest) clear
+    ∙ ap (with_front l.codes) (ending_read e rest other)
+    ∙ front_line l.codes (Some e) (lines rest)
+    ∙ ap (λ o. text_line l.codes o ∷ lines rest) (sym is)
+
+same_line : (l : BlockLine) → IsWhole l → whole_line (text_line l.codes l.ending) ≡ l
+same_line l w = ap (block_line l.codes l.ending) (sym w.0)
+
+-- the last line
+last_read : (l : BlockLine) (o : Option LineEnding) → IsWhole l → HaveNoEnding l.codes → 0 < length l.codes → l.ending ≡ o
+    → lines (line_text l ++ []) ≡ text_line l.codes l.ending ∷ []
+last_read l (Some e) w clear some is = line_read l e [] w clear is tt
+last_read l None w clear some is =
+    ap lines (append-nil (line_text l) ∙ line_bytes l w ∙ ap (λ o. l.codes ++ ending_text o) is)
+    ∙ front_read l.codes [] clear ∙ ended l.codes some
+    ∙ ap (λ o. text_line l.codes o ∷ []) (sym is)
+  where
+    ended : (cs : List ℕ) → 0 < length cs → with_front cs [] ≡ text_line cs None ∷ []
+    ended [] some = absurd (omega (arith, some))
+    ended (c ∷ cs) some = front_end c cs
+
+-- a line begins with no LF
+begins_clear : (l : BlockLine) (rest : List ℕ) → IsWhole l → HaveNoEnding l.codes → 0 < length l.codes → NoFeed (line_text l ++ rest)
+begins_clear l rest w clear some = subst NoFeed (ap (λ x. x ++ rest) (sym (line_bytes l w))) (begins l.codes clear some)
+  where
+    begins : (cs : List ℕ) → HaveNoEnding cs → 0 < length cs → NoFeed ((cs ++ ending_text l.ending) ++ rest)
+    begins [] clear some = absurd (omega (arith, some))
+    begins (c ∷ cs) clear some = other_byte c 10 refl clear.0
+
+pub lines_again : (ls : List BlockLine) → AreLines ls → AreWhole ls → whole_lines (flat_map line_text ls) ≡ ls
+lines_again [] h w = refl
+lines_again (l ∷ []) h w = ap (map whole_line) (last_read l l.ending w.0 h.0 h.1 refl) ∙ ap (λ x. x ∷ []) (same_line l w.0)
+lines_again (l ∷ next ∷ others) h w =
+    let rest = flat_map line_text (next ∷ others) in
+    let more = lines_again (next ∷ others) h.3 w.1 in
+    ap (map whole_line) (line_read l h.2.0 rest w.0 h.0 h.2.1 (clear_next next others h.3 w.1))
+    ∙ ap (λ x. x ∷ whole_lines rest) (same_line l w.0) ∙ ap (λ x. l ∷ x) more
+  where
+    clear_next : (next : BlockLine) (others : List BlockLine) → AreLines (next ∷ others) → AreWhole (next ∷ others)
+        → NoFeed (flat_map line_text (next ∷ others))
+    clear_next next [] h w = begins_clear next [] w.0 h.0 h.1
+    clear_next next (k ∷ ks) h w = begins_clear next (flat_map line_text (k ∷ ks)) w.0 h.0 h.1
+
+-- ---- a text that begins with the line of a piece
+
+front_bytes : (xs ys : List ℕ) → ((k : ℕ) → get_or (xs ++ ys) k 0 < 256) → (k : ℕ) → get_or xs k 0 < 256
+front_bytes [] ys h k = omega arith
+front_bytes (x ∷ xs) ys h zero = h 0
+front_bytes (x ∷ xs) ys h (suc k) = front_bytes xs ys (λ i. h (suc i)) k
+
+pub piece_whole : (piece : Piece) (text after : List ℕ) → ((k : ℕ) → get_or text k 0 < 256) → piece.owed ≡ 0 → piece.before ≡ Whitespace
+    → text ≡ piece.text.now ++ after → IsWhole (piece_line piece)
+piece_whole piece text after bytes none before split = (
+  before,
+  λ k. subst (λ (n : ℕ). get_or (replicate n tab_column ++ piece.text.now) k 0 < 256) (sym none)
+      (front_bytes piece.text.now after (λ i. subst (λ (x : List ℕ). get_or x i 0 < 256) split (bytes i)) k),
+)
+
+pub piece_cut : (piece : Piece) (text after rest : List ℕ) → IsWhole (piece_line piece) → piece.owed ≡ 0
+    → text ≡ piece.text.now ++ after → after ≡ ending_text piece.ending ++ rest → text ≡ line_text (piece_line piece) ++ rest
+piece_cut piece text after rest whole none split cut =
+    split ∙ ap (λ x. piece.text.now ++ x) cut ∙ sym (append_assoc piece.text.now (ending_text piece.ending) rest)
+    ∙ ap (λ (n : ℕ). ((replicate n tab_column ++ piece.text.now) ++ ending_text piece.ending) ++ rest) (sym none)
+    ∙ ap (λ x. x ++ rest) (sym (line_bytes (piece_line piece) whole))
+
+-- ---- a text that begins with the lines of pieces
+
+pub record Begins (pieces : List Piece) (text rest : List ℕ) : Type 0 where
+  pub split : text ≡ flat_map line_text (piece_lines pieces) ++ rest
+  pub whole : AreWhole (piece_lines pieces)
+
+pub begins_none : (text : List ℕ) → Begins [] text text
+begins_none text = record { split = refl; whole = tt }
+
+-- one more of them
+pub begins_more : (pieces : List Piece) (i : ℕ) (d : Piece) (text rest after : List ℕ) → i < length pieces → Begins (take i pieces) text rest
+    → rest ≡ line_text (piece_line (get_or pieces i d)) ++ after → IsWhole (piece_line (get_or pieces i d)) → Begins (take (i + 1) pieces) text after
+begins_more pieces i d text rest after lt so_far line whole =
+    let front = take i pieces in
+    let last = get_or pieces i d in
+    let longer : piece_lines (take (i + 1) pieces) ≡ piece_lines front ++ piece_line last ∷ [] =
+    ap piece_lines (take_more pieces i d lt) ∙ map-append piece_line front (last ∷ []) in
+    let bytes : flat_map line_text (piece_lines (take (i + 1) pieces)) ≡ flat_map line_text (piece_lines front) ++ line_text (piece_line last) =
+    ap (flat_map line_text) longer ∙ flat_map-append line_text (piece_lines front) (piece_line last ∷ [])
+    ∙ ap (λ x. flat_map line_text (piece_lines front) ++ x) (append-nil (line_text (piece_line last))) in
+    record {
+      split = so_far.split ∙ ap (λ x. flat_map line_text (piece_lines front) ++ x) line
+          ∙ sym (append_assoc (flat_map line_text (piece_lines front)) (line_text (piece_line last)) after)
+          ∙ ap (λ x. x ++ after) (sym bytes);
+      whole = subst AreWhole (sym longer) (more_whole (piece_lines front) (piece_line last) so_far.whole whole);
+    }
+
+-- they are cut off where the rest begins
+front_cut : (pieces : List Piece) (text rest : List ℕ) → Begins pieces text rest
+    → length (flat_map line_text (piece_lines pieces)) ≡ length text - length rest
+front_cut pieces text rest h =
+    let front = flat_map line_text (piece_lines pieces) in
+    omega (arith, ap length h.split, length-append front rest)
+
+pub cut_boundary : (pieces : List Piece) (text rest : List ℕ) → Begins pieces text rest → IsUtf8 rest → IsCharBoundary text (length text - length rest)
+cut_boundary pieces text rest h u =
+    subst (IsCharBoundary text) (front_cut pieces text rest h) (IsCharBoundary-at_seam text (flat_map line_text (piece_lines pieces)) rest h.split u)
+
+pub begun : (pieces : List Piece) (i : ℕ) (text rest cut : List ℕ) → length pieces ≤ i → Begins (take i pieces) text rest
+    → cut ≡ take (length text - length rest) text → AreLines (piece_lines pieces) → whole_lines cut ≡ piece_lines pieces
+begun pieces i text rest cut le so_far is clean =
+    let h = subst (λ (ps : List Piece). Begins ps text rest) (take_all i pieces le) so_far in
+    let front = flat_map line_text (piece_lines pieces) in
+    ap whole_lines (is
+    ∙ ap (λ n. take n text) (sym (front_cut pieces text rest h))
+    ∙ ap (take (length front)) h.split
+    ∙ take_at front rest (length front) refl)
+    ∙ lines_again (piece_lines pieces) clean h.whole
