@@ -36,6 +36,7 @@ impl<A: Allocator> Rows<A> {
     }
 
     /// One more block that holds no other.
+    #[inline(always)]
     pub(crate) fn block(&mut self, row: Row) -> Result<(), AllocError>
         ensures rows { OnOk result (self.new.rows.items ≡ (self.old.rows.items ++ self.old.waiting.items) ++ row ∷ []) }
         ensures waiting { OnOk result (self.new.waiting.items ≡ []) }
@@ -50,6 +51,7 @@ impl<A: Allocator> Rows<A> {
     }
 
     /// The ending of a block's last line.
+    #[inline(always)]
     pub(crate) fn ending(&mut self, ending: Option<LineEnding>) -> Result<(), AllocError>
         ensures rows { self.new.rows.items ≡ self.old.rows.items }
         ensures waiting { OnOk result (self.new.waiting.items ≡ self.old.waiting.items ++ row_variant.Ending ending ∷ []) }
@@ -60,6 +62,7 @@ impl<A: Allocator> Rows<A> {
     }
 
     /// The ending of a blank line.
+    #[inline(always)]
     pub(crate) fn blank(&mut self, ending: Option<LineEnding>) -> Result<(), AllocError>
         ensures rows { self.new.rows.items ≡ self.old.rows.items }
         ensures waiting { OnOk result (self.new.waiting.items ≡ self.old.waiting.items ++ row_variant.Blank ending ∷ []) }
@@ -118,6 +121,7 @@ impl<A: Allocator> Rows<A> {
     }
 
     /// Puts the endings that wait among the rows.
+    #[inline(always)]
     fn settle(&mut self) -> Result<(), AllocError>
         ensures rows { OnOk result (self.new.rows.items ≡ self.old.rows.items ++ self.old.waiting.items) }
         ensures waiting { OnOk result (self.new.waiting.items ≡ []) }

@@ -8,6 +8,7 @@ use markdown_options::LineEnding;
 use std::alloc::{AllocError, Allocator};
 
 /// Asks for a fresh line: prints the ending, unless nothing, CR or LF stands at the end.
+#[inline(always)]
 pub fn push_fresh<A: Allocator>(out: &mut String<A>, ending: LineEnding) -> Result<(), AllocError>
     ensures { OnOk result (string_bytes out.new ≡ print (ending_bytes ending) (string_bytes out.old) Fresh) }
 {
