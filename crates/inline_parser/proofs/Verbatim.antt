@@ -1,5 +1,5 @@
 -- Bytes that are printed as they are.
-use Rattle.std.proofs.Common.{◌≡◌, ℕ, zero, suc, ◌<◌, ◌≤◌, List, [], ◌∷◌, ◌++◌, false, ◌||◌, ◌==◌, refl, ap₂, ◌∙◌, get_or, length, take, arith, subst}
+use Rattle.std.proofs.Common.{◌≡◌, ℕ, zero, suc, List, [], ◌∷◌, ◌++◌, false, ◌||◌, ◌==◌, refl, ap₂, ◌∙◌, length, take, arith, subst}
 use Rattle.std.proofs.lemmas.Bool.{cond-false, or_parts}
 use Rattle.std.proofs.lemmas.List.{take_all}
 use Rattle.definition_text.specs.Content.{is_eol}

@@ -18,7 +18,7 @@ use Rattle.html_inline.specs.Prints.{meaning_by}
 
 pub push_row-requires : goal.push_row-requires
 push_row-requires g c =
-    get_or_default c.args.rows.now c.loop-place.place Exit c.row-item.result c.loop-place-test.true ∙ sym c.row-item.is
+    get_or_default c.args.rows.now c.loop-place.place Exit c.index-rows-place.result c.loop-place-test.true ∙ sym c.index-rows-place.is
 
 pub loop-place-preserved : goal.loop-place-preserved
 loop-place-preserved g c = λ definition footnotes held.
@@ -29,9 +29,9 @@ loop-place-preserved g c = λ definition footnotes held.
     let before = printed_of meaning at rows (output_view c.loop-place.out) c.loop-place.scratch.stack.items in
     rows_step p.cell meaning at (printed_at (output_view c.args.out.now) []) before
     (printed_of meaning at rows (output_view c.push_row.new.out) c.push_row.new.scratch.stack.items)
-    rows c.loop-place.place c.row-item.result c.loop-place-test.true (c.loop-place.invariant definition footnotes held)
+    rows c.loop-place.place c.index-rows-place.result c.loop-place-test.true (c.loop-place.invariant definition footnotes held)
     (c.in_ok-push_row.ensures definition footnotes held
-    ∙ ap (λ (r : InlineRow). fold (row_printed_in p.cell meaning) before (row_view at r)) c.row-item.is)
+    ∙ ap (λ (r : InlineRow). fold (row_printed_in p.cell meaning) before (row_view at r)) c.index-rows-place.is)
 
 pub returns : goal.returns
 returns g c = λ definition footnotes default is held rows_are.

@@ -1,9 +1,9 @@
-use Rattle.std.proofs.Common.{◌≡◌, ◌<◌, false, length, get_or, sym, ◌∙◌, refl, arith}
+use Rattle.std.proofs.Common.{◌≡◌, sym, ◌∙◌, refl, arith}
 use Rattle.std.specs.List.{position_or_len}
 use Rattle.text_search.specs.Sets.{holds}
 use Rattle.text_search.proofs.Sets.{first_by}
 use Rattle.inline_parser.specs.declared.plain.TheConstants.{STOPS}
-use Rattle.inline_parser.specs.Plain.{is_replaced, stops}
+use Rattle.inline_parser.specs.Plain.{stops}
 use Rattle.inline_parser.proofs.Fronts.{later_start, plain_start, stop_free, stop_verbatim, stop_within}
 use Rattle.inline_parser.proofs.plain.next_construct.Goals as goal
 use Rattle.inline_parser.proofs.plain.next_construct.Goals.{else-stop-bytes-via-then-stop-bytes+else-is_replaced, else-stop-bytes-via-else-stop-bytes}

@@ -1,4 +1,4 @@
-use Rattle.std.proofs.Common.{◌≡◌, ◌<◌, ◌+◌, get_or, length, sym, ap, ◌∙◌, refl, arith, not}
+use Rattle.std.proofs.Common.{◌<◌, ◌+◌, get_or, length, sym, ap, ◌∙◌, refl, arith, not}
 use Rattle.std.proofs.lemmas.Bool.{and_parts, not-true}
 use Rattle.inline_parser.specs.Plain.{is_replaced, starts_here, stops_or_letter}
 use Rattle.inline_parser.proofs.LiteralFronts.{next_free, next_stops, next_verbatim, vain_free, vain_verbatim, free_start}

@@ -1,4 +1,4 @@
-use Rattle.std.proofs.Common.{◌≡◌, ℕ, ◌<◌, ◌∙◌, true, length, drop, get_or, ap, arith, subst, sym}
+use Rattle.std.proofs.Common.{◌≡◌, ℕ, ◌<◌, ◌∙◌, true, length, drop, get_or, ap, arith, subst}
 use Rattle.definition_text.specs.Content.{content_codes}
 use Rattle.inline_leaves.specs.Leaves.{IsAfter}
 use Rattle.inline_rows.specs.View.{data_rows}
