@@ -5,7 +5,6 @@ use Rattle.definition_inline.specs.Inline as inline
 use Rattle.definition_inline.specs.Definition.{Definition}
 use Rattle.definition_page.specs.Targets.{Targets}
 use Rattle.inline_parser.specs.Scanned.{HasTargets}
-use Rattle.inline_links.specs.declared.text.LinkTexts.{LinkTexts}
 use Rattle.inline_links.specs.View.{link_texts_view}
 use Rattle.markdown_options.specs.declared.tables.Tables as tables
 use Rattle.definition_page.specs.TextTables.{TextTables, text_tables}

@@ -1,8 +1,8 @@
 use Rattle.std.proofs.Common.{ap, ◌∙◌}
 use Rattle.html_bytes.specs.Document.{context_of, document}
-use Rattle.definition_inline.specs.Scan.{inlines, inlines_from, without_indent}
+use Rattle.definition_inline.specs.Scan.{inlines, inlines_from}
 use Rattle.definition_page.specs.Targets.{linked_at, linked_by}
-use Rattle.inline_content.specs.View.{content_view, view_at}
+use Rattle.inline_content.specs.View.{content_view}
 use Rattle.html_inline.specs.Opens.{place_target}
 use Rattle.inline_rows.specs.InlineRows.{inline_rows}
 use Rattle.inline_rows.specs.View.{rows_view}

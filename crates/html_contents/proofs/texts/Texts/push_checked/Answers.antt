@@ -1,4 +1,4 @@
-use Rattle.std.proofs.Common.{◌≡◌, ◌∷◌, OnOk, Some, ap, sym, subst, ◌∙◌, drop}
+use Rattle.std.proofs.Common.{◌≡◌, OnOk, ap, sym, subst, ◌∙◌, drop}
 use Rattle.std.specs.List.{fold}
 use Rattle.definition_text.specs.Content.{content_codes}
 use Rattle.definition_inline.specs.GfmTaskListItem.{check_size}
