@@ -76,7 +76,8 @@ module _ (on : Constructs) where
   no_run x b bs plain mark = cond-false (b == x) _ 0 (other b x plain mark)
 
   -- the first code after the indent is the first byte
-  first_code : (P : Rest → Type 0) (r : Rest) → begins_plain on (bytes_of (bare r)) ≡ true → ((c : ℕ) (cs : Rest) → is_plain_byte on c ≡ true → P (c ∷ cs)) → P (bare r)
+  first_code : (P : Rest → Type 0) (r : Rest) → begins_plain on (bytes_of (bare r)) ≡ true
+      → ((c : ℕ) (cs : Rest) → is_plain_byte on c ≡ true → P (c ∷ cs)) → P (bare r)
   first_code P [] plain k = let wrong : false ≡ true = plain in cc
   first_code P (c ∷ cs) plain k =
       elim (cases_Bool (is_white c)) [
@@ -99,11 +100,13 @@ module _ (on : Constructs) where
   no_container interrupts r none =
       sym (only_footnote on interrupts r none.0) ∙ where_on on.gfm_footnote_definition (small_indent on r) _ (λ footnotes. ap footnote_of (none.1 footnotes))
 
-  no_first : (c : ℕ) (cs : Rest) → is_plain_byte on c ≡ true → (may_start (c ∷ cs) ≡ false) × (on.gfm_footnote_definition ≡ true → footnote_mark (c ∷ cs) ≡ None)
+  no_first : (c : ℕ) (cs : Rest) → is_plain_byte on c ≡ true
+      → (may_start (c ∷ cs) ≡ false) × (on.gfm_footnote_definition ≡ true → footnote_mark (c ∷ cs) ≡ None)
   no_first c cs plain = (
     or_from ((c == 62) || (c == 45) || (c == 43) || (c == 42)) _
-        (or_from ((c == 62) || (c == 45) || (c == 43)) _ (or_from ((c == 62) || (c == 45)) _ (or_from (c == 62) _ (other c 62 plain refl) (other c 45 plain refl))
-        (other c 43 plain refl)) (other c 42 plain refl))
+        (or_from ((c == 62) || (c == 45) || (c == 43)) _
+        (or_from ((c == 62) || (c == 45)) _ (or_from (c == 62) _ (other c 62 plain refl) (other c 45 plain refl)) (other c 43 plain refl))
+        (other c 42 plain refl))
         (no_digit c plain),
     (λ footnotes. ap after_bracket (cond-false (c == 91) _ _ (other c 91 plain (ap not footnotes)))),
   )
@@ -221,8 +224,8 @@ module _ (on : Constructs) where
         → some_alignments (alignments_of (without_blank_last (without_blank_first (in_first_cell b Whitespace others)))) ≡ None
     in_first b [] plain = refl
     in_first b (c ∷ cs) plain =
-        ap (λ all. some_alignments (alignments_of (without_blank_last all))) (cond-false (is_blank (b ∷ c.codes)) _ _ (no_and (is_white b) _ (no_white b plain)))
-        ∙ without_last b c.codes c.after cs plain
+        let kept = cond-false (is_blank (b ∷ c.codes)) _ _ (no_and (is_white b) _ (no_white b plain)) in
+        ap (λ all. some_alignments (alignments_of (without_blank_last all))) kept ∙ without_last b c.codes c.after cs plain
 
     no_delimiters : (text : List ℕ) → begins_plain on text ≡ true → delimiters text ≡ None
     no_delimiters [] plain = let wrong : false ≡ true = plain in cc

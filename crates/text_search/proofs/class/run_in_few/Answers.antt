@@ -7,7 +7,8 @@ use Rattle.text_search.proofs.class.run_in_few.Goals as goal
 pub overflow_add-result : goal.overflow_add-result
 overflow_add-result c =
     let run = c.lanes_in-run.ensures ∙ ap (prefix_len (λ byte. not (is_outside c.args.class byte))) c.ends.ensures in
-    omega (arith, within (is_outside c.args.class) c.args.bytes.now c.lanes_in-run.result c.if-bytes-lt-END_SIZE.false (omega (arith, c.requires)) run, c.requires)
+    let few = c.if-bytes-lt-END_SIZE.false in
+    omega (arith, within (is_outside c.args.class) c.args.bytes.now c.lanes_in-run.result few (omega (arith, c.requires)) run, c.requires)
 
 pub returns-then-run-lt-END_SIZE : goal.returns-then-run-lt-END_SIZE
 returns-then-run-lt-END_SIZE c =
