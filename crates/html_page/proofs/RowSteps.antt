@@ -2,7 +2,7 @@
 use Rattle.std.proofs.Common.{◌≡◌, ℕ, ◌+◌, ◌<◌, List, [], ◌∷◌, ◌++◌, ap, sym, ◌∙◌, subst, take, drop, get_or, length}
 use Rattle.std.specs.List.{fold, All}
 use Rattle.std.proofs.lemmas.List.{append-nil, append_assoc, drop_more, take-append-drop}
-use Rattle.std.proofs.lemmas.List.Elements.{All-head, All-tail}
+use Rattle.std.proofs.lemmas.List.Elements.{All-nil, All-cons, All-head, All-tail}
 use Rattle.std.proofs.lemmas.List.Sums.{fold_push, fold-append}
 use Rattle.block_rows.specs.declared.row.Row.{Row}
 use Rattle.html_bytes.specs.Document.{Document}
@@ -27,6 +27,34 @@ shown_after s (r ∷ rs) =
     shown_after (show_row s r) rs
     ∙ append_assoc s.rows (b ∷ []) (fold show_row (value_with [] left) rs).rows
     ∙ ap (λ x. s.rows ++ x) (sym (shown_after (show_row (value_with [] s.left) r) rs))
+
+-- rows in two parts: the second takes its lines from those that the first leaves
+pub shown_parts : (first second : List Row) (ls : List BlockLine)
+    → (rows_value (first ++ second) ls).rows ≡ (rows_value first ls).rows ++ (rows_value second (rows_value first ls).left).rows
+shown_parts first second ls =
+    ap (λ (s : RowsValue). s.rows) (fold-append show_row (value_with [] ls) first second) ∙ shown_after (rows_value first ls) second
+
+-- the same of the rows before a place and those from it on
+pub shown_from : (rows : List Row) (ls : List BlockLine) (i : ℕ)
+    → (rows_value rows ls).rows ≡ (rows_value (take i rows) ls).rows ++ (rows_value (drop i rows) (rows_value (take i rows) ls).left).rows
+shown_from rows ls i = ap (λ rs. (rows_value rs ls).rows) (sym (take-append-drop i rows)) ∙ shown_parts (take i rows) (drop i rows) ls
+
+all_left : {X : Type 0} (P : X → Type 0) (xs ys : List X) → All P (xs ++ ys) → All P xs
+all_left P [] ys h = All-nil P
+all_left P (x ∷ xs) ys h = All-cons P x xs (All-head P x (xs ++ ys) h) (all_left P xs ys (All-tail P x (xs ++ ys) h))
+
+all_right : {X : Type 0} (P : X → Type 0) (xs ys : List X) → All P (xs ++ ys) → All P ys
+all_right P [] ys h = h
+all_right P (x ∷ xs) ys h = all_right P xs ys (All-tail P x (xs ++ ys) h)
+
+-- where rows can be printed, so can those before a place and those from it on
+pub printable_front : (rows : List Row) (ls : List BlockLine) (i : ℕ) → ArePrintable (rows_value rows ls).rows
+    → ArePrintable (rows_value (take i rows) ls).rows
+printable_front rows ls i h = all_left IsPrintableRow (rows_value (take i rows) ls).rows _ (subst ArePrintable (shown_from rows ls i) h)
+
+pub printable_rest : (rows : List Row) (ls : List BlockLine) (i : ℕ) → ArePrintable (rows_value rows ls).rows
+    → ArePrintable (rows_value (drop i rows) (rows_value (take i rows) ls).left).rows
+printable_rest rows ls i h = all_right IsPrintableRow (rows_value (take i rows) ls).rows _ (subst ArePrintable (shown_from rows ls i) h)
 
 all_at : {X : Type 0} (P : X → Type 0) (xs : List X) (y : X) (ys : List X) → All P (xs ++ y ∷ ys) → P y
 all_at P [] y ys h = All-head P y ys h

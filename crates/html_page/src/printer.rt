@@ -1,5 +1,5 @@
 //! Rows to HTML.
-ghost use Rattle.std.specs.Prelude.{◌≡◌, ◌≤◌, List, IfOk, OnOk, string_bytes, length};
+ghost use Rattle.std.specs.Prelude.{◌≡◌, ◌≤◌, List, IfOk, OnOk, string_bytes, length, drop, vec_len};
 ghost use Rattle.markdown_options.specs.LineEndings.{ending_bytes};
 ghost use Rattle.definition_page.specs.Targets.{Targets};
 ghost use Rattle.definition_text.specs.BlockLines.{BlockLine};
@@ -9,7 +9,7 @@ ghost use Rattle.html_bytes.specs.Html.{document_pieces};
 ghost use Rattle.block_rows.specs.Rows.{rows_size, row_size, piece_lines, rows_of, row_value, rows_value};
 ghost use Rattle.html_contents.specs.Texts.{KnowsTargets, document_by};
 ghost use Rattle.html_page.specs.Printable.{IsPrintableRow, ArePrintable, CanBePrinted};
-ghost use Rattle.html_page.specs.PrinterView.{ends_blank_rows, is_blank_row, printer_view, print_row};
+ghost use Rattle.html_page.specs.PrinterView.{ends_blank_rows, is_blank_row, printer_view, print_row, print_all};
 ghost use Rattle.html_page.specs.Prints.{KeepsEnding};
 
 use crate::level::{Holder, Level};
@@ -33,40 +33,77 @@ pub(crate) struct Printer<A: Allocator + Clone> {
 }
 
 impl<A: Allocator + Clone> Printer<A> {
-    /// Prints a row. A block takes its lines from the front of these.
+    /// Prints a row. A block takes its lines from the front of these. Answers how many it took.
     fn row<T: Tables>(
         &mut self,
         texts: &Texts<'_, T, A>,
         row: Row,
         lines: &[Piece<'_>],
-    ) -> Result<(), AllocError>
+    ) -> Result<usize, AllocError>
         requires enough { row_size row ≤ length lines.now }
         requires printable { IsPrintableRow (row_value row (piece_lines lines.now)) }
         ensures default { KeepsEnding self.old.page self.new.page }
+        ensures size { IfOk result (λ taken. taken ≡ row_size row) }
         ensures printed { (ds : Targets) → KnowsTargets texts.now ds →
             let d = document_by T.Tables texts.now ds in let value = row_value row (piece_lines lines.now) in
-            OnOk result (printer_view self.new ≡ print_row d (ending_bytes self.old.page.default_ending) (printer_view self.old) value) }
+            IfOk result (λ taken. printer_view self.new ≡ print_row d (ending_bytes self.old.page.default_ending) (printer_view self.old) value) }
     {
         match row {
             Row::Ending(ending) => {
                 self.page.line_ending(self.level, ending)?;
                 self.level = self.level.after(row);
-                Ok(())
+                Ok(0)
             }
             Row::Blank(_) => {
                 self.level = self.level.after(row);
-                Ok(())
+                Ok(0)
             }
-            Row::EnterQuote => self.enter_quote(),
-            Row::EnterFootnote => self.enter_footnote(),
-            Row::EnterItem { number, .. } => self.enter_item(number),
-            Row::Exit => self.exit(),
+            Row::EnterQuote => {
+                self.enter_quote()?;
+                Ok(0)
+            }
+            Row::EnterFootnote => {
+                self.enter_footnote()?;
+                Ok(1)
+            }
+            Row::EnterItem { number, .. } => {
+                self.enter_item(number)?;
+                Ok(0)
+            }
+            Row::Exit => {
+                self.exit()?;
+                Ok(0)
+            }
             _ => {
                 self.page.block(texts, row, self.level, lines)?;
                 self.level = self.level.after(row);
-                Ok(())
+                Ok(row.size())
             }
         }
+    }
+
+    /// Prints rows, whose blocks take their lines from the front of these. Answers how many they took.
+    fn rows<T: Tables>(
+        &mut self,
+        texts: &Texts<'_, T, A>,
+        rows: &[Row],
+        pieces: &[Piece<'_>],
+    ) -> Result<usize, AllocError>
+        requires enough { rows_size rows.now ≤ length pieces.now }
+        requires printable { ArePrintable (rows_value rows.now (piece_lines pieces.now)).rows }
+        ensures default { KeepsEnding self.old.page self.new.page }
+        ensures size { IfOk result (λ taken. taken ≡ rows_size rows.now) }
+        ensures left { IfOk result (λ taken. (rows_value rows.now (piece_lines pieces.now)).left ≡ piece_lines (drop taken pieces.now)) }
+        ensures printed { (ds : Targets) → KnowsTargets texts.now ds →
+            let d = document_by T.Tables texts.now ds in
+            IfOk result (λ taken. printer_view self.new ≡ print_all d (ending_bytes self.old.page.default_ending) (printer_view self.old)
+            (rows_value rows.now (piece_lines pieces.now)).rows) }
+    {
+        let mut taken = 0;
+        for row in rows {
+            taken += self.row(texts, *row, &pieces[taken..])?;
+        }
+        Ok(taken)
     }
 }
 
@@ -74,19 +111,20 @@ impl<A: Allocator + Clone> Printer<A> {
 /// read by the labels and links of all definitions of the document.
 ///
 /// Items are put into lists here (CommonMark 5.3), and the footnotes that are called stand at the
-/// end. Room is made for `room` bytes of the page's text at once.
+/// end. Room is made for `room` bytes of the page's text at once. Rows are printed part by part, and
+/// the memory of each part is given back before the next, which the page then needs.
 pub fn print_rows<T: Tables, A: Allocator + Clone>(
     alloc: A,
     room: usize,
     default_ending: LineEnding,
     texts: &Texts<'_, T, A>,
-    rows: &[Row],
-    pieces: &[Piece<'_>],
+    rows: Vec<Row, A>,
+    pieces: Vec<Piece<'_>, A>,
 ) -> Result<String<A>, AllocError>
-    requires enough { rows_size rows.now ≤ length pieces.now }
-    requires printable { ArePrintable (rows_value rows.now (piece_lines pieces.now)).rows }
+    requires enough { rows_size rows.items ≤ vec_len pieces }
+    requires printable { ArePrintable (rows_value rows.items (piece_lines pieces.items)).rows }
     ensures { (ds : Targets) → KnowsTargets texts.now ds →
-        (bs : Blocks) → (rows_value rows.now (piece_lines pieces.now)).rows ≡ rows_of bs → CanBePrinted bs →
+        (bs : Blocks) → (rows_value rows.items (piece_lines pieces.entry.items)).rows ≡ rows_of bs → CanBePrinted bs →
         let d = document_by T.Tables texts.now ds in
         IfOk result (λ html. string_bytes html ≡ page_layout texts.now.options.now.compile (ending_bytes default_ending) (document_pieces d bs)) }
 {
@@ -98,19 +136,48 @@ pub fn print_rows<T: Tables, A: Allocator + Clone>(
         },
         level: Level::new(Holder::Document, false),
         outer: Vec::new(alloc.clone()?),
-        places: places(alloc, rows)?,
+        places: places(alloc, &rows)?,
     };
-    let mut at = 0;
-    for row in rows {
-        printer.row(texts, *row, &pieces[at..])?;
-        at += row.size();
+    let blank = ends_blank(&rows);
+    let mut rows = rows;
+    let mut pieces = pieces;
+    while !rows.is_empty() {
+        let count = part(rows.len());
+        let taken = printer.rows(texts, &rows[..count], &pieces)?;
+        remove_front(&mut rows, count);
+        remove_front(&mut pieces, taken);
     }
-    if ends_blank(rows) {
+    if blank {
         printer.page.fresh()?;
     }
     let Printer { page, .. } = printer;
     let Page { out, .. } = page;
     out.finish(&texts.options.compile, default_ending)
+}
+
+/// From so many rows on they are printed part by part.
+const MANY_ROWS: usize = 4096;
+
+/// How many rows of so many are printed before their memory is given back: two fifths, or all of them
+/// if they are few. So rows and page together never have much more than the page in the end, and each
+/// row is moved one and a half times.
+fn part(rows: usize) -> usize
+    requires { 1 ≤ rows }
+    ensures some { 1 ≤ result }
+    ensures within { result ≤ rows }
+{
+    if rows < MANY_ROWS { rows } else { rows / 5 * 2 }
+}
+
+/// Removes so many items at the front, and gives their memory back.
+fn remove_front<T: Copy, A: Allocator>(items: &mut Vec<T, A>, count: usize)
+    requires { count ≤ vec_len items.old }
+    ensures { items.new.items ≡ drop count items.old.items }
+{
+    let left = items.len() - count;
+    items.copy_within(count.., 0);
+    items.truncate(left);
+    items.shrink_to_fit();
 }
 
 /// Whether the last row is the ending of a blank line.

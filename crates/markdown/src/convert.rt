@@ -10,7 +10,7 @@ ghost use Rattle.laws_safe_page.specs.SafeHtml.{AreSafe, HasOneReading};
 ghost use Rattle.markdown.specs.PageLaws.{QuotesPage, SaysEscapedLine, EndsPage, ListsPage};
 ghost use Rattle.markdown_tables.specs.Builtin.{builtin_tables};
 
-use block_parser::block_rows;
+use block_parser::{BlockRows, block_rows};
 use block_targets::{definition_contents, document_definitions, document_footnotes};
 use definition_text::Kind;
 use html_contents::Texts;
@@ -134,7 +134,8 @@ fn page_after<T: Tables, A: Allocator + Clone>(
         links: &definitions.links,
     };
     let room = room(text.len());
-    print_rows(alloc, room, ending, &texts, &blocks.rows, &blocks.pieces)
+    let BlockRows { rows, pieces } = blocks;
+    print_rows(alloc, room, ending, &texts, rows, pieces)
 }
 
 /// How many bytes a page is given at once: those of the text, and some for tags and references.

@@ -1,13 +1,15 @@
-use Rattle.std.proofs.Common.{◌≡◌, Bool, ◌+◌, List, string_bytes, sym, ap, ◌∙◌, take, drop, get_or, arith, length, ◌-◌, subst}
+use Rattle.std.proofs.Common.{◌≡◌, Bool, ◌+◌, List, [], string_bytes, sym, ap, ◌∙◌, take, drop, arith, length, length-drop, subst, vec_len}
+use Rattle.std.proofs.lemmas.Bool.{eqb-true}
+use Rattle.std.proofs.lemmas.List.{nil_from_length}
 use Rattle.std.specs.List.{fold}
-use Rattle.std.proofs.lemmas.List.{take_rest, take_all}
+use Rattle.std.proofs.lemmas.List.Sums.{fold-append, sum_by-take-drop}
 use Rattle.markdown_options.specs.declared.line_ending.LineEnding.{LineEnding}
 use Rattle.markdown_options.specs.LineEndings.{ending_bytes}
 use Rattle.block_rows.specs.declared.row.Row.{Row}
-use Rattle.block_rows.specs.declared.row.Row.TheVariants.{Paragraph}
+use Rattle.block_rows.specs.declared.row.Piece.{Piece}
 use Rattle.definition_text.specs.BlockLines.{BlockLine}
-use Rattle.block_rows.specs.Rows.{RowsValue, row_value, piece_lines, piece_line, rows_value, row_size}
-use Rattle.html_page.specs.Printable.{IsPrintableRow}
+use Rattle.block_rows.specs.Rows.{BlockRow, piece_lines, rows_value, rows_size, row_size}
+use Rattle.html_page.specs.Printable.{ArePrintable}
 use Rattle.html_page.specs.PrinterView.{PrinterView, print_row, print_all, blank_page, ends_blank_rows, rows_html, printer_view}
 use Rattle.std.specs.Result.{IfOk}
 use Rattle.definition_page.specs.Layout.{LayoutState}
@@ -17,79 +19,100 @@ use Rattle.html_bytes.specs.Html.{last_piece}
 use Rattle.html_contents.specs.Texts.{document_by}
 use Rattle.html_page.specs.declared.printer.Printer.{Printer}
 use Rattle.html_page.proofs.RowsOf.{rows_html_of}
-use Rattle.block_rows.proofs.RowSteps.{shown_more, taken_more, left_more}
-use Rattle.html_page.proofs.RowSteps.{printed_more, printable_at}
+use Rattle.html_page.proofs.RowSteps.{shown_from, printable_front, printable_rest}
 use Rattle.html_page.proofs.printer.print_rows.Goals as goal
-use Rattle.html_page.proofs.printer.print_rows.Goals.{then-ends_blank+in_ok-fresh, else-ends_blank}
+use Rattle.html_page.proofs.printer.print_rows.Goals.{then-blank+in_ok-fresh, else-blank}
 
-pub row-requires-clause-printable : goal.row-requires-clause-printable
-row-requires-clause-printable g c =
-    let rows = c.args.rows.now in
-    let pieces = c.args.pieces.now in
-    let i = c.loop-row.row-index in
-    let row : Row = get_or rows i (Paragraph 0) in
-    subst (λ (ls : List BlockLine). IsPrintableRow (row_value row ls))
-    (c.loop-row.invariant.left ∙ sym (ap piece_lines (take_rest pieces c.loop-row.at)))
-    (printable_at rows (piece_lines pieces) i (Paragraph 0) c.loop-row-test.true c.requires.printable)
+-- rows and pieces that were lent are those that are left
+lent_again : (lent rows : List Row) (lent_pieces pieces : List Piece) → lent ≡ rows → lent_pieces ≡ pieces
+    → (rows_value lent (piece_lines lent_pieces)).rows ≡ (rows_value rows (piece_lines pieces)).rows
+lent_again lent rows lent_pieces pieces same same_pieces =
+    ap (λ (rs : List Row). (rows_value rs (piece_lines lent_pieces)).rows) same
+    ∙ ap (λ (ps : List Piece). (rows_value rows (piece_lines ps)).rows) same_pieces
 
-pub loop-row-preserved : goal.loop-row-preserved
-loop-row-preserved g c =
-    let rows = c.args.rows.now in
-    let pieces = c.args.pieces.now in
-    let i = c.loop-row.row-index in
-    let row : Row = get_or rows i (Paragraph 0) in
+pub rows-requires-clause-printable : goal.rows-requires-clause-printable
+rows-requires-clause-printable g c =
+    let rows = c.deref-in-loop-rows.result.now in
+    let pieces = c.deref-in-loop-rows-2.result.now in
+    let same = lent_again rows c.loop-rows.rows.items pieces c.loop-rows.pieces.items c.deref-in-loop-rows.ensures.value c.deref-in-loop-rows-2.ensures.value in
+    printable_front rows (piece_lines pieces) c.part-count.result (subst ArePrintable (sym same) c.loop-rows.invariant.printable)
+
+pub loop-rows-preserved : goal.loop-rows-preserved
+loop-rows-preserved g c =
+    let rows = c.deref-in-loop-rows.result.now in
+    let pieces = c.deref-in-loop-rows-2.result.now in
+    let ls = piece_lines pieces in
+    let i = c.part-count.result in
+    let n = c.in_ok-taken.taken in
+    let k = c.loop-rows.invariant in
+    let done = c.in_ok-taken.ensures in
+    let same = lent_again rows c.loop-rows.rows.items pieces c.loop-rows.pieces.items c.deref-in-loop-rows.ensures.value c.deref-in-loop-rows-2.ensures.value in
+    let front = (rows_value (take i rows) ls).rows in
+    let rest = (rows_value (drop i rows) (rows_value (take i rows) ls).left).rows in
+    let rows_left : c.remove_front.new.items.items ≡ drop i rows = c.remove_front.ensures ∙ ap (drop i) (sym c.deref-in-loop-rows.ensures.value) in
+    let pieces_left : c.remove_front-in-loop-rows.new.items.items ≡ drop n pieces =
+    c.remove_front-in-loop-rows.ensures ∙ ap (drop n) (sym c.deref-in-loop-rows-2.ensures.value) in
+    let moved : (rows_value c.remove_front.new.items.items (piece_lines c.remove_front-in-loop-rows.new.items.items)).rows ≡ rest =
+    lent_again c.remove_front.new.items.items (drop i rows) c.remove_front-in-loop-rows.new.items.items (drop n pieces) rows_left pieces_left
+    ∙ ap (λ (left : List BlockLine). (rows_value (drop i rows) left).rows) (sym done.left) in
     let default = ending_bytes c.args.default_ending in
-    let all = piece_lines pieces in
-    let start = blank_page (rows_value rows all).rows in
-    let so_far = rows_value (take i rows) all in
-    let k = c.loop-row.invariant in
-    let more = shown_more rows all i (Paragraph 0) c.loop-row-test.true in
-    let rest : List BlockLine = piece_lines (take (length pieces - c.loop-row.at) (drop c.loop-row.at pieces)) in
-    let at : rest ≡ so_far.left = ap piece_lines (take_rest pieces c.loop-row.at) ∙ sym k.left in
+    let before = printer_view c.loop-rows.printer in
     record {
-      same_default = c.in_ok-row.ensures.default ∙ k.same_default;
+      same_default = done.default ∙ k.same_default;
+      enough = omega (
+        arith,
+        k.enough,
+        done.size,
+        ap rows_size rows_left,
+        ap rows_size c.deref-in-loop-rows.ensures.value,
+        sum_by-take-drop row_size rows i,
+        ap length pieces_left,
+        length-drop n pieces,
+        c.deref-in-loop-rows-2.ensures.len,
+        c.remove_front-in-loop-rows.new.items.ok.0,
+      );
+      printable = subst ArePrintable (sym moved) (printable_rest rows ls i (subst ArePrintable (sym same) k.printable));
       printed = λ ds has.
           let d = document_by g.T.Tables c.args.texts.now ds in
-          c.in_ok-row.ensures.printed ds has
-          ∙ ap (λ (e : LineEnding). print_row d (ending_bytes e) (printer_view c.loop-row.printer) (row_value row rest)) k.same_default
-          ∙ ap (λ (ls : List BlockLine). print_row d default (printer_view c.loop-row.printer) (row_value row ls)) at
-          ∙ ap (λ (p : PrinterView). print_row d default p (row_value row so_far.left)) (k.printed ds has)
-          ∙ sym (ap (λ (s : RowsValue). print_all d default start s.rows) more ∙ printed_more d default start so_far.rows (row_value row so_far.left));
-      left =
-          ap (λ (s : RowsValue). s.left) more
-          ∙ ap (drop (row_size row)) k.left
-          ∙ left_more piece_line (row_size row) c.loop-row.at pieces
-          ∙ ap (λ n. piece_lines (drop (c.loop-row.at + n) pieces)) (sym c.size.ensures);
-      enough = omega (arith, k.enough, c.size.ensures, taken_more rows i (Paragraph 0) c.loop-row-test.true);
+          let all = print_all d default before in
+          ap (λ (bs : List BlockRow). print_all d default (printer_view c.rows.new.self) bs) moved
+          ∙ ap (λ (p : PrinterView). print_all d default p rest)
+          (done.printed ds has ∙ ap (λ (e : LineEnding). print_all d (ending_bytes e) before front) k.same_default)
+          ∙ sym (fold-append (print_row d default) before front rest)
+          ∙ ap all (sym (shown_from rows ls i) ∙ same)
+          ∙ k.printed ds has;
     }
 
 pub returns : goal.returns
 returns g c = λ ds has bs rows_are can.
     let d = document_by g.T.Tables c.args.texts.now ds in
     let o = d.options.compile in
-    let rows = c.args.rows.now in
-    let all = piece_lines c.args.pieces.now in
+    let rows = c.args.rows.items in
+    let all = piece_lines c.args.pieces.items in
     let default = ending_bytes c.args.default_ending in
     let every = (rows_value rows all).rows in
     let start = blank_page every in
-    let k = c.loop-row.invariant in
-    let out = page_view c.loop-row.printer.page in
-    let whole : take c.loop-row.row-index rows ≡ rows = take_all c.loop-row.row-index rows c.loop-row-test.false in
+    let k = c.loop-rows.invariant in
+    let out = page_view c.loop-rows.printer.page in
+    let len : vec_len c.loop-rows.rows ≡ 0 = eqb-true (vec_len c.loop-rows.rows) 0 (sym c.is_empty.ensures ∙ c.loop-rows-test.false) in
+    let none : c.loop-rows.rows.items ≡ [] = nil_from_length c.loop-rows.rows.items (omega (arith, len, c.loop-rows.rows.ok.0)) in
     let laid_out : out ≡ (print_all d default start every).out =
-    ap (λ (p : PrinterView). p.out) (k.printed ds has ∙ ap (λ (rs : List Row). print_all d default start (rows_value rs all).rows) whole) in
+    ap (λ (p : PrinterView). p.out)
+    (sym (ap (λ (rs : List Row). print_all d default (printer_view c.loop-rows.printer) (rows_value rs (piece_lines c.loop-rows.pieces.items)).rows) none)
+    ∙ k.printed ds has) in
     let ends = λ (x : LayoutState) (blank : Bool). fold (lay o default) x (last_piece blank) in
-    let ended : page_view c.if-ends_blank.printer.page ≡ ends out c.ends_blank.result = elim c.if-ends_blank.branch [
-      | then-ends_blank+in_ok-fresh w ↦
+    let ended : page_view c.if-blank.printer.page ≡ ends out c.ends_blank-blank.result = elim c.if-blank.branch [
+      | then-blank+in_ok-fresh w ↦
           ap (λ (p : Printer _). page_view p.page) w.printer-is
           ∙ w.in_ok-fresh.ensures.printed
           ∙ ap (λ (e : LineEnding). with_fresh (ending_bytes e) out) k.same_default
-          ∙ ap (ends out) (sym w.if-ends_blank.true)
-      | else-ends_blank w ↦ ap (λ (p : Printer _). page_view p.page) w.printer-is ∙ ap (ends out) (sym w.if-ends_blank.false)
+          ∙ ap (ends out) (sym w.if-blank.true)
+      | else-blank w ↦ ap (λ (p : Printer _). page_view p.page) w.printer-is ∙ ap (ends out) (sym w.if-blank.false)
     ] in
     subst (λ x. IfOk c.finish.result (λ html. string_bytes html ≡ x))
     (ap (with_footnotes o default)
     (ended
-    ∙ ap (ends out) (c.ends_blank.ensures all)
+    ∙ ap (ends out) (c.ends_blank-blank.ensures all ∙ ap (λ (rs : List Row). ends_blank_rows (rows_value rs all).rows) c.deref-2.ensures.value)
     ∙ ap (λ x. ends x (ends_blank_rows every)) laid_out)
     ∙ ap (rows_html d default) rows_are
     ∙ rows_html_of d default bs can)

@@ -1,20 +1,25 @@
-use Rattle.std.proofs.Common.{◌≡◌, ◌≤◌, ◌+◌, length, take, drop}
+use Rattle.std.proofs.Common.{◌≡◌, ◌≤◌, vec_len}
 use Rattle.markdown_options.specs.LineEndings.{ending_bytes}
 use Rattle.definition_page.specs.Targets.{Targets}
 use Rattle.html_contents.specs.Texts.{KnowsTargets, document_by}
 use Rattle.block_rows.specs.Rows.{rows_size, piece_lines, rows_value}
+use Rattle.html_page.specs.Printable.{ArePrintable}
 use Rattle.html_page.specs.PrinterView.{print_all, blank_page, printer_view}
 use Rattle.html_page.proofs.printer.print_rows.Given as goal
 
--- the rows so far are printed, and the others take their lines from those that are left
-abbrev pub invariant-loop-row : goal.invariant-loop-row
-invariant-loop-row g l = record {
+-- what is printed of the rows that are left, after what is printed so far, is what is printed of all
+abbrev pub invariant-loop-rows : goal.invariant-loop-rows
+invariant-loop-rows g l = record {
   same_default : l.printer.page.default_ending ≡ l.fn.default_ending;
+  enough : rows_size l.rows.items ≤ vec_len l.pieces;
+  printable : ArePrintable (rows_value l.rows.items (piece_lines l.pieces.items)).rows;
   printed : (ds : Targets) → KnowsTargets l.texts ds →
-      printer_view l.printer ≡ print_all
-      (document_by g.T.Tables l.texts ds)
-      (ending_bytes l.fn.default_ending) (blank_page (rows_value l.rows (piece_lines l.pieces)).rows)
-      (rows_value (take l.row-index l.rows) (piece_lines l.pieces)).rows;
-  left : (rows_value (take l.row-index l.rows) (piece_lines l.pieces)).left ≡ piece_lines (drop l.at l.pieces);
-  enough : l.at + rows_size (drop l.row-index l.rows) ≤ length l.pieces;
+      let d = document_by g.T.Tables l.texts ds in
+      let default = ending_bytes l.fn.default_ending in
+      let all = (rows_value l.initial.rows.items (piece_lines l.initial.pieces.items)).rows in
+      print_all d default (printer_view l.printer) (rows_value l.rows.items (piece_lines l.pieces.items)).rows
+      ≡ print_all d default (blank_page all) all;
 }
+
+abbrev pub decreases-loop-rows : goal.decreases-loop-rows
+decreases-loop-rows g l = vec_len l.rows

@@ -38,8 +38,7 @@ print_rows-requires-clause-printable g c =
     let before = c.args.before in
     let text = c.args.text.now in
     let bytes : (k : ℕ) → get_or text k 0 < 256 = λ k. omega (arith, c.type_inv.text k) in
-    let rows = read_again on before text c.in_ok-blocks.blocks.rows.items c.in_ok-blocks.blocks.pieces.items c.in_ok-blocks.ensures.rows
-    c.deref-6.result.now c.deref-7.result.now c.deref-6.ensures.value c.deref-7.ensures.value in
+    let rows = ap (λ (s : RowsValue). s.rows) c.in_ok-blocks.ensures.rows in
     subst ArePrintable (sym rows) (printable_rows_of (blocks on before text) (blocks_printable on before text bytes))
 
 -- the page of blocks, by an ending that is another's
@@ -65,7 +64,7 @@ returns g c =
     let read = read_again on before text c.in_ok-blocks.blocks.rows.items c.in_ok-blocks.blocks.pieces.items c.in_ok-blocks.ensures.rows in
     let links = read c.deref.result.now c.deref-2.result.now c.deref.ensures.value c.deref-2.ensures.value in
     let notes = read c.deref-3.result.now c.deref-4.result.now c.deref-3.ensures.value c.deref-4.ensures.value in
-    let rows = read c.deref-6.result.now c.deref-7.result.now c.deref-6.ensures.value c.deref-7.ensures.value in
+    let rows = ap (λ (s : RowsValue). s.rows) c.in_ok-blocks.ensures.rows in
     let contents = c.in_ok-contents.ensures bs links in
     let noted = c.in_ok-footnotes.ensures bs notes (bare_rows (rows_of bs) (printable_rows_of bs printable)) in
     let knows : KnowsTargets _ ds = record {

@@ -1,0 +1,20 @@
+use Rattle.std.proofs.Common.{◌≡◌, ◌+◌, take, drop}
+use Rattle.markdown_options.specs.LineEndings.{ending_bytes}
+use Rattle.definition_page.specs.Targets.{Targets}
+use Rattle.html_contents.specs.Texts.{KnowsTargets, document_by}
+use Rattle.block_rows.specs.Rows.{rows_size, piece_lines, rows_value}
+use Rattle.html_page.specs.PrinterView.{print_all, printer_view}
+use Rattle.html_page.proofs.printer.Printer.rows.Given as goal
+
+-- the rows so far are printed, and the others take their lines from those that are left
+abbrev pub invariant-loop-row : goal.invariant-loop-row
+invariant-loop-row g l = record {
+  same_default : l.self.page.default_ending ≡ l.initial.self.page.default_ending;
+  printed : (ds : Targets) → KnowsTargets l.texts ds →
+      printer_view l.self ≡ print_all
+      (document_by g.T.Tables l.texts ds)
+      (ending_bytes l.initial.self.page.default_ending) (printer_view l.initial.self)
+      (rows_value (take l.row-index l.rows) (piece_lines l.pieces)).rows;
+  left : (rows_value (take l.row-index l.rows) (piece_lines l.pieces)).left ≡ piece_lines (drop l.taken l.pieces);
+  size : l.taken + rows_size (drop l.row-index l.rows) ≡ rows_size l.rows;
+}
