@@ -2,7 +2,8 @@
 use Rattle.std.proofs.Common.{◌≡◌, ℕ, ◌+◌, ◌<◌, List, [], ◌∷◌, ◌++◌, ap, sym, ◌∙◌, subst, take, drop, get_or, length}
 use Rattle.std.specs.List.{fold, All}
 use Rattle.std.proofs.lemmas.List.{append-nil, append_assoc, drop_more, take-append-drop}
-use Rattle.std.proofs.lemmas.List.Elements.{All-nil, All-cons, All-head, All-tail}
+use Rattle.std.proofs.lemmas.List.Elements.{All-drop, All-head, All-take}
+use Rattle.std.proofs.Math.Seq.{drop-append_seam, take-append_seam}
 use Rattle.std.proofs.lemmas.List.Sums.{fold_push, fold-append}
 use Rattle.block_rows.specs.declared.row.Row.{Row}
 use Rattle.html_bytes.specs.Document.{Document}
@@ -40,12 +41,10 @@ pub shown_from : (rows : List Row) (ls : List BlockLine) (i : ℕ)
 shown_from rows ls i = ap (λ rs. (rows_value rs ls).rows) (sym (take-append-drop i rows)) ∙ shown_parts (take i rows) (drop i rows) ls
 
 all_left : {X : Type 0} (P : X → Type 0) (xs ys : List X) → All P (xs ++ ys) → All P xs
-all_left P [] ys h = All-nil P
-all_left P (x ∷ xs) ys h = All-cons P x xs (All-head P x (xs ++ ys) h) (all_left P xs ys (All-tail P x (xs ++ ys) h))
+all_left P xs ys h = subst (All P) (take-append_seam xs ys) (All-take P (length xs) (xs ++ ys) h)
 
 all_right : {X : Type 0} (P : X → Type 0) (xs ys : List X) → All P (xs ++ ys) → All P ys
-all_right P [] ys h = h
-all_right P (x ∷ xs) ys h = all_right P xs ys (All-tail P x (xs ++ ys) h)
+all_right P xs ys h = subst (All P) (drop-append_seam xs ys) (All-drop P (length xs) (xs ++ ys) h)
 
 -- where rows can be printed, so can those before a place and those from it on
 pub printable_front : (rows : List Row) (ls : List BlockLine) (i : ℕ) → ArePrintable (rows_value rows ls).rows
@@ -55,10 +54,6 @@ printable_front rows ls i h = all_left IsPrintableRow (rows_value (take i rows) 
 pub printable_rest : (rows : List Row) (ls : List BlockLine) (i : ℕ) → ArePrintable (rows_value rows ls).rows
     → ArePrintable (rows_value (drop i rows) (rows_value (take i rows) ls).left).rows
 printable_rest rows ls i h = all_right IsPrintableRow (rows_value (take i rows) ls).rows _ (subst ArePrintable (shown_from rows ls i) h)
-
-all_at : {X : Type 0} (P : X → Type 0) (xs : List X) (y : X) (ys : List X) → All P (xs ++ y ∷ ys) → P y
-all_at P [] y ys h = All-head P y ys h
-all_at P (x ∷ xs) y ys h = all_at P xs y ys (All-tail P x (xs ++ y ∷ ys) h)
 
 -- each row that is shown can be printed
 pub printable_at : (rows : List Row) (ls : List BlockLine) (i : ℕ) (d : Row) → i < length rows → ArePrintable (rows_value rows ls).rows
@@ -74,4 +69,4 @@ printable_at rows ls i d lt h =
     ∙ ap (λ rs. (fold show_row so_far rs).rows) (drop_more rows i d lt)
     ∙ shown_after (show_row so_far row) (drop (i + 1) rows)
     ∙ append_assoc so_far.rows (b ∷ []) others in
-    all_at IsPrintableRow so_far.rows b others (subst ArePrintable split h)
+    All-head IsPrintableRow b others (all_right IsPrintableRow so_far.rows (b ∷ others) (subst ArePrintable split h))

@@ -1,5 +1,5 @@
 //! Rows to HTML.
-ghost use Rattle.std.specs.Prelude.{◌≡◌, ◌≤◌, List, IfOk, OnOk, string_bytes, length, drop, vec_len};
+ghost use Rattle.std.specs.Prelude.{◌≡◌, ◌≤◌, ◌<◌, ◌*◌, List, IfOk, OnOk, string_bytes, length, drop, vec_capacity, vec_len};
 ghost use Rattle.markdown_options.specs.LineEndings.{ending_bytes};
 ghost use Rattle.definition_page.specs.Targets.{Targets};
 ghost use Rattle.definition_text.specs.BlockLines.{BlockLine};
@@ -118,8 +118,8 @@ pub fn print_rows<T: Tables, A: Allocator + Clone>(
     room: usize,
     default_ending: LineEnding,
     texts: &Texts<'_, T, A>,
-    rows: Vec<Row, A>,
-    pieces: Vec<Piece<'_>, A>,
+    mut rows: Vec<Row, A>,
+    mut pieces: Vec<Piece<'_>, A>,
 ) -> Result<String<A>, AllocError>
     requires enough { rows_size rows.items ≤ vec_len pieces }
     requires printable { ArePrintable (rows_value rows.items (piece_lines pieces.items)).rows }
@@ -139,8 +139,6 @@ pub fn print_rows<T: Tables, A: Allocator + Clone>(
         places: places(alloc, &rows)?,
     };
     let blank = ends_blank(&rows);
-    let mut rows = rows;
-    let mut pieces = pieces;
     while !rows.is_empty() {
         let count = part(rows.len());
         let taken = printer.rows(texts, &rows[..count], &pieces)?;
@@ -165,6 +163,9 @@ fn part(rows: usize) -> usize
     requires { 1 ≤ rows }
     ensures some { 1 ≤ result }
     ensures within { result ≤ rows }
+    ensures few { rows < MANY_ROWS → result ≡ rows }
+    ensures share { rows ≤ 3 * result }
+    ensures rest { MANY_ROWS ≤ rows → 2 * result ≤ rows }
 {
     if rows < MANY_ROWS { rows } else { rows / 5 * 2 }
 }
@@ -172,7 +173,8 @@ fn part(rows: usize) -> usize
 /// Removes so many items at the front, and gives their memory back.
 fn remove_front<T: Copy, A: Allocator>(items: &mut Vec<T, A>, count: usize)
     requires { count ≤ vec_len items.old }
-    ensures { items.new.items ≡ drop count items.old.items }
+    ensures items { items.new.items ≡ drop count items.old.items }
+    ensures memory { count ≡ vec_len items.old → vec_capacity items.new ≡ 0 }
 {
     let left = items.len() - count;
     items.copy_within(count.., 0);

@@ -49,9 +49,9 @@ loop-rows-preserved g c =
     let same = lent_again rows c.loop-rows.rows.items pieces c.loop-rows.pieces.items c.deref-in-loop-rows.ensures.value c.deref-in-loop-rows-2.ensures.value in
     let front = (rows_value (take i rows) ls).rows in
     let rest = (rows_value (drop i rows) (rows_value (take i rows) ls).left).rows in
-    let rows_left : c.remove_front.new.items.items ≡ drop i rows = c.remove_front.ensures ∙ ap (drop i) (sym c.deref-in-loop-rows.ensures.value) in
+    let rows_left : c.remove_front.new.items.items ≡ drop i rows = c.remove_front.ensures.items ∙ ap (drop i) (sym c.deref-in-loop-rows.ensures.value) in
     let pieces_left : c.remove_front-in-loop-rows.new.items.items ≡ drop n pieces =
-    c.remove_front-in-loop-rows.ensures ∙ ap (drop n) (sym c.deref-in-loop-rows-2.ensures.value) in
+    c.remove_front-in-loop-rows.ensures.items ∙ ap (drop n) (sym c.deref-in-loop-rows-2.ensures.value) in
     let moved : (rows_value c.remove_front.new.items.items (piece_lines c.remove_front-in-loop-rows.new.items.items)).rows ≡ rest =
     lent_again c.remove_front.new.items.items (drop i rows) c.remove_front-in-loop-rows.new.items.items (drop n pieces) rows_left pieces_left
     ∙ ap (λ (left : List BlockLine). (rows_value (drop i rows) left).rows) (sym done.left) in

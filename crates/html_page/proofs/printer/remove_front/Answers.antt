@@ -3,8 +3,8 @@ use lib.Seq.{paste}
 use Rattle.std.proofs.lemmas.List.Edits.{take-paste}
 use Rattle.html_page.proofs.printer.remove_front.Goals as goal
 
-pub returns : goal.returns
-returns g c =
+pub returns-clause-items : goal.returns-clause-items
+returns-clause-items g c =
     let all = c.args.items.now.items in
     let count = c.args.count in
     let left = c.len.result - count in
