@@ -5,7 +5,6 @@ ghost use Rattle.std.specs.List.Sorted.{IsNonDecreasingBy};
 ghost use Rattle.inline_content.specs.Marks.{mark_place};
 
 use crate::content::Content;
-use crate::line::line_content;
 use crate::mark::{Mark, push_mark};
 use block_rows::{Piece, push_ending, push_line};
 use definition_text::Kind;
@@ -60,23 +59,6 @@ impl<A: Allocator> ContentBuffer<A> {
             waiting = line.ending;
         }
         Ok(())
-    }
-
-    /// The content of these lines, before a character of a kind. One line is copied only where it
-    /// isn't its own content.
-    pub fn content_of<'a>(
-        &'a mut self,
-        lines: &[Piece<'a>],
-        after: Kind,
-    ) -> Result<Content<'a>, AllocError>
-        ensures { (is_punctuation : ℕ → Bool) → AreContentLines (piece_lines lines.now) →
-            IfOk result (λ content. content_view is_punctuation content ≡ inline_content is_punctuation after (own_lines (piece_lines lines.now))) }
-    {
-        if let Some(content) = line_content(lines, after) {
-            return Ok(content);
-        }
-        self.join(lines)?;
-        Ok(self.content(after))
     }
 
     /// The content, before a character of a kind.
