@@ -9,10 +9,11 @@ use crate::buffers::TextBuffers;
 use crate::texts::Texts;
 use block_cells::Cell;
 use html_footnotes::Output;
+use inline_parser::RowRoom;
 use markdown_options::Tables;
 use std::alloc::{AllocError, Allocator};
 
-impl<'a, T: Tables, A: Allocator + Clone> Texts<'a, T, A> {
+impl<'a, T: Tables, A: Allocator + Clone> Texts<'a, '_, T, A> {
     ghost use Rattle.std.specs.Prelude.{List};
     ghost use Rattle.html_contents.specs.Texts.{KnowsTargets, LaysOut, document_by};
 
@@ -20,29 +21,35 @@ impl<'a, T: Tables, A: Allocator + Clone> Texts<'a, T, A> {
     pub fn push_cell(
         &self,
         out: &mut Output<A>,
-        buffers: &mut TextBuffers<A>,
-        cell: &Cell<'_>,
+        buffers: &mut TextBuffers<'a, A>,
+        cell: &Cell<'a>,
     ) -> Result<(), AllocError>
         ensures { (ds : Targets) → KnowsTargets self.now ds → HaveNoEnding (piece_line cell.now.line).codes →
             let d = document_by T.Tables self.now ds in LaysOut d result out.old out.new (cell_of d (cell_view cell.now)) }
     {
-        let lines = [cell.line];
-        let content = buffers.content.content_of(&lines, cell.after)?;
-        self.push_content(out, &mut buffers.scratch, &mut buffers.room, true, content)
+        self.push_lines(out, buffers, true, &[cell.line], cell.after)
     }
+
     /// Counts the calls of footnotes in a cell that isn't printed, since it stands beyond the columns
     /// of its table (GFM 4.10).
     pub fn count_cell(
         &self,
         out: &mut Output<A>,
-        buffers: &mut TextBuffers<A>,
+        buffers: &mut TextBuffers<'_, A>,
         cell: &Cell<'_>,
     ) -> Result<(), AllocError>
         ensures { (ds : Targets) → KnowsTargets self.now ds → HaveNoEnding (piece_line cell.now.line).codes →
             let d = document_by T.Tables self.now ds in LaysOut d result out.old out.new (cell_counts d (cell_view cell.now)) }
     {
-        let lines = [cell.line];
-        let content = buffers.content.content_of(&lines, cell.after)?;
-        self.count_content(out, &mut buffers.scratch, &mut buffers.room, content)
+        buffers.content.join(&[cell.line])?;
+        let content = buffers.content.content(cell.after);
+        let mut rows = RowRoom::new(buffers.alloc.clone()?)?;
+        self.count_content(
+            out,
+            &mut buffers.scratch,
+            &mut buffers.room,
+            &mut rows,
+            content,
+        )
     }
 }

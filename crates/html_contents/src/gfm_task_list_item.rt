@@ -12,11 +12,11 @@ use html_footnotes::Output;
 use html_inline::{Scratch, push_check};
 use inline_content::Content;
 use inline_leaves::gfm_task_list_item::check_at;
-use inline_parser::{Room, content_start};
+use inline_parser::{Room, RowRoom, content_start};
 use markdown_options::Tables;
 use std::alloc::{AllocError, Allocator};
 
-impl<'a, T: Tables, A: Allocator + Clone> Texts<'a, T, A> {
+impl<'a, T: Tables, A: Allocator + Clone> Texts<'a, '_, T, A> {
     ghost use Rattle.html_contents.specs.Texts.{KnowsTargets, LaysOut, document_by};
 
     /// Prints the content of a paragraph, which has a check where it is the first block of an item
@@ -26,8 +26,9 @@ impl<'a, T: Tables, A: Allocator + Clone> Texts<'a, T, A> {
         out: &mut Output<A>,
         scratch: &mut Scratch<A>,
         room: &mut Room<A>,
+        rows: &mut RowRoom<'a, A>,
         first: bool,
-        content: Content<'_>,
+        content: Content<'a>,
     ) -> Result<(), AllocError>
         ensures { (ds : Targets) → KnowsTargets self.now ds →
             let d = document_by T.Tables self.now ds in
@@ -37,10 +38,10 @@ impl<'a, T: Tables, A: Allocator + Clone> Texts<'a, T, A> {
     {
         let start = content_start(content);
         match check_at(&self.options.parse.constructs, first, start) {
-            None => self.push_from(out, scratch, room, false, content, start),
+            None => self.push_from(out, scratch, room, rows, false, content, start),
             Some(check) => {
                 push_check(&mut out.html, &self.options.compile, check.done)?;
-                self.push_from(out, scratch, room, false, content, check.after)
+                self.push_from(out, scratch, room, rows, false, content, check.after)
             }
         }
     }

@@ -15,6 +15,8 @@ ghost use Rattle.block_rows.specs.ParagraphLines.{HaveNoEnding, AreLines};
 ghost use Rattle.block_rows.specs.Rows.{piece_line, piece_lines, whole_lines};
 ghost use Rattle.definition_inline.specs.Scan.{inlines, inlines_from};
 ghost use Rattle.definition_text.specs.BlockLines.{own_lines};
+ghost use Rattle.definition_text.specs.InlineCode.{inline_content};
+ghost use Rattle.inline_content.specs.Lines.{AreContentLines};
 ghost use Rattle.inline_content.specs.View.{content_view, view_at};
 ghost use Rattle.inline_parser.specs.Scanned.{IsPlace};
 ghost use Rattle.inline_parser.specs.Verbatim.{alone_bytes};
@@ -30,42 +32,77 @@ use html_inline::{
 use inline_content::{Content, line_content, whole_content};
 use inline_labels::LabelTable;
 use inline_links::LinkTexts;
-use inline_parser::{Room, TextAlone, content_start, inline_rows, text_alone};
+use inline_parser::{Room, RowRoom, TextAlone, content_start, inline_rows, text_alone};
 use markdown_options::{Options, Tables};
 use std::alloc::{AllocError, Allocator};
 
 /// What the texts of a document are read and printed by.
 #[derive(Drop)]
-pub struct Texts<'a, T, A: Allocator + Clone> {
+pub struct Texts<'a, 'd, T, A: Allocator + Clone> {
     pub options: &'a Options,
     pub tables: &'a T,
     /// The labels of the document's link reference definitions.
-    pub labels: &'a LabelTable<A>,
+    pub labels: &'d LabelTable<A>,
     /// The labels of its footnote definitions.
-    pub footnotes: &'a LabelTable<A>,
+    pub footnotes: &'d LabelTable<A>,
     /// Where the link reference definitions lead, in the order of the text.
-    pub links: &'a [LinkTexts<'a>],
+    pub links: &'d [LinkTexts<'d>],
 }
 
-impl<'a, T: Tables, A: Allocator + Clone> Texts<'a, T, A> {
+impl<'a, T: Tables, A: Allocator + Clone> Texts<'a, '_, T, A> {
     ghost use Rattle.html_contents.specs.Texts.{KnowsTargets, LaysOut, document_by};
+
+    /// The same for contents that live no longer than this.
+    fn lent(&self) -> Texts<'_, '_, T, A>
+        ensures { result ≡ self.now }
+    {
+        Texts {
+            options: self.options,
+            tables: self.tables,
+            labels: self.labels,
+            footnotes: self.footnotes,
+            links: self.links,
+        }
+    }
 
     /// Prints the text of a heading's lines, without the last ending (CommonMark 4.3).
     pub fn push_text(
         &self,
         out: &mut Output<A>,
-        buffers: &mut TextBuffers<A>,
-        lines: &[Piece<'_>],
+        buffers: &mut TextBuffers<'a, A>,
+        lines: &[Piece<'a>],
     ) -> Result<(), AllocError>
         ensures { (ds : Targets) → KnowsTargets self.now ds → AreLines (piece_lines lines.now) →
             let d = document_by T.Tables self.now ds in LaysOut d result out.old out.new (text_of d (own_lines (piece_lines lines.now))) }
     {
-        if let Some(content) = line_content(lines, Kind::Whitespace) {
-            return self.push_content(out, &mut buffers.scratch, &mut buffers.room, false, content);
+        self.push_lines(out, buffers, false, lines, Kind::Whitespace)
+    }
+
+    /// Prints the text of some lines before a character of a kind, in a cell of a table or not. What
+    /// is put together doesn't stand in the document's text, and has rows of its own.
+    pub(crate) fn push_lines(
+        &self,
+        out: &mut Output<A>,
+        buffers: &mut TextBuffers<'a, A>,
+        cell: bool,
+        lines: &[Piece<'a>],
+        after: Kind,
+    ) -> Result<(), AllocError>
+        ensures { (ds : Targets) → KnowsTargets self.now ds → AreContentLines (piece_lines lines.now) →
+            let d = document_by T.Tables self.now ds in
+            let content = inline_content (T.punctuation_of self.now.tables.now) after (own_lines (piece_lines lines.now)) in
+            LaysOut d result out.old out.new (inline_pieces (meaning_of d) (parts_in_cell cell (inlines (context_of d) content))) }
+    {
+        let scratch = &mut buffers.scratch;
+        let room = &mut buffers.room;
+        if let Some(content) = line_content(lines, after) {
+            return self.push_content(out, scratch, room, &mut buffers.rows, cell, content);
         }
         buffers.content.join(lines)?;
-        let content = buffers.content.content(Kind::Whitespace);
-        self.push_content(out, &mut buffers.scratch, &mut buffers.room, false, content)
+        let content = buffers.content.content(after);
+        let mut rows = RowRoom::new(buffers.alloc.clone()?)?;
+        let texts = self.lent();
+        texts.push_content(out, scratch, room, &mut rows, cell, content)
     }
 
     /// Prints the text of a paragraph's lines, without the last ending. It has a check where it is
@@ -73,51 +110,60 @@ impl<'a, T: Tables, A: Allocator + Clone> Texts<'a, T, A> {
     pub fn push_paragraph(
         &self,
         out: &mut Output<A>,
-        buffers: &mut TextBuffers<A>,
+        buffers: &mut TextBuffers<'a, A>,
         first: bool,
-        lines: &[Piece<'_>],
+        lines: &[Piece<'a>],
     ) -> Result<(), AllocError>
         ensures { (ds : Targets) → KnowsTargets self.now ds → AreLines (piece_lines lines.now) →
             let d = document_by T.Tables self.now ds in
             LaysOut d result out.old out.new (paragraph_of d first (own_lines (piece_lines lines.now))) }
     {
+        let scratch = &mut buffers.scratch;
+        let room = &mut buffers.room;
         if let Some(content) = line_content(lines, Kind::Whitespace) {
-            return self.push_checked(out, &mut buffers.scratch, &mut buffers.room, first, content);
+            return self.push_checked(out, scratch, room, &mut buffers.rows, first, content);
         }
         buffers.content.join(lines)?;
         let content = buffers.content.content(Kind::Whitespace);
-        self.push_checked(out, &mut buffers.scratch, &mut buffers.room, first, content)
+        let mut rows = RowRoom::new(buffers.alloc.clone()?)?;
+        let texts = self.lent();
+        texts.push_checked(out, scratch, room, &mut rows, first, content)
     }
 
     /// Prints the text of one line, which may be empty, without its ending (CommonMark 4.2).
     pub fn push_line(
         &self,
         out: &mut Output<A>,
-        buffers: &mut TextBuffers<A>,
-        line: &Piece<'_>,
+        buffers: &mut TextBuffers<'a, A>,
+        line: &Piece<'a>,
     ) -> Result<(), AllocError>
         ensures { (ds : Targets) → KnowsTargets self.now ds → HaveNoEnding (piece_line line.now).codes →
             let d = document_by T.Tables self.now ds in LaysOut d result out.old out.new (text_of d (own_lines (piece_line line.now ∷ []))) }
     {
-        let lines = [*line];
-        let content = buffers.content.content_of(&lines, Kind::Whitespace)?;
-        self.push_content(out, &mut buffers.scratch, &mut buffers.room, false, content)
+        self.push_lines(out, buffers, false, &[*line], Kind::Whitespace)
     }
 
     /// Prints a paragraph of the lines of a text, without the last ending (CommonMark 4.8 and GFM 5.3).
     pub fn push_whole(
         &self,
         out: &mut Output<A>,
-        buffers: &mut TextBuffers<A>,
+        buffers: &mut TextBuffers<'a, A>,
         first: bool,
-        text: &str,
+        text: &'a str,
     ) -> Result<(), AllocError>
         ensures { (ds : Targets) → KnowsTargets self.now ds →
             let d = document_by T.Tables self.now ds in
             LaysOut d result out.old out.new (paragraph_of d first (own_lines (whole_lines text.now))) }
     {
         let content = whole_content(text);
-        self.push_checked(out, &mut buffers.scratch, &mut buffers.room, first, content)
+        self.push_checked(
+            out,
+            &mut buffers.scratch,
+            &mut buffers.room,
+            &mut buffers.rows,
+            first,
+            content,
+        )
     }
 
     /// Prints what an info string, which has no line ending, stands for (CommonMark 4.5).
@@ -134,26 +180,36 @@ impl<'a, T: Tables, A: Allocator + Clone> Texts<'a, T, A> {
         out: &mut Output<A>,
         scratch: &mut Scratch<A>,
         room: &mut Room<A>,
+        rows: &mut RowRoom<'a, A>,
         cell: bool,
-        content: Content<'_>,
+        content: Content<'a>,
     ) -> Result<(), AllocError>
         ensures { (ds : Targets) → KnowsTargets self.now ds →
             let d = document_by T.Tables self.now ds in
             let structure = inlines (context_of d) (content_view (T.punctuation_of self.now.tables.now) content.entry) in
             LaysOut d result out.old out.new (inline_pieces (meaning_of d) (parts_in_cell cell structure)) }
     {
-        self.push_from(out, scratch, room, cell, content, content_start(content))
+        self.push_from(
+            out,
+            scratch,
+            room,
+            rows,
+            cell,
+            content,
+            content_start(content),
+        )
     }
 
     /// Prints the inline structure of a content from a place on.
-    pub(crate) fn push_from<'c>(
+    pub(crate) fn push_from(
         &self,
         out: &mut Output<A>,
         scratch: &mut Scratch<A>,
         room: &mut Room<A>,
+        rows: &mut RowRoom<'a, A>,
         cell: bool,
-        content: Content<'c>,
-        start: &'c str,
+        content: Content<'a>,
+        start: &'a str,
     ) -> Result<(), AllocError>
         requires { IsPlace content.text.now start.now }
         ensures { (ds : Targets) → KnowsTargets self.now ds →
@@ -165,8 +221,9 @@ impl<'a, T: Tables, A: Allocator + Clone> Texts<'a, T, A> {
         if let Some(text) = text_alone(parse, start) {
             return push_text_alone(out, text);
         }
-        let rows = inline_rows(
+        let found = inline_rows(
             room,
+            rows,
             parse,
             self.tables,
             self.labels,
@@ -182,15 +239,17 @@ impl<'a, T: Tables, A: Allocator + Clone> Texts<'a, T, A> {
             footnotes: self.footnotes,
             cell,
         };
-        push_rows(out, scratch, &printing, rows.as_slice())
+        push_rows(out, scratch, &printing, found.as_slice())
     }
+
     /// Counts the calls of footnotes in a content of a cell that isn't printed (GFM 4.10).
     pub(crate) fn count_content(
         &self,
         out: &mut Output<A>,
         scratch: &mut Scratch<A>,
         room: &mut Room<A>,
-        content: Content<'_>,
+        rows: &mut RowRoom<'a, A>,
+        content: Content<'a>,
     ) -> Result<(), AllocError>
         ensures { (ds : Targets) → KnowsTargets self.now ds →
             let d = document_by T.Tables self.now ds in
@@ -199,8 +258,9 @@ impl<'a, T: Tables, A: Allocator + Clone> Texts<'a, T, A> {
     {
         let parse = &self.options.parse;
         let definitions = self.links;
-        let rows = inline_rows(
+        let found = inline_rows(
             room,
+            rows,
             parse,
             self.tables,
             self.labels,
@@ -216,7 +276,7 @@ impl<'a, T: Tables, A: Allocator + Clone> Texts<'a, T, A> {
             footnotes: self.footnotes,
             cell: true,
         };
-        count_rows(out, scratch, &printing, rows.as_slice())
+        count_rows(out, scratch, &printing, found.as_slice())
     }
 }
 

@@ -8,7 +8,7 @@ use crate::level::Holder;
 use crate::printer::Printer;
 use std::alloc::{AllocError, Allocator};
 
-impl<A: Allocator + Clone> Printer<A> {
+impl<A: Allocator + Clone> Printer<'_, A> {
     /// A block quote starts (CommonMark 5.1).
     pub(crate) fn enter_quote(&mut self) -> Result<(), AllocError>
         ensures default { KeepsEnding self.old.page self.new.page }

@@ -19,11 +19,11 @@ use html_contents::Texts;
 use markdown_options::{LineEnding, Tables};
 use std::alloc::{AllocError, Allocator};
 
-impl<A: Allocator + Clone> Page<A> {
+impl<'t, A: Allocator + Clone> Page<'t, A> {
     /// Prints fenced code (CommonMark 4.5), at the top or in a container. Its info has no line ending.
     pub(crate) fn fenced_code<T: Tables>(
         &mut self,
-        texts: &Texts<'_, T, A>,
+        texts: &Texts<'_, '_, T, A>,
         info: &str,
         closed: bool,
         top: bool,
@@ -47,7 +47,11 @@ impl<A: Allocator + Clone> Page<A> {
     }
 
     /// Prints the class of code with an info, which has no line ending.
-    fn class<T: Tables>(&mut self, texts: &Texts<'_, T, A>, info: &str) -> Result<(), AllocError>
+    fn class<T: Tables>(
+        &mut self,
+        texts: &Texts<'_, '_, T, A>,
+        info: &str,
+    ) -> Result<(), AllocError>
         ensures default { KeepsEnding self.old self.new }
         ensures printed { (ds : Targets) → HaveNoEnding info.now →
             OnOk result (Prints self.old self.new (class_of (document_by T.Tables texts.now ds) info.now)) }
@@ -95,7 +99,7 @@ impl<A: Allocator + Clone> Page<A> {
 /// Prints the class of code with an info, which has no line ending.
 fn push_class<T: Tables, A: Allocator + Clone>(
     out: &mut String<A>,
-    texts: &Texts<'_, T, A>,
+    texts: &Texts<'_, '_, T, A>,
     info: &str,
 ) -> Result<(), AllocError>
     ensures { (ds : Targets) → HaveNoEnding info.now →

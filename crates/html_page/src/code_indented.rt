@@ -12,7 +12,7 @@ use crate::page::Page;
 use block_rows::Piece;
 use std::alloc::{AllocError, Allocator};
 
-impl<A: Allocator + Clone> Page<A> {
+impl<A: Allocator + Clone> Page<'_, A> {
     /// Prints indented code (CommonMark 4.4).
     pub(crate) fn indented_code(&mut self, lines: &[Piece<'_>]) -> Result<(), AllocError>
         ensures default { KeepsEnding self.old self.new }

@@ -13,7 +13,7 @@ use block_rows::{Piece, push_columns, push_ending};
 use html_escape::push_encoded;
 use std::alloc::{AllocError, Allocator};
 
-impl<A: Allocator + Clone> Page<A> {
+impl<A: Allocator + Clone> Page<'_, A> {
     /// Prints lines of code without the last ending.
     pub(crate) fn code(&mut self, lines: &[Piece<'_>]) -> Result<(), AllocError>
         ensures default { KeepsEnding self.old self.new }

@@ -8,7 +8,7 @@ use crate::level::{Holder, Level};
 use crate::printer::Printer;
 use std::alloc::{AllocError, Allocator};
 
-impl<A: Allocator + Clone> Printer<A> {
+impl<A: Allocator + Clone> Printer<'_, A> {
     /// The innermost container ends, and with the last item its list.
     pub(crate) fn exit(&mut self) -> Result<(), AllocError>
         ensures default { KeepsEnding self.old.page self.new.page }

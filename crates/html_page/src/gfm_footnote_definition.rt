@@ -9,7 +9,7 @@ use crate::printer::Printer;
 use block_rows::Row;
 use std::alloc::{AllocError, Allocator};
 
-impl<A: Allocator + Clone> Page<A> {
+impl<A: Allocator + Clone> Page<'_, A> {
     /// The content of a footnote starts.
     fn start_footnote(&mut self) -> Result<(), AllocError>
         ensures default { KeepsEnding self.old self.new }
@@ -27,7 +27,7 @@ impl<A: Allocator + Clone> Page<A> {
     }
 }
 
-impl<A: Allocator + Clone> Printer<A> {
+impl<A: Allocator + Clone> Printer<'_, A> {
     /// A footnote definition starts: what it holds is printed into a text of its own.
     pub(crate) fn enter_footnote(&mut self) -> Result<(), AllocError>
         ensures default { KeepsEnding self.old.page self.new.page }

@@ -30,12 +30,12 @@ use html_contents::Texts;
 use markdown_options::{LineEnding, Tables};
 use std::alloc::{AllocError, Allocator};
 
-impl<A: Allocator + Clone> Page<A> {
+impl<'t, A: Allocator + Clone> Page<'t, A> {
     /// Prints a table of these lines: its head, its row of delimiters, and the rows of its body.
     pub(crate) fn table<T: Tables>(
         &mut self,
-        texts: &Texts<'_, T, A>,
-        lines: &[Piece<'_>],
+        texts: &Texts<'t, '_, T, A>,
+        lines: &[Piece<'t>],
     ) -> Result<(), AllocError>
         requires { 2 ≤ length lines.now }
         ensures default { KeepsEnding self.old self.new }
@@ -57,9 +57,9 @@ impl<A: Allocator + Clone> Page<A> {
     /// Prints the head, with the ending of its line.
     fn table_head<T: Tables>(
         &mut self,
-        texts: &Texts<'_, T, A>,
+        texts: &Texts<'t, '_, T, A>,
         aligns: &[AlignKind],
-        line: &Piece<'_>,
+        line: &Piece<'t>,
     ) -> Result<(), AllocError>
         ensures default { KeepsEnding self.old self.new }
         ensures printed { (ds : Targets) → KnowsTargets texts.now ds → HaveNoEnding (piece_line line.now).codes →
@@ -76,10 +76,10 @@ impl<A: Allocator + Clone> Page<A> {
     /// Prints the body, if it has rows, after the ending of the row of delimiters.
     fn table_body<T: Tables>(
         &mut self,
-        texts: &Texts<'_, T, A>,
+        texts: &Texts<'t, '_, T, A>,
         aligns: &[AlignKind],
         ending: Option<LineEnding>,
-        rows: &[Piece<'_>],
+        rows: &[Piece<'t>],
     ) -> Result<(), AllocError>
         ensures default { KeepsEnding self.old self.new }
         ensures printed { (ds : Targets) → KnowsTargets texts.now ds → AreClear (piece_lines rows.now) →
@@ -99,9 +99,9 @@ impl<A: Allocator + Clone> Page<A> {
     /// Prints the rows of a body without the last ending.
     fn table_rows<T: Tables>(
         &mut self,
-        texts: &Texts<'_, T, A>,
+        texts: &Texts<'t, '_, T, A>,
         aligns: &[AlignKind],
-        rows: &[Piece<'_>],
+        rows: &[Piece<'t>],
     ) -> Result<(), AllocError>
         ensures default { KeepsEnding self.old self.new }
         ensures printed { (ds : Targets) → KnowsTargets texts.now ds → AreClear (piece_lines rows.now) →
@@ -120,10 +120,10 @@ impl<A: Allocator + Clone> Page<A> {
     /// Prints a row without its ending, by the name of its cells' tags.
     fn table_line<T: Tables>(
         &mut self,
-        texts: &Texts<'_, T, A>,
+        texts: &Texts<'t, '_, T, A>,
         name: &str,
         aligns: &[AlignKind],
-        line: &Piece<'_>,
+        line: &Piece<'t>,
     ) -> Result<(), AllocError>
         ensures default { KeepsEnding self.old self.new }
         ensures printed { (ds : Targets) → KnowsTargets texts.now ds → HaveNoEnding (piece_line line.now).codes →
@@ -140,10 +140,10 @@ impl<A: Allocator + Clone> Page<A> {
     /// Prints the cells of a row, one for each column.
     fn table_cells<T: Tables>(
         &mut self,
-        texts: &Texts<'_, T, A>,
+        texts: &Texts<'t, '_, T, A>,
         name: &str,
         aligns: &[AlignKind],
-        line: &Piece<'_>,
+        line: &Piece<'t>,
     ) -> Result<(), AllocError>
         ensures default { KeepsEnding self.old self.new }
         ensures printed { (ds : Targets) → KnowsTargets texts.now ds → HaveNoEnding (piece_line line.now).codes →
@@ -161,8 +161,8 @@ impl<A: Allocator + Clone> Page<A> {
     /// Counts the calls of footnotes in the cells beyond the columns, which aren't printed.
     fn more_cells<T: Tables>(
         &mut self,
-        texts: &Texts<'_, T, A>,
-        cells: Cells<'_>,
+        texts: &Texts<'t, '_, T, A>,
+        cells: Cells<'t>,
     ) -> Result<(), AllocError>
         ensures default { KeepsEnding self.old self.new }
         ensures printed { (ds : Targets) → KnowsTargets texts.now ds → CellsAreClear (cells_left cells.entry) →
@@ -179,10 +179,10 @@ impl<A: Allocator + Clone> Page<A> {
     /// Prints the cell of a column, or an empty one where it is missing.
     fn next_cell<T: Tables>(
         &mut self,
-        texts: &Texts<'_, T, A>,
+        texts: &Texts<'t, '_, T, A>,
         name: &str,
         align: AlignKind,
-        cell: Option<Cell<'_>>,
+        cell: Option<Cell<'t>>,
     ) -> Result<(), AllocError>
         ensures default { KeepsEnding self.old self.new }
         ensures printed { (ds : Targets) → KnowsTargets texts.now ds → IsClearIf cell.entry →
@@ -198,10 +198,10 @@ impl<A: Allocator + Clone> Page<A> {
     /// Prints a cell.
     fn cell<T: Tables>(
         &mut self,
-        texts: &Texts<'_, T, A>,
+        texts: &Texts<'t, '_, T, A>,
         name: &str,
         align: AlignKind,
-        cell: &Cell<'_>,
+        cell: &Cell<'t>,
     ) -> Result<(), AllocError>
         ensures default { KeepsEnding self.old self.new }
         ensures printed { (ds : Targets) → KnowsTargets texts.now ds →

@@ -6,7 +6,7 @@ ghost use Rattle.html_page.specs.Prints.{Prints, KeepsEnding};
 use crate::page::Page;
 use std::alloc::{AllocError, Allocator};
 
-impl<A: Allocator + Clone> Page<A> {
+impl<A: Allocator + Clone> Page<'_, A> {
     /// Prints a tag that ends with a rank.
     pub(crate) fn heading_tag(&mut self, name: &str, rank: u8) -> Result<(), AllocError>
         requires { (1 ≤ rank) × (rank ≤ 6) }

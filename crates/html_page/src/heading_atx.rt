@@ -16,13 +16,13 @@ use html_contents::Texts;
 use markdown_options::Tables;
 use std::alloc::{AllocError, Allocator};
 
-impl<A: Allocator + Clone> Page<A> {
+impl<'t, A: Allocator + Clone> Page<'t, A> {
     /// Prints a heading of one line, which may be empty.
     pub(crate) fn heading_atx<T: Tables>(
         &mut self,
-        texts: &Texts<'_, T, A>,
+        texts: &Texts<'t, '_, T, A>,
         rank: u8,
-        line: &Piece<'_>,
+        line: &Piece<'t>,
     ) -> Result<(), AllocError>
         requires { (1 ≤ rank) × (rank ≤ 6) }
         ensures default { KeepsEnding self.old self.new }

@@ -17,13 +17,13 @@ use html_contents::Texts;
 use markdown_options::Tables;
 use std::alloc::{AllocError, Allocator};
 
-impl<A: Allocator + Clone> Page<A> {
+impl<'t, A: Allocator + Clone> Page<'t, A> {
     /// Prints a heading of these lines.
     pub(crate) fn heading_setext<T: Tables>(
         &mut self,
-        texts: &Texts<'_, T, A>,
+        texts: &Texts<'t, '_, T, A>,
         rank: u8,
-        lines: &[Piece<'_>],
+        lines: &[Piece<'t>],
     ) -> Result<(), AllocError>
         requires { (1 ≤ rank) × (rank ≤ 6) }
         ensures default { KeepsEnding self.old self.new }
@@ -41,8 +41,8 @@ impl<A: Allocator + Clone> Page<A> {
     /// Prints the text of a heading, which may be one empty line.
     fn heading_text<T: Tables>(
         &mut self,
-        texts: &Texts<'_, T, A>,
-        lines: &[Piece<'_>],
+        texts: &Texts<'t, '_, T, A>,
+        lines: &[Piece<'t>],
     ) -> Result<(), AllocError>
         ensures default { KeepsEnding self.old self.new }
         ensures printed { (ds : Targets) → KnowsTargets texts.now ds →

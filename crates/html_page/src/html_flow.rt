@@ -18,7 +18,7 @@ use html_escape::push_html;
 use markdown_options::CompileOptions;
 use std::alloc::{AllocError, Allocator};
 
-impl<A: Allocator + Clone> Page<A> {
+impl<'t, A: Allocator + Clone> Page<'t, A> {
     /// Prints an HTML block (CommonMark 4.6).
     pub(crate) fn html_block(
         &mut self,

@@ -11,7 +11,7 @@ use crate::page::Page;
 use crate::printer::Printer;
 use std::alloc::{AllocError, Allocator};
 
-impl<A: Allocator + Clone> Page<A> {
+impl<A: Allocator + Clone> Page<'_, A> {
     /// Prints the tag of a list by the number of its first item.
     pub(crate) fn list_tag(&mut self, number: Option<u32>) -> Result<(), AllocError>
         ensures default { KeepsEnding self.old self.new }
@@ -29,7 +29,7 @@ impl<A: Allocator + Clone> Page<A> {
     }
 }
 
-impl<A: Allocator + Clone> Printer<A> {
+impl<A: Allocator + Clone> Printer<'_, A> {
     /// A list starts (CommonMark 5.3).
     pub(crate) fn enter_list(&mut self, number: Option<u32>, tight: bool) -> Result<(), AllocError>
         ensures default { KeepsEnding self.old.page self.new.page }

@@ -8,7 +8,7 @@ use crate::level::Holder;
 use crate::printer::Printer;
 use std::alloc::{AllocError, Allocator};
 
-impl<A: Allocator + Clone> Printer<A> {
+impl<A: Allocator + Clone> Printer<'_, A> {
     /// An item starts (CommonMark 5.2). It goes on the list that is open, or starts one.
     pub(crate) fn enter_item(&mut self, number: Option<u32>) -> Result<(), AllocError>
         ensures default { KeepsEnding self.old.page self.new.page }

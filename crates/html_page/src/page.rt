@@ -19,23 +19,23 @@ use std::alloc::{AllocError, Allocator};
 
 /// A page that is being printed.
 #[derive(Drop)]
-pub(crate) struct Page<A: Allocator + Clone> {
+pub(crate) struct Page<'t, A: Allocator + Clone> {
     pub(crate) out: Output<A>,
-    pub(crate) buffers: TextBuffers<A>,
+    pub(crate) buffers: TextBuffers<'t, A>,
     pub(crate) default_ending: LineEnding,
 }
 
-impl<A: Allocator + Clone> Page<A> {
+impl<'t, A: Allocator + Clone> Page<'t, A> {
     ghost use Rattle.html_page.specs.Prints.{LaysOut, Prints, page_view, with_fresh, KeepsEnding};
 
     /// Prints a block, or the ending of a line. A block takes its lines from the front of these.
     /// A definition (CommonMark 4.7) prints nothing, nor does any other row here.
     pub(crate) fn block<T: Tables>(
         &mut self,
-        texts: &Texts<'_, T, A>,
+        texts: &Texts<'t, '_, T, A>,
         row: Row,
         level: Level,
-        lines: &[Piece<'_>],
+        lines: &[Piece<'t>],
     ) -> Result<(), AllocError>
         requires enough { row_size row ≤ length lines.now }
         requires printable { IsPrintableRow (row_value row (piece_lines lines.now)) }

@@ -16,15 +16,15 @@ use html_contents::Texts;
 use markdown_options::Tables;
 use std::alloc::{AllocError, Allocator};
 
-impl<A: Allocator + Clone> Page<A> {
+impl<'t, A: Allocator + Clone> Page<'t, A> {
     /// Prints a paragraph, which may be the first block of an item (CommonMark 4.8). That of a tight
     /// item is its text alone.
     pub(crate) fn paragraph<T: Tables>(
         &mut self,
-        texts: &Texts<'_, T, A>,
+        texts: &Texts<'t, '_, T, A>,
         tight: bool,
         first: bool,
-        lines: &[Piece<'_>],
+        lines: &[Piece<'t>],
     ) -> Result<(), AllocError>
         ensures default { KeepsEnding self.old self.new }
         ensures printed { (ds : Targets) → KnowsTargets texts.now ds → AreLines (piece_lines lines.now) →
@@ -44,10 +44,10 @@ impl<A: Allocator + Clone> Page<A> {
     /// Prints a paragraph of the lines of a text (CommonMark 4.8).
     pub(crate) fn whole_paragraph<T: Tables>(
         &mut self,
-        texts: &Texts<'_, T, A>,
+        texts: &Texts<'t, '_, T, A>,
         tight: bool,
         first: bool,
-        text: &str,
+        text: &'t str,
     ) -> Result<(), AllocError>
         ensures default { KeepsEnding self.old self.new }
         ensures printed { (ds : Targets) → KnowsTargets texts.now ds →

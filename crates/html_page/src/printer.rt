@@ -23,8 +23,8 @@ use std::alloc::{AllocError, Allocator};
 
 /// A page that is being printed, and what is open on it.
 #[derive(Drop)]
-pub(crate) struct Printer<A: Allocator + Clone> {
-    pub(crate) page: Page<A>,
+pub(crate) struct Printer<'t, A: Allocator + Clone> {
+    pub(crate) page: Page<'t, A>,
     pub(crate) level: Level,
     /// The levels around it.
     pub(crate) outer: Vec<Level, A>,
@@ -32,13 +32,13 @@ pub(crate) struct Printer<A: Allocator + Clone> {
     pub(crate) places: Vec<Place, A>,
 }
 
-impl<A: Allocator + Clone> Printer<A> {
+impl<'t, A: Allocator + Clone> Printer<'t, A> {
     /// Prints a row. A block takes its lines from the front of these. Answers how many it took.
     fn row<T: Tables>(
         &mut self,
-        texts: &Texts<'_, T, A>,
+        texts: &Texts<'t, '_, T, A>,
         row: Row,
-        lines: &[Piece<'_>],
+        lines: &[Piece<'t>],
     ) -> Result<usize, AllocError>
         requires enough { row_size row ≤ length lines.now }
         requires printable { IsPrintableRow (row_value row (piece_lines lines.now)) }
@@ -85,9 +85,9 @@ impl<A: Allocator + Clone> Printer<A> {
     /// Prints rows, whose blocks take their lines from the front of these. Answers how many they took.
     fn rows<T: Tables>(
         &mut self,
-        texts: &Texts<'_, T, A>,
+        texts: &Texts<'t, '_, T, A>,
         rows: &[Row],
-        pieces: &[Piece<'_>],
+        pieces: &[Piece<'t>],
     ) -> Result<usize, AllocError>
         requires enough { rows_size rows.now ≤ length pieces.now }
         requires printable { ArePrintable (rows_value rows.now (piece_lines pieces.now)).rows }
@@ -113,13 +113,13 @@ impl<A: Allocator + Clone> Printer<A> {
 /// Items are put into lists here (CommonMark 5.3), and the footnotes that are called stand at the
 /// end. Room is made for `room` bytes of the page's text at once. Rows are printed part by part, and
 /// the memory of each part is given back before the next, which the page then needs.
-pub fn print_rows<T: Tables, A: Allocator + Clone>(
+pub fn print_rows<'t, T: Tables, A: Allocator + Clone>(
     alloc: A,
     room: usize,
     default_ending: LineEnding,
-    texts: &Texts<'_, T, A>,
+    texts: &Texts<'t, '_, T, A>,
     mut rows: Vec<Row, A>,
-    mut pieces: Vec<Piece<'_>, A>,
+    mut pieces: Vec<Piece<'t>, A>,
 ) -> Result<String<A>, AllocError>
     requires enough { rows_size rows.items ≤ vec_len pieces }
     requires printable { ArePrintable (rows_value rows.items (piece_lines pieces.items)).rows }

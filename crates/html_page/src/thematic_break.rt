@@ -9,7 +9,7 @@ ghost use Rattle.html_page.specs.Prints.{LaysOut, KeepsEnding};
 use crate::page::Page;
 use std::alloc::{AllocError, Allocator};
 
-impl<A: Allocator + Clone> Page<A> {
+impl<A: Allocator + Clone> Page<'_, A> {
     /// Prints a thematic break (CommonMark 4.1).
     pub(crate) fn thematic_break(&mut self) -> Result<(), AllocError>
         ensures default { KeepsEnding self.old self.new }

@@ -3,7 +3,7 @@
 
 use inline_content::whole_content;
 use inline_labels::LabelTable;
-use inline_parser::{Room, content_start, inline_rows};
+use inline_parser::{Room, RowRoom, content_start, inline_rows};
 use markdown_options::{Constructs, ParseOptions};
 use markdown_tables::Builtin;
 use std::io::{self, ErrorKind, Read};
@@ -22,7 +22,7 @@ fn main(rt: HostRuntime) -> io::Result<()> {
     else {
         return Err(ErrorKind::OutOfMemory.into());
     };
-    let Ok(mut room) = Room::new(rt.alloc()) else {
+    let (Ok(mut room), Ok(mut kept)) = (Room::new(rt.alloc()), RowRoom::new(rt.alloc())) else {
         return Err(ErrorKind::OutOfMemory.into());
     };
     let mut count: usize = 0;
@@ -30,11 +30,11 @@ fn main(rt: HostRuntime) -> io::Result<()> {
         let content = whole_content(paragraph);
         let start = content_start(content);
         let Ok(rows) = inline_rows(
-            &mut room, &options, &Builtin, &labels, &footnotes, content, start,
+            &mut room, &mut kept, &options, &Builtin, &labels, &footnotes, content, start,
         ) else {
             return Err(ErrorKind::OutOfMemory.into());
         };
-        count = count.saturating_add(rows.len());
+        count = count.saturating_add(rows.as_slice().len());
     }
     println!(rt; "{count}")?;
     Ok(())

@@ -2,3 +2,4 @@ pub mod Shows
 pub mod Scanned
 pub mod Plain
 pub mod Verbatim
+pub mod Found

@@ -8,5 +8,5 @@ mod reading;
 pub mod room;
 pub mod scan;
 
-pub use room::Room;
+pub use room::{FoundRows, Room, RowRoom};
 pub use scan::{TextAlone, content_start, inline_rows, text_alone};

@@ -21,7 +21,7 @@ ghost use Rattle.inline_links.specs.Codes.{IsRest};
 ghost use Rattle.inline_parser.specs.Shows.{Shows, ShowsThen, StartsBefore, KeepsStarts, IsSound, OpensAt, with_open_label, formed_last, unformed_last};
 
 use crate::label::{LabelStart, OpenLabel};
-use crate::room::Room;
+use crate::room::{Room, RowRoom};
 use inline_leaves::LeafPart;
 use inline_rows::{InlineRow, LinkTarget, VerbatimText};
 use inline_runs::{Pairing, Run};
@@ -49,7 +49,10 @@ pub(crate) struct Reading<'a, A: Allocator> {
 
 impl<'a, A: Allocator + Clone> Reading<'a, A> {
     /// Before anything is read, in room that is left empty until the end.
-    pub(crate) fn new(room: &mut Room<A>) -> Result<Reading<'a, A>, AllocError>
+    pub(crate) fn new(
+        room: &mut Room<A>,
+        kept: &mut RowRoom<'a, A>,
+    ) -> Result<Reading<'a, A>, AllocError>
         ensures nothing { (leads : Target → LinkTexts) (at : ℕ → LinkTexts) →
             IfOk result (λ reading. Shows leads at reading (scan.reading (scan.text [] false) [])) }
         ensures sound { IfOk result IsSound }
@@ -57,37 +60,49 @@ impl<'a, A: Allocator + Clone> Reading<'a, A> {
     {
         let mut runs = replace(&mut room.runs, Vec::new(room.alloc.clone()?));
         let mut slots = replace(&mut room.slots, Vec::new(room.alloc.clone()?));
+        let mut rows = replace(&mut kept.rows, Vec::new(room.alloc.clone()?));
+        let mut labels = replace(&mut kept.labels, Vec::new(room.alloc.clone()?));
         runs.clear();
         slots.clear();
+        rows.clear();
+        rows.reserve(ROWS)?;
+        labels.clear();
         Ok(Reading {
-            rows: Vec::with_capacity(room.alloc.clone()?, ROWS)?,
+            rows,
             runs,
             slots,
-            labels: Vec::new(room.alloc.clone()?),
+            labels,
             holds_link: false,
             pairing: room.take_pairing()?,
         })
     }
 
     /// The rows where nothing is left: label starts that are open form nothing. The room is given
-    /// back.
-    pub(crate) fn finish(self, room: &mut Room<A>) -> Result<Vec<InlineRow<'a>, A>, AllocError>
+    /// back, and the rows stand in it.
+    pub(crate) fn finish(
+        self,
+        room: &mut Room<A>,
+        kept: &mut RowRoom<'a, A>,
+    ) -> Result<(), AllocError>
         requires sound { IsSound self }
         ensures read { (leads : Target → LinkTexts) (at : ℕ → LinkTexts) (r : scan.Reading) → Shows leads at self.entry r →
-            IfOk result (λ rows. rows_view at rows.items ≡ inline_rows leads (with_spans (whole_text r).tokens)) }
+            OnOk result (rows_view at kept.new.rows.items ≡ inline_rows leads (with_spans (whole_text r).tokens)) }
     {
         let Reading {
             mut rows,
             runs,
             slots,
+            labels,
             mut pairing,
             ..
         } = self;
         tell_inner(&mut rows, &runs, &slots, &mut pairing)?;
+        kept.rows = rows;
+        kept.labels = labels;
         room.runs = runs;
         room.slots = slots;
         room.pairing = Some(pairing);
-        Ok(rows)
+        Ok(())
     }
 }
 

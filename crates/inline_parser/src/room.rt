@@ -1,4 +1,9 @@
 //! Room that is used again for each content.
+ghost use Rattle.std.specs.Prelude.{◌≡◌};
+ghost use Rattle.inline_parser.specs.Found.{found_rows};
+
+use crate::label::OpenLabel;
+use inline_rows::InlineRow;
 use inline_runs::{Pairing, Run};
 use std::alloc::{AllocError, Allocator};
 
@@ -35,6 +40,45 @@ impl<A: Allocator + Clone> Room<A> {
                 let pairing = Pairing::new(self.alloc.clone()?)?;
                 Ok(Box::new(self.alloc.clone()?, pairing)?)
             }
+        }
+    }
+}
+
+/// Room for the rows of a content and for its label starts, which borrow what is read. The next
+/// content that lives as long uses it again.
+#[derive(Drop)]
+pub struct RowRoom<'a, A: Allocator> {
+    pub(crate) rows: Vec<InlineRow<'a>, A>,
+    pub(crate) labels: Vec<OpenLabel<'a>, A>,
+}
+
+impl<'a, A: Allocator + Clone> RowRoom<'a, A> {
+    /// Room for nothing yet.
+    pub fn new(alloc: A) -> Result<RowRoom<'a, A>, AllocError> {
+        Ok(RowRoom {
+            rows: Vec::new(alloc.clone()?),
+            labels: Vec::new(alloc),
+        })
+    }
+}
+
+/// The rows of a content.
+#[derive(Drop)]
+pub enum FoundRows<'a, A: Allocator> {
+    /// They stand in the room for rows.
+    Kept(&'a [InlineRow<'a>]),
+    /// They have addresses, or links without literals, and were made anew (GFM 6.9).
+    Linked(Vec<InlineRow<'a>, A>),
+}
+
+impl<A: Allocator> FoundRows<'_, A> {
+    /// All of them.
+    pub fn as_slice(&self) -> &[InlineRow<'_>]
+        ensures { result.now ≡ found_rows self.now }
+    {
+        match self {
+            FoundRows::Kept(rows) => rows,
+            FoundRows::Linked(rows) => rows.as_slice(),
         }
     }
 }

@@ -27,6 +27,7 @@ ghost use Rattle.inline_rows.specs.View.{data_rows, rows_view};
 ghost use Rattle.inline_label_ends.specs.Ends.{IsAfterFormed, IsFormed};
 ghost use Rattle.inline_parser.specs.Scanned.{context_by, ended_here, has_no_return, HasTargets, IsPlace, IsPlacedBy, IsRunFront, IsSingle, StartsLabel};
 ghost use Rattle.inline_parser.specs.Scanned.{GoesOnBy, HasNoLeaf, HasNoLeafHere, HasNoRun, Shortens, StaysPlaced};
+ghost use Rattle.inline_parser.specs.Found.{found_rows};
 ghost use Rattle.inline_parser.specs.Verbatim.{alone_bytes, AreVerbatim, TellsVerbatim};
 ghost use Rattle.inline_parser.specs.Shows.{with_open_label, start_view, IsSound, Shows, ShowsThen, StartsBefore};
 
@@ -34,7 +35,7 @@ use crate::gfm_autolink_literal::rows_with_literals;
 use crate::label::{LabelStart, OpenLabel};
 use crate::plain::{Front, text_front};
 use crate::reading::Reading;
-use crate::room::Room;
+use crate::room::{FoundRows, Room, RowRoom};
 use inline_content::Content;
 use inline_label_ends::{LabelForm, call_or_link, link_or_image};
 use inline_labels::LabelTable;
@@ -44,18 +45,18 @@ use inline_leaves::leaf_at::leaf_at;
 use inline_leaves::searches::Searches;
 use inline_leaves::space::white_size;
 use inline_literals::{NamesInVain, literal_at};
-use inline_rows::{InlineRow, VerbatimText};
+use inline_rows::VerbatimText;
 use inline_runs::Run;
 use markdown_options::{Constructs, ParseOptions, Tables};
 use std::alloc::{AllocError, Allocator};
 
 /// What a content is read by.
 #[derive(Drop)]
-pub(crate) struct Source<'a, T, A: Allocator + Clone> {
+pub(crate) struct Source<'a, 'd, T, A: Allocator + Clone> {
     pub(crate) options: &'a ParseOptions,
     pub(crate) tables: &'a T,
-    pub(crate) labels: &'a LabelTable<A>,
-    pub(crate) footnotes: &'a LabelTable<A>,
+    pub(crate) labels: &'d LabelTable<A>,
+    pub(crate) footnotes: &'d LabelTable<A>,
     pub(crate) content: Content<'a>,
 }
 
@@ -81,43 +82,48 @@ pub enum TextAlone<'a> {
 
 /// The inline structure of a content from a place on, as rows (CommonMark 6), where these are the
 /// labels of the document's link reference definitions and of its footnote definitions. Whatever
-/// the room holds makes no difference.
-pub fn inline_rows<'a, T: Tables, A: Allocator + Clone>(
-    room: &'a mut Room<A>,
+/// the rooms hold makes no difference.
+pub fn inline_rows<'a, 'd, 'r, T: Tables, A: Allocator + Clone>(
+    room: &'r mut Room<A>,
+    kept: &'r mut RowRoom<'a, A>,
     options: &'a ParseOptions,
     tables: &'a T,
-    labels: &'a LabelTable<A>,
-    footnotes: &'a LabelTable<A>,
+    labels: &'d LabelTable<A>,
+    footnotes: &'d LabelTable<A>,
     content: Content<'a>,
     start: &'a str,
-) -> Result<Vec<InlineRow<'a>, A>, AllocError>
+) -> Result<FoundRows<'r, A>, AllocError>
     requires { IsPlace content.text.now start.now }
     ensures { (ds : Targets) → HasTargets labels.now footnotes.now ds →
-        IfOk result (λ rows. rows_view (linked_at ds.definitions) rows.items
+        IfOk result (λ found. rows_view (linked_at ds.definitions) (found_rows found)
         ≡ inline_rows (leads_to (linked_by ds.definitions))
         (inlines_from (context_by options.now (T.reference_of tables.now) ds) (view_at (T.punctuation_of tables.now) content.entry start.now))) }
 {
-    let rows = span_rows(room, options, tables, labels, footnotes, content, start)?;
+    span_rows(
+        room, kept, options, tables, labels, footnotes, content, start,
+    )?;
     if options.constructs.gfm_autolink_literal {
-        rows_with_literals(room, rows)
+        rows_with_literals(room, &kept.rows)
     } else {
-        Ok(rows)
+        Ok(FoundRows::Kept(&kept.rows))
     }
 }
 
-/// The same while addresses are text, and links may hold literals.
-fn span_rows<'a, T: Tables, A: Allocator + Clone>(
+/// The same while addresses are text, and links may hold literals. The rows stand in the room for
+/// them.
+fn span_rows<'a, 'd, T: Tables, A: Allocator + Clone>(
     room: &mut Room<A>,
+    kept: &mut RowRoom<'a, A>,
     options: &'a ParseOptions,
     tables: &'a T,
-    labels: &'a LabelTable<A>,
-    footnotes: &'a LabelTable<A>,
+    labels: &'d LabelTable<A>,
+    footnotes: &'d LabelTable<A>,
     content: Content<'a>,
     start: &'a str,
-) -> Result<Vec<InlineRow<'a>, A>, AllocError>
+) -> Result<(), AllocError>
     requires { IsPlace content.text.now start.now }
     ensures { (ds : Targets) → HasTargets labels.now footnotes.now ds →
-        IfOk result (λ rows. rows_view (linked_at ds.definitions) rows.items
+        OnOk result (rows_view (linked_at ds.definitions) kept.new.rows.items
         ≡ inline_rows (leads_to (linked_by ds.definitions))
         (spans_from (context_by options.now (T.reference_of tables.now) ds) (view_at (T.punctuation_of tables.now) content.entry start.now))) }
 {
@@ -132,13 +138,13 @@ fn span_rows<'a, T: Tables, A: Allocator + Clone>(
         searches: Searches::new(room.alloc.clone()?, content.text()),
         names: NamesInVain::new(),
         rest: start,
-        reading: Reading::new(room)?,
+        reading: Reading::new(room, kept)?,
     };
     while !scanner.rest.is_empty() {
         scanner.step(&source)?;
     }
     let Scanner { reading, .. } = scanner;
-    reading.finish(room)
+    reading.finish(room, kept)
 }
 
 /// A content after the spaces and tabs at its start.
@@ -212,7 +218,7 @@ fn first_byte(text: &str) -> &str
 
 impl<'a, A: Allocator + Clone> Scanner<'a, A> {
     /// Reads what comes next.
-    fn step<T: Tables>(&mut self, source: &Source<'a, T, A>) -> Result<(), AllocError>
+    fn step<T: Tables>(&mut self, source: &Source<'a, '_, T, A>) -> Result<(), AllocError>
         requires placed { IsPlacedBy T.Tables source.now self.old }
         requires some { 0 < length self.old.rest.now }
         ensures placed { OnOk result (IsPlacedBy T.Tables source.now self.new) }
@@ -231,7 +237,7 @@ impl<'a, A: Allocator + Clone> Scanner<'a, A> {
     }
 
     /// A literal, a run, a label start, a `]`, or a byte of text.
-    fn literal_or_run<T: Tables>(&mut self, source: &Source<'a, T, A>) -> Result<(), AllocError>
+    fn literal_or_run<T: Tables>(&mut self, source: &Source<'a, '_, T, A>) -> Result<(), AllocError>
         requires placed { IsPlacedBy T.Tables source.now self.old }
         requires some { 0 < length self.old.rest.now }
         requires no_leaf { HasNoLeaf (T.reference_of source.now.tables.now) source.now self.old.rest.now }
@@ -313,7 +319,7 @@ impl<'a, A: Allocator + Clone> Scanner<'a, A> {
     }
 
     /// A run, a label start, a `]`, or a byte of text.
-    fn run_or_label<T: Tables>(&mut self, source: &Source<'a, T, A>) -> Result<(), AllocError>
+    fn run_or_label<T: Tables>(&mut self, source: &Source<'a, '_, T, A>) -> Result<(), AllocError>
         requires placed { IsPlacedBy T.Tables source.now self.old }
         requires some { 0 < length self.old.rest.now }
         requires no_leaf { HasNoLeafHere (T.reference_of source.now.tables.now) (T.punctuation_of source.now.tables.now) source.now self.old.rest.now }
@@ -346,7 +352,7 @@ impl<'a, A: Allocator + Clone> Scanner<'a, A> {
     }
 
     /// A label start, a `]`, or a byte of text.
-    fn label_or_byte<T: Tables>(&mut self, source: &Source<'a, T, A>) -> Result<(), AllocError>
+    fn label_or_byte<T: Tables>(&mut self, source: &Source<'a, '_, T, A>) -> Result<(), AllocError>
         requires placed { IsPlacedBy T.Tables source.now self.old }
         requires some { 0 < length self.old.rest.now }
         requires no_leaf { HasNoLeafHere (T.reference_of source.now.tables.now) (T.punctuation_of source.now.tables.now) source.now self.old.rest.now }
@@ -384,7 +390,7 @@ impl<'a, A: Allocator + Clone> Scanner<'a, A> {
     }
 
     /// A `]`: what it forms, or else text (CommonMark 6.3 and 6.4).
-    fn end<T: Tables>(&mut self, source: &Source<'a, T, A>) -> Result<(), AllocError>
+    fn end<T: Tables>(&mut self, source: &Source<'a, '_, T, A>) -> Result<(), AllocError>
         requires placed { IsPlacedBy T.Tables source.now self.old }
         requires some { 0 < length self.old.rest.now }
         requires no_leaf { HasNoLeafHere (T.reference_of source.now.tables.now) (T.punctuation_of source.now.tables.now) source.now self.old.rest.now }
@@ -419,7 +425,7 @@ impl<'a, A: Allocator + Clone> Scanner<'a, A> {
     /// link would hold a link (CommonMark 6.3).
     fn innermost_label_end<T: Tables>(
         &self,
-        source: &Source<'a, T, A>,
+        source: &Source<'a, '_, T, A>,
         after: &'a str,
     ) -> Result<Option<LabelForm<'a>>, AllocError>
         requires placed { StartsBefore self.now.rest.now self.now.reading }
@@ -447,7 +453,7 @@ impl<'a, A: Allocator + Clone> Scanner<'a, A> {
 /// What the text between a label start and a `]` forms, where this follows (CommonMark 6.3 and
 /// 6.4).
 fn formed_at<'a, T, A: Allocator + Clone>(
-    source: &Source<'a, T, A>,
+    source: &Source<'a, '_, T, A>,
     start: LabelStart,
     text: &'a str,
     after: &'a str,

@@ -109,12 +109,12 @@ pub fn to_html_with_tables<T: Tables, A: Allocator + Clone>(
 }
 
 /// The HTML of a text without a byte order mark, after a character of a kind.
-fn page_after<T: Tables, A: Allocator + Clone>(
+fn page_after<'a, T: Tables, A: Allocator + Clone>(
     alloc: A,
     before: Kind,
-    text: &str,
-    options: &Options,
-    tables: &T,
+    text: &'a str,
+    options: &'a Options,
+    tables: &'a T,
 ) -> Result<String<A>, AllocError>
     requires size { length text.now ≤ SIZE_MAX }
     requires without_mdx { HasNoMdx options.now }

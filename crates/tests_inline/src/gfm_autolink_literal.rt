@@ -3,7 +3,7 @@ use inline_content::whole_content;
 use inline_labels::LabelTable;
 use inline_leaves::{LeafPart, LiteralKind};
 use inline_literals::{FoundAddress, NamesInVain, first_address, literal_at};
-use inline_parser::{Room, content_start, inline_rows};
+use inline_parser::{Room, RowRoom, content_start, inline_rows};
 use inline_rows::InlineRow;
 use markdown_options::{Constructs, ParseOptions};
 use std::test::Fail;
@@ -65,8 +65,10 @@ fn shape(rt: &HostRuntime, options: &ParseOptions, line: &str) -> Result<String,
     let footnotes = LabelTable::new(rt.alloc())?;
     let content = whole_content(line);
     let mut room = Room::new(rt.alloc())?;
+    let mut kept = RowRoom::new(rt.alloc())?;
     let rows = inline_rows(
         &mut room,
+        &mut kept,
         options,
         &Names,
         &labels,
@@ -75,7 +77,7 @@ fn shape(rt: &HostRuntime, options: &ParseOptions, line: &str) -> Result<String,
         content_start(content),
     )?;
     let mut shape = String::new(rt.alloc());
-    for row in &rows {
+    for row in rows.as_slice() {
         match row {
             InlineRow::Text(text) => shape.push_str(text)?,
             InlineRow::Verbatim(verbatim) => shape.push_str(verbatim.text)?,

@@ -5,7 +5,7 @@ use crate::rows::push_check;
 use inline_content::whole_content;
 use inline_labels::LabelTable;
 use inline_leaves::gfm_task_list_item::check_at;
-use inline_parser::{Room, content_start, inline_rows};
+use inline_parser::{Room, RowRoom, content_start, inline_rows};
 use inline_states::reading::resolved_text;
 use markdown_engine::{Message, ParseState};
 use markdown_options::{Constructs, ParseOptions};
@@ -91,8 +91,10 @@ impl Roads {
             start = check.after;
         }
         let mut room = Room::new(rt.alloc())?;
+        let mut kept = RowRoom::new(rt.alloc())?;
         let found = inline_rows(
             &mut room,
+            &mut kept,
             &self.options,
             &Builtin,
             &self.labels,
@@ -100,7 +102,7 @@ impl Roads {
             content,
             start,
         )?;
-        rows::push_rows(&mut out, &found)?;
+        rows::push_rows(&mut out, found.as_slice())?;
         Ok(out)
     }
 

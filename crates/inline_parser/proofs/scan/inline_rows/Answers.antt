@@ -1,4 +1,4 @@
-use Rattle.std.proofs.Common.{◌≡◌, [], IfOk, subst, sym}
+use Rattle.std.proofs.Common.{◌≡◌, ◌∙◌, [], IfOk, ap, subst, sym}
 use Rattle.std.proofs.lemmas.Bool.{cond-true}
 use Rattle.definition_inline.specs.GfmAutolinkLiteral.{with_literals}
 use Rattle.definition_inline.specs.Scan.{spans_from}
@@ -7,6 +7,7 @@ use Rattle.definition_page.specs.Targets.{linked_at, linked_by}
 use Rattle.inline_content.specs.View.{view_at}
 use Rattle.inline_rows.specs.InlineRows.{inline_rows}
 use Rattle.inline_rows.specs.View.{rows_view}
+use Rattle.inline_parser.specs.Found.{found_rows}
 use Rattle.inline_parser.specs.Scanned.{context_by}
 use Rattle.inline_parser.proofs.scan.inline_rows.Goals as goal
 
@@ -18,6 +19,6 @@ returns-then-options g c ds has =
     let at = linked_at ds.definitions in
     let kids = spans_from (context_by options (g.T.Tables.reference_of tables) ds)
     (view_at (g.T.Tables.punctuation_of tables) c.args.content c.args.start.now) in
-    subst (λ k. IfOk c.rows_with_literals.result (λ rows. rows_view at rows.items ≡ inline_rows leads k))
+    subst (λ k. IfOk c.rows_with_literals.result (λ found. rows_view at (found_rows found) ≡ inline_rows leads k))
     (sym (cond-true options.constructs.gfm_autolink_literal (with_literals [] kids) kids c.if-options.true))
-    (c.rows_with_literals.ensures leads at kids (c.in_ok-rows.ensures ds has))
+    (c.rows_with_literals.ensures leads at kids (ap (rows_view at) c.deref.ensures.value ∙ c.in_ok-span_rows.ensures ds has))

@@ -1,4 +1,5 @@
-use Rattle.std.proofs.Common.{◌≡◌, ℕ, true, false, eqb, List, [], ◌∷◌, refl, sym, ap, ◌∙◌, length, arith, subst, IfOk}
+use Rattle.std.proofs.Common.{◌≡◌, ℕ, true, false, eqb, List, [], ◌∷◌, refl, sym, ap, ◌∙◌, length, arith, subst}
+use Rattle.std.specs.Prelude.{OnOk}
 use Rattle.std.specs.List.{All}
 use Rattle.std.proofs.lemmas.Bool.{eqb-true}
 use Rattle.definition_page.specs.InlinePieces.{leads_to}
@@ -62,5 +63,5 @@ returns g c ds has =
     let f = c.loop-source.invariant.follows ds has in
     let none = no_bytes c.loop-source.scanner.rest.now (sym c.loop-source-test.ensures) in
     let end = ap (scan.scan (context_by c.args.options.now names ds) 0 f.now) (sym (whole.last_view p content c.loop-source.scanner.rest.now none)) ∙ f.same in
-    subst (λ r. IfOk c.finish.result (λ rows. rows_view (linked_at ds.definitions) rows.items ≡ inline_rows leads (with_spans (whole_text r).tokens))) end
+    subst (λ r. OnOk c.finish.result (rows_view (linked_at ds.definitions) c.finish.new.kept.rows.items ≡ inline_rows leads (with_spans (whole_text r).tokens))) end
     (c.finish.ensures.read leads (linked_at ds.definitions) f.now f.shows)

@@ -8,6 +8,7 @@ use Rattle.inline_rows.specs.InlineRows.{inline_rows}
 use Rattle.inline_rows.specs.View.{rows_view}
 use Rattle.definition_page.specs.InlinePieces.{leads_to}
 use Rattle.definition_page.specs.TextTables.{text_tables}
+use Rattle.inline_parser.specs.Found.{found_rows}
 use Rattle.html_contents.proofs.Places.{same_place, same_rows}
 use Rattle.html_contents.proofs.texts.Texts.count_content.Goals as goal
 
@@ -18,7 +19,7 @@ returns g c = λ ds known default.
     let d = document texts.options.now (text_tables (g.T.Tables.reference_of texts.tables.now) is_punctuation) ds in
     c.count_rows.ensures (linked_by ds.definitions) ds.footnotes default (inlines (context_of d) (content_view is_punctuation c.args.content))
     known.has_labels.noted
-    (ap (rows_view (place_target texts.links.now)) c.as_slice.ensures.value
-    ∙ same_rows (place_target texts.links.now) (linked_at ds.definitions) (same_place texts.links.now ds.definitions known.leads) c.in_ok-rows.rows.items
-    ∙ c.in_ok-rows.ensures ds known.has_labels
+    (ap (rows_view (place_target texts.links.now)) c.as_slice.ensures
+    ∙ same_rows (place_target texts.links.now) (linked_at ds.definitions) (same_place texts.links.now ds.definitions known.leads) (found_rows c.in_ok-found.found)
+    ∙ c.in_ok-found.ensures ds known.has_labels
     ∙ ap (λ v. inline_rows (leads_to (linked_by ds.definitions)) (inlines_from (context_of d) v)) (c.content_start.ensures.view is_punctuation))

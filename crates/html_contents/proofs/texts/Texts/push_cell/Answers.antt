@@ -1,4 +1,4 @@
-use Rattle.std.proofs.Common.{◌≡◌, subst, ◌∙◌}
+use Rattle.std.proofs.Common.{◌≡◌, subst}
 use Rattle.std.specs.List.{fold}
 use Rattle.std.specs.Prelude.{OnOk}
 use Rattle.definition_inline.specs.Scan.{inlines}
@@ -18,9 +18,9 @@ returns g c = λ ds known plain default.
     let cell = c.args.cell.now in
     let is_punctuation = g.T.Tables.punctuation_of texts.tables.now in
     let d = document_by g.T.Tables texts ds in
-    subst (λ content. OnOk c.push_content.result
-    (output_view c.push_content.new.out
+    subst (λ content. OnOk c.push_lines.result
+    (output_view c.push_lines.new.out
     ≡ fold (lay texts.options.now.compile default) (output_view c.args.out.now)
     (inline_pieces (meaning_of d) (in_cell (inlines (context_of d) content)))))
-    (c.in_ok-content.ensures is_punctuation plain ∙ line_alone is_punctuation cell.after (piece_line cell.line))
-    (c.push_content.ensures ds known default)
+    (line_alone is_punctuation cell.after (piece_line cell.line))
+    (c.push_lines.ensures ds known plain default)

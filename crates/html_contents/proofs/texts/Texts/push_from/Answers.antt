@@ -10,6 +10,7 @@ use Rattle.inline_parser.specs.declared.scan.TextAlone.{TextAlone}
 use Rattle.inline_parser.specs.Verbatim.{alone_bytes}
 use Rattle.definition_page.specs.InlinePieces.{leads_to}
 use Rattle.definition_page.specs.TextTables.{text_tables}
+use Rattle.inline_parser.specs.Found.{found_rows}
 use Rattle.html_contents.proofs.Places.{same_place, same_rows}
 use Rattle.html_contents.proofs.texts.Texts.push_from.Goals as goal
 
@@ -21,9 +22,9 @@ returns g c = λ ds known default.
     let d = document texts.options.now (text_tables (g.T.Tables.reference_of texts.tables.now) is_punctuation) ds in
     c.push_rows.ensures (linked_by ds.definitions) ds.footnotes default (inlines_from (context_of d) (view_at is_punctuation c.args.content c.args.start.now))
     known.has_labels.noted
-    (ap (rows_view (place_target texts.links.now)) c.as_slice.ensures.value
-    ∙ same_rows (place_target texts.links.now) (linked_at ds.definitions) (same_place texts.links.now ds.definitions known.leads) c.in_ok-rows.rows.items
-    ∙ c.in_ok-rows.ensures ds known.has_labels)
+    (ap (rows_view (place_target texts.links.now)) c.as_slice.ensures
+    ∙ same_rows (place_target texts.links.now) (linked_at ds.definitions) (same_place texts.links.now ds.definitions known.leads) (found_rows c.in_ok-found.found)
+    ∙ c.in_ok-found.ensures ds known.has_labels)
 
 -- text alone
 pub returns-in-Some : goal.returns-in-Some

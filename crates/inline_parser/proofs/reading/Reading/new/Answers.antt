@@ -1,4 +1,4 @@
-use Rattle.std.proofs.Common.{[], refl, sym, ap, subst, reverse}
+use Rattle.std.proofs.Common.{[], refl, sym, ap, ◌∙◌, subst, reverse}
 use Rattle.inline_spans.proofs.Container as container
 use Rattle.inline_parser.specs.Shows.{AreOpen, NoneOpen}
 use Rattle.inline_parser.proofs.reading.Reading.new.Goals as goal
@@ -12,10 +12,10 @@ returns-clause-nothing g c leads at = record {
     now_runs = [];
     outer_slots = [];
     now_slots = [];
-    rows_are = c.in_ok-with_capacity.ensures.items;
+    rows_are = c.reserve.ensures.items ∙ c.clear-3.ensures.items;
     runs_are = c.clear.ensures.items;
     slots_are = c.clear-2.ensures.items;
-    outer = subst (λ ls. AreOpen leads at [] [] [] ls []) (sym (ap reverse c.new-3.ensures.items)) NoneOpen;
+    outer = subst (λ ls. AreOpen leads at [] [] [] ls []) (sym (ap reverse c.clear-4.ensures.items)) NoneOpen;
     now = container.none leads at 0;
   };
   holds_link = refl;
