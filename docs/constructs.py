@@ -23,6 +23,7 @@ NEEDED = ("Definition", "Reader", "Printer", "Laws", "Tests")
 # The room of the code of a crate, by its name's prefix; the first that fits counts.
 PREFIXES = {
     "definition_": "Definition",
+    "inline_edits": "Events",
     "inline_states": "Events",
     "inline_verdicts": "Events",
     "text_": "Reader",
@@ -56,6 +57,9 @@ SHARED = {
     "block_parser/code_fenced.rt": "math_flow",
     "inline_content/run.rt": "attention gfm_strikethrough",
     "inline_content/previous.rt": "gfm_autolink_literal",
+    "inline_edits_data/RawText.antt": "code_text math_text",
+    "inline_edits_data/raw_text": "code_text math_text",
+    "inline_edits_data/raw_text.rt": "code_text math_text",
     "inline_label_ends/forms.rt": "label_end",
     "inline_leaves/RawTextLemmas.antt": "code_text math_text",
     "inline_leaves/raw_runs.rt": "code_text math_text",
@@ -75,9 +79,6 @@ SHARED = {
     "inline_spans/tell.rt": "attention gfm_strikethrough",
     "inline_states_leaves/RawText.antt": "code_text math_text",
     "inline_states_leaves/raw_text.rt": "code_text math_text",
-    "inline_states_resolvers/RawText.antt": "code_text math_text",
-    "inline_states_resolvers/raw_text": "code_text math_text",
-    "inline_states_resolvers/raw_text.rt": "code_text math_text",
     "inline_verdicts/RawText.antt": "code_text math_text",
     "inline_tags/tags.rt": "html_flow html_text",
     "html_inline/leaf.rt": "autolink character_escape character_reference hard_break_escape hard_break_trailing",

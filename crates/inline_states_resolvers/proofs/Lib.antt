@@ -1,4 +1,1 @@
-pub mod Containers
 pub mod Ordered
-pub mod Steps
-pub mod GfmAutolinkLiteral

@@ -1,15 +1,6 @@
 pub mod Whole
 pub mod WholeLaws
 pub mod EditedEvents
-pub mod Each
-pub mod Data
-pub mod LabelEnd
-pub mod Attention
-pub mod Whitespace
-pub mod GfmAutolinkLiteral
-pub mod Autolink
-pub mod RawText
-pub mod Views
 pub mod Resolving
 pub mod ChainLaws
 pub mod ResolvingLaws

@@ -8,14 +8,14 @@ use Rattle.markdown_engine.specs.Context.{Context}
 use Rattle.markdown_engine.specs.Machine.{config, read_with}
 use Rattle.markdown_engine.specs.Reading.{Config}
 use Rattle.markdown_engine.specs.Resolving.{Resolves, nothing_found}
-use Rattle.inline_states_resolvers.specs.Attention.{attention_edits}
-use Rattle.inline_states_resolvers.specs.Autolink.{email_edits}
-use Rattle.inline_states_resolvers.specs.Data.{data_edits}
+use Rattle.inline_edits_attention.specs.Attention.{attention_edits}
+use Rattle.inline_edits_data.specs.Data.{data_edits}
+use Rattle.inline_edits_data.specs.RawText.{span_edits}
+use Rattle.inline_edits_data.specs.Whitespace.{white_edits}
+use Rattle.inline_edits_links.specs.Autolink.{email_edits}
+use Rattle.inline_edits_links.specs.GfmAutolinkLiteral.{address_edits}
+use Rattle.inline_edits_links.specs.LabelEnd.{label_edits}
 use Rattle.inline_states_resolvers.specs.EditedEvents.{with_edited_events}
-use Rattle.inline_states_resolvers.specs.GfmAutolinkLiteral.{address_edits}
-use Rattle.inline_states_resolvers.specs.LabelEnd.{label_edits}
-use Rattle.inline_states_resolvers.specs.RawText.{span_edits}
-use Rattle.inline_states_resolvers.specs.Whitespace.{white_edits}
 
 module _ {M : Type 0} where
   abbrev pub resolve_data : Config M → Config M

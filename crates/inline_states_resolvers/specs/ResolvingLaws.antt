@@ -11,17 +11,17 @@ use Rattle.markdown_engine.specs.Laws.{HoldsAt}
 use Rattle.markdown_engine.specs.Order.{AreWhole}
 use Rattle.markdown_engine.specs.Reading.{Config}
 use Rattle.markdown_engine.specs.Resolving.{ResolvesAt, resolves_nothing, settles_whole}
-use Rattle.inline_states_resolvers.specs.Attention.{attention_edits}
-use Rattle.inline_states_resolvers.specs.Autolink.{email_edits}
+use Rattle.inline_edits_attention.specs.Attention.{attention_edits}
+use Rattle.inline_edits_data.specs.Data.{data_edits}
+use Rattle.inline_edits_data.specs.RawText.{span_edits}
+use Rattle.inline_edits_data.specs.Whitespace.{white_edits}
+use Rattle.inline_edits_links.specs.Autolink.{email_edits}
+use Rattle.inline_edits_links.specs.GfmAutolinkLiteral.{address_edits}
+use Rattle.inline_edits_links.specs.LabelEnd.{label_edits}
 use Rattle.inline_states_resolvers.specs.ChainLaws.{chained_whole}
-use Rattle.inline_states_resolvers.specs.Data.{data_edits}
 use Rattle.inline_states_resolvers.specs.EditedEvents.{edited_events, is_ordered, with_edited_events}
-use Rattle.inline_states_resolvers.specs.GfmAutolinkLiteral.{address_edits}
-use Rattle.inline_states_resolvers.specs.LabelEnd.{label_edits}
-use Rattle.inline_states_resolvers.specs.RawText.{span_edits}
 use Rattle.inline_states_resolvers.specs.Resolving.{inline_resolved, join_chunks, link_text, resolved_config, name_emails, name_text, trim_string}
 use Rattle.inline_states_resolvers.specs.Resolving.{trim_text}
-use Rattle.inline_states_resolvers.specs.Whitespace.{white_edits}
 use Rattle.inline_states_resolvers.specs.Whole.{is_whole}
 use Rattle.inline_states_resolvers.specs.WholeLaws.{whole}
 

@@ -6,15 +6,15 @@ ghost use Rattle.inline_states_resolvers.specs.Resolving.{HasEdited, inline_reso
 ghost use Rattle.inline_states_resolvers.specs.Resolving.{resolve_attention, resolve_data, resolve_label, resolve_string, resolve_text};
 ghost use Rattle.inline_states_resolvers.specs.Resolving.{resolved_config, trim_string, trim_text};
 
-use crate::attention::attention_edits;
-use crate::autolink::email_edits;
 use crate::edited_events::make;
-use crate::gfm_autolink_literal::address_edits;
-use crate::label_end::label_edits;
-use crate::partial_data::data_edits;
-use crate::partial_whitespace::{Trimming, white_edits};
-use crate::raw_text::span_edits;
 use engine_chunks::link_all;
+use inline_edits_attention::attention::attention_edits;
+use inline_edits_data::partial_data::data_edits;
+use inline_edits_data::partial_whitespace::{Trimming, white_edits};
+use inline_edits_data::raw_text::span_edits;
+use inline_edits_links::autolink::email_edits;
+use inline_edits_links::gfm_autolink_literal::address_edits;
+use inline_edits_links::label_end::label_edits;
 use markdown_engine::Message;
 use markdown_engine::resolve::Name;
 use markdown_engine::tokenizer::Tokenizer;

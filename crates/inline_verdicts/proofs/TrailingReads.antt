@@ -16,10 +16,9 @@ use Rattle.engine_events.specs.declared.event.Event.{Event}
 use Rattle.engine_events.specs.declared.event.Kind.TheVariants.{Enter, Exit}
 use Rattle.engine_events.specs.declared.event.Name.TheVariants as names
 use Rattle.engine_events.specs.declared.place.Point.{Point}
-use Rattle.inline_states_resolvers.specs.Data.{is_data}
-use Rattle.inline_states_resolvers.specs.Each.{place_at}
-use Rattle.inline_states_resolvers.specs.Whitespace.{around, around_if, are_spaces, begins, data_part, ends, head_size, is_line, is_space, may_break, part_edit}
-use Rattle.inline_states_resolvers.specs.Whitespace.{place_past, tail_name, tail_size, trimmed_data}
+use Rattle.inline_edits_data.specs.Data.{is_data}
+use Rattle.inline_edits_data.specs.Each.{around, around_if, data_part, place_at, place_past}
+use Rattle.inline_edits_data.specs.Whitespace.{are_spaces, begins, ends, head_size, is_line, is_space, may_break, part_edit, tail_name, tail_size, trimmed_data}
 use Rattle.inline_verdicts.specs.HardBreakTrailing.{EarlierVerdict, Follows, TrailingVerdict, cut_before, data_edit, is_break, is_inner}
 use Rattle.inline_verdicts.specs.HardBreakTrailing.{white_events}
 

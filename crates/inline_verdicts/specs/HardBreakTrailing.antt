@@ -12,9 +12,9 @@ use Rattle.engine_events.specs.declared.event.Event.{Event}
 use Rattle.engine_events.specs.declared.event.Kind.TheVariants.{Enter, Exit}
 use Rattle.engine_events.specs.declared.event.Name.TheVariants as names
 use Rattle.engine_events.specs.declared.place.Point.{Point}
-use Rattle.inline_states_resolvers.specs.Data.{is_data}
-use Rattle.inline_states_resolvers.specs.Each.{place_at}
-use Rattle.inline_states_resolvers.specs.Whitespace.{around, around_if, begins, data_part, ends, head_size, index_edit, is_line, place_past, tail_size}
+use Rattle.inline_edits_data.specs.Data.{is_data}
+use Rattle.inline_edits_data.specs.Each.{around, around_if, data_part, place_at, place_past}
+use Rattle.inline_edits_data.specs.Whitespace.{begins, ends, head_size, index_edit, is_line, tail_size}
 
 -- what follows data among the events follows it among the codes: a line ending or nothing, something after that ending or nothing, and no space or tab, as
 -- those are data

@@ -1,0 +1,2 @@
+pub mod Attention
+pub mod Views

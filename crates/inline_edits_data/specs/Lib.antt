@@ -1,0 +1,4 @@
+pub mod Each
+pub mod Data
+pub mod Whitespace
+pub mod RawText

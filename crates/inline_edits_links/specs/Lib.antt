@@ -1,0 +1,4 @@
+pub mod LabelEnd
+pub mod GfmAutolinkLiteral
+pub mod Autolink
+pub mod Views
