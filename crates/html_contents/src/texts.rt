@@ -1,16 +1,10 @@
 //! The texts of paragraphs, headings and info strings (CommonMark 4.2, 4.3, 4.5 and 4.8).
-ghost use Rattle.std.specs.Prelude.{◌≡◌, ◌++◌, ◌∷◌, [], ℕ, Bool, List, OnOk, string_bytes, true};
-ghost use Rattle.std.specs.List.{fold};
+ghost use Rattle.std.specs.Prelude.{◌≡◌, ◌++◌, ◌∷◌, [], OnOk, string_bytes, true};
 ghost use Rattle.html_bytes.specs.Document.{context_of, meaning_of, text_of, paragraph_of, info_of};
 ghost use Rattle.definition_text.specs.Encode.{encode};
-ghost use Rattle.html_bytes.specs.InlineHtml.{InlineMeaning, inline_counts, inline_pieces};
-ghost use Rattle.html_bytes.specs.Layout.{lay};
-ghost use Rattle.html_footnotes.specs.Output.{output_view};
-ghost use Rattle.definition_page.specs.InlinePieces.{leads_to};
+ghost use Rattle.html_bytes.specs.InlineHtml.{inline_counts, inline_pieces};
 ghost use Rattle.definition_page.specs.Targets.{Targets};
 ghost use Rattle.inline_rows.specs.InlineRows.{inline_rows};
-ghost use Rattle.inline_rows.specs.View.{data_rows};
-ghost use Rattle.definition_inline.specs.Inline.{Inlines};
 ghost use Rattle.block_rows.specs.ParagraphLines.{HaveNoEnding, AreLines};
 ghost use Rattle.block_rows.specs.Rows.{piece_line, piece_lines, whole_lines};
 ghost use Rattle.definition_inline.specs.Scan.{inlines, inlines_from};
@@ -19,20 +13,17 @@ ghost use Rattle.definition_text.specs.InlineCode.{inline_content};
 ghost use Rattle.inline_content.specs.Lines.{AreContentLines};
 ghost use Rattle.inline_content.specs.View.{content_view, view_at};
 ghost use Rattle.inline_parser.specs.Scanned.{IsPlace};
-ghost use Rattle.inline_parser.specs.Verbatim.{alone_bytes};
 ghost use Rattle.html_inline.specs.GfmTable.{parts_in_cell};
 
 use crate::buffers::TextBuffers;
 use block_rows::Piece;
 use definition_text::Kind;
 use html_footnotes::Output;
-use html_inline::{
-    Printing, Scratch, count_rows, push_encoded_string, push_plain, push_rows, push_verbatim,
-};
+use html_inline::{Printing, Scratch, count_rows, push_alone, push_encoded_string, push_rows};
 use inline_content::{Content, line_content, whole_content};
 use inline_labels::LabelTable;
 use inline_links::LinkTexts;
-use inline_parser::{Room, RowRoom, TextAlone, content_start, inline_rows, text_alone};
+use inline_parser::{FoundRows, Room, RowRoom, content_start, inline_rows};
 use markdown_options::{Options, Tables};
 use std::alloc::{AllocError, Allocator};
 
@@ -53,7 +44,7 @@ impl<'a, T: Tables, A: Allocator + Clone> Texts<'a, '_, T, A> {
     ghost use Rattle.html_contents.specs.Texts.{KnowsTargets, LaysOut, document_by};
 
     /// The same for contents that live no longer than this.
-    fn lent(&self) -> Texts<'_, '_, T, A>
+    fn reborrow(&self) -> Texts<'_, '_, T, A>
         ensures { result ≡ self.now }
     {
         Texts {
@@ -101,7 +92,7 @@ impl<'a, T: Tables, A: Allocator + Clone> Texts<'a, '_, T, A> {
         buffers.content.join(lines)?;
         let content = buffers.content.content(after);
         let mut rows = RowRoom::new(buffers.alloc.clone()?)?;
-        let texts = self.lent();
+        let texts = self.reborrow();
         texts.push_content(out, scratch, room, &mut rows, cell, content)
     }
 
@@ -126,7 +117,7 @@ impl<'a, T: Tables, A: Allocator + Clone> Texts<'a, '_, T, A> {
         buffers.content.join(lines)?;
         let content = buffers.content.content(Kind::Whitespace);
         let mut rows = RowRoom::new(buffers.alloc.clone()?)?;
-        let texts = self.lent();
+        let texts = self.reborrow();
         texts.push_checked(out, scratch, room, &mut rows, first, content)
     }
 
@@ -218,9 +209,6 @@ impl<'a, T: Tables, A: Allocator + Clone> Texts<'a, '_, T, A> {
             LaysOut d result out.old out.new (inline_pieces (meaning_of d) (parts_in_cell cell structure)) }
     {
         let parse = &self.options.parse;
-        if let Some(text) = text_alone(parse, start) {
-            return push_text_alone(out, text);
-        }
         let found = inline_rows(
             room,
             rows,
@@ -239,7 +227,11 @@ impl<'a, T: Tables, A: Allocator + Clone> Texts<'a, '_, T, A> {
             footnotes: self.footnotes,
             cell,
         };
-        push_rows(out, scratch, &printing, found.as_slice())
+        match found {
+            FoundRows::Alone(row) => push_alone(out, scratch, &printing, row),
+            FoundRows::InRoom(rows) => push_rows(out, scratch, &printing, rows),
+            FoundRows::InList(rows) => push_rows(out, scratch, &printing, rows.as_slice()),
+        }
     }
 
     /// Counts the calls of footnotes in a content of a cell that isn't printed (GFM 4.10).
@@ -277,21 +269,5 @@ impl<'a, T: Tables, A: Allocator + Clone> Texts<'a, '_, T, A> {
             cell: true,
         };
         count_rows(out, scratch, &printing, found.as_slice())
-    }
-}
-
-/// Prints a content that is text alone, in a cell of a table or not.
-fn push_text_alone<A: Allocator + Clone>(
-    out: &mut Output<A>,
-    text: TextAlone<'_>,
-) -> Result<(), AllocError>
-    ensures { (meaning : InlineMeaning) (default : List ℕ) (cell : Bool) (is : Inlines) →
-        data_rows (alone_bytes text.entry) ≡ inline_rows (leads_to meaning.definition) is →
-        OnOk result (output_view out.new
-        ≡ fold (lay meaning.compile default) (output_view out.old) (inline_pieces meaning (parts_in_cell cell is))) }
-{
-    match text {
-        TextAlone::Any(text) => push_plain(out, text),
-        TextAlone::Verbatim(verbatim) => push_verbatim(out, verbatim),
     }
 }

@@ -23,5 +23,5 @@ pub mod url;
 pub use count::count_rows;
 pub use gfm_task_list_item::push_check;
 pub use printing::{Printing, Scratch};
-pub use rows::{push_plain, push_rows, push_verbatim};
+pub use rows::{push_alone, push_rows};
 pub use string::{push_encoded_string, push_string};

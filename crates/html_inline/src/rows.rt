@@ -2,7 +2,7 @@
 //!
 //! In the description of an image no tag is printed, and nothing for the URL and the title of a
 //! link or an image (CommonMark 6.4). The title of an image comes after its description.
-ghost use Rattle.std.specs.Prelude.{◌≡◌, ℕ, Bool, List, OnOk, map, reverse, slice_index_or};
+ghost use Rattle.std.specs.Prelude.{◌≡◌, ◌∷◌, [], ℕ, Bool, List, OnOk, map, reverse, slice_index_or};
 ghost use Rattle.std.specs.List.{fold};
 ghost use Rattle.definition_inline.specs.Inline as inline;
 ghost use Rattle.definition_page.specs.InlinePieces.{leads_to};
@@ -58,9 +58,35 @@ pub fn push_rows<A: Allocator + Clone, T: Tables>(
     Ok(())
 }
 
+/// The same of the row of a content that has no other. Text is printed with no walk over rows.
+pub fn push_alone<A: Allocator + Clone, T: Tables>(
+    out: &mut Output<A>,
+    scratch: &mut Scratch<A>,
+    printing: &Printing<'_, A, T>,
+    row: InlineRow<'_>,
+) -> Result<(), AllocError>
+    ensures { (definition : Definitions) (footnotes : List (List ℕ)) (default : List ℕ) (is : inline.Inlines) →
+        let meaning = meaning_by (T.reference_of printing.now.tables.now) printing.now definition footnotes in
+        HasLabels printing.now.footnotes.now footnotes →
+        rows_view (place_target printing.now.definitions.now) (row.entry ∷ []) ≡ rows_of.inline_rows (leads_to definition) is →
+        OnOk result (output_view out.new
+        ≡ fold (lay printing.now.compile.now default) (output_view out.old) (inline_pieces meaning (parts_in_cell printing.now.cell is))) }
+{
+    match row {
+        InlineRow::Text(text) => push_plain(out, text),
+        InlineRow::Verbatim(verbatim) => push_verbatim(out, verbatim),
+        InlineRow::Leaf(_)
+        | InlineRow::EnterSpan(_)
+        | InlineRow::EnterLink(_)
+        | InlineRow::EnterImage(_)
+        | InlineRow::Call(_)
+        | InlineRow::Exit => push_rows(out, scratch, printing, &[row]),
+    }
+}
+
 /// Prints a content that is text alone: where its bytes are the rows of some inline structure, what
 /// that prints, in a cell of a table or not.
-pub fn push_plain<A: Allocator + Clone>(out: &mut Output<A>, text: &str) -> Result<(), AllocError>
+fn push_plain<A: Allocator + Clone>(out: &mut Output<A>, text: &str) -> Result<(), AllocError>
     ensures { (meaning : InlineMeaning) (default : List ℕ) (cell : Bool) (is : inline.Inlines) →
         data_rows text.now ≡ rows_of.inline_rows (leads_to meaning.definition) is →
         OnOk result (output_view out.new
@@ -70,7 +96,7 @@ pub fn push_plain<A: Allocator + Clone>(out: &mut Output<A>, text: &str) -> Resu
 }
 
 /// Prints a content that is text alone and is printed as it is, in a cell of a table or not.
-pub fn push_verbatim<A: Allocator + Clone>(
+fn push_verbatim<A: Allocator + Clone>(
     out: &mut Output<A>,
     verbatim: VerbatimText<'_>,
 ) -> Result<(), AllocError>

@@ -22,7 +22,7 @@ fn main(rt: HostRuntime) -> io::Result<()> {
     else {
         return Err(ErrorKind::OutOfMemory.into());
     };
-    let (Ok(mut room), Ok(mut kept)) = (Room::new(rt.alloc()), RowRoom::new(rt.alloc())) else {
+    let (Ok(mut room), Ok(mut row_room)) = (Room::new(rt.alloc()), RowRoom::new(rt.alloc())) else {
         return Err(ErrorKind::OutOfMemory.into());
     };
     let mut count: usize = 0;
@@ -30,7 +30,14 @@ fn main(rt: HostRuntime) -> io::Result<()> {
         let content = whole_content(paragraph);
         let start = content_start(content);
         let Ok(rows) = inline_rows(
-            &mut room, &mut kept, &options, &Builtin, &labels, &footnotes, content, start,
+            &mut room,
+            &mut row_room,
+            &options,
+            &Builtin,
+            &labels,
+            &footnotes,
+            content,
+            start,
         ) else {
             return Err(ErrorKind::OutOfMemory.into());
         };

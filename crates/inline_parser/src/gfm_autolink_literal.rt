@@ -21,10 +21,10 @@ pub(crate) fn rows_with_literals<'a, A: Allocator + Clone>(
         IfOk result (λ linked. rows_view at (found_rows linked) ≡ seen.inline_rows leads (with_literals [] kids)) }
 {
     if !may_link(rows) {
-        return Ok(FoundRows::Kept(rows));
+        return Ok(FoundRows::InRoom(rows));
     }
     room.text.clear();
     push_texts(&mut room.text, rows)?;
     let linked = linked_rows(room.alloc.clone()?, room.text.as_str(), rows)?;
-    Ok(FoundRows::Linked(linked))
+    Ok(FoundRows::InList(linked))
 }

@@ -9,4 +9,4 @@ pub mod room;
 pub mod scan;
 
 pub use room::{FoundRows, Room, RowRoom};
-pub use scan::{TextAlone, content_start, inline_rows, text_alone};
+pub use scan::{content_start, inline_rows};

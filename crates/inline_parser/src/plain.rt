@@ -10,7 +10,9 @@ ghost use Rattle.definition_text.specs.Content.{content_codes, is_eol};
 ghost use Rattle.inline_leaves.specs.Leaves.{IsAfter};
 ghost use Rattle.inline_literals.specs.Literals.{may_begin};
 ghost use Rattle.inline_parser.specs.Plain.{is_literal_letter, is_replaced, is_text_at, starts, starts_here, stops_or_letter, IsStart};
+ghost use Rattle.inline_parser.specs.Fronts.{IsTextFront};
 ghost use Rattle.inline_parser.specs.Verbatim.{TellsVerbatim};
+ghost use Rattle.std.specs.Str.{IsUtf8};
 
 use inline_links::part::from;
 use inline_literals::may_begin;
@@ -56,7 +58,7 @@ pub(crate) struct Front {
 
 /// The text at the front: a construct starts at none of its bytes, and the byte after them is one at
 /// which a construct may start (CommonMark 6 and 6.9).
-pub(crate) fn text_front(has_literals: bool, bytes: &[u8]) -> Front
+fn text_front(has_literals: bool, bytes: &[u8]) -> Front
     ensures within { result.size ≤ length bytes.now }
     ensures text { (k : ℕ) → k < result.size → is_text_at (drop k (content_codes bytes.now)) ≡ true }
     ensures plain { (k : ℕ) → k < result.size → slice_index bytes.now k ≡ 13 → ⊥ }
@@ -75,6 +77,14 @@ pub(crate) fn text_front(has_literals: bool, bytes: &[u8]) -> Front
         size: without_white(bytes, stop.size),
         is_verbatim: stop.is_verbatim,
     }
+}
+
+/// The text at the front of a content.
+pub(crate) fn front_of(has_literals: bool, rest: &str) -> Front
+    ensures front { IsTextFront has_literals rest.now result }
+    ensures utf8 { IsUtf8 rest.now }
+{
+    text_front(has_literals, rest.as_bytes())
 }
 
 /// What comes before the first byte at which a construct may start, a literal among them where they

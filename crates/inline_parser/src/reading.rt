@@ -51,7 +51,7 @@ impl<'a, A: Allocator + Clone> Reading<'a, A> {
     /// Before anything is read, in room that is left empty until the end.
     pub(crate) fn new(
         room: &mut Room<A>,
-        kept: &mut RowRoom<'a, A>,
+        row_room: &mut RowRoom<'a, A>,
     ) -> Result<Reading<'a, A>, AllocError>
         ensures nothing { (leads : Target → LinkTexts) (at : ℕ → LinkTexts) →
             IfOk result (λ reading. Shows leads at reading (scan.reading (scan.text [] false) [])) }
@@ -60,8 +60,8 @@ impl<'a, A: Allocator + Clone> Reading<'a, A> {
     {
         let mut runs = replace(&mut room.runs, Vec::new(room.alloc.clone()?));
         let mut slots = replace(&mut room.slots, Vec::new(room.alloc.clone()?));
-        let mut rows = replace(&mut kept.rows, Vec::new(room.alloc.clone()?));
-        let mut labels = replace(&mut kept.labels, Vec::new(room.alloc.clone()?));
+        let mut rows = replace(&mut row_room.rows, Vec::new(room.alloc.clone()?));
+        let mut labels = replace(&mut row_room.labels, Vec::new(room.alloc.clone()?));
         runs.clear();
         slots.clear();
         rows.clear();
@@ -82,11 +82,11 @@ impl<'a, A: Allocator + Clone> Reading<'a, A> {
     pub(crate) fn finish(
         self,
         room: &mut Room<A>,
-        kept: &mut RowRoom<'a, A>,
+        row_room: &mut RowRoom<'a, A>,
     ) -> Result<(), AllocError>
         requires sound { IsSound self }
         ensures read { (leads : Target → LinkTexts) (at : ℕ → LinkTexts) (r : scan.Reading) → Shows leads at self.entry r →
-            OnOk result (rows_view at kept.new.rows.items ≡ inline_rows leads (with_spans (whole_text r).tokens)) }
+            OnOk result (rows_view at row_room.new.rows.items ≡ inline_rows leads (with_spans (whole_text r).tokens)) }
     {
         let Reading {
             mut rows,
@@ -97,8 +97,8 @@ impl<'a, A: Allocator + Clone> Reading<'a, A> {
             ..
         } = self;
         tell_inner(&mut rows, &runs, &slots, &mut pairing)?;
-        kept.rows = rows;
-        kept.labels = labels;
+        row_room.rows = rows;
+        row_room.labels = labels;
         room.runs = runs;
         room.slots = slots;
         room.pairing = Some(pairing);

@@ -6,6 +6,7 @@ use crate::label::OpenLabel;
 use inline_rows::InlineRow;
 use inline_runs::{Pairing, Run};
 use std::alloc::{AllocError, Allocator};
+use std::slice::from_ref;
 
 /// Room for the runs and the text of a content, which the next content uses again.
 #[derive(Drop)]
@@ -65,10 +66,12 @@ impl<'a, A: Allocator + Clone> RowRoom<'a, A> {
 /// The rows of a content.
 #[derive(Drop)]
 pub enum FoundRows<'a, A: Allocator> {
+    /// The content is text alone: nothing starts in it.
+    Alone(InlineRow<'a>),
     /// They stand in the room for rows.
-    Kept(&'a [InlineRow<'a>]),
+    InRoom(&'a [InlineRow<'a>]),
     /// They have addresses, or links without literals, and were made anew (GFM 6.9).
-    Linked(Vec<InlineRow<'a>, A>),
+    InList(Vec<InlineRow<'a>, A>),
 }
 
 impl<A: Allocator> FoundRows<'_, A> {
@@ -77,8 +80,9 @@ impl<A: Allocator> FoundRows<'_, A> {
         ensures { result.now ≡ found_rows self.now }
     {
         match self {
-            FoundRows::Kept(rows) => rows,
-            FoundRows::Linked(rows) => rows.as_slice(),
+            FoundRows::Alone(row) => from_ref(row),
+            FoundRows::InRoom(rows) => rows,
+            FoundRows::InList(rows) => rows.as_slice(),
         }
     }
 }

@@ -1,12 +1,11 @@
 //! The scan of a content from left to right (CommonMark 6 and appendix, phase 2).
 //!
 //!     content ::= white* (text | leaf | literal | run | start | ']')*
-ghost use Rattle.std.specs.Prelude.{◌≡◌, ◌<◌, ◌≤◌, ◌==◌, ◌&&◌, ℕ, Bool, List, [], ◌∷◌, Option, None, true};
+ghost use Rattle.std.specs.Prelude.{◌≡◌, ◌<◌, ◌==◌, ◌&&◌, ℕ, Bool, List, [], ◌∷◌, Option, None, true};
 ghost use Rattle.std.specs.Prelude.{length, map, IfOk, IfSome, OnOk, take, drop, slice_index};
 ghost use Rattle.std.specs.List.{prefix_len};
 ghost use Rattle.std.specs.Option.{option_map};
 ghost use Rattle.std.specs.Str.{IsCharBoundary};
-ghost use Rattle.markdown_options.specs.declared.configuration.ParseOptions.{ParseOptions as SeenOptions};
 ghost use Rattle.definition_text.specs.Columns.{is_white};
 ghost use Rattle.definition_text.specs.Bytes.{begins_with};
 ghost use Rattle.definition_text.specs.Content.{content_codes};
@@ -23,17 +22,18 @@ ghost use Rattle.inline_runs.specs.View.{run_view};
 ghost use Rattle.inline_content.specs.View.{content_view, view_at};
 ghost use Rattle.inline_leaves.specs.Leaves.{parts_of, size_before, IsAfter};
 ghost use Rattle.inline_content.specs.declared.content.Content.{Content as SeenContent};
-ghost use Rattle.inline_rows.specs.View.{data_rows, rows_view};
+ghost use Rattle.inline_rows.specs.View.{data_rows, row_view, rows_view};
 ghost use Rattle.inline_label_ends.specs.Ends.{IsAfterFormed, IsFormed};
 ghost use Rattle.inline_parser.specs.Scanned.{context_by, ended_here, has_no_return, HasTargets, IsPlace, IsPlacedBy, IsRunFront, IsSingle, StartsLabel};
 ghost use Rattle.inline_parser.specs.Scanned.{GoesOnBy, HasNoLeaf, HasNoLeafHere, HasNoRun, Shortens, StaysPlaced};
 ghost use Rattle.inline_parser.specs.Found.{found_rows};
-ghost use Rattle.inline_parser.specs.Verbatim.{alone_bytes, AreVerbatim, TellsVerbatim};
+ghost use Rattle.inline_parser.specs.Verbatim.{AreVerbatim, TellsVerbatim};
+ghost use Rattle.inline_parser.specs.Fronts.{IsTextFront};
 ghost use Rattle.inline_parser.specs.Shows.{with_open_label, start_view, IsSound, Shows, ShowsThen, StartsBefore};
 
 use crate::gfm_autolink_literal::rows_with_literals;
 use crate::label::{LabelStart, OpenLabel};
-use crate::plain::{Front, text_front};
+use crate::plain::{Front, front_of};
 use crate::reading::Reading;
 use crate::room::{FoundRows, Room, RowRoom};
 use inline_content::Content;
@@ -45,7 +45,7 @@ use inline_leaves::leaf_at::leaf_at;
 use inline_leaves::searches::Searches;
 use inline_leaves::space::white_size;
 use inline_literals::{NamesInVain, literal_at};
-use inline_rows::VerbatimText;
+use inline_rows::{InlineRow, VerbatimText};
 use inline_runs::Run;
 use markdown_options::{Constructs, ParseOptions, Tables};
 use std::alloc::{AllocError, Allocator};
@@ -71,21 +71,12 @@ pub(crate) struct Scanner<'a, A: Allocator> {
     pub(crate) reading: Reading<'a, A>,
 }
 
-/// A content that is text alone.
-#[derive(Clone, Copy)]
-pub enum TextAlone<'a> {
-    /// Some of it may be printed as something else.
-    Any(&'a str),
-    /// It is printed as it is.
-    Verbatim(VerbatimText<'a>),
-}
-
 /// The inline structure of a content from a place on, as rows (CommonMark 6), where these are the
 /// labels of the document's link reference definitions and of its footnote definitions. Whatever
 /// the rooms hold makes no difference.
 pub fn inline_rows<'a, 'd, 'r, T: Tables, A: Allocator + Clone>(
     room: &'r mut Room<A>,
-    kept: &'r mut RowRoom<'a, A>,
+    row_room: &'r mut RowRoom<'a, A>,
     options: &'a ParseOptions,
     tables: &'a T,
     labels: &'d LabelTable<A>,
@@ -99,31 +90,37 @@ pub fn inline_rows<'a, 'd, 'r, T: Tables, A: Allocator + Clone>(
         ≡ inline_rows (leads_to (linked_by ds.definitions))
         (inlines_from (context_by options.now (T.reference_of tables.now) ds) (view_at (T.punctuation_of tables.now) content.entry start.now))) }
 {
+    let front = front_of(options.constructs.gfm_autolink_literal, start);
+    if let Some(row) = text_alone(options, start, front) {
+        return Ok(FoundRows::Alone(row));
+    }
     span_rows(
-        room, kept, options, tables, labels, footnotes, content, start,
+        room, row_room, options, tables, labels, footnotes, content, start, front,
     )?;
     if options.constructs.gfm_autolink_literal {
-        rows_with_literals(room, &kept.rows)
+        rows_with_literals(room, &row_room.rows)
     } else {
-        Ok(FoundRows::Kept(&kept.rows))
+        Ok(FoundRows::InRoom(&row_room.rows))
     }
 }
 
-/// The same while addresses are text, and links may hold literals. The rows stand in the room for
-/// them.
+/// The same while addresses are text, and links may hold literals, given the text at its front. The
+/// rows stand in the room for them.
 fn span_rows<'a, 'd, T: Tables, A: Allocator + Clone>(
     room: &mut Room<A>,
-    kept: &mut RowRoom<'a, A>,
+    row_room: &mut RowRoom<'a, A>,
     options: &'a ParseOptions,
     tables: &'a T,
     labels: &'d LabelTable<A>,
     footnotes: &'d LabelTable<A>,
     content: Content<'a>,
     start: &'a str,
+    front: Front,
 ) -> Result<(), AllocError>
-    requires { IsPlace content.text.now start.now }
+    requires place { IsPlace content.text.now start.now }
+    requires front { IsTextFront options.now.constructs.gfm_autolink_literal start.now front }
     ensures { (ds : Targets) → HasTargets labels.now footnotes.now ds →
-        OnOk result (rows_view (linked_at ds.definitions) kept.new.rows.items
+        OnOk result (rows_view (linked_at ds.definitions) row_room.new.rows.items
         ≡ inline_rows (leads_to (linked_by ds.definitions))
         (spans_from (context_by options.now (T.reference_of tables.now) ds) (view_at (T.punctuation_of tables.now) content.entry start.now))) }
 {
@@ -138,13 +135,14 @@ fn span_rows<'a, 'd, T: Tables, A: Allocator + Clone>(
         searches: Searches::new(room.alloc.clone()?, content.text()),
         names: NamesInVain::new(),
         rest: start,
-        reading: Reading::new(room, kept)?,
+        reading: Reading::new(room, row_room)?,
     };
+    scanner.read_front(&source, front)?;
     while !scanner.rest.is_empty() {
         scanner.step(&source)?;
     }
     let Scanner { reading, .. } = scanner;
-    reading.finish(room, kept)
+    reading.finish(room, row_room)
 }
 
 /// A content after the spaces and tabs at its start.
@@ -156,34 +154,35 @@ pub fn content_start<'a>(content: Content<'a>) -> &'a str
     after_white(content.text())
 }
 
-/// What is left of a content, if it is text alone: nothing starts in it. While literals are on
-/// (GFM 6.9) this is said of no content, since text may hold addresses.
-pub fn text_alone<'a>(options: &ParseOptions, start: &'a str) -> Option<TextAlone<'a>>
-    ensures { (names : List ℕ → Option (List ℕ)) (is_punctuation : ℕ → Bool) (ds : Targets) (leads : Target → LinkTexts) (content : SeenContent) →
-        IsPlace content.text.now start.now → IfSome result (λ alone. data_rows (alone_bytes alone)
+/// The row of what is left of a content with this text at its front, if it is text alone: nothing
+/// starts in it. While literals are on (GFM 6.9) this is said of no content, since text may hold
+/// addresses.
+fn text_alone<'a>(options: &ParseOptions, start: &'a str, front: Front) -> Option<InlineRow<'a>>
+    requires { IsTextFront options.now.constructs.gfm_autolink_literal start.now front }
+    ensures { (names : List ℕ → Option (List ℕ)) (is_punctuation : ℕ → Bool) (ds : Targets) (leads : Target → LinkTexts) (at : ℕ → LinkTexts)
+        (content : SeenContent) → IsPlace content.text.now start.now → IfSome result (λ row. row_view at row
         ≡ inline_rows leads (inlines_from (context_by options.now names ds) (view_at is_punctuation content start.now))) }
 {
     if options.constructs.gfm_autolink_literal {
         return None;
     }
-    let text = text_front(false, start.as_bytes());
-    if text.size > 0 && text.size == start.len() {
-        Some(alone_by(text, start))
+    if front.size > 0 && front.size == start.len() {
+        Some(text_row(front, start))
     } else {
         None
     }
 }
 
-/// A text that is all at its front.
-fn alone_by<'a>(front: Front, text: &'a str) -> TextAlone<'a>
+/// The row of a text that is all at its front.
+fn text_row<'a>(front: Front, text: &'a str) -> InlineRow<'a>
     requires whole { front.size ≡ length text.now }
     requires verbatim { TellsVerbatim text.now front }
-    ensures { alone_bytes result ≡ text.now }
+    ensures { (at : ℕ → LinkTexts) → row_view at result ≡ data_rows text.now }
 {
     if front.is_verbatim {
-        TextAlone::Verbatim(VerbatimText { text })
+        InlineRow::Verbatim(VerbatimText { text })
     } else {
-        TextAlone::Any(text)
+        InlineRow::Text(text)
     }
 }
 
@@ -225,15 +224,32 @@ impl<'a, A: Allocator + Clone> Scanner<'a, A> {
         ensures shorter { Shortens self.old result self.new }
         ensures read { GoesOnBy T.Tables source.now self.old result self.new }
     {
-        let has_literals = source.options.constructs.gfm_autolink_literal;
-        let text = text_front(has_literals, self.rest.as_bytes());
-        if text.size > 0 {
-            return self.front(text);
+        let front = front_of(source.options.constructs.gfm_autolink_literal, self.rest);
+        if front.size > 0 {
+            return self.read_front(source, front);
         }
         match leaf_at(source.options, source.tables, &mut self.searches, self.rest)? {
             Some(leaf) => self.leaf(leaf),
             None => self.literal_or_run(source),
         }
+    }
+
+    /// Reads the text at the front, if there is any.
+    fn read_front<T: Tables>(
+        &mut self,
+        source: &Source<'a, '_, T, A>,
+        front: Front,
+    ) -> Result<(), AllocError>
+        requires placed { IsPlacedBy T.Tables source.now self.old }
+        requires front { IsTextFront source.now.options.now.constructs.gfm_autolink_literal self.old.rest.now front }
+        ensures placed { OnOk result (IsPlacedBy T.Tables source.now self.new) }
+        ensures shorter { 0 < front.size → Shortens self.old result self.new }
+        ensures read { GoesOnBy T.Tables source.now self.old result self.new }
+    {
+        if front.size == 0 {
+            return Ok(());
+        }
+        self.front(front)
     }
 
     /// A literal, a run, a label start, a `]`, or a byte of text.

@@ -65,10 +65,10 @@ fn shape(rt: &HostRuntime, options: &ParseOptions, line: &str) -> Result<String,
     let footnotes = LabelTable::new(rt.alloc())?;
     let content = whole_content(line);
     let mut room = Room::new(rt.alloc())?;
-    let mut kept = RowRoom::new(rt.alloc())?;
+    let mut row_room = RowRoom::new(rt.alloc())?;
     let rows = inline_rows(
         &mut room,
-        &mut kept,
+        &mut row_room,
         options,
         &Names,
         &labels,

@@ -91,10 +91,10 @@ impl Roads {
             start = check.after;
         }
         let mut room = Room::new(rt.alloc())?;
-        let mut kept = RowRoom::new(rt.alloc())?;
+        let mut row_room = RowRoom::new(rt.alloc())?;
         let found = inline_rows(
             &mut room,
-            &mut kept,
+            &mut row_room,
             &self.options,
             &Builtin,
             &self.labels,

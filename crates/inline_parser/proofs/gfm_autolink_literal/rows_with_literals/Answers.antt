@@ -1,7 +1,3 @@
-use Rattle.std.proofs.Common.{◌≡◌, ◌∙◌, [], ap, subst}
-use Rattle.definition_inline.specs.GfmAutolinkLiteral.{with_literals}
-use Rattle.inline_rows.specs.InlineRows as seen
-use Rattle.inline_rows.specs.View.{rows_view}
 use Rattle.inline_parser.proofs.gfm_autolink_literal.rows_with_literals.Goals as goal
 
 pub returns-then-not-may_link : goal.returns-then-not-may_link

@@ -1,12 +1,14 @@
-use Rattle.std.proofs.Common.{◌≡◌, ◌∙◌, [], IfOk, ap, subst, sym}
+use Rattle.std.proofs.Common.{◌≡◌, ◌∙◌, [], IfOk, IfSome, Option, ap, subst, sym}
+use Rattle.std.proofs.lemmas.List.{append-nil}
 use Rattle.std.proofs.lemmas.Bool.{cond-true}
 use Rattle.definition_inline.specs.GfmAutolinkLiteral.{with_literals}
-use Rattle.definition_inline.specs.Scan.{spans_from}
+use Rattle.definition_inline.specs.Scan.{inlines_from, spans_from}
 use Rattle.definition_page.specs.InlinePieces.{leads_to}
 use Rattle.definition_page.specs.Targets.{linked_at, linked_by}
 use Rattle.inline_content.specs.View.{view_at}
 use Rattle.inline_rows.specs.InlineRows.{inline_rows}
-use Rattle.inline_rows.specs.View.{rows_view}
+use Rattle.inline_rows.specs.View.{row_view, rows_view}
+use Rattle.inline_rows.specs.declared.row.InlineRow.{InlineRow}
 use Rattle.inline_parser.specs.Found.{found_rows}
 use Rattle.inline_parser.specs.Scanned.{context_by}
 use Rattle.inline_parser.proofs.scan.inline_rows.Goals as goal
@@ -22,3 +24,16 @@ returns-then-options g c ds has =
     subst (λ k. IfOk c.rows_with_literals.result (λ found. rows_view at (found_rows found) ≡ inline_rows leads k))
     (sym (cond-true options.constructs.gfm_autolink_literal (with_literals [] kids) kids c.if-options.true))
     (c.rows_with_literals.ensures leads at kids (ap (rows_view at) c.deref.ensures.value ∙ c.in_ok-span_rows.ensures ds has))
+
+pub returns-in-Some : goal.returns-in-Some
+returns-in-Some g c ds has =
+    let options = c.args.options.now in
+    let tables = c.args.tables.now in
+    let names = g.T.Tables.reference_of tables in
+    let p = g.T.Tables.punctuation_of tables in
+    let leads = leads_to (linked_by ds.definitions) in
+    let at = linked_at ds.definitions in
+    let kids = inlines_from (context_by options names ds) (view_at p c.args.content c.args.start.now) in
+    append-nil (row_view at c.in-Some.row)
+    ∙ subst (λ (o : Option InlineRow). IfSome o (λ row. row_view at row ≡ inline_rows leads kids)) c.in-Some.is
+    (c.text_alone.ensures names p ds leads at c.args.content c.requires)

@@ -15,25 +15,27 @@ use Rattle.inline_parser.specs.declared.label.OpenLabel.{OpenLabel}
 use Rattle.inline_parser.proofs.Whole as whole
 use Rattle.inline_parser.proofs.scan.span_rows.Goals as goal
 
-pub loop-source-init : goal.loop-source-init
-loop-source-init g c =
+pub read_front-requires-clause-placed : goal.read_front-requires-clause-placed
+read_front-requires-clause-placed g c =
     let content = c.args.content in
     let p = g.T.Tables.punctuation_of c.args.tables.now in
-    let names = g.T.Tables.reference_of c.args.tables.now in
     record {
-      placed = record {
-        searched = c.new.ensures ∙ c.text.ensures;
-        known = c.new-2.ensures p content.text.now;
-        place = c.requires;
-        labels = subst (All (λ (o : OpenLabel). IsRest o.from.now c.args.start.now)) (sym c.in_ok-new.ensures.none) (λ k d lt. absurd (omega (arith, lt)));
-        sound = c.in_ok-new.ensures.sound;
-      };
-      follows = λ ds has. record {
-        now = scan.reading (scan.text [] false) [];
-        shows = c.in_ok-new.ensures.nothing (leads_to (linked_by ds.definitions)) (linked_at ds.definitions);
-        same = refl;
-      };
+      searched = c.new.ensures ∙ c.text.ensures;
+      known = c.new-2.ensures p content.text.now;
+      place = c.requires.place;
+      labels = subst (All (λ (o : OpenLabel). IsRest o.from.now c.args.start.now)) (sym c.in_ok-new.ensures.none) (λ k d lt. absurd (omega (arith, lt)));
+      sound = c.in_ok-new.ensures.sound;
     }
+
+pub loop-source-init : goal.loop-source-init
+loop-source-init g c = record {
+  placed = c.in_ok-read_front.ensures.placed;
+  follows = λ ds has. c.in_ok-read_front.ensures.read ds _ has (record {
+    now = scan.reading (scan.text [] false) [];
+    shows = c.in_ok-new.ensures.nothing (leads_to (linked_by ds.definitions)) (linked_at ds.definitions);
+    same = refl;
+  });
+}
 
 pub step-requires-clause-placed : goal.step-requires-clause-placed
 step-requires-clause-placed g c = c.loop-source.invariant.placed
@@ -63,5 +65,5 @@ returns g c ds has =
     let f = c.loop-source.invariant.follows ds has in
     let none = no_bytes c.loop-source.scanner.rest.now (sym c.loop-source-test.ensures) in
     let end = ap (scan.scan (context_by c.args.options.now names ds) 0 f.now) (sym (whole.last_view p content c.loop-source.scanner.rest.now none)) ∙ f.same in
-    subst (λ r. OnOk c.finish.result (rows_view (linked_at ds.definitions) c.finish.new.kept.rows.items ≡ inline_rows leads (with_spans (whole_text r).tokens))) end
+    subst (λ r. OnOk c.finish.result (rows_view (linked_at ds.definitions) c.finish.new.row_room.rows.items ≡ inline_rows leads (with_spans (whole_text r).tokens))) end
     (c.finish.ensures.read leads (linked_at ds.definitions) f.now f.shows)
