@@ -49,6 +49,7 @@ pub(crate) struct Reading<'a, A: Allocator> {
 
 impl<'a, A: Allocator + Clone> Reading<'a, A> {
     /// Before anything is read, in room that is left empty until the end.
+    #[inline(always)]
     pub(crate) fn new(
         room: &mut Room<A>,
         row_room: &mut RowRoom<'a, A>,
@@ -79,6 +80,7 @@ impl<'a, A: Allocator + Clone> Reading<'a, A> {
 
     /// The rows where nothing is left: label starts that are open form nothing. The room is given
     /// back, and the rows stand in it.
+    #[inline(always)]
     pub(crate) fn finish(
         self,
         room: &mut Room<A>,

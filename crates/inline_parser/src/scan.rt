@@ -354,6 +354,7 @@ impl<'a, A: Allocator + Clone> Scanner<'a, A> {
     }
 
     /// A run (CommonMark 6.2).
+    #[inline(always)]
     fn run(&mut self, run: Run) -> Result<(), AllocError>
         requires sound { IsSound self.old.reading }
         requires first { IsSingle self.old.rest.now }
@@ -389,6 +390,7 @@ impl<'a, A: Allocator + Clone> Scanner<'a, A> {
     }
 
     /// A label start (CommonMark 6.3 and 6.4).
+    #[inline(always)]
     fn start(&mut self, start: LabelStart) -> Result<(), AllocError>
         requires sound { IsSound self.old.reading }
         requires front { StartsLabel self.old.rest.now start }
