@@ -1,5 +1,5 @@
 -- Plain lines.
-use Rattle.std.proofs.Common.{◌≡◌, ℕ, List, [], ◌∷◌, ◌++◌, Bool, true, ◌&&◌, sym, ap, ◌∙◌, subst, refl, length, arith}
+use Rattle.std.proofs.Common.{◌≡◌, ℕ, List, [], ◌∷◌, Bool, true, false, ◌&&◌, ap, ◌∙◌, refl, arith}
 use Rattle.std.specs.Prelude.{leb}
 use Rattle.std.specs.Option.{option_or}
 use Rattle.std.proofs.lemmas.Bool.{and_parts}
@@ -8,18 +8,17 @@ use Rattle.definition_text.specs.declared.beside.Beside.{Beside}
 use Rattle.definition_text.specs.Columns.{Rest, indent, bare, bytes_of}
 use Rattle.definition_text.specs.BlockLines.{BlockLine}
 use Rattle.definition_block.specs.MathFlow.{math_start}
-use Rattle.definition_block.specs.Tree.{Blank, Blocks, join, one, Text, Indented, Fenced, OpenHtml, OpenTable, Opening, Leaf, Inside, Tree, tree}
-use Rattle.definition_block.specs.Tree.{nothing, after, has_text, text_here, rest_line, leaf_line, text_line_of, table_if, new, grow}
+use Rattle.definition_block.specs.Tree.{Blank, Blocks, one, Text, Indented, Fenced, OpenHtml, OpenTable, Opening, Leaf, Inside, Tree, tree}
+use Rattle.definition_block.specs.Tree.{nothing, is_some_line, after, has_text, text_here, rest_line, leaf_line, text_line_of, table_if, new, grow}
 use Rattle.block_starts.specs.Plain.{begins_plain, is_plain}
 use Rattle.block_starts.proofs.PlainLemmas.{plain_starts, plain_not_blank, plain_not_code, plain_fence, plain_math, plain_html, plain_heading, plain_underline}
 use Rattle.block_starts.proofs.PlainLemmas.{plain_break, plain_delimiters}
 use Rattle.block_parser.specs.HeadingSetext.{IsText}
 use Rattle.block_parser.specs.Shows.{InText, InIndented, InFenced, InHtml, InTable, state_of}
-use Rattle.block_parser.specs.Spine.{Level, Spine, spine, spine_at, spine_after}
+use Rattle.block_parser.specs.Spine.{Level, Spine, spine_at, spine_after}
 use Rattle.block_parser.proofs.Closing.{opening_depth}
-use Rattle.block_parser.proofs.Starting.{new_none, closed-nothing}
-use Rattle.block_parser.proofs.Steps.{text_leaf, turns_not, goes_longer, starts_text}
-use Rattle.block_parser.proofs.Trees.{join-nil}
+use Rattle.block_parser.proofs.Starting.{new_none}
+use Rattle.block_parser.proofs.Steps.{text_leaf, turns_not}
 
 -- ---- nothing begins on a plain rest but text
 
@@ -49,30 +48,16 @@ is_text around kids (Leaf (OpenHtml kind ls)) none is = let wrong : InText ≡ I
 is_text around kids (Leaf (OpenTable ls)) none is = let wrong : InText ≡ InTable _ = is in cc
 is_text around kids (Inside c inner_kids inner) none is = absurd (omega (arith, none))
 
+pub of_text : (P : Tree → Type 0) → ((kids : Blocks) (ls : List BlockLine) → P (tree kids (Leaf (Text ls)))) → (kids : Blocks) (now : Opening) → IsText now
+    → P (tree kids now)
+of_text P h kids (Leaf (Text ls)) is = h kids ls
+of_text P h kids (Leaf (Indented ls pending)) is = absurd is
+of_text P h kids (Leaf (Fenced f opening ls)) is = absurd is
+of_text P h kids (Leaf (OpenHtml kind ls)) is = absurd is
+of_text P h kids (Leaf (OpenTable ls)) is = absurd is
+of_text P h kids (Inside c inner_kids inner) is = absurd is
+
 module _ (on : Constructs) (P Q : Spine → Type 0) (e : Beside) where
-  -- a line of text goes on the paragraph, or is its first
-  text_grows : (r : Rest) → ((around : List Level) (kids : Blocks) (ls : List BlockLine) → P (spine around kids (Text ls))
-      → Q (spine around kids (Text (ls ++ rest_line r e ∷ []))))
-      → (kids : Blocks) (ls : List BlockLine) → P (spine [] kids (Text ls)) → Q (spine_after [] kids (text_line_of on (Leaf (Text ls)) r e))
-  text_grows r more kids [] h =
-      starts_text on Q r e [] kids (Leaf (Text [])) refl refl
-      (subst (λ (bs : Blocks). Q (spine [] bs (Text (rest_line r e ∷ [])))) (sym (ap (join kids) (closed-nothing on e on.definition) ∙ join-nil kids))
-      (more [] kids [] h))
-  text_grows r more kids (l ∷ ls) h = goes_longer on P Q r e more [] kids (Leaf (Text (l ∷ ls))) refl h
-
-  -- a plain line is one
-  pub plain_grows : (r : Rest) → is_plain on r ≡ true
-      → ((around : List Level) (kids : Blocks) (ls : List BlockLine) → P (spine around kids (Text ls))
-      → Q (spine around kids (Text (ls ++ rest_line r e ∷ []))))
-      → (kids : Blocks) (now : Opening) → IsText now → P (spine_at [] kids now) → Q (spine_after [] kids (grow on e now r))
-  plain_grows r plain more kids (Leaf (Text ls)) is h =
-      subst (λ (t : Tree). Q (spine_after [] kids t)) (sym (plain_new on (Leaf (Text ls)) r e plain (length r) true)) (text_grows r more kids ls h)
-  plain_grows r plain more kids (Leaf (Indented ls pending)) is h = absurd is
-  plain_grows r plain more kids (Leaf (Fenced f opening ls)) is h = absurd is
-  plain_grows r plain more kids (Leaf (OpenHtml kind ls)) is h = absurd is
-  plain_grows r plain more kids (Leaf (OpenTable ls)) is h = absurd is
-  plain_grows r plain more kids (Inside c inner_kids inner) is h = absurd is
-
   -- a line with nothing in it is blank
   pub empty_grows : (kids : Blocks) (now : Opening) → IsText now
       → Q (spine_after [] kids (after on now (tree (one (Blank e.ending)) nothing))) → Q (spine_after [] kids (grow on e now []))
@@ -82,3 +67,8 @@ module _ (on : Constructs) (P Q : Spine → Type 0) (e : Beside) where
   empty_grows kids (Leaf (OpenHtml kind ls)) is h = absurd is
   empty_grows kids (Leaf (OpenTable ls)) is h = absurd is
   empty_grows kids (Inside c inner_kids inner) is h = absurd is
+
+-- whether a paragraph is open
+pub none_open : (ls : List BlockLine) → is_some_line ls ≡ false → ls ≡ []
+none_open [] is = refl
+none_open (l ∷ ls) is = let wrong : true ≡ false = is in cc

@@ -1,13 +1,18 @@
--- Lines that were read one by one.
-use Rattle.std.proofs.Common.{◌≡◌, List, [], ◌∷◌, ◌++◌, refl, ap, ◌∙◌}
+-- Lines that were read, some at a time.
+use Rattle.std.proofs.Common.{◌≡◌, ℕ, ◌≤◌, ◌<◌, List, [], ◌∷◌, ◌++◌, refl, sym, ap, ◌∙◌, subst, get_or, length, append_assoc, arith}
+use Rattle.std.proofs.lemmas.List.{length-append}
 use Rattle.markdown_options.specs.declared.configuration.Constructs.{Constructs}
 use Rattle.definition_text.specs.declared.beside.Kind.{Kind}
 use Rattle.definition_text.specs.declared.beside.Kind.TheVariants.{Whitespace}
-use Rattle.definition_text.specs.Lines.{TextLine}
-use Rattle.definition_block.specs.Tree.{Tree, step, steps}
-use Rattle.block_parser.specs.View.{kind_after_lines}
+use Rattle.definition_text.specs.Lines.{TextLine, lines}
+use Rattle.definition_block.specs.Tree.{Tree, empty_tree, open_text, step, steps}
+use Rattle.block_rows.specs.ParagraphLines.{AreLines}
+use Rattle.block_rows.proofs.OpenLines.{open_lines}
+use Rattle.block_parser.specs.declared.parser.Parser.{Parser}
+use Rattle.block_parser.specs.Spine.{spine_of}
+use Rattle.block_parser.specs.View.{HasRead, KeepsLines, ReadsSome, kind_after_lines}
 
-kind_later : (ls : List TextLine) → kind_after_lines Whitespace ls ≡ Whitespace
+pub kind_later : (ls : List TextLine) → kind_after_lines Whitespace ls ≡ Whitespace
 kind_later [] = refl
 kind_later (line ∷ ls) = refl
 
@@ -19,7 +24,48 @@ steps_more on before t (first ∷ ls) line =
     let more = step on before t first in
     steps_more on Whitespace more ls line ∙ ap (λ kind. step on kind (steps on Whitespace more ls) line) (kind_later ls)
 
--- white space stands after it
-pub kind_more : (before : Kind) (ls : List TextLine) (line : TextLine) → kind_after_lines before (ls ++ line ∷ []) ≡ Whitespace
-kind_more before [] line = refl
-kind_more before (first ∷ ls) line = refl
+-- more lines
+pub steps_append : (on : Constructs) (before : Kind) (t : Tree) (ls more : List TextLine)
+    → steps on before t (ls ++ more) ≡ steps on (kind_after_lines before ls) (steps on before t ls) more
+steps_append on before t [] more = refl
+steps_append on before t (first ∷ ls) more =
+    let next = step on before t first in
+    steps_append on Whitespace next ls more ∙ ap (λ kind. steps on kind (steps on Whitespace next ls) more) (kind_later ls)
+
+-- white space stands after some
+pub kind_after_some : (before : Kind) (ls : List TextLine) → 0 < length ls → kind_after_lines before ls ≡ Whitespace
+kind_after_some before [] some = absurd (omega (arith, some))
+kind_after_some before (line ∷ ls) some = refl
+
+-- ---- the lines of a text so far
+
+pub record AllRead {A : Type 0} (on : Constructs) (before : Kind) (text left : List ℕ) (here : Kind) (p : Parser A) : Type 0 where
+  pub read : List TextLine
+  pub split : lines text ≡ read ++ lines left
+  pub reads : HasRead p (spine_of (steps on before empty_tree read))
+  pub kind : here ≡ kind_after_lines before read
+  pub shorter : length left ≤ length text
+
+-- whichever are read, the open paragraph has the lines of one
+pub keeps_lines : {A : Type 0} (on : Constructs) (before : Kind) (text left : List ℕ) (here : Kind) (p : Parser A) → ((k : ℕ) → get_or text k 0 < 256)
+    → (h : AllRead on before text left here p) → KeepsLines on here (steps on before empty_tree h.read) left
+keeps_lines on before text left here p bytes h = λ read others is.
+    let so_far = steps on before empty_tree h.read in
+    subst (λ (t : Tree). AreLines (open_text t.now))
+    (steps_append on before empty_tree h.read read ∙ ap (λ kind. steps on kind so_far read) (sym h.kind))
+    (open_lines on before text bytes (h.read ++ read) others (append_assoc h.read read others ∙ ap (λ ls. h.read ++ ls) is ∙ sym h.split))
+
+-- some more of them
+pub read_more : {A : Type 0} (on : Constructs) (before : Kind) (text left rest : List ℕ) (here : Kind) (p q : Parser A) (h : AllRead on before text left here p)
+    → length rest < length left → ReadsSome on here (steps on before empty_tree h.read) left rest q → AllRead on before text rest Whitespace q
+read_more on before text left rest here p q h less more =
+    let so_far = steps on before empty_tree h.read in
+    let some : 0 < length (h.read ++ more.read) = omega (arith, length-append h.read more.read, more.some) in
+    record {
+      read = h.read ++ more.read;
+      split = h.split ∙ ap (λ ls. h.read ++ ls) more.split ∙ sym (append_assoc h.read more.read (lines rest));
+      reads = subst (λ (t : Tree). HasRead q (spine_of t))
+          (ap (λ kind. steps on kind so_far more.read) h.kind ∙ sym (steps_append on before empty_tree h.read more.read)) more.reads;
+      kind = sym (kind_after_some before (h.read ++ more.read) some);
+      shorter = omega (arith, h.shorter, less);
+    }

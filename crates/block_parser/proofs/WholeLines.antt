@@ -28,7 +28,7 @@ AreWhole (l ∷ ls) = IsWhole l × AreWhole ls
 pub none_whole : AreWhole []
 none_whole = tt
 
-more_whole : (ls : List BlockLine) (l : BlockLine) → AreWhole ls → IsWhole l → AreWhole (ls ++ l ∷ [])
+pub more_whole : (ls : List BlockLine) (l : BlockLine) → AreWhole ls → IsWhole l → AreWhole (ls ++ l ∷ [])
 more_whole [] l h w = (w, tt)
 more_whole (k ∷ ks) l h w = (h.0, more_whole ks l h.1 w)
 
@@ -122,10 +122,14 @@ lines_again (l ∷ next ∷ others) h w =
 
 -- ---- a text that begins with the line of a piece
 
-front_bytes : (xs ys : List ℕ) → ((k : ℕ) → get_or (xs ++ ys) k 0 < 256) → (k : ℕ) → get_or xs k 0 < 256
+pub front_bytes : (xs ys : List ℕ) → ((k : ℕ) → get_or (xs ++ ys) k 0 < 256) → (k : ℕ) → get_or xs k 0 < 256
 front_bytes [] ys h k = omega arith
 front_bytes (x ∷ xs) ys h zero = h 0
 front_bytes (x ∷ xs) ys h (suc k) = front_bytes xs ys (λ i. h (suc i)) k
+
+pub later_bytes : (xs ys : List ℕ) → ((k : ℕ) → get_or (xs ++ ys) k 0 < 256) → (k : ℕ) → get_or ys k 0 < 256
+later_bytes [] ys h k = h k
+later_bytes (x ∷ xs) ys h k = later_bytes xs ys (λ i. h (suc i)) k
 
 pub piece_whole : (piece : Piece) (text after : List ℕ) → ((k : ℕ) → get_or text k 0 < 256) → piece.owed ≡ 0 → piece.before ≡ Whitespace
     → text ≡ piece.text.now ++ after → IsWhole (piece_line piece)
@@ -142,51 +146,58 @@ piece_cut piece text after rest whole none split cut =
     ∙ ap (λ (n : ℕ). ((replicate n tab_column ++ piece.text.now) ++ ending_text piece.ending) ++ rest) (sym none)
     ∙ ap (λ x. x ++ rest) (sym (line_bytes (piece_line piece) whole))
 
--- ---- a text that begins with the lines of pieces
+-- ---- a text that begins with lines
 
-pub record Begins (pieces : List Piece) (text rest : List ℕ) : Type 0 where
-  pub split : text ≡ flat_map line_text (piece_lines pieces) ++ rest
-  pub whole : AreWhole (piece_lines pieces)
+pub record Begins (ls : List BlockLine) (text rest : List ℕ) : Type 0 where
+  pub split : text ≡ flat_map line_text ls ++ rest
+  pub whole : AreWhole ls
 
 pub begins_none : (text : List ℕ) → Begins [] text text
 begins_none text = record { split = refl; whole = tt }
 
 -- one more of them
-pub begins_more : (pieces : List Piece) (i : ℕ) (d : Piece) (text rest after : List ℕ) → i < length pieces → Begins (take i pieces) text rest
-    → rest ≡ line_text (piece_line (get_or pieces i d)) ++ after → IsWhole (piece_line (get_or pieces i d)) → Begins (take (i + 1) pieces) text after
+pub begins_line : (ls : List BlockLine) (l : BlockLine) (text rest after : List ℕ) → Begins ls text rest → rest ≡ line_text l ++ after → IsWhole l
+    → Begins (ls ++ l ∷ []) text after
+begins_line ls l text rest after so_far line whole =
+    let front = flat_map line_text ls in
+    let bytes : flat_map line_text (ls ++ l ∷ []) ≡ front ++ line_text l =
+    flat_map-append line_text ls (l ∷ []) ∙ ap (λ x. front ++ x) (append-nil (line_text l)) in
+    record {
+      split = so_far.split ∙ ap (λ x. front ++ x) line ∙ sym (append_assoc front (line_text l) after) ∙ ap (λ x. x ++ after) (sym bytes);
+      whole = more_whole ls l so_far.whole whole;
+    }
+
+-- they are cut off where the rest begins
+front_cut : (ls : List BlockLine) (text rest : List ℕ) → Begins ls text rest → length (flat_map line_text ls) ≡ length text - length rest
+front_cut ls text rest h = let front = flat_map line_text ls in omega (arith, ap length h.split, length-append front rest)
+
+pub cut_boundary : (ls : List BlockLine) (text rest : List ℕ) → Begins ls text rest → IsUtf8 rest → IsCharBoundary text (length text - length rest)
+cut_boundary ls text rest h u =
+    subst (IsCharBoundary text) (front_cut ls text rest h) (IsCharBoundary-at_seam text (flat_map line_text ls) rest h.split u)
+
+pub front_lines : (ls : List BlockLine) (text rest cut : List ℕ) → Begins ls text rest → cut ≡ take (length text - length rest) text → AreLines ls
+    → whole_lines cut ≡ ls
+front_lines ls text rest cut h is clean =
+    let front = flat_map line_text ls in
+    ap whole_lines (is
+    ∙ ap (λ n. take n text) (sym (front_cut ls text rest h))
+    ∙ ap (take (length front)) h.split
+    ∙ take_at front rest (length front) refl)
+    ∙ lines_again ls clean h.whole
+
+-- ---- and with those of pieces
+
+-- one more of them
+pub begins_more : (pieces : List Piece) (i : ℕ) (d : Piece) (text rest after : List ℕ) → i < length pieces → Begins (piece_lines (take i pieces)) text rest
+    → rest ≡ line_text (piece_line (get_or pieces i d)) ++ after → IsWhole (piece_line (get_or pieces i d)) → Begins (piece_lines (take (i + 1) pieces)) text after
 begins_more pieces i d text rest after lt so_far line whole =
     let front = take i pieces in
     let last = get_or pieces i d in
     let longer : piece_lines (take (i + 1) pieces) ≡ piece_lines front ++ piece_line last ∷ [] =
     ap piece_lines (take_more pieces i d lt) ∙ map-append piece_line front (last ∷ []) in
-    let bytes : flat_map line_text (piece_lines (take (i + 1) pieces)) ≡ flat_map line_text (piece_lines front) ++ line_text (piece_line last) =
-    ap (flat_map line_text) longer ∙ flat_map-append line_text (piece_lines front) (piece_line last ∷ [])
-    ∙ ap (λ x. flat_map line_text (piece_lines front) ++ x) (append-nil (line_text (piece_line last))) in
-    record {
-      split = so_far.split ∙ ap (λ x. flat_map line_text (piece_lines front) ++ x) line
-          ∙ sym (append_assoc (flat_map line_text (piece_lines front)) (line_text (piece_line last)) after)
-          ∙ ap (λ x. x ++ after) (sym bytes);
-      whole = subst AreWhole (sym longer) (more_whole (piece_lines front) (piece_line last) so_far.whole whole);
-    }
+    subst (λ ls. Begins ls text after) (sym longer) (begins_line (piece_lines front) (piece_line last) text rest after so_far line whole)
 
--- they are cut off where the rest begins
-front_cut : (pieces : List Piece) (text rest : List ℕ) → Begins pieces text rest
-    → length (flat_map line_text (piece_lines pieces)) ≡ length text - length rest
-front_cut pieces text rest h =
-    let front = flat_map line_text (piece_lines pieces) in
-    omega (arith, ap length h.split, length-append front rest)
-
-pub cut_boundary : (pieces : List Piece) (text rest : List ℕ) → Begins pieces text rest → IsUtf8 rest → IsCharBoundary text (length text - length rest)
-cut_boundary pieces text rest h u =
-    subst (IsCharBoundary text) (front_cut pieces text rest h) (IsCharBoundary-at_seam text (flat_map line_text (piece_lines pieces)) rest h.split u)
-
-pub begun : (pieces : List Piece) (i : ℕ) (text rest cut : List ℕ) → length pieces ≤ i → Begins (take i pieces) text rest
+pub begun : (pieces : List Piece) (i : ℕ) (text rest cut : List ℕ) → length pieces ≤ i → Begins (piece_lines (take i pieces)) text rest
     → cut ≡ take (length text - length rest) text → AreLines (piece_lines pieces) → whole_lines cut ≡ piece_lines pieces
 begun pieces i text rest cut le so_far is clean =
-    let h = subst (λ (ps : List Piece). Begins ps text rest) (take_all i pieces le) so_far in
-    let front = flat_map line_text (piece_lines pieces) in
-    ap whole_lines (is
-    ∙ ap (λ n. take n text) (sym (front_cut pieces text rest h))
-    ∙ ap (take (length front)) h.split
-    ∙ take_at front rest (length front) refl)
-    ∙ lines_again (piece_lines pieces) clean h.whole
+    front_lines (piece_lines pieces) text rest cut (subst (λ (ps : List Piece). Begins (piece_lines ps) text rest) (take_all i pieces le) so_far) is clean

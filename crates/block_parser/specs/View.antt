@@ -1,12 +1,12 @@
 -- What a parser has read.
-use Rattle.std.specs.Prelude.{◌≡◌, ℕ, ◌<◌, true, false, List, [], ◌∷◌, length}
+use Rattle.std.specs.Prelude.{◌≡◌, ℕ, ◌<◌, true, false, List, [], ◌∷◌, ◌++◌, length}
 use Rattle.markdown_options.specs.declared.configuration.Constructs.{Constructs}
 use Rattle.definition_text.specs.declared.beside.Beside.{Beside}
 use Rattle.definition_text.specs.declared.beside.Kind.{Kind}
 use Rattle.definition_text.specs.declared.beside.Kind.TheVariants.{Whitespace}
-use Rattle.definition_text.specs.Lines.{TextLine}
+use Rattle.definition_text.specs.Lines.{TextLine, lines}
 use Rattle.definition_text.specs.Columns.{Rest}
-use Rattle.definition_block.specs.Tree.{Blocks, Nil, OpenLeaf, Text, Opening, Leaf, Inside, Tree, tree, nothing, open_text, new, leaf_line, grow}
+use Rattle.definition_block.specs.Tree.{Blocks, Nil, OpenLeaf, Text, Opening, Leaf, Inside, Tree, tree, nothing, open_text, new, leaf_line, grow, steps}
 use Rattle.block_rows.specs.ParagraphLines.{AreLines}
 use Rattle.block_rows.specs.Rows.{piece_lines}
 use Rattle.block_starts.specs.View.{container_views}
@@ -23,6 +23,17 @@ HasRead p s = Shows p.rows.rows.items p.rows.waiting.items p.rows.bare (containe
 abbrev pub kind_after_lines : Kind → List TextLine → Kind
 kind_after_lines before [] = before
 kind_after_lines before (line ∷ others) = Whitespace
+
+-- whichever lines are read of those of a text, the open paragraph has the lines of one
+abbrev pub KeepsLines : Constructs → Kind → Tree → List ℕ → Type 0
+KeepsLines on before t text = (read left : List TextLine) → read ++ left ≡ lines text → AreLines (open_text (steps on before t read).now)
+
+-- some lines of a text were read, and the rest follows them
+pub record ReadsSome {A : Type 0} (on : Constructs) (before : Kind) (t : Tree) (text rest : List ℕ) (p : Parser A) : Type 0 where
+  pub read : List TextLine
+  pub some : 0 < length read
+  pub split : lines text ≡ read ++ lines rest
+  pub reads : HasRead p (spine_of (steps on before t read))
 
 -- a leaf that is open becomes this, whatever it stands in
 abbrev pub Becomes : {A : Type 0} → Parser A → Parser A → OpenLeaf → Tree → Type 0

@@ -47,7 +47,7 @@ impl<'a, A: Allocator> Parser<'a, A> {
     }
 
     /// Whether a definition may begin the open paragraph.
-    fn may_define(&self, on: &Constructs) -> bool
+    pub(crate) fn may_define(&self, on: &Constructs) -> bool
         ensures on { result ≡ true → on.now.definition ≡ true }
         ensures uncut { result ≡ false → (around : List Level) (kids : tree.Blocks) (ls : List BlockLine) → AreLines ls →
             HasRead self.now (spine around kids (tree.Text ls)) → definition_cut on.now ls ≡ cut_into tree.Nil ls }

@@ -42,26 +42,58 @@ impl<'a, A: Allocator> Parser<'a, A> {
         ensures { OnOk result ((around : List Level) (kids : tree.Blocks) (ls : List BlockLine) → HasRead self.old (spine around kids (tree.Text ls)) →
             HasRead self.new (spine around kids (tree.Text (ls ++ piece_line line.entry ∷ [])))) }
     {
-        if !self.has_text() {
-            self.paragraph = self.rest;
-        }
+        self.paragraph = if self.has_text() {
+            self.paragraph
+        } else {
+            self.rest
+        };
+        self.push_line(line)
+    }
+
+    /// The same, where the paragraph is known to begin where `paragraph` does.
+    pub(crate) fn push_line(&mut self, line: Piece<'a>) -> Result<(), AllocError>
+        ensures { OnOk result ((around : List Level) (kids : tree.Blocks) (ls : List BlockLine) → HasRead self.old (spine around kids (tree.Text ls)) →
+            HasRead self.new (spine around kids (tree.Text (ls ++ piece_line line.entry ∷ [])))) }
+    {
         self.pieces.push(line)?;
         Ok(())
     }
 
-    /// Closes the open paragraph: definitions, and a paragraph of what is left.
-    pub(crate) fn close_text(&mut self, on: &Constructs) -> Result<(), AllocError>
-        ensures read { OnOk result ((ls : List BlockLine) → AreLines ls → Closes self.old self.new (tree.Text ls) (tree.close_leaf on.now (tree.Text ls))) }
+    /// Closes the open paragraph, if there is one, whose lines may be known to be those of a text.
+    #[inline(always)]
+    pub(crate) fn close_text(
+        &mut self,
+        on: &Constructs,
+        known: Option<&'a str>,
+    ) -> Result<(), AllocError>
+        ensures read { OnOk result ((ls : List BlockLine) → AreLines ls → IfSome known.entry (λ text. whole_lines text.now ≡ ls) →
+            Closes self.old self.new (tree.Text ls) (tree.close_leaf on.now (tree.Text ls))) }
         ensures containers { self.new.open ≡ self.old.open }
     {
+        if !self.has_text() {
+            return Ok(());
+        }
+        self.close_lines(on, known)
+    }
+
+    /// The same: definitions, and a paragraph of what is left.
+    fn close_lines(&mut self, on: &Constructs, known: Option<&'a str>) -> Result<(), AllocError>
+        ensures read { OnOk result ((ls : List BlockLine) → AreLines ls → IfSome known.entry (λ text. whole_lines text.now ≡ ls) →
+            Closes self.old self.new (tree.Text ls) (tree.close_leaf on.now (tree.Text ls))) }
+        ensures containers { self.new.open ≡ self.old.open }
+    {
+        if !self.may_define(on) {
+            return self.close_paragraph(known);
+        }
         self.cut_definitions(on)?;
-        self.close_paragraph()
+        self.close_paragraph(None)
     }
 
     /// The lines that are left of the open paragraph, if there are any, are a paragraph. From two
-    /// lines on it is kept as one, where they are whole.
-    fn close_paragraph(&mut self) -> Result<(), AllocError>
-        ensures read { OnOk result ((ls : List BlockLine) → AreLines ls → Closes self.old self.new (tree.Text ls) (tree.paragraph_of ls)) }
+    /// lines on it is kept as one, where they are whole: those of a text that may be known.
+    fn close_paragraph(&mut self, known: Option<&'a str>) -> Result<(), AllocError>
+        ensures read { OnOk result ((ls : List BlockLine) → AreLines ls → IfSome known.entry (λ text. whole_lines text.now ≡ ls) →
+            Closes self.old self.new (tree.Text ls) (tree.paragraph_of ls)) }
         ensures containers { self.new.open ≡ self.old.open }
     {
         let count = self.pieces.len() - self.lines_in_rows;
@@ -72,9 +104,20 @@ impl<'a, A: Allocator> Parser<'a, A> {
         if count == 1 {
             return self.end_leaf(Row::Paragraph(1), ending);
         }
-        match self.whole_text() {
+        match self.text_or(known) {
             Some(text) => self.close_whole(text, ending),
             None => self.end_leaf(Row::Paragraph(count), ending),
+        }
+    }
+
+    /// A text that is known to be that of the lines of the open leaf, or the one that is found.
+    fn text_or(&self, known: Option<&'a str>) -> Option<&'a str>
+        ensures { IfSome result (λ text. let ls = drop self.now.lines_in_rows (piece_lines self.now.pieces.items) in
+            AreLines ls → IfSome known.entry (λ text. whole_lines text.now ≡ ls) → whole_lines text.now ≡ ls) }
+    {
+        match known {
+            Some(text) => Some(text),
+            None => self.whole_text(),
         }
     }
 

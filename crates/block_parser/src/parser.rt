@@ -1,8 +1,10 @@
 //! Blocks, line by line (CommonMark 4, 5 and appendix, phase 1).
-ghost use Rattle.std.specs.Prelude.{◌≡◌, ◌≤◌, ◌<◌, ◌+◌, true, false, ◌^◌, [], IfOk, length, vec_len};
+ghost use Rattle.std.specs.Prelude.{◌≡◌, ◌≤◌, ◌<◌, ◌+◌, ◌-◌, true, false, ◌^◌, [], IfOk, IfSome, length, take, vec_len};
+ghost use Rattle.std.specs.Str.{IsCharBoundary};
 ghost use Rattle.definition_text.specs.Columns.{whole};
-ghost use Rattle.definition_text.specs.Lines.{lines};
-ghost use Rattle.definition_block.specs.Tree.{blocks, children, rest_line};
+ghost use Rattle.definition_text.specs.Lines.{lines, text_line};
+ghost use Rattle.definition_text.specs.declared.beside.Kind.TheVariants.{Whitespace};
+ghost use Rattle.definition_block.specs.Tree.{beside_line, blocks, children, rest_line};
 ghost use Rattle.block_rows.specs.Rows.{rows_size, piece_line, piece_lines, rows_of, rows_value, value_with};
 ghost use Rattle.block_starts.specs.View.{rest_of, container_view, container_views};
 ghost use Rattle.block_parser.specs.Quotes.{NoQuoteFrom, is_quote};
@@ -25,7 +27,7 @@ use definition_block::{AlignKind, Container};
 use definition_text::{Beside, Kind};
 use markdown_options::{Constructs, LineEnding};
 use std::alloc::{AllocError, Allocator};
-use text_lines::{Line, Lines};
+use text_lines::{Line, next_line};
 
 /// The blocks of a text: rows, and the lines that they take.
 #[derive(Drop)]
@@ -73,39 +75,76 @@ impl<'a, A: Allocator> Parser<'a, A> {
     ghost use Rattle.block_parser.specs.Spine.{Level, Spine, level, spine, spine_at, spine_of, without_innermost};
     ghost use Rattle.block_parser.specs.Quotes.{NoQuoteFrom, NoneBeganBlank};
     ghost use Rattle.block_parser.specs.Shows.{leaf_lines};
-    ghost use Rattle.block_parser.specs.View.{Becomes, Closes, HasRead, Adds, Grows, Descent, IsEntered};
+    ghost use Rattle.block_parser.specs.View.{Becomes, Closes, HasRead, Adds, Grows, Descent, IsEntered, KeepsLines, ReadsSome};
+    ghost use Rattle.definition_text.specs.declared.beside.Kind.TheVariants.{Whitespace};
     ghost use Rattle.definition_block.specs.Container.{Container as Holder};
     ghost use Rattle.definition_text.specs.BlockLines.{BlockLine, last_ending};
     ghost use Rattle.block_parser.specs.Waits.{enter_row};
     ghost use Rattle.std.specs.Prelude.{◌≤◌, ◌<◌, ◌+◌, ◌-◌, ◌∷◌, ◌++◌, [], length, vec_len, take, drop};
     ghost use Rattle.block_starts.specs.View.{rest_of, container_view, container_views};
 
-    /// Reads a line after a character of a kind. Where no container is open and no leaf but a paragraph,
-    /// an empty line is blank and a plain one is of a paragraph, so neither asks any construct.
-    pub(crate) fn line(
+    /// Reads lines at the front of a text, after a character of a kind: where no container is open and
+    /// no leaf but a paragraph, plain ones and the line after them, and otherwise one. Answers what
+    /// follows.
+    pub(crate) fn lines(
         &mut self,
         on: &Constructs,
         before: Kind,
-        line: Line<'a>,
-    ) -> Result<(), AllocError>
-        ensures { OnOk result ((t : tree.Tree) → AreLines (tree.open_text t.now) → HasRead self.old (spine_of t) →
-            HasRead self.new (spine_of (tree.step on.now before t (text_line line.entry.content.now line.entry.ending)))) }
+        text: &'a str,
+    ) -> Result<&'a str, AllocError>
+        requires some { 0 < length text.now }
+        requires fits { length text.now < 2 ^ 61 }
+        ensures shorter { IfOk result (λ rest. length rest.now < length text.now) }
+        ensures read { IfOk result (λ rest. (t : tree.Tree) → KeepsLines on.now before t text.now → HasRead self.old (spine_of t) →
+            ReadsSome on.now before t text.now rest.now self.new) }
     {
-        self.rest = line.text;
-        if !self.is_alone() {
-            return self.any_line(on, before, line);
+        if before == Kind::Whitespace && self.is_alone() {
+            return self.plain_lines(on, text);
         }
-        if line.content.is_empty() {
-            return self.empty_line(on, line.ending);
-        }
-        if !is_plain_line(on, line.content) {
-            return self.any_line(on, before, line);
-        }
-        let beside = Beside {
-            before,
-            ending: line.ending,
+        let (content, ending, rest) = next_line(text);
+        self.rest = text;
+        let line = Line {
+            content,
+            ending,
+            text,
         };
-        self.add_line(whole_piece(line.content, beside))
+        self.any_line(on, before, line)?;
+        Ok(rest)
+    }
+
+    /// Reads plain lines, where no container is open and no leaf but a paragraph, and the line after
+    /// them. They ask no construct, and an empty one after them is blank.
+    fn plain_lines(&mut self, on: &Constructs, text: &'a str) -> Result<&'a str, AllocError>
+        requires some { 0 < length text.now }
+        requires fits { length text.now < 2 ^ 61 }
+        ensures shorter { IfOk result (λ rest. length rest.now < length text.now) }
+        ensures read { IfOk result (λ rest. (kids : tree.Blocks) (ls : List BlockLine) → let t = tree.tree kids (tree.Leaf (tree.Text ls)) in
+            KeepsLines on.now Whitespace t text.now → HasRead self.old (spine_of t) → ReadsSome on.now Whitespace t text.now rest.now self.new) }
+    {
+        let goes_on = self.has_text();
+        self.paragraph = if goes_on { self.paragraph } else { text };
+        let mut rest = text;
+        while !rest.is_empty() {
+            let (content, ending, after) = next_line(rest);
+            if content.is_empty() {
+                self.close_text(on, known_front(goes_on, text, rest))?;
+                self.blank_line(ending)?;
+                return Ok(after);
+            }
+            if !is_plain_line(on, content) {
+                self.rest = rest;
+                let line = Line {
+                    content,
+                    ending,
+                    text: rest,
+                };
+                self.any_line(on, Kind::Whitespace, line)?;
+                return Ok(after);
+            }
+            self.push_line(whole_piece(content, ending))?;
+            rest = after;
+        }
+        Ok(rest)
     }
 
     /// Whether no container is open, and no leaf but a paragraph.
@@ -119,14 +158,6 @@ impl<'a, A: Allocator> Parser<'a, A> {
             OpenLeaf::Html { .. } => false,
             OpenLeaf::Table { .. } => false,
         }
-    }
-
-    /// A line with nothing in it, which is in no container.
-    fn empty_line(&mut self, on: &Constructs, ending: Option<LineEnding>) -> Result<(), AllocError>
-        ensures { OnOk result (Grows self.old self.new 0 (λ away. tree.after on.now away (tree.tree (tree.one (tree.Blank ending)) tree.nothing))) }
-    {
-        self.close_to(on, 0)?;
-        self.blank_line(ending)
     }
 
     /// Reads any line: the containers that go on, then the leaf that takes the rest, or what is new.
@@ -452,7 +483,7 @@ impl<'a, A: Allocator> Parser<'a, A> {
         ensures containers { self.new.open ≡ self.old.open }
     {
         match self.leaf {
-            OpenLeaf::Text => self.close_text(on),
+            OpenLeaf::Text => self.close_text(on, None),
             OpenLeaf::Indented { count, ending } => self.close_indented(count, ending),
             OpenLeaf::Fenced { ending, .. } => self.close_fenced(ending),
             OpenLeaf::Html { ending, .. } => self.close_html(ending),
@@ -541,16 +572,28 @@ pub(crate) fn piece<'a>(rest: Cursor<'a>, beside: Beside) -> Piece<'a>
     }
 }
 
-/// The line of a block that a whole line is.
-fn whole_piece<'a>(content: &'a str, beside: Beside) -> Piece<'a>
-    ensures { piece_line result ≡ rest_line (whole content.now) beside }
+/// The line of a block that a whole line is, after the ending of another.
+fn whole_piece<'a>(content: &'a str, ending: Option<LineEnding>) -> Piece<'a>
+    ensures { piece_line result ≡ rest_line (whole content.now) (beside_line Whitespace (text_line content.now ending)) }
 {
     Piece {
         text: content,
         owed: 0,
-        ending: beside.ending,
-        before: beside.before,
+        ending,
+        before: Kind::Whitespace,
     }
+}
+
+/// What stands before a rest of a text, unless a paragraph goes on there.
+fn known_front<'a>(goes_on: bool, text: &'a str, rest: &str) -> Option<&'a str>
+    requires boundary { IsCharBoundary text.now (length text.now - length rest.now) }
+    requires within { length rest.now ≤ length text.now }
+    ensures { IfSome result (λ front. (goes_on ≡ false) × (front.now ≡ take (length text.now - length rest.now) text.now)) }
+{
+    if goes_on {
+        return None;
+    }
+    Some(&text[..text.len() - rest.len()])
 }
 
 /// The blocks of a text without a byte order mark, after a character of a kind.
@@ -594,8 +637,9 @@ fn child_rows<'a, A: Allocator + Clone>(
         paragraph: text,
     };
     let mut here = before;
-    for line in Lines::new(text) {
-        parser.line(on, here, line)?;
+    let mut left = text;
+    while !left.is_empty() {
+        left = parser.lines(on, here, left)?;
         here = Kind::Whitespace;
     }
     parser.close_to(on, 0)?;

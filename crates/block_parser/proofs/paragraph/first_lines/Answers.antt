@@ -1,5 +1,6 @@
 use Rattle.std.proofs.Common.{rules, arith, ap, ◌∙◌, take}
 use Rattle.std.specs.Str.{IsUtf8}
+use Rattle.block_rows.specs.Rows.{piece_lines}
 use Rattle.block_parser.proofs.WholeLines.{begins_none, begins_more, cut_boundary, begun}
 use Rattle.block_parser.proofs.paragraph.first_lines.Goals as goal
 
@@ -16,7 +17,7 @@ loop-piece-preserved c =
 
 pub range-requires-clause-end_boundary : goal.range-requires-clause-end_boundary
 range-requires-clause-end_boundary c =
-    cut_boundary (take c.loop-piece.piece-index c.args.pieces.now) c.args.text.now c.loop-piece.rest.now c.loop-piece.invariant.1 c.loop-piece.invariant.0
+    cut_boundary (piece_lines (take c.loop-piece.piece-index c.args.pieces.now)) c.args.text.now c.loop-piece.rest.now c.loop-piece.invariant.1 c.loop-piece.invariant.0
 
 pub returns : goal.returns
 returns c =

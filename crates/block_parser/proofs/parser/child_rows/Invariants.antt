@@ -1,12 +1,12 @@
-use Rattle.std.specs.Prelude.{◌≡◌, map}
-use Rattle.definition_block.specs.Tree.{steps, empty_tree}
-use Rattle.text_lines.specs.Rest.{view_line}
-use Rattle.block_parser.specs.Spine.{spine_of}
-use Rattle.block_parser.specs.View.{HasRead, kind_after_lines}
+use Rattle.std.proofs.Common.{length}
+use denote.Text.{Utf8}
+use denote.Shadow.{shadow}
+use Rattle.block_parser.proofs.Read.{AllRead}
 use Rattle.block_parser.proofs.parser.child_rows.Given as goal
 
 -- the lines so far were read, and what stands after them is known
-abbrev pub invariant-loop-line : goal.invariant-loop-line
-invariant-loop-line g l =
-    let read = map view_line l.yielded in
-    HasRead l.parser (spine_of (steps l.on l.initial.here empty_tree read)) × (l.here ≡ kind_after_lines l.initial.here read)
+abbrev pub invariant-loop-left : goal.invariant-loop-left
+invariant-loop-left g l = shadow (Utf8 l.left) × AllRead l.on l.initial.here l.initial.left l.left l.here l.parser
+
+abbrev pub decreases-loop-left : goal.decreases-loop-left
+decreases-loop-left g l = length l.left

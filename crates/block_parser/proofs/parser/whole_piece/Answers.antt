@@ -1,9 +1,9 @@
 use Rattle.std.proofs.Common.{List, ℕ, sym, ap, arith}
 use Rattle.definition_text.specs.BlockLines.{block_line}
+use Rattle.definition_text.specs.declared.beside.Kind.TheVariants.{Whitespace}
 use Rattle.text_lines.proofs.Codes.{block_codes_whole}
 use Rattle.block_parser.proofs.parser.whole_piece.Goals as goal
 
 pub returns : goal.returns
 returns c =
-    let e = c.args.beside in
-    ap (λ (codes : List ℕ). block_line codes e.ending e.before) (sym (block_codes_whole c.args.content.now (λ k. omega (arith, c.type_inv.content k))))
+    ap (λ (codes : List ℕ). block_line codes c.args.ending Whitespace) (sym (block_codes_whole c.args.content.now (λ k. omega (arith, c.type_inv.content k))))

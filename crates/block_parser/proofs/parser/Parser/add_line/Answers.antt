@@ -1,16 +1,4 @@
-use Rattle.std.proofs.Common.{◌++◌, ◌∷◌, [], refl}
-use Rattle.definition_block.specs.Tree.{Text}
-use Rattle.block_rows.specs.Rows.{piece_line, piece_lines}
-use Rattle.block_starts.specs.View.{container_views}
-use Rattle.block_parser.specs.Leaves.{leaf_state}
-use Rattle.block_parser.proofs.Leaves as leaves
 use Rattle.block_parser.proofs.parser.Parser.add_line.Goals as goal
 
 pub returns : goal.returns
-returns g c = λ around kids ls h.
-    let p = c.args.self.now in
-    let pool = piece_lines p.pieces.items in
-    let l = piece_line c.args.line in
-    leaves.shows_line p.rows.rows.items p.rows.waiting.items p.rows.bare (container_views p.open.items) pool (piece_lines c.push.new.self.items)
-    (leaf_state p.leaf) (leaf_state p.leaf) around kids (Text ls) (Text (ls ++ l ∷ [])) l
-    (leaves.enough_lines p) (leaves.piece_pushed p.pieces.items c.args.line c.push.new.self.items l c.in_ok-push.ensures.items refl) refl h.same_state h
+returns g c = c.push_line.ensures

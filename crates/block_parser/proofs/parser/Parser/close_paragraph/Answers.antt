@@ -1,4 +1,5 @@
 use Rattle.std.proofs.Common.{◌≡◌, ◌-◌, ◌∷◌, [], List, Option, sym, ap, ◌∙◌, subst, refl, length, drop, arith}
+use Rattle.std.specs.Prelude.{IfSome}
 use Rattle.std.proofs.lemmas.List.{length-map, take_all}
 use Rattle.std.proofs.lemmas.Result.{on_ok_weaker}
 use Rattle.markdown_options.specs.declared.line_ending.LineEnding.{LineEnding}
@@ -14,7 +15,7 @@ use Rattle.block_parser.proofs.Leaves as leaves
 use Rattle.block_parser.proofs.parser.Parser.close_paragraph.Goals as goal
 
 pub returns-then-count-eq0-clause-read : goal.returns-then-count-eq0-clause-read
-returns-then-count-eq0-clause-read g c = λ ls _ around kids h.
+returns-then-count-eq0-clause-read g c = λ ls _ _ around kids h.
     let p = c.args.self.now in
     let pool = piece_lines p.pieces.items in
     let left = leaves.all_left p.rows.rows.items p.rows.waiting.items p.rows.bare pool around kids ls h.written (leaves.enough_lines p) in
@@ -36,7 +37,7 @@ some_lines q kids around (l ∷ ls) ending some last h =
 
 pub returns-in-Some-clause-read : goal.returns-in-Some-clause-read
 returns-in-Some-clause-read g c =
-    on_ok_weaker c.close_whole.result (λ reads. λ ls clean around kids h.
+    on_ok_weaker c.close_whole.result (λ reads. λ ls clean known around kids h.
     let p = c.args.self.now in
     let pool = piece_lines p.pieces.items in
     let left = leaves.all_left p.rows.rows.items p.rows.waiting.items p.rows.bare pool around kids ls h.written (leaves.enough_lines p) in
@@ -45,14 +46,15 @@ returns-in-Some-clause-read g c =
     let lines_left : ls ≡ drop p.lines_in_rows pool = leaves.lines_of p around kids (Text ls) h in
     let last : c.last_ending-ending.result ≡ last_ending ls =
     c.last_ending-ending.ensures ∙ ap last_ending (sym (leaves.lines_here p around kids (Text ls) h c.deref.result.now c.deref.ensures.value)) in
-    let whole_is : ls ≡ whole_lines c.in-Some.text.now = lines_left ∙ sym (c.in-Some.ensures (subst AreLines lines_left clean)) in
+    let whole_is : ls ≡ whole_lines c.in-Some.text.now = lines_left ∙ sym (c.in-Some.ensures (subst AreLines lines_left clean)
+    (subst (λ (xs : List BlockLine). IfSome c.args.known (λ text. whole_lines text.now ≡ xs)) lines_left known)) in
     some_lines c.close_whole.new.self kids around ls c.last_ending-ending.result (λ none. c.if-count-eq0.false (all ∙ none)) last
     (reads ls whole_is around kids h))
     c.close_whole.ensures.read
 
 pub returns-then-count-eq1-clause-read : goal.returns-then-count-eq1-clause-read
 returns-then-count-eq1-clause-read g c =
-    on_ok_weaker c.end_leaf.result (λ reads. λ ls _ around kids h.
+    on_ok_weaker c.end_leaf.result (λ reads. λ ls _ _ around kids h.
     let p = c.args.self.now in
     let pool = piece_lines p.pieces.items in
     let left = leaves.all_left p.rows.rows.items p.rows.waiting.items p.rows.bare pool around kids ls h.written (leaves.enough_lines p) in
@@ -67,7 +69,7 @@ returns-then-count-eq1-clause-read g c =
 
 pub returns-in-None-clause-read : goal.returns-in-None-clause-read
 returns-in-None-clause-read g c =
-    on_ok_weaker c.end_leaf-in-None.result (λ reads. λ ls _ around kids h.
+    on_ok_weaker c.end_leaf-in-None.result (λ reads. λ ls _ _ around kids h.
     let p = c.args.self.now in
     let pool = piece_lines p.pieces.items in
     let left = leaves.all_left p.rows.rows.items p.rows.waiting.items p.rows.bare pool around kids ls h.written (leaves.enough_lines p) in

@@ -1,17 +1,21 @@
-use Rattle.std.proofs.Common.{[], subst}
-use Rattle.std.proofs.lemmas.Result.{on_ok_weaker}
-use Rattle.definition_block.specs.Tree.{Blocks, Text, join, paragraph_of}
-use Rattle.definition_block.specs.Definitions.{definition_cut}
+use Rattle.std.proofs.Common.{[], None, List, sym, ap, ◌∙◌, subst}
+use Rattle.definition_text.specs.BlockLines.{BlockLine}
+use Rattle.definition_text.specs.declared.beside.Beside.{Beside}
+use Rattle.definition_text.specs.declared.beside.Kind.TheVariants.{Whitespace}
+use Rattle.definition_block.specs.Tree.{Blocks, Text, close_leaf, join}
 use Rattle.block_parser.specs.Spine.{spine}
 use Rattle.block_parser.specs.View.{HasRead}
-use Rattle.block_parser.proofs.DefinitionLemmas.{cut_clean}
-use Rattle.block_parser.proofs.Trees.{join-assoc}
+use Rattle.block_parser.proofs.Plain.{none_open}
+use Rattle.block_parser.proofs.Starting.{closed-nothing}
+use Rattle.block_parser.proofs.Trees.{join-nil}
 use Rattle.block_parser.proofs.parser.Parser.close_text.Goals as goal
 
-pub returns-clause-read : goal.returns-clause-read
-returns-clause-read g c =
-    on_ok_weaker c.close_paragraph.result (λ reads. λ ls clean around kids h.
-    let parts = definition_cut c.args.on.now ls in
-    subst (λ (bs : Blocks). HasRead c.close_paragraph.new.self (spine around bs (Text []))) (join-assoc kids parts.definitions (paragraph_of parts.left))
-    (reads parts.left (cut_clean c.args.on.now ls clean) around (join kids parts.definitions) (c.in_ok-cut_definitions.ensures.read ls clean around kids h)))
-    c.close_paragraph.ensures.read
+pub returns-then-not-has_text-clause-read : goal.returns-then-not-has_text-clause-read
+returns-then-not-has_text-clause-read g c = λ ls _ _ around kids h.
+    let p = c.args.self.now in
+    let on = c.args.on.now in
+    let start : Beside = record { before = Whitespace; ending = None } in
+    subst (λ (xs : List BlockLine). HasRead p (spine around kids (Text xs)) → HasRead p (spine around (join kids (close_leaf on (Text xs))) (Text [])))
+    (sym (none_open ls (sym (c.has_text.ensures (spine around kids (Text ls)) h) ∙ c.if-not-has_text.true)))
+    (subst (λ (bs : Blocks). HasRead p (spine around bs (Text []))) (sym (ap (join kids) (closed-nothing on start on.definition) ∙ join-nil kids)))
+    h

@@ -1,0 +1,215 @@
+-- Plain lines at the front of a text, which a paragraph takes at once.
+use Rattle.std.proofs.Common.{◌≡◌, ℕ, ◌<◌, true, eqb, List, [], ◌∷◌, ◌++◌, Option, None, Some, refl, sym, ap, ◌∙◌, subst, get_or, inl, inr}
+use Rattle.std.proofs.Common.{◌-◌, length, drop, take, append_assoc, arith}
+use Rattle.std.specs.Prelude.{map}
+use Rattle.std.specs.List.{flat_map}
+use Rattle.std.proofs.lemmas.Bool.{cases_Bool, cond-true, cond-false, eqb-true}
+use Rattle.std.proofs.lemmas.List.{append-nil, length-append, map-append}
+use Rattle.markdown_options.specs.declared.line_ending.LineEnding.{LineEnding}
+use Rattle.markdown_options.specs.declared.line_ending.LineEnding.TheVariants.{CarriageReturnLineFeed, CarriageReturn, LineFeed}
+use Rattle.markdown_options.specs.declared.configuration.Constructs.{Constructs}
+use Rattle.definition_text.specs.declared.beside.Beside.{Beside}
+use Rattle.definition_text.specs.declared.beside.Kind.TheVariants.{Whitespace}
+use Rattle.definition_text.specs.Lines.{TextLine, text_line, in_first_line, after_return, lines, ending_text}
+use Rattle.definition_text.specs.Columns.{Rest, whole}
+use Rattle.definition_text.specs.BlockLines.{BlockLine, block_line}
+use Rattle.definition_text.specs.Content.{line_text}
+use Rattle.definition_text.proofs.CodeBytes.{code_bytes}
+use Rattle.definition_block.specs.Tree.{Blocks, Nil, join, Text, Leaf, Tree, tree, beside_line, grow, open_text, rest_line, step, steps, text_line_of}
+use Rattle.block_rows.specs.ParagraphLines.{AreLines}
+use Rattle.block_rows.specs.Rows.{whole_line, whole_lines}
+use Rattle.block_starts.specs.Plain.{is_plain}
+use Rattle.text_lines.proofs.Codes.{block_codes_whole}
+use Rattle.block_parser.specs.declared.parser.Parser.{Parser}
+use Rattle.block_parser.specs.Spine.{Spine, spine, spine_of}
+use Rattle.block_parser.specs.View.{HasRead, KeepsLines, ReadsSome}
+use Rattle.block_parser.proofs.Plain.{plain_new}
+use Rattle.block_parser.proofs.Read.{kind_later, steps_more}
+use Rattle.block_parser.proofs.Starting.{closed-nothing}
+use Rattle.block_parser.proofs.Trees.{join-nil}
+use Rattle.block_parser.proofs.WholeLines.{Begins, begins_none, begins_line, front_bytes, front_lines, later_bytes}
+
+-- ---- a text is the bytes of its lines
+
+abbrev line_bytes : TextLine → List ℕ
+line_bytes line = line.content ++ ending_text line.ending
+
+abbrev text_of : List TextLine → List ℕ
+text_of ls = flat_map line_bytes ls
+
+first_byte : (b : ℕ) (ls : List TextLine) → text_of (in_first_line b ls) ≡ b ∷ text_of ls
+first_byte b [] = refl
+first_byte b (line ∷ others) = refl
+
+text_back : (text : List ℕ) → text_of (lines text) ≡ text
+text_back [] = refl
+text_back (b ∷ bs) = elim (cases_Bool (eqb b 10)) [
+  | inl feed ↦
+      ap text_of (cond-true (eqb b 10) _ _ feed) ∙ ap (λ xs. 10 ∷ xs) (text_back bs) ∙ ap (λ x. x ∷ bs) (sym (eqb-true b 10 feed))
+  | inr other ↦ elim (cases_Bool (eqb b 13)) [
+    | inl return ↦
+        ap text_of (cond-false (eqb b 10) _ _ other ∙ cond-true (eqb b 13) _ _ return) ∙ returned bs (text_back bs)
+        ∙ ap (λ x. x ∷ bs) (sym (eqb-true b 13 return))
+    | inr none ↦
+        ap text_of (cond-false (eqb b 10) _ _ other ∙ cond-false (eqb b 13) _ _ none) ∙ first_byte b (lines bs) ∙ ap (λ xs. b ∷ xs) (text_back bs)
+  ]
+]
+  where
+    returned : (bs : List ℕ) → text_of (lines bs) ≡ bs → text_of (after_return bs (lines bs)) ≡ 13 ∷ bs
+    returned [] h = refl
+    returned (d ∷ ds) h = elim (cases_Bool (eqb d 10)) [
+      | inl feed ↦
+          let is : lines (d ∷ ds) ≡ text_line [] (Some LineFeed) ∷ lines ds = cond-true (eqb d 10) _ _ feed in
+          ap text_of (cond-true (eqb d 10) _ _ feed) ∙ ap (λ (xs : List TextLine). 13 ∷ 10 ∷ text_of (drop 1 xs)) is
+          ∙ ap (λ xs. 13 ∷ xs) (ap text_of (sym is) ∙ h)
+      | inr other ↦ ap text_of (cond-false (eqb d 10) _ _ other) ∙ ap (λ xs. 13 ∷ xs) h
+    ]
+
+-- those of the first line come first
+first_bytes : (text rest : List ℕ) (line : TextLine) → lines text ≡ line ∷ lines rest → text ≡ line_bytes line ++ rest
+first_bytes text rest line h = sym (text_back text) ∙ ap text_of h ∙ ap (λ xs. line_bytes line ++ xs) (text_back rest)
+
+pub shorter_after : (content : List ℕ) (ending : Option LineEnding) (text rest : List ℕ) → lines text ≡ text_line content ending ∷ lines rest
+    → length rest < length text
+shorter_after [] None text rest h =
+    let same : text ≡ rest = first_bytes text rest (text_line [] None) h in
+    absurd (omega (arith, ap length h, ap (λ (x : List ℕ). length (lines x)) same))
+shorter_after [] (Some LineFeed) text rest h = let split = first_bytes text rest (text_line [] (Some LineFeed)) h in omega (arith, ap length split)
+shorter_after [] (Some CarriageReturn) text rest h =
+    let split = first_bytes text rest (text_line [] (Some CarriageReturn)) h in omega (arith, ap length split)
+shorter_after [] (Some CarriageReturnLineFeed) text rest h =
+    let split = first_bytes text rest (text_line [] (Some CarriageReturnLineFeed)) h in omega (arith, ap length split)
+shorter_after (c ∷ cs) ending text rest h =
+    let split = first_bytes text rest (text_line (c ∷ cs) ending) h in
+    omega (arith, ap length split, length-append ((c ∷ cs) ++ ending_text ending) rest)
+
+-- ---- a plain line goes on a paragraph
+
+module _ (on : Constructs) (line : TextLine) (bytes : (k : ℕ) → get_or line.content k 0 < 256) where
+  abbrev here : Beside
+  here = beside_line Whitespace line
+
+  abbrev rest : Rest
+  rest = whole line.content
+
+  line_is : rest_line rest here ≡ whole_line line
+  line_is = ap (λ (codes : List ℕ). block_line codes line.ending Whitespace) (block_codes_whole line.content bytes)
+
+  text_tree : (ls : List BlockLine) → text_line_of on (Leaf (Text ls)) rest here ≡ tree Nil (Leaf (Text (ls ++ rest_line rest here ∷ [])))
+  text_tree [] = ap (λ (bs : Blocks). tree (join bs Nil) (Leaf (Text (rest_line rest here ∷ [])))) (closed-nothing on here on.definition)
+  text_tree (l ∷ ls) = refl
+
+  plain_step : is_plain on rest ≡ true → (kids : Blocks) (ls : List BlockLine)
+      → step on Whitespace (tree kids (Leaf (Text ls))) line ≡ tree kids (Leaf (Text (ls ++ whole_line line ∷ [])))
+  plain_step plain kids ls =
+      let grown : grow on here (Leaf (Text ls)) rest ≡ tree Nil (Leaf (Text (ls ++ rest_line rest here ∷ []))) =
+      plain_new on (Leaf (Text ls)) rest here plain (length rest) true ∙ text_tree ls in
+      ap (λ (t : Tree). tree (join kids t.done) t.now) grown
+      ∙ ap (λ (bs : Blocks). tree bs (Leaf (Text (ls ++ rest_line rest here ∷ [])))) (join-nil kids)
+      ∙ ap (λ (l : BlockLine). tree kids (Leaf (Text (ls ++ l ∷ [])))) line_is
+
+-- ---- the plain lines so far, after those of a paragraph that may be open
+
+abbrev text_open : Blocks → List BlockLine → Tree
+text_open kids ls = tree kids (Leaf (Text ls))
+
+pub record PlainSoFar {A : Type 0} (on : Constructs) (text rest : List ℕ) (Old : Spine → Type 0) (new : Parser A) : Type 0 where
+  pub read : List TextLine
+  pub split : lines text ≡ read ++ lines rest
+  pub begins : Begins (map whole_line read) text rest
+  pub plain : (kids : Blocks) (ls : List BlockLine) → steps on Whitespace (text_open kids ls) read ≡ text_open kids (ls ++ map whole_line read)
+  pub reads : (kids : Blocks) (ls : List BlockLine) → Old (spine [] kids (Text ls)) → HasRead new (spine [] kids (Text (ls ++ map whole_line read)))
+
+pub plain_none : {A : Type 0} (on : Constructs) (text : List ℕ) (p : Parser A) → PlainSoFar on text text (HasRead p) p
+plain_none on text p = record {
+  read = [];
+  split = refl;
+  begins = begins_none text;
+  plain = λ kids ls. ap (text_open kids) (sym (append-nil ls));
+  reads = λ kids ls. subst (λ (xs : List BlockLine). HasRead p (spine [] kids (Text xs))) (sym (append-nil ls));
+}
+
+module _ {A : Type 0} (on : Constructs) (text rest after : List ℕ) (Old : Spine → Type 0) (mid new : Parser A) (line : TextLine)
+    (h : PlainSoFar on text rest Old mid) (first : lines rest ≡ line ∷ lines after) where
+  abbrev more : List TextLine
+  more = h.read ++ line ∷ []
+
+  split_more : lines text ≡ more ++ lines after
+  split_more = h.split ∙ ap (λ xs. h.read ++ xs) first ∙ sym (append_assoc h.read (line ∷ []) (lines after))
+
+  steps_to : (kids : Blocks) (ls : List BlockLine)
+      → steps on Whitespace (text_open kids ls) more ≡ step on Whitespace (text_open kids (ls ++ map whole_line h.read)) line
+  steps_to kids ls =
+      let t = text_open kids ls in
+      steps_more on Whitespace t h.read line
+      ∙ ap (λ kind. step on kind (steps on Whitespace t h.read) line) (kind_later h.read)
+      ∙ ap (λ (t : Tree). step on Whitespace t line) (h.plain kids ls)
+
+  content_bytes : ((k : ℕ) → get_or text k 0 < 256) → (k : ℕ) → get_or line.content k 0 < 256
+  content_bytes small =
+      let behind = later_bytes (flat_map line_text (map whole_line h.read)) rest (subst (λ (xs : List ℕ). (k : ℕ) → get_or xs k 0 < 256) h.begins.split small) in
+      let split = first_bytes rest after line first ∙ append_assoc line.content (ending_text line.ending) after in
+      front_bytes line.content (ending_text line.ending ++ after) (subst (λ (xs : List ℕ). (k : ℕ) → get_or xs k 0 < 256) split behind)
+
+  all_of : (ls : List BlockLine) → (ls ++ map whole_line h.read) ++ whole_line line ∷ [] ≡ ls ++ map whole_line more
+  all_of ls =
+      append_assoc ls (map whole_line h.read) (whole_line line ∷ []) ∙ ap (λ xs. ls ++ xs) (sym (map-append whole_line h.read (line ∷ [])))
+
+  -- one more plain line
+  pub plain_more : ((k : ℕ) → get_or text k 0 < 256) → is_plain on (whole line.content) ≡ true → (l : BlockLine)
+      → l ≡ rest_line (whole line.content) (beside_line Whitespace line)
+      → ((kids : Blocks) (ls : List BlockLine) → HasRead mid (spine [] kids (Text ls)) → HasRead new (spine [] kids (Text (ls ++ l ∷ []))))
+      → PlainSoFar on text after Old new
+  plain_more small plain l same push =
+      let bytes = content_bytes small in
+      let longer : map whole_line more ≡ map whole_line h.read ++ whole_line line ∷ [] = map-append whole_line h.read (line ∷ []) in
+      let front = first_bytes rest after line first ∙ ap (λ xs. (xs ++ ending_text line.ending) ++ after) (sym (code_bytes line.content bytes)) in
+      record {
+        read = more;
+        split = split_more;
+        begins = subst (λ ls. Begins ls text after) (sym longer)
+            (begins_line (map whole_line h.read) (whole_line line) text rest after h.begins front (refl, bytes));
+        plain = λ kids ls.
+            steps_to kids ls ∙ plain_step on line bytes plain kids (ls ++ map whole_line h.read) ∙ ap (text_open kids) (all_of ls);
+        reads = λ kids ls so_far.
+            subst (λ (xs : List BlockLine). HasRead new (spine [] kids (Text xs)))
+            (ap (λ x. (ls ++ map whole_line h.read) ++ x ∷ []) (same ∙ line_is on line bytes) ∙ all_of ls)
+            (push kids (ls ++ map whole_line h.read) (h.reads kids ls so_far));
+      }
+
+  -- the line after them
+  pub read_after : (kids : Blocks) (ls : List BlockLine)
+      → HasRead new (spine_of (step on Whitespace (text_open kids (ls ++ map whole_line h.read)) line))
+      → ReadsSome on Whitespace (text_open kids ls) text after new
+  read_after kids ls reads = record {
+    read = more;
+    some = omega (arith, length-append h.read (line ∷ []));
+    split = split_more;
+    reads = subst (λ (t : Tree). HasRead new (spine_of t)) (sym (steps_to kids ls)) reads;
+  }
+
+module _ {A : Type 0} (on : Constructs) (text rest : List ℕ) (Old : Spine → Type 0) (new : Parser A) (h : PlainSoFar on text rest Old new)
+    (kids : Blocks) (ls : List BlockLine) where
+  -- they are lines of a paragraph
+  pub plain_clean : KeepsLines on Whitespace (text_open kids ls) text → AreLines (ls ++ map whole_line h.read)
+  plain_clean keeps = subst (λ (t : Tree). AreLines (open_text t.now)) (h.plain kids ls) (keeps h.read (lines rest) (sym h.split))
+
+  -- the text before the rest has them, where they are all
+  pub plain_front : (front : List ℕ) → ls ≡ [] → front ≡ take (length text - length rest) text → KeepsLines on Whitespace (text_open kids ls) text
+      → whole_lines front ≡ ls ++ map whole_line h.read
+  plain_front front none is keeps =
+      let all : ls ++ map whole_line h.read ≡ map whole_line h.read = ap (λ (xs : List BlockLine). xs ++ map whole_line h.read) none in
+      front_lines (map whole_line h.read) text rest front h.begins is (subst AreLines all (plain_clean keeps)) ∙ sym all
+
+  -- the text ends after them
+  pub read_all : 0 < length text → length rest ≡ 0 → Old (spine [] kids (Text ls)) → ReadsSome on Whitespace (text_open kids ls) text rest new
+  read_all some none so_far = record {
+    read = h.read;
+    some = some_read h.read h.begins.split;
+    split = h.split;
+    reads = subst (λ (t : Tree). HasRead new (spine_of t)) (sym (h.plain kids ls)) (h.reads kids ls so_far);
+  }
+    where
+      some_read : (read : List TextLine) → text ≡ flat_map line_text (map whole_line read) ++ rest → 0 < length read
+      some_read [] is = absurd (omega (arith, ap length is, some, none))
+      some_read (line ∷ others) is = omega arith

@@ -1,0 +1,101 @@
+use Rattle.std.proofs.Common.{◌≡◌, ◌<◌, ◌++◌, [], ℕ, List, length, get_or, sym, ap, ◌∙◌, subst, rules, arith}
+use Rattle.std.specs.Prelude.{map, IfSome}
+use Rattle.std.specs.List.{flat_map}
+use Rattle.std.specs.Str.{IsUtf8}
+use Rattle.std.proofs.lemmas.Bool.{eqb-true, eqb-false}
+use Rattle.std.proofs.lemmas.List.{length-append, nil_from_length}
+use Rattle.std.proofs.lemmas.Option.{IfSome_then}
+use Rattle.definition_text.specs.Columns.{whole}
+use Rattle.definition_text.specs.declared.beside.Kind.TheVariants.{Whitespace}
+use Rattle.definition_text.specs.Content.{line_text}
+use Rattle.definition_text.specs.Lines.{text_line}
+use Rattle.definition_block.specs.Tree.{Blank, Leaf, Text, beside_line, close_leaf, grow, join, nothing, one, tree}
+use Rattle.block_rows.specs.Rows.{whole_line, whole_lines}
+use Rattle.block_parser.specs.Spine.{spine, spine_after}
+use Rattle.block_parser.specs.View.{HasRead}
+use Rattle.block_parser.proofs.Closing as closing
+use Rattle.block_parser.proofs.Plain.{empty_grows, none_open}
+use Rattle.block_parser.proofs.PlainLines.{plain_clean, plain_front, plain_more, plain_none, read_after, shorter_after}
+use Rattle.block_parser.proofs.WholeLines.{cut_boundary}
+use Rattle.block_parser.proofs.parser.Parser.plain_lines.Goals as goal
+
+pub loop-content-init : goal.loop-content-init
+loop-content-init g c = (c.utf8.text, plain_none c.args.on.now c.args.text.now _)
+
+pub known_front-requires-clause-boundary : goal.known_front-requires-clause-boundary
+known_front-requires-clause-boundary g c =
+    let k = c.loop-content.invariant.1 in
+    cut_boundary (map whole_line k.read) c.args.text.now c.loop-content.rest.now k.begins c.loop-content.invariant.0
+
+pub known_front-requires-clause-within : goal.known_front-requires-clause-within
+known_front-requires-clause-within g c =
+    let k = c.loop-content.invariant.1 in
+    omega (arith, ap length k.begins.split, length-append (flat_map line_text (map whole_line k.read)) c.loop-content.rest.now)
+
+pub returns-then-is_empty-clause-shorter : goal.returns-then-is_empty-clause-shorter
+returns-then-is_empty-clause-shorter g c =
+    let k = c.loop-content.invariant.1 in
+    let rest = c.loop-content.rest.now in
+    let some : 0 < length rest = omega (arith, eqb-false (length rest) 0 (sym c.is_empty.ensures ∙ c.loop-content-test.true)) in
+    let next = c.next_line-ending.result in
+    omega (
+      arith,
+      shorter_after next.0.now next.1 rest next.2.now (c.next_line-ending.ensures.rest some),
+      ap length k.begins.split,
+      length-append (flat_map line_text (map whole_line k.read)) rest,
+    )
+
+pub returns-then-is_empty-clause-read : goal.returns-then-is_empty-clause-read
+returns-then-is_empty-clause-read g c = λ kids ls keeps h.
+    let k = c.loop-content.invariant.1 in
+    let on = c.args.on.now in
+    let text = c.args.text.now in
+    let rest = c.loop-content.rest.now in
+    let next = c.next_line-ending.result in
+    let line = text_line next.0.now next.1 in
+    let all = ls ++ map whole_line k.read in
+    let some : 0 < length rest = omega (arith, eqb-false (length rest) 0 (sym c.is_empty.ensures ∙ c.loop-content-test.true)) in
+    let clean = plain_clean on text rest (HasRead c.args.self.now) c.loop-content.self k kids ls keeps in
+    let known : IfSome c.known_front.result (λ front. whole_lines front.now ≡ all) =
+    IfSome_then c.known_front.result c.known_front.ensures (λ front is.
+    plain_front on text rest (HasRead c.args.self.now) c.loop-content.self k kids ls front.now
+    (none_open ls (sym (c.has_text-goes_on.ensures (spine [] kids (Text ls)) h) ∙ is.0)) is.1 keeps) in
+    let none : next.0.now ≡ [] =
+    nil_from_length next.0.now (eqb-true (length next.0.now) 0 (sym c.is_empty-in-loop-content.ensures ∙ c.if-is_empty.true)) in
+    let shut = c.in_ok-close_text.ensures.read all clean known [] kids (k.reads kids ls h) in
+    let blank = c.in_ok-blank_line.ensures [] (join kids (close_leaf on (Text all))) shut in
+    read_after on text rest next.2.now (HasRead c.args.self.now) c.loop-content.self c.blank_line.new.self line k (c.next_line-ending.ensures.rest some) kids ls
+    (subst (λ (bs : List ℕ). HasRead c.blank_line.new.self (spine_after [] kids (grow on (beside_line Whitespace line) (Leaf (Text all)) (whole bs)))) (sym none)
+    (empty_grows on (HasRead c.loop-content.self) (HasRead c.blank_line.new.self) (beside_line Whitespace line) kids (Leaf (Text all)) tt
+    (closing.after_added on (HasRead c.blank_line.new.self) [] kids (Leaf (Text all)) (tree (one (Blank next.1)) nothing) blank)))
+
+pub returns-then-not-is_plain_line-clause-read : goal.returns-then-not-is_plain_line-clause-read
+returns-then-not-is_plain_line-clause-read g c = λ kids ls keeps h.
+    let k = c.loop-content.invariant.1 in
+    let on = c.args.on.now in
+    let text = c.args.text.now in
+    let rest = c.loop-content.rest.now in
+    let next = c.next_line-ending.result in
+    let line = text_line next.0.now next.1 in
+    let all = ls ++ map whole_line k.read in
+    let some : 0 < length rest = omega (arith, eqb-false (length rest) 0 (sym c.is_empty.ensures ∙ c.loop-content-test.true)) in
+    let clean = plain_clean on text rest (HasRead c.args.self.now) c.loop-content.self k kids ls keeps in
+    read_after on text rest next.2.now (HasRead c.args.self.now) c.loop-content.self c.any_line.new.self line k (c.next_line-ending.ensures.rest some) kids ls
+    (c.in_ok-any_line.ensures (tree kids (Leaf (Text all))) clean (k.reads kids ls h))
+
+pub loop-content-preserved : goal.loop-content-preserved
+loop-content-preserved g c =
+    let k = c.loop-content.invariant.1 in
+    let on = c.args.on.now in
+    let text = c.args.text.now in
+    let rest = c.loop-content.rest.now in
+    let next = c.next_line-ending.result in
+    let line = text_line next.0.now next.1 in
+    let some : 0 < length rest = omega (arith, eqb-false (length rest) 0 (sym c.is_empty.ensures ∙ c.loop-content-test.true)) in
+    let is_after : IsUtf8 next.2.now = search rules in
+    let small : (k : ℕ) → get_or text k 0 < 256 = λ k. omega (arith, c.type_inv.text k) in (
+      is_after,
+      plain_more on text rest next.2.now (HasRead c.args.self.now) c.loop-content.self c.push_line.new.self line k (c.next_line-ending.ensures.rest some)
+          small (sym c.is_plain_line.ensures ∙ c.if-not-is_plain_line.false) _ c.whole_piece.ensures
+          (λ kids ls reads. c.in_ok-push_line.ensures [] kids ls reads),
+    )
