@@ -59,15 +59,7 @@ pub(crate) struct Front {
 /// The text at the front: a construct starts at none of its bytes, and the byte after them is one at
 /// which a construct may start (CommonMark 6 and 6.9).
 fn text_front(has_literals: bool, bytes: &[u8]) -> Front
-    ensures within { result.size ≤ length bytes.now }
-    ensures text { (k : ℕ) → k < result.size → is_text_at (drop k (content_codes bytes.now)) ≡ true }
-    ensures plain { (k : ℕ) → k < result.size → slice_index bytes.now k ≡ 13 → ⊥ }
-    ensures bare { has_literals ≡ true → (k : ℕ) → k < result.size → may_begin (drop k bytes.now) ≡ false }
-    ensures stops { result.size < length bytes.now →
-        (is_text_at (drop result.size (content_codes bytes.now)) ≡ false) ⊎ (may_begin (drop result.size bytes.now) ≡ true) }
-    ensures ascii { result.size < length bytes.now → slice_index bytes.now result.size < 128 }
-    ensures ending { 0 < result.size → IsAfter bytes.now (drop result.size bytes.now) }
-    ensures verbatim { TellsVerbatim bytes.now result }
+    ensures { IsTextFront has_literals bytes.now result }
 {
     let stop = next_start(has_literals, bytes);
     if stop.size < bytes.len() && !is_ending(bytes[stop.size]) {

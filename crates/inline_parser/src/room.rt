@@ -1,5 +1,5 @@
 //! Room that is used again for each content.
-ghost use Rattle.std.specs.Prelude.{◌≡◌};
+ghost use Rattle.std.specs.Prelude.{◌≡◌, [], None, IfOk, string_bytes};
 ghost use Rattle.inline_parser.specs.Found.{found_rows};
 
 use crate::label::OpenLabel;
@@ -23,7 +23,12 @@ pub struct Room<A: Allocator + Clone> {
 
 impl<A: Allocator + Clone> Room<A> {
     /// Room for nothing yet.
-    pub fn new(alloc: A) -> Result<Room<A>, AllocError> {
+    pub fn new(alloc: A) -> Result<Room<A>, AllocError>
+        ensures runs { IfOk result (λ room. room.runs.items ≡ []) }
+        ensures slots { IfOk result (λ room. room.slots.items ≡ []) }
+        ensures pairing { IfOk result (λ room. room.pairing ≡ None) }
+        ensures text { IfOk result (λ room. string_bytes room.text ≡ []) }
+    {
         Ok(Room {
             runs: Vec::new(alloc.clone()?),
             slots: Vec::new(alloc.clone()?),
@@ -55,7 +60,10 @@ pub struct RowRoom<'a, A: Allocator> {
 
 impl<'a, A: Allocator + Clone> RowRoom<'a, A> {
     /// Room for nothing yet.
-    pub fn new(alloc: A) -> Result<RowRoom<'a, A>, AllocError> {
+    pub fn new(alloc: A) -> Result<RowRoom<'a, A>, AllocError>
+        ensures rows { IfOk result (λ room. room.rows.items ≡ []) }
+        ensures labels { IfOk result (λ room. room.labels.items ≡ []) }
+    {
         Ok(RowRoom {
             rows: Vec::new(alloc.clone()?),
             labels: Vec::new(alloc),
