@@ -16,12 +16,12 @@ use markdown_options::constants::{
 use text_bytes::{
     begins_with_letter, holds, is_blank, is_one_of, is_short_one_of, is_space_or_tab, without_slash,
 };
-use text_search::{ByteSet, next_of};
+use text_search::{BytePair, next_of};
 
 /// The byte with which each text ends that ends an HTML block.
-const GREATER_THAN: ByteSet = ByteSet {
-    first: [1, 0, 0, 0, 0, 0, 0, 0, 0, 0, 0, 0, 0, 0, b'>', 0],
-    second: [1, 0, 0, 0, 0, 0, 0, 0, 0, 0, 0, 0, 0, 0, 0, 0],
+const GREATER_THAN: BytePair = BytePair {
+    first: b'>',
+    second: b'>',
 };
 
 /// The kinds of HTML blocks, in the order of CommonMark 4.6.

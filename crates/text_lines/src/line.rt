@@ -8,12 +8,12 @@ ghost use Rattle.definition_text.specs.Lines.{ends_line, lines, first_line, text
 ghost use Rattle.text_lines.specs.Endings.{BeginsWithEnding};
 
 use markdown_options::LineEnding;
-use text_search::{ByteSet, next_of};
+use text_search::{BytePair, next_of};
 
 /// The bytes that begin an ending: LF and CR.
-const ENDS: ByteSet = ByteSet {
-    first: [1, 0, 0, 0, 0, 0, 0, 0, 0, 0, b'\n', 0, 0, b'\r', 0, 0],
-    second: [1, 0, 0, 0, 0, 0, 0, 0, 0, 0, 0, 0, 0, 0, 0, 0],
+const ENDS: BytePair = BytePair {
+    first: b'\n',
+    second: b'\r',
 };
 
 /// A line: its content, and its ending, which a text's last line may lack.

@@ -12,6 +12,8 @@ use Rattle.std.specs.List.{prefix_len}
 use lib.Lanes.{zip2, mask_l, top, Each1}
 use Rattle.text_search.specs.declared.set.ByteSet.{ByteSet}
 use Rattle.text_search.specs.Sets.{first_set, holds}
+use Rattle.text_search.specs.declared.pair.BytePair.{BytePair}
+use Rattle.text_search.specs.Pairs.{is_of_pair}
 use Rattle.text_search.specs.declared.class.ByteClass.{ByteClass}
 use Rattle.text_search.specs.Classes.{is_outside}
 
@@ -70,6 +72,21 @@ pub run_is : (set : ByteSet) (r : ℕ) (v fs gs : List ℕ) → length v ≡ 16 
     → gs ≡ map (λ x. get_or set.second (x % 16) 0) v
     → r ≡ first_set (mask_l (map (top 7) (zip2 bit_or (zip2 compared v fs) (zip2 compared v gs))) % 2 ^ 64) 16 → r ≡ prefix_len (λ x. not (holds set x)) v
 run_is set r v fs gs long p q is = is ∙ counted (λ x. get_or set.first (x % 16) 0) (λ x. get_or set.second (x % 16) 0) v fs gs long p q
+
+-- ---- pairs
+
+-- as many lanes of one byte
+filled : (b : ℕ) (v : List ℕ) → replicate (length v) b ≡ map (λ _. b) v
+filled b [] = refl
+filled b (x ∷ xs) = ap (λ l. b ∷ l) (filled b xs)
+
+-- the mask of the lanes whose bytes are of a pair
+pub pair_run_is : (pair : BytePair) (r : ℕ) (v : List ℕ) → length v ≡ 16
+    → r ≡ first_set (mask_l (map (top 7) (zip2 bit_or (zip2 compared v (replicate 16 pair.first)) (zip2 compared v (replicate 16 pair.second)))) % 2 ^ 64) 16
+    → r ≡ prefix_len (λ x. not (is_of_pair pair x)) v
+pair_run_is pair r v long is =
+    let lanes = λ (b : ℕ). ap (λ n. replicate n b) (sym long) ∙ filled b v in
+    is ∙ counted (λ _. pair.first) (λ _. pair.second) v (replicate 16 pair.first) (replicate 16 pair.second) long (lanes pair.first) (lanes pair.second)
 
 -- ---- classes
 

@@ -2,7 +2,11 @@
 #![tactic(auto)]
 
 pub mod class;
+pub mod pair;
+pub mod search;
 pub mod set;
 
 pub use class::{ByteClass, run_of};
-pub use set::{ByteSet, next_of};
+pub use pair::BytePair;
+pub use search::{ByteTest, next_of};
+pub use set::ByteSet;

@@ -1,5 +1,0 @@
-use Rattle.text_search.proofs.Lanes.{run_is}
-use Rattle.text_search.proofs.set.lanes_before.Goals as goal
-
-pub returns : goal.returns
-returns c = run_is c.args.set c.first_set.result c.args.lanes _ _ c.fits-lanes.0 c.by_half.ensures c.by_half-2.ensures c.first_set.ensures
