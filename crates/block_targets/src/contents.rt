@@ -1,5 +1,5 @@
 //! The contents of a document's link reference definitions (CommonMark 4.7).
-ghost use Rattle.std.specs.Prelude.{◌≡◌, ◌≤◌, ◌++◌, ◌∷◌, [], List, IfOk, OnOk, length};
+ghost use Rattle.std.specs.Prelude.{◌≡◌, ◌≤◌, ◌++◌, ◌∷◌, [], List, false, IfOk, OnOk, length};
 ghost use Rattle.std.specs.List.{list_any};
 ghost use Rattle.definition_block.specs.Blocks.{Blocks};
 ghost use Rattle.definition_inline.specs.Definition.{Definition};
@@ -34,10 +34,25 @@ pub fn definition_contents<A: Allocator + Clone>(
     }
     let mut at = 0;
     for row in rows {
-        contents.row(*row, &pieces[at..])?;
-        at += row.size();
+        at += contents.row(*row, &pieces[at..])?;
     }
     Ok(contents)
+}
+
+/// Whether a row may take lines. Most don't, and are passed by one test.
+fn takes_lines(row: Row) -> bool
+    ensures size { result ≡ false → row_size row ≡ 0 }
+    ensures other { result ≡ false → is_definition row ≡ false }
+{
+    !matches!(
+        row,
+        Row::Break
+            | Row::EnterQuote
+            | Row::EnterItem { .. }
+            | Row::Exit
+            | Row::Ending(_)
+            | Row::Blank(_)
+    )
 }
 
 /// Whether some row is a definition.
@@ -57,8 +72,22 @@ impl<A: Allocator + Clone> DefinitionContents<A> {
         })
     }
 
-    /// Reads a row. A definition takes its lines from the front of these.
-    fn row(&mut self, row: Row, lines: &[Piece<'_>]) -> Result<(), AllocError>
+    /// Reads a row. A definition takes its lines from the front of these. Answers how many a row takes.
+    fn row(&mut self, row: Row, lines: &[Piece<'_>]) -> Result<usize, AllocError>
+        requires enough { row_size row ≤ length lines.now }
+        ensures size { IfOk result (λ taken. taken ≡ row_size row) }
+        ensures read { (ds : List Definition) → HasContents self.old ds →
+            OnOk result (HasContents self.new (ds ++ row_definitions (row_value row (piece_lines lines.now)))) }
+    {
+        if !takes_lines(row) {
+            return Ok(0);
+        }
+        self.block(row, lines)?;
+        Ok(row.size())
+    }
+
+    /// Reads the row of a block. A definition takes its lines from the front of these.
+    fn block(&mut self, row: Row, lines: &[Piece<'_>]) -> Result<(), AllocError>
         requires enough { row_size row ≤ length lines.now }
         ensures read { (ds : List Definition) → HasContents self.old ds →
             OnOk result (HasContents self.new (ds ++ row_definitions (row_value row (piece_lines lines.now)))) }

@@ -1,5 +1,5 @@
 //! The labels of a document's footnote definitions (in neither standard).
-ghost use Rattle.std.specs.Prelude.{◌≡◌, ◌≤◌, ◌++◌, ◌∷◌, [], ℕ, List, true, length, IfOk, OnOk};
+ghost use Rattle.std.specs.Prelude.{◌≡◌, ◌≤◌, ◌++◌, ◌∷◌, [], ℕ, List, true, false, length, IfOk, OnOk};
 ghost use Rattle.std.specs.List.{list_any};
 ghost use Rattle.std.specs.Option.{option_map};
 ghost use Rattle.definition_text.specs.Content.{content_codes};
@@ -27,17 +27,22 @@ pub struct Footnotes<'a, A: Allocator + Clone> {
 }
 
 /// The footnote definitions among the rows of a block tree, whose blocks take their lines from
-/// `pieces`: of equal labels the first to end counts.
+/// `pieces`: of equal labels the first to end counts. `may_define` is false where it is known that
+/// there are none.
 pub fn document_footnotes<'a, A: Allocator + Clone>(
     alloc: A,
+    may_define: bool,
     rows: &[Row],
     pieces: &[Piece<'a>],
 ) -> Result<Footnotes<'a, A>, AllocError>
     requires enough { rows_size rows.now ≤ length pieces.now }
     ensures { (bs : Blocks) → (rows_value rows.now (piece_lines pieces.now)).rows ≡ rows_of bs → are_bare_rows (rows_of bs) ≡ true →
-        IfOk result (λ found. HasLabelsSoFar found (labels_so_far (footnotes bs) [])) }
+        (may_define ≡ false → footnotes bs ≡ []) → IfOk result (λ found. HasLabelsSoFar found (labels_so_far (footnotes bs) [])) }
 {
     let mut found = Footnotes::new(alloc)?;
+    if !may_define {
+        return Ok(found);
+    }
     if !has_footnotes(rows) {
         return Ok(found);
     }

@@ -101,6 +101,14 @@ starts_item row.Exit = false
 starts_item (row.Ending ending) = false
 starts_item (row.Blank ending) = false
 
+-- whether a row starts or ends a container
+abbrev pub bounds_container : Row → Bool
+bounds_container row.EnterQuote = true
+bounds_container (row.EnterItem marker number) = true
+bounds_container row.EnterFootnote = true
+bounds_container row.Exit = true
+bounds_container r = false
+
 -- what a pass has found
 abbrev pub pass_view : {A : Type 0} → Pass A → PassView
 pass_view p = pass_at p.ahead (reverse p.outer.items) (reverse p.places.items)

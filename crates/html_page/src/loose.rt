@@ -1,9 +1,10 @@
 //! Which lists are loose (CommonMark 5.3), and where they end.
-ghost use Rattle.std.specs.Prelude.{◌≡◌, List, IfOk, OnOk, reverse};
+ghost use Rattle.std.specs.Prelude.{◌≡◌, List, true, IfOk, OnOk, reverse};
 ghost use Rattle.std.specs.List.{list_any};
 ghost use Rattle.definition_text.specs.BlockLines.{BlockLine};
 ghost use Rattle.block_rows.specs.Rows.{row_value, rows_value};
-ghost use Rattle.html_page.specs.Loose.{before_block, before_ending, before_item, place_at, pass_view, pass_row, pass_item, leave, places_of, starts_item};
+ghost use Rattle.html_page.specs.Loose.{before_block, before_ending, before_item, bounds_container, place_at, pass_view, pass_row, pass_item};
+ghost use Rattle.html_page.specs.Loose.{leave, places_of, starts_item};
 
 use block_rows::Row;
 use std::alloc::{AllocError, Allocator};
@@ -93,8 +94,25 @@ struct Pass<A: Allocator> {
 }
 
 impl<A: Allocator> Pass<A> {
-    /// One row more, in front of the others.
+    /// One row more, in front of the others. Most are leaves and endings; what starts or ends a
+    /// container is kept apart, so that these need no table of jumps.
     fn row(&mut self, row: Row) -> Result<(), AllocError>
+        ensures { OnOk result ((ls : List BlockLine) → pass_view self.new ≡ pass_row (pass_view self.old) (row_value row ls)) }
+    {
+        match row {
+            Row::EnterQuote | Row::EnterItem { .. } | Row::EnterFootnote | Row::Exit => {
+                return self.bound(row);
+            }
+            Row::Ending(_) | Row::Blank(_) => self.ahead = self.ahead.before_ending(),
+            _ => self.ahead = self.ahead.before_block(),
+        }
+        Ok(())
+    }
+
+    /// The start or the end of a container.
+    #[inline(never)]
+    fn bound(&mut self, row: Row) -> Result<(), AllocError>
+        requires { bounds_container row ≡ true }
         ensures { OnOk result ((ls : List BlockLine) → pass_view self.new ≡ pass_row (pass_view self.old) (row_value row ls)) }
     {
         match row {
@@ -103,9 +121,7 @@ impl<A: Allocator> Pass<A> {
                 self.ahead = Ahead::default();
             }
             Row::EnterItem { marker, .. } => self.item(marker)?,
-            Row::EnterQuote | Row::EnterFootnote => self.ahead = self.leave().before_block(),
-            Row::Ending(_) | Row::Blank(_) => self.ahead = self.ahead.before_ending(),
-            _ => self.ahead = self.ahead.before_block(),
+            _ => self.ahead = self.leave().before_block(),
         }
         Ok(())
     }

@@ -125,7 +125,8 @@ fn page_after<'a, T: Tables, A: Allocator + Clone>(
     let ending = default_ending(text, options.compile.default_line_ending);
     let contents = definition_contents(alloc.clone()?, &blocks.rows, &blocks.pieces)?;
     let definitions = document_definitions(alloc.clone()?, &contents)?;
-    let footnotes = document_footnotes(alloc.clone()?, &blocks.rows, &blocks.pieces)?;
+    let may_define = options.parse.constructs.gfm_footnote_definition;
+    let footnotes = document_footnotes(alloc.clone()?, may_define, &blocks.rows, &blocks.pieces)?;
     let texts = Texts {
         options,
         tables,

@@ -35,13 +35,13 @@ loop-row-preserved g c =
           (ap (λ (ls : List BlockLine). flat_map row_definitions so_far.rows ++ row_definitions (row_value row ls)) at
           ∙ definitions_more so_far.rows (row_value row so_far.left)
           ∙ sym (ap (λ (s : RowsValue). flat_map row_definitions s.rows) more))
-          (c.in_ok-row.ensures.read (flat_map row_definitions so_far.rows) k.so_far);
+          (c.in_ok-at.ensures.read (flat_map row_definitions so_far.rows) k.so_far);
       left =
           ap (λ (s : RowsValue). s.left) more
           ∙ ap (drop (row_size row)) k.left
           ∙ left_more piece_line (row_size row) c.loop-row.at pieces
-          ∙ ap (λ n. piece_lines (drop (c.loop-row.at + n) pieces)) (sym c.size-at.ensures);
-      enough = omega (arith, k.enough, c.size-at.ensures, taken_more rows i (Paragraph 0) c.loop-row-test.true);
+          ∙ ap (λ n. piece_lines (drop (c.loop-row.at + n) pieces)) (sym c.in_ok-at.ensures.size);
+      enough = omega (arith, k.enough, c.in_ok-at.ensures.size, taken_more rows i (Paragraph 0) c.loop-row-test.true);
     }
 
 pub returns : goal.returns

@@ -49,7 +49,7 @@ loop-row-preserved g c =
     }
 
 pub returns : goal.returns
-returns g c = λ bs rows_are bare.
+returns g c = λ bs rows_are bare _.
     let rows = c.args.rows.now in
     let all = piece_lines c.args.pieces.now in
     let whole : take c.loop-row.row-index rows ≡ rows = take_all c.loop-row.row-index rows c.loop-row-test.false in
@@ -57,6 +57,10 @@ returns g c = λ bs rows_are bare.
     subst (HasLabelsSoFar c.loop-row.found) (ap note_rows all_rows ∙ notes_of bs [] []) (c.loop-row.invariant.so_far (ap are_bare_rows all_rows ∙ bare))
 
 pub returns-then-not-has_footnotes : goal.returns-then-not-has_footnotes
-returns-then-not-has_footnotes g c = λ bs rows_are bare.
+returns-then-not-has_footnotes g c = λ bs rows_are bare _.
     let none = no_footnotes c.args.rows.now (piece_lines c.args.pieces.now) bs (sym c.has_footnotes.ensures ∙ c.if-not-has_footnotes.true) rows_are in
     subst (λ names. HasLabelsSoFar c.in_ok-found.found (labels_so_far names [])) (sym none) c.in_ok-found.ensures
+
+pub returns-then-not-may_define : goal.returns-then-not-may_define
+returns-then-not-may_define g c = λ bs rows_are bare none.
+    subst (λ names. HasLabelsSoFar c.in_ok-found.found (labels_so_far names [])) (sym (none c.if-not-may_define.true)) c.in_ok-found.ensures

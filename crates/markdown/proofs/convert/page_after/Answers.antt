@@ -21,6 +21,7 @@ use Rattle.html_contents.specs.Texts.{KnowsTargets}
 use Rattle.html_page.specs.Printable.{ArePrintable}
 use Rattle.html_page.proofs.RowsOf.{printable_rows_of}
 use Rattle.html_page.proofs.Printable.{blocks_printable}
+use Rattle.laws_endings_page.proofs.NoFootnotes.{no_footnotes}
 use Rattle.markdown.proofs.FootnoteLabels.{bare_rows}
 use Rattle.markdown.proofs.convert.page_after.Goals as goal
 
@@ -66,7 +67,7 @@ returns g c =
     let notes = read c.deref-3.result.now c.deref-4.result.now c.deref-3.ensures.value c.deref-4.ensures.value in
     let rows = ap (λ (s : RowsValue). s.rows) c.in_ok-blocks.ensures.rows in
     let contents = c.in_ok-contents.ensures bs links in
-    let noted = c.in_ok-footnotes.ensures bs notes (bare_rows (rows_of bs) (printable_rows_of bs printable)) in
+    let noted = c.in_ok-footnotes.ensures bs notes (bare_rows (rows_of bs) (printable_rows_of bs printable)) (no_footnotes on before text) in
     let knows : KnowsTargets _ ds = record {
       has_labels = record { defined = (c.in_ok-definitions.ensures ds.definitions contents).has_labels; noted = noted.ended.has_labels };
       leads = ap (λ (ls : List LinkTexts). map link_texts_view ls) c.deref-5.ensures.value ∙ (c.in_ok-definitions.ensures ds.definitions contents).each;

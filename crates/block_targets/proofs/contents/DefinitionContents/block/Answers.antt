@@ -6,7 +6,7 @@ use Rattle.block_rows.specs.declared.row.Row.{Row}
 use Rattle.definition_inline.specs.Definition.{Definition}
 use Rattle.block_rows.specs.Rows.{Single, definition_on, definition_value, piece_line, piece_lines, row_definitions, row_value}
 use Rattle.block_targets.specs.Read.{HasContents, alone}
-use Rattle.block_targets.proofs.contents.DefinitionContents.row.Goals as goal
+use Rattle.block_targets.proofs.contents.DefinitionContents.block.Goals as goal
 
 -- a row of a definition stands for one
 one_alone : (o : Option Definition) → row_definitions (Single (definition_value o)) ≡ alone o ∷ []
