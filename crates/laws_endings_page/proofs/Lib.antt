@@ -9,6 +9,6 @@ mod GfmTable
 mod Pages
 mod Blocks
 mod Marks
-mod NoFootnotes
+pub mod NoFootnotes
 pub mod Law
 pub mod Rows

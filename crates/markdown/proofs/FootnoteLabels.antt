@@ -1,5 +1,5 @@
 -- The labels of footnote definitions that are printed have no white space.
-use Rattle.std.proofs.Common.{◌≡◌, Bool, true, not, List, [], ◌∷◌, refl}
+use Rattle.std.proofs.Common.{◌≡◌, true, not, List, [], ◌∷◌, refl}
 use Rattle.std.specs.List.{list_any}
 use Rattle.std.proofs.lemmas.Bool.{and_parts, and_from}
 use Rattle.std.proofs.lemmas.List.Elements.{All-head, All-tail}
