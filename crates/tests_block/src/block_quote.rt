@@ -1,7 +1,8 @@
 //! Block quotes (CommonMark 5.1): texts and their HTML.
+use crate::pages::assert_pages;
 use markdown::RunError;
 use std::alloc::{AllocError, Global};
-use tests_helpers::{blocks, first_wrong};
+use tests_helpers::blocks;
 
 /// Block quotes.
 const QUOTES: [(&str, &str); 35] = [
@@ -128,8 +129,7 @@ const QUOTES: [(&str, &str); 35] = [
 
 #[test]
 fn prints_quotes(rt: HostRuntime) -> Result<(), RunError> {
-    assert_eq!(rt; first_wrong(rt.alloc(), &QUOTES, &blocks())?, None);
-    Ok(())
+    assert_pages(&rt, &QUOTES, &blocks())
 }
 
 /// A text in so many quotes, and its HTML.
@@ -153,10 +153,7 @@ fn prints_a_thousand_quotes(rt: HostRuntime) -> Result<(), RunError> {
     match in_quotes(rt.alloc(), 1000) {
         Err(_) => Err(RunError::Memory),
         Ok((text, want)) => {
-            assert_eq!(rt;
-                first_wrong(rt.alloc(), &[(text.as_str(), want.as_str())], &blocks())?,
-                None
-            );
+            assert_pages(&rt, &[(text.as_str(), want.as_str())], &blocks())?;
             Ok(())
         }
     }

@@ -1,6 +1,7 @@
 //! Fenced code (CommonMark 4.5): texts and their HTML.
+use crate::pages::assert_pages;
 use markdown::RunError;
-use tests_helpers::{blocks, first_wrong};
+use tests_helpers::blocks;
 
 /// Fenced code.
 const FENCED: [(&str, &str); 1] = [(
@@ -10,6 +11,5 @@ const FENCED: [(&str, &str); 1] = [(
 
 #[test]
 fn prints_fenced_code(rt: HostRuntime) -> Result<(), RunError> {
-    assert_eq!(rt; first_wrong(rt.alloc(), &FENCED, &blocks())?, None);
-    Ok(())
+    assert_pages(&rt, &FENCED, &blocks())
 }

@@ -1,6 +1,7 @@
 //! Indented code (CommonMark 4.4): texts and their HTML.
+use crate::pages::assert_pages;
 use markdown::RunError;
-use tests_helpers::{blocks, first_wrong};
+use tests_helpers::blocks;
 
 /// Indented code.
 const INDENTED: [(&str, &str); 3] = [
@@ -14,6 +15,5 @@ const INDENTED: [(&str, &str); 3] = [
 
 #[test]
 fn prints_indented_code(rt: HostRuntime) -> Result<(), RunError> {
-    assert_eq!(rt; first_wrong(rt.alloc(), &INDENTED, &blocks())?, None);
-    Ok(())
+    assert_pages(&rt, &INDENTED, &blocks())
 }

@@ -1,8 +1,9 @@
 //! Link reference definitions (CommonMark 4.7): texts and their HTML, where links are text.
 ghost use Rattle.markdown_options.specs.Mdx.{HasNoMdx};
 
+use crate::pages::assert_pages;
 use markdown::{Options, RunError};
-use tests_helpers::{blocks, first_wrong};
+use tests_helpers::blocks;
 
 /// What a definition is.
 const DEFINITIONS: [(&str, &str); 27] = [
@@ -147,21 +148,15 @@ fn without_definitions() -> Options
 
 #[test]
 fn prints_definitions(rt: HostRuntime) -> Result<(), RunError> {
-    assert_eq!(rt; first_wrong(rt.alloc(), &DEFINITIONS, &blocks())?, None);
-    Ok(())
+    assert_pages(&rt, &DEFINITIONS, &blocks())
 }
 
 #[test]
 fn prints_what_definitions_leave(rt: HostRuntime) -> Result<(), RunError> {
-    assert_eq!(rt; first_wrong(rt.alloc(), &CUTS, &blocks())?, None);
-    Ok(())
+    assert_pages(&rt, &CUTS, &blocks())
 }
 
 #[test]
 fn prints_definitions_as_text(rt: HostRuntime) -> Result<(), RunError> {
-    assert_eq!(rt;
-        first_wrong(rt.alloc(), &TEXTS, &without_definitions())?,
-        None
-    );
-    Ok(())
+    assert_pages(&rt, &TEXTS, &without_definitions())
 }

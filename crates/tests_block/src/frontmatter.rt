@@ -1,8 +1,9 @@
 //! Frontmatter (in neither standard): texts and their HTML.
 ghost use Rattle.markdown_options.specs.Mdx.{HasNoMdx};
 
+use crate::pages::assert_pages;
 use markdown::{Options, RunError};
-use tests_helpers::{blocks, first_wrong};
+use tests_helpers::blocks;
 
 /// Frontmatter before blocks.
 const FRONTMATTER: [(&str, &str); 6] = [
@@ -31,6 +32,5 @@ fn options() -> Options
 
 #[test]
 fn leaves_frontmatter_out(rt: HostRuntime) -> Result<(), RunError> {
-    assert_eq!(rt; first_wrong(rt.alloc(), &FRONTMATTER, &options())?, None);
-    Ok(())
+    assert_pages(&rt, &FRONTMATTER, &options())
 }

@@ -1,8 +1,8 @@
 //! Tables (GFM 4.10): texts and their HTML.
 ghost use Rattle.markdown_options.specs.Mdx.{HasNoMdx};
 
+use crate::pages::assert_pages;
 use markdown::{Options, RunError};
-use tests_helpers::first_wrong;
 
 /// Heads, rows of delimiters, and cells.
 const TABLES: [(&str, &str); 25] = [
@@ -189,15 +189,10 @@ fn with_tables() -> Options
 
 #[test]
 fn prints_tables(rt: HostRuntime) -> Result<(), RunError> {
-    assert_eq!(rt; first_wrong(rt.alloc(), &TABLES, &with_tables())?, None);
-    Ok(())
+    assert_pages(&rt, &TABLES, &with_tables())
 }
 
 #[test]
 fn prints_tables_among_blocks(rt: HostRuntime) -> Result<(), RunError> {
-    assert_eq!(rt;
-        first_wrong(rt.alloc(), &AMONG_BLOCKS, &with_tables())?,
-        None
-    );
-    Ok(())
+    assert_pages(&rt, &AMONG_BLOCKS, &with_tables())
 }

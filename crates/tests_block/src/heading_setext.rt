@@ -1,6 +1,7 @@
 //! Setext headings (CommonMark 4.3): texts and their HTML.
+use crate::pages::assert_pages;
 use markdown::RunError;
-use tests_helpers::{blocks, first_wrong};
+use tests_helpers::blocks;
 
 /// Setext headings.
 const HEADINGS: [(&str, &str); 32] = [
@@ -73,6 +74,5 @@ const HEADINGS: [(&str, &str); 32] = [
 
 #[test]
 fn prints_headings(rt: HostRuntime) -> Result<(), RunError> {
-    assert_eq!(rt; first_wrong(rt.alloc(), &HEADINGS, &blocks())?, None);
-    Ok(())
+    assert_pages(&rt, &HEADINGS, &blocks())
 }

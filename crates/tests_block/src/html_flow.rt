@@ -1,6 +1,7 @@
 //! HTML blocks (CommonMark 4.6): texts and their HTML.
+use crate::pages::assert_pages;
 use markdown::RunError;
-use tests_helpers::{blocks, first_wrong};
+use tests_helpers::blocks;
 
 /// Where raw HTML is printed as text.
 const TEXT: [(&str, &str); 50] = [
@@ -328,16 +329,14 @@ const FILTERED: [(&str, &str); 6] = [
 
 #[test]
 fn prints_html_as_text(rt: HostRuntime) -> Result<(), RunError> {
-    assert_eq!(rt; first_wrong(rt.alloc(), &TEXT, &blocks())?, None);
-    Ok(())
+    assert_pages(&rt, &TEXT, &blocks())
 }
 
 #[test]
 fn prints_raw_html(rt: HostRuntime) -> Result<(), RunError> {
     let mut options = blocks();
     options.compile.allow_dangerous_html = true;
-    assert_eq!(rt; first_wrong(rt.alloc(), &RAW, &options)?, None);
-    Ok(())
+    assert_pages(&rt, &RAW, &options)
 }
 
 #[test]
@@ -345,6 +344,5 @@ fn filters_tags(rt: HostRuntime) -> Result<(), RunError> {
     let mut options = blocks();
     options.compile.allow_dangerous_html = true;
     options.compile.gfm_tagfilter = true;
-    assert_eq!(rt; first_wrong(rt.alloc(), &FILTERED, &options)?, None);
-    Ok(())
+    assert_pages(&rt, &FILTERED, &options)
 }

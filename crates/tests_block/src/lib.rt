@@ -24,6 +24,8 @@ mod list_item;
 #[cfg(test)]
 mod math_flow;
 #[cfg(test)]
+mod pages;
+#[cfg(test)]
 mod paragraph;
 #[cfg(test)]
 mod thematic_break;

@@ -1,6 +1,7 @@
 //! List items and lists (CommonMark 5.2 and 5.3): texts and their HTML.
+use crate::pages::assert_pages;
 use markdown::RunError;
-use tests_helpers::{blocks, first_wrong};
+use tests_helpers::blocks;
 
 /// Single items.
 const ITEMS: [(&str, &str); 40] = [
@@ -341,18 +342,15 @@ const NO_ITEMS: [(&str, &str); 6] = [
 
 #[test]
 fn prints_no_items(rt: HostRuntime) -> Result<(), RunError> {
-    assert_eq!(rt; first_wrong(rt.alloc(), &NO_ITEMS, &blocks())?, None);
-    Ok(())
+    assert_pages(&rt, &NO_ITEMS, &blocks())
 }
 
 #[test]
 fn prints_items(rt: HostRuntime) -> Result<(), RunError> {
-    assert_eq!(rt; first_wrong(rt.alloc(), &ITEMS, &blocks())?, None);
-    Ok(())
+    assert_pages(&rt, &ITEMS, &blocks())
 }
 
 #[test]
 fn prints_lists(rt: HostRuntime) -> Result<(), RunError> {
-    assert_eq!(rt; first_wrong(rt.alloc(), &LISTS, &blocks())?, None);
-    Ok(())
+    assert_pages(&rt, &LISTS, &blocks())
 }

@@ -1,8 +1,9 @@
 //! Math (in neither standard): texts and their HTML.
 ghost use Rattle.markdown_options.specs.Mdx.{HasNoMdx};
 
+use crate::pages::assert_pages;
 use markdown::{Options, RunError};
-use tests_helpers::{blocks, first_wrong, plain};
+use tests_helpers::{blocks, plain};
 
 /// Math among the blocks of CommonMark.
 const MATH: [(&str, &str); 7] = [
@@ -48,12 +49,10 @@ fn with_math(options: Options) -> Options
 
 #[test]
 fn prints_math(rt: HostRuntime) -> Result<(), RunError> {
-    assert_eq!(rt; first_wrong(rt.alloc(), &MATH, &with_math(blocks()))?, None);
-    Ok(())
+    assert_pages(&rt, &MATH, &with_math(blocks()))
 }
 
 #[test]
 fn prints_math_alone(rt: HostRuntime) -> Result<(), RunError> {
-    assert_eq!(rt; first_wrong(rt.alloc(), &ALONE, &with_math(plain()))?, None);
-    Ok(())
+    assert_pages(&rt, &ALONE, &with_math(plain()))
 }

@@ -1,6 +1,7 @@
 //! Paragraphs (CommonMark 4.8): texts and their HTML.
+use crate::pages::assert_pages;
 use markdown::RunError;
-use tests_helpers::{blocks, first_wrong};
+use tests_helpers::blocks;
 
 /// Paragraphs, or nothing.
 const PARAGRAPHS: [(&str, &str); 5] = [
@@ -13,6 +14,5 @@ const PARAGRAPHS: [(&str, &str); 5] = [
 
 #[test]
 fn prints_paragraphs(rt: HostRuntime) -> Result<(), RunError> {
-    assert_eq!(rt; first_wrong(rt.alloc(), &PARAGRAPHS, &blocks())?, None);
-    Ok(())
+    assert_pages(&rt, &PARAGRAPHS, &blocks())
 }

@@ -1,6 +1,7 @@
 //! Thematic breaks (CommonMark 4.1): texts and their HTML.
+use crate::pages::assert_pages;
 use markdown::RunError;
-use tests_helpers::{blocks, first_wrong};
+use tests_helpers::blocks;
 
 /// Thematic breaks.
 const BREAKS: [(&str, &str); 2] = [
@@ -13,6 +14,5 @@ const BREAKS: [(&str, &str); 2] = [
 
 #[test]
 fn prints_breaks(rt: HostRuntime) -> Result<(), RunError> {
-    assert_eq!(rt; first_wrong(rt.alloc(), &BREAKS, &blocks())?, None);
-    Ok(())
+    assert_pages(&rt, &BREAKS, &blocks())
 }

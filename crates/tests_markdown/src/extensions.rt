@@ -1,7 +1,7 @@
 //! Extensions: texts and their HTML.
 ghost use Rattle.markdown_options.specs.Mdx.{HasNoMdx};
 
-use crate::joined::first_fault;
+use crate::joined::assert_no_fault;
 use markdown::{Options, RunError};
 
 /// Runs of tildes (GFM 6.5).
@@ -260,39 +260,31 @@ pub(crate) fn extensions() -> Options
 
 #[test]
 fn strikes_text_through(rt: HostRuntime) -> Result<(), RunError> {
-    assert_eq!(rt;
-        first_fault(rt.alloc(), &STRIKETHROUGH, &extensions())?,
-        None
-    );
+    assert_no_fault(&rt, &STRIKETHROUGH, &extensions())?;
     let mut options = extensions();
     options.parse.gfm_strikethrough_single_tilde = false;
-    assert_eq!(rt; first_fault(rt.alloc(), &TWO_TILDES, &options)?, None);
-    Ok(())
+    assert_no_fault(&rt, &TWO_TILDES, &options)
 }
 
 #[test]
 fn prints_math_in_texts(rt: HostRuntime) -> Result<(), RunError> {
-    assert_eq!(rt; first_fault(rt.alloc(), &MATH_TEXT, &extensions())?, None);
+    assert_no_fault(&rt, &MATH_TEXT, &extensions())?;
     let mut options = extensions();
     options.parse.math_text_single_dollar = false;
-    assert_eq!(rt; first_fault(rt.alloc(), &TWO_DOLLARS, &options)?, None);
-    Ok(())
+    assert_no_fault(&rt, &TWO_DOLLARS, &options)
 }
 
 #[test]
 fn prints_blocks_of_math(rt: HostRuntime) -> Result<(), RunError> {
-    assert_eq!(rt; first_fault(rt.alloc(), &MATH_FLOW, &extensions())?, None);
-    Ok(())
+    assert_no_fault(&rt, &MATH_FLOW, &extensions())
 }
 
 #[test]
 fn skips_frontmatter(rt: HostRuntime) -> Result<(), RunError> {
-    assert_eq!(rt; first_fault(rt.alloc(), &FRONTMATTER, &extensions())?, None);
-    Ok(())
+    assert_no_fault(&rt, &FRONTMATTER, &extensions())
 }
 
 #[test]
 fn reads_no_extension_that_is_off(rt: HostRuntime) -> Result<(), RunError> {
-    assert_eq!(rt; first_fault(rt.alloc(), &OFF, &Options::default())?, None);
-    Ok(())
+    assert_no_fault(&rt, &OFF, &Options::default())
 }

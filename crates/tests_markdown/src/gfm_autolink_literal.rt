@@ -1,7 +1,7 @@
 //! Links with no brackets (GFM 6.9): texts and their HTML.
 ghost use Rattle.std.specs.Prelude.{◌≡◌};
 
-use crate::joined::first_fault;
+use crate::joined::assert_no_fault;
 use markdown::{Options, RunError};
 
 /// After `www.` and protocols.
@@ -270,19 +270,16 @@ pub(crate) const OFF: [(&str, &str); 4] = [
 #[test]
 fn links_literals(rt: HostRuntime) -> Result<(), RunError> {
     let options = Options::gfm();
-    assert_eq!(rt; first_fault(rt.alloc(), &LITERALS, &options)?, None);
-    Ok(())
+    assert_no_fault(&rt, &LITERALS, &options)
 }
 
 #[test]
 fn links_email_addresses(rt: HostRuntime) -> Result<(), RunError> {
     let options = Options::gfm();
-    assert_eq!(rt; first_fault(rt.alloc(), &EMAILS, &options)?, None);
-    Ok(())
+    assert_no_fault(&rt, &EMAILS, &options)
 }
 
 #[test]
 fn links_nothing_where_literals_are_off(rt: HostRuntime) -> Result<(), RunError> {
-    assert_eq!(rt; first_fault(rt.alloc(), &OFF, &Options::default())?, None);
-    Ok(())
+    assert_no_fault(&rt, &OFF, &Options::default())
 }

@@ -1,7 +1,7 @@
 //! The examples of GFM for what CommonMark lacks: texts and their HTML.
 ghost use Rattle.std.specs.Prelude.{◌≡◌};
 
-use crate::joined::first_fault;
+use crate::joined::assert_no_fault;
 use markdown::{Options, RunError};
 
 /// GFM 4.10, 5.3, 6.5 and 6.9.
@@ -134,8 +134,7 @@ pub(crate) const FILTERED: [(&str, &str); 2] = [
 #[test]
 fn prints_the_examples_of_gfm(rt: HostRuntime) -> Result<(), RunError> {
     let mut options = Options::gfm();
-    assert_eq!(rt; first_fault(rt.alloc(), &EXAMPLES, &options)?, None);
+    assert_no_fault(&rt, &EXAMPLES, &options)?;
     options.compile.allow_dangerous_html = true;
-    assert_eq!(rt; first_fault(rt.alloc(), &FILTERED, &options)?, None);
-    Ok(())
+    assert_no_fault(&rt, &FILTERED, &options)
 }

@@ -1,7 +1,7 @@
 //! Options of footnotes: prefixes, labels, the heading (in neither standard; as GitHub does): texts and their HTML.
 ghost use Rattle.std.specs.Prelude.{◌≡◌};
 
-use crate::joined::first_fault;
+use crate::joined::assert_no_fault;
 use markdown::{Options, RunError};
 
 /// With another prefix of ids.
@@ -150,32 +150,28 @@ pub(crate) const RETURNED: [(&str, &str); 2] = [
 fn takes_a_prefix(rt: HostRuntime) -> Result<(), RunError> {
     let mut options = Options::gfm();
     options.compile.gfm_footnote_clobber_prefix = Some(String::from_str(rt.alloc(), "x<")?);
-    assert_eq!(rt; first_fault(rt.alloc(), &PREFIXED, &options)?, None);
-    Ok(())
+    assert_no_fault(&rt, &PREFIXED, &options)
 }
 
 #[test]
 fn takes_no_prefix(rt: HostRuntime) -> Result<(), RunError> {
     let mut options = Options::gfm();
     options.compile.gfm_footnote_clobber_prefix = Some(String::from_str(rt.alloc(), "")?);
-    assert_eq!(rt; first_fault(rt.alloc(), &BARE, &options)?, None);
-    Ok(())
+    assert_no_fault(&rt, &BARE, &options)
 }
 
 #[test]
 fn takes_a_label(rt: HostRuntime) -> Result<(), RunError> {
     let mut options = Options::gfm();
     options.compile.gfm_footnote_label = Some(String::from_str(rt.alloc(), "Notes & more")?);
-    assert_eq!(rt; first_fault(rt.alloc(), &NAMED, &options)?, None);
-    Ok(())
+    assert_no_fault(&rt, &NAMED, &options)
 }
 
 #[test]
 fn takes_an_element(rt: HostRuntime) -> Result<(), RunError> {
     let mut options = Options::gfm();
     options.compile.gfm_footnote_label_tag_name = Some(String::from_str(rt.alloc(), "h1")?);
-    assert_eq!(rt; first_fault(rt.alloc(), &TAGGED, &options)?, None);
-    Ok(())
+    assert_no_fault(&rt, &TAGGED, &options)
 }
 
 #[test]
@@ -185,8 +181,7 @@ fn takes_attributes(rt: HostRuntime) -> Result<(), RunError> {
         rt.alloc(),
         "class=\"x\" hidden",
     )?);
-    assert_eq!(rt; first_fault(rt.alloc(), &SHOWN, &options)?, None);
-    Ok(())
+    assert_no_fault(&rt, &SHOWN, &options)
 }
 
 #[test]
@@ -196,6 +191,5 @@ fn takes_a_label_of_ways_back(rt: HostRuntime) -> Result<(), RunError> {
         rt.alloc(),
         "Zurück \"oben\"",
     )?);
-    assert_eq!(rt; first_fault(rt.alloc(), &RETURNED, &options)?, None);
-    Ok(())
+    assert_no_fault(&rt, &RETURNED, &options)
 }

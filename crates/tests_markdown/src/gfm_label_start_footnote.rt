@@ -1,7 +1,7 @@
 //! Calls of footnotes, their numbers and the section (in neither standard; as GitHub does): texts and their HTML.
 ghost use Rattle.std.specs.Prelude.{◌≡◌};
 
-use crate::joined::first_fault;
+use crate::joined::assert_no_fault;
 use markdown::{Options, RunError};
 
 /// Footnotes that are called, or are not.
@@ -488,16 +488,14 @@ pub(crate) const OFF: [(&str, &str); 2] = [
 #[test]
 fn numbers_footnotes(rt: HostRuntime) -> Result<(), RunError> {
     let options = Options::gfm();
-    assert_eq!(rt; first_fault(rt.alloc(), &CALLS, &options)?, None);
-    assert_eq!(rt; first_fault(rt.alloc(), &PLACES, &options)?, None);
-    assert_eq!(rt; first_fault(rt.alloc(), &DEFINITIONS, &options)?, None);
-    assert_eq!(rt; first_fault(rt.alloc(), &CONTENTS, &options)?, None);
-    assert_eq!(rt; first_fault(rt.alloc(), &MIXED, &options)?, None);
-    Ok(())
+    assert_no_fault(&rt, &CALLS, &options)?;
+    assert_no_fault(&rt, &PLACES, &options)?;
+    assert_no_fault(&rt, &DEFINITIONS, &options)?;
+    assert_no_fault(&rt, &CONTENTS, &options)?;
+    assert_no_fault(&rt, &MIXED, &options)
 }
 
 #[test]
 fn numbers_nothing_where_footnotes_are_off(rt: HostRuntime) -> Result<(), RunError> {
-    assert_eq!(rt; first_fault(rt.alloc(), &OFF, &Options::default())?, None);
-    Ok(())
+    assert_no_fault(&rt, &OFF, &Options::default())
 }

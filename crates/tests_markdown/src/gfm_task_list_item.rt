@@ -1,7 +1,7 @@
 //! Task list items (GFM 5.3): texts and their HTML.
 
 use crate::extensions::extensions;
-use crate::joined::first_fault;
+use crate::joined::assert_no_fault;
 use markdown::{Options, RunError};
 
 /// Task list items (GFM 5.3).
@@ -145,14 +145,12 @@ const OFF: [(&str, &str); 2] = [
 #[test]
 fn prints_checks(rt: HostRuntime) -> Result<(), RunError> {
     let mut options = extensions();
-    assert_eq!(rt; first_fault(rt.alloc(), &TASKS, &options)?, None);
+    assert_no_fault(&rt, &TASKS, &options)?;
     options.compile.gfm_task_list_item_checkable = true;
-    assert_eq!(rt; first_fault(rt.alloc(), &CHECKABLE, &options)?, None);
-    Ok(())
+    assert_no_fault(&rt, &CHECKABLE, &options)
 }
 
 #[test]
 fn prints_no_checks_that_are_off(rt: HostRuntime) -> Result<(), RunError> {
-    assert_eq!(rt; first_fault(rt.alloc(), &OFF, &Options::default())?, None);
-    Ok(())
+    assert_no_fault(&rt, &OFF, &Options::default())
 }

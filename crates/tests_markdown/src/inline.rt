@@ -1,5 +1,5 @@
 //! Inline constructs: texts and their HTML.
-use crate::joined::first_fault;
+use crate::joined::assert_no_fault;
 use markdown::{Options, RunError};
 
 /// Texts of CommonMark 6, most of them its examples.
@@ -244,11 +244,7 @@ pub(crate) const BESIDE: [(&str, &str); 15] = [
 
 #[test]
 fn prints_inline_constructs(rt: HostRuntime) -> Result<(), RunError> {
-    assert_eq!(rt;
-        first_fault(rt.alloc(), &INLINE, &Options::default())?,
-        None
-    );
-    Ok(())
+    assert_no_fault(&rt, &INLINE, &Options::default())
 }
 
 /// A byte order mark is a character of kind other before the first line.
@@ -279,27 +275,15 @@ pub(crate) const MARKED: [(&str, &str); 13] = [
 
 #[test]
 fn a_mark_is_a_character(rt: HostRuntime) -> Result<(), RunError> {
-    assert_eq!(rt;
-        first_fault(rt.alloc(), &MARKED, &Options::default())?,
-        None
-    );
-    Ok(())
+    assert_no_fault(&rt, &MARKED, &Options::default())
 }
 
 #[test]
 fn prints_references(rt: HostRuntime) -> Result<(), RunError> {
-    assert_eq!(rt;
-        first_fault(rt.alloc(), &REFERENCES, &Options::default())?,
-        None
-    );
-    Ok(())
+    assert_no_fault(&rt, &REFERENCES, &Options::default())
 }
 
 #[test]
 fn prints_inline_constructs_beside_others(rt: HostRuntime) -> Result<(), RunError> {
-    assert_eq!(rt;
-        first_fault(rt.alloc(), &BESIDE, &Options::default())?,
-        None
-    );
-    Ok(())
+    assert_no_fault(&rt, &BESIDE, &Options::default())
 }

@@ -3,6 +3,7 @@ ghost use Rattle.markdown_options.specs.Mdx.{HasNoMdx};
 
 use markdown::{Options, RunError, fits, to_html_with_options};
 use std::alloc::Global;
+use std::process::Abort;
 use tests_helpers::first_wrong;
 
 /// Whether a text is printed with another after it and an empty line between.
@@ -35,7 +36,7 @@ pub(crate) fn first_unjoined(
 }
 
 /// The first of these texts whose page isn't the one that stands beside it, or after which another of them can't stand.
-pub(crate) fn first_fault(
+fn first_fault(
     alloc: Global,
     rows: &[(&'static str, &'static str)],
     options: &Options,
@@ -46,4 +47,16 @@ pub(crate) fn first_fault(
         None => first_unjoined(alloc, rows, rows, options),
         wrong => Ok(wrong),
     }
+}
+
+/// Fails, and shows the first text, where some of these are at fault.
+pub(crate) fn assert_no_fault(
+    rt: &(impl AllocGlobal + Abort),
+    rows: &[(&'static str, &'static str)],
+    options: &Options,
+) -> Result<(), RunError>
+    requires { HasNoMdx options.now }
+{
+    assert_eq!(rt; first_fault(rt.alloc(), rows, options)?, None);
+    Ok(())
 }

@@ -1,5 +1,5 @@
 //! Memory that runs out.
-use crate::joined::first_fault;
+use crate::joined::assert_no_fault;
 use linked_list_allocator::LocalHeap;
 use markdown::{Options, RunError, fits, to_html_with_options};
 use std::io;
@@ -35,11 +35,7 @@ pub(crate) const CONTAINERS: [(&str, &str); 6] = [
 
 #[test]
 fn prints_containers(rt: HostRuntime) -> Result<(), RunError> {
-    assert_eq!(rt;
-        first_fault(rt.alloc(), &CONTAINERS, &Options::default())?,
-        None
-    );
-    Ok(())
+    assert_no_fault(&rt, &CONTAINERS, &Options::default())
 }
 
 #[test]

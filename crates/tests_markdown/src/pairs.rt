@@ -13,6 +13,7 @@ use crate::rows::{LEAVES, PLAIN};
 use crate::worked::{COMMONMARK, GFM};
 use markdown::{Options, RunError};
 use std::alloc::Global;
+use std::process::Abort;
 
 /// CommonMark with every extension.
 fn everything() -> Options
@@ -66,100 +67,109 @@ fn first_worked_apart(alloc: Global, options: &Options) -> Result<Option<&'stati
     Ok(None)
 }
 
+/// Fails, and shows the first text, where one of these and a worked one can't stand after each other.
+fn assert_none_apart(
+    rt: &(impl AllocGlobal + Abort),
+    rows: &[(&'static str, &'static str)],
+) -> Result<(), RunError> {
+    assert_eq!(rt; first_apart(rt.alloc(), rows)?, None);
+    Ok(())
+}
+
+/// The same of the worked texts.
+fn assert_no_worked_apart(
+    rt: &(impl AllocGlobal + Abort),
+    options: &Options,
+) -> Result<(), RunError>
+    requires { HasNoMdx options.now }
+{
+    assert_eq!(rt; first_worked_apart(rt.alloc(), options)?, None);
+    Ok(())
+}
+
+/// The same of every two texts of a table.
+fn assert_joined(
+    rt: &(impl AllocGlobal + Abort),
+    rows: &[(&'static str, &'static str)],
+    options: &Options,
+) -> Result<(), RunError>
+    requires { HasNoMdx options.now }
+{
+    assert_eq!(rt; first_unjoined(rt.alloc(), rows, rows, options)?, None);
+    Ok(())
+}
+
 #[test]
 fn prints_worked_texts_beside_each_other(rt: HostRuntime) -> Result<(), RunError> {
-    assert_eq!(rt; first_worked_apart(rt.alloc(), &Options::default())?, None);
-    assert_eq!(rt; first_worked_apart(rt.alloc(), &Options::gfm())?, None);
+    assert_no_worked_apart(&rt, &Options::default())?;
+    assert_no_worked_apart(&rt, &Options::gfm())?;
     let mut options = everything();
-    assert_eq!(rt; first_worked_apart(rt.alloc(), &options)?, None);
+    assert_no_worked_apart(&rt, &options)?;
     options.compile.allow_dangerous_html = true;
-    assert_eq!(rt; first_worked_apart(rt.alloc(), &options)?, None);
-    Ok(())
+    assert_no_worked_apart(&rt, &options)
 }
 
 #[test]
 fn prints_worked_texts_beside_blocks(rt: HostRuntime) -> Result<(), RunError> {
-    assert_eq!(rt; first_apart(rt.alloc(), &LEAVES)?, None);
-    assert_eq!(rt; first_apart(rt.alloc(), &CONTAINERS)?, None);
-    Ok(())
+    assert_none_apart(&rt, &LEAVES)?;
+    assert_none_apart(&rt, &CONTAINERS)
 }
 
 #[test]
 fn prints_worked_texts_beside_math(rt: HostRuntime) -> Result<(), RunError> {
-    assert_eq!(rt; first_apart(rt.alloc(), &MATH_FLOW)?, None);
-    assert_eq!(rt; first_apart(rt.alloc(), &MATH_TEXT)?, None);
-    Ok(())
+    assert_none_apart(&rt, &MATH_FLOW)?;
+    assert_none_apart(&rt, &MATH_TEXT)
 }
 
 #[test]
 fn prints_worked_texts_beside_tasks(rt: HostRuntime) -> Result<(), RunError> {
-    assert_eq!(rt; first_apart(rt.alloc(), &STRIKETHROUGH)?, None);
-    assert_eq!(rt; first_apart(rt.alloc(), &TASKS)?, None);
-    Ok(())
+    assert_none_apart(&rt, &STRIKETHROUGH)?;
+    assert_none_apart(&rt, &TASKS)
 }
 
 #[test]
 fn prints_worked_texts_beside_inline_constructs(rt: HostRuntime) -> Result<(), RunError> {
-    assert_eq!(rt; first_apart(rt.alloc(), &INLINE)?, None);
-    assert_eq!(rt; first_apart(rt.alloc(), &BESIDE)?, None);
-    Ok(())
+    assert_none_apart(&rt, &INLINE)?;
+    assert_none_apart(&rt, &BESIDE)
 }
 
 #[test]
 fn prints_worked_texts_beside_references(rt: HostRuntime) -> Result<(), RunError> {
-    assert_eq!(rt; first_apart(rt.alloc(), &REFERENCES)?, None);
-    assert_eq!(rt; first_apart(rt.alloc(), &MARKED)?, None);
-    Ok(())
+    assert_none_apart(&rt, &REFERENCES)?;
+    assert_none_apart(&rt, &MARKED)
 }
 
 #[test]
 fn prints_worked_texts_beside_literals(rt: HostRuntime) -> Result<(), RunError> {
-    assert_eq!(rt; first_apart(rt.alloc(), &LITERALS)?, None);
-    Ok(())
+    assert_none_apart(&rt, &LITERALS)
 }
 
 #[test]
 fn prints_worked_texts_beside_email_addresses(rt: HostRuntime) -> Result<(), RunError> {
-    assert_eq!(rt; first_apart(rt.alloc(), &EMAILS)?, None);
-    Ok(())
+    assert_none_apart(&rt, &EMAILS)
 }
 
 #[test]
 fn prints_worked_texts_beside_examples(rt: HostRuntime) -> Result<(), RunError> {
-    assert_eq!(rt; first_apart(rt.alloc(), &EXAMPLES)?, None);
-    Ok(())
+    assert_none_apart(&rt, &EXAMPLES)
 }
 
 #[test]
 fn prints_worked_texts_beside_footnotes(rt: HostRuntime) -> Result<(), RunError> {
-    assert_eq!(rt; first_apart(rt.alloc(), &CALLS)?, None);
-    assert_eq!(rt; first_apart(rt.alloc(), &PLACES)?, None);
-    assert_eq!(rt; first_apart(rt.alloc(), &DEFINITIONS)?, None);
-    assert_eq!(rt; first_apart(rt.alloc(), &CONTENTS)?, None);
-    assert_eq!(rt; first_apart(rt.alloc(), &MIXED)?, None);
-    Ok(())
+    assert_none_apart(&rt, &CALLS)?;
+    assert_none_apart(&rt, &PLACES)?;
+    assert_none_apart(&rt, &DEFINITIONS)?;
+    assert_none_apart(&rt, &CONTENTS)?;
+    assert_none_apart(&rt, &MIXED)
 }
 
 /// Every two texts of a table where more can be read than its own texts ask for.
 #[test]
 fn prints_every_two_texts_by_extensions(rt: HostRuntime) -> Result<(), RunError> {
     let options = extensions();
-    assert_eq!(rt;
-        first_unjoined(rt.alloc(), &LEAVES, &LEAVES, &options)?,
-        None
-    );
-    assert_eq!(rt;
-        first_unjoined(rt.alloc(), &CONTAINERS, &CONTAINERS, &options)?,
-        None
-    );
-    assert_eq!(rt;
-        first_unjoined(rt.alloc(), &INLINE, &INLINE, &options)?,
-        None
-    );
-    assert_eq!(rt;
-        first_unjoined(rt.alloc(), &BESIDE, &BESIDE, &options)?,
-        None
-    );
-    assert_eq!(rt; first_unjoined(rt.alloc(), &PLAIN, &PLAIN, &options)?, None);
-    Ok(())
+    assert_joined(&rt, &LEAVES, &options)?;
+    assert_joined(&rt, &CONTAINERS, &options)?;
+    assert_joined(&rt, &INLINE, &options)?;
+    assert_joined(&rt, &BESIDE, &options)?;
+    assert_joined(&rt, &PLAIN, &options)
 }

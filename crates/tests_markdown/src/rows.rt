@@ -1,7 +1,7 @@
 //! Texts and their HTML.
 ghost use Rattle.markdown_options.specs.Mdx.{HasNoMdx};
 
-use crate::joined::first_fault;
+use crate::joined::assert_no_fault;
 use markdown::{Builtin, Options, RunError, Watched, run};
 use std::alloc::Global;
 use tests_helpers::plain;
@@ -136,14 +136,12 @@ pub(crate) fn leaves() -> Options
 
 #[test]
 fn prints_leaf_rows(rt: HostRuntime) -> Result<(), RunError> {
-    assert_eq!(rt; first_fault(rt.alloc(), &LEAVES, &leaves())?, None);
-    Ok(())
+    assert_no_fault(&rt, &LEAVES, &leaves())
 }
 
 #[test]
 fn prints_plain_rows(rt: HostRuntime) -> Result<(), RunError> {
-    assert_eq!(rt; first_fault(rt.alloc(), &PLAIN, &plain())?, None);
-    Ok(())
+    assert_no_fault(&rt, &PLAIN, &plain())
 }
 
 #[test]

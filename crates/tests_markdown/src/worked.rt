@@ -4,10 +4,11 @@ ghost use Rattle.markdown_options.specs.Mdx.{HasNoMdx};
 use crate::devices::Short;
 use crate::extensions::FRONTMATTER;
 use crate::gfm_examples::FILTERED;
-use crate::joined::first_fault;
+use crate::joined::assert_no_fault;
 use crate::rows::PLAIN;
 use markdown::{Builtin, Options, RunError, Watched, run};
 use std::alloc::Global;
+use std::process::Abort;
 use tests_helpers::plain;
 
 /// Read by the default options.
@@ -150,45 +151,44 @@ fn first_wrong_by_bytes<'a>(
     Ok(None)
 }
 
+/// Fails, and shows the first text, where some of these are wrong.
+fn assert_pages_by_bytes(
+    rt: &(impl AllocGlobal + Abort),
+    rows: &[(&str, &str)],
+    options: &Options,
+) -> Result<(), RunError>
+    requires { HasNoMdx options.now }
+{
+    assert_eq!(rt; first_wrong_by_bytes(rt.alloc(), rows, options)?, None);
+    Ok(())
+}
+
 #[test]
 fn prints_worked_texts(rt: HostRuntime) -> Result<(), RunError> {
     let options = Options::default();
-    assert_eq!(rt; first_fault(rt.alloc(), &COMMONMARK, &options)?, None);
-    assert_eq!(rt;
-        first_wrong_by_bytes(rt.alloc(), &COMMONMARK, &options)?,
-        None
-    );
-    Ok(())
+    assert_no_fault(&rt, &COMMONMARK, &options)?;
+    assert_pages_by_bytes(&rt, &COMMONMARK, &options)
 }
 
 #[test]
 fn prints_worked_texts_of_gfm(rt: HostRuntime) -> Result<(), RunError> {
     let options = Options::gfm();
-    assert_eq!(rt; first_fault(rt.alloc(), &GFM, &options)?, None);
-    assert_eq!(rt; first_wrong_by_bytes(rt.alloc(), &GFM, &options)?, None);
-    Ok(())
+    assert_no_fault(&rt, &GFM, &options)?;
+    assert_pages_by_bytes(&rt, &GFM, &options)
 }
 
 #[test]
 fn prints_worked_texts_of_frontmatter(rt: HostRuntime) -> Result<(), RunError> {
     let mut options = Options::default();
     options.parse.constructs.frontmatter = true;
-    assert_eq!(rt; first_fault(rt.alloc(), &FRONTMATTER, &options)?, None);
-    assert_eq!(rt;
-        first_wrong_by_bytes(rt.alloc(), &FRONTMATTER, &options)?,
-        None
-    );
-    Ok(())
+    assert_no_fault(&rt, &FRONTMATTER, &options)?;
+    assert_pages_by_bytes(&rt, &FRONTMATTER, &options)
 }
 
 #[test]
 fn prints_filtered_and_plain_texts_by_bytes(rt: HostRuntime) -> Result<(), RunError> {
     let mut options = Options::gfm();
     options.compile.allow_dangerous_html = true;
-    assert_eq!(rt;
-        first_wrong_by_bytes(rt.alloc(), &FILTERED, &options)?,
-        None
-    );
-    assert_eq!(rt; first_wrong_by_bytes(rt.alloc(), &PLAIN, &plain())?, None);
-    Ok(())
+    assert_pages_by_bytes(&rt, &FILTERED, &options)?;
+    assert_pages_by_bytes(&rt, &PLAIN, &plain())
 }
