@@ -5,8 +5,8 @@ use Rattle.markdown_options.specs.declared.configuration.Constructs.{Constructs}
 use Rattle.definition_block.specs.declared.container.Container.{Container as CodeContainer}
 use Rattle.block_starts.specs.View.{container_view, container_views}
 use Rattle.definition_block.specs.Tree.{Blocks, join, OpenLeaf, Text, Opening, Leaf, Inside, Tree, close, close_leaf, after}
-use Rattle.block_parser.specs.Spine.{Level, level, Spine, spine, spine_at, spine_after, containers_of, without_innermost, without_innermost_at}
-use Rattle.block_parser.proofs.Trees.{join-assoc}
+use Rattle.block_state.specs.Spine.{Level, level, Spine, spine, spine_at, spine_after, containers_of, without_innermost, without_innermost_at}
+use Rattle.block_state.proofs.Trees.{join-assoc}
 
 -- ---- how many containers are open
 

@@ -23,9 +23,9 @@ use Rattle.block_definitions.specs.Ends.{EndsAt}
 use Rattle.block_definitions.proofs.Contents.{content_is}
 use Rattle.block_definitions.proofs.Cuts.{cut_all, cut_none, cut_one}
 use Rattle.block_parser.specs.declared.parser.Parser.{Parser}
-use Rattle.block_parser.specs.Spine.{Level, spine}
+use Rattle.block_state.specs.Spine.{Level, spine}
 use Rattle.block_parser.specs.View.{HasRead}
-use Rattle.block_parser.proofs.Trees.{join-assoc, join-nil}
+use Rattle.block_state.proofs.Trees.{join-assoc, join-nil}
 
 -- ---- whether any are cut
 

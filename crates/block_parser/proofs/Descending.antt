@@ -20,11 +20,11 @@ use Rattle.definition_block.specs.Tree.{Block, Paragraph, Heading, Break, Indent
 use Rattle.definition_block.specs.Tree.{Blocks, Nil, Cons, join, all_endings, front, trailing, Text, Indented, Fenced, OpenHtml, OpenTable, Opening, Leaf}
 use Rattle.definition_block.specs.Tree.{Inside, Tree, beside_in, grow, goes_on, new, began_blank, is_nothing, is_one_blank}
 use Rattle.block_rows.specs.Rows.{definition_on, definition_value, BlockRow, Single, rows_of}
-use Rattle.block_parser.specs.Spine.{Level, level, Spine, spine, spine_at, spine_of, spine_after, containers_of}
-use Rattle.block_parser.specs.Waits.{is_one_blank_row}
-use Rattle.block_parser.specs.Shows.{InText, InIndented, InFenced, InHtml, InTable, state_of, lone, is_nil, AreWritten}
+use Rattle.block_state.specs.Spine.{Level, level, Spine, spine, spine_at, spine_of, spine_after, containers_of}
+use Rattle.block_state.specs.Waits.{is_one_blank_row}
+use Rattle.block_state.specs.Shows.{InText, InIndented, InFenced, InHtml, InTable, state_of, lone, is_nil, AreWritten}
 use Rattle.block_parser.specs.View.{Descent, leaf_grown}
-use Rattle.block_parser.proofs.Trees.{join-nil}
+use Rattle.block_state.proofs.Trees.{join-nil}
 use Rattle.block_parser.proofs.Closing.{opening_depth, length-around, length-containers}
 
 -- ---- the container at a depth
@@ -251,6 +251,11 @@ pub no_deeper : (containers : List Container) (around : List Level) (kids : Bloc
     → containers ≡ containers_of (spine_at around kids now).around → length containers ≡ length around → opening_depth now ≡ 0
 no_deeper containers around kids now opened all =
     omega (arith, ap length opened, all, length-containers (spine_at around kids now).around, length-around around kids now)
+
+pub depth_of : (containers : List Container) (kids : Blocks) (now : Opening) → containers ≡ containers_of (spine_at [] kids now).around
+    → opening_depth now ≡ length containers
+depth_of containers kids now opened =
+    omega (arith, ap length opened, length-containers (spine_at [] kids now).around, length-around [] kids now)
 
 module _ (P Q : Spine → Type 0) (on : Constructs) (e : Beside) (r : Rest) where
   pub text_grows : (around : List Level) (kids : Blocks) (now : Opening) → opening_depth now ≡ 0 → InText ≡ state_of (spine_at around kids now).leaf

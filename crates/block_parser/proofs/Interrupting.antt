@@ -4,7 +4,7 @@ use Rattle.std.proofs.lemmas.Bool.{and_parts, eqb-true, eq-eqb}
 use Rattle.definition_block.specs.Tree.{Blocks, Opening, has_text, text_here}
 use Rattle.block_starts.specs.View.{container_views}
 use Rattle.block_parser.specs.declared.parser.Parser.{Parser}
-use Rattle.block_parser.specs.Spine.{Level, spine_at}
+use Rattle.block_state.specs.Spine.{Level, spine_at}
 use Rattle.block_parser.specs.View.{HasRead}
 use Rattle.block_parser.proofs.Closing.{opening_depth, length-around, length-containers, views_length}
 use Rattle.block_parser.proofs.Descending.{no_deeper}

@@ -20,13 +20,13 @@ use Rattle.block_rows.proofs.Pieces.{lines_from}
 use Rattle.block_rows.specs.Rows.{Single, start_row, block_rows, row_value, rows_of, rows_value, value_with, row_size, rows_size, piece_line}
 use Rattle.block_rows.specs.Rows.{piece_lines}
 use Rattle.block_parser.specs.declared.parser.Parser.{Parser}
-use Rattle.block_parser.specs.Spine.{Level, level, spine, rows_around}
-use Rattle.block_parser.specs.Waits.{enter_row, inside, outside}
+use Rattle.block_state.specs.Spine.{Level, level, spine, rows_around}
+use Rattle.block_state.specs.Waits.{enter_row, inside, outside}
 use Rattle.block_parser.specs.View.{HasRead}
-use Rattle.block_parser.specs.Shows.{LeafState, state_of, leaf_lines, lone, AreWritten, Shows}
-use Rattle.block_parser.proofs.Trees.{join-assoc, join-nil}
-use Rattle.block_parser.proofs.Shown.{left_count, left_shown}
-use Rattle.block_parser.proofs.Written.{with_block, with_ending, with_line, without_lines, with_enter, with_exit}
+use Rattle.block_state.specs.Shows.{LeafState, state_of, leaf_lines, lone, AreWritten, Shows}
+use Rattle.block_state.proofs.Trees.{join-assoc, join-nil}
+use Rattle.block_state.proofs.Shown.{left_count, left_shown}
+use Rattle.block_state.proofs.Written.{with_block, with_ending, with_line, without_lines, with_enter, with_exit}
 
 -- ---- parsers
 

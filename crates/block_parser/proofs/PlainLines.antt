@@ -21,13 +21,14 @@ use Rattle.block_rows.specs.Rows.{whole_line, whole_lines}
 use Rattle.block_starts.specs.Plain.{is_plain}
 use Rattle.text_lines.proofs.Codes.{block_codes_whole}
 use Rattle.block_parser.specs.declared.parser.Parser.{Parser}
-use Rattle.block_parser.specs.Spine.{Spine, spine, spine_of}
+use Rattle.block_state.specs.Spine.{Spine, spine, spine_of}
 use Rattle.block_parser.specs.View.{HasRead, KeepsLines, ReadsSome}
 use Rattle.block_parser.proofs.Plain.{plain_new}
 use Rattle.block_parser.proofs.Read.{kind_later, steps_more}
 use Rattle.block_parser.proofs.Starting.{closed-nothing}
-use Rattle.block_parser.proofs.Trees.{join-nil}
-use Rattle.block_parser.proofs.WholeLines.{Begins, begins_none, begins_line, front_bytes, front_lines, later_bytes}
+use Rattle.block_state.proofs.Trees.{join-nil}
+use Rattle.block_state.specs.WholeLines.{Begins}
+use Rattle.block_state.proofs.WholeLines.{begins_none, begins_line, front_bytes, front_lines, later_bytes}
 
 -- ---- a text is the bytes of its lines
 

@@ -1,5 +1,5 @@
 -- Blank lines in items and footnote definitions, which all go on.
-use Rattle.std.proofs.Common.{◌≡◌, ℕ, zero, suc, ◌+◌, ◌-◌, ◌<◌, Bool, true, false, not, List, [], ◌∷◌, ◌++◌, Some, inl, inr, refl, sym, ap, ◌∙◌, subst, length}
+use Rattle.std.proofs.Common.{◌≡◌, ℕ, zero, suc, ◌+◌, ◌-◌, ◌<◌, Bool, true, false, not, eqb, List, [], ◌∷◌, ◌++◌, Some, inl, inr, refl, sym, ap, ◌∙◌, subst, length}
 use Rattle.std.proofs.Common.{get_or, arith}
 use Rattle.std.proofs.Math.Seq.{drop-nil}
 use Rattle.std.proofs.lemmas.Bool.{cases_lt, cond-true, and_parts}
@@ -14,15 +14,20 @@ use Rattle.definition_block.specs.ContainerLine.{container_line}
 use Rattle.definition_block.specs.Containers.{continues}
 use Rattle.definition_block.specs.Tree.{Blocks, Opening, Leaf, Inside, Tree, beside_in, began_blank, is_one_blank}
 use Rattle.block_starts.specs.View.{container_view, container_views}
-use Rattle.block_parser.specs.Spine.{Level, Spine, spine_at, spine_of, containers_of}
+use Rattle.block_state.specs.Spine.{Level, Spine, spine_at, spine_of, containers_of}
 use Rattle.block_parser.specs.Quotes.{is_quote, NoQuoteFrom, NoneBeganBlank}
 use Rattle.block_parser.specs.View.{Descent}
 use Rattle.block_parser.proofs.Closing.{length-containers}
 use Rattle.block_parser.proofs.Descending.{get-append, goes_inside, and-swap}
 
-pub empty_rest : (r : Rest) → is_blank r ≡ true → 0 ≡ indent r → r ≡ []
-empty_rest [] h k = refl
-empty_rest (c ∷ cs) h k = absurd (omega (arith, k, cond-true (is_white c) (1 + indent cs) 0 (and_parts (is_white c) (is_blank cs) h).0))
+-- a blank rest is empty where it has no indent
+pub blank_empty : (r : Rest) → is_blank r ≡ true → eqb (indent r) 0 ≡ eqb (length r) 0
+blank_empty [] h = refl
+blank_empty (c ∷ cs) h = ap (λ n. eqb n 0) (cond-true (is_white c) (1 + indent cs) 0 (and_parts (is_white c) (is_blank cs) h).0)
+
+pub some_left : (r : Rest) → is_blank r ≡ false → false ≡ eqb (length r) 0
+some_left [] h = sym h
+some_left (c ∷ cs) h = refl
 
 -- ---- where the quotes end
 

@@ -9,7 +9,7 @@ use Rattle.definition_block.specs.Tree.{Tree, empty_tree, open_text, step, steps
 use Rattle.block_rows.specs.ParagraphLines.{AreLines}
 use Rattle.block_rows.proofs.OpenLines.{open_lines}
 use Rattle.block_parser.specs.declared.parser.Parser.{Parser}
-use Rattle.block_parser.specs.Spine.{spine_of}
+use Rattle.block_state.specs.Spine.{spine_of}
 use Rattle.block_parser.specs.View.{HasRead, KeepsLines, ReadsSome, kind_after_lines}
 
 pub kind_later : (ls : List TextLine) → kind_after_lines Whitespace ls ≡ Whitespace

@@ -24,9 +24,9 @@ use Rattle.definition_block.specs.Containers.{quote_or, footnote_or, starts}
 use Rattle.definition_block.specs.Tree.{Blocks, Nil, join, Opening, Inside, Tree, tree, nothing, after, has_text, leaf_line, beside_in, start, new}
 use Rattle.definition_block.specs.Tree.{with_paragraph}
 use Rattle.definition_block.specs.Definitions.{cut_into, cut_most}
-use Rattle.block_parser.specs.Spine.{Level, level, spine_at, spine_after}
+use Rattle.block_state.specs.Spine.{Level, level, spine_at, spine_after}
 use Rattle.block_parser.specs.View.{new_inside}
-use Rattle.block_parser.proofs.Trees.{choose_if, join-nil}
+use Rattle.block_state.proofs.Trees.{choose_if, join-nil}
 
 -- ---- what starts a container makes the rest shorter
 

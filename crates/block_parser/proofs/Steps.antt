@@ -24,11 +24,11 @@ use Rattle.definition_block.specs.Tree.{OpenTable, Opening, Leaf, Inside, Tree, 
 use Rattle.definition_block.specs.Tree.{has_text, is_table_leaf, has_table, makes_table, with_line, rest_line, leaf_line, leaf_tree_or, or_fence, or_html}
 use Rattle.definition_block.specs.Tree.{or_heading}
 use Rattle.definition_block.specs.Tree.{html_with, break_or_text, text_line_of, tree_or, turns, heading_if, heading_of, new}
-use Rattle.block_parser.specs.Spine.{Level, level, Spine, spine, spine_at, spine_after}
+use Rattle.block_state.specs.Spine.{Level, level, Spine, spine, spine_at, spine_after}
 use Rattle.block_parser.specs.HeadingSetext.{IsText, heading_blocks, heading_tree}
 use Rattle.block_parser.specs.GfmTable.{table_from_cut}
 use Rattle.block_parser.specs.View.{leaf_grown}
-use Rattle.block_parser.proofs.Trees.{join-nil}
+use Rattle.block_state.proofs.Trees.{join-nil}
 use Rattle.block_parser.proofs.Closing.{after_added, opening_depth}
 
 -- ---- the open leaf takes a line
@@ -269,11 +269,11 @@ pub tabled_here : (on : Constructs) (P Q : Spine → Type 0) (row : BlockLine)
     → (around : List Level) (kids : Blocks) (away : Opening) → IsText away → AreLines (open_text away) → P (spine_at around kids away)
     → Q (spine_after around kids (table_from_cut (definition_cut on (text_here away)) row))
 tabled_here on P Q row reads around kids (Leaf (Text ls)) is clean h = reads around kids ls clean h
-tabled_here on P Q row reads around kids (Leaf (Indented ls pending)) is clean h = absurd is
-tabled_here on P Q row reads around kids (Leaf (Fenced f opening ls)) is clean h = absurd is
-tabled_here on P Q row reads around kids (Leaf (OpenHtml kind ls)) is clean h = absurd is
-tabled_here on P Q row reads around kids (Leaf (OpenTable ls)) is clean h = absurd is
-tabled_here on P Q row reads around kids (Inside c inner_kids inner) is clean h = absurd is
+tabled_here on P Q row reads around kids (Leaf (Indented ls pending)) is clean h = let wrong : false ≡ true = is in cc
+tabled_here on P Q row reads around kids (Leaf (Fenced f opening ls)) is clean h = let wrong : false ≡ true = is in cc
+tabled_here on P Q row reads around kids (Leaf (OpenHtml kind ls)) is clean h = let wrong : false ≡ true = is in cc
+tabled_here on P Q row reads around kids (Leaf (OpenTable ls)) is clean h = let wrong : false ≡ true = is in cc
+tabled_here on P Q row reads around kids (Inside c inner_kids inner) is clean h = let wrong : false ≡ true = is in cc
 
 -- a paragraph becomes a heading
 pub turned_here : (on : Constructs) (P Q : Spine → Type 0) (rank : ℕ) (e : Option LineEnding)
@@ -282,8 +282,8 @@ pub turned_here : (on : Constructs) (P Q : Spine → Type 0) (rank : ℕ) (e : O
     → (around : List Level) (kids : Blocks) (away : Opening) → IsText away → AreLines (open_text away) → P (spine_at around kids away)
     → Q (spine_after around kids (tree (heading_blocks on rank (text_here away) e) nothing))
 turned_here on P Q rank e reads around kids (Leaf (Text ls)) is clean h = reads around kids ls clean h
-turned_here on P Q rank e reads around kids (Leaf (Indented ls pending)) is clean h = absurd is
-turned_here on P Q rank e reads around kids (Leaf (Fenced f opening ls)) is clean h = absurd is
-turned_here on P Q rank e reads around kids (Leaf (OpenHtml kind ls)) is clean h = absurd is
-turned_here on P Q rank e reads around kids (Leaf (OpenTable ls)) is clean h = absurd is
-turned_here on P Q rank e reads around kids (Inside c inner_kids inner) is clean h = absurd is
+turned_here on P Q rank e reads around kids (Leaf (Indented ls pending)) is clean h = let wrong : false ≡ true = is in cc
+turned_here on P Q rank e reads around kids (Leaf (Fenced f opening ls)) is clean h = let wrong : false ≡ true = is in cc
+turned_here on P Q rank e reads around kids (Leaf (OpenHtml kind ls)) is clean h = let wrong : false ≡ true = is in cc
+turned_here on P Q rank e reads around kids (Leaf (OpenTable ls)) is clean h = let wrong : false ≡ true = is in cc
+turned_here on P Q rank e reads around kids (Inside c inner_kids inner) is clean h = let wrong : false ≡ true = is in cc

@@ -1,5 +1,5 @@
 -- What an underline makes of the open paragraph.
-use Rattle.std.specs.Prelude.{ℕ, List, Option, None, Some}
+use Rattle.std.specs.Prelude.{◌≡◌, ℕ, Bool, true, false, List, Option, None, Some}
 use Rattle.markdown_options.specs.declared.configuration.Constructs.{Constructs}
 use Rattle.markdown_options.specs.declared.line_ending.LineEnding.{LineEnding}
 use Rattle.definition_block.specs.Definitions.{definition_cut}
@@ -16,11 +16,14 @@ abbrev pub heading_tree : Constructs → Option ℕ → Opening → Option LineE
 heading_tree on None away ending = None
 heading_tree on (Some rank) away ending = Some (tree (heading_blocks on rank (text_here away) ending) nothing)
 
--- no container is open, and no leaf but a paragraph
+-- whether no container is open, and no leaf but a paragraph
+abbrev pub is_text : Opening → Bool
+is_text (Leaf (Text ls)) = true
+is_text (Leaf (Indented ls pending)) = false
+is_text (Leaf (Fenced fence opening ls)) = false
+is_text (Leaf (OpenHtml kind ls)) = false
+is_text (Leaf (OpenTable ls)) = false
+is_text (Inside c kids inner) = false
+
 abbrev pub IsText : Opening → Type 0
-IsText (Leaf (Text ls)) = Unit {0}
-IsText (Leaf (Indented ls pending)) = ⊥
-IsText (Leaf (Fenced fence opening ls)) = ⊥
-IsText (Leaf (OpenHtml kind ls)) = ⊥
-IsText (Leaf (OpenTable ls)) = ⊥
-IsText (Inside c kids inner) = ⊥
+IsText away = is_text away ≡ true

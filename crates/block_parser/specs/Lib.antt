@@ -1,11 +1,5 @@
-pub mod Spine
 pub mod Quotes
-pub mod Waits
-pub mod Shows
-pub mod Leaves
 pub mod View
 pub mod HeadingSetext
 pub mod GfmTable
 pub mod Fences
-pub mod Frontmatter
-pub mod Whole

@@ -2,7 +2,7 @@
 use Rattle.std.specs.Prelude.{◌≡◌, ℕ, ◌≤◌, ◌<◌, Bool, true, false, List, length, slice_index_or}
 use Rattle.definition_block.specs.Container.{Container, Quote, Item, Footnote}
 use Rattle.definition_block.specs.Tree.{Blocks, Opening, Inside, Tree, began_blank}
-use Rattle.block_parser.specs.Spine.{Level, spine_at, spine_of}
+use Rattle.block_state.specs.Spine.{Level, spine_at, spine_of}
 
 abbrev pub is_quote : Container → Bool
 is_quote Quote = true

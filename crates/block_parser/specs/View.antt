@@ -11,9 +11,9 @@ use Rattle.block_rows.specs.ParagraphLines.{AreLines}
 use Rattle.block_rows.specs.Rows.{piece_lines}
 use Rattle.block_starts.specs.View.{container_views}
 use Rattle.block_parser.specs.declared.parser.Parser.{Parser}
-use Rattle.block_parser.specs.Leaves.{leaf_state}
-use Rattle.block_parser.specs.Spine.{Level, Spine, spine, spine_at, spine_of, spine_after}
-use Rattle.block_parser.specs.Shows.{Shows}
+use Rattle.block_state.specs.Leaves.{leaf_state}
+use Rattle.block_state.specs.Spine.{Level, Spine, spine, spine_at, spine_of, spine_after}
+use Rattle.block_state.specs.Shows.{Shows}
 
 -- what was read so far is this
 abbrev pub HasRead : {A : Type 0} → Parser A → Spine → Type 0

@@ -6,12 +6,12 @@ ghost use Rattle.block_starts.specs.View.{rest_of};
 ghost use Rattle.block_starts.specs.CodeFenced.{fence_if};
 ghost use Rattle.block_parser.specs.Fences.{opening_fence as fence_here};
 
-use crate::leaf::OpenLeaf;
 use crate::parser::{Parser, piece};
 use block_rows::{Piece, Row};
 use block_starts::Cursor;
 use block_starts::code_fenced::{Fence, fence_line, fence_start, is_fence_end};
 use block_starts::math_flow::math_start;
+use block_state::OpenLeaf;
 use definition_text::{Beside, Kind};
 use markdown_options::{Constructs, LineEnding};
 use std::alloc::{AllocError, Allocator};

@@ -5,11 +5,11 @@ ghost use Rattle.std.specs.Prelude.{◌≡◌, ◌&&◌, not};
 ghost use Rattle.definition_block.specs.CodeIndented.{starts_code_indented as has_code_indent};
 ghost use Rattle.block_starts.specs.View.{rest_of};
 
-use crate::leaf::OpenLeaf;
 use crate::parser::{NOTHING, Parser, piece};
 use block_rows::Row;
 use block_starts::Cursor;
 use block_starts::code_indented::starts_code_indented;
+use block_state::OpenLeaf;
 use definition_text::Beside;
 use markdown_options::{Constructs, LineEnding};
 use std::alloc::{AllocError, Allocator};

@@ -22,7 +22,7 @@ impl<'a, A: Allocator> Parser<'a, A> {
     ghost use Rattle.block_rows.specs.ParagraphLines.{AreLines};
     ghost use Rattle.block_rows.specs.declared.row.Row.TheVariants as row_variant;
     ghost use Rattle.block_rows.specs.Rows.{block_rows, row_value};
-    ghost use Rattle.block_parser.specs.Spine.{Level, Spine, spine};
+    ghost use Rattle.block_state.specs.Spine.{Level, Spine, spine};
     ghost use Rattle.block_parser.specs.View.{Becomes, HasRead};
 
     /// The definitions at the front of the open paragraph become rows.

@@ -12,7 +12,7 @@ impl<'a, A: Allocator> Parser<'a, A> {
     ghost use Rattle.std.specs.Prelude.{OnOk, List, ◌∷◌, []};
     ghost use Rattle.definition_block.specs.Container.{Footnote};
     ghost use Rattle.definition_block.specs.Tree as tree;
-    ghost use Rattle.block_parser.specs.Spine.{Level, level, spine};
+    ghost use Rattle.block_state.specs.Spine.{Level, level, spine};
     ghost use Rattle.block_parser.specs.View.{HasRead};
 
     /// A footnote definition starts, where no leaf is open. Its label is a line of its own.

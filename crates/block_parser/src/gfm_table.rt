@@ -9,12 +9,12 @@ ghost use Rattle.definition_text.specs.Columns.{bytes_of};
 ghost use Rattle.block_rows.specs.Rows.{piece_line, piece_lines};
 ghost use Rattle.block_starts.specs.View.{rest_of};
 
-use crate::leaf::OpenLeaf;
 use crate::parser::{Parser, piece};
 use block_cells::{has_cells, read_delimiters};
 use block_rows::{Piece, Row};
 use block_starts::Cursor;
 use block_starts::indent::is_small;
+use block_state::OpenLeaf;
 use definition_block::AlignKind;
 use definition_text::{Beside, Kind};
 use markdown_options::{Constructs, LineEnding};
@@ -31,8 +31,8 @@ impl<'a, A: Allocator> Parser<'a, A> {
     ghost use Rattle.block_rows.specs.Rows.{piece_lines};
     ghost use Rattle.block_parser.specs.GfmTable.{fits, table_from_cut, table_tree};
     ghost use Rattle.block_parser.specs.HeadingSetext.{IsText};
-    ghost use Rattle.block_parser.specs.Shows.{leaf_lines};
-    ghost use Rattle.block_parser.specs.Spine.{Level, Spine, spine_at};
+    ghost use Rattle.block_state.specs.Shows.{leaf_lines};
+    ghost use Rattle.block_state.specs.Spine.{Level, Spine, spine_at};
     ghost use Rattle.block_parser.specs.View.{Becomes, Closes, HasRead};
     ghost use Rattle.block_starts.specs.View.{rest_of};
 

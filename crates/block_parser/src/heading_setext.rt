@@ -16,7 +16,7 @@ impl<'a, A: Allocator> Parser<'a, A> {
     ghost use Rattle.definition_block.specs.Tree as tree;
     ghost use Rattle.block_rows.specs.ParagraphLines.{AreLines};
     ghost use Rattle.block_parser.specs.HeadingSetext.{IsText, heading_blocks, heading_tree};
-    ghost use Rattle.block_parser.specs.Spine.{Level, Spine, spine_at};
+    ghost use Rattle.block_state.specs.Spine.{Level, Spine, spine_at};
     ghost use Rattle.block_parser.specs.View.{Closes, HasRead};
     ghost use Rattle.block_starts.specs.View.{rest_of};
 

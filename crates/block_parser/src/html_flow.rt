@@ -8,12 +8,12 @@ ghost use Rattle.definition_block.specs.HtmlFlow as spec;
 ghost use Rattle.block_starts.specs.View.{rest_of};
 ghost use Rattle.block_starts.specs.HtmlFlow.{number_of, kind_number};
 
-use crate::leaf::OpenLeaf;
 use crate::parser::{Parser, piece};
 use block_rows::Row;
 use block_starts::Cursor;
 use block_starts::html_flow::{HtmlKind, html_ends, html_kind};
 use block_starts::indent::is_small;
+use block_state::OpenLeaf;
 use definition_text::Beside;
 use markdown_options::{Constructs, LineEnding};
 use std::alloc::{AllocError, Allocator};
@@ -23,7 +23,7 @@ impl<'a, A: Allocator> Parser<'a, A> {
     ghost use Rattle.block_starts.specs.HtmlFlow.{number_of};
     ghost use Rattle.definition_text.specs.BlockLines.{BlockLine, last_ending};
     ghost use Rattle.definition_block.specs.Tree as tree;
-    ghost use Rattle.block_parser.specs.Shows.{leaf_lines};
+    ghost use Rattle.block_state.specs.Shows.{leaf_lines};
     ghost use Rattle.block_parser.specs.View.{Becomes, Closes, leaf_grown};
     ghost use Rattle.block_starts.specs.View.{rest_of};
 

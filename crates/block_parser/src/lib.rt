@@ -4,16 +4,13 @@
 mod code_fenced;
 mod code_indented;
 mod definition;
-mod frontmatter;
 mod gfm_footnote_definition;
 mod gfm_table;
 mod heading_atx;
 mod heading_setext;
 mod html_flow;
-mod leaf;
 mod paragraph;
 mod parser;
-mod rows;
 mod thematic_break;
 
 pub use parser::{BlockRows, block_rows};

@@ -1,30 +1,24 @@
 //! Paragraphs (CommonMark 4.8).
 //!
 //!     paragraph ::= text_line+, which no other block begins, and after the first no blank one ends
-ghost use Rattle.std.specs.Prelude.{◌≡◌, ◌++◌, None, IfSome};
-ghost use Rattle.definition_text.specs.BlockLines.{spaced_line};
-ghost use Rattle.definition_text.specs.Content.{line_text};
-ghost use Rattle.definition_text.specs.Lines.{ending_text};
-ghost use Rattle.block_rows.specs.ParagraphLines.{AreLines};
-ghost use Rattle.block_rows.specs.Rows.{piece_line, piece_lines, whole_lines};
-ghost use Rattle.block_parser.specs.Whole.{IsWhole};
-ghost use Rattle.definition_text.specs.Columns.{bytes_of};
 
 use crate::definition::last_ending;
-use crate::leaf::OpenLeaf;
 use crate::parser::{NOTHING, Parser, piece};
 use block_rows::{Piece, Row};
 use block_starts::Cursor;
-use definition_text::{Beside, Kind};
+use block_state::OpenLeaf;
+use block_state::whole_lines::{first_lines, whole};
+use definition_text::Beside;
 use markdown_options::{Constructs, LineEnding};
 use std::alloc::{AllocError, Allocator};
 
 impl<'a, A: Allocator> Parser<'a, A> {
-    ghost use Rattle.std.specs.Prelude.{◌≡◌, OnOk, IfSome, List, drop, ◌++◌, ◌∷◌, []};
+    ghost use Rattle.std.specs.Prelude.{◌≡◌, OnOk, IfNone, IfSome, List, None, drop, ◌++◌, ◌∷◌, []};
     ghost use Rattle.definition_text.specs.BlockLines.{BlockLine, own_lines};
     ghost use Rattle.definition_block.specs.Tree as tree;
     ghost use Rattle.block_rows.specs.ParagraphLines.{AreLines};
-    ghost use Rattle.block_parser.specs.Spine.{Level, spine};
+    ghost use Rattle.block_state.specs.Spine.{Level, spine};
+    ghost use Rattle.block_state.specs.WholeLines.{BeginsNot};
     ghost use Rattle.block_parser.specs.View.{Closes, HasRead};
     ghost use Rattle.block_rows.specs.Rows.{piece_line, piece_lines, whole_lines};
     ghost use Rattle.block_starts.specs.View.{rest_of};
@@ -112,8 +106,10 @@ impl<'a, A: Allocator> Parser<'a, A> {
 
     /// A text that is known to be that of the lines of the open leaf, or the one that is found.
     fn text_or(&self, known: Option<&'a str>) -> Option<&'a str>
-        ensures { IfSome result (λ text. let ls = drop self.now.lines_in_rows (piece_lines self.now.pieces.items) in
+        ensures text { IfSome result (λ text. let ls = drop self.now.lines_in_rows (piece_lines self.now.pieces.items) in
             AreLines ls → IfSome known.entry (λ text. whole_lines text.now ≡ ls) → whole_lines text.now ≡ ls) }
+        ensures unknown { IfNone result (known.entry ≡ None) }
+        ensures none { IfNone result (BeginsNot (drop self.now.lines_in_rows (piece_lines self.now.pieces.items)) self.now.paragraph.now) }
     {
         match known {
             Some(text) => Some(text),
@@ -124,8 +120,9 @@ impl<'a, A: Allocator> Parser<'a, A> {
     /// The text of the lines of the open leaf, where they are the whole lines of the text from that
     /// of `paragraph` on.
     fn whole_text(&self) -> Option<&'a str>
-        ensures { IfSome result (λ text.
+        ensures text { IfSome result (λ text.
             let ls = drop self.now.lines_in_rows (piece_lines self.now.pieces.items) in AreLines ls → whole_lines text.now ≡ ls) }
+        ensures none { IfNone result (BeginsNot (drop self.now.lines_in_rows (piece_lines self.now.pieces.items)) self.now.paragraph.now) }
     {
         first_lines(self.paragraph, &self.pieces[self.lines_in_rows..])
     }
@@ -140,55 +137,5 @@ impl<'a, A: Allocator> Parser<'a, A> {
         self.pieces.truncate(self.lines_in_rows);
         self.pieces.push(whole(text))?;
         self.end_leaf(Row::WholeParagraph, ending)
-    }
-}
-
-/// The text of a paragraph as one line of it.
-fn whole<'a>(text: &'a str) -> Piece<'a>
-    ensures line { piece_line result ≡ spaced_line text.now None }
-    ensures bytes { bytes_of text.now ≡ text.now }
-{
-    Piece {
-        text,
-        owed: 0,
-        ending: None,
-        before: Kind::Whitespace,
-    }
-}
-
-/// The front of a text that these lines are, where it begins with them.
-fn first_lines<'a>(text: &'a str, pieces: &[Piece<'_>]) -> Option<&'a str>
-    ensures { IfSome result (λ front. AreLines (piece_lines pieces.now) → whole_lines front.now ≡ piece_lines pieces.now) }
-{
-    let mut rest = text;
-    for piece in pieces {
-        rest = after_line(rest, *piece)?;
-    }
-    Some(&text[..text.len() - rest.len()])
-}
-
-/// What follows a line in a text that begins with it, as a whole line.
-fn after_line<'a>(text: &'a str, piece: Piece<'_>) -> Option<&'a str>
-    ensures line { IfSome result (λ rest. text.now ≡ line_text (piece_line piece.entry) ++ rest.now) }
-    ensures whole { IfSome result (λ rest. IsWhole (piece_line piece.entry)) }
-{
-    if piece.owed != 0 {
-        return None;
-    }
-    if piece.before != Kind::Whitespace {
-        return None;
-    }
-    let after = text.strip_prefix(piece.text)?;
-    let rest = after.strip_prefix(ending_of(piece.ending))?;
-    Some(rest)
-}
-
-/// The bytes of an ending, if there is one.
-fn ending_of(ending: Option<LineEnding>) -> &'static str
-    ensures { result.now ≡ ending_text ending }
-{
-    match ending {
-        Some(ending) => ending.as_str(),
-        None => "",
     }
 }

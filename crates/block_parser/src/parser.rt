@@ -1,28 +1,27 @@
 //! Blocks, line by line (CommonMark 4, 5 and appendix, phase 1).
-ghost use Rattle.std.specs.Prelude.{◌≡◌, ◌≤◌, ◌<◌, ◌+◌, ◌-◌, true, false, ◌^◌, [], IfOk, IfSome, length, take, vec_len};
+ghost use Rattle.std.specs.Prelude.{◌≡◌, ◌≤◌, ◌<◌, ◌+◌, ◌-◌, true, false, ◌^◌, [], IfNone, IfOk, IfSome, eqb, length, take, vec_len};
 ghost use Rattle.std.specs.Str.{IsCharBoundary};
-ghost use Rattle.definition_text.specs.Columns.{whole};
-ghost use Rattle.definition_text.specs.Lines.{lines, text_line};
+ghost use Rattle.definition_text.specs.Lines.{lines};
 ghost use Rattle.definition_text.specs.declared.beside.Kind.TheVariants.{Whitespace};
-ghost use Rattle.definition_block.specs.Tree.{beside_line, blocks, children, rest_line};
+ghost use Rattle.definition_block.specs.Tree.{blocks, children, rest_line};
 ghost use Rattle.block_rows.specs.Rows.{rows_size, piece_line, piece_lines, rows_of, rows_value, value_with};
 ghost use Rattle.block_starts.specs.View.{rest_of, container_view, container_views};
 ghost use Rattle.block_parser.specs.Quotes.{NoQuoteFrom, is_quote};
-ghost use Rattle.block_parser.specs.Leaves.{lines_needed};
+ghost use Rattle.block_state.specs.Leaves.{lines_needed};
 
 use crate::code_fenced::opening_fence;
 use crate::code_indented::begins_code;
 use crate::definition::last_ending;
-use crate::frontmatter::without_frontmatter;
 use crate::html_flow::html_start;
-use crate::leaf::OpenLeaf;
-use crate::rows::Rows;
 use block_rows::{Piece, Row};
 use block_starts::Cursor;
 use block_starts::container::{continues, starts};
+use block_starts::frontmatter::without_frontmatter;
 use block_starts::heading_atx::heading_atx;
 use block_starts::plain::{is_plain, is_plain_line};
 use block_starts::thematic_break::is_break;
+use block_state::whole_lines::whole_piece;
+use block_state::{OpenLeaf, Rows};
 use definition_block::{AlignKind, Container};
 use definition_text::{Beside, Kind};
 use markdown_options::{Constructs, LineEnding};
@@ -71,15 +70,15 @@ impl<'a, A: Allocator> Parser<'a, A> {
     ghost use Rattle.definition_block.specs.Tree as tree;
     ghost use Rattle.block_rows.specs.ParagraphLines.{AreLines};
     ghost use Rattle.block_rows.specs.Rows.{block_rows, row_value, row_size};
-    ghost use Rattle.block_parser.specs.HeadingSetext.{IsText};
-    ghost use Rattle.block_parser.specs.Spine.{Level, Spine, level, spine, spine_at, spine_of, without_innermost};
+    ghost use Rattle.block_parser.specs.HeadingSetext.{is_text};
+    ghost use Rattle.block_state.specs.Spine.{Level, Spine, level, spine, spine_at, spine_of, without_innermost};
     ghost use Rattle.block_parser.specs.Quotes.{NoQuoteFrom, NoneBeganBlank};
-    ghost use Rattle.block_parser.specs.Shows.{leaf_lines};
+    ghost use Rattle.block_state.specs.Shows.{leaf_lines};
     ghost use Rattle.block_parser.specs.View.{Becomes, Closes, HasRead, Adds, Grows, Descent, IsEntered, KeepsLines, ReadsSome};
     ghost use Rattle.definition_text.specs.declared.beside.Kind.TheVariants.{Whitespace};
     ghost use Rattle.definition_block.specs.Container.{Container as Holder};
     ghost use Rattle.definition_text.specs.BlockLines.{BlockLine, last_ending};
-    ghost use Rattle.block_parser.specs.Waits.{enter_row};
+    ghost use Rattle.block_state.specs.Waits.{enter_row};
     ghost use Rattle.std.specs.Prelude.{◌≤◌, ◌<◌, ◌+◌, ◌-◌, ◌∷◌, ◌++◌, [], length, vec_len, take, drop};
     ghost use Rattle.block_starts.specs.View.{rest_of, container_view, container_views};
 
@@ -149,7 +148,7 @@ impl<'a, A: Allocator> Parser<'a, A> {
 
     /// Whether no container is open, and no leaf but a paragraph.
     fn is_alone(&self) -> bool
-        ensures { result ≡ true → (t : tree.Tree) → HasRead self.now (spine_of t) → IsText t.now }
+        ensures { (t : tree.Tree) → HasRead self.now (spine_of t) → result ≡ is_text t.now }
     {
         match self.leaf {
             OpenLeaf::Text => self.open.is_empty(),
@@ -530,7 +529,7 @@ impl<'a, A: Allocator> Parser<'a, A> {
 
 /// Whether nothing is left of a line.
 fn is_empty(rest: Cursor<'_>) -> bool
-    ensures { result ≡ true → rest_of rest.entry ≡ [] }
+    ensures { result ≡ eqb (length (rest_of rest.entry)) 0 }
 {
     rest.is_blank() && rest.indent() == 0
 }
@@ -572,23 +571,12 @@ pub(crate) fn piece<'a>(rest: Cursor<'a>, beside: Beside) -> Piece<'a>
     }
 }
 
-/// The line of a block that a whole line is, after the ending of another.
-fn whole_piece<'a>(content: &'a str, ending: Option<LineEnding>) -> Piece<'a>
-    ensures { piece_line result ≡ rest_line (whole content.now) (beside_line Whitespace (text_line content.now ending)) }
-{
-    Piece {
-        text: content,
-        owed: 0,
-        ending,
-        before: Kind::Whitespace,
-    }
-}
-
 /// What stands before a rest of a text, unless a paragraph goes on there.
 fn known_front<'a>(goes_on: bool, text: &'a str, rest: &str) -> Option<&'a str>
     requires boundary { IsCharBoundary text.now (length text.now - length rest.now) }
     requires within { length rest.now ≤ length text.now }
-    ensures { IfSome result (λ front. (goes_on ≡ false) × (front.now ≡ take (length text.now - length rest.now) text.now)) }
+    ensures front { IfSome result (λ front. (goes_on ≡ false) × (front.now ≡ take (length text.now - length rest.now) text.now)) }
+    ensures none { IfNone result (goes_on ≡ true) }
 {
     if goes_on {
         return None;

@@ -3,6 +3,7 @@ pub mod Labels
 pub mod View
 pub mod ListItem
 pub mod GfmFootnoteDefinition
+pub mod Frontmatter
 pub mod HeadingAtx
 pub mod CodeFenced
 pub mod HtmlFlow

@@ -7,6 +7,7 @@ pub mod code_indented;
 pub mod container;
 pub mod container_line;
 pub mod cursor;
+pub mod frontmatter;
 pub mod gfm_footnote_definition;
 pub mod heading_atx;
 pub mod heading_setext;

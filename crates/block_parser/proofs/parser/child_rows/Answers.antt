@@ -8,7 +8,7 @@ use Rattle.definition_block.specs.Tree.{steps, empty_tree, join, close, blocks_a
 use Rattle.block_rows.specs.Rows.{piece_lines, rows_of, rows_value, value_with}
 use Rattle.block_rows.proofs.OpenLines.{open_lines}
 use Rattle.block_parser.proofs.Read.{keeps_lines, read_more}
-use Rattle.block_parser.proofs.Written.{settled}
+use Rattle.block_state.proofs.Written.{settled}
 use Rattle.block_parser.proofs.parser.child_rows.Goals as goal
 
 pub loop-left-preserved : goal.loop-left-preserved

@@ -12,7 +12,7 @@ use Rattle.block_starts.specs.HtmlFlow.{number_of, kind_number}
 use Rattle.definition_block.specs.Definitions.{definition_cut}
 use Rattle.block_parser.specs.HeadingSetext.{heading_blocks, heading_tree}
 use Rattle.block_parser.specs.GfmTable.{table_from_cut, table_tree}
-use Rattle.block_parser.specs.Spine.{spine_at, spine_after}
+use Rattle.block_state.specs.Spine.{spine_at, spine_after}
 use Rattle.block_parser.specs.View.{HasRead}
 use Rattle.block_parser.proofs.Steps as steps
 use Rattle.block_parser.proofs.Closing as closing

@@ -7,8 +7,8 @@ use Rattle.definition_block.specs.Tree.{beside_line, new, grow, leaf_text}
 use Rattle.block_starts.specs.View.{rest_of, container_views}
 use Rattle.block_starts.specs.CodeFenced.{fence_view}
 use Rattle.block_starts.specs.HtmlFlow.{number_of}
-use Rattle.block_parser.specs.Spine.{Spine, spine_after}
-use Rattle.block_parser.specs.Leaves.{leaf_state}
+use Rattle.block_state.specs.Spine.{Spine, spine_after}
+use Rattle.block_state.specs.Leaves.{leaf_state}
 use Rattle.block_parser.specs.View.{HasRead}
 use Rattle.block_parser.proofs.Closing as closing
 use Rattle.block_parser.proofs.Descending as descending

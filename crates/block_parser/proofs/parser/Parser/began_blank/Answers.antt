@@ -3,12 +3,12 @@ use Rattle.definition_block.specs.Tree.{Leaf, Inside}
 use Rattle.definition_block.specs.Tree.{is_nothing}
 use Rattle.block_rows.specs.Rows.{piece_lines}
 use Rattle.block_starts.specs.View.{container_views}
-use Rattle.block_parser.specs.Spine.{spine_at}
-use Rattle.block_parser.specs.Shows.{leaf_lines}
+use Rattle.block_state.specs.Spine.{spine_at}
+use Rattle.block_state.specs.Shows.{leaf_lines}
 use Rattle.block_parser.proofs.Closing as closing
 use Rattle.block_parser.proofs.Descending as descending
 use Rattle.std.proofs.lemmas.Bool.{eq-eqb, ne_eqb}
-use Rattle.block_parser.specs.Waits.{is_one_blank_row}
+use Rattle.block_state.specs.Waits.{is_one_blank_row}
 use Rattle.block_parser.proofs.parser.Parser.began_blank.Goals as goal
 
 pub returns-then-depth-len : goal.returns-then-depth-len

@@ -4,11 +4,11 @@ use Rattle.std.proofs.lemmas.Result.{on_ok_weaker}
 use Rattle.definition_text.specs.BlockLines.{BlockLine, own_lines}
 use Rattle.definition_block.specs.Tree.{Blocks, Paragraph, Text, join, paragraph_of}
 use Rattle.block_rows.specs.Rows.{piece_lines, piece_line}
-use Rattle.block_parser.specs.Spine.{Level, spine}
+use Rattle.block_state.specs.Spine.{Level, spine}
 use Rattle.block_parser.specs.View.{HasRead}
 use Rattle.block_parser.proofs.GfmTableLemmas.{paragraph_some}
 use Rattle.block_parser.proofs.Leaves as leaves
-use Rattle.block_parser.proofs.Trees.{join-nil}
+use Rattle.block_state.proofs.Trees.{join-nil}
 use Rattle.block_parser.proofs.parser.Parser.close_before_head.Goals as goal
 
 pub returns-then-count-le1-clause-read : goal.returns-then-count-le1-clause-read

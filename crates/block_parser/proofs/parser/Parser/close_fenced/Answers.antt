@@ -4,8 +4,8 @@ use Rattle.std.proofs.lemmas.Result.{on_ok_weaker}
 use Rattle.markdown_options.specs.declared.line_ending.LineEnding.{LineEnding}
 use Rattle.definition_block.specs.Tree.{FencedCode, block_and_ending, join, Text, Fenced}
 use Rattle.block_rows.specs.Rows.{piece_lines, piece_line, Single}
-use Rattle.block_parser.specs.Spine.{spine}
-use Rattle.block_parser.specs.Shows.{leaf_lines}
+use Rattle.block_state.specs.Spine.{spine}
+use Rattle.block_state.specs.Shows.{leaf_lines}
 use Rattle.block_parser.specs.View.{HasRead}
 use Rattle.block_parser.proofs.Leaves as leaves
 use Rattle.block_parser.proofs.parser.Parser.close_fenced.Goals as goal

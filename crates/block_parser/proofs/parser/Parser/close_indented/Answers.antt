@@ -5,7 +5,7 @@ use Rattle.block_rows.specs.declared.row.Piece.{Piece}
 use Rattle.definition_block.specs.Tree.{join, Indented, close_leaf}
 use Rattle.block_rows.specs.Rows.{piece_lines}
 use Rattle.block_starts.specs.View.{container_views}
-use Rattle.block_parser.specs.Leaves.{leaf_state}
+use Rattle.block_state.specs.Leaves.{leaf_state}
 use Rattle.block_parser.proofs.Leaves as leaves
 use Rattle.std.proofs.lemmas.List.{length-drop}
 use Rattle.block_parser.proofs.parser.Parser.close_indented.Goals as goal

@@ -7,9 +7,9 @@ use Rattle.definition_block.specs.Tree.{Blocks, join, OpenLeaf, Text, Indented, 
 use Rattle.block_rows.specs.ParagraphLines.{AreLines}
 use Rattle.block_starts.specs.CodeFenced.{fence_view}
 use Rattle.block_starts.specs.HtmlFlow.{number_of}
-use Rattle.block_parser.specs.Spine.{Level, spine}
-use Rattle.block_parser.specs.Shows.{InText, InIndented, InFenced, InHtml, InTable, state_of}
-use Rattle.block_parser.specs.Leaves.{leaf_state}
+use Rattle.block_state.specs.Spine.{Level, spine}
+use Rattle.block_state.specs.Shows.{InText, InIndented, InFenced, InHtml, InTable, state_of}
+use Rattle.block_state.specs.Leaves.{leaf_state}
 use Rattle.block_parser.specs.View.{HasRead}
 use Rattle.block_parser.proofs.parser.Parser.close_leaf.Goals as goal
 

@@ -2,10 +2,10 @@ use Rattle.std.proofs.Common.{[], sym, subst}
 use Rattle.std.proofs.lemmas.Result.{on_ok_weaker}
 use Rattle.definition_block.specs.Tree.{Blocks, Text, join, paragraph_of, with_paragraph}
 use Rattle.definition_block.specs.Definitions.{DefinitionCut, definition_cut}
-use Rattle.block_parser.specs.Spine.{spine}
+use Rattle.block_state.specs.Spine.{spine}
 use Rattle.block_parser.specs.View.{HasRead}
 use Rattle.block_parser.proofs.DefinitionLemmas.{cut_clean}
-use Rattle.block_parser.proofs.Trees.{join-assoc}
+use Rattle.block_state.proofs.Trees.{join-assoc}
 use Rattle.block_parser.proofs.parser.Parser.close_lines.Goals as goal
 
 pub returns-then-not-may_define-clause-read : goal.returns-then-not-may_define-clause-read

@@ -8,9 +8,9 @@ use Rattle.definition_block.specs.Tree.{Blocks, Paragraph, block_and_ending, joi
 use Rattle.block_rows.specs.ParagraphLines.{AreLines}
 use Rattle.block_rows.specs.Rows.{piece_lines, piece_line, Single, whole_lines}
 use Rattle.block_parser.specs.declared.parser.Parser.{Parser}
-use Rattle.block_parser.specs.Spine.{Level, spine}
+use Rattle.block_state.specs.Spine.{Level, spine}
 use Rattle.block_parser.specs.View.{HasRead}
-use Rattle.block_parser.proofs.Trees.{join-nil}
+use Rattle.block_state.proofs.Trees.{join-nil}
 use Rattle.block_parser.proofs.Leaves as leaves
 use Rattle.block_parser.proofs.parser.Parser.close_paragraph.Goals as goal
 

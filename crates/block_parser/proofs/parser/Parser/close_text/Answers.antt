@@ -3,11 +3,11 @@ use Rattle.definition_text.specs.BlockLines.{BlockLine}
 use Rattle.definition_text.specs.declared.beside.Beside.{Beside}
 use Rattle.definition_text.specs.declared.beside.Kind.TheVariants.{Whitespace}
 use Rattle.definition_block.specs.Tree.{Blocks, Text, close_leaf, join}
-use Rattle.block_parser.specs.Spine.{spine}
+use Rattle.block_state.specs.Spine.{spine}
 use Rattle.block_parser.specs.View.{HasRead}
 use Rattle.block_parser.proofs.Plain.{none_open}
 use Rattle.block_parser.proofs.Starting.{closed-nothing}
-use Rattle.block_parser.proofs.Trees.{join-nil}
+use Rattle.block_state.proofs.Trees.{join-nil}
 use Rattle.block_parser.proofs.parser.Parser.close_text.Goals as goal
 
 pub returns-then-not-has_text-clause-read : goal.returns-then-not-has_text-clause-read

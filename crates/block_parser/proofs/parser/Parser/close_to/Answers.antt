@@ -1,6 +1,6 @@
 use Rattle.std.proofs.Common.{◌≡◌, ◌-◌, sym, ap, ◌∙◌, subst, refl, length, arith}
 use Rattle.block_rows.specs.ParagraphLines.{AreLines}
-use Rattle.block_parser.specs.Spine.{spine_at}
+use Rattle.block_state.specs.Spine.{spine_at}
 use Rattle.block_parser.specs.View.{HasRead}
 use Rattle.block_parser.proofs.Closing as closing
 use Rattle.block_parser.proofs.Steps.{text_at}

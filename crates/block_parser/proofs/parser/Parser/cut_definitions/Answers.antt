@@ -6,11 +6,11 @@ use Rattle.block_rows.specs.ParagraphLines.{AreLines}
 use Rattle.definition_text.specs.BlockLines.{BlockLine, own_lines}
 use Rattle.definition_block.specs.Tree.{Blocks, Definition, Text, join}
 use Rattle.definition_block.specs.Definitions.{DefinitionCut}
-use Rattle.block_parser.specs.Spine.{spine}
+use Rattle.block_state.specs.Spine.{spine}
 use Rattle.block_parser.specs.View.{HasRead}
 use Rattle.block_parser.proofs.DefinitionLemmas.{Cutting, none_yet, ends_as, row_of_definition, one_more, all_cut}
 use Rattle.block_parser.proofs.Leaves as leaves
-use Rattle.block_parser.proofs.Trees.{join-nil}
+use Rattle.block_state.proofs.Trees.{join-nil}
 use Rattle.block_parser.proofs.parser.Parser.cut_definitions.Goals as goal
 
 pub returns-then-not-may_define-clause-read : goal.returns-then-not-may_define-clause-read

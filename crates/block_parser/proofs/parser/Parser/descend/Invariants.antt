@@ -1,6 +1,6 @@
 use Rattle.definition_block.specs.Tree.{Tree}
 use Rattle.block_starts.specs.View.{rest_of}
-use Rattle.block_parser.specs.Spine.{spine_of}
+use Rattle.block_state.specs.Spine.{spine_of}
 use Rattle.block_parser.specs.View.{HasRead, Descent}
 use Rattle.block_parser.proofs.parser.Parser.descend.Given as goal
 

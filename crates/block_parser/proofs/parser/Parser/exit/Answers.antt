@@ -3,9 +3,9 @@ use Rattle.std.proofs.lemmas.List.{length-append}
 use Rattle.definition_block.specs.Tree.{Blocks, OpenLeaf}
 use Rattle.block_rows.specs.Rows.{piece_lines}
 use Rattle.block_starts.specs.View.{container_view, container_views}
-use Rattle.block_parser.specs.Spine.{Level, spine, without_innermost_at}
-use Rattle.block_parser.specs.Shows.{leaf_lines, Shows}
-use Rattle.block_parser.specs.Leaves.{leaf_state}
+use Rattle.block_state.specs.Spine.{Level, spine, without_innermost_at}
+use Rattle.block_state.specs.Shows.{leaf_lines, Shows}
+use Rattle.block_state.specs.Leaves.{leaf_state}
 use Rattle.block_parser.specs.View.{HasRead}
 use Rattle.block_parser.proofs.Leaves as leaves
 use Rattle.block_parser.proofs.Closing as closing

@@ -8,11 +8,11 @@ use Rattle.block_rows.specs.Rows.{piece_lines, piece_line, Single}
 use Rattle.block_rows.proofs.OwnLines.{last_ending_or-more}
 use Rattle.block_starts.specs.View.{rest_of, container_views}
 use Rattle.block_starts.specs.CodeFenced.{fence_view}
-use Rattle.block_parser.specs.Spine.{spine, spine_after}
-use Rattle.block_parser.specs.Shows.{InFenced, leaf_lines, Shows}
-use Rattle.block_parser.specs.Leaves.{leaf_state}
+use Rattle.block_state.specs.Spine.{spine, spine_after}
+use Rattle.block_state.specs.Shows.{InFenced, leaf_lines, Shows}
+use Rattle.block_state.specs.Leaves.{leaf_state}
 use Rattle.block_parser.specs.View.{HasRead}
-use Rattle.block_parser.proofs.Trees.{join-nil}
+use Rattle.block_state.proofs.Trees.{join-nil}
 use Rattle.block_parser.proofs.Leaves as leaves
 use Rattle.block_parser.proofs.Steps as steps
 use Rattle.block_parser.proofs.parser.Parser.fenced_line.Goals as goal

@@ -2,8 +2,8 @@ use Rattle.std.proofs.Common.{◌≡◌, ◌+◌, sym, ap, ◌∙◌, length, ar
 use Rattle.std.proofs.lemmas.List.{length-map}
 use Rattle.definition_block.specs.Tree.{OpenLeaf, Text, Indented, Fenced, OpenHtml, OpenTable, is_some_line, leaf_text}
 use Rattle.block_rows.specs.Rows.{piece_lines, piece_line, rows_size}
-use Rattle.block_parser.specs.Shows.{InText, state_of, leaf_lines}
-use Rattle.block_parser.specs.Leaves.{leaf_state}
+use Rattle.block_state.specs.Shows.{InText, state_of, leaf_lines}
+use Rattle.block_state.specs.Leaves.{leaf_state}
 use Rattle.block_parser.proofs.Leaves as leaves
 use Rattle.block_parser.proofs.parser.Parser.has_text.Goals as goal
 

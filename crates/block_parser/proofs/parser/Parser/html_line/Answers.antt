@@ -3,7 +3,7 @@ use Rattle.std.proofs.lemmas.Result.{on_ok_weaker}
 use Rattle.definition_block.specs.Tree.{Tree, OpenHtml, Leaf, new}
 use Rattle.block_starts.specs.View.{rest_of}
 use Rattle.block_starts.specs.HtmlFlow.{number_of}
-use Rattle.block_parser.specs.Spine.{spine_after}
+use Rattle.block_state.specs.Spine.{spine_after}
 use Rattle.block_parser.specs.View.{HasRead}
 use Rattle.block_parser.proofs.Steps as steps
 use Rattle.block_parser.proofs.Closing as closing

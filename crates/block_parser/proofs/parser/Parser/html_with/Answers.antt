@@ -8,11 +8,11 @@ use Rattle.block_rows.proofs.OwnLines.{last_ending_or-more}
 use Rattle.block_starts.specs.View.{rest_of, container_views}
 use Rattle.block_starts.specs.HtmlFlow.{number_of}
 use Rattle.definition_block.specs.HtmlFlow.{html_ends_here}
-use Rattle.block_parser.specs.Spine.{spine, spine_after}
-use Rattle.block_parser.specs.Shows.{InHtml, Shows}
-use Rattle.block_parser.specs.Leaves.{leaf_state}
+use Rattle.block_state.specs.Spine.{spine, spine_after}
+use Rattle.block_state.specs.Shows.{InHtml, Shows}
+use Rattle.block_state.specs.Leaves.{leaf_state}
 use Rattle.block_parser.specs.View.{HasRead}
-use Rattle.block_parser.proofs.Trees.{join-nil}
+use Rattle.block_state.proofs.Trees.{join-nil}
 use Rattle.block_parser.proofs.Leaves as leaves
 use Rattle.std.proofs.lemmas.Bool.{cond-true, cond-false}
 use Rattle.markdown_options.specs.Defaults.{no_constructs}

@@ -1,6 +1,6 @@
 use Rattle.std.proofs.Common.{◌≡◌, true, ◌&&◌, ◌==◌, sym, ap, ◌∙◌}
 use Rattle.definition_block.specs.Tree.{has_text}
-use Rattle.block_parser.specs.Spine.{spine_at}
+use Rattle.block_state.specs.Spine.{spine_at}
 use Rattle.block_parser.proofs.Steps as steps
 use Rattle.std.proofs.Common.{vec_len}
 use Rattle.std.proofs.lemmas.Bool.{eq-eqb}

@@ -3,7 +3,7 @@ use Rattle.definition_block.specs.Tree.{Text, is_some_line}
 use Rattle.definition_block.specs.Definitions.{DefinitionCut}
 use Rattle.block_rows.specs.ParagraphLines.{AreLines}
 use Rattle.definition_text.specs.Content.{content_text}
-use Rattle.block_parser.specs.Spine.{spine}
+use Rattle.block_state.specs.Spine.{spine}
 use Rattle.block_parser.proofs.DefinitionLemmas.{more_left}
 use Rattle.block_parser.proofs.Leaves as leaves
 use Rattle.block_parser.proofs.parser.Parser.leaves_text.Goals as goal

@@ -1,10 +1,10 @@
-use Rattle.std.proofs.Common.{◌≡◌, ◌∷◌, [], refl, sym, subst, rules, arith}
+use Rattle.std.proofs.Common.{◌≡◌, ◌∷◌, [], refl, sym, ◌∙◌, subst, rules, arith}
 use Rattle.std.proofs.lemmas.Result.{IfOk-weaker}
 use Rattle.definition_text.specs.declared.beside.Kind.{Kind}
 use Rattle.definition_text.specs.declared.beside.Kind.TheVariants.{Whitespace}
 use Rattle.definition_text.specs.Lines.{lines, text_line}
 use Rattle.definition_block.specs.Tree.{Tree}
-use Rattle.block_parser.specs.Spine.{spine_of}
+use Rattle.block_state.specs.Spine.{spine_of}
 use Rattle.block_parser.specs.View.{HasRead, KeepsLines, ReadsSome}
 use Rattle.block_parser.proofs.Plain.{of_text}
 use Rattle.block_parser.proofs.PlainLines.{shorter_after}
@@ -19,7 +19,7 @@ returns-then-is_alone-clause-read g c =
     subst (λ (k : Kind). KeepsLines on k t text → HasRead c.args.self.now (spine_of t) → ReadsSome on k t text rest.now c.plain_lines.new.self) (sym before)
     (of_text (λ (u : Tree). KeepsLines on Whitespace u text → HasRead c.args.self.now (spine_of u)
     → ReadsSome on Whitespace u text rest.now c.plain_lines.new.self)
-    reads t.done t.now (c.is_alone.ensures c.if-is_alone.true t h))
+    reads t.done t.now (sym (c.is_alone.ensures t h) ∙ c.if-is_alone.true))
     keeps h)
     c.plain_lines.ensures.read
 

@@ -1,4 +1,4 @@
-use Rattle.std.proofs.Common.{◌≡◌, ◌∷◌, None, sym, ap, ◌∙◌}
+use Rattle.std.proofs.Common.{◌≡◌, ◌∷◌, None, refl, sym, ap, ◌∙◌}
 use Rattle.std.proofs.lemmas.Result.{IfOk-weaker}
 use Rattle.block_rows.specs.ParagraphLines.{AreLines}
 use Rattle.definition_block.specs.GfmTable.{delimiter_row}
@@ -6,7 +6,7 @@ use Rattle.definition_block.specs.Tree.{Text, open_text, table_if, text_here}
 use Rattle.block_starts.specs.View.{rest_of}
 use Rattle.block_parser.specs.GfmTable.{fits, table_tree}
 use Rattle.block_parser.specs.HeadingSetext.{IsText}
-use Rattle.block_parser.specs.Spine.{spine_at}
+use Rattle.block_state.specs.Spine.{spine_at}
 use Rattle.block_parser.specs.View.{HasRead}
 use Rattle.block_parser.proofs.GfmTableLemmas as tables
 use Rattle.block_parser.proofs.Leaves as leaves
@@ -56,5 +56,5 @@ returns-clause-here g c =
     let p = c.args.self.now in
     let here = interrupting.text_is_here p c.args.depth around kids away deep h
     (sym (c.interrupts.ensures around kids away deep h) ∙ c.if-not-interrupts.false) in
-    steps.text_leaf_here IsText away here.depth_is here.text (λ l ls. tt))
+    steps.text_leaf_here IsText away here.depth_is here.text (λ l ls. refl))
     c.leaves_text.ensures.left

@@ -11,12 +11,12 @@ use Rattle.definition_text.specs.Content.{line_text}
 use Rattle.definition_text.specs.Lines.{text_line}
 use Rattle.definition_block.specs.Tree.{Blank, Leaf, Text, beside_line, close_leaf, grow, join, nothing, one, tree}
 use Rattle.block_rows.specs.Rows.{whole_line, whole_lines}
-use Rattle.block_parser.specs.Spine.{spine, spine_after}
+use Rattle.block_state.specs.Spine.{spine, spine_after}
 use Rattle.block_parser.specs.View.{HasRead}
 use Rattle.block_parser.proofs.Closing as closing
 use Rattle.block_parser.proofs.Plain.{empty_grows, none_open}
 use Rattle.block_parser.proofs.PlainLines.{plain_clean, plain_front, plain_more, plain_none, read_after, shorter_after}
-use Rattle.block_parser.proofs.WholeLines.{cut_boundary}
+use Rattle.block_state.proofs.WholeLines.{cut_boundary}
 use Rattle.block_parser.proofs.parser.Parser.plain_lines.Goals as goal
 
 pub loop-content-init : goal.loop-content-init
@@ -57,7 +57,7 @@ returns-then-is_empty-clause-read g c = λ kids ls keeps h.
     let some : 0 < length rest = omega (arith, eqb-false (length rest) 0 (sym c.is_empty.ensures ∙ c.loop-content-test.true)) in
     let clean = plain_clean on text rest (HasRead c.args.self.now) c.loop-content.self k kids ls keeps in
     let known : IfSome c.known_front.result (λ front. whole_lines front.now ≡ all) =
-    IfSome_then c.known_front.result c.known_front.ensures (λ front is.
+    IfSome_then c.known_front.result c.known_front.ensures.front (λ front is.
     plain_front on text rest (HasRead c.args.self.now) c.loop-content.self k kids ls front.now
     (none_open ls (sym (c.has_text-goes_on.ensures (spine [] kids (Text ls)) h) ∙ is.0)) is.1 keeps) in
     let none : next.0.now ≡ [] =

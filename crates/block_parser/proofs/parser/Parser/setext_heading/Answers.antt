@@ -5,10 +5,10 @@ use Rattle.definition_text.specs.BlockLines.{own_lines}
 use Rattle.definition_block.specs.Tree.{Blocks, Heading, Text, block_and_ending, join}
 use Rattle.definition_block.specs.Definitions.{definition_cut}
 use Rattle.block_rows.specs.Rows.{piece_lines, piece_line, Single}
-use Rattle.block_parser.specs.Spine.{spine}
+use Rattle.block_state.specs.Spine.{spine}
 use Rattle.block_parser.specs.View.{HasRead}
 use Rattle.block_parser.proofs.Leaves as leaves
-use Rattle.block_parser.proofs.Trees.{join-assoc}
+use Rattle.block_state.proofs.Trees.{join-assoc}
 use Rattle.block_parser.proofs.parser.Parser.setext_heading.Goals as goal
 
 pub returns : goal.returns

@@ -4,10 +4,10 @@ use Rattle.definition_block.specs.Tree.{Blocks, Text, Fenced}
 use Rattle.block_rows.specs.Rows.{piece_lines}
 use Rattle.block_starts.specs.CodeFenced.{fence_view}
 use Rattle.block_starts.specs.View.{container_views}
-use Rattle.block_parser.specs.Spine.{spine}
-use Rattle.block_parser.specs.Shows.{InFenced, Shows}
-use Rattle.block_parser.specs.Leaves.{leaf_state}
-use Rattle.block_parser.proofs.Trees.{join-nil}
+use Rattle.block_state.specs.Spine.{spine}
+use Rattle.block_state.specs.Shows.{InFenced, Shows}
+use Rattle.block_state.specs.Leaves.{leaf_state}
+use Rattle.block_state.proofs.Trees.{join-nil}
 use Rattle.block_parser.proofs.Leaves as leaves
 use Rattle.block_parser.proofs.parser.Parser.start_fenced.Goals as goal
 

@@ -3,7 +3,7 @@ use Rattle.std.proofs.lemmas.Result.{on_ok_weaker}
 use Rattle.definition_block.specs.ContainerStart.{container_start}
 use Rattle.definition_block.specs.Tree.{Nil, Tree, tree, nothing, join, Inside, close, beside_in}
 use Rattle.block_starts.specs.View.{rest_of, container_view, started_if}
-use Rattle.block_parser.specs.Spine.{level, spine_after}
+use Rattle.block_state.specs.Spine.{level, spine_after}
 use Rattle.block_parser.specs.View.{HasRead, new_inside}
 use Rattle.block_parser.proofs.Closing as closing
 use Rattle.block_parser.proofs.Starting as starting

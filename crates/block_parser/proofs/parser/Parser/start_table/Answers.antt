@@ -3,9 +3,9 @@ use Rattle.std.proofs.lemmas.Result.{on_ok_weaker}
 use Rattle.definition_block.specs.Definitions.{definition_cut}
 use Rattle.definition_block.specs.Tree.{Blocks, OpenTable, Text, join, paragraph_of, rest_line}
 use Rattle.block_starts.specs.View.{rest_of}
-use Rattle.block_parser.specs.Spine.{spine}
+use Rattle.block_state.specs.Spine.{spine}
 use Rattle.block_parser.specs.View.{HasRead}
-use Rattle.block_parser.proofs.Trees.{join-assoc, join-nil}
+use Rattle.block_state.proofs.Trees.{join-assoc, join-nil}
 use Rattle.block_parser.proofs.parser.Parser.start_table.Goals as goal
 
 pub returns : goal.returns

@@ -4,10 +4,10 @@ use Rattle.definition_block.specs.Tree.{Blocks, OpenTable, rest_line}
 use Rattle.block_rows.specs.Rows.{piece_lines}
 use Rattle.block_rows.proofs.OwnLines.{last_ending_or-more}
 use Rattle.block_starts.specs.View.{rest_of, container_views}
-use Rattle.block_parser.specs.Spine.{spine}
-use Rattle.block_parser.specs.Shows.{InTable, Shows}
-use Rattle.block_parser.specs.Leaves.{leaf_state}
-use Rattle.block_parser.proofs.Trees.{join-nil}
+use Rattle.block_state.specs.Spine.{spine}
+use Rattle.block_state.specs.Shows.{InTable, Shows}
+use Rattle.block_state.specs.Leaves.{leaf_state}
+use Rattle.block_state.proofs.Trees.{join-nil}
 use Rattle.block_parser.proofs.Leaves as leaves
 use Rattle.block_parser.proofs.parser.Parser.table_row.Goals as goal
 

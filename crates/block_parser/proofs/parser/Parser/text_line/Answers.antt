@@ -2,7 +2,7 @@ use Rattle.std.proofs.Common.{◌++◌, ◌∷◌, [], subst}
 use Rattle.std.proofs.lemmas.Result.{on_ok_weaker}
 use Rattle.definition_text.specs.BlockLines.{BlockLine}
 use Rattle.definition_block.specs.Tree.{Text}
-use Rattle.block_parser.specs.Spine.{spine}
+use Rattle.block_state.specs.Spine.{spine}
 use Rattle.block_parser.specs.View.{HasRead}
 use Rattle.block_parser.proofs.parser.Parser.text_line.Goals as goal
 

@@ -1,9 +1,9 @@
-use Rattle.std.proofs.Common.{◌≡◌, ◌∷◌, None, Some, sym, ◌∙◌}
+use Rattle.std.proofs.Common.{◌≡◌, ◌∷◌, None, Some, refl, sym, ◌∙◌}
 use Rattle.block_rows.specs.ParagraphLines.{AreLines}
 use Rattle.definition_block.specs.Tree.{open_text, turns}
 use Rattle.block_starts.specs.View.{rest_of}
 use Rattle.block_parser.specs.HeadingSetext.{IsText, heading_tree}
-use Rattle.block_parser.specs.Spine.{spine_at}
+use Rattle.block_state.specs.Spine.{spine_at}
 use Rattle.block_parser.specs.View.{HasRead}
 use Rattle.block_parser.proofs.Steps as steps
 use Rattle.block_parser.proofs.Interrupting as interrupting
@@ -34,7 +34,7 @@ returns-then-branch-clause-here g c = λ rank around kids away deep h is.
     let p = c.args.self.now in
     let here = interrupting.text_is_here p c.args.depth around kids away deep h
     (sym (c.interrupts.ensures around kids away deep h) ∙ c.if-not-interrupts.false) in
-    steps.text_leaf_here IsText away here.depth_is here.text (λ l ls. tt)
+    steps.text_leaf_here IsText away here.depth_is here.text (λ l ls. refl)
 
 pub returns-else-branch-clause-turned : goal.returns-else-branch-clause-turned
 returns-else-branch-clause-turned g c = λ around kids away e deep clean h.

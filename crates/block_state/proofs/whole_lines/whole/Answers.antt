@@ -1,6 +1,6 @@
 use Rattle.std.proofs.Common.{ℕ, ◌<◌, get_or, arith}
 use Rattle.block_rows.proofs.Pieces.{only_bytes}
-use Rattle.block_parser.proofs.paragraph.whole.Goals as goal
+use Rattle.block_state.proofs.whole_lines.whole.Goals as goal
 
 pub returns-clause-bytes : goal.returns-clause-bytes
 returns-clause-bytes c =

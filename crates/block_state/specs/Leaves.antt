@@ -1,10 +1,10 @@
 -- What the parser keeps of an open leaf.
 use Rattle.std.specs.Prelude.{ℕ}
-use Rattle.block_parser.specs.declared.leaf.OpenLeaf.{OpenLeaf}
-use Rattle.block_parser.specs.declared.leaf.OpenLeaf.TheVariants as leaf
+use Rattle.block_state.specs.declared.leaf.OpenLeaf.{OpenLeaf}
+use Rattle.block_state.specs.declared.leaf.OpenLeaf.TheVariants as leaf
 use Rattle.block_starts.specs.CodeFenced.{fence_view}
 use Rattle.block_starts.specs.HtmlFlow.{number_of}
-use Rattle.block_parser.specs.Shows.{LeafState, InText, InIndented, InFenced, InHtml, InTable}
+use Rattle.block_state.specs.Shows.{LeafState, InText, InIndented, InFenced, InHtml, InTable}
 
 abbrev pub leaf_state : OpenLeaf → LeafState
 leaf_state leaf.Text = InText

@@ -2,8 +2,8 @@ use Rattle.std.proofs.Common.{take}
 use denote.Text.{Utf8}
 use denote.Shadow.{shadow}
 use Rattle.block_rows.specs.Rows.{piece_lines}
-use Rattle.block_parser.proofs.WholeLines.{Begins}
-use Rattle.block_parser.proofs.paragraph.first_lines.Given as goal
+use Rattle.block_state.specs.WholeLines.{Begins}
+use Rattle.block_state.proofs.whole_lines.first_lines.Given as goal
 
 -- the text begins with the lines so far
 abbrev pub invariant-loop-piece : goal.invariant-loop-piece

@@ -9,9 +9,9 @@ use Rattle.block_rows.specs.declared.row.Row.{Row}
 use Rattle.definition_block.specs.Tree.{Block, Paragraph, Heading, Break, IndentedCode, FencedCode, Html, Table, Definition, Holds, Items, Ending, Blank}
 use Rattle.definition_block.specs.Tree.{Blocks, Nil, Cons, join, one, is_ending, all_endings, front, trailing, without_last, last_of, container_block}
 use Rattle.block_rows.specs.Rows.{BlockRow, Single, Exit, start_row, block_rows, rows_of}
-use Rattle.block_parser.specs.Waits.{inside, outside}
-use Rattle.block_parser.specs.Shows.{lone}
-use Rattle.block_parser.proofs.Trees.{choose_if, join-assoc, trailing-all, front-more, front-block, trailing-more, trailing-block}
+use Rattle.block_state.specs.Waits.{inside, outside}
+use Rattle.block_state.specs.Shows.{lone}
+use Rattle.block_state.proofs.Trees.{choose_if, join-assoc, trailing-all, front-more, front-block, trailing-more, trailing-block}
 
 -- ---- the last ending of a quote
 

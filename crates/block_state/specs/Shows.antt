@@ -7,7 +7,7 @@ use Rattle.definition_block.specs.CodeFenced.{Fence}
 use Rattle.definition_text.specs.BlockLines.{BlockLine, spaced_line, last_ending, last_ending_or}
 use Rattle.definition_block.specs.Tree.{Blocks, Nil, Cons, front, trailing, OpenLeaf, Text, Indented, Fenced, OpenHtml, OpenTable}
 use Rattle.block_rows.specs.Rows.{BlockRow, rows_of, row_value, rows_value, value_with}
-use Rattle.block_parser.specs.Spine.{Level, Spine, rows_around, containers_of}
+use Rattle.block_state.specs.Spine.{Level, Spine, rows_around, containers_of}
 
 -- what is kept of an open leaf beside its lines
 pub data LeafState : Type 0 where

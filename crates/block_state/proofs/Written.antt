@@ -8,12 +8,12 @@ use Rattle.block_rows.specs.declared.row.Row.TheVariants as row
 use Rattle.definition_text.specs.BlockLines.{BlockLine}
 use Rattle.definition_block.specs.Tree.{Block, Blocks, Nil, Cons, join, one, is_ending, all_endings, front, trailing, container_block}
 use Rattle.block_rows.specs.Rows.{Exit, start_row, block_rows, rows_of, row_value, rows_value, value_with, row_size, rows_size}
-use Rattle.block_parser.specs.Spine.{Level, level, rows_around}
-use Rattle.block_parser.specs.Waits.{inside, outside}
-use Rattle.block_parser.specs.Shows.{lone, is_nil, AreWritten}
-use Rattle.block_parser.proofs.Trees.{rows_of-join, rows_of-one, rows-split, front-more, front-block, trailing-more, trailing-block}
-use Rattle.block_parser.proofs.Ends.{holding, front-holds, trailing-holds, inside-rows, outside-rows}
-use Rattle.block_parser.proofs.Shown.{one_row_shown, more_lone, pool_more, cut_shown}
+use Rattle.block_state.specs.Spine.{Level, level, rows_around}
+use Rattle.block_state.specs.Waits.{inside, outside}
+use Rattle.block_state.specs.Shows.{lone, is_nil, AreWritten}
+use Rattle.block_state.proofs.Trees.{rows_of-join, rows_of-one, rows-split, front-more, front-block, trailing-more, trailing-block}
+use Rattle.block_state.proofs.Ends.{holding, front-holds, trailing-holds, inside-rows, outside-rows}
+use Rattle.block_state.proofs.Shown.{one_row_shown, more_lone, pool_more, cut_shown}
 
 -- a list with a block isn't empty
 nil-block : (bs : Blocks) (b : Block) → is_nil (join bs (one b)) ≡ false

@@ -6,7 +6,7 @@ ghost use Rattle.std.specs.Prelude.{◌≡◌, ◌≤◌, IfSome, length};
 ghost use Rattle.definition_text.specs.Lines.{lines};
 ghost use Rattle.definition_block.specs.Frontmatter as spec;
 ghost use Rattle.definition_block.specs.Tree.{blocks, children};
-ghost use Rattle.block_parser.specs.Frontmatter.{lines_if};
+ghost use Rattle.block_starts.specs.Frontmatter.{lines_if};
 
 use definition_text::Kind;
 use markdown_options::Constructs;
@@ -16,7 +16,7 @@ use text_lines::next_line;
 
 /// The text whose lines are blocks, and the kind of the character before it: frontmatter is left
 /// out.
-pub(crate) fn without_frontmatter<'a>(
+pub fn without_frontmatter<'a>(
     on: &Constructs,
     before: Kind,
     text: &'a str,

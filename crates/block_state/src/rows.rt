@@ -4,7 +4,7 @@ ghost use Rattle.definition_block.specs.Container as container_variant;
 ghost use Rattle.block_rows.specs.declared.row.Row.TheVariants as row_variant;
 ghost use Rattle.block_rows.specs.Rows.{rows_size, row_size};
 ghost use Rattle.block_starts.specs.View.{container_view};
-ghost use Rattle.block_parser.specs.Waits.{inside, outside, is_one_blank_row, enter_row as row_of_start};
+ghost use Rattle.block_state.specs.Waits.{inside, outside, is_one_blank_row, enter_row as row_of_start};
 
 use block_rows::Row;
 use definition_block::Container;
@@ -14,16 +14,16 @@ use std::alloc::{AllocError, Allocator};
 /// The rows so far, but for the endings at their end: these wait, since a container that ends may
 /// leave them outside.
 #[derive(Drop)]
-pub(crate) struct Rows<A: Allocator> {
-    rows: Vec<Row, A>,
-    waiting: Vec<Row, A>,
+pub struct Rows<A: Allocator> {
+    pub rows: Vec<Row, A>,
+    pub waiting: Vec<Row, A>,
     /// Whether the innermost container has no child yet but endings.
-    bare: bool,
+    pub bare: bool,
     ghost none: { rows_size waiting.items ≡ 0 },
 }
 
 impl<A: Allocator> Rows<A> {
-    pub(crate) fn new(rows_alloc: A, waiting_alloc: A) -> Rows<A>
+    pub fn new(rows_alloc: A, waiting_alloc: A) -> Rows<A>
         ensures rows { result.rows.items ≡ [] }
         ensures waiting { result.waiting.items ≡ [] }
         ensures bare { result.bare ≡ true }
@@ -37,7 +37,7 @@ impl<A: Allocator> Rows<A> {
 
     /// One more block that holds no other.
     #[inline(always)]
-    pub(crate) fn block(&mut self, row: Row) -> Result<(), AllocError>
+    pub fn block(&mut self, row: Row) -> Result<(), AllocError>
         ensures rows { OnOk result (self.new.rows.items ≡ (self.old.rows.items ++ self.old.waiting.items) ++ row ∷ []) }
         ensures waiting { OnOk result (self.new.waiting.items ≡ []) }
         ensures bare { OnOk result (self.new.bare ≡ false) }
@@ -52,7 +52,7 @@ impl<A: Allocator> Rows<A> {
 
     /// The ending of a block's last line.
     #[inline(always)]
-    pub(crate) fn ending(&mut self, ending: Option<LineEnding>) -> Result<(), AllocError>
+    pub fn ending(&mut self, ending: Option<LineEnding>) -> Result<(), AllocError>
         ensures rows { self.new.rows.items ≡ self.old.rows.items }
         ensures waiting { OnOk result (self.new.waiting.items ≡ self.old.waiting.items ++ row_variant.Ending ending ∷ []) }
         ensures bare { self.new.bare ≡ self.old.bare }
@@ -63,7 +63,7 @@ impl<A: Allocator> Rows<A> {
 
     /// The ending of a blank line.
     #[inline(always)]
-    pub(crate) fn blank(&mut self, ending: Option<LineEnding>) -> Result<(), AllocError>
+    pub fn blank(&mut self, ending: Option<LineEnding>) -> Result<(), AllocError>
         ensures rows { self.new.rows.items ≡ self.old.rows.items }
         ensures waiting { OnOk result (self.new.waiting.items ≡ self.old.waiting.items ++ row_variant.Blank ending ∷ []) }
         ensures bare { self.new.bare ≡ self.old.bare }
@@ -73,7 +73,7 @@ impl<A: Allocator> Rows<A> {
     }
 
     /// A container starts.
-    pub(crate) fn enter(&mut self, container: Container<'_>) -> Result<(), AllocError>
+    pub fn enter(&mut self, container: Container<'_>) -> Result<(), AllocError>
         ensures rows { OnOk result (
             self.new.rows.items ≡ (self.old.rows.items ++ self.old.waiting.items) ++ row_of_start (container_view container.entry) ∷ []) }
         ensures waiting { OnOk result (self.new.waiting.items ≡ []) }
@@ -89,7 +89,7 @@ impl<A: Allocator> Rows<A> {
     }
 
     /// A container ends.
-    pub(crate) fn exit(&mut self, container: Container<'_>) -> Result<(), AllocError>
+    pub fn exit(&mut self, container: Container<'_>) -> Result<(), AllocError>
         ensures rows { OnOk result (self.new.rows.items ≡
             (self.old.rows.items ++ inside (container_view container.entry) self.old.waiting.items) ++ row_variant.Exit ∷ []) }
         ensures waiting { OnOk result (self.new.waiting.items ≡ outside (container_view container.entry) self.old.waiting.items) }
@@ -132,14 +132,14 @@ impl<A: Allocator> Rows<A> {
     }
 
     /// Whether the innermost container began with a blank line, and has nothing else.
-    pub(crate) fn began_blank(&self) -> bool
+    pub fn began_blank(&self) -> bool
         ensures { result ≡ (self.now.bare && is_one_blank_row self.now.waiting.items) }
     {
         self.bare && is_one_blank(&self.waiting)
     }
 
     /// All rows.
-    pub(crate) fn finish(mut self) -> Result<Vec<Row, A>, AllocError>
+    pub fn finish(mut self) -> Result<Vec<Row, A>, AllocError>
         ensures rows { IfOk result (λ rows. rows.items ≡ self.rows.items ++ self.waiting.items) }
         ensures counted { IfOk result (λ rows. rows_size rows.items ≡ rows_size self.rows.items) }
     {

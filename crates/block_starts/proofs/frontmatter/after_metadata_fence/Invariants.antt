@@ -3,7 +3,7 @@ use denote.Shadow.{shadow}
 use denote.Text.{Utf8}
 use Rattle.definition_text.specs.Lines.{lines}
 use Rattle.definition_block.specs.Frontmatter.{after_metadata_fence}
-use Rattle.block_parser.proofs.frontmatter.after_metadata_fence.Given as goal
+use Rattle.block_starts.proofs.frontmatter.after_metadata_fence.Given as goal
 
 -- the lines so far are no fences
 abbrev pub invariant-loop-rest : goal.invariant-loop-rest

@@ -1,12 +1,12 @@
 -- Whole lines of a text, which are the lines of their own bytes.
 use Rattle.std.proofs.Common.{◌≡◌, ℕ, zero, suc, ◌+◌, ◌-◌, ◌≤◌, ◌<◌, true, false, eqb, List, [], ◌∷◌, ◌++◌, Option}
-use Rattle.std.proofs.Common.{None, Some, refl, sym, ap, ◌∙◌, get_or, subst, length, take, append_assoc, arith}
+use Rattle.std.proofs.Common.{None, Some, refl, sym, ap, ◌∙◌, get_or, subst, length, take, drop, append_assoc, arith}
 use Rattle.std.specs.Prelude.{map, replicate}
 use Rattle.std.specs.List.{flat_map}
 use Rattle.std.proofs.lemmas.Bool.{cond-false, true≢false, ne_eqb}
 use Rattle.std.specs.Str.{IsUtf8, IsCharBoundary}
 use Rattle.std.proofs.lemmas.Str.{IsCharBoundary-at_seam}
-use Rattle.std.proofs.lemmas.List.{append-nil, length-append, map-append, take_all, take_at, take_more}
+use Rattle.std.proofs.lemmas.List.{append-nil, append_cancel_left, length-append, map-append, take-append-drop, take_all, take_at, take_more}
 use Rattle.std.proofs.lemmas.List.Concat.{flat_map-append}
 use Rattle.markdown_options.specs.declared.line_ending.LineEnding.{LineEnding}
 use Rattle.markdown_options.specs.declared.line_ending.LineEnding.TheVariants.{CarriageReturnLineFeed, CarriageReturn, LineFeed}
@@ -19,11 +19,7 @@ use Rattle.definition_text.proofs.CodeBytes.{code_bytes}
 use Rattle.block_rows.specs.ParagraphLines.{HaveNoEnding, AreLines}
 use Rattle.block_rows.specs.declared.row.Piece.{Piece}
 use Rattle.block_rows.specs.Rows.{whole_line, whole_lines, piece_line, piece_lines}
-use Rattle.block_parser.specs.Whole.{IsWhole}
-
-abbrev pub AreWhole : List BlockLine → Type 0
-AreWhole [] = Unit {0}
-AreWhole (l ∷ ls) = IsWhole l × AreWhole ls
+use Rattle.block_state.specs.WholeLines.{AreWhole, Begins, BeginsNot, BeginsWith, IsWhole}
 
 pub none_whole : AreWhole []
 none_whole = tt
@@ -148,10 +144,6 @@ piece_cut piece text after rest whole none split cut =
 
 -- ---- a text that begins with lines
 
-pub record Begins (ls : List BlockLine) (text rest : List ℕ) : Type 0 where
-  pub split : text ≡ flat_map line_text ls ++ rest
-  pub whole : AreWhole ls
-
 pub begins_none : (text : List ℕ) → Begins [] text text
 begins_none text = record { split = refl; whole = tt }
 
@@ -201,3 +193,56 @@ pub begun : (pieces : List Piece) (i : ℕ) (text rest cut : List ℕ) → lengt
     → cut ≡ take (length text - length rest) text → AreLines (piece_lines pieces) → whole_lines cut ≡ piece_lines pieces
 begun pieces i text rest cut le so_far is clean =
     front_lines (piece_lines pieces) text rest cut (subst (λ (ps : List Piece). Begins (piece_lines ps) text rest) (take_all i pieces le) so_far) is clean
+
+-- ---- a text that doesn't begin so
+
+pub none_owed : (n : ℕ) (text : List ℕ) → ((k : ℕ) → get_or (replicate n tab_column ++ text) k 0 < 256) → n ≡ 0
+none_owed zero text h = refl
+none_owed (suc n) text h = absurd (omega (arith, h 0))
+
+-- the bytes of a piece come first
+pub piece_first : (piece : Piece) (text rest : List ℕ) → piece.owed ≡ 0 → BeginsWith (piece_line piece) text rest
+    → text ≡ piece.text.now ++ (ending_text piece.ending ++ rest)
+piece_first piece text rest none h =
+    h.split ∙ ap (λ x. x ++ rest) (line_bytes (piece_line piece) h.whole)
+    ∙ ap (λ (n : ℕ). ((replicate n tab_column ++ piece.text.now) ++ ending_text piece.ending) ++ rest) none
+    ∙ append_assoc piece.text.now (ending_text piece.ending) rest
+
+-- and its ending after them
+pub ending_next : (piece : Piece) (text after rest : List ℕ) → piece.owed ≡ 0 → text ≡ piece.text.now ++ after → BeginsWith (piece_line piece) text rest
+    → after ≡ ending_text piece.ending ++ rest
+ending_next piece text after rest none split h =
+    append_cancel_left piece.text.now after (ending_text piece.ending ++ rest) (sym split ∙ piece_first piece text rest none h)
+
+whole_at : (front : List BlockLine) (l : BlockLine) (others : List BlockLine) → AreWhole (front ++ l ∷ others) → IsWhole l
+whole_at [] l others w = w.0
+whole_at (k ∷ ks) l others w = whole_at ks l others w.1
+
+-- the line after the first ones
+next_line : (front : List BlockLine) (l : BlockLine) (others : List BlockLine) (text rest after : List ℕ) → Begins front text rest
+    → Begins (front ++ l ∷ others) text after → BeginsWith l rest (flat_map line_text others ++ after)
+next_line front l others text rest after so_far all =
+    let bytes = flat_map line_text front in
+    let more = flat_map line_text others in
+    record {
+      whole = whole_at front l others all.whole;
+      split = append_cancel_left bytes rest (line_text l ++ (more ++ after))
+          (sym so_far.split ∙ all.split
+          ∙ ap (λ x. x ++ after) (flat_map-append line_text front (l ∷ others))
+          ∙ append_assoc bytes (line_text l ++ more) after
+          ∙ ap (λ x. bytes ++ x) (append_assoc (line_text l) more after));
+    }
+
+-- the line of the next piece doesn't come next
+pub begins_not : (pieces : List Piece) (i : ℕ) (d : Piece) (text rest : List ℕ) → i < length pieces → Begins (piece_lines (take i pieces)) text rest
+    → ((after : List ℕ) → BeginsWith (piece_line (get_or pieces i d)) rest after → ⊥) → BeginsNot (piece_lines pieces) text
+begins_not pieces i d text rest lt so_far none = λ after all.
+    let front = take i pieces in
+    let others = drop (i + 1) pieces in
+    let x = get_or pieces i d in
+    let parts : pieces ≡ front ++ x ∷ others =
+    sym (take-append-drop (i + 1) pieces) ∙ ap (λ ps. ps ++ others) (take_more pieces i d lt) ∙ append_assoc front (x ∷ []) others in
+    let split : piece_lines pieces ≡ piece_lines front ++ piece_line x ∷ piece_lines others =
+    ap piece_lines parts ∙ map-append piece_line front (x ∷ others) in
+    none (flat_map line_text (piece_lines others) ++ after)
+    (next_line (piece_lines front) (piece_line x) (piece_lines others) text rest after so_far (subst (λ ls. Begins ls text after) split all))

@@ -1,0 +1,5 @@
+pub mod Trees
+pub mod Ends
+pub mod Shown
+pub mod Written
+pub mod WholeLines
