@@ -1,8 +1,8 @@
 -- Plain lines.
-use Rattle.std.proofs.Common.{◌≡◌, ℕ, List, [], ◌∷◌, Bool, true, false, ◌&&◌, eqb, ap, sym, ◌∙◌, refl}
+use Rattle.std.proofs.Common.{◌≡◌, ℕ, suc, List, [], ◌∷◌, Bool, true, false, ◌&&◌, eqb, ap, sym, ◌∙◌, refl, arith}
 use Rattle.std.specs.Prelude.{leb}
 use Rattle.std.specs.Option.{option_or}
-use Rattle.std.proofs.lemmas.Bool.{and_parts}
+use Rattle.std.proofs.lemmas.Bool.{and_parts, ne_eqb}
 use Rattle.markdown_options.specs.declared.configuration.Constructs.{Constructs}
 use Rattle.definition_text.specs.declared.beside.Beside.{Beside}
 use Rattle.definition_text.specs.Columns.{Rest, indent, bare, bytes_of}
@@ -48,9 +48,9 @@ text_alone around kids (Leaf (Indented ls pending)) is = let wrong : InText ≡ 
 text_alone around kids (Leaf (Fenced f opening ls)) is = let wrong : InText ≡ InFenced _ _ = is in cc
 text_alone around kids (Leaf (OpenHtml kind ls)) is = let wrong : InText ≡ InHtml _ _ = is in cc
 text_alone around kids (Leaf (OpenTable ls)) is = let wrong : InText ≡ InTable _ = is in cc
-text_alone around kids (Inside c inner_kids inner) is = refl
+text_alone around kids (Inside c inner_kids inner) is = sym (ne_eqb (suc (opening_depth inner)) 0 (λ same. absurd (omega (arith, same))))
 
-is_in_text : LeafState → Bool
+abbrev pub is_in_text : LeafState → Bool
 is_in_text InText = true
 is_in_text (InIndented count ending) = false
 is_in_text (InFenced fence ending) = false

@@ -2,12 +2,12 @@
 use Rattle.std.proofs.Common.{◌≡◌, ℕ, zero, suc, ◌+◌, ◌-◌, ◌<◌, Bool, true, false, not, eqb, List, [], ◌∷◌, ◌++◌, Some, inl, inr, refl, sym, ap, ◌∙◌, subst, length}
 use Rattle.std.proofs.Common.{get_or, arith}
 use Rattle.std.proofs.Math.Seq.{drop-nil}
-use Rattle.std.proofs.lemmas.Bool.{cases_lt, cond-true, and_parts}
+use Rattle.std.proofs.lemmas.Bool.{cases_lt, cond-true, and_parts, ne_eqb}
 use Rattle.std.proofs.lemmas.List.{get_or_append_left, get_or_default, length-append, map-append}
 use Rattle.markdown_options.specs.declared.configuration.Constructs.{Constructs}
 use Rattle.definition_text.specs.declared.beside.Beside.{Beside}
 use Rattle.definition_text.specs.declared.beside.Kind.TheVariants.{Whitespace}
-use Rattle.definition_text.specs.Columns.{Rest, is_white, is_blank, indent}
+use Rattle.definition_text.specs.Columns.{Code, Rest, is_white, is_blank, indent}
 use Rattle.definition_block.specs.declared.container.Container.{Container as CodeContainer}
 use Rattle.definition_block.specs.Container.{Container, Quote, Item, Footnote}
 use Rattle.definition_block.specs.ContainerLine.{container_line}
@@ -20,14 +20,19 @@ use Rattle.block_parser.specs.View.{Descent}
 use Rattle.block_parser.proofs.Closing.{length-containers}
 use Rattle.block_parser.proofs.Descending.{get-append, goes_inside, and-swap}
 
+some_codes : (c : Code) (cs : Rest) → eqb (length (c ∷ cs)) 0 ≡ false
+some_codes c cs = ne_eqb (length (c ∷ cs)) 0 (λ none. absurd (omega (arith, none)))
+
 -- a blank rest is empty where it has no indent
 pub blank_empty : (r : Rest) → is_blank r ≡ true → eqb (indent r) 0 ≡ eqb (length r) 0
 blank_empty [] h = refl
-blank_empty (c ∷ cs) h = ap (λ n. eqb n 0) (cond-true (is_white c) (1 + indent cs) 0 (and_parts (is_white c) (is_blank cs) h).0)
+blank_empty (c ∷ cs) h =
+    ne_eqb (indent (c ∷ cs)) 0 (λ none. absurd (omega (arith, none, cond-true (is_white c) (1 + indent cs) 0 (and_parts (is_white c) (is_blank cs) h).0)))
+    ∙ sym (some_codes c cs)
 
 pub some_left : (r : Rest) → is_blank r ≡ false → false ≡ eqb (length r) 0
 some_left [] h = sym h
-some_left (c ∷ cs) h = refl
+some_left (c ∷ cs) h = sym (some_codes c cs)
 
 -- ---- where the quotes end
 

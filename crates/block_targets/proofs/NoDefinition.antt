@@ -7,8 +7,8 @@ use Rattle.std.proofs.lemmas.List.Concat.{flat_map-append}
 use Rattle.definition_text.specs.BlockLines.{BlockLine}
 use Rattle.block_rows.specs.declared.row.Row.{Row}
 use Rattle.block_rows.specs.declared.row.Row.TheVariants as row
-use Rattle.block_rows.specs.Rows.{RowsValue, row_definitions, row_value, rows_value, show_row, value_with}
-use Rattle.block_targets.specs.Read.{is_definition}
+use Rattle.block_rows.specs.Rows.{RowsValue, row_definitions, row_size, row_value, rows_value, show_row, value_with}
+use Rattle.block_targets.specs.Read.{is_definition, takes_lines}
 
 none_in : (r : Row) (ls : List BlockLine) → is_definition r ≡ false → row_definitions (row_value r ls) ++ [] ≡ []
 none_in (row.Paragraph count) ls h = refl
@@ -42,3 +42,24 @@ none_more s (r ∷ rows) h =
 pub no_definitions : (rows : List Row) (ls : List BlockLine) → list_any is_definition rows ≡ false
     → flat_map row_definitions (rows_value rows ls).rows ≡ []
 no_definitions rows ls h = none_more (value_with [] ls) rows h
+
+-- ---- rows that take no lines have none
+
+pub no_lines : (r : Row) (ls : List BlockLine) → takes_lines r ≡ false → (0 ≡ row_size r) × (row_definitions (row_value r ls) ≡ [])
+no_lines (row.Paragraph count) ls h = absurd (true≢false h)
+no_lines row.WholeParagraph ls h = absurd (true≢false h)
+no_lines (row.Heading rank) ls h = absurd (true≢false h)
+no_lines (row.SetextHeading rank count) ls h = absurd (true≢false h)
+no_lines row.Break ls h = (refl, refl)
+no_lines (row.IndentedCode count) ls h = absurd (true≢false h)
+no_lines (row.FencedCode count) ls h = absurd (true≢false h)
+no_lines (row.UnclosedCode count) ls h = absurd (true≢false h)
+no_lines (row.Html count) ls h = absurd (true≢false h)
+no_lines (row.Table count) ls h = absurd (true≢false h)
+no_lines (row.Definition count) ls h = absurd (true≢false h)
+no_lines row.EnterQuote ls h = (refl, refl)
+no_lines (row.EnterItem marker number) ls h = (refl, refl)
+no_lines row.EnterFootnote ls h = absurd (true≢false h)
+no_lines row.Exit ls h = (refl, refl)
+no_lines (row.Ending ending) ls h = (refl, refl)
+no_lines (row.Blank ending) ls h = (refl, refl)

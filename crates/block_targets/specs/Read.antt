@@ -33,6 +33,26 @@ is_definition row.Exit = false
 is_definition (row.Ending ending) = false
 is_definition (row.Blank ending) = false
 
+-- whether rows of a kind take lines
+abbrev pub takes_lines : Row → Bool
+takes_lines (row.Paragraph count) = true
+takes_lines row.WholeParagraph = true
+takes_lines (row.Heading rank) = true
+takes_lines (row.SetextHeading rank count) = true
+takes_lines row.Break = false
+takes_lines (row.IndentedCode count) = true
+takes_lines (row.FencedCode count) = true
+takes_lines (row.UnclosedCode count) = true
+takes_lines (row.Html count) = true
+takes_lines (row.Table count) = true
+takes_lines (row.Definition count) = true
+takes_lines row.EnterQuote = false
+takes_lines (row.EnterItem marker number) = false
+takes_lines row.EnterFootnote = true
+takes_lines row.Exit = false
+takes_lines (row.Ending ending) = false
+takes_lines (row.Blank ending) = false
+
 -- a definition with nothing after it, if there is one
 abbrev pub alone : Option Definition → Definition
 alone None = no_definition

@@ -5,7 +5,7 @@ ghost use Rattle.definition_block.specs.Blocks.{Blocks};
 ghost use Rattle.definition_inline.specs.Definition.{Definition};
 ghost use Rattle.block_rows.specs.Rows.{rows_size, definition_on, row_size, piece_lines, row_definitions, row_value, rows_of, rows_value};
 ghost use Rattle.definition_page.specs.Targets.{document_definitions};
-ghost use Rattle.block_targets.specs.Read.{HasContents, alone, is_definition};
+ghost use Rattle.block_targets.specs.Read.{HasContents, alone, is_definition, takes_lines};
 
 use block_rows::{Piece, Row, join_lines};
 use std::alloc::{AllocError, Allocator};
@@ -41,8 +41,7 @@ pub fn definition_contents<A: Allocator + Clone>(
 
 /// Whether a row may take lines. Most don't, and are passed by one test.
 fn takes_lines(row: Row) -> bool
-    ensures size { result ≡ false → row_size row ≡ 0 }
-    ensures other { result ≡ false → is_definition row ≡ false }
+    ensures { result ≡ takes_lines row }
 {
     !matches!(
         row,

@@ -103,11 +103,23 @@ starts_item (row.Blank ending) = false
 
 -- whether a row starts or ends a container
 abbrev pub bounds_container : Row → Bool
+bounds_container (row.Paragraph count) = false
+bounds_container row.WholeParagraph = false
+bounds_container (row.Heading rank) = false
+bounds_container (row.SetextHeading rank count) = false
+bounds_container row.Break = false
+bounds_container (row.IndentedCode count) = false
+bounds_container (row.FencedCode count) = false
+bounds_container (row.UnclosedCode count) = false
+bounds_container (row.Html count) = false
+bounds_container (row.Table count) = false
+bounds_container (row.Definition count) = false
 bounds_container row.EnterQuote = true
 bounds_container (row.EnterItem marker number) = true
 bounds_container row.EnterFootnote = true
 bounds_container row.Exit = true
-bounds_container r = false
+bounds_container (row.Ending ending) = false
+bounds_container (row.Blank ending) = false
 
 -- what a pass has found
 abbrev pub pass_view : {A : Type 0} → Pass A → PassView

@@ -1,5 +1,7 @@
-use Rattle.std.proofs.Common.{◌∙◌, sym, subst, arith}
-use Rattle.block_starts.specs.View.{container_views}
+use Rattle.std.proofs.Common.{◌∙◌, length, sym, subst, arith}
+use Rattle.std.proofs.lemmas.Bool.{eqb-true}
+use Rattle.std.proofs.lemmas.List.{nil_from_length}
+use Rattle.block_starts.specs.View.{container_views, rest_of}
 use Rattle.block_parser.specs.View.{HasRead}
 use Rattle.block_parser.proofs.Closing as closing
 use Rattle.block_parser.proofs.Quotes as quotes
@@ -13,3 +15,6 @@ returns-clause-began g c = λ yes t h.
     sym (c.began_blank.ensures around kids inner_kids holder inner (omega (arith, deep, c.len.ensures, p.open.ok.0, closing.views_length p.open.items))
     (subst (HasRead p) (sym same) h))
     ∙ quotes.not_true c.began_blank.result yes)
+
+pub returns-clause-empty : goal.returns-clause-empty
+returns-clause-empty g c = λ yes. nil_from_length (rest_of c.args.rest) (eqb-true (length (rest_of c.args.rest)) 0 (sym c.is_empty.ensures ∙ c.if-not-is_empty.false))

@@ -46,7 +46,7 @@ returns-in-Some-clause-read g c =
     let lines_left : ls ≡ drop p.lines_in_rows pool = leaves.lines_of p around kids (Text ls) h in
     let last : c.last_ending-ending.result ≡ last_ending ls =
     c.last_ending-ending.ensures ∙ ap last_ending (sym (leaves.lines_here p around kids (Text ls) h c.deref.result.now c.deref.ensures.value)) in
-    let whole_is : ls ≡ whole_lines c.in-Some.text.now = lines_left ∙ sym (c.in-Some.ensures (subst AreLines lines_left clean)
+    let whole_is : ls ≡ whole_lines c.in-Some.text.now = lines_left ∙ sym (c.in-Some.ensures.text (subst AreLines lines_left clean)
     (subst (λ (xs : List BlockLine). IfSome c.args.known (λ text. whole_lines text.now ≡ xs)) lines_left known)) in
     some_lines c.close_whole.new.self kids around ls c.last_ending-ending.result (λ none. c.if-count-eq0.false (all ∙ none)) last
     (reads ls whole_is around kids h))

@@ -1,4 +1,4 @@
-use Rattle.std.proofs.Common.{◌≡◌, eqb, sym, ap, ◌∙◌, arith, refl, vec_len}
+use Rattle.std.proofs.Common.{[], eqb, sym, ap, ◌∙◌, arith, refl}
 use Rattle.block_starts.specs.View.{container_views}
 use Rattle.block_state.specs.Leaves.{leaf_state}
 use Rattle.block_parser.proofs.Closing as closing

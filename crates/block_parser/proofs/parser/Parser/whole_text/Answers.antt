@@ -1,15 +1,24 @@
 use Rattle.std.proofs.Common.{◌≡◌, List, ◌∙◌, ap, drop, subst}
-use Rattle.std.specs.Prelude.{IfSome}
+use Rattle.std.specs.Prelude.{IfNone, IfSome}
 use Rattle.definition_text.specs.BlockLines.{BlockLine}
 use Rattle.block_rows.specs.ParagraphLines.{AreLines}
 use Rattle.block_rows.specs.declared.row.Piece.{Piece}
 use Rattle.block_rows.specs.Rows.{piece_lines, whole_lines}
 use Rattle.block_rows.proofs.Pieces.{lines_from}
+use Rattle.block_state.specs.WholeLines.{BeginsNot}
 use Rattle.block_parser.proofs.parser.Parser.whole_text.Goals as goal
 
-pub returns : goal.returns
-returns g c =
+pub returns-clause-text : goal.returns-clause-text
+returns-clause-text g c =
     let n = c.args.self.now.lines_in_rows in
     subst (λ (ls : List BlockLine). IfSome c.first_lines.result (λ text. AreLines ls → whole_lines text.now ≡ ls))
     (lines_from n c.deref.result.now ∙ ap (λ (ps : List Piece). drop n (piece_lines ps)) c.deref.ensures.value)
-    c.first_lines.ensures
+    c.first_lines.ensures.whole
+
+pub returns-clause-none : goal.returns-clause-none
+returns-clause-none g c =
+    let p = c.args.self.now in
+    let n = p.lines_in_rows in
+    subst (λ (ls : List BlockLine). IfNone c.first_lines.result (BeginsNot ls p.paragraph.now))
+    (lines_from n c.deref.result.now ∙ ap (λ (ps : List Piece). drop n (piece_lines ps)) c.deref.ensures.value)
+    c.first_lines.ensures.none
