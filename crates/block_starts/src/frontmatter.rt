@@ -16,11 +16,7 @@ use text_lines::next_line;
 
 /// The text whose lines are blocks, and the kind of the character before it: frontmatter is left
 /// out.
-pub fn without_frontmatter<'a>(
-    on: &Constructs,
-    before: Kind,
-    text: &'a str,
-) -> (Kind, &'a str)
+pub fn without_frontmatter<'a>(on: &Constructs, before: Kind, text: &'a str) -> (Kind, &'a str)
     ensures blocks { children on.now result.0 (lines result.1.now) ≡ blocks on.now before text.now }
     ensures shorter { length result.1.now ≤ length text.now }
 {
