@@ -1,10 +1,9 @@
 #!/usr/bin/env python3
 """Prints how much a second a program counts in a text, and its time: steps of the tokenizer, events or rows.
 
-    engine.py [PROGRAM] [BYTES] [plain|dense]
+    engine.py [steps|events|rows] [BYTES] [plain|dense] [PROGRAM]
 
-PROGRAM is `crates/engine_bench`, which counts steps, or `engine_bench_text`, events, or `inline_bench_rows`, rows, built by
-`rt run`. A plain text has paragraphs of words, a dense one a construct in every seven bytes. The best of 20 rounds counts;
+PROGRAM is `crates/markdown_bench`, built by `rt run`. A plain text has paragraphs of words, a dense one a construct in every seven bytes. The best of 20 rounds counts;
 reading the text is part of the time.
 """
 import os
@@ -18,11 +17,11 @@ ROUNDS = 20
 DENSE = b"a [b](c 'd') *e* **f** `g` &amp; \\! <h:i> <j k='l'> ![m](n) [o] ~p~\n" * 4 + b"\n"
 
 
-def seconds(program, path):
+def seconds(program, count, path):
     """The time of a run, and what it printed."""
     with open(path, "rb") as text:
         start = time.perf_counter()
-        out = subprocess.run([program], stdin=text, stdout=subprocess.PIPE, check=True).stdout
+        out = subprocess.run([program, count], stdin=text, stdout=subprocess.PIPE, check=True).stdout
         return time.perf_counter() - start, int(out)
 
 
@@ -36,14 +35,15 @@ def write(path, size, kind):
 
 
 def main():
-    program = sys.argv[1] if len(sys.argv) > 1 else HERE + "/../crates/engine_bench/out/engine_bench"
+    count = sys.argv[1] if len(sys.argv) > 1 else "steps"
     size = sys.argv[2] if len(sys.argv) > 2 else "10000000"
     kind = sys.argv[3] if len(sys.argv) > 3 else "plain"
+    program = sys.argv[4] if len(sys.argv) > 4 else HERE + "/../crates/markdown_bench/out/markdown_bench"
     with tempfile.TemporaryDirectory() as folder:
         path = folder + "/text"
         write(path, size, kind)
-        best, steps = min(seconds(program, path) for _ in range(ROUNDS))
-    print("%d in %.1f ms: %.0f million a second" % (steps, best * 1000, steps / best / 1e6))
+        best, counted = min(seconds(program, count, path) for _ in range(ROUNDS))
+    print("%d %s in %.1f ms: %.0f million a second" % (counted, count, best * 1000, counted / best / 1e6))
 
 
 main()

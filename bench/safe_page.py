@@ -3,7 +3,7 @@
 
     safe_page.py [PROGRAM]
 
-PROGRAM is `crates/html_bench_safe_page`, built by `rt run`. `valgrind` counts; the instructions of an empty page are taken
+PROGRAM is `crates/markdown_bench`, built by `rt run`. `valgrind` counts; the instructions of an empty page are taken
 off. The second family has all its tags open at once, which a list of open tags pays for.
 """
 import os
@@ -21,14 +21,14 @@ FAMILIES = {
 
 def instructions(program, page):
     """The instructions of a run, which must find the page safe."""
-    words = ["valgrind", "--tool=callgrind", "--callgrind-out-file=/dev/null", program]
+    words = ["valgrind", "--tool=callgrind", "--callgrind-out-file=/dev/null", program, "safe"]
     run = subprocess.run(words, input=page.encode(), capture_output=True, check=True)
-    assert run.stdout == b"true\n", page
+    assert run.stdout == b"1\n", page
     return int(re.search(rb"Collected : (\d+)", run.stderr).group(1))
 
 
 def main():
-    program = sys.argv[1] if len(sys.argv) > 1 else HERE + "/../crates/html_bench_safe_page/out/html_bench_safe_page"
+    program = sys.argv[1] if len(sys.argv) > 1 else HERE + "/../crates/markdown_bench/out/markdown_bench"
     start = instructions(program, "")
     for name, page_of in FAMILIES.items():
         for size in (100000, 200000, 400000):

@@ -49,8 +49,10 @@ fn each_chunk_gets_its_part(rt: HostRuntime) -> Result<(), Fail> {
     assert!(rt; map.is_ordered(all.len()));
     map.consume(&mut all)?;
     assert_eq!(rt; all.len(), 8);
-    assert_eq!(rt; all[3].name, Name::SpaceOrTab);
-    assert_eq!(rt; all[4].name, Name::Strong);
+    assert_eq!(rt;
+        (all[3].name, all[4].name),
+        (Name::SpaceOrTab, Name::Strong)
+    );
     assert_eq!(rt; all[0].link().ok_or("a link")?.next, Some(4));
     assert_eq!(rt; all[4].link().ok_or("a link")?.previous, Some(0));
     Ok(())
@@ -74,10 +76,19 @@ fn chunks_are_joined(rt: HostRuntime) -> Result<(), Fail> {
         chunks(rt.alloc(), &events, 0)?.as_slice(),
         [0, 2, 6].as_slice()
     );
-    assert_eq!(rt; events[0].link(), between(None, Some(2)));
-    assert_eq!(rt; events[2].link(), between(Some(0), Some(6)));
-    assert_eq!(rt; events[4].link(), None);
-    assert_eq!(rt; events[6].link(), between(Some(2), None));
+    let links = [
+        events[0].link(),
+        events[2].link(),
+        events[4].link(),
+        events[6].link(),
+    ];
+    let wanted = [
+        between(None, Some(2)),
+        between(Some(0), Some(6)),
+        None,
+        between(Some(2), None),
+    ];
+    assert_eq!(rt; links, wanted);
     Ok(())
 }
 
@@ -110,9 +121,18 @@ fn chunks_are_joined_to_those_that_name_them(rt: HostRuntime) {
         at(Kind::Exit, Name::Data, 4, None),
     ];
     link_all(&mut events);
-    assert_eq!(rt; events[0].link(), between(None, Some(2)));
-    assert_eq!(rt; events[2].link(), between(Some(0), Some(4)));
-    assert_eq!(rt; events[4].link(), between(Some(2), None));
-    assert_eq!(rt; events[6].link(), between(Some(9), None));
+    let links = [
+        events[0].link(),
+        events[2].link(),
+        events[4].link(),
+        events[6].link(),
+    ];
+    let wanted = [
+        between(None, Some(2)),
+        between(Some(0), Some(4)),
+        between(Some(2), None),
+        between(Some(9), None),
+    ];
+    assert_eq!(rt; links, wanted);
     assert_eq!(rt; events[1].link(), None);
 }

@@ -31,20 +31,34 @@ fn chunks(alloc: Global, count: usize) -> Result<Vec<Event>, AllocError> {
     Ok(events)
 }
 
+/// Three edits of one place.
+fn add_three(map: &mut EditMap<Global>, alloc: Global) -> Result<(), Message> {
+    map.add(1, 2, [chunk(10, None, None)].to_vec(alloc)?)?;
+    map.add(1, 1, [chunk(11, None, None)].to_vec(alloc)?)?;
+    map.add_before(1, 0, [chunk(12, None, None)].to_vec(alloc)?)?;
+    Ok(())
+}
+
+/// Where events are.
+fn places(alloc: Global, events: &[Event]) -> Result<Vec<usize>, AllocError> {
+    let mut places = Vec::new(alloc);
+    for event in events {
+        places.push(event.point().index)?;
+    }
+    Ok(places)
+}
+
 #[test]
 fn edits_of_one_place_are_one(rt: HostRuntime) -> Result<(), Fail> {
     let mut events = chunks(rt.alloc(), 6)?;
     let mut map = EditMap::new(rt.alloc());
-    map.add(1, 2, [chunk(10, None, None)].to_vec(rt.alloc())?)?;
-    map.add(1, 1, [chunk(11, None, None)].to_vec(rt.alloc())?)?;
-    map.add_before(1, 0, [chunk(12, None, None)].to_vec(rt.alloc())?)?;
+    add_three(&mut map, rt.alloc())?;
     assert!(rt; map.is_ordered(events.len()));
     map.consume(&mut events)?;
-    let mut places = Vec::new(rt.alloc());
-    for event in &events {
-        places.push(event.point().index)?;
-    }
-    assert_eq!(rt; places.as_slice(), [0, 12, 10, 11, 4, 5].as_slice());
+    assert_eq!(rt;
+        places(rt.alloc(), &events)?.as_slice(),
+        [0, 12, 10, 11, 4, 5].as_slice()
+    );
     Ok(())
 }
 
@@ -88,33 +102,37 @@ fn an_edit_takes_another(rt: HostRuntime) -> Result<(), Fail> {
     edit.merge(false, 2, [chunk(11, None, None)].to_vec(rt.alloc())?)?;
     edit.merge(true, 1, [chunk(12, None, None)].to_vec(rt.alloc())?)?;
     assert_eq!(rt; edit.remove, 4);
-    assert_eq!(rt; edit.add.len(), 3);
-    for (event, index) in edit.add.iter().zip([12, 10, 11]) {
-        assert_eq!(rt; event.point().index, index);
-    }
-    assert!(rt; edit.ends_within(2, 6));
-    assert!(rt; !edit.ends_within(3, 6));
-    assert!(rt; !edit.ends_within(7, 6));
+    assert_eq!(rt;
+        places(rt.alloc(), &edit.add)?.as_slice(),
+        [12, 10, 11].as_slice()
+    );
+    let within = (
+        edit.ends_within(2, 6),
+        edit.ends_within(3, 6),
+        edit.ends_within(7, 6),
+    );
+    assert_eq!(rt; within, (true, false, false));
     Ok(())
+}
+
+/// Three places, one of them gone.
+fn new_places(alloc: Global) -> Result<Vec<Option<usize>>, AllocError> {
+    let mut places = Vec::new(alloc);
+    push_places_from(&mut places, 3, 2)?;
+    push_no_places(&mut places, 1)?;
+    Ok(places)
 }
 
 #[test]
 fn links_follow_their_events(rt: HostRuntime) -> Result<(), Fail> {
-    let mut places = Vec::new(rt.alloc());
-    push_places_from(&mut places, 3, 2)?;
-    push_no_places(&mut places, 1)?;
+    let places = new_places(rt.alloc())?;
     assert_eq!(rt; places.as_slice(), [Some(3), Some(4), None].as_slice());
     let mut all = Vec::new(rt.alloc());
-    push_with_new_links(
-        &mut all,
-        &[chunk(0, Some(1), Some(2)), chunk(1, None, Some(3))],
-        &places,
-    )?;
-    let links = [(Some(4), None), (None, None)];
-    assert_eq!(rt; all.len(), 2);
-    for (event, want) in all.iter().zip(links) {
-        let link = event.link().ok_or("a link")?;
-        assert_eq!(rt; (link.previous, link.next), want);
-    }
+    let events = [chunk(0, Some(1), Some(2)), chunk(1, None, Some(3))];
+    push_with_new_links(&mut all, &events, &places)?;
+    assert_eq!(rt;
+        all.as_slice(),
+        [chunk(0, Some(4), None), chunk(1, None, None)].as_slice()
+    );
     Ok(())
 }

@@ -3,6 +3,7 @@ use markdown_engine::place::{Point, START};
 use markdown_engine::state::{Inline, Name, State};
 use markdown_engine::tokenizer::Tokenizer;
 use markdown_engine::{Message, ParseOptions, ParseState, resolve};
+use std::alloc::Global;
 use std::test::Fail;
 use tests_engine::brackets::{Brackets, read_both_ways, read_groups, read_whole};
 use tests_engine::count::Count;
@@ -17,10 +18,12 @@ fn a_tab_is_read_column_by_column(rt: HostRuntime) -> Result<(), Fail> {
     let text = ParseState::new(rt.alloc(), b"a\tb", &options, &Ascii)?;
     let mut tokenizer = Tokenizer::new(rt.alloc(), START, &text, Count { calls: 0 })?;
     let state = tokenizer.push((0, 0), (3, 0), DATA);
-    assert_eq!(rt; tokenizer.machine.calls, 5);
-    assert!(rt; !tokenizer.flush(state, true)?.done);
-    assert_eq!(rt; tokenizer.machine.calls, 5);
-    assert_eq!(rt; tokenizer.point.column, 6);
+    let calls = tokenizer.machine.calls;
+    let done = tokenizer.flush(state, true)?.done;
+    assert_eq!(rt;
+        (calls, done, tokenizer.machine.calls, tokenizer.point.column),
+        (5, false, 5, 6)
+    );
     Ok(())
 }
 
@@ -36,10 +39,15 @@ fn a_line_is_read_after_its_skip(rt: HostRuntime) -> Result<(), Fail> {
         vs: 0,
     };
     let state = tokenizer.read_in_lines(2, second, DATA);
-    assert_eq!(rt; state, State::Ok);
-    assert_eq!(rt; tokenizer.machine.calls, 3);
-    assert_eq!(rt; tokenizer.point.column, 4);
-    assert_eq!(rt; tokenizer.line_start.index, 2);
+    assert_eq!(rt;
+        (
+            state,
+            tokenizer.machine.calls,
+            tokenizer.point.column,
+            tokenizer.line_start.index
+        ),
+        (State::Ok, 3, 4, 2)
+    );
     Ok(())
 }
 
@@ -181,20 +189,38 @@ fn a_text_is_read_the_same_cut_anywhere(rt: HostRuntime) -> Result<(), Fail> {
     Ok(())
 }
 
-#[test]
-fn a_resolver_is_registered_once(rt: HostRuntime) -> Result<(), Fail> {
-    let options = ParseOptions::default();
-    let text = ParseState::new(rt.alloc(), b"a", &options, &Ascii)?;
-    let mut tokenizer = Tokenizer::new(rt.alloc(), START, &text, Count { calls: 0 })?;
+/// Registers two of three resolvers again.
+fn register(tokenizer: &mut Tokenizer<'_, Count, Ascii, Global>) -> Result<(), Message> {
     tokenizer.register_resolver(resolve::Name::Text)?;
     tokenizer.register_resolver(resolve::Name::Data)?;
     tokenizer.register_resolver_before(resolve::Name::Label)?;
     tokenizer.register_resolver(resolve::Name::Text)?;
     tokenizer.register_resolver_before(resolve::Name::Data)?;
-    assert_eq!(rt; tokenizer.resolvers.len(), 3);
-    assert_eq!(rt; tokenizer.resolvers[0], resolve::Name::Label);
-    assert_eq!(rt; tokenizer.resolvers[1], resolve::Name::Text);
-    assert_eq!(rt; tokenizer.resolvers[2], resolve::Name::Data);
+    Ok(())
+}
+
+#[test]
+fn a_resolver_is_registered_once(rt: HostRuntime) -> Result<(), Fail> {
+    let options = ParseOptions::default();
+    let text = ParseState::new(rt.alloc(), b"a", &options, &Ascii)?;
+    let mut tokenizer = Tokenizer::new(rt.alloc(), START, &text, Count { calls: 0 })?;
+    register(&mut tokenizer)?;
+    let names = [
+        resolve::Name::Label,
+        resolve::Name::Text,
+        resolve::Name::Data,
+    ];
+    assert_eq!(rt; tokenizer.resolvers.as_slice(), names.as_slice());
+    Ok(())
+}
+
+/// Enters a chunk of data and leaves it.
+fn read_chunk(
+    tokenizer: &mut Tokenizer<'_, Count, Ascii, Global>,
+    link: Link,
+) -> Result<(), Message> {
+    tokenizer.enter_link(EventName::Data, link)?;
+    tokenizer.exit(EventName::Data)?;
     Ok(())
 }
 
@@ -208,11 +234,13 @@ fn a_chunk_is_entered_and_left(rt: HostRuntime) -> Result<(), Fail> {
         next: None,
         content: Content::Text,
     };
-    tokenizer.enter_link(EventName::Data, link)?;
-    tokenizer.exit(EventName::Data)?;
-    assert_eq!(rt; tokenizer.events.len(), 2);
-    assert_eq!(rt; tokenizer.events[0].link(), Some(link));
-    assert_eq!(rt; tokenizer.events[1].kind, Kind::Exit);
+    read_chunk(&mut tokenizer, link)?;
+    let events = tokenizer.events.as_slice();
+    assert_eq!(rt; events.len(), 2);
+    assert_eq!(rt;
+        (events[0].link(), events[1].kind),
+        (Some(link), Kind::Exit)
+    );
     Ok(())
 }
 
@@ -223,8 +251,8 @@ fn a_look_ahead_waits_for_its_end(rt: HostRuntime) -> Result<(), Fail> {
     let mut tokenizer = Tokenizer::new(rt.alloc(), START, &text, Count { calls: 0 })?;
     tokenizer.check(State::Ok, State::Nok)?;
     assert_eq!(rt; tokenizer.attempts.len(), 1);
-    assert!(rt; tokenizer.attempts[0].check);
-    assert_eq!(rt; tokenizer.attempts[0].nok, State::Nok);
+    let attempt = &tokenizer.attempts[0];
+    assert_eq!(rt; (attempt.check, attempt.nok), (true, State::Nok));
     Ok(())
 }
 

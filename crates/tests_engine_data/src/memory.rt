@@ -44,10 +44,14 @@ fn a_tokenizer_that_was_refused_memory_has_failed(rt: HostRuntime) -> Result<(),
     let mut tokenizer = Tokenizer::new(&heap, START, &text, Letters)?;
     let first = State::Next(Name::Inline(Inline::DataInside));
     let refused = State::out_of_memory();
-    assert_eq!(rt; tokenizer.push((0, 0), (1000, 0), first), refused);
-    assert!(rt; tokenizer.failed);
-    assert_eq!(rt; tokenizer.push((0, 0), (1, 0), first), refused);
-    assert!(rt; tokenizer.flush(first, true).is_err());
+    let pushed = tokenizer.push((0, 0), (1000, 0), first);
+    let failed = tokenizer.failed;
+    let later = tokenizer.push((0, 0), (1, 0), first);
+    let is_refused = tokenizer.flush(first, true).is_err();
+    assert_eq!(rt;
+        (pushed, failed, later, is_refused),
+        (refused, true, refused, true)
+    );
     Ok(())
 }
 

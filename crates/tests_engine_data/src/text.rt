@@ -77,22 +77,32 @@ fn whole_events_are_skipped(rt: HostRuntime) {
 
 #[test]
 fn characters_are_shown(rt: HostRuntime) -> Result<(), Fail> {
-    assert_eq!(rt; format(rt.alloc(), 'a')?.as_str(), "`a` (U+0061)");
-    assert_eq!(rt; format(rt.alloc(), '`')?.as_str(), "`` ` `` (U+0060)");
-    assert_eq!(rt; format(rt.alloc(), '\u{1F600}')?.as_str(), "U+1F600");
-    assert_eq!(rt; format_byte_opt(rt.alloc(), None)?.as_str(), "end of file");
-    assert_eq!(rt; before_index("é!".as_bytes(), 2), Some('é'));
-    assert_eq!(rt; after_index("é!".as_bytes(), 2), Some('!'));
+    for (character, shown) in [
+        ('a', "`a` (U+0061)"),
+        ('`', "`` ` `` (U+0060)"),
+        ('\u{1F600}', "U+1F600"),
+    ] {
+        assert_eq!(rt; format(rt.alloc(), character)?.as_str(), shown);
+    }
+    let bytes = "é!".as_bytes();
+    assert_eq!(rt;
+        (before_index(bytes, 2), after_index(bytes, 2)),
+        (Some('é'), Some('!'))
+    );
     Ok(())
 }
 
 #[test]
 fn characters_have_kinds(rt: HostRuntime) {
-    assert_eq!(rt; classify('é', &Ascii), CharacterKind::Other);
-    assert_eq!(rt; classify('*', &Ascii), CharacterKind::Punctuation);
-    assert_eq!(rt; classify('\u{A0}', &Ascii), CharacterKind::Whitespace);
-    assert_eq!(rt; classify_opt(Some('a'), &Ascii), CharacterKind::Other);
-    assert_eq!(rt; classify_opt(None, &Ascii), CharacterKind::Whitespace);
+    for (character, kind) in [
+        ('é', CharacterKind::Other),
+        ('*', CharacterKind::Punctuation),
+        ('\u{A0}', CharacterKind::Whitespace),
+    ] {
+        assert_eq!(rt; classify(character, &Ascii), kind);
+    }
+    let kinds = (classify_opt(Some('a'), &Ascii), classify_opt(None, &Ascii));
+    assert_eq!(rt; kinds, (CharacterKind::Other, CharacterKind::Whitespace));
     let text = "é!";
     assert_eq!(rt;
         kind_after_index(text.as_bytes(), 2, &Ascii),
@@ -106,13 +116,13 @@ fn characters_have_kinds(rt: HostRuntime) {
 
 #[test]
 fn bytes_are_shown(rt: HostRuntime) -> Result<(), Fail> {
-    assert_eq!(rt; format_opt(rt.alloc(), Some('é'))?.as_str(), "U+00E9");
-    assert_eq!(rt; format_opt(rt.alloc(), None)?.as_str(), "end of file");
+    for (character, shown) in [(Some('é'), "U+00E9"), (None, "end of file")] {
+        assert_eq!(rt; format_opt(rt.alloc(), character)?.as_str(), shown);
+    }
+    for (byte, shown) in [(Some(b'<'), "`<` (U+003C)"), (None, "end of file")] {
+        assert_eq!(rt; format_byte_opt(rt.alloc(), byte)?.as_str(), shown);
+    }
     assert_eq!(rt; format_byte(rt.alloc(), b'\n')?.as_str(), "U+000A");
-    assert_eq!(rt;
-        format_byte_opt(rt.alloc(), Some(b'<'))?.as_str(),
-        "`<` (U+003C)"
-    );
     Ok(())
 }
 

@@ -1,7 +1,9 @@
-//! Texts, raw HTML and URLs, and what is printed for them.
+//! Texts, raw HTML, URLs and footnotes, and what is printed for them; pages that are safe.
 #![tactic(auto)]
 
 #[cfg(test)]
 mod escape;
 #[cfg(test)]
 mod footnotes;
+#[cfg(test)]
+mod safe_page;

@@ -98,20 +98,41 @@ fn with_footnotes() -> Constructs {
     }
 }
 
+/// The rows of a text that fits.
+fn blocks_of<'a>(
+    alloc: Global,
+    text: &'a str,
+    on: &Constructs,
+) -> Result<Option<BlockRows<'a, Global>>, AllocError> {
+    if !fits(text) {
+        return Ok(None);
+    }
+    Ok(Some(block_rows(alloc, Kind::Whitespace, text, on)?))
+}
+
 /// The label of the footnote definition that a text begins with, if one does.
-fn first_label<'a>(blocks: &BlockRows<'a, Global>) -> Option<&'a str> {
-    match (blocks.rows.first(), blocks.pieces.first()) {
+fn first_label<'a>(alloc: Global, text: &'a str) -> Result<Option<&'a str>, AllocError> {
+    let Some(blocks) = blocks_of(alloc, text, &with_footnotes())? else {
+        return Ok(None);
+    };
+    Ok(match (blocks.rows.first(), blocks.pieces.first()) {
         (Some(Row::EnterFootnote), Some(piece)) => Some(piece.text),
         _ => None,
+    })
+}
+
+/// Whether a text has these rows.
+fn has_rows(alloc: Global, text: &str, on: &Constructs, rows: &[Row]) -> Result<bool, AllocError> {
+    match blocks_of(alloc, text, on)? {
+        Some(blocks) => Ok(blocks.rows.as_slice() == rows),
+        None => Ok(false),
     }
 }
 
 #[test]
 fn tells_labels(rt: HostRuntime) -> Result<(), AllocError> {
-    let on = with_footnotes();
     for (text, label) in STARTS {
-        let blocks = block_rows(rt.alloc(), Kind::Whitespace, text, &on)?;
-        assert_eq!(rt; first_label(&blocks), label, "at {text:?}");
+        assert_eq!(rt; first_label(rt.alloc(), text)?, label, "at {text:?}");
     }
     Ok(())
 }
@@ -120,42 +141,32 @@ fn tells_labels(rt: HostRuntime) -> Result<(), AllocError> {
 fn reads_rows(rt: HostRuntime) -> Result<(), AllocError> {
     let on = with_footnotes();
     for (text, rows) in ROWS {
-        let blocks = block_rows(rt.alloc(), Kind::Whitespace, text, &on)?;
-        assert_eq!(rt; blocks.rows.as_slice(), rows, "at {text:?}");
+        assert!(rt; has_rows(rt.alloc(), text, &on, rows)?, "at {text:?}");
     }
     Ok(())
 }
 
+/// Whether a footnote definition starts with a label of so many letters.
+fn starts_with(alloc: Global, count: usize) -> Result<bool, AllocError> {
+    let mut text = String::new(alloc);
+    text.push_str("[^")?;
+    for _ in 0..count {
+        text.push_str("a")?;
+    }
+    text.push_str("]: b")?;
+    Ok(first_label(alloc, &text)?.is_some())
+}
+
 #[test]
 fn labels_have_at_most_999_bytes(rt: HostRuntime) -> Result<(), AllocError> {
-    let on = with_footnotes();
-    for (count, starts) in [(999, true), (1000, false)] {
-        let mut text = String::new(rt.alloc());
-        text.push_str("[^")?;
-        for _ in 0..count {
-            text.push_str("a")?;
-        }
-        text.push_str("]: b")?;
-        if !fits(&text) {
-            continue;
-        }
-        let blocks = block_rows(rt.alloc(), Kind::Whitespace, &text, &on)?;
-        assert_eq!(rt; first_label(&blocks).is_some(), starts, "of {count} bytes");
-    }
+    assert!(rt; starts_with(rt.alloc(), 999)?);
+    assert!(rt; !starts_with(rt.alloc(), 1000)?);
     Ok(())
 }
 
 #[test]
 fn none_starts_where_the_construct_is_off(rt: HostRuntime) -> Result<(), AllocError> {
-    let blocks = block_rows(
-        rt.alloc(),
-        Kind::Whitespace,
-        "[^a]: b",
-        &Constructs::default(),
-    )?;
-    assert_eq!(rt;
-        blocks.rows.as_slice(),
-        [Row::Definition(1), END].as_slice()
-    );
+    let rows = [Row::Definition(1), END];
+    assert!(rt; has_rows(rt.alloc(), "[^a]: b", &Constructs::default(), &rows)?);
     Ok(())
 }

@@ -5,7 +5,7 @@ use crate::joined::assert_no_fault;
 use markdown::{Options, RunError};
 
 /// Footnotes that are called, or are not.
-pub(crate) const CALLS: [(&str, &str); 12] = [
+const CALLS: [(&str, &str); 12] = [
     (
         "[^a]\n\n[^a]: b",
         "<p><sup><a href=\"#user-content-fn-a\" id=\"user-content-fnref-a\" data-footnote-ref=\"\" \
@@ -84,7 +84,7 @@ pub(crate) const CALLS: [(&str, &str); 12] = [
 ];
 
 /// Calls among inline structure and blocks.
-pub(crate) const PLACES: [(&str, &str); 12] = [
+const PLACES: [(&str, &str); 12] = [
     (
         "![b [^a]](c) [^a]\n\n[^a]: d",
         "<p><img src=\"c\" alt=\"b \" /> <sup><a href=\"#user-content-fn-a\" id=\"user-content-fnref-a-2\" \
@@ -175,7 +175,7 @@ pub(crate) const PLACES: [(&str, &str); 12] = [
 ];
 
 /// Definitions in one another, and what they hold.
-pub(crate) const DEFINITIONS: [(&str, &str); 12] = [
+const DEFINITIONS: [(&str, &str); 12] = [
     (
         "- [^a]\n\n  [^a]: b",
         "<ul>\n<li>\n<p><sup><a href=\"#user-content-fn-a\" id=\"user-content-fnref-a\" data-footnote-ref=\"\" \
@@ -289,7 +289,7 @@ pub(crate) const DEFINITIONS: [(&str, &str); 12] = [
 ];
 
 /// What definitions hold, line endings, and labels.
-pub(crate) const CONTENTS: [(&str, &str); 11] = [
+const CONTENTS: [(&str, &str); 11] = [
     (
         "[^a]\n\n[^a]: - b",
         "<p><sup><a href=\"#user-content-fn-a\" id=\"user-content-fnref-a\" data-footnote-ref=\"\" \
@@ -395,7 +395,7 @@ pub(crate) const CONTENTS: [(&str, &str); 11] = [
 ];
 
 /// Definitions among other blocks, and repeated calls.
-pub(crate) const MIXED: [(&str, &str); 11] = [
+const MIXED: [(&str, &str); 11] = [
     (
         "[^a]\n\n[^a]: [b]\n\n[b]: c",
         "<p><sup><a href=\"#user-content-fn-a\" id=\"user-content-fnref-a\" data-footnote-ref=\"\" \
@@ -485,14 +485,18 @@ pub(crate) const OFF: [(&str, &str); 2] = [
     ("[^a]", "<p>[^a]</p>"),
 ];
 
+/// All tables with footnotes.
+pub(crate) fn tables() -> [&'static [(&'static str, &'static str)]; 5] {
+    [&CALLS, &PLACES, &DEFINITIONS, &CONTENTS, &MIXED]
+}
+
 #[test]
 fn numbers_footnotes(rt: HostRuntime) -> Result<(), RunError> {
     let options = Options::gfm();
-    assert_no_fault(&rt, &CALLS, &options)?;
-    assert_no_fault(&rt, &PLACES, &options)?;
-    assert_no_fault(&rt, &DEFINITIONS, &options)?;
-    assert_no_fault(&rt, &CONTENTS, &options)?;
-    assert_no_fault(&rt, &MIXED, &options)
+    for rows in tables() {
+        assert_no_fault(&rt, rows, &options)?;
+    }
+    Ok(())
 }
 
 #[test]

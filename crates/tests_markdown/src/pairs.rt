@@ -4,7 +4,7 @@ ghost use Rattle.markdown_options.specs.Mdx.{HasNoMdx};
 use crate::extensions::{FRONTMATTER, MATH_FLOW, MATH_TEXT, STRIKETHROUGH, extensions};
 use crate::gfm_autolink_literal::{EMAILS, LITERALS};
 use crate::gfm_examples::{EXAMPLES, FILTERED};
-use crate::gfm_label_start_footnote::{CALLS, CONTENTS, DEFINITIONS, MIXED, PLACES};
+use crate::gfm_label_start_footnote;
 use crate::gfm_task_list_item::TASKS;
 use crate::inline::{BESIDE, INLINE, MARKED, REFERENCES};
 use crate::joined::first_unjoined;
@@ -156,20 +156,24 @@ fn prints_worked_texts_beside_examples(rt: HostRuntime) -> Result<(), RunError> 
 
 #[test]
 fn prints_worked_texts_beside_footnotes(rt: HostRuntime) -> Result<(), RunError> {
-    assert_none_apart(&rt, &CALLS)?;
-    assert_none_apart(&rt, &PLACES)?;
-    assert_none_apart(&rt, &DEFINITIONS)?;
-    assert_none_apart(&rt, &CONTENTS)?;
-    assert_none_apart(&rt, &MIXED)
+    for rows in gfm_label_start_footnote::tables() {
+        assert_none_apart(&rt, rows)?;
+    }
+    Ok(())
 }
 
 /// Every two texts of a table where more can be read than its own texts ask for.
 #[test]
 fn prints_every_two_texts_by_extensions(rt: HostRuntime) -> Result<(), RunError> {
     let options = extensions();
-    assert_joined(&rt, &LEAVES, &options)?;
-    assert_joined(&rt, &CONTAINERS, &options)?;
-    assert_joined(&rt, &INLINE, &options)?;
-    assert_joined(&rt, &BESIDE, &options)?;
-    assert_joined(&rt, &PLAIN, &options)
+    for rows in [
+        LEAVES.as_slice(),
+        CONTAINERS.as_slice(),
+        INLINE.as_slice(),
+        BESIDE.as_slice(),
+        PLAIN.as_slice(),
+    ] {
+        assert_joined(&rt, rows, &options)?;
+    }
+    Ok(())
 }

@@ -99,14 +99,19 @@ fn refuses_bytes(rt: HostRuntime) -> io::Result<()> {
 #[test]
 fn refuses_words(rt: HostRuntime) -> io::Result<()> {
     let fault = "markdown: wrong command line\n";
-    complains(&rt, &["--x"], b"a", 2, fault)?;
-    complains(&rt, &[""], b"a", 2, fault)?;
-    complains(&rt, &["page.md"], b"a", 2, fault)?;
-    complains(&rt, &["--plain "], b"a", 2, fault)?;
-    complains(&rt, &["--plain=true"], b"a", 2, fault)?;
-    complains(&rt, &["--plain", "--plain"], b"a", 2, fault)?;
-    complains(&rt, &["--gfm", "--gfm"], b"a", 2, fault)?;
-    complains(&rt, &["--references"], b"a", 2, fault)
+    for words in [
+        ["--x"].as_slice(),
+        [""].as_slice(),
+        ["page.md"].as_slice(),
+        ["--plain "].as_slice(),
+        ["--plain=true"].as_slice(),
+        ["--plain", "--plain"].as_slice(),
+        ["--gfm", "--gfm"].as_slice(),
+        ["--references"].as_slice(),
+    ] {
+        complains(&rt, words, b"a", 2, fault)?;
+    }
+    Ok(())
 }
 
 #[test]

@@ -1,5 +1,0 @@
-//! Pages that are safe, and pages that are not.
-#![tactic(auto)]
-
-#[cfg(test)]
-mod pages;
