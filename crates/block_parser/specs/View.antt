@@ -1,18 +1,21 @@
 -- What a parser has read.
-use Rattle.std.specs.Prelude.{◌≡◌, ℕ, ◌<◌, true, false, List, [], ◌∷◌, ◌++◌, length}
+use Rattle.std.specs.Prelude.{◌≡◌, ℕ, ◌<◌, true, false, List, [], ◌∷◌, ◌++◌, Option, IfSome, drop, length}
+use Rattle.std.proofs.Common.{Bor}
 use Rattle.markdown_options.specs.declared.configuration.Constructs.{Constructs}
 use Rattle.definition_text.specs.declared.beside.Beside.{Beside}
 use Rattle.definition_text.specs.declared.beside.Kind.{Kind}
 use Rattle.definition_text.specs.declared.beside.Kind.TheVariants.{Whitespace}
 use Rattle.definition_text.specs.Lines.{TextLine, lines}
+use Rattle.definition_text.specs.BlockLines.{BlockLine}
 use Rattle.definition_text.specs.Columns.{Rest}
+use Rattle.definition_block.specs.Container.{Container}
 use Rattle.definition_block.specs.Tree.{Blocks, Nil, OpenLeaf, Text, Opening, Leaf, Inside, Tree, tree, nothing, open_text, new, leaf_line, grow, steps}
 use Rattle.block_rows.specs.ParagraphLines.{AreLines}
-use Rattle.block_rows.specs.Rows.{piece_lines}
+use Rattle.block_rows.specs.Rows.{piece_lines, whole_lines}
 use Rattle.block_starts.specs.View.{container_views}
 use Rattle.block_parser.specs.declared.parser.Parser.{Parser}
 use Rattle.block_state.specs.Leaves.{leaf_state}
-use Rattle.block_state.specs.Spine.{Level, Spine, spine, spine_at, spine_of, spine_after}
+use Rattle.block_state.specs.Spine.{Level, Spine, level, spine, spine_at, spine_of, spine_after}
 use Rattle.block_state.specs.Shows.{Shows}
 
 -- what was read so far is this
@@ -42,6 +45,28 @@ Becomes old new leaf more = (around : List Level) (kids : Blocks) → HasRead ol
 -- a leaf that is open is closed, and these blocks stand in its place
 abbrev pub Closes : {A : Type 0} → Parser A → Parser A → OpenLeaf → Blocks → Type 0
 Closes old new leaf blocks = Becomes old new leaf (tree blocks nothing)
+
+-- the lines that no row has taken, which are those of the open leaf
+abbrev pub lines_left : {A : Type 0} → Parser A → List BlockLine
+lines_left p = drop p.lines_in_rows (piece_lines p.pieces.items)
+
+-- lines are those of a text, if it is known
+abbrev pub AreKnown : Option (Bor (List ℕ)) → List BlockLine → Type 0
+AreKnown known ls = IfSome known (λ text. whole_lines text.now ≡ ls)
+
+-- the open paragraph is closed, and these blocks stand in its place; its lines may be known to be those of a text
+abbrev pub ClosesText : {A : Type 0} → Parser A → Parser A → Option (Bor (List ℕ)) → (List BlockLine → Blocks) → Type 0
+ClosesText old new known blocks = (ls : List BlockLine) → AreLines ls → AreKnown known ls → Closes old new (Text ls) (blocks ls)
+
+-- the open paragraph has one line more
+abbrev pub HasLine : {A : Type 0} → Parser A → Parser A → BlockLine → Type 0
+HasLine old new line =
+    (around : List Level) (kids : Blocks) (ls : List BlockLine) → HasRead old (spine around kids (Text ls)) → HasRead new (spine around kids (Text (ls ++ line ∷ [])))
+
+-- where no leaf is open, a container starts
+abbrev pub Enters : {A : Type 0} → Parser A → Parser A → Container → Type 0
+Enters old new c =
+    (around : List Level) (kids : Blocks) → HasRead old (spine around kids (Text [])) → HasRead new (spine (level c kids ∷ around) Nil (Text []))
 
 -- where no leaf is open, this is added in the innermost container
 abbrev pub Adds : {A : Type 0} → Parser A → Parser A → Tree → Type 0

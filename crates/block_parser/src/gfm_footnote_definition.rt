@@ -9,16 +9,13 @@ use definition_text::Kind;
 use std::alloc::{AllocError, Allocator};
 
 impl<'a, A: Allocator> Parser<'a, A> {
-    ghost use Rattle.std.specs.Prelude.{OnOk, List, ◌∷◌, []};
+    ghost use Rattle.std.specs.Prelude.{OnOk};
     ghost use Rattle.definition_block.specs.Container.{Footnote};
-    ghost use Rattle.definition_block.specs.Tree as tree;
-    ghost use Rattle.block_state.specs.Spine.{Level, level, spine};
-    ghost use Rattle.block_parser.specs.View.{HasRead};
+    ghost use Rattle.block_parser.specs.View.{Enters};
 
     /// A footnote definition starts, where no leaf is open. Its label is a line of its own.
     pub(crate) fn enter_footnote(&mut self, label: &'a str) -> Result<(), AllocError>
-        ensures { OnOk result ((around : List Level) (kids : tree.Blocks) → HasRead self.old (spine around kids (tree.Text [])) →
-            HasRead self.new (spine (level (Footnote label.entry.now) kids ∷ around) tree.Nil (tree.Text []))) }
+        ensures { OnOk result (Enters self.old self.new (Footnote label.entry.now)) }
     {
         let container = Container::Footnote(label);
         self.pieces.push(Piece {

@@ -33,7 +33,7 @@ impl<'a, A: Allocator> Parser<'a, A> {
     ghost use Rattle.block_parser.specs.HeadingSetext.{IsText};
     ghost use Rattle.block_state.specs.Shows.{leaf_lines};
     ghost use Rattle.block_state.specs.Spine.{Level, Spine, spine_at};
-    ghost use Rattle.block_parser.specs.View.{Becomes, Closes, HasRead};
+    ghost use Rattle.block_parser.specs.View.{Becomes, Closes, HasRead, lines_left};
     ghost use Rattle.block_starts.specs.View.{rest_of};
 
     /// Whether a rest is a row of delimiters under the last line of the open paragraph, where the
@@ -68,7 +68,7 @@ impl<'a, A: Allocator> Parser<'a, A> {
     /// Whether the last line of the open paragraph has a cell for each column, of which there is one
     /// at least.
     fn has_head(&self) -> bool
-        ensures { result ≡ fits self.now.aligns.items (drop self.now.lines_in_rows (piece_lines self.now.pieces.items)) }
+        ensures { result ≡ fits self.now.aligns.items (lines_left self.now) }
     {
         let columns = self.aligns.len();
         columns > 0 && is_head(&self.pieces[self.lines_in_rows..], columns)

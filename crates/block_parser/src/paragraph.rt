@@ -13,28 +13,25 @@ use markdown_options::{Constructs, LineEnding};
 use std::alloc::{AllocError, Allocator};
 
 impl<'a, A: Allocator> Parser<'a, A> {
-    ghost use Rattle.std.specs.Prelude.{◌≡◌, OnOk, IfNone, IfSome, List, None, drop, ◌++◌, ◌∷◌, []};
+    ghost use Rattle.std.specs.Prelude.{◌≡◌, IfNone, IfSome, List, None, OnOk};
     ghost use Rattle.definition_text.specs.BlockLines.{BlockLine, own_lines};
     ghost use Rattle.definition_block.specs.Tree as tree;
     ghost use Rattle.block_rows.specs.ParagraphLines.{AreLines};
-    ghost use Rattle.block_state.specs.Spine.{Level, spine};
     ghost use Rattle.block_state.specs.WholeLines.{BeginsNot};
-    ghost use Rattle.block_parser.specs.View.{Closes, HasRead};
-    ghost use Rattle.block_rows.specs.Rows.{piece_line, piece_lines, whole_lines};
+    ghost use Rattle.block_parser.specs.View.{AreKnown, Closes, ClosesText, HasLine, lines_left};
+    ghost use Rattle.block_rows.specs.Rows.{piece_line, whole_lines};
     ghost use Rattle.block_starts.specs.View.{rest_of};
 
     /// A line of text goes on the paragraph, or is its first.
     pub(crate) fn text_line(&mut self, rest: Cursor<'a>, beside: Beside) -> Result<(), AllocError>
-        ensures { OnOk result ((around : List Level) (kids : tree.Blocks) (ls : List BlockLine) → HasRead self.old (spine around kids (tree.Text ls)) →
-            HasRead self.new (spine around kids (tree.Text (ls ++ tree.rest_line (rest_of rest.entry) beside ∷ [])))) }
+        ensures { OnOk result (HasLine self.old self.new (tree.rest_line (rest_of rest.entry) beside)) }
     {
         self.add_line(piece(rest, beside))
     }
 
     /// The same of a line of a block.
     pub(crate) fn add_line(&mut self, line: Piece<'a>) -> Result<(), AllocError>
-        ensures { OnOk result ((around : List Level) (kids : tree.Blocks) (ls : List BlockLine) → HasRead self.old (spine around kids (tree.Text ls)) →
-            HasRead self.new (spine around kids (tree.Text (ls ++ piece_line line.entry ∷ [])))) }
+        ensures { OnOk result (HasLine self.old self.new (piece_line line.entry)) }
     {
         self.paragraph = if self.has_text() {
             self.paragraph
@@ -46,8 +43,7 @@ impl<'a, A: Allocator> Parser<'a, A> {
 
     /// The same, where the paragraph is known to begin where `paragraph` does.
     pub(crate) fn push_line(&mut self, line: Piece<'a>) -> Result<(), AllocError>
-        ensures { OnOk result ((around : List Level) (kids : tree.Blocks) (ls : List BlockLine) → HasRead self.old (spine around kids (tree.Text ls)) →
-            HasRead self.new (spine around kids (tree.Text (ls ++ piece_line line.entry ∷ [])))) }
+        ensures { OnOk result (HasLine self.old self.new (piece_line line.entry)) }
     {
         self.pieces.push(line)?;
         Ok(())
@@ -60,8 +56,7 @@ impl<'a, A: Allocator> Parser<'a, A> {
         on: &Constructs,
         known: Option<&'a str>,
     ) -> Result<(), AllocError>
-        ensures read { OnOk result ((ls : List BlockLine) → AreLines ls → IfSome known.entry (λ text. whole_lines text.now ≡ ls) →
-            Closes self.old self.new (tree.Text ls) (tree.close_leaf on.now (tree.Text ls))) }
+        ensures read { OnOk result (ClosesText self.old self.new known.entry (λ ls. tree.close_leaf on.now (tree.Text ls))) }
         ensures containers { self.new.open ≡ self.old.open }
     {
         if !self.has_text() {
@@ -72,8 +67,7 @@ impl<'a, A: Allocator> Parser<'a, A> {
 
     /// The same: definitions, and a paragraph of what is left.
     fn close_lines(&mut self, on: &Constructs, known: Option<&'a str>) -> Result<(), AllocError>
-        ensures read { OnOk result ((ls : List BlockLine) → AreLines ls → IfSome known.entry (λ text. whole_lines text.now ≡ ls) →
-            Closes self.old self.new (tree.Text ls) (tree.close_leaf on.now (tree.Text ls))) }
+        ensures read { OnOk result (ClosesText self.old self.new known.entry (λ ls. tree.close_leaf on.now (tree.Text ls))) }
         ensures containers { self.new.open ≡ self.old.open }
     {
         if !self.may_define(on) {
@@ -86,8 +80,7 @@ impl<'a, A: Allocator> Parser<'a, A> {
     /// The lines that are left of the open paragraph, if there are any, are a paragraph. From two
     /// lines on it is kept as one, where they are whole: those of a text that may be known.
     fn close_paragraph(&mut self, known: Option<&'a str>) -> Result<(), AllocError>
-        ensures read { OnOk result ((ls : List BlockLine) → AreLines ls → IfSome known.entry (λ text. whole_lines text.now ≡ ls) →
-            Closes self.old self.new (tree.Text ls) (tree.paragraph_of ls)) }
+        ensures read { OnOk result (ClosesText self.old self.new known.entry tree.paragraph_of) }
         ensures containers { self.new.open ≡ self.old.open }
     {
         let count = self.pieces.len() - self.lines_in_rows;
@@ -106,10 +99,9 @@ impl<'a, A: Allocator> Parser<'a, A> {
 
     /// A text that is known to be that of the lines of the open leaf, or the one that is found.
     fn text_or(&self, known: Option<&'a str>) -> Option<&'a str>
-        ensures text { IfSome result (λ text. let ls = drop self.now.lines_in_rows (piece_lines self.now.pieces.items) in
-            AreLines ls → IfSome known.entry (λ text. whole_lines text.now ≡ ls) → whole_lines text.now ≡ ls) }
+        ensures text { IfSome result (λ text. let ls = lines_left self.now in AreLines ls → AreKnown known.entry ls → whole_lines text.now ≡ ls) }
         ensures unknown { IfNone result (known.entry ≡ None) }
-        ensures none { IfNone result (BeginsNot (drop self.now.lines_in_rows (piece_lines self.now.pieces.items)) self.now.paragraph.now) }
+        ensures none { IfNone result (BeginsNot (lines_left self.now) self.now.paragraph.now) }
     {
         match known {
             Some(text) => Some(text),
@@ -120,9 +112,8 @@ impl<'a, A: Allocator> Parser<'a, A> {
     /// The text of the lines of the open leaf, where they are the whole lines of the text from that
     /// of `paragraph` on.
     fn whole_text(&self) -> Option<&'a str>
-        ensures text { IfSome result (λ text.
-            let ls = drop self.now.lines_in_rows (piece_lines self.now.pieces.items) in AreLines ls → whole_lines text.now ≡ ls) }
-        ensures none { IfNone result (BeginsNot (drop self.now.lines_in_rows (piece_lines self.now.pieces.items)) self.now.paragraph.now) }
+        ensures text { IfSome result (λ text. AreLines (lines_left self.now) → whole_lines text.now ≡ lines_left self.now) }
+        ensures none { IfNone result (BeginsNot (lines_left self.now) self.now.paragraph.now) }
     {
         first_lines(self.paragraph, &self.pieces[self.lines_in_rows..])
     }

@@ -71,10 +71,10 @@ impl<'a, A: Allocator> Parser<'a, A> {
     ghost use Rattle.block_rows.specs.ParagraphLines.{AreLines};
     ghost use Rattle.block_rows.specs.Rows.{block_rows, row_value, row_size};
     ghost use Rattle.block_parser.specs.HeadingSetext.{is_text};
-    ghost use Rattle.block_state.specs.Spine.{Level, Spine, level, spine, spine_at, spine_of, without_innermost};
+    ghost use Rattle.block_state.specs.Spine.{Level, Spine, spine, spine_at, spine_of, without_innermost};
     ghost use Rattle.block_parser.specs.Quotes.{NoQuoteFrom, NoneBeganBlank};
     ghost use Rattle.block_state.specs.Shows.{leaf_lines};
-    ghost use Rattle.block_parser.specs.View.{Becomes, Closes, HasRead, Adds, Grows, Descent, IsEntered, KeepsLines, ReadsSome};
+    ghost use Rattle.block_parser.specs.View.{Adds, Becomes, Closes, Descent, Enters, Grows, HasRead, IsEntered, KeepsLines, ReadsSome};
     ghost use Rattle.definition_text.specs.declared.beside.Kind.TheVariants.{Whitespace};
     ghost use Rattle.definition_block.specs.Container.{Container as Holder};
     ghost use Rattle.definition_text.specs.BlockLines.{BlockLine, last_ending};
@@ -415,8 +415,7 @@ impl<'a, A: Allocator> Parser<'a, A> {
 
     /// A container starts, where no leaf is open.
     fn enter(&mut self, container: Container<'a>) -> Result<(), AllocError>
-        ensures { OnOk result ((around : List Level) (kids : tree.Blocks) → HasRead self.old (spine around kids (tree.Text [])) →
-            HasRead self.new (spine (level (container_view container.entry) kids ∷ around) tree.Nil (tree.Text []))) }
+        ensures { OnOk result (Enters self.old self.new (container_view container.entry)) }
     {
         match container {
             Container::Quote | Container::Item(_) => self.enter_alone(container),
@@ -438,8 +437,7 @@ impl<'a, A: Allocator> Parser<'a, A> {
     /// A container without a line of its own starts, where no leaf is open.
     fn enter_alone(&mut self, container: Container<'a>) -> Result<(), AllocError>
         requires { row_size (enter_row (container_view container)) ≡ 0 }
-        ensures { OnOk result ((around : List Level) (kids : tree.Blocks) → HasRead self.old (spine around kids (tree.Text [])) →
-            HasRead self.new (spine (level (container_view container.entry) kids ∷ around) tree.Nil (tree.Text []))) }
+        ensures { OnOk result (Enters self.old self.new (container_view container.entry)) }
     {
         self.rows.enter(container)?;
         let end = self.quotes_end_with(container);
