@@ -33,7 +33,9 @@ pub fn continues<'a>(
 }
 
 /// The container that starts here, and what it leaves of the line. `interrupts` says that it would
-/// interrupt a paragraph.
+/// interrupt a paragraph. It is built into its callers, since most rests start none, and a container
+/// is answered through memory.
+#[inline(always)]
 pub fn starts<'a>(
     on: &Constructs,
     interrupts: bool,
@@ -48,8 +50,7 @@ pub fn starts<'a>(
     }
 }
 
-/// The quote or the item that starts here, and what it leaves of the line. It is kept apart so that
-/// the test above is compiled into its callers.
+/// The quote or the item that starts here, and what it leaves of the line.
 #[inline(never)]
 fn quote_or_item<'a>(
     on: &Constructs,

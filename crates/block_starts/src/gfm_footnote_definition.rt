@@ -27,6 +27,7 @@ pub(crate) struct Mark<'a> {
 }
 
 /// The footnote definition that starts here, and what it leaves of the line.
+#[inline(always)]
 pub(crate) fn footnote_start<'a>(
     on: &Constructs,
     rest: Cursor<'a>,
@@ -36,6 +37,18 @@ pub(crate) fn footnote_start<'a>(
     if !on.gfm_footnote_definition {
         return None;
     }
+    marked_footnote(on, rest)
+}
+
+/// The same where they are on.
+#[inline(never)]
+fn marked_footnote<'a>(
+    on: &Constructs,
+    rest: Cursor<'a>,
+) -> Option<(Container<'a>, ContainerLine<'a>)>
+    requires { on.now.gfm_footnote_definition ≡ true }
+    ensures { started_if result ≡ spec.footnote_start on.now (rest_of rest.entry) }
+{
     let (columns, bare) = rest.split_bare();
     if !is_small(on, columns) {
         return None;
