@@ -214,16 +214,6 @@ fn a_resolver_is_registered_once(rt: HostRuntime) -> Result<(), Fail> {
     Ok(())
 }
 
-/// Enters a chunk of data and leaves it.
-fn read_chunk(
-    tokenizer: &mut Tokenizer<'_, Count, Ascii, Global>,
-    link: Link,
-) -> Result<(), Message> {
-    tokenizer.enter_link(EventName::Data, link)?;
-    tokenizer.exit(EventName::Data)?;
-    Ok(())
-}
-
 #[test]
 fn a_chunk_is_entered_and_left(rt: HostRuntime) -> Result<(), Fail> {
     let options = ParseOptions::default();
@@ -234,7 +224,8 @@ fn a_chunk_is_entered_and_left(rt: HostRuntime) -> Result<(), Fail> {
         next: None,
         content: Content::Text,
     };
-    read_chunk(&mut tokenizer, link)?;
+    tokenizer.enter_link(EventName::Data, link)?;
+    tokenizer.exit(EventName::Data)?;
     let events = tokenizer.events.as_slice();
     assert_eq!(rt; events.len(), 2);
     assert_eq!(rt;
