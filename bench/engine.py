@@ -3,8 +3,8 @@
 
     engine.py [steps|events|rows] [BYTES] [plain|dense] [PROGRAM]
 
-PROGRAM is `crates/markdown_bench`, built by `rt run`. A plain text has paragraphs of words, a dense one a construct in every seven bytes. The best of 20 rounds counts;
-reading the text is part of the time.
+PROGRAM is `crates/markdown_bench`, built by `rt run`. A plain text has paragraphs of words, a dense one a construct in
+every seven bytes. The best of 20 rounds counts; reading the text is part of the time.
 """
 import os
 import subprocess

@@ -4,9 +4,10 @@
     forwarding.py PROGRAM TEXT [ROWS]
 
 A processor hands a load what a store before it wrote, as long as that store alone wrote all of it. Where bytes come of two
-stores, or of one and of memory, the load waits until they are in the cache, some twelve cycles. That happens where a value
-goes through memory: it is written field by field, and copied by wider loads. `valgrind` traces the program on TEXT, which
-should be short, as 60 KB. A row says how often, the load and its function, and the last store of those bytes.
+stores, or of one and of memory, the load waits until they are in the cache. That happens where a value goes through memory:
+it is written field by field, and copied by wider loads. `valgrind` traces the program on TEXT, which should be short, as
+60 KB; so this counts by a model, and times nothing. A row says how often, the load and its function, and the last store of
+those bytes.
 """
 import bisect
 import collections
