@@ -122,6 +122,7 @@ fn content_len(bytes: &[u8]) -> usize
 }
 
 /// The ending that a text begins with, and what follows it.
+#[inline(always)]
 fn split_ending(text: &str) -> (Option<LineEnding>, &str)
     ensures { BeginsWithEnding text.now result.0 result.1.now }
 {
