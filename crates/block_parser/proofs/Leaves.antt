@@ -1,6 +1,6 @@
 -- What is shown after a leaf goes on, starts or is closed.
 use Rattle.std.proofs.Common.{◌≡◌, ℕ, ◌+◌, ◌-◌, ◌≤◌, ◌<◌, ◌==◌, get_or, List, [], ◌∷◌, ◌++◌, Option, Bool, true, false, refl, sym, ap, ◌∙◌, subst, take, drop}
-use Rattle.std.proofs.Common.{length, append_assoc, arith, ltb}
+use Rattle.std.proofs.Common.{length, append_assoc, arith, ltb, vec_len}
 use Rattle.std.specs.Prelude.{map}
 use Rattle.std.proofs.lemmas.Bool.{lt-ltb, le-ltb, eq-eqb, ne_eqb}
 use Rattle.std.proofs.lemmas.List.{append-nil, length-append, length-map, map-append, take_all, drop_all, take-append-le, drop-append-le, take-map, drop-map}
@@ -13,17 +13,18 @@ use Rattle.block_rows.specs.declared.row.Row.{Row}
 use Rattle.block_rows.specs.declared.row.Row.TheVariants as row
 use Rattle.block_rows.specs.declared.row.Piece.{Piece}
 use Rattle.definition_text.specs.BlockLines.{BlockLine, last_ending, own_lines}
-use Rattle.definition_block.specs.Tree.{Block, IndentedCode, Ending, Blank, Blocks, Nil, join, one, block_and_ending, container_block, OpenLeaf, Text, Indented}
+use Rattle.definition_block.specs.Tree.{Block, IndentedCode, Ending, Blank, Blocks, Nil, join, one, block_and_ending, container_block, OpenLeaf, Text, Indented, Fenced, OpenHtml, OpenTable}
 use Rattle.definition_block.specs.Tree.{Leaf}
 use Rattle.definition_block.specs.Tree.{is_nothing, close_leaf, is_some_line, blanks, is_ending, front}
 use Rattle.block_rows.proofs.Pieces.{lines_from}
 use Rattle.block_rows.specs.Rows.{Single, start_row, block_rows, row_value, rows_of, rows_value, value_with, row_size, rows_size, piece_line}
 use Rattle.block_rows.specs.Rows.{piece_lines}
 use Rattle.block_parser.specs.declared.parser.Parser.{Parser}
-use Rattle.block_state.specs.Spine.{Level, level, spine, rows_around}
+use Rattle.block_state.specs.Spine.{Level, Spine, level, spine, rows_around}
 use Rattle.block_state.specs.Waits.{enter_row, inside, outside}
 use Rattle.block_parser.specs.View.{HasRead}
-use Rattle.block_state.specs.Shows.{LeafState, state_of, leaf_lines, lone, AreWritten, Shows}
+use Rattle.block_state.specs.Leaves.{leaf_state}
+use Rattle.block_state.specs.Shows.{InText, LeafState, state_of, leaf_lines, lone, AreWritten, Shows}
 use Rattle.block_state.proofs.Trees.{join-assoc, join-nil}
 use Rattle.block_state.proofs.Shown.{left_count, left_shown}
 use Rattle.block_state.proofs.Written.{with_block, with_ending, with_line, without_lines, with_enter, with_exit}
@@ -87,6 +88,30 @@ pub all_left : (rows waiting : List Row) (bare : Bool) (pool : List BlockLine) (
 all_left rows waiting bare pool around kids left h le = left_count rows pool _ h.rows_stand le
 
 -- ---- whether a paragraph is open
+
+-- a leaf is text, of all lines that no row took
+pub record TextLeft (from count : ℕ) (leaf : OpenLeaf) : Type 0 where
+  pub ls : List BlockLine
+  pub is : leaf ≡ Text ls
+  pub left : from + length ls ≡ count
+
+pub text_left : {A : Type 0} (p : Parser A) (s : Spine) (count : ℕ) → HasRead p s → InText ≡ leaf_state p.leaf → count ≡ vec_len p.pieces
+    → TextLeft p.lines_in_rows count s.leaf
+text_left p s count h same len =
+    of s.leaf (all_left p.rows.rows.items p.rows.waiting.items p.rows.bare (piece_lines p.pieces.items) s.around s.kids (leaf_lines s.leaf) h.written
+    (enough_lines p)) (same ∙ h.same_state)
+  where
+    of : (leaf : OpenLeaf) → rows_size p.rows.rows.items + length (leaf_lines leaf) ≡ length (piece_lines p.pieces.items) → InText ≡ state_of leaf
+        → TextLeft p.lines_in_rows count leaf
+    of (Text ls) left is = record {
+      ls = ls;
+      is = refl;
+      left = omega (arith, left, p.counted, length-map p.pieces.items piece_line, p.pieces.ok.0, len);
+    }
+    of (Indented ls pending) left is = let wrong = is in cc
+    of (Fenced fence opening ls) left is = let wrong = is in cc
+    of (OpenHtml kind ls) left is = let wrong = is in cc
+    of (OpenTable ls) left is = let wrong = is in cc
 
 pub text_is_open : (count len : ℕ) (ls : List BlockLine) → count + length ls ≡ len → ltb count len ≡ is_some_line ls
 text_is_open count len [] h = le-ltb count len (omega (arith, h))

@@ -31,15 +31,15 @@ impl<'a, A: Allocator> Parser<'a, A> {
         &mut self,
         on: &Constructs,
         fence: Fence<'a>,
-        rest: Cursor<'a>,
+        rest: &Cursor<'a>,
         beside: Beside,
     ) -> Result<(), AllocError>
         requires lines { self.old.lines_in_rows + 1 ≤ vec_len self.old.pieces }
         ensures { OnOk result ((opening : Option LineEnding) (ls : List BlockLine) → let leaf = tree.Fenced (fence_view fence.entry) opening ls in
-            Becomes self.old self.new leaf (leaf_grown on.now beside (rest_of rest.entry) (tree.Leaf leaf))) }
+            Becomes self.old self.new leaf (leaf_grown on.now beside (rest_of rest.now) (tree.Leaf leaf))) }
     {
-        if !is_fence_end(on, &fence, rest) {
-            self.pieces.push(piece(fence_line(&fence, rest), beside))?;
+        if !is_fence_end(on, &fence, *rest) {
+            self.pieces.push(piece(&fence_line(&fence, *rest), beside))?;
             self.leaf = OpenLeaf::Fenced {
                 fence,
                 ending: beside.ending,
@@ -81,11 +81,11 @@ impl<'a, A: Allocator> Parser<'a, A> {
 }
 
 /// The fence of code or of math that opens here.
-pub(crate) fn opening_fence<'a>(on: &Constructs, rest: Cursor<'a>) -> Option<Fence<'a>>
-    ensures { fence_if result ≡ fence_here on.now (rest_of rest.entry) }
+pub(crate) fn opening_fence<'a>(on: &Constructs, rest: &Cursor<'a>) -> Option<Fence<'a>>
+    ensures { fence_if result ≡ fence_here on.now (rest_of rest.now) }
 {
-    match fence_start(on, rest) {
+    match fence_start(on, *rest) {
         Some(fence) => Some(fence),
-        None => math_start(on, rest),
+        None => math_start(on, *rest),
     }
 }

@@ -27,18 +27,18 @@ impl<'a, A: Allocator> Parser<'a, A> {
     pub(crate) fn indented_line(
         &mut self,
         on: &Constructs,
-        rest: Cursor<'a>,
+        rest: &Cursor<'a>,
         beside: Beside,
     ) -> Result<(), AllocError>
         ensures { OnOk result ((ls pending : List BlockLine) →
-            Becomes self.old self.new (tree.Indented ls pending) (leaf_grown on.now beside (rest_of rest.entry) (tree.Leaf (tree.Indented ls pending)))) }
+            Becomes self.old self.new (tree.Indented ls pending) (leaf_grown on.now beside (rest_of rest.now) (tree.Leaf (tree.Indented ls pending)))) }
     {
         if rest.is_blank() {
-            self.pieces.push(piece(rest.outdent(4), beside))?;
+            self.pieces.push(piece(&rest.outdent(4), beside))?;
             return Ok(());
         }
-        if starts_code_indented(on, rest) {
-            self.pieces.push(piece(rest.outdent(4), beside))?;
+        if starts_code_indented(on, *rest) {
+            self.pieces.push(piece(&rest.outdent(4), beside))?;
             let count = self.pieces.len() - self.lines_in_rows;
             self.leaf = OpenLeaf::Indented {
                 count,
@@ -53,13 +53,13 @@ impl<'a, A: Allocator> Parser<'a, A> {
     /// Indented code starts, where no leaf is open.
     pub(crate) fn start_indented(
         &mut self,
-        rest: Cursor<'a>,
+        rest: &Cursor<'a>,
         beside: Beside,
     ) -> Result<(), AllocError>
         ensures { OnOk result (Adds self.old self.new
-            (tree.tree tree.Nil (tree.Leaf (tree.Indented (tree.rest_line (outdent 4 (rest_of rest.entry)) beside ∷ []) [])))) }
+            (tree.tree tree.Nil (tree.Leaf (tree.Indented (tree.rest_line (outdent 4 (rest_of rest.now)) beside ∷ []) [])))) }
     {
-        self.pieces.push(piece(rest.outdent(4), beside))?;
+        self.pieces.push(piece(&rest.outdent(4), beside))?;
         self.leaf = OpenLeaf::Indented {
             count: 1,
             ending: beside.ending,
@@ -90,8 +90,8 @@ impl<'a, A: Allocator> Parser<'a, A> {
 }
 
 /// Whether indented code begins, which can't interrupt a paragraph.
-pub(crate) fn begins_code(on: &Constructs, paragraph: bool, rest: Cursor<'_>) -> bool
-    ensures { result ≡ (has_code_indent on.now (rest_of rest.entry) && not paragraph) }
+pub(crate) fn begins_code(on: &Constructs, paragraph: bool, rest: &Cursor<'_>) -> bool
+    ensures { result ≡ (has_code_indent on.now (rest_of rest.now) && not paragraph) }
 {
-    starts_code_indented(on, rest) && !paragraph
+    starts_code_indented(on, *rest) && !paragraph
 }

@@ -42,11 +42,11 @@ impl<'a, A: Allocator> Parser<'a, A> {
         &mut self,
         on: &Constructs,
         depth: usize,
-        rest: Cursor<'a>,
+        rest: &Cursor<'a>,
     ) -> Result<bool, AllocError>
         ensures made { IfOk result (λ made. (around : List Level) (kids : tree.Blocks) (away : tree.Opening) (row : BlockLine) → depth ≡ length around →
             AreLines (tree.open_text away) → HasRead self.old (spine_at around kids away) →
-            tree.table_if on.now (delimiter_row on.now (rest_of rest.entry)) (tree.text_here away) row ≡ table_tree on.now made away row) }
+            tree.table_if on.now (delimiter_row on.now (rest_of rest.now)) (tree.text_here away) row ≡ table_tree on.now made away row) }
         ensures here { IfOk result (λ made. (around : List Level) (kids : tree.Blocks) (away : tree.Opening) → depth ≡ length around →
             HasRead self.old (spine_at around kids away) → made ≡ true → IsText away) }
         ensures kept { (s : Spine) → HasRead self.old s → HasRead self.new s }
@@ -79,11 +79,11 @@ impl<'a, A: Allocator> Parser<'a, A> {
     pub(crate) fn start_table(
         &mut self,
         on: &Constructs,
-        rest: Cursor<'a>,
+        rest: &Cursor<'a>,
         beside: Beside,
     ) -> Result<(), AllocError>
         ensures { OnOk result ((ls : List BlockLine) → AreLines ls →
-            Becomes self.old self.new (tree.Text ls) (table_from_cut (definition_cut on.now ls) (tree.rest_line (rest_of rest.entry) beside))) }
+            Becomes self.old self.new (tree.Text ls) (table_from_cut (definition_cut on.now ls) (tree.rest_line (rest_of rest.now) beside))) }
     {
         self.cut_definitions(on)?;
         self.close_before_head()?;
@@ -104,9 +104,9 @@ impl<'a, A: Allocator> Parser<'a, A> {
     }
 
     /// One more line of a table.
-    pub(crate) fn table_row(&mut self, rest: Cursor<'a>, beside: Beside) -> Result<(), AllocError>
+    pub(crate) fn table_row(&mut self, rest: &Cursor<'a>, beside: Beside) -> Result<(), AllocError>
         ensures { OnOk result ((leaf : tree.OpenLeaf) (ls : List BlockLine) → leaf_lines leaf ≡ ls →
-            Becomes self.old self.new leaf (tree.tree tree.Nil (tree.Leaf (tree.OpenTable (ls ++ tree.rest_line (rest_of rest.entry) beside ∷ []))))) }
+            Becomes self.old self.new leaf (tree.tree tree.Nil (tree.Leaf (tree.OpenTable (ls ++ tree.rest_line (rest_of rest.now) beside ∷ []))))) }
     {
         self.pieces.push(piece(rest, beside))?;
         self.leaf = OpenLeaf::Table {
@@ -151,21 +151,21 @@ impl<'a, A: Allocator> Parser<'a, A> {
 fn read_row<A: Allocator>(
     aligns: &mut Vec<AlignKind, A>,
     on: &Constructs,
-    rest: Cursor<'_>,
+    rest: &Cursor<'_>,
 ) -> Result<(), AllocError>
-    ensures { OnOk result (aligns.new.items ≡ unwrap_or (spec.delimiter_row on.now (rest_of rest.entry)) []) }
+    ensures { OnOk result (aligns.new.items ≡ unwrap_or (spec.delimiter_row on.now (rest_of rest.now)) []) }
 {
     let (columns, bare) = rest.split_bare();
     if on.gfm_table && is_small(on, columns) {
-        return read_delimiters(aligns, line_of(bare));
+        return read_delimiters(aligns, line_of(&bare));
     }
     aligns.clear();
     Ok(())
 }
 
 /// The bytes of a rest as a line.
-fn line_of(rest: Cursor<'_>) -> Piece<'_>
-    ensures { (piece_line result).codes ≡ bytes_of (rest_of rest.entry) }
+fn line_of<'a>(rest: &Cursor<'a>) -> Piece<'a>
+    ensures { (piece_line result).codes ≡ bytes_of (rest_of rest.now) }
 {
     Piece {
         text: rest.text(),

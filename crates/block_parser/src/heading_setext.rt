@@ -26,11 +26,11 @@ impl<'a, A: Allocator> Parser<'a, A> {
         &mut self,
         on: &Constructs,
         depth: usize,
-        rest: Cursor<'a>,
+        rest: &Cursor<'a>,
     ) -> Result<Option<u8>, AllocError>
         ensures turned { IfOk result (λ rank. (around : List Level) (kids : tree.Blocks) (away : tree.Opening) (ending : Option LineEnding) →
             depth ≡ length around → AreLines (tree.open_text away) → HasRead self.old (spine_at around kids away) →
-            tree.turns on.now away (rest_of rest.entry) ending ≡ heading_tree on.now rank away ending) }
+            tree.turns on.now away (rest_of rest.now) ending ≡ heading_tree on.now rank away ending) }
         ensures here { IfOk result (λ found. (rank : ℕ) (around : List Level) (kids : tree.Blocks) (away : tree.Opening) → depth ≡ length around →
             HasRead self.old (spine_at around kids away) → found ≡ Some rank → IsText away) }
         ensures kept { (s : Spine) → HasRead self.old s → HasRead self.new s }
@@ -39,7 +39,7 @@ impl<'a, A: Allocator> Parser<'a, A> {
         if !self.interrupts(depth) {
             return Ok(None);
         }
-        let Some(rank) = underline(on, rest) else {
+        let Some(rank) = underline(on, *rest) else {
             return Ok(None);
         };
         if self.leaves_text(on)? {

@@ -32,11 +32,11 @@ impl<'a, A: Allocator> Parser<'a, A> {
         &mut self,
         on: &Constructs,
         kind: HtmlKind,
-        rest: Cursor<'a>,
+        rest: &Cursor<'a>,
         beside: Beside,
     ) -> Result<(), AllocError>
         ensures { OnOk result ((ls : List BlockLine) → let leaf = tree.OpenHtml (number_of kind) ls in
-            Becomes self.old self.new leaf (leaf_grown on.now beside (rest_of rest.entry) (tree.Leaf leaf))) }
+            Becomes self.old self.new leaf (leaf_grown on.now beside (rest_of rest.now) (tree.Leaf leaf))) }
     {
         if html_stops(kind, rest) {
             let depth = self.open.len();
@@ -49,11 +49,11 @@ impl<'a, A: Allocator> Parser<'a, A> {
     pub(crate) fn html_with(
         &mut self,
         kind: HtmlKind,
-        rest: Cursor<'a>,
+        rest: &Cursor<'a>,
         beside: Beside,
     ) -> Result<(), AllocError>
         ensures { OnOk result ((leaf : tree.OpenLeaf) (ls : List BlockLine) → leaf_lines leaf ≡ ls →
-            Becomes self.old self.new leaf (tree.html_with (number_of kind) ls (rest_of rest.entry) beside)) }
+            Becomes self.old self.new leaf (tree.html_with (number_of kind) ls (rest_of rest.now) beside)) }
     {
         self.pieces.push(piece(rest, beside))?;
         self.leaf = OpenLeaf::Html {
@@ -77,8 +77,8 @@ impl<'a, A: Allocator> Parser<'a, A> {
 }
 
 /// The kind of the HTML block that starts here. The last kind doesn't interrupt a paragraph.
-pub(crate) fn html_start(on: &Constructs, paragraph: bool, rest: Cursor<'_>) -> Option<HtmlKind>
-    ensures { kind_number result ≡ spec.html_start on.now paragraph (rest_of rest.entry) }
+pub(crate) fn html_start(on: &Constructs, paragraph: bool, rest: &Cursor<'_>) -> Option<HtmlKind>
+    ensures { kind_number result ≡ spec.html_start on.now paragraph (rest_of rest.now) }
 {
     if on.html_flow && is_small(on, rest.indent()) {
         html_kind(rest.bare_text().as_bytes(), paragraph)
@@ -88,15 +88,15 @@ pub(crate) fn html_start(on: &Constructs, paragraph: bool, rest: Cursor<'_>) -> 
 }
 
 /// Whether a block of this kind ends on this line.
-fn html_ends_here(kind: HtmlKind, rest: Cursor<'_>) -> bool
-    ensures { result ≡ spec.html_ends_here (number_of kind) (rest_of rest.entry) }
+fn html_ends_here(kind: HtmlKind, rest: &Cursor<'_>) -> bool
+    ensures { result ≡ spec.html_ends_here (number_of kind) (rest_of rest.now) }
 {
     html_ends(kind, rest.bare_text().as_bytes())
 }
 
 /// Whether a block of this kind ends before this line, a blank one.
-fn html_stops(kind: HtmlKind, rest: Cursor<'_>) -> bool
-    ensures { result ≡ (spec.ends_before_blank (number_of kind) && is_blank_rest (rest_of rest.entry)) }
+fn html_stops(kind: HtmlKind, rest: &Cursor<'_>) -> bool
+    ensures { result ≡ (spec.ends_before_blank (number_of kind) && is_blank_rest (rest_of rest.now)) }
 {
     ends_before_blank(kind) && rest.is_blank()
 }

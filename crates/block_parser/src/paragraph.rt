@@ -23,8 +23,8 @@ impl<'a, A: Allocator> Parser<'a, A> {
     ghost use Rattle.block_starts.specs.View.{rest_of};
 
     /// A line of text goes on the paragraph, or is its first.
-    pub(crate) fn text_line(&mut self, rest: Cursor<'a>, beside: Beside) -> Result<(), AllocError>
-        ensures { OnOk result (HasLine self.old self.new (tree.rest_line (rest_of rest.entry) beside)) }
+    pub(crate) fn text_line(&mut self, rest: &Cursor<'a>, beside: Beside) -> Result<(), AllocError>
+        ensures { OnOk result (HasLine self.old self.new (tree.rest_line (rest_of rest.now) beside)) }
     {
         self.add_line(piece(rest, beside))
     }
@@ -66,6 +66,7 @@ impl<'a, A: Allocator> Parser<'a, A> {
     }
 
     /// The same: definitions, and a paragraph of what is left.
+    #[inline(always)]
     fn close_lines(&mut self, on: &Constructs, known: Option<&'a str>) -> Result<(), AllocError>
         ensures read { OnOk result (ClosesText self.old self.new known.entry (λ ls. tree.close_leaf on.now (tree.Text ls))) }
         ensures containers { self.new.open ≡ self.old.open }
@@ -79,6 +80,7 @@ impl<'a, A: Allocator> Parser<'a, A> {
 
     /// The lines that are left of the open paragraph, if there are any, are a paragraph. From two
     /// lines on it is kept as one, where they are whole: those of a text that may be known.
+    #[inline(always)]
     fn close_paragraph(&mut self, known: Option<&'a str>) -> Result<(), AllocError>
         ensures read { OnOk result (ClosesText self.old self.new known.entry tree.paragraph_of) }
         ensures containers { self.new.open ≡ self.old.open }

@@ -15,7 +15,7 @@ use crate::definition::last_ending;
 use crate::html_flow::html_start;
 use block_rows::{Piece, Row};
 use block_starts::Cursor;
-use block_starts::container::{continues, starts};
+use block_starts::container::{container_may_start, continues, starts};
 use block_starts::frontmatter::without_frontmatter;
 use block_starts::heading_atx::heading_atx;
 use block_starts::plain::{is_plain, is_plain_line};
@@ -170,14 +170,14 @@ impl<'a, A: Allocator> Parser<'a, A> {
         };
         let (depth, rest, beside) = self.descend(on, Cursor::new(line.content), beside);
         if depth < self.open.len() {
-            return self.start_line(on, depth, rest, beside);
+            return self.start_line(on, depth, &rest, beside);
         }
         match self.leaf {
-            OpenLeaf::Text => self.start_line(on, depth, rest, beside),
-            OpenLeaf::Indented { .. } => self.indented_line(on, rest, beside),
-            OpenLeaf::Fenced { fence, .. } => self.fenced_line(on, fence, rest, beside),
-            OpenLeaf::Html { kind, .. } => self.html_line(on, kind, rest, beside),
-            OpenLeaf::Table { .. } => self.start_line(on, depth, rest, beside),
+            OpenLeaf::Text => self.start_line(on, depth, &rest, beside),
+            OpenLeaf::Indented { .. } => self.indented_line(on, &rest, beside),
+            OpenLeaf::Fenced { fence, .. } => self.fenced_line(on, fence, &rest, beside),
+            OpenLeaf::Html { kind, .. } => self.html_line(on, kind, &rest, beside),
+            OpenLeaf::Table { .. } => self.start_line(on, depth, &rest, beside),
         }
     }
 
@@ -196,7 +196,7 @@ impl<'a, A: Allocator> Parser<'a, A> {
         let mut rest = line;
         let mut here = beside;
         for depth in 0..self.open.len() {
-            if self.all_go_on(depth, rest) {
+            if self.all_go_on(depth, &rest) {
                 here.before = Kind::Whitespace;
                 return (self.open.len(), rest, here);
             }
@@ -214,9 +214,9 @@ impl<'a, A: Allocator> Parser<'a, A> {
     /// Whether all containers from a depth on go on because nothing is left of the line: they are no
     /// quotes, and the innermost didn't begin with a blank line. So a run of blank lines costs one walk
     /// through the containers.
-    fn all_go_on(&self, depth: usize, rest: Cursor<'a>) -> bool
+    fn all_go_on(&self, depth: usize, rest: &Cursor<'a>) -> bool
         requires { depth < vec_len self.now.open }
-        ensures empty { result ≡ true → rest_of rest.entry ≡ [] }
+        ensures empty { result ≡ true → rest_of rest.now ≡ [] }
         ensures none { result ≡ true → NoQuoteFrom depth (container_views self.now.open.items) }
         ensures began { result ≡ true → (t : tree.Tree) → HasRead self.now (spine_of t) → NoneBeganBlank t }
     {
@@ -280,14 +280,17 @@ impl<'a, A: Allocator> Parser<'a, A> {
         &mut self,
         on: &Constructs,
         depth: usize,
-        rest: Cursor<'a>,
+        rest: &Cursor<'a>,
         beside: Beside,
     ) -> Result<(), AllocError>
         requires depth { depth ≤ vec_len self.old.open }
         ensures { OnOk result (Grows self.old self.new depth
-            (λ away. tree.new (length (rest_of rest.entry)) on.now (depth == vec_len self.old.open) away beside (rest_of rest.entry))) }
+            (λ away. tree.new (length (rest_of rest.now)) on.now (depth == vec_len self.old.open) away beside (rest_of rest.now))) }
     {
-        let Some((container, line)) = starts(on, self.interrupts(depth), rest) else {
+        if !container_may_start(on, rest) {
+            return self.leaf_line(on, depth, rest, beside);
+        }
+        let Some((container, line)) = starts(on, self.interrupts(depth), *rest) else {
             return self.leaf_line(on, depth, rest, beside);
         };
         self.close_to(on, depth)?;
@@ -298,7 +301,7 @@ impl<'a, A: Allocator> Parser<'a, A> {
         };
         let (inside, here) = self.enter_all(on, line.rest, inner)?;
         let depth = self.open.len();
-        self.leaf_line(on, depth, inside, here)
+        self.leaf_line(on, depth, &inside, here)
     }
 
     /// Starts containers, where no leaf is open, as long as the rest starts one.
@@ -326,13 +329,13 @@ impl<'a, A: Allocator> Parser<'a, A> {
         &mut self,
         on: &Constructs,
         depth: usize,
-        rest: Cursor<'a>,
+        rest: &Cursor<'a>,
         beside: Beside,
     ) -> Result<(), AllocError>
         requires depth { depth ≤ vec_len self.old.open }
-        ensures { OnOk result (Grows self.old self.new depth (λ away. tree.leaf_line on.now away (rest_of rest.entry) beside)) }
+        ensures { OnOk result (Grows self.old self.new depth (λ away. tree.leaf_line on.now away (rest_of rest.now) beside)) }
     {
-        if is_plain(on, rest) {
+        if is_plain(on, *rest) {
             self.more_text(on, depth, rest, beside)
         } else {
             self.any_leaf_line(on, depth, rest, beside)
@@ -344,11 +347,11 @@ impl<'a, A: Allocator> Parser<'a, A> {
         &mut self,
         on: &Constructs,
         depth: usize,
-        rest: Cursor<'a>,
+        rest: &Cursor<'a>,
         beside: Beside,
     ) -> Result<(), AllocError>
         requires depth { depth ≤ vec_len self.old.open }
-        ensures { OnOk result (Grows self.old self.new depth (λ away. tree.leaf_line on.now away (rest_of rest.entry) beside)) }
+        ensures { OnOk result (Grows self.old self.new depth (λ away. tree.leaf_line on.now away (rest_of rest.now) beside)) }
     {
         let paragraph = self.has_text();
         if rest.is_blank() {
@@ -367,14 +370,14 @@ impl<'a, A: Allocator> Parser<'a, A> {
             self.close_to(on, depth)?;
             return self.html_with(kind, rest, beside);
         }
-        if let Some(atx) = heading_atx(on, rest) {
+        if let Some(atx) = heading_atx(on, *rest) {
             self.close_to(on, depth)?;
             return self.heading(atx, beside.ending);
         }
         if let Some(rank) = self.turns(on, depth, rest)? {
             return self.setext_heading(on, rank, beside.ending);
         }
-        if is_break(on, rest) {
+        if is_break(on, *rest) {
             self.close_to(on, depth)?;
             return self.thematic_break(beside.ending);
         }
@@ -390,11 +393,11 @@ impl<'a, A: Allocator> Parser<'a, A> {
         &mut self,
         on: &Constructs,
         depth: usize,
-        rest: Cursor<'a>,
+        rest: &Cursor<'a>,
         beside: Beside,
     ) -> Result<(), AllocError>
         requires depth { depth ≤ vec_len self.old.open }
-        ensures { OnOk result (Grows self.old self.new depth (λ away. tree.text_line_of on.now away (rest_of rest.entry) beside)) }
+        ensures { OnOk result (Grows self.old self.new depth (λ away. tree.text_line_of on.now away (rest_of rest.now) beside)) }
     {
         if self.has_text() {
             return self.text_line(rest, beside);
@@ -526,8 +529,8 @@ impl<'a, A: Allocator> Parser<'a, A> {
 }
 
 /// Whether nothing is left of a line.
-fn is_empty(rest: Cursor<'_>) -> bool
-    ensures { result ≡ eqb (length (rest_of rest.entry)) 0 }
+fn is_empty(rest: &Cursor<'_>) -> bool
+    ensures { result ≡ eqb (length (rest_of rest.now)) 0 }
 {
     rest.is_blank() && rest.indent() == 0
 }
@@ -558,8 +561,8 @@ fn is_quote(container: Container<'_>) -> bool
 }
 
 /// The line of a block that a rest is.
-pub(crate) fn piece<'a>(rest: Cursor<'a>, beside: Beside) -> Piece<'a>
-    ensures { piece_line result ≡ rest_line (rest_of rest.entry) beside }
+pub(crate) fn piece<'a>(rest: &Cursor<'a>, beside: Beside) -> Piece<'a>
+    ensures { piece_line result ≡ rest_line (rest_of rest.now) beside }
 {
     Piece {
         text: rest.text(),

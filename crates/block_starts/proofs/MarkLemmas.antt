@@ -14,7 +14,7 @@ use Rattle.definition_block.specs.ThematicBreak.{is_break}
 use Rattle.definition_block.specs.ListItem.{is_digit, bullet, after_number, marker, item_after, item_start, is_inside}
 use Rattle.definition_block.specs.GfmFootnoteDefinition.{after_bracket, footnote_mark, footnote_of, footnote_start}
 use Rattle.definition_block.specs.Containers.{quote_or, footnote_or, starts}
-use Rattle.block_starts.specs.Marks.{NoMark, is_mark, begins_container, may_start}
+use Rattle.block_starts.specs.Marks.{NoMark, is_mark, begins_container, container_may_start, may_start}
 
 -- ---- no marker
 
@@ -118,6 +118,13 @@ only_footnote on interrupts rest h =
     alone : (o : Option ContainerStart) → footnote_or None o ≡ o
     alone None = refl
     alone (Some s) = refl
+
+-- no container does
+pub none_starts : (on : Constructs) (interrupts : Bool) (rest : Rest) → container_may_start on rest ≡ false → starts on interrupts rest ≡ None
+none_starts on interrupts rest h =
+    let none = or_parts (may_start (bare rest)) on.gfm_footnote_definition h in
+    sym (only_footnote on interrupts rest none.0)
+    ∙ cond-false (on.gfm_footnote_definition && small_indent on rest) _ _ (ap (λ b. b && small_indent on rest) none.1)
 
 -- without a footnote definition a quote or an item starts
 pub no_footnote_starts : (on : Constructs) (interrupts : Bool) (rest : Rest) → may_start (bare rest) ≡ true

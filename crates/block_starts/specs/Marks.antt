@@ -2,7 +2,8 @@
 use Rattle.std.specs.Prelude.{◌≡◌, ℕ, Bool, false, ◌==◌, ◌||◌, List, [], ◌∷◌}
 use Rattle.definition_text.specs.Ascii.{right_parenthesis, asterisk, plus, hyphen, dot, colon, greater_than, left_bracket, caret}
 use Rattle.definition_block.specs.ListItem.{is_digit}
-use Rattle.definition_text.specs.Columns.{Rest}
+use Rattle.markdown_options.specs.declared.configuration.Constructs.{Constructs}
+use Rattle.definition_text.specs.Columns.{Rest, bare}
 
 -- a byte of a container's marker, and no digit: `>`, `-`, `+`, `*`, `.`, `)`, `[`, `^` or `:`
 abbrev pub is_mark : ℕ → Bool
@@ -21,3 +22,7 @@ begins_container c = (c == greater_than) || (c == hyphen) || (c == plus) || (c =
 abbrev pub may_start : Rest → Bool
 may_start [] = false
 may_start (c ∷ cs) = begins_container c
+
+-- a rest with which a container may start
+abbrev pub container_may_start : Constructs → Rest → Bool
+container_may_start on rest = may_start (bare rest) || on.gfm_footnote_definition

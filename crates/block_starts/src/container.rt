@@ -4,7 +4,7 @@
 ghost use Rattle.std.specs.Prelude.{◌≡◌, true, false};
 ghost use Rattle.definition_text.specs.Columns.{bare};
 ghost use Rattle.definition_block.specs.Containers as spec;
-ghost use Rattle.block_starts.specs.Marks.{may_start};
+ghost use Rattle.block_starts.specs.Marks.{container_may_start, may_start};
 ghost use Rattle.block_starts.specs.View.{rest_of, line_if, container_view, started_if};
 
 use crate::block_quote::quote_prefix;
@@ -32,9 +32,17 @@ pub fn continues<'a>(
     }
 }
 
+/// Whether a container may start here: the rest begins as a marker does, or footnote definitions are
+/// on. It is asked first, as most rests start none, and a container is answered through memory.
+#[inline(always)]
+pub fn container_may_start(on: &Constructs, rest: &Cursor<'_>) -> bool
+    ensures { result ≡ container_may_start on.now (rest_of rest.now) }
+{
+    rest.may_start() || on.gfm_footnote_definition
+}
+
 /// The container that starts here, and what it leaves of the line. `interrupts` says that it would
-/// interrupt a paragraph. It is built into its callers, since most rests start none, and a container
-/// is answered through memory.
+/// interrupt a paragraph.
 #[inline(always)]
 pub fn starts<'a>(
     on: &Constructs,

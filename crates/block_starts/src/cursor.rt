@@ -183,8 +183,8 @@ impl<'a> Cursor<'a> {
 
     /// Whether the marker of a quote or an item may stand after the spaces and tabs ahead.
     #[inline(always)]
-    pub(crate) fn may_start(self) -> bool
-        ensures { result ≡ may_start (bare (rest_of self.entry)) }
+    pub(crate) fn may_start(&self) -> bool
+        ensures { result ≡ may_start (bare (rest_of self.now)) }
     {
         let bytes = self.text.as_bytes();
         self.white < bytes.len() && begins_container(bytes[self.white])

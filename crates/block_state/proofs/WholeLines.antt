@@ -6,7 +6,7 @@ use Rattle.std.specs.List.{flat_map}
 use Rattle.std.proofs.lemmas.Bool.{cond-false, true≢false, ne_eqb}
 use Rattle.std.specs.Str.{IsUtf8, IsCharBoundary}
 use Rattle.std.proofs.lemmas.Str.{IsCharBoundary-at_seam}
-use Rattle.std.proofs.lemmas.List.{append-nil, append_cancel_left, length-append, map-append, take-append-drop, take_all, take_at, take_more}
+use Rattle.std.proofs.lemmas.List.{append-nil, append_cancel_left, length-append, map-append, take-append-drop, take_all, take_at, drop_at, take_more}
 use Rattle.std.proofs.lemmas.List.Concat.{flat_map-append}
 use Rattle.markdown_options.specs.declared.line_ending.LineEnding.{LineEnding}
 use Rattle.markdown_options.specs.declared.line_ending.LineEnding.TheVariants.{CarriageReturnLineFeed, CarriageReturn, LineFeed}
@@ -167,15 +167,29 @@ pub cut_boundary : (ls : List BlockLine) (text rest : List ℕ) → Begins ls te
 cut_boundary ls text rest h u =
     subst (IsCharBoundary text) (front_cut ls text rest h) (IsCharBoundary-at_seam text (flat_map line_text ls) rest h.split u)
 
+-- they are what is cut off
+cut_front : (ls : List BlockLine) (text rest cut : List ℕ) → Begins ls text rest → cut ≡ take (length text - length rest) text → cut ≡ flat_map line_text ls
+cut_front ls text rest cut h is =
+    let front = flat_map line_text ls in
+    is ∙ ap (λ n. take n text) (sym (front_cut ls text rest h)) ∙ ap (take (length front)) h.split ∙ take_at front rest (length front) refl
+
 pub front_lines : (ls : List BlockLine) (text rest cut : List ℕ) → Begins ls text rest → cut ≡ take (length text - length rest) text → AreLines ls
     → whole_lines cut ≡ ls
-front_lines ls text rest cut h is clean =
+front_lines ls text rest cut h is clean = ap whole_lines (cut_front ls text rest cut h is) ∙ lines_again ls clean h.whole
+
+front_first : (ls : List BlockLine) (text rest cut : List ℕ) → Begins ls text rest → cut ≡ take (length text - length rest) text
+    → cut ≡ take (length cut) text
+front_first ls text rest cut h is =
     let front = flat_map line_text ls in
-    ap whole_lines (is
-    ∙ ap (λ n. take n text) (sym (front_cut ls text rest h))
-    ∙ ap (take (length front)) h.split
-    ∙ take_at front rest (length front) refl)
-    ∙ lines_again ls clean h.whole
+    let same = cut_front ls text rest cut h is in
+    same ∙ sym (ap (λ x. take (length x) text) same ∙ ap (take (length front)) h.split ∙ take_at front rest (length front) refl)
+
+front_begins : (ls : List BlockLine) (text rest cut : List ℕ) → Begins ls text rest → cut ≡ take (length text - length rest) text
+    → Begins ls text (drop (length cut) text)
+front_begins ls text rest cut h is =
+    let front = flat_map line_text ls in
+    subst (Begins ls text)
+    (sym (ap (λ x. drop (length x) text) (cut_front ls text rest cut h is) ∙ ap (drop (length front)) h.split ∙ drop_at front rest (length front) refl)) h
 
 -- ---- and with those of pieces
 
@@ -189,10 +203,22 @@ begins_more pieces i d text rest after lt so_far line whole =
     ap piece_lines (take_more pieces i d lt) ∙ map-append piece_line front (last ∷ []) in
     subst (λ ls. Begins ls text after) (sym longer) (begins_line (piece_lines front) (piece_line last) text rest after so_far line whole)
 
+-- all of them
+begun_all : (pieces : List Piece) (i : ℕ) (text rest : List ℕ) → length pieces ≤ i → Begins (piece_lines (take i pieces)) text rest
+    → Begins (piece_lines pieces) text rest
+begun_all pieces i text rest le so_far = subst (λ (ps : List Piece). Begins (piece_lines ps) text rest) (take_all i pieces le) so_far
+
 pub begun : (pieces : List Piece) (i : ℕ) (text rest cut : List ℕ) → length pieces ≤ i → Begins (piece_lines (take i pieces)) text rest
     → cut ≡ take (length text - length rest) text → AreLines (piece_lines pieces) → whole_lines cut ≡ piece_lines pieces
-begun pieces i text rest cut le so_far is clean =
-    front_lines (piece_lines pieces) text rest cut (subst (λ (ps : List Piece). Begins (piece_lines ps) text rest) (take_all i pieces le) so_far) is clean
+begun pieces i text rest cut le so_far = front_lines (piece_lines pieces) text rest cut (begun_all pieces i text rest le so_far)
+
+pub begun_first : (pieces : List Piece) (i : ℕ) (text rest cut : List ℕ) → length pieces ≤ i → Begins (piece_lines (take i pieces)) text rest
+    → cut ≡ take (length text - length rest) text → cut ≡ take (length cut) text
+begun_first pieces i text rest cut le so_far = front_first (piece_lines pieces) text rest cut (begun_all pieces i text rest le so_far)
+
+pub begun_before : (pieces : List Piece) (i : ℕ) (text rest cut : List ℕ) → length pieces ≤ i → Begins (piece_lines (take i pieces)) text rest
+    → cut ≡ take (length text - length rest) text → Begins (piece_lines pieces) text (drop (length cut) text)
+begun_before pieces i text rest cut le so_far = front_begins (piece_lines pieces) text rest cut (begun_all pieces i text rest le so_far)
 
 -- ---- a text that doesn't begin so
 

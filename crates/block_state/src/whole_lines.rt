@@ -1,5 +1,5 @@
 //! Whole lines of a text, which no prefix stands before, as those of a paragraph (CommonMark 4.8).
-ghost use Rattle.std.specs.Prelude.{◌≡◌, ℕ, List, None, IfNone, IfSome};
+ghost use Rattle.std.specs.Prelude.{◌≡◌, ℕ, List, None, IfNone, IfSome, length, take, drop};
 ghost use Rattle.definition_text.specs.BlockLines.{spaced_line};
 ghost use Rattle.definition_text.specs.Columns.{bytes_of, whole as whole_rest};
 ghost use Rattle.definition_text.specs.Lines.{ending_text, text_line};
@@ -7,7 +7,7 @@ ghost use Rattle.definition_text.specs.declared.beside.Kind.TheVariants.{Whitesp
 ghost use Rattle.definition_block.specs.Tree.{beside_line, rest_line};
 ghost use Rattle.block_rows.specs.ParagraphLines.{AreLines};
 ghost use Rattle.block_rows.specs.Rows.{piece_line, piece_lines, whole_lines};
-ghost use Rattle.block_state.specs.WholeLines.{BeginsNot, BeginsWith};
+ghost use Rattle.block_state.specs.WholeLines.{Begins, BeginsNot, BeginsWith};
 
 use block_rows::Piece;
 use definition_text::Kind;
@@ -40,6 +40,8 @@ pub fn whole<'a>(text: &'a str) -> Piece<'a>
 
 /// The front of a text that these lines are, where it begins with them.
 pub fn first_lines<'a>(text: &'a str, pieces: &[Piece<'_>]) -> Option<&'a str>
+    ensures front { IfSome result (λ front. front.now ≡ take (length front.now) text.now) }
+    ensures begins { IfSome result (λ front. Begins (piece_lines pieces.now) text.now (drop (length front.now) text.now)) }
     ensures whole { IfSome result (λ front. AreLines (piece_lines pieces.now) → whole_lines front.now ≡ piece_lines pieces.now) }
     ensures none { IfNone result (BeginsNot (piece_lines pieces.now) text.now) }
 {

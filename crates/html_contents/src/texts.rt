@@ -192,6 +192,7 @@ impl<'a, T: Tables, A: Allocator + Clone> Texts<'a, '_, T, A> {
     }
 
     /// Prints the inline structure of a content from a place on.
+    #[inline(always)]
     pub(crate) fn push_from(
         &self,
         out: &mut Output<A>,

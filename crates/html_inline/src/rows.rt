@@ -59,6 +59,7 @@ pub fn push_rows<A: Allocator + Clone, T: Tables>(
 }
 
 /// The same of the row of a content that has no other. Text is printed with no walk over rows.
+#[inline(always)]
 pub fn push_alone<A: Allocator + Clone, T: Tables>(
     out: &mut Output<A>,
     scratch: &mut Scratch<A>,

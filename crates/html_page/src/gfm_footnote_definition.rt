@@ -33,7 +33,8 @@ impl<A: Allocator + Clone> Printer<'_, A> {
         ensures default { KeepsEnding self.old.page self.new.page }
         ensures printed { OnOk result (printer_view self.new ≡ enter_footnote (printer_view self.old)) }
     {
-        let around = self.level.after(Row::EnterFootnote);
+        let mut around = self.level;
+        around.pass(Row::EnterFootnote);
         self.page.start_footnote()?;
         self.enter_at(around, Holder::Footnote, false)
     }

@@ -46,10 +46,10 @@ impl Level {
         }
     }
 
-    /// The level after one more row in it. An ending right after a tight paragraph or a definition
-    /// prints nothing, nor does one after fenced code at the top that isn't closed.
-    pub(crate) fn after(self, row: Row) -> Level
-        ensures { (ls : List BlockLine) → result ≡ level_after self (row_value row ls) }
+    /// Goes on after one more row in it. An ending right after a tight paragraph or a definition prints
+    /// nothing, nor does one after fenced code at the top that isn't closed.
+    pub(crate) fn pass(&mut self, row: Row)
+        ensures { (ls : List BlockLine) → self.new ≡ level_after self.old (row_value row ls) }
     {
         let (plain, silent, first) = match row {
             Row::Paragraph(_) | Row::WholeParagraph => (self.tight, self.tight, false),
@@ -59,12 +59,9 @@ impl Level {
             Row::Ending(_) | Row::Blank(_) => (self.plain, false, self.first),
             _ => (false, false, false),
         };
-        Level {
-            plain,
-            silent,
-            first,
-            ..self
-        }
+        self.plain = plain;
+        self.silent = silent;
+        self.first = first;
     }
 
     pub(crate) fn is_document(self) -> bool

@@ -36,26 +36,25 @@ struct Ahead {
 }
 
 impl Ahead {
-    /// Before a block that is no item.
-    fn before_block(self) -> Ahead
-        ensures { result ≡ before_block self }
+    /// Goes before a block that is no item. Fields are set one by one, as a whole that is put together
+    /// would be copied by larger pieces than it was written.
+    fn pass_block(&mut self)
+        ensures { self.new ≡ before_block self.old }
     {
-        Ahead {
-            some: true,
-            gap: self.apart && self.some || self.gap,
-            ..Ahead::default()
-        }
+        self.gap = self.apart && self.some || self.gap;
+        self.some = true;
+        self.ending_first = false;
+        self.apart = false;
+        self.marker = 0;
+        self.loose = false;
     }
 
-    /// Before an ending.
-    fn before_ending(self) -> Ahead
-        ensures { result ≡ before_ending self }
+    /// Goes before an ending.
+    fn pass_ending(&mut self)
+        ensures { self.new ≡ before_ending self.old }
     {
-        Ahead {
-            ending_first: true,
-            apart: self.ending_first,
-            ..self
-        }
+        self.apart = self.ending_first;
+        self.ending_first = true;
     }
 
     /// What is known of an item before this, whose own children may have a gap.
@@ -103,8 +102,8 @@ impl<A: Allocator> Pass<A> {
             Row::EnterQuote | Row::EnterItem { .. } | Row::EnterFootnote | Row::Exit => {
                 return self.bound(row);
             }
-            Row::Ending(_) | Row::Blank(_) => self.ahead = self.ahead.before_ending(),
-            _ => self.ahead = self.ahead.before_block(),
+            Row::Ending(_) | Row::Blank(_) => self.ahead.pass_ending(),
+            _ => self.ahead.pass_block(),
         }
         Ok(())
     }
@@ -121,7 +120,10 @@ impl<A: Allocator> Pass<A> {
                 self.ahead = Ahead::default();
             }
             Row::EnterItem { marker, .. } => self.item(marker)?,
-            _ => self.ahead = self.leave().before_block(),
+            _ => {
+                self.ahead = self.leave();
+                self.ahead.pass_block();
+            }
         }
         Ok(())
     }

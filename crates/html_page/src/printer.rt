@@ -51,11 +51,11 @@ impl<'t, A: Allocator + Clone> Printer<'t, A> {
         match row {
             Row::Ending(ending) => {
                 self.page.line_ending(self.level, ending)?;
-                self.level = self.level.after(row);
+                self.level.pass(row);
                 Ok(0)
             }
             Row::Blank(_) => {
-                self.level = self.level.after(row);
+                self.level.pass(row);
                 Ok(0)
             }
             Row::EnterQuote => {
@@ -76,7 +76,7 @@ impl<'t, A: Allocator + Clone> Printer<'t, A> {
             }
             _ => {
                 self.page.block(texts, row, self.level, lines)?;
-                self.level = self.level.after(row);
+                self.level.pass(row);
                 Ok(row.size())
             }
         }

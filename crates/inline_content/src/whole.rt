@@ -10,6 +10,7 @@ use crate::content::Content;
 use definition_text::Kind;
 
 /// The content of the lines of a text, without the last ending.
+#[inline(always)]
 pub fn whole_content(text: &str) -> Content<'_>
     ensures { (is_punctuation : ℕ → Bool) → content_view is_punctuation result ≡ whole_view is_punctuation text.now }
 {

@@ -30,6 +30,7 @@ pub enum LabelForm<'a> {
 /// What a `]` forms after `[` and a text, where these are the labels of the document's link
 /// reference definitions and of its footnote definitions: a call, or else a link while links are
 /// on. The rest is what follows the `]`.
+#[inline(always)]
 pub fn call_or_link<'a, A: Allocator + Clone>(
     on: &Constructs,
     labels: &LabelTable<A>,

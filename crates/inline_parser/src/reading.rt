@@ -143,6 +143,7 @@ impl<'a, A: Allocator> Reading<'a, A> {
     }
 
     /// A run of this one byte (CommonMark 6.2).
+    #[inline(always)]
     pub(crate) fn run(&mut self, run: Run, byte: &'a str) -> Result<(), AllocError>
         requires sound { IsSound self.old }
         requires byte { byte.now ≡ run.marker ∷ [] }

@@ -74,6 +74,7 @@ pub(crate) struct Scanner<'a, A: Allocator> {
 /// The inline structure of a content from a place on, as rows (CommonMark 6), where these are the
 /// labels of the document's link reference definitions and of its footnote definitions. Whatever
 /// the rooms hold makes no difference.
+#[inline(always)]
 pub fn inline_rows<'a, 'd, 'r, T: Tables, A: Allocator + Clone>(
     room: &'r mut Room<A>,
     row_room: &'r mut RowRoom<'a, A>,

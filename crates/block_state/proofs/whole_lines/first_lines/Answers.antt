@@ -2,7 +2,7 @@ use Rattle.std.proofs.Common.{ℕ, List, Option, Bor, IfNone, rules, arith, ap, 
 use Rattle.std.specs.Str.{IsUtf8}
 use Rattle.block_rows.specs.Rows.{piece_lines}
 use Rattle.block_state.specs.WholeLines.{BeginsNot}
-use Rattle.block_state.proofs.WholeLines.{begins_none, begins_more, begins_not, begun, cut_boundary}
+use Rattle.block_state.proofs.WholeLines.{begins_none, begins_more, begins_not, begun, begun_before, begun_first, cut_boundary}
 use Rattle.block_state.proofs.whole_lines.first_lines.Goals as goal
 
 pub loop-piece-init : goal.loop-piece-init
@@ -19,6 +19,16 @@ loop-piece-preserved c =
 pub range-requires-clause-end_boundary : goal.range-requires-clause-end_boundary
 range-requires-clause-end_boundary c =
     cut_boundary (piece_lines (take c.loop-piece.piece-index c.args.pieces.now)) c.args.text.now c.loop-piece.rest.now c.loop-piece.invariant.1 c.loop-piece.invariant.0
+
+pub returns-clause-front : goal.returns-clause-front
+returns-clause-front c =
+    begun_first c.args.pieces.now c.loop-piece.piece-index c.args.text.now c.loop-piece.rest.now c.range.result.now c.loop-piece-test.false
+    c.loop-piece.invariant.1 (c.range.ensures.value ∙ ap (λ n. take n c.args.text.now) (omega arith))
+
+pub returns-clause-begins : goal.returns-clause-begins
+returns-clause-begins c =
+    begun_before c.args.pieces.now c.loop-piece.piece-index c.args.text.now c.loop-piece.rest.now c.range.result.now c.loop-piece-test.false
+    c.loop-piece.invariant.1 (c.range.ensures.value ∙ ap (λ n. take n c.args.text.now) (omega arith))
 
 pub returns-clause-whole : goal.returns-clause-whole
 returns-clause-whole c =

@@ -24,7 +24,7 @@ pub returns-then-is_blank : goal.returns-then-is_blank
 returns-then-is_blank g c =
     on_ok_weaker c.blank_line.result (λ adds. λ around kids away deep clean h.
     let on = c.args.on.now in
-    let r = rest_of c.args.rest in
+    let r = rest_of c.args.rest.now in
     let e = c.args.beside in
     let more = tree (one (Blank e.ending)) nothing in
     let k = c.in_ok-close_to.ensures.read around kids away deep clean h in
@@ -37,7 +37,7 @@ pub returns-then-begins_code : goal.returns-then-begins_code
 returns-then-begins_code g c =
     on_ok_weaker c.start_indented.result (λ adds. λ around kids away deep clean h.
     let on = c.args.on.now in
-    let r = rest_of c.args.rest in
+    let r = rest_of c.args.rest.now in
     let e = c.args.beside in
     let text_is = c.has_text-paragraph.ensures (spine_at around kids away) h ∙ steps.has_text_at around kids away in
     let not_code = ap (λ b. starts_code_indented on r && not b) (sym text_is) ∙ sym c.begins_code.ensures in
@@ -52,7 +52,7 @@ pub returns-in-Some : goal.returns-in-Some
 returns-in-Some g c =
     on_ok_weaker c.start_fenced.result (λ adds. λ around kids away deep clean h.
     let on = c.args.on.now in
-    let r = rest_of c.args.rest in
+    let r = rest_of c.args.rest.now in
     let e = c.args.beside in
     let text_is = c.has_text-paragraph.ensures (spine_at around kids away) h ∙ steps.has_text_at around kids away in
     let not_code = ap (λ b. starts_code_indented on r && not b) (sym text_is) ∙ sym c.begins_code.ensures in
@@ -68,7 +68,7 @@ pub returns-in-Some-html_start : goal.returns-in-Some-html_start
 returns-in-Some-html_start g c =
     on_ok_weaker c.html_with.result (λ adds. λ around kids away deep clean h.
     let on = c.args.on.now in
-    let r = rest_of c.args.rest in
+    let r = rest_of c.args.rest.now in
     let e = c.args.beside in
     let text_is = c.has_text-paragraph.ensures (spine_at around kids away) h ∙ steps.has_text_at around kids away in
     let not_code = ap (λ b. starts_code_indented on r && not b) (sym text_is) ∙ sym c.begins_code.ensures in
@@ -86,7 +86,7 @@ pub returns-in-Some-heading_atx : goal.returns-in-Some-heading_atx
 returns-in-Some-heading_atx g c =
     on_ok_weaker c.heading.result (λ adds. λ around kids away deep clean h.
     let on = c.args.on.now in
-    let r = rest_of c.args.rest in
+    let r = rest_of c.args.rest.now in
     let e = c.args.beside in
     let text_is = c.has_text-paragraph.ensures (spine_at around kids away) h ∙ steps.has_text_at around kids away in
     let not_code = ap (λ b. starts_code_indented on r && not b) (sym text_is) ∙ sym c.begins_code.ensures in
@@ -105,7 +105,7 @@ pub returns-in-Some-2 : goal.returns-in-Some-2
 returns-in-Some-2 g c =
     on_ok_weaker c.setext_heading.result (λ reads. λ around kids away deep clean h.
     let on = c.args.on.now in
-    let r = rest_of c.args.rest in
+    let r = rest_of c.args.rest.now in
     let e = c.args.beside in
     let rank = c.in-Some-2.rank in
     let text_is = c.has_text-paragraph.ensures (spine_at around kids away) h ∙ steps.has_text_at around kids away in
@@ -125,7 +125,7 @@ pub returns-then-is_break : goal.returns-then-is_break
 returns-then-is_break g c =
     on_ok_weaker c.thematic_break.result (λ adds. λ around kids away deep clean h.
     let on = c.args.on.now in
-    let r = rest_of c.args.rest in
+    let r = rest_of c.args.rest.now in
     let e = c.args.beside in
     let text_is = c.has_text-paragraph.ensures (spine_at around kids away) h ∙ steps.has_text_at around kids away in
     let not_code = ap (λ b. starts_code_indented on r && not b) (sym text_is) ∙ sym c.begins_code.ensures in
@@ -144,7 +144,7 @@ pub returns-then-branch : goal.returns-then-branch
 returns-then-branch g c =
     on_ok_weaker c.start_table.result (λ reads. λ around kids away deep clean h.
     let on = c.args.on.now in
-    let r = rest_of c.args.rest in
+    let r = rest_of c.args.rest.now in
     let e = c.args.beside in
     let text_is = c.has_text-paragraph.ensures (spine_at around kids away) h ∙ steps.has_text_at around kids away in
     let not_code = ap (λ b. starts_code_indented on r && not b) (sym text_is) ∙ sym c.begins_code.ensures in
@@ -168,7 +168,7 @@ pub returns : goal.returns
 returns g c =
     on_ok_weaker c.more_text.result (λ grows. λ around kids away deep clean h.
     let on = c.args.on.now in
-    let r = rest_of c.args.rest in
+    let r = rest_of c.args.rest.now in
     let e = c.args.beside in
     let text_is = c.has_text-paragraph.ensures (spine_at around kids away) h ∙ steps.has_text_at around kids away in
     let not_code = ap (λ b. starts_code_indented on r && not b) (sym text_is) ∙ sym c.begins_code.ensures in

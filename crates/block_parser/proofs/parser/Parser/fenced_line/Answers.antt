@@ -23,7 +23,7 @@ returns-then-not-is_fence_end g c = λ opening ls around kids h.
     let pool = piece_lines p.pieces.items in
     let on = c.args.on.now in
     let f = fence_view c.args.fence in
-    let r = rest_of c.args.rest in
+    let r = rest_of c.args.rest.now in
     let e = c.args.beside in
     let l = rest_line (fence_line f r) e in
     let leaf = Fenced f opening (ls ++ l ∷ []) in
@@ -45,7 +45,7 @@ returns g c =
     let pool = piece_lines p.pieces.items in
     let on = c.args.on.now in
     let f = fence_view c.args.fence in
-    let r = rest_of c.args.rest in
+    let r = rest_of c.args.rest.now in
     let e = c.args.beside in
     let left = leaves.all_left p.rows.rows.items p.rows.waiting.items p.rows.bare pool around kids (leaf_lines (Fenced f opening ls)) h.written
     (leaves.enough_lines p) in

@@ -15,7 +15,7 @@ returns-then-html_stops g c =
     on_ok_weaker c.start_line.result (λ grows. λ ls around kids h.
     let p = c.args.self.now in
     let on = c.args.on.now in
-    let r = rest_of c.args.rest in
+    let r = rest_of c.args.rest.now in
     let e = c.args.beside in
     let kind = number_of c.args.kind in
     let leaf = Leaf (OpenHtml kind ls) in
@@ -31,7 +31,7 @@ pub returns : goal.returns
 returns g c =
     on_ok_weaker c.html_with.result (λ reads. λ ls around kids h.
     let on = c.args.on.now in
-    let r = rest_of c.args.rest in
+    let r = rest_of c.args.rest.now in
     let e = c.args.beside in
     let kind = number_of c.args.kind in
     subst (λ (t : Tree). HasRead c.html_with.new.self (spine_after around kids t))

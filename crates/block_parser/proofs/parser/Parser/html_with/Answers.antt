@@ -22,7 +22,7 @@ pub returns-then-html_ends_here : goal.returns-then-html_ends_here
 returns-then-html_ends_here g c =
     on_ok_weaker c.close_html.result (λ reads. λ leaf ls is around kids h.
     let p = c.args.self.now in
-    let r = rest_of c.args.rest in
+    let r = rest_of c.args.rest.now in
     let e = c.args.beside in
     let kind = number_of c.args.kind in
     let l = rest_line r e in
@@ -41,7 +41,7 @@ returns-then-html_ends_here g c =
 pub returns : goal.returns
 returns g c = λ leaf ls is around kids h.
     let p = c.args.self.now in
-    let r = rest_of c.args.rest in
+    let r = rest_of c.args.rest.now in
     let e = c.args.beside in
     let kind = number_of c.args.kind in
     let l = rest_line r e in

@@ -24,7 +24,7 @@ returns-then-is_blank g c = λ ls pending around kids h.
     let p = c.args.self.now in
     let pool = piece_lines p.pieces.items in
     let on = c.args.on.now in
-    let r = rest_of c.args.rest in
+    let r = rest_of c.args.rest.now in
     let e = c.args.beside in
     let l = rest_line (outdent 4 r) e in
     let leaf = Indented ls (pending ++ l ∷ []) in
@@ -43,7 +43,7 @@ returns-then-starts_code_indented g c = λ ls pending around kids h.
     let p = c.args.self.now in
     let pool = piece_lines p.pieces.items in
     let on = c.args.on.now in
-    let r = rest_of c.args.rest in
+    let r = rest_of c.args.rest.now in
     let e = c.args.beside in
     let l = rest_line (outdent 4 r) e in
     let all = ls ++ pending ++ l ∷ [] in
@@ -79,7 +79,7 @@ returns g c =
     on_ok_weaker c.start_line.result (λ grows. λ ls pending around kids h.
     let p = c.args.self.now in
     let on = c.args.on.now in
-    let r = rest_of c.args.rest in
+    let r = rest_of c.args.rest.now in
     let e = c.args.beside in
     let leaf = Leaf (Indented ls pending) in
     let last : (c.len-depth.result == vec_len p.open) ≡ true = eq-eqb c.len-depth.result (vec_len p.open) c.len-depth.ensures in

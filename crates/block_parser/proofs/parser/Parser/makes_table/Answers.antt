@@ -18,13 +18,13 @@ pub returns-then-not-interrupts-clause-made : goal.returns-then-not-interrupts-c
 returns-then-not-interrupts-clause-made g c = λ around kids away row deep clean h.
     let p = c.args.self.now in
     let not_here = sym (c.interrupts.ensures around kids away deep h) ∙ c.if-not-interrupts.true in
-    tables.lines_not c.args.on.now row (rest_of c.args.rest) (text_here away) (interrupting.nothing_here p c.args.depth around kids away deep h not_here)
+    tables.lines_not c.args.on.now row (rest_of c.args.rest.now) (text_here away) (interrupting.nothing_here p c.args.depth around kids away deep h not_here)
 
 pub returns-then-not-has_head-clause-made : goal.returns-then-not-has_head-clause-made
 returns-then-not-has_head-clause-made g c = λ around kids away row deep clean h.
     let p = c.args.self.now in
     let on = c.args.on.now in
-    let r = rest_of c.args.rest in
+    let r = rest_of c.args.rest.now in
     let columns = c.read_row.new.aligns.items in
     let here = interrupting.text_is_here p c.args.depth around kids away deep h
     (sym (c.interrupts.ensures around kids away deep h) ∙ c.if-not-interrupts.false) in
@@ -38,7 +38,7 @@ returns-clause-made g c =
     (λ made left. λ around kids away row deep clean h.
     let p = c.args.self.now in
     let on = c.args.on.now in
-    let r = rest_of c.args.rest in
+    let r = rest_of c.args.rest.now in
     let columns = c.read_row.new.aligns.items in
     let here = interrupting.text_is_here p c.args.depth around kids away deep h
     (sym (c.interrupts.ensures around kids away deep h) ∙ c.if-not-interrupts.false) in

@@ -11,14 +11,14 @@ pub returns-then-has_text : goal.returns-then-has_text
 returns-then-has_text g c =
     on_ok_weaker c.text_line.result (λ more. λ around kids away deep clean h.
     let text_is = c.has_text.ensures (spine_at around kids away) h ∙ steps.has_text_at around kids away in
-    steps.goes_longer c.args.on.now (HasRead c.args.self.now) (HasRead c.text_line.new.self) (rest_of c.args.rest) c.args.beside more around kids away
+    steps.goes_longer c.args.on.now (HasRead c.args.self.now) (HasRead c.text_line.new.self) (rest_of c.args.rest.now) c.args.beside more around kids away
     (sym text_is ∙ c.if-has_text.true) h)
     c.text_line.ensures
 
 pub returns-then-is_row : goal.returns-then-is_row
 returns-then-is_row g c =
     on_ok_weaker c.table_row.result (λ more. λ around kids away deep clean h.
-    steps.goes_row c.args.on.now (HasRead c.args.self.now) (HasRead c.table_row.new.self) (rest_of c.args.rest) c.args.beside
+    steps.goes_row c.args.on.now (HasRead c.args.self.now) (HasRead c.table_row.new.self) (rest_of c.args.rest.now) c.args.beside
     (λ around kids ls. more (OpenTable ls) ls refl around kids) around kids away (sym (c.is_row.ensures around kids away deep h) ∙ c.if-is_row.true) h)
     c.table_row.ensures
 
@@ -28,7 +28,7 @@ returns g c =
     let on = c.args.on.now in
     let text_is = c.has_text.ensures (spine_at around kids away) h ∙ steps.has_text_at around kids away in
     let k = c.in_ok-close_to.ensures.read around kids away deep clean h in
-    steps.starts_text on (HasRead c.text_line-2.new.self) (rest_of c.args.rest) c.args.beside around kids away (sym text_is ∙ c.if-has_text.false)
+    steps.starts_text on (HasRead c.text_line-2.new.self) (rest_of c.args.rest.now) c.args.beside around kids away (sym text_is ∙ c.if-has_text.false)
     (sym (c.is_row.ensures around kids away deep h) ∙ c.if-is_row.false)
     (more around (join kids (close on away)) [] k))
     c.text_line-2.ensures

@@ -15,7 +15,7 @@ pub returns : goal.returns
 returns g c = λ around kids h.
     let p = c.args.self.now in
     let pool = piece_lines p.pieces.items in
-    let r = outdent 4 (rest_of c.args.rest) in
+    let r = outdent 4 (rest_of c.args.rest.now) in
     let l = rest_line r c.args.beside in
     let leaf = Indented (l ∷ []) [] in
     let piece_is = c.piece.ensures ∙ ap (λ (x : Rest). rest_line x c.args.beside) c.outdent.ensures in

@@ -1,8 +1,9 @@
-use Rattle.std.proofs.Common.{◌≡◌, ◌∷◌, ◌==◌, sym, ap, ◌∙◌, subst, length, arith}
+use Rattle.std.proofs.Common.{◌≡◌, ◌∷◌, ◌==◌, ◌&&◌, sym, ap, ◌∙◌, subst, length, arith}
 use Rattle.std.proofs.lemmas.Result.{on_ok_weaker}
 use Rattle.definition_block.specs.ContainerStart.{container_start}
-use Rattle.definition_block.specs.Tree.{Nil, Tree, tree, nothing, join, Inside, close, beside_in}
+use Rattle.definition_block.specs.Tree.{Nil, Tree, tree, nothing, join, Inside, close, beside_in, has_text}
 use Rattle.block_starts.specs.View.{rest_of, container_view, started_if}
+use Rattle.block_starts.proofs.MarkLemmas.{none_starts}
 use Rattle.block_state.specs.Spine.{level, spine_after}
 use Rattle.block_parser.specs.View.{HasRead, new_inside}
 use Rattle.block_parser.proofs.Closing as closing
@@ -11,21 +12,32 @@ use Rattle.std.proofs.Common.{vec_len}
 use Rattle.definition_block.specs.Containers.{starts}
 use Rattle.block_parser.proofs.parser.Parser.start_line.Goals as goal
 
-pub returns-in_default : goal.returns-in_default
-returns-in_default g c =
+pub returns-then-not-container_may_start : goal.returns-then-not-container_may_start
+returns-then-not-container_may_start g c =
     on_ok_weaker c.leaf_line.result (λ grows. λ around kids away deep clean h.
     let on = c.args.on.now in
-    let r = rest_of c.args.rest in
-    let none = ap (λ b. starts on b r) (sym (c.interrupts.ensures around kids away deep h)) ∙ sym c.starts.ensures ∙ ap started_if c.in_default.is in
+    let r = rest_of c.args.rest.now in
+    let all = c.args.depth == vec_len c.args.self.now.open in
+    let none = none_starts on (all && has_text away) r (sym c.container_may_start.ensures ∙ c.if-not-container_may_start.true) in
     subst (λ (x : Tree). HasRead c.leaf_line.new.self (spine_after around kids x))
-    (sym (starting.new_none on c.args.beside (length r) (c.args.depth == vec_len c.args.self.now.open) away r none)) (grows around kids away deep clean h))
+    (sym (starting.new_none on c.args.beside (length r) all away r none)) (grows around kids away deep clean h))
     c.leaf_line.ensures
+
+pub returns-in_default : goal.returns-in_default
+returns-in_default g c =
+    on_ok_weaker c.leaf_line-in_default.result (λ grows. λ around kids away deep clean h.
+    let on = c.args.on.now in
+    let r = rest_of c.args.rest.now in
+    let none = ap (λ b. starts on b r) (sym (c.interrupts.ensures around kids away deep h)) ∙ sym c.starts.ensures ∙ ap started_if c.in_default.is in
+    subst (λ (x : Tree). HasRead c.leaf_line-in_default.new.self (spine_after around kids x))
+    (sym (starting.new_none on c.args.beside (length r) (c.args.depth == vec_len c.args.self.now.open) away r none)) (grows around kids away deep clean h))
+    c.leaf_line-in_default.ensures
 
 pub returns : goal.returns
 returns g c =
     on_ok_weaker c.leaf_line-2.result (λ grows. λ around kids away deep clean h.
     let on = c.args.on.now in
-    let r = rest_of c.args.rest in
+    let r = rest_of c.args.rest.now in
     let e = c.args.beside in
     let all = c.args.depth == vec_len c.args.self.now.open in
     let s = container_start (container_view c.in-Some.container) (rest_of c.in-Some.line.rest) c.in-Some.line.before in

@@ -15,7 +15,7 @@ returns g c =
     let n = length parts.left - 1 in
     let front = paragraph_of (take n parts.left) in
     let head = drop n parts.left in
-    let row = rest_line (rest_of c.args.rest) c.args.beside in
+    let row = rest_line (rest_of c.args.rest.now) c.args.beside in
     let k = c.in_ok-close_before_head.ensures.read parts.left around (join kids parts.definitions)
     (c.in_ok-cut_definitions.ensures.read ls clean around kids h) in
     subst (λ (bs : Blocks). HasRead c.table_row.new.self (spine around bs (OpenTable (head ++ row ∷ []))))

@@ -15,7 +15,7 @@ pub returns : goal.returns
 returns g c = λ leaf ls is around kids h.
     let p = c.args.self.now in
     let e = c.args.beside in
-    let l = rest_line (rest_of c.args.rest) e in
+    let l = rest_line (rest_of c.args.rest.now) e in
     let more = ls ++ l ∷ [] in
     let last : last_ending more ≡ e.ending = last_ending_or-more None ls l in
     let k = leaves.shows_line p.rows.rows.items p.rows.waiting.items p.rows.bare (container_views p.open.items) (piece_lines p.pieces.items)

@@ -13,13 +13,13 @@ pub returns-then-not-interrupts-clause-turned : goal.returns-then-not-interrupts
 returns-then-not-interrupts-clause-turned g c = λ around kids away e deep clean h.
     let p = c.args.self.now in
     let not_here = sym (c.interrupts.ensures around kids away deep h) ∙ c.if-not-interrupts.true in
-    steps.turns_nothing c.args.on.now (rest_of c.args.rest) e away (interrupting.nothing_here p c.args.depth around kids away deep h not_here)
+    steps.turns_nothing c.args.on.now (rest_of c.args.rest.now) e away (interrupting.nothing_here p c.args.depth around kids away deep h not_here)
 
 pub returns-then-branch-clause-turned : goal.returns-then-branch-clause-turned
 returns-then-branch-clause-turned g c = λ around kids away e deep clean h.
     let p = c.args.self.now in
     let on = c.args.on.now in
-    let r = rest_of c.args.rest in
+    let r = rest_of c.args.rest.now in
     let rank = c.in-Some.rank in
     let is = sym c.underline.ensures ∙ c.in-Some.is in
     let here = interrupting.text_is_here p c.args.depth around kids away deep h
@@ -40,7 +40,7 @@ pub returns-else-branch-clause-turned : goal.returns-else-branch-clause-turned
 returns-else-branch-clause-turned g c = λ around kids away e deep clean h.
     let p = c.args.self.now in
     let on = c.args.on.now in
-    let r = rest_of c.args.rest in
+    let r = rest_of c.args.rest.now in
     let rank = c.in-Some.rank in
     let is = sym c.underline.ensures ∙ c.in-Some.is in
     let here = interrupting.text_is_here p c.args.depth around kids away deep h

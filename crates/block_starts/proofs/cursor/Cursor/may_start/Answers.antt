@@ -11,7 +11,7 @@ use Rattle.block_starts.proofs.cursor.Cursor.may_start.Goals as goal
 pub returns-then-self-bytes : goal.returns-then-self-bytes
 unfolding rest_of
 returns-then-self-bytes c =
-    let s = c.args.self in
+    let s = c.args.self.now in
     let t = s.text.now in
     let bytes = c.as_bytes-bytes.ensures.value in
     let lt : prefix_len is_white t < length t = omega (arith, s.front, ap length bytes, c.if-self-bytes.true) in
@@ -24,7 +24,7 @@ returns-then-self-bytes c =
 pub returns-else-self-bytes : goal.returns-else-self-bytes
 unfolding rest_of
 returns-else-self-bytes c =
-    let s = c.args.self in
+    let s = c.args.self.now in
     let t = s.text.now in
     let bytes = c.as_bytes-bytes.ensures.value in
     let le : length t ≤ prefix_len is_white t = omega (arith, s.front, ap length bytes, c.if-self-bytes.false) in

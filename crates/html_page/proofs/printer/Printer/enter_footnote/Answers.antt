@@ -15,7 +15,7 @@ returns-clause-printed g c =
     let outer = reverse p.outer.items in
     let places = reverse p.places.items in
     subst (λ x. OnOk c.enter_at.result (printer_view c.enter_at.new.self ≡ x))
-    (ap (λ (l : Level). within_at l holder.Footnote false (printer_at (page_view c.start_footnote.new.self) p.level outer places)) (c.after-around.ensures [])
+    (ap (λ (l : Level). within_at l holder.Footnote false (printer_at (page_view c.start_footnote.new.self) p.level outer places)) (c.pass.ensures [])
     ∙ ap (λ (out : LayoutState). within_at (after_footnote p.level) holder.Footnote false (printer_at out p.level outer places))
     c.in_ok-start_footnote.ensures.printed)
     c.enter_at.ensures.printed

@@ -19,9 +19,9 @@ returns-in_ok-line_ending-in-Ending-clause-printed g c = λ ds has.
     let p = c.args.self.now in
     let lines = piece_lines c.args.lines.now in
     let after = page_view c.line_ending.new.self in
-    let level = c.after-self.result in
+    let level = c.pass.new.self in
     let at = λ (out : LayoutState) (l : Level). printer_at out l (reverse p.outer.items) (reverse p.places.items) in
     subst (λ (row : Row). at after level ≡ print_row d (ending_bytes p.page.default_ending) (printer_view p) (row_value row lines)) (sym c.in-Ending.is)
-    (ap (at after) (c.after-self.ensures lines)
+    (ap (at after) (c.pass.ensures lines)
     ∙ ap (λ (out : LayoutState). at out (level_after p.level (row_value (row.Ending c.in-Ending.ending) lines)))
     (c.in_ok-line_ending-in-Ending.ensures.printed d))
