@@ -17,7 +17,6 @@ impl<'a, A: Allocator> Parser<'a, A> {
     ghost use Rattle.block_parser.specs.View.{Adds};
 
     /// An ATX heading, where no leaf is open.
-    #[inline(always)]
     pub(crate) fn heading(
         &mut self,
         atx: Atx<'a>,

@@ -66,7 +66,6 @@ impl<'a, A: Allocator> Parser<'a, A> {
     }
 
     /// The same: definitions, and a paragraph of what is left.
-    #[inline(always)]
     fn close_lines(&mut self, on: &Constructs, known: Option<&'a str>) -> Result<(), AllocError>
         ensures read { OnOk result (ClosesText self.old self.new known.entry (λ ls. tree.close_leaf on.now (tree.Text ls))) }
         ensures containers { self.new.open ≡ self.old.open }
@@ -80,7 +79,6 @@ impl<'a, A: Allocator> Parser<'a, A> {
 
     /// The lines that are left of the open paragraph, if there are any, are a paragraph. From two
     /// lines on it is kept as one, where they are whole: those of a text that may be known.
-    #[inline(always)]
     fn close_paragraph(&mut self, known: Option<&'a str>) -> Result<(), AllocError>
         ensures read { OnOk result (ClosesText self.old self.new known.entry tree.paragraph_of) }
         ensures containers { self.new.open ≡ self.old.open }

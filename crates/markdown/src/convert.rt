@@ -139,11 +139,12 @@ fn page_after<'a, T: Tables, A: Allocator + Clone>(
     print_rows(alloc, room, ending, &texts, rows, pieces)
 }
 
-/// How many bytes a page is given at once: those of the text, and some for tags and references.
+/// How many bytes a page is given at once: those of the text, and some for tags and references, so
+/// that few pages grow. Those that aren't used aren't touched.
 fn room(len: usize) -> usize
     requires { len ≤ SIZE_MAX }
 {
-    len + len / 8
+    len + len / 4 + 64
 }
 
 /// The text's first ending, or another.
