@@ -84,6 +84,13 @@ shorter_after (c ∷ cs) ending text rest h =
     let split = first_bytes text rest (text_line (c ∷ cs) ending) h in
     omega (arith, ap length split, length-append ((c ∷ cs) ++ ending_text ending) rest)
 
+-- a text that ends after lines has some
+pub some_lines : (text rest : List ℕ) (read : List TextLine) → lines text ≡ read ++ lines rest → 0 < length text → length rest ≡ 0 → 0 < length read
+some_lines text rest [] split some none =
+    let same : text ≡ rest = sym (text_back text) ∙ ap text_of split ∙ text_back rest in
+    absurd (omega (arith, ap length same, some, none))
+some_lines text rest (line ∷ others) split some none = omega arith
+
 -- ---- a plain line goes on a paragraph
 
 module _ (on : Constructs) (line : TextLine) (bytes : (k : ℕ) → get_or line.content k 0 < 256) where

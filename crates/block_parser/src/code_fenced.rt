@@ -1,10 +1,14 @@
 //! Fenced code (CommonMark 4.5), and math, which is fenced code of dollars.
 //!
 //!     fenced ::= fence line* end_of_fence?
-ghost use Rattle.std.specs.Prelude.{◌≡◌};
+ghost use Rattle.std.specs.Prelude.{◌≡◌, ◌<◌, ◌^◌, length};
+ghost use Rattle.definition_text.specs.Columns.{whole};
+ghost use Rattle.definition_text.specs.Lines.{text_line};
+ghost use Rattle.definition_block.specs.CodeFenced.{is_fence_end};
+ghost use Rattle.block_rows.specs.Rows.{piece_line};
 ghost use Rattle.block_starts.specs.View.{rest_of};
-ghost use Rattle.block_starts.specs.CodeFenced.{fence_if};
-ghost use Rattle.block_parser.specs.Fences.{opening_fence as fence_here};
+ghost use Rattle.block_starts.specs.CodeFenced.{fence_if, fence_view};
+ghost use Rattle.block_parser.specs.Fences.{code_line, may_close, opening_fence as fence_here};
 
 use crate::parser::{Parser, piece};
 use block_rows::{Piece, Row};
@@ -12,18 +16,24 @@ use block_starts::Cursor;
 use block_starts::code_fenced::{Fence, fence_line, fence_start, is_fence_end};
 use block_starts::math_flow::math_start;
 use block_state::OpenLeaf;
+use block_state::whole_lines::whole_piece;
 use definition_text::{Beside, Kind};
 use markdown_options::{Constructs, LineEnding};
 use std::alloc::{AllocError, Allocator};
+use text_bytes::is_space_or_tab;
+use text_lines::{Line, next_line};
 
 impl<'a, A: Allocator> Parser<'a, A> {
-    ghost use Rattle.std.specs.Prelude.{◌≡◌, OnOk, List, Option, ◌≤◌, ◌+◌, [], vec_len};
+    ghost use Rattle.std.specs.Prelude.{◌≡◌, IfOk, OnOk, List, Option, ◌≤◌, ◌<◌, ◌+◌, ◌^◌, [], length, vec_len};
     ghost use Rattle.markdown_options.specs.declared.line_ending.LineEnding.{LineEnding};
     ghost use Rattle.definition_block.specs.CodeFenced.{Fence as FenceRecord};
     ghost use Rattle.definition_text.specs.BlockLines.{BlockLine, last_ending_or};
     ghost use Rattle.definition_block.specs.Tree as tree;
-    ghost use Rattle.block_starts.specs.CodeFenced.{fence_view};
-    ghost use Rattle.block_parser.specs.View.{Becomes, Closes, Adds, leaf_grown};
+    ghost use Rattle.definition_text.specs.declared.beside.Kind.TheVariants.{Whitespace};
+    ghost use Rattle.block_state.specs.Leaves.{leaf_state};
+    ghost use Rattle.block_state.specs.Shows.{InFenced};
+    ghost use Rattle.block_state.specs.Spine.{spine_of};
+    ghost use Rattle.block_parser.specs.View.{Becomes, Closes, Adds, HasRead, KeepsLines, ReadsSome, leaf_grown};
     ghost use Rattle.block_starts.specs.View.{rest_of};
 
     /// Fenced code takes every line up to its closing fence.
@@ -48,6 +58,53 @@ impl<'a, A: Allocator> Parser<'a, A> {
         }
         let count = self.pieces.len() - self.lines_in_rows - 1;
         self.end_leaf(Row::FencedCode(count), beside.ending)
+    }
+
+    /// Reads lines of fenced code, where no container is open, and the line that closes it. What is
+    /// known of the open leaf is set once, after them. Answers what follows.
+    pub(crate) fn fenced_lines(
+        &mut self,
+        on: &Constructs,
+        fence: Fence<'a>,
+        ending: Option<LineEnding>,
+        text: &'a str,
+    ) -> Result<&'a str, AllocError>
+        requires some { 0 < length text.now }
+        requires fits { length text.now < 2 ^ 61 }
+        requires leaf { leaf_state self.old.leaf ≡ InFenced (fence_view fence) ending }
+        requires lines { self.old.lines_in_rows + 1 ≤ vec_len self.old.pieces }
+        ensures shorter { IfOk result (λ rest. length rest.now < length text.now) }
+        ensures read { IfOk result (λ rest. (kids : tree.Blocks) (opening : Option LineEnding) (ls : List BlockLine) →
+            let t = tree.tree kids (tree.Leaf (tree.Fenced (fence_view fence.entry) opening ls)) in
+            KeepsLines on.now Whitespace t text.now → HasRead self.old (spine_of t) → ReadsSome on.now Whitespace t text.now rest.now self.new) }
+    {
+        let mut rest = text;
+        let mut last = ending;
+        while !rest.is_empty() {
+            let (content, ending, after) = next_line(rest);
+            if closes_fence(on, &fence, content) {
+                self.leaf = OpenLeaf::Fenced {
+                    fence,
+                    ending: last,
+                };
+                self.rest = rest;
+                let line = Line {
+                    content,
+                    ending,
+                    text: rest,
+                };
+                self.any_line(on, Kind::Whitespace, line)?;
+                return Ok(after);
+            }
+            self.pieces.push(code_piece(&fence, content, ending))?;
+            last = ending;
+            rest = after;
+        }
+        self.leaf = OpenLeaf::Fenced {
+            fence,
+            ending: last,
+        };
+        Ok(rest)
     }
 
     /// Fenced code starts, where no leaf is open.
@@ -88,4 +145,38 @@ pub(crate) fn opening_fence<'a>(on: &Constructs, rest: &Cursor<'a>) -> Option<Fe
         Some(fence) => Some(fence),
         None => math_start(on, *rest),
     }
+}
+
+/// Whether a whole line closes a fence.
+fn closes_fence(on: &Constructs, fence: &Fence<'_>, content: &str) -> bool
+    requires { length content.now < 2 ^ 61 }
+    ensures { result ≡ is_fence_end on.now (fence_view fence.now) (whole content.now) }
+{
+    may_close(fence.byte, content.as_bytes()) && is_fence_end(on, fence, Cursor::new(content))
+}
+
+/// Whether a line is empty or ends in a byte, a space or a tab. No other closes a fence of that byte.
+fn may_close(byte: u8, content: &[u8]) -> bool
+    ensures { result ≡ may_close byte content.now }
+{
+    if content.is_empty() {
+        return true;
+    }
+    let last = content[content.len() - 1];
+    last == byte || is_space_or_tab(last)
+}
+
+/// A whole line as one of the content of a fence.
+fn code_piece<'a>(fence: &Fence<'_>, content: &'a str, ending: Option<LineEnding>) -> Piece<'a>
+    requires { length content.now < 2 ^ 61 }
+    ensures { piece_line result ≡ code_line (fence_view fence.now) (text_line content.now ending) }
+{
+    if fence.indent == 0 {
+        return whole_piece(content, ending);
+    }
+    let beside = Beside {
+        before: Kind::Whitespace,
+        ending,
+    };
+    piece(&fence_line(fence, Cursor::new(content)), beside)
 }

@@ -83,8 +83,8 @@ impl<'a, A: Allocator> Parser<'a, A> {
     ghost use Rattle.block_starts.specs.View.{rest_of, container_view, container_views};
 
     /// Reads lines at the front of a text, after a character of a kind: where no container is open and
-    /// no leaf but a paragraph, plain ones and the line after them, and otherwise one. Answers what
-    /// follows.
+    /// no leaf but a paragraph or fenced code, those that go on it and the line after them, and otherwise
+    /// one. Answers what follows.
     pub(crate) fn lines(
         &mut self,
         on: &Constructs,
@@ -99,6 +99,11 @@ impl<'a, A: Allocator> Parser<'a, A> {
     {
         if before == Kind::Whitespace && self.is_alone() {
             return self.plain_lines(on, text);
+        }
+        if before == Kind::Whitespace && self.open.is_empty() {
+            if let OpenLeaf::Fenced { fence, ending } = self.leaf {
+                return self.fenced_lines(on, fence, ending, text);
+            }
         }
         let (content, ending, rest) = next_line(text);
         self.rest = text;
@@ -160,7 +165,12 @@ impl<'a, A: Allocator> Parser<'a, A> {
     }
 
     /// Reads any line: the containers that go on, then the leaf that takes the rest, or what is new.
-    fn any_line(&mut self, on: &Constructs, before: Kind, line: Line<'a>) -> Result<(), AllocError>
+    pub(crate) fn any_line(
+        &mut self,
+        on: &Constructs,
+        before: Kind,
+        line: Line<'a>,
+    ) -> Result<(), AllocError>
         ensures { OnOk result ((t : tree.Tree) → AreLines (tree.open_text t.now) → HasRead self.old (spine_of t) →
             HasRead self.new (spine_of (tree.step on.now before t (text_line line.entry.content.now line.entry.ending)))) }
     {
