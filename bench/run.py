@@ -3,7 +3,8 @@
 
     run.py FOLDER PROGRAM [ROUNDS] [--gfm]
 
-With --gfm the program reads GitHub's constructs, and is measured beside cmark-gfm with all of its extensions.
+With --gfm the program reads GitHub's constructs, and is measured beside cmark-gfm with all of its extensions, md4c with
+GitHub's dialect (without footnotes and the tag filter), and pulldown-cmark with its own (without literals and the filter).
 FOLDER has the texts of corpus.py in `corpus`, and what peers.sh builds. For each text the programs run in turn,
 round for round, and the least processor time of each counts. Memory is the peak, in multiples of the text. Instructions are
 those of callgrind on the first million bytes less those of an empty text.
@@ -23,7 +24,8 @@ STARTS = 200
 
 def programs(folder, own, is_gfm):
     if is_gfm:
-        return {"this program": [own, "--gfm"], "cmark-gfm": GFM}
+        return {"this program": [own, "--gfm"], "md4c": [folder + "/md4c", "--gfm"],
+                "pulldown-cmark": [folder + "/pulldown-cmark", "--gfm"], "cmark-gfm": GFM}
     return {"this program": [own], "md4c": [folder + "/md4c"], "pulldown-cmark": [folder + "/pulldown-cmark"],
             "cmark": ["cmark", "--unsafe"], "cmark-gfm": ["cmark-gfm", "--unsafe"]}
 
