@@ -1,36 +1,28 @@
 -- Lines of fenced code at the front of a text, which it takes at once.
-use Rattle.std.proofs.Common.{◌≡◌, ℕ, suc, ◌+◌, ◌-◌, ◌<◌, ◌||◌, true, false, eqb, inl, inr, List, [], ◌∷◌, ◌++◌, Option, refl, sym, ap, ◌∙◌, subst, length, drop}
-use Rattle.std.proofs.Common.{append_assoc, arith, get_or}
-use Rattle.std.specs.Prelude.{leb, map}
-use Rattle.std.specs.List.{list_all, prefix_len}
-use Rattle.std.proofs.lemmas.Bool.{and_from, and_parts, cases_Bool, cond-true, cond-false, eqb-false, false_from_ne_true, or_left, or_parts, or_right}
-use Rattle.std.proofs.lemmas.List.{append-nil, get_or-drop, length-append, map-append}
-use Rattle.std.proofs.lemmas.List.Folds.{list_all_at}
+use Rattle.std.proofs.Common.{◌≡◌, ℕ, ◌<◌, false, List, [], ◌∷◌, ◌++◌, Option, refl, sym, ap, ◌∙◌, subst, length}
+use Rattle.std.proofs.Common.{append_assoc, arith}
+use Rattle.std.specs.Prelude.{map}
+use Rattle.std.proofs.lemmas.List.{append-nil, length-append, map-append}
 use Rattle.markdown_options.specs.declared.line_ending.LineEnding.{LineEnding}
 use Rattle.markdown_options.specs.declared.configuration.Constructs.{Constructs}
 use Rattle.definition_text.specs.declared.beside.Kind.TheVariants.{Whitespace}
 use Rattle.definition_text.specs.Lines.{TextLine, lines}
-use Rattle.definition_text.specs.Columns.{bare, bytes_of, indent, is_white, whole}
-use Rattle.definition_text.specs.Indents.{small_indent}
-use Rattle.definition_text.specs.Runs.{after_run, is_run, run}
+use Rattle.definition_text.specs.Columns.{whole}
 use Rattle.definition_text.specs.BlockLines.{BlockLine, last_ending_or}
 use Rattle.definition_block.specs.CodeFenced.{Fence, is_fence_end}
 use Rattle.definition_block.specs.Tree.{Blocks, join, Text, Indented, Fenced, OpenHtml, OpenTable, Opening, Leaf, Inside, Tree, tree, beside_line, step, steps}
 use Rattle.block_rows.specs.Rows.{piece_lines}
-use Rattle.text_lines.proofs.Codes.{bytes_of_codes}
-use Rattle.block_starts.proofs.ThematicBreakLemmas.{has_only}
-use Rattle.block_starts.proofs.Views.{bare_view}
 use Rattle.block_starts.specs.View.{container_views}
 use Rattle.block_state.specs.Leaves.{leaf_state}
 use Rattle.block_state.specs.Shows.{InText, InIndented, InFenced, InHtml, InTable, Shows, state_of}
 use Rattle.block_state.specs.Spine.{Spine, spine, spine_at, spine_of}
 use Rattle.block_state.proofs.Trees.{join-nil}
 use Rattle.block_parser.specs.declared.parser.Parser.{Parser}
-use Rattle.block_parser.specs.Fences.{code_line, may_close}
+use Rattle.block_parser.specs.Fences.{code_line}
 use Rattle.block_parser.specs.View.{HasRead, ReadsSome}
 use Rattle.block_parser.proofs.Closing.{opening_depth}
 use Rattle.block_parser.proofs.PlainLines.{some_lines}
-use Rattle.block_parser.proofs.Read.{kind_later, steps_more}
+use Rattle.block_parser.proofs.Read.{split_more, steps_to}
 use Rattle.block_parser.proofs.Steps.{fenced_goes_on}
 
 -- fenced code is open, and no container
@@ -52,7 +44,8 @@ of_fenced f last P h kids (Inside c inner_kids inner) none is = absurd (omega (a
 
 -- what was read is this, where the last line of the fenced code that is open has such an ending
 abbrev pub ShowsFenced : {A : Type 0} → Parser A → Fence → Option LineEnding → Spine → Type 0
-ShowsFenced p f last s = Shows p.rows.rows.items p.rows.waiting.items p.rows.bare (container_views p.open.items) (piece_lines p.pieces.items) (InFenced f last) s
+ShowsFenced p f last s =
+    Shows p.rows.rows.items p.rows.waiting.items p.rows.bare (container_views p.open.items) (piece_lines p.pieces.items) (InFenced f last) s
 
 -- ---- one line of the content
 
@@ -63,66 +56,13 @@ code_step on f line other kids opening ls =
     ap (λ (t : Tree). tree (join kids t.done) t.now) (fenced_goes_on on (beside_line Whitespace line) (whole line.content) f opening ls other)
     ∙ ap (λ (bs : Blocks). fenced_open f bs opening (ls ++ code_line f line ∷ [])) (join-nil kids)
 
--- ---- a line that may close no fence
-
-white_only : (byte : ℕ) (bs : List ℕ) → list_all is_white bs ≡ true → has_only byte bs ≡ true
-white_only byte [] h = refl
-white_only byte (b ∷ bs) h =
-    let parts = and_parts (is_white b) (list_all is_white bs) h in
-    and_from (eqb b byte || is_white b) (has_only byte bs) (or_right (eqb b byte) (is_white b) parts.0) (white_only byte bs parts.1)
-
-run_only : (byte : ℕ) (bs : List ℕ) → list_all is_white (after_run byte bs) ≡ true → has_only byte bs ≡ true
-run_only byte [] h = refl
-run_only byte (b ∷ bs) h = elim (cases_Bool (eqb b byte)) [
-  | inl same ↦
-      let next : 1 + run byte bs ≡ suc (run byte bs) = omega arith in
-      let size : run byte (b ∷ bs) ≡ suc (run byte bs) = cond-true (eqb b byte) _ _ same ∙ next in
-      and_from (eqb b byte || is_white b) (has_only byte bs) (or_left (eqb b byte) (is_white b) same)
-      (run_only byte bs (sym (ap (λ n. list_all is_white (drop n (b ∷ bs))) size) ∙ h))
-  | inr other ↦
-      let size : run byte (b ∷ bs) ≡ 0 = cond-false (eqb b byte) _ _ other in
-      white_only byte (b ∷ bs) (sym (ap (λ n. list_all is_white (drop n (b ∷ bs))) size) ∙ h)
-]
-
-indented_only : (byte : ℕ) (bs : List ℕ) → has_only byte (drop (prefix_len is_white bs) bs) ≡ true → has_only byte bs ≡ true
-indented_only byte [] h = h
-indented_only byte (b ∷ bs) h = elim (cases_Bool (is_white b)) [
-  | inl white ↦
-      let next : 1 + prefix_len is_white bs ≡ suc (prefix_len is_white bs) = omega arith in
-      let size : prefix_len is_white (b ∷ bs) ≡ suc (prefix_len is_white bs) = cond-true (is_white b) _ _ white ∙ next in
-      and_from (eqb b byte || is_white b) (has_only byte bs) (or_right (eqb b byte) (is_white b) white)
-      (indented_only byte bs (sym (ap (λ n. has_only byte (drop n (b ∷ bs))) size) ∙ h))
-  | inr dark ↦
-      let size : prefix_len is_white (b ∷ bs) ≡ 0 = cond-false (is_white b) _ _ dark in
-      sym (ap (λ n. has_only byte (drop n (b ∷ bs))) size) ∙ h
-]
-
-bare_bytes : (bs : List ℕ) → ((k : ℕ) → get_or bs k 0 < 256) → bytes_of (bare (whole bs)) ≡ drop (prefix_len is_white bs) bs
-bare_bytes bs small =
-    let n = prefix_len is_white bs in
-    ap bytes_of (bare_view 0 0 bs)
-    ∙ bytes_of_codes (0 + indent (whole bs)) (drop n bs) (λ k. subst (λ (b : ℕ). b < 256) (sym (get_or-drop n bs k 0)) (small (n + k)))
-
-pub closes_none : (on : Constructs) (f : Fence) (bs : List ℕ) → ((k : ℕ) → get_or bs k 0 < 256) → may_close f.byte bs ≡ false
-    → is_fence_end on f (whole bs) ≡ false
-closes_none on f bs small h =
-    let parts = or_parts (eqb (length bs) 0) _ h in
-    let some : 0 < length bs = omega (arith, eqb-false (length bs) 0 parts.0) in
-    let none : has_only f.byte bs ≡ false = list_all_at (λ b. eqb b f.byte || is_white b) bs (length bs - 1) 0 (omega (arith, some)) parts.1 in
-    false_from_ne_true (is_fence_end on f (whole bs)) (λ ends.
-    let run_is = and_parts (small_indent on (whole bs)) (is_run f.run f.byte (bytes_of (bare (whole bs)))) ends in
-    let only = ap (is_run f.run f.byte) (sym (bare_bytes bs small)) ∙ run_is.1 in
-    let white = and_parts (leb f.run (run f.byte (drop (prefix_len is_white bs) bs))) _ only in
-    let wrong : false ≡ true = sym none ∙ indented_only f.byte bs (run_only f.byte (drop (prefix_len is_white bs) bs) white.1) in
-    cc)
-
 -- ---- the lines so far
 
 pub record FencedSoFar {A : Type 0} (on : Constructs) (f : Fence) (text rest : List ℕ) (Old : Spine → Type 0) (new : Parser A)
     (last : Option LineEnding) : Type 0 where
   pub read : List TextLine
   pub split : lines text ≡ read ++ lines rest
-  pub fenced : (kids : Blocks) (opening : Option LineEnding) (ls : List BlockLine)
+  pub content_steps : (kids : Blocks) (opening : Option LineEnding) (ls : List BlockLine)
       → steps on Whitespace (fenced_open f kids opening ls) read ≡ fenced_open f kids opening (ls ++ map (code_line f) read)
   pub reads : (kids : Blocks) (opening : Option LineEnding) (ls : List BlockLine) → Old (spine [] kids (Fenced f opening ls))
       → ShowsFenced new f last (spine [] kids (Fenced f opening (ls ++ map (code_line f) read)))
@@ -132,7 +72,7 @@ pub fenced_none : {A : Type 0} (on : Constructs) (f : Fence) (text : List ℕ) (
 fenced_none on f text p last leaf = record {
   read = [];
   split = refl;
-  fenced = λ kids opening ls. ap (fenced_open f kids opening) (sym (append-nil ls));
+  content_steps = λ kids opening ls. ap (fenced_open f kids opening) (sym (append-nil ls));
   reads = λ kids opening ls h.
       subst (λ (xs : List BlockLine). ShowsFenced p f last (spine [] kids (Fenced f opening xs))) (sym (append-nil ls))
       (record { written = h.written; opened = h.opened; same_state = sym leaf ∙ h.same_state });
@@ -142,17 +82,6 @@ module _ {A : Type 0} (on : Constructs) (f : Fence) (text rest after : List ℕ)
     (line : TextLine) (h : FencedSoFar on f text rest Old mid last) (first : lines rest ≡ line ∷ lines after) where
   abbrev more : List TextLine
   more = h.read ++ line ∷ []
-
-  split_more : lines text ≡ more ++ lines after
-  split_more = h.split ∙ ap (λ xs. h.read ++ xs) first ∙ sym (append_assoc h.read (line ∷ []) (lines after))
-
-  steps_to : (kids : Blocks) (opening : Option LineEnding) (ls : List BlockLine)
-      → steps on Whitespace (fenced_open f kids opening ls) more ≡ step on Whitespace (fenced_open f kids opening (ls ++ map (code_line f) h.read)) line
-  steps_to kids opening ls =
-      let t = fenced_open f kids opening ls in
-      steps_more on Whitespace t h.read line
-      ∙ ap (λ kind. step on kind (steps on Whitespace t h.read) line) (kind_later h.read)
-      ∙ ap (λ (t : Tree). step on Whitespace t line) (h.fenced kids opening ls)
 
   all_of : (ls : List BlockLine) → (ls ++ map (code_line f) h.read) ++ code_line f line ∷ [] ≡ ls ++ map (code_line f) more
   all_of ls =
@@ -165,9 +94,11 @@ module _ {A : Type 0} (on : Constructs) (f : Fence) (text rest after : List ℕ)
       → FencedSoFar on f text after Old new line.ending
   fenced_more new other push = record {
     read = more;
-    split = split_more;
-    fenced = λ kids opening ls.
-        steps_to kids opening ls ∙ code_step on f line other kids opening (ls ++ map (code_line f) h.read) ∙ ap (fenced_open f kids opening) (all_of ls);
+    split = split_more text rest after h.read line h.split first;
+    content_steps = λ kids opening ls.
+        steps_to on (fenced_open f kids opening ls) _ h.read line (h.content_steps kids opening ls)
+        ∙ code_step on f line other kids opening (ls ++ map (code_line f) h.read)
+        ∙ ap (fenced_open f kids opening) (all_of ls);
     reads = λ kids opening ls so_far.
         subst (λ (xs : List BlockLine). ShowsFenced new f line.ending (spine [] kids (Fenced f opening xs))) (all_of ls)
         (push kids opening (ls ++ map (code_line f) h.read) (h.reads kids opening ls so_far));
@@ -180,8 +111,10 @@ module _ {A : Type 0} (on : Constructs) (f : Fence) (text rest after : List ℕ)
   fenced_after new kids opening ls reads = record {
     read = more;
     some = omega (arith, length-append h.read (line ∷ []));
-    split = split_more;
-    reads = subst (λ (t : Tree). HasRead new (spine_of t)) (sym (steps_to kids opening ls)) reads;
+    split = split_more text rest after h.read line h.split first;
+    reads =
+        subst (λ (t : Tree). HasRead new (spine_of t))
+        (sym (steps_to on (fenced_open f kids opening ls) _ h.read line (h.content_steps kids opening ls))) reads;
   }
 
 -- the text ends after them
@@ -193,5 +126,5 @@ fenced_all on f text rest Old mid new last h kids opening ls some none reads = r
   read = h.read;
   some = some_lines text rest h.read h.split some none;
   split = h.split;
-  reads = subst (λ (t : Tree). HasRead new (spine_of t)) (sym (h.fenced kids opening ls)) reads;
+  reads = subst (λ (t : Tree). HasRead new (spine_of t)) (sym (h.content_steps kids opening ls)) reads;
 }

@@ -13,8 +13,8 @@ use Rattle.block_rows.specs.declared.row.Row.{Row}
 use Rattle.block_rows.specs.declared.row.Row.TheVariants as row
 use Rattle.block_rows.specs.declared.row.Piece.{Piece}
 use Rattle.definition_text.specs.BlockLines.{BlockLine, last_ending, own_lines}
-use Rattle.definition_block.specs.Tree.{Block, IndentedCode, Ending, Blank, Blocks, Nil, join, one, block_and_ending, container_block, OpenLeaf, Text, Indented, Fenced, OpenHtml, OpenTable}
-use Rattle.definition_block.specs.Tree.{Leaf}
+use Rattle.definition_block.specs.Tree.{Block, IndentedCode, Ending, Blank, Blocks, Nil, join, one, block_and_ending, container_block}
+use Rattle.definition_block.specs.Tree.{OpenLeaf, Text, Indented, Fenced, OpenHtml, OpenTable, Leaf}
 use Rattle.definition_block.specs.Tree.{is_nothing, close_leaf, is_some_line, blanks, is_ending, front}
 use Rattle.block_rows.proofs.Pieces.{lines_from}
 use Rattle.block_rows.specs.Rows.{Single, start_row, block_rows, row_value, rows_of, rows_value, value_with, row_size, rows_size, piece_line}

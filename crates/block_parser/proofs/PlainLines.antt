@@ -24,7 +24,7 @@ use Rattle.block_parser.specs.declared.parser.Parser.{Parser}
 use Rattle.block_state.specs.Spine.{Spine, spine, spine_of}
 use Rattle.block_parser.specs.View.{HasRead, KeepsLines, ReadsSome}
 use Rattle.block_parser.proofs.Plain.{plain_new}
-use Rattle.block_parser.proofs.Read.{kind_later, steps_more}
+use Rattle.block_parser.proofs.Read.{split_more, steps_to}
 use Rattle.block_parser.proofs.Starting.{closed-nothing}
 use Rattle.block_state.proofs.Trees.{join-nil}
 use Rattle.block_state.specs.WholeLines.{Begins}
@@ -142,20 +142,10 @@ module _ {A : Type 0} (on : Constructs) (text rest after : List ℕ) (Old : Spin
   abbrev more : List TextLine
   more = h.read ++ line ∷ []
 
-  split_more : lines text ≡ more ++ lines after
-  split_more = h.split ∙ ap (λ xs. h.read ++ xs) first ∙ sym (append_assoc h.read (line ∷ []) (lines after))
-
-  steps_to : (kids : Blocks) (ls : List BlockLine)
-      → steps on Whitespace (text_open kids ls) more ≡ step on Whitespace (text_open kids (ls ++ map whole_line h.read)) line
-  steps_to kids ls =
-      let t = text_open kids ls in
-      steps_more on Whitespace t h.read line
-      ∙ ap (λ kind. step on kind (steps on Whitespace t h.read) line) (kind_later h.read)
-      ∙ ap (λ (t : Tree). step on Whitespace t line) (h.plain kids ls)
-
   content_bytes : ((k : ℕ) → get_or text k 0 < 256) → (k : ℕ) → get_or line.content k 0 < 256
   content_bytes small =
-      let behind = later_bytes (flat_map line_text (map whole_line h.read)) rest (subst (λ (xs : List ℕ). (k : ℕ) → get_or xs k 0 < 256) h.begins.split small) in
+      let behind =
+      later_bytes (flat_map line_text (map whole_line h.read)) rest (subst (λ (xs : List ℕ). (k : ℕ) → get_or xs k 0 < 256) h.begins.split small) in
       let split = first_bytes rest after line first ∙ append_assoc line.content (ending_text line.ending) after in
       front_bytes line.content (ending_text line.ending ++ after) (subst (λ (xs : List ℕ). (k : ℕ) → get_or xs k 0 < 256) split behind)
 
@@ -174,11 +164,13 @@ module _ {A : Type 0} (on : Constructs) (text rest after : List ℕ) (Old : Spin
       let front = first_bytes rest after line first ∙ ap (λ xs. (xs ++ ending_text line.ending) ++ after) (sym (code_bytes line.content bytes)) in
       record {
         read = more;
-        split = split_more;
+        split = split_more text rest after h.read line h.split first;
         begins = subst (λ ls. Begins ls text after) (sym longer)
             (begins_line (map whole_line h.read) (whole_line line) text rest after h.begins front (refl, bytes));
         plain = λ kids ls.
-            steps_to kids ls ∙ plain_step on line bytes plain kids (ls ++ map whole_line h.read) ∙ ap (text_open kids) (all_of ls);
+            steps_to on (text_open kids ls) _ h.read line (h.plain kids ls)
+            ∙ plain_step on line bytes plain kids (ls ++ map whole_line h.read)
+            ∙ ap (text_open kids) (all_of ls);
         reads = λ kids ls so_far.
             subst (λ (xs : List BlockLine). HasRead new (spine [] kids (Text xs)))
             (ap (λ x. (ls ++ map whole_line h.read) ++ x ∷ []) (same ∙ line_is on line bytes) ∙ all_of ls)
@@ -192,8 +184,8 @@ module _ {A : Type 0} (on : Constructs) (text rest after : List ℕ) (Old : Spin
   read_after kids ls reads = record {
     read = more;
     some = omega (arith, length-append h.read (line ∷ []));
-    split = split_more;
-    reads = subst (λ (t : Tree). HasRead new (spine_of t)) (sym (steps_to kids ls)) reads;
+    split = split_more text rest after h.read line h.split first;
+    reads = subst (λ (t : Tree). HasRead new (spine_of t)) (sym (steps_to on (text_open kids ls) _ h.read line (h.plain kids ls))) reads;
   }
 
 module _ {A : Type 0} (on : Constructs) (text rest : List ℕ) (Old : Spine → Type 0) (new : Parser A) (h : PlainSoFar on text rest Old new)

@@ -12,17 +12,30 @@ use Rattle.block_parser.specs.declared.parser.Parser.{Parser}
 use Rattle.block_state.specs.Spine.{spine_of}
 use Rattle.block_parser.specs.View.{HasRead, KeepsLines, ReadsSome, kind_after_lines}
 
-pub kind_later : (ls : List TextLine) → kind_after_lines Whitespace ls ≡ Whitespace
+kind_later : (ls : List TextLine) → kind_after_lines Whitespace ls ≡ Whitespace
 kind_later [] = refl
 kind_later (line ∷ ls) = refl
 
 -- one more line
-pub steps_more : (on : Constructs) (before : Kind) (t : Tree) (ls : List TextLine) (line : TextLine)
+steps_more : (on : Constructs) (before : Kind) (t : Tree) (ls : List TextLine) (line : TextLine)
     → steps on before t (ls ++ line ∷ []) ≡ step on (kind_after_lines before ls) (steps on before t ls) line
 steps_more on before t [] line = refl
 steps_more on before t (first ∷ ls) line =
     let more = step on before t first in
     steps_more on Whitespace more ls line ∙ ap (λ kind. step on kind (steps on Whitespace more ls) line) (kind_later ls)
+
+-- the same after lines that lead to a tree
+pub steps_to : (on : Constructs) (t so_far : Tree) (ls : List TextLine) (line : TextLine) → steps on Whitespace t ls ≡ so_far
+    → steps on Whitespace t (ls ++ line ∷ []) ≡ step on Whitespace so_far line
+steps_to on t so_far ls line are =
+    steps_more on Whitespace t ls line
+    ∙ ap (λ kind. step on kind (steps on Whitespace t ls) line) (kind_later ls)
+    ∙ ap (λ (u : Tree). step on Whitespace u line) are
+
+-- a text of lines and a rest is one of those, the first of the rest and what follows it
+pub split_more : (text rest after : List ℕ) (ls : List TextLine) (line : TextLine) → lines text ≡ ls ++ lines rest → lines rest ≡ line ∷ lines after
+    → lines text ≡ (ls ++ line ∷ []) ++ lines after
+split_more text rest after ls line split first = split ∙ ap (λ xs. ls ++ xs) first ∙ sym (append_assoc ls (line ∷ []) (lines after))
 
 -- more lines
 pub steps_append : (on : Constructs) (before : Kind) (t : Tree) (ls more : List TextLine)

@@ -61,7 +61,8 @@ ClosesText old new known blocks = (ls : List BlockLine) → AreLines ls → AreK
 -- the open paragraph has one line more
 abbrev pub HasLine : {A : Type 0} → Parser A → Parser A → BlockLine → Type 0
 HasLine old new line =
-    (around : List Level) (kids : Blocks) (ls : List BlockLine) → HasRead old (spine around kids (Text ls)) → HasRead new (spine around kids (Text (ls ++ line ∷ [])))
+    (around : List Level) (kids : Blocks) (ls : List BlockLine)
+    → HasRead old (spine around kids (Text ls)) → HasRead new (spine around kids (Text (ls ++ line ∷ [])))
 
 -- where no leaf is open, a container starts
 abbrev pub Enters : {A : Type 0} → Parser A → Parser A → Container → Type 0

@@ -4,23 +4,21 @@
 ghost use Rattle.std.specs.Prelude.{◌≡◌, ◌<◌, ◌^◌, length};
 ghost use Rattle.definition_text.specs.Columns.{whole};
 ghost use Rattle.definition_text.specs.Lines.{text_line};
-ghost use Rattle.definition_block.specs.CodeFenced.{is_fence_end};
 ghost use Rattle.block_rows.specs.Rows.{piece_line};
 ghost use Rattle.block_starts.specs.View.{rest_of};
 ghost use Rattle.block_starts.specs.CodeFenced.{fence_if, fence_view};
-ghost use Rattle.block_parser.specs.Fences.{code_line, may_close, opening_fence as fence_here};
+ghost use Rattle.block_parser.specs.Fences.{code_line, opening_fence as fence_here};
 
 use crate::parser::{Parser, piece};
 use block_rows::{Piece, Row};
 use block_starts::Cursor;
-use block_starts::code_fenced::{Fence, fence_line, fence_start, is_fence_end};
+use block_starts::code_fenced::{Fence, closes_fence, fence_line, fence_start, is_fence_end};
 use block_starts::math_flow::math_start;
 use block_state::OpenLeaf;
 use block_state::whole_lines::whole_piece;
 use definition_text::{Beside, Kind};
 use markdown_options::{Constructs, LineEnding};
 use std::alloc::{AllocError, Allocator};
-use text_bytes::is_space_or_tab;
 use text_lines::{Line, next_line};
 
 impl<'a, A: Allocator> Parser<'a, A> {
@@ -145,25 +143,6 @@ pub(crate) fn opening_fence<'a>(on: &Constructs, rest: &Cursor<'a>) -> Option<Fe
         Some(fence) => Some(fence),
         None => math_start(on, *rest),
     }
-}
-
-/// Whether a whole line closes a fence.
-fn closes_fence(on: &Constructs, fence: &Fence<'_>, content: &str) -> bool
-    requires { length content.now < 2 ^ 61 }
-    ensures { result ≡ is_fence_end on.now (fence_view fence.now) (whole content.now) }
-{
-    may_close(fence.byte, content.as_bytes()) && is_fence_end(on, fence, Cursor::new(content))
-}
-
-/// Whether a line is empty or ends in a byte, a space or a tab. No other closes a fence of that byte.
-fn may_close(byte: u8, content: &[u8]) -> bool
-    ensures { result ≡ may_close byte content.now }
-{
-    if content.is_empty() {
-        return true;
-    }
-    let last = content[content.len() - 1];
-    last == byte || is_space_or_tab(last)
 }
 
 /// A whole line as one of the content of a fence.

@@ -70,7 +70,6 @@ impl<'a, A: Allocator> Parser<'a, A> {
     ghost use Rattle.definition_block.specs.Tree as tree;
     ghost use Rattle.block_rows.specs.ParagraphLines.{AreLines};
     ghost use Rattle.block_rows.specs.Rows.{block_rows, row_value, row_size};
-    ghost use Rattle.block_parser.specs.HeadingSetext.{is_text};
     ghost use Rattle.block_state.specs.Spine.{Level, Spine, spine, spine_at, spine_of, without_innermost};
     ghost use Rattle.block_parser.specs.Quotes.{NoQuoteFrom, NoneBeganBlank};
     ghost use Rattle.block_state.specs.Shows.{leaf_lines};
@@ -97,12 +96,13 @@ impl<'a, A: Allocator> Parser<'a, A> {
         ensures read { IfOk result (λ rest. (t : tree.Tree) → KeepsLines on.now before t text.now → HasRead self.old (spine_of t) →
             ReadsSome on.now before t text.now rest.now self.new) }
     {
-        if before == Kind::Whitespace && self.is_alone() {
-            return self.plain_lines(on, text);
-        }
         if before == Kind::Whitespace && self.open.is_empty() {
-            if let OpenLeaf::Fenced { fence, ending } = self.leaf {
-                return self.fenced_lines(on, fence, ending, text);
+            match self.leaf {
+                OpenLeaf::Text => return self.plain_lines(on, text),
+                OpenLeaf::Fenced { fence, ending } => {
+                    return self.fenced_lines(on, fence, ending, text);
+                }
+                OpenLeaf::Indented { .. } | OpenLeaf::Html { .. } | OpenLeaf::Table { .. } => {}
             }
         }
         let (content, ending, rest) = next_line(text);
@@ -149,19 +149,6 @@ impl<'a, A: Allocator> Parser<'a, A> {
             rest = after;
         }
         Ok(rest)
-    }
-
-    /// Whether no container is open, and no leaf but a paragraph.
-    fn is_alone(&self) -> bool
-        ensures { (t : tree.Tree) → HasRead self.now (spine_of t) → result ≡ is_text t.now }
-    {
-        match self.leaf {
-            OpenLeaf::Text => self.open.is_empty(),
-            OpenLeaf::Indented { .. } => false,
-            OpenLeaf::Fenced { .. } => false,
-            OpenLeaf::Html { .. } => false,
-            OpenLeaf::Table { .. } => false,
-        }
     }
 
     /// Reads any line: the containers that go on, then the leaf that takes the rest, or what is new.

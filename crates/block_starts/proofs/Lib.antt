@@ -6,3 +6,4 @@ pub mod ContainerLemmas
 pub mod PlainLemmas
 mod LabelLemmas
 mod HtmlEnds
+mod CodeFencedLemmas

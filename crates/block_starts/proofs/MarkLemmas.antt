@@ -14,7 +14,7 @@ use Rattle.definition_block.specs.ThematicBreak.{is_break}
 use Rattle.definition_block.specs.ListItem.{is_digit, bullet, after_number, marker, item_after, item_start, is_inside}
 use Rattle.definition_block.specs.GfmFootnoteDefinition.{after_bracket, footnote_mark, footnote_of, footnote_start}
 use Rattle.definition_block.specs.Containers.{quote_or, footnote_or, starts}
-use Rattle.block_starts.specs.Marks.{NoMark, is_mark, begins_container, container_may_start, may_start}
+use Rattle.block_starts.specs.Marks.{NoMark, is_mark, begins_container, begins_with_bracket, container_may_start, footnote_may_start, may_start}
 
 -- ---- no marker
 
@@ -119,12 +119,23 @@ only_footnote on interrupts rest h =
     alone None = refl
     alone (Some s) = refl
 
+-- a rest that doesn't begin with `[` has no marker of one
+no_bracket_none : (rest : Rest) → begins_with_bracket rest ≡ false → footnote_mark rest ≡ None
+no_bracket_none [] h = refl
+no_bracket_none (c ∷ cs) h = ap after_bracket (cond-false (eqb c 91) _ _ h)
+
+-- where a footnote definition may not start, none does
+no_footnote_ahead : (on : Constructs) (rest : Rest) → footnote_may_start on rest ≡ false → footnote_start on rest ≡ None
+no_footnote_ahead on rest h =
+    cond_both (on.gfm_footnote_definition && small_indent on rest) (footnote_of (footnote_mark (bare rest))) None (λ o. o ≡ None)
+    (λ both. let is_on = (and_parts on.gfm_footnote_definition (small_indent on rest) both).0 in
+    ap footnote_of (no_bracket_none (bare rest) (ap (λ b. b && begins_with_bracket (bare rest)) (sym is_on) ∙ h))) (λ _. refl)
+
 -- no container does
 pub none_starts : (on : Constructs) (interrupts : Bool) (rest : Rest) → container_may_start on rest ≡ false → starts on interrupts rest ≡ None
 none_starts on interrupts rest h =
-    let none = or_parts (may_start (bare rest)) on.gfm_footnote_definition h in
-    sym (only_footnote on interrupts rest none.0)
-    ∙ cond-false (on.gfm_footnote_definition && small_indent on rest) _ _ (ap (λ b. b && small_indent on rest) none.1)
+    let none = or_parts (may_start (bare rest)) (footnote_may_start on rest) h in
+    sym (only_footnote on interrupts rest none.0) ∙ no_footnote_ahead on rest none.1
 
 -- without a footnote definition a quote or an item starts
 pub no_footnote_starts : (on : Constructs) (interrupts : Bool) (rest : Rest) → may_start (bare rest) ≡ true

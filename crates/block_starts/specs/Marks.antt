@@ -1,5 +1,5 @@
 -- The bytes that a container's marker may begin with.
-use Rattle.std.specs.Prelude.{◌≡◌, ℕ, Bool, false, ◌==◌, ◌||◌, List, [], ◌∷◌}
+use Rattle.std.specs.Prelude.{◌≡◌, ℕ, Bool, false, ◌==◌, ◌||◌, ◌&&◌, List, [], ◌∷◌}
 use Rattle.definition_text.specs.Ascii.{right_parenthesis, asterisk, plus, hyphen, dot, colon, greater_than, left_bracket, caret}
 use Rattle.definition_block.specs.ListItem.{is_digit}
 use Rattle.markdown_options.specs.declared.configuration.Constructs.{Constructs}
@@ -23,6 +23,15 @@ abbrev pub may_start : Rest → Bool
 may_start [] = false
 may_start (c ∷ cs) = begins_container c
 
--- a rest with which a container may start
+-- a rest that begins with `[`
+abbrev pub begins_with_bracket : Rest → Bool
+begins_with_bracket [] = false
+begins_with_bracket (c ∷ cs) = c == left_bracket
+
+-- a rest with which a footnote definition may start
+abbrev pub footnote_may_start : Constructs → Rest → Bool
+footnote_may_start on rest = on.gfm_footnote_definition && begins_with_bracket (bare rest)
+
+-- or any container
 abbrev pub container_may_start : Constructs → Rest → Bool
-container_may_start on rest = may_start (bare rest) || on.gfm_footnote_definition
+container_may_start on rest = may_start (bare rest) || footnote_may_start on rest

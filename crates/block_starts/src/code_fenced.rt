@@ -2,12 +2,12 @@
 //!
 //!     start ::= small_indent ('`'{3,} no_backtick* | '~'{3,} any*)
 //!     end   ::= small_indent the_same_byte{as_many,} white*
-ghost use Rattle.std.specs.Prelude.{◌≡◌, take};
+ghost use Rattle.std.specs.Prelude.{◌≡◌, ◌<◌, ◌^◌, length, take};
 ghost use Rattle.std.specs.List.{position_or_len};
-ghost use Rattle.definition_text.specs.Columns.{is_white};
+ghost use Rattle.definition_text.specs.Columns.{is_white, whole};
 ghost use Rattle.definition_block.specs.CodeFenced as spec;
 ghost use Rattle.block_starts.specs.View.{rest_of};
-ghost use Rattle.block_starts.specs.CodeFenced.{fence_view, fence_if};
+ghost use Rattle.block_starts.specs.CodeFenced.{fence_view, fence_if, may_close};
 
 use crate::cursor::Cursor;
 use crate::indent::is_small;
@@ -96,6 +96,24 @@ pub fn is_fence_end(on: &Constructs, fence: &Fence<'_>, rest: Cursor<'_>) -> boo
     ensures { result ≡ spec.is_fence_end on.now (fence_view fence.now) (rest_of rest.entry) }
 {
     is_small(on, rest.indent()) && is_run(fence.run, fence.byte, rest.bare_text().as_bytes())
+}
+
+/// Whether a whole line closes a fence.
+pub fn closes_fence(on: &Constructs, fence: &Fence<'_>, content: &str) -> bool
+    requires { length content.now < 2 ^ 61 }
+    ensures { result ≡ spec.is_fence_end on.now (fence_view fence.now) (whole content.now) }
+{
+    may_close(fence.byte, content.as_bytes()) && is_fence_end(on, fence, Cursor::new(content))
+}
+
+/// Whether a line is empty or ends in a byte, a space or a tab. No other closes a fence of that byte.
+fn may_close(byte: u8, content: &[u8]) -> bool
+    ensures { result ≡ may_close byte content.now }
+{
+    match content {
+        [] => true,
+        [.., last] => *last == byte || is_space_or_tab(*last),
+    }
 }
 
 /// A line of the content, which loses up to the fence's indent.

@@ -10,7 +10,7 @@ ghost use Rattle.block_starts.specs.View.{rest_of, line_if, container_view, star
 use crate::block_quote::quote_prefix;
 use crate::container_line::ContainerLine;
 use crate::cursor::Cursor;
-use crate::gfm_footnote_definition::{footnote_continues, footnote_start};
+use crate::gfm_footnote_definition::{footnote_continues, footnote_may_start, footnote_start};
 use crate::list_item::{item_continues, item_start};
 use definition_block::Container;
 use markdown_options::Constructs;
@@ -32,13 +32,14 @@ pub fn continues<'a>(
     }
 }
 
-/// Whether a container may start here: the rest begins as a marker does, or footnote definitions are
-/// on. It is asked first, as most rests start none, and a container is answered through memory.
+/// Whether a container may start here: the rest begins as a marker does, that of a footnote
+/// definition where these are on. It is asked first, as most rests start none, and a container is
+/// answered through memory.
 #[inline(always)]
 pub fn container_may_start(on: &Constructs, rest: &Cursor<'_>) -> bool
     ensures { result ≡ container_may_start on.now (rest_of rest.now) }
 {
-    rest.may_start() || on.gfm_footnote_definition
+    rest.may_start() || footnote_may_start(on, rest)
 }
 
 /// The container that starts here, and what it leaves of the line. `interrupts` says that it would

@@ -7,7 +7,7 @@ ghost use Rattle.definition_text.specs.Columns.{whole, codes_from, indent, bare,
 ghost use Rattle.definition_text.specs.Indents.{outdent};
 ghost use Rattle.definition_block.specs.ListItem.{is_digit};
 ghost use Rattle.definition_block.specs.ThematicBreak.{is_break_text};
-ghost use Rattle.block_starts.specs.Marks.{NoMark, begins_container, is_mark, may_start};
+ghost use Rattle.block_starts.specs.Marks.{NoMark, begins_container, begins_with_bracket, is_mark, may_start};
 ghost use Rattle.block_starts.specs.Widths.{width};
 ghost use Rattle.definition_text.specs.Content.{may_escape};
 ghost use Rattle.definition_inline.specs.Label.{ends_label};
@@ -188,6 +188,15 @@ impl<'a> Cursor<'a> {
     {
         let bytes = self.text.as_bytes();
         self.white < bytes.len() && begins_container(bytes[self.white])
+    }
+
+    /// Whether a `[` stands after the spaces and tabs ahead.
+    #[inline(always)]
+    pub(crate) fn begins_with_bracket(&self) -> bool
+        ensures { result ≡ begins_with_bracket (bare (rest_of self.now)) }
+    {
+        let bytes = self.text.as_bytes();
+        self.white < bytes.len() && bytes[self.white] == b'['
     }
 
     /// The next byte and the rest after it, where it is one of a container's marker, and no digit.

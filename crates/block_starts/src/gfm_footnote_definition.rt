@@ -7,7 +7,7 @@ ghost use Rattle.std.specs.Prelude.{◌≡◌, true};
 ghost use Rattle.definition_block.specs.BlockQuote.{after_byte as rest_after};
 ghost use Rattle.definition_block.specs.GfmFootnoteDefinition as spec;
 ghost use Rattle.block_starts.specs.Labels.{is_short};
-ghost use Rattle.block_starts.specs.Marks.{is_mark};
+ghost use Rattle.block_starts.specs.Marks.{footnote_may_start, is_mark};
 ghost use Rattle.block_starts.specs.GfmFootnoteDefinition.{mark_if};
 ghost use Rattle.block_starts.specs.View.{rest_of, rest_if, line_if, started_if};
 
@@ -26,6 +26,14 @@ pub(crate) struct Mark<'a> {
     rest: Cursor<'a>,
 }
 
+/// Whether a footnote definition may start here: they are on, and the rest begins with `[`.
+#[inline(always)]
+pub(crate) fn footnote_may_start(on: &Constructs, rest: &Cursor<'_>) -> bool
+    ensures { result ≡ footnote_may_start on.now (rest_of rest.now) }
+{
+    on.gfm_footnote_definition && rest.begins_with_bracket()
+}
+
 /// The footnote definition that starts here, and what it leaves of the line.
 #[inline(always)]
 pub(crate) fn footnote_start<'a>(
@@ -34,19 +42,19 @@ pub(crate) fn footnote_start<'a>(
 ) -> Option<(Container<'a>, ContainerLine<'a>)>
     ensures { started_if result ≡ spec.footnote_start on.now (rest_of rest.entry) }
 {
-    if !on.gfm_footnote_definition {
+    if !footnote_may_start(on, &rest) {
         return None;
     }
     marked_footnote(on, rest)
 }
 
-/// The same where they are on.
+/// The same where one may start.
 #[inline(never)]
 fn marked_footnote<'a>(
     on: &Constructs,
     rest: Cursor<'a>,
 ) -> Option<(Container<'a>, ContainerLine<'a>)>
-    requires { on.now.gfm_footnote_definition ≡ true }
+    requires { footnote_may_start on.now (rest_of rest) ≡ true }
     ensures { started_if result ≡ spec.footnote_start on.now (rest_of rest.entry) }
 {
     let (columns, bare) = rest.split_bare();

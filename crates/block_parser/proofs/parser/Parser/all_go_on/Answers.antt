@@ -17,4 +17,6 @@ returns-clause-began g c = λ yes t h.
     ∙ quotes.not_true c.began_blank.result yes)
 
 pub returns-clause-empty : goal.returns-clause-empty
-returns-clause-empty g c = λ yes. nil_from_length (rest_of c.args.rest.now) (eqb-true (length (rest_of c.args.rest.now)) 0 (sym c.is_empty.ensures ∙ c.if-not-is_empty.false))
+returns-clause-empty g c = λ yes.
+    let rest = rest_of c.args.rest.now in
+    nil_from_length rest (eqb-true (length rest) 0 (sym c.is_empty.ensures ∙ c.if-not-is_empty.false))

@@ -15,7 +15,8 @@ use Rattle.block_parser.proofs.parser.Parser.close_leaf.Goals as goal
 
 pub returns-in-Text-clause-read : goal.returns-in-Text-clause-read
 returns-in-Text-clause-read g c =
-    on_ok_weaker c.close_text.result (λ reads. λ leaf clean around kids h. text_case (λ around kids ls clean. reads ls clean tt around kids) around kids leaf clean
+    on_ok_weaker c.close_text.result
+    (λ reads. λ leaf clean around kids h. text_case (λ around kids ls clean. reads ls clean tt around kids) around kids leaf clean
     (sym (ap leaf_state c.in-Text.is) ∙ h.same_state) h) c.close_text.ensures.read
   where
     text_case : ((around : List Level) (kids : Blocks) (ls : List BlockLine) → AreLines ls → HasRead c.args.self.now (spine around kids (Text ls))

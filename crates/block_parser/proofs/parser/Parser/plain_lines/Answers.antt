@@ -1,4 +1,4 @@
-use Rattle.std.proofs.Common.{◌≡◌, ◌<◌, ◌++◌, [], ℕ, List, length, get_or, refl, sym, ap, ◌∙◌, subst, rules, arith}
+use Rattle.std.proofs.Common.{◌≡◌, ◌<◌, ◌++◌, [], ℕ, List, length, get_or, sym, ap, ◌∙◌, subst, rules, arith}
 use Rattle.std.specs.Prelude.{map, IfSome}
 use Rattle.std.specs.List.{flat_map}
 use Rattle.std.specs.Str.{IsUtf8}
@@ -14,7 +14,7 @@ use Rattle.block_rows.specs.Rows.{whole_line, whole_lines}
 use Rattle.block_state.specs.Spine.{spine, spine_after}
 use Rattle.block_parser.specs.View.{HasRead}
 use Rattle.block_parser.proofs.Closing as closing
-use Rattle.block_parser.proofs.Plain.{empty_grows, none_open}
+use Rattle.block_parser.proofs.Plain.{none_open}
 use Rattle.block_parser.proofs.PlainLines.{plain_clean, plain_front, plain_more, plain_none, read_after, shorter_after}
 use Rattle.block_state.proofs.WholeLines.{cut_boundary}
 use Rattle.block_parser.proofs.parser.Parser.plain_lines.Goals as goal
@@ -65,9 +65,10 @@ returns-then-is_empty-clause-read g c = λ kids ls keeps h.
     let shut = c.in_ok-close_text.ensures.read all clean known [] kids (k.reads kids ls h) in
     let blank = c.in_ok-blank_line.ensures [] (join kids (close_leaf on (Text all))) shut in
     read_after on text rest next.2.now (HasRead c.args.self.now) c.loop-content.self c.blank_line.new.self line k (c.next_line-ending.ensures.rest some) kids ls
-    (subst (λ (bs : List ℕ). HasRead c.blank_line.new.self (spine_after [] kids (grow on (beside_line Whitespace line) (Leaf (Text all)) (whole bs)))) (sym none)
-    (empty_grows on (HasRead c.loop-content.self) (HasRead c.blank_line.new.self) (beside_line Whitespace line) kids (Leaf (Text all)) refl
-    (closing.after_added on (HasRead c.blank_line.new.self) [] kids (Leaf (Text all)) (tree (one (Blank next.1)) nothing) blank)))
+    (subst
+    (λ (bs : List ℕ). HasRead c.blank_line.new.self (spine_after [] kids (grow on (beside_line Whitespace line) (Leaf (Text all)) (whole bs))))
+    (sym none)
+    (closing.after_added on (HasRead c.blank_line.new.self) [] kids (Leaf (Text all)) (tree (one (Blank next.1)) nothing) blank))
 
 pub returns-then-not-is_plain_line-clause-read : goal.returns-then-not-is_plain_line-clause-read
 returns-then-not-is_plain_line-clause-read g c = λ kids ls keeps h.

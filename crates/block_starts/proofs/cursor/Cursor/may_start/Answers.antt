@@ -18,7 +18,7 @@ returns-then-self-bytes c =
     c.begins_container.ensures
     ∙ ap (λ bs. begins_container (get_or bs s.white 0)) bytes
     ∙ ap (λ n. begins_container (get_or t n 0)) s.front
-    ∙ sym (first_dark (s.column + indent (codes_from s.column t)) t lt)
+    ∙ sym (ap may_start (first_dark (s.column + indent (codes_from s.column t)) t lt))
     ∙ sym (ap may_start (bare_view s.owed s.column t))
 
 pub returns-else-self-bytes : goal.returns-else-self-bytes
@@ -29,5 +29,5 @@ returns-else-self-bytes c =
     let bytes = c.as_bytes-bytes.ensures.value in
     let le : length t ≤ prefix_len is_white t = omega (arith, s.front, ap length bytes, c.if-self-bytes.false) in
     le-ltb s.white (length c.as_bytes-bytes.result.now) (omega (arith, c.if-self-bytes.false))
-    ∙ sym (nothing_dark (s.column + indent (codes_from s.column t)) t (prefix_len is_white t) le)
+    ∙ sym (ap may_start (nothing_dark (s.column + indent (codes_from s.column t)) t (prefix_len is_white t) le))
     ∙ sym (ap may_start (bare_view s.owed s.column t))

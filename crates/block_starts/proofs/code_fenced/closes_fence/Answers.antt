@@ -1,8 +1,7 @@
 use Rattle.std.proofs.Common.{ℕ, ◌<◌, get_or, sym, ap, ◌∙◌, arith}
-use Rattle.block_starts.specs.CodeFenced.{fence_view}
-use Rattle.block_parser.specs.Fences.{may_close}
-use Rattle.block_parser.proofs.FencedLines.{closes_none}
-use Rattle.block_parser.proofs.code_fenced.closes_fence.Goals as goal
+use Rattle.block_starts.specs.CodeFenced.{fence_view, may_close}
+use Rattle.block_starts.proofs.CodeFencedLemmas.{closes_none}
+use Rattle.block_starts.proofs.code_fenced.closes_fence.Goals as goal
 
 pub returns-else-may_close : goal.returns-else-may_close
 returns-else-may_close c =
