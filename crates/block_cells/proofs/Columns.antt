@@ -13,7 +13,7 @@ pub blank_columns : (owed : ℕ) (text : List ℕ) → is_blank (replicate owed 
 blank_columns zero text = refl
 blank_columns (suc owed) text = blank_columns owed text
 
-bare_columns : (owed : ℕ) (text : List ℕ)
+pub bare_columns : (owed : ℕ) (text : List ℕ)
     → drop (prefix_len is_white (replicate owed 256 ++ text)) (replicate owed 256 ++ text) ≡ drop (prefix_len is_white text) text
 bare_columns zero text = refl
 bare_columns (suc owed) text =

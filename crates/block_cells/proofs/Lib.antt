@@ -1,3 +1,5 @@
+pub mod Bars
 pub mod Parts
 pub mod Columns
 pub mod Delimiters
+pub mod Starts

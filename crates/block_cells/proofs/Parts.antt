@@ -1,9 +1,9 @@
 -- The first part of a line.
-use Rattle.std.proofs.Common.{◌≡◌, ◌≢◌, Bool, ℕ, suc, zero, ◌<◌, ◌≤◌, List, [], ◌∷◌, ◌++◌, true, false, not, eqb, refl, sym, ap, ◌∙◌, length, drop, take}
+use Rattle.std.proofs.Common.{◌≡◌, Bool, ℕ, suc, zero, ◌+◌, ◌<◌, ◌≤◌, List, [], ◌∷◌, ◌++◌, true, false, not, eqb, refl, sym, ap, ◌∙◌, length, drop, take}
 use Rattle.std.proofs.Common.{get_or, arith, inl, inr, Option, None, Some}
 use Rattle.std.specs.Prelude.{replicate, is_some}
 use Rattle.std.proofs.lemmas.Bool.{true≢false, cases_Bool, cond-true, cond-false, and_parts, eqb-true}
-use Rattle.std.specs.Str.{IsCharBoundary}
+use Rattle.std.specs.Str.{IsCharBoundary, IsUtf8}
 use Rattle.definition_text.specs.declared.beside.Kind.{Kind}
 use Rattle.definition_text.specs.declared.beside.Kind.TheVariants.{Whitespace, Punctuation}
 use Rattle.definition_text.specs.Content.{may_escape}
@@ -11,7 +11,7 @@ use Rattle.definition_block.specs.GfmTable.{Cell, cell, parts, is_bar, in_first_
 use Rattle.definition_text.specs.Columns.{is_blank}
 use Rattle.block_rows.specs.declared.row.Piece.{Piece}
 use Rattle.block_rows.specs.Rows.{piece_line}
-use Rattle.text_bytes.proofs.Ascii.{boundary_before}
+use Rattle.text_bytes.proofs.Ascii.{boundary_before, boundary_after}
 use Rattle.block_cells.specs.GfmTable.{bar_at, parts_if}
 
 bar_byte : (escaped : Bool) (c : ℕ) → is_bar escaped c ≡ true → c ≡ 124
@@ -28,37 +28,30 @@ bar_within escaped (c ∷ cs) =
     ]
 
 -- a line up to its first bar, and after it
-pub with_bar : (before : Kind) (escaped : Bool) (cs rest : List ℕ) → drop (bar_at escaped cs) cs ≡ 124 ∷ rest
-    → parts before escaped cs ≡ cell (take (bar_at escaped cs) cs) before Punctuation ∷ parts Punctuation false rest
-with_bar before escaped [] rest e = absurd (omega (arith, ap length e))
-with_bar before escaped (c ∷ cs) rest e =
+pub with_bar : (before : Kind) (escaped : Bool) (cs : List ℕ) → bar_at escaped cs < length cs
+    → parts before escaped cs ≡ cell (take (bar_at escaped cs) cs) before Punctuation ∷ parts Punctuation false (drop (suc (bar_at escaped cs)) cs)
+with_bar before escaped [] lt = absurd (omega (arith, lt))
+with_bar before escaped (c ∷ cs) lt =
     elim (cases_Bool (is_bar escaped c)) [
       | inr h ↦
           let n : bar_at escaped (c ∷ cs) ≡ suc (bar_at (may_escape escaped c) cs) = cond-false (is_bar escaped c) 0 _ h in
-          let more = with_bar before (may_escape escaped c) cs rest (sym (ap (λ k. drop k (c ∷ cs)) n) ∙ e) in
-          cond-false (is_bar escaped c) _ _ h ∙ ap (in_first_cell c before) more
-          ∙ sym (ap (λ k. cell (take k (c ∷ cs)) before Punctuation ∷ parts Punctuation false rest) n)
+          cond-false (is_bar escaped c) _ _ h ∙ ap (in_first_cell c before) (with_bar before (may_escape escaped c) cs (omega (arith, n, lt)))
+          ∙ sym (ap (λ k. cell (take k (c ∷ cs)) before Punctuation ∷ parts Punctuation false (drop (suc k) (c ∷ cs))) n)
       | inl h ↦
           let n : bar_at escaped (c ∷ cs) ≡ 0 = cond-true (is_bar escaped c) 0 _ h in
-          let same : cs ≡ rest = ap (drop 1) (sym (ap (λ k. drop k (c ∷ cs)) n) ∙ e) in
-          cond-true (is_bar escaped c) _ _ h ∙ ap (λ x. cell [] before Punctuation ∷ parts Punctuation false x) same
-          ∙ sym (ap (λ k. cell (take k (c ∷ cs)) before Punctuation ∷ parts Punctuation false rest) n)
+          cond-true (is_bar escaped c) _ _ h
+          ∙ sym (ap (λ k. cell (take k (c ∷ cs)) before Punctuation ∷ parts Punctuation false (drop (suc k) (c ∷ cs))) n)
     ]
 
 -- a line without a bar
-pub without_bar : (before : Kind) (escaped : Bool) (cs : List ℕ) → ((rest : List ℕ) → drop (bar_at escaped cs) cs ≢ 124 ∷ rest)
-    → parts before escaped cs ≡ cell (take (bar_at escaped cs) cs) before Whitespace ∷ []
-without_bar before escaped [] none = refl
-without_bar before escaped (c ∷ cs) none =
+pub without_bar : (before : Kind) (escaped : Bool) (cs : List ℕ) → length cs ≤ bar_at escaped cs → parts before escaped cs ≡ cell cs before Whitespace ∷ []
+without_bar before escaped [] all = refl
+without_bar before escaped (c ∷ cs) all =
     elim (cases_Bool (is_bar escaped c)) [
       | inr h ↦
           let n : bar_at escaped (c ∷ cs) ≡ suc (bar_at (may_escape escaped c) cs) = cond-false (is_bar escaped c) 0 _ h in
-          let more = without_bar before (may_escape escaped c) cs (λ rest e. none rest (ap (λ k. drop k (c ∷ cs)) n ∙ e)) in
-          cond-false (is_bar escaped c) _ _ h ∙ ap (in_first_cell c before) more
-          ∙ sym (ap (λ k. cell (take k (c ∷ cs)) before Whitespace ∷ []) n)
-      | inl h ↦
-          let n : bar_at escaped (c ∷ cs) ≡ 0 = cond-true (is_bar escaped c) 0 _ h in
-          absurd (none cs (ap (λ k. drop k (c ∷ cs)) n ∙ ap (λ b. b ∷ cs) (bar_byte escaped c h)))
+          cond-false (is_bar escaped c) _ _ h ∙ ap (in_first_cell c before) (without_bar before (may_escape escaped c) cs (omega (arith, n, all)))
+      | inl h ↦ let n : bar_at escaped (c ∷ cs) ≡ 0 = cond-true (is_bar escaped c) 0 _ h in absurd (omega (arith, n, all))
     ]
 
 -- the columns that are left of a tab stand in the first part
@@ -83,6 +76,14 @@ at_bar escaped (c ∷ cs) lt =
 pub boundary_bar : (cs : List ℕ) → IsCharBoundary cs (bar_at false cs)
 boundary_bar cs = boundary_before cs _ (bar_within false cs) (λ lt. omega (arith, at_bar false cs lt))
 
+-- and after it
+pub boundary_after_bar : (cs : List ℕ) (n : ℕ) → IsUtf8 cs → n ≡ bar_at false cs → n < length cs → IsCharBoundary cs (n + 1)
+boundary_after_bar cs n utf8 is lt =
+    boundary_after cs (n + 1) utf8 (omega (arith, lt)) (λ k next.
+    let same : k ≡ bar_at false cs = omega (arith, next, is) in
+    let bar = ap (λ j. get_or cs j 0) same ∙ at_bar false cs (omega (arith, lt, is)) in
+    omega (arith, bar))
+
 -- ---- the last part
 
 pub record SomePart (cs : List Cell) : Type 0 where
@@ -90,7 +91,7 @@ pub record SomePart (cs : List Cell) : Type 0 where
   pub others : List Cell
   pub same : cs ≡ first ∷ others
 
-some_part : (before : Kind) (escaped : Bool) (cs : List ℕ) → SomePart (parts before escaped cs)
+pub some_part : (before : Kind) (escaped : Bool) (cs : List ℕ) → SomePart (parts before escaped cs)
 some_part before escaped [] = record { first = cell [] before Whitespace; others = []; same = refl }
 some_part before escaped (c ∷ cs) =
     elim (cases_Bool (is_bar escaped c)) [

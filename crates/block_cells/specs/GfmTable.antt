@@ -1,8 +1,10 @@
 -- What cells of a line stand for.
-use Rattle.std.specs.Prelude.{ℕ, suc, Bool, false, if◌then◌else◌, List, [], ◌∷◌, Option, None, Some}
+use Rattle.std.specs.Prelude.{ℕ, suc, Bool, false, if◌then◌else◌, ◌==◌, ◌||◌, List, [], ◌∷◌, Option, None, Some}
+use Rattle.definition_text.specs.Ascii.{hyphen}
+use Rattle.definition_text.specs.Columns.{Code}
 use Rattle.definition_text.specs.Content.{may_escape}
 use Rattle.definition_block.specs.GfmTable as table
-use Rattle.definition_block.specs.GfmTable.{cell, parts, is_bar, without_blank_last}
+use Rattle.definition_block.specs.GfmTable.{cell, parts, is_bar, is_bar_or_colon, without_blank_last}
 use Rattle.block_rows.specs.declared.row.Piece.{Piece}
 use Rattle.block_rows.specs.Rows.{piece_line}
 use Rattle.block_cells.specs.declared.gfm_table.Cell.{Cell}
@@ -12,6 +14,10 @@ use Rattle.block_cells.specs.declared.gfm_table.Cells.{Cells}
 abbrev pub bar_at : Bool → List ℕ → ℕ
 bar_at escaped [] = 0
 bar_at escaped (c ∷ cs) = if is_bar escaped c then 0 else suc (bar_at (may_escape escaped c) cs)
+
+-- what a row of delimiters may begin with after its spaces and tabs
+abbrev pub begins_delimiters : Code → Bool
+begins_delimiters code = (code == hyphen) || is_bar_or_colon code
 
 abbrev pub cell_view : Cell → table.Cell
 cell_view c = cell (piece_line c.line).codes c.line.before c.after

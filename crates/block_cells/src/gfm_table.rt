@@ -3,21 +3,28 @@
 //!     line       ::= (white* bar)? cell (bar cell)* (bar white*)?
 //!     cell       ::= ('\' '\' | '\' '|' | no_bar)*
 //!     delimiters ::= a line, with a bar or a colon, whose cells are white* ':'? '-'+ ':'? white*
-ghost use Rattle.std.specs.Prelude.{◌≡◌, ◌≤◌, ◌==◌, ◌∷◌, [], false, length, OnOk, unwrap_or};
+ghost use Rattle.std.specs.Prelude.{◌≡◌, ◌≤◌, ◌==◌, ◌∷◌, [], None, false, length, OnOk, unwrap_or};
 ghost use Rattle.std.specs.List.{list_any};
 ghost use Rattle.definition_text.specs.Content.{may_escape as escapes_next};
 ghost use Rattle.definition_text.specs.declared.beside.Kind.TheVariants.{Whitespace};
 ghost use Rattle.definition_text.specs.Columns.{is_blank as are_white, trim};
 ghost use Rattle.definition_block.specs.GfmTable as spec;
 ghost use Rattle.block_rows.specs.Rows.{piece_line};
-ghost use Rattle.block_cells.specs.GfmTable.{bar_at, cell_view, parts_if};
+ghost use Rattle.block_cells.specs.GfmTable.{bar_at, begins_delimiters, cell_view, parts_if};
 
 use block_rows::Piece;
 use definition_block::AlignKind;
 use definition_text::Kind;
 use std::alloc::{AllocError, Allocator};
-use text_bytes::{is_blank, split_run};
+use text_bytes::{is_blank, split_run, white_size};
 use text_lines::trim;
+use text_search::{BytePair, next_of};
+
+/// A bar, and what may escape one.
+const BAR_OR_BACKSLASH: BytePair = BytePair {
+    first: b'|',
+    second: b'\\',
+};
 
 /// A cell of a line (GFM 4.10).
 #[derive(Clone, Copy)]
@@ -74,25 +81,27 @@ impl<'a> Iterator for Cells<'a> {
 }
 
 /// The first part of a line, and what follows its bar.
+#[inline(always)]
 fn split_part(line: Piece<'_>) -> (Cell<'_>, Option<Piece<'_>>)
     ensures { spec.parts line.entry.before false (piece_line line.entry).codes ≡ cell_view result.0 ∷ parts_if result.1 }
 {
-    let (text, after) = line.text.split_at(bar_place(line.text.as_bytes()));
-    match after.strip_prefix('|') {
-        None => (part(line, text, Kind::Whitespace), None),
-        Some(rest) => {
-            let others = Piece {
-                text: rest,
-                owed: 0,
-                ending: line.ending,
-                before: Kind::Punctuation,
-            };
-            (part(line, text, Kind::Punctuation), Some(others))
-        }
+    let text = line.text;
+    let place = bar_place(text.as_bytes());
+    if place < text.len() {
+        let others = Piece {
+            text: &text[place + 1..],
+            owed: 0,
+            ending: line.ending,
+            before: Kind::Punctuation,
+        };
+        (part(line, &text[..place], Kind::Punctuation), Some(others))
+    } else {
+        (part(line, text, Kind::Whitespace), None)
     }
 }
 
 /// The part at the front of a line that is this text.
+#[inline(always)]
 fn part<'a>(line: Piece<'a>, text: &'a str, after: Kind) -> Cell<'a>
     ensures line { result.line.text.now ≡ text.now }
     ensures owed { result.line.owed ≡ line.entry.owed }
@@ -112,6 +121,18 @@ fn part<'a>(line: Piece<'a>, text: &'a str, after: Kind) -> Cell<'a>
 
 /// Where the first bar stands that divides cells, or the end.
 fn bar_place(bytes: &[u8]) -> usize
+    ensures { result ≡ bar_at false bytes.now }
+{
+    let place = next_of(bytes, BAR_OR_BACKSLASH);
+    if place < bytes.len() && bytes[place] == b'\\' {
+        place + bar_place_one_by_one(&bytes[place..])
+    } else {
+        place
+    }
+}
+
+/// The same, one byte after another.
+fn bar_place_one_by_one(bytes: &[u8]) -> usize
     ensures { result ≡ bar_at false bytes.now }
 {
     let mut escaped = false;
@@ -166,7 +187,7 @@ pub fn read_delimiters<A: Allocator>(
     ensures { OnOk result (aligns.new.items ≡ unwrap_or (spec.delimiters (piece_line line.entry).codes) []) }
 {
     aligns.clear();
-    if !has_bar_or_colon(line) {
+    if !may_be_delimiters(line) || !has_bar_or_colon(line) {
         return Ok(());
     }
     let mut cells = Cells::new(after_white(line));
@@ -180,6 +201,23 @@ pub fn read_delimiters<A: Allocator>(
         }
     }
     Ok(())
+}
+
+/// Whether a line may be a row of delimiters, by the first byte after its spaces and tabs.
+#[inline(always)]
+fn may_be_delimiters(line: Piece<'_>) -> bool
+    ensures { result ≡ false → spec.delimiters (piece_line line.entry).codes ≡ None }
+{
+    let bytes = line.text.as_bytes();
+    let indent = white_size(bytes);
+    indent < bytes.len() && begins_delimiters(bytes[indent])
+}
+
+#[inline(always)]
+fn begins_delimiters(byte: u8) -> bool
+    ensures { result ≡ begins_delimiters byte }
+{
+    byte == b'-' || is_bar_or_colon(byte)
 }
 
 /// A line as after white space.
@@ -205,6 +243,7 @@ fn holds_bar_or_colon(bytes: &[u8]) -> bool
     bytes.iter().any(|b| is_bar_or_colon(*b))
 }
 
+#[inline(always)]
 fn is_bar_or_colon(byte: u8) -> bool
     ensures { result ≡ spec.is_bar_or_colon byte }
 {

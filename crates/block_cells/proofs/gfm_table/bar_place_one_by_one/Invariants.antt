@@ -1,6 +1,6 @@
 use Rattle.std.proofs.Common.{◌≡◌, ◌+◌, drop, false}
 use Rattle.block_cells.specs.GfmTable.{bar_at}
-use Rattle.block_cells.proofs.gfm_table.bar_place.Given as goal
+use Rattle.block_cells.proofs.gfm_table.bar_place_one_by_one.Given as goal
 
 -- no bar so far divides cells
 abbrev pub invariant-loop-i : goal.invariant-loop-i
