@@ -1,5 +1,5 @@
 -- The cells of a table, as they are printed one by one.
-use Rattle.std.specs.Prelude.{ℕ, List, [], ◌∷◌, Option, None, Some}
+use Rattle.std.specs.Prelude.{ℕ, List, [], ◌∷◌, Option, None, Some, codes}
 use Rattle.definition_block.specs.declared.align_kind.AlignKind.{AlignKind}
 use Rattle.definition_block.specs.GfmTable as table
 use Rattle.block_rows.specs.ParagraphLines.{HaveNoEnding}
@@ -8,6 +8,13 @@ use Rattle.block_cells.specs.GfmTable.{cell_view}
 use Rattle.html_bytes.specs.Document.{Document}
 use Rattle.html_bytes.specs.GfmTable.{cell_pieces, missing_pieces}
 use Rattle.html_bytes.specs.Pieces.{Piece}
+use Rattle.html_page.specs.declared.gfm_table.CellKind.{CellKind}
+use Rattle.html_page.specs.declared.gfm_table.CellKind.TheVariants.{Head, Body}
+
+-- the name of a cell's element
+abbrev pub cell_name : CellKind → List ℕ
+cell_name Head = codes "th"
+cell_name Body = codes "td"
 
 -- the cell of a column, or an empty one where it is missing
 abbrev pub next_cell_pieces : Document → List ℕ → AlignKind → Option Cell → List Piece

@@ -4,7 +4,7 @@
 //!
 //! A row has a cell for each delimiter: those that are missing are empty, and more aren't printed,
 //! but the calls of footnotes in them count.
-ghost use Rattle.std.specs.Prelude.{◌≡◌, ◌≤◌, ◌++◌, List, OnOk, codes, length};
+ghost use Rattle.std.specs.Prelude.{◌≡◌, ◌≤◌, OnOk, length};
 ghost use Rattle.std.specs.List.{flat_map};
 ghost use Rattle.markdown_options.specs.declared.configuration.CompileOptions.{CompileOptions};
 ghost use Rattle.definition_page.specs.Targets.{Targets};
@@ -14,13 +14,12 @@ ghost use Rattle.block_rows.specs.ParagraphLines.{HaveNoEnding};
 ghost use Rattle.block_rows.specs.Rows.{piece_line, piece_lines};
 ghost use Rattle.block_cells.specs.GfmTable.{cell_view, cells_left};
 ghost use Rattle.html_bytes.specs.Document.{cell_counts};
-ghost use Rattle.html_bytes.specs.GfmTable.{align_of, cell_tag as tag_of_cell, cell_end as end_of_cell, cell_pieces, missing_pieces, cells_pieces};
+ghost use Rattle.html_bytes.specs.GfmTable.{cell_tag, cell_end, cell_pieces, missing_pieces, cells_pieces};
 ghost use Rattle.html_bytes.specs.GfmTable.{row_pieces, body_row_pieces, body_pieces, head_pieces, table_pieces};
 ghost use Rattle.html_contents.specs.Texts.{KnowsTargets, document_by};
-ghost use Rattle.html_page.specs.GfmTable.{CellsAreClear, IsClearIf, next_cell_pieces};
+ghost use Rattle.html_page.specs.GfmTable.{CellsAreClear, IsClearIf, cell_name, next_cell_pieces};
 ghost use Rattle.html_page.specs.Printable.{AreClear};
-ghost use Rattle.html_escape.specs.Prints as escape;
-ghost use Rattle.html_page.specs.Prints.{LaysOut, Prints, KeepsEnding};
+ghost use Rattle.html_page.specs.Prints.{LaysOut, KeepsEnding};
 
 use crate::page::Page;
 use block_cells::{Cell, Cells, read_delimiters};
@@ -29,6 +28,15 @@ use definition_block::AlignKind;
 use html_contents::Texts;
 use markdown_options::{LineEnding, Tables};
 use std::alloc::{AllocError, Allocator};
+
+/// Which part of a table a cell is in.
+#[derive(Clone, Copy)]
+enum CellKind {
+    /// The head.
+    Head,
+    /// The body.
+    Body,
+}
 
 impl<'t, A: Allocator + Clone> Page<'t, A> {
     /// Prints a table of these lines: its head, its row of delimiters, and the rows of its body.
@@ -67,7 +75,7 @@ impl<'t, A: Allocator + Clone> Page<'t, A> {
             OnOk result (LaysOut d.options.compile self.old self.new (head_pieces d aligns.now (piece_line line.now))) }
     {
         self.say("<thead>")?;
-        self.table_line(texts, "th", aligns, line)?;
+        self.table_line(texts, CellKind::Head, aligns, line)?;
         self.push_ending(line.ending)?;
         self.fresh()?;
         self.say("</thead>")
@@ -111,28 +119,28 @@ impl<'t, A: Allocator + Clone> Page<'t, A> {
         let mut waiting = None;
         for row in rows {
             self.push_ending(waiting)?;
-            self.table_line(texts, "td", aligns, row)?;
+            self.table_line(texts, CellKind::Body, aligns, row)?;
             waiting = row.ending;
         }
         Ok(())
     }
 
-    /// Prints a row without its ending, by the name of its cells' tags.
+    /// Prints a row of cells of this kind without its ending.
     fn table_line<T: Tables>(
         &mut self,
         texts: &Texts<'t, '_, T, A>,
-        name: &str,
+        kind: CellKind,
         aligns: &[AlignKind],
         line: &Piece<'t>,
     ) -> Result<(), AllocError>
         ensures default { KeepsEnding self.old self.new }
         ensures printed { (ds : Targets) → KnowsTargets texts.now ds → HaveNoEnding (piece_line line.now).codes →
             let d = document_by T.Tables texts.now ds in
-            OnOk result (LaysOut d.options.compile self.old self.new (row_pieces d name.now aligns.now (piece_line line.now))) }
+            OnOk result (LaysOut d.options.compile self.old self.new (row_pieces d (cell_name kind) aligns.now (piece_line line.now))) }
     {
         self.fresh()?;
         self.say("<tr>")?;
-        self.table_cells(texts, name, aligns, line)?;
+        self.table_cells(texts, kind, aligns, line)?;
         self.fresh()?;
         self.say("</tr>")
     }
@@ -141,19 +149,19 @@ impl<'t, A: Allocator + Clone> Page<'t, A> {
     fn table_cells<T: Tables>(
         &mut self,
         texts: &Texts<'t, '_, T, A>,
-        name: &str,
+        kind: CellKind,
         aligns: &[AlignKind],
         line: &Piece<'t>,
     ) -> Result<(), AllocError>
         ensures default { KeepsEnding self.old self.new }
         ensures printed { (ds : Targets) → KnowsTargets texts.now ds → HaveNoEnding (piece_line line.now).codes →
             let d = document_by T.Tables texts.now ds in
-            OnOk result (LaysOut d.options.compile self.old self.new (cells_pieces d name.now aligns.now (line_cells (piece_line line.now)))) }
+            OnOk result (LaysOut d.options.compile self.old self.new (cells_pieces d (cell_name kind) aligns.now (line_cells (piece_line line.now)))) }
     {
         let mut cells = Cells::new(*line);
         for align in aligns {
             let cell = cells.next();
-            self.next_cell(texts, name, *align, cell)?;
+            self.next_cell(texts, kind, *align, cell)?;
         }
         self.more_cells(texts, cells)
     }
@@ -180,18 +188,18 @@ impl<'t, A: Allocator + Clone> Page<'t, A> {
     fn next_cell<T: Tables>(
         &mut self,
         texts: &Texts<'t, '_, T, A>,
-        name: &str,
+        kind: CellKind,
         align: AlignKind,
         cell: Option<Cell<'t>>,
     ) -> Result<(), AllocError>
         ensures default { KeepsEnding self.old self.new }
         ensures printed { (ds : Targets) → KnowsTargets texts.now ds → IsClearIf cell.entry →
             let d = document_by T.Tables texts.now ds in
-            OnOk result (LaysOut d.options.compile self.old self.new (next_cell_pieces d name.now align cell.entry)) }
+            OnOk result (LaysOut d.options.compile self.old self.new (next_cell_pieces d (cell_name kind) align cell.entry)) }
     {
         match cell {
-            Some(cell) => self.cell(texts, name, align, &cell),
-            None => self.missing_cell(name, align),
+            Some(cell) => self.cell(texts, kind, align, &cell),
+            None => self.missing_cell(kind, align),
         }
     }
 
@@ -199,7 +207,7 @@ impl<'t, A: Allocator + Clone> Page<'t, A> {
     fn cell<T: Tables>(
         &mut self,
         texts: &Texts<'t, '_, T, A>,
-        name: &str,
+        kind: CellKind,
         align: AlignKind,
         cell: &Cell<'t>,
     ) -> Result<(), AllocError>
@@ -207,72 +215,47 @@ impl<'t, A: Allocator + Clone> Page<'t, A> {
         ensures printed { (ds : Targets) → KnowsTargets texts.now ds →
             HaveNoEnding (piece_line cell.now.line).codes →
             let d = document_by T.Tables texts.now ds in
-            OnOk result (LaysOut d.options.compile self.old self.new (cell_pieces d name.now align (cell_view cell.now))) }
+            OnOk result (LaysOut d.options.compile self.old self.new (cell_pieces d (cell_name kind) align (cell_view cell.now))) }
     {
         self.fresh()?;
-        self.cell_tag(name, align)?;
+        self.say(cell_tag(kind, align))?;
         texts.push_cell(&mut self.out, &mut self.buffers, cell)?;
-        self.cell_end(name)
+        self.say(cell_end(kind))
     }
 
     /// Prints a cell that is missing.
-    fn missing_cell(&mut self, name: &str, align: AlignKind) -> Result<(), AllocError>
+    fn missing_cell(&mut self, kind: CellKind, align: AlignKind) -> Result<(), AllocError>
         ensures default { KeepsEnding self.old self.new }
-        ensures printed { (options : CompileOptions) → OnOk result (LaysOut options self.old self.new (missing_pieces name.now align)) }
+        ensures printed { (options : CompileOptions) → OnOk result (LaysOut options self.old self.new (missing_pieces (cell_name kind) align)) }
     {
         self.fresh()?;
-        self.cell_tag(name, align)?;
-        self.cell_end(name)
-    }
-
-    /// Prints the tag of a cell.
-    fn cell_tag(&mut self, name: &str, align: AlignKind) -> Result<(), AllocError>
-        ensures default { KeepsEnding self.old self.new }
-        ensures printed { OnOk result (Prints self.old self.new (tag_of_cell name.now align)) }
-    {
-        push_cell_tag(&mut self.out.html, name, align)
-    }
-
-    /// Prints the end of a cell.
-    fn cell_end(&mut self, name: &str) -> Result<(), AllocError>
-        ensures default { KeepsEnding self.old self.new }
-        ensures printed { OnOk result (Prints self.old self.new (end_of_cell name.now)) }
-    {
-        push_cell_end(&mut self.out.html, name)
+        self.say(cell_tag(kind, align))?;
+        self.say(cell_end(kind))
     }
 }
 
-/// Prints the tag of a cell.
-fn push_cell_tag<A: Allocator>(
-    out: &mut String<A>,
-    name: &str,
-    align: AlignKind,
-) -> Result<(), AllocError>
-    ensures { escape.Prints result out.old out.new (tag_of_cell name.now align) }
+/// The tag of a cell.
+fn cell_tag(kind: CellKind, align: AlignKind) -> &'static str
+    ensures { result.now ≡ cell_tag (cell_name kind) align }
 {
-    out.push_str("<")?;
-    out.push_str(name)?;
-    out.push_str(align_attribute(align))?;
-    out.push_str(">")
+    match (kind, align) {
+        (CellKind::Head, AlignKind::Left) => "<th align=\"left\">",
+        (CellKind::Head, AlignKind::Right) => "<th align=\"right\">",
+        (CellKind::Head, AlignKind::Center) => "<th align=\"center\">",
+        (CellKind::Head, AlignKind::None) => "<th>",
+        (CellKind::Body, AlignKind::Left) => "<td align=\"left\">",
+        (CellKind::Body, AlignKind::Right) => "<td align=\"right\">",
+        (CellKind::Body, AlignKind::Center) => "<td align=\"center\">",
+        (CellKind::Body, AlignKind::None) => "<td>",
+    }
 }
 
-/// Prints the end of a cell.
-fn push_cell_end<A: Allocator>(out: &mut String<A>, name: &str) -> Result<(), AllocError>
-    ensures { escape.Prints result out.old out.new (end_of_cell name.now) }
+/// The end of a cell.
+fn cell_end(kind: CellKind) -> &'static str
+    ensures { result.now ≡ cell_end (cell_name kind) }
 {
-    out.push_str("</")?;
-    out.push_str(name)?;
-    out.push_str(">")
-}
-
-/// The attribute of a cell in a column that is aligned.
-fn align_attribute(align: AlignKind) -> &'static str
-    ensures { result.now ≡ align_of align }
-{
-    match align {
-        AlignKind::Left => " align=\"left\"",
-        AlignKind::Right => " align=\"right\"",
-        AlignKind::Center => " align=\"center\"",
-        AlignKind::None => "",
+    match kind {
+        CellKind::Head => "</th>",
+        CellKind::Body => "</td>",
     }
 }

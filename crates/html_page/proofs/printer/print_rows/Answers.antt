@@ -1,4 +1,4 @@
-use Rattle.std.proofs.Common.{◌≡◌, Bool, ◌+◌, List, [], string_bytes, sym, ap, ◌∙◌, take, drop, arith, length, length-drop, subst, vec_len}
+use Rattle.std.proofs.Common.{◌≡◌, Bool, List, [], string_bytes, sym, ap, ◌∙◌, take, drop, arith, length, length-drop, subst, vec_len}
 use Rattle.std.proofs.lemmas.Bool.{eqb-true}
 use Rattle.std.proofs.lemmas.List.{nil_from_length}
 use Rattle.std.specs.List.{fold}

@@ -7,7 +7,7 @@ use Rattle.definition_block.specs.declared.align_kind.AlignKind.TheVariants as k
 use Rattle.block_cells.specs.GfmTable.{cells_left}
 use Rattle.block_rows.specs.Rows.{piece_line}
 use Rattle.html_bytes.specs.GfmTable.{cells_pieces}
-use Rattle.html_page.specs.GfmTable.{CellsAreClear, next_cell_pieces}
+use Rattle.html_page.specs.GfmTable.{CellsAreClear, cell_name, next_cell_pieces}
 use Rattle.html_page.specs.Prints.{layout_after, page_view}
 use Rattle.html_page.proofs.GfmTableLemmas.{cells_clear, cells_more, clear_taken, no_columns}
 use Rattle.std.proofs.Common.{subst}
@@ -26,13 +26,13 @@ loop-align-init g c =
       printed = λ ds has clear.
           let d = document_by g.T.Tables c.args.texts.now ds in
           ap (λ cs. layout_after d.options.compile c.args.self.now.default_ending (page_view c.args.self.now)
-          (cells_pieces d c.args.name.now c.args.aligns.now cs)) c.new-cells.ensures;
+          (cells_pieces d (cell_name c.args.kind) c.args.aligns.now cs)) c.new-cells.ensures;
     }
 
 pub loop-align-preserved : goal.loop-align-preserved
 loop-align-preserved g c =
     let aligns = c.args.aligns.now in
-    let name = c.args.name.now in
+    let name = cell_name c.args.kind in
     let i = c.loop-align.align-index in
     let e = c.args.self.now.default_ending in
     let k = c.loop-align.invariant in
@@ -68,6 +68,6 @@ returns-clause-printed g c = λ ds has clear.
     let left = cells_left c.loop-align.cells in
     subst (λ x. OnOk c.more_cells.result (page_view c.more_cells.new.self ≡ x))
     (ap (λ (x : LineEnding). layout_after o x here (flat_map (cell_counts d) left)) k.same_default
-    ∙ no_columns aligns c.loop-align.align-index (ending_bytes e) d c.args.name.now left here c.loop-align-test.false
+    ∙ no_columns aligns c.loop-align.align-index (ending_bytes e) d (cell_name c.args.kind) left here c.loop-align-test.false
     ∙ k.printed ds has clear)
     (c.more_cells.ensures.printed ds has (k.clear clear))

@@ -6,7 +6,7 @@ use Rattle.html_contents.specs.Texts.{KnowsTargets, document_by}
 use Rattle.block_cells.specs.GfmTable.{cells_left}
 use Rattle.block_rows.specs.ParagraphLines.{HaveNoEnding}
 use Rattle.block_rows.specs.Rows.{piece_line}
-use Rattle.html_page.specs.GfmTable.{CellsAreClear}
+use Rattle.html_page.specs.GfmTable.{CellsAreClear, cell_name}
 use Rattle.html_page.specs.Prints.{layout_after, page_view}
 use Rattle.html_page.proofs.page.Page.table_cells.Given as goal
 
@@ -17,7 +17,8 @@ invariant-loop-align g l = record {
   clear : HaveNoEnding (piece_line l.line).codes → CellsAreClear (cells_left l.cells);
   printed : (ds : Targets) → KnowsTargets l.texts ds → HaveNoEnding (piece_line l.line).codes →
       let d = document_by g.T.Tables l.texts ds in
-      layout_after d.options.compile l.initial.self.default_ending (page_view l.self) (cells_pieces d l.name (drop l.align-index l.aligns) (cells_left l.cells))
+      layout_after d.options.compile l.initial.self.default_ending (page_view l.self)
+      (cells_pieces d (cell_name l.kind) (drop l.align-index l.aligns) (cells_left l.cells))
       ≡ layout_after d.options.compile l.initial.self.default_ending (page_view l.initial.self)
-      (cells_pieces d l.name l.aligns (line_cells (piece_line l.line)));
+      (cells_pieces d (cell_name l.kind) l.aligns (line_cells (piece_line l.line)));
 }

@@ -7,6 +7,7 @@ use Rattle.definition_block.specs.GfmTable.{line_cells}
 use Rattle.block_rows.specs.Rows.{piece_line}
 use Rattle.html_bytes.specs.GfmTable.{cells_pieces}
 use Rattle.html_contents.specs.Texts.{document_by}
+use Rattle.html_page.specs.GfmTable.{cell_name}
 use Rattle.html_page.specs.Prints.{layout_after, page_view, with_bytes, with_fresh}
 use Rattle.html_page.proofs.GfmTableLemmas.{row_laid}
 use Rattle.html_page.proofs.page.Page.table_line.Goals as goal
@@ -19,7 +20,7 @@ returns-clause-printed g c = λ ds has clear.
     let default = ending_bytes e in
     let line = piece_line c.args.line.now in
     let aligns = c.args.aligns.now in
-    let name = c.args.name.now in
+    let name = cell_name c.args.kind in
     let start = page_view c.args.self.now in
     let ps = cells_pieces d name aligns (line_cells line) in
     let first = c.in_ok-say.ensures.default ∙ c.in_ok-fresh.ensures.default in
