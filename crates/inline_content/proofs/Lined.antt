@@ -298,22 +298,22 @@ marks_more place (line ∷ others) l =
 
 -- ---- one line that is its own content
 
-own_content : (p : ℕ → Bool) (end : Kind) (piece : Piece) → ((k : ℕ) → get_or piece.text.now k 0 < 256) → piece.before ≡ Whitespace → piece.owed ≡ 0
-    → AreContentLines (piece_lines (piece ∷ [])) → codes_with_marks p end [] piece.text.now ≡ inline_content p end (own_lines (piece_lines (piece ∷ [])))
-own_content p end piece bytes white none h =
+own_content : (p : ℕ → Bool) (end : Kind) (piece : Piece) → ((k : ℕ) → get_or piece.text.now k 0 < 256) → piece.owed ≡ 0
+    → AreContentLines (piece_lines (piece ∷ []))
+    → codes_with_marks p end (mark_of 0 piece.before) piece.text.now ≡ inline_content p end (own_lines (piece_lines (piece ∷ [])))
+own_content p end piece bytes none h =
     let ls = piece_lines (piece ∷ []) in
     let apart = content_lines_apart ls h in
     let text : content_text ls ≡ piece.text.now =
     append-nil _ ∙ append-nil _ ∙ owed_bytes piece.owed piece.text.now bytes ∙ ap (λ n. replicate n 32 ++ piece.text.now) none in
-    let marks : marks_of 0 ls ≡ [] = ap (λ k. mark_of 0 k ++ []) white in
-    sym (ap (codes_with_marks p end []) text)
-    ∙ sym (ap (λ ms. codes_with_marks p end ms (content_text ls)) marks)
+    sym (ap (codes_with_marks p end (mark_of 0 piece.before)) text)
+    ∙ sym (ap (λ ms. codes_with_marks p end ms (content_text ls)) (append-nil (mark_of 0 piece.before)))
     ∙ content_is p end (marks_of 0 ls) ls apart (lines_agree p ls apart)
 
 pub one_line : (p : ℕ → Bool) (end : Kind) (pieces : List Piece) (none : Piece)
-    → ((k : ℕ) → get_or (get_or pieces 0 none).text.now k 0 < 256) → length pieces ≡ 1
-    → (get_or pieces 0 none).before ≡ Whitespace → (get_or pieces 0 none).owed ≡ 0
-    → AreContentLines (piece_lines pieces) → codes_with_marks p end [] (get_or pieces 0 none).text.now ≡ inline_content p end (own_lines (piece_lines pieces))
-one_line p end [] none bytes one white owes h = absurd (omega (arith, one))
-one_line p end (piece ∷ []) none bytes one white owes h = own_content p end piece bytes white owes h
-one_line p end (piece ∷ next ∷ others) none bytes one white owes h = absurd (omega (arith, one))
+    → ((k : ℕ) → get_or (get_or pieces 0 none).text.now k 0 < 256) → length pieces ≡ 1 → (get_or pieces 0 none).owed ≡ 0
+    → AreContentLines (piece_lines pieces)
+    → codes_with_marks p end (mark_of 0 (get_or pieces 0 none).before) (get_or pieces 0 none).text.now ≡ inline_content p end (own_lines (piece_lines pieces))
+one_line p end [] none bytes one owes h = absurd (omega (arith, one))
+one_line p end (piece ∷ []) none bytes one owes h = own_content p end piece bytes owes h
+one_line p end (piece ∷ next ∷ others) none bytes one owes h = absurd (omega (arith, one))
