@@ -1,3 +1,4 @@
 mod Rows
 mod Unlinked
 mod Walks
+mod AtSigns

@@ -1,7 +1,8 @@
 -- Rows in which nothing is linked.
 use Rattle.std.proofs.Common.{◌≡◌, ℕ, zero, suc, Bool, true, false, ◌||◌, eqb, List, [], ◌∷◌, ◌++◌, Option, None, Some, refl, sym, ap, ◌∙◌, map, append_assoc}
+use Rattle.std.proofs.Common.{◌⊎◌, inl, inr, cond}
 use Rattle.std.specs.List.{flat_map, list_any}
-use Rattle.std.proofs.lemmas.Bool.{cond-false}
+use Rattle.std.proofs.lemmas.Bool.{cases_Bool, cond-false, cond-true}
 use Rattle.std.proofs.lemmas.List.{append-nil, map-append}
 use Rattle.definition_inline.specs.GfmAutolinkLiteral.{parts_from, with_literals}
 use Rattle.definition_inline.specs.Inline as inline
@@ -12,6 +13,7 @@ use Rattle.inline_rows.specs.View.{data_rows, row_view, rows_view}
 use Rattle.inline_rows.specs.declared.row.InlineRow.{InlineRow}
 use Rattle.inline_rows.specs.declared.row.InlineRow.TheVariants as row
 use Rattle.inline_addresses.specs.Addresses.{has_at_sign, has_link, literal_text, no_bytes, parts_rows, row_depth, row_linked, row_may_link, row_text}
+use Rattle.inline_addresses.specs.Addresses.{begins_link, rows_may_link}
 use Rattle.inline_addresses.specs.Addresses.{run_parts, linked_rows}
 use Rattle.inline_addresses.proofs.Rows.{rows_linked, text_parts}
 use Rattle.inline_addresses.proofs.Walks.{after, data_parts, outside_rows, row_after, row_in_link, text_or}
@@ -88,25 +90,26 @@ module _ (leads : Target → LinkTexts) (at : ℕ → LinkTexts) where
 
   -- a row before others that are as they were
   first_unlinked : (r : InlineRow) (rs : List InlineRow) (n : ℕ) (run : List ℕ) (text : Option (List ℕ)) → HasNone run
-      → literal_text r ≡ None → row_text r ≡ text → has_at_sign text ≡ false
-      → ((m : ℕ) (longer : List ℕ) → HasNone longer → linked_rows leads m longer (rows_view at rs) ≡ data_rows longer ++ rows_view at rs)
+      → flat_map (row_linked n) (row_view at r) ≡ row_view at r → row_text r ≡ text → has_at_sign text ≡ false
+      → ((m : ℕ) (longer : List ℕ) → (m ≡ n) ⊎ (m ≡ row_depth n r) → HasNone longer
+      → linked_rows leads m longer (rows_view at rs) ≡ data_rows longer ++ rows_view at rs)
       → linked_rows leads n run (row_view at r ++ rows_view at rs) ≡ data_rows run ++ (row_view at r ++ rows_view at rs)
-  first_unlinked r rs n run (Some text) none no_literal is no_at others =
+  first_unlinked r rs n run (Some text) none kept is no_at others =
       let later = rows_view at rs in
       row_after leads at n run r later
       ∙ ap (after leads at n run (row_view at r) (row_depth n r) later) is
-      ∙ others n (run ++ text) (none_joined run text none no_at)
+      ∙ others n (run ++ text) (inl refl) (none_joined run text none no_at)
       ∙ ap (λ l. l ++ later) (map-append (λ b. Part (Data b)) run text)
       ∙ append_assoc (data_rows run) (data_rows text) later
       ∙ ap (λ l. data_rows run ++ (l ++ later)) (sym (row_is_text r ∙ ap (text_or leads at (row_view at r)) is))
-  first_unlinked r rs n run None none no_literal is no_at others =
+  first_unlinked r rs n run None none kept is no_at others =
       let later = rows_view at rs in
       let view = row_view at r in
       row_after leads at n run r later
       ∙ ap (after leads at n run view (row_depth n r) later) is
       ∙ ap (λ l. l ++ (flat_map (row_linked n) view ++ linked_rows leads (row_depth n r) [] later)) (run_is_text n run none)
-      ∙ ap (λ l. data_rows run ++ (l ++ linked_rows leads (row_depth n r) [] later)) (row_unlinked n r no_literal)
-      ∙ ap (λ l. data_rows run ++ (view ++ l)) (others (row_depth n r) [] refl)
+      ∙ ap (λ l. data_rows run ++ (l ++ linked_rows leads (row_depth n r) [] later)) kept
+      ∙ ap (λ l. data_rows run ++ (view ++ l)) (others (row_depth n r) [] (inr refl) refl)
 
   -- ---- rows
 
@@ -117,9 +120,44 @@ module _ (leads : Target → LinkTexts) (at : ℕ → LinkTexts) where
   unlinked (r ∷ rs) n run none no_link_in =
       let both = neither (row_may_link r) (list_any row_may_link rs) no_link_in in
       let first = no_link (literal_text r) (row_text r) both.0 in
-      first_unlinked r rs n run (row_text r) none first.0 refl first.1 (λ m longer h. unlinked rs m longer h both.1)
+      first_unlinked r rs n run (row_text r) none (row_unlinked n r first.0) refl first.1 (λ m longer which h. unlinked rs m longer h both.1)
+
+  depth_outside : (r : InlineRow) → begins_link r ≡ false → row_depth zero r ≡ zero
+  depth_outside (row.Text text) h = refl
+  depth_outside (row.Verbatim verbatim) h = refl
+  depth_outside (row.Leaf part) h = refl
+  depth_outside (row.EnterSpan span) h = refl
+  depth_outside (row.EnterLink to) h = absurd (let wrong : true ≡ false = h in cc)
+  depth_outside (row.EnterImage to) h = refl
+  depth_outside (row.Call label) h = refl
+  depth_outside row.Exit h = refl
+
+  -- outside of links a literal stays as it is
+  outside : (rs : List InlineRow) (run : List ℕ) → HasNone run → rows_may_link rs ≡ false
+      → linked_rows leads zero run (rows_view at rs) ≡ data_rows run ++ rows_view at rs
+  outside [] run none no_link_in = run_is_text zero run none ∙ sym (append-nil (data_rows run))
+  outside (r ∷ rs) run none no_link_in =
+      let both = neither (has_at_sign (row_text r)) _ no_link_in in
+      elim (cases_Bool (begins_link r)) [
+        | inl link ↦ unlinked (r ∷ rs) zero run none (sym (cond-true (begins_link r) _ _ link) ∙ both.1)
+        | inr other ↦
+            let here = depth_outside r other in
+            first_unlinked r rs zero run (row_text r) none (outside_rows leads at (row_view at r)) refl both.0
+            (λ m longer which h.
+            let none_open : m ≡ zero = elim which [ inl e ↦ e | inr e ↦ e ∙ here ] in
+            ap (λ n. linked_rows leads n longer (rows_view at rs)) none_open
+            ∙ outside rs longer h (sym (cond-false (begins_link r) _ _ other) ∙ both.1))
+      ]
 
   -- such rows stand for what the definition makes of their structure
-  pub nothing_linked : (rs : List InlineRow) (kids : Inlines) → list_any row_may_link rs ≡ false
+  pub nothing_linked : (rs : List InlineRow) (kids : Inlines) → rows_may_link rs ≡ false
       → rows_view at rs ≡ inline_rows leads kids → rows_view at rs ≡ inline_rows leads (with_literals [] kids)
-  nothing_linked rs kids none same = sym (unlinked rs zero [] refl none) ∙ ap (linked_rows leads zero []) same ∙ rows_linked leads kids
+  nothing_linked rs kids none same = sym (outside rs [] refl none) ∙ ap (linked_rows leads zero []) same ∙ rows_linked leads kids
+
+-- a link comes first, from which on nothing is linked
+pub from_link : (rs others left : List InlineRow) (r : InlineRow) → rs ≡ r ∷ others → has_at_sign (row_text r) ≡ false → begins_link r ≡ true
+    → left ≡ rs → list_any row_may_link left ≡ false → rows_may_link rs ≡ false
+from_link rs others left r e no_at link same none =
+    ap rows_may_link e
+    ∙ ap (λ b. b || cond (begins_link r) (list_any row_may_link (r ∷ others)) (rows_may_link others)) no_at
+    ∙ cond-true (begins_link r) _ _ link ∙ ap (list_any row_may_link) (sym e ∙ sym same) ∙ none

@@ -1,5 +1,6 @@
 -- Literals among the rows of a content.
-use Rattle.std.specs.Prelude.{◌≡◌, ◌==◌, ◌+◌, ◌≤◌, Bool, false, true, ℕ, zero, suc, List, [], ◌∷◌, ◌++◌, Option, None, Some, length, drop, map, take}
+use Rattle.std.specs.Prelude.{◌≡◌, ◌==◌, ◌||◌, ◌+◌, ◌≤◌, if◌then◌else◌, Bool, false, true, ℕ, zero, suc, List, [], ◌∷◌, ◌++◌, Option, None, Some}
+use Rattle.std.specs.Prelude.{length, drop, map, take}
 use Rattle.std.specs.List.{flat_map, list_any}
 use Rattle.definition_text.specs.Ascii.{line_feed, at_sign}
 use Rattle.definition_inline.specs.GfmAutolinkLiteral.{with_addresses}
@@ -91,6 +92,16 @@ has_link (Some literal) text = true
 -- a row is a literal, or text with an `@`
 abbrev pub row_may_link : InlineRow → Bool
 row_may_link r = has_link (literal_text r) (row_text r)
+
+-- a link starts
+abbrev pub begins_link : InlineRow → Bool
+begins_link (row.EnterLink to) = true
+begins_link r = false
+
+-- an `@` stands in the text of rows, or a literal is among those from a link on
+abbrev pub rows_may_link : List InlineRow → Bool
+rows_may_link [] = false
+rows_may_link (r ∷ rs) = has_at_sign (row_text r) || (if begins_link r then list_any row_may_link (r ∷ rs) else rows_may_link rs)
 
 -- how many parts are open after a row that is no text
 abbrev pub row_depth : ℕ → InlineRow → ℕ

@@ -1,20 +1,43 @@
 //! Rows in which nothing is linked: no `@` stands in their text, and no literal is among them.
-ghost use Rattle.std.specs.Prelude.{◌≡◌, [], ℕ, false};
+ghost use Rattle.std.specs.Prelude.{◌≡◌, ◌==◌, [], ℕ, false};
+ghost use Rattle.std.specs.List.{list_any};
 ghost use Rattle.std.specs.Option.{option_map};
 ghost use Rattle.definition_inline.specs.GfmAutolinkLiteral.{with_literals};
 ghost use Rattle.definition_inline.specs.Inline.{Target, LinkTexts, Inlines};
 ghost use Rattle.inline_rows.specs.InlineRows.{inline_rows};
 ghost use Rattle.inline_rows.specs.View.{rows_view};
-ghost use Rattle.inline_addresses.specs.Addresses.{has_at_sign, row_may_link};
+ghost use Rattle.inline_addresses.specs.Addresses.{begins_link, has_at_sign, row_may_link};
 
 use crate::walk::{literal_of, text_of};
 use inline_rows::InlineRow;
+use text_search::{BytePair, next_of};
 
-/// Whether an `@` stands in the text of rows, or a literal is among them: only then an address may
-/// be found in them, or a literal made text (GFM 6.9).
+/// `@`, which is told without tables.
+const AT_SIGN: BytePair = BytePair {
+    first: b'@',
+    second: b'@',
+};
+
+/// Whether an `@` stands in the text of rows, or a literal among those from a link on: only then an
+/// address may be found in them, or a literal made text (GFM 6.9).
 pub fn may_link(rows: &[InlineRow<'_>]) -> bool
     ensures { (leads : Target → LinkTexts) (at : ℕ → LinkTexts) (kids : Inlines) → result ≡ false → rows_view at rows.now ≡ inline_rows leads kids →
         rows_view at rows.now ≡ inline_rows leads (with_literals [] kids) }
+{
+    for (place, row) in rows.iter().enumerate() {
+        if has_at_sign(text_of(*row)) {
+            return true;
+        }
+        if begins_link(*row) {
+            return any_may_link(&rows[place..]);
+        }
+    }
+    false
+}
+
+/// Whether a row is a literal, or text with an `@`.
+fn any_may_link(rows: &[InlineRow<'_>]) -> bool
+    ensures { result ≡ list_any row_may_link rows.now }
 {
     for row in rows {
         if row_may_link(*row) {
@@ -22,6 +45,13 @@ pub fn may_link(rows: &[InlineRow<'_>]) -> bool
         }
     }
     false
+}
+
+/// Whether a link starts.
+fn begins_link(row: InlineRow<'_>) -> bool
+    ensures { result ≡ begins_link row.entry }
+{
+    matches!(row, InlineRow::EnterLink(_))
 }
 
 /// Whether a row is a literal, or text with an `@`.
@@ -39,7 +69,14 @@ fn has_at_sign(text: Option<&str>) -> bool
     ensures { result ≡ has_at_sign (option_map (λ text. text.now) text.entry) }
 {
     match text {
-        Some(text) => text.as_bytes().contains(&b'@'),
+        Some(text) => holds_at_sign(text.as_bytes()),
         None => false,
     }
+}
+
+/// Whether an `@` is among bytes.
+fn holds_at_sign(bytes: &[u8]) -> bool
+    ensures { result ≡ list_any (λ b. b == 64) bytes.now }
+{
+    next_of(bytes, AT_SIGN) < bytes.len()
 }

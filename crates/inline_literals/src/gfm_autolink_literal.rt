@@ -69,7 +69,7 @@ pub fn literal_at<'a, T: Tables>(
 }
 
 /// Whether `ww` or `ht` comes first, in either case: only then a literal may begin (GFM 6.9).
-pub fn may_begin(bytes: &[u8]) -> bool
+fn may_begin(bytes: &[u8]) -> bool
     ensures { result ≡ may_begin bytes.now }
 {
     begins_caselessly(b"ww", bytes) || begins_caselessly(b"ht", bytes)

@@ -7,5 +7,5 @@ mod name;
 pub mod names_in_vain;
 
 pub use address::{FoundAddress, first_address};
-pub use gfm_autolink_literal::{literal_at, may_begin};
+pub use gfm_autolink_literal::literal_at;
 pub use names_in_vain::NamesInVain;

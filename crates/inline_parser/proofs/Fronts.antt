@@ -1,20 +1,16 @@
 -- Text before the first byte at which a construct may start.
 use Rattle.std.proofs.Common.{◌≡◌, ℕ, zero, suc, ◌+◌, ◌-◌, ◌<◌, ◌≤◌, List, [], ◌∷◌, Bool, true, false, not, ◌||◌, ◌&&◌, eqb, leb, refl, sym, ap, ◌∙◌, get_or}
 use Rattle.std.proofs.Common.{length, drop, arith, subst, Fits, w8, ◌⊎◌, inl, inr}
-use Rattle.std.proofs.lemmas.Bool.{cases_Bool, cases_lt, cond-false, cond-true, eqb-true, false≢true, or_right, or_cases, or_from, or_parts, ne_eqb, leb-false}
+use Rattle.std.proofs.lemmas.Bool.{cases_Bool, cases_lt, cond-false, cond-true, eqb-true, false≢true, or_right, or_cases, or_from, ne_eqb, leb-false}
 use Rattle.std.proofs.lemmas.Bool.{agree_below_at}
 use Rattle.std.proofs.lemmas.List.{drop_more, get_or-drop, length-drop}
-use Rattle.std.proofs.lemmas.List.Sums.{fails_before_first, passes_at_first, prefix_len-le-length}
-use Rattle.std.specs.List.{position_or_len}
 use Rattle.definition_text.specs.Columns.{is_white, indent, bare}
 use Rattle.definition_text.specs.Content.{content_codes, is_eol}
 use Rattle.definition_inline.specs.HardBreak.{ends_here}
 use Rattle.inline_leaves.proofs.Codes.{plain_code, at_return}
 use Rattle.inline_literals.specs.Literals.{may_begin}
 use Rattle.inline_literals.proofs.Found.{may_letter}
-use Rattle.inline_parser.specs.Plain.{starts, starts_here, stops, is_replaced, is_special, is_text_at, IsStart}
-use Rattle.inline_parser.specs.Verbatim.{AreVerbatim}
-use Rattle.inline_parser.proofs.Verbatim.{verbatim_byte}
+use Rattle.inline_parser.specs.Plain.{starts, starts_here, is_special, is_text_at, IsStart}
 use Rattle.inline_parser.proofs.Texts.{IsText, is_other, no_text, more_text, byte_text, special_stop, white_starts_not}
 
 -- no construct starts at so many bytes at the front
@@ -229,56 +225,3 @@ module _ (literals : Bool) (bytes : List ℕ) (stop : ℕ) (first : IsStart lite
   dark_text size le dark =
       free_text bytes size (omega (arith, le, first.within)) (λ k lt. first.free k (omega (arith, lt, le)))
       (λ some. inl (some, λ k e. let place : size - 1 ≡ k = omega (arith, e) in ap (λ j. is_white (get_or bytes j 0)) (sym place) ∙ dark some))
-
--- the first byte from a place on at which a construct starts, where literals are off and none starts before that place
-pub later_start : (bytes : List ℕ) (at stop : ℕ) → at ≤ length bytes → AreFree bytes at → stop ≡ at + position_or_len starts (drop at bytes)
-    → IsStart false bytes stop
-later_start bytes at stop le before first =
-    let size = length-drop at bytes in
-    record {
-      within = omega (arith, le, first, size, prefix_len-le-length (λ x. not (starts x)) (drop at bytes));
-      free = λ k lt. elim (cases_lt k at) [
-        | inl inside ↦ before k inside
-        | inr after ↦
-            let there : at + (k - at) ≡ k = omega arith in
-            ap (λ n. starts (get_or bytes n 0)) (sym there) ∙ ap starts (sym (get_or-drop at bytes (k - at) 0))
-            ∙ fails_before_first starts (drop at bytes) (k - at) 0 (omega (arith, first, lt))
-      ];
-      bare = λ e. absurd (false≢true e);
-      stops = λ lt.
-          ap (λ s. s || may_begin (drop stop bytes))
-          (ap starts (get_or-drop stop bytes 0 0 ∙ ap (λ k. get_or bytes k 0) (omega (arith, first))
-          ∙ sym (get_or-drop at bytes (position_or_len starts (drop at bytes)) 0))
-          ∙ passes_at_first starts (drop at bytes) 0 (omega (arith, first, lt, size)));
-    }
-
--- bytes before the first that starts something or is printed as something else
-module _ (bytes : List ℕ) (stop : ℕ) (first : stop ≡ position_or_len stops bytes) where
-  stops_not : (k : ℕ) → k < stop → stops (get_or bytes k 0) ≡ false
-  stops_not k lt = fails_before_first stops bytes k 0 (omega (arith, first, lt))
-
-  pub stop_within : stop ≤ length bytes
-  stop_within = omega (arith, first, prefix_len-le-length (λ x. not (stops x)) bytes)
-
-  pub stop_free : AreFree bytes stop
-  stop_free k lt = (or_parts (starts (get_or bytes k 0)) (is_replaced (get_or bytes k 0)) (stops_not k lt)).0
-
-  pub stop_verbatim : AreVerbatim bytes stop
-  stop_verbatim k lt = verbatim_byte (get_or bytes k 0) (stops_not k lt)
-
-  -- where it isn't printed as something else
-  pub plain_start : (stop < length bytes → is_replaced (get_or bytes stop 0) ≡ false) → IsStart false bytes stop
-  plain_start kept = record {
-    within = stop_within;
-    free = stop_free;
-    bare = λ e. absurd (false≢true e);
-    stops = λ lt.
-        let stopped : stops (get_or bytes stop 0) ≡ true =
-        ap (λ k. stops (get_or bytes k 0)) first ∙ passes_at_first stops bytes 0 (omega (arith, first, lt)) in
-        ap (λ s. s || may_begin (drop stop bytes))
-        (ap starts (get_or-drop stop bytes 0 0 ∙ ap (λ k. get_or bytes k 0) (omega arith))
-        ∙ elim (or_cases (starts (get_or bytes stop 0)) (is_replaced (get_or bytes stop 0)) stopped) [
-          | inl is ↦ is
-          | inr replaced ↦ absurd (false≢true (sym (kept lt) ∙ replaced))
-        ]);
-  }

@@ -13,3 +13,4 @@ pub mod Placed
 pub mod Ended
 pub mod PlainText
 pub mod Verbatim
+mod LetterRuns

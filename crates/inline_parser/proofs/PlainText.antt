@@ -1,29 +1,37 @@
--- A content that is text alone.
-use Rattle.std.proofs.Common.{◌≡◌, ℕ, ◌+◌, ◌<◌, Bool, true, false, List, [], ◌∷◌, ◌++◌, Option, None, refl, sym, ap, ◌∙◌}
-use Rattle.std.proofs.Common.{get_or, length, drop, take, map, arith}
+-- A content that is text alone, but for spaces and tabs at its end.
+use Rattle.std.proofs.Common.{◌≡◌, ℕ, ◌+◌, ◌-◌, ◌<◌, ◌≤◌, Bool, true, false, List, [], ◌∷◌, ◌++◌, ◌||◌, ◌⊎◌, inl, inr, Option, None, Some, refl, sym, ap, ap₂}
+use Rattle.std.proofs.Common.{◌∙◌, get_or, length, drop, take, map, eqb, leb, subst, arith}
 use Rattle.std.specs.Borrow.{Bor}
-use Rattle.std.proofs.lemmas.Bool.{cond-false, true≢false}
-use Rattle.std.proofs.lemmas.List.{append-nil, drop_all, take_all}
+use Rattle.std.specs.List.{list_all, take_while}
+use Rattle.std.proofs.lemmas.Bool.{and_from, and_parts, and_right, cases_lt, cond-false, cond-true, eqb-true, le-leb, or_cases, true≢false}
+use Rattle.std.proofs.lemmas.List.{append-nil, drop_all, get_or-drop}
+use Rattle.markdown_options.specs.declared.configuration.Constructs.{Constructs}
 use Rattle.markdown_options.specs.declared.configuration.ParseOptions.{ParseOptions}
+use Rattle.definition_text.specs.Columns.{bare, indent, is_blank, is_white}
 use Rattle.definition_text.specs.Content.{content_codes}
-use Rattle.definition_inline.specs.GfmAutolinkLiteral.{with_literals}
-use Rattle.definition_inline.specs.Inline.{Target, LinkTexts, link_texts, Data}
+use Rattle.definition_inline.specs.HardBreak.{ends_here, ends_inner_line, line_spaces_at}
+use Rattle.definition_inline.specs.Inline.{Target, LinkTexts, link_texts, Data, leaf}
 use Rattle.definition_inline.specs.Scan as scan
-use Rattle.definition_inline.specs.Scan.{inlines_from, read_tokens, spans_from, whole_text}
+use Rattle.definition_inline.specs.Scan.{InlineContext, read_tokens, spans_from, whole_text}
 use Rattle.definition_inline.specs.Spans.{Item, with_spans}
 use Rattle.definition_page.specs.Targets.{Targets}
 use Rattle.inline_content.specs.declared.content.Content.{Content}
 use Rattle.inline_content.specs.View.{view_at}
-use Rattle.inline_leaves.specs.Leaves.{IsAfter}
+use Rattle.inline_leaves.specs.Leaves.{size_before, IsAfter}
+use Rattle.inline_leaves.specs.Scanned.{leaf_in}
+use Rattle.inline_leaves.proofs.Codes.{plain_code}
+use Rattle.inline_leaves.proofs.FirstBytes.{by_white}
 use Rattle.inline_rows.specs.InlineRows.{inline_rows}
 use Rattle.inline_rows.specs.View.{data_rows}
 use Rattle.inline_rows.specs.declared.row.InlineRow.TheVariants.{Text}
 use Rattle.inline_spans.specs.Container.{Parts}
 use Rattle.inline_spans.proofs.Container as container
 use Rattle.inline_spans.proofs.Runs.{all_told, none_told}
-use Rattle.inline_parser.specs.Plain.{is_text_at}
+use Rattle.inline_parser.specs.declared.plain.Front.{Front}
+use Rattle.inline_parser.specs.Fronts.{IsTextFront}
 use Rattle.inline_parser.specs.Scanned.{IsPlace, context_by}
 use Rattle.inline_parser.proofs.Follow as follow
+use Rattle.inline_parser.proofs.Placed.{place_after}
 use Rattle.inline_parser.proofs.Whole as whole
 
 -- before anything is read
@@ -45,32 +53,102 @@ told leads text =
     ∙ (all_told leads at [] rows tokens [] [] 0 rows (omega arith) is (none_told leads at [] rows tokens [] [] rows refl is)).told
     ∙ ap (λ ts. inline_rows leads (with_spans ts)) (append-nil (map (λ i. Item i) items))
 
-module _ (options : ParseOptions) (names : List ℕ → Option (List ℕ)) (p : ℕ → Bool) (ds : Targets) (content : Content) where
-  -- all that is read of it
-  read : (rest : List ℕ) → IsPlace content.text.now rest → options.constructs.gfm_autolink_literal ≡ false
-      → ((k : ℕ) → k < length rest → is_text_at (drop k (content_codes rest)) ≡ true) → ((k : ℕ) → k < length rest → get_or rest k 0 ≡ 13 → ⊥)
-      → IsAfter rest (drop (length rest) rest)
-      → scan.scan (context_by options names ds) 0 start (view_at p content rest) ≡ read_tokens (map Item (map Data rest)) start
-  read rest place off text plain after =
-      let n = length rest in
-      let context = context_by options names ds in
-      let final = scan.scan context 0 start (view_at p content rest) in
-      let next = read_tokens (map (λ i. Item i) (map (λ b. Data b) (take n rest))) start in
-      sym (follow.text_follows options names p ds content rest n start final place (omega arith) text plain
-      (λ on. absurd (true≢false (sym on ∙ off))) after refl)
-      ∙ ap (scan.scan context 0 next) (whole.last_view p content (drop n rest) (drop_all n rest (omega arith)))
-      ∙ ap (λ bs. read_tokens (map (λ i. Item i) (map (λ b. Data b) bs)) start) (take_all n rest (omega arith))
+-- ---- spaces and tabs at the end
 
-  -- its rows
-  pub plain_rows : (leads : Target → LinkTexts) (text : Bor (List ℕ)) → IsPlace content.text.now text.now
-      → options.constructs.gfm_autolink_literal ≡ false
-      → ((k : ℕ) → k < length text.now → is_text_at (drop k (content_codes text.now)) ≡ true)
-      → ((k : ℕ) → k < length text.now → get_or text.now k 0 ≡ 13 → ⊥)
-      → IsAfter text.now (drop (length text.now) text.now)
-      → data_rows text.now ≡ inline_rows leads (inlines_from (context_by options names ds) (view_at p content text.now))
-  plain_rows leads text place off is_text plain after =
-      let context = context_by options names ds in
-      let kids = spans_from context (view_at p content text.now) in
-      told leads text
-      ∙ ap (λ r. inline_rows leads (with_spans (whole_text r).tokens)) (sym (read text.now place off is_text plain after))
-      ∙ ap (inline_rows leads) (sym (cond-false options.constructs.gfm_autolink_literal (with_literals [] kids) kids off))
+white_codes : (xs : List ℕ) → is_blank xs ≡ true → content_codes xs ≡ xs
+white_codes [] blank = refl
+white_codes (x ∷ xs) blank =
+    let parts = and_parts (is_white x) (list_all is_white xs) blank in
+    plain_code x xs (λ e. true≢false (sym parts.0 ∙ ap is_white e)) ∙ ap (λ cs. x ∷ cs) (white_codes xs parts.1)
+
+white_indent : (xs : List ℕ) → is_blank xs ≡ true → indent xs ≡ length xs
+white_indent [] blank = refl
+white_indent (x ∷ xs) blank =
+    let parts = and_parts (is_white x) (list_all is_white xs) blank in
+    let more = white_indent xs parts.1 in
+    cond-true (is_white x) (1 + indent xs) 0 parts.0 ∙ omega (arith, more)
+
+-- they make nothing
+white_leaf : (on : Constructs) (xs : List ℕ) → is_blank xs ≡ true → 0 < length xs → line_spaces_at on xs ≡ Some (leaf [] (length xs))
+white_leaf on xs blank some =
+    let all = white_indent xs blank in
+    let none : bare xs ≡ [] = ap (λ k. drop k xs) all ∙ drop_all (length xs) xs (omega arith) in
+    let first = and_from (leb 1 (indent xs)) (ends_here (bare xs)) (le-leb 1 (indent xs) (omega (arith, all, some))) (ap ends_here none) in
+    let broken = and_right on.hard_break_trailing _
+    (and_right (leb 2 (indent xs)) _ (and_right (list_all (λ c. eqb c 32) (take_while is_white xs)) _ (ap ends_inner_line none))) in
+    cond-true _ _ _ first ∙ ap₂ (λ parts size. Some (leaf parts size)) (cond-false _ _ _ broken) all
+
+first_white : (b : ℕ) → b < 256 → is_white b ≡ true → (b ≡ 9) ⊎ (b ≡ 32)
+first_white b byte white = elim (or_cases (eqb b 32 || eqb b 9) (eqb b 256) white) [
+  | inl h ↦ elim (or_cases (eqb b 32) (eqb b 9) h) [ inl space ↦ inr (eqb-true b 32 space) | inr tab ↦ inl (eqb-true b 9 tab) ]
+  | inr h ↦ absurd (omega (arith, byte, eqb-true b 256 h))
+]
+
+white_first : (xs : List ℕ) → is_blank xs ≡ true → 0 < length xs → is_white (get_or xs 0 0) ≡ true
+white_first [] blank some = absurd (omega (arith, some))
+white_first (x ∷ xs) blank some = (and_parts (is_white x) (list_all is_white xs) blank).0
+
+white_ascii : (b : ℕ) → (b ≡ 9) ⊎ (b ≡ 32) → b < 128
+white_ascii b (inl e) = omega (arith, e)
+white_ascii b (inr e) = omega (arith, e)
+
+module _ (xs : List ℕ) (blank : is_blank xs ≡ true) (some : 0 < length xs) (bytes : (k : ℕ) → get_or xs k 0 < 256) where
+  white_found : (options : ParseOptions) (names : List ℕ → Option (List ℕ)) → Some (leaf [] (size_before xs [])) ≡ leaf_in options names (content_codes xs)
+  white_found options names =
+      let codes = white_codes xs blank in
+      let size : size_before xs [] ≡ length xs = omega (arith, ap length codes) in
+      ap (λ n. Some (leaf [] n)) size
+      ∙ sym (by_white options names xs (first_white (get_or xs 0 0) (bytes 0) (white_first xs blank some))
+      ∙ ap (line_spaces_at options.constructs) codes ∙ white_leaf options.constructs xs blank some)
+
+  white_after : IsAfter xs []
+  white_after =
+      let codes = white_codes xs blank in
+      record {
+        shorter = some;
+        place = sym (drop_all (length xs - length {A = ℕ} []) xs (omega arith));
+        fewer = omega (arith, ap length codes, some);
+        codes = sym (drop_all (size_before xs []) (content_codes xs) (omega arith));
+      }
+
+module _ (options : ParseOptions) (names : List ℕ → Option (List ℕ)) (p : ℕ → Bool) (ds : Targets) (content : Content) where
+  abbrev context : InlineContext
+  context = context_by options names ds
+
+  -- spaces and tabs that are left make nothing
+  at_white : (rest : List ℕ) (now final : scan.Reading) → IsPlace content.text.now rest → is_blank rest ≡ true → ((k : ℕ) → get_or rest k 0 < 256)
+      → scan.scan context 0 now (view_at p content rest) ≡ final → final ≡ now
+  at_white rest now final place blank bytes same = elim (cases_lt 0 (length rest)) [
+    | inl some ↦
+        let made = follow.leaf_follows options names p ds content rest [] [] now final place (white_found rest blank some bytes options names)
+        (white_after rest blank some bytes) same in
+        sym made
+        ∙ ap (scan.scan context 0 (read_tokens [] now)) (whole.last_view p content [] refl)
+        ∙ ap (λ ts. scan.reading (scan.text ts now.now.holds_link) now.open_labels) (append-nil now.now.tokens)
+    | inr none ↦ sym same ∙ ap (scan.scan context 0 now) (whole.last_view p content rest (no_bytes rest none))
+  ] where
+    no_bytes : (xs : List ℕ) → length xs ≤ 0 → xs ≡ []
+    no_bytes [] h = refl
+    no_bytes (x ∷ xs) h = absurd (omega (arith, h))
+
+  module _ (rest : List ℕ) (front : Front) (is : IsTextFront options.constructs.gfm_autolink_literal rest front) (some : 0 < front.size)
+      (blank : is_blank (drop front.size rest) ≡ true) (bytes : (k : ℕ) → get_or rest k 0 < 256) where
+    -- all that is read of a text with spaces and tabs at its end
+    read : IsPlace content.text.now rest
+        → scan.scan context 0 start (view_at p content rest) ≡ read_tokens (map Item (map Data (take front.size rest))) start
+    read place =
+        let n = front.size in
+        let after = is.ending some in
+        let next = read_tokens (map (λ i. Item i) (map (λ b. Data b) (take n rest))) start in
+        at_white (drop n rest) next (scan.scan context 0 start (view_at p content rest)) (place_after content.text.now rest (drop n rest) place after) blank
+        (λ k. subst (λ b. b < 256) (sym (get_or-drop n rest k 0)) (bytes (n + k)))
+        (follow.text_follows options names p ds content rest n start (scan.scan context 0 start (view_at p content rest)) place is.within is.text is.plain
+        is.bare after refl)
+
+    -- its rows
+    pub front_rows : (leads : Target → LinkTexts) (text : Bor (List ℕ)) → text.now ≡ take front.size rest → IsPlace content.text.now rest
+        → data_rows text.now ≡ inline_rows leads (spans_from context (view_at p content rest))
+    front_rows leads text cut place =
+        told leads text
+        ∙ ap (λ bs. inline_rows leads (with_spans (map (λ i. Item i) (map (λ b. Data b) bs)))) cut
+        ∙ ap (λ r. inline_rows leads (with_spans (whole_text r).tokens)) (sym (read place))

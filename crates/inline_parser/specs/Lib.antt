@@ -4,3 +4,4 @@ pub mod Plain
 pub mod Verbatim
 pub mod Fronts
 pub mod Found
+pub mod Letters

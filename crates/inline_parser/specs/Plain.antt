@@ -1,6 +1,5 @@
 -- Text in a content (CommonMark 6.9).
 use Rattle.std.specs.Prelude.{◌≡◌, ◌<◌, ◌≤◌, ℕ, Bool, true, false, not, if◌then◌else◌, ◌==◌, ◌||◌, List, [], ◌∷◌, drop, length, slice_index}
-use Rattle.std.specs.Char.{to_ascii_lowercase}
 use Rattle.definition_text.specs.Ascii.{exclamation_mark, dollar, ampersand, asterisk, less_than, left_bracket, backslash, right_bracket, underscore, backtick}
 use Rattle.definition_text.specs.Ascii.{tilde, double_quote, greater_than}
 use Rattle.definition_text.specs.Columns.{is_white, bare}
@@ -19,10 +18,6 @@ is_special code =
 abbrev pub starts : ℕ → Bool
 starts code = is_special code || is_eol code
 
--- a letter that a literal may begin with (GFM 6.9)
-abbrev pub is_literal_letter : ℕ → Bool
-is_literal_letter code = (to_ascii_lowercase code == 104) || (to_ascii_lowercase code == 119)
-
 -- a construct may start here, a literal among them
 abbrev pub starts_here : List ℕ → Bool
 starts_here bytes = starts (slice_index bytes 0) || may_begin bytes
@@ -34,6 +29,14 @@ pub record IsStart (has_literals : Bool) (bytes : List ℕ) (stop : ℕ) : Type 
   pub bare : has_literals ≡ true → (k : ℕ) → k < stop → may_begin (drop k bytes) ≡ false
   pub stops : stop < length bytes → starts_here (drop stop bytes) ≡ true
 
+-- so many bytes come before the first from a place on at which a construct may start, a literal where they are on
+pub record IsStartFrom (has_literals : Bool) (bytes : List ℕ) (at stop : ℕ) : Type 0 where
+  pub after : at ≤ stop
+  pub within : stop ≤ length bytes
+  pub free : (k : ℕ) → at ≤ k → k < stop → starts (slice_index bytes k) ≡ false
+  pub bare : has_literals ≡ true → (k : ℕ) → at ≤ k → k < stop → may_begin (drop k bytes) ≡ false
+  pub stops : stop < length bytes → starts_here (drop stop bytes) ≡ true
+
 -- a byte at which nothing starts and that is printed as something else: NUL, `"` or `>`
 abbrev pub is_replaced : ℕ → Bool
 is_replaced code = (code == 0) || ((code == double_quote) || (code == greater_than))
@@ -41,10 +44,6 @@ is_replaced code = (code == 0) || ((code == double_quote) || (code == greater_th
 -- something may start at this byte, or it is printed as something else
 abbrev pub stops : ℕ → Bool
 stops code = starts code || is_replaced code
-
--- the same, or a literal may begin with this letter
-abbrev pub stops_or_letter : ℕ → Bool
-stops_or_letter code = is_literal_letter code || stops code
 
 -- the first code is text: white space before something else on its line, or a code at which nothing starts
 abbrev pub is_text_at : List ℕ → Bool

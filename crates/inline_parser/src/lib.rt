@@ -3,6 +3,7 @@
 
 mod gfm_autolink_literal;
 mod label;
+mod letters;
 mod plain;
 mod reading;
 pub mod room;

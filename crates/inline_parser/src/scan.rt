@@ -1,13 +1,14 @@
 //! The scan of a content from left to right (CommonMark 6 and appendix, phase 2).
 //!
 //!     content ::= white* (text | leaf | literal | run | start | ']')*
-ghost use Rattle.std.specs.Prelude.{◌≡◌, ◌<◌, ◌==◌, ◌&&◌, ℕ, Bool, List, [], ◌∷◌, Option, None, true};
+ghost use Rattle.std.specs.Prelude.{◌≡◌, ◌<◌, ◌≤◌, ◌==◌, ◌&&◌, ℕ, Bool, List, [], ◌∷◌, Option, None, true};
 ghost use Rattle.std.specs.Prelude.{length, map, IfOk, IfSome, OnOk, take, drop, slice_index};
 ghost use Rattle.std.specs.List.{prefix_len};
 ghost use Rattle.std.specs.Option.{option_map};
 ghost use Rattle.std.specs.Str.{IsCharBoundary};
-ghost use Rattle.definition_text.specs.Columns.{is_white};
+ghost use Rattle.definition_text.specs.Columns.{is_blank, is_white};
 ghost use Rattle.definition_text.specs.Bytes.{begins_with};
+ghost use Rattle.definition_text.specs.Encode.{encode};
 ghost use Rattle.definition_text.specs.Content.{content_codes};
 ghost use Rattle.definition_inline.specs.Inline.{Target, LinkTexts, Data};
 ghost use Rattle.definition_page.specs.InlinePieces.{leads_to};
@@ -36,6 +37,7 @@ use crate::label::{LabelStart, OpenLabel};
 use crate::plain::{Front, front_of};
 use crate::reading::Reading;
 use crate::room::{FoundRows, Room, RowRoom};
+use inline_addresses::may_link;
 use inline_content::Content;
 use inline_label_ends::{LabelForm, call_or_link, link_or_image};
 use inline_labels::LabelTable;
@@ -44,11 +46,14 @@ use inline_leaves::cut::{cut_after, text_before};
 use inline_leaves::leaf_at::leaf_at;
 use inline_leaves::searches::Searches;
 use inline_leaves::space::white_size;
+use inline_links::part::from;
 use inline_literals::{NamesInVain, literal_at};
 use inline_rows::{InlineRow, VerbatimText};
 use inline_runs::Run;
 use markdown_options::{Constructs, ParseOptions, Tables};
 use std::alloc::{AllocError, Allocator};
+use std::slice::from_ref;
+use text_bytes::is_blank;
 
 /// What a content is read by.
 #[derive(Drop)]
@@ -155,29 +160,51 @@ pub fn content_start<'a>(content: Content<'a>) -> &'a str
     after_white(content.text())
 }
 
-/// The row of what is left of a content with this text at its front, if it is text alone: nothing
-/// starts in it. While literals are on (GFM 6.9) this is said of no content, since text may hold
-/// addresses.
+/// The row of what is left of a content with this text at its front, if it is text alone but for the
+/// spaces and tabs at its end: nothing starts in it, and no address may be in it (GFM 6.9).
 fn text_alone<'a>(options: &ParseOptions, start: &'a str, front: Front) -> Option<InlineRow<'a>>
     requires { IsTextFront options.now.constructs.gfm_autolink_literal start.now front }
     ensures { (names : List ℕ → Option (List ℕ)) (is_punctuation : ℕ → Bool) (ds : Targets) (leads : Target → LinkTexts) (at : ℕ → LinkTexts)
         (content : SeenContent) → IsPlace content.text.now start.now → IfSome result (λ row. row_view at row
         ≡ inline_rows leads (inlines_from (context_by options.now names ds) (view_at is_punctuation content start.now))) }
 {
-    if options.constructs.gfm_autolink_literal {
+    let row = span_alone(options, start, front)?;
+    if options.constructs.gfm_autolink_literal && may_link(from_ref(&row)) {
         return None;
     }
-    if front.size > 0 && front.size == start.len() {
-        Some(text_row(front, start))
+    Some(row)
+}
+
+/// The same while addresses are text.
+fn span_alone<'a>(options: &ParseOptions, start: &'a str, front: Front) -> Option<InlineRow<'a>>
+    requires { IsTextFront options.now.constructs.gfm_autolink_literal start.now front }
+    ensures { (names : List ℕ → Option (List ℕ)) (is_punctuation : ℕ → Bool) (ds : Targets) (leads : Target → LinkTexts) (at : ℕ → LinkTexts)
+        (content : SeenContent) → IsPlace content.text.now start.now → IfSome result (λ row. row_view at row
+        ≡ inline_rows leads (spans_from (context_by options.now names ds) (view_at is_punctuation content start.now))) }
+{
+    if front.size == 0 {
+        return None;
+    }
+    let text = text_before(start, front.size);
+    if is_blank_from(start, front.size) {
+        Some(text_row(front, text))
     } else {
         None
     }
 }
 
+/// Whether only spaces and tabs stand in a text from a place on.
+fn is_blank_from(text: &str, at: usize) -> bool
+    requires { at ≤ length text.now }
+    ensures blank { result ≡ is_blank (drop at text.now) }
+    ensures bytes { (k : ℕ) → slice_index text.now k < 256 }
+{
+    is_blank(from(text.as_bytes(), at))
+}
+
 /// The row of a text that is all at its front.
 fn text_row<'a>(front: Front, text: &'a str) -> InlineRow<'a>
-    requires whole { front.size ≡ length text.now }
-    requires verbatim { TellsVerbatim text.now front }
+    requires { front.is_verbatim ≡ true → encode text.now ≡ text.now }
     ensures { (at : ℕ → LinkTexts) → row_view at result ≡ data_rows text.now }
 {
     if front.is_verbatim {

@@ -1,7 +1,21 @@
-use Rattle.std.proofs.Common.{sym, subst}
-use Rattle.inline_parser.specs.Plain.{IsStart}
+use Rattle.std.proofs.Common.{sym, ◌∙◌, arith}
+use Rattle.inline_parser.proofs.LiteralFronts as fronts
 use Rattle.inline_parser.proofs.plain.next_start.Goals as goal
+use Rattle.inline_parser.proofs.plain.next_start.Goals.{else-stop-bytes-via-then-stop-bytes+else-is_replaced, else-stop-bytes-via-else-stop-bytes}
 
-pub returns-else-has_literals-clause-start : goal.returns-else-has_literals-clause-start
-returns-else-has_literals-clause-start c =
-    subst (λ on. IsStart on c.args.bytes.now c.next_construct.result.size) (sym c.if-has_literals.false) c.next_construct.ensures.start
+pub returns-then-is_replaced-clause-start : goal.returns-then-is_replaced-clause-start
+returns-then-is_replaced-clause-start c =
+    fronts.later_start c.args.has_literals c.args.bytes.now c.type_inv.bytes c.first_stop-stop.result c.first_stop-stop.ensures
+    c.next_start_from.result c.next_start_from.ensures
+
+pub returns-clause-start : goal.returns-clause-start
+returns-clause-start c =
+    fronts.next_start c.args.has_literals c.args.bytes.now c.type_inv.bytes c.first_stop-stop.result c.first_stop-stop.ensures
+    (λ lt. elim c.else-stop-bytes.branch [
+      | else-stop-bytes-via-then-stop-bytes+else-is_replaced w ↦ sym w.is_replaced.ensures ∙ w.if-is_replaced.false
+      | else-stop-bytes-via-else-stop-bytes w ↦ absurd (omega (arith, w.if-stop-bytes.false, lt))
+    ])
+
+pub returns-clause-verbatim : goal.returns-clause-verbatim
+returns-clause-verbatim c is =
+    fronts.next_verbatim c.args.has_literals c.args.bytes.now c.type_inv.bytes c.first_stop-stop.result c.first_stop-stop.ensures

@@ -1,17 +1,27 @@
-use Rattle.std.proofs.Common.{◌≡◌, ℕ, ◌<◌, ◌∙◌, true, length, drop, get_or, arith, subst}
-use Rattle.definition_text.specs.Content.{content_codes}
-use Rattle.inline_leaves.specs.Leaves.{IsAfter}
-use Rattle.inline_parser.specs.Plain.{is_text_at}
-use Rattle.inline_parser.proofs.PlainText.{plain_rows}
+use Rattle.std.proofs.Common.{◌≡◌, ◌∙◌, [], ap, sym}
+use Rattle.std.proofs.lemmas.Bool.{cond-false, cond-true}
+use Rattle.std.proofs.lemmas.List.{append-nil}
+use Rattle.definition_inline.specs.GfmAutolinkLiteral.{with_literals}
+use Rattle.definition_inline.specs.Scan.{spans_from}
+use Rattle.inline_content.specs.View.{view_at}
+use Rattle.inline_rows.specs.InlineRows.{inline_rows}
+use Rattle.inline_rows.specs.View.{row_view, rows_view}
+use Rattle.inline_parser.specs.Scanned.{context_by}
 use Rattle.inline_parser.proofs.scan.text_alone.Goals as goal
+use Rattle.inline_parser.proofs.scan.text_alone.Goals.{else-options-via-then-options+else-may_link, else-options-via-else-options}
 
-pub returns-then-front-start : goal.returns-then-front-start
-returns-then-front-start c = λ names p ds leads at content place.
-    let rest = c.args.start.now in
-    let text = c.requires in
-    let whole : c.args.front.size ≡ length rest = omega (arith, c.if-front-start.true) in
-    c.text_row.ensures at
-    ∙ plain_rows c.args.options.now names p ds content leads c.args.start place c.if-options.false
-    (subst (λ n. (k : ℕ) → k < n → is_text_at (drop k (content_codes rest)) ≡ true) whole text.text)
-    (subst (λ n. (k : ℕ) → k < n → get_or rest k 0 ≡ 13 → ⊥) whole text.plain)
-    (subst (λ n. IsAfter rest (drop n rest)) whole (text.ending (omega (arith, c.if-front-gt0.true))))
+pub returns : goal.returns
+returns c = λ names p ds leads at content place.
+    let options = c.args.options.now in
+    let kids = spans_from (context_by options names ds) (view_at p content c.args.start.now) in
+    let row = c.in_ok-row.row in
+    let one = append-nil (row_view at row) in
+    let spans : row_view at row ≡ inline_rows leads kids = c.in_ok-row.ensures names p ds leads at content place in
+    elim c.else-options.branch [
+      | else-options-via-then-options+else-may_link w ↦
+          let same = ap (rows_view at) w.from_ref.ensures.value in
+          sym one ∙ sym same ∙ w.may_link.ensures leads at kids w.if-may_link.false (same ∙ one ∙ spans)
+          ∙ ap (inline_rows leads) (sym (cond-true options.constructs.gfm_autolink_literal (with_literals [] kids) kids w.if-options.true))
+      | else-options-via-else-options w ↦
+          spans ∙ ap (inline_rows leads) (sym (cond-false options.constructs.gfm_autolink_literal (with_literals [] kids) kids w.if-options.false))
+    ]
