@@ -1,29 +1,40 @@
 -- Lines of fenced code at the front of a text, which it takes at once.
-use Rattle.std.proofs.Common.{◌≡◌, ℕ, ◌<◌, false, List, [], ◌∷◌, ◌++◌, Option, refl, sym, ap, ◌∙◌, subst, length}
+use Rattle.std.proofs.Common.{◌≡◌, ℕ, ◌<◌, ◌≤◌, ◌-◌, false, true, List, [], ◌∷◌, ◌++◌, Option, refl, sym, ap, ◌∙◌, subst, get_or, length, take}
 use Rattle.std.proofs.Common.{append_assoc, arith}
-use Rattle.std.specs.Prelude.{map}
-use Rattle.std.proofs.lemmas.List.{append-nil, length-append, map-append}
+use native.Mathlib.Numerals.{unary_clauses}
+use Rattle.std.specs.Prelude.{◌||◌, map}
+use Rattle.std.specs.List.{list_any}
+use Rattle.std.specs.Str.{IsUtf8, IsCharBoundary}
+use Rattle.std.proofs.lemmas.Bool.{or_parts}
+use Rattle.std.proofs.lemmas.List.{append-nil, length-append, map-append, take_at}
+use Rattle.std.proofs.lemmas.List.Concat.{flat_map-append}
+use Rattle.std.proofs.lemmas.List.Folds.{list_any-append}
+use Rattle.std.proofs.lemmas.Str.{IsCharBoundary-at_seam}
 use Rattle.markdown_options.specs.declared.line_ending.LineEnding.{LineEnding}
 use Rattle.markdown_options.specs.declared.configuration.Constructs.{Constructs}
 use Rattle.definition_text.specs.declared.beside.Kind.TheVariants.{Whitespace}
-use Rattle.definition_text.specs.Lines.{TextLine, lines}
-use Rattle.definition_text.specs.Columns.{whole}
-use Rattle.definition_text.specs.BlockLines.{BlockLine, last_ending_or}
-use Rattle.definition_block.specs.CodeFenced.{Fence, is_fence_end}
-use Rattle.definition_block.specs.Tree.{Blocks, join, Text, Indented, Fenced, OpenHtml, OpenTable, Opening, Leaf, Inside, Tree, tree, beside_line, step, steps}
-use Rattle.block_rows.specs.Rows.{piece_lines}
+use Rattle.definition_text.specs.Lines.{TextLine, lines, ending_text}
+use Rattle.definition_text.specs.Columns.{Rest, whole}
+use Rattle.definition_text.specs.BlockLines.{BlockLine, block_line, last_ending_or}
+use Rattle.definition_block.specs.CodeFenced.{Fence, fence_line, is_fence_end}
+use Rattle.definition_block.specs.Tree.{Blocks, FencedCode, block_and_ending, join, nothing, rest_line}
+use Rattle.definition_block.specs.Tree.{Text, Indented, Fenced, OpenHtml, OpenTable, Opening, Leaf, Inside, Tree, tree, beside_line, step, steps}
+use Rattle.block_rows.specs.Rows.{piece_lines, whole_line, whole_lines}
+use Rattle.block_rows.proofs.OpenLines.{AreTextLines, lines_of_text}
+use Rattle.block_rows.proofs.TextLines.{front_bytes, front_of_text, later_bytes, line_bytes, lines_of_front, text_back, text_of}
+use Rattle.text_lines.proofs.Codes.{block_codes_whole}
 use Rattle.block_starts.specs.View.{container_views}
 use Rattle.block_state.specs.Leaves.{leaf_state}
 use Rattle.block_state.specs.Shows.{InText, InIndented, InFenced, InHtml, InTable, Shows, state_of}
-use Rattle.block_state.specs.Spine.{Spine, spine, spine_at, spine_of}
+use Rattle.block_state.specs.Spine.{Spine, spine, spine_after, spine_at, spine_of}
 use Rattle.block_state.proofs.Trees.{join-nil}
 use Rattle.block_parser.specs.declared.parser.Parser.{Parser}
-use Rattle.block_parser.specs.Fences.{code_line}
+use Rattle.block_parser.specs.Fences.{IsWholeCode, code_line, line_closes}
 use Rattle.block_parser.specs.View.{HasRead, ReadsSome}
 use Rattle.block_parser.proofs.Closing.{opening_depth}
 use Rattle.block_parser.proofs.PlainLines.{some_lines}
 use Rattle.block_parser.proofs.Read.{split_more, steps_to}
-use Rattle.block_parser.proofs.Steps.{fenced_goes_on}
+use Rattle.block_parser.proofs.Steps.{fenced_end, fenced_goes_on}
 
 -- fenced code is open, and no container
 abbrev fenced_open : Fence → Blocks → Option LineEnding → List BlockLine → Tree
@@ -128,3 +139,132 @@ fenced_all on f text rest Old mid new last h kids opening ls some none reads = r
   split = h.split;
   reads = subst (λ (t : Tree). HasRead new (spine_of t)) (sym (h.content_steps kids opening ls)) reads;
 }
+
+-- ---- the content as one text
+
+-- lines that don't close the fence
+code_steps : (on : Constructs) (f : Fence) (read : List TextLine) → list_any (line_closes on f) read ≡ false
+    → (kids : Blocks) (opening : Option LineEnding) (ls : List BlockLine)
+    → steps on Whitespace (fenced_open f kids opening ls) read ≡ fenced_open f kids opening (ls ++ map (code_line f) read)
+code_steps on f [] none kids opening ls = ap (fenced_open f kids opening) (sym (append-nil ls))
+code_steps on f (line ∷ others) none kids opening ls =
+    let parts = or_parts (line_closes on f line) (list_any (line_closes on f) others) none in
+    ap (λ (t : Tree). steps on Whitespace t others) (code_step on f line parts.0 kids opening ls)
+    ∙ code_steps on f others parts.1 kids opening (ls ++ code_line f line ∷ [])
+    ∙ ap (fenced_open f kids opening) (append_assoc ls (code_line f line ∷ []) (map (code_line f) others))
+
+-- a line loses nothing, if the fence has no indent
+none_lost : (f : Fence) (r : Rest) → fence_line (record f { indent = 0 }) r ≡ r
+none_lost f r = simp unary_clauses refl
+
+-- they are whole lines then
+code_whole : (f : Fence) (read : List TextLine) → f.indent ≡ 0 → ((k : ℕ) → get_or (text_of read) k 0 < 256)
+    → map (code_line f) read ≡ map whole_line read
+code_whole f [] none bytes = refl
+code_whole f (line ∷ others) none bytes =
+    let own = front_bytes line.content (ending_text line.ending) (front_bytes (line_bytes line) (text_of others) bytes) in
+    let here = beside_line Whitespace line in
+    let first : code_line f line ≡ whole_line line =
+    ap (λ n. rest_line (fence_line (record f { indent = n }) (whole line.content)) here) none
+    ∙ ap (λ (r : Rest). rest_line r here) (none_lost f (whole line.content))
+    ∙ ap (λ (codes : List ℕ). block_line codes line.ending Whitespace) (block_codes_whole line.content own) in
+    ap (λ l. l ∷ map (code_line f) others) first
+    ∙ ap (λ ls. whole_line line ∷ ls) (code_whole f others none (later_bytes (line_bytes line) (text_of others) bytes))
+
+-- the line that closes the fence
+end_step : (on : Constructs) (f : Fence) (line : TextLine) → line_closes on f line ≡ true
+    → (kids : Blocks) (opening : Option LineEnding) (ls : List BlockLine)
+    → step on Whitespace (fenced_open f kids opening ls) line ≡ tree (join kids (block_and_ending (FencedCode f.info true ls) line.ending)) nothing
+end_step on f line closes kids opening ls =
+    ap (λ (t : Tree). tree (join kids t.done) t.now) (fenced_end on (beside_line Whitespace line) (whole line.content) f opening ls closes)
+
+-- all of them
+pub whole_read : {A : Type 0} (on : Constructs) (f : Fence) (text code : List ℕ) (ending : Option LineEnding) (rest : List ℕ) (new : Parser A)
+    → IsWholeCode on f text code ending rest → f.indent ≡ 0 → ((k : ℕ) → get_or text k 0 < 256)
+    → (kids : Blocks) (opening : Option LineEnding) (ls : List BlockLine) → ls ≡ []
+    → HasRead new (spine_after [] kids (tree (block_and_ending (FencedCode f.info true (whole_lines code)) ending) nothing))
+    → ReadsSome on Whitespace (fenced_open f kids opening ls) text rest new
+whole_read on f text code ending rest new w indent bytes kids opening ls none reads =
+    let read = lines code in
+    let content = code_steps on f read w.content kids opening ls in
+    let small : (k : ℕ) → get_or (text_of read) k 0 < 256 =
+    front_bytes (text_of read) (text_of (w.line ∷ lines rest))
+    (subst (λ xs. (k : ℕ) → get_or xs k 0 < 256) (sym (text_back text) ∙ ap text_of w.split ∙ flat_map-append line_bytes read (w.line ∷ lines rest)) bytes) in
+    let whole_is : ls ++ map (code_line f) read ≡ whole_lines code =
+    ap (λ xs. xs ++ map (code_line f) read) none ∙ code_whole f read indent small in
+    let all =
+    steps_to on (fenced_open f kids opening ls) _ read w.line content
+    ∙ end_step on f w.line w.closes kids opening (ls ++ map (code_line f) read)
+    ∙ ap (λ xs. tree (join kids (block_and_ending (FencedCode f.info true xs) w.line.ending)) nothing) whole_is
+    ∙ ap (λ e. tree (join kids (block_and_ending (FencedCode f.info true (whole_lines code)) e)) nothing) w.ends in
+    record {
+      read = read ++ w.line ∷ [];
+      some = omega (arith, length-append read (w.line ∷ []));
+      split = w.split ∙ sym (append_assoc read (w.line ∷ []) (lines rest));
+      reads = subst (λ (t : Tree). HasRead new (spine_of t)) (sym all) reads;
+    }
+
+-- ---- the search for the line that closes it
+
+pub record CodeSoFar (on : Constructs) (f : Fence) (text rest : List ℕ) : Type 0 where
+  pub read : List TextLine
+  pub split : lines text ≡ read ++ lines rest
+  pub content : list_any (line_closes on f) read ≡ false
+
+pub code_none : (on : Constructs) (f : Fence) (text : List ℕ) → CodeSoFar on f text text
+code_none on f text = record { read = []; split = refl; content = refl }
+
+module _ (on : Constructs) (f : Fence) (text rest : List ℕ) (so_far : CodeSoFar on f text rest) where
+  -- no more than the text
+  pub code_within : length rest ≤ length text
+  code_within = let split = front_of_text text rest so_far.read so_far.split in omega (arith, ap length split, length-append (text_of so_far.read) rest)
+
+  -- the lines so far stand before the rest
+  before_rest : text_of so_far.read ≡ take (length text - length rest) text
+  before_rest =
+      let read = text_of so_far.read in
+      let split = front_of_text text rest so_far.read so_far.split in
+      let long : length text - length rest ≡ length read = omega (arith, ap length split, length-append read rest) in
+      sym (ap (λ n. take n text) long ∙ ap (take (length read)) split ∙ take_at read rest (length read) refl)
+
+  pub code_boundary : IsUtf8 rest → IsCharBoundary text (length text - length rest)
+  code_boundary utf8 =
+      let split = front_of_text text rest so_far.read so_far.split in
+      subst (IsCharBoundary text) (omega (arith, ap length split, length-append (text_of so_far.read) rest))
+      (IsCharBoundary-at_seam text (text_of so_far.read) rest split utf8)
+
+  module _ (after : List ℕ) (line : TextLine) (first : lines rest ≡ line ∷ lines after) where
+    -- one more line
+    pub code_more : line_closes on f line ≡ false → CodeSoFar on f text after
+    code_more other = record {
+      read = so_far.read ++ line ∷ [];
+      split = split_more text rest after so_far.read line so_far.split first;
+      content =
+          list_any-append (line_closes on f) so_far.read (line ∷ [])
+          ∙ ap (λ b. b || (line_closes on f line || false)) so_far.content ∙ ap (λ b. b || false) other;
+    }
+
+    -- the line that closes the fence
+    pub code_ends : ((k : ℕ) → get_or text k 0 < 256) → line_closes on f line ≡ true
+        → IsWholeCode on f text (take (length text - length rest) text) line.ending after
+    code_ends bytes closes =
+        let read = so_far.read in
+        let front : lines (take (length text - length rest) text) ≡ read =
+        ap lines (sym before_rest)
+        ∙ lines_of_front read rest (ap lines (sym (front_of_text text rest read so_far.split)) ∙ so_far.split)
+        (subst AreTextLines so_far.split (lines_of_text text bytes)) (omega (arith, ap length first)) in
+        record {
+          line = line;
+          split = so_far.split ∙ ap (λ xs. read ++ xs) first ∙ ap (λ xs. xs ++ line ∷ lines after) (sym front);
+          content = ap (list_any (line_closes on f)) front ∙ so_far.content;
+          closes = closes;
+          ends = refl;
+        }
+
+  -- none does
+  pub code_unclosed : length rest ≡ 0 → list_any (line_closes on f) (lines text) ≡ false
+  code_unclosed none = unclosed rest none so_far.split
+    where
+      unclosed : (rest : List ℕ) → length rest ≡ 0 → lines text ≡ so_far.read ++ lines rest → list_any (line_closes on f) (lines text) ≡ false
+      unclosed [] none split = ap (list_any (line_closes on f)) (split ∙ append-nil so_far.read) ∙ so_far.content
+      unclosed (b ∷ bs) none split = absurd (omega (arith, none))

@@ -1,16 +1,15 @@
 -- Plain lines at the front of a text, which a paragraph takes at once.
-use Rattle.std.proofs.Common.{◌≡◌, ℕ, ◌<◌, true, eqb, List, [], ◌∷◌, ◌++◌, Option, None, Some, refl, sym, ap, ◌∙◌, subst, get_or, inl, inr}
-use Rattle.std.proofs.Common.{◌-◌, length, drop, take, append_assoc, arith}
+use Rattle.std.proofs.Common.{◌≡◌, ℕ, ◌<◌, true, List, [], ◌∷◌, ◌++◌, Option, None, Some, refl, sym, ap, ◌∙◌, subst, get_or}
+use Rattle.std.proofs.Common.{◌-◌, length, take, append_assoc, arith}
 use Rattle.std.specs.Prelude.{map}
 use Rattle.std.specs.List.{flat_map}
-use Rattle.std.proofs.lemmas.Bool.{cases_Bool, cond-true, cond-false, eqb-true}
 use Rattle.std.proofs.lemmas.List.{append-nil, length-append, map-append}
 use Rattle.markdown_options.specs.declared.line_ending.LineEnding.{LineEnding}
 use Rattle.markdown_options.specs.declared.line_ending.LineEnding.TheVariants.{CarriageReturnLineFeed, CarriageReturn, LineFeed}
 use Rattle.markdown_options.specs.declared.configuration.Constructs.{Constructs}
 use Rattle.definition_text.specs.declared.beside.Beside.{Beside}
 use Rattle.definition_text.specs.declared.beside.Kind.TheVariants.{Whitespace}
-use Rattle.definition_text.specs.Lines.{TextLine, text_line, in_first_line, after_return, lines, ending_text}
+use Rattle.definition_text.specs.Lines.{TextLine, text_line, lines, ending_text}
 use Rattle.definition_text.specs.Columns.{Rest, whole}
 use Rattle.definition_text.specs.BlockLines.{BlockLine, block_line}
 use Rattle.definition_text.specs.Content.{line_text}
@@ -18,6 +17,7 @@ use Rattle.definition_text.proofs.CodeBytes.{code_bytes}
 use Rattle.definition_block.specs.Tree.{Blocks, Nil, join, Text, Leaf, Tree, tree, beside_line, grow, open_text, rest_line, step, steps, text_line_of}
 use Rattle.block_rows.specs.ParagraphLines.{AreLines}
 use Rattle.block_rows.specs.Rows.{whole_line, whole_lines}
+use Rattle.block_rows.proofs.TextLines.{first_bytes, front_bytes, later_bytes, text_back, text_of}
 use Rattle.block_starts.specs.Plain.{is_plain}
 use Rattle.text_lines.proofs.Codes.{block_codes_whole}
 use Rattle.block_parser.specs.declared.parser.Parser.{Parser}
@@ -28,47 +28,7 @@ use Rattle.block_parser.proofs.Read.{split_more, steps_to}
 use Rattle.block_parser.proofs.Starting.{closed-nothing}
 use Rattle.block_state.proofs.Trees.{join-nil}
 use Rattle.block_state.specs.WholeLines.{Begins}
-use Rattle.block_state.proofs.WholeLines.{begins_none, begins_line, front_bytes, front_lines, later_bytes}
-
--- ---- a text is the bytes of its lines
-
-abbrev line_bytes : TextLine → List ℕ
-line_bytes line = line.content ++ ending_text line.ending
-
-abbrev text_of : List TextLine → List ℕ
-text_of ls = flat_map line_bytes ls
-
-first_byte : (b : ℕ) (ls : List TextLine) → text_of (in_first_line b ls) ≡ b ∷ text_of ls
-first_byte b [] = refl
-first_byte b (line ∷ others) = refl
-
-text_back : (text : List ℕ) → text_of (lines text) ≡ text
-text_back [] = refl
-text_back (b ∷ bs) = elim (cases_Bool (eqb b 10)) [
-  | inl feed ↦
-      ap text_of (cond-true (eqb b 10) _ _ feed) ∙ ap (λ xs. 10 ∷ xs) (text_back bs) ∙ ap (λ x. x ∷ bs) (sym (eqb-true b 10 feed))
-  | inr other ↦ elim (cases_Bool (eqb b 13)) [
-    | inl return ↦
-        ap text_of (cond-false (eqb b 10) _ _ other ∙ cond-true (eqb b 13) _ _ return) ∙ returned bs (text_back bs)
-        ∙ ap (λ x. x ∷ bs) (sym (eqb-true b 13 return))
-    | inr none ↦
-        ap text_of (cond-false (eqb b 10) _ _ other ∙ cond-false (eqb b 13) _ _ none) ∙ first_byte b (lines bs) ∙ ap (λ xs. b ∷ xs) (text_back bs)
-  ]
-]
-  where
-    returned : (bs : List ℕ) → text_of (lines bs) ≡ bs → text_of (after_return bs (lines bs)) ≡ 13 ∷ bs
-    returned [] h = refl
-    returned (d ∷ ds) h = elim (cases_Bool (eqb d 10)) [
-      | inl feed ↦
-          let is : lines (d ∷ ds) ≡ text_line [] (Some LineFeed) ∷ lines ds = cond-true (eqb d 10) _ _ feed in
-          ap text_of (cond-true (eqb d 10) _ _ feed) ∙ ap (λ (xs : List TextLine). 13 ∷ 10 ∷ text_of (drop 1 xs)) is
-          ∙ ap (λ xs. 13 ∷ xs) (ap text_of (sym is) ∙ h)
-      | inr other ↦ ap text_of (cond-false (eqb d 10) _ _ other) ∙ ap (λ xs. 13 ∷ xs) h
-    ]
-
--- those of the first line come first
-first_bytes : (text rest : List ℕ) (line : TextLine) → lines text ≡ line ∷ lines rest → text ≡ line_bytes line ++ rest
-first_bytes text rest line h = sym (text_back text) ∙ ap text_of h ∙ ap (λ xs. line_bytes line ++ xs) (text_back rest)
+use Rattle.block_state.proofs.WholeLines.{begins_none, begins_line, front_lines}
 
 pub shorter_after : (content : List ℕ) (ending : Option LineEnding) (text rest : List ℕ) → lines text ≡ text_line content ending ∷ lines rest
     → length rest < length text

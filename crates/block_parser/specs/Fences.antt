@@ -1,12 +1,14 @@
 -- The fence that opens on a rest, and the lines after it.
-use Rattle.std.specs.Prelude.{Option}
+use Rattle.std.specs.Prelude.{◌≡◌, ℕ, true, false, Bool, List, ◌∷◌, ◌++◌, Option}
+use Rattle.std.specs.List.{list_any}
 use Rattle.std.specs.Option.{option_or}
 use Rattle.markdown_options.specs.declared.configuration.Constructs.{Constructs}
 use Rattle.definition_text.specs.declared.beside.Kind.TheVariants.{Whitespace}
 use Rattle.definition_text.specs.BlockLines.{BlockLine}
 use Rattle.definition_text.specs.Columns.{Rest, whole}
-use Rattle.definition_text.specs.Lines.{TextLine}
-use Rattle.definition_block.specs.CodeFenced.{Fence, fence_line, fence_start}
+use Rattle.definition_text.specs.Lines.{TextLine, lines}
+use Rattle.markdown_options.specs.declared.line_ending.LineEnding.{LineEnding}
+use Rattle.definition_block.specs.CodeFenced.{Fence, fence_line, fence_start, is_fence_end}
 use Rattle.definition_block.specs.MathFlow.{math_start}
 use Rattle.definition_block.specs.Tree.{beside_line, rest_line}
 
@@ -17,3 +19,15 @@ opening_fence on rest = option_or (fence_start on rest) (math_start on rest)
 -- a line of the content that a whole line is
 abbrev pub code_line : Fence → TextLine → BlockLine
 code_line fence line = rest_line (fence_line fence (whole line.content)) (beside_line Whitespace line)
+
+-- whether a whole line closes a fence
+abbrev pub line_closes : Constructs → Fence → TextLine → Bool
+line_closes on fence line = is_fence_end on fence (whole line.content)
+
+-- the lines of a text up to the first that closes a fence are those of `code`, that one has such an ending, and the rest follows it
+pub record IsWholeCode (on : Constructs) (fence : Fence) (text code : List ℕ) (ending : Option LineEnding) (rest : List ℕ) : Type 0 where
+  pub line : TextLine
+  pub split : lines text ≡ lines code ++ line ∷ lines rest
+  pub content : list_any (line_closes on fence) (lines code) ≡ false
+  pub closes : line_closes on fence line ≡ true
+  pub ends : line.ending ≡ ending

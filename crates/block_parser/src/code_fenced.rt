@@ -1,28 +1,29 @@
 //! Fenced code (CommonMark 4.5), and math, which is fenced code of dollars.
 //!
 //!     fenced ::= fence line* end_of_fence?
-ghost use Rattle.std.specs.Prelude.{◌≡◌, ◌<◌, ◌^◌, length};
+ghost use Rattle.std.specs.Prelude.{◌≡◌, ◌<◌, ◌^◌, IfNone, IfSome, false, length};
+ghost use Rattle.std.specs.List.{list_any};
 ghost use Rattle.definition_text.specs.Columns.{whole};
-ghost use Rattle.definition_text.specs.Lines.{text_line};
+ghost use Rattle.definition_text.specs.Lines.{lines, text_line};
 ghost use Rattle.block_rows.specs.Rows.{piece_line};
 ghost use Rattle.block_starts.specs.View.{rest_of};
 ghost use Rattle.block_starts.specs.CodeFenced.{fence_if, fence_view};
-ghost use Rattle.block_parser.specs.Fences.{code_line, opening_fence as fence_here};
+ghost use Rattle.block_parser.specs.Fences.{IsWholeCode, code_line, line_closes, opening_fence as fence_here};
 
-use crate::parser::{Parser, piece};
+use crate::parser::{NOTHING, Parser, piece};
 use block_rows::{Piece, Row};
 use block_starts::Cursor;
 use block_starts::code_fenced::{Fence, closes_fence, fence_line, fence_start, is_fence_end};
 use block_starts::math_flow::math_start;
 use block_state::OpenLeaf;
-use block_state::whole_lines::whole_piece;
+use block_state::whole_lines::{whole, whole_piece};
 use definition_text::{Beside, Kind};
 use markdown_options::{Constructs, LineEnding};
 use std::alloc::{AllocError, Allocator};
 use text_lines::{Line, next_line};
 
 impl<'a, A: Allocator> Parser<'a, A> {
-    ghost use Rattle.std.specs.Prelude.{◌≡◌, IfOk, OnOk, List, Option, ◌≤◌, ◌<◌, ◌+◌, ◌^◌, [], length, vec_len};
+    ghost use Rattle.std.specs.Prelude.{◌≡◌, IfOk, OnOk, List, Option, ◌≤◌, ◌<◌, ◌+◌, ◌^◌, [], length, true, vec_len};
     ghost use Rattle.markdown_options.specs.declared.line_ending.LineEnding.{LineEnding};
     ghost use Rattle.definition_block.specs.CodeFenced.{Fence as FenceRecord};
     ghost use Rattle.definition_text.specs.BlockLines.{BlockLine, last_ending_or};
@@ -33,6 +34,7 @@ impl<'a, A: Allocator> Parser<'a, A> {
     ghost use Rattle.block_state.specs.Spine.{spine_of};
     ghost use Rattle.block_parser.specs.View.{Becomes, Closes, Adds, HasRead, KeepsLines, ReadsSome, leaf_grown};
     ghost use Rattle.block_starts.specs.View.{rest_of};
+    ghost use Rattle.block_rows.specs.Rows.{whole_lines};
 
     /// Fenced code takes every line up to its closing fence.
     pub(crate) fn fenced_line(
@@ -58,9 +60,35 @@ impl<'a, A: Allocator> Parser<'a, A> {
         self.end_leaf(Row::FencedCode(count), beside.ending)
     }
 
-    /// Reads lines of fenced code, where no container is open, and the line that closes it. What is
-    /// known of the open leaf is set once, after them. Answers what follows.
+    /// Reads lines of fenced code, where no container is open, and the line that closes it. If none was
+    /// read before, and the fence has no indent, they are kept as one. Answers what follows.
     pub(crate) fn fenced_lines(
+        &mut self,
+        on: &Constructs,
+        fence: Fence<'a>,
+        ending: Option<LineEnding>,
+        text: &'a str,
+    ) -> Result<&'a str, AllocError>
+        requires some { 0 < length text.now }
+        requires fits { length text.now < 2 ^ 61 }
+        requires leaf { leaf_state self.old.leaf ≡ InFenced (fence_view fence) ending }
+        requires lines { self.old.lines_in_rows + 1 ≤ vec_len self.old.pieces }
+        ensures shorter { IfOk result (λ rest. length rest.now < length text.now) }
+        ensures read { IfOk result (λ rest. (kids : tree.Blocks) (opening : Option LineEnding) (ls : List BlockLine) →
+            let t = tree.tree kids (tree.Leaf (tree.Fenced (fence_view fence.entry) opening ls)) in
+            KeepsLines on.now Whitespace t text.now → HasRead self.old (spine_of t) → ReadsSome on.now Whitespace t text.now rest.now self.new) }
+    {
+        if fence.indent == 0 && self.pieces.len() - self.lines_in_rows == 1 {
+            if let Some(code) = whole_code(on, &fence, text) {
+                self.close_whole_code(code.lines, code.ending)?;
+                return Ok(code.rest);
+            }
+        }
+        self.each_fenced_line(on, fence, ending, text)
+    }
+
+    /// The same, line by line. What is known of the open leaf is set once, after them.
+    fn each_fenced_line(
         &mut self,
         on: &Constructs,
         fence: Fence<'a>,
@@ -105,6 +133,22 @@ impl<'a, A: Allocator> Parser<'a, A> {
         Ok(rest)
     }
 
+    /// Fenced code that has no line yet is closed by a fence. Its lines are those of a text.
+    fn close_whole_code(
+        &mut self,
+        lines: &'a str,
+        ending: Option<LineEnding>,
+    ) -> Result<(), AllocError>
+        requires { self.old.lines_in_rows + 1 ≡ vec_len self.old.pieces }
+        ensures { OnOk result ((fence : FenceRecord) (opening : Option LineEnding) →
+            let code = tree.FencedCode fence.info true (whole_lines lines.now) in
+            Closes self.old self.new (tree.Fenced fence opening []) (tree.block_and_ending code ending)) }
+    {
+        self.leaf = NOTHING;
+        self.pieces.push(whole(lines))?;
+        self.end_leaf(Row::WholeCode, ending)
+    }
+
     /// Fenced code starts, where no leaf is open.
     pub(crate) fn start_fenced(
         &mut self,
@@ -133,6 +177,40 @@ impl<'a, A: Allocator> Parser<'a, A> {
         let count = self.pieces.len() - self.lines_in_rows - 1;
         self.end_leaf(Row::UnclosedCode(count), ending)
     }
+}
+
+/// Whole lines of fenced code at the front of a text.
+#[derive(Clone, Copy)]
+struct WholeCode<'a> {
+    /// The text of the lines before the first that closes the fence.
+    lines: &'a str,
+    /// The ending of that line.
+    ending: Option<LineEnding>,
+    /// What follows it.
+    rest: &'a str,
+}
+
+/// The lines of a text up to the first that closes a fence, if one does.
+fn whole_code<'a>(on: &Constructs, fence: &Fence<'_>, text: &'a str) -> Option<WholeCode<'a>>
+    requires { length text.now < 2 ^ 61 }
+    ensures closed { IfSome result (λ code.
+        IsWholeCode on.now (fence_view fence.now) text.now code.lines.now code.ending code.rest.now) }
+    ensures shorter { IfSome result (λ code. length code.rest.now < length text.now) }
+    ensures unclosed { IfNone result (list_any (line_closes on.now (fence_view fence.now)) (lines text.now) ≡ false) }
+{
+    let mut rest = text;
+    while !rest.is_empty() {
+        let (content, ending, after) = next_line(rest);
+        if closes_fence(on, fence, content) {
+            return Some(WholeCode {
+                lines: &text[..text.len() - rest.len()],
+                ending,
+                rest: after,
+            });
+        }
+        rest = after;
+    }
+    None
 }
 
 /// The fence of code or of math that opens here.

@@ -5,3 +5,4 @@ pub mod RowSteps
 pub mod DefinitionRows
 pub mod Pieces
 pub mod InLine
+pub mod TextLines

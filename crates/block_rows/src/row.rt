@@ -41,6 +41,9 @@ pub enum Row {
     FencedCode(usize),
     /// The same where no fence closes it.
     UnclosedCode(usize),
+    /// Fenced code, closed by a fence, of whole lines that stand right after another in the text, if
+    /// it has any. Its two lines are its info and the text of them, with their endings.
+    WholeCode,
     /// An HTML block of so many lines, at least one (CommonMark 4.6).
     Html(usize),
     /// A table of so many lines, at least two: its head, its row of delimiters, and the rows of its body
@@ -78,6 +81,7 @@ impl Row {
             | Row::Definition(count) => count,
             Row::Heading(_) | Row::WholeParagraph | Row::EnterFootnote => 1,
             Row::FencedCode(count) | Row::UnclosedCode(count) => 1 + count,
+            Row::WholeCode => 2,
             Row::Break
             | Row::EnterQuote
             | Row::EnterItem { .. }

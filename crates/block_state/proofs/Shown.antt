@@ -38,6 +38,9 @@ row_longer (row.UnclosedCode n) out [] more le = absurd (omega arith)
 row_longer (row.UnclosedCode n) out (l ∷ ls) more le =
     ap (λ front. value_with (out ++ Single (FencedCode l.codes false front) ∷ []) (drop (1 + n) ((l ∷ ls) ++ more))) (take-append-le n ls more (omega arith))
     ∙ ap (value_with (out ++ Single (FencedCode l.codes false (take n ls)) ∷ [])) (drop-append-le (1 + n) (l ∷ ls) more le)
+row_longer row.WholeCode out [] more le = absurd (omega arith)
+row_longer row.WholeCode out (l ∷ []) more le = absurd (omega arith)
+row_longer row.WholeCode out (l ∷ code ∷ ls) more le = refl
 row_longer row.WholeParagraph out [] more le = absurd (omega arith)
 row_longer row.WholeParagraph out (l ∷ ls) more le =
     ap (value_with (out ++ Single (Paragraph (own_lines (whole_lines (bytes_of l.codes)))) ∷ [])) (drop-append-le 1 (l ∷ ls) more le)
@@ -112,6 +115,7 @@ none_taken (row.IndentedCode n) left h =
     ap (λ (k : ℕ). Single (IndentedCode (own_lines (take k left)))) h ∙ sym (ap (λ (k : ℕ). Single (IndentedCode (own_lines (take k [])))) h)
 none_taken (row.FencedCode n) left h = absurd (omega (arith, h))
 none_taken (row.UnclosedCode n) left h = absurd (omega (arith, h))
+none_taken row.WholeCode left h = absurd (omega (arith, h))
 none_taken row.EnterQuote left h = refl
 none_taken (row.EnterItem marker number) left h = refl
 none_taken row.EnterFootnote left h = absurd (omega (arith, h))

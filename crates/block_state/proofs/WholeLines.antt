@@ -1,22 +1,21 @@
 -- Whole lines of a text, which are the lines of their own bytes.
-use Rattle.std.proofs.Common.{◌≡◌, ℕ, zero, suc, ◌+◌, ◌-◌, ◌≤◌, ◌<◌, true, false, eqb, List, [], ◌∷◌, ◌++◌, Option}
+use Rattle.std.proofs.Common.{◌≡◌, ℕ, zero, suc, ◌+◌, ◌-◌, ◌≤◌, ◌<◌, List, [], ◌∷◌, ◌++◌, Option}
 use Rattle.std.proofs.Common.{None, Some, refl, sym, ap, ◌∙◌, get_or, subst, length, take, drop, append_assoc, arith}
 use Rattle.std.specs.Prelude.{map, replicate}
 use Rattle.std.specs.List.{flat_map}
-use Rattle.std.proofs.lemmas.Bool.{cond-false, true≢false, ne_eqb}
 use Rattle.std.specs.Str.{IsUtf8, IsCharBoundary}
 use Rattle.std.proofs.lemmas.Str.{IsCharBoundary-at_seam}
 use Rattle.std.proofs.lemmas.List.{append-nil, append_cancel_left, length-append, map-append, take-append-drop, take_all, take_at, drop_at, take_more}
 use Rattle.std.proofs.lemmas.List.Concat.{flat_map-append}
 use Rattle.markdown_options.specs.declared.line_ending.LineEnding.{LineEnding}
-use Rattle.markdown_options.specs.declared.line_ending.LineEnding.TheVariants.{CarriageReturnLineFeed, CarriageReturn, LineFeed}
-use Rattle.definition_text.specs.Lines.{TextLine, text_line, in_first_line, lines, ending_text}
+use Rattle.definition_text.specs.Lines.{text_line, lines, ending_text}
 use Rattle.definition_text.specs.Columns.{tab_column}
 use Rattle.definition_text.specs.declared.beside.Kind.TheVariants.{Whitespace}
 use Rattle.definition_text.specs.BlockLines.{BlockLine, block_line}
-use Rattle.definition_text.specs.Content.{is_eol, line_text}
+use Rattle.definition_text.specs.Content.{line_text}
 use Rattle.definition_text.proofs.CodeBytes.{code_bytes}
 use Rattle.block_rows.specs.ParagraphLines.{HaveNoEnding, AreLines}
+use Rattle.block_rows.proofs.TextLines.{NoFeed, ending_read, front_bytes, front_end, front_line, front_read, no_feed_follows, other_byte, with_front}
 use Rattle.block_rows.specs.declared.row.Piece.{Piece}
 use Rattle.block_rows.specs.Rows.{whole_line, whole_lines, piece_line, piece_lines}
 use Rattle.block_state.specs.WholeLines.{AreWhole, Begins, BeginsNot, BeginsWith, IsWhole}
@@ -28,42 +27,6 @@ pub more_whole : (ls : List BlockLine) (l : BlockLine) → AreWhole ls → IsWho
 more_whole [] l h w = (w, tt)
 more_whole (k ∷ ks) l h w = (h.0, more_whole ks l h.1 w)
 
--- ---- the first line of bytes
-
--- these bytes stand before lines
-abbrev with_front : List ℕ → List TextLine → List TextLine
-with_front [] ls = ls
-with_front (c ∷ cs) ls = in_first_line c (with_front cs ls)
-
-other_byte : (c e : ℕ) → is_eol e ≡ true → is_eol c ≡ false → eqb c e ≡ false
-other_byte c e is h = ne_eqb c e (λ same. true≢false (sym is ∙ ap is_eol (sym same) ∙ h))
-
-front_read : (cs rest : List ℕ) → HaveNoEnding cs → lines (cs ++ rest) ≡ with_front cs (lines rest)
-front_read [] rest h = refl
-front_read (c ∷ cs) rest h =
-    cond-false (eqb c 10) _ _ (other_byte c 10 refl h.0) ∙ cond-false (eqb c 13) _ _ (other_byte c 13 refl h.0)
-    ∙ ap (in_first_line c) (front_read cs rest h.1)
-
-front_line : (cs : List ℕ) (ending : Option LineEnding) (others : List TextLine)
-    → with_front cs (text_line [] ending ∷ others) ≡ text_line cs ending ∷ others
-front_line [] ending others = refl
-front_line (c ∷ cs) ending others = ap (in_first_line c) (front_line cs ending others)
-
-front_end : (c : ℕ) (cs : List ℕ) → with_front (c ∷ cs) [] ≡ text_line (c ∷ cs) None ∷ []
-front_end c [] = refl
-front_end c (d ∷ ds) = ap (in_first_line c) (front_end d ds)
-
--- no LF stands there
-abbrev NoFeed : List ℕ → Type 0
-NoFeed [] = Unit {0}
-NoFeed (b ∷ bs) = eqb b 10 ≡ false
-
-ending_read : (e : LineEnding) (rest : List ℕ) → NoFeed rest → lines (ending_text (Some e) ++ rest) ≡ text_line [] (Some e) ∷ lines rest
-ending_read LineFeed rest h = refl
-ending_read CarriageReturnLineFeed rest h = refl
-ending_read CarriageReturn [] h = refl
-ending_read CarriageReturn (b ∷ bs) h = cond-false (eqb b 10) _ _ h
-
 line_bytes : (l : BlockLine) → IsWhole l → line_text l ≡ l.codes ++ ending_text l.ending
 line_bytes l w = ap (λ x. x ++ ending_text l.ending) (code_bytes l.codes w.1)
 
@@ -74,7 +37,7 @@ line_read l e rest w clear is other =
     ap (λ x. lines (x ++ rest)) (line_bytes l w ∙ ap (λ o. l.codes ++ ending_text o) is)
     ∙ ap lines (append_assoc l.codes (ending_text (Some e)) rest)
     ∙ front_read l.codes (ending_text (Some e) ++ rest) clear
-    ∙ ap (with_front l.codes) (ending_read e rest other)
+    ∙ ap (with_front l.codes) (ending_read e rest (no_feed_follows e rest other))
     ∙ front_line l.codes (Some e) (lines rest)
     ∙ ap (λ o. text_line l.codes o ∷ lines rest) (sym is)
 
@@ -117,15 +80,6 @@ lines_again (l ∷ next ∷ others) h w =
     clear_next next (k ∷ ks) h w = begins_clear next (flat_map line_text (k ∷ ks)) w.0 h.0 h.1
 
 -- ---- a text that begins with the line of a piece
-
-pub front_bytes : (xs ys : List ℕ) → ((k : ℕ) → get_or (xs ++ ys) k 0 < 256) → (k : ℕ) → get_or xs k 0 < 256
-front_bytes [] ys h k = omega arith
-front_bytes (x ∷ xs) ys h zero = h 0
-front_bytes (x ∷ xs) ys h (suc k) = front_bytes xs ys (λ i. h (suc i)) k
-
-pub later_bytes : (xs ys : List ℕ) → ((k : ℕ) → get_or (xs ++ ys) k 0 < 256) → (k : ℕ) → get_or ys k 0 < 256
-later_bytes [] ys h k = h k
-later_bytes (x ∷ xs) ys h k = later_bytes xs ys (λ i. h (suc i)) k
 
 pub piece_whole : (piece : Piece) (text after : List ℕ) → ((k : ℕ) → get_or text k 0 < 256) → piece.owed ≡ 0 → piece.before ≡ Whitespace
     → text ≡ piece.text.now ++ after → IsWhole (piece_line piece)

@@ -37,6 +37,7 @@ row_unnamed n row.Break ls off h = h
 row_unnamed n (row.IndentedCode count) ls off h = h
 row_unnamed n (row.FencedCode count) ls off h = h
 row_unnamed n (row.UnclosedCode count) ls off h = h
+row_unnamed n row.WholeCode ls off h = h
 row_unnamed n (row.Html count) ls off h = h
 row_unnamed n (row.Table count) ls off h = h
 row_unnamed n (row.Definition count) ls off h = h

@@ -19,6 +19,7 @@ starts_footnote row.Break = false
 starts_footnote (row.IndentedCode count) = false
 starts_footnote (row.FencedCode count) = false
 starts_footnote (row.UnclosedCode count) = false
+starts_footnote row.WholeCode = false
 starts_footnote (row.Html count) = false
 starts_footnote (row.Table count) = false
 starts_footnote (row.Definition count) = false

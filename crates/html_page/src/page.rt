@@ -65,6 +65,7 @@ impl<'t, A: Allocator + Clone> Page<'t, A> {
             Row::UnclosedCode(count) => {
                 self.fenced_code(texts, lines[0].text, false, top, &lines[1..][..count])
             }
+            Row::WholeCode => self.whole_code(texts, lines[0].text, lines[1].text),
             Row::Html(count) => self.html_block(&texts.options.compile, &lines[..count]),
             Row::Table(count) => self.table(texts, &lines[..count]),
             Row::Ending(ending) => self.line_ending(level, ending),

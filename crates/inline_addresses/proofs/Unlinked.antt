@@ -154,10 +154,11 @@ module _ (leads : Target → LinkTexts) (at : ℕ → LinkTexts) where
       → rows_view at rs ≡ inline_rows leads kids → rows_view at rs ≡ inline_rows leads (with_literals [] kids)
   nothing_linked rs kids none same = sym (outside rs [] refl none) ∙ ap (linked_rows leads zero []) same ∙ rows_linked leads kids
 
--- a link comes first, from which on nothing is linked
+-- a link comes first, from which on all rows count
 pub from_link : (rs others left : List InlineRow) (r : InlineRow) → rs ≡ r ∷ others → has_at_sign (row_text r) ≡ false → begins_link r ≡ true
-    → left ≡ rs → list_any row_may_link left ≡ false → rows_may_link rs ≡ false
-from_link rs others left r e no_at link same none =
-    ap rows_may_link e
+    → left ≡ rs → list_any row_may_link left ≡ rows_may_link rs
+from_link rs others left r e no_at link same =
+    ap (list_any row_may_link) (same ∙ e)
+    ∙ sym (ap rows_may_link e
     ∙ ap (λ b. b || cond (begins_link r) (list_any row_may_link (r ∷ others)) (rows_may_link others)) no_at
-    ∙ cond-true (begins_link r) _ _ link ∙ ap (list_any row_may_link) (sym e ∙ sym same) ∙ none
+    ∙ cond-true (begins_link r) _ _ link)

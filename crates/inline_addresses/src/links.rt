@@ -1,4 +1,5 @@
-//! Rows in which nothing is linked: no `@` stands in their text, and no literal is among them.
+//! Whether an address may be found in rows, or a literal in a link made text: not where no `@` stands in
+//! their text, and no literal after the start of a link.
 ghost use Rattle.std.specs.Prelude.{◌≡◌, ◌==◌, [], ℕ, false};
 ghost use Rattle.std.specs.List.{list_any};
 ghost use Rattle.std.specs.Option.{option_map};
@@ -6,7 +7,7 @@ ghost use Rattle.definition_inline.specs.GfmAutolinkLiteral.{with_literals};
 ghost use Rattle.definition_inline.specs.Inline.{Target, LinkTexts, Inlines};
 ghost use Rattle.inline_rows.specs.InlineRows.{inline_rows};
 ghost use Rattle.inline_rows.specs.View.{rows_view};
-ghost use Rattle.inline_addresses.specs.Addresses.{begins_link, has_at_sign, row_may_link};
+ghost use Rattle.inline_addresses.specs.Addresses.{begins_link, has_at_sign, row_may_link, rows_may_link};
 
 use crate::walk::{literal_of, text_of};
 use inline_rows::InlineRow;
@@ -21,7 +22,8 @@ const AT_SIGN: BytePair = BytePair {
 /// Whether an `@` stands in the text of rows, or a literal among those from a link on: only then an
 /// address may be found in them, or a literal made text (GFM 6.9).
 pub fn may_link(rows: &[InlineRow<'_>]) -> bool
-    ensures { (leads : Target → LinkTexts) (at : ℕ → LinkTexts) (kids : Inlines) → result ≡ false → rows_view at rows.now ≡ inline_rows leads kids →
+    ensures same { result ≡ rows_may_link rows.now }
+    ensures none { (leads : Target → LinkTexts) (at : ℕ → LinkTexts) (kids : Inlines) → result ≡ false → rows_view at rows.now ≡ inline_rows leads kids →
         rows_view at rows.now ≡ inline_rows leads (with_literals [] kids) }
 {
     for (place, row) in rows.iter().enumerate() {
@@ -35,16 +37,11 @@ pub fn may_link(rows: &[InlineRow<'_>]) -> bool
     false
 }
 
-/// Whether a row is a literal, or text with an `@`.
+/// Whether some row is a literal, or text with an `@`.
 fn any_may_link(rows: &[InlineRow<'_>]) -> bool
     ensures { result ≡ list_any row_may_link rows.now }
 {
-    for row in rows {
-        if row_may_link(*row) {
-            return true;
-        }
-    }
-    false
+    rows.iter().any(|row| row_may_link(*row))
 }
 
 /// Whether a link starts.

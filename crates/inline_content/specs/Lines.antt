@@ -1,9 +1,10 @@
 -- The marks of lines.
-use Rattle.std.specs.Prelude.{ℕ, ◌+◌, List, [], ◌∷◌, ◌++◌, length}
+use Rattle.std.specs.Prelude.{ℕ, Bool, false, ◌==◌, ◌+◌, List, [], ◌∷◌, ◌++◌, length}
 use Rattle.definition_text.specs.declared.beside.Kind.{Kind}
 use Rattle.definition_text.specs.declared.beside.Kind.TheVariants.{Whitespace, Punctuation, Other}
 use Rattle.definition_text.specs.BlockLines.{BlockLine}
 use Rattle.definition_text.specs.Content.{line_text}
+use Rattle.block_rows.specs.declared.row.Piece.{Piece}
 use Rattle.block_rows.specs.ParagraphLines.{HaveNoEnding, AreLines}
 use Rattle.inline_content.specs.declared.mark.Mark.{Mark}
 
@@ -22,3 +23,9 @@ abbrev pub AreContentLines : List BlockLine → Type 0
 AreContentLines [] = Unit {0}
 AreContentLines (line ∷ []) = HaveNoEnding line.codes
 AreContentLines (line ∷ next ∷ others) = AreLines (line ∷ next ∷ others)
+
+-- there is one line, and no column of it is left of a tab
+abbrev pub is_one_line : List Piece → Bool
+is_one_line [] = false
+is_one_line (line ∷ []) = line.owed == 0
+is_one_line (line ∷ next ∷ others) = false

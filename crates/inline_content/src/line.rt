@@ -1,10 +1,10 @@
 //! The content of one line (CommonMark 4.8).
-ghost use Rattle.std.specs.Prelude.{◌≡◌, ◌<◌, [], ℕ, Bool, IfSome, slice_index};
+ghost use Rattle.std.specs.Prelude.{◌≡◌, ◌<◌, [], ℕ, Bool, IfSome, is_some, slice_index};
 ghost use Rattle.definition_text.specs.BlockLines.{own_lines};
 ghost use Rattle.definition_text.specs.InlineCode.{inline_content};
 ghost use Rattle.block_rows.specs.Rows.{piece_lines};
 ghost use Rattle.std.specs.List.Sorted.{IsNonDecreasingBy};
-ghost use Rattle.inline_content.specs.Lines.{AreContentLines, mark_of};
+ghost use Rattle.inline_content.specs.Lines.{AreContentLines, is_one_line, mark_of};
 ghost use Rattle.inline_content.specs.Marks.{mark_place};
 ghost use Rattle.inline_content.specs.View.{content_view, codes_with_marks};
 
@@ -28,7 +28,8 @@ const AFTER_OTHER: Mark = Mark {
 /// The content of one line alone, before a character of a kind: the line itself, where no column of
 /// it is left of a tab.
 pub fn line_content<'a>(lines: &[Piece<'a>], after: Kind) -> Option<Content<'a>>
-    ensures { (is_punctuation : ℕ → Bool) → AreContentLines (piece_lines lines.now) →
+    ensures alone { is_some result ≡ is_one_line lines.now }
+    ensures content { (is_punctuation : ℕ → Bool) → AreContentLines (piece_lines lines.now) →
         IfSome result (λ content. content_view is_punctuation content ≡ inline_content is_punctuation after (own_lines (piece_lines lines.now))) }
 {
     if lines.len() != 1 {

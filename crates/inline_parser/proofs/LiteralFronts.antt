@@ -11,7 +11,7 @@ use Rattle.text_search.specs.declared.set.ByteSet.{ByteSet}
 use Rattle.text_search.specs.Sets.{holds}
 use Rattle.inline_literals.specs.Literals.{may_begin}
 use Rattle.inline_parser.specs.declared.plain.TheConstants.{STARTS, STOPS}
-use Rattle.inline_parser.specs.Letters.{are_letters, stops_if, IsNext}
+use Rattle.inline_parser.specs.Letters.{are_letters, stops_at, IsStop}
 use Rattle.inline_parser.specs.Plain.{starts, stops, is_replaced, IsStart, IsStartFrom}
 use Rattle.inline_parser.specs.Verbatim.{AreVerbatim}
 use Rattle.inline_parser.proofs.Verbatim.{verbatim_byte}
@@ -54,7 +54,7 @@ start_byte : (b : ℕ) → Fits w8 b → holds STARTS b ≡ starts b
 start_byte b fits = agree_below_at (holds STARTS) starts 256 b refl fits.fits
 
 -- a byte of a set alone, where literals are off
-pub next_alone : (set : ByteSet) (bytes : List ℕ) (stop : ℕ) → stop ≡ position_or_len (holds set) bytes → IsNext false set bytes stop
+pub next_alone : (set : ByteSet) (bytes : List ℕ) (stop : ℕ) → stop ≡ position_or_len (holds set) bytes → IsStop false set bytes stop
 next_alone set bytes stop first = record {
   within = omega (arith, first, prefix_len-le-length (λ b. not (holds set b)) bytes);
   free = λ k lt. or_from (holds set (get_or bytes k 0)) false (fails_before_first (holds set) bytes k 0 (omega (arith, first, lt))) refl;
@@ -73,7 +73,7 @@ begins_at : (on : Bool) (bytes : List ℕ) (k : ℕ) → (on && are_letters (get
 begins_at true bytes k some = letters_at bytes k ∙ some
 begins_at false bytes k some = absurd (false≢true some)
 
-module _ (on : Bool) (bytes : List ℕ) (fits : (k : ℕ) → Fits w8 (get_or bytes k 0)) (stop : ℕ) (next : IsNext on STOPS bytes stop) where
+module _ (on : Bool) (bytes : List ℕ) (fits : (k : ℕ) → Fits w8 (get_or bytes k 0)) (stop : ℕ) (next : IsStop on STOPS bytes stop) where
   passed : (k : ℕ) → k < stop → (stops (get_or bytes k 0) ≡ false) × (on ≡ true → may_begin (drop k bytes) ≡ false)
   passed k lt =
       let parts = or_parts (holds STOPS (get_or bytes k 0)) _ (next.free k lt) in
@@ -115,7 +115,7 @@ module _ (on : Bool) (bytes : List ℕ) (fits : (k : ℕ) → Fits w8 (get_or by
 
 -- the first from a place on
 pub start_from : (on : Bool) (bytes rest : List ℕ) (at n stop : ℕ) → at ≤ length bytes → ((k : ℕ) → Fits w8 (get_or bytes k 0)) → rest ≡ drop at bytes
-    → IsNext on STARTS rest n → stop ≡ at + n → IsStartFrom on bytes at stop
+    → IsStop on STARTS rest n → stop ≡ at + n → IsStartFrom on bytes at stop
 start_from on bytes rest at n stop le fits same next is =
     let size : length rest ≡ length bytes - at = ap length same ∙ length-drop at bytes in
     record {
@@ -127,7 +127,7 @@ start_from on bytes rest at n stop le fits same next is =
           let b = get_or bytes stop 0 in
           let here : get_or (drop stop bytes) 0 0 ≡ b = get_or-drop stop bytes 0 0 ∙ ap (λ j. get_or bytes j 0) (omega arith) in
           let place : at + n ≡ stop = omega (arith, is) in
-          let hit = ap (stops_if on STARTS bytes) (sym place) ∙ there n ∙ next.hit (omega (arith, lt, is, size, le)) in
+          let hit = ap (stops_at on STARTS bytes) (sym place) ∙ there n ∙ next.hit (omega (arith, lt, is, size, le)) in
           ap (λ x. starts x || may_begin (drop stop bytes)) here
           ∙ elim (or_cases (holds STARTS b) _ hit) [
             | inl held ↦ or_left (starts b) (may_begin (drop stop bytes)) (sym (start_byte b (fits stop)) ∙ held)
@@ -138,7 +138,7 @@ start_from on bytes rest at n stop le fits same next is =
     byte : (k : ℕ) → get_or bytes (at + k) 0 ≡ get_or rest k 0
     byte k = sym (get_or-drop at bytes k 0) ∙ ap (λ l. get_or l k 0) (sym same)
 
-    there : (k : ℕ) → stops_if on STARTS bytes (at + k) ≡ stops_if on STARTS rest k
+    there : (k : ℕ) → stops_at on STARTS bytes (at + k) ≡ stops_at on STARTS rest k
     there k =
         let one : at + k + 1 ≡ at + (k + 1) = omega arith in
         ap₂ (λ x y. holds STARTS x || (on && are_letters x y)) (byte k) (ap (λ j. get_or bytes j 0) one ∙ byte (k + 1))
@@ -146,6 +146,6 @@ start_from on bytes rest at n stop le fits same next is =
     passed : (k : ℕ) → at ≤ k → k - at < n → (starts (get_or bytes k 0) ≡ false) × (on ≡ true → may_begin (drop k bytes) ≡ false)
     passed k ge lt =
         let place : at + (k - at) ≡ k = omega (arith, ge) in
-        let none = ap (stops_if on STARTS bytes) (sym place) ∙ there (k - at) ∙ next.free (k - at) lt in
+        let none = ap (stops_at on STARTS bytes) (sym place) ∙ there (k - at) ∙ next.free (k - at) lt in
         let parts = or_parts (holds STARTS (get_or bytes k 0)) _ none in
         (sym (start_byte (get_or bytes k 0) (fits k)) ∙ parts.0, bare_at on bytes k parts.1)

@@ -435,9 +435,9 @@ letter_byte bytes may =
     }
 
 -- a place at which text ends
-pub stops_at : (bytes : List ℕ) (size : ℕ) → IsText bytes size → is_text_at (content_codes (drop size bytes)) ≡ false
+pub text_stops : (bytes : List ℕ) (size : ℕ) → IsText bytes size → is_text_at (content_codes (drop size bytes)) ≡ false
     → is_text_at (drop size (content_codes bytes)) ≡ false
-stops_at bytes size is stop = ap is_text_at (plain_drop size bytes is.within is.plain) ∙ stop
+text_stops bytes size is stop = ap is_text_at (plain_drop size bytes is.within is.plain) ∙ stop
 
 -- no text at the front: a construct or a literal may start there
 pub nothing_is_text : (bytes : List ℕ) (size : ℕ) → size ≡ 0 → 0 < length bytes

@@ -10,7 +10,7 @@ ghost use Rattle.definition_text.specs.Content.{content_codes, is_eol};
 ghost use Rattle.inline_leaves.specs.Leaves.{IsAfter};
 ghost use Rattle.inline_literals.specs.Literals.{may_begin};
 ghost use Rattle.inline_parser.specs.declared.plain.TheConstants.{STARTS, STOPS};
-ghost use Rattle.inline_parser.specs.Letters.{IsNext};
+ghost use Rattle.inline_parser.specs.Letters.{IsStop};
 ghost use Rattle.inline_parser.specs.Plain.{is_replaced, is_text_at, starts, starts_here, IsStart, IsStartFrom};
 ghost use Rattle.inline_parser.specs.Fronts.{IsTextFront};
 ghost use Rattle.inline_parser.specs.Verbatim.{TellsVerbatim};
@@ -117,7 +117,7 @@ fn next_start_from(has_literals: bool, bytes: &[u8], at: usize) -> usize
 /// The first byte at which something may start, or that is printed as something else.
 #[inline(always)]
 fn first_stop(has_literals: bool, bytes: &[u8]) -> usize
-    ensures { IsNext has_literals STOPS bytes.now result }
+    ensures { IsStop has_literals STOPS bytes.now result }
 {
     if has_literals {
         next_of_or_letters(bytes, STOPS)
@@ -129,7 +129,7 @@ fn first_stop(has_literals: bool, bytes: &[u8]) -> usize
 /// The first byte at which something may start.
 #[inline(always)]
 fn first_start(has_literals: bool, bytes: &[u8]) -> usize
-    ensures { IsNext has_literals STARTS bytes.now result }
+    ensures { IsStop has_literals STARTS bytes.now result }
 {
     if has_literals {
         next_of_or_letters(bytes, STARTS)

@@ -1,7 +1,7 @@
 use Rattle.std.proofs.Common.{true, ◌≡◌, ◌-◌, length, take, drop, refl, sym, subst, arith}
 use Rattle.std.proofs.lemmas.List.{length-drop, take_all}
 use Rattle.text_search.specs.Sets.{ends}
-use Rattle.inline_parser.specs.Letters.{IsNext, IsRun}
+use Rattle.inline_parser.specs.Letters.{IsStop, IsRun}
 use Rattle.inline_parser.proofs.LetterRuns.{few_early, few_late, few_end}
 use Rattle.inline_parser.proofs.letters.next_in_few.Goals as goal
 
@@ -37,5 +37,5 @@ returns c =
     let run : IsRun c.args.set (ends here) (ends next) c.lanes_before-run.result =
     subst (λ v. IsRun c.args.set (ends here) v c.lanes_before-run.result) c.ends-2.ensures
     (subst (λ v. IsRun c.args.set v c.ends-2.result c.lanes_before-run.result) c.ends.ensures c.lanes_before-run.ensures) in
-    subst (IsNext true c.args.set bytes) (sym c.end_before.ensures)
+    subst (IsStop true c.args.set bytes) (sym c.end_before.ensures)
     (few_end c.args.set bytes here next c.lanes_before-run.result c.if-bytes-le-END_SIZE.false c.requires refl all run c.if-run-lt-LANES.false)

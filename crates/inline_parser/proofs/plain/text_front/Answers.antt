@@ -1,6 +1,6 @@
 use Rattle.std.proofs.Common.{◌≡◌, ◌<◌, true, get_or, length, sym, rules, arith, inl, inr}
 use Rattle.definition_text.specs.Content.{is_eol}
-use Rattle.inline_parser.proofs.Texts.{IsText, stops_at, text_end}
+use Rattle.inline_parser.proofs.Texts.{IsText, text_stops, text_end}
 use Rattle.inline_parser.proofs.Fronts.{first_ascii, first_stops, white_stops, stop_text, dark_text}
 use Rattle.inline_parser.proofs.plain.text_front.Goals as goal
 use Rattle.inline_parser.proofs.plain.text_front.Goals.{else-stop-bytes-via-then-stop-bytes+else-not-is_ending, else-stop-bytes-via-else-stop-bytes}
@@ -17,7 +17,7 @@ returns-then-not-is_ending c =
       plain = is.plain;
       bare = first.bare;
       stops = λ lt. elim (first_stops c.args.has_literals bytes stop first lt) [
-        | inl h ↦ inl (stops_at bytes stop is h)
+        | inl h ↦ inl (text_stops bytes stop is h)
         | inr may ↦ inr may
       ];
       ascii = λ lt. first_ascii c.args.has_literals bytes stop first (c.type_inv.bytes stop) lt;
@@ -45,7 +45,7 @@ returns c =
       text = is.text;
       plain = is.plain;
       bare = λ on k lt. first.bare on k (omega (arith, lt, c.without_white.ensures.within));
-      stops = λ lt. inl (stops_at bytes size is (white_stops bytes size stop lt c.without_white.ensures.within first.within c.without_white.ensures.white ending));
+      stops = λ lt. inl (text_stops bytes size is (white_stops bytes size stop lt c.without_white.ensures.within first.within c.without_white.ensures.white ending));
       ascii = ascii;
       ending = text_end bytes size is;
       verbatim = λ is k lt. c.next_start-stop.ensures.verbatim is k (omega (arith, lt, c.without_white.ensures.within));

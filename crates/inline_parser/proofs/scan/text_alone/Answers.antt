@@ -20,7 +20,7 @@ returns c = λ names p ds leads at content place.
     elim c.else-options.branch [
       | else-options-via-then-options+else-may_link w ↦
           let same = ap (rows_view at) w.from_ref.ensures.value in
-          sym one ∙ sym same ∙ w.may_link.ensures leads at kids w.if-may_link.false (same ∙ one ∙ spans)
+          sym one ∙ sym same ∙ w.may_link.ensures.none leads at kids w.if-may_link.false (same ∙ one ∙ spans)
           ∙ ap (inline_rows leads) (sym (cond-true options.constructs.gfm_autolink_literal (with_literals [] kids) kids w.if-options.true))
       | else-options-via-else-options w ↦
           spans ∙ ap (inline_rows leads) (sym (cond-false options.constructs.gfm_autolink_literal (with_literals [] kids) kids w.if-options.false))

@@ -1,81 +1,29 @@
-use Rattle.std.proofs.Common.{◌<◌, ◌∷◌, [], ◌++◌, length, sym, ap, ◌∙◌, refl, rules, arith}
-use Rattle.std.specs.Prelude.{map}
-use Rattle.std.specs.Str.{IsUtf8}
-use Rattle.std.proofs.lemmas.Bool.{eqb-false, eqb-true}
-use Rattle.definition_text.specs.Lines.{text_line}
-use Rattle.definition_block.specs.Tree.{Fenced, Leaf, tree}
-use Rattle.block_rows.specs.Rows.{piece_lines}
-use Rattle.block_rows.proofs.OwnLines.{last_ending_or-more}
+use Rattle.std.proofs.Common.{◌≡◌, [], ◌<◌, List, length, get_or, ℕ, subst, arith}
+use Rattle.std.proofs.lemmas.List.{length-map, nil_from_length}
+use Rattle.definition_text.specs.BlockLines.{BlockLine}
+use Rattle.definition_block.specs.Tree.{Fenced}
+use Rattle.block_rows.specs.Rows.{piece_line, piece_lines}
 use Rattle.block_starts.specs.CodeFenced.{fence_view}
-use Rattle.block_starts.specs.View.{container_views}
-use Rattle.block_state.specs.Shows.{InFenced}
-use Rattle.block_parser.specs.Fences.{code_line}
+use Rattle.block_state.specs.Shows.{leaf_lines}
+use Rattle.block_state.specs.Spine.{spine}
 use Rattle.block_parser.specs.View.{HasRead}
-use Rattle.block_parser.proofs.FencedLines as fenced
+use Rattle.block_parser.proofs.FencedLines.{whole_read}
 use Rattle.block_parser.proofs.Leaves as leaves
-use Rattle.block_parser.proofs.PlainLines.{shorter_after}
 use Rattle.block_parser.proofs.parser.Parser.fenced_lines.Goals as goal
 
-pub loop-content-init : goal.loop-content-init
-loop-content-init g c =
-    (c.utf8.text, omega arith, c.requires.lines, fenced.fenced_none c.args.on.now _ c.args.text.now _ c.args.ending c.requires.leaf)
+pub close_whole_code-requires : goal.close_whole_code-requires
+close_whole_code-requires g c = omega (arith, c.requires.lines)
 
-pub returns-then-closes_fence-clause-shorter : goal.returns-then-closes_fence-clause-shorter
-returns-then-closes_fence-clause-shorter g c =
-    let rest = c.loop-content.rest.now in
-    let some : 0 < length rest = omega (arith, eqb-false (length rest) 0 (sym c.is_empty.ensures ∙ c.loop-content-test.true)) in
-    let next = c.next_line-ending.result in
-    omega (arith, shorter_after next.0.now next.1 rest next.2.now (c.next_line-ending.ensures.rest some), c.loop-content.invariant.1)
-
-pub returns-then-closes_fence-clause-read : goal.returns-then-closes_fence-clause-read
-returns-then-closes_fence-clause-read g c = λ kids opening ls keeps h.
-    let k = c.loop-content.invariant.3 in
-    let rest = c.loop-content.rest.now in
+pub returns-in-Some-clause-read : goal.returns-in-Some-clause-read
+returns-in-Some-clause-read g c = λ kids opening ls keeps h.
+    let p = c.args.self.now in
     let f = fence_view c.args.fence in
-    let some : 0 < length rest = omega (arith, eqb-false (length rest) 0 (sym c.is_empty.ensures ∙ c.loop-content-test.true)) in
-    let next = c.next_line-ending.result in
-    let line = text_line next.0.now next.1 in
-    fenced.fenced_after c.args.on.now f c.args.text.now rest next.2.now (HasRead c.args.self.now) c.loop-content.self c.loop-content.last line k
-    (c.next_line-ending.ensures.rest some) c.any_line.new.self kids opening ls
-    (c.in_ok-any_line.ensures (tree kids (Leaf (Fenced f opening (ls ++ map (code_line f) k.read)))) tt (k.reads kids opening ls h))
-
-pub loop-content-smaller : goal.loop-content-smaller
-loop-content-smaller g c =
-    let rest = c.loop-content.rest.now in
-    let some : 0 < length rest = omega (arith, eqb-false (length rest) 0 (sym c.is_empty.ensures ∙ c.loop-content-test.true)) in
-    let next = c.next_line-ending.result in
-    shorter_after next.0.now next.1 rest next.2.now (c.next_line-ending.ensures.rest some)
-
-pub loop-content-preserved : goal.loop-content-preserved
-loop-content-preserved g c =
-    let k = c.loop-content.invariant.3 in
-    let on = c.args.on.now in
-    let p = c.loop-content.self in
-    let rest = c.loop-content.rest.now in
-    let f = fence_view c.args.fence in
-    let some : 0 < length rest = omega (arith, eqb-false (length rest) 0 (sym c.is_empty.ensures ∙ c.loop-content-test.true)) in
-    let next = c.next_line-ending.result in
-    let line = text_line next.0.now next.1 in
-    let l = code_line f line in
-    let is_after : IsUtf8 next.2.now = search rules in
-    let other = sym c.closes_fence.ensures ∙ c.if-closes_fence.false in (
-      is_after,
-      omega (arith, shorter_after next.0.now next.1 rest next.2.now (c.next_line-ending.ensures.rest some), c.loop-content.invariant.1),
-      omega arith,
-      fenced.fenced_more on f c.args.text.now rest next.2.now (HasRead c.args.self.now) p c.loop-content.last line k
-          (c.next_line-ending.ensures.rest some) _ other
-          (λ kids opening ls so_far.
-          leaves.shows_line p.rows.rows.items p.rows.waiting.items p.rows.bare (container_views p.open.items) (piece_lines p.pieces.items)
-          (piece_lines c.push.new.self.items) (InFenced f c.loop-content.last) (InFenced f next.1) [] kids (Fenced f opening ls)
-          (Fenced f opening (ls ++ l ∷ [])) l (leaves.enough_lines p)
-          (leaves.piece_pushed p.pieces.items c.code_piece.result c.push.new.self.items l c.in_ok-push.ensures.items c.code_piece.ensures) refl
-          (ap (InFenced f) (sym (last_ending_or-more opening ls l))) so_far),
-    )
-
-pub returns-clause-read : goal.returns-clause-read
-returns-clause-read g c = λ kids opening ls keeps h.
-    let k = c.loop-content.invariant.3 in
-    let rest = c.loop-content.rest.now in
-    let f = fence_view c.args.fence in
-    fenced.fenced_all c.args.on.now f c.args.text.now rest (HasRead c.args.self.now) c.loop-content.self _ c.loop-content.last k kids opening ls
-    c.requires.some (eqb-true (length rest) 0 (sym c.is_empty.ensures ∙ c.loop-content-test.false)) (k.reads kids opening ls h)
+    let code = c.in-Some.code in
+    let bytes : (k : ℕ) → get_or c.args.text.now k 0 < 256 = λ k. omega (arith, c.type_inv.text k) in
+    let left = leaves.all_left p.rows.rows.items p.rows.waiting.items p.rows.bare (piece_lines p.pieces.items) [] kids (leaf_lines (Fenced f opening ls))
+    h.written (leaves.enough_lines p) in
+    let none : length ls ≡ 0 = omega (arith, left, length-map p.pieces.items piece_line, p.counted, p.pieces.ok.0, c.len.ensures, c.if-len-self-eq1.true) in
+    let empty : ls ≡ [] = nil_from_length ls none in
+    whole_read c.args.on.now f c.args.text.now code.lines.now code.ending code.rest.now c.close_whole_code.new.self c.in-Some.ensures.closed
+    c.if-fence-eq0.true bytes kids opening ls empty
+    (c.in_ok-close_whole_code.ensures f opening [] kids (subst (λ (xs : List BlockLine). HasRead p (spine [] kids (Fenced f opening xs))) empty h))

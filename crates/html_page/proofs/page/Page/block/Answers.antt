@@ -17,7 +17,7 @@ use Rattle.html_page.specs.Printable.{AreHeadingLines, AreClear, IsTable, IsPrin
 use Rattle.html_page.proofs.Lines.{first_codes_of, first_line, with_ending, clear_with_ending, own_length}
 use Rattle.html_page.proofs.Owed.{bytes_owed}
 use Rattle.block_rows.proofs.RowSteps.{no_piece}
-use Rattle.html_page.proofs.CodeFencedLemmas.{fenced_laid, info_is}
+use Rattle.html_page.proofs.CodeFencedLemmas.{fenced_laid, info_is, second_codes}
 use Rattle.html_page.proofs.page.Page.block.Goals as goal
 
 pub returns-in-Paragraph-clause-printed : goal.returns-in-Paragraph-clause-printed
@@ -196,6 +196,27 @@ returns-in-UnclosedCode-clause-printed g c = λ ds has.
     (piece_lines (take count (take (length lines - 1) (drop 1 lines))))))) c.is_document-top.ensures
     ∙ fenced_laid d page.default_ending before (standing_of l) l.tight l.silent false count lines enough bytes)
     (c.fenced_code-in-UnclosedCode.ensures.printed ds clear))
+
+pub returns-in-WholeCode-clause-printed : goal.returns-in-WholeCode-clause-printed
+returns-in-WholeCode-clause-printed g c = λ ds has.
+    let d = document_by g.T.Tables c.args.texts.now ds in
+    let page = c.args.self.now in
+    let before = page_view page in
+    let after = page_view c.whole_code.new.self in
+    let lines = c.args.lines.now in
+    let l = c.args.level in
+    let enough : 2 ≤ length lines = subst (λ (row : Row). row_size row ≤ length lines) c.in-WholeCode.is c.requires.enough in
+    let fits : (list_all is_byte (first_codes (piece_lines lines)) ≡ true) × HaveNoEnding (first_codes (piece_lines lines)) =
+    subst (λ (row : Row). IsPrintableRow (row_value row (piece_lines lines))) c.in-WholeCode.is c.requires.printable in
+    let info : first_codes (piece_lines lines) ≡ (get_or lines 0 no_piece).text.now = info_is lines (omega (arith, enough)) fits.0 in
+    let clear : HaveNoEnding (get_or lines 0 no_piece).text.now = subst HaveNoEnding info fits.1 in
+    let text = second_codes lines enough c.whole_code.ensures.bytes in
+    subst (λ (row : Row). OnOk c.whole_code.result (after ≡ layout_after d.options.compile page.default_ending before
+    (row_pieces d l (row_value row (piece_lines lines))))) (sym c.in-WholeCode.is)
+    (subst (λ x. OnOk c.whole_code.result (after ≡ layout_after d.options.compile page.default_ending before x))
+    (ap (λ x. block_pieces d (standing_of l) l.tight l.silent (FencedCode x true (whole_lines (get_or lines 1 no_piece).text.now))) (sym info)
+    ∙ ap (λ x. block_pieces d (standing_of l) l.tight l.silent (FencedCode (first_codes (piece_lines lines)) true (whole_lines x))) (sym text))
+    (c.whole_code.ensures.printed ds (standing_of l).top clear))
 
 pub returns-in-Ending-clause-printed : goal.returns-in-Ending-clause-printed
 returns-in-Ending-clause-printed g c = λ ds has.

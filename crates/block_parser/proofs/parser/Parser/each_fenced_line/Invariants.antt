@@ -4,7 +4,7 @@ use denote.Shadow.{shadow}
 use Rattle.block_starts.specs.CodeFenced.{fence_view}
 use Rattle.block_parser.specs.View.{HasRead}
 use Rattle.block_parser.proofs.FencedLines.{FencedSoFar}
-use Rattle.block_parser.proofs.parser.Parser.fenced_lines.Given as goal
+use Rattle.block_parser.proofs.parser.Parser.each_fenced_line.Given as goal
 
 -- the lines so far are content, and were read
 abbrev pub invariant-loop-content : goal.invariant-loop-content
