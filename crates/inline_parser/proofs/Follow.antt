@@ -45,12 +45,12 @@ use Rattle.inline_label_ends.specs.Ends.{IsAfterEnd, IsAfterFormed, IsEnd, IsFor
 use Rattle.inline_label_ends.proofs.Rests.{after_same}
 use Rattle.inline_parser.specs.declared.label.LabelStart.{LabelStart}
 use Rattle.inline_parser.specs.declared.label.LabelStart.TheVariants as start
-use Rattle.inline_parser.specs.Plain.{is_text_at}
+use Rattle.inline_text.specs.Plain.{is_text_at}
 use Rattle.inline_parser.specs.Scanned.{context_by, ended_here, IsPlace, IsRunFront, IsSingle, StartsLabel}
 use Rattle.inline_parser.specs.Shows.{start_view, with_open_label, unformed_in, formed_in}
 use Rattle.inline_parser.proofs.Views.{IsNext, after_next, next_place, codes_left, view_next}
 use Rattle.inline_parser.proofs.Goes as goes
-use Rattle.inline_parser.proofs.Texts as texts
+use Rattle.inline_text.proofs.Texts as texts
 
 -- what holds where a call answers Ok
 pub on_ok : {T E P Q R : Type 0} → (r : Result T E) → OnOk r P → OnOk r Q → (P → Q → R) → OnOk r R

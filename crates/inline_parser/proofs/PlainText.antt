@@ -27,8 +27,8 @@ use Rattle.inline_rows.specs.declared.row.InlineRow.TheVariants.{Text}
 use Rattle.inline_spans.specs.Container.{Parts}
 use Rattle.inline_spans.proofs.Container as container
 use Rattle.inline_spans.proofs.Runs.{all_told, none_told}
-use Rattle.inline_parser.specs.declared.plain.Front.{Front}
-use Rattle.inline_parser.specs.Fronts.{IsTextFront}
+use Rattle.inline_text.specs.declared.plain.Front.{Front}
+use Rattle.inline_text.specs.Fronts.{IsTextFront}
 use Rattle.inline_parser.specs.Scanned.{IsPlace, context_by}
 use Rattle.inline_parser.proofs.Follow as follow
 use Rattle.inline_parser.proofs.Placed.{place_after}
@@ -87,10 +87,6 @@ first_white b byte white = elim (or_cases (eqb b 32 || eqb b 9) (eqb b 256) whit
 white_first : (xs : List ℕ) → is_blank xs ≡ true → 0 < length xs → is_white (get_or xs 0 0) ≡ true
 white_first [] blank some = absurd (omega (arith, some))
 white_first (x ∷ xs) blank some = (and_parts (is_white x) (list_all is_white xs) blank).0
-
-white_ascii : (b : ℕ) → (b ≡ 9) ⊎ (b ≡ 32) → b < 128
-white_ascii b (inl e) = omega (arith, e)
-white_ascii b (inr e) = omega (arith, e)
 
 module _ (xs : List ℕ) (blank : is_blank xs ≡ true) (some : 0 < length xs) (bytes : (k : ℕ) → get_or xs k 0 < 256) where
   white_found : (options : ParseOptions) (names : List ℕ → Option (List ℕ)) → Some (leaf [] (size_before xs [])) ≡ leaf_in options names (content_codes xs)

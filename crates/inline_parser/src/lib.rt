@@ -3,8 +3,6 @@
 
 mod gfm_autolink_literal;
 mod label;
-mod letters;
-mod plain;
 mod reading;
 pub mod room;
 pub mod scan;

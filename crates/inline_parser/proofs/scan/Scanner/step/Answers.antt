@@ -9,7 +9,7 @@ use Rattle.inline_leaves.specs.Leaves.{parts_of, found_leaf, IsAfter}
 use Rattle.inline_parser.specs.Scanned.{context_by}
 use Rattle.inline_parser.proofs.Follow as follow
 use Rattle.inline_parser.proofs.Follow.{on_ok}
-use Rattle.inline_parser.proofs.Texts as texts
+use Rattle.inline_text.proofs.Texts as texts
 use Rattle.inline_parser.proofs.scan.Scanner.step.Goals as goal
 
 pub literal_or_run-requires-clause-first : goal.literal_or_run-requires-clause-first
@@ -17,7 +17,7 @@ literal_or_run-requires-clause-first g c =
     let source = c.args.source.now in
     let rest = c.args.self.now.rest.now in
     let n = c.front_of-front.result.size in
-    let stops = texts.nothing_is_text rest n (omega (arith, c.if-front-gt0.false)) c.requires.some c.front_of-front.ensures.front.stops in
+    let stops = texts.nothing_is_text _ rest n (omega (arith, c.if-front-gt0.false)) c.requires.some c.front_of-front.ensures.front.stops in
     follow.single_of rest c.front_of-front.ensures.utf8 c.requires.some
     (texts.stopped source.options.now (g.T.Tables.reference_of source.tables.now) rest c.requires.some stops
     (sym c.in_ok-leaf.ensures.read ∙ ap (found_leaf rest) c.in-None.is))

@@ -5,7 +5,7 @@ use Rattle.definition_inline.specs.Scan.{read_tokens}
 use Rattle.definition_inline.specs.Spans.{Item}
 use Rattle.inline_leaves.specs.Leaves.{IsAfter}
 use Rattle.inline_parser.specs.Shows.{Shows}
-use Rattle.inline_parser.proofs.Verbatim.{front_same}
+use Rattle.inline_text.proofs.Verbatim.{front_same}
 use Rattle.inline_parser.proofs.Placed.{place_after, labels_after}
 use Rattle.inline_parser.proofs.scan.Scanner.verbatim.Goals as goal
 

@@ -1,0 +1,5 @@
+pub mod Texts
+pub mod Fronts
+pub mod LiteralFronts
+pub mod Verbatim
+mod LetterRuns

@@ -1,0 +1,4 @@
+pub mod Letters
+pub mod Plain
+pub mod Verbatim
+pub mod Fronts

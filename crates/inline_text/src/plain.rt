@@ -1,0 +1,158 @@
+//! Text at the front of a content (CommonMark 6.9).
+//!
+//!     text ::= (byte at which nothing starts | (space | tab)+ before something else on its line)*
+//!
+//! Where literals are on (GFM 6.9), text ends also before `ww` and `ht`, in either case.
+ghost use Rattle.std.specs.Prelude.{◌≡◌, ◌<◌, ◌≤◌, ◌+◌, ◌-◌, ◌⊎◌, ◌&&◌, ℕ, true, false, not, drop, length, slice_index};
+ghost use Rattle.std.specs.List.{position_or_len};
+ghost use Rattle.definition_text.specs.Columns.{is_white};
+ghost use Rattle.definition_text.specs.Content.{content_codes, is_eol};
+ghost use Rattle.inline_leaves.specs.Leaves.{IsAfter};
+ghost use Rattle.inline_literals.specs.Literals.{may_begin};
+ghost use Rattle.inline_text.specs.declared.plain.TheConstants.{STOPS};
+ghost use Rattle.inline_text.specs.Letters.{IsStop};
+ghost use Rattle.inline_text.specs.Plain.{is_replaced, is_text_at, starts, starts_here, IsStart};
+ghost use Rattle.inline_text.specs.Fronts.{IsTextFront};
+ghost use Rattle.inline_text.specs.Verbatim.{TellsVerbatim};
+ghost use Rattle.std.specs.Str.{IsUtf8};
+
+use crate::letters::next_of_or_letters;
+use inline_links::part::from;
+use text_bytes::is_space_or_tab;
+use text_search::{ByteSet, next_of};
+
+/// The bytes that are no space or tab at which a construct may start (CommonMark 6).
+const STARTS: ByteSet = ByteSet {
+    first: [
+        b'`', b'!', 3, 4, b'$', 6, b'&', 8, 9, 10, b'*', b'[', b'\\', b']', b'~', b'_',
+    ],
+    second: [1, 2, 3, 4, 5, 6, 7, 8, 9, 10, b'\n', 12, b'<', b'\r', 15, 0],
+};
+
+/// The same bytes, and those of text that are printed as something else.
+const STOPS: ByteSet = ByteSet {
+    first: [
+        b'`', b'!', b'"', 4, b'$', 6, b'&', 8, 9, 10, b'*', b'[', b'\\', b']', b'~', b'_',
+    ],
+    second: [
+        0, 2, 3, 4, 5, 6, 7, 8, 9, 10, b'\n', 12, b'<', b'\r', b'>', 0,
+    ],
+};
+
+/// Text at the front of bytes.
+#[derive(Clone, Copy)]
+pub struct Front {
+    /// How many bytes it has.
+    pub size: usize,
+    /// Whether it is known to be printed as it is.
+    pub is_verbatim: bool,
+}
+
+/// The text at the front of a content.
+pub fn front_of(has_literals: bool, rest: &str) -> Front
+    ensures front { IsTextFront has_literals rest.now result }
+    ensures utf8 { IsUtf8 rest.now }
+{
+    if has_literals {
+        front_with_literals(rest.as_bytes())
+    } else {
+        text_front(false, rest.as_bytes())
+    }
+}
+
+/// The text at the front where literals are on. It is a call, so that where they are off there is
+/// less to save.
+#[inline(never)]
+fn front_with_literals(bytes: &[u8]) -> Front
+    ensures { IsTextFront true bytes.now result }
+{
+    text_front(true, bytes)
+}
+
+/// The text at the front: a construct starts at none of its bytes, and the byte after them is one at
+/// which a construct may start (CommonMark 6 and 6.9).
+#[inline(always)]
+fn text_front(has_literals: bool, bytes: &[u8]) -> Front
+    ensures { IsTextFront has_literals bytes.now result }
+{
+    let stop = next_start(has_literals, bytes);
+    if stop.size < bytes.len() && !is_ending(bytes[stop.size]) {
+        return stop;
+    }
+    Front {
+        size: without_white(bytes, stop.size),
+        is_verbatim: stop.is_verbatim,
+    }
+}
+
+/// What comes before the first byte at which a construct may start, a literal among them where they
+/// are on. A byte that is printed as something else is looked for until there is one.
+#[inline(always)]
+fn next_start(has_literals: bool, bytes: &[u8]) -> Front
+    ensures start { IsStart has_literals bytes.now result.size }
+    ensures verbatim { TellsVerbatim bytes.now result }
+{
+    let stop = first_stop(has_literals, bytes);
+    if stop < bytes.len() && is_replaced(bytes[stop]) {
+        return Front {
+            size: stop + first_start(has_literals, from(bytes, stop)),
+            is_verbatim: false,
+        };
+    }
+    Front {
+        size: stop,
+        is_verbatim: true,
+    }
+}
+
+/// The first byte at which something may start, or that is printed as something else.
+#[inline(always)]
+fn first_stop(has_literals: bool, bytes: &[u8]) -> usize
+    ensures { IsStop has_literals STOPS bytes.now result }
+{
+    if has_literals {
+        next_of_or_letters(bytes, STOPS)
+    } else {
+        next_of(bytes, STOPS)
+    }
+}
+
+/// The first byte at which something may start.
+#[inline(always)]
+fn first_start(has_literals: bool, bytes: &[u8]) -> usize
+    ensures { IsStart has_literals bytes.now result }
+{
+    if has_literals {
+        next_of_or_letters(bytes, STARTS)
+    } else {
+        next_of(bytes, STARTS)
+    }
+}
+
+/// Whether nothing starts at a byte and it is printed as something else.
+fn is_replaced(byte: u8) -> bool
+    ensures { result ≡ is_replaced byte }
+{
+    byte == 0 || byte == b'"' || byte == b'>'
+}
+
+/// Whether a byte begins a line ending (CommonMark 2.1).
+fn is_ending(byte: u8) -> bool
+    ensures { result ≡ is_eol byte }
+{
+    byte == b'\n' || byte == b'\r'
+}
+
+/// Where bytes end without the spaces and tabs before this place.
+fn without_white(bytes: &[u8], end: usize) -> usize
+    requires { end ≤ length bytes.now }
+    ensures within { result ≤ end }
+    ensures white { (k : ℕ) → result ≤ k → k < end → is_white (slice_index bytes.now k) ≡ true }
+    ensures dark { 0 < result → is_white (slice_index bytes.now (result - 1)) ≡ false }
+{
+    let mut start = end;
+    while start > 0 && is_space_or_tab(bytes[start - 1]) {
+        start -= 1;
+    }
+    start
+}
