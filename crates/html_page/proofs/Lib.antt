@@ -3,13 +3,10 @@ pub mod Owed
 pub mod Lines
 pub mod GfmTableLemmas
 pub mod CodeFencedLemmas
-pub mod Ahead
 pub mod Places
-pub mod Past
 pub mod Children
 pub mod RowsOf
 pub mod RowSteps
-pub mod Backward
 pub mod LastRow
 pub mod Choose
 pub mod ListItemLemmas

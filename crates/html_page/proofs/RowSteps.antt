@@ -1,7 +1,7 @@
 -- One more row.
 use Rattle.std.proofs.Common.{◌≡◌, ℕ, ◌+◌, ◌<◌, List, [], ◌∷◌, ◌++◌, ap, sym, ◌∙◌, subst, take, drop, get_or, length}
 use Rattle.std.specs.List.{fold, All}
-use Rattle.std.proofs.lemmas.List.{append-nil, append_assoc, drop_more, take-append-drop}
+use Rattle.std.proofs.lemmas.List.{append_assoc, drop_more, take-append-drop}
 use Rattle.std.proofs.lemmas.List.Elements.{All-drop, All-head, All-take}
 use Rattle.std.proofs.Math.Seq.{drop-append_seam, take-append_seam}
 use Rattle.std.proofs.lemmas.List.Sums.{fold_push, fold-append}
@@ -9,6 +9,7 @@ use Rattle.block_rows.specs.declared.row.Row.{Row}
 use Rattle.html_bytes.specs.Document.{Document}
 use Rattle.definition_text.specs.BlockLines.{BlockLine}
 use Rattle.block_rows.specs.Rows.{BlockRow, RowsValue, rows_value, value_with, show_row, row_value, row_size}
+use Rattle.html_levels.proofs.ShownRows.{shown_after}
 use Rattle.html_page.specs.Printable.{IsPrintableRow, ArePrintable}
 use Rattle.html_page.specs.PrinterView.{PrinterView, print_row, print_all}
 
@@ -18,16 +19,6 @@ pub printed_more : (d : Document) (default : List ℕ) (p : PrinterView) (rows :
 printed_more d default p rows row = fold_push (print_row d default) p rows row
 
 -- ---- a row that is shown
-
--- the rows that are shown already stay
-pub shown_after : (s : RowsValue) (rows : List Row) → (fold show_row s rows).rows ≡ s.rows ++ (fold show_row (value_with [] s.left) rows).rows
-shown_after s [] = sym (append-nil s.rows)
-shown_after s (r ∷ rs) =
-    let b = row_value r s.left in
-    let left = drop (row_size r) s.left in
-    shown_after (show_row s r) rs
-    ∙ append_assoc s.rows (b ∷ []) (fold show_row (value_with [] left) rs).rows
-    ∙ ap (λ x. s.rows ++ x) (sym (shown_after (show_row (value_with [] s.left) r) rs))
 
 -- rows in two parts: the second takes its lines from those that the first leaves
 pub shown_parts : (first second : List Row) (ls : List BlockLine)

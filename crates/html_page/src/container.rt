@@ -4,8 +4,8 @@ ghost use Rattle.markdown_options.specs.LineEndings.{ending_bytes};
 ghost use Rattle.html_page.specs.PrinterView.{leave_quote, exit, leave_item, leave_list, within, within_at, outside, printer_view};
 ghost use Rattle.html_page.specs.Prints.{KeepsEnding};
 
-use crate::level::{Holder, Level};
 use crate::printer::Printer;
+use html_levels::{Holder, Level};
 use std::alloc::{AllocError, Allocator};
 
 impl<A: Allocator + Clone> Printer<'_, A> {

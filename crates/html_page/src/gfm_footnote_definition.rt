@@ -3,10 +3,10 @@ ghost use Rattle.std.specs.Prelude.{◌≡◌, OnOk};
 ghost use Rattle.html_page.specs.Prints.{page_view, footnote_text_started, footnote_text_left, KeepsEnding};
 ghost use Rattle.html_page.specs.PrinterView.{enter_footnote, leave_footnote, printer_view};
 
-use crate::level::Holder;
 use crate::page::Page;
 use crate::printer::Printer;
 use block_rows::Row;
+use html_levels::Holder;
 use std::alloc::{AllocError, Allocator};
 
 impl<A: Allocator + Clone> Page<'_, A> {

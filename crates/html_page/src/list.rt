@@ -6,9 +6,9 @@ ghost use Rattle.html_page.specs.Prints.{Prints, KeepsEnding};
 ghost use Rattle.markdown_options.specs.LineEndings.{ending_bytes};
 ghost use Rattle.html_page.specs.PrinterView.{enter_list, leave_list, printer_view};
 
-use crate::level::Holder;
 use crate::page::Page;
 use crate::printer::Printer;
+use html_levels::Holder;
 use std::alloc::{AllocError, Allocator};
 
 impl<A: Allocator + Clone> Page<'_, A> {

@@ -4,8 +4,8 @@ ghost use Rattle.markdown_options.specs.LineEndings.{ending_bytes};
 ghost use Rattle.html_page.specs.PrinterView.{enter_item, enter_list, start_item, leave_item, printer_view};
 ghost use Rattle.html_page.specs.Prints.{KeepsEnding};
 
-use crate::level::Holder;
 use crate::printer::Printer;
+use html_levels::Holder;
 use std::alloc::{AllocError, Allocator};
 
 impl<A: Allocator + Clone> Printer<'_, A> {

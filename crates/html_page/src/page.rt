@@ -7,13 +7,13 @@ ghost use Rattle.definition_block.specs.Tree.{Paragraph, Break, Ending};
 ghost use Rattle.block_rows.specs.Rows.{row_size, piece_lines, row_value, Single};
 ghost use Rattle.html_bytes.specs.Document.{Document};
 ghost use Rattle.html_contents.specs.Texts.{KnowsTargets, document_by};
-ghost use Rattle.html_page.specs.Levels.{row_pieces};
+ghost use Rattle.html_levels.specs.Levels.{row_pieces};
 ghost use Rattle.html_page.specs.Printable.{IsPrintableRow};
 
-use crate::level::Level;
 use block_rows::{Piece, Row, push_ending};
 use html_contents::{TextBuffers, Texts};
 use html_footnotes::{Output, push_fresh};
+use html_levels::Level;
 use markdown_options::{LineEnding, Tables};
 use std::alloc::{AllocError, Allocator};
 

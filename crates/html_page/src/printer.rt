@@ -12,12 +12,11 @@ ghost use Rattle.html_page.specs.Printable.{IsPrintableRow, ArePrintable, CanBeP
 ghost use Rattle.html_page.specs.PrinterView.{ends_blank_rows, is_blank_row, printer_view, print_row, print_all};
 ghost use Rattle.html_page.specs.Prints.{KeepsEnding};
 
-use crate::level::{Holder, Level};
-use crate::loose::{Place, places};
 use crate::page::Page;
 use block_rows::{Piece, Row};
 use html_contents::{TextBuffers, Texts};
 use html_footnotes::Output;
+use html_levels::{Holder, Level, Place, places};
 use markdown_options::{LineEnding, Tables};
 use std::alloc::{AllocError, Allocator};
 

@@ -11,7 +11,7 @@ use Rattle.definition_page.specs.Read.{on_page}
 use Rattle.html_bytes.specs.Html.{block_pieces}
 use Rattle.html_contents.specs.Texts.{document_by}
 use Rattle.block_rows.specs.Rows.{whole_lines, row_value, row_size, first_codes, piece_line, piece_lines}
-use Rattle.html_page.specs.Levels.{row_pieces, standing_of, standing_at, standing_first}
+use Rattle.html_levels.specs.Levels.{row_pieces, standing_of, standing_at, standing_first}
 use Rattle.html_page.specs.Prints.{layout_after, page_view}
 use Rattle.html_page.specs.Printable.{AreHeadingLines, AreClear, IsTable, IsPrintableRow}
 use Rattle.html_page.proofs.Lines.{first_codes_of, first_line, with_ending, clear_with_ending, own_length}

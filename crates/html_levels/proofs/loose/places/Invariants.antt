@@ -1,8 +1,8 @@
 use Rattle.std.proofs.Common.{◌≡◌, map}
 use Rattle.std.specs.List.{fold}
-use Rattle.html_page.specs.Loose.{pass_view, pass_start}
-use Rattle.html_page.proofs.Backward.{pass_bare}
-use Rattle.html_page.proofs.loose.places.Given as goal
+use Rattle.html_levels.specs.Loose.{pass_view, pass_start}
+use Rattle.html_levels.proofs.Backward.{pass_bare}
+use Rattle.html_levels.proofs.loose.places.Given as goal
 
 -- the last rows are passed
 abbrev pub invariant-loop-row : goal.invariant-loop-row

@@ -2,9 +2,9 @@ use Rattle.std.proofs.Common.{◌≡◌, ap, sym, ◌∙◌, map, reverse}
 use Rattle.std.specs.List.{fold}
 use Rattle.std.proofs.lemmas.Iterator.Adapters.{YieldsList-from_rev_slice}
 use Rattle.std.proofs.lemmas.Iterator.Consumers.{YieldsList-end}
-use Rattle.html_page.specs.Loose.{PassView, pass_start}
-use Rattle.html_page.proofs.Backward.{pass_bare, passed_backward, no_items}
-use Rattle.html_page.proofs.loose.places.Goals as goal
+use Rattle.html_levels.specs.Loose.{PassView, pass_start}
+use Rattle.html_levels.proofs.Backward.{pass_bare, passed_backward, no_items}
+use Rattle.html_levels.proofs.loose.places.Goals as goal
 
 pub returns-then-not-has_items : goal.returns-then-not-has_items
 returns-then-not-has_items g c =

@@ -10,8 +10,8 @@ use Rattle.definition_text.specs.BlockLines.{BlockLine}
 use Rattle.definition_block.specs.Tree.{is_ending}
 use Rattle.definition_inline.specs.Definition.{Definition}
 use Rattle.block_rows.specs.Rows.{definition_on, definition_value, row_value, rows_value, value_with, row_size}
-use Rattle.html_page.specs.Loose.{PassView, pass_at, pass_start, before_if, pass_row, pass_rows, places_of, starts_item}
-use Rattle.html_page.proofs.RowSteps.{shown_after}
+use Rattle.html_levels.specs.Loose.{PassView, pass_at, pass_start, before_if, pass_row, pass_rows, places_of, starts_item}
+use Rattle.html_levels.proofs.ShownRows.{shown_after}
 
 -- a row without its lines
 abbrev pub pass_bare : PassView → Row → PassView

@@ -4,9 +4,9 @@ use Rattle.block_rows.specs.declared.row.Row.{Row}
 use Rattle.block_rows.specs.declared.row.Row.TheVariants as row
 use Rattle.definition_block.specs.Tree.{Block, is_ending}
 use Rattle.block_rows.specs.Rows.{BlockRow, Single, EnterQuote, EnterItem, EnterFootnote, Exit}
-use Rattle.html_page.specs.declared.loose.Place.{Place}
-use Rattle.html_page.specs.declared.loose.Ahead.{Ahead}
-use Rattle.html_page.specs.declared.loose.Pass.{Pass}
+use Rattle.html_levels.specs.declared.loose.Place.{Place}
+use Rattle.html_levels.specs.declared.loose.Ahead.{Ahead}
+use Rattle.html_levels.specs.declared.loose.Pass.{Pass}
 
 -- ---- one container
 

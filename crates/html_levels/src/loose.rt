@@ -3,24 +3,25 @@ ghost use Rattle.std.specs.Prelude.{◌≡◌, List, true, IfOk, OnOk, reverse};
 ghost use Rattle.std.specs.List.{list_any};
 ghost use Rattle.definition_text.specs.BlockLines.{BlockLine};
 ghost use Rattle.block_rows.specs.Rows.{row_value, rows_value};
-ghost use Rattle.html_page.specs.Loose.{before_block, before_ending, before_item, bounds_container, place_at, pass_view, pass_row, pass_item};
-ghost use Rattle.html_page.specs.Loose.{leave, places_of, starts_item};
+ghost use Rattle.html_levels.specs.Loose.{before_block, before_ending, before_item, bounds_container, place_at, pass_view, pass_row, pass_item};
+ghost use Rattle.html_levels.specs.Loose.{leave, places_of, starts_item};
 
 use block_rows::Row;
 use std::alloc::{AllocError, Allocator};
 
 /// What is known of an item where it starts.
 #[derive(Clone, Copy, Default)]
-pub(crate) struct Place {
+pub struct Place {
     /// Whether the list from this item on is loose.
-    pub(crate) loose: bool,
+    pub loose: bool,
     /// Whether the list goes on after this item.
-    pub(crate) goes_on: bool,
+    pub goes_on: bool,
 }
 
-/// What stands after a place, among the children of one container.
+/// What stands after a place, among the children of one container. Other crates speak of it in
+/// proofs alone.
 #[derive(Clone, Copy, Default)]
-struct Ahead {
+pub struct Ahead {
     /// Whether a block does.
     some: bool,
     /// Whether an ending comes first.
@@ -150,10 +151,7 @@ impl<A: Allocator> Pass<A> {
 }
 
 /// The places of all items, that of the first item last.
-pub(crate) fn places<A: Allocator + Clone>(
-    alloc: A,
-    rows: &[Row],
-) -> Result<Vec<Place, A>, AllocError>
+pub fn places<A: Allocator + Clone>(alloc: A, rows: &[Row]) -> Result<Vec<Place, A>, AllocError>
     ensures { IfOk result (λ places. (ls : List BlockLine) → reverse places.items ≡ places_of (rows_value rows.now ls).rows) }
 {
     if !has_items(rows) {

@@ -5,8 +5,8 @@ use Rattle.definition_block.specs.Tree.{Block, Paragraph, Heading, Break, Indent
 use Rattle.definition_block.specs.Tree.{Blocks, Nil, Cons}
 use Rattle.html_bytes.specs.Html.{ends_tight}
 use Rattle.block_rows.specs.Rows.{Single}
-use Rattle.html_page.specs.declared.level.Level.{Level}
-use Rattle.html_page.specs.Levels.{plain_after, level_after}
+use Rattle.html_levels.specs.declared.level.Level.{Level}
+use Rattle.html_levels.specs.Levels.{plain_after, level_after}
 
 abbrev pub level_past : Level → Blocks → Level
 level_past l Nil = l

@@ -9,8 +9,8 @@ use Rattle.definition_block.specs.Container.{Item}
 use Rattle.definition_block.specs.Tree.{Block, Holds, Items, Ending, Blank, Blocks, Nil, Cons, join, one}
 use Rattle.definition_block.specs.Lists.{endings_at_front, endings_of, after_endings, is_some_block, has_gap, has_gap_inside, is_loose, list_marker, list_items}
 use Rattle.definition_block.specs.Lists.{rest_of, put_before, before_list}
-use Rattle.html_page.specs.declared.loose.Ahead.{Ahead}
-use Rattle.html_page.specs.Loose.{before_ending, before_item, place_at}
+use Rattle.html_levels.specs.declared.loose.Ahead.{Ahead}
+use Rattle.html_levels.specs.Loose.{before_ending, before_item, place_at}
 
 abbrev pub ahead_of : Blocks → Ahead
 ahead_of gs = record {

@@ -8,9 +8,9 @@ use Rattle.html_bytes.specs.Pieces.{Piece}
 use Rattle.html_bytes.specs.Document.{Document}
 use Rattle.html_bytes.specs.Html.{block_pieces, silences}
 use Rattle.block_rows.specs.Rows.{BlockRow, Single, EnterQuote, EnterItem, EnterFootnote, Exit}
-use Rattle.html_page.specs.declared.level.Level.{Level}
-use Rattle.html_page.specs.declared.level.Holder.{Holder}
-use Rattle.html_page.specs.declared.level.Holder.TheVariants as holder
+use Rattle.html_levels.specs.declared.level.Level.{Level}
+use Rattle.html_levels.specs.declared.level.Holder.{Holder}
+use Rattle.html_levels.specs.declared.level.Holder.TheVariants as holder
 
 abbrev pub is_document : Holder → Bool
 is_document holder.Document = true

@@ -1,0 +1,4 @@
+pub mod ShownRows
+pub mod Ahead
+pub mod Past
+pub mod Backward
