@@ -8,7 +8,7 @@
 # it isn't cc. With valgrind on the PATH, the C programs run under it too.
 set -eu
 here=$(cd "$(dirname "$0")" && pwd)
-page=$here/../crates/examples_page
+page=$here/../crates/examples_library
 scratch=$(mktemp -d)
 trap 'rm -rf "$scratch"' EXIT
 passed=0 failed=0

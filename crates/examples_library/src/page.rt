@@ -1,12 +1,11 @@
-//! A page with each feature, from standard input to its HTML on standard output, by the library.
-#![tactic(auto)]
-
+//! A page with each feature.
 ghost use Rattle.markdown_options.specs.Mdx.{HasNoMdx};
 
 use markdown::{Builtin, Options, RunError, Watched, run};
 use std::io::Write;
 
-fn main(rt: HostRuntime) -> Result<(), RunError> {
+/// Prints the HTML of standard input.
+pub(crate) fn print_page(rt: &HostRuntime) -> Result<(), RunError> {
     let mut reader = Watched::new(rt.stdin());
     let mut writer = Watched::new(rt.stdout());
     run(rt.alloc(), &mut reader, &mut writer, &options(), &Builtin)?;

@@ -1,7 +1,7 @@
 //! A comment as HTML.
 ghost use Rattle.std.specs.Prelude.{◌≡◌, ◌<◌, ◌^◌, IfOk, IfErr, length, string_bytes};
 ghost use Rattle.markdown_options.specs.Messages.{IsOutOfMemory};
-ghost use Rattle.examples_comments.specs.Article.{article};
+ghost use Rattle.examples_library.specs.Article.{article};
 
 use markdown::{Message, to_html};
 use std::alloc::Allocator;
