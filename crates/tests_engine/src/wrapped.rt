@@ -35,6 +35,20 @@ fn one<E: Drop, A: Allocator>(alloc: A, item: E) -> Result<Vec<E, A>, Message>
     Ok(all)
 }
 
+/// One label, as what was found.
+fn one_label<A: Allocator + Clone>(alloc: &A) -> Result<Subresult<A>, Message>
+    ensures found { IfOk result (λ found. found_in found ≡ found_one_label) }
+    ensures memory { IfErr result IsOutOfMemory }
+{
+    let label = "a".to_string(alloc.clone()?)?;
+    let definitions = one(alloc.clone()?, label)?;
+    Ok(Subresult {
+        done: false,
+        gfm_footnote_definitions: Vec::new(alloc.clone()?),
+        definitions,
+    })
+}
+
 impl<T: Tables> Machine<T> for Wrapped {
     ghost Seen = { Wrapped };
 
@@ -73,23 +87,18 @@ impl<T: Tables> Machine<T> for Wrapped {
         tokenizer: &mut Tokenizer<'a, Self, T, A>,
         _name: resolve::Name,
     ) -> Result<Option<Subresult<A>>, Message> {
-        let alloc = tokenizer.events.allocator().clone()?;
         let first = match tokenizer.events.first() {
             Some(event) => event.point(),
             None => tokenizer.point,
         };
         let enter = Event::new(Kind::Enter, EventName::Paragraph, first, None);
-        tokenizer.map.add_before(0, 0, one(alloc.clone()?, enter)?)?;
+        let before = one(tokenizer.events.allocator().clone()?, enter)?;
+        tokenizer.map.add_before(0, 0, before)?;
         let exit = Event::new(Kind::Exit, EventName::Paragraph, tokenizer.point, None);
         let count = tokenizer.events.len();
-        tokenizer.map.add(count, 0, one(alloc.clone()?, exit)?)?;
-        let label = "a".to_string(alloc.clone()?)?;
-        let definitions = one(alloc.clone()?, label)?;
-        Ok(Some(Subresult {
-            done: false,
-            gfm_footnote_definitions: Vec::new(alloc),
-            definitions,
-        }))
+        let after = one(tokenizer.events.allocator().clone()?, exit)?;
+        tokenizer.map.add(count, 0, after)?;
+        Ok(Some(one_label(tokenizer.events.allocator())?))
     }
 
     ghost lawful = { λ x. wrapped_lawful (length x.bytes) };

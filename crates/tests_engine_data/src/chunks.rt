@@ -1,3 +1,4 @@
+use crate::compare::assert_same;
 use engine_chunks::chunks::{chunks, part_size};
 use engine_chunks::divide::divide_events;
 use engine_chunks::{link, link_all, link_to};
@@ -45,16 +46,17 @@ fn each_chunk_gets_its_part(rt: HostRuntime) -> Result<(), Fail> {
     let mut all = events.to_vec(rt.alloc())?;
     let mut map = EditMap::new(rt.alloc());
     let counts = divide_events(rt.alloc(), &mut map, &events, 0, &children, (0, 0))?;
-    assert_eq!(rt; counts, (4, 6));
+    assert_same(&rt, &counts, &(4, 6));
     assert!(rt; map.is_ordered(all.len()));
     map.consume(&mut all)?;
-    assert_eq!(rt; all.len(), 8);
-    assert_eq!(rt;
-        (all[3].name, all[4].name),
-        (Name::SpaceOrTab, Name::Strong)
+    assert!(rt; all.len() == 8);
+    assert_same(
+        &rt,
+        &(all[3].name, all[4].name),
+        &(Name::SpaceOrTab, Name::Strong),
     );
-    assert_eq!(rt; all[0].link().ok_or("a link")?.next, Some(4));
-    assert_eq!(rt; all[4].link().ok_or("a link")?.previous, Some(0));
+    assert_same(&rt, &all[0].link().ok_or("a link")?.next, &Some(4));
+    assert_same(&rt, &all[4].link().ok_or("a link")?.previous, &Some(0));
     Ok(())
 }
 
@@ -72,9 +74,10 @@ fn chunks_are_joined(rt: HostRuntime) -> Result<(), Fail> {
     ];
     link(&mut events, 2);
     link_to(&mut events, 2, 6);
-    assert_eq!(rt;
-        chunks(rt.alloc(), &events, 0)?.as_slice(),
-        [0, 2, 6].as_slice()
+    assert_same(
+        &rt,
+        &chunks(rt.alloc(), &events, 0)?.as_slice(),
+        &[0, 2, 6].as_slice(),
     );
     let links = [
         events[0].link(),
@@ -88,7 +91,7 @@ fn chunks_are_joined(rt: HostRuntime) -> Result<(), Fail> {
         None,
         between(Some(2), None),
     ];
-    assert_eq!(rt; links, wanted);
+    assert_same(&rt, &links, &wanted);
     Ok(())
 }
 
@@ -103,9 +106,9 @@ fn a_part_goes_up_to_its_chunks_end(rt: HostRuntime) {
         at(Kind::Exit, Name::Emphasis, 2, None),
         at(Kind::Enter, Name::Strong, 3, None),
     ];
-    assert_eq!(rt; part_size(&events, 0, &children, 0), 2);
-    assert_eq!(rt; part_size(&events, 0, &children, 1), 1);
-    assert_eq!(rt; part_size(&events, 1, &children, 0), 0);
+    assert_same(&rt, &part_size(&events, 0, &children, 0), &2);
+    assert_same(&rt, &part_size(&events, 0, &children, 1), &1);
+    assert_same(&rt, &part_size(&events, 1, &children, 0), &0);
 }
 
 #[test]
@@ -133,6 +136,6 @@ fn chunks_are_joined_to_those_that_name_them(rt: HostRuntime) {
         between(Some(2), None),
         between(Some(9), None),
     ];
-    assert_eq!(rt; links, wanted);
-    assert_eq!(rt; events[1].link(), None);
+    assert_same(&rt, &links, &wanted);
+    assert_same(&rt, &events[1].link(), &None);
 }

@@ -4,6 +4,8 @@
 #[cfg(test)]
 mod chunks;
 #[cfg(test)]
+mod compare;
+#[cfg(test)]
 mod edits;
 #[cfg(test)]
 mod events;

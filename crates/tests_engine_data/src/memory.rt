@@ -1,4 +1,5 @@
 //! Memory that runs out.
+use crate::compare::assert_same;
 use crate::machines::{QUOTED, chunks_in_quote};
 use linked_list_allocator::LocalHeap;
 use markdown_engine::place::START;
@@ -16,7 +17,7 @@ fn brackets_are_read_in_a_small_heap(rt: HostRuntime) -> Result<(), Fail> {
     let options = ParseOptions::default();
     let text = ParseState::new(&heap, b"(a(b)c)", &options, &Ascii)?;
     match read_whole(&heap, &text, Brackets) {
-        Ok(events) => assert_eq!(rt; events.len(), 4),
+        Ok(events) => assert!(rt; events.len() == 4),
         Err(_) => panic!(rt; "there was memory"),
     }
     Ok(())
@@ -30,7 +31,7 @@ fn want_of_memory_is_answered(rt: HostRuntime) -> Result<(), Fail> {
     let text = ParseState::new(&heap, deep.as_bytes(), &options, &Ascii)?;
     match read_whole(&heap, &text, Brackets) {
         Ok(_) => panic!(rt; "there was no memory"),
-        Err(message) => assert_eq!(rt; message, Message::out_of_memory()),
+        Err(message) => assert_same(&rt, &message, &Message::out_of_memory()),
     }
     Ok(())
 }
@@ -48,9 +49,10 @@ fn a_tokenizer_that_was_refused_memory_has_failed(rt: HostRuntime) -> Result<(),
     let failed = tokenizer.failed;
     let later = tokenizer.push((0, 0), (1, 0), first);
     let is_refused = tokenizer.flush(first, true).is_err();
-    assert_eq!(rt;
-        (pushed, failed, later, is_refused),
-        (refused, true, refused, true)
+    assert_same(
+        &rt,
+        &(pushed, failed, later, is_refused),
+        &(refused, true, refused, true),
     );
     Ok(())
 }
