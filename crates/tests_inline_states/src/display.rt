@@ -57,21 +57,31 @@ pub fn resolved_string_events(rt: &HostRuntime, bytes: &[u8]) -> Result<String, 
     show(rt, &resolved_string(rt.alloc(), &text)?)
 }
 
-/// Whether the events of a text by CommonMark are these.
-pub fn is_text(rt: &HostRuntime, bytes: &[u8], wanted: &str) -> Result<bool, Fail> {
-    let out = text_events(rt, &ParseOptions::default(), &[], bytes)?;
-    Ok(out.as_str() == wanted)
+/// Whether the events of each text are these; the first that has others is printed with them.
+fn are_read(
+    rt: &HostRuntime,
+    options: &ParseOptions,
+    starts: &[usize],
+    rows: &[(&str, &str)],
+) -> Result<bool, Fail> {
+    for (text, wanted) in rows {
+        let out = text_events(rt, options, starts, text.as_bytes())?;
+        if out.as_str() != *wanted {
+            println!(rt; "{text:?} {out}")?;
+            return Ok(false);
+        }
+    }
+    Ok(true)
 }
 
-/// Whether the events of a text by GFM are these.
-pub fn is_gfm(
-    rt: &HostRuntime,
-    starts: &[usize],
-    bytes: &[u8],
-    wanted: &str,
-) -> Result<bool, Fail> {
-    let out = text_events(rt, &ParseOptions::gfm(), starts, bytes)?;
-    Ok(out.as_str() == wanted)
+/// Whether the events of each text by CommonMark are these.
+pub fn are_texts(rt: &HostRuntime, rows: &[(&str, &str)]) -> Result<bool, Fail> {
+    are_read(rt, &ParseOptions::default(), &[], rows)
+}
+
+/// Whether the events of each text by GFM are these.
+pub fn are_gfm(rt: &HostRuntime, starts: &[usize], rows: &[(&str, &str)]) -> Result<bool, Fail> {
+    are_read(rt, &ParseOptions::gfm(), starts, rows)
 }
 
 /// The events of a text as a text, once its resolvers ran, where a label and one of a footnote are defined.

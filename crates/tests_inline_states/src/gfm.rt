@@ -1,192 +1,127 @@
 //! Events of texts by GFM.
-use crate::display::{is_gfm, resolved_events};
+use crate::display::{are_gfm, resolved_events};
 use markdown_engine::ParseOptions;
 use std::test::Fail;
 
 #[test]
 fn footnote_starts(rt: HostRuntime) -> Result<(), Fail> {
-    assert!(rt;
-        is_gfm(
-            &rt,
-            &[],
-            b"[^a",
+    let rows = [
+        (
+            "[^a",
             "+GfmFootnoteCallLabel0 +LabelMarker0 -LabelMarker1 +GfmFootnoteCallMarker1 \
              -GfmFootnoteCallMarker2 -GfmFootnoteCallLabel2 +Data2 -Data3 ",
-        )?
-    );
-    assert!(rt;
-        is_gfm(
-            &rt,
-            &[],
-            b"![^",
+        ),
+        (
+            "![^",
             "+Data0 -Data1 +GfmFootnoteCallLabel1 +LabelMarker1 -LabelMarker2 +GfmFootnoteCallMarker2 \
              -GfmFootnoteCallMarker3 -GfmFootnoteCallLabel3 ",
-        )?
-    );
+        ),
+    ];
+    assert!(rt; are_gfm(&rt, &[], &rows)?);
     Ok(())
 }
 
 #[test]
 fn checks(rt: HostRuntime) -> Result<(), Fail> {
-    assert!(rt;
-        is_gfm(
-            &rt,
-            &[0],
-            b"[x] a",
+    let rows = [
+        (
+            "[x] a",
             "+GfmTaskListItemCheck0 +GfmTaskListItemMarker0 -GfmTaskListItemMarker1 \
              +GfmTaskListItemValueChecked1 -GfmTaskListItemValueChecked2 +GfmTaskListItemMarker2 \
              -GfmTaskListItemMarker3 -GfmTaskListItemCheck3 +Data3 -Data5 ",
-        )?
-    );
-    assert!(rt;
-        is_gfm(
-            &rt,
-            &[0],
-            b"[ ]\na",
+        ),
+        (
+            "[ ]\na",
             "+GfmTaskListItemCheck0 +GfmTaskListItemMarker0 -GfmTaskListItemMarker1 \
              +GfmTaskListItemValueUnchecked1 -GfmTaskListItemValueUnchecked2 +GfmTaskListItemMarker2 \
              -GfmTaskListItemMarker3 -GfmTaskListItemCheck3 +LineEnding3 -LineEnding4 +Data4 -Data5 ",
-        )?
-    );
-    assert!(rt;
-        is_gfm(
-            &rt,
-            &[0],
-            b"[ ] ",
+        ),
+        (
+            "[ ] ",
             "+LabelLink0 +LabelMarker0 -LabelMarker1 -LabelLink1 +Data1 -Data2 +Data2 -Data4 ",
-        )?
-    );
-    assert!(rt;
-        is_gfm(
-            &rt,
-            &[0],
-            b"[x]a",
+        ),
+        (
+            "[x]a",
             "+LabelLink0 +LabelMarker0 -LabelMarker1 -LabelLink1 +Data1 -Data2 +Data2 -Data4 ",
-        )?
-    );
-    assert!(rt;
-        is_gfm(
-            &rt,
-            &[],
-            b"[x] a",
-            "+LabelLink0 +LabelMarker0 -LabelMarker1 -LabelLink1 +Data1 -Data2 +Data2 -Data5 ",
-        )?
-    );
+        ),
+    ];
+    assert!(rt; are_gfm(&rt, &[0], &rows)?);
+    let rows = [(
+        "[x] a",
+        "+LabelLink0 +LabelMarker0 -LabelMarker1 -LabelLink1 +Data1 -Data2 +Data2 -Data5 ",
+    )];
+    assert!(rt; are_gfm(&rt, &[], &rows)?);
     Ok(())
 }
 
 #[test]
 fn strikes(rt: HostRuntime) -> Result<(), Fail> {
-    assert!(rt;
-        is_gfm(
-            &rt,
-            &[],
-            b"~~a",
-            "+AttentionSequence0 -AttentionSequence2 +Data2 -Data3 ",
-        )?
-    );
+    let rows = [(
+        "~~a",
+        "+AttentionSequence0 -AttentionSequence2 +Data2 -Data3 ",
+    )];
+    assert!(rt; are_gfm(&rt, &[], &rows)?);
     Ok(())
 }
 
 #[test]
 fn literals(rt: HostRuntime) -> Result<(), Fail> {
-    assert!(rt;
-        is_gfm(
-            &rt,
-            &[],
-            b"www.a.b.",
+    let rows = [
+        (
+            "www.a.b.",
             "+GfmAutolinkLiteralWww0 -GfmAutolinkLiteralWww7 +Data7 -Data8 ",
-        )?
-    );
-    assert!(rt;
-        is_gfm(
-            &rt,
-            &[],
-            b"(www.a)",
+        ),
+        (
+            "(www.a)",
             "+Data0 -Data1 +GfmAutolinkLiteralWww1 -GfmAutolinkLiteralWww6 +Data6 -Data7 ",
-        )?
-    );
-    assert!(rt;
-        is_gfm(
-            &rt,
-            &[],
-            b"www.a(b.)",
+        ),
+        (
+            "www.a(b.)",
             "+GfmAutolinkLiteralWww0 -GfmAutolinkLiteralWww9 ",
-        )?
-    );
-    assert!(rt;
-        is_gfm(
-            &rt,
-            &[],
-            b"http://a.b&c;",
+        ),
+        (
+            "http://a.b&c;",
             "+GfmAutolinkLiteralProtocol0 -GfmAutolinkLiteralProtocol10 +Data10 -Data13 ",
-        )?
-    );
-    assert!(rt;
-        is_gfm(
-            &rt,
-            &[],
-            b"HTTPS://a&c;d",
+        ),
+        (
+            "HTTPS://a&c;d",
             "+GfmAutolinkLiteralProtocol0 -GfmAutolinkLiteralProtocol13 ",
-        )?
-    );
-    assert!(rt;
-        is_gfm(
-            &rt,
-            &[],
-            b"www.a.]",
+        ),
+        (
+            "www.a.]",
             "+GfmAutolinkLiteralWww0 -GfmAutolinkLiteralWww5 +Data5 -Data6 +Data6 -Data7 ",
-        )?
-    );
-    assert!(rt;
-        is_gfm(
-            &rt,
-            &[],
-            b"www.a].",
+        ),
+        (
+            "www.a].",
             "+GfmAutolinkLiteralWww0 -GfmAutolinkLiteralWww6 +Data6 -Data7 ",
-        )?
-    );
+        ),
+    ];
+    assert!(rt; are_gfm(&rt, &[], &rows)?);
     Ok(())
 }
 
 #[test]
 fn what_is_no_literal(rt: HostRuntime) -> Result<(), Fail> {
-    assert!(rt; is_gfm(&rt, &[], b"http:/a", "+Data0 -Data7 ",)?);
-    assert!(rt; is_gfm(&rt, &[], b"ahttp://b", "+Data0 -Data1 +Data1 -Data9 ",)?);
-    assert!(rt;
-        is_gfm(
-            &rt,
-            &[],
-            b"www.",
-            "+Data0 -Data1 +Data1 -Data2 +Data2 -Data4 ",
-        )?
-    );
-    assert!(rt;
-        is_gfm(
-            &rt,
-            &[],
-            b"www.a_b.c",
+    let rows = [
+        ("http:/a", "+Data0 -Data7 "),
+        ("ahttp://b", "+Data0 -Data1 +Data1 -Data9 "),
+        ("www.", "+Data0 -Data1 +Data1 -Data2 +Data2 -Data4 "),
+        (
+            "www.a_b.c",
             "+Data0 -Data1 +Data1 -Data2 +Data2 -Data5 +AttentionSequence5 -AttentionSequence6 \
              +Data6 -Data9 ",
-        )?
-    );
-    assert!(rt;
-        is_gfm(
-            &rt,
-            &[],
-            b"www.a_b.c.d",
+        ),
+        (
+            "www.a_b.c.d",
             "+GfmAutolinkLiteralWww0 -GfmAutolinkLiteralWww11 ",
-        )?
-    );
-    assert!(rt;
-        is_gfm(
-            &rt,
-            &[],
-            b"www.a_www.b",
+        ),
+        (
+            "www.a_www.b",
             "+Data0 -Data1 +Data1 -Data2 +Data2 -Data5 +AttentionSequence5 -AttentionSequence6 \
              +GfmAutolinkLiteralWww6 -GfmAutolinkLiteralWww11 ",
-        )?
-    );
+        ),
+    ];
+    assert!(rt; are_gfm(&rt, &[], &rows)?);
     Ok(())
 }
 
