@@ -16,21 +16,21 @@ fn how_contents_are_spelled(rt: HostRuntime) -> Result<(), Fail> {
     Ok(())
 }
 
+/// Whether these contents are the same by both roads.
+fn are_texts_same(rt: &HostRuntime, roads: &Roads, texts: &[&str]) -> Result<bool, Fail> {
+    let mut same = true;
+    for text in texts {
+        same = roads.is_same(rt, text)? && same;
+    }
+    Ok(same)
+}
+
 #[test]
 fn contents_by_hand(rt: HostRuntime) -> Result<(), Fail> {
-    let roads = Roads::new(&rt, plain_options())?;
-    for text in TEXTS {
-        assert!(rt; roads.is_same(&rt, text)?);
-    }
+    assert!(rt; are_texts_same(&rt, &Roads::new(&rt, plain_options())?, &TEXTS)?);
     let roads = Roads::new(&rt, full_options())?;
-    let mut same = true;
-    for text in TEXTS {
-        same = roads.is_same(&rt, text)? && same;
-    }
-    for text in GFM_TEXTS {
-        same = roads.is_same(&rt, text)? && same;
-    }
-    assert!(rt; same);
+    assert!(rt; are_texts_same(&rt, &roads, &TEXTS)?);
+    assert!(rt; are_texts_same(&rt, &roads, &GFM_TEXTS)?);
     Ok(())
 }
 

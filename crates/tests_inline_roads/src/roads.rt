@@ -144,7 +144,8 @@ impl Roads {
     }
 }
 
-fn as_text(text: &[u8]) -> &str {
+/// Bytes as a text.
+pub fn as_text(text: &[u8]) -> &str {
     match str::from_utf8(text) {
         Ok(text) => text,
         Err(_) => "no UTF-8",
