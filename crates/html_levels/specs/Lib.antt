@@ -1,2 +1,3 @@
 pub mod Loose
 pub mod Levels
+pub mod Printable

@@ -21,7 +21,7 @@ use Rattle.html_levels.specs.declared.level.Holder.{Holder}
 use Rattle.html_levels.specs.declared.level.Holder.TheVariants as holder
 use Rattle.html_levels.specs.declared.loose.Place.{Place}
 use Rattle.html_levels.specs.declared.loose.Ahead.{Ahead}
-use Rattle.html_page.specs.Printable.{IsPrintable, CanBePrinted}
+use Rattle.html_levels.specs.Printable.{IsPrintable, CanBePrinted}
 use Rattle.html_levels.specs.Loose.{place_at}
 use Rattle.html_levels.specs.Levels.{standing_of, is_list, level_of, new_level, after_block, after_footnote, level_after}
 use Rattle.html_page.specs.PrinterView.{PrinterView, printer_at, in_list, start_item, exit_of, leave_list_if, print_row, print_all, more}

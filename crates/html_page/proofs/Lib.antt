@@ -1,13 +1,9 @@
-pub mod Laid
-pub mod Owed
-pub mod Lines
-pub mod GfmTableLemmas
-pub mod CodeFencedLemmas
 pub mod Places
 pub mod Children
 pub mod RowsOf
 pub mod RowSteps
 pub mod LastRow
 pub mod Choose
+pub mod OwnLines
 pub mod ListItemLemmas
 pub mod Printable

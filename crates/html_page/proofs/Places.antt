@@ -7,7 +7,7 @@ use Rattle.definition_block.specs.Lists.{has_gap, put_before, group_items, group
 use Rattle.block_rows.specs.Rows.{BlockRow, Exit, start_row, rows_of, block_rows}
 use Rattle.html_levels.specs.declared.loose.Place.{Place}
 use Rattle.html_levels.specs.declared.loose.Ahead.{Ahead}
-use Rattle.html_page.specs.Printable.{IsPrintable, IsPrintableContainer, CanBePrinted}
+use Rattle.html_levels.specs.Printable.{IsPrintable, IsPrintableContainer, CanBePrinted}
 use Rattle.html_levels.specs.Loose.{PassView, pass_at, pass_row, pass_rows, nothing_ahead, place_at}
 use Rattle.html_levels.proofs.Ahead.{ahead_of, ahead_of_ending, ahead_of_blank, ahead_of_item, before_item_is}
 

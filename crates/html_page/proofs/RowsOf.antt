@@ -16,7 +16,7 @@ use Rattle.html_bytes.specs.Html.{children_pieces, last_piece, document_pieces}
 use Rattle.block_rows.specs.Rows.{BlockRow, Single, Exit, start_row, rows_of, block_rows, spaced_definition}
 use Rattle.html_levels.specs.declared.level.Holder.TheVariants as holder
 use Rattle.html_levels.specs.declared.loose.Place.{Place}
-use Rattle.html_page.specs.Printable.{IsPrintable, IsPrintableContainer, IsPrintableRow, ArePrintable, CanBePrinted}
+use Rattle.html_levels.specs.Printable.{IsPrintable, IsPrintableContainer, IsPrintableRow, ArePrintable, CanBePrinted}
 use Rattle.html_levels.specs.Loose.{PassView}
 use Rattle.html_levels.specs.Levels.{new_level}
 use Rattle.html_page.specs.PrinterView.{PrinterView, printer_at, print_all, is_blank_row, ends_blank_rows, rows_html}

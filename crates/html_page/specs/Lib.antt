@@ -1,4 +1,1 @@
-pub mod Printable
-pub mod GfmTable
-pub mod Prints
 pub mod PrinterView

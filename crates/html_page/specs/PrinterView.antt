@@ -7,7 +7,6 @@ use Rattle.html_bytes.specs.Layout.{with_footnotes, lay, nothing_laid, with_text
 use Rattle.definition_page.specs.Layout.{LayoutState}
 use Rattle.definition_page.specs.Read.{is_blank_ending}
 use Rattle.html_bytes.specs.Html.{number_tag, number_end, fresh_unless, last_piece}
-use Rattle.html_footnotes.specs.Output.{output_view}
 use Rattle.block_rows.specs.Rows.{BlockRow, Single, EnterQuote, EnterItem, EnterFootnote, Exit}
 use Rattle.html_levels.specs.declared.loose.Place.{Place}
 use Rattle.html_levels.specs.declared.level.Level.{Level}
@@ -15,7 +14,7 @@ use Rattle.html_levels.specs.declared.level.Holder.{Holder}
 use Rattle.html_levels.specs.declared.level.Holder.TheVariants as holder
 use Rattle.html_page.specs.declared.printer.Printer.{Printer}
 use Rattle.html_levels.specs.Loose.{places_of}
-use Rattle.html_page.specs.Prints.{footnote_text_started, footnote_text_left}
+use Rattle.html_leaves.specs.Prints.{page_view, footnote_text_started, footnote_text_left}
 use Rattle.html_levels.specs.Levels.{is_list, new_level, after_block, after_footnote, level_after, row_pieces}
 
 -- a page, the level that is open, the levels around it, and the places of the items to come
@@ -132,7 +131,7 @@ module _ (d : Document) (default : List ℕ) where
 
 -- what a printer has printed
 abbrev pub printer_view : {A : Type 0} → Printer A → PrinterView
-printer_view p = printer_at (output_view p.page.out) p.level (reverse p.outer.items) (reverse p.places.items)
+printer_view p = printer_at (page_view p.page) p.level (reverse p.outer.items) (reverse p.places.items)
 
 -- ---- the HTML of rows
 

@@ -2,7 +2,7 @@
 ghost use Rattle.std.specs.Prelude.{◌≡◌, OnOk};
 ghost use Rattle.markdown_options.specs.LineEndings.{ending_bytes};
 ghost use Rattle.html_page.specs.PrinterView.{enter_quote, leave_quote, printer_view};
-ghost use Rattle.html_page.specs.Prints.{KeepsEnding};
+ghost use Rattle.html_leaves.specs.Prints.{KeepsEnding};
 
 use crate::printer::Printer;
 use html_levels::Holder;
@@ -14,8 +14,7 @@ impl<A: Allocator + Clone> Printer<'_, A> {
         ensures default { KeepsEnding self.old.page self.new.page }
         ensures printed { OnOk result (printer_view self.new ≡ enter_quote (ending_bytes self.old.page.default_ending) (printer_view self.old)) }
     {
-        self.page.fresh()?;
-        self.page.say("<blockquote>")?;
+        self.page.fresh_tag("<blockquote>")?;
         self.enter(Holder::Quote, false)
     }
 
@@ -24,8 +23,7 @@ impl<A: Allocator + Clone> Printer<'_, A> {
         ensures default { KeepsEnding self.old.page self.new.page }
         ensures printed { OnOk result (printer_view self.new ≡ leave_quote (ending_bytes self.old.page.default_ending) (printer_view self.old)) }
     {
-        self.page.fresh()?;
-        self.page.say("</blockquote>")?;
+        self.page.fresh_tag("</blockquote>")?;
         self.leave();
         Ok(())
     }

@@ -1,31 +1,12 @@
 //! Footnote definitions, whose blocks are printed at the page's end (in neither standard).
 ghost use Rattle.std.specs.Prelude.{◌≡◌, OnOk};
-ghost use Rattle.html_page.specs.Prints.{page_view, footnote_text_started, footnote_text_left, KeepsEnding};
+ghost use Rattle.html_leaves.specs.Prints.{KeepsEnding};
 ghost use Rattle.html_page.specs.PrinterView.{enter_footnote, leave_footnote, printer_view};
 
-use crate::page::Page;
 use crate::printer::Printer;
 use block_rows::Row;
 use html_levels::Holder;
 use std::alloc::{AllocError, Allocator};
-
-impl<A: Allocator + Clone> Page<'_, A> {
-    /// The content of a footnote starts.
-    fn start_footnote(&mut self) -> Result<(), AllocError>
-        ensures default { KeepsEnding self.old self.new }
-        ensures printed { OnOk result (page_view self.new ≡ footnote_text_started (page_view self.old)) }
-    {
-        self.out.start_footnote()
-    }
-
-    /// The content of a footnote ends.
-    fn end_footnote(&mut self) -> Result<(), AllocError>
-        ensures default { KeepsEnding self.old self.new }
-        ensures printed { OnOk result (page_view self.new ≡ footnote_text_left (page_view self.old)) }
-    {
-        self.out.end_footnote()
-    }
-}
 
 impl<A: Allocator + Clone> Printer<'_, A> {
     /// A footnote definition starts: what it holds is printed into a text of its own.

@@ -1,22 +1,11 @@
-//! Blocks to HTML.
+//! Rows of blocks to HTML.
 #![tactic(auto)]
 
 pub mod block_quote;
-pub mod code_fenced;
-pub mod code_indented;
-pub mod code_lines;
 pub mod container;
 pub mod gfm_footnote_definition;
-pub mod gfm_table;
-pub mod heading;
-pub mod heading_atx;
-pub mod heading_setext;
-pub mod html_flow;
 pub mod list;
 pub mod list_item;
-pub mod page;
-pub mod paragraph;
 pub mod printer;
-pub mod thematic_break;
 
 pub use printer::print_rows;

@@ -2,7 +2,7 @@
 ghost use Rattle.std.specs.Prelude.{◌≡◌, OnOk};
 ghost use Rattle.markdown_options.specs.LineEndings.{ending_bytes};
 ghost use Rattle.html_page.specs.PrinterView.{enter_item, enter_list, start_item, leave_item, printer_view};
-ghost use Rattle.html_page.specs.Prints.{KeepsEnding};
+ghost use Rattle.html_leaves.specs.Prints.{KeepsEnding};
 
 use crate::printer::Printer;
 use html_levels::Holder;
@@ -26,8 +26,7 @@ impl<A: Allocator + Clone> Printer<'_, A> {
         ensures default { KeepsEnding self.old.page self.new.page }
         ensures printed { OnOk result (printer_view self.new ≡ start_item (ending_bytes self.old.page.default_ending) last (printer_view self.old)) }
     {
-        self.page.fresh()?;
-        self.page.say("<li>")?;
+        self.page.fresh_tag("<li>")?;
         self.enter(Holder::Item { last }, self.level.tight)
     }
 

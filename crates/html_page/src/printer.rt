@@ -8,14 +8,13 @@ ghost use Rattle.html_bytes.specs.Layout.{page_layout};
 ghost use Rattle.html_bytes.specs.Html.{document_pieces};
 ghost use Rattle.block_rows.specs.Rows.{rows_size, row_size, piece_lines, rows_of, row_value, rows_value};
 ghost use Rattle.html_contents.specs.Texts.{KnowsTargets, document_by};
-ghost use Rattle.html_page.specs.Printable.{IsPrintableRow, ArePrintable, CanBePrinted};
+ghost use Rattle.html_levels.specs.Printable.{IsPrintableRow, ArePrintable, CanBePrinted};
 ghost use Rattle.html_page.specs.PrinterView.{ends_blank_rows, is_blank_row, printer_view, print_row, print_all};
-ghost use Rattle.html_page.specs.Prints.{KeepsEnding};
+ghost use Rattle.html_leaves.specs.Prints.{KeepsEnding};
 
-use crate::page::Page;
 use block_rows::{Piece, Row};
-use html_contents::{TextBuffers, Texts};
-use html_footnotes::Output;
+use html_contents::Texts;
+use html_leaves::Page;
 use html_levels::{Holder, Level, Place, places};
 use markdown_options::{LineEnding, Tables};
 use std::alloc::{AllocError, Allocator};
@@ -128,11 +127,7 @@ pub fn print_rows<'t, T: Tables, A: Allocator + Clone>(
         IfOk result (λ html. string_bytes html ≡ page_layout texts.now.options.now.compile (ending_bytes default_ending) (document_pieces d bs)) }
 {
     let mut printer = Printer {
-        page: Page {
-            out: Output::new(alloc.clone()?, room)?,
-            buffers: TextBuffers::new(alloc.clone()?)?,
-            default_ending,
-        },
+        page: Page::new(alloc.clone()?, room, default_ending)?,
         level: Level::new(Holder::Document, false),
         outer: Vec::new(alloc.clone()?),
         places: places(alloc, &rows)?,
@@ -148,8 +143,7 @@ pub fn print_rows<'t, T: Tables, A: Allocator + Clone>(
         printer.page.fresh()?;
     }
     let Printer { page, .. } = printer;
-    let Page { out, .. } = page;
-    out.finish(&texts.options.compile, default_ending)
+    page.finish(&texts.options.compile)
 }
 
 /// From so many rows on they are printed part by part.

@@ -9,12 +9,12 @@ use Rattle.block_rows.specs.declared.row.Row.{Row}
 use Rattle.block_rows.specs.declared.row.Piece.{Piece}
 use Rattle.definition_text.specs.BlockLines.{BlockLine}
 use Rattle.block_rows.specs.Rows.{BlockRow, piece_lines, rows_value, rows_size, row_size}
-use Rattle.html_page.specs.Printable.{ArePrintable}
+use Rattle.html_levels.specs.Printable.{ArePrintable}
 use Rattle.html_page.specs.PrinterView.{PrinterView, print_row, print_all, blank_page, ends_blank_rows, rows_html, printer_view}
 use Rattle.std.specs.Result.{IfOk}
 use Rattle.definition_page.specs.Layout.{LayoutState}
 use Rattle.html_bytes.specs.Layout.{with_footnotes, lay}
-use Rattle.html_page.specs.Prints.{page_view, with_fresh}
+use Rattle.html_leaves.specs.Prints.{page_view, with_fresh}
 use Rattle.html_bytes.specs.Html.{last_piece}
 use Rattle.html_contents.specs.Texts.{document_by}
 use Rattle.html_page.specs.declared.printer.Printer.{Printer}
@@ -109,8 +109,14 @@ returns g c = λ ds has bs rows_are can.
           ∙ ap (ends out) (sym w.if-blank.true)
       | else-blank w ↦ ap (λ (p : Printer _). page_view p.page) w.printer-is ∙ ap (ends out) (sym w.if-blank.false)
     ] in
+    let page = c.if-blank.printer.page in
+    let same_default : page.default_ending ≡ c.args.default_ending = elim c.if-blank.branch [
+      | then-blank+in_ok-fresh w ↦ ap (λ (p : Printer _). p.page.default_ending) w.printer-is ∙ w.in_ok-fresh.ensures.default ∙ k.same_default
+      | else-blank w ↦ ap (λ (p : Printer _). p.page.default_ending) w.printer-is ∙ k.same_default
+    ] in
     subst (λ x. IfOk c.finish.result (λ html. string_bytes html ≡ x))
-    (ap (with_footnotes o default)
+    (ap (λ (e : LineEnding). with_footnotes o (ending_bytes e) (page_view page)) same_default
+    ∙ ap (with_footnotes o default)
     (ended
     ∙ ap (ends out) (c.ends_blank-blank.ensures all ∙ ap (λ (rs : List Row). ends_blank_rows (rows_value rs all).rows) c.deref-2.ensures.value)
     ∙ ap (λ x. ends x (ends_blank_rows every)) laid_out)

@@ -5,7 +5,7 @@ use Rattle.definition_page.specs.Layout.{LayoutState}
 use Rattle.html_levels.specs.declared.level.Level.{Level}
 use Rattle.html_levels.specs.declared.level.Holder.TheVariants as holder
 use Rattle.html_levels.specs.Levels.{after_footnote}
-use Rattle.html_page.specs.Prints.{page_view}
+use Rattle.html_leaves.specs.Prints.{page_view}
 use Rattle.html_page.specs.PrinterView.{printer_at, printer_view, within_at}
 use Rattle.html_page.proofs.printer.Printer.enter_footnote.Goals as goal
 

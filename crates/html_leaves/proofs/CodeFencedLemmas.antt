@@ -1,0 +1,185 @@
+-- Fenced code, and what it takes from the lines.
+use Rattle.std.proofs.Common.{Option, None, Some, subst, ◌≡◌, ℕ, ◌+◌, ◌-◌, ◌<◌, ◌≤◌, take, drop, List, [], ◌∷◌, ◌++◌, Bool, true, false, ◌==◌, codes, sym, refl, ap, ◌∙◌}
+use Rattle.std.proofs.Common.{length, get_or, arith, append_assoc}
+use Rattle.std.specs.Prelude.{map, if◌then◌else◌, ◌||◌}
+use Rattle.std.specs.List.{list_all}
+use Rattle.std.proofs.lemmas.List.{take-map, drop-map, take_rest}
+use Rattle.std.proofs.lemmas.List.Sums.{fold-append}
+use Rattle.markdown_options.specs.declared.line_ending.LineEnding.{LineEnding}
+use Rattle.markdown_options.specs.LineEndings.{ending_bytes}
+use Rattle.block_rows.specs.declared.row.Piece.{Piece}
+use Rattle.definition_text.specs.Lines.{TextLine, ending_text, lines}
+use Rattle.definition_text.proofs.CodeBytes.{code_bytes}
+use Rattle.markdown_options.specs.declared.line_ending.LineEnding.TheVariants.{CarriageReturnLineFeed, CarriageReturn, LineFeed}
+use Rattle.std.proofs.lemmas.List.Concat.{flat_map-append}
+use Rattle.block_rows.proofs.TextLines.{front_bytes, later_bytes, line_bytes, text_back, text_of}
+use Rattle.definition_text.specs.Columns.{bytes_of, is_byte, code_byte}
+use Rattle.definition_text.specs.Encode.{encode, encoded_byte}
+use Rattle.definition_text.specs.BlockLines.{BlockLine, own_lines, last_ending}
+use Rattle.definition_block.specs.Tree.{FencedCode}
+use Rattle.html_bytes.specs.Pieces.{Piece as PrinterView, Bytes, Fresh}
+use Rattle.html_bytes.specs.Layout.{lay, with_text}
+use Rattle.definition_page.specs.Layout.{LayoutState}
+use Rattle.markdown_options.specs.declared.configuration.CompileOptions.{CompileOptions}
+use Rattle.html_bytes.specs.Document.{Document, info_of}
+use Rattle.definition_page.specs.Read.{Standing}
+use Rattle.html_levels.specs.Levels.{standing_at}
+use Rattle.html_bytes.specs.Html.{block_pieces, class_of, code_of, fenced_content, fresh_unless}
+use Rattle.block_rows.specs.Rows.{piece_line, piece_lines, first_codes, whole_line, whole_lines}
+use Rattle.block_rows.proofs.RowSteps.{no_piece}
+use Rattle.html_leaves.specs.Prints.{layout_after, with_bytes, with_fresh, with_tag}
+use Rattle.html_leaves.proofs.Owed.{bytes_owed, none_owed}
+use Rattle.block_rows.proofs.OwnLines.{with_last_ending}
+
+-- the class of an info that isn't empty
+pub class_some : (d : Document) (info : List ℕ) → (length info == 0) ≡ false
+    → class_of d info ≡ codes " class=\"language-" ++ encode (info_of d info) ++ codes "\""
+class_some d [] some = let wrong : true ≡ false = some in cc
+class_some d (b ∷ bs) some = refl
+
+-- content with the ending of its last line
+whole_laid : (e : LineEnding) (out : LayoutState) (ls : List BlockLine)
+    → with_fresh (ending_bytes e) (with_bytes (code_of ls) out)
+    ≡ with_fresh (ending_bytes e) (with_bytes (ending_text (last_ending ls)) (with_bytes (code_of (own_lines ls)) out))
+whole_laid e out ls =
+    ap (λ x. with_fresh (ending_bytes e) (with_bytes x out)) (with_last_ending (λ codes. encode (map code_byte codes)) ls)
+    ∙ ap (λ x. with_fresh (ending_bytes e) (with_text out x)) (sym (append_assoc out.text (code_of (own_lines ls)) (ending_text (last_ending ls))))
+
+-- the ending that is printed last
+abbrev pub content_ending : Bool → Bool → LineEnding → List BlockLine → Option LineEnding
+content_ending top closed e ls = if top || closed then last_ending ls else Some e
+
+-- content with that ending
+pub content_laid : (options : CompileOptions) (e : LineEnding) (out : LayoutState) (top closed : Bool) (ls : List BlockLine) → 0 < length ls
+    → layout_after options e out (fenced_content top closed ls)
+    ≡ with_fresh (ending_bytes e) (with_bytes (ending_text (content_ending top closed e ls)) (with_bytes (code_of (own_lines ls)) out))
+content_laid options e out top closed [] some = absurd (omega arith)
+content_laid options e out true closed (l ∷ ls) some = whole_laid e out (l ∷ ls)
+content_laid options e out false true (l ∷ ls) some = whole_laid e out (l ∷ ls)
+content_laid options e out false false (l ∷ ls) some = refl
+
+-- what stands after the content of code that isn't closed
+end_laid : (options : CompileOptions) (e : LineEnding) (out : LayoutState) (content : List PrinterView)
+    → with_fresh (ending_bytes e) (with_bytes (codes "</code></pre>") (layout_after options e out content))
+    ≡ layout_after options e out (content ++ Bytes (codes "</code></pre>") ∷ fresh_unless false)
+end_laid options e out content = sym (fold-append (lay options (ending_bytes e)) out content (Bytes (codes "</code></pre>") ∷ Fresh ∷ []))
+
+-- the start tags, step by step
+pub tags_laid : (d : Document) (e : LineEnding) (info : List ℕ) (out tag class : LayoutState)
+    → tag ≡ with_tag (ending_bytes e) (codes "<pre><code") out → class ≡ with_bytes (class_of d info) tag
+    → with_bytes (codes ">") class ≡ with_tag (ending_bytes e) (codes "<pre><code" ++ class_of d info ++ codes ">") out
+tags_laid d e info out tag class is_tag is_class =
+    let line = with_fresh (ending_bytes e) out in
+    let t = line.text in
+    ap (with_bytes (codes ">")) (is_class ∙ ap (with_bytes (class_of d info)) is_tag)
+    ∙ ap (λ x. with_text out (x ++ codes ">")) (append_assoc t (codes "<pre><code") (class_of d info))
+    ∙ ap (with_text out) (append_assoc t (codes "<pre><code" ++ class_of d info) (codes ">"))
+
+-- code with its start tags
+abbrev tagged : Document → LineEnding → List ℕ → LayoutState → LayoutState
+tagged d e info out = with_tag (ending_bytes e) (codes "<pre><code" ++ class_of d info ++ codes ">") out
+
+-- code that isn't closed, step by step
+pub open_laid : (d : Document) (e inner after : LineEnding) (info : List ℕ) (top closed : Bool) (ls : List BlockLine)
+    (out start content end : LayoutState)
+    → closed ≡ false → inner ≡ e → after ≡ e → start ≡ tagged d e info out
+    → content ≡ layout_after d.options.compile inner start (fenced_content top closed ls) → end ≡ with_bytes (codes "</code></pre>") content
+    → with_fresh (ending_bytes after) end ≡ layout_after d.options.compile e out (block_pieces d (standing_at top) false false (FencedCode info closed ls))
+open_laid d e inner after info top closed ls out start content end not_closed same_inner same_after is_start is_content is_end =
+    let o = d.options.compile in
+    let first = tagged d e info out in
+    let body = fenced_content top closed ls in
+    ap (λ x. with_fresh (ending_bytes x) end) same_after
+    ∙ ap (with_fresh (ending_bytes e)) (is_end ∙ ap (with_bytes (codes "</code></pre>")) (is_content ∙ ap (λ x. layout_after o x start body) same_inner
+    ∙ ap (λ x. layout_after o e x body) is_start))
+    ∙ end_laid o e first body
+    ∙ ap (λ b. layout_after o e first (body ++ Bytes (codes "</code></pre>") ∷ fresh_unless b)) (sym not_closed)
+
+-- code that is closed
+pub closed_laid : (d : Document) (e inner : LineEnding) (info : List ℕ) (top closed : Bool) (ls : List BlockLine) (out start content : LayoutState)
+    → closed ≡ true → inner ≡ e → start ≡ tagged d e info out
+    → content ≡ layout_after d.options.compile inner start (fenced_content top closed ls)
+    → with_bytes (codes "</code></pre>") content
+    ≡ layout_after d.options.compile e out (block_pieces d (standing_at top) false false (FencedCode info closed ls))
+closed_laid d e inner info top closed ls out start content is_closed same_inner is_start is_content =
+    let o = d.options.compile in
+    let first = tagged d e info out in
+    let body = fenced_content top closed ls in
+    ap (with_bytes (codes "</code></pre>")) (is_content ∙ ap (λ x. layout_after o x start body) same_inner
+    ∙ ap (λ x. layout_after o e x body) is_start)
+    ∙ sym (fold-append (lay o (ending_bytes e)) first body (Bytes (codes "</code></pre>") ∷ []))
+    ∙ ap (λ b. layout_after o e first (body ++ Bytes (codes "</code></pre>") ∷ fresh_unless b)) (sym is_closed)
+
+-- ---- content that is the lines of a text
+
+encoded_ending : (o : Option LineEnding) → encode (ending_text o) ≡ ending_text o
+encoded_ending None = refl
+encoded_ending (Some CarriageReturnLineFeed) = refl
+encoded_ending (Some CarriageReturn) = refl
+encoded_ending (Some LineFeed) = refl
+
+-- is printed as the text is
+encoded_lines : (ls : List TextLine) → ((k : ℕ) → get_or (text_of ls) k 0 < 256) → code_of (map whole_line ls) ≡ encode (text_of ls)
+encoded_lines [] bytes = refl
+encoded_lines (line ∷ others) bytes =
+    let front = line_bytes line in
+    let own = front_bytes line.content (ending_text line.ending) (front_bytes front (text_of others) bytes) in
+    ap (λ x. x ++ code_of (map whole_line others))
+    (ap (λ x. encode x ++ ending_text line.ending) (code_bytes line.content own)
+    ∙ ap (λ x. encode line.content ++ x) (sym (encoded_ending line.ending))
+    ∙ sym (flat_map-append encoded_byte line.content (ending_text line.ending)))
+    ∙ ap (λ x. encode front ++ x) (encoded_lines others (later_bytes front (text_of others) bytes))
+    ∙ sym (flat_map-append encoded_byte front (text_of others))
+
+some_content : (options : CompileOptions) (e : LineEnding) (out : LayoutState) (top : Bool) (ls : List BlockLine) → 0 < length ls
+    → layout_after options e out (fenced_content top true ls) ≡ with_fresh (ending_bytes e) (with_bytes (code_of ls) out)
+some_content options e out top [] some = absurd (omega (arith, some))
+some_content options e out true (l ∷ ls) some = refl
+some_content options e out false (l ∷ ls) some = refl
+
+pub text_content : (options : CompileOptions) (e : LineEnding) (out : LayoutState) (top : Bool) (text : List ℕ) → ((k : ℕ) → get_or text k 0 < 256)
+    → 0 < length text
+    → layout_after options e out (fenced_content top true (whole_lines text)) ≡ with_fresh (ending_bytes e) (with_bytes (encode text) out)
+text_content options e out top text bytes some =
+    let back = text_back text in
+    some_content options e out top (whole_lines text) (some_lines (lines text) (subst (λ xs. 0 < length xs) (sym back) some))
+    ∙ ap (λ x. with_fresh (ending_bytes e) (with_bytes x out))
+    (encoded_lines (lines text) (subst (λ xs. (k : ℕ) → get_or xs k 0 < 256) (sym back) bytes) ∙ ap encode back)
+  where
+    some_lines : (ls : List TextLine) → 0 < length (text_of ls) → 0 < length (map whole_line ls)
+    some_lines [] some = absurd (omega (arith, some))
+    some_lines (line ∷ others) some = omega arith
+
+-- ---- what a row takes
+
+-- the text of the first piece is the info
+pub info_is : (pieces : List Piece) → 0 < length pieces → list_all is_byte (first_codes (piece_lines pieces)) ≡ true
+    → first_codes (piece_lines pieces) ≡ (get_or pieces 0 no_piece).text.now
+info_is [] some h = absurd (omega arith)
+info_is (a ∷ others) some h = none_owed a.owed a.text.now h
+
+-- the pieces after it are the content
+content_is : (count : ℕ) (pieces : List Piece) → piece_lines (take count (take (length pieces - 1) (drop 1 pieces))) ≡ take count (drop 1 (piece_lines pieces))
+content_is count pieces =
+    ap (λ ps. piece_lines (take count ps)) (take_rest pieces 1)
+    ∙ sym (take-map piece_line count (drop 1 pieces))
+    ∙ ap (take count) (sym (drop-map piece_line 1 pieces))
+
+pub fenced_laid : (d : Document) (e : LineEnding) (out : LayoutState) (s : Standing) (tight silent closed : Bool) (count : ℕ) (pieces : List Piece)
+    → 1 + count ≤ length pieces → list_all is_byte (first_codes (piece_lines pieces)) ≡ true
+    → layout_after d.options.compile e out (block_pieces d (standing_at s.top) false false
+    (FencedCode (get_or pieces 0 no_piece).text.now closed (piece_lines (take count (take (length pieces - 1) (drop 1 pieces))))))
+    ≡ layout_after d.options.compile e out
+    (block_pieces d s tight silent (FencedCode (first_codes (piece_lines pieces)) closed (take count (drop 1 (piece_lines pieces)))))
+fenced_laid d e out s tight silent closed count pieces enough h =
+    let info = (get_or pieces 0 no_piece).text.now in
+    ap (λ ls. layout_after d.options.compile e out (block_pieces d s tight silent (FencedCode info closed ls))) (content_is count pieces)
+    ∙ ap (λ x. layout_after d.options.compile e out (block_pieces d s tight silent (FencedCode x closed (take count (drop 1 (piece_lines pieces))))))
+    (sym (info_is pieces (omega arith) h))
+
+-- the text of the second piece is that of the lines
+pub second_codes : (pieces : List Piece) → 2 ≤ length pieces → ((k : ℕ) → get_or (get_or pieces 1 no_piece).text.now k 0 < 256)
+    → bytes_of (first_codes (drop 1 (piece_lines pieces))) ≡ (get_or pieces 1 no_piece).text.now
+second_codes [] enough bytes = absurd (omega (arith, enough))
+second_codes (a ∷ []) enough bytes = absurd (omega (arith, enough))
+second_codes (a ∷ b ∷ others) enough bytes = bytes_owed b.owed b.text.now bytes

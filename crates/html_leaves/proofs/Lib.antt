@@ -1,0 +1,5 @@
+pub mod Laid
+pub mod Owed
+pub mod Lines
+pub mod GfmTableLemmas
+pub mod CodeFencedLemmas

@@ -1,0 +1,12 @@
+use Rattle.std.proofs.Common.{◌≡◌, ◌++◌, string_bytes, take}
+use Rattle.definition_text.specs.BlockLines.{own_lines, last_ending}
+use Rattle.html_bytes.specs.Html.{html_of}
+use Rattle.block_rows.specs.Rows.{piece_lines}
+use Rattle.html_leaves.proofs.html_flow.push_html_lines.Given as goal
+
+-- the lines so far are printed, and the ending of the last one waits
+abbrev pub invariant-loop-line : goal.invariant-loop-line
+invariant-loop-line g l = record {
+  printed : string_bytes l.out ≡ string_bytes l.initial.out ++ html_of l.options (own_lines (piece_lines (take l.line-index l.lines)));
+  waits : l.waiting ≡ last_ending (piece_lines (take l.line-index l.lines));
+}

@@ -1,0 +1,7 @@
+use Rattle.std.specs.Prelude.{[]}
+use Rattle.markdown_options.specs.Defaults.{default_compile_options}
+use Rattle.html_leaves.proofs.page.Page.start_footnote.Goals as goal
+
+-- nothing of it depends on the options, nor on the default ending
+pub returns-clause-printed : goal.returns-clause-printed
+returns-clause-printed g c = c.start_footnote.ensures default_compile_options []

@@ -1,0 +1,24 @@
+use Rattle.std.proofs.Common.{◌≡◌, drop}
+use Rattle.definition_page.specs.Targets.{Targets}
+use Rattle.definition_block.specs.GfmTable.{line_cells}
+use Rattle.html_bytes.specs.GfmTable.{cells_pieces}
+use Rattle.html_contents.specs.Texts.{KnowsTargets, document_by}
+use Rattle.block_cells.specs.GfmTable.{cells_left}
+use Rattle.block_rows.specs.ParagraphLines.{HaveNoEnding}
+use Rattle.block_rows.specs.Rows.{piece_line}
+use Rattle.html_leaves.specs.GfmTable.{CellsAreClear, cell_name}
+use Rattle.html_leaves.specs.Prints.{layout_after, page_view}
+use Rattle.html_leaves.proofs.page.Page.table_cells.Given as goal
+
+-- the cells that are left are still to be printed, in the columns that are left
+abbrev pub invariant-loop-align : goal.invariant-loop-align
+invariant-loop-align g l = record {
+  same_default : l.self.default_ending ≡ l.initial.self.default_ending;
+  clear : HaveNoEnding (piece_line l.line).codes → CellsAreClear (cells_left l.cells);
+  printed : (ds : Targets) → KnowsTargets l.texts ds → HaveNoEnding (piece_line l.line).codes →
+      let d = document_by g.T.Tables l.texts ds in
+      layout_after d.options.compile l.initial.self.default_ending (page_view l.self)
+      (cells_pieces d (cell_name l.kind) (drop l.align-index l.aligns) (cells_left l.cells))
+      ≡ layout_after d.options.compile l.initial.self.default_ending (page_view l.initial.self)
+      (cells_pieces d (cell_name l.kind) l.aligns (line_cells (piece_line l.line)));
+}

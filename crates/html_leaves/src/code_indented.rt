@@ -1,0 +1,26 @@
+//! Indented code (CommonMark 4.4).
+ghost use Rattle.std.specs.Prelude.{OnOk, true, false};
+ghost use Rattle.html_bytes.specs.Document.{Document};
+ghost use Rattle.definition_text.specs.BlockLines.{own_lines};
+ghost use Rattle.definition_block.specs.Tree.{IndentedCode};
+ghost use Rattle.definition_page.specs.Read.{on_page};
+ghost use Rattle.html_bytes.specs.Html.{block_pieces};
+ghost use Rattle.block_rows.specs.Rows.{piece_lines};
+ghost use Rattle.html_leaves.specs.Prints.{LaysOut, KeepsEnding};
+
+use crate::page::Page;
+use block_rows::Piece;
+use std::alloc::{AllocError, Allocator};
+
+impl<A: Allocator + Clone> Page<'_, A> {
+    /// Prints indented code (CommonMark 4.4).
+    pub(crate) fn indented_code(&mut self, lines: &[Piece<'_>]) -> Result<(), AllocError>
+        ensures default { KeepsEnding self.old self.new }
+        ensures printed { (d : Document) → let code = IndentedCode (own_lines (piece_lines lines.now)) in
+            OnOk result (LaysOut d.options.compile self.old self.new (block_pieces d on_page false false code)) }
+    {
+        self.fresh_tag("<pre><code>")?;
+        self.code(lines)?;
+        self.fresh_tag("</code></pre>")
+    }
+}

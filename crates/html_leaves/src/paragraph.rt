@@ -1,0 +1,65 @@
+//! Paragraphs (CommonMark 4.8).
+ghost use Rattle.std.specs.Prelude.{◌<◌, ℕ, List, slice_index, OnOk, true, false};
+ghost use Rattle.definition_page.specs.Targets.{Targets};
+ghost use Rattle.block_rows.specs.ParagraphLines.{AreLines};
+ghost use Rattle.definition_text.specs.BlockLines.{own_lines};
+ghost use Rattle.definition_block.specs.Tree.{Paragraph};
+ghost use Rattle.html_bytes.specs.Html.{block_pieces};
+ghost use Rattle.block_rows.specs.Rows.{piece_lines, whole_lines};
+ghost use Rattle.html_contents.specs.Texts.{KnowsTargets, document_by};
+ghost use Rattle.html_levels.specs.Levels.{standing_first};
+ghost use Rattle.html_leaves.specs.Prints.{LaysOut, KeepsEnding};
+
+use crate::page::Page;
+use block_rows::Piece;
+use html_contents::Texts;
+use markdown_options::Tables;
+use std::alloc::{AllocError, Allocator};
+
+impl<'t, A: Allocator + Clone> Page<'t, A> {
+    /// Prints a paragraph, which may be the first block of an item (CommonMark 4.8). That of a tight
+    /// item is its text alone.
+    pub(crate) fn paragraph<T: Tables>(
+        &mut self,
+        texts: &Texts<'t, '_, T, A>,
+        tight: bool,
+        first: bool,
+        lines: &[Piece<'t>],
+    ) -> Result<(), AllocError>
+        ensures default { KeepsEnding self.old self.new }
+        ensures printed { (ds : Targets) → KnowsTargets texts.now ds → AreLines (piece_lines lines.now) →
+            let paragraph = Paragraph (own_lines (piece_lines lines.now)) in
+            let d = document_by T.Tables texts.now ds in
+            OnOk result (LaysOut d.options.compile self.old self.new (block_pieces d (standing_first first) tight false paragraph)) }
+    {
+        if tight {
+            return texts.push_paragraph(&mut self.out, &mut self.buffers, first, lines);
+        }
+        self.fresh_tag("<p>")?;
+        texts.push_paragraph(&mut self.out, &mut self.buffers, first, lines)?;
+        self.say("</p>")
+    }
+
+    /// Prints a paragraph of the lines of a text (CommonMark 4.8).
+    pub(crate) fn whole_paragraph<T: Tables>(
+        &mut self,
+        texts: &Texts<'t, '_, T, A>,
+        tight: bool,
+        first: bool,
+        text: &'t str,
+    ) -> Result<(), AllocError>
+        ensures default { KeepsEnding self.old self.new }
+        ensures printed { (ds : Targets) → KnowsTargets texts.now ds →
+            let paragraph = Paragraph (own_lines (whole_lines text.now)) in
+            let d = document_by T.Tables texts.now ds in
+            OnOk result (LaysOut d.options.compile self.old self.new (block_pieces d (standing_first first) tight false paragraph)) }
+        ensures bytes { (k : ℕ) → slice_index text.now k < 256 }
+    {
+        if tight {
+            return texts.push_whole(&mut self.out, &mut self.buffers, first, text);
+        }
+        self.fresh_tag("<p>")?;
+        texts.push_whole(&mut self.out, &mut self.buffers, first, text)?;
+        self.say("</p>")
+    }
+}

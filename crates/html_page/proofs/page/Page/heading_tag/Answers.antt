@@ -1,6 +1,0 @@
-use Rattle.html_footnotes.specs.Output.{output_view}
-use Rattle.html_page.proofs.Laid.{text_laid}
-use Rattle.html_page.proofs.page.Page.heading_tag.Goals as goal
-
-pub returns-clause-printed : goal.returns-clause-printed
-returns-clause-printed g c = text_laid c.push_heading_tag.result (output_view c.args.self.now.out) _ _ c.push_heading_tag.ensures
