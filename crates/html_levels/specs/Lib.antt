@@ -1,3 +1,4 @@
 pub mod Loose
 pub mod Levels
 pub mod Printable
+pub mod Places

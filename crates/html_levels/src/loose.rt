@@ -2,9 +2,13 @@
 ghost use Rattle.std.specs.Prelude.{◌≡◌, List, true, IfOk, OnOk, reverse};
 ghost use Rattle.std.specs.List.{list_any};
 ghost use Rattle.definition_text.specs.BlockLines.{BlockLine};
-ghost use Rattle.block_rows.specs.Rows.{row_value, rows_value};
+ghost use Rattle.definition_block.specs.Tree.{Blocks};
+ghost use Rattle.definition_block.specs.Lists.{group_items};
+ghost use Rattle.block_rows.specs.Rows.{row_value, rows_of, rows_value};
 ghost use Rattle.html_levels.specs.Loose.{before_block, before_ending, before_item, bounds_container, place_at, pass_view, pass_row, pass_item};
 ghost use Rattle.html_levels.specs.Loose.{leave, places_of, starts_item};
+ghost use Rattle.html_levels.specs.Places.{all_places};
+ghost use Rattle.html_levels.specs.Printable.{CanBePrinted};
 
 use block_rows::Row;
 use std::alloc::{AllocError, Allocator};
@@ -152,7 +156,9 @@ impl<A: Allocator> Pass<A> {
 
 /// The places of all items, that of the first item last.
 pub fn places<A: Allocator + Clone>(alloc: A, rows: &[Row]) -> Result<Vec<Place, A>, AllocError>
-    ensures { IfOk result (λ places. (ls : List BlockLine) → reverse places.items ≡ places_of (rows_value rows.now ls).rows) }
+    ensures rows { IfOk result (λ places. (ls : List BlockLine) → reverse places.items ≡ places_of (rows_value rows.now ls).rows) }
+    ensures lists { IfOk result (λ places. (ls : List BlockLine) (bs : Blocks) → (rows_value rows.now ls).rows ≡ rows_of bs → CanBePrinted bs →
+        reverse places.items ≡ all_places (group_items bs)) }
 {
     if !has_items(rows) {
         return Ok(Vec::new(alloc));

@@ -1,8 +1,7 @@
 -- What the rows of blocks print, in each container and list.
-use Rattle.std.proofs.Common.{◌≡◌, ℕ, ◌≤◌, Bool, true, false, not, ◌==◌, List, [], ◌∷◌, ◌++◌, Option, refl, sym, ap, ◌∙◌, subst, append_assoc, codes, None}
+use Rattle.std.proofs.Common.{◌≡◌, ℕ, ◌≤◌, Bool, true, false, not, ◌==◌, List, [], ◌∷◌, ◌++◌, Option, refl, sym, ap, ◌∙◌, append_assoc, codes, None}
 use Rattle.std.proofs.Common.{Some}
 use Rattle.std.specs.List.{fold}
-use Rattle.std.proofs.lemmas.Bool.{eqb-true}
 use Rattle.std.proofs.lemmas.List.Sums.{fold-append}
 use Rattle.definition_block.specs.declared.container.Item.{Item as ItemOf}
 use Rattle.definition_block.specs.Container.{Quote, Item, Footnote}
@@ -20,13 +19,13 @@ use Rattle.html_levels.specs.declared.level.Level.{Level}
 use Rattle.html_levels.specs.declared.level.Holder.{Holder}
 use Rattle.html_levels.specs.declared.level.Holder.TheVariants as holder
 use Rattle.html_levels.specs.declared.loose.Place.{Place}
-use Rattle.html_levels.specs.declared.loose.Ahead.{Ahead}
 use Rattle.html_levels.specs.Printable.{IsPrintable, CanBePrinted}
 use Rattle.html_levels.specs.Loose.{place_at}
 use Rattle.html_levels.specs.Levels.{standing_of, is_list, level_of, new_level, after_block, after_footnote, level_after}
 use Rattle.html_page.specs.PrinterView.{PrinterView, printer_at, in_list, start_item, exit_of, leave_list_if, print_row, print_all, more}
-use Rattle.html_levels.proofs.Ahead.{ahead_of, ahead_of_item, before_item_is, list_ahead, after_list, on_list, off_list, no_marker}
-use Rattle.html_page.proofs.Places.{places_in, places_within}
+use Rattle.html_levels.proofs.Ahead.{ahead_of, before_item_is, list_ahead, after_list, on_list, off_list, no_marker}
+use Rattle.html_levels.proofs.BlockPlaces.{places_in, places_within}
+use Rattle.html_levels.proofs.ListPlaces.{next_marker, place_loose}
 use Rattle.html_levels.proofs.Past.{level_past, past_kind, past_plain}
 
 module _ (d : Document) (default : List ℕ) where
@@ -197,16 +196,6 @@ module _ (d : Document) (default : List ℕ) where
   list_started item kids place l out outer places no_list =
       ap (λ x. print_all d default (start_item default (not place.goes_on) (in_list default x item.number (not place.loose) (printer_at out l outer places)))
       (rows_of kids ++ Exit ∷ [])) no_list
-
-  -- where a list goes on, its next item has a marker
-  next_marker : (item : ItemOf) (gs : Blocks) → 1 ≤ item.marker → (list_marker (after_endings gs) == item.marker) ≡ true → 1 ≤ list_marker (after_endings gs)
-  next_marker item gs some same = subst (λ n. 1 ≤ n) (sym (eqb-true (list_marker (after_endings gs)) item.marker same)) some
-
-  -- the place says whether the list is loose
-  place_loose : (item : ItemOf) (kids gs : Blocks) → 1 ≤ item.marker
-      → (place_at (ahead_of gs) item.marker (has_gap kids)).loose
-      ≡ is_loose (Cons (Holds (Item item) kids) (on_list (list_marker (after_endings gs) == item.marker) gs))
-  place_loose item kids gs some = sym (ap (λ (a : Ahead). a.loose) (ahead_of_item item kids gs some))
 
   item_step : (item : ItemOf) (kids bs : Blocks) → 1 ≤ item.marker → ChildrenPrinted kids → ChildrenPrinted bs → ListPrinted bs
       → StepPrinted (Holds (Item item) kids) bs

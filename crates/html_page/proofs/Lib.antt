@@ -1,4 +1,3 @@
-pub mod Places
 pub mod Children
 pub mod RowsOf
 pub mod RowSteps

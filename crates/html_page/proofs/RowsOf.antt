@@ -20,7 +20,7 @@ use Rattle.html_levels.specs.Printable.{IsPrintable, IsPrintableContainer, IsPri
 use Rattle.html_levels.specs.Loose.{PassView}
 use Rattle.html_levels.specs.Levels.{new_level}
 use Rattle.html_page.specs.PrinterView.{PrinterView, printer_at, print_all, is_blank_row, ends_blank_rows, rows_html}
-use Rattle.html_page.proofs.Places.{blocks_passed}
+use Rattle.html_levels.proofs.BlockPlaces.{blocks_passed}
 use Rattle.html_page.proofs.Children.{blocks_printed}
 
 -- ---- whether the last row is the ending of a blank line
