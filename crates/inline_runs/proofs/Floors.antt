@@ -1,5 +1,5 @@
 -- Searches for the nearest opener, and floors.
-use Rattle.std.proofs.Common.{inl, inr, ◌≡◌, ℕ, ◌+◌, ◌-◌, ◌<◌, ◌≤◌, List, [], ◌∷◌, ◌++◌, take, false, refl, sym, ap, ◌∙◌, length, get_or, arith, subst}
+use Rattle.std.proofs.Common.{inl, inr, ◌≡◌, Bool, ℕ, ◌-◌, ◌<◌, ◌≤◌, List, [], ◌∷◌, ◌++◌, take, false, refl, sym, ap, ◌∙◌, length, get_or, arith, subst}
 use Rattle.std.proofs.lemmas.Bool.{cases_lt}
 use Rattle.std.proofs.lemmas.List.{get_or_default, get_or-take, get_or_append_left, get_or-append_right, length-append, length-take}
 use Rattle.std.proofs.lemmas.List.Elements.{All-push, All-take, All-weaker}
@@ -7,9 +7,13 @@ use Rattle.std.specs.List.{All}
 use Rattle.inline_runs.specs.View.{run_view}
 use Rattle.inline_runs.specs.declared.openers.Opener.{Opener}
 use Rattle.inline_runs.specs.declared.openers.Want.{Want}
-use Rattle.inline_runs.specs.declared.openers.Floor.{Floor}
 use Rattle.inline_runs.specs.declared.openers.Openers.{Openers}
 use Rattle.inline_runs.specs.Floors.{fits, FitsAt, IsFloor, IsFloorOf, AreOpenersAt}
+
+-- whether an opener fits, whatever it is read by
+pub fits_at : (openers : List Opener) (w : Want) (n : ℕ) (e : Opener) {whether : Bool} → n < length openers
+    → fits (run_view (get_or openers n e).placed.run) w ≡ whether → FitsAt openers n w whether
+fits_at openers w n e lt is d = ap (λ (o : Opener). fits (run_view o.placed.run) w) (get_or_default openers n d e lt) ∙ is
 
 -- one more opener that doesn't fit
 pub one_less : (openers : List Opener) (w : Want) (n : ℕ) (e : Opener) → 0 < n → n ≤ length openers

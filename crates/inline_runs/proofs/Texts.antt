@@ -1,14 +1,15 @@
 -- How many bytes of a run are text.
-use Rattle.std.proofs.Common.{inl, inr, ◌≡◌, ℕ, ◌+◌, ◌-◌, List, [], ◌∷◌, ◌++◌, refl, sym, ap, ◌∙◌, length, take, drop, reverse, arith}
+use Rattle.std.proofs.Common.{inl, inr, ◌≡◌, ℕ, ◌+◌, ◌-◌, List, [], ◌∷◌, ◌++◌, refl, sym, ap, ◌∙◌, length, take, drop, reverse, arith, subst}
 use Rattle.std.specs.Prelude.{slice_index, slice_range}
 use Rattle.std.proofs.lemmas.Bool.{cases_lt}
 use Rattle.std.proofs.lemmas.List.{length-append, get_or_append_left, get_or_push, reverse-append, drop_at, take_rest}
 use Rattle.std.proofs.lemmas.List.Sums.{sum_by_push, sum_by-cons}
+use Rattle.std.proofs.lemmas.Grind.{common_steps}
 use Rattle.inline_runs.specs.declared.pair.Pair.{Pair}
 use Rattle.inline_runs.specs.declared.spans.RunLayout.{RunLayout}
 use Rattle.inline_runs.specs.declared.pairs.Ends.{Ends}
 use Rattle.inline_runs.specs.Threads.{closed_by, opened_by, IsEnds}
-use Rattle.inline_runs.specs.Laid.{pair_bytes, bytes, text_at, AreTexts}
+use Rattle.inline_runs.specs.Laid.{pair_bytes, bytes, text_at, AreTexts, IsLaid, AreLaid}
 
 bytes-reverse : (ps : List Pair) → bytes (reverse ps) ≡ bytes ps
 bytes-reverse [] = refl
@@ -41,4 +42,18 @@ text_pushed ps sizes laid l is texts i d lt =
       | inr new ↦
           let at : length laid ≡ i = omega (arith, length-append laid (l ∷ [])) in
           ap (λ (m : RunLayout). m.text) (get_or_push laid l d i at) ∙ is ∙ ap (λ k. text_at ps k (slice_index sizes k)) at
+    ]
+
+pub laid_pushed : (ps all more : List Pair) (laid : List RunLayout) (l : RunLayout) → AreLaid ps all laid → more ≡ reverse (opened_by (length laid) ps)
+    → l.start ≡ length all → l.end ≡ length (all ++ more) → AreLaid ps (all ++ more) (laid ++ l ∷ [])
+laid_pushed ps all more laid l are is start end i d lt =
+    elim (cases_lt i (length laid)) [
+      | inl old ↦
+          let before = are i d old in
+          subst (IsLaid ps i (all ++ more)) (sym (get_or_append_left laid (l ∷ []) d i old))
+          (record { in_order = before.in_order; within = omega (arith, before.within, length-append all more); opened = grind (arith, common_steps) })
+      | inr new ↦
+          let at : length laid ≡ i = omega (arith, length-append laid (l ∷ [])) in
+          subst (IsLaid ps i (all ++ more)) (sym (get_or_push laid l d i at))
+          (record { in_order = omega (arith, length-append all more); within = omega arith; opened = grind (arith, common_steps) })
     ]

@@ -1,4 +1,4 @@
-use Rattle.std.proofs.Common.{◌≡◌, ◌<◌, ◌≤◌, ℕ, length, get_or, false}
+use Rattle.std.proofs.Common.{◌<◌, ◌≤◌, ℕ, length, false}
 use Rattle.inline_runs.specs.Floors.{FitsAt}
 use Rattle.inline_runs.proofs.openers.up_to_nearest.Given as goal
 

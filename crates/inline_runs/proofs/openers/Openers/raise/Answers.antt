@@ -1,4 +1,4 @@
-use Rattle.std.proofs.Common.{◌≡◌, ◌<◌, ℕ, ap, sym, subst, get_or, length, false}
+use Rattle.std.proofs.Common.{◌<◌, ℕ, ap, sym, subst, length, false}
 use Rattle.std.proofs.lemmas.List.Elements.{All-set, All-push}
 use Rattle.inline_runs.specs.Floors.{FitsAt, AreOpenersAt, IsFloorOf}
 use Rattle.inline_runs.proofs.Floors.{new_floor}

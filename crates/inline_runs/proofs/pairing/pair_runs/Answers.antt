@@ -1,0 +1,20 @@
+use Rattle.std.proofs.Common.{◌+◌, List, drop, ap, sym, ◌∙◌}
+use Rattle.std.specs.List.{fold}
+use Rattle.std.proofs.lemmas.List.{at_drop_more}
+use Rattle.definition_inline.specs.Pairing.{next_run, placed_from}
+use Rattle.inline_runs.specs.View.{runs_view}
+use Rattle.inline_runs.specs.Paired.{state}
+use Rattle.inline_runs.specs.declared.run.Run.{Run}
+use Rattle.inline_runs.proofs.pairing.pair_runs.Goals as goal
+
+pub loop-place-preserved : goal.loop-place-preserved
+loop-place-preserved g c =
+    let runs = c.args.runs.now in
+    let place = c.loop-place.place in
+    record {
+      same =
+          ap (λ s. fold next_run s (placed_from (place + 1) (runs_view (drop (place + 1) runs)))) c.in_ok-next_run.ensures.state
+          ∙ sym (at_drop_more (λ (rs : List Run). fold next_run (state c.loop-place.pairing) (placed_from place (runs_view rs))) runs place _ c.loop-place-test.true)
+          ∙ c.loop-place.invariant.same;
+      sound = c.in_ok-next_run.ensures.sound;
+    }
