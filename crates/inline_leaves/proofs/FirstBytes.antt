@@ -1,5 +1,5 @@
 -- Which constructs begin with a byte.
-use Rattle.std.proofs.Common.{◌≡◌, ◌⊎◌, ℕ, ◌<◌, List, [], ◌∷◌, false, not, ◌||◌, eqb, Option, None, Some, refl, sym, ap, ◌∙◌, get_or, arith, inl, inr}
+use Rattle.std.proofs.Common.{◌≡◌, ◌⊎◌, ℕ, ◌<◌, List, [], ◌∷◌, false, not, ◌||◌, eqb, Option, None, Some, refl, sym, ap, ◌∙◌, get_or, length, arith, inl, inr}
 use Rattle.std.specs.Prelude.{nat_le}
 use Rattle.std.proofs.lemmas.Bool.{cases_Bool, cond-false, cond-true, eqb-true, eqb-false, ne_eqb, and_left, and_right, or_from}
 use Rattle.markdown_options.specs.declared.configuration.Constructs.{Constructs}
@@ -195,3 +195,9 @@ module _ (options : ParseOptions) (names : List ℕ → Option (List ℕ)) (xs :
       ∙ no_ends return
       (or_from (eqb x 10 || eqb x 13) (eqb x 257) (or_from (eqb x 10) (eqb x 13) (ne_eqb x 10 feed) (ne_eqb x 13 return)) (ne_eqb x 257 (λ e. omega arith)))
       (or_from (eqb x 32 || eqb x 9) (eqb x 256) (or_from (eqb x 32) (eqb x 9) (ne_eqb x 32 space) (ne_eqb x 9 tab)) (ne_eqb x 256 (λ e. omega arith)))
+
+pub by_nothing : (options : ParseOptions) (names : List ℕ → Option (List ℕ)) (xs : List ℕ) → length xs ≡ 0 → leaf_in options names (content_codes xs) ≡ None
+by_nothing options names [] e =
+    by_other options names [] (omega arith) (λ f. omega arith) (λ f. omega arith) (λ f. omega arith) (λ f. omega arith)
+    (λ f. omega arith) (λ f. omega arith) (λ f. omega arith) (λ f. omega arith) (λ f. omega arith)
+by_nothing options names (x ∷ xs) e = absurd (omega arith)

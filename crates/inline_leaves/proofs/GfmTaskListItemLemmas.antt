@@ -1,5 +1,5 @@
 -- White space after a check, by bytes and by codes; and where a check ends.
-use Rattle.std.proofs.Common.{◌≡◌, ℕ, zero, suc, ◌+◌, ◌-◌, ◌<◌, List, [], ◌∷◌, Bool, true, false, cond, eqb, refl, sym, ap, ◌∙◌, length, drop, get_or, arith}
+use Rattle.std.proofs.Common.{◌≡◌, ℕ, ◌+◌, ◌-◌, ◌<◌, List, [], ◌∷◌, Bool, true, eqb, refl, sym, ap, ◌∙◌, length, drop, get_or, arith}
 use Rattle.std.proofs.Common.{inl, inr}
 use Rattle.std.specs.Prelude.{not, ◌&&◌}
 use Rattle.std.specs.List.{list_all}
@@ -8,8 +8,6 @@ use Rattle.std.proofs.lemmas.List.{get_or-drop, get_or_past}
 use Rattle.definition_text.specs.Content.{content_codes, is_space}
 use Rattle.definition_inline.specs.GfmTaskListItem.{is_apart}
 use Rattle.inline_links.proofs.Cuts.{one_code}
-use Rattle.inline_links.specs.Codes.{ReadsCode}
-use Rattle.inline_leaves.specs.Leaves.{size_before}
 use Rattle.inline_leaves.specs.GfmTaskListItem.{IsCheckEnd}
 use Rattle.inline_leaves.proofs.Codes.{end_after}
 

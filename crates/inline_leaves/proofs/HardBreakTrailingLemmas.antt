@@ -1,8 +1,6 @@
 -- Spaces and tabs at the end of a line, in codes and in bytes.
-use Rattle.std.proofs.Common.{◌≡◌, ℕ, zero, suc, ◌+◌, ◌-◌, ◌<◌, ◌≤◌, List, true, false, ◌&&◌, eqb, leb, refl, sym, ap, ◌∙◌, get_or, length, drop, take, arith}
-use Rattle.std.proofs.Common.{subst}
+use Rattle.std.proofs.Common.{◌≡◌, ℕ, ◌+◌, ◌-◌, ◌<◌, ◌≤◌, List, true, false, ◌&&◌, eqb, leb, refl, sym, ap, ◌∙◌, get_or, length, drop, take, arith}
 use Rattle.std.proofs.lemmas.Bool.{false≢true, and_left, and_right, lt-leb, le-leb}
-use Rattle.std.proofs.lemmas.List.{length-drop, get_or-drop}
 use Rattle.std.proofs.lemmas.List.Sums.{prefix_len_passes, prefix_len-le-length}
 use Rattle.std.specs.List.{take_while, list_all}
 use Rattle.definition_text.specs.Columns.{is_white, indent, bare}

@@ -1,4 +1,5 @@
 use Rattle.std.proofs.Common.{◌≡◌, ◌⊎◌, IfOk, sym, ap, ◌∙◌, subst, get_or, arith}
+use Rattle.std.proofs.lemmas.Bool.{eqb-true}
 use Rattle.definition_text.specs.Content.{content_codes}
 use Rattle.definition_inline.specs.HardBreak.{escaped_break_at}
 use Rattle.definition_inline.specs.HtmlText.{html_text_at}
@@ -6,6 +7,11 @@ use Rattle.definition_inline.specs.Inline.{or_else}
 use Rattle.inline_leaves.specs.Leaves.{found_leaf}
 use Rattle.inline_leaves.proofs.FirstBytes as first
 use Rattle.inline_leaves.proofs.leaf_at.leaf_at.Goals as goal
+
+pub returns-then-is_empty-clause-read : goal.returns-then-is_empty-clause-read
+returns-then-is_empty-clause-read g c =
+    let empty = eqb-true _ 0 (sym c.is_empty.ensures ∙ c.if-is_empty.true) in
+    sym (first.by_nothing c.args.options.now (g.T.Tables.reference_of c.args.tables.now) c.args.rest.now empty)
 
 pub returns-in-None-clause-read : goal.returns-in-None-clause-read
 returns-in-None-clause-read g c =
