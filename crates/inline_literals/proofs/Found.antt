@@ -1,11 +1,12 @@
 -- A literal at a place of a content, in bytes and in codes.
 use Rattle.std.proofs.Common.{◌≡◌, ℕ, zero, suc, ◌+◌, ◌-◌, ◌<◌, ◌≤◌, List, [], ◌∷◌, ◌++◌, Bool, true, false, cond, not, ◌&&◌, ◌||◌, eqb, Option, None, Some}
-use Rattle.std.proofs.Common.{refl, sym, ap, ◌∙◌, get_or, length, take, drop, arith, inl, inr}
+use Rattle.std.proofs.Common.{refl, sym, ap, ◌∙◌, get_or, length, take, drop, arith, inl, inr, subst}
 use Rattle.std.specs.Prelude.{codes, slice_index_or, reverse, nat_lt, is_some}
+use Rattle.std.specs.Str.{IsCharBoundary}
 use Rattle.std.specs.Char.{to_ascii_lowercase}
-use Rattle.std.proofs.lemmas.Bool.{cases_Bool, cond_both, cond-true, cond-false, eqb-true, eqb-false, ne_eqb, or_cases, or_from, or_parts, and_left, and_parts}
+use Rattle.std.proofs.lemmas.Bool.{cases_Bool, cond_both, cond-true, cond-false, eqb-true, eqb-false, ne_eqb, or_cases, or_from, or_parts, and_parts}
 use Rattle.std.proofs.lemmas.Bool.{ltb-true, ltb-false, true≢false}
-use Rattle.std.proofs.lemmas.List.{length-take-le, length-reverse, drop-map, get_or-take}
+use Rattle.std.proofs.lemmas.List.{length-drop, length-take-le, length-reverse, drop-map, get_or-drop, get_or-take}
 use Rattle.std.proofs.Math.Seq.{take-add}
 use Rattle.markdown_options.specs.declared.configuration.Constructs.{Constructs}
 use Rattle.definition_text.specs.declared.beside.Kind.{Kind}
@@ -13,7 +14,7 @@ use Rattle.definition_text.specs.declared.beside.Kind.TheVariants.{Whitespace}
 use Rattle.definition_text.specs.Content.{is_eol, content_codes}
 use Rattle.definition_text.specs.InlineCode.{InlineCode, codes_of, first_kind, inline_code}
 use Rattle.definition_inline.specs.Attention.{is_other}
-use Rattle.definition_inline.specs.Inline.{Leaf, leaf, Literal, Www, Protocol}
+use Rattle.definition_inline.specs.Inline.{Leaf, leaf, Literal}
 use Rattle.definition_inline.specs.GfmAutolinkLiteral as literal
 use Rattle.definition_inline.specs.GfmAutolinkLiteral.{LiteralStart, literal_start, or_start, may_precede_www, may_precede_protocol, begins_caselessly}
 use Rattle.definition_inline.specs.GfmAutolinkLiteral.{is_control_or_ending, domain, ends_literal, has_low_line, is_cut, cut_more, without_tail, literal_run}
@@ -403,6 +404,13 @@ pub size_of_literal : (xs rest : List ℕ) (start size : ℕ) → rest ≡ drop 
 size_of_literal xs rest start size e s end =
     let plain = all_plain xs start size s end in
     size_plain (start + size) xs rest e plain.within plain.plain
+
+-- a literal ends with a whole character
+pub literal_boundary : (xs : List ℕ) (start size : ℕ) → StartsLiteral xs start → IsNameEnd (drop start xs) size → IsCharBoundary xs (start + size)
+literal_boundary xs start size s end =
+    let plain = all_plain xs start size s end in
+    let same = get_or-drop start xs size 0 in
+    (plain.within, λ lt wide. subst (λ b. 192 ≤ b) same (end.boundary.1 (omega (arith, length-drop start xs)) (subst (λ b. 128 ≤ b) (sym same) wide)))
 
 pub start_end : (xs : List ℕ) (size : ℕ) → StartsLiteral xs size → IsEnd xs size
 start_end xs size s = end_after xs size s.some s.plain.within s.ascii (s.plain.plain (size - 1) (omega (arith, s.some)))

@@ -1,9 +1,9 @@
 -- Names that begin in vain, and names that go on.
-use Rattle.std.proofs.Common.{◌≡◌, ℕ, zero, suc, ◌+◌, ◌-◌, ◌<◌, ◌≤◌, List, [], ◌∷◌, ◌++◌, Bool, true, false, not, ◌&&◌, ◌||◌, eqb, Option, None, Some, refl}
+use Rattle.std.proofs.Common.{◌≡◌, ℕ, zero, suc, ◌+◌, ◌-◌, ◌<◌, ◌≤◌, List, [], ◌∷◌, ◌++◌, Bool, true, false, not, ◌&&◌, eqb, None, Some, refl}
 use Rattle.std.proofs.Common.{sym, ap, ◌∙◌, get_or, length, take, drop, arith, append_assoc, subst, inl, inr}
 use Rattle.std.specs.Prelude.{reverse}
 use Rattle.std.proofs.lemmas.Bool.{cases_Bool, cond-true, cond-false, or_from, or_parts, and_left, and_right, and_parts}
-use Rattle.std.proofs.lemmas.List.{length-take-le, length-reverse, length-append, reverse-append, drop-take, take-append-drop, length-drop}
+use Rattle.std.proofs.lemmas.List.{length-take-le, length-reverse, length-append, reverse-append, drop-take}
 use Rattle.std.proofs.Math.Seq.{take-suc}
 use Rattle.definition_text.specs.Bytes.{is_letter_or_digit}
 use Rattle.definition_text.specs.Content.{content_codes}

@@ -1,5 +1,5 @@
 -- What is cut from a name's end, wherever the name begins.
-use Rattle.std.proofs.Common.{◌≡◌, ℕ, zero, suc, ◌+◌, ◌-◌, ◌<◌, ◌≤◌, List, [], ◌∷◌, ◌++◌, true, false, cond, eqb, ◌&&◌, ◌||◌, refl, sym, ap, ◌∙◌, length, drop}
+use Rattle.std.proofs.Common.{◌≡◌, ℕ, zero, suc, ◌+◌, ◌<◌, ◌≤◌, List, [], ◌∷◌, ◌++◌, false, cond, eqb, ◌&&◌, ◌||◌, refl, sym, ap, ◌∙◌, length, drop}
 use Rattle.std.proofs.Common.{arith, subst, inl, inr}
 use Rattle.std.specs.Prelude.{codes, nat_le, nat_lt}
 use Rattle.std.specs.List.{prefix_len}
@@ -9,7 +9,7 @@ use Rattle.std.proofs.lemmas.List.Sums.{prefix_len-le-length}
 use Rattle.std.proofs.lemmas.List.Folds.{prefix_len-append}
 use Rattle.definition_text.specs.Bytes.{is_letter_or_digit, begins_with}
 use Rattle.definition_inline.specs.GfmAutolinkLiteral.{count_of, is_trailing, is_cut, name_size, cut_more, without_tail}
-use Rattle.inline_literals.proofs.Names.{counted, not_counted, tail_skipped}
+use Rattle.inline_literals.proofs.Names.{not_counted, tail_skipped}
 
 pub tail_fits : (k : ℕ) (bs : List ℕ) → length (without_tail k bs) ≤ length bs
 tail_fits zero [] = omega arith

@@ -7,7 +7,7 @@ use Rattle.inline_content.specs.View.{view_at}
 use Rattle.inline_leaves.specs.Leaves.{size_before}
 use Rattle.inline_leaves.proofs.Searching.{rest_of_rest}
 use Rattle.inline_literals.specs.Literals.{size_after, start_view, may_begin, StartsLiteral, IsNameEnd}
-use Rattle.inline_literals.proofs.Found.{none_first, view_codes, at_found, at_none, no_size, with_size, after_literal, size_of_literal, start_end}
+use Rattle.inline_literals.proofs.Found.{none_first, view_codes, at_found, at_none, no_size, with_size, after_literal, literal_boundary, size_of_literal, start_end}
 use Rattle.inline_literals.proofs.gfm_autolink_literal.literal_at.Goals.{then-not-on-via-then-not-on, then-not-on-via-else-not-on+then-not-may_begin}
 use Rattle.inline_literals.proofs.gfm_autolink_literal.literal_at.Goals as goal
 
@@ -59,6 +59,16 @@ returns-in_default-size_at-clause-read g c =
     (subst (λ l. StartsLiteral l c.in-Some.start.size) c.as_bytes-2.ensures.value c.in-Some.ensures.front)
     ∙ no_size p c.args.content.after marks c.args.content.text.now start rest
     (ap (size_after p) (sym c.cut_after-after.ensures.rest) ∙ sym c.size_at.ensures.read ∙ c.in_default-size_at.is))
+
+pub text_before-requires : goal.text_before-requires
+text_before-requires g c = literal_boundary c.args.rest.now c.in-Some.start.size c.in-Some-size_at.size
+    (subst (λ l. StartsLiteral l c.in-Some.start.size) c.as_bytes-2.ensures.value c.in-Some.ensures.front)
+    (subst (λ l. IsNameEnd l c.in-Some-size_at.size) c.cut_after-after.ensures.rest c.in-Some-size_at.ensures.place)
+
+pub rest_from-requires : goal.rest_from-requires
+rest_from-requires g c = literal_boundary c.args.rest.now c.in-Some.start.size c.in-Some-size_at.size
+    (subst (λ l. StartsLiteral l c.in-Some.start.size) c.as_bytes-2.ensures.value c.in-Some.ensures.front)
+    (subst (λ l. IsNameEnd l c.in-Some-size_at.size) c.cut_after-after.ensures.rest c.in-Some-size_at.ensures.place)
 
 pub returns-clause-read : goal.returns-clause-read
 returns-clause-read g c =

@@ -1,4 +1,4 @@
-use Rattle.std.proofs.Common.{◌≡◌, reverse, take, sym, ap, ◌∙◌, arith, subst}
+use Rattle.std.proofs.Common.{reverse, take, sym, ap, ◌∙◌, arith, subst}
 use Rattle.definition_inline.specs.GfmAutolinkLiteral.{count_of, has_low_line}
 use Rattle.inline_literals.specs.Literals.{HasLowLineAt}
 use Rattle.inline_literals.proofs.InVain.{none_begins, none_here, none_later, none_named}

@@ -1,4 +1,4 @@
-use Rattle.std.proofs.Common.{◌+◌, get_or, drop, sym, ap, ◌∙◌, arith}
+use Rattle.std.proofs.Common.{get_or, sym, ap, ◌∙◌, arith}
 use Rattle.definition_text.specs.Content.{content_codes}
 use Rattle.definition_inline.specs.GfmAutolinkLiteral.{ends_literal}
 use Rattle.inline_literals.specs.Literals.{is_kept}

@@ -1,4 +1,4 @@
-use Rattle.std.proofs.Common.{◌≡◌, ◌<◌, ◌≤◌, ◌-◌, ℕ, drop, length, reverse, take, sym, ap, ◌∙◌, arith, get_or}
+use Rattle.std.proofs.Common.{◌≡◌, ◌<◌, ◌-◌, drop, reverse, take, sym, ap, ◌∙◌, arith, get_or}
 use Rattle.std.proofs.lemmas.List.{length-drop}
 use Rattle.definition_inline.specs.GfmAutolinkLiteral.{low_line_in}
 use Rattle.inline_literals.proofs.Names.{low_line_found, low_line_dot, low_line_other, rest_last}
