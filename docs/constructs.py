@@ -98,9 +98,9 @@ SHARED = {
     "examples_inline/LabelStartLink.antt": "label_end",
     "laws_footnotes/Footnotes.antt": "gfm_footnote_definition",
     "laws_footnotes/footnotes.rt": "gfm_footnote_definition",
-    "tests_commonmark/hard_break.rt": "hard_break_escape hard_break_trailing",
-    "tests_commonmark/list.rt": "list_item",
-    "tests_commonmark/raw_html.rt": "html_text",
+    "tests_pages/hard_break.rt": "hard_break_escape hard_break_trailing",
+    "tests_pages/list.rt": "list_item",
+    "tests_pages/raw_html.rt": "html_text",
     "inline_states_gfm/GfmTaskListItemCheck.antt": "gfm_task_list_item",
     "inline_states_gfm/gfm_task_list_item_check.rt": "gfm_task_list_item",
     "inline_states_labels/Destination.antt": "label_end",
@@ -181,10 +181,14 @@ def stem_of(file):
 
 
 def files_of(crate):
-    """The files of a crate and the folders of its proofs: the part of the crate, and the path."""
+    """The files of a crate, of folders of its code too, and the folders of its proofs: the part of the crate, and the path."""
     for part in ("src", "specs", "proofs"):
         for name in names_in(f"crates/{crate}/{part}"):
-            yield part, f"crates/{crate}/{part}/{name}"
+            path = f"crates/{crate}/{part}/{name}"
+            below = names_in(path) if part == "src" else []
+            yield from ((part, f"{path}/{it}") for it in below)
+            if not below:
+                yield part, path
 
 
 def room_of(crate, part):

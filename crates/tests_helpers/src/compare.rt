@@ -83,7 +83,7 @@ fn is_safe(alloc: Global, page: &str, options: &Options) -> Result<bool, RunErro
 }
 
 /// Whether a text that is read is written as this page.
-fn runs_to(alloc: Global, text: &str, want: &str, options: &Options) -> Result<bool, RunError>
+pub fn runs_to(alloc: Global, text: &str, want: &str, options: &Options) -> Result<bool, RunError>
     requires { HasNoMdx options.now }
 {
     let mut reader = Watched::new(text.as_bytes());

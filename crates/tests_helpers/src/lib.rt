@@ -6,8 +6,10 @@ mod heaps;
 mod laws;
 mod names;
 mod options;
+mod pages;
 
-pub use compare::{first_wrong, is_same_by_default};
+pub use compare::{first_wrong, is_same_by_default, runs_to};
 pub use laws::broken_law;
 pub use names::Names;
 pub use options::{blocks, plain};
+pub use pages::rows_of;

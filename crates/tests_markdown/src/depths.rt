@@ -1,5 +1,6 @@
 //! Texts that are 1,000 deep, and labels of as many bytes as one may have.
-use markdown::Options;
+use markdown::{Options, RunError};
+use std::alloc::Global;
 use std::process::Abort;
 use std::test::Fail;
 use tests_helpers::first_wrong;
@@ -46,9 +47,13 @@ fn prints_itself(rt: &(impl AllocGlobal + Abort), text: &str) -> Result<(), Fail
     prints_page(rt, text, &page)
 }
 
-/// The text has this page by the default options, in heaps of every size too, and keeps the laws of pages.
+/// Whether a text has this page by the default options, in heaps of every size too, and keeps the laws of pages.
+fn is_page(alloc: Global, text: &str, want: &str) -> Result<bool, RunError> {
+    Ok(first_wrong(alloc, &[(text, want)], &Options::default())?.is_none())
+}
+
+/// The text has this page.
 fn prints_page(rt: &(impl AllocGlobal + Abort), text: &str, want: &str) -> Result<(), Fail> {
-    let wrong = first_wrong(rt.alloc(), &[(text, want)], &Options::default())?;
-    assert!(rt; wrong.is_none());
+    assert!(rt; is_page(rt.alloc(), text, want)?);
     Ok(())
 }

@@ -1,5 +1,6 @@
 //! Readers and writers that give and take little, and fail.
 use markdown::{Builtin, RunError, Watched, run};
+use std::alloc::Global;
 use std::io::{self, Read, Write};
 use tests_helpers::plain;
 
@@ -74,54 +75,75 @@ const TEXT: &[u8] = b"# a & b\n\nc";
 
 const PAGE: &[u8] = b"<p># a &amp; b</p>\n<p>c</p>";
 
+/// Whether the page is written where each call moves at most so many bytes, and neither device failed.
+fn is_moved(alloc: Global, most: usize) -> Result<bool, RunError> {
+    let mut reader = Watched::new(Short::new(TEXT, most, 100));
+    let mut writer = Watched::new(Short::new(Vec::new(alloc), most, 100));
+    run(alloc, &mut reader, &mut writer, &plain(), &Builtin)?;
+    let right = !reader.failed() && reader.ended() && !writer.failed() && !writer.ended();
+    let out = writer.into_inner().into_inner();
+    Ok(right && out.as_slice() == PAGE)
+}
+
 #[test]
 fn moves_few_bytes_a_call(rt: HostRuntime) -> Result<(), RunError> {
     for most in 1..9 {
-        let mut reader = Watched::new(Short::new(TEXT, most, 100));
-        let mut writer = Watched::new(Short::new(Vec::new(rt.alloc()), most, 100));
-        run(rt.alloc(), &mut reader, &mut writer, &plain(), &Builtin)?;
-        assert!(rt; !reader.failed() && reader.ended());
-        assert!(rt; !writer.failed() && !writer.ended());
-        let out = writer.into_inner().into_inner();
-        assert_eq!(rt; out.as_slice(), PAGE, "at {most}");
+        assert!(rt; is_moved(rt.alloc(), most)?, "at {most}");
     }
     Ok(())
+}
+
+/// Whether a reader that fails after so many calls is answered, with nothing written.
+fn is_failed_read(alloc: Global, calls: usize) -> bool {
+    let mut reader = Watched::new(Short::new(&b"abc"[..], 1, calls));
+    let mut writer = Watched::new(Vec::new(alloc));
+    let result = run(alloc, &mut reader, &mut writer, &plain(), &Builtin);
+    matches!(result, Err(RunError::Read(_)))
+        && reader.failed()
+        && !reader.ended()
+        && writer.into_inner().is_empty()
 }
 
 #[test]
 fn answers_failed_reads(rt: HostRuntime) {
     for calls in 0..4 {
-        let mut reader = Watched::new(Short::new(&b"abc"[..], 1, calls));
-        let mut writer = Watched::new(Vec::new(rt.alloc()));
-        let result = run(rt.alloc(), &mut reader, &mut writer, &plain(), &Builtin);
-        assert!(rt; matches!(result, Err(RunError::Read(_))), "at {calls}");
-        assert!(rt; reader.failed() && !reader.ended(), "at {calls}");
-        assert!(rt; writer.into_inner().is_empty(), "at {calls}");
+        assert!(rt; is_failed_read(rt.alloc(), calls), "at {calls}");
     }
+}
+
+/// Whether bytes are the first so many of the page.
+fn is_beginning(out: &[u8], size: usize) -> bool {
+    PAGE.starts_with(out) && out.len() == size
+}
+
+/// Whether a writer that fails after so many calls is answered, with as many bytes written.
+fn is_failed_write(alloc: Global, calls: usize) -> bool {
+    let mut reader = Watched::new(TEXT);
+    let mut writer = Watched::new(Short::stuck(Vec::new(alloc), 1, calls));
+    let result = run(alloc, &mut reader, &mut writer, &plain(), &Builtin);
+    let answered = matches!(result, Err(RunError::Write(_))) && writer.failed();
+    answered && is_beginning(&writer.into_inner().into_inner(), calls)
 }
 
 #[test]
 fn answers_failed_writes(rt: HostRuntime) {
     for calls in 0..PAGE.len() {
-        let mut reader = Watched::new(TEXT);
-        let mut writer = Watched::new(Short::stuck(Vec::new(rt.alloc()), 1, calls));
-        let result = run(rt.alloc(), &mut reader, &mut writer, &plain(), &Builtin);
-        assert!(rt; matches!(result, Err(RunError::Write(_))), "at {calls}");
-        assert!(rt; writer.failed(), "at {calls}");
-        let out = writer.into_inner().into_inner();
-        assert_eq!(rt; out.as_slice(), &PAGE[..calls], "at {calls}");
+        assert!(rt; is_failed_write(rt.alloc(), calls), "at {calls}");
     }
+}
+
+/// Whether a writer that takes nothing after so many calls is answered, with as many bytes written.
+fn is_stopped(alloc: Global, calls: usize) -> bool {
+    let mut reader = Watched::new(TEXT);
+    let mut writer = Watched::new(Short::new(Vec::new(alloc), 1, calls));
+    let result = run(alloc, &mut reader, &mut writer, &plain(), &Builtin);
+    let answered = matches!(result, Err(RunError::Stopped)) && writer.failed();
+    answered && is_beginning(&writer.into_inner().into_inner(), calls)
 }
 
 #[test]
 fn answers_stopped_writers(rt: HostRuntime) {
     for calls in 0..PAGE.len() {
-        let mut reader = Watched::new(TEXT);
-        let mut writer = Watched::new(Short::new(Vec::new(rt.alloc()), 1, calls));
-        let result = run(rt.alloc(), &mut reader, &mut writer, &plain(), &Builtin);
-        assert!(rt; matches!(result, Err(RunError::Stopped)), "at {calls}");
-        assert!(rt; writer.failed(), "at {calls}");
-        let out = writer.into_inner().into_inner();
-        assert_eq!(rt; out.as_slice(), &PAGE[..calls], "at {calls}");
+        assert!(rt; is_stopped(rt.alloc(), calls), "at {calls}");
     }
 }

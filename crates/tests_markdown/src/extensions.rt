@@ -3,9 +3,10 @@ ghost use Rattle.markdown_options.specs.Mdx.{HasNoMdx};
 
 use crate::joined::assert_no_fault;
 use markdown::{Options, RunError};
+use tests_helpers::pages;
 
 /// Runs of tildes (GFM 6.5).
-pub(crate) const STRIKETHROUGH: [(&str, &str); 31] = [
+pub(crate) const STRIKETHROUGH: &str = pages![
     (
         "~~Hi~~ Hello, ~there~ world!",
         "<p><del>Hi</del> Hello, <del>there</del> world!</p>",
@@ -58,7 +59,7 @@ pub(crate) const STRIKETHROUGH: [(&str, &str); 31] = [
 ];
 
 /// Math in a text.
-pub(crate) const MATH_TEXT: [(&str, &str); 23] = [
+pub(crate) const MATH_TEXT: &str = pages![
     (
         "$a$",
         "<p><code class=\"language-math math-inline\">a</code></p>",
@@ -133,7 +134,7 @@ pub(crate) const MATH_TEXT: [(&str, &str); 23] = [
 ];
 
 /// Blocks of math.
-pub(crate) const MATH_FLOW: [(&str, &str); 17] = [
+pub(crate) const MATH_FLOW: &str = pages![
     (
         "$$\na\n$$",
         "<pre><code class=\"language-math math-display\">a\n</code></pre>",
@@ -196,7 +197,7 @@ pub(crate) const MATH_FLOW: [(&str, &str); 17] = [
 ];
 
 /// Metadata at the front.
-pub(crate) const FRONTMATTER: [(&str, &str); 18] = [
+pub(crate) const FRONTMATTER: &str = pages![
     ("---\nx\n---\n# a", "<h1>a</h1>"),
     ("---\na", "<hr />\n<p>a</p>"),
     ("--- \t\nx\n---\na", "<p>a</p>"),
@@ -218,14 +219,14 @@ pub(crate) const FRONTMATTER: [(&str, &str); 18] = [
 ];
 
 /// The same where one tilde is none.
-const TWO_TILDES: [(&str, &str); 3] = [
+const TWO_TILDES: &str = pages![
     ("~a~", "<p>~a~</p>"),
     ("~~a~~", "<p><del>a</del></p>"),
     ("~a ~~b~~ c~", "<p>~a <del>b</del> c~</p>"),
 ];
 
 /// The same where one dollar is none.
-const TWO_DOLLARS: [(&str, &str); 3] = [
+const TWO_DOLLARS: &str = pages![
     ("$a$", "<p>$a$</p>"),
     (
         "$$a$$",
@@ -238,7 +239,7 @@ const TWO_DOLLARS: [(&str, &str); 3] = [
 ];
 
 /// What these texts are while the extensions are off.
-const OFF: [(&str, &str); 4] = [
+const OFF: &str = pages![
     ("~~a~~", "<p>~~a~~</p>"),
     ("$a$", "<p>$a$</p>"),
     ("$$\na\n$$", "<p>$$\na\n$$</p>"),
@@ -258,33 +259,39 @@ pub(crate) fn extensions() -> Options
     options
 }
 
-#[test]
-fn strikes_text_through(rt: HostRuntime) -> Result<(), RunError> {
-    assert_no_fault(&rt, &STRIKETHROUGH, &extensions())?;
+/// The same where neither one tilde nor one dollar is a mark.
+fn twice_marked() -> Options
+    ensures { HasNoMdx result }
+{
     let mut options = extensions();
     options.parse.gfm_strikethrough_single_tilde = false;
-    assert_no_fault(&rt, &TWO_TILDES, &options)
+    options.parse.math_text_single_dollar = false;
+    options
+}
+
+#[test]
+fn strikes_text_through(rt: HostRuntime) -> Result<(), RunError> {
+    assert_no_fault(&rt, STRIKETHROUGH, extensions())?;
+    assert_no_fault(&rt, TWO_TILDES, twice_marked())
 }
 
 #[test]
 fn prints_math_in_texts(rt: HostRuntime) -> Result<(), RunError> {
-    assert_no_fault(&rt, &MATH_TEXT, &extensions())?;
-    let mut options = extensions();
-    options.parse.math_text_single_dollar = false;
-    assert_no_fault(&rt, &TWO_DOLLARS, &options)
+    assert_no_fault(&rt, MATH_TEXT, extensions())?;
+    assert_no_fault(&rt, TWO_DOLLARS, twice_marked())
 }
 
 #[test]
 fn prints_blocks_of_math(rt: HostRuntime) -> Result<(), RunError> {
-    assert_no_fault(&rt, &MATH_FLOW, &extensions())
+    assert_no_fault(&rt, MATH_FLOW, extensions())
 }
 
 #[test]
 fn skips_frontmatter(rt: HostRuntime) -> Result<(), RunError> {
-    assert_no_fault(&rt, &FRONTMATTER, &extensions())
+    assert_no_fault(&rt, FRONTMATTER, extensions())
 }
 
 #[test]
 fn reads_no_extension_that_is_off(rt: HostRuntime) -> Result<(), RunError> {
-    assert_no_fault(&rt, &OFF, &Options::default())
+    assert_no_fault(&rt, OFF, Options::default())
 }

@@ -3,9 +3,10 @@ ghost use Rattle.std.specs.Prelude.{◌≡◌};
 
 use crate::joined::assert_no_fault;
 use markdown::{Options, RunError};
+use tests_helpers::pages;
 
 /// After `www.` and protocols.
-pub(crate) const LITERALS: [(&str, &str); 60] = [
+pub(crate) const LITERALS: &str = pages![
     (
         "www.commonmark.org",
         "<p><a href=\"http://www.commonmark.org\">www.commonmark.org</a></p>",
@@ -147,7 +148,7 @@ pub(crate) const LITERALS: [(&str, &str); 60] = [
 ];
 
 /// Email addresses.
-pub(crate) const EMAILS: [(&str, &str); 57] = [
+pub(crate) const EMAILS: &str = pages![
     ("a@b.c", "<p><a href=\"mailto:a@b.c\">a@b.c</a></p>"),
     ("a@b", "<p>a@b</p>"),
     ("a@b.c1", "<p>a@b.c1</p>"),
@@ -260,7 +261,7 @@ pub(crate) const EMAILS: [(&str, &str); 57] = [
 ];
 
 /// What these are while the construct is off.
-pub(crate) const OFF: [(&str, &str); 4] = [
+pub(crate) const OFF: &str = pages![
     ("www.a", "<p>www.a</p>"),
     ("http://a", "<p>http://a</p>"),
     ("a@b.c", "<p>a@b.c</p>"),
@@ -269,17 +270,15 @@ pub(crate) const OFF: [(&str, &str); 4] = [
 
 #[test]
 fn links_literals(rt: HostRuntime) -> Result<(), RunError> {
-    let options = Options::gfm();
-    assert_no_fault(&rt, &LITERALS, &options)
+    assert_no_fault(&rt, LITERALS, Options::gfm())
 }
 
 #[test]
 fn links_email_addresses(rt: HostRuntime) -> Result<(), RunError> {
-    let options = Options::gfm();
-    assert_no_fault(&rt, &EMAILS, &options)
+    assert_no_fault(&rt, EMAILS, Options::gfm())
 }
 
 #[test]
 fn links_nothing_where_literals_are_off(rt: HostRuntime) -> Result<(), RunError> {
-    assert_no_fault(&rt, &OFF, &Options::default())
+    assert_no_fault(&rt, OFF, Options::default())
 }

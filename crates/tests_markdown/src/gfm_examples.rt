@@ -1,11 +1,13 @@
 //! The examples of GFM for what CommonMark lacks: texts and their HTML.
+ghost use Rattle.markdown_options.specs.Mdx.{HasNoMdx};
 ghost use Rattle.std.specs.Prelude.{◌≡◌};
 
 use crate::joined::assert_no_fault;
 use markdown::{Options, RunError};
+use tests_helpers::pages;
 
 /// GFM 4.10, 5.3, 6.5 and 6.9.
-pub(crate) const EXAMPLES: [(&str, &str); 23] = [
+pub(crate) const EXAMPLES: &str = pages![
     (
         "www.commonmark.org",
         "<p><a href=\"http://www.commonmark.org\">www.commonmark.org</a></p>",
@@ -123,7 +125,7 @@ pub(crate) const EXAMPLES: [(&str, &str); 23] = [
 ];
 
 /// GFM 6.11, where raw HTML is printed.
-pub(crate) const FILTERED: [(&str, &str); 2] = [
+pub(crate) const FILTERED: &str = pages![
     (
         "<strong> <title> <style> <em>\n\n<blockquote>\n  <xmp> is disallowed.  <XMP> is also disallowed.\n</blockquote>",
         "<p><strong> &lt;title> &lt;style> <em></p>\n<blockquote>\n  &lt;xmp> is disallowed.  &lt;XMP> is also disallowed.\n</blockquote>",
@@ -131,10 +133,17 @@ pub(crate) const FILTERED: [(&str, &str); 2] = [
     ("<title>", "&lt;title>"),
 ];
 
+/// The options of GitHub, with raw HTML printed.
+pub(crate) fn with_html() -> Options
+    ensures { HasNoMdx result }
+{
+    let mut options = Options::gfm();
+    options.compile.allow_dangerous_html = true;
+    options
+}
+
 #[test]
 fn prints_the_examples_of_gfm(rt: HostRuntime) -> Result<(), RunError> {
-    let mut options = Options::gfm();
-    assert_no_fault(&rt, &EXAMPLES, &options)?;
-    options.compile.allow_dangerous_html = true;
-    assert_no_fault(&rt, &FILTERED, &options)
+    assert_no_fault(&rt, EXAMPLES, Options::gfm())?;
+    assert_no_fault(&rt, FILTERED, with_html())
 }

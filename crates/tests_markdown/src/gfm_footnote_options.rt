@@ -3,9 +3,10 @@ ghost use Rattle.std.specs.Prelude.{◌≡◌};
 
 use crate::joined::assert_no_fault;
 use markdown::{Options, RunError};
+use tests_helpers::pages;
 
 /// With another prefix of ids.
-pub(crate) const PREFIXED: [(&str, &str); 2] = [
+pub(crate) const PREFIXED: &str = pages![
     (
         "[^a] [^a]\n\n[^a]: b",
         "<p><sup><a href=\"#x&lt;fn-a\" id=\"x&lt;fnref-a\" data-footnote-ref=\"\" \
@@ -29,7 +30,7 @@ pub(crate) const PREFIXED: [(&str, &str); 2] = [
 ];
 
 /// Without a prefix.
-pub(crate) const BARE: [(&str, &str); 2] = [
+pub(crate) const BARE: &str = pages![
     (
         "[^a] [^a]\n\n[^a]: b",
         "<p><sup><a href=\"#fn-a\" id=\"fnref-a\" data-footnote-ref=\"\" \
@@ -52,7 +53,7 @@ pub(crate) const BARE: [(&str, &str); 2] = [
 ];
 
 /// With another label of the section.
-pub(crate) const NAMED: [(&str, &str); 2] = [
+pub(crate) const NAMED: &str = pages![
     (
         "[^a] [^a]\n\n[^a]: b",
         "<p><sup><a href=\"#user-content-fn-a\" id=\"user-content-fnref-a\" data-footnote-ref=\"\" \
@@ -75,7 +76,7 @@ pub(crate) const NAMED: [(&str, &str); 2] = [
 ];
 
 /// With another element for it.
-pub(crate) const TAGGED: [(&str, &str); 2] = [
+pub(crate) const TAGGED: &str = pages![
     (
         "[^a] [^a]\n\n[^a]: b",
         "<p><sup><a href=\"#user-content-fn-a\" id=\"user-content-fnref-a\" data-footnote-ref=\"\" \
@@ -99,7 +100,7 @@ pub(crate) const TAGGED: [(&str, &str); 2] = [
 ];
 
 /// With other attributes of it.
-pub(crate) const SHOWN: [(&str, &str); 2] = [
+pub(crate) const SHOWN: &str = pages![
     (
         "[^a] [^a]\n\n[^a]: b",
         "<p><sup><a href=\"#user-content-fn-a\" id=\"user-content-fnref-a\" data-footnote-ref=\"\" \
@@ -123,7 +124,7 @@ pub(crate) const SHOWN: [(&str, &str); 2] = [
 ];
 
 /// With another label of the ways back.
-pub(crate) const RETURNED: [(&str, &str); 2] = [
+pub(crate) const RETURNED: &str = pages![
     (
         "[^a] [^a]\n\n[^a]: b",
         "<p><sup><a href=\"#user-content-fn-a\" id=\"user-content-fnref-a\" data-footnote-ref=\"\" \
@@ -149,47 +150,44 @@ pub(crate) const RETURNED: [(&str, &str); 2] = [
 #[test]
 fn takes_a_prefix(rt: HostRuntime) -> Result<(), RunError> {
     let mut options = Options::gfm();
-    options.compile.gfm_footnote_clobber_prefix = Some(String::from_str(rt.alloc(), "x<")?);
-    assert_no_fault(&rt, &PREFIXED, &options)
+    options.compile.gfm_footnote_clobber_prefix = String::from_str(rt.alloc(), "x<").ok();
+    assert_no_fault(&rt, PREFIXED, options)
 }
 
 #[test]
 fn takes_no_prefix(rt: HostRuntime) -> Result<(), RunError> {
     let mut options = Options::gfm();
-    options.compile.gfm_footnote_clobber_prefix = Some(String::from_str(rt.alloc(), "")?);
-    assert_no_fault(&rt, &BARE, &options)
+    options.compile.gfm_footnote_clobber_prefix = String::from_str(rt.alloc(), "").ok();
+    assert_no_fault(&rt, BARE, options)
 }
 
 #[test]
 fn takes_a_label(rt: HostRuntime) -> Result<(), RunError> {
     let mut options = Options::gfm();
-    options.compile.gfm_footnote_label = Some(String::from_str(rt.alloc(), "Notes & more")?);
-    assert_no_fault(&rt, &NAMED, &options)
+    options.compile.gfm_footnote_label = String::from_str(rt.alloc(), "Notes & more").ok();
+    assert_no_fault(&rt, NAMED, options)
 }
 
 #[test]
 fn takes_an_element(rt: HostRuntime) -> Result<(), RunError> {
     let mut options = Options::gfm();
-    options.compile.gfm_footnote_label_tag_name = Some(String::from_str(rt.alloc(), "h1")?);
-    assert_no_fault(&rt, &TAGGED, &options)
+    options.compile.gfm_footnote_label_tag_name = String::from_str(rt.alloc(), "h1").ok();
+    assert_no_fault(&rt, TAGGED, options)
 }
 
 #[test]
 fn takes_attributes(rt: HostRuntime) -> Result<(), RunError> {
     let mut options = Options::gfm();
-    options.compile.gfm_footnote_label_attributes = Some(String::from_str(
+    options.compile.gfm_footnote_label_attributes = String::from_str(
         rt.alloc(),
         "class=\"x\" hidden",
-    )?);
-    assert_no_fault(&rt, &SHOWN, &options)
+    ).ok();
+    assert_no_fault(&rt, SHOWN, options)
 }
 
 #[test]
 fn takes_a_label_of_ways_back(rt: HostRuntime) -> Result<(), RunError> {
     let mut options = Options::gfm();
-    options.compile.gfm_footnote_back_label = Some(String::from_str(
-        rt.alloc(),
-        "Zurück \"oben\"",
-    )?);
-    assert_no_fault(&rt, &RETURNED, &options)
+    options.compile.gfm_footnote_back_label = String::from_str(rt.alloc(), "Zurück \"oben\"").ok();
+    assert_no_fault(&rt, RETURNED, options)
 }

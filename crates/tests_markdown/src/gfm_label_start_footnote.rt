@@ -3,9 +3,10 @@ ghost use Rattle.std.specs.Prelude.{◌≡◌};
 
 use crate::joined::assert_no_fault;
 use markdown::{Options, RunError};
+use tests_helpers::pages;
 
 /// Footnotes that are called, or are not.
-const CALLS: [(&str, &str); 12] = [
+const CALLS: &str = pages![
     (
         "[^a]\n\n[^a]: b",
         "<p><sup><a href=\"#user-content-fn-a\" id=\"user-content-fnref-a\" data-footnote-ref=\"\" \
@@ -84,7 +85,7 @@ const CALLS: [(&str, &str); 12] = [
 ];
 
 /// Calls among inline structure and blocks.
-const PLACES: [(&str, &str); 12] = [
+const PLACES: &str = pages![
     (
         "![b [^a]](c) [^a]\n\n[^a]: d",
         "<p><img src=\"c\" alt=\"b \" /> <sup><a href=\"#user-content-fn-a\" id=\"user-content-fnref-a-2\" \
@@ -175,7 +176,7 @@ const PLACES: [(&str, &str); 12] = [
 ];
 
 /// Definitions in one another, and what they hold.
-const DEFINITIONS: [(&str, &str); 12] = [
+const DEFINITIONS: &str = pages![
     (
         "- [^a]\n\n  [^a]: b",
         "<ul>\n<li>\n<p><sup><a href=\"#user-content-fn-a\" id=\"user-content-fnref-a\" data-footnote-ref=\"\" \
@@ -289,7 +290,7 @@ const DEFINITIONS: [(&str, &str); 12] = [
 ];
 
 /// What definitions hold, line endings, and labels.
-const CONTENTS: [(&str, &str); 11] = [
+const CONTENTS: &str = pages![
     (
         "[^a]\n\n[^a]: - b",
         "<p><sup><a href=\"#user-content-fn-a\" id=\"user-content-fnref-a\" data-footnote-ref=\"\" \
@@ -395,7 +396,7 @@ const CONTENTS: [(&str, &str); 11] = [
 ];
 
 /// Definitions among other blocks, and repeated calls.
-const MIXED: [(&str, &str); 11] = [
+const MIXED: &str = pages![
     (
         "[^a]\n\n[^a]: [b]\n\n[b]: c",
         "<p><sup><a href=\"#user-content-fn-a\" id=\"user-content-fnref-a\" data-footnote-ref=\"\" \
@@ -480,26 +481,25 @@ const MIXED: [(&str, &str); 11] = [
 ];
 
 /// What these are while the constructs are off.
-pub(crate) const OFF: [(&str, &str); 2] = [
+pub(crate) const OFF: &str = pages![
     ("[^a]\n\n[^a]: b", "<p><a href=\"b\">^a</a></p>\n"),
     ("[^a]", "<p>[^a]</p>"),
 ];
 
 /// All tables with footnotes.
-pub(crate) fn tables() -> [&'static [(&'static str, &'static str)]; 5] {
-    [&CALLS, &PLACES, &DEFINITIONS, &CONTENTS, &MIXED]
+pub(crate) fn tables() -> [&'static str; 5] {
+    [CALLS, PLACES, DEFINITIONS, CONTENTS, MIXED]
 }
 
 #[test]
 fn numbers_footnotes(rt: HostRuntime) -> Result<(), RunError> {
-    let options = Options::gfm();
-    for rows in tables() {
-        assert_no_fault(&rt, rows, &options)?;
+    for pages in tables() {
+        assert_no_fault(&rt, pages, Options::gfm())?;
     }
     Ok(())
 }
 
 #[test]
 fn numbers_nothing_where_footnotes_are_off(rt: HostRuntime) -> Result<(), RunError> {
-    assert_no_fault(&rt, &OFF, &Options::default())
+    assert_no_fault(&rt, OFF, Options::default())
 }

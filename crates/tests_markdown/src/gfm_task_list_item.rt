@@ -1,11 +1,13 @@
 //! Task list items (GFM 5.3): texts and their HTML.
+ghost use Rattle.markdown_options.specs.Mdx.{HasNoMdx};
 
 use crate::extensions::extensions;
 use crate::joined::assert_no_fault;
 use markdown::{Options, RunError};
+use tests_helpers::pages;
 
 /// Task list items (GFM 5.3).
-pub(crate) const TASKS: [(&str, &str); 40] = [
+pub(crate) const TASKS: &str = pages![
     (
         "- [ ] a",
         "<ul>\n<li><input type=\"checkbox\" disabled=\"\" /> a</li>\n</ul>",
@@ -122,7 +124,7 @@ pub(crate) const TASKS: [(&str, &str); 40] = [
 ];
 
 /// Task list items whose boxes can be changed.
-const CHECKABLE: [(&str, &str); 2] = [
+const CHECKABLE: &str = pages![
     (
         "- [ ] a",
         "<ul>\n<li><input type=\"checkbox\" /> a</li>\n</ul>",
@@ -134,7 +136,7 @@ const CHECKABLE: [(&str, &str); 2] = [
 ];
 
 /// What these texts are while task list items are off.
-const OFF: [(&str, &str); 2] = [
+const OFF: &str = pages![
     ("- [ ] a", "<ul>\n<li>[ ] a</li>\n</ul>"),
     (
         "- [x] a\n\n[x]: b",
@@ -142,15 +144,22 @@ const OFF: [(&str, &str); 2] = [
     ),
 ];
 
+/// Options with which a reader may check items.
+fn checkable() -> Options
+    ensures { HasNoMdx result }
+{
+    let mut options = extensions();
+    options.compile.gfm_task_list_item_checkable = true;
+    options
+}
+
 #[test]
 fn prints_checks(rt: HostRuntime) -> Result<(), RunError> {
-    let mut options = extensions();
-    assert_no_fault(&rt, &TASKS, &options)?;
-    options.compile.gfm_task_list_item_checkable = true;
-    assert_no_fault(&rt, &CHECKABLE, &options)
+    assert_no_fault(&rt, TASKS, extensions())?;
+    assert_no_fault(&rt, CHECKABLE, checkable())
 }
 
 #[test]
 fn prints_no_checks_that_are_off(rt: HostRuntime) -> Result<(), RunError> {
-    assert_no_fault(&rt, &OFF, &Options::default())
+    assert_no_fault(&rt, OFF, Options::default())
 }

@@ -1,9 +1,10 @@
 //! Inline constructs: texts and their HTML.
 use crate::joined::assert_no_fault;
 use markdown::{Options, RunError};
+use tests_helpers::pages;
 
 /// Texts of CommonMark 6, most of them its examples.
-pub(crate) const INLINE: [(&str, &str); 54] = [
+pub(crate) const INLINE: &str = pages![
     (
         "\\*not emphasized*\n\\# not a heading",
         "<p>*not emphasized*\n# not a heading</p>",
@@ -151,7 +152,7 @@ pub(crate) const INLINE: [(&str, &str); 54] = [
 ];
 
 /// References whose definitions stand before and after them, and what they lead to.
-pub(crate) const REFERENCES: [(&str, &str); 18] = [
+pub(crate) const REFERENCES: &str = pages![
     ("[a]\n\n[a]: b", "<p><a href=\"b\">a</a></p>\n"),
     (
         "> [a\n> b]\n\n[A B]: c",
@@ -209,7 +210,7 @@ pub(crate) const REFERENCES: [(&str, &str); 18] = [
 ];
 
 /// Inline constructs beside each other and in blocks.
-pub(crate) const BESIDE: [(&str, &str); 15] = [
+pub(crate) const BESIDE: &str = pages![
     (
         "## Hi, *Saturn*! \u{1FA90}",
         "<h2>Hi, <em>Saturn</em>! \u{1FA90}</h2>",
@@ -244,11 +245,11 @@ pub(crate) const BESIDE: [(&str, &str); 15] = [
 
 #[test]
 fn prints_inline_constructs(rt: HostRuntime) -> Result<(), RunError> {
-    assert_no_fault(&rt, &INLINE, &Options::default())
+    assert_no_fault(&rt, INLINE, Options::default())
 }
 
 /// A byte order mark is a character of kind other before the first line.
-pub(crate) const MARKED: [(&str, &str); 13] = [
+pub(crate) const MARKED: &str = pages![
     ("\u{FEFF}_a_", "<p>_a_</p>"),
     ("\u{FEFF}*a*", "<p><em>a</em></p>"),
     ("\u{FEFF} _a_", "<p><em>a</em></p>"),
@@ -275,15 +276,15 @@ pub(crate) const MARKED: [(&str, &str); 13] = [
 
 #[test]
 fn a_mark_is_a_character(rt: HostRuntime) -> Result<(), RunError> {
-    assert_no_fault(&rt, &MARKED, &Options::default())
+    assert_no_fault(&rt, MARKED, Options::default())
 }
 
 #[test]
 fn prints_references(rt: HostRuntime) -> Result<(), RunError> {
-    assert_no_fault(&rt, &REFERENCES, &Options::default())
+    assert_no_fault(&rt, REFERENCES, Options::default())
 }
 
 #[test]
 fn prints_inline_constructs_beside_others(rt: HostRuntime) -> Result<(), RunError> {
-    assert_no_fault(&rt, &BESIDE, &Options::default())
+    assert_no_fault(&rt, BESIDE, Options::default())
 }

@@ -4,7 +4,7 @@ ghost use Rattle.markdown_options.specs.Mdx.{HasNoMdx};
 use markdown::{Options, RunError, fits, to_html_with_options};
 use std::alloc::Global;
 use std::process::Abort;
-use tests_helpers::first_wrong;
+use tests_helpers::{first_wrong, rows_of};
 
 /// Whether a text is printed with another after it and an empty line between.
 fn is_joined(alloc: Global, first: &str, second: &str, options: &Options) -> Result<bool, RunError>
@@ -16,13 +16,13 @@ fn is_joined(alloc: Global, first: &str, second: &str, options: &Options) -> Res
     Ok(fits(&text) && to_html_with_options(alloc, &text, options).is_ok())
 }
 
-/// The first of these texts after which one of the others can't stand.
-pub(crate) fn first_unjoined(
+/// The first text of these rows after which one of the others can't stand.
+fn first_apart<'a>(
     alloc: Global,
-    rows: &[(&'static str, &'static str)],
-    others: &[(&'static str, &'static str)],
+    rows: &[(&'a str, &str)],
+    others: &[(&str, &str)],
     options: &Options,
-) -> Result<Option<&'static str>, RunError>
+) -> Result<Option<&'a str>, RunError>
     requires { HasNoMdx options.now }
 {
     for (first, _) in rows {
@@ -35,16 +35,31 @@ pub(crate) fn first_unjoined(
     Ok(None)
 }
 
-/// The first of these texts whose page isn't the one that stands beside it, or after which another of them can't stand.
-fn first_fault(
+/// The first of these texts after which one of the others can't stand.
+pub(crate) fn first_unjoined<'a>(
     alloc: Global,
-    rows: &[(&'static str, &'static str)],
+    pages: &'a str,
+    others: &str,
     options: &Options,
-) -> Result<Option<&'static str>, RunError>
+) -> Result<Option<&'a str>, RunError>
     requires { HasNoMdx options.now }
 {
-    match first_wrong(alloc, rows, options)? {
-        None => first_unjoined(alloc, rows, rows, options),
+    let rows = rows_of(alloc, pages)?;
+    let others = rows_of(alloc, others)?;
+    first_apart(alloc, rows.as_slice(), others.as_slice(), options)
+}
+
+/// The first of these texts whose page isn't the one that stands beside it, or after which another of them can't stand.
+fn first_fault<'a>(
+    alloc: Global,
+    pages: &'a str,
+    options: &Options,
+) -> Result<Option<&'a str>, RunError>
+    requires { HasNoMdx options.now }
+{
+    let rows = rows_of(alloc, pages)?;
+    match first_wrong(alloc, rows.as_slice(), options)? {
+        None => first_apart(alloc, rows.as_slice(), rows.as_slice(), options),
         wrong => Ok(wrong),
     }
 }
@@ -52,11 +67,12 @@ fn first_fault(
 /// Fails, and shows the first text, where some of these are at fault.
 pub(crate) fn assert_no_fault(
     rt: &(impl AllocGlobal + Abort),
-    rows: &[(&'static str, &'static str)],
-    options: &Options,
+    pages: &str,
+    options: Options,
 ) -> Result<(), RunError>
-    requires { HasNoMdx options.now }
+    requires { HasNoMdx options }
 {
-    assert_eq!(rt; first_fault(rt.alloc(), rows, options)?, None);
+    let fault = first_fault(rt.alloc(), pages, &options)?;
+    assert!(rt; fault.is_none(), "{fault:?}");
     Ok(())
 }

@@ -7,7 +7,8 @@ use definition_text::Kind;
 use markdown::{Constructs, fits};
 use std::alloc::{AllocError, Global};
 
-const LABELS: [(&str, &str, Option<usize>); 16] = [
+/// Texts, a label, and the place of the first definition that has it.
+const LABELS: &[(&str, &str, Option<usize>)] = &[
     ("", "a", None),
     ("[a]", "a", None),
     ("[a]: b", "a", Some(0)),
@@ -37,15 +38,28 @@ fn place_of(alloc: Global, text: &str, label: &str) -> Result<Option<usize>, All
     found.labels.find(label.as_bytes())
 }
 
+/// The first of these texts where a label has another place.
+fn first_other_place(
+    alloc: Global,
+    cases: &[(&'static str, &str, Option<usize>)],
+) -> Result<Option<&'static str>, AllocError> {
+    for (text, label, place) in cases {
+        if place_of(alloc, text, label)? != *place {
+            return Ok(Some(text));
+        }
+    }
+    Ok(None)
+}
+
 #[test]
 fn finds_labels(rt: HostRuntime) -> Result<(), AllocError> {
-    for (text, label, place) in LABELS {
-        assert_eq!(rt; place_of(rt.alloc(), text, label)?, place, "at {text:?}");
-    }
+    let other = first_other_place(rt.alloc(), LABELS)?;
+    assert!(rt; other.is_none(), "{other:?}");
     Ok(())
 }
 
-const LINKS: [(&str, &str, Option<&str>); 12] = [
+/// Texts, and the destination and the title of the only definition of each.
+const LINKS: &[(&str, &str, Option<&str>)] = &[
     ("[a]: b", "b", None),
     ("[a]: <b>", "b", None),
     ("[a]: <>", "", None),
@@ -68,18 +82,38 @@ fn only_link<'c>(found: &Definitions<'c, Global>) -> Option<(&'c str, Option<&'c
     }
 }
 
+/// Whether the only definition of a text leads there.
+fn leads_to(
+    alloc: Global,
+    text: &str,
+    destination: &str,
+    title: Option<&str>,
+) -> Result<bool, AllocError> {
+    if !fits(text) {
+        return Ok(false);
+    }
+    let blocks = block_rows(alloc, Kind::Whitespace, text, &Constructs::default())?;
+    let contents = definition_contents(alloc, &blocks.rows, &blocks.pieces)?;
+    let found = document_definitions(alloc, &contents)?;
+    Ok(only_link(&found) == Some((destination, title)))
+}
+
+/// The first of these texts whose only definition leads elsewhere.
+fn first_other_link(
+    alloc: Global,
+    cases: &[(&'static str, &str, Option<&str>)],
+) -> Result<Option<&'static str>, AllocError> {
+    for (text, destination, title) in cases {
+        if !leads_to(alloc, text, destination, *title)? {
+            return Ok(Some(text));
+        }
+    }
+    Ok(None)
+}
+
 #[test]
 fn leads_to_places(rt: HostRuntime) -> Result<(), AllocError> {
-    let on = Constructs::default();
-    for (text, destination, title) in LINKS {
-        let blocks = block_rows(rt.alloc(), Kind::Whitespace, text, &on)?;
-        let contents = definition_contents(rt.alloc(), &blocks.rows, &blocks.pieces)?;
-        let found = document_definitions(rt.alloc(), &contents)?;
-        assert_eq!(rt;
-            only_link(&found),
-            Some((destination, title)),
-            "at {text:?}"
-        );
-    }
+    let other = first_other_link(rt.alloc(), LINKS)?;
+    assert!(rt; other.is_none(), "{other:?}");
     Ok(())
 }

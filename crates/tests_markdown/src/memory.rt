@@ -2,11 +2,12 @@
 use crate::joined::assert_no_fault;
 use linked_list_allocator::LocalHeap;
 use markdown::{Options, RunError, fits, to_html_with_options};
+use std::alloc::{AllocError, Global};
 use std::io;
-use tests_helpers::plain;
+use tests_helpers::{pages, plain};
 
 /// Containers in each other, with definitions and lists of both kinds.
-pub(crate) const CONTAINERS: [(&str, &str); 6] = [
+pub(crate) const CONTAINERS: &str = pages![
     (
         "> > a\n> b\n\n> c",
         "<blockquote>\n<blockquote>\n<p>a\nb</p>\n</blockquote>\n</blockquote>\n<blockquote>\n<p>c</p>\n</blockquote>",
@@ -35,31 +36,40 @@ pub(crate) const CONTAINERS: [(&str, &str); 6] = [
 
 #[test]
 fn prints_containers(rt: HostRuntime) -> Result<(), RunError> {
-    assert_no_fault(&rt, &CONTAINERS, &Options::default())
+    assert_no_fault(&rt, CONTAINERS, Options::default())
+}
+
+/// Whether a text has this page, with every construct off, in a heap of a size.
+fn is_page_in(alloc: Global, size: usize, text: &str, want: &str) -> Result<bool, AllocError> {
+    let heap = LocalHeap::new(alloc, size)?;
+    match to_html_with_options(&heap, text, &plain()) {
+        Ok(page) => Ok(page.as_str() == want),
+        Err(_) => Ok(false),
+    }
 }
 
 #[test]
 fn prints_in_a_small_heap(rt: HostRuntime) -> io::Result<()> {
-    let heap = LocalHeap::new(rt.alloc(), 2048)?;
-    let result = to_html_with_options(&heap, "a & b", &plain());
-    match result {
-        Ok(page) => assert_eq!(rt; page.as_str(), "<p>a &amp; b</p>"),
-        Err(_) => panic!(rt; "there was memory"),
-    }
+    assert!(rt; is_page_in(rt.alloc(), 2048, "a & b", "<p>a &amp; b</p>")?);
     Ok(())
+}
+
+/// How the message is shown with which a text is refused in a heap of a size, if it is.
+fn refusal_in(alloc: Global, size: usize, text: &str) -> Result<Option<String>, AllocError> {
+    if !fits(text) {
+        return Ok(None);
+    }
+    let heap = LocalHeap::new(alloc, size)?;
+    match to_html_with_options(&heap, text, &plain()) {
+        Ok(_) => Ok(None),
+        Err(message) => Ok(Some(format!(in alloc; "{message}")?)),
+    }
 }
 
 #[test]
 fn answers_want_of_memory(rt: HostRuntime) -> io::Result<()> {
     let text = "aaaaaaaaaaaaaaaaaaaaaaaaaaaaaaaaaaaaaaaaaaaaaaaaaaaaaaaaaaaaaaaaaaaaaaaaaaaaaaa";
-    assert!(rt; fits(text));
-    let heap = LocalHeap::new(rt.alloc(), 64)?;
-    match to_html_with_options(&heap, text, &plain()) {
-        Ok(_) => panic!(rt; "there was no memory"),
-        Err(message) => {
-            let shown = format!(in rt.alloc(); "{message}")?;
-            assert_eq!(rt; shown.as_str(), "Out of memory (markdown:memory)");
-        }
-    }
+    let shown = refusal_in(rt.alloc(), 64, text)?;
+    assert!(rt; shown.as_deref() == Some("Out of memory (markdown:memory)"));
     Ok(())
 }

@@ -12,7 +12,7 @@ use crate::memory::CONTAINERS;
 use crate::rows::{LEAVES, PLAIN};
 use crate::worked::{COMMONMARK, GFM};
 use markdown::{Options, RunError};
-use std::alloc::Global;
+use std::alloc::{AllocError, Global};
 use std::process::Abort;
 
 /// CommonMark with every extension.
@@ -26,138 +26,132 @@ fn everything() -> Options
     options
 }
 
-/// The first text after which another can't stand, of these and the worked ones.
-fn first_apart(
-    alloc: Global,
-    rows: &[(&'static str, &'static str)],
-) -> Result<Option<&'static str>, RunError> {
-    let options = everything();
-    for worked in [COMMONMARK.as_slice(), GFM.as_slice()] {
-        let found = first_unjoined(alloc, rows, worked, &options)?;
-        if found.is_some() {
-            return Ok(found);
-        }
-        let found = first_unjoined(alloc, worked, rows, &options)?;
-        if found.is_some() {
-            return Ok(found);
-        }
-    }
-    Ok(None)
+/// The same, with raw HTML printed.
+fn dangerous() -> Options
+    ensures { HasNoMdx result }
+{
+    let mut options = everything();
+    options.compile.allow_dangerous_html = true;
+    options
 }
 
-/// The first worked text after which another can't stand, those of frontmatter, of the tag filter and of no construct among them.
-fn first_worked_apart(alloc: Global, options: &Options) -> Result<Option<&'static str>, RunError>
+/// The worked texts, those of frontmatter, of the tag filter and of no construct among them.
+fn worked(alloc: Global) -> Result<String, AllocError> {
+    let mut pages = String::from_str(alloc, COMMONMARK)?;
+    pages.push_str(GFM)?;
+    pages.push_str(FRONTMATTER)?;
+    pages.push_str(FILTERED)?;
+    pages.push_str(PLAIN)?;
+    Ok(pages)
+}
+
+/// The first of these texts before or after which one of the others can't stand, or the first of the others.
+fn first_apart<'a>(
+    alloc: Global,
+    pages: &'a str,
+    others: &'a str,
+    options: &Options,
+) -> Result<Option<&'a str>, RunError>
     requires { HasNoMdx options.now }
 {
-    let tables = [
-        COMMONMARK.as_slice(),
-        GFM.as_slice(),
-        FRONTMATTER.as_slice(),
-        FILTERED.as_slice(),
-        PLAIN.as_slice(),
-    ];
-    for rows in tables {
-        for others in tables {
-            let found = first_unjoined(alloc, rows, others, options)?;
-            if found.is_some() {
-                return Ok(found);
-            }
-        }
+    match first_unjoined(alloc, pages, others, options)? {
+        None => first_unjoined(alloc, others, pages, options),
+        found => Ok(found),
     }
-    Ok(None)
+}
+
+/// The first text after which another can't stand, of these and the worked ones.
+fn first_apart_from_worked<'a>(
+    alloc: Global,
+    pages: &'a str,
+    options: &Options,
+) -> Result<Option<&'a str>, RunError>
+    requires { HasNoMdx options.now }
+{
+    match first_apart(alloc, pages, COMMONMARK, options)? {
+        None => first_apart(alloc, pages, GFM, options),
+        found => Ok(found),
+    }
 }
 
 /// Fails, and shows the first text, where one of these and a worked one can't stand after each other.
-fn assert_none_apart(
-    rt: &(impl AllocGlobal + Abort),
-    rows: &[(&'static str, &'static str)],
-) -> Result<(), RunError> {
-    assert_eq!(rt; first_apart(rt.alloc(), rows)?, None);
+fn assert_none_apart(rt: &(impl AllocGlobal + Abort), pages: &str) -> Result<(), RunError> {
+    let found = first_apart_from_worked(rt.alloc(), pages, &everything())?;
+    assert!(rt; found.is_none(), "{found:?}");
     Ok(())
 }
 
-/// The same of the worked texts.
-fn assert_no_worked_apart(
-    rt: &(impl AllocGlobal + Abort),
-    options: &Options,
-) -> Result<(), RunError>
-    requires { HasNoMdx options.now }
-{
-    assert_eq!(rt; first_worked_apart(rt.alloc(), options)?, None);
-    Ok(())
-}
-
-/// The same of every two texts of a table.
+/// The same of every two of these texts.
 fn assert_joined(
     rt: &(impl AllocGlobal + Abort),
-    rows: &[(&'static str, &'static str)],
-    options: &Options,
+    pages: &str,
+    options: Options,
 ) -> Result<(), RunError>
-    requires { HasNoMdx options.now }
+    requires { HasNoMdx options }
 {
-    assert_eq!(rt; first_unjoined(rt.alloc(), rows, rows, options)?, None);
+    let found = first_unjoined(rt.alloc(), pages, pages, &options)?;
+    assert!(rt; found.is_none(), "{found:?}");
     Ok(())
 }
 
 #[test]
 fn prints_worked_texts_beside_each_other(rt: HostRuntime) -> Result<(), RunError> {
-    assert_no_worked_apart(&rt, &Options::default())?;
-    assert_no_worked_apart(&rt, &Options::gfm())?;
-    let mut options = everything();
-    assert_no_worked_apart(&rt, &options)?;
-    options.compile.allow_dangerous_html = true;
-    assert_no_worked_apart(&rt, &options)
+    let pages = worked(rt.alloc())?;
+    assert_joined(&rt, &pages, Options::default())?;
+    assert_joined(&rt, &pages, Options::gfm())?;
+    assert_joined(&rt, &pages, everything())?;
+    assert_joined(&rt, &pages, dangerous())
 }
 
 #[test]
 fn prints_worked_texts_beside_blocks(rt: HostRuntime) -> Result<(), RunError> {
-    assert_none_apart(&rt, &LEAVES)?;
-    assert_none_apart(&rt, &CONTAINERS)
+    assert_none_apart(&rt, LEAVES)?;
+    assert_none_apart(&rt, CONTAINERS)
 }
 
 #[test]
 fn prints_worked_texts_beside_math(rt: HostRuntime) -> Result<(), RunError> {
-    assert_none_apart(&rt, &MATH_FLOW)?;
-    assert_none_apart(&rt, &MATH_TEXT)
+    assert_none_apart(&rt, MATH_FLOW)?;
+    assert_none_apart(&rt, MATH_TEXT)
 }
 
 #[test]
 fn prints_worked_texts_beside_tasks(rt: HostRuntime) -> Result<(), RunError> {
-    assert_none_apart(&rt, &STRIKETHROUGH)?;
-    assert_none_apart(&rt, &TASKS)
+    assert_none_apart(&rt, STRIKETHROUGH)?;
+    assert_none_apart(&rt, TASKS)
 }
 
 #[test]
 fn prints_worked_texts_beside_inline_constructs(rt: HostRuntime) -> Result<(), RunError> {
-    assert_none_apart(&rt, &INLINE)?;
-    assert_none_apart(&rt, &BESIDE)
+    assert_none_apart(&rt, INLINE)?;
+    assert_none_apart(&rt, BESIDE)
 }
 
 #[test]
 fn prints_worked_texts_beside_references(rt: HostRuntime) -> Result<(), RunError> {
-    assert_none_apart(&rt, &REFERENCES)?;
-    assert_none_apart(&rt, &MARKED)
+    assert_none_apart(&rt, REFERENCES)?;
+    assert_none_apart(&rt, MARKED)
 }
 
 #[test]
 fn prints_worked_texts_beside_literals(rt: HostRuntime) -> Result<(), RunError> {
-    assert_none_apart(&rt, &LITERALS)
+    assert_none_apart(&rt, LITERALS)
 }
 
 #[test]
 fn prints_worked_texts_beside_email_addresses(rt: HostRuntime) -> Result<(), RunError> {
-    assert_none_apart(&rt, &EMAILS)
+    assert_none_apart(&rt, EMAILS)
 }
 
 #[test]
 fn prints_worked_texts_beside_examples(rt: HostRuntime) -> Result<(), RunError> {
-    assert_none_apart(&rt, &EXAMPLES)
+    assert_none_apart(&rt, EXAMPLES)
 }
 
 #[test]
 fn prints_worked_texts_beside_footnotes(rt: HostRuntime) -> Result<(), RunError> {
-    for rows in gfm_label_start_footnote::tables() {
-        assert_none_apart(&rt, rows)?;
+    for pages in gfm_label_start_footnote::tables() {
+        assert_none_apart(&rt, pages)?;
     }
     Ok(())
 }
@@ -165,15 +159,8 @@ fn prints_worked_texts_beside_footnotes(rt: HostRuntime) -> Result<(), RunError>
 /// Every two texts of a table where more can be read than its own texts ask for.
 #[test]
 fn prints_every_two_texts_by_extensions(rt: HostRuntime) -> Result<(), RunError> {
-    let options = extensions();
-    for rows in [
-        LEAVES.as_slice(),
-        CONTAINERS.as_slice(),
-        INLINE.as_slice(),
-        BESIDE.as_slice(),
-        PLAIN.as_slice(),
-    ] {
-        assert_joined(&rt, rows, &options)?;
+    for pages in [LEAVES, CONTAINERS, INLINE, BESIDE, PLAIN] {
+        assert_joined(&rt, pages, extensions())?;
     }
     Ok(())
 }

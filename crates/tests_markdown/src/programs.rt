@@ -24,18 +24,34 @@ fn owned(rt: &impl AllocGlobal, words: &[&str]) -> io::Result<Vec<String>> {
     Ok(owned)
 }
 
-/// Compares a run of the program with what is wanted.
-fn compare(rt: &(impl Files + AllocGlobal + Abort), run: &Run<'_>) -> io::Result<()> {
+/// Which part of an answer isn't the one that is wanted, if one isn't.
+fn other_part(run: &Run<'_>, status: u8, output: &[u8], fault: &[u8]) -> Option<&'static str> {
+    if status != run.status {
+        Some("the status")
+    } else if output != run.output.as_bytes() {
+        Some("the output")
+    } else if fault != run.fault.as_bytes() {
+        Some("the complaint")
+    } else {
+        None
+    }
+}
+
+/// Which part of what the program answers isn't the one that is wanted, if one isn't.
+fn other(rt: &(impl Files + AllocGlobal), run: &Run<'_>) -> io::Result<Option<&'static str>> {
     let words = owned(rt, run.words)?;
     let mut reader = Watched::new(run.input);
     let mut writer = Watched::new(Vec::new(rt.alloc()));
     let mut faults = Vec::new(rt.alloc());
     let status = program(rt, &words, &mut reader, &mut writer, &mut faults);
-    let at = run.words;
-    assert_eq!(rt; status, run.status, "at {at:?}");
     let output = writer.into_inner();
-    assert_eq!(rt; output.as_slice(), run.output.as_bytes(), "at {at:?}");
-    assert_eq!(rt; faults.as_slice(), run.fault.as_bytes(), "at {at:?}");
+    Ok(other_part(run, status, output.as_slice(), faults.as_slice()))
+}
+
+/// Compares a run of the program with what is wanted.
+fn compare(rt: &(impl Files + AllocGlobal + Abort), run: &Run<'_>) -> io::Result<()> {
+    let other = other(rt, run)?;
+    assert!(rt; other.is_none(), "{other:?} at {:?}", run.words);
     Ok(())
 }
 

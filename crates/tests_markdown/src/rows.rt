@@ -4,10 +4,10 @@ ghost use Rattle.markdown_options.specs.Mdx.{HasNoMdx};
 use crate::joined::assert_no_fault;
 use markdown::{Builtin, Options, RunError, Watched, run};
 use std::alloc::Global;
-use tests_helpers::plain;
+use tests_helpers::{pages, plain};
 
 /// Texts and their HTML, with every construct off.
-pub(crate) const PLAIN: [(&str, &str); 20] = [
+pub(crate) const PLAIN: &str = pages![
     ("", ""),
     ("\n", ""),
     ("a\n", "<p>a</p>\n"),
@@ -34,7 +34,7 @@ pub(crate) const PLAIN: [(&str, &str); 20] = [
 ];
 
 /// Texts and their HTML, with the leaf blocks that can be read so far.
-pub(crate) const LEAVES: [(&str, &str); 43] = [
+pub(crate) const LEAVES: &str = pages![
     (
         "``` x y\na\n```",
         "<pre><code class=\"language-x\">a\n</code></pre>",
@@ -136,12 +136,12 @@ pub(crate) fn leaves() -> Options
 
 #[test]
 fn prints_leaf_rows(rt: HostRuntime) -> Result<(), RunError> {
-    assert_no_fault(&rt, &LEAVES, &leaves())
+    assert_no_fault(&rt, LEAVES, leaves())
 }
 
 #[test]
 fn prints_plain_rows(rt: HostRuntime) -> Result<(), RunError> {
-    assert_no_fault(&rt, &PLAIN, &plain())
+    assert_no_fault(&rt, PLAIN, plain())
 }
 
 #[test]

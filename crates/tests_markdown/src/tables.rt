@@ -1,21 +1,43 @@
 //! Tables of the caller.
-use markdown::{Options, fits, to_html_with_tables};
+use markdown::{Message, Options, fits, to_html_with_tables};
+use std::alloc::Global;
 use tests_helpers::Names;
 
-#[test]
-fn reads_names_of_the_caller(rt: HostRuntime) {
-    for (text, want) in [
-        (
-            "[a](b \"&q;\")",
-            "<p><a href=\"b\" title=\"&quot;\">a</a></p>",
-        ),
-        ("[a](&j;vascript:x)", "<p><a href=\"\">a</a></p>"),
-        ("&amp;&q;", "<p>&amp;amp;&quot;</p>"),
-    ] {
-        assert!(rt; fits(text));
-        match to_html_with_tables(rt.alloc(), text, &Options::default(), &Names) {
-            Ok(page) => assert_eq!(rt; page.as_str(), want),
-            Err(_) => panic!(rt; "there was memory"),
+/// Texts with names of the caller, and their HTML.
+const NAMED: &[(&str, &str)] = &[
+    (
+        "[a](b \"&q;\")",
+        "<p><a href=\"b\" title=\"&quot;\">a</a></p>",
+    ),
+    ("[a](&j;vascript:x)", "<p><a href=\"\">a</a></p>"),
+    ("&amp;&q;", "<p>&amp;amp;&quot;</p>"),
+];
+
+/// Whether a text has this page.
+fn is_page(alloc: Global, text: &str, want: &str) -> Result<bool, Message> {
+    if !fits(text) {
+        return Ok(false);
+    }
+    let page = to_html_with_tables(alloc, text, &Options::default(), &Names)?;
+    Ok(page.as_str() == want)
+}
+
+/// The first of these texts that has another page.
+fn first_other(
+    alloc: Global,
+    cases: &[(&'static str, &str)],
+) -> Result<Option<&'static str>, Message> {
+    for (text, want) in cases {
+        if !is_page(alloc, text, want)? {
+            return Ok(Some(text));
         }
     }
+    Ok(None)
+}
+
+#[test]
+fn reads_names_of_the_caller(rt: HostRuntime) -> Result<(), Message> {
+    let other = first_other(rt.alloc(), NAMED)?;
+    assert!(rt; other.is_none(), "{other:?}");
+    Ok(())
 }

@@ -3,16 +3,16 @@ ghost use Rattle.markdown_options.specs.Mdx.{HasNoMdx};
 
 use crate::devices::Short;
 use crate::extensions::FRONTMATTER;
-use crate::gfm_examples::FILTERED;
+use crate::gfm_examples::{FILTERED, with_html};
 use crate::joined::assert_no_fault;
 use crate::rows::PLAIN;
 use markdown::{Builtin, Options, RunError, Watched, run};
 use std::alloc::Global;
 use std::process::Abort;
-use tests_helpers::plain;
+use tests_helpers::{pages, plain, rows_of};
 
 /// Read by the default options.
-pub(crate) const COMMONMARK: [(&str, &str); 33] = [
+pub(crate) const COMMONMARK: &str = pages![
     ("", ""),
     ("\n", ""),
     ("a\n", "<p>a</p>\n"),
@@ -103,7 +103,7 @@ pub(crate) const COMMONMARK: [(&str, &str); 33] = [
 ];
 
 /// Read by those of GitHub.
-pub(crate) const GFM: [(&str, &str); 5] = [
+pub(crate) const GFM: &str = pages![
     (
         "* [x] contact ~Mercury~Venus at hi@venus.com!",
         "<ul>\n\
@@ -131,20 +131,33 @@ pub(crate) const GFM: [(&str, &str); 5] = [
     ("[^a]: b", ""),
 ];
 
+/// Whether a text has this page where each call reads a byte, or writes one.
+fn is_right_by_bytes(
+    alloc: Global,
+    text: &str,
+    want: &str,
+    options: &Options,
+) -> Result<bool, RunError>
+    requires { HasNoMdx options.now }
+{
+    let mut reader = Watched::new(Short::new(text.as_bytes(), 1, 1000));
+    let mut writer = Watched::new(Short::new(Vec::new(alloc), 1, 1000));
+    run(alloc, &mut reader, &mut writer, options, &Builtin)?;
+    let out = writer.into_inner().into_inner();
+    Ok(out.as_slice() == want.as_bytes())
+}
+
 /// The first text whose page isn't the one beside it where each call reads a byte, or writes one.
 fn first_wrong_by_bytes<'a>(
     alloc: Global,
-    rows: &[(&'a str, &str)],
+    pages: &'a str,
     options: &Options,
 ) -> Result<Option<&'a str>, RunError>
     requires { HasNoMdx options.now }
 {
-    for (text, want) in rows {
-        let mut reader = Watched::new(Short::new(text.as_bytes(), 1, 1000));
-        let mut writer = Watched::new(Short::new(Vec::new(alloc), 1, 1000));
-        run(alloc, &mut reader, &mut writer, options, &Builtin)?;
-        let out = writer.into_inner().into_inner();
-        if out.as_slice() != want.as_bytes() {
+    let rows = rows_of(alloc, pages)?;
+    for (text, want) in rows.as_slice() {
+        if !is_right_by_bytes(alloc, text, want, options)? {
             return Ok(Some(text));
         }
     }
@@ -154,41 +167,45 @@ fn first_wrong_by_bytes<'a>(
 /// Fails, and shows the first text, where some of these are wrong.
 fn assert_pages_by_bytes(
     rt: &(impl AllocGlobal + Abort),
-    rows: &[(&str, &str)],
-    options: &Options,
+    pages: &str,
+    options: Options,
 ) -> Result<(), RunError>
-    requires { HasNoMdx options.now }
+    requires { HasNoMdx options }
 {
-    assert_eq!(rt; first_wrong_by_bytes(rt.alloc(), rows, options)?, None);
+    let wrong = first_wrong_by_bytes(rt.alloc(), pages, &options)?;
+    assert!(rt; wrong.is_none(), "{wrong:?}");
     Ok(())
+}
+
+/// The default options, with frontmatter.
+fn with_frontmatter() -> Options
+    ensures { HasNoMdx result }
+{
+    let mut options = Options::default();
+    options.parse.constructs.frontmatter = true;
+    options
 }
 
 #[test]
 fn prints_worked_texts(rt: HostRuntime) -> Result<(), RunError> {
-    let options = Options::default();
-    assert_no_fault(&rt, &COMMONMARK, &options)?;
-    assert_pages_by_bytes(&rt, &COMMONMARK, &options)
+    assert_no_fault(&rt, COMMONMARK, Options::default())?;
+    assert_pages_by_bytes(&rt, COMMONMARK, Options::default())
 }
 
 #[test]
 fn prints_worked_texts_of_gfm(rt: HostRuntime) -> Result<(), RunError> {
-    let options = Options::gfm();
-    assert_no_fault(&rt, &GFM, &options)?;
-    assert_pages_by_bytes(&rt, &GFM, &options)
+    assert_no_fault(&rt, GFM, Options::gfm())?;
+    assert_pages_by_bytes(&rt, GFM, Options::gfm())
 }
 
 #[test]
 fn prints_worked_texts_of_frontmatter(rt: HostRuntime) -> Result<(), RunError> {
-    let mut options = Options::default();
-    options.parse.constructs.frontmatter = true;
-    assert_no_fault(&rt, &FRONTMATTER, &options)?;
-    assert_pages_by_bytes(&rt, &FRONTMATTER, &options)
+    assert_no_fault(&rt, FRONTMATTER, with_frontmatter())?;
+    assert_pages_by_bytes(&rt, FRONTMATTER, with_frontmatter())
 }
 
 #[test]
 fn prints_filtered_and_plain_texts_by_bytes(rt: HostRuntime) -> Result<(), RunError> {
-    let mut options = Options::gfm();
-    options.compile.allow_dangerous_html = true;
-    assert_pages_by_bytes(&rt, &FILTERED, &options)?;
-    assert_pages_by_bytes(&rt, &PLAIN, &plain())
+    assert_pages_by_bytes(&rt, FILTERED, with_html())?;
+    assert_pages_by_bytes(&rt, PLAIN, plain())
 }

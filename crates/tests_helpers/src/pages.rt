@@ -1,0 +1,54 @@
+//! Texts and their pages, written as one text.
+ghost use Rattle.std.specs.Prelude.{◌≡◌, ◌++◌, IfOk, IfSome};
+ghost use Rattle.tests_helpers.specs.Pages.{row_bytes, pages_bytes};
+
+use markdown::RunError;
+use std::alloc::{AllocError, Global};
+use std::io;
+
+/// What stands after each text and after each page: a control character that none of them has.
+const MARK: char = '\u{1F}';
+
+/// Texts, each with its page beside it, as one constant: a table of literals takes the check the square of its rows.
+#[macro_export]
+macro_rules! pages {
+    ($(($text:literal, $page:literal $(,)?)),* $(,)?) => {
+        concat!($($text, "\u{1F}", $page, "\u{1F}"),*)
+    };
+}
+
+/// The row that pages begin with, a text and its page, and what follows it.
+fn first_row(pages: &str) -> Option<((&str, &str), &str)>
+    ensures { IfSome result (λ it. pages.now ≡ row_bytes it.0 ++ it.1.now) }
+{
+    let (text, after) = pages.split_once(MARK)?;
+    let (page, rest) = after.split_once(MARK)?;
+    Some(((text, page), rest))
+}
+
+/// The rows, or none where something is left that is no row.
+fn read_rows<'a>(
+    alloc: Global,
+    pages: &'a str,
+) -> Result<Option<Vec<(&'a str, &'a str)>>, AllocError>
+    ensures { IfOk result (λ found. IfSome found (λ rows. pages_bytes rows.items ≡ pages.now)) }
+{
+    let mut rows = Vec::new(alloc);
+    let mut rest = pages;
+    while let Some((row, after)) = first_row(rest) {
+        rows.push(row)?;
+        rest = after;
+    }
+    Ok(if rest.is_empty() { Some(rows) } else { None })
+}
+
+/// The rows of texts and pages that `pages!` wrote: all of them, in order. `Read` where something is left that is no row.
+pub fn rows_of<'a>(alloc: Global, pages: &'a str) -> Result<Vec<(&'a str, &'a str)>, RunError>
+    ensures { IfOk result (λ rows. pages_bytes rows.items ≡ pages.now) }
+{
+    match read_rows(alloc, pages) {
+        Ok(Some(rows)) => Ok(rows),
+        Ok(None) => Err(RunError::Read(io::Error::from(io::ErrorKind::InvalidData))),
+        Err(_) => Err(RunError::Memory),
+    }
+}

@@ -1,0 +1,48 @@
+//! The examples of CommonMark 0.31.2, 633 to 647: Hard line breaks (6.7).
+use crate::commonmark::examples::examples;
+use markdown::RunError;
+use tests_helpers::pages;
+
+const EXAMPLES: &str = pages![
+    // 633
+    ("foo  \nbaz\n", "<p>foo<br />\nbaz</p>\n"),
+    // 634
+    ("foo\\\nbaz\n", "<p>foo<br />\nbaz</p>\n"),
+    // 635
+    ("foo       \nbaz\n", "<p>foo<br />\nbaz</p>\n"),
+    // 636
+    ("foo  \n     bar\n", "<p>foo<br />\nbar</p>\n"),
+    // 637
+    ("foo\\\n     bar\n", "<p>foo<br />\nbar</p>\n"),
+    // 638
+    ("*foo  \nbar*\n", "<p><em>foo<br />\nbar</em></p>\n"),
+    // 639
+    ("*foo\\\nbar*\n", "<p><em>foo<br />\nbar</em></p>\n"),
+    // 640
+    ("`code  \nspan`\n", "<p><code>code   span</code></p>\n"),
+    // 641
+    ("`code\\\nspan`\n", "<p><code>code\\ span</code></p>\n"),
+    // 642
+    (
+        "<a href=\"foo  \nbar\">\n",
+        "<p><a href=\"foo  \nbar\"></p>\n",
+    ),
+    // 643
+    (
+        "<a href=\"foo\\\nbar\">\n",
+        "<p><a href=\"foo\\\nbar\"></p>\n",
+    ),
+    // 644
+    ("foo\\\n", "<p>foo\\</p>\n"),
+    // 645
+    ("foo  \n", "<p>foo</p>\n"),
+    // 646
+    ("### foo\\\n", "<h3>foo\\</h3>\n"),
+    // 647
+    ("### foo  \n", "<h3>foo</h3>\n"),
+];
+
+#[test]
+fn examples_633_to_647(rt: HostRuntime) -> Result<(), RunError> {
+    examples(&rt, 633, EXAMPLES)
+}

@@ -1,0 +1,27 @@
+//! What the crates below the calls answer: options and tables, inline structure, what is printed of texts, URLs and footnotes.
+#![tactic(auto)]
+
+#[cfg(test)]
+mod escape;
+#[cfg(test)]
+mod footnotes;
+#[cfg(test)]
+mod gfm_autolink_literal;
+#[cfg(test)]
+mod label_ends;
+#[cfg(test)]
+mod labels;
+#[cfg(test)]
+mod leaves;
+#[cfg(test)]
+mod options;
+#[cfg(test)]
+mod references;
+#[cfg(test)]
+mod runs;
+#[cfg(test)]
+mod safe_page;
+#[cfg(test)]
+mod spans;
+#[cfg(test)]
+mod tables;

@@ -1,0 +1,68 @@
+//! Names and characters on both sides of the tables.
+use markdown_options::Tables;
+use markdown_tables::Builtin;
+
+/// Names, and what they stand for.
+const NAMES: &[(&str, Option<&str>)] = &[
+    ("amp", Some("&")),
+    ("ngE", Some("\u{2267}\u{338}")),
+    ("amp;", None),
+    ("AMp", None),
+    ("", None),
+];
+
+/// The first of these names that stands for something else.
+fn first_other_name(cases: &[(&'static str, Option<&str>)]) -> Option<&'static str> {
+    for (name, want) in cases {
+        if Builtin.reference(name) != *want {
+            return Some(name);
+        }
+    }
+    None
+}
+
+#[test]
+fn names(rt: HostRuntime) {
+    let other = first_other_name(NAMES);
+    assert!(rt; other.is_none(), "{other:?}");
+}
+
+/// Characters, and whether they are punctuation.
+const CHARACTERS: &[(char, bool)] = &[
+    ('_', true),
+    ('$', true),
+    ('£', true),
+    ('„', true),
+    ('𝄞', true),
+    ('a', false),
+    (' ', false),
+    ('²', false),
+    ('é', false),
+    ('\u{A0}', false),
+];
+
+/// The first of these characters of which the tables say something else.
+fn first_other_character(cases: &[(char, bool)]) -> Option<char> {
+    for (character, want) in cases {
+        if Builtin.is_punctuation(*character) != *want {
+            return Some(*character);
+        }
+    }
+    None
+}
+
+#[test]
+fn characters(rt: HostRuntime) {
+    let other = first_other_character(CHARACTERS);
+    assert!(rt; other.is_none(), "{other:?}");
+}
+
+/// Whether tables know a name by a text.
+fn knows<T: Tables>(tables: &T, name: &str, text: &str) -> bool {
+    tables.reference(name) == Some(text)
+}
+
+#[test]
+fn through_the_trait(rt: HostRuntime) {
+    assert!(rt; knows(&Builtin, "amp", "&") && !knows(&Builtin, "amp", "<"));
+}
