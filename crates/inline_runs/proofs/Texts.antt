@@ -44,6 +44,7 @@ text_pushed ps sizes laid l is texts i d lt =
           ap (λ (m : RunLayout). m.text) (get_or_push laid l d i at) ∙ is ∙ ap (λ k. text_at ps k (slice_index sizes k)) at
     ]
 
+-- one more run, whose opened pairs come after those of the runs before it
 pub laid_pushed : (ps all more : List Pair) (laid : List RunLayout) (l : RunLayout) → AreLaid ps all laid → more ≡ reverse (opened_by (length laid) ps)
     → l.start ≡ length all → l.end ≡ length (all ++ more) → AreLaid ps (all ++ more) (laid ++ l ∷ [])
 laid_pushed ps all more laid l are is start end i d lt =

@@ -8,8 +8,10 @@ use Rattle.html_footnotes.specs.declared.calls.CalledFootnote.{CalledFootnote}
 use Rattle.html_footnotes.specs.declared.gfm_footnote_definition.Footnote.{Footnote}
 use Rattle.html_footnotes.proofs.calls.footnotes_of.Goals as goal
 
-one_more : {A : Type 0} (note : NoteCalls → footnote.Footnote) (called : List (CalledFootnote A)) (i : ℕ) (d : CalledFootnote A) (so_far : List Footnote) (f : Footnote)
-    → i < length called → note_view f ≡ note (called_view (get_or called i d)) → map note_view so_far ≡ map note (map called_view (take i called))
+-- one more footnote
+one_more : {A : Type 0} (note : NoteCalls → footnote.Footnote) (called : List (CalledFootnote A)) (i : ℕ) (d : CalledFootnote A)
+    (so_far : List Footnote) (f : Footnote) → i < length called → note_view f ≡ note (called_view (get_or called i d))
+    → map note_view so_far ≡ map note (map called_view (take i called))
     → map note_view (so_far ++ f ∷ []) ≡ map note (map called_view (take (i + 1) called))
 one_more note called i d so_far f lt is same =
     let before = map called_view (take i called) in

@@ -7,7 +7,8 @@ use Rattle.inline_content.specs.View.{view_at}
 use Rattle.inline_leaves.specs.Leaves.{size_before}
 use Rattle.inline_leaves.proofs.Searching.{rest_of_rest}
 use Rattle.inline_literals.specs.Literals.{size_after, start_view, may_begin, StartsLiteral, IsNameEnd}
-use Rattle.inline_literals.proofs.Found.{none_first, view_codes, at_found, at_none, no_size, with_size, after_literal, literal_boundary, size_of_literal, start_end}
+use Rattle.inline_literals.proofs.Found.{none_first, view_codes, at_found, at_none, no_size, with_size, after_literal, size_of_literal, start_end}
+use Rattle.inline_literals.proofs.Found.{literal_boundary}
 use Rattle.inline_literals.proofs.gfm_autolink_literal.literal_at.Goals.{then-not-on-via-then-not-on, then-not-on-via-else-not-on+then-not-may_begin}
 use Rattle.inline_literals.proofs.gfm_autolink_literal.literal_at.Goals as goal
 

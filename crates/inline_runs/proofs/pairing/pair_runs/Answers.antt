@@ -14,7 +14,8 @@ loop-place-preserved g c =
     record {
       same =
           ap (λ s. fold next_run s (placed_from (place + 1) (runs_view (drop (place + 1) runs)))) c.in_ok-next_run.ensures.state
-          ∙ sym (at_drop_more (λ (rs : List Run). fold next_run (state c.loop-place.pairing) (placed_from place (runs_view rs))) runs place _ c.loop-place-test.true)
+          ∙ sym
+          (at_drop_more (λ (rs : List Run). fold next_run (state c.loop-place.pairing) (placed_from place (runs_view rs))) runs place _ c.loop-place-test.true)
           ∙ c.loop-place.invariant.same;
       sound = c.in_ok-next_run.ensures.sound;
     }
