@@ -41,6 +41,9 @@ fn prints_containers(rt: HostRuntime) -> Result<(), RunError> {
 
 /// Whether a text has this page, with every construct off, in a heap of a size.
 fn is_page_in(alloc: Global, size: usize, text: &str, want: &str) -> Result<bool, AllocError> {
+    if !fits(text) {
+        return Ok(false);
+    }
     let heap = LocalHeap::new(alloc, size)?;
     match to_html_with_options(&heap, text, &plain()) {
         Ok(page) => Ok(page.as_str() == want),
