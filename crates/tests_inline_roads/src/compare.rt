@@ -27,10 +27,10 @@ fn are_texts_same(rt: &HostRuntime, roads: &Roads, texts: &[&str]) -> Result<boo
 
 #[test]
 fn contents_by_hand(rt: HostRuntime) -> Result<(), Fail> {
-    assert!(rt; are_texts_same(&rt, &Roads::new(&rt, plain_options())?, &TEXTS)?);
+    assert!(rt; are_texts_same(&rt, &Roads::new(&rt, plain_options())?, TEXTS)?);
     let roads = Roads::new(&rt, full_options())?;
-    assert!(rt; are_texts_same(&rt, &roads, &TEXTS)?);
-    assert!(rt; are_texts_same(&rt, &roads, &GFM_TEXTS)?);
+    assert!(rt; are_texts_same(&rt, &roads, TEXTS)?);
+    assert!(rt; are_texts_same(&rt, &roads, GFM_TEXTS)?);
     Ok(())
 }
 

@@ -1818,7 +1818,7 @@ const GFM_TASK_LIST_ITEM: &str = "- [ ] a
   b";
 
 /// All of them.
-pub const CONTENTS: [&str; 24] = [
+pub const CONTENTS: &[&str] = &[
     CHARACTER_ESCAPE,
     CHARACTER_REFERENCE,
     CODE_TEXT,

@@ -2,7 +2,7 @@
 use std::test::Fail;
 
 /// What contents are made of: markers of each construct, texts, white space.
-const PARTS: [&str; 56] = [
+const PARTS: &[&str] = &[
     "*",
     "*",
     "**",
@@ -62,7 +62,7 @@ const PARTS: [&str; 56] = [
 ];
 
 /// What contents of GFM have besides.
-const GFM_PARTS: [&str; 40] = [
+const GFM_PARTS: &[&str] = &[
     "www.",
     "www.a.b",
     "WWW.a_b",
@@ -130,7 +130,7 @@ impl Numbers {
     /// A part at random.
     fn part(&mut self, gfm: bool) -> &'static str {
         let of_gfm = gfm && self.below(2) == 0;
-        let parts: &[&'static str] = if of_gfm { &GFM_PARTS } else { &PARTS };
+        let parts: &[&'static str] = if of_gfm { GFM_PARTS } else { PARTS };
         let place = self.below(parts.len());
         parts.get(place).copied().unwrap_or("a")
     }

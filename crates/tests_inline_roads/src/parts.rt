@@ -115,8 +115,8 @@ fn is_same_in_heaps(rt: &HostRuntime, roads: &Roads, text: &str) -> Result<bool,
 #[test]
 fn contents_in_ranges(rt: HostRuntime) -> Result<(), Fail> {
     let roads = Roads::new(&rt, full_options())?;
-    let same = are_same_in_ranges(&rt, &roads, &TEXTS)?
-        && are_same_in_ranges(&rt, &roads, &GFM_TEXTS)?;
+    let same = are_same_in_ranges(&rt, &roads, TEXTS)?
+        && are_same_in_ranges(&rt, &roads, GFM_TEXTS)?;
     assert!(rt; same);
     Ok(())
 }

@@ -14,10 +14,10 @@ use std::alloc::{AllocError, Allocator, Global};
 use std::test::Fail;
 
 /// The labels that are defined.
-const LABELS: [&str; 5] = ["a", "b c", "foo", "bar", "ref"];
+const LABELS: &[&str] = &["a", "b c", "foo", "bar", "ref"];
 
 /// The labels of the footnotes that are defined.
-const FOOTNOTES: [&str; 3] = ["a", "^d", "x"];
+const FOOTNOTES: &[&str] = &["a", "^d", "x"];
 
 /// CommonMark, with strikethrough and math.
 pub fn plain_options() -> ParseOptions {
@@ -75,8 +75,8 @@ impl Roads {
     pub fn new(rt: &HostRuntime, options: ParseOptions) -> Result<Roads, Fail> {
         Ok(Roads {
             options,
-            labels: table(rt, &LABELS)?,
-            footnotes: table(rt, &FOOTNOTES)?,
+            labels: table(rt, LABELS)?,
+            footnotes: table(rt, FOOTNOTES)?,
         })
     }
 
@@ -113,8 +113,8 @@ impl Roads {
         text: &'a str,
     ) -> Result<ParseState<'a, Builtin, A>, Message> {
         let mut state = ParseState::new(alloc.clone()?, text.as_bytes(), &self.options, &Builtin)?;
-        push_labels(&mut state.definitions, &alloc, &LABELS)?;
-        push_labels(&mut state.gfm_footnote_definitions, &alloc, &FOOTNOTES)?;
+        push_labels(&mut state.definitions, &alloc, LABELS)?;
+        push_labels(&mut state.gfm_footnote_definitions, &alloc, FOOTNOTES)?;
         Ok(state)
     }
 

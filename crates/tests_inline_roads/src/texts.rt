@@ -1,7 +1,7 @@
 //! Contents written by hand.
 
 /// Contents with each construct, alone and in others.
-pub const TEXTS: [&str; 49] = [
+pub const TEXTS: &[&str] = &[
     "a",
     "*a*",
     "**a**",
@@ -54,7 +54,7 @@ pub const TEXTS: [&str; 49] = [
 ];
 
 /// Contents with each construct of GFM, alone and in others.
-pub const GFM_TEXTS: [&str; 24] = [
+pub const GFM_TEXTS: &[&str] = &[
     "www.a.b http://c.d https://e_f.g.",
     "(www.a.b) www.a.b) *www.a.b* _http://a_b.c.d_",
     "[www.a.b](c) ![www.a.b](c) [http://a ![www.b](c)](d)",
