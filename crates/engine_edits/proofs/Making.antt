@@ -1,11 +1,11 @@
 -- One edit of the walk that makes the new list.
-use Rattle.std.proofs.Common.{◌≡◌, ◌≤◌, ◌+◌, ◌-◌, ◌∙◌, ◌++◌, ℕ, List, [], ◌∷◌, length, map, take, drop, arith, subst, sym, ap, append_assoc, length-drop}
+use Rattle.std.proofs.Common.{◌≡◌, ◌≤◌, ◌+◌, ◌-◌, ◌∙◌, ◌++◌, ℕ, List, [], ◌∷◌, length, map, take, drop, arith, refl, subst, sym, ap, append_assoc, length-drop}
 use Rattle.std.proofs.lemmas.List.{take_all, length-map, take-map}
 use Rattle.std.specs.List.{drop-map}
 use Rattle.engine_events.specs.declared.event.Event.{Event}
 use Rattle.engine_edits.specs.declared.edit.Edit.{Edit}
 use Rattle.engine_edits.specs.Edits.{EditAt, edit_of}
-use Rattle.engine_edits.specs.Replacement.{Places, replacement, with_new_links}
+use Rattle.engine_edits.specs.Replacement.{IsOrdered, Places, replacement, with_new_links}
 use Rattle.engine_edits.specs.Placing.{Replacing}
 use Rattle.engine_edits.proofs.Steps.{within}
 
@@ -38,6 +38,23 @@ module _ {A : Type 0} (ps : Places) (events : List Event) where
       let q = subst (λ (z : List (ℕ × Edit A)). Replacing from made (map edit_of z) all (map (with_new_links ps) events)) s p in
       subst (λ (n : ℕ). Fitting from e.0 e.1.remove n) (length-map events (with_new_links ps))
       (fitting_of from made (edit_of e) (map edit_of rest) all (map (with_new_links ps) events) q)
+
+  pub replacing_none : (made : List Event) (left entries : List (ℕ × Edit A)) → left ≡ entries → made ≡ [] → IsOrdered 0 (map edit_of entries) (length events)
+      → Replacing 0 made (map edit_of left) (map edit_of entries) (map (with_new_links ps) events)
+  replacing_none made left entries s m o =
+      let all = map edit_of entries in
+      let old = map (with_new_links ps) events in
+      let start : Replacing 0 [] all all old =
+      record { ordered = subst (λ (n : ℕ). IsOrdered 0 all n) (sym (length-map events (with_new_links ps))) o; whole = refl } in
+      subst (λ (z : List (ℕ × Edit A)). Replacing 0 made (map edit_of z) all old) (sym s)
+      (subst (λ (z : List Event). Replacing 0 z all all old) (sym m) start)
+
+  -- at the end the last one ends within the list
+  pub ends_within : (from : ℕ) (made : List Event) (left : List (ℕ × Edit A)) (all : List EditAt) → left ≡ []
+      → Replacing from made (map edit_of left) all (map (with_new_links ps) events) → from ≤ length events
+  ends_within from made left all s p =
+      let q = subst (λ (z : List (ℕ × Edit A)). Replacing from made (map edit_of z) all (map (with_new_links ps) events)) s p in
+      subst (λ (n : ℕ). from ≤ n) (length-map events (with_new_links ps)) q.ordered
 
   pub making : (from : ℕ) (made kept made' : List Event) (left rest : List (ℕ × Edit A)) (e : ℕ × Edit A) (all : List EditAt) → left ≡ e ∷ rest
       → Replacing from made (map edit_of left) all (map (with_new_links ps) events)
