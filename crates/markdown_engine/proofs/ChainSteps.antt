@@ -1,6 +1,6 @@
 -- Chains: their chunks one after another, what is skipped before them, and the edits that replace them.
 use Rattle.std.proofs.Common.{◌≡◌, ◌∙◌, ℕ, ◌+◌, ◌<◌, ◌≤◌, zero, suc, Bool, true, false, ◌&&◌, List, [], ◌∷◌, ◌++◌, length, drop, get_or, Option, refl, ap}
-use Rattle.std.proofs.Common.{subst, arith}
+use Rattle.std.proofs.Common.{subst, sym, arith}
 use Rattle.std.proofs.lemmas.List.{drop_more}
 use Rattle.engine_events.specs.declared.event.Content.{Content}
 use Rattle.engine_events.specs.declared.event.Event.{Event}
@@ -13,9 +13,10 @@ use Rattle.engine_chunks.specs.Chunks.{chunks}
 use Rattle.engine_chunks.specs.Parts.{counts, with_division}
 use Rattle.markdown_engine.specs.declared.tokenizer.Tokenizer.{Tokenizer}
 use Rattle.markdown_engine.specs.Chains.{Chain, chain_content, chains, chains_from, with_chain, chunks_of, AreApart, IsPlace, ArePlaces, place_at, after_chunk}
-use Rattle.markdown_engine.specs.Chains.{with_chunks, end_of, chain_text, first_state, Divides, ReadsChain, MayBegin, is_empty}
+use Rattle.markdown_engine.specs.Chains.{with_chunks, end_of, chain_text, first_state, Divides, IsFresh, ReadsChain, ReadsChainIn, MayBegin, is_empty}
 use Rattle.markdown_engine.proofs.ChainLaws.{apart_room}
-use Rattle.markdown_engine.specs.Laws.{HoldsAt}
+use Rattle.markdown_engine.specs.Context.{Context}
+use Rattle.markdown_engine.specs.Laws.{Holds, HoldsAt}
 use Rattle.markdown_engine.specs.Machine.{config, view_config, fresh_config, source, HasCompleted}
 use Rattle.markdown_engine.specs.Reading.{Config, Outcome, Steps}
 use Rattle.markdown_engine.specs.Resolving.{FoundLabels, Resolves, found_both, nothing_found}
@@ -108,6 +109,30 @@ chains_at filter at events rest e b h k =
     ap (λ (z : List Event). chains_from filter at z) h ∙ ap (λ (z : Option Content). with_chain at z (chains_from filter (at + 1) rest)) k
 
 module _ {M : Type 0} (valid : HoldsAt M) (step : Steps M) (resolve : Resolves M) (bytes : List ℕ) (machine : M) (events : List Event) where
+  -- before the first chain
+  pub dividing_none : (cs : List Chain) (edits : List EditAt) (found : FoundLabels) → found ≡ nothing_found → AreApart 0 (chunks_of events cs) (length events)
+      → MayBegin valid machine events cs → Dividing valid step resolve bytes machine events cs (0, 0) edits found true cs edits
+  dividing_none cs edits found e apart begins = record {
+    divides = λ final total d. subst (λ (z : FoundLabels). Divides step resolve bytes machine events cs (0, 0) edits final z total) e d;
+    left = refl;
+    from = 0;
+    apart = apart;
+    begins = begins;
+  }
+
+  -- after the last one
+  pub dividing_all : (cs : List Chain) (acc : ℕ × ℕ) (edits : List EditAt) (found : FoundLabels) (done : Bool) (all : List Chain) (old : List EditAt) → cs ≡ []
+      → Dividing valid step resolve bytes machine events cs acc edits found done all old
+      → Divides step resolve bytes machine events all (0, 0) old edits nothing_found found × (done ≡ is_empty all)
+  dividing_all cs acc edits found done all old e h =
+      let g : Dividing valid step resolve bytes machine events [] acc edits found done all old =
+      subst (λ (z : List Chain). Dividing valid step resolve bytes machine events z acc edits found done all old) e h in
+      (g.divides edits found (refl, refl), sym (g.left ∙ alone done))
+    where
+      alone : (b : Bool) → b && true ≡ b
+      alone true = refl
+      alone false = refl
+
   pub dividing_on : (cs rest : List Chain) (c : Chain) (children : List Event) (more : FoundLabels) (acc acc' : ℕ
       × ℕ) (edits edits' : List EditAt) (found found' : FoundLabels) (done : Bool) (all : List Chain) (old : List EditAt) → cs ≡ c ∷ rest
       → ReadsChain step resolve bytes machine events c children more
@@ -180,6 +205,35 @@ module _ {M V T A : Type 0} (view : M → V) (step : Steps V) (resolve : Resolve
       let f = λ (b : List ℕ) (s : List (ℕ × Point)). let z : Source = record { bytes = b; skips = s } in z in
       read_of start mid new chain end given found ek ec (ap (λ (z : List ℕ). f z start.skips.entries) eb
       ∙ ap (λ (z : List (ℕ × Point)). f bytes z) eq) ea es ee em et eg h
+
+-- a tokenizer that was just made
+pub fresh_at : {M T A : Type 0} (t : Tokenizer M T A) (p q : Point) (machine : M) → config t ≡ fresh_config p machine → p ≡ q → t.attempts.items ≡ []
+    → t.skips.entries ≡ [] → IsFresh q t
+fresh_at {M = M} t p q machine ec ep ea es = record {
+  config = ec
+      ∙ (ap (λ (z : Point). fresh_config z machine) ep ∙ ap (λ (z : M). fresh_config q z) (sym (ap (λ (z : Config M). z.machine) ec)));
+  attempts = ea;
+  skips = es;
+}
+
+pub machine_of : {M V T A : Type 0} (view : M → V) (t : Tokenizer M T A) (p : Point) (machine : M) → config t ≡ fresh_config p machine
+    → view t.machine ≡ view machine
+machine_of {M = M} view t p machine e = ap (λ (z : Config M). view z.machine) e
+
+-- what is read with, and the machine, by other names
+pub begins_as : {T M : Type 0} (valid : Holds T M) (x y : Context T) (m n : M) (p : Point) (content : Content) → x ≡ y → m ≡ n
+    → valid y (fresh_config p n) [] (states.Next (first_state content)) → valid x (fresh_config p m) [] (states.Next (first_state content))
+begins_as {T = T} {M = M} valid x y m n p content e f h =
+    subst (λ (z : Context T). valid z (fresh_config p m) [] (states.Next (first_state content))) (sym e)
+    (subst (λ (z : M). valid y (fresh_config p z) [] (states.Next (first_state content))) (sym f) h)
+
+pub reads_as : {T M : Type 0} (step : Context T → Steps M) (resolve : Context T → Resolves M) (x y : Context T) (m n : M) (events : List Event)
+    (chain : Chain) (children given : List Event) (found : FoundLabels) → x ≡ y → m ≡ n → given ≡ children
+    → ReadsChainIn step resolve x m events chain children found → ReadsChainIn step resolve y n events chain given found
+reads_as {T = T} {M = M} step resolve x y m n events chain children given found e f g h =
+    subst (λ (z : List Event). ReadsChainIn step resolve y n events chain z found) (sym g)
+    (subst (λ (z : M). ReadsChainIn step resolve y z events chain children found) f
+    (subst (λ (z : Context T). ReadsChainIn step resolve z m events chain children found) e h))
 
 module _ {M : Type 0} (step : Steps M) (resolve : Resolves M) (bytes : List ℕ) (machine : M) where
   -- the same events, filter and edits by other names

@@ -14,7 +14,7 @@ use Rattle.markdown_engine.specs.declared.attempt.Attempt.{Attempt}
 use Rattle.markdown_engine.specs.declared.parse_state.ParseState.{ParseState}
 use Rattle.markdown_engine.specs.declared.virtual_text.VirtualByte.{VirtualByte}
 use Rattle.markdown_engine.specs.declared.tokenizer.Tokenizer.{Tokenizer}
-use Rattle.markdown_engine.specs.VirtualText.{Source, Text, is_before, byte_before, line_start, place_in, text_to, with_skip}
+use Rattle.markdown_engine.specs.VirtualText.{IsCut, Source, Text, is_before, byte_before, line_start, place_in, text_to, with_skip}
 use Rattle.markdown_engine.specs.Context.{Context, context}
 use Rattle.markdown_engine.specs.Reading.{Config, Steps, Runs, state_after, end_state, feed, with_byte, mark, at_point, restore, continuation, seen_as, Outcome}
 use Rattle.markdown_engine.specs.Machine.{config, read_with, view_config, source, AreCuts, Around, OpensRange, IsAfter}
@@ -562,6 +562,33 @@ range_read view valid step old t u given s x cuts rest cut e n h p v =
             ((unless_refused x n p.1 more limit (subst (λ (z : Source). GoesOn z cut false more limit) (sym same) on)).back d w o);
       };
     }
+
+-- the next cut is a place to cut the text at
+pub next_cut : {M V T A : Type 0} (view : M → V) (valid : HoldsAt V) (step : Steps V) (old t : Tokenizer M T A) (given s : State)
+    (cuts rest : List (ℕ × ℕ)) (cut : ℕ × ℕ) → cuts ≡ cut ∷ rest → Ranging view valid step old given t s cuts → IsCut t.parse_state.now.bytes.now cut
+next_cut view valid step old t given s cuts rest cut e h =
+    let size = length old.parse_state.now.bytes.now in
+    let left : AreCuts h.last (cut ∷ rest) size = subst (λ (z : List (ℕ × ℕ)). AreCuts h.last z size) e h.cuts_left in
+    let low : cut.0 < size = left.1 in
+    let bytes : t.parse_state.now.bytes.now ≡ old.parse_state.now.bytes.now = ap (λ (z : Source). z.bytes) (around old t h.around) in
+    subst (λ (z : List ℕ). IsCut z cut) (sym bytes) (record { within = omega arith; column = λ e. absurd (omega arith) })
+
+-- the same text may be cut there
+pub same_cut : {M T A : Type 0} (t u : Tokenizer M T A) (to : ℕ × ℕ) → u.parse_state.now ≡ t.parse_state.now → IsCut t.parse_state.now.bytes.now to
+    → IsCut u.parse_state.now.bytes.now to
+same_cut {T = T} {A = A} t u to e h = subst (λ (z : ParseState T A). IsCut z.bytes.now to) (sym e) h
+
+-- what is read with, and where reading is, by other names
+pub valid_later : {M T : Type 0} (valid : Holds T M) (x y : Context T) (c d : Config M) (stack later : List Attempt) (s : State) → y ≡ x → d ≡ c
+    → later ≡ stack → IsRefused s ⊎ valid x c stack s → IsRefused s ⊎ valid y d later s
+valid_later {M = M} {T = T} valid x y c d stack later s e f g h =
+    subst (λ (z : Context T). IsRefused s ⊎ valid z d later s) (sym e)
+    (subst (λ (z : Config M). IsRefused s ⊎ valid x z later s) (sym f)
+    (subst (λ (z : List Attempt). IsRefused s ⊎ valid x c z s) (sym g) h))
+
+pub valid_alone : {M V T A : Type 0} (view : M → V) (valid : HoldsAt V) (t : Tokenizer M T A) (s : State) → t.attempts.items ≡ []
+    → valid (view_config view t) [] s → valid (view_config view t) t.attempts.items s
+valid_alone view valid t s e h = subst (λ (z : List Attempt). valid (view_config view t) z s) (sym e) h
 
 pub valid_or_refused : {M T : Type 0} (valid : Holds T M) (x y : Context T) (c : Config M) (stack : List Attempt) (s : State) → x ≡ y → IsRefused s
     ⊎ valid x c stack s → IsRefused s ⊎ valid y c stack s

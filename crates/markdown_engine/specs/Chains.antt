@@ -20,7 +20,8 @@ use Rattle.engine_chunks.specs.Chunks.{chunks}
 use Rattle.engine_chunks.specs.Parts.{counts, with_division}
 use Rattle.markdown_engine.specs.Context.{Context}
 use Rattle.markdown_engine.specs.Laws.{HoldsAt}
-use Rattle.markdown_engine.specs.Machine.{fresh_config}
+use Rattle.markdown_engine.specs.declared.tokenizer.Tokenizer.{Tokenizer}
+use Rattle.markdown_engine.specs.Machine.{NothingWaits, config, fresh_config}
 use Rattle.markdown_engine.specs.Reading.{Config, Steps, Runs}
 use Rattle.markdown_engine.specs.Resolving.{FoundLabels, Resolves, found_both, nothing_found, resolve_all}
 use Rattle.markdown_engine.specs.VirtualText.{IsCut, Source, Text, line_start, text_to, without_skips, with_skip}
@@ -77,6 +78,12 @@ place_at (e ∷ es) (suc k) = place_at es k
 -- each event is at a place of the text
 abbrev pub ArePlaces : List ℕ → List Event → Type 0
 ArePlaces bytes events = (k : ℕ) → k < length events → IsPlace bytes (place_at events k)
+
+-- at a place of its text, with nothing read, nothing that waits and nothing to skip
+pub record IsFresh {M T A : Type 0} (p : Point) (t : Tokenizer M T A) : Type 0 where
+  pub config : config t ≡ fresh_config p t.machine
+  pub attempts : NothingWaits t
+  pub skips : t.skips.entries ≡ []
 
 -- the chains that are asked for can be read
 pub record AreReadable (bytes : List ℕ) (filter : Option Content) (events : List Event) : Type 0 where

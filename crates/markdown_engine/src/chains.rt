@@ -8,13 +8,14 @@ ghost use Rattle.markdown_options.specs.Messages.{IsOutOfMemory};
 ghost use Rattle.engine_events.specs.declared.state.State.TheVariants as states;
 ghost use Rattle.engine_edits.specs.Edits.{edits_of};
 ghost use Rattle.engine_chunks.specs.Chunks.{chunks};
-ghost use Rattle.markdown_engine.specs.Chains.{AreApart, ArePlaces, AreReadable, DividesIn, IsPlace, MayBegin, ReadsChainIn};
+ghost use Rattle.engine_chunks.specs.Parts.{counts, with_division};
+ghost use Rattle.markdown_engine.specs.Chains.{AreApart, ArePlaces, AreReadable, DividesIn, IsFresh, IsPlace, MayBegin, ReadsChainIn};
 ghost use Rattle.markdown_engine.specs.Chains.{SubtokenizesIn, after_chunk, chain_content, chains, end_of, first_state, is_empty, place_at};
 ghost use Rattle.markdown_engine.specs.Chains.{starts_line, with_chunks};
 ghost use Rattle.markdown_engine.specs.Context.{context};
 ghost use Rattle.markdown_engine.specs.Evaluation.{AreReadingOf};
-ghost use Rattle.markdown_engine.specs.Machine.{KeepsAttempts, KeepsParseState, bytes_of, config, fresh_config, source};
-ghost use Rattle.markdown_engine.specs.Resolving.{found_in, nothing_found};
+ghost use Rattle.markdown_engine.specs.Machine.{KeepsAttempts, KeepsParseState, bytes_of, config, fresh_config, read_with, source};
+ghost use Rattle.markdown_engine.specs.Resolving.{IsNotDone, found_both, found_in, nothing_found};
 ghost use Rattle.markdown_engine.specs.Standing.{LinksLeadIn};
 ghost use Rattle.markdown_engine.specs.Together.{StaysBalanced};
 
@@ -120,6 +121,30 @@ fn skip_before_chunks<'a, M, T, A: Allocator + Clone>(
     Ok(end)
 }
 
+/// Reads the chain that an event begins by a tokenizer at its start, and answers what resolvers find.
+fn read_chunks<M: Machine<T>, T: Tables, A: Allocator + Clone>(
+    alloc: &A,
+    tokenizer: &mut Tokenizer<'_, M, T, A>,
+    events: &[Event],
+    first: usize,
+    content: Content,
+) -> Result<Subresult<A>, Message>
+    requires first { first < length events.now }
+    requires apart { AreApart 0 (chunks events.now first) (length events.now) }
+    requires places { ArePlaces (bytes_of tokenizer.old) events.now }
+    requires fresh { IsFresh (place_at events.now first) tokenizer.old }
+    requires begins { M.valid (read_with tokenizer.old) (fresh_config (place_at events.now first) (M.seen tokenizer.old.machine)) []
+        (states.Next (first_state content)) }
+    ensures reads { IfOk result (λ found. ReadsChainIn M.step M.resolved (read_with tokenizer.old) (M.seen tokenizer.old.machine)
+        events.now (first, content) tokenizer.new.events.items (found_in found)) }
+    ensures memory { IfErr result IsOutOfMemory }
+{
+    let chain = chunks(alloc.clone()?, events, first)?;
+    let end = skip_before_chunks(tokenizer, events, &chain)?;
+    let state = State::Next(first_state(content));
+    tokenizer.flush_to((end.index, end.vs as usize), state, true)
+}
+
 /// The events that are added as a chain is read, and what its resolvers find.
 fn read_chain<M: Machine<T> + Copy, T: Tables, A: Allocator + Clone>(
     alloc: &A,
@@ -137,13 +162,34 @@ fn read_chain<M: Machine<T> + Copy, T: Tables, A: Allocator + Clone>(
         events.now (first, content) read.0.items (found_in read.1)) }
     ensures memory { IfErr result IsOutOfMemory }
 {
-    let chain = chunks(alloc.clone()?, events, first)?;
     let start = place_at(events, first);
     let mut tokenizer = Tokenizer::new(alloc.clone()?, start, parse_state, machine)?;
-    let end = skip_before_chunks(&mut tokenizer, events, &chain)?;
-    let state = State::Next(first_state(content));
-    let found = tokenizer.flush_to((end.index, end.vs as usize), state, true)?;
-    Ok((tokenizer.events, found))
+    let found = read_chunks(alloc, &mut tokenizer, events, first, content)?;
+    Ok((tokenizer.into_events(), found))
+}
+
+/// Adds the edits that put the events of a chain in its place, and what was found as it was read.
+/// Answers how many events go and come by then.
+fn add_chain<A: Allocator + Clone>(
+    alloc: &A,
+    map: &mut EditMap<A>,
+    events: &[Event],
+    first: usize,
+    read: (Vec<Event, A>, Subresult<A>),
+    before: (usize, usize),
+    found: &mut Subresult<A>,
+) -> Result<(usize, usize), Message>
+    ensures edits { OnOk result (edits_of map.new ≡ with_division events.now first read.0.items before (edits_of map.old)) }
+    ensures counts { IfOk result (λ after. after ≡ counts events.now (chunks events.now first) read.0.items 0 before.0 before.1) }
+    ensures found { OnOk result (found_in found.new ≡ found_both (found_in found.old) (found_in read.1)) }
+    ensures done { OnOk result (IsNotDone found.new) }
+    ensures memory { IfErr result IsOutOfMemory }
+{
+    let (children, more) = read;
+    let after = divide_events(alloc.clone()?, map, events, first, &children, before)?;
+    add_found(found, Some(more))?;
+    found.done = false;
+    Ok(after)
 }
 
 /// Reads the chains that are asked for, and adds the edits that put what was read in their place.
@@ -168,10 +214,8 @@ fn divide_chains<M: Machine<T> + Copy, T: Tables, A: Allocator + Clone>(
     found.done = true;
     for index in 0..events.len() {
         if let Some(content) = chain_content(&events[index], filter) {
-            let (children, more) = read_chain(alloc, parse_state, machine, events, index, content)?;
-            counts = divide_events(alloc.clone()?, map, events, index, &children, counts)?;
-            add_found(&mut found, Some(more))?;
-            found.done = false;
+            let read = read_chain(alloc, parse_state, machine, events, index, content)?;
+            counts = add_chain(alloc, map, events, index, read, counts, &mut found)?;
         }
     }
     Ok(found)
@@ -203,10 +247,9 @@ pub fn subtokenize<M: Machine<T> + Copy, T: Tables, A: Allocator + Clone>(
     ensures err { OnErr result (events.new.items ≡ events.old.items) }
     ensures memory { IfErr result IsOutOfMemory }
 {
-    let alloc = events.allocator().clone()?;
-    let mut map = EditMap::new(alloc.clone()?);
+    let mut map = EditMap::new(events.allocator().clone()?);
     let found = divide_chains(
-        &alloc,
+        events.allocator(),
         &mut map,
         events,
         parse_state,

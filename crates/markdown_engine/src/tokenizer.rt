@@ -117,6 +117,18 @@ pub struct Tokenizer<'a, M, T, A: Allocator> {
     pub failed: bool,
 }
 
+/// The events, the attempts and the resolvers of a tokenizer that has none.
+fn empty_lists<A: Allocator + Clone>(
+    alloc: &A,
+) -> Result<(Vec<Event, A>, Vec<Attempt, A>, Vec<resolve::Name, A>), AllocError>
+    ensures { IfOk result (λ lists. (lists.0.items ≡ []) × (lists.1.items ≡ []) × (lists.2.items ≡ [])) }
+{
+    let events = Vec::new(alloc.clone()?);
+    let attempts = Vec::new(alloc.clone()?);
+    let resolvers = Vec::new(alloc.clone()?);
+    Ok((events, attempts, resolvers))
+}
+
 impl<'a, M, T, A: Allocator + Clone> Tokenizer<'a, M, T, A> {
     ghost use Rattle.std.specs.Prelude.{◌≡◌, [], None, false, IfOk, IfErr, OnOk, OnErr, length, ◌≤◌};
     ghost use Rattle.std.specs.Ordering.{nat_cmp};
@@ -142,18 +154,21 @@ impl<'a, M, T, A: Allocator + Clone> Tokenizer<'a, M, T, A> {
         ensures failed { IfOk result (λ tokenizer. tokenizer.failed ≡ false) }
         ensures memory { IfErr result IsOutOfMemory }
     {
+        let tokenize_state = TokenizeState::new(alloc.clone()?)?;
+        let map = EditMap::new(alloc.clone()?);
+        let (events, attempts, resolvers) = empty_lists(&alloc)?;
         Ok(Tokenizer {
             parse_state,
-            events: Vec::new(alloc.clone()?),
-            attempts: Vec::new(alloc.clone()?),
+            events,
+            attempts,
             point,
             next: point,
             line_start: point,
             previous: None,
             current: None,
-            tokenize_state: TokenizeState::new(alloc.clone()?)?,
-            map: EditMap::new(alloc.clone()?),
-            resolvers: Vec::new(alloc.clone()?),
+            tokenize_state,
+            map,
+            resolvers,
             interrupt: false,
             lazy: false,
             concrete: false,
@@ -186,6 +201,15 @@ impl<'a, M, T, A: Allocator + Clone> Tokenizer<'a, M, T, A> {
 }
 
 impl<'a, M, T, A: Allocator> Tokenizer<'a, M, T, A> {
+    /// The events, of a tokenizer that is done.
+    pub(crate) fn into_events(self) -> Vec<Event, A>
+    where
+        M: Drop,
+        ensures { result.items ≡ self.entry.events.items }
+    {
+        self.events
+    }
+
     /// Adds that something begins here.
     pub fn enter(&mut self, name: EventName) -> Result<(), Message>
         ensures became { OnOk result (Became (with_enter name None (config self.old)) self.old self.new) }

@@ -1,9 +1,47 @@
 use Rattle.engine_events.specs.declared.state.State.TheVariants as states
-use Rattle.std.proofs.Common.{◌∙◌, inl, length, true, false, refl, sym}
+use Rattle.std.proofs.Common.{◌∙◌, inl, inr, length, true, false, refl, sym}
 use Rattle.markdown_engine.specs.Machine.{view_config, read_with, source}
 use Rattle.markdown_engine.proofs.tokenizer.Tokenizer.read.Goals as goal
-use Rattle.markdown_engine.proofs.Push.{handing, same_read, shown_resumed, answers_at, valid_at, turn_pop, turn_retry, turn_next, smaller_next, valid_fed}
-use Rattle.markdown_engine.proofs.Push.{same_text, same_stack, at_end, only_memory}
+use Rattle.markdown_engine.proofs.Push.{handing, same_read, shown_resumed, answers_at, valid_at, turn_pop, turn_retry}
+use Rattle.markdown_engine.proofs.Push.{turn_next, smaller_next, smaller_pop, smaller_retry, valid_fed}
+use Rattle.markdown_engine.proofs.Push.{same_cut, same_text, same_stack, at_end, only_memory}
+
+pub byte_before-byte-requires : goal.byte_before-byte-requires
+byte_before-byte-requires g c = record { to = same_cut c.args.self.now c.turns.self c.args.to c.turns.invariant.same.parse_state c.requires.to }
+
+pub turns-init : goal.turns-init
+turns-init g c = record {
+  same = record { parse_state = refl; skips = refl };
+  holds = c.requires.valid;
+  reads = inr (λ more limit on. record { back = λ d w o. o });
+}
+
+pub turns-smaller-in-Some : goal.turns-smaller-in-Some
+turns-smaller-in-Some g c =
+    let x = read_with c.args.self.now in
+    smaller_pop g.M.Machine.seen (length x.bytes) (g.M.Machine.valid x) (g.M.Machine.step x) (g.M.Machine.rank x) (g.met.M.Machine.lawful x)
+    true c.in-Some.attempt c.args.to c.args.end c.args.self.now c.turns.self c.resume.new.self c.args.state c.turns.next c.in-Some.attempt.ok
+    c.in-Ok.is refl (rw c.resume.ensures.attempts c.in-Some.ensures.items)
+    (shown_resumed g.M.Machine.seen c.in-Some.attempt c.turns.self c.resume.new.self true c.resume.ensures.config) c.turns.invariant
+
+pub turns-smaller-in-Some-pop : goal.turns-smaller-in-Some-pop
+turns-smaller-in-Some-pop g c =
+    let x = read_with c.args.self.now in
+    smaller_pop g.M.Machine.seen (length x.bytes) (g.M.Machine.valid x) (g.M.Machine.step x) (g.M.Machine.rank x) (g.met.M.Machine.lawful x)
+    false c.in-Some-pop.attempt c.args.to c.args.end c.args.self.now c.turns.self c.resume-in-Some-pop.new.self c.args.state c.turns.next
+    c.in-Some-pop.attempt.nok
+    c.in-Nok.is refl (rw c.resume-in-Some-pop.ensures.attempts c.in-Some-pop.ensures.items)
+    (shown_resumed g.M.Machine.seen c.in-Some-pop.attempt c.turns.self c.resume-in-Some-pop.new.self false c.resume-in-Some-pop.ensures.config)
+    c.turns.invariant
+
+pub turns-smaller : goal.turns-smaller
+turns-smaller g c =
+    let x = read_with c.args.self.now in
+    smaller_retry g.M.Machine.seen (length x.bytes) (g.M.Machine.valid x) (g.M.Machine.step x) (g.M.Machine.rank x) (g.met.M.Machine.lawful x)
+    c.in-Retry.name c.args.to c.args.end c.args.self.now c.turns.self c.call-next-in-Retry.new.tokenizer c.args.state c.turns.next c.call-next-in-Retry.result
+    c.in-Retry.is (answers_at g.M.Machine.seen g.M.Machine.step (read_with c.turns.self)
+    (read_with c.args.self.now) c.in-Retry.name c.turns.self c.call-next-in-Retry.new.tokenizer c.call-next-in-Retry.result
+    (same_read c.args.self.now c.turns.self c.turns.invariant.same.parse_state) c.call-next-in-Retry.ensures) c.turns.invariant
 
 pub turns-preserved-in-Some : goal.turns-preserved-in-Some
 turns-preserved-in-Some g c =

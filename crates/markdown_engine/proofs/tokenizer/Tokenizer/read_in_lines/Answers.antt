@@ -1,10 +1,41 @@
-use Rattle.std.proofs.Common.{◌≡◌, inl, refl, length, ap, ◌∙◌, subst, sym, ℕ, ◌⊎◌, ◌<◌, false}
+use Rattle.std.proofs.Common.{◌≡◌, inl, inr, refl, length, ap, ◌∙◌, subst, sym, ℕ, ◌⊎◌, ◌<◌, false, arith}
 use Rattle.markdown_engine.specs.Machine.{read_with, view_config, source, IsRefused, HasFlushed, GoesOn}
 use Rattle.markdown_engine.specs.Reading.{seen_as}
 use Rattle.markdown_engine.specs.VirtualText.{Source, text_to, with_skip}
 use Rattle.markdown_engine.proofs.Push.{around, same_read, flushed_at, joined, skipped_as, whole_of, skip_goes_on, within, not_refused, only_memory}
-use Rattle.markdown_engine.proofs.Push.{unless_error}
+use Rattle.markdown_engine.proofs.Push.{unless_error, valid_alone, valid_later}
 use Rattle.markdown_engine.proofs.tokenizer.Tokenizer.read_in_lines.Goals as goal
+
+pub read-first-requires : goal.read-first-requires
+read-first-requires g c = record {
+  to = record { within = omega arith; column = λ e. refl };
+  valid = inr (valid_alone g.M.Machine.seen (g.M.Machine.valid (read_with c.args.self.now)) c.args.self.now c.args.state c.requires.fresh c.requires.valid);
+}
+
+pub finish-requires : goal.finish-requires
+finish-requires g c =
+    let old = c.args.self.now in
+    let mid = c.read-first.new.self in
+    let later = c.define_skip.new.self in
+    let at = same_read mid later (rw c.define_skip.ensures.parse_state refl) ∙ same_read old mid c.read-first.ensures.reads.0.parse_state in
+    record {
+      to = record { within = omega arith; column = λ e. refl };
+      valid = valid_later g.M.Machine.valid (read_with old) (read_with later) (view_config g.M.Machine.seen mid) (view_config g.M.Machine.seen later)
+          mid.attempts.items later.attempts.items c.read-first.result at (ap (seen_as g.M.Machine.seen) c.define_skip.ensures.config)
+          (rw c.define_skip.ensures.attempts refl) c.read-first.ensures.valid;
+    }
+
+pub returns-then-is_err : goal.returns-then-is_err
+returns-then-is_err g c = record { reads = inl c.out_of_memory.ensures; whole = inl c.out_of_memory.ensures; failed = λ r. refl }
+
+pub returns-in-Error-clause-whole : goal.returns-in-Error-clause-whole
+returns-in-Error-clause-whole g c =
+    inl (only_memory (length c.args.self.now.parse_state.now.bytes.now) (g.M.Machine.valid (read_with c.args.self.now))
+    (g.M.Machine.step (read_with c.args.self.now)) (g.met.M.Machine.lawful (read_with c.args.self.now)).keeps
+    (view_config g.M.Machine.seen c.read-first.new.self) c.read-first.new.self.attempts.items c.read-first.result _ c.in-Error.is c.read-first.ensures.valid)
+
+pub returns-clause-whole : goal.returns-clause-whole
+returns-clause-whole g c = c.finish.ensures.whole
 
 pub returns-in-Error-clause-reads : goal.returns-in-Error-clause-reads
 returns-in-Error-clause-reads g c =

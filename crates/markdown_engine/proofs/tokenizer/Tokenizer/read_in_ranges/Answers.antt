@@ -1,9 +1,51 @@
-use Rattle.std.proofs.Common.{◌≡◌, ℕ, ◌⊎◌, ◌+◌, refl, false, length, subst, drop}
+use Rattle.std.proofs.Common.{◌≡◌, ℕ, ◌⊎◌, ◌+◌, inl, inr, refl, false, length, subst, sym, drop, arith}
 use Rattle.std.proofs.lemmas.List.{drop_more}
 use Rattle.markdown_engine.specs.Machine.{view_config, read_with, source, HasFlushed, IsRefused}
 use Rattle.markdown_engine.specs.VirtualText.{Source, text_to}
-use Rattle.markdown_engine.proofs.Push.{around, at_once, flushed_at, joined_ranges, not_refused, pushed_as, range_read, same_read, valid_or_refused}
+use Rattle.markdown_engine.proofs.Push.{around, at_once, flushed_at, joined_ranges, next_cut, not_refused}
+use Rattle.markdown_engine.proofs.Push.{nothing_read, only_memory, pushed_as, range_read, same_read}
+use Rattle.markdown_engine.proofs.Push.{valid_alone, valid_at, valid_or_refused}
 use Rattle.markdown_engine.proofs.tokenizer.Tokenizer.read_in_ranges.Goals as goal
+
+pub loop-cut-init : goal.loop-cut-init
+loop-cut-init g c =
+    let old = c.args.self.now in
+    let x = read_with old in
+    nothing_read g.M.Machine.seen (g.M.Machine.valid x) (g.M.Machine.step x) old c.args.state c.args.cuts.now c.requires.cuts
+    (valid_alone g.M.Machine.seen (g.M.Machine.valid x) old c.args.state c.requires.fresh c.requires.valid)
+
+pub read-next-requires : goal.read-next-requires
+read-next-requires g c =
+    let old = c.args.self.now in
+    let t = c.loop-cut.self in
+    let i = c.loop-cut.cut-index in
+    let cuts = c.args.cuts.now in
+    let x = read_with old in
+    record {
+      to = next_cut g.M.Machine.seen (g.M.Machine.valid x) (g.M.Machine.step x) old t c.args.state c.loop-cut.next (drop i cuts) (drop (i + 1) cuts) _
+          (drop_more cuts i _ c.loop-cut-test.true) c.loop-cut.invariant;
+      valid = inr (valid_at g.M.Machine.valid x (read_with t) (view_config g.M.Machine.seen t) t.attempts.items c.loop-cut.next
+          (sym (same_read old t c.loop-cut.invariant.around.parse_state)) c.loop-cut.invariant.holds);
+    }
+
+pub returns-in-Error : goal.returns-in-Error
+returns-in-Error g c =
+    let t = c.loop-cut.self in
+    let u = c.read-next.new.self in
+    let x = read_with t in
+    let refused = only_memory (length x.bytes) (g.M.Machine.valid x) (g.M.Machine.step x) (g.met.M.Machine.lawful x).keeps
+    (view_config g.M.Machine.seen u) u.attempts.items c.read-next.result _ c.in-Error.is c.read-next.ensures.valid in
+    record { reads = inl refused; whole = inl refused; failed = c.read-next.ensures.failed }
+
+pub finish-requires : goal.finish-requires
+finish-requires g c =
+    let old = c.args.self.now in
+    let t = c.loop-cut.self in
+    record {
+      to = record { within = omega arith; column = λ e. refl };
+      valid = inr (valid_at g.M.Machine.valid (read_with old) (read_with t) (view_config g.M.Machine.seen t) t.attempts.items c.loop-cut.next
+          (sym (same_read old t c.loop-cut.invariant.around.parse_state)) c.loop-cut.invariant.holds);
+    }
 
 pub loop-cut-preserved : goal.loop-cut-preserved
 loop-cut-preserved g c =
