@@ -3,6 +3,7 @@ use inline_states::reading::{read_string, read_text, resolved_string, resolved_t
 use markdown_engine::event::{Event, Kind};
 use markdown_engine::{ParseOptions, ParseState};
 use markdown_tables::Builtin;
+use std::alloc::Global;
 use std::test::Fail;
 
 /// Events as a text.
@@ -28,7 +29,22 @@ pub fn text_events(
     show(rt, &read_text(rt.alloc(), &text, starts)?)
 }
 
-/// The events of a text as a text, where a label and one of a footnote are defined.
+/// A text, where a label and one of a footnote are defined.
+fn labelled_text<'t>(
+    rt: &HostRuntime,
+    options: &'t ParseOptions,
+    label: &str,
+    footnote: &str,
+    bytes: &'t [u8],
+) -> Result<ParseState<'t, Builtin, Global>, Fail> {
+    let mut text = ParseState::new(rt.alloc(), bytes, options, &Builtin)?;
+    text.definitions.push(String::from_str(rt.alloc(), label)?)?;
+    text.gfm_footnote_definitions
+        .push(String::from_str(rt.alloc(), footnote)?)?;
+    Ok(text)
+}
+
+/// The events of such a text as a text.
 pub fn labelled_events<'t>(
     rt: &HostRuntime,
     options: &'t ParseOptions,
@@ -36,10 +52,7 @@ pub fn labelled_events<'t>(
     footnote: &str,
     bytes: &'t [u8],
 ) -> Result<String, Fail> {
-    let mut text = ParseState::new(rt.alloc(), bytes, options, &Builtin)?;
-    text.definitions.push(String::from_str(rt.alloc(), label)?)?;
-    text.gfm_footnote_definitions
-        .push(String::from_str(rt.alloc(), footnote)?)?;
+    let text = labelled_text(rt, options, label, footnote, bytes)?;
     show(rt, &read_text(rt.alloc(), &text, &[])?)
 }
 
@@ -57,7 +70,15 @@ pub fn resolved_string_events(rt: &HostRuntime, bytes: &[u8]) -> Result<String, 
     show(rt, &resolved_string(rt.alloc(), &text)?)
 }
 
-/// Whether the events of each text are these; the first that has others is printed with them.
+/// Whether events are those that are wanted of a text; where they aren't, they are printed with it.
+pub fn is_shown(rt: &HostRuntime, text: &str, out: &str, wanted: &str) -> Result<bool, Fail> {
+    if out != wanted {
+        println!(rt; "{text:?} {out}")?;
+    }
+    Ok(out == wanted)
+}
+
+/// Whether the events of each text are these.
 fn are_read(
     rt: &HostRuntime,
     options: &ParseOptions,
@@ -66,8 +87,7 @@ fn are_read(
 ) -> Result<bool, Fail> {
     for (text, wanted) in rows {
         let out = text_events(rt, options, starts, text.as_bytes())?;
-        if out.as_str() != *wanted {
-            println!(rt; "{text:?} {out}")?;
+        if !is_shown(rt, text, &out, wanted)? {
             return Ok(false);
         }
     }
@@ -92,9 +112,6 @@ pub fn resolved_events<'t>(
     footnote: &str,
     bytes: &'t [u8],
 ) -> Result<String, Fail> {
-    let mut text = ParseState::new(rt.alloc(), bytes, options, &Builtin)?;
-    text.definitions.push(String::from_str(rt.alloc(), label)?)?;
-    text.gfm_footnote_definitions
-        .push(String::from_str(rt.alloc(), footnote)?)?;
+    let text = labelled_text(rt, options, label, footnote, bytes)?;
     show(rt, &resolved_text(rt.alloc(), &text, &[])?)
 }

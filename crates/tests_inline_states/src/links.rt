@@ -1,5 +1,5 @@
 //! Events of links, images and calls.
-use crate::display::{are_texts, labelled_events, resolved_events};
+use crate::display::{are_texts, is_shown, labelled_events, resolved_events};
 use markdown_engine::ParseOptions;
 use std::test::Fail;
 
@@ -48,14 +48,12 @@ fn resources(rt: HostRuntime) -> Result<(), Fail> {
     Ok(())
 }
 
-/// Whether with a definition of `a` the events of each text are these; the first that has others is
-/// printed with them.
+/// Whether with a definition of `a` the events of each text are these.
 fn are_referring(rt: &HostRuntime, rows: &[(&str, &str)]) -> Result<bool, Fail> {
     let options = ParseOptions::default();
     for (text, wanted) in rows {
         let out = labelled_events(rt, &options, "a", "", text.as_bytes())?;
-        if out.as_str() != *wanted {
-            println!(rt; "{text:?} {out}")?;
+        if !is_shown(rt, text, &out, wanted)? {
             return Ok(false);
         }
     }

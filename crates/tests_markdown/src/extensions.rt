@@ -259,12 +259,20 @@ pub(crate) fn extensions() -> Options
     options
 }
 
-/// The same where neither one tilde nor one dollar is a mark.
-fn twice_marked() -> Options
+/// The same where one tilde is no mark.
+fn with_two_tildes() -> Options
     ensures { HasNoMdx result }
 {
     let mut options = extensions();
     options.parse.gfm_strikethrough_single_tilde = false;
+    options
+}
+
+/// The same where one dollar is no mark.
+fn with_two_dollars() -> Options
+    ensures { HasNoMdx result }
+{
+    let mut options = extensions();
     options.parse.math_text_single_dollar = false;
     options
 }
@@ -272,13 +280,13 @@ fn twice_marked() -> Options
 #[test]
 fn strikes_text_through(rt: HostRuntime) -> Result<(), RunError> {
     assert_no_fault(&rt, STRIKETHROUGH, extensions())?;
-    assert_no_fault(&rt, TWO_TILDES, twice_marked())
+    assert_no_fault(&rt, TWO_TILDES, with_two_tildes())
 }
 
 #[test]
 fn prints_math_in_texts(rt: HostRuntime) -> Result<(), RunError> {
     assert_no_fault(&rt, MATH_TEXT, extensions())?;
-    assert_no_fault(&rt, TWO_DOLLARS, twice_marked())
+    assert_no_fault(&rt, TWO_DOLLARS, with_two_dollars())
 }
 
 #[test]
