@@ -1,5 +1,5 @@
 //! Texts and their HTML, compared.
-ghost use Rattle.std.specs.Prelude.{◌≡◌, true, IfOk, None};
+ghost use Rattle.std.specs.Prelude.{◌≡◌, ◌↔◌, true, IfOk, None};
 ghost use Rattle.std.specs.List.{All};
 ghost use Rattle.tests_helpers.specs.Compare.{HasPage};
 ghost use Rattle.markdown_options.specs.Mdx.{HasNoMdx};
@@ -85,6 +85,7 @@ fn is_safe(alloc: Global, page: &str, options: &Options) -> Result<bool, RunErro
 /// Whether a text that is read is written as this page.
 pub fn runs_to(alloc: Global, text: &str, want: &str, options: &Options) -> Result<bool, RunError>
     requires { HasNoMdx options.now }
+    ensures { IfOk result (λ same. same ≡ true ↔ html builtin_tables text.now options.now ≡ want.now) }
 {
     let mut reader = Watched::new(text.as_bytes());
     let mut writer = Watched::new(Vec::new(alloc));
