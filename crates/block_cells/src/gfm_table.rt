@@ -3,7 +3,7 @@
 //!     line       ::= (white* bar)? cell (bar cell)* (bar white*)?
 //!     cell       ::= ('\' '\' | '\' '|' | no_bar)*
 //!     delimiters ::= a line, with a bar or a colon, whose cells are white* ':'? '-'+ ':'? white*
-ghost use Rattle.std.specs.Prelude.{◌≡◌, ◌≤◌, ◌==◌, ◌∷◌, [], None, false, length, OnOk, unwrap_or};
+ghost use Rattle.std.specs.Prelude.{◌≡◌, ◌==◌, ◌∷◌, [], None, false, length, OnOk, unwrap_or};
 ghost use Rattle.std.specs.List.{list_any};
 ghost use Rattle.definition_text.specs.Content.{may_escape as escapes_next};
 ghost use Rattle.definition_text.specs.declared.beside.Kind.TheVariants.{Whitespace};

@@ -1,7 +1,7 @@
 //! Containers: which go on, and which start (CommonMark 5).
 //!
 //!     start ::= quote_prefix | item_start | footnote_start
-ghost use Rattle.std.specs.Prelude.{◌≡◌, true, false};
+ghost use Rattle.std.specs.Prelude.{◌≡◌, true};
 ghost use Rattle.definition_text.specs.Columns.{bare};
 ghost use Rattle.definition_block.specs.Containers as spec;
 ghost use Rattle.block_starts.specs.Marks.{container_may_start, may_start};

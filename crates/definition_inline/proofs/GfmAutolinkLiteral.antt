@@ -6,7 +6,7 @@ use Rattle.markdown_options.specs.declared.configuration.Constructs.{Constructs}
 use Rattle.definition_text.specs.InlineCode.{InlineCode, codes_of}
 use Rattle.definition_inline.specs.Inline.{LiteralKind, Www, Protocol, Literal, Leaf, leaf}
 use Rattle.definition_inline.specs.GfmAutolinkLiteral.{LiteralStart, literal_start, or_start, begins_caselessly, may_precede_www, may_precede_protocol}
-use Rattle.definition_inline.specs.GfmAutolinkLiteral.{literal_start_at, literal_name, named_literal, literal_after, literal_at}
+use Rattle.definition_inline.specs.GfmAutolinkLiteral.{literal_start_at, literal_name, literal_after, literal_at}
 
 -- what holds where there is none, and of every leaf with one literal where they are on
 pub any_literal : (P : Option Leaf → Type 0) (on : Constructs) (content : List InlineCode) → P None

@@ -34,7 +34,7 @@ use Rattle.definition_inline.specs.Label.{label_at}
 use Rattle.definition_inline.specs.Resource.{LinkResource, resource_at}
 use Rattle.definition_inline.specs.LabelEnd.{LinkTail, link_tail, is_label_text, by_text, by_label, by_resource, label_end_at}
 use Rattle.definition_inline.specs.GfmAutolinkLiteral.{LiteralStart, literal_start, or_start, www_start, protocol_start, begins_caselessly, may_precede_www}
-use Rattle.definition_inline.specs.GfmAutolinkLiteral.{may_precede_protocol, begins_name, has_low_line, domain, is_cut, cut_more, without_tail, ends_literal}
+use Rattle.definition_inline.specs.GfmAutolinkLiteral.{may_precede_protocol, is_cut, cut_more, without_tail, ends_literal}
 use Rattle.definition_inline.specs.GfmAutolinkLiteral.{literal_run, literal_name, named_literal, literal_after, literal_start_at, literal_at}
 use Rattle.definition_inline.specs.Scan.{InlineContext, leaf_at, leaf_here}
 

@@ -1,8 +1,8 @@
 -- The scan of a content reads by the grammar of label pairs.
-use Rattle.std.proofs.Common.{◌≡◌, ℕ, zero, suc, ◌+◌, ◌-◌, ◌<◌, ◌≤◌, Bool, true, false, cond, ◌&&◌, List, [], ◌∷◌, ◌++◌, Option, None, Some, refl, sym, ap, ◌∙◌}
+use Rattle.std.proofs.Common.{◌≡◌, ℕ, zero, suc, ◌+◌, ◌-◌, ◌<◌, ◌≤◌, Bool, true, false, cond, List, [], ◌∷◌, ◌++◌, Option, None, Some, refl, sym, ap, ◌∙◌}
 use Rattle.std.proofs.Common.{subst, length, drop, map, arith, append_assoc, length-drop, inl, inr}
 use Rattle.std.specs.Prelude.{◌==◌}
-use Rattle.std.specs.List.{fold, prefix_len}
+use Rattle.std.specs.List.{fold}
 use Rattle.std.proofs.lemmas.Bool.{cases_Bool, cond_both, cond-true, cond-false, eq-eqb}
 use Rattle.std.proofs.lemmas.List.{append-nil}
 use mathlib.Core.Bool.{true≢false}
@@ -13,9 +13,9 @@ use Rattle.definition_inline.specs.Attention.{Run, run_size, run_at, is_marker}
 use Rattle.definition_inline.specs.Spans.{Token, Item, Delimiters}
 use Rattle.definition_inline.specs.LabelEnd.{LinkOrCall, formed_size}
 use Rattle.definition_inline.specs.Scan.{InlineContext, leaf_here, LabelStart, label_start_at, start_more, OpenLabel, Text, text, Reading, reading, read_tokens}
-use Rattle.definition_inline.specs.Scan.{with_tokens, with_plain_start, ended_by, ended_step, label_end_step, data_step, last_step, Step, Next, step, scan}
+use Rattle.definition_inline.specs.Scan.{with_tokens, with_plain_start, ended_by, ended_step, label_end_step, Next, step, scan}
 use Rattle.definition_inline.specs.Scan.{whole_text}
-use Rattle.definition_inline.specs.LabelPairs.{Stretch, Plain, Start, End, is_label_end, ended_size, IsBare, AreStretches, AtEnd, AtLeaf, AtRun, AtLabelStart}
+use Rattle.definition_inline.specs.LabelPairs.{Stretch, Plain, Start, End, is_label_end, IsBare, AreStretches, AtEnd, AtLeaf, AtRun, AtLabelStart}
 use Rattle.definition_inline.specs.LabelPairs.{AtLabelEnd, AtByte, open_label, ended_text, IsText, Nothing, More, Pair, LeftOver, IsRest, Last, OneMore}
 use Rattle.definition_inline.specs.LabelPairs.{IsWhole, AllMatched, SomeLeft, Reads}
 use Rattle.definition_inline.proofs.InlineSizes.{here_fits}

@@ -4,7 +4,6 @@
 //! right after.
 ghost use Rattle.std.specs.Prelude.{◌≡◌, ◌≤◌, ◌+◌, IfOk, length, drop, slice_get};
 ghost use Rattle.std.specs.List.{position_or_len};
-ghost use Rattle.engine_events.specs.Events.{point_of};
 ghost use Rattle.engine_chunks.specs.Chunks.{chunks, next_chunk, is_past, is_beyond, part_size};
 
 use engine_events::{Event, Point};

@@ -1,6 +1,6 @@
 //! Where events stand after edits, and links that follow them.
-ghost use Rattle.std.specs.Prelude.{◌≡◌, ◌≤◌, ◌<◌, ◌+◌, ◌^◌, ◌++◌, None, OnOk, length, map, replicate};
-ghost use Rattle.engine_edits.specs.Replacement.{Places, rising, with_new_links, link_after, place_after};
+ghost use Rattle.std.specs.Prelude.{◌≡◌, ◌<◌, ◌+◌, ◌^◌, ◌++◌, None, OnOk, map, replicate};
+ghost use Rattle.engine_edits.specs.Replacement.{rising, with_new_links, link_after, place_after};
 
 use engine_events::{Event, Link};
 use std::alloc::{AllocError, Allocator};

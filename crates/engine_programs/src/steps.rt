@@ -1,5 +1,4 @@
 //! The last calls of states: each says how reading goes on.
-ghost use Rattle.markdown_engine.specs.Machine.{config};
 ghost use Rattle.markdown_engine.specs.Order.{IsInnermost};
 ghost use Rattle.engine_programs.specs.Bodies.{Answer, Consume, Enter, Exit, FixedName, Tries, around};
 ghost use Rattle.engine_programs.specs.Stacks.{Does};

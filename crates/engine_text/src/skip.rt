@@ -1,9 +1,8 @@
 //! Runs of events that are skipped, forward or backward.
 //!
 //! A whole event is an enter, what stands inside, and its exit.
-ghost use Rattle.std.specs.Prelude.{◌≡◌, ◌≤◌, ◌<◌, ◌+◌, ◌-◌, ◌^◌, ◌∷◌, IsTrue, List, MatchOption, length, take, drop, reverse, false};
-ghost use Rattle.std.specs.List.{list_any, position_or_len};
-ghost use Rattle.engine_events.specs.Names.{is_listed};
+ghost use Rattle.std.specs.Prelude.{◌≡◌, ◌≤◌, ◌<◌, ◌+◌, ◌-◌, ◌^◌, ◌∷◌, IsTrue, List, length, take, drop, reverse, false};
+ghost use Rattle.std.specs.List.{list_any};
 ghost use Rattle.engine_events.specs.declared.event.Event.{Event};
 ghost use Rattle.engine_text.specs.Skips.{opens, has_name, whole, whole_from, whole_back, first_named, last_named};
 

@@ -1,5 +1,4 @@
 //! Paragraphs that may begin with a check (GFM 5.3).
-ghost use Rattle.std.specs.Prelude.{List};
 ghost use Rattle.definition_page.specs.Targets.{Targets};
 ghost use Rattle.definition_inline.specs.GfmTaskListItem.{check_at};
 ghost use Rattle.definition_inline.specs.Scan.{without_indent};

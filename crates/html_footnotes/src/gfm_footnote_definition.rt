@@ -3,7 +3,7 @@
 //!     section  ::= '<section ..>' heading '<ol>' footnote+ '</ol>' '</section>'
 //!     footnote ::= '<li id="..">' html with ways back '</li>'
 //!     back     ::= '<a href="#' call '" ..>↩' ('<sup>' count '</sup>')? '</a>'
-ghost use Rattle.std.specs.Prelude.{◌≡◌, ◌≤◌, IfSome, OnOk, length, map, string_bytes};
+ghost use Rattle.std.specs.Prelude.{◌≡◌, ◌≤◌, IfSome, length, map};
 ghost use Rattle.std.specs.Str.{IsCharBoundary};
 ghost use Rattle.markdown_options.specs.LineEndings.{ending_bytes};
 ghost use Rattle.definition_page.specs.GfmFootnoteDefinition.{ended_size, ends_line, section_heading_name, paragraph_end};

@@ -1,7 +1,7 @@
 //! Code in the cells of tables (GFM 4.10).
 //!
 //!     code ::= ('\' '|' | byte)*, where the backslash isn't printed
-ghost use Rattle.std.specs.Prelude.{◌≡◌, ◌==◌, ◌++◌, ◌<◌, ◌≤◌, IfOk, length, slice_index, string_bytes};
+ghost use Rattle.std.specs.Prelude.{◌≡◌, ◌==◌, ◌++◌, ◌<◌, IfOk, length, slice_index, string_bytes};
 ghost use Rattle.definition_page.specs.GfmTable.{cell_code};
 ghost use Rattle.definition_text.specs.Encode.{encode};
 ghost use Rattle.html_inline.specs.GfmTable.{bar_escape_at};

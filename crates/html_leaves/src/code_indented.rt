@@ -1,5 +1,5 @@
 //! Indented code (CommonMark 4.4).
-ghost use Rattle.std.specs.Prelude.{OnOk, true, false};
+ghost use Rattle.std.specs.Prelude.{OnOk, false};
 ghost use Rattle.html_bytes.specs.Document.{Document};
 ghost use Rattle.definition_text.specs.BlockLines.{own_lines};
 ghost use Rattle.definition_block.specs.Tree.{IndentedCode};

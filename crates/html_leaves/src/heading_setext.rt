@@ -1,5 +1,5 @@
 //! Setext headings (CommonMark 4.3).
-ghost use Rattle.std.specs.Prelude.{◌≤◌, List, OnOk, true, false};
+ghost use Rattle.std.specs.Prelude.{◌≤◌, OnOk, false};
 ghost use Rattle.html_bytes.specs.Document.{text_of};
 ghost use Rattle.definition_page.specs.Targets.{Targets};
 ghost use Rattle.definition_text.specs.BlockLines.{own_lines};

@@ -1,5 +1,5 @@
 //! The page, printed piece by piece.
-ghost use Rattle.std.specs.Prelude.{◌≡◌, ◌≤◌, ◌<◌, List, IfOk, OnOk, length, string_bytes, true, false};
+ghost use Rattle.std.specs.Prelude.{◌≡◌, ◌≤◌, ◌<◌, IfOk, OnOk, length, string_bytes, true, false};
 ghost use Rattle.markdown_options.specs.LineEndings.{ending_bytes};
 ghost use Rattle.definition_text.specs.Lines.{ending_text};
 ghost use Rattle.definition_page.specs.Targets.{Targets};

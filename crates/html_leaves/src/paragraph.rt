@@ -1,5 +1,5 @@
 //! Paragraphs (CommonMark 4.8).
-ghost use Rattle.std.specs.Prelude.{◌<◌, ℕ, List, slice_index, OnOk, true, false};
+ghost use Rattle.std.specs.Prelude.{◌<◌, ℕ, slice_index, OnOk, false};
 ghost use Rattle.definition_page.specs.Targets.{Targets};
 ghost use Rattle.block_rows.specs.ParagraphLines.{AreLines};
 ghost use Rattle.definition_text.specs.BlockLines.{own_lines};

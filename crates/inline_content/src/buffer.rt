@@ -1,6 +1,5 @@
 //! The content of lines that are put together (CommonMark 4.8).
-ghost use Rattle.std.specs.Prelude.{◌≡◌, ◌≤◌, ◌++◌, [], ℕ, Bool, IfOk, OnOk, string_bytes, length};
-ghost use Rattle.std.specs.List.{All};
+ghost use Rattle.std.specs.Prelude.{◌≡◌, [], ℕ, Bool, IfOk, OnOk};
 ghost use Rattle.std.specs.List.Sorted.{IsNonDecreasingBy};
 ghost use Rattle.inline_content.specs.Marks.{mark_place};
 

@@ -1,5 +1,5 @@
 //! A content, and what stands before its lines in the text (CommonMark 6.2).
-ghost use Rattle.std.specs.Prelude.{◌≡◌, ◌≤◌, ℕ, List, length, take, nat_lt};
+ghost use Rattle.std.specs.Prelude.{◌≡◌, nat_lt};
 ghost use Rattle.std.specs.List.Sorted.{IsNonDecreasingBy};
 ghost use Rattle.inline_content.specs.Marks.{kind_at, mark_place};
 

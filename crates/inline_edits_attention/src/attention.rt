@@ -12,17 +12,17 @@
 //!
 //! The text of a label is a container of its own, and so is all that stands in none. The runs of a
 //! container go together by `inline_runs`, once its end is found.
-ghost use Rattle.std.specs.Prelude.{◌≡◌, ◌<◌, ◌++◌, [], OnOk, IfOk, IfErr, length, drop, slice_get, unwrap_or};
+ghost use Rattle.std.specs.Prelude.{◌≡◌, ◌<◌, [], OnOk, IfOk, IfErr, length, drop, slice_get, unwrap_or};
 ghost use Rattle.std.specs.List.{fold};
 ghost use Rattle.markdown_options.specs.Messages.{IsOutOfMemory};
 ghost use Rattle.definition_inline.specs.Spans.{span_of};
 ghost use Rattle.inline_runs.specs.Paired.{IsPaired};
 ghost use Rattle.inline_runs.specs.View.{pair_view, pairs_view, run_view, runs_view};
-ghost use Rattle.engine_edits.specs.Edits.{edits_of, with_edit};
+ghost use Rattle.engine_edits.specs.Edits.{edits_of};
 ghost use Rattle.markdown_engine.specs.Context.{context};
-ghost use Rattle.inline_edits_attention.specs.Attention.{attention_edits, run_of_enter, last_of, place_later, names_of, run_edit};
-ghost use Rattle.inline_edits_attention.specs.Attention.{empty_search, run_edits, run_from, replace_run, search_to, span_end, span_start, tell_after};
-ghost use Rattle.inline_edits_attention.specs.Attention.{with_held_data, with_end_of, with_event, with_run, with_start_of};
+ghost use Rattle.inline_edits_attention.specs.Attention.{attention_edits, run_of_enter, place_later, names_of, run_edit};
+ghost use Rattle.inline_edits_attention.specs.Attention.{empty_search, run_edits, run_from, replace_run, tell_after};
+ghost use Rattle.inline_edits_attention.specs.Attention.{with_held_data, with_end_of, with_run, with_start_of};
 ghost use Rattle.inline_edits_attention.specs.Attention.{with_index, with_text_end, with_text_start};
 ghost use Rattle.inline_edits_attention.specs.Views.{search_view, run_events_view};
 

@@ -1,7 +1,7 @@
 //! Spaces and tabs of data at the ends of lines, and at the ends of a text (CommonMark 4.8, 6.7).
-ghost use Rattle.std.specs.Prelude.{◌≡◌, ◌∷◌, [], ◌<◌, ◌≤◌, ◌+◌, ◌^◌};
-ghost use Rattle.std.specs.Prelude.{OnOk, IfOk, IfErr, is_some, length, slice_get, take, drop};
-ghost use Rattle.std.specs.List.{list_all, prefix_len, suffix_len};
+ghost use Rattle.std.specs.Prelude.{◌≡◌, ◌<◌, ◌≤◌, ◌+◌, ◌^◌};
+ghost use Rattle.std.specs.Prelude.{OnOk, IfOk, IfErr, is_some, length, slice_get};
+ghost use Rattle.std.specs.List.{list_all, suffix_len};
 ghost use Rattle.markdown_options.specs.Messages.{IsOutOfMemory};
 ghost use Rattle.engine_edits.specs.Edits.{edits_of};
 ghost use Rattle.definition_text.specs.Columns.{is_white};

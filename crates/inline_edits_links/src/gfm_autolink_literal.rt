@@ -5,7 +5,7 @@ ghost use Rattle.markdown_options.specs.Messages.{IsOutOfMemory};
 ghost use Rattle.inline_leaves.specs.Leaves.{kind_view};
 ghost use Rattle.engine_edits.specs.Edits.{edits_of};
 ghost use Rattle.inline_edits_links.specs.GfmAutolinkLiteral.{address_edit, address_edits, address_events, address_name, is_data_at, is_link, links_after};
-ghost use Rattle.inline_edits_links.specs.GfmAutolinkLiteral.{linking, links_before, may_link, with_address, with_data};
+ghost use Rattle.inline_edits_links.specs.GfmAutolinkLiteral.{linking, with_address, with_data};
 ghost use Rattle.inline_edits_links.specs.Views.{linking_view};
 
 use engine_edits::EditMap;

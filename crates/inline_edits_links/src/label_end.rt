@@ -1,8 +1,8 @@
 //! Links, images and calls in place of the labels that were found.
-ghost use Rattle.std.specs.Prelude.{◌≡◌, ◌∷◌, [], OnOk, IfOk, IfErr, slice_get};
+ghost use Rattle.std.specs.Prelude.{◌≡◌, OnOk, IfOk, IfErr};
 ghost use Rattle.std.specs.List.{fold};
 ghost use Rattle.markdown_options.specs.Messages.{IsOutOfMemory};
-ghost use Rattle.engine_edits.specs.Edits.{edits_of, with_edit};
+ghost use Rattle.engine_edits.specs.Edits.{edits_of};
 ghost use Rattle.markdown_engine.specs.KeptState.{kept_state};
 ghost use Rattle.inline_edits_links.specs.LabelEnd.{count, enters, exits, group_name, label_edits, link_start, with_end, with_label};
 ghost use Rattle.inline_edits_links.specs.LabelEnd.{with_link_start, with_loose, with_start};

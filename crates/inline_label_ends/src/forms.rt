@@ -7,10 +7,8 @@
 //!
 //! The first that is there counts, a full reference also where no definition has its label. For a
 //! collapsed reference and a shortcut the text between the brackets is the label.
-ghost use Rattle.std.specs.Prelude.{◌≡◌, ℕ, List, IfOk, IfSome, if◌then◌else◌, is_some, codes};
+ghost use Rattle.std.specs.Prelude.{◌≡◌, ℕ, List, IfOk, IfSome, if◌then◌else◌, codes};
 ghost use Rattle.definition_text.specs.Content.{content_codes};
-ghost use Rattle.definition_inline.specs.LabelEnd.{label_end_at};
-ghost use Rattle.definition_inline.specs.LabelMatch.{first_match};
 ghost use Rattle.definition_text.specs.Bytes.{begins_with};
 ghost use Rattle.inline_leaves.specs.Leaves.{size_before};
 ghost use Rattle.inline_labels.specs.Table.{HasLabels};

@@ -1,6 +1,6 @@
 //! The labels of definitions, each with the place of the first definition that has it
 //! (CommonMark 4.7).
-ghost use Rattle.std.specs.Prelude.{◌≡◌, ℕ, List, [], false, length, map, IfOk, OnOk, OnErr};
+ghost use Rattle.std.specs.Prelude.{◌≡◌, ℕ, List, [], false, map, IfOk, OnErr};
 ghost use Rattle.definition_text.specs.Content.{content_codes};
 ghost use Rattle.definition_inline.specs.LabelMatch.{first_match, normal_label, place_of};
 

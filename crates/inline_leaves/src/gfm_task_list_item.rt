@@ -1,7 +1,7 @@
 //! Checks of task list items (GFM 5.3).
 //!
 //!     check ::= '[' (space | tab | ending | 'x' | 'X') ']', before white space and something else
-ghost use Rattle.std.specs.Prelude.{◌≡◌, ◌≤◌, IfSome, length};
+ghost use Rattle.std.specs.Prelude.{◌≡◌, IfSome};
 ghost use Rattle.std.specs.Option.{option_map};
 ghost use Rattle.std.specs.List.{list_all};
 ghost use Rattle.definition_text.specs.Content.{content_codes, is_space as is_space_code};

@@ -8,7 +8,7 @@ ghost use Rattle.std.specs.Prelude.{◌≡◌, IfSome};
 ghost use Rattle.std.specs.Option.{option_map};
 ghost use Rattle.definition_text.specs.Content.{content_codes};
 ghost use Rattle.definition_inline.specs.Space.{begins_with_space};
-ghost use Rattle.definition_inline.specs.Definition.{next_line, definition_with_title, definition_without_title, with_destination, definition_at};
+ghost use Rattle.definition_inline.specs.Definition.{next_line, definition_with_title, definition_without_title, definition_at};
 ghost use Rattle.inline_links.specs.Codes.{IsShorterRest, IsRest};
 ghost use Rattle.inline_links.specs.View.{part_of, found_definition};
 

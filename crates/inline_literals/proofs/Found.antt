@@ -16,8 +16,8 @@ use Rattle.definition_text.specs.InlineCode.{InlineCode, codes_of, first_kind, i
 use Rattle.definition_inline.specs.Attention.{is_other}
 use Rattle.definition_inline.specs.Inline.{Leaf, leaf, Literal}
 use Rattle.definition_inline.specs.GfmAutolinkLiteral as literal
-use Rattle.definition_inline.specs.GfmAutolinkLiteral.{LiteralStart, literal_start, or_start, may_precede_www, may_precede_protocol, begins_caselessly}
-use Rattle.definition_inline.specs.GfmAutolinkLiteral.{is_control_or_ending, domain, ends_literal, has_low_line, is_cut, cut_more, without_tail, literal_run}
+use Rattle.definition_inline.specs.GfmAutolinkLiteral.{LiteralStart, begins_caselessly}
+use Rattle.definition_inline.specs.GfmAutolinkLiteral.{is_control_or_ending, domain, ends_literal, has_low_line, without_tail, literal_run}
 use Rattle.definition_inline.specs.GfmAutolinkLiteral.{literal_name, literal_start_at, named_literal, literal_after, literal_at}
 use Rattle.definition_inline.proofs.GfmAutolinkLiteral.{no_start_at}
 use Rattle.inline_content.specs.declared.mark.Mark.{Mark}

@@ -5,10 +5,9 @@
 //!     user      ::= (letter | digit | '+' | '-' | '.' | '_')+, not after '/'
 //!     host      ::= host_byte+, with a dot, and a letter at its end
 //!     host_byte ::= letter | digit | '-' | '_' | '.' before a letter or digit | '/' after 'xmpp:'
-ghost use Rattle.std.specs.Prelude.{◌≡◌, ◌+◌, ◌-◌, ◌<◌, ◌≤◌, ◌==◌, ◌&&◌, ◌||◌, ℕ, Bool, true, codes, drop, take, length, map, slice_index, IfSome, MatchOption};
+ghost use Rattle.std.specs.Prelude.{◌≡◌, ◌+◌, ◌-◌, ◌<◌, ◌≤◌, ◌==◌, ◌&&◌, ◌||◌, true, drop, length, map, slice_index, IfSome, MatchOption};
 ghost use Rattle.std.specs.List.{suffix_len};
 ghost use Rattle.std.specs.Option.{option_map};
-ghost use Rattle.definition_text.specs.Bytes.{is_letter_or_digit};
 ghost use Rattle.definition_inline.specs.Inline.{Data};
 ghost use Rattle.definition_inline.specs.GfmAutolinkLiteral.{address_at, address_of, ends_with_letter_or_digit};
 ghost use Rattle.definition_inline.specs.GfmAutolinkLiteral.{ends_with_protocol, host_size, is_host, is_host_code};

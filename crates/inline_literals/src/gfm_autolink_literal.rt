@@ -3,12 +3,12 @@
 //!     literal ::= start name
 //!     start   ::= 'www.' after nothing, white space or one of '(*_[]~'
 //!               | ('http://' | 'https://') after anything but a letter
-ghost use Rattle.std.specs.Prelude.{◌≡◌, ◌<◌, ◌≤◌, ◌+◌, ◌&&◌, ◌||◌, ℕ, Bool, List, Some, not, IfErr, IfOk, IfSome, codes, drop, length, slice_index, take};
+ghost use Rattle.std.specs.Prelude.{◌≡◌, ◌<◌, ◌≤◌, ◌+◌, ◌&&◌, ◌||◌, Some, IfErr, IfOk, IfSome, codes, drop, length, slice_index};
 ghost use Rattle.std.specs.Option.{option_map};
 ghost use Rattle.std.specs.Str.{IsCharBoundary};
 ghost use Rattle.definition_text.specs.Content.{content_codes};
 ghost use Rattle.definition_text.specs.InlineCode.{is_continuation};
-ghost use Rattle.definition_inline.specs.GfmAutolinkLiteral.{begins_caselessly, is_control_or_ending, is_among, literal_at};
+ghost use Rattle.definition_inline.specs.GfmAutolinkLiteral.{begins_caselessly, literal_at};
 ghost use Rattle.definition_inline.specs.GfmAutolinkLiteral.{literal_name, literal_start_at, may_precede_protocol, may_precede_www};
 ghost use Rattle.inline_content.specs.View.{view_at};
 ghost use Rattle.inline_leaves.specs.Leaves.{found_leaf, size_before, LeavesRest};

@@ -2,12 +2,12 @@
 //!
 //!     name ::= byte+ up to white space, '<', a ']' that may end a label, or nothing, without its tail
 //!     tail ::= (trailing byte | '&' (letter | digit)+ ';' | ')' while there are more of them than '(')*
-ghost use Rattle.std.specs.Prelude.{◌≡◌, ◌<◌, ◌≤◌, ◌+◌, ◌-◌, ℕ, Bool, true, false, drop, length, reverse, slice_index, take, MatchOption};
-ghost use Rattle.std.specs.List.{prefix_len, suffix_len};
+ghost use Rattle.std.specs.Prelude.{◌≡◌, ◌<◌, ◌≤◌, ◌+◌, ◌-◌, true, false, length, reverse, slice_index, take, MatchOption};
+ghost use Rattle.std.specs.List.{suffix_len};
 ghost use Rattle.definition_text.specs.Bytes.{is_letter_or_digit};
 ghost use Rattle.definition_text.specs.Content.{content_codes};
 ghost use Rattle.definition_inline.specs.GfmAutolinkLiteral.{count_of, cut_more, follows_label, ends_literal, is_trailing};
-ghost use Rattle.definition_inline.specs.GfmAutolinkLiteral.{literal_name, literal_run, low_line_in, has_low_line, without_tail};
+ghost use Rattle.definition_inline.specs.GfmAutolinkLiteral.{literal_name, literal_run, has_low_line, without_tail};
 ghost use Rattle.inline_leaves.specs.Leaves.{IsPlain};
 ghost use Rattle.inline_literals.specs.Literals.{is_in_reference, is_kept, HasLowLineAt};
 

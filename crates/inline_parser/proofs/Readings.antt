@@ -6,7 +6,7 @@ use Rattle.definition_inline.specs.Inline.{Target, Inline, Data}
 use Rattle.definition_inline.specs.Inline as inline
 use Rattle.inline_rows.specs.InlineRows.{part_rows}
 use Rattle.definition_inline.specs.Scan as scan
-use Rattle.definition_inline.specs.Scan.{LinkStart, ImageStart, start_bytes, start_tokens, label_part, with_plain_start, with_link_or_call, whole_text}
+use Rattle.definition_inline.specs.Scan.{LinkStart, ImageStart, start_bytes, start_tokens, with_plain_start}
 use Rattle.definition_inline.specs.Spans.{Token, Item, Delimiters}
 use Rattle.inline_runs.specs.View.{run_view}
 use Rattle.inline_runs.specs.declared.run.Run.{Run}

@@ -2,7 +2,7 @@
 use Rattle.std.specs.Prelude.{◌≡◌, ◌<◌, ◌≤◌, ℕ, false, List, [], ◌∷◌, ◌++◌, length, reverse, take, OnOk, Result}
 use Rattle.std.specs.List.{All}
 use Rattle.definition_text.specs.Content.{content_codes}
-use Rattle.definition_inline.specs.Inline.{Target, Data}
+use Rattle.definition_inline.specs.Inline.{Target}
 use Rattle.definition_inline.specs.Inline as inline
 use Rattle.definition_inline.specs.Scan as scan
 use Rattle.definition_inline.specs.Scan.{LinkStart, ImageStart, start_bytes, with_plain_start, with_link_or_call}

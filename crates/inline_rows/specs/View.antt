@@ -2,7 +2,7 @@
 use Rattle.std.specs.Prelude.{ℕ, List, [], ◌∷◌, map}
 use Rattle.std.specs.List.{flat_map}
 use Rattle.definition_text.specs.Content.{content_codes}
-use Rattle.definition_inline.specs.Inline.{Inline, Data}
+use Rattle.definition_inline.specs.Inline.{Data}
 use Rattle.definition_inline.specs.Inline as inline
 use Rattle.inline_rows.specs.InlineRows as rows
 use Rattle.inline_leaves.specs.Leaves.{parts_of}

@@ -7,7 +7,7 @@ use Rattle.std.proofs.lemmas.List.Concat.{flat_map-append}
 use borrow.Rule.Slice.PartMut.{put_mid}
 use Rattle.definition_inline.specs.Inline.{Target, LinkTexts, Inline}
 use Rattle.inline_rows.specs.InlineRows as rows
-use Rattle.inline_rows.specs.InlineRows.{part_rows, inline_rows}
+use Rattle.inline_rows.specs.InlineRows.{part_rows}
 use Rattle.definition_inline.specs.Pairing.{Pair, pairs}
 use Rattle.definition_inline.specs.Spans.{Token, Item, run_rows, rows_from, runs_of}
 use Rattle.inline_runs.specs.View.{run_view, runs_view}

@@ -1,13 +1,11 @@
 //! The machine of texts and strings.
-ghost use Rattle.std.specs.Prelude.{◌≡◌, ℕ, length};
-ghost use Rattle.markdown_engine.specs.Machine.{config, read_with};
+ghost use Rattle.std.specs.Prelude.{length};
 ghost use Rattle.markdown_engine.specs.Resolving.{settles_whole};
 ghost use Rattle.inline_states_resolvers.specs.Resolving.{inline_resolved};
 ghost use Rattle.engine_programs.specs.Bodies.{step_by};
-ghost use Rattle.engine_programs.specs.Stacks.{Does, IsOpen, program_rank, program_valid};
-ghost use Rattle.engine_events.specs.declared.state.Name.TheVariants as any_states;
+ghost use Rattle.engine_programs.specs.Stacks.{Does, program_rank, program_valid};
 ghost use Rattle.inline_states_table.specs.Table.{sorts};
-ghost use Rattle.inline_states.specs.Inlines.{bodies, is_start, text_start, whole_body};
+ghost use Rattle.inline_states.specs.Inlines.{bodies, text_start, whole_body};
 ghost use Rattle.inline_states.specs.declared.inlines.Inlines.{Inlines};
 ghost use Rattle.inline_states.specs.InlineLaws.{inline_lawful, inline_resolves};
 

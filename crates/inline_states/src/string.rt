@@ -3,7 +3,6 @@
 //! ```text
 //! string ::= *(character_escape | character_reference | data)
 //! ```
-ghost use Rattle.markdown_engine.specs.Machine.{config};
 ghost use Rattle.engine_programs.specs.Stacks.{Does};
 ghost use Rattle.inline_states.specs.Strings.{string_start, string_before, string_before_data};
 

@@ -7,7 +7,6 @@
 //! ```
 //!
 //! A byte says which construct is tried first; where that isn't there, the next, and data last.
-ghost use Rattle.markdown_engine.specs.Machine.{config};
 ghost use Rattle.engine_programs.specs.Stacks.{Does};
 ghost use Rattle.inline_states.specs.Text.{text_before, text_before_html, text_before_hard_break_escape, text_before_label_start_link, text_before_data};
 

@@ -1,5 +1,5 @@
 -- The text of a label, event by event.
-use Rattle.std.proofs.Common.{◌≡◌, ◌∙◌, ℕ, zero, suc, ◌+◌, ◌<◌, ◌≤◌, Bool, true, false, nat_lt, if◌then◌else◌, List, [], ◌∷◌, ◌++◌, ◌||◌, map, refl, sym, ap}
+use Rattle.std.proofs.Common.{◌≡◌, ◌∙◌, ℕ, zero, suc, ◌+◌, ◌≤◌, Bool, true, false, nat_lt, if◌then◌else◌, List, [], ◌∷◌, ◌++◌, ◌||◌, map, refl, ap}
 use Rattle.std.proofs.Common.{arith, add-one}
 use Rattle.std.specs.List.{list_any}
 use Rattle.engine_events.specs.declared.event.Event.{Event}

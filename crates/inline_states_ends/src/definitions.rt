@@ -1,11 +1,11 @@
 //! Whether the text of a label is defined.
-ghost use Rattle.std.specs.Prelude.{◌≡◌, ◌≤◌, ◌<◌, ◌-◌, ◌++◌, ◌^◌, OnOk, IfOk, IfErr, Some, map, string_bytes, length};
+ghost use Rattle.std.specs.Prelude.{◌≡◌, ◌<◌, ◌-◌, ◌++◌, ◌^◌, OnOk, IfOk, IfErr, Some, map, string_bytes};
 ghost use Rattle.std.specs.List.{list_any};
 ghost use Rattle.std.specs.Str.{bytes_eq};
 ghost use Rattle.markdown_options.specs.Messages.{IsOutOfMemory};
 ghost use Rattle.markdown_engine.specs.Machine.{config, bytes_of, definitions_of, footnotes_of};
 ghost use Rattle.inline_states_ends.specs.LabelEnd.{is_reference_defined, is_start_defined};
-ghost use Rattle.inline_states_ends.specs.Definitions.{ends_line, is_among, is_defined, label_part, label_text, last_start, part_between, text_start};
+ghost use Rattle.inline_states_ends.specs.Definitions.{ends_line, is_among, is_defined, label_part, label_text, part_between, text_start};
 
 use inline_labels::normalize_label;
 use inline_links::label::is_label;

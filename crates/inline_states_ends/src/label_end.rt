@@ -28,7 +28,7 @@ ghost use Rattle.std.specs.Prelude.{◌≡◌, ◌++◌, Some, OnOk};
 ghost use Rattle.engine_events.specs.declared.label.LabelKind.TheVariants as kinds;
 ghost use Rattle.inline_states_ends.specs.Definitions.{has_kind, last_start};
 ghost use Rattle.inline_states_ends.specs.LabelEnd.{end_after_link, end_follow, end_form, end_loosen, end_undefine, formed_start};
-ghost use Rattle.inline_states_ends.specs.LabelEnd.{has_start, is_inactive, is_reference_defined, is_start_defined, undefined_start};
+ghost use Rattle.inline_states_ends.specs.LabelEnd.{has_start, is_inactive, is_reference_defined, undefined_start};
 ghost use Rattle.inline_states_ends.specs.LabelEnd.{without_last};
 
 use crate::definitions::{is_call_defined, is_link_defined, is_reference_defined};

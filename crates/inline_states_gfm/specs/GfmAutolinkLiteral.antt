@@ -1,5 +1,5 @@
 -- What the states of `gfm_autolink_literal` do.
-use Rattle.std.specs.Prelude.{ℕ, Bool, true, false, not, nat_le, nat_lt, is_none, if◌then◌else◌, ◌==◌, ◌&&◌, ◌||◌, List, Option, None, slice_get, take, drop}
+use Rattle.std.specs.Prelude.{ℕ, Bool, true, false, not, nat_le, nat_lt, is_none, if◌then◌else◌, ◌==◌, ◌&&◌, ◌||◌, List, take, drop}
 use Rattle.std.specs.Prelude.{refl}
 use Rattle.std.specs.Char.{is_ascii_alphabetic, is_ascii_alphanumeric}
 use denote.Enum.Bare.{sameb}

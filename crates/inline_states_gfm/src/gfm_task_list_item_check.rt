@@ -7,7 +7,7 @@
 //! White space that isn't the end of the content follows.
 ghost use Rattle.std.specs.Prelude.{[], ◌∷◌};
 ghost use Rattle.engine_events.specs.declared.event.Name.TheVariants as names;
-ghost use Rattle.markdown_engine.specs.Machine.{config, constructs_of};
+ghost use Rattle.markdown_engine.specs.Machine.{constructs_of};
 ghost use Rattle.engine_programs.specs.Bodies.{FixedName};
 ghost use Rattle.engine_programs.specs.Stacks.{Does, IsOpen};
 ghost use Rattle.inline_states_gfm.specs.GfmTaskListItemCheck.{gfm_task_list_item_check_start, gfm_task_list_item_check_inside};

@@ -10,7 +10,7 @@
 //! ```
 //!
 //! An address is entered as a protocol; which one is an email's is told from its bytes once all is read.
-ghost use Rattle.markdown_engine.specs.Machine.{config, constructs_of};
+ghost use Rattle.markdown_engine.specs.Machine.{constructs_of};
 ghost use Rattle.engine_programs.specs.Stacks.{Does, IsOpen};
 ghost use Rattle.inline_states_table.specs.Table.{address_tokens};
 ghost use Rattle.inline_states_html.specs.Autolink.{autolink_start, autolink_open, autolink_scheme_or_email_atext};

@@ -15,7 +15,7 @@
 //! ```
 //!
 //! Data ends before each line ending and goes on after it and the spaces and tabs there.
-ghost use Rattle.markdown_engine.specs.Machine.{config, constructs_of};
+ghost use Rattle.markdown_engine.specs.Machine.{constructs_of};
 ghost use Rattle.engine_programs.specs.Stacks.{Does, IsOpen};
 ghost use Rattle.inline_states_table.specs.Table.{html_tokens};
 ghost use Rattle.inline_states_html.specs.HtmlText.{html_text_start, html_text_open, html_text_declaration_open};

@@ -1,7 +1,7 @@
 //! Autolinks, and HTML among text.
 #![tactic(auto)]
 
-ghost use Rattle.markdown_engine.specs.Machine.{config, read_with};
+ghost use Rattle.markdown_engine.specs.Machine.{read_with};
 ghost use Rattle.engine_events.specs.declared.state.Name.TheVariants as any_states;
 ghost use Rattle.engine_programs.specs.Stacks.{Does, IsOpen};
 ghost use Rattle.inline_states_table.specs.Table.{sorts};

@@ -1,5 +1,5 @@
 -- The links of chunks.
-use Rattle.std.specs.Prelude.{ℕ, ◌-◌, Bool, false, if◌then◌else◌, List, length, slice_get, Option, None, Some}
+use Rattle.std.specs.Prelude.{◌-◌, Bool, false, if◌then◌else◌, List, length, slice_get, Option, None, Some}
 use denote.Enum.Bare.{sameb}
 use Rattle.engine_events.specs.contracts.event.Kind.{the_type}
 use Rattle.engine_events.specs.declared.event.Content.TheVariants as contents

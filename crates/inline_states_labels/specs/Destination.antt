@@ -1,5 +1,5 @@
 -- What the states of `partial_destination` do.
-use Rattle.std.specs.Prelude.{ℕ, Bool, nat_lt, refl, ◌==◌, ◌||◌, if◌then◌else◌}
+use Rattle.std.specs.Prelude.{ℕ, Bool, nat_lt, refl, ◌==◌, ◌||◌}
 use Rattle.std.specs.Int.{is_in_range}
 use Rattle.engine_events.specs.declared.event.Name.TheVariants as names
 use Rattle.engine_events.specs.declared.state.Inline.TheVariants as inline_states

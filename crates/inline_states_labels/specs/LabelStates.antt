@@ -1,5 +1,5 @@
 -- The states of this crate by their names, and that they fit the table.
-use Rattle.std.specs.Prelude.{◌≡◌, Bool, true, refl}
+use Rattle.std.specs.Prelude.{◌≡◌, true, refl}
 use Rattle.engine_events.specs.declared.state.Inline.{Inline as InlineName}
 use Rattle.engine_events.specs.declared.state.Inline.TheVariants as inline_states
 use Rattle.engine_events.specs.declared.state.Name.TheVariants.{Inline}

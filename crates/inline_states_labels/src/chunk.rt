@@ -1,5 +1,5 @@
 //! Chunks of strings: data, white space and line endings that are read together later.
-ghost use Rattle.std.specs.Prelude.{◌≡◌, [], OnOk, IfErr, Some};
+ghost use Rattle.std.specs.Prelude.{◌≡◌, OnOk, IfErr, Some};
 ghost use Rattle.markdown_options.specs.Messages.{IsOutOfMemory};
 ghost use Rattle.markdown_engine.specs.Machine.{Became, config, with_enter, KeepsParseState};
 ghost use Rattle.inline_states_labels.specs.Chunk.{link_after, chunk_link, part_link, with_part};

@@ -5,7 +5,7 @@
 //! ```
 ghost use Rattle.std.specs.Prelude.{[], ◌∷◌};
 ghost use Rattle.engine_events.specs.declared.event.Name.TheVariants as names;
-ghost use Rattle.markdown_engine.specs.Machine.{config, constructs_of};
+ghost use Rattle.markdown_engine.specs.Machine.{constructs_of};
 ghost use Rattle.engine_programs.specs.Bodies.{FixedName};
 ghost use Rattle.engine_programs.specs.Stacks.{Does, IsOpen};
 ghost use Rattle.inline_states_labels.specs.LabelStartImage.{label_start_image_start, label_start_image_open, label_start_image_after};

@@ -3,7 +3,7 @@
 //! ```text
 //! label_start_link ::= '['
 //! ```
-ghost use Rattle.markdown_engine.specs.Machine.{config, constructs_of};
+ghost use Rattle.markdown_engine.specs.Machine.{constructs_of};
 ghost use Rattle.engine_programs.specs.Stacks.{Does};
 ghost use Rattle.inline_states_labels.specs.LabelStartLink.{label_start_link_start};
 

@@ -9,7 +9,6 @@
 //! how many parentheses may be open at once.
 ghost use Rattle.std.specs.Prelude.{[], ◌∷◌};
 ghost use Rattle.engine_events.specs.declared.event.Name.TheVariants as names;
-ghost use Rattle.markdown_engine.specs.Machine.{config};
 ghost use Rattle.engine_programs.specs.Bodies.{FixedName, HeldName};
 ghost use Rattle.engine_programs.specs.Stacks.{Does, IsOpen};
 ghost use Rattle.inline_states_labels.specs.Destination.{destination_start, destination_enclosed_before, destination_enclosed};

@@ -6,9 +6,8 @@
 //!
 //! At most 999 bytes, not counting line endings and the spaces and tabs right after one. The caller
 //! names the events: the label, its markers, its text.
-ghost use Rattle.std.specs.Prelude.{[], ◌∷◌};
+ghost use Rattle.std.specs.Prelude.{◌∷◌};
 ghost use Rattle.engine_events.specs.declared.event.Name.TheVariants as names;
-ghost use Rattle.markdown_engine.specs.Machine.{config};
 ghost use Rattle.engine_programs.specs.Bodies.{FixedName};
 ghost use Rattle.engine_programs.specs.Stacks.{Does, IsOpen};
 ghost use Rattle.inline_states_table.specs.Table.{label_tokens};

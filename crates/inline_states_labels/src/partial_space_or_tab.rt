@@ -7,7 +7,6 @@
 //! In a string, which `connect` tells, they are a part of its chunks.
 ghost use Rattle.std.specs.Prelude.{[], ◌∷◌};
 ghost use Rattle.engine_events.specs.declared.event.Name.TheVariants as names;
-ghost use Rattle.markdown_engine.specs.Machine.{config};
 ghost use Rattle.engine_programs.specs.Bodies.{FixedName};
 ghost use Rattle.engine_programs.specs.Stacks.{Does, IsOpen};
 ghost use Rattle.inline_states_labels.specs.SpaceOrTab.{space_or_tab_start, space_or_tab_inside, space_or_tab_after};

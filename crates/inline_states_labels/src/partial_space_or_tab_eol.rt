@@ -3,7 +3,6 @@
 //! ```text
 //! space_or_tab_eol ::= 1*space_or_tab | [space_or_tab] line_ending [space_or_tab]
 //! ```
-ghost use Rattle.markdown_engine.specs.Machine.{config};
 ghost use Rattle.engine_programs.specs.Stacks.{Does};
 ghost use Rattle.inline_states_labels.specs.SpaceOrTabEol.{space_or_tab_eol_start, space_or_tab_eol_after_first, space_or_tab_eol_at_eol};
 ghost use Rattle.inline_states_labels.specs.SpaceOrTabEol.{space_or_tab_eol_after_eol, space_or_tab_eol_after_more};

@@ -1,5 +1,4 @@
 //! The starts of labels, which may find their ends.
-ghost use Rattle.markdown_engine.specs.Machine.{config};
 ghost use Rattle.engine_programs.specs.Stacks.{Does};
 ghost use Rattle.inline_states_labels.specs.Start.{begin_label};
 

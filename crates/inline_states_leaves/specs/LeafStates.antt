@@ -1,5 +1,5 @@
 -- The states of this crate by their names, and that they fit the table.
-use Rattle.std.specs.Prelude.{◌≡◌, Bool, true, refl, ℕ, List, Option}
+use Rattle.std.specs.Prelude.{◌≡◌, true, refl, ℕ, List, Option}
 use Rattle.engine_events.specs.declared.state.Inline.{Inline as InlineName}
 use Rattle.engine_events.specs.declared.state.Inline.TheVariants as inline_states
 use Rattle.engine_events.specs.declared.state.Name.TheVariants.{Inline}

@@ -5,7 +5,7 @@
 //! numeric ::= '#' (('x' | 'X') 1*6hexadecimal_digit | 1*7digit)
 //! name ::= 1*31(letter | digit), one that the tables know
 //! ```
-ghost use Rattle.std.specs.Prelude.{[], ◌∷◌};
+ghost use Rattle.std.specs.Prelude.{◌∷◌};
 ghost use Rattle.engine_events.specs.declared.event.Name.TheVariants as names;
 ghost use Rattle.markdown_engine.specs.Machine.{config, constructs_of, bytes_of, tables_of};
 ghost use Rattle.engine_programs.specs.Bodies.{FixedName};

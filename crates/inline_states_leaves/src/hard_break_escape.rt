@@ -5,7 +5,7 @@
 //! ```
 ghost use Rattle.std.specs.Prelude.{[], ◌∷◌};
 ghost use Rattle.engine_events.specs.declared.event.Name.TheVariants as names;
-ghost use Rattle.markdown_engine.specs.Machine.{config, constructs_of};
+ghost use Rattle.markdown_engine.specs.Machine.{constructs_of};
 ghost use Rattle.engine_programs.specs.Bodies.{FixedName};
 ghost use Rattle.engine_programs.specs.Stacks.{Does, IsOpen};
 ghost use Rattle.inline_states_leaves.specs.HardBreakEscape.{hard_break_escape_start, hard_break_escape_after};

@@ -7,13 +7,11 @@
 //! `seen` tells a text, with all its constructs, from a string.
 ghost use Rattle.std.specs.Prelude.{[], ◌∷◌};
 ghost use Rattle.engine_events.specs.declared.event.Name.TheVariants as names;
-ghost use Rattle.markdown_engine.specs.Machine.{config};
 ghost use Rattle.engine_programs.specs.Bodies.{FixedName};
 ghost use Rattle.engine_programs.specs.Stacks.{Does, IsOpen};
 ghost use Rattle.inline_states_leaves.specs.Data.{data_start, data_at_break, data_inside};
 ghost use Rattle.std.specs.Prelude.{◌≡◌};
 ghost use Rattle.inline_states_leaves.specs.Data.{is_marker};
-ghost use Rattle.engine_programs.specs.Stacks.{HasByte};
 
 use engine_programs::steps::{around_to, consume_to, enter_to, exit_to};
 use inline_states_table::{next, retry};

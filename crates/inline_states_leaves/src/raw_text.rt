@@ -6,7 +6,7 @@
 //! ```
 //!
 //! A sequence of another size within is entered as one, too; the first and the last are the fences.
-ghost use Rattle.std.specs.Prelude.{[], ◌∷◌};
+ghost use Rattle.std.specs.Prelude.{◌∷◌};
 ghost use Rattle.markdown_engine.specs.Machine.{config, read_with, constructs_of};
 ghost use Rattle.engine_programs.specs.Bodies.{HeldName};
 ghost use Rattle.engine_programs.specs.Stacks.{Does, IsOpen};

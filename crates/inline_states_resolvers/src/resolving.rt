@@ -4,7 +4,7 @@ ghost use Rattle.markdown_options.specs.Messages.{IsOutOfMemory};
 ghost use Rattle.markdown_engine.specs.Machine.{config, read_with, KeepsParseState};
 ghost use Rattle.inline_states_resolvers.specs.Resolving.{HasEdited, inline_resolved, join_chunks, link_text, name_emails, name_spans, name_text};
 ghost use Rattle.inline_states_resolvers.specs.Resolving.{resolve_attention, resolve_data, resolve_label, resolve_string, resolve_text};
-ghost use Rattle.inline_states_resolvers.specs.Resolving.{resolved_config, trim_string, trim_text};
+ghost use Rattle.inline_states_resolvers.specs.Resolving.{trim_string, trim_text};
 
 use crate::edited_events::make;
 use engine_chunks::link_all;

@@ -1,8 +1,7 @@
 //! Whether events are balanced and in order of place.
 ghost use Rattle.std.specs.Prelude.{◌≡◌, [], IfOk, OnOk};
 ghost use Rattle.markdown_engine.specs.Order.{text_start};
-ghost use Rattle.inline_states_resolvers.specs.Whole.{innermost, is_in_order, is_it, is_nested, is_whole, may_stand, names_after, reaches};
-ghost use Rattle.inline_states_resolvers.specs.Whole.{without_innermost};
+ghost use Rattle.inline_states_resolvers.specs.Whole.{is_in_order, is_nested, is_whole, may_stand, names_after, reaches};
 
 use markdown_engine::event::{Event, Kind, Name};
 use markdown_engine::place::{Point, START};

@@ -1,6 +1,5 @@
 -- How each inline state may stand, and in which group of crates it is.
 use Rattle.std.specs.Prelude.{ℕ, Bool, true, false, List, [], ◌∷◌}
-use Rattle.engine_events.specs.declared.event.Name.{Name as EventName}
 use Rattle.engine_events.specs.declared.event.Name.TheVariants as names
 use Rattle.engine_events.specs.declared.state.Inline.{Inline as InlineName}
 use Rattle.engine_events.specs.declared.state.Inline.TheVariants as inline_states

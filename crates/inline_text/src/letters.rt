@@ -3,7 +3,7 @@
 //!     letters ::= 'ww' | 'ht', in either case
 ghost use Rattle.std.specs.Prelude.{◌≡◌, ◌+◌, ◌<◌, ◌≤◌, true, length};
 ghost use Rattle.text_search.specs.Sets.{ends, first_set};
-ghost use Rattle.inline_text.specs.Letters.{are_letters, end_before, stops_here, IsLetterRun, IsStop, IsRun, IsRunFrom};
+ghost use Rattle.inline_text.specs.Letters.{are_letters, end_before, IsLetterRun, IsStop, IsRun, IsRunFrom};
 
 use std::simd::prelude::*;
 use text_search::{ByteSet, ByteTest};

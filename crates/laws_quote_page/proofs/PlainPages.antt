@@ -26,7 +26,6 @@ use Rattle.definition_page.specs.InlinePieces.{Meaning, html_says, call_at, coun
 use Rattle.definition_page.specs.GfmTable.{Table, TableRow, cell_pieces, cells_pieces, row_pieces, ending_piece, body_row_pieces, head_pieces, body_pieces}
 use Rattle.definition_page.specs.GfmTable.{table_pieces}
 use Rattle.definition_page.specs.Page as page
-use Rattle.definition_page.specs.Page.{Page, cons_ending, cons_blank}
 use Rattle.definition_page.specs.BlockPieces.{Place, at_top, inside, check_pieces, code_line, html_line, says, info_attributes, is_silent, last_visible}
 use Rattle.definition_page.specs.BlockPieces.{ends_plainly, fresh_unless, fenced_pieces, block_pieces, children_pieces}
 use Rattle.definition_page.specs.Read.{Reading, text_content, checked_paragraph, read_paragraph, Standing, on_page, in_container, in_item, next_standing}

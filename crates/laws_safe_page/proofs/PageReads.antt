@@ -13,7 +13,7 @@ use Rattle.definition_inline.specs.GfmTaskListItem.{check_at, check_size}
 use Rattle.definition_inline.specs.Scan.{without_indent}
 use Rattle.definition_block.specs.Container.{Quote, Item, Footnote}
 use Rattle.definition_block.specs.Tree as tree
-use Rattle.definition_block.specs.Tree.{is_ending, join, one, blocks}
+use Rattle.definition_block.specs.Tree.{is_ending, blocks}
 use Rattle.definition_block.specs.Lists.{endings_of, after_endings, item_marker, list_marker, list_items, rest_of, before_list, put_before, grouped_block}
 use Rattle.definition_block.specs.Lists.{group_items}
 use Rattle.definition_block.specs.GfmTable.{Cell, line_cells}

@@ -9,13 +9,11 @@ use Rattle.html_bytes.specs.Html.{marked_html}
 use Rattle.html_bytes.proofs.SamePage.{html_is}
 use Rattle.laws_safe_page.specs.SafeHtml.{AreSafe, HasOneReading}
 use Rattle.laws_safe_page.proofs.SafeHtml.{safe_page_law}
-use Rattle.laws_quote.specs.Quoted.{quote_lines}
 use Rattle.laws_quote_page.specs.Squeeze.{squeeze}
 use Rattle.laws_quote_page.proofs.Law.{quote_page_law}
 use Rattle.laws_list_page.proofs.Law.{list_page_law}
 use Rattle.laws_endings_page.proofs.Law.{ending_page_law}
 use Rattle.laws_escape.proofs.EscapedPage.{escaped_page_law}
-use Rattle.laws_inline.specs.Escaped.{with_backslashes}
 use Rattle.markdown.specs.PageLaws.{QuotesPage, SaysEscapedLine, EndsPage, ListsPage}
 
 pub marked_page : (tables : TextTables) (options : Options) (text : List ℕ) (before : Kind) (rest page : List ℕ)

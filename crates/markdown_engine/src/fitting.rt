@@ -1,5 +1,5 @@
 //! Whether events are such that the chains of their chunks can be read.
-ghost use Rattle.std.specs.Prelude.{◌≡◌, ◌≤◌, ◌+◌, ◌++◌, ◌↔◌, IfOk, IsTrue, List, MatchOption, ℕ, length};
+ghost use Rattle.std.specs.Prelude.{◌≤◌, ◌+◌, ◌++◌, ◌↔◌, IfOk, IsTrue, List, MatchOption, ℕ, length};
 ghost use Rattle.std.specs.Option.{option_copied};
 ghost use Rattle.markdown_engine.specs.Chains.{AreApart, ArePlaces, IsPlace, chains, chunks_of};
 

@@ -4,7 +4,6 @@ use Rattle.std.proofs.lemmas.Bool.{le-ltb}
 use Rattle.std.proofs.lemmas.List.{take_all, drop_all, length-map}
 use Rattle.std.proofs.Math.Dec.{eqb-suc-zero}
 use Rattle.engine_events.specs.declared.event.Event.{Event}
-use Rattle.engine_events.specs.declared.event.Kind.{Kind}
 use Rattle.engine_events.specs.declared.event.Kind.TheVariants.{Enter, Exit}
 use Rattle.engine_events.specs.declared.event.Link.{Link}
 use Rattle.engine_events.specs.declared.event.Name.{Name as EventName}
@@ -16,7 +15,7 @@ use Rattle.engine_events.specs.Events.{event, link_of, point_of}
 use Rattle.engine_edits.specs.Edits.{EditAt, edit_at, with_edit}
 use Rattle.engine_edits.specs.Replacement.{IsOrdered, Places, events_after, places, with_new_links, with_link_as, replacement}
 use Rattle.markdown_engine.specs.Laws.{LawfulAt}
-use Rattle.markdown_engine.specs.Order.{AreWhole, InOrder, IsNested, MayStand, Reaches, open_after, opened_by, text_start}
+use Rattle.markdown_engine.specs.Order.{AreWhole, InOrder, IsNested, Reaches, open_after, text_start}
 use Rattle.markdown_engine.specs.OrderLaws.{from_start, handed_tidy, nested_append, nested_in, opened_append, order_more, stays}
 use Rattle.markdown_engine.specs.Reading.{Config, at_point}
 use Rattle.markdown_engine.specs.Resolving.{ResolvesAt}

@@ -8,7 +8,7 @@ ghost use Rattle.markdown_options.specs.Messages.{IsOutOfMemory};
 ghost use Rattle.markdown_engine.specs.Machine.{Answers, AreCuts, config};
 ghost use Rattle.engine_events.specs.declared.event.Name.TheVariants as names;
 ghost use Rattle.markdown_engine.specs.Order.{IsInnermost, IsBalanced, AreInOrder};
-ghost use Rattle.tests_engine.specs.Brackets.{IsBracketsReading, items, rest, group, close, part, Part, Items, Group, Close, Rest, brackets_step};
+ghost use Rattle.tests_engine.specs.Brackets.{IsBracketsReading, items, rest, group, close, part, brackets_step};
 ghost use Rattle.tests_engine.specs.Brackets.{brackets_valid, brackets_rank};
 ghost use Rattle.markdown_engine.specs.Context.{context};
 ghost use Rattle.markdown_engine.specs.Resolving.{HoldsUnresolved, resolves_nothing, settles_whole};

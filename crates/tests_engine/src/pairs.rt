@@ -8,8 +8,8 @@ ghost use Rattle.engine_events.specs.declared.event.Name.TheVariants as names;
 ghost use Rattle.markdown_engine.specs.Order.{AreInOrder, IsBalanced, IsInnermost};
 ghost use Rattle.markdown_engine.specs.Resolving.{HoldsUnresolved, resolves_nothing, settles_whole};
 ghost use Rattle.tests_engine.specs.declared.pairs.Pairs.{Pairs};
-ghost use Rattle.tests_engine.specs.Pairs.{items, first, second, single, pair, close, part, Part, Items, First, Second, Single, Pair};
-ghost use Rattle.tests_engine.specs.Pairs.{Close, IsPairsReading, pairs_rank, pairs_step, pairs_valid};
+ghost use Rattle.tests_engine.specs.Pairs.{items, first, second, single, pair, close, part};
+ghost use Rattle.tests_engine.specs.Pairs.{IsPairsReading, pairs_rank, pairs_step, pairs_valid};
 ghost use Rattle.tests_engine.specs.PairsLaws.{pairs_lawful, pairs_resolves};
 
 use crate::readings::read_at_once;

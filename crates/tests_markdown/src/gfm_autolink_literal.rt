@@ -1,5 +1,4 @@
 //! Links with no brackets (GFM 6.9): texts and their HTML.
-ghost use Rattle.std.specs.Prelude.{◌≡◌};
 
 use crate::joined::assert_no_fault;
 use markdown::{Options, RunError};

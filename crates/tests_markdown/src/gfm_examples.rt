@@ -1,6 +1,5 @@
 //! The examples of GFM for what CommonMark lacks: texts and their HTML.
 ghost use Rattle.markdown_options.specs.Mdx.{HasNoMdx};
-ghost use Rattle.std.specs.Prelude.{◌≡◌};
 
 use crate::joined::assert_no_fault;
 use markdown::{Options, RunError};

@@ -1,5 +1,4 @@
 //! Options of footnotes: prefixes, labels, the heading (in neither standard; as GitHub does): texts and their HTML.
-ghost use Rattle.std.specs.Prelude.{◌≡◌};
 
 use crate::joined::assert_no_fault;
 use markdown::{Options, RunError};

@@ -1,5 +1,4 @@
 //! Calls of footnotes, their numbers and the section (in neither standard; as GitHub does): texts and their HTML.
-ghost use Rattle.std.specs.Prelude.{◌≡◌};
 
 use crate::joined::assert_no_fault;
 use markdown::{Options, RunError};

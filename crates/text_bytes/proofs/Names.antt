@@ -1,5 +1,5 @@
 -- Names that are the same but for their case have as many bytes.
-use Rattle.std.proofs.Common.{◌≡◌, ℕ, ◌<◌, ◌≤◌, Bool, true, false, ◌&&◌, List, [], ◌∷◌, map, refl, sym, ap, ◌∙◌, length, arith, inl, inr}
+use Rattle.std.proofs.Common.{◌≡◌, ℕ, ◌<◌, true, false, List, [], ◌∷◌, refl, sym, ap, ◌∙◌, length, arith, inl, inr}
 use Rattle.std.specs.Prelude.{nat_le}
 use Rattle.std.specs.List.{list_all, list_any}
 use Rattle.std.specs.Char.{to_ascii_lowercase}

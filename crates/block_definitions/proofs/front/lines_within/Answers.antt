@@ -1,4 +1,4 @@
-use Rattle.std.proofs.Common.{◌≡◌, suc, take, None, [], ap, arith, inl, inr}
+use Rattle.std.proofs.Common.{◌≡◌, suc, take, ap, arith, inl, inr}
 use Rattle.std.proofs.lemmas.Bool.{cases_lt}
 use Rattle.block_rows.specs.Rows.{piece_lines}
 use Rattle.block_rows.proofs.RowSteps.{no_piece}

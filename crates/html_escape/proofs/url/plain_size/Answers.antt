@@ -1,4 +1,4 @@
-use Rattle.std.proofs.Common.{◌≤◌, length, not, refl, ◌∙◌, arith}
+use Rattle.std.proofs.Common.{not, refl, ◌∙◌, arith}
 use Rattle.std.proofs.lemmas.List.Sums.{prefix_len-le-length}
 use Rattle.text_search.specs.Classes.{is_outside}
 use Rattle.text_search.proofs.Sets.{run_by}

@@ -1,4 +1,4 @@
-use Rattle.std.proofs.Common.{◌≡◌, ◌++◌, ℕ, string_bytes, ◌-◌, ◌≤◌, ◌<◌, get_or, length, take, drop}
+use Rattle.std.proofs.Common.{ℕ, string_bytes, ◌-◌, ◌≤◌, ◌<◌, get_or, length}
 use Rattle.definition_page.specs.Urls.{sanitize}
 use Rattle.html_escape.proofs.Waiting.{IsPrintedAt}
 use Rattle.html_escape.proofs.url.push_sanitized.Given as goal

@@ -1,4 +1,4 @@
-use Rattle.std.proofs.Common.{◌≡◌, false, leb, length, sym, ◌∙◌}
+use Rattle.std.proofs.Common.{false, length, sym, ◌∙◌}
 use Rattle.std.proofs.lemmas.Bool.{lt-leb}
 use Rattle.text_bytes.proofs.Names.{none_longer}
 use Rattle.text_bytes.proofs.bytes.is_short_one_of.Goals as goal

@@ -5,7 +5,7 @@ use Rattle.definition_inline.specs.Inline.{Data}
 use Rattle.definition_inline.specs.LabelEnd.{Leads, Calls}
 use Rattle.inline_label_ends.specs.declared.gfm_label_start_footnote.LabelForm.{LabelForm}
 use Rattle.definition_inline.specs.Scan as scan
-use Rattle.definition_inline.specs.Scan.{read_tokens, start_bytes}
+use Rattle.definition_inline.specs.Scan.{read_tokens}
 use Rattle.definition_inline.specs.Spans.{Item}
 use Rattle.definition_page.specs.InlinePieces.{leads_to}
 use Rattle.definition_page.specs.Targets.{linked_at, linked_by, labels_of}

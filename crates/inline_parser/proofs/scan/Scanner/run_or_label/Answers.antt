@@ -1,6 +1,6 @@
 use Rattle.std.proofs.Common.{[], ◌∷◌, ap, ◌∙◌}
 use Rattle.definition_inline.specs.Scan as scan
-use Rattle.definition_inline.specs.Scan.{read_tokens, start_bytes}
+use Rattle.definition_inline.specs.Scan.{read_tokens}
 use Rattle.definition_inline.specs.Spans.{Delimiters}
 use Rattle.definition_page.specs.InlinePieces.{leads_to}
 use Rattle.definition_page.specs.Targets.{linked_at, linked_by}
