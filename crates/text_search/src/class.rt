@@ -1,5 +1,5 @@
 //! Classes of bytes.
-ghost use Rattle.std.specs.Prelude.{◌≡◌, ◌%◌, ◌/◌, map, slice_index};
+ghost use Rattle.std.specs.Prelude.{◌≡◌, ◌/◌, map, slice_index};
 ghost use Rattle.std.specs.List.{position_or_len};
 ghost use Rattle.text_search.specs.Classes.{is_outside};
 

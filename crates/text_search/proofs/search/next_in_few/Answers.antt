@@ -6,7 +6,10 @@ use Rattle.text_search.proofs.search.next_in_few.Goals as goal
 pub overflow_add-result : goal.overflow_add-result
 overflow_add-result g c =
     let run = c.lanes_before-run.ensures ∙ ap (prefix_len (λ byte. not (g.T.ByteTest.passes c.args.test byte))) c.ends.ensures in
-    omega (arith, within (g.T.ByteTest.passes c.args.test) c.args.bytes.now c.lanes_before-run.result c.if-bytes-lt-END_SIZE.false (omega (arith, c.requires)) run, c.requires)
+    let inside =
+    within (g.T.ByteTest.passes c.args.test) c.args.bytes.now c.lanes_before-run.result c.if-bytes-lt-END_SIZE.false
+    (omega (arith, c.requires)) run in
+    omega (arith, inside, c.requires)
 
 pub returns-then-run-lt-END_SIZE : goal.returns-then-run-lt-END_SIZE
 returns-then-run-lt-END_SIZE g c =

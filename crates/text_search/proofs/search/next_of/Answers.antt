@@ -15,7 +15,8 @@ pub returns : goal.returns
 returns g c =
     let run = c.run_in.ensures in
     let last = c.if-bytes-lt-LANES.false in
-    sym (position_or_len_is (g.T.ByteTest.passes c.args.test) c.args.bytes.now (length c.args.bytes.now - 16 + c.run_in.result) 0 (omega (arith, run.within, last))
+    sym (position_or_len_is (g.T.ByteTest.passes c.args.test) c.args.bytes.now (length c.args.bytes.now - 16 + c.run_in.result) 0
+    (omega (arith, run.within, last))
     (λ k below. elim (cases_lt k c.by_block.at) [
       | inl early ↦ c.by_block.invariant.1 k early
       | inr late ↦ run.passed k
