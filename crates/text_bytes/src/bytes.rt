@@ -27,7 +27,7 @@ pub fn is_blank(bytes: &[u8]) -> bool
 }
 
 /// Whether two texts are the same but for the case of ASCII letters.
-pub fn same_caselessly(one: &[u8], other: &[u8]) -> bool
+fn same_caselessly(one: &[u8], other: &[u8]) -> bool
     ensures { result ≡ same_caselessly one.now other.now }
 {
     one.eq_ignore_ascii_case(other)
