@@ -5,7 +5,6 @@
 //!     delimiters ::= a line, with a bar or a colon, whose cells are white* ':'? '-'+ ':'? white*
 ghost use Rattle.std.specs.Prelude.{◌≡◌, ◌==◌, ◌∷◌, [], None, false, length, OnOk, unwrap_or};
 ghost use Rattle.std.specs.List.{list_any};
-ghost use Rattle.definition_text.specs.Content.{may_escape as escapes_next};
 ghost use Rattle.definition_text.specs.declared.beside.Kind.TheVariants.{Whitespace};
 ghost use Rattle.definition_text.specs.Columns.{is_blank as are_white, trim};
 ghost use Rattle.definition_block.specs.GfmTable as spec;
@@ -16,7 +15,7 @@ use block_rows::Piece;
 use definition_block::AlignKind;
 use definition_text::Kind;
 use std::alloc::{AllocError, Allocator};
-use text_bytes::{is_blank, split_run, white_size};
+use text_bytes::{is_blank, may_escape, split_run, white_size};
 use text_lines::trim;
 use text_search::{BytePair, next_of};
 
@@ -149,12 +148,6 @@ fn is_bar(escaped: bool, byte: u8) -> bool
     ensures { result ≡ spec.is_bar escaped byte }
 {
     byte == b'|' && !escaped
-}
-
-fn may_escape(escaped: bool, byte: u8) -> bool
-    ensures { result ≡ escapes_next escaped byte }
-{
-    byte == b'\\' && !escaped
 }
 
 fn is_blank_part(part: Cell<'_>) -> bool

@@ -9,13 +9,12 @@ ghost use Rattle.definition_block.specs.ListItem.{is_digit};
 ghost use Rattle.definition_block.specs.ThematicBreak.{is_break_text};
 ghost use Rattle.block_starts.specs.Marks.{NoMark, begins_container, begins_with_bracket, is_mark, may_start};
 ghost use Rattle.block_starts.specs.Widths.{width};
-ghost use Rattle.definition_text.specs.Content.{may_escape};
 ghost use Rattle.definition_inline.specs.Label.{ends_label};
 ghost use Rattle.block_starts.specs.Labels.{NoLabel, IsLabelBefore, label_len};
 ghost use Rattle.block_starts.specs.ThematicBreak.{BreaksWithin};
 
 use crate::thematic_break::break_tail;
-use text_bytes::{is_space, is_space_or_tab};
+use text_bytes::{is_space, is_space_or_tab, may_escape};
 
 /// The rest of a line.
 #[derive(Clone, Copy)]
@@ -294,13 +293,6 @@ fn ends_label(escaped: bool, byte: u8) -> bool
     ensures { result ≡ ends_label escaped byte }
 {
     (byte == b'[' || byte == b']') && !escaped
-}
-
-/// Whether a byte is a backslash that may escape the next one.
-fn may_escape(escaped: bool, byte: u8) -> bool
-    ensures { result ≡ may_escape escaped byte }
-{
-    byte == b'\\' && !escaped
 }
 
 /// Whether the marker of a quote or an item may begin with a byte.

@@ -3,7 +3,7 @@ ghost use Rattle.std.specs.Prelude.{◌≡◌, length, nat_le, true};
 ghost use Rattle.std.specs.List.{list_all, list_any};
 ghost use Rattle.definition_text.specs.Bytes.{same_caselessly, holds, without_slash};
 ghost use Rattle.definition_text.specs.Columns.{is_white, is_blank};
-ghost use Rattle.definition_text.specs.Content.{is_space};
+ghost use Rattle.definition_text.specs.Content.{is_space, may_escape};
 
 /// A space or a tab (CommonMark 2.1).
 pub fn is_space_or_tab(byte: u8) -> bool
@@ -24,6 +24,14 @@ pub fn is_blank(bytes: &[u8]) -> bool
     ensures { result ≡ is_blank bytes.now }
 {
     bytes.iter().all(|b| is_space_or_tab(*b))
+}
+
+/// Whether a byte is a backslash that may escape the next one. `escaped` says that it is escaped
+/// itself.
+pub fn may_escape(escaped: bool, byte: u8) -> bool
+    ensures { result ≡ may_escape escaped byte }
+{
+    byte == b'\\' && !escaped
 }
 
 /// Whether two texts are the same but for the case of ASCII letters.
