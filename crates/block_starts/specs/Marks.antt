@@ -1,4 +1,4 @@
--- The bytes that a container's marker may begin with.
+-- The bytes of a container's marker, and those that it may begin with.
 use Rattle.std.specs.Prelude.{◌≡◌, ℕ, Bool, false, ◌==◌, ◌||◌, ◌&&◌, List, [], ◌∷◌}
 use Rattle.definition_text.specs.Ascii.{right_parenthesis, asterisk, plus, hyphen, dot, colon, greater_than, left_bracket, caret}
 use Rattle.definition_block.specs.ListItem.{is_digit}

@@ -8,7 +8,7 @@ ghost use Rattle.definition_block.specs.BlockQuote.{after_byte as rest_after};
 ghost use Rattle.definition_block.specs.GfmFootnoteDefinition as spec;
 ghost use Rattle.block_starts.specs.Labels.{is_short};
 ghost use Rattle.block_starts.specs.Marks.{footnote_may_start, is_mark};
-ghost use Rattle.block_starts.specs.GfmFootnoteDefinition.{mark_if};
+ghost use Rattle.block_starts.specs.GfmFootnoteDefinition.{footnote_marker_if};
 ghost use Rattle.block_starts.specs.View.{rest_of, rest_if, line_if, started_if};
 
 use crate::container_line::{ContainerLine, kind_before_content};
@@ -21,7 +21,7 @@ use markdown_options::constants::{LINK_REFERENCE_SIZE_MAX, TAB_SIZE};
 
 /// The marker of a footnote definition: its label, and the rest after its colon.
 #[derive(Clone, Copy)]
-pub(crate) struct Mark<'a> {
+pub(crate) struct FootnoteMarker<'a> {
     label: &'a str,
     rest: Cursor<'a>,
 }
@@ -61,18 +61,18 @@ fn marked_footnote<'a>(
     if !is_small(on, columns) {
         return None;
     }
-    let mark = footnote_mark(bare)?;
-    let (_, content) = mark.rest.split_bare();
+    let marker = footnote_marker(bare)?;
+    let (_, content) = marker.rest.split_bare();
     let line = ContainerLine {
         rest: content,
-        before: kind_before_content(mark.rest),
+        before: kind_before_content(marker.rest),
     };
-    Some((Container::Footnote(mark.label), line))
+    Some((Container::Footnote(marker.label), line))
 }
 
 /// The marker that a rest begins with.
-fn footnote_mark(rest: Cursor<'_>) -> Option<Mark<'_>>
-    ensures { mark_if result ≡ spec.footnote_mark (rest_of rest.entry) }
+fn footnote_marker(rest: Cursor<'_>) -> Option<FootnoteMarker<'_>>
+    ensures { footnote_marker_if result ≡ spec.footnote_mark (rest_of rest.entry) }
 {
     let bracket = after_byte(b'[', rest)?;
     let open = after_byte(b'^', bracket)?;
@@ -81,7 +81,7 @@ fn footnote_mark(rest: Cursor<'_>) -> Option<Mark<'_>>
         return None;
     }
     let rest = after_byte(b':', after)?;
-    Some(Mark { label, rest })
+    Some(FootnoteMarker { label, rest })
 }
 
 /// At least one byte, and at most 999.
