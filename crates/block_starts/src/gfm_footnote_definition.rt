@@ -1,7 +1,7 @@
 //! Footnote definitions (in neither standard).
 //!
 //!     start     ::= small_indent '[^' label ']:' white*
-//!     label     ::= ('\' ('[' | ']' | '\') | byte without brackets and white space){1,999}
+//!     label     ::= ('\' ('[' | ']' | '\') | byte without brackets and white space)+, of at most 999 bytes
 //!     continues ::= column_of_space{4}, or a blank rest
 ghost use Rattle.std.specs.Prelude.{◌≡◌, true};
 ghost use Rattle.definition_block.specs.BlockQuote.{after_byte as rest_after};
