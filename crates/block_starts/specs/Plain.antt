@@ -29,6 +29,6 @@ abbrev pub begins_plain : Constructs → List ℕ → Bool
 begins_plain on [] = false
 begins_plain on (b ∷ bs) = is_plain_byte on b
 
--- such a text after an indent that code can't have
+-- such a text after an indent of at most three columns
 abbrev pub is_plain : Constructs → Rest → Bool
 is_plain on rest = leb (indent rest) 3 && begins_plain on (bytes_of (bare rest))

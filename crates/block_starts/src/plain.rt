@@ -11,8 +11,8 @@ use markdown_options::Constructs;
 use markdown_options::constants::TAB_SIZE;
 use text_bytes::is_space_or_tab;
 
-/// Whether a rest is plain: it is no code by its indent, and no block but a paragraph begins with
-/// its first byte.
+/// Whether a rest is plain: an indent of at most three columns, and then a byte that is no white
+/// space and with which no block of CommonMark but a paragraph begins, nor an extension that is on.
 pub fn is_plain(on: &Constructs, rest: Cursor<'_>) -> bool
     ensures { result ≡ is_plain on.now (rest_of rest.entry) }
 {
