@@ -50,7 +50,7 @@ impl<'a> Cursor<'a> {
     }
 
     /// The same, where nothing will ask whether it may be a thematic break.
-    pub(crate) fn unbroken(content: &'a str) -> Cursor<'a>
+    pub(crate) fn without_breaks(content: &'a str) -> Cursor<'a>
         requires { length content.now < 2 ^ 61 }
         ensures { rest_of result ≡ whole content.now }
     {
@@ -78,7 +78,7 @@ impl<'a> Cursor<'a> {
     pub fn text(self) -> &'a str
         ensures { result.now ≡ bytes_of (rest_of self.entry) }
     {
-        plain(self.text)
+        bytes_only(self.text)
     }
 
     /// The columns left of a tab that a prefix ended in. In a block they stand before the bytes.
@@ -86,7 +86,7 @@ impl<'a> Cursor<'a> {
         ensures same { result ≡ prefix_len is_tab_column (rest_of self.entry) }
         ensures codes { block_codes (rest_of self.entry) ≡ replicate result tab_column ++ bytes_of (rest_of self.entry) }
     {
-        let _bytes = plain(self.text);
+        let _bytes = bytes_only(self.text);
         self.owed as u8
     }
 
@@ -134,7 +134,7 @@ impl<'a> Cursor<'a> {
         ensures same { result.now ≡ drop self.entry.white self.entry.text.now }
         ensures view { result.now ≡ bytes_of (bare (rest_of self.entry)) }
     {
-        plain(without_white(self.text, self.white))
+        bytes_only(without_white(self.text, self.white))
     }
 
     /// The rest after its spaces and tabs.
@@ -243,7 +243,7 @@ impl<'a> Cursor<'a> {
 }
 
 /// A text: its bytes are below 256, and so no columns of a tab.
-fn plain(text: &str) -> &str
+fn bytes_only(text: &str) -> &str
     ensures same { result.now ≡ text.now }
     ensures bytes { (k : ℕ) → slice_index text.now k < 256 }
 {

@@ -24,7 +24,7 @@ pub fn is_plain_line(on: &Constructs, content: &str) -> bool
     requires { length content.now < 2 ^ 61 }
     ensures { result ≡ is_plain on.now (whole content.now) }
 {
-    is_plain(on, Cursor::unbroken(content))
+    is_plain(on, Cursor::without_breaks(content))
 }
 
 fn begins_plain(on: &Constructs, text: &[u8]) -> bool

@@ -12,7 +12,7 @@ returns-clause-view c =
     let t = s.text.now in
     let after = s.column + indent (codes_from s.column t) in
     let front = c.without_white.ensures ∙ ap (λ n. drop n t) s.front in
-    c.plain.ensures.same
-    ∙ sym (bytes_of_codes after c.without_white.result.now c.plain.ensures.bytes)
+    c.bytes_only.ensures.same
+    ∙ sym (bytes_of_codes after c.without_white.result.now c.bytes_only.ensures.bytes)
     ∙ ap (λ bytes. bytes_of (codes_from after bytes)) front
     ∙ sym (ap bytes_of (bare_view s.owed s.column t))
