@@ -1,7 +1,7 @@
 //! The rest of a line, by columns (CommonMark 2.2).
 //!
 //!     rest ::= column_of_a_tab* byte*
-ghost use Rattle.std.specs.Prelude.{◌≡◌, ◌+◌, ◌*◌, ◌/◌, ◌^◌, ◌<◌, ◌≤◌, ◌∷◌, ◌++◌, false, length, replicate, take, drop, slice_index, MatchOption, ℕ};
+ghost use Rattle.std.specs.Prelude.{◌≡◌, ◌+◌, ◌*◌, ◌^◌, ◌<◌, ◌≤◌, ◌∷◌, ◌++◌, false, length, replicate, take, drop, slice_index, MatchOption, ℕ};
 ghost use Rattle.std.specs.List.{prefix_len};
 ghost use Rattle.definition_text.specs.Columns.{whole, codes_from, indent, bare, bytes_of, block_codes, is_blank, is_tab_column, tab_column, is_white};
 ghost use Rattle.definition_text.specs.Indents.{outdent};
