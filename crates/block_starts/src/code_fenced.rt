@@ -17,7 +17,7 @@ use text_bytes::{is_run, is_space_or_tab, lacks, split_run};
 use text_lines::trim;
 
 /// An opening fence.
-#[derive(Clone, Copy, Debug, PartialEq, Eq)]
+#[derive(Clone, Copy)]
 pub struct Fence<'a> {
     /// A backtick, a tilde or, where it is math, a dollar.
     pub byte: u8,

@@ -14,7 +14,7 @@ use text_bytes::{is_space_or_tab, split_run};
 use text_lines::trim;
 
 /// A heading on one line.
-#[derive(Clone, Copy, Debug, PartialEq, Eq)]
+#[derive(Clone, Copy)]
 pub struct Atx<'a> {
     /// From 1 to 6.
     pub rank: u8,

@@ -25,7 +25,7 @@ const GREATER_THAN: BytePair = BytePair {
 };
 
 /// The kinds of HTML blocks, in the order of CommonMark 4.6.
-#[derive(Clone, Copy, Debug, PartialEq, Eq)]
+#[derive(Clone, Copy)]
 pub enum HtmlKind {
     /// `pre`, `script`, `style` or `textarea`, up to a closing tag of one of these.
     Raw,
