@@ -11,7 +11,7 @@ use crate::indent::is_small;
 use markdown_options::Constructs;
 
 /// What is left after the prefix of a quote, with which it starts and goes on.
-pub fn quote_prefix<'a>(on: &Constructs, rest: Cursor<'a>) -> Option<ContainerLine<'a>>
+pub(crate) fn quote_prefix<'a>(on: &Constructs, rest: Cursor<'a>) -> Option<ContainerLine<'a>>
     ensures { line_if result ≡ after_quote_prefix on.now (rest_of rest.entry) }
 {
     let (columns, bare) = rest.split_bare();

@@ -209,14 +209,14 @@ fn begins_with_raw_end(bytes: &[u8]) -> bool
 }
 
 /// Whether a name is `pre`, `script`, `style` or `textarea`, in whatever case.
-pub fn is_raw_name(name: &[u8]) -> bool
+fn is_raw_name(name: &[u8]) -> bool
     ensures { result ≡ is_raw_name name.now }
 {
     is_short_one_of(&HTML_RAW_NAMES, HTML_RAW_SIZE_MAX, name)
 }
 
 /// Whether a name is one of those of kind 6, in whatever case.
-pub fn is_block_name(name: &[u8]) -> bool
+fn is_block_name(name: &[u8]) -> bool
     ensures { result ≡ is_block_name name.now }
 {
     is_one_of(&HTML_BLOCK_NAMES, name)

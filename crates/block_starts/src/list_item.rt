@@ -31,7 +31,7 @@ struct Marker<'a> {
 
 /// The item that starts here, and what it leaves of the line. `interrupts` says that it would
 /// interrupt a paragraph.
-pub fn item_start<'a>(
+pub(crate) fn item_start<'a>(
     on: &Constructs,
     interrupts: bool,
     rest: Cursor<'a>,
@@ -181,7 +181,7 @@ fn gap(after: Cursor<'_>) -> usize
 
 /// What is left after an item's columns, where it goes on. `began_blank` says that it began with a
 /// blank rest on the line before.
-pub fn item_continues<'a>(
+pub(crate) fn item_continues<'a>(
     size: usize,
     began_blank: bool,
     rest: Cursor<'a>,
