@@ -1,8 +1,8 @@
-pub mod White
-pub mod Views
-pub mod ThematicBreakLemmas
+mod White
+mod Views
+mod ThematicBreakLemmas
 pub mod MarkLemmas
-pub mod ContainerLemmas
+mod ContainerLemmas
 pub mod PlainLemmas
 mod LabelLemmas
 mod HtmlEnds
