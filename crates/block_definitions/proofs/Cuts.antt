@@ -56,7 +56,8 @@ left_after content ls at first end k h =
       same = k.same ∙ ap (λ (x : DefinitionCut). x.left) (cut_one (drop at content) (drop first ls) end h) ∙ ap (λ x. (cut_all x).left) lines;
     }
 
-left_if : (n len : ℕ) (ls : List BlockLine) → n + length ls ≡ len → ltb n len ≡ is_some_line ls
+-- there are lines left where fewer than all come before
+pub left_if : (n len : ℕ) (ls : List BlockLine) → n + length ls ≡ len → ltb n len ≡ is_some_line ls
 left_if n len [] h = le-ltb n len (omega (arith, h))
 left_if n len (line ∷ others) h = lt-ltb n len (omega (arith, h))
 
