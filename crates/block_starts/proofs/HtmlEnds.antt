@@ -1,9 +1,9 @@
 -- A line without a `>` ends no HTML block but one that ends before a blank line.
-use Rattle.std.proofs.Common.{◌≡◌, ℕ, zero, suc, ◌+◌, Bool, true, false, cond, not, ◌&&◌, ◌||◌, List, [], ◌∷◌, ◌++◌, length, drop, refl, ap, ◌∙◌, arith}
+use Rattle.std.proofs.Common.{◌≡◌, ℕ, zero, suc, ◌+◌, Bool, true, false, cond, not, ◌||◌, List, [], ◌∷◌, ◌++◌, length, drop, refl, ap, ◌∙◌, arith}
 use Rattle.std.proofs.Common.{nat_lt}
 use Rattle.std.specs.Prelude.{◌==◌, codes}
 use Rattle.std.specs.List.{list_any, position_or_len}
-use Rattle.std.proofs.lemmas.Bool.{le-ltb, lt-ltb, ltb-false, ltb-true, ne_eqb, or_parts, or_from}
+use Rattle.std.proofs.lemmas.Bool.{le-ltb, lt-ltb, ltb-false, ltb-true, ne_eqb, and_left, and_right, or_parts, or_from}
 use Rattle.definition_text.specs.Bytes.{begins_with, somewhere}
 use Rattle.definition_block.specs.HtmlFlow.{after_element_name, begins_with_raw_end, html_ends, element_name}
 use Rattle.definition_block.specs.HtmlNames.{is_raw_name}
@@ -23,13 +23,6 @@ place_step false place size later h = moved place size later h
 pub any_place : (p : ℕ → Bool) (xs : List ℕ) → nat_lt (position_or_len p xs) (length xs) ≡ list_any p xs
 any_place p [] = refl
 any_place p (x ∷ xs) = place_step (p x) (position_or_len p xs) (length xs) (list_any p xs) (any_place p xs)
-
-no_and : (a b : Bool) → a ≡ false → (a && b) ≡ false
-no_and a b h = ap (λ x. x && b) h
-
-and_no : (a b : Bool) → b ≡ false → (a && b) ≡ false
-and_no true b h = h
-and_no false b h = refl
 
 swapped : (b : ℕ) → (b == 62) ≡ false → (62 == b) ≡ false
 swapped b h = ne_eqb 62 b (λ e. let wrong : true ≡ false = ap (λ n. n == 62) e ∙ h in cc)
@@ -52,14 +45,14 @@ nowhere test none (x ∷ xs) h = or_from (test (x ∷ xs)) _ (none (x ∷ xs) h)
 
 no_ending : (ts xs : List ℕ) → IsWithout xs → begins_with (ts ++ 62 ∷ []) xs ≡ false
 no_ending [] [] h = refl
-no_ending [] (x ∷ xs) h = no_and (62 == x) _ (swapped x (or_parts (is_greater_than x) _ h).0)
+no_ending [] (x ∷ xs) h = and_left (62 == x) _ (swapped x (or_parts (is_greater_than x) _ h).0)
 no_ending (t ∷ ts) [] h = refl
-no_ending (t ∷ ts) (x ∷ xs) h = and_no (t == x) _ (no_ending ts xs (later x xs h))
+no_ending (t ∷ ts) (x ∷ xs) h = and_right (t == x) _ (no_ending ts xs (later x xs h))
 
 raw_end : (xs : List ℕ) → IsWithout xs → begins_with_raw_end xs ≡ false
 raw_end xs h =
-    and_no (begins_with (codes "</") xs) _
-    (and_no (is_raw_name (element_name (drop 2 xs))) _
+    and_right (begins_with (codes "</") xs) _
+    (and_right (is_raw_name (element_name (drop 2 xs))) _
     (no_ending [] (after_element_name (drop 2 xs)) (without_drop _ (drop 2 xs) (without_drop 2 xs h))))
 
 pub no_end : (kind : HtmlKind) (xs : List ℕ) → IsWithout xs → html_ends (number_of kind) xs ≡ false

@@ -1,13 +1,13 @@
 -- Where the label of a footnote definition ends.
-use Rattle.std.proofs.Common.{◌≡◌, ℕ, zero, ◌+◌, ◌-◌, ◌<◌, ◌≤◌, ◌≢◌, suc, Bool, if◌then◌else◌, ◌==◌, true, false, ◌&&◌, ◌||◌, not, List, [], ◌∷◌, ◌++◌, Option}
+use Rattle.std.proofs.Common.{◌≡◌, ℕ, zero, ◌+◌, ◌-◌, ◌<◌, suc, Bool, if◌then◌else◌, ◌==◌, true, false, ◌&&◌, ◌||◌, not, List, [], ◌∷◌, ◌++◌, Option}
 use Rattle.std.proofs.Common.{None, Some, inl, inr, eqb, refl, sym, ap, ◌∙◌, length, get_or, take, drop, arith, nat_le, subst}
 use Rattle.std.specs.List.{list_any}
 use Rattle.std.specs.Option.{option_map}
-use Rattle.std.proofs.lemmas.Bool.{cases_Bool, cond-true, cond-false, eqb-true, eq-eqb, ne_eqb, or_parts, or_from}
-use Rattle.std.proofs.lemmas.List.{take_at, length-append, drop_more, drop_all}
+use Rattle.std.proofs.lemmas.Bool.{cases_Bool, cond-true, cond-false, eqb-true, ne_eqb, or_parts, or_from}
 use Rattle.definition_text.specs.Columns.{Rest, codes_from, is_white}
 use Rattle.definition_text.specs.Content.{part, is_eol, is_space, may_escape, text_before, closed_by}
 use Rattle.definition_inline.specs.Label.{ends_label, label_end, has_text, label_size, is_label}
+use Rattle.definition_inline.proofs.DefinitionParts.{before_rest}
 use Rattle.definition_block.specs.BlockQuote.{after_byte}
 use Rattle.definition_block.specs.GfmFootnoteDefinition.{is_footnote_label, label_before, with_colon}
 use Rattle.block_starts.proofs.Views.{view}
@@ -51,12 +51,6 @@ short_label text h =
     and_true : (x : Bool) → (x && true) ≡ x
     and_true true = refl
     and_true false = refl
-
--- what stands before the rest of a list
-before-append : (front rest : List ℕ) → text_before (front ++ rest) rest ≡ front
-before-append front rest =
-    let n : length (front ++ rest) - length rest ≡ length front = omega (arith, length-append front rest) in
-    ap (λ k. take k (front ++ rest)) n ∙ take_at front rest (length front) refl
 
 -- ---- a label that is found
 
@@ -138,7 +132,7 @@ is_label_before column bs n f =
     let after = codes_from (column + n + 1) (drop (n + 1) bs) in
     ap (λ o. with_colon (closed_by (codes_from column bs) o)) f.closes
     ∙ ap (λ x. with_colon (Some (part (text_before x (93 ∷ after)) after))) f.parts
-    ∙ ap (λ x. with_colon (Some (part x after))) (before-append text (93 ∷ after))
+    ∙ ap (λ x. with_colon (Some (part x after))) (before_rest text (93 ∷ after))
     ∙ ap (λ x. if x then label_before text (after_byte 58 after) else None) (short_label text f.dark)
 
 -- ---- a label that isn't there
@@ -211,7 +205,7 @@ no_label_at : (rest : Rest) (o : Option Rest) → ((r : Rest) → o ≡ Some r �
 no_label_at rest None h = refl
 no_label_at rest (Some r) h =
     let front = h r refl in
-    let text : text_before rest r ≡ front.0 = ap (λ x. text_before x r) front.1 ∙ before-append front.0 r in
+    let text : text_before rest r ≡ front.0 = ap (λ x. text_before x r) front.1 ∙ before_rest front.0 r in
     let none : is_footnote_label (text_before rest r) ≡ false =
     ap is_footnote_label text ∙ ap (λ x. is_label front.0 && not x) front.2 ∙ and_false (is_label front.0) in
     cond-false (is_footnote_label (text_before rest r)) _ _ none
@@ -223,55 +217,13 @@ no_label_at rest (Some r) h =
 pub no_label : (rest : Rest) → HasSpaceBefore false rest → NoLabel rest
 no_label rest h = no_label_at rest (label_end false rest) h
 
+-- columns left of a tab are white space
+pub no_label_owed : (owed column : ℕ) (bs : List ℕ) → 0 < owed → NoLabel (view owed column bs)
+no_label_owed zero column bs some = absurd (omega arith)
+no_label_owed (suc owed) column bs some = no_label (view (suc owed) column bs) (space_first false 256 (view owed column bs) refl)
+
 -- ---- byte by byte
 
 -- what is left of a search, from a byte on
 abbrev pub LabelFrom : List ℕ → ℕ → Bool → Type 0
 LabelFrom bs i escaped = label_len false bs ≡ option_map (λ n. i + n) (label_len escaped (drop i bs))
-
-pub from_start : (bs : List ℕ) → LabelFrom bs 0 false
-from_start bs = same (label_len false bs)
-  where
-    same : (o : Option ℕ) → o ≡ option_map (λ n. 0 + n) o
-    same None = refl
-    same (Some n) = ap Some (omega arith)
-
-module _ (bs : List ℕ) (i : ℕ) (escaped : Bool) (lt : i < length bs) (h : LabelFrom bs i escaped) where
-  first : label_len false bs ≡ option_map (λ n. i + n) (label_len escaped (get_or bs i 0 ∷ drop (i + 1) bs))
-  first = h ∙ ap (λ x. option_map (λ n. i + n) (label_len escaped x)) (drop_more bs i 0 lt)
-
-  pub at_space : is_space (get_or bs i 0) ≡ true → None ≡ label_len false bs
-  at_space white = sym (first ∙ ap (option_map (λ n. i + n)) (cond-true (is_space (get_or bs i 0)) _ _ white))
-
-  module _ (dark : is_space (get_or bs i 0) ≡ false) where
-    second : label_len false bs ≡ option_map (λ n. i + n) (if ends_label escaped (get_or bs i 0) then (if get_or bs i 0 == 93 then Some 0 else None)
-        else option_map suc (label_len (may_escape escaped (get_or bs i 0)) (drop (i + 1) bs)))
-    second = first ∙ ap (option_map (λ n. i + n)) (cond-false (is_space (get_or bs i 0)) _ _ dark)
-
-    pub at_close : ends_label escaped (get_or bs i 0) ≡ true → get_or bs i 0 ≡ 93 → Some i ≡ label_len false bs
-    at_close ends is =
-        let same : i + 0 ≡ i = omega arith in
-        sym (second ∙ ap (option_map (λ n. i + n)) (cond-true (ends_label escaped (get_or bs i 0)) _ _ ends
-        ∙ cond-true (get_or bs i 0 == 93) _ _ (eq-eqb (get_or bs i 0) 93 is)) ∙ ap Some same)
-
-    pub at_open : ends_label escaped (get_or bs i 0) ≡ true → get_or bs i 0 ≢ 93 → None ≡ label_len false bs
-    at_open ends not =
-        sym (second ∙ ap (option_map (λ n. i + n)) (cond-true (ends_label escaped (get_or bs i 0)) _ _ ends
-        ∙ cond-false (get_or bs i 0 == 93) _ _ (ne_eqb (get_or bs i 0) 93 not)))
-
-    pub at_other : ends_label escaped (get_or bs i 0) ≡ false → LabelFrom bs (i + 1) (may_escape escaped (get_or bs i 0))
-    at_other other =
-        second ∙ ap (option_map (λ n. i + n)) (cond-false (ends_label escaped (get_or bs i 0)) _ _ other)
-        ∙ later (label_len (may_escape escaped (get_or bs i 0)) (drop (i + 1) bs))
-      where
-        later : (o : Option ℕ) → option_map (λ n. i + n) (option_map suc o) ≡ option_map (λ n. i + 1 + n) o
-        later None = refl
-        later (Some m) = ap Some (omega arith)
-
-pub at_end : (bs : List ℕ) (i : ℕ) (escaped : Bool) → length bs ≤ i → LabelFrom bs i escaped → None ≡ label_len false bs
-at_end bs i escaped le h = sym (h ∙ ap (λ x. option_map (λ n. i + n) (label_len escaped x)) (drop_all i bs le))
-
--- columns left of a tab are white space
-pub no_label_owed : (owed column : ℕ) (bs : List ℕ) → 0 < owed → NoLabel (view owed column bs)
-no_label_owed zero column bs some = absurd (omega arith)
-no_label_owed (suc owed) column bs some = no_label (view (suc owed) column bs) (space_first false 256 (view owed column bs) refl)

@@ -14,7 +14,7 @@ use Rattle.definition_block.specs.ThematicBreak.{is_break}
 use Rattle.definition_block.specs.ListItem.{is_digit, bullet, after_number, marker, item_after, item_start, is_inside}
 use Rattle.definition_block.specs.GfmFootnoteDefinition.{after_bracket, footnote_mark, footnote_of, footnote_start}
 use Rattle.definition_block.specs.Containers.{quote_or, footnote_or, starts}
-use Rattle.block_starts.specs.Marks.{NoMark, is_mark, begins_container, begins_with_bracket, container_may_start, footnote_may_start, may_start}
+use Rattle.block_starts.specs.Marks.{NoMark, is_mark, begins_with_bracket, container_may_start, footnote_may_start, may_start}
 
 -- ---- no marker
 
@@ -77,19 +77,6 @@ eight_digits n i lt le =
 
 -- ---- footnote definitions
 
-no_bracket : (c : ℕ) → begins_container c ≡ true → eqb c 91 ≡ false
-no_bracket c h = ne_eqb c 91 (λ e. let wrong : true ≡ false = sym h ∙ ap begins_container e in cc)
-
-no_footnote_mark : (rest : Rest) → may_start rest ≡ true → footnote_mark rest ≡ None
-no_footnote_mark [] h = refl
-no_footnote_mark (c ∷ cs) h = ap after_bracket (cond-false (eqb c 91) _ _ (no_bracket c h))
-
--- where a quote or an item may start, no footnote definition does
-pub no_footnote : (on : Constructs) (rest : Rest) → may_start (bare rest) ≡ true → footnote_start on rest ≡ None
-no_footnote on rest h =
-    cond_both (on.gfm_footnote_definition && small_indent on rest) (footnote_of (footnote_mark (bare rest))) None (λ o. o ≡ None)
-    (λ _. ap footnote_of (no_footnote_mark (bare rest) h)) (λ _. refl)
-
 other_start : (rest : Rest) → may_start rest ≡ false → (after_byte 62 rest ≡ None) × (marker rest ≡ None)
 other_start [] h = (refl, refl)
 other_start (c ∷ cs) h =
@@ -136,9 +123,3 @@ pub none_starts : (on : Constructs) (interrupts : Bool) (rest : Rest) → contai
 none_starts on interrupts rest h =
     let none = or_parts (may_start (bare rest)) (footnote_may_start on rest) h in
     sym (only_footnote on interrupts rest none.0) ∙ no_footnote_ahead on rest none.1
-
--- without a footnote definition a quote or an item starts
-pub no_footnote_starts : (on : Constructs) (interrupts : Bool) (rest : Rest) → may_start (bare rest) ≡ true
-    → quote_or (item_start on interrupts rest) (quote_prefix on rest) ≡ starts on interrupts rest
-no_footnote_starts on interrupts rest h =
-    ap (λ o. quote_or (footnote_or (item_start on interrupts rest) o) (quote_prefix on rest)) (sym (no_footnote on rest h))

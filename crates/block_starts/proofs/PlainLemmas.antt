@@ -3,7 +3,7 @@ use Rattle.std.proofs.Common.{inl, inr, ◌≡◌, ℕ, ◌+◌, ◌-◌, Bool, 
 use Rattle.std.proofs.Common.{length, drop, take, zero, suc, arith}
 use Rattle.std.specs.Prelude.{◌==◌, leb, codes}
 use Rattle.std.specs.List.{list_any, prefix_len, suffix_len}
-use Rattle.std.proofs.lemmas.Bool.{cases_Bool, cond-true, cond-false, cond_both, or_parts, or_from, ne_eqb, leb-true}
+use Rattle.std.proofs.lemmas.Bool.{cases_Bool, cond-true, cond-false, cond_both, and_left, and_right, or_parts, or_from, ne_eqb, leb-true}
 use Rattle.std.proofs.Math.ListN.{drop_of_length-le}
 use Rattle.markdown_options.specs.declared.configuration.Constructs.{Constructs}
 use Rattle.definition_text.specs.declared.beside.Kind.{Kind}
@@ -31,13 +31,6 @@ use Rattle.block_starts.specs.Plain.{begins_block, begins_extension, begins_stan
 use Rattle.block_starts.proofs.MarkLemmas.{only_footnote, indent_blank}
 
 -- ---- tests that fail
-
-no_and : (a b : Bool) → a ≡ false → (a && b) ≡ false
-no_and a b h = ap (λ x. x && b) h
-
-and_no : (a b : Bool) → b ≡ false → (a && b) ≡ false
-and_no true b h = h
-and_no false b h = refl
 
 unless : {A : Type 0} (b : Bool) (o : Option A) → o ≡ None → cond b o None ≡ None
 unless b o none = cond_both b o None (λ x. x ≡ None) (λ _. none) (λ _. refl)
@@ -130,19 +123,19 @@ module _ (on : Constructs) where
   plain_not_code r text small =
       elim (cases_Bool (leb 4 (indent r))) [
         | inl deep ↦ absurd (omega (arith, leb-true 4 (indent r) deep, leb-true (indent r) 3 small))
-        | inr near ↦ no_and _ _ (and_no on.code_indented (leb 4 (indent r)) near)
+        | inr near ↦ and_left _ _ (and_right on.code_indented (leb 4 (indent r)) near)
       ]
 
   no_fence_of : (columns : ℕ) (text : List ℕ) → begins_plain on text ≡ true → fence_of columns text ≡ None
   no_fence_of columns [] plain = let wrong : false ≡ true = plain in cc
   no_fence_of columns (b ∷ bs) plain =
-      cond-false _ _ _ (no_and (leb 3 (run 96 (b ∷ bs))) _ (ap (leb 3) (no_run 96 b bs plain refl)))
+      cond-false _ _ _ (and_left (leb 3 (run 96 (b ∷ bs))) _ (ap (leb 3) (no_run 96 b bs plain refl)))
       ∙ cond-false _ _ _ (ap (leb 3) (no_run 126 b bs plain refl))
 
   no_math_of : (columns : ℕ) (text : List ℕ) → on.math_flow ≡ true → begins_plain on text ≡ true → math_fence_of columns text ≡ None
   no_math_of columns [] math plain = let wrong : false ≡ true = plain in cc
   no_math_of columns (b ∷ bs) math plain =
-      cond-false _ _ _ (no_and (leb 2 (run 36 (b ∷ bs))) _ (ap (leb 2) (no_run 36 b bs plain (ap (λ m. not (m || false || false)) math))))
+      cond-false _ _ _ (and_left (leb 2 (run 36 (b ∷ bs))) _ (ap (leb 2) (no_run 36 b bs plain (ap (λ m. not (m || false || false)) math))))
 
   module _ (b : ℕ) (bs : List ℕ) (plain : is_plain_byte on b ≡ true) where
     abbrev here : List ℕ
@@ -152,26 +145,26 @@ module _ (on : Constructs) where
     no_angle = another b 60 plain refl
 
     no_opening : begins_with (codes "<") here ≡ false
-    no_opening = no_and (60 == b) _ no_angle
+    no_opening = and_left (60 == b) _ no_angle
 
     no_open_tag : open_tag here ≡ None
     no_open_tag = cond-false _ _ _ no_opening
 
     no_closing_tag : closing_tag here ≡ None
-    no_closing_tag = cond-false _ _ _ (no_and (60 == b) _ no_angle)
+    no_closing_tag = cond-false _ _ _ (and_left (60 == b) _ no_angle)
 
     no_complete : starts_complete here ≡ false
-    no_complete = or_from _ _ (no_and (stands_alone (open_tag here)) _ (ap stands_alone no_open_tag)) (ap stands_alone no_closing_tag)
+    no_complete = or_from _ _ (and_left (stands_alone (open_tag here)) _ (ap stands_alone no_open_tag)) (ap stands_alone no_closing_tag)
 
     no_kind_here : (paragraph : Bool) → html_kind paragraph here ≡ None
     no_kind_here paragraph =
-        cond-false (starts_raw here) _ _ (no_and (begins_with (codes "<") here) _ no_opening)
-        ∙ cond-false (begins_with (codes "<!--") here) _ _ (no_and (60 == b) _ no_angle)
-        ∙ cond-false (begins_with (codes "<?") here) _ _ (no_and (60 == b) _ no_angle)
-        ∙ cond-false (starts_declaration here) _ _ (no_and (begins_with (codes "<!") here) _ (no_and (60 == b) _ no_angle))
-        ∙ cond-false (begins_with (codes "<![CDATA[") here) _ _ (no_and (60 == b) _ no_angle)
-        ∙ cond-false (starts_basic here) _ _ (no_and (begins_with (codes "<") here) _ no_opening)
-        ∙ cond-false (not paragraph && starts_complete here) _ _ (and_no (not paragraph) _ no_complete)
+        cond-false (starts_raw here) _ _ (and_left (begins_with (codes "<") here) _ no_opening)
+        ∙ cond-false (begins_with (codes "<!--") here) _ _ (and_left (60 == b) _ no_angle)
+        ∙ cond-false (begins_with (codes "<?") here) _ _ (and_left (60 == b) _ no_angle)
+        ∙ cond-false (starts_declaration here) _ _ (and_left (begins_with (codes "<!") here) _ (and_left (60 == b) _ no_angle))
+        ∙ cond-false (begins_with (codes "<![CDATA[") here) _ _ (and_left (60 == b) _ no_angle)
+        ∙ cond-false (starts_basic here) _ _ (and_left (begins_with (codes "<") here) _ no_opening)
+        ∙ cond-false (not paragraph && starts_complete here) _ _ (and_right (not paragraph) _ no_complete)
 
   no_kind : (paragraph : Bool) (text : List ℕ) → begins_plain on text ≡ true → html_kind paragraph text ≡ None
   no_kind paragraph [] plain = let wrong : false ≡ true = plain in cc
@@ -179,18 +172,18 @@ module _ (on : Constructs) where
 
   no_rank : (text : List ℕ) → begins_plain on text ≡ true → atx_of text ≡ None
   no_rank [] plain = let wrong : false ≡ true = plain in cc
-  no_rank (b ∷ bs) plain = cond-false _ _ _ (no_and _ _ (no_and (leb 1 (run 35 (b ∷ bs))) _ (ap (leb 1) (no_run 35 b bs plain refl))))
+  no_rank (b ∷ bs) plain = cond-false _ _ _ (and_left _ _ (and_left (leb 1 (run 35 (b ∷ bs))) _ (ap (leb 1) (no_run 35 b bs plain refl))))
 
   no_underline_of : (text : List ℕ) → begins_plain on text ≡ true → underline_of text ≡ None
   no_underline_of [] plain = let wrong : false ≡ true = plain in cc
   no_underline_of (b ∷ bs) plain =
-      cond-false _ _ _ (no_and (leb 1 (run 61 (b ∷ bs))) _ (ap (leb 1) (no_run 61 b bs plain refl)))
-      ∙ cond-false _ _ _ (no_and (leb 1 (run 45 (b ∷ bs))) _ (ap (leb 1) (no_run 45 b bs plain refl)))
+      cond-false _ _ _ (and_left (leb 1 (run 61 (b ∷ bs))) _ (ap (leb 1) (no_run 61 b bs plain refl)))
+      ∙ cond-false _ _ _ (and_left (leb 1 (run 45 (b ∷ bs))) _ (ap (leb 1) (no_run 45 b bs plain refl)))
 
   no_break_text : (text : List ℕ) → begins_plain on text ≡ true → is_break_text text ≡ false
   no_break_text [] plain = let wrong : false ≡ true = plain in cc
   no_break_text (b ∷ bs) plain =
-      no_and ((b == 42) || (b == 45) || (b == 95)) _
+      and_left ((b == 42) || (b == 45) || (b == 95)) _
       (or_from ((b == 42) || (b == 45)) _ (or_from (b == 42) _ (other b 42 plain refl) (other b 45 plain refl)) (other b 95 plain refl))
 
   -- ---- rows of delimiters
@@ -205,7 +198,7 @@ module _ (on : Constructs) where
         front : (n : ℕ) → column_delimiter (take n (b ∷ bs)) ≡ None
         front zero = refl
         front (suc n) =
-            cond-false (begins_with (codes ":") (b ∷ take n bs)) _ _ (no_and (58 == b) _ (another b 58 plain (ap (λ t. not (t || false)) table)))
+            cond-false (begins_with (codes ":") (b ∷ take n bs)) _ _ (and_left (58 == b) _ (another b 58 plain (ap (λ t. not (t || false)) table)))
             ∙ cond-true (run 45 (b ∷ take n bs) == 0) _ _ (ap (λ k. k == 0) (no_run 45 b (take n bs) plain refl))
 
     -- nor is the first of some cells
@@ -216,7 +209,7 @@ module _ (on : Constructs) where
     without_last : (b : ℕ) (bs : List ℕ) (after : Kind) (others : List Cell) → is_plain_byte on b ≡ true
         → some_alignments (alignments_of (without_blank_last (cell (b ∷ bs) Whitespace after ∷ others))) ≡ None
     without_last b bs after [] plain =
-        ap (λ cs. some_alignments (alignments_of cs)) (cond-false (is_blank (b ∷ bs)) _ _ (no_and (is_white b) _ (no_white b plain)))
+        ap (λ cs. some_alignments (alignments_of cs)) (cond-false (is_blank (b ∷ bs)) _ _ (and_left (is_white b) _ (no_white b plain)))
         ∙ no_alignment b bs after [] plain
     without_last b bs after (c ∷ cs) plain = no_alignment b bs after (without_blank_last (c ∷ cs)) plain
 
@@ -224,13 +217,13 @@ module _ (on : Constructs) where
         → some_alignments (alignments_of (without_blank_last (without_blank_first (in_first_cell b Whitespace others)))) ≡ None
     in_first b [] plain = refl
     in_first b (c ∷ cs) plain =
-        let kept = cond-false (is_blank (b ∷ c.codes)) _ _ (no_and (is_white b) _ (no_white b plain)) in
+        let kept = cond-false (is_blank (b ∷ c.codes)) _ _ (and_left (is_white b) _ (no_white b plain)) in
         ap (λ all. some_alignments (alignments_of (without_blank_last all))) kept ∙ without_last b c.codes c.after cs plain
 
     no_delimiters : (text : List ℕ) → begins_plain on text ≡ true → delimiters text ≡ None
     no_delimiters [] plain = let wrong : false ≡ true = plain in cc
     no_delimiters (b ∷ bs) plain =
-        let no_bar : is_bar false b ≡ false = no_and (b == 124) _ (other b 124 plain (ap (λ t. not (t || false)) table)) in
+        let no_bar : is_bar false b ≡ false = and_left (b == 124) _ (other b 124 plain (ap (λ t. not (t || false)) table)) in
         unless (list_any is_bar_or_colon (b ∷ bs)) _
         (ap (λ cs. some_alignments (alignments_of (without_blank_last (without_blank_first cs)))) (cond-false (is_bar false b) _ _ no_bar)
         ∙ in_first b (parts Whitespace (may_escape false b) bs) plain)
@@ -254,7 +247,7 @@ module _ (on : Constructs) where
     plain_underline = unless (on.heading_setext && small_indent on r) _ (no_underline_of (bytes_of (bare r)) plain)
 
     pub plain_break : is_break on r ≡ false
-    plain_break = and_no (on.thematic_break && small_indent on r) _ (no_break_text (bytes_of (bare r)) plain)
+    plain_break = and_right (on.thematic_break && small_indent on r) _ (no_break_text (bytes_of (bare r)) plain)
 
     pub plain_delimiters : delimiter_row on r ≡ None
     plain_delimiters = where_on on.gfm_table (small_indent on r) _ (λ table. no_delimiters table (bytes_of (bare r)) plain)
