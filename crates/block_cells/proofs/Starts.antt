@@ -5,11 +5,11 @@ use Rattle.std.specs.List.{prefix_len, list_any, suffix_len}
 use Rattle.std.proofs.lemmas.Bool.{cases_Bool, cond-true, cond-false, or_parts, eqb-false, ne_eqb}
 use Rattle.definition_text.specs.declared.beside.Kind.{Kind}
 use Rattle.definition_text.specs.declared.beside.Kind.TheVariants.{Whitespace}
-use Rattle.definition_text.specs.Columns.{is_white, is_blank, trim}
+use Rattle.definition_text.specs.Columns.{is_white, is_blank, trim, bare}
 use Rattle.definition_text.specs.Content.{may_escape}
 use Rattle.definition_block.specs.GfmTable.{Cell, cell, cells, parts, is_bar, in_first_cell, without_blank_first, without_blank_last}
 use Rattle.definition_block.specs.GfmTable.{column_delimiter, alignments_of, and_alignment, some_alignments, delimiters, is_bar_or_colon}
-use Rattle.block_cells.specs.GfmTable.{begins_delimiters}
+use Rattle.block_cells.specs.GfmTable.{begins_delimiters, begins_row, may_be_delimiters}
 use Rattle.block_cells.proofs.Parts.{some_part}
 use Rattle.block_cells.proofs.Delimiters.{no_colon}
 
@@ -104,7 +104,7 @@ blank_line (c ∷ cs) e =
         ap (λ b. b || eqb c 58) bar ∙ colon
 
 -- a line that begins otherwise is no row of delimiters
-pub no_start : (text : List ℕ) (b : ℕ) (more : List ℕ) → drop (prefix_len is_white text) text ≡ b ∷ more → begins_delimiters b ≡ false → delimiters text ≡ None
+no_start : (text : List ℕ) (b : ℕ) (more : List ℕ) → drop (prefix_len is_white text) text ≡ b ∷ more → begins_delimiters b ≡ false → delimiters text ≡ None
 no_start text b more e otherwise =
     let apart = or_parts (eqb b 45) (is_bar_or_colon b) otherwise in
     let others = or_parts (eqb b 124) (eqb b 58) apart.1 in
@@ -122,5 +122,13 @@ no_start text b more e otherwise =
     ]
 
 -- nor is one of only spaces and tabs
-pub no_text : (text : List ℕ) → drop (prefix_len is_white text) text ≡ [] → delimiters text ≡ None
+no_text : (text : List ℕ) → drop (prefix_len is_white text) text ≡ [] → delimiters text ≡ None
 no_text text e = cond-false (list_any is_bar_or_colon text) _ _ (blank_line text e)
+
+-- so each row of delimiters begins with one of those codes
+pub no_delimiters : (text : List ℕ) → may_be_delimiters text ≡ false → delimiters text ≡ None
+no_delimiters text otherwise = by_rest (bare text) refl otherwise
+  where
+    by_rest : (rest : List ℕ) → bare text ≡ rest → begins_row rest ≡ false → delimiters text ≡ None
+    by_rest [] e h = no_text text e
+    by_rest (b ∷ more) e h = no_start text b more e h

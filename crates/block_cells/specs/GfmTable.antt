@@ -1,7 +1,7 @@
 -- What cells of a line stand for.
 use Rattle.std.specs.Prelude.{ℕ, suc, Bool, false, if◌then◌else◌, ◌==◌, ◌||◌, List, [], ◌∷◌, Option, None, Some}
 use Rattle.definition_text.specs.Ascii.{hyphen}
-use Rattle.definition_text.specs.Columns.{Code}
+use Rattle.definition_text.specs.Columns.{Code, bare}
 use Rattle.definition_text.specs.Content.{may_escape}
 use Rattle.definition_block.specs.GfmTable as table
 use Rattle.definition_block.specs.GfmTable.{cell, parts, is_bar, is_bar_or_colon, without_blank_last}
@@ -15,9 +15,18 @@ abbrev pub bar_at : Bool → List ℕ → ℕ
 bar_at escaped [] = 0
 bar_at escaped (c ∷ cs) = if is_bar escaped c then 0 else suc (bar_at (may_escape escaped c) cs)
 
--- what a row of delimiters may begin with after its spaces and tabs
+-- what a row of delimiters may begin with after its spaces and tabs: `-`, `|` or `:`
 abbrev pub begins_delimiters : Code → Bool
 begins_delimiters code = (code == hyphen) || is_bar_or_colon code
+
+-- codes that begin with one of them
+abbrev pub begins_row : List Code → Bool
+begins_row [] = false
+begins_row (code ∷ codes) = begins_delimiters code
+
+-- a line with one of them after its spaces and tabs
+abbrev pub may_be_delimiters : List Code → Bool
+may_be_delimiters line = begins_row (bare line)
 
 abbrev pub cell_view : Cell → table.Cell
 cell_view c = cell (piece_line c.line).codes c.line.before c.after

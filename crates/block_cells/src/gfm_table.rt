@@ -3,13 +3,13 @@
 //!     line       ::= (white* bar)? cell (bar cell)* (bar white*)?
 //!     cell       ::= ('\' '\' | '\' '|' | no_bar)*
 //!     delimiters ::= a line, with a bar or a colon, whose cells are white* ':'? '-'+ ':'? white*
-ghost use Rattle.std.specs.Prelude.{◌≡◌, ◌==◌, ◌∷◌, [], None, false, length, OnOk, unwrap_or};
+ghost use Rattle.std.specs.Prelude.{◌≡◌, ◌==◌, ◌∷◌, [], false, length, OnOk, unwrap_or};
 ghost use Rattle.std.specs.List.{list_any};
 ghost use Rattle.definition_text.specs.declared.beside.Kind.TheVariants.{Whitespace};
 ghost use Rattle.definition_text.specs.Columns.{is_blank as are_white, trim};
 ghost use Rattle.definition_block.specs.GfmTable as spec;
 ghost use Rattle.block_rows.specs.Rows.{piece_line};
-ghost use Rattle.block_cells.specs.GfmTable.{bar_at, begins_delimiters, cell_view, parts_if};
+ghost use Rattle.block_cells.specs.GfmTable.{bar_at, begins_delimiters, cell_view, may_be_delimiters, parts_if};
 
 use block_rows::Piece;
 use definition_block::AlignKind;
@@ -196,10 +196,11 @@ pub fn read_delimiters<A: Allocator>(
     Ok(())
 }
 
-/// Whether a line may be a row of delimiters, by the first byte after its spaces and tabs.
+/// Whether the first byte after the spaces and tabs of a line is `-`, `|` or `:`. No other line is
+/// a row of delimiters.
 #[inline(always)]
 fn may_be_delimiters(line: Piece<'_>) -> bool
-    ensures { result ≡ false → spec.delimiters (piece_line line.entry).codes ≡ None }
+    ensures { result ≡ may_be_delimiters (piece_line line.entry).codes }
 {
     let bytes = line.text.as_bytes();
     let indent = white_size(bytes);

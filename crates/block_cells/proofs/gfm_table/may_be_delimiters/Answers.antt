@@ -1,32 +1,29 @@
-use Rattle.std.proofs.Common.{◌+◌, ◌++◌, sym, ap, ◌∙◌, length, drop, get_or, arith}
+use Rattle.std.proofs.Common.{sym, ap, ◌∙◌, length, get_or, arith}
+use Rattle.std.proofs.lemmas.Bool.{le-ltb}
 use Rattle.std.proofs.lemmas.List.{drop_more, drop_all}
-use Rattle.std.specs.Prelude.{replicate}
 use Rattle.std.specs.List.{prefix_len}
 use Rattle.definition_text.specs.Columns.{is_white}
-use Rattle.block_cells.specs.GfmTable.{begins_delimiters}
+use Rattle.block_cells.specs.GfmTable.{begins_delimiters, begins_row}
 use Rattle.block_cells.proofs.Columns.{bare_columns}
-use Rattle.block_cells.proofs.Starts.{no_start, no_text}
 use Rattle.block_cells.proofs.gfm_table.may_be_delimiters.Goals as goal
 
 pub returns-then-indent-bytes : goal.returns-then-indent-bytes
-returns-then-indent-bytes c = λ otherwise.
+returns-then-indent-bytes c =
     let line = c.args.line in
     let text = line.text.now in
     let value = c.as_bytes-bytes.ensures.value in
     let n = c.white_size-indent.ensures.size ∙ ap (prefix_len is_white) value in
     let lt = c.if-indent-bytes.true in
-    let first = get_or text (prefix_len is_white text) 0 in
     let same = ap (λ l. get_or l (c.white_size-indent.result) 0) value ∙ ap (λ k. get_or text k 0) n in
-    no_start (replicate line.owed 256 ++ text) first (drop (prefix_len is_white text + 1) text)
-    (bare_columns line.owed text ∙ drop_more text (prefix_len is_white text) 0 (omega (arith, lt, n, ap length value)))
-    (ap begins_delimiters (sym same) ∙ sym c.begins_delimiters.ensures ∙ otherwise)
+    c.begins_delimiters.ensures ∙ ap begins_delimiters same
+    ∙ sym (ap begins_row (bare_columns line.owed text ∙ drop_more text (prefix_len is_white text) 0 (omega (arith, lt, n, ap length value))))
 
 pub returns-else-indent-bytes : goal.returns-else-indent-bytes
-returns-else-indent-bytes c = λ otherwise.
+returns-else-indent-bytes c =
     let line = c.args.line in
     let text = line.text.now in
     let value = c.as_bytes-bytes.ensures.value in
     let n = c.white_size-indent.ensures.size ∙ ap (prefix_len is_white) value in
     let all = c.if-indent-bytes.false in
-    no_text (replicate line.owed 256 ++ text)
-    (bare_columns line.owed text ∙ drop_all (prefix_len is_white text) text (omega (arith, all, n, ap length value)))
+    le-ltb c.white_size-indent.result (length c.as_bytes-bytes.result.now) all
+    ∙ sym (ap begins_row (bare_columns line.owed text ∙ drop_all (prefix_len is_white text) text (omega (arith, all, n, ap length value))))

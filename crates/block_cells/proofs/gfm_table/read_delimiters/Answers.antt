@@ -1,12 +1,29 @@
-use Rattle.std.proofs.Common.{◌++◌, sym, ap, ◌∙◌}
+use Rattle.std.proofs.Common.{◌≡◌, ◌++◌, [], None, sym, ap, ◌∙◌}
+use Rattle.std.specs.Prelude.{unwrap_or}
+use Rattle.std.specs.List.{list_any}
 use Rattle.std.specs.Option.{option_map}
+use Rattle.std.proofs.lemmas.Bool.{cond-false}
 use Rattle.definition_text.specs.declared.beside.Kind.TheVariants.{Whitespace}
-use Rattle.definition_block.specs.GfmTable.{cells, column_delimiter, alignments_of}
+use Rattle.definition_block.specs.GfmTable.{cells, column_delimiter, alignments_of, delimiters, is_bar_or_colon}
 use Rattle.block_rows.specs.Rows.{piece_line}
 use Rattle.block_cells.specs.GfmTable.{cell_view, cells_left}
 use Rattle.block_cells.proofs.Columns.{trimmed_columns}
 use Rattle.block_cells.proofs.Delimiters.{one_more, no_more, no_row}
+use Rattle.block_cells.proofs.Starts.{no_delimiters}
 use Rattle.block_cells.proofs.gfm_table.read_delimiters.Goals as goal
+use Rattle.block_cells.proofs.gfm_table.read_delimiters.Goals.{then-not-may_be_delimiters-via-then-not-may_be_delimiters}
+use Rattle.block_cells.proofs.gfm_table.read_delimiters.Goals.{then-not-may_be_delimiters-via-else-not-may_be_delimiters+then-not-has_bar_or_colon}
+
+pub returns-then-not-may_be_delimiters : goal.returns-then-not-may_be_delimiters
+returns-then-not-may_be_delimiters g c =
+    let line = (piece_line c.args.line).codes in
+    let none : delimiters line ≡ None =
+    elim c.then-not-may_be_delimiters.branch [
+      | then-not-may_be_delimiters-via-then-not-may_be_delimiters w ↦ no_delimiters line (sym c.may_be_delimiters.ensures ∙ w.if-not-may_be_delimiters.true)
+      | then-not-may_be_delimiters-via-else-not-may_be_delimiters+then-not-has_bar_or_colon w ↦
+          cond-false (list_any is_bar_or_colon line) _ _ (sym w.has_bar_or_colon.ensures ∙ w.if-not-has_bar_or_colon.true)
+    ] in
+    c.clear.ensures.items ∙ sym (ap (λ d. unwrap_or d []) none)
 
 pub loop-cell-preserved : goal.loop-cell-preserved
 loop-cell-preserved g c =
