@@ -167,5 +167,5 @@ list_page_law tables text options h =
     ∙ ap (λ ending. print ending (document_definitions list) list) (added_ending-listed options text)
     ∙ ap (λ ds. print default (map with_spaces ds) list) (list_definitions_law on Whitespace text h.3 h.4 h.0 h.1)
     ∙ ap (print default (document_definitions kids)) (list_law on Whitespace text h.3 h.4 h.0 h.1))
-    ∙ squeeze_both tables options default (document_definitions kids) h.7 kids h.8
+    ∙ squeeze_both tables options default (document_definitions kids) h.6 kids h.7
     ∙ sym (ap (λ bytes. squeeze (list_around bytes)) (html_unmarked tables text options h.2 h.5))

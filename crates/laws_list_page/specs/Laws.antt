@@ -18,11 +18,11 @@ abbrev pub HasGap : List ℕ → Constructs → Type 0
 HasGap text on = has_gap (group_items (blocks on Whitespace text)) ≡ true
 
 -- a text that is read in an item of a loose list as it is alone: its first line begins with something other than a space, it has no tab and no byte
--- order mark, and some two of its blocks have a line between them; items are on, frontmatter, footnotes and task list items off
+-- order mark, and some two of its blocks have a line between them; items are on, frontmatter, footnote definitions and task list items off
 abbrev pub IsListable : List ℕ → Constructs → Type 0
 IsListable text on =
     (begins_dark (first_line text).content ≡ true) × HasNoTab text × (has_mark text ≡ false) × (on.list_item ≡ true) × (on.frontmatter ≡ false)
-    × (on.gfm_footnote_definition ≡ false) × (on.gfm_label_start_footnote ≡ false) × (on.gfm_task_list_item ≡ false) × HasGap text on
+    × (on.gfm_footnote_definition ≡ false) × (on.gfm_task_list_item ≡ false) × HasGap text on
 
 -- the page of a list of one item around a page
 abbrev pub list_around : List ℕ → List ℕ

@@ -197,7 +197,7 @@ quoted_some (b ∷ bs) h = λ e. subst HasByte e tt
 
 quotable_again : (text : List ℕ) (on : Constructs) → IsQuotable text on → IsQuotable (quote_lines text) on
 quotable_again text on h =
-    (quoted_some text h.0, Tabless-to_All (quote_lines text) (quoted_tabless text (Tabless-from_All text h.1)), marked_unmarked text, h.3, h.4, h.5, h.6)
+    (quoted_some text h.0, Tabless-to_All (quote_lines text) (quoted_tabless text (Tabless-from_All text h.1)), marked_unmarked text, h.3, h.4, h.5)
 
 -- quotes around pages that are the same once they are squeezed
 same_around : (n : ℕ) (one other : List ℕ) → squeeze one ≡ squeeze other → squeeze (iterate quote_around n one) ≡ squeeze (iterate quote_around n other)

@@ -10,11 +10,12 @@ use Rattle.laws_quote.specs.Quoted.{quote_lines}
 use Rattle.laws_quote.specs.Laws.{HasNoTab}
 use Rattle.laws_quote_page.specs.Squeeze.{squeeze}
 
--- a text that is read in a quote as it is alone: it has a byte, no tab and no byte order mark; block quotes are on, frontmatter and footnotes off
+-- a text that is read in a quote as it is alone: it has a byte, no tab and no byte order mark; block quotes are on, frontmatter
+-- and footnote definitions off
 abbrev pub IsQuotable : List ℕ → Constructs → Type 0
 IsQuotable text on =
     (text ≢ []) × HasNoTab text × (has_mark text ≡ false) × (on.block_quote ≡ true) × (on.frontmatter ≡ false)
-    × (on.gfm_footnote_definition ≡ false) × (on.gfm_label_start_footnote ≡ false)
+    × (on.gfm_footnote_definition ≡ false)
 
 -- the page of a block quote around a page
 abbrev pub quote_around : List ℕ → List ℕ

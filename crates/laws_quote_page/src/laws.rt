@@ -2,9 +2,10 @@
 ghost use Rattle.laws_quote_page.specs.Laws.{QuotePageLaw, QuotePagesLaw, SqueezeRows};
 ghost use Rattle.laws_quote_page.specs.Refused.{RefusedRows};
 
-/// Where block quotes are on, and frontmatter and footnotes off, a text that has a byte, no tab and no byte order mark,
-/// with `> ` before every line, prints a block quote around what it prints alone: the two pages are the same
-/// without the runs of line endings at their start and end, after `>` and before `<`.
+/// Where block quotes are on, and frontmatter and footnote definitions off, a text that has a byte,
+/// no tab and no byte order mark, with `> ` before every line, prints a block quote around what it
+/// prints alone: the two pages are the same without the runs of line endings at their start and
+/// end, after `>` and before `<`.
 #[tactic(auto, using(crate::proofs::Law::quote_page_law))]
 pub fn quote_page_law()
     ensures { QuotePageLaw }

@@ -113,13 +113,10 @@ fn html(alloc: Global, text: &str, options: &Options) -> Result<String, RunError
 }
 
 /// Whether nothing of a text is read otherwise in a container, where the text's front aside it has
-/// no tab, and neither frontmatter nor footnotes are on.
+/// no tab, and neither frontmatter nor footnote definitions are on.
 fn keeps_in_containers(text: &str, options: &Options) -> bool {
     let on = &options.parse.constructs;
-    !has(text, '\t')
-        && !on.frontmatter
-        && !on.gfm_footnote_definition
-        && !on.gfm_label_start_footnote
+    !has(text, '\t') && !on.frontmatter && !on.gfm_footnote_definition
 }
 
 /// Whether a text begins with a byte order mark.
