@@ -27,7 +27,7 @@ pub fn number_law()
     ensures { NumberLaw }
 {}
 
-/// The content of a footnote is what was laid out between its start and its end.
+/// The content of a footnote with no footnote in it is what was laid out between its start and its end.
 #[tactic(auto, using(crate::proofs::Contents::content_law))]
 pub fn content_law()
     ensures { ContentLaw }

@@ -1,14 +1,16 @@
 //! What is escaped is text.
 ghost use Rattle.laws_inline.specs.Escaped.{EscapeLaw, StringEscapeLaw};
 
-/// A line without tabs and without a space at either end, with a backslash before each ASCII punctuation byte, prints itself as text.
+/// Where escapes are on, a line without tabs and without a space at either end, with a backslash
+/// before each ASCII punctuation byte, prints itself as text.
 #[tactic(auto, using(crate::proofs::Escaped::escape_law))]
 pub fn escape_law()
     ensures { EscapeLaw }
 {}
 
-/// A text in which no space or tab stands beside a line ending, with a backslash before each ASCII
-/// punctuation byte, gives itself back as a title, a destination or an info.
+/// Where escapes are on, a text in which no space or tab stands beside a line ending, with a
+/// backslash before each ASCII punctuation byte, gives itself back as a title, a destination or an
+/// info.
 #[tactic(auto, using(crate::proofs::EscapedString::string_escape_law))]
 pub fn string_escape_law()
     ensures { StringEscapeLaw }

@@ -14,12 +14,15 @@ pub fn first_definition_law()
     ensures { FirstDefinitionLaw }
 {}
 
-/// With `> ` before every line of a text, each label leads where it leads in the text.
+/// Where block quotes are on and frontmatter off, each label leads where it led once `> ` stands
+/// before every line of a text without tabs.
 pub fn quoted_label_law()
     ensures { QuotedLabelLaw }
 {}
 
-/// So it does with `+ ` before the first line and two spaces before every other.
+/// So it does where items are on and frontmatter off, once `+ ` stands before the first line of a
+/// text without tabs, which isn't empty and doesn't begin with a space, and two spaces before every
+/// other.
 pub fn listed_label_law()
     ensures { ListedLabelLaw }
 {}
