@@ -1,5 +1,6 @@
 mod Each
 mod Literals
+mod NestedLiterals
 mod MayStand
 pub mod Occurs
 pub mod Pairs

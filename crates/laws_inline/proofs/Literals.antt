@@ -6,7 +6,7 @@ use Rattle.definition_inline.specs.Inline.{LiteralKind, Target, Inline, Data, Li
 use Rattle.definition_inline.specs.GfmAutolinkLiteral.{without_literals, with_literals, linked_literals}
 use Rattle.laws_inline.specs.Occurs.{part_has, has}
 use Rattle.laws_inline.proofs.Each.{Each}
-use Rattle.laws_literals.proofs.Carried.{Holds, Carries, without_good, literals_good, linked_good}
+use Rattle.laws_literals.proofs.Carried.{Holds, Carries, literals_good, linked_good}
 
 module _ (test : Inline → Bool) where
   -- a part lacks what passes the test, at any depth
@@ -65,12 +65,6 @@ module _ (test : Inline → Bool) where
           keeps_with = c.keeps_with;
         }
 
-    -- with literals that are text, with its literals, and where they are on or off
-    pub without_lacks : LacksLiterals → (is : Inlines) → AllLack is → AllLack (without_literals is)
-    without_lacks c is h = without_good PartLacks AllLack Keeps (carried c) is h
-
-    pub with_lacks : LacksLiterals → (is : Inlines) → AllLack is → AllLack (with_literals [] is)
-    with_lacks c is h = literals_good PartLacks AllLack Keeps (carried c) is h
-
+    -- with its literals, where they are on or off
     pub linked_lacks : LacksLiterals → (on : Constructs) (is : Inlines) → AllLack is → AllLack (linked_literals on is)
-    linked_lacks c on is h = linked_good on AllLack is (λ e. with_lacks c is h) h
+    linked_lacks c on is h = linked_good on AllLack is (λ e. literals_good PartLacks AllLack Keeps (carried c) is h) h

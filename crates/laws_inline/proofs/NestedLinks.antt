@@ -1,6 +1,6 @@
--- No link holds another.
+-- No link in brackets holds another, a call of a footnote or a literal.
 use Rattle.std.proofs.Common.{◌≡◌, ℕ, suc, zero, Bool, true, false, cond, not, ◌&&◌, ◌||◌, ◌==◌, List, [], ◌∷◌, ◌++◌, map, Option, None, Some, length, take}
-use Rattle.std.proofs.Common.{drop, refl, ◌+◌, ◌-◌}
+use Rattle.std.proofs.Common.{drop, refl, subst, ◌+◌, ◌-◌}
 use Rattle.std.specs.Prelude.{replicate, reverse}
 use Rattle.std.specs.List.{fold, filter}
 use Rattle.std.specs.Option.{option_map}
@@ -24,16 +24,17 @@ use Rattle.definition_inline.specs.Attention.{Run, run_at}
 use Rattle.definition_inline.specs.Pairing.{Pair, pairs}
 use Rattle.definition_inline.specs.Spans.{Token, Item, Delimiters, runs_of, Span, IsEmphasis, IsStrong, IsStrikethrough, span_of, SpanRow, Holds, Opens, Closes}
 use Rattle.definition_inline.specs.Spans.{bytes_taken, run_rows, rows_from, OpenSpan, Nest, nest, span_part, leave, nest_row, with_spans}
-use Rattle.definition_inline.specs.GfmAutolinkLiteral.{literal_at}
+use Rattle.definition_inline.specs.GfmAutolinkLiteral.{literal_at, with_literals}
 use Rattle.definition_inline.proofs.GfmAutolinkLiteral.{any_literal}
 use Rattle.definition_inline.specs.Scan.{InlineContext, leaf_at, leaf_here, LabelStart, LinkStart, ImageStart, label_start_at, start_bytes, start_tokens}
 use Rattle.definition_inline.specs.Scan.{may_form, formed_at, Text, text, OpenLabel, Reading, reading, read_tokens, with_plain_start, with_link_or_call, Step}
 use Rattle.definition_inline.specs.Scan.{Next, data_step, ended_step, label_end_step, last_step, label_step, run_step, leaf_step, step, and_then, scan}
 use Rattle.definition_inline.specs.Scan.{whole_text, spans_from, without_indent}
-use Rattle.laws_inline.specs.Occurs.{part_has, has}
-use Rattle.laws_inline.specs.NestedLinks.{is_leading, is_nesting, LinksHoldNoLinks}
+use Rattle.laws_inline.specs.Occurs.{part_has, has, is_literal}
+use Rattle.laws_inline.specs.NestedLinks.{is_nesting, LinksHoldNoLinks}
 use Rattle.laws_inline.proofs.Each.{WhereSome, Each, each-append, each_map, each_same}
-use Rattle.laws_inline.proofs.Literals.{LacksLiterals, without_lacks, with_lacks, linked_lacks}
+use Rattle.laws_inline.proofs.NestedLiterals.{is_bracketed, holds_bracketed, with_flat, none_flat}
+use Rattle.laws_inline.proofs.Occurs.{no_literals}
 
 -- ---- spans of what lacks something
 
@@ -208,34 +209,34 @@ plain_here context content =
 
 -- ---- texts
 
-no_data_nests : (b : ℕ) → is_nesting (Data b) ≡ false
+no_data_nests : (b : ℕ) → holds_bracketed (Data b) ≡ false
 no_data_nests b = refl
 
-no_span_nests : (span : Span) (kids : Inlines) → is_nesting (span_part span kids) ≡ false
+no_span_nests : (span : Span) (kids : Inlines) → holds_bracketed (span_part span kids) ≡ false
 no_span_nests IsEmphasis kids = refl
 no_span_nests IsStrong kids = refl
 no_span_nests IsStrikethrough kids = refl
 
-no_data_links : (b : ℕ) → is_leading (Data b) ≡ false
+no_data_links : (b : ℕ) → is_bracketed (Data b) ≡ false
 no_data_links b = refl
 
-no_span_links : (span : Span) (kids : Inlines) → is_leading (span_part span kids) ≡ false
+no_span_links : (span : Span) (kids : Inlines) → is_bracketed (span_part span kids) ≡ false
 no_span_links IsEmphasis kids = refl
 no_span_links IsStrong kids = refl
 no_span_links IsStrikethrough kids = refl
 
 abbrev NestsNothing : Token → Type 0
-NestsNothing t = Lacks is_nesting no_data_nests no_span_nests t
+NestsNothing t = Lacks holds_bracketed no_data_nests no_span_nests t
 
 abbrev HasNoLink : Token → Type 0
-HasNoLink t = Lacks is_leading no_data_links no_span_links t
+HasNoLink t = Lacks is_bracketed no_data_links no_span_links t
 
 -- no link in a text holds another, and where the text is said to hold no link it holds none
 record IsGood (t : Text) : Type 0 where
   flat : Each NestsNothing t.tokens
   none : t.holds_link ≡ false → Each HasNoLink t.tokens
 
-plain_nests : (i : Inline) → IsPlain i → part_has is_nesting i ≡ false
+plain_nests : (i : Inline) → IsPlain i → part_has holds_bracketed i ≡ false
 plain_nests (Emphasis kids) h = absurd h
 plain_nests (Strong kids) h = absurd h
 plain_nests (Strikethrough kids) h = absurd h
@@ -244,7 +245,7 @@ plain_nests (Image target kids) h = absurd h
 plain_nests (Call label) h = absurd h
 plain_nests i h = refl
 
-plain_links : (i : Inline) → IsPlain i → part_has is_leading i ≡ false
+plain_links : (i : Inline) → IsPlain i → part_has is_bracketed i ≡ false
 plain_links (Emphasis kids) h = absurd h
 plain_links (Strong kids) h = absurd h
 plain_links (Strikethrough kids) h = absurd h
@@ -290,11 +291,11 @@ good_unformed label inner h p =
           (each-append HasNoLink (start_tokens label.start) inner.tokens (start_links label.start) (p.none parts.1));
     }
 
-inside_flat : (inner : Text) → IsGood inner → has is_nesting (with_spans inner.tokens) ≡ false
-inside_flat inner p = emphasized_lacks is_nesting no_data_nests no_span_nests inner.tokens p.flat
+inside_flat : (inner : Text) → IsGood inner → has holds_bracketed (with_spans inner.tokens) ≡ false
+inside_flat inner p = emphasized_lacks holds_bracketed no_data_nests no_span_nests inner.tokens p.flat
 
-inside_none : (inner : Text) → IsGood inner → inner.holds_link ≡ false → has is_leading (with_spans inner.tokens) ≡ false
-inside_none inner p e = emphasized_lacks is_leading no_data_links no_span_links inner.tokens (p.none e)
+inside_none : (inner : Text) → IsGood inner → inner.holds_link ≡ false → has is_bracketed (with_spans inner.tokens) ≡ false
+inside_none inner p e = emphasized_lacks is_bracketed no_data_links no_span_links inner.tokens (p.none e)
 
 good_link : (outer : Text) (target : Target) (inner : Text) → IsGood outer → IsGood inner → inner.holds_link ≡ false
     → IsGood (text (outer.tokens ++ Item (Link target (with_spans inner.tokens)) ∷ []) (outer.holds_link || true))
@@ -303,7 +304,7 @@ good_link outer target inner h p e =
     record {
       flat =
           each-append NestsNothing outer.tokens (Item (Link target kids) ∷ []) h.flat
-          (or_from (has is_leading kids) (has is_nesting kids) (inside_none inner p e) (inside_flat inner p), tt);
+          (or_from (has is_bracketed kids) (has holds_bracketed kids) (inside_none inner p e) (inside_flat inner p), tt);
       none = λ f. absurd (both_ways true (or_parts outer.holds_link true f).1 refl);
     }
 
@@ -429,44 +430,9 @@ good_close : (inner : Text) (open_labels : List OpenLabel) → IsGood inner → 
 good_close inner [] p h = p
 good_close inner (label ∷ others) p h = good_close (with_plain_start label inner) others (good_unformed label inner h.0 p) h.1
 
--- ---- literals
+-- ---- all of it
 
-abbrev Any : Inlines → Inlines → Type 0
-Any kids others = Unit {0}
-
-links_and_literals : LacksLiterals is_leading Any
-links_and_literals =
-    record {
-      data_fails = λ b. refl;
-      literal_fails = λ kind text. refl;
-      emphasis = λ kids others h _. refl;
-      strong = λ kids others h _. refl;
-      strikethrough = λ kids others h _. refl;
-      link = λ target kids others h _. h;
-      image = λ target kids others h _. refl;
-      keeps_without = λ kids. tt;
-      keeps_with = λ kids. tt;
-    }
-
--- what holds no link holds none with its literals
-abbrev HoldsNoMore : Inlines → Inlines → Type 0
-HoldsNoMore kids others = has is_leading kids ≡ false → has is_leading others ≡ false
-
-nesting_and_literals : LacksLiterals is_nesting HoldsNoMore
-nesting_and_literals =
-    record {
-      data_fails = λ b. refl;
-      literal_fails = λ kind text. refl;
-      emphasis = λ kids others h _. refl;
-      strong = λ kids others h _. refl;
-      strikethrough = λ kids others h _. refl;
-      link = λ target kids others h keeps. keeps h;
-      image = λ target kids others h _. refl;
-      keeps_without = λ kids. without_lacks is_leading Any links_and_literals kids;
-      keeps_with = λ kids. with_lacks is_leading Any links_and_literals kids;
-    }
-
-spans_nest_nothing : (context : InlineContext) (content : List InlineCode) → has is_nesting (spans_from context content) ≡ false
+spans_nest_nothing : (context : InlineContext) (content : List InlineCode) → has holds_bracketed (spans_from context content) ≡ false
 spans_nest_nothing context content =
     let first : Reading = reading (text [] false) [] in
     let r : Reading = scan context 0 first content in
@@ -475,5 +441,9 @@ spans_nest_nothing context content =
 
 pub links_hold_no_links : LinksHoldNoLinks
 links_hold_no_links context content =
-    linked_lacks is_nesting HoldsNoMore nesting_and_literals context.options.constructs (spans_from context (without_indent content))
-    (spans_nest_nothing context (without_indent content))
+    let on = context.options.constructs in
+    let spans = spans_from context (without_indent content) in
+    let flat = spans_nest_nothing context (without_indent content) in
+    cond_both on.gfm_autolink_literal (with_literals [] spans) spans (λ is. has is_nesting is ≡ false) (λ _. with_flat [] spans flat)
+    (λ off. none_flat spans flat
+    (subst (λ b. has is_literal (cond b (with_literals [] spans) spans) ≡ false) off (no_literals context content off)))
