@@ -1,6 +1,6 @@
 -- The resource of a link or an image (CommonMark 6.3): `(`, an optional destination with an optional title, `)`, with white space between.
 use Rattle.std.specs.Prelude.{Bool, false, if◌then◌else◌, ◌==◌, ◌&&◌, ◌||◌, List, [], ◌∷◌, Option, None, Some}
-use Rattle.definition_text.specs.Ascii.{space, double_quote, single_quote, left_parenthesis, right_parenthesis}
+use Rattle.definition_text.specs.Ascii.{double_quote, single_quote, left_parenthesis, right_parenthesis}
 use Rattle.definition_text.specs.Columns.{Code}
 use Rattle.definition_text.specs.Content.{Part}
 use Rattle.definition_inline.specs.Space.{after_white, begins_with_space}
@@ -45,7 +45,7 @@ resource_with_destination (Some destination) = after_destination destination
 abbrev pub resource_inside : List Code → Option LinkResource
 resource_inside [] = None
 resource_inside (c ∷ cs) =
-    if c == right_parenthesis then resource_end [] None (c ∷ cs) else resource_with_destination (destination_at (Some space) (c ∷ cs))
+    if c == right_parenthesis then resource_end [] None (c ∷ cs) else resource_with_destination (destination_at (Some 32) (c ∷ cs))
 
 -- a resource, whose destination has parentheses at most 32 deep (CommonMark 6.3)
 abbrev pub resource_at : List Code → Option LinkResource
