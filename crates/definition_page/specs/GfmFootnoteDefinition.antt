@@ -1,10 +1,10 @@
 -- The footnotes at a page's end, and what they print (in no standard; as GitHub prints them).
-use Rattle.std.specs.Prelude.{ℕ, zero, suc, ◌-◌, Bool, if◌then◌else◌, ◌==◌, ◌||◌, nat_le, List, [], ◌∷◌, ◌++◌, Option, None, Some, String, string_bytes, codes}
+use Rattle.std.specs.Prelude.{ℕ, zero, suc, ◌-◌, if◌then◌else◌, nat_le, List, [], ◌∷◌, ◌++◌, Option, None, Some, String, string_bytes, codes}
 use Rattle.std.specs.Prelude.{take, drop, length}
 use Rattle.std.specs.List.{flat_map, suffix_len}
 use Rattle.markdown_options.specs.declared.configuration.CompileOptions.{CompileOptions}
-use Rattle.definition_text.specs.Ascii.{line_feed, carriage_return}
 use Rattle.definition_text.specs.Encode.{encode}
+use Rattle.definition_text.specs.Lines.{ends_line}
 use Rattle.definition_inline.specs.GfmAutolinkLiteral.{ends_with}
 use Rattle.definition_page.specs.Tags.{Words, AsItIs, Number, Tag, attribute, tag, bare_tag}
 use Rattle.definition_page.specs.Pieces.{Piece, Open, Close, Says, Fresh}
@@ -51,9 +51,6 @@ backs_pieces options label zero = []
 backs_pieces options label (suc count) = backs_pieces options label count ++ space_after count ++ back_pieces options label (suc count)
 
 -- ---- a footnote
-
-abbrev pub ends_line : ℕ → Bool
-ends_line b = (b == line_feed) || (b == carriage_return)
 
 -- how many bytes of HTML stand before the line endings at its end
 abbrev pub ended_size : List ℕ → ℕ

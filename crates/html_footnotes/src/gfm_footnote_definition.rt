@@ -6,7 +6,8 @@
 ghost use Rattle.std.specs.Prelude.{◌≡◌, ◌≤◌, IfSome, length, map};
 ghost use Rattle.std.specs.Str.{IsCharBoundary};
 ghost use Rattle.markdown_options.specs.LineEndings.{ending_bytes};
-ghost use Rattle.definition_page.specs.GfmFootnoteDefinition.{ended_size, ends_line, section_heading_name, paragraph_end};
+ghost use Rattle.definition_text.specs.Lines.{ends_line};
+ghost use Rattle.definition_page.specs.GfmFootnoteDefinition.{ended_size, section_heading_name, paragraph_end};
 ghost use Rattle.html_bytes.specs.GfmFootnoteDefinition.{back_html, back_tag, backs_html, count_html, footnote_pieces, footnotes_pieces};
 ghost use Rattle.html_bytes.specs.GfmFootnoteDefinition.{heading_html, section_heading_tag, listed_pieces, section_pieces, space_after};
 ghost use Rattle.html_escape.specs.Prints.{Prints};

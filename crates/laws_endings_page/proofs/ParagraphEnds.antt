@@ -13,8 +13,9 @@ use Rattle.markdown_options.specs.declared.line_ending.LineEnding.{LineEnding}
 use Rattle.markdown_options.specs.declared.line_ending.LineEnding.TheVariants.{CarriageReturnLineFeed, CarriageReturn, LineFeed}
 use Rattle.markdown_options.specs.LineEndings.{ending_bytes}
 use Rattle.definition_text.specs.Bytes.{begins_with}
+use Rattle.definition_text.specs.Lines.{ends_line}
 use Rattle.definition_inline.specs.GfmAutolinkLiteral.{ends_with}
-use Rattle.definition_page.specs.GfmFootnoteDefinition.{ends_line, ended_size}
+use Rattle.definition_page.specs.GfmFootnoteDefinition.{ended_size}
 use Rattle.laws_endings.specs.Endings.{byte_with, with_ending}
 use Rattle.laws_endings_page.proofs.Bytes.{with-append}
 
