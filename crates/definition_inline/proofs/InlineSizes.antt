@@ -28,7 +28,7 @@ use Rattle.definition_inline.specs.CodeText.{run_of, raw_leaf, raw_at, code_text
 use Rattle.definition_inline.specs.MathText.{may_open_math, math_text_at}
 use Rattle.definition_inline.specs.Autolink.{is_scheme_byte, is_uri_byte, begins_with_scheme, after_uri, uri_end, is_email_byte, is_domain_byte, domain_end}
 use Rattle.definition_inline.specs.Autolink.{email_end, closed_autolink, autolink_after, autolink_at}
-use Rattle.definition_inline.specs.HtmlText.{html_byte, after_first, comment_rest, comment, instruction, declaration, cdata, html_end, html_leaf, html_text_at}
+use Rattle.definition_inline.specs.HtmlText.{html_byte, after_text, comment_rest, comment, instruction, declaration, cdata, html_end, html_leaf, html_text_at}
 use Rattle.definition_inline.specs.HardBreak.{ends_here, line_end_at, escaped_break_at, line_spaces_at}
 use Rattle.definition_inline.specs.Label.{label_at}
 use Rattle.definition_inline.specs.Resource.{LinkResource, resource_at}
@@ -338,17 +338,17 @@ leaves_open bytes =
 leaves_closing : (bytes : List ℕ) → Leaves (length bytes) (closing_rest bytes)
 leaves_closing bytes = leaves_after (length bytes) (after_tag_name bytes) closing_end (leaves_name bytes) leaves_closing_end
 
-leaves_first : (end bytes : List ℕ) → Leaves (length bytes) (after_first end bytes)
+leaves_first : (end bytes : List ℕ) → Leaves (length bytes) (after_text end bytes)
 leaves_first end [] = tt
 leaves_first end (b ∷ bs) =
-    cond_both (begins_with end (b ∷ bs)) (Some (drop (length end) (b ∷ bs))) (after_first end bs) (Leaves (length (b ∷ bs)))
+    cond_both (begins_with end (b ∷ bs)) (Some (drop (length end) (b ∷ bs))) (after_text end bs) (Leaves (length (b ∷ bs)))
     (λ _. dropped (length end) (b ∷ bs))
-    (λ _. leaves_more (length bs) (length (b ∷ bs)) (after_first end bs) (omega arith) (leaves_first end bs))
+    (λ _. leaves_more (length bs) (length (b ∷ bs)) (after_text end bs) (omega arith) (leaves_first end bs))
 
 leaves_comment : (bytes : List ℕ) → Leaves (length bytes) (comment_rest bytes)
 leaves_comment bytes =
     cond_both (begins_with (codes ">") bytes) (Some (drop 1 bytes)) _ (Leaves (length bytes)) (λ _. dropped 1 bytes)
-    (λ _. cond_both (begins_with (codes "->") bytes) (Some (drop 2 bytes)) (after_first (codes "-->") bytes) (Leaves (length bytes)) (λ _. dropped 2 bytes)
+    (λ _. cond_both (begins_with (codes "->") bytes) (Some (drop 2 bytes)) (after_text (codes "-->") bytes) (Leaves (length bytes)) (λ _. dropped 2 bytes)
     (λ _. leaves_first (codes "-->") bytes))
 
 -- what follows a mark of so many bytes leaves less than all
@@ -375,16 +375,16 @@ leaves_html bytes =
     (leaves_where most (begins_with (codes "<!--") bytes) (comment_rest (drop 4 bytes))
     (λ e. leaves_marked 4 bytes (comment_rest (drop 4 bytes)) (omega arith) (not_empty 60 (codes "!--") bytes e) (leaves_comment (drop 4 bytes))))
     (leaves_either most (instruction bytes) _
-    (leaves_where most (begins_with (codes "<?") bytes) (after_first (codes "?>") (drop 2 bytes))
-    (λ e. leaves_marked 2 bytes (after_first (codes "?>") (drop 2 bytes)) (omega arith) (not_empty 60 (codes "?") bytes e)
+    (leaves_where most (begins_with (codes "<?") bytes) (after_text (codes "?>") (drop 2 bytes))
+    (λ e. leaves_marked 2 bytes (after_text (codes "?>") (drop 2 bytes)) (omega arith) (not_empty 60 (codes "?") bytes e)
     (leaves_first (codes "?>") (drop 2 bytes))))
     (leaves_either most (declaration bytes) (cdata bytes)
-    (leaves_where most (begins_with (codes "<!") bytes && begins_with_letter (drop 2 bytes)) (after_first (codes ">") (drop 2 bytes))
-    (λ e. leaves_marked 2 bytes (after_first (codes ">") (drop 2 bytes)) (omega arith)
+    (leaves_where most (begins_with (codes "<!") bytes && begins_with_letter (drop 2 bytes)) (after_text (codes ">") (drop 2 bytes))
+    (λ e. leaves_marked 2 bytes (after_text (codes ">") (drop 2 bytes)) (omega arith)
     (not_empty 60 (codes "!") bytes (and_parts (begins_with (codes "<!") bytes) (begins_with_letter (drop 2 bytes)) e).0)
     (leaves_first (codes ">") (drop 2 bytes))))
-    (leaves_where most (begins_with (codes "<![CDATA[") bytes) (after_first (codes "]]>") (drop 9 bytes))
-    (λ e. leaves_marked 9 bytes (after_first (codes "]]>") (drop 9 bytes)) (omega arith) (not_empty 60 (codes "![CDATA[") bytes e)
+    (leaves_where most (begins_with (codes "<![CDATA[") bytes) (after_text (codes "]]>") (drop 9 bytes))
+    (λ e. leaves_marked 9 bytes (after_text (codes "]]>") (drop 9 bytes)) (omega arith) (not_empty 60 (codes "![CDATA[") bytes e)
     (leaves_first (codes "]]>") (drop 9 bytes))))))))
 
 fit_html_leaf : (content : List ℕ) (found : Option (List ℕ)) → 0 < length content → Leaves (length content - 1) found

@@ -14,15 +14,15 @@ abbrev pub html_byte : Code → ℕ
 html_byte code = if is_eol code then line_feed else code_byte code
 
 -- what follows the first place at which a text stands
-abbrev pub after_first : List ℕ → List ℕ → Option (List ℕ)
-after_first text [] = None
-after_first text (b ∷ bs) = if begins_with text (b ∷ bs) then Some (drop (length text) (b ∷ bs)) else after_first text bs
+abbrev pub after_text : List ℕ → List ℕ → Option (List ℕ)
+after_text text [] = None
+after_text text (b ∷ bs) = if begins_with text (b ∷ bs) then Some (drop (length text) (b ∷ bs)) else after_text text bs
 
 -- a comment after its `<!--`: `>`, `->`, or all up to `-->` (CommonMark 6.6)
 abbrev pub comment_rest : List ℕ → Option (List ℕ)
 comment_rest bytes =
     if begins_with (codes ">") bytes then Some (drop 1 bytes)
-    else (if begins_with (codes "->") bytes then Some (drop 2 bytes) else after_first (codes "-->") bytes)
+    else (if begins_with (codes "->") bytes then Some (drop 2 bytes) else after_text (codes "-->") bytes)
 
 -- what follows a comment (CommonMark 6.6)
 abbrev pub comment : List ℕ → Option (List ℕ)
@@ -30,16 +30,16 @@ comment bytes = if begins_with (codes "<!--") bytes then comment_rest (drop 4 by
 
 -- what follows a processing instruction, `<?` to `?>` (CommonMark 6.6)
 abbrev pub instruction : List ℕ → Option (List ℕ)
-instruction bytes = if begins_with (codes "<?") bytes then after_first (codes "?>") (drop 2 bytes) else None
+instruction bytes = if begins_with (codes "<?") bytes then after_text (codes "?>") (drop 2 bytes) else None
 
 -- what follows a declaration, `<!` and a letter to `>` (CommonMark 6.6)
 abbrev pub declaration : List ℕ → Option (List ℕ)
 declaration bytes =
-    if begins_with (codes "<!") bytes && begins_with_letter (drop 2 bytes) then after_first (codes ">") (drop 2 bytes) else None
+    if begins_with (codes "<!") bytes && begins_with_letter (drop 2 bytes) then after_text (codes ">") (drop 2 bytes) else None
 
 -- what follows a CDATA section, `<![CDATA[` to `]]>` (CommonMark 6.6)
 abbrev pub cdata : List ℕ → Option (List ℕ)
-cdata bytes = if begins_with (codes "<![CDATA[") bytes then after_first (codes "]]>") (drop 9 bytes) else None
+cdata bytes = if begins_with (codes "<![CDATA[") bytes then after_text (codes "]]>") (drop 9 bytes) else None
 
 -- what follows raw HTML after a `<` and `!` or `?`, none of which can be another
 abbrev pub marked_html : List ℕ → Option (List ℕ)

@@ -14,7 +14,7 @@ use Rattle.definition_text.specs.Bytes.{begins_with, begins_with_letter, is_lett
 use Rattle.definition_inline.specs.Inline.{leaf, Html}
 use Rattle.definition_inline.specs.HtmlTags.{is_tag_space, is_tag_name_byte, begins_attribute, is_attribute_byte, is_unquoted, open_tag, closing_tag, open_rest}
 use Rattle.definition_inline.specs.HtmlTags.{closing_rest}
-use Rattle.definition_inline.specs.HtmlText.{html_byte, after_first, comment, comment_rest, instruction, declaration, cdata, marked_html, html_end, html_leaf}
+use Rattle.definition_inline.specs.HtmlText.{html_byte, after_text, comment, comment_rest, instruction, declaration, cdata, marked_html, html_end, html_leaf}
 use Rattle.definition_inline.specs.HtmlText.{html_text_at}
 use Rattle.inline_tags.specs.Places.{Place, NameStart, Name, Space, Attribute, AttributeSpace, Equals, Unquoted, DoubleQuoted, SingleQuoted, Quoted, Slash}
 use Rattle.inline_tags.specs.Places.{ClosingStart, ClosingName, ClosingSpace, End, Nowhere, next, at_end, after_part, after_attribute, after_closing_name}
@@ -109,36 +109,36 @@ dropped_bytes (suc n) [] bytes = tt
 dropped_bytes (suc n) (x ∷ xs) bytes = dropped_bytes n xs bytes.1
 
 -- the first place of a text
-first_step : (t : ℕ) (ts : List ℕ) (b : ℕ) (bs : List ℕ) → eqb t b ≡ false → after_first (t ∷ ts) (b ∷ bs) ≡ after_first (t ∷ ts) bs
+first_step : (t : ℕ) (ts : List ℕ) (b : ℕ) (bs : List ℕ) → eqb t b ≡ false → after_text (t ∷ ts) (b ∷ bs) ≡ after_text (t ∷ ts) bs
 first_step t ts b bs h = cond-false _ _ _ (and_left (eqb t b) _ h)
 
 first_plain : (t : ℕ) (ts : List ℕ) (b : ℕ) (bs : List ℕ) → (b ≡ 13 → ⊥) → is_ink (t ∷ ts) ≡ true → AreBytes (b ∷ bs)
-    → after_first (t ∷ ts) (html_bytes bs) ≡ option_map html_bytes (after_first (t ∷ ts) bs)
-    → after_first (t ∷ ts) (html_bytes (b ∷ bs)) ≡ option_map html_bytes (after_first (t ∷ ts) (b ∷ bs))
+    → after_text (t ∷ ts) (html_bytes bs) ≡ option_map html_bytes (after_text (t ∷ ts) bs)
+    → after_text (t ∷ ts) (html_bytes (b ∷ bs)) ≡ option_map html_bytes (after_text (t ∷ ts) (b ∷ bs))
 first_plain t ts b bs apart ink bytes later =
     let text = t ∷ ts in
     let same = html_plain b bs apart bytes.0 in
-    ap (after_first text) same
-    ∙ ap (λ x. cond x (Some (drop (length text) (b ∷ html_bytes bs))) (after_first text (html_bytes bs)))
+    ap (after_text text) same
+    ∙ ap (λ x. cond x (Some (drop (length text) (b ∷ html_bytes bs))) (after_text text (html_bytes bs)))
     (ap (begins_with text) (sym same) ∙ begins_html text (b ∷ bs) ink bytes)
     ∙ elim (cases_Bool (begins_with text (b ∷ bs))) [
       | inl h ↦
           cond-true _ _ _ h ∙ ap Some (ap (drop (length text)) (sym same) ∙ drop_html text (b ∷ bs) ink bytes h)
-          ∙ ap (option_map html_bytes) (sym (cond-true (begins_with text (b ∷ bs)) (Some (drop (length text) (b ∷ bs))) (after_first text bs) h))
+          ∙ ap (option_map html_bytes) (sym (cond-true (begins_with text (b ∷ bs)) (Some (drop (length text) (b ∷ bs))) (after_text text bs) h))
       | inr h ↦
           cond-false _ _ _ h ∙ later
-          ∙ ap (option_map html_bytes) (sym (cond-false (begins_with text (b ∷ bs)) (Some (drop (length text) (b ∷ bs))) (after_first text bs) h))
+          ∙ ap (option_map html_bytes) (sym (cond-false (begins_with text (b ∷ bs)) (Some (drop (length text) (b ∷ bs))) (after_text text bs) h))
     ]
 
 pub first_html : (t : ℕ) (ts xs : List ℕ) → is_ink (t ∷ ts) ≡ true → AreBytes xs
-    → after_first (t ∷ ts) (html_bytes xs) ≡ option_map html_bytes (after_first (t ∷ ts) xs)
+    → after_text (t ∷ ts) (html_bytes xs) ≡ option_map html_bytes (after_text (t ∷ ts) xs)
 unfolding after_feed
 first_html t ts [] ink bytes = refl
 first_html t ts (b ∷ []) ink bytes = elim (cases_Bool (eqb b 13)) [
   | inl h ↦
       let e = eqb-true b 13 h in
       let t_is = no_return t (and_parts _ _ ink).0 in
-      ap (λ x. after_first (t ∷ ts) (html_bytes (x ∷ []))) e ∙ first_step t ts 10 [] t_is.0
+      ap (λ x. after_text (t ∷ ts) (html_bytes (x ∷ []))) e ∙ first_step t ts 10 [] t_is.0
       ∙ ap (option_map html_bytes) (sym (first_step t ts b [] (ap (eqb t) e ∙ t_is.1)))
   | inr h ↦ first_plain t ts b [] (eqb-false b 13 h) ink bytes refl
 ]
@@ -146,18 +146,18 @@ first_html t ts (b ∷ d ∷ ds) ink bytes = elim (cases_Bool (eqb b 13)) [
   | inl h ↦
       let e = eqb-true b 13 h in
       let t_is = no_return t (and_parts _ _ ink).0 in
-      let there : after_first (t ∷ ts) (b ∷ d ∷ ds) ≡ after_first (t ∷ ts) (d ∷ ds) = first_step t ts b (d ∷ ds) (ap (eqb t) e ∙ t_is.1) in
-      ap (λ x. after_first (t ∷ ts) (html_bytes (x ∷ d ∷ ds))) e
-      ∙ ap (after_first (t ∷ ts)) (html_return (d ∷ ds))
+      let there : after_text (t ∷ ts) (b ∷ d ∷ ds) ≡ after_text (t ∷ ts) (d ∷ ds) = first_step t ts b (d ∷ ds) (ap (eqb t) e ∙ t_is.1) in
+      ap (λ x. after_text (t ∷ ts) (html_bytes (x ∷ d ∷ ds))) e
+      ∙ ap (after_text (t ∷ ts)) (html_return (d ∷ ds))
       ∙ first_step t ts 10 (html_bytes (after_feed (d ∷ ds))) t_is.0
       ∙ elim (cases_Bool (eqb d 10)) [
         | inl k ↦
             let f = eqb-true d 10 k in
-            ap (λ y. after_first (t ∷ ts) (html_bytes y)) (cond-true (eqb d 10) ds (d ∷ ds) k)
+            ap (λ y. after_text (t ∷ ts) (html_bytes y)) (cond-true (eqb d 10) ds (d ∷ ds) k)
             ∙ first_html t ts ds ink bytes.1.1
             ∙ ap (option_map html_bytes) (sym (there ∙ first_step t ts d ds (ap (eqb t) f ∙ t_is.0)))
         | inr k ↦
-            ap (λ y. after_first (t ∷ ts) (html_bytes y)) (cond-false (eqb d 10) ds (d ∷ ds) k)
+            ap (λ y. after_text (t ∷ ts) (html_bytes y)) (cond-false (eqb d 10) ds (d ∷ ds) k)
             ∙ first_html t ts (d ∷ ds) ink bytes.1
             ∙ ap (option_map html_bytes) (sym there)
       ]
@@ -175,11 +175,11 @@ map_cond true a x e = e
 map_cond false a x e = refl
 
 -- a text first, and then a part, which is another in bytes
-after_text : (text xs : List ℕ) (part other : List ℕ → Option (List ℕ)) → is_ink text ≡ true → AreBytes xs
+text_then : (text xs : List ℕ) (part other : List ℕ → Option (List ℕ)) → is_ink text ≡ true → AreBytes xs
     → part (html_bytes (drop (length text) xs)) ≡ option_map html_bytes (other (drop (length text) xs))
     → cond (begins_with text (html_bytes xs)) (part (drop (length text) (html_bytes xs))) None
     ≡ option_map html_bytes (cond (begins_with text xs) (other (drop (length text) xs)) None)
-after_text text xs part other ink bytes reads =
+text_then text xs part other ink bytes reads =
     ap (λ t. cond t (part (drop (length text) (html_bytes xs))) None) (begins_html text xs ink bytes)
     ∙ elim (cases_Bool (begins_with text xs)) [
       | inl h ↦
@@ -205,15 +205,15 @@ comment_reads : (xs : List ℕ) → AreBytes xs → Reads comment xs
 comment_reads xs bytes =
     let rest = drop 4 xs in
     let more = dropped_bytes 4 xs bytes in
-    after_text (codes "<!--") xs comment_rest comment_rest refl bytes
+    text_then (codes "<!--") xs comment_rest comment_rest refl bytes
     (text_or (codes ">") rest _ _ refl more (text_or (codes "->") rest _ _ refl more (first_html 45 (codes "->") rest refl more)))
 
 instruction_reads : (xs : List ℕ) → AreBytes xs → Reads instruction xs
-instruction_reads xs bytes = after_text (codes "<?") xs (after_first (codes "?>")) (after_first (codes "?>")) refl bytes
+instruction_reads xs bytes = text_then (codes "<?") xs (after_text (codes "?>")) (after_text (codes "?>")) refl bytes
     (first_html 63 (codes ">") (drop 2 xs) refl (dropped_bytes 2 xs bytes))
 
 cdata_reads : (xs : List ℕ) → AreBytes xs → Reads cdata xs
-cdata_reads xs bytes = after_text (codes "<![CDATA[") xs (after_first (codes "]]>")) (after_first (codes "]]>")) refl bytes
+cdata_reads xs bytes = text_then (codes "<![CDATA[") xs (after_text (codes "]]>")) (after_text (codes "]]>")) refl bytes
     (first_html 93 (codes "]>") (drop 9 xs) refl (dropped_bytes 9 xs bytes))
 
 letter_html : (xs : List ℕ) → AreBytes xs → begins_with_letter (html_bytes xs) ≡ begins_with_letter xs
@@ -231,15 +231,15 @@ declaration_reads xs bytes =
     elim (cases_Bool (begins_with (codes "<!") xs)) [
       | inl h ↦
           let rest = drop_html (codes "<!") xs refl bytes h in
-          ap (λ t. cond (t && begins_with_letter (drop 2 (html_bytes xs))) (after_first (codes ">") (drop 2 (html_bytes xs))) None)
+          ap (λ t. cond (t && begins_with_letter (drop 2 (html_bytes xs))) (after_text (codes ">") (drop 2 (html_bytes xs))) None)
           (begins_html (codes "<!") xs refl bytes)
-          ∙ ap (λ r. cond (begins_with (codes "<!") xs && begins_with_letter r) (after_first (codes ">") r) None) rest
-          ∙ ap (λ t. cond (begins_with (codes "<!") xs && t) (after_first (codes ">") (html_bytes (drop 2 xs))) None) (letter_html (drop 2 xs) more)
+          ∙ ap (λ r. cond (begins_with (codes "<!") xs && begins_with_letter r) (after_text (codes ">") r) None) rest
+          ∙ ap (λ t. cond (begins_with (codes "<!") xs && t) (after_text (codes ">") (html_bytes (drop 2 xs))) None) (letter_html (drop 2 xs) more)
           ∙ map_cond (begins_with (codes "<!") xs && begins_with_letter (drop 2 xs)) _ _ (first_html 62 [] (drop 2 xs) refl more)
       | inr h ↦
           cond-false _ _ _ (and_left _ _ (begins_html (codes "<!") xs refl bytes ∙ h))
           ∙ ap (option_map html_bytes) (sym (cond-false (begins_with (codes "<!") xs && begins_with_letter (drop 2 xs))
-          (after_first (codes ">") (drop 2 xs)) None (and_left _ _ h)))
+          (after_text (codes ">") (drop 2 xs)) None (and_left _ _ h)))
     ]
 
 or_reads : (a b x y : Option (List ℕ)) → a ≡ option_map html_bytes x → b ≡ option_map html_bytes y → option_or a b ≡ option_map html_bytes (option_or x y)
@@ -399,12 +399,12 @@ tag_reads (b ∷ d ∷ ds) place bytes goes_on = elim (cases_Bool (eqb b 13)) [
 
 open_tag_html : (xs : List ℕ) → AreBytes xs → open_tag (html_bytes xs) ≡ option_map html_bytes (open_after xs)
 open_tag_html xs bytes =
-    after_text (codes "<") xs open_rest (tag_after NameStart) refl bytes (sym (open_reads (html_bytes (drop 1 xs)))
+    text_then (codes "<") xs open_rest (tag_after NameStart) refl bytes (sym (open_reads (html_bytes (drop 1 xs)))
     ∙ tag_reads (drop 1 xs) NameStart (dropped_bytes 1 xs bytes) refl)
 
 closing_tag_html : (xs : List ℕ) → AreBytes xs → closing_tag (html_bytes xs) ≡ option_map html_bytes (closing_after xs)
 closing_tag_html xs bytes =
-    after_text (codes "</") xs closing_rest (tag_after ClosingStart) refl bytes
+    text_then (codes "</") xs closing_rest (tag_after ClosingStart) refl bytes
     (sym (closing_reads (html_bytes (drop 2 xs))) ∙ tag_reads (drop 2 xs) ClosingStart (dropped_bytes 2 xs bytes) refl)
 
 pub html_reads : (xs : List ℕ) → AreBytes xs → html_end (html_bytes xs) ≡ option_map html_bytes (html_after xs)
@@ -483,10 +483,10 @@ closed_at text xs i le closes there =
 
 -- the search goes on
 pub first_later : (text xs : List ℕ) (i : ℕ) → i < length xs → begins_with text (drop i xs) ≡ false
-    → after_first text (drop (i + 1) xs) ≡ after_first text (drop i xs)
+    → after_text text (drop (i + 1) xs) ≡ after_text text (drop i xs)
 first_later text xs i lt h =
     let e : drop i xs ≡ get_or xs i 0 ∷ drop (i + 1) xs = drop_more xs i 0 lt in
-    sym (ap (after_first text) e ∙ cond-false _ _ _ (ap (begins_with text) (sym e) ∙ h))
+    sym (ap (after_text text) e ∙ cond-false _ _ _ (ap (begins_with text) (sym e) ∙ h))
 
 pub short_comment : (xs : List ℕ) → begins_with (codes "<!--") xs ≡ true → begins_with (codes ">") (drop 4 xs) ≡ true → Some (drop 5 xs) ≡ comment xs
 short_comment xs opens closes = sym (cond-true _ _ _ opens ∙ cond-true _ _ _ closes ∙ ap Some (drop-drop 1 4 xs))

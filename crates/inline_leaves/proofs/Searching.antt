@@ -8,7 +8,7 @@ use Rattle.std.proofs.lemmas.Option.{none-some}
 use Rattle.markdown_options.specs.declared.configuration.Constructs.{Constructs}
 use Rattle.definition_text.specs.Content.{content_codes}
 use Rattle.definition_text.specs.Bytes.{begins_with, begins_with_letter}
-use Rattle.definition_inline.specs.HtmlText.{after_first, comment_rest, cdata, html_text_at}
+use Rattle.definition_inline.specs.HtmlText.{after_text, comment_rest, cdata, html_text_at}
 use Rattle.inline_links.specs.Codes.{IsRest}
 use Rattle.inline_leaves.specs.HtmlText.{html_after}
 use Rattle.inline_leaves.specs.Searched.{Lacks}
@@ -16,50 +16,50 @@ use Rattle.inline_leaves.proofs.Fronts.{begun}
 use Rattle.inline_leaves.proofs.HtmlTextLemmas.{AreBytes, html_off, html_other, html_none}
 
 -- what stands nowhere stands nowhere later
-later_none : (text xs : List ℕ) (k : ℕ) → after_first text xs ≡ None → after_first text (drop k xs) ≡ None
+later_none : (text xs : List ℕ) (k : ℕ) → after_text text xs ≡ None → after_text text (drop k xs) ≡ None
 later_none text xs zero h = h
 later_none text [] (suc k) h = refl
 later_none text (b ∷ bs) (suc k) h = elim (cases_Bool (begins_with text (b ∷ bs))) [
-  | inl there ↦ absurd (none-some _ (sym h ∙ cond-true (begins_with text (b ∷ bs)) (Some (drop (length text) (b ∷ bs))) (after_first text bs) there))
-  | inr other ↦ later_none text bs k (sym (cond-false (begins_with text (b ∷ bs)) (Some (drop (length text) (b ∷ bs))) (after_first text bs) other) ∙ h)
+  | inl there ↦ absurd (none-some _ (sym h ∙ cond-true (begins_with text (b ∷ bs)) (Some (drop (length text) (b ∷ bs))) (after_text text bs) there))
+  | inr other ↦ later_none text bs k (sym (cond-false (begins_with text (b ∷ bs)) (Some (drop (length text) (b ∷ bs))) (after_text text bs) other) ∙ h)
 ]
 
-pub known_none : (text content rest : List ℕ) (known : ℕ) → Lacks text content known → IsRest content rest → length rest ≤ known → after_first text rest ≡ None
+pub known_none : (text content rest : List ℕ) (known : ℕ) → Lacks text content known → IsRest content rest → length rest ≤ known → after_text text rest ≡ None
 known_none text content rest known lacks place short =
     let more = (length content - length rest) - (length content - known) in
     let e : length content - known + more ≡ length content - length rest = omega arith in
-    ap (after_first text) (place.place ∙ ap (λ k. drop k content) (sym e) ∙ sym (drop-drop more (length content - known) content))
+    ap (after_text text) (place.place ∙ ap (λ k. drop k content) (sym e) ∙ sym (drop-drop more (length content - known) content))
     ∙ later_none text (drop (length content - known) content) more lacks
 
-pub now_known : (text content rest : List ℕ) → IsRest content rest → None ≡ after_first text rest → Lacks text content (length rest)
-now_known text content rest place none = ap (after_first text) (sym place.place) ∙ sym none
+pub now_known : (text content rest : List ℕ) → IsRest content rest → None ≡ after_text text rest → Lacks text content (length rest)
+now_known text content rest place none = ap (after_text text) (sym place.place) ∙ sym none
 
 -- ---- raw HTML that nothing closes
 
 pub no_comment_end : (xs : List ℕ) → begins_with (codes "<!--") xs ≡ true → begins_with (codes ">") (drop 4 xs) ≡ false
     → begins_with (codes "->") (drop 4 xs) ≡ false
-    → after_first (codes "-->") (drop 4 xs) ≡ None → html_after xs ≡ None
+    → after_text (codes "-->") (drop 4 xs) ≡ None → html_after xs ≡ None
 no_comment_end xs opens short dash none =
     let e = begun (codes "<!--") xs opens in
     let rest : comment_rest (drop 4 xs) ≡ None = cond-false _ _ _ short ∙ cond-false _ _ _ dash ∙ none in
     ap html_after e ∙ ap (λ o. option_or o None) rest
 
-pub no_instruction_end : (xs : List ℕ) → begins_with (codes "<?") xs ≡ true → after_first (codes "?>") (drop 2 xs) ≡ None → html_after xs ≡ None
+pub no_instruction_end : (xs : List ℕ) → begins_with (codes "<?") xs ≡ true → after_text (codes "?>") (drop 2 xs) ≡ None → html_after xs ≡ None
 no_instruction_end xs opens none = ap html_after (begun (codes "<?") xs opens) ∙ ap (λ o. option_or o None) none
 
-pub no_cdata_end : (xs : List ℕ) → begins_with (codes "<![CDATA[") xs ≡ true → after_first (codes "]]>") (drop 9 xs) ≡ None → html_after xs ≡ None
+pub no_cdata_end : (xs : List ℕ) → begins_with (codes "<![CDATA[") xs ≡ true → after_text (codes "]]>") (drop 9 xs) ≡ None → html_after xs ≡ None
 no_cdata_end xs opens none = ap html_after (begun (codes "<![CDATA[") xs opens) ∙ none
 
-pub no_declaration_end : (xs : List ℕ) → begins_with (codes "<!") xs ≡ true → begins_with_letter (drop 2 xs) ≡ true → after_first (codes ">") (drop 2 xs) ≡ None
+pub no_declaration_end : (xs : List ℕ) → begins_with (codes "<!") xs ≡ true → begins_with_letter (drop 2 xs) ≡ true → after_text (codes ">") (drop 2 xs) ≡ None
     → html_after xs ≡ None
 no_declaration_end xs opens letter none =
     let e = begun (codes "<!") xs opens in
     by_rest (drop 2 xs) letter none (ap html_after e)
   where
-    by_rest : (ys : List ℕ) → begins_with_letter ys ≡ true → after_first (codes ">") ys ≡ None → html_after xs ≡ html_after (60 ∷ 33 ∷ ys)
+    by_rest : (ys : List ℕ) → begins_with_letter ys ≡ true → after_text (codes ">") ys ≡ None → html_after xs ≡ html_after (60 ∷ 33 ∷ ys)
         → html_after xs ≡ None
     by_rest ys letter none e =
-        e ∙ ap (λ o. option_or o (option_or (cond (begins_with_letter ys) (after_first (codes ">") ys) None) (cdata (60 ∷ 33 ∷ ys))))
+        e ∙ ap (λ o. option_or o (option_or (cond (begins_with_letter ys) (after_text (codes ">") ys) None) (cdata (60 ∷ 33 ∷ ys))))
         (cond-false _ _ _ (not_comment ys letter))
         ∙ ap (λ o. option_or o (cdata (60 ∷ 33 ∷ ys))) (cond-true (begins_with_letter ys) _ _ letter ∙ none)
         ∙ cond-false _ _ _ (not_cdata ys letter)

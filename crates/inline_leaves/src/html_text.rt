@@ -9,7 +9,7 @@
 //! A text ends where what closes it stands first. In a tag a line ending is white space.
 ghost use Rattle.std.specs.Prelude.{◌≡◌, ◌≤◌, IfSome, codes, drop, length, false};
 ghost use Rattle.std.specs.Option.{option_map};
-ghost use Rattle.definition_inline.specs.HtmlText.{after_first, comment, instruction, declaration, cdata, html_text_at};
+ghost use Rattle.definition_inline.specs.HtmlText.{after_text, comment, instruction, declaration, cdata, html_text_at};
 ghost use Rattle.definition_text.specs.Bytes.{begins_with};
 ghost use Rattle.definition_text.specs.Content.{content_codes};
 ghost use Rattle.inline_tags.specs.Views.{place_of};
@@ -149,7 +149,7 @@ pub(crate) fn begins_cdata(bytes: &[u8]) -> bool
 pub fn text_end(text: &[u8], bytes: &[u8], start: usize) -> Option<usize>
     requires start { start ≤ length bytes.now }
     requires text { ClosesText text.now }
-    ensures read { option_map (λ end. drop end bytes.now) result ≡ after_first text.now (drop start bytes.now) }
+    ensures read { option_map (λ end. drop end bytes.now) result ≡ after_text text.now (drop start bytes.now) }
     ensures place { IfSome result (λ end. IsClosed bytes.now end) }
 {
     for i in start..bytes.len() {

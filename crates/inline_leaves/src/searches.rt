@@ -1,7 +1,7 @@
 //! Searches to the end of a content that found nothing, so that none is made twice.
 ghost use Rattle.std.specs.Prelude.{◌≡◌, ◌≤◌, None, codes, length, true};
 ghost use Rattle.std.specs.Option.{ForSome};
-ghost use Rattle.definition_inline.specs.HtmlText.{after_first};
+ghost use Rattle.definition_inline.specs.HtmlText.{after_text};
 ghost use Rattle.inline_links.specs.Codes.{IsRest};
 ghost use Rattle.inline_leaves.specs.HtmlText.{html_after, ClosesText};
 ghost use Rattle.inline_leaves.specs.RawRuns.{marker_byte, AreLastRuns};
@@ -170,7 +170,7 @@ fn search(text: &[u8], content: &[u8], rest: &[u8], known: usize) -> usize
     requires known { Lacks text.now content.now known }
     requires rest { IsRest content.now rest.now }
     ensures known { Lacks text.now content.now result }
-    ensures rest { length rest.now ≤ result → after_first text.now rest.now ≡ None }
+    ensures rest { length rest.now ≤ result → after_text text.now rest.now ≡ None }
 {
     if rest.len() <= known {
         return known;

@@ -3,7 +3,7 @@ use Rattle.std.specs.Prelude.{codes}
 use Rattle.std.proofs.lemmas.Bool.{leb-true}
 use Rattle.inline_links.specs.Codes.{IsRest}
 use Rattle.definition_text.specs.Bytes.{begins_with, begins_with_letter}
-use Rattle.definition_inline.specs.HtmlText.{after_first}
+use Rattle.definition_inline.specs.HtmlText.{after_text}
 use Rattle.inline_leaves.proofs.Searching.{rest_after_text, no_comment_end, no_instruction_end, no_cdata_end, no_declaration_end}
 use Rattle.inline_leaves.proofs.searches.Searches.lacks_end.Goals as goal
 
@@ -37,17 +37,17 @@ returns-then-starts_with-clause-none g c = λ short.
     no_comment_end c.args.bytes.now (sym c.starts_with.ensures.value ∙ c.if-starts_with.true)
     (ap (begins_with (codes ">")) text ∙ sym c.starts_with-then-starts_with.ensures.value ∙ c.if-starts_with-2.false)
     (ap (begins_with (codes "->")) text ∙ sym c.starts_with-else-starts_with-2.ensures.value ∙ c.if-starts_with-3.false)
-    (ap (after_first (codes "-->")) text ∙ c.search-self.ensures.rest (leb-true _ _ short))
+    (ap (after_text (codes "-->")) text ∙ c.search-self.ensures.rest (leb-true _ _ short))
 
 pub returns-then-starts_with-4-clause-none : goal.returns-then-starts_with-4-clause-none
 returns-then-starts_with-4-clause-none g c = λ short.
     no_instruction_end c.args.bytes.now (sym c.starts_with-2.ensures.value ∙ c.if-starts_with-4.true)
-    (ap (after_first (codes "?>")) (sym c.from-rest-then-starts_with-4.ensures) ∙ c.search-self-then-starts_with-4.ensures.rest (leb-true _ _ short))
+    (ap (after_text (codes "?>")) (sym c.from-rest-then-starts_with-4.ensures) ∙ c.search-self-then-starts_with-4.ensures.rest (leb-true _ _ short))
 
 pub returns-then-begins_cdata-clause-none : goal.returns-then-begins_cdata-clause-none
 returns-then-begins_cdata-clause-none g c = λ short.
     no_cdata_end c.args.bytes.now (sym c.begins_cdata.ensures ∙ c.if-begins_cdata.true)
-    (ap (after_first (codes "]]>")) (sym c.from-rest-then-begins_cdata.ensures) ∙ c.search-self-then-begins_cdata.ensures.rest (leb-true _ _ short))
+    (ap (after_text (codes "]]>")) (sym c.from-rest-then-begins_cdata.ensures) ∙ c.search-self-then-begins_cdata.ensures.rest (leb-true _ _ short))
 
 pub returns-then-begins_with_letter-clause-none : goal.returns-then-begins_with_letter-clause-none
 returns-then-begins_with_letter-clause-none g c = λ short.
@@ -55,4 +55,4 @@ returns-then-begins_with_letter-clause-none g c = λ short.
     let letter = ap begins_with_letter (sym c.from.ensures) ∙ sym c.begins_with_letter.ensures ∙ c.if-begins_with_letter.true in
     let none = c.search-self-then-begins_with_letter.ensures.rest (leb-true _ _ short) in
     no_declaration_end xs (sym c.starts_with-3.ensures.value ∙ c.if-starts_with-5.true) letter
-    (ap (after_first (codes ">")) (sym c.from-rest-then-begins_with_letter.ensures) ∙ none)
+    (ap (after_text (codes ">")) (sym c.from-rest-then-begins_with_letter.ensures) ∙ none)
