@@ -2,7 +2,7 @@
 use Rattle.std.proofs.Common.{◌≡◌, ℕ, List, [], ◌∷◌, map, refl, ap}
 use Rattle.std.specs.List.{fold}
 use Rattle.markdown_options.specs.declared.configuration.CompileOptions.{CompileOptions}
-use Rattle.definition_page.specs.Pieces.{Piece, Open, Close, Void, Says, Eol, Fresh, CallOf, CountOf, NoteStart, NoteEnd, print, layout}
+use Rattle.definition_page.specs.Pieces.{Piece, Open, Close, Void, Says, Eol, Fresh, CallOf, CountOf, NoteStart, NoteEnd, print}
 use Rattle.definition_page.specs.Layout.{LayoutState, layout_state, lay, note_of, page_layout}
 use Rattle.definition_page.specs.GfmFootnoteDefinition.{section_pieces}
 
@@ -33,7 +33,11 @@ plain_laid options default (CountOf place label ∷ ps) are l = absurd are.0
 plain_laid options default (NoteStart ∷ ps) are l = absurd are.0
 plain_laid options default (NoteEnd ∷ ps) are l = absurd are.0
 
--- a page of such pieces has no section of footnotes
+-- such pieces, one after another
+abbrev pub layout : List ℕ → List Piece → List ℕ
+layout default pieces = fold (print default) [] pieces
+
+-- a page of them has no section of footnotes
 pub plain_page : (options : CompileOptions) (default : List ℕ) (ps : List Piece) → ArePlain ps → page_layout options default ps ≡ layout default ps
 plain_page options default ps are =
     ap (λ (l : LayoutState). fold (print default) l.text (section_pieces options (map (note_of l.notes) l.called)))

@@ -1,6 +1,5 @@
--- What is printed, piece by piece, and how it is laid out.
-use Rattle.std.specs.Prelude.{ℕ, Bool, true, if◌then◌else◌, ◌==◌, ◌||◌, List, [], ◌++◌, Option, None, Some, slice_get, length, ◌-◌}
-use Rattle.std.specs.List.{fold}
+-- What is printed, piece by piece.
+use Rattle.std.specs.Prelude.{ℕ, Bool, true, if◌then◌else◌, ◌==◌, ◌||◌, List, ◌++◌, Option, None, Some, slice_get, length, ◌-◌}
 use Rattle.definition_text.specs.Ascii.{line_feed, carriage_return}
 use Rattle.definition_page.specs.Tags.{PrintedPart, said_bytes, Tag, start_tag, end_tag, void_tag}
 
@@ -37,7 +36,3 @@ print default out (Says said) = out ++ said_bytes said
 print default out Eol = out ++ default
 print default out Fresh = if is_fresh out then out else out ++ default
 print default out piece = out
-
--- pieces without footnotes, one after another
-abbrev pub layout : List ℕ → List Piece → List ℕ
-layout default pieces = fold (print default) [] pieces

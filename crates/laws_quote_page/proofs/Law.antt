@@ -15,7 +15,7 @@ use Rattle.definition_inline.specs.Definition.{Definition}
 use Rattle.definition_page.specs.TextTables.{TextTables}
 use Rattle.definition_page.specs.Targets.{targets, document_definitions, linked_by, with_spaces}
 use Rattle.definition_page.specs.Tags.{end_tag}
-use Rattle.definition_page.specs.Pieces.{Close, Fresh, layout}
+use Rattle.definition_page.specs.Pieces.{Close, Fresh}
 use Rattle.definition_page.specs.InlinePieces.{Meaning}
 use Rattle.definition_page.specs.BlockPieces.{at_top, inside, fresh_unless, children_pieces}
 use Rattle.definition_page.specs.DocumentPieces.{pieces, default_ending}
@@ -23,7 +23,7 @@ use Rattle.definition_page.specs.Read as read
 use Rattle.definition_page.specs.Read.{Reading, on_page, in_container, read_blocks, ends_blank, page_with, read_after}
 use Rattle.definition_page.specs.Html.{html}
 use Rattle.definition_page.specs.Layout.{page_layout}
-use Rattle.definition_page.proofs.PlainLayout.{plain_page}
+use Rattle.definition_page.proofs.PlainLayout.{layout, plain_page}
 use Rattle.laws_quote.specs.Quoted.{quote_lines}
 use Rattle.laws_quote.specs.Laws.{quoted_line, quote_of}
 use Rattle.laws_quote.proofs.Tabs.{Tabless-from_All, Tabless-to_All, quoted_tabless}
