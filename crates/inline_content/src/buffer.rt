@@ -9,8 +9,7 @@ use block_rows::{Piece, push_ending, push_line};
 use definition_text::Kind;
 use std::alloc::{AllocError, Allocator};
 
-/// The content of the lines of a block. It can be used again for another block, with no new memory
-/// where that isn't larger.
+/// The content of the lines of a block. Its memory is used again for the next block.
 #[derive(Drop)]
 pub struct ContentBuffer<A: Allocator> {
     pub(crate) text: String<A>,

@@ -14,7 +14,7 @@ use std::alloc::{AllocError, Allocator};
 
 /// Makes `normal` the label as it is matched: its case folded in full, no white space at the ends,
 /// and one space for white space inside (CommonMark 6.3). The label is what stands between its
-/// brackets. Without memory `normal` holds the beginning of it.
+/// brackets.
 pub fn normalize_label<A: Allocator>(normal: &mut String<A>, label: &[u8]) -> Result<(), AllocError>
     ensures { OnOk result (string_bytes normal.new ≡ normal_label (content_codes label.now)) }
 {

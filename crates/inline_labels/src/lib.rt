@@ -1,4 +1,4 @@
-//! Labels of link reference definitions, as they are matched.
+//! Labels of definitions, as they are matched.
 #![tactic(auto)]
 
 pub mod label;

@@ -40,6 +40,6 @@ pub enum InlineRow<'a> {
     /// A call of a footnote: the label between its brackets, as it is written. It is the label of a
     /// footnote definition of the document once both are folded.
     Call(&'a str),
-    /// The end of the innermost of those.
+    /// The end of the innermost span, link or image that is open.
     Exit,
 }

@@ -17,8 +17,7 @@ use crate::run::Run;
 use crate::spans::{OpenedPairs, RunSpans};
 use std::alloc::{AllocError, Allocator};
 
-/// The pairs of the runs of one container. It can be used again for another container, with no
-/// new memory where that has no more runs.
+/// The pairs of the runs of one container. Its memory is used again for the next container.
 #[derive(Drop)]
 pub struct Pairing<A: Allocator> {
     openers: Openers<A>,
