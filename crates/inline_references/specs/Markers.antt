@@ -27,11 +27,12 @@ is_value_byte marker b =
     if marker == hexadecimal_marker then is_ascii_hexdigit b
     else (if marker == decimal_marker then is_ascii_digit b else is_ascii_alphanumeric b)
 
--- the marker of what begins with these bytes after its `&`
+-- the marker of a number, by the bytes after its `#`
 abbrev pub number_marker : List ℕ → ℕ
 number_marker [] = decimal_marker
 number_marker (b ∷ bs) = if (b == small_x) || (b == capital_x) then hexadecimal_marker else decimal_marker
 
+-- the marker of what begins with these bytes after its `&`
 abbrev pub marker_of : List ℕ → ℕ
 marker_of [] = name_marker
 marker_of (b ∷ bs) = if b == number_sign then number_marker bs else name_marker

@@ -19,10 +19,11 @@ opener_view o = placed_view o.placed
 abbrev pub openers_view : {A : Type 0} → Openers A → List PlacedOf
 openers_view o = map opener_view o.openers.items
 
--- what matters of a closer
+-- the size of a run of tildes, which goes with as many, and otherwise 0
 abbrev pub tilde_count : RunOf → ℕ
 tilde_count c = if is_tilde c.marker then c.left else 0
 
+-- what matters of a closer
 abbrev pub want_of : RunOf → Want
 want_of c = record { marker = c.marker; may_open = c.may_open; rest = c.left % 3; tildes = tilde_count c }
 
