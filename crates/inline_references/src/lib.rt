@@ -1,7 +1,7 @@
 //! Character references (CommonMark 2.5).
 //!
 //!     reference ::= '&' name ';' | '&#' digit{1,7} ';' | '&#' ('x' | 'X') hexadecimal{1,6} ';'
-//!     name      ::= letter or digit{1,31}
+//!     name      ::= (letter | digit){1,31}
 //!
 //! Which names there are, the caller's tables say. A byte, the marker, says how a value is
 //! written: `&` a name, `#` decimal digits, `x` hexadecimal ones.

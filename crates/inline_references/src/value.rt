@@ -55,6 +55,7 @@ pub fn numeric_character(digits: &str, radix: u32) -> char
     }
 }
 
+/// The character of a number: U+FFFD in place of one that a text may not have (CommonMark 2.5).
 pub fn character_of(code: u32) -> char
     ensures { result ≡ character_of code }
 {

@@ -18,6 +18,7 @@ pub enum LinkTarget<'a> {
 /// Text that is printed as it is: it has no NUL, `"`, `&`, `<` and `>`.
 #[derive(Clone, Copy)]
 pub struct VerbatimText<'a> {
+    /// Its bytes.
     pub text: &'a str,
     pub ghost same: { encode text.now ≡ text.now },
 }

@@ -9,15 +9,20 @@ use crate::run::Run;
 /// What a pair of runs stands for (CommonMark 6.2 and GFM 6.5).
 #[derive(Clone, Copy)]
 pub enum Span {
+    /// Emphasis, of one `*` or `_` on each side.
     Emphasis,
+    /// Strong emphasis, of two.
     Strong,
+    /// Strikethrough, of one or two `~`.
     Strikethrough,
 }
 
 /// Two runs that go together, by their places among the runs of their container.
 #[derive(Clone, Copy)]
 pub struct Pair {
+    /// The run that opens the span.
     pub opener: usize,
+    /// The run that closes it.
     pub closer: usize,
     /// Whether it takes two bytes of each run, and not one.
     pub double: bool,

@@ -16,24 +16,40 @@ ghost use Rattle.inline_tags.specs.Views.{rest_of, place_of};
 
 use text_bytes::is_space_or_tab;
 
-/// A place in a tag, named by what was read last.
+/// A place in a tag: where in it the next byte stands.
 #[derive(Clone, Copy, Debug, PartialEq, Eq)]
 pub enum Place {
+    /// After `<`.
     NameStart,
+    /// In the name of an open tag.
     Name,
+    /// After white space, where an attribute may begin.
     Space,
+    /// In the name of an attribute.
     Attribute,
+    /// After white space that follows the name of an attribute.
     AttributeSpace,
+    /// After `=`, and after white space that follows it.
     Equals,
+    /// In a value without quotes.
     Unquoted,
+    /// In a value between double quotes.
     DoubleQuoted,
+    /// In a value between single quotes.
     SingleQuoted,
+    /// After a value between quotes.
     Quoted,
+    /// After `/`.
     Slash,
+    /// After the `</` of a closing tag.
     ClosingStart,
+    /// In the name of a closing tag.
     ClosingName,
+    /// After white space that follows the name of a closing tag.
     ClosingSpace,
+    /// After the `>` of a tag.
     End,
+    /// Where no tag is.
     Nowhere,
 }
 
