@@ -5,13 +5,13 @@
 //! linear in the number of runs and their bytes.
 ghost use Rattle.std.specs.Prelude.{◌≡◌, ◌<◌, ◌+◌, List, [], length, reverse, OnOk, IfOk};
 ghost use Rattle.definition_inline.specs.Attention.{Run as RunOf};
-ghost use Rattle.definition_inline.specs.Pairing.{pairs, next_run, up_to_nearest, with_pair};
+ghost use Rattle.definition_inline.specs.Pairing.{next_run, up_to_nearest, with_pair};
 ghost use Rattle.inline_runs.specs.View.{runs_view, pairs_view};
 ghost use Rattle.inline_runs.specs.Floors.{placed_view, openers_view};
 ghost use Rattle.inline_runs.specs.Paired.{IsPaired, BecomesRows, closed_at, opened_at};
 
 use crate::openers::{Openers, PlacedRun};
-use crate::pair::{Pair, is_double};
+use crate::pair::is_double;
 use crate::pairs::Pairs;
 use crate::run::Run;
 use crate::spans::{OpenedPairs, RunSpans};
@@ -42,13 +42,6 @@ impl<A: Allocator> Pairing<A> {
     ghost use Rattle.inline_runs.specs.Paired.{nearest_opener, rest_of_closer, state, IsSound, IsComplete, run_count, run_sizes};
     ghost use Rattle.inline_runs.specs.Threads.{HasThreads};
     ghost use Rattle.inline_runs.specs.Laid.{AreTexts};
-
-    /// The pairs, in the order of their closers, and of one closer the innermost first.
-    pub fn pairs(&self) -> &[Pair]
-        ensures { (runs : List RunOf) → IsPaired self.now runs → pairs_view result.now ≡ pairs runs }
-    {
-        &self.pairs.pairs
-    }
 
     /// What the run at a place becomes (CommonMark 6.2).
     pub fn spans(&self, place: usize) -> RunSpans<'_>
