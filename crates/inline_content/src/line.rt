@@ -1,5 +1,5 @@
 //! The content of one line (CommonMark 4.8).
-ghost use Rattle.std.specs.Prelude.{◌≡◌, ◌<◌, [], ℕ, Bool, IfSome, is_some, slice_index};
+ghost use Rattle.std.specs.Prelude.{◌≡◌, ◌<◌, ℕ, Bool, IfSome, is_some, slice_index};
 ghost use Rattle.definition_text.specs.BlockLines.{own_lines};
 ghost use Rattle.definition_text.specs.InlineCode.{inline_content};
 ghost use Rattle.block_rows.specs.Rows.{piece_lines};

@@ -1,5 +1,5 @@
 //! The content of whole lines, which stand right after another in the text (CommonMark 4.8).
-ghost use Rattle.std.specs.Prelude.{◌≡◌, ℕ, Bool, []};
+ghost use Rattle.std.specs.Prelude.{◌≡◌, ℕ, Bool};
 ghost use Rattle.definition_text.specs.Ascii.{line_feed, carriage_return};
 ghost use Rattle.definition_text.specs.Content.{content_text};
 ghost use Rattle.block_rows.specs.Rows.{whole_lines};

@@ -3,7 +3,7 @@
 //!     resource ::= '(' white (destination (white title)? white)? ')'
 //!
 //! A title is set off by at least one space, tab or line ending.
-ghost use Rattle.std.specs.Prelude.{◌≡◌, IfSome, []};
+ghost use Rattle.std.specs.Prelude.{◌≡◌, IfSome};
 ghost use Rattle.definition_text.specs.Content.{content_codes};
 ghost use Rattle.definition_inline.specs.Resource.{after_destination, opens_title, resource_at, resource_end, resource_inside};
 ghost use Rattle.inline_links.specs.Codes.{IsShorterRest, IsRest};

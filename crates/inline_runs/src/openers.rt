@@ -6,7 +6,6 @@ ghost use Rattle.std.specs.Prelude.{◌≡◌, ◌++◌, ◌-◌, ◌<◌, ◌�
 ghost use Rattle.definition_inline.specs.Pairing.{OpenRun as PlacedOf, up_to_nearest, openers_of, without};
 ghost use Rattle.inline_runs.specs.View.{run_view, bytes_by};
 ghost use Rattle.inline_runs.specs.Floors.{placed_view, tilde_count, want_of, can_close, fits, FitsAt, IsFloor};
-ghost use Rattle.inline_runs.specs.declared.openers.Opener.{Opener};
 
 use crate::gfm_strikethrough::{are_fitting, is_tilde};
 use crate::pair::bytes_by;

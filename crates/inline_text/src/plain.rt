@@ -3,12 +3,12 @@
 //!     text ::= (byte at which nothing starts | (space | tab)+ before something else on its line)*
 //!
 //! Where literals are on (GFM 6.9), text ends also before `ww` and `ht`, in either case.
-ghost use Rattle.std.specs.Prelude.{◌≡◌, ◌<◌, ◌≤◌, ◌+◌, ◌-◌, ◌&&◌, ℕ, true, false, length, slice_index};
+ghost use Rattle.std.specs.Prelude.{◌≡◌, ◌<◌, ◌≤◌, ◌-◌, ℕ, true, false, length, slice_index};
 ghost use Rattle.definition_text.specs.Columns.{is_white};
 ghost use Rattle.definition_text.specs.Content.{is_eol};
 ghost use Rattle.inline_text.specs.declared.plain.TheConstants.{STOPS};
 ghost use Rattle.inline_text.specs.Letters.{IsStop};
-ghost use Rattle.inline_text.specs.Plain.{is_replaced, starts, IsStart};
+ghost use Rattle.inline_text.specs.Plain.{is_replaced, IsStart};
 ghost use Rattle.inline_text.specs.Fronts.{IsTextFront};
 ghost use Rattle.inline_text.specs.Verbatim.{TellsVerbatim};
 ghost use Rattle.std.specs.Str.{IsUtf8};
