@@ -3,7 +3,7 @@ use Rattle.std.specs.Prelude.{Option, None, Some, ℕ, ◌+◌, ◌-◌, Bool, i
 use Rattle.definition_text.specs.declared.beside.Kind.{Kind}
 use Rattle.definition_text.specs.declared.beside.Kind.TheVariants.{Whitespace}
 use Rattle.definition_text.specs.BlockLines.{own_lines}
-use Rattle.definition_text.specs.Content.{is_eol, content_codes}
+use Rattle.definition_text.specs.Content.{return_and_feed, is_eol, content_codes}
 use Rattle.block_rows.specs.Rows.{whole_lines}
 use Rattle.definition_text.specs.InlineCode.{InlineCode, inline_code, inline_content, first_kind, next_kind}
 use Rattle.inline_content.specs.declared.mark.Mark.{Mark}
@@ -12,7 +12,7 @@ use Rattle.inline_content.specs.Marks.{kind_at}
 
 -- how many bytes a code is
 abbrev pub width : ℕ → ℕ
-width code = if code == 257 then 2 else 1
+width code = if code == return_and_feed then 2 else 1
 
 -- what is left of a line, with its ending
 abbrev pub line_rest : List ℕ → List ℕ

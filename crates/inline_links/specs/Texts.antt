@@ -5,7 +5,7 @@ use Rattle.std.specs.Option.{option_map}
 use Rattle.std.specs.Str.{IsUtf8}
 use Rattle.definition_text.specs.Ascii.{line_feed, carriage_return}
 use Rattle.definition_text.specs.Columns.{code_byte}
-use Rattle.definition_text.specs.Content.{content_codes, part}
+use Rattle.definition_text.specs.Content.{return_and_feed, content_codes, part}
 use Rattle.definition_text.specs.Content as content
 use Rattle.definition_inline.specs.Definition.{definition}
 use Rattle.definition_inline.specs.Definition as link_definition
@@ -17,7 +17,7 @@ use Rattle.inline_links.specs.declared.text.TextResource.{TextResource}
 
 -- the bytes of a code
 abbrev pub code_text : ℕ → List ℕ
-code_text code = if code == 257 then carriage_return ∷ line_feed ∷ [] else code_byte code ∷ []
+code_text code = if code == return_and_feed then carriage_return ∷ line_feed ∷ [] else code_byte code ∷ []
 
 -- codes of a text
 abbrev pub IsText : List ℕ → Type 0

@@ -1,6 +1,7 @@
 -- What references that were found stand for, and where they stand.
 use Rattle.std.specs.Prelude.{◌≡◌, ℕ, ◌+◌, ◌-◌, ◌<◌, ◌≤◌, List, ◌∷◌, ◌++◌, length, take, drop, slice_index, IsTrue}
 use Rattle.std.specs.List.{list_all}
+use Rattle.definition_text.specs.Ascii.{semicolon}
 use Rattle.definition_inline.specs.CharacterReference as definition
 use Rattle.definition_inline.specs.CharacterReference.{character_reference}
 use Rattle.inline_references.specs.declared.reference.Reference.{Reference}
@@ -24,7 +25,7 @@ pub record IsPlaced (bytes : List ℕ) (r : Reference) : Type 0 where
   pub value : IsTrue (list_all (is_value_byte r.marker) (value_of bytes r))
   pub within : r.end < length bytes
   pub first : slice_index bytes r.start < 128
-  pub semicolon : slice_index bytes r.end ≡ 59
+  pub semicolon : slice_index bytes r.end ≡ semicolon
 
 -- a reference with its text
 abbrev pub text_reference : CharacterReference → definition.CharacterReference
@@ -33,4 +34,4 @@ text_reference r = character_reference (name_by r.marker r.value.now) r.rest.now
 -- a text after an `&` is its marker, its value, a `;` and its rest
 pub record IsCutFrom (text : List ℕ) (r : CharacterReference) : Type 0 where
   pub marker : r.marker ≡ marker_of text
-  pub parts : drop (marker_size r.marker) text ≡ r.value.now ++ 59 ∷ r.rest.now
+  pub parts : drop (marker_size r.marker) text ≡ r.value.now ++ semicolon ∷ r.rest.now

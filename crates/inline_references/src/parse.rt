@@ -1,6 +1,7 @@
 //! Texts with references in them.
 ghost use Rattle.std.specs.Prelude.{◌≡◌, ◌++◌, ◌∷◌, ◌≤◌, IfOk, IfErr, OnOk, length, string_bytes};
 ghost use Rattle.markdown_options.specs.Messages.{IsOutOfMemory};
+ghost use Rattle.definition_text.specs.Ascii.{ampersand};
 ghost use Rattle.definition_inline.specs.Decoded.{decode};
 ghost use Rattle.inline_references.specs.Printed.{IsDecoded};
 
@@ -46,7 +47,7 @@ fn push_reference<'a, A: Allocator, T: Tables>(
     after: &'a str,
     tables: &T,
 ) -> Result<&'a str, AllocError>
-    ensures printed { IfOk result (λ rest. IsDecoded (T.reference_of tables.now) (string_bytes out.old) (38 ∷ after.now) (string_bytes out.new) rest.now) }
+    ensures printed { IfOk result (λ rest. IsDecoded (T.reference_of tables.now) (string_bytes out.old) (ampersand ∷ after.now) (string_bytes out.new) rest.now) }
     ensures shorter { IfOk result (λ rest. length rest.now ≤ length after.now) }
 {
     let Some(reference) = character_reference(after) else {

@@ -1,5 +1,6 @@
 -- The text at the front of a content (CommonMark 6.9).
 use Rattle.std.specs.Prelude.{◌≡◌, ◌<◌, ◌≤◌, ◌⊎◌, ◌&&◌, ℕ, Bool, true, false, List, drop, length, slice_index}
+use Rattle.definition_text.specs.Ascii.{carriage_return}
 use Rattle.definition_text.specs.Content.{content_codes}
 use Rattle.inline_leaves.specs.Leaves.{IsAfter}
 use Rattle.inline_literals.specs.Literals.{may_begin}
@@ -11,7 +12,7 @@ use Rattle.inline_text.specs.Verbatim.{TellsVerbatim}
 pub record IsTextFront (has_literals : Bool) (bytes : List ℕ) (front : Front) : Type 0 where
   pub within : front.size ≤ length bytes
   pub text : (k : ℕ) → k < front.size → is_text_at (drop k (content_codes bytes)) ≡ true
-  pub plain : (k : ℕ) → k < front.size → slice_index bytes k ≡ 13 → ⊥
+  pub plain : (k : ℕ) → k < front.size → slice_index bytes k ≡ carriage_return → ⊥
   pub bare : has_literals ≡ true → (k : ℕ) → k < front.size → may_begin (drop k bytes) ≡ false
   pub stops : front.size < length bytes → (is_text_at (drop front.size (content_codes bytes)) ≡ false) ⊎ ((has_literals && may_begin (drop front.size bytes)) ≡ true)
   pub ascii : front.size < length bytes → slice_index bytes front.size < 128

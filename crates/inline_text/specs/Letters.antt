@@ -4,10 +4,19 @@ use Rattle.std.specs.Char.{to_ascii_lowercase}
 use Rattle.text_search.specs.declared.set.ByteSet.{ByteSet}
 use Rattle.text_search.specs.Sets.{holds}
 
+abbrev pub small_h : ℕ
+small_h = 104
+
+abbrev pub small_t : ℕ
+small_t = 116
+
+abbrev pub small_w : ℕ
+small_w = 119
+
 -- a literal may begin with two bytes: `ww` or `ht`, in either case
 abbrev pub are_letters : ℕ → ℕ → Bool
 are_letters b next =
-    ((to_ascii_lowercase b == 119) && (to_ascii_lowercase next == 119)) || ((to_ascii_lowercase b == 104) && (to_ascii_lowercase next == 116))
+    ((to_ascii_lowercase b == small_w) && (to_ascii_lowercase next == small_w)) || ((to_ascii_lowercase b == small_h) && (to_ascii_lowercase next == small_t))
 
 -- a byte is one of a set or, where literals are on, the first of two letters
 abbrev pub stops_here : Bool → ByteSet → ℕ → ℕ → Bool
