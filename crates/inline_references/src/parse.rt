@@ -47,7 +47,8 @@ fn push_reference<'a, A: Allocator, T: Tables>(
     after: &'a str,
     tables: &T,
 ) -> Result<&'a str, AllocError>
-    ensures printed { IfOk result (λ rest. IsDecoded (T.reference_of tables.now) (string_bytes out.old) (ampersand ∷ after.now) (string_bytes out.new) rest.now) }
+    ensures printed { IfOk result (λ rest.
+        IsDecoded (T.reference_of tables.now) (string_bytes out.old) (ampersand ∷ after.now) (string_bytes out.new) rest.now) }
     ensures shorter { IfOk result (λ rest. length rest.now ≤ length after.now) }
 {
     let Some(reference) = character_reference(after) else {

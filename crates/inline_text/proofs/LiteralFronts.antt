@@ -69,7 +69,8 @@ bare_at : (on : Bool) (bytes : List ℕ) (k : ℕ) → (on && are_letters (get_o
 bare_at true bytes k none on = letters_at bytes k ∙ none
 bare_at false bytes k none on = absurd (false≢true on)
 
-begins_at : (on : Bool) (bytes : List ℕ) (k : ℕ) → (on && are_letters (get_or bytes k 0) (get_or bytes (k + 1) 0)) ≡ true → (on && may_begin (drop k bytes)) ≡ true
+begins_at : (on : Bool) (bytes : List ℕ) (k : ℕ) → (on && are_letters (get_or bytes k 0) (get_or bytes (k + 1) 0)) ≡ true
+    → (on && may_begin (drop k bytes)) ≡ true
 begins_at true bytes k some = letters_at bytes k ∙ some
 begins_at false bytes k some = absurd (false≢true some)
 

@@ -14,7 +14,8 @@ pub record IsTextFront (has_literals : Bool) (bytes : List ℕ) (front : Front) 
   pub text : (k : ℕ) → k < front.size → is_text_at (drop k (content_codes bytes)) ≡ true
   pub plain : (k : ℕ) → k < front.size → slice_index bytes k ≡ carriage_return → ⊥
   pub bare : has_literals ≡ true → (k : ℕ) → k < front.size → may_begin (drop k bytes) ≡ false
-  pub stops : front.size < length bytes → (is_text_at (drop front.size (content_codes bytes)) ≡ false) ⊎ ((has_literals && may_begin (drop front.size bytes)) ≡ true)
+  pub stops : front.size < length bytes
+      → (is_text_at (drop front.size (content_codes bytes)) ≡ false) ⊎ ((has_literals && may_begin (drop front.size bytes)) ≡ true)
   pub ascii : front.size < length bytes → slice_index bytes front.size < 128
   pub ending : 0 < front.size → IsAfter bytes (drop front.size bytes)
   pub verbatim : TellsVerbatim bytes front

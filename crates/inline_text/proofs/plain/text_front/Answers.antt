@@ -45,7 +45,8 @@ returns c =
       text = is.text;
       plain = is.plain;
       bare = λ on k lt. first.bare on k (omega (arith, lt, c.without_white.ensures.within));
-      stops = λ lt. inl (text_stops bytes size is (white_stops bytes size stop lt c.without_white.ensures.within first.within c.without_white.ensures.white ending));
+      stops = λ lt.
+          inl (text_stops bytes size is (white_stops bytes size stop lt c.without_white.ensures.within first.within c.without_white.ensures.white ending));
       ascii = ascii;
       ending = text_end bytes size is;
       verbatim = λ is k lt. c.next_start-stop.ensures.verbatim is k (omega (arith, lt, c.without_white.ensures.within));
