@@ -46,6 +46,10 @@ pub fn program<R: Read, W: Write, F: Write>(
     ensures help { result ≡ 0 → (faults_of (word_texts words.now) ≡ []) ⊎ HasFault (faults_of (word_texts words.now)) true }
     ensures unread { ¬ (faults_of (word_texts words.now) ≡ []) → reader.new ≡ reader.old }
 
+    // Whatever the status, nothing is written unless a page, the help or the version is asked for.
+    ensures kept { (faults_of (word_texts words.now) ≡ []) ⊎ HasFault (faults_of (word_texts words.now)) true
+        ⊎ Keeps (W.contents (device writer.old)) (W.contents (device writer.new)) }
+
     // 2: the words are no command line, and nothing was written.
     ensures words { result ≡ 2 → HasFault (faults_of (word_texts words.now)) false }
     ensures nothing { result ≡ 2 → Keeps (W.contents (device writer.old)) (W.contents (device writer.new)) }
@@ -77,6 +81,8 @@ fn obey<R: Read, W: Write>(
     ensures asked { faults_of (word_texts words.now) ≡ [] → IfErr result (λ fault. status_of fault ≡ 1) }
     ensures help { OnOk result ((faults_of (word_texts words.now) ≡ []) ⊎ HasFault (faults_of (word_texts words.now)) true) }
     ensures unread { ¬ (faults_of (word_texts words.now) ≡ []) → reader.new ≡ reader.old }
+    ensures kept { (faults_of (word_texts words.now) ≡ []) ⊎ HasFault (faults_of (word_texts words.now)) true
+        ⊎ Keeps (W.contents (device writer.old)) (W.contents (device writer.new)) }
     ensures words { IfErr result (λ fault. status_of fault ≡ 2 → HasFault (faults_of (word_texts words.now)) false) }
     ensures nothing { IfErr result (λ fault. status_of fault ≡ 2 → Keeps (W.contents (device writer.old)) (W.contents (device writer.new))) }
 {

@@ -1,5 +1,6 @@
 //! The program, on the words that it was started with.
 ghost use Rattle.std.specs.Prelude.{◌≡◌, ◌≤◌};
+ghost use Rattle.std.specs.Io.KnownBytes.{Keeps};
 ghost use Rattle.markdown.specs.Statuses.{unread_status};
 
 use crate::command::program;
@@ -9,13 +10,17 @@ use std::io::{self, ErrorKind, Read, Write};
 use std::rt::{Env, Files};
 
 /// Runs [`program`] on the words of the command line, and answers its status.
+///
+/// With status 0 there is no complaint. That the words and the devices are those that it was given
+/// is only tested.
 pub fn start<R: Read + Drop, W: Write + Drop, F: Write>(
     rt: &(impl Env + Files + AllocGlobal),
     reader: R,
     writer: W,
     faults: &mut F,
 ) -> u8
-    ensures { result ≤ 2 }
+    ensures silent { result ≡ 0 → Keeps (F.contents faults.old) (F.contents faults.new) }
+    ensures status { result ≤ 2 }
 {
     match words(rt) {
         Ok(words) => {
