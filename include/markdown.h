@@ -1,7 +1,8 @@
-/* Markdown to HTML: the calls of the static library libmarkdown_c.a. docs/LIBRARY.md says how to build and link it.
+/* Markdown to HTML: the calls of libmarkdown.a and libmarkdown.so. docs/LIBRARY.md says how to build and link them.
  *
  * Texts and pages are UTF-8, with their length in bytes, and no byte ends them. No call aborts, and none keeps anything
- * between calls, so several threads may call at once. What a call takes from malloc, it gives back before it ends. */
+ * between calls, so several threads may call at once. What a call takes from malloc, it gives back before it ends, but for
+ * the buffer that markdown_convert_growing hands over. */
 #ifndef MARKDOWN_H
 #define MARKDOWN_H
 

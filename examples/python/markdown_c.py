@@ -1,4 +1,4 @@
-"""Markdown to HTML, over the library of C calls, made a shared one (examples/run.sh says how)."""
+"""Markdown to HTML, over the shared library of C calls, which `./install.sh --library` makes."""
 import ctypes
 import os
 
