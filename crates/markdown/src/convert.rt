@@ -1,4 +1,7 @@
 //! From a text to HTML.
+//!
+//! Of quoted, listed and escaped texts and of other line endings the calls promise the laws of
+//! docs/LAWS.md, each under its premises (`specs/PageLaws.antt`).
 ghost use Rattle.std.specs.Prelude.{◌≡◌, ◌/◌, ◌≤◌, ◌↔◌, IsTrue, IfOk, IfErr, length, string_bytes};
 ghost use Rattle.markdown_options.specs.Mdx.{HasNoMdx};
 ghost use Rattle.markdown_options.specs.Messages.{IsOutOfMemory};
@@ -32,10 +35,8 @@ pub fn fits(value: &str) -> bool
 
 /// The HTML of a text, with the default options and the tables that are built in.
 ///
-/// The text fits. The only error is want of memory. The HTML is a safe page, and has one reading
-/// as such. A text with `> ` before every line gives the quote of that text's HTML, one with `+ `
-/// before its first line and two spaces before every other a list around it, an escaped line a
-/// paragraph that says it, and a text with another line ending that text's HTML with that ending.
+/// The text [`fits`]: at most `usize::MAX / 8` bytes. The only error is want of memory. The HTML is
+/// a safe page, and has one reading as such.
 pub fn to_html<A: Allocator + Clone>(alloc: A, value: &str) -> Result<String<A>, Message>
     requires size { length value.now ≤ SIZE_MAX }
     ensures page { IfOk result (λ page. string_bytes page ≡ html builtin_tables value.now default_options) }
@@ -51,12 +52,9 @@ pub fn to_html<A: Allocator + Clone>(alloc: A, value: &str) -> Result<String<A>,
 
 /// The HTML of a text, with the tables that are built in.
 ///
-/// The text fits, and the options turn on no construct of MDX, which `Constructs::has_mdx` tests.
+/// The text [`fits`], and the options turn on no construct of MDX, which `Options::has_mdx` tests.
 /// The only error is want of memory. Under safe options the HTML is a safe page, and has one
-/// reading as such. A text with `> ` before every line gives the quote of that text's HTML, one
-/// with `+ ` before its first line and two spaces before every other a list around it, an escaped
-/// line a paragraph that says it, and a text with another line ending that text's HTML with that
-/// ending.
+/// reading as such.
 pub fn to_html_with_options<A: Allocator + Clone>(
     alloc: A,
     value: &str,
@@ -77,12 +75,9 @@ pub fn to_html_with_options<A: Allocator + Clone>(
 
 /// The HTML of a text, with tables of named references and punctuation.
 ///
-/// The text fits, and the options turn on no construct of MDX, which `Constructs::has_mdx` tests.
+/// The text [`fits`], and the options turn on no construct of MDX, which `Options::has_mdx` tests.
 /// The only error is want of memory. Under safe options the HTML is a safe page, and has one
-/// reading as such. A text with `> ` before every line gives the quote of that text's HTML, one
-/// with `+ ` before its first line and two spaces before every other a list around it, an escaped
-/// line a paragraph that says it, and a text with another line ending that text's HTML with that
-/// ending.
+/// reading as such.
 pub fn to_html_with_tables<T: Tables, A: Allocator + Clone>(
     alloc: A,
     value: &str,

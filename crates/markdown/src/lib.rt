@@ -1,5 +1,12 @@
 //! Markdown to safe HTML.
 //!
+//! Begin with [`to_html`]; [`fits`] tests its one condition.
+//!
+//!     let text = "# Hello, *world*!";
+//!     if fits(text) {
+//!         let page = to_html(rt.alloc(), text)?; // <h1>Hello, <em>world</em>!</h1>
+//!     }
+//!
 //! The calls and their types stand here by name; the modules have the names of the Rust crate's
 //! files.
 #![tactic(auto)]
@@ -36,7 +43,7 @@ pub mod encode {
     pub use html_escape::encode::encode;
 }
 
-/// Raw HTML without the elements that are taken out (GFM 6.11).
+/// Raw HTML with `&lt;` for the `<` of some tags (GFM 6.11).
 pub mod gfm_tagfilter {
     pub use html_escape::gfm_tagfilter;
 }

@@ -18,19 +18,25 @@ use std::alloc::{AllocError, Allocator};
 use std::io::{self, Read, Write};
 use thiserror::Error;
 
-/// Why a run gave no whole page.
+/// Why a run gave no whole page. No read or write is tried again, not even one that was interrupted.
 #[derive(Debug, Drop, Error)]
 pub enum RunError {
+    /// More than `usize::MAX / 8` bytes were read.
     #[error("input is too large")]
     Size,
+    /// All was read, and it is not UTF-8.
     #[error("input is not UTF-8")]
     Utf8,
+    /// Memory was refused.
     #[error("out of memory")]
     Memory,
+    /// The reader answered this error.
     #[error("cannot read")]
     Read(io::Error),
+    /// The writer answered this error; a beginning of the page is written.
     #[error("cannot write")]
     Write(io::Error),
+    /// The writer took nothing; a beginning of the page is written.
     #[error("cannot write")]
     Stopped,
 }
