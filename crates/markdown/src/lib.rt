@@ -19,7 +19,7 @@ mod transfer;
 mod watched;
 
 pub use command::program;
-pub use convert::{fits, to_html, to_html_with_options, to_html_with_tables};
+pub use convert::{SIZE_MAX, fits, to_html, to_html_with_options, to_html_with_tables};
 pub use entry::start;
 pub use html_safe_page::is_safe_page;
 pub use markdown_options::{
