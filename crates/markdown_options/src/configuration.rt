@@ -283,7 +283,8 @@ pub struct CompileOptions {
     pub gfm_footnote_label_attributes: Option<String>,
     /// The element of that heading; `h2` if there is none.
     pub gfm_footnote_label_tag_name: Option<String>,
-    /// Whether some elements of dangerous HTML are taken out (GFM 6.11).
+    /// Whether, where HTML is printed as it is, `<` before some names is printed as `&lt;` (GFM
+    /// 6.11).
     pub gfm_tagfilter: bool,
     /// Whether readers can click the checks of items (GFM 5.3).
     pub gfm_task_list_item_checkable: bool,

@@ -59,7 +59,7 @@ pub const HTML_CDATA_PREFIX: [u8; 6] = *b"CDATA[";
 /// The elements whose HTML block runs to a closing tag, in lower case (CommonMark 4.6, kind 1).
 pub const HTML_RAW_NAMES: [&str; 4] = ["pre", "script", "style", "textarea"];
 
-/// The elements that the tag filter takes out, in lower case (GFM 6.11).
+/// The names before which the tag filter prints `<` as `&lt;`, in lower case (GFM 6.11).
 pub const GFM_HTML_TAGFILTER_NAMES: [&str; 9] = [
     "title",
     "textarea",

@@ -32,13 +32,6 @@ impl LineEnding {
             LineEnding::LineFeed => "\n",
         }
     }
-
-    /// The ending that its own text is read as: always itself.
-    pub fn read_back(self) -> Result<LineEnding, LineEndingError>
-        ensures { result ≡ Ok self }
-    {
-        self.as_str().parse()
-    }
 }
 
 /// A line feed.
