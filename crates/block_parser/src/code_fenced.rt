@@ -20,7 +20,7 @@ use block_state::whole_lines::{whole, whole_piece};
 use definition_text::{Beside, Kind};
 use markdown_options::{Constructs, LineEnding};
 use std::alloc::{AllocError, Allocator};
-use text_lines::{Line, next_line};
+use text_lines::next_line;
 
 impl<'a, A: Allocator> Parser<'a, A> {
     ghost use Rattle.std.specs.Prelude.{◌≡◌, IfOk, OnOk, List, Option, ◌≤◌, ◌<◌, ◌+◌, ◌^◌, [], length, true, vec_len};
@@ -114,12 +114,7 @@ impl<'a, A: Allocator> Parser<'a, A> {
                     ending: last,
                 };
                 self.rest = rest;
-                let line = Line {
-                    content,
-                    ending,
-                    text: rest,
-                };
-                self.any_line(on, Kind::Whitespace, line)?;
+                self.any_line(on, Kind::Whitespace, content, ending)?;
                 return Ok(after);
             }
             self.pieces.push(code_piece(&fence, content, ending))?;

@@ -26,7 +26,7 @@ use definition_block::{AlignKind, Container};
 use definition_text::{Beside, Kind};
 use markdown_options::{Constructs, LineEnding};
 use std::alloc::{AllocError, Allocator};
-use text_lines::{Line, next_line};
+use text_lines::next_line;
 
 /// The blocks of a text: rows, and the lines that they take.
 #[derive(Drop)]
@@ -107,12 +107,7 @@ impl<'a, A: Allocator> Parser<'a, A> {
         }
         let (content, ending, rest) = next_line(text);
         self.rest = text;
-        let line = Line {
-            content,
-            ending,
-            text,
-        };
-        self.any_line(on, before, line)?;
+        self.any_line(on, before, content, ending)?;
         Ok(rest)
     }
 
@@ -137,12 +132,7 @@ impl<'a, A: Allocator> Parser<'a, A> {
             }
             if !is_plain_line(on, content) {
                 self.rest = rest;
-                let line = Line {
-                    content,
-                    ending,
-                    text: rest,
-                };
-                self.any_line(on, Kind::Whitespace, line)?;
+                self.any_line(on, Kind::Whitespace, content, ending)?;
                 return Ok(after);
             }
             self.push_line(whole_piece(content, ending))?;
@@ -156,16 +146,15 @@ impl<'a, A: Allocator> Parser<'a, A> {
         &mut self,
         on: &Constructs,
         before: Kind,
-        line: Line<'a>,
+        content: &'a str,
+        ending: Option<LineEnding>,
     ) -> Result<(), AllocError>
+        requires { length content.now < 2 ^ 61 }
         ensures { OnOk result ((t : tree.Tree) → AreLines (tree.open_text t.now) → HasRead self.old (spine_of t) →
-            HasRead self.new (spine_of (tree.step on.now before t (text_line line.entry.content.now line.entry.ending)))) }
+            HasRead self.new (spine_of (tree.step on.now before t (text_line content.now ending)))) }
     {
-        let beside = Beside {
-            before,
-            ending: line.ending,
-        };
-        let (depth, rest, beside) = self.descend(on, Cursor::new(line.content), beside);
+        let beside = Beside { before, ending };
+        let (depth, rest, beside) = self.descend(on, Cursor::new(content), beside);
         if depth < self.open.len() {
             return self.start_line(on, depth, &rest, beside);
         }

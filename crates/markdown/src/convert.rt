@@ -21,7 +21,7 @@ use html_page::print_rows;
 use markdown_options::{LineEnding, Message, Options, Tables};
 use markdown_tables::Builtin;
 use std::alloc::{AllocError, Allocator};
-use text_lines::{Lines, without_mark};
+use text_lines::{next_line, without_mark};
 
 /// The longest text that is read, in bytes.
 pub const SIZE_MAX: usize = usize::MAX / 8;
@@ -144,8 +144,8 @@ fn room(len: usize) -> usize
 
 /// The text's first ending, or another.
 fn default_ending(text: &str, other: LineEnding) -> LineEnding
-    requires { length text.now ≤ SIZE_MAX }
     ensures { (options : Options) → options.compile.default_line_ending ≡ other → result ≡ default_ending options text.now }
 {
-    Lines::first(text).ending.unwrap_or(other)
+    let (_, ending, _) = next_line(text);
+    ending.unwrap_or(other)
 }

@@ -6,5 +6,5 @@ pub mod line;
 pub mod mark;
 
 pub use blank::{is_blank, trim};
-pub use line::{Line, Lines, next_line};
+pub use line::next_line;
 pub use mark::without_mark;

@@ -2,7 +2,7 @@
 //!
 //!     line   ::= content ending?
 //!     ending ::= CR LF | CR | LF
-ghost use Rattle.std.specs.Prelude.{◌≡◌, ◌<◌, ◌≤◌, ◌+◌, ◌^◌, ◌∷◌, length, drop, take, Some, None};
+ghost use Rattle.std.specs.Prelude.{◌≡◌, ◌<◌, ◌≤◌, ◌+◌, ◌∷◌, length, drop, take};
 ghost use Rattle.std.specs.List.{position_or_len};
 ghost use Rattle.definition_text.specs.Lines.{ends_line, lines, first_line, text_line};
 ghost use Rattle.text_lines.specs.Endings.{BeginsWithEnding};
@@ -15,82 +15,6 @@ const ENDS: BytePair = BytePair {
     first: b'\n',
     second: b'\r',
 };
-
-/// A line: its content, and its ending, which a text's last line may lack.
-#[derive(Clone, Copy)]
-pub struct Line<'a> {
-    pub content: &'a str,
-    pub ending: Option<LineEnding>,
-    /// The text from this line on.
-    pub text: &'a str,
-    pub ghost fits: { length content.now < 2 ^ 61 },
-    pub ghost text_fits: { length text.now < 2 ^ 61 },
-}
-
-/// The lines of what is left of a text.
-#[derive(Clone, Copy)]
-pub struct Lines<'a> {
-    rest: &'a str,
-    ghost fits: { length rest.now < 2 ^ 61 },
-}
-
-impl<'a> Lines<'a> {
-    ghost use Rattle.text_lines.specs.Rest.{rest_lines};
-    ghost use Rattle.definition_text.specs.Lines.{lines, first_line, text_line};
-
-    /// The lines of a text.
-    pub fn new(text: &'a str) -> Lines<'a>
-        requires { length text.now < 2 ^ 61 }
-        ensures { rest_lines result ≡ lines text.now }
-    {
-        Lines { rest: text }
-    }
-
-    /// The first line. The empty text begins with an empty line.
-    pub fn first(text: &'a str) -> Line<'a>
-        requires { length text.now < 2 ^ 61 }
-        ensures { text_line result.content.now result.ending ≡ first_line text.now }
-    {
-        let (line, _) = split_first(text);
-        line
-    }
-}
-
-impl<'a> Iterator for Lines<'a> {
-    ghost use Rattle.text_lines.specs.Rest.{rest_lines, view_line};
-    ghost use Rattle.std.specs.Iterator.{YieldsFirstBy, item_count};
-
-    type Item = Line<'a>;
-
-    ghost next_gives = { YieldsFirstBy view_line rest_lines };
-
-    ghost remaining = { item_count rest_lines };
-
-    fn next(&mut self) -> Option<Line<'a>> {
-        if self.rest.is_empty() {
-            return None;
-        }
-        let (line, rest) = split_first(self.rest);
-        self.rest = rest;
-        Some(line)
-    }
-}
-
-/// The first line, and what follows it. The empty text begins with an empty line.
-fn split_first(text: &str) -> (Line<'_>, &str)
-    requires { length text.now < 2 ^ 61 }
-    ensures first { text_line result.0.content.now result.0.ending ≡ first_line text.now }
-    ensures shorter { length result.1.now ≤ length text.now }
-    ensures rest { 0 < length text.now → lines text.now ≡ text_line result.0.content.now result.0.ending ∷ lines result.1.now }
-{
-    let (content, ending, rest) = next_line(text);
-    let line = Line {
-        content,
-        ending,
-        text,
-    };
-    (line, rest)
-}
 
 /// The content of the first line, its ending, and what follows it. The empty text begins with an
 /// empty line.

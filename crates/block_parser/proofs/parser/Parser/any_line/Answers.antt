@@ -21,7 +21,7 @@ returns-then-depth-len g c =
     on_ok_weaker c.start_line.result (λ grows. λ t clean h.
     let p = c.args.self.now in
     let on = c.args.on.now in
-    let b = beside_line c.args.before (text_line c.args.line.content.now c.args.line.ending) in
+    let b = beside_line c.args.before (text_line c.args.content.now c.args.ending) in
     let d = c.descend-depth.ensures.descent t h in
     let depth = c.descend-depth.result.0 in
     let r = rest_of c.descend-depth.result.1 in
@@ -43,7 +43,7 @@ returns-in-Text g c =
     on_ok_weaker c.start_line-in-Text.result (λ grows. λ t clean h.
     let p = c.args.self.now in
     let on = c.args.on.now in
-    let b = beside_line c.args.before (text_line c.args.line.content.now c.args.line.ending) in
+    let b = beside_line c.args.before (text_line c.args.content.now c.args.ending) in
     let d = c.descend-depth.ensures.descent t h in
     let depth = c.descend-depth.result.0 in
     let r = rest_of c.descend-depth.result.1 in
@@ -67,7 +67,7 @@ returns-in-Indented g c =
     on_ok_weaker c.indented_line.result (λ grows. λ t clean h.
     let p = c.args.self.now in
     let on = c.args.on.now in
-    let b = beside_line c.args.before (text_line c.args.line.content.now c.args.line.ending) in
+    let b = beside_line c.args.before (text_line c.args.content.now c.args.ending) in
     let d = c.descend-depth.ensures.descent t h in
     let depth = c.descend-depth.result.0 in
     let r = rest_of c.descend-depth.result.1 in
@@ -87,7 +87,7 @@ returns-in-Fenced g c =
     on_ok_weaker c.fenced_line.result (λ grows. λ t clean h.
     let p = c.args.self.now in
     let on = c.args.on.now in
-    let b = beside_line c.args.before (text_line c.args.line.content.now c.args.line.ending) in
+    let b = beside_line c.args.before (text_line c.args.content.now c.args.ending) in
     let d = c.descend-depth.ensures.descent t h in
     let depth = c.descend-depth.result.0 in
     let r = rest_of c.descend-depth.result.1 in
@@ -107,7 +107,7 @@ returns-in-Html g c =
     on_ok_weaker c.html_line.result (λ grows. λ t clean h.
     let p = c.args.self.now in
     let on = c.args.on.now in
-    let b = beside_line c.args.before (text_line c.args.line.content.now c.args.line.ending) in
+    let b = beside_line c.args.before (text_line c.args.content.now c.args.ending) in
     let d = c.descend-depth.ensures.descent t h in
     let depth = c.descend-depth.result.0 in
     let r = rest_of c.descend-depth.result.1 in
@@ -126,7 +126,7 @@ returns-in-Table g c =
     on_ok_weaker c.start_line-in-Table.result (λ grows. λ t clean h.
     let p = c.args.self.now in
     let on = c.args.on.now in
-    let b = beside_line c.args.before (text_line c.args.line.content.now c.args.line.ending) in
+    let b = beside_line c.args.before (text_line c.args.content.now c.args.ending) in
     let d = c.descend-depth.ensures.descent t h in
     let depth = c.descend-depth.result.0 in
     let r = rest_of c.descend-depth.result.1 in
