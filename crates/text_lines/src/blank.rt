@@ -3,7 +3,7 @@ ghost use Rattle.std.specs.Prelude.{◌≡◌, ◌-◌, drop, take, length};
 ghost use Rattle.std.specs.List.{prefix_len, suffix_len};
 ghost use Rattle.definition_text.specs.Columns.{is_white, is_blank, whole, trim};
 
-use text_bytes::is_space_or_tab;
+use text_bytes::{is_space_or_tab, white_size};
 
 /// Whether a text holds only spaces and tabs.
 pub fn is_blank(text: &str) -> bool
@@ -22,13 +22,7 @@ pub fn trim(text: &str) -> &str
 fn trim_start(text: &str) -> &str
     ensures { result.now ≡ drop (prefix_len is_white text.now) text.now }
 {
-    let bytes = text.as_bytes();
-    for (i, b) in bytes.iter().enumerate() {
-        if !is_space_or_tab(*b) {
-            return &text[i..];
-        }
-    }
-    ""
+    &text[white_size(text.as_bytes())..]
 }
 
 fn trim_end(text: &str) -> &str
