@@ -1,6 +1,6 @@
 -- Blank lines in items and footnote definitions, which all go on.
 use Rattle.std.proofs.Common.{◌≡◌, ℕ, zero, suc, ◌+◌, ◌-◌, ◌<◌, Bool, true, false, not, eqb, List, [], ◌∷◌, ◌++◌, Some, inl, inr, refl, sym, ap, ◌∙◌, subst}
-use Rattle.std.proofs.Common.{length, get_or, arith}
+use Rattle.std.proofs.Common.{if◌then◌else◌, length, get_or, arith}
 use Rattle.std.proofs.Math.Seq.{drop-nil}
 use Rattle.std.proofs.lemmas.Bool.{cases_lt, cond-true, and_parts, ne_eqb}
 use Rattle.std.proofs.lemmas.List.{get_or_append_left, get_or_default, length-append, map-append}
@@ -15,6 +15,7 @@ use Rattle.definition_block.specs.Containers.{continues}
 use Rattle.definition_block.specs.Tree.{Blocks, Opening, Leaf, Inside, Tree, beside_in, began_blank, is_one_blank}
 use Rattle.block_starts.specs.View.{container_view, container_views}
 use Rattle.block_state.specs.Spine.{Level, Spine, spine_at, spine_of, containers_of}
+use Rattle.block_state.proofs.Trees.{choose_if}
 use Rattle.block_parser.specs.Quotes.{is_quote, NoQuoteFrom, NoneBeganBlank}
 use Rattle.block_parser.specs.View.{Descent}
 use Rattle.block_parser.proofs.Closing.{length-containers}
@@ -36,13 +37,22 @@ some_left (c ∷ cs) h = sym (some_codes c cs)
 
 -- ---- where the quotes end
 
-pub no_quote_more : (n : ℕ) (cs : List Container) (c : Container) → is_quote c ≡ false → NoQuoteFrom n cs → NoQuoteFrom n (cs ++ c ∷ [])
-no_quote_more n cs c is h = λ k from to. elim (cases_lt k (length cs)) [
+no_quote_added : (n : ℕ) (cs : List Container) (c : Container) → is_quote c ≡ false → NoQuoteFrom n cs → NoQuoteFrom n (cs ++ c ∷ [])
+no_quote_added n cs c is h = λ k from to. elim (cases_lt k (length cs)) [
   | inl before ↦ ap is_quote (get_or_append_left cs (c ∷ []) Quote k before) ∙ h k from before
   | inr past ↦
       let last : k ≡ length cs = omega (arith, to, past, length-append cs (c ∷ [])) in
       ap (λ i. is_quote (get_or (cs ++ c ∷ []) i Quote)) last ∙ ap is_quote (get-append cs c [] Quote) ∙ is
 ]
+
+-- one that is no quote is added, if there is memory for it
+pub no_quote_more : (n : ℕ) (added : Bool) (old new : List CodeContainer) (c : CodeContainer) → new ≡ (if added then old ++ c ∷ [] else old)
+    → is_quote (container_view c) ≡ false → NoQuoteFrom n (container_views old) → NoQuoteFrom n (container_views new)
+no_quote_more n added old new c items is h =
+    subst (λ (cs : List CodeContainer). NoQuoteFrom n (container_views cs)) (sym items)
+    (choose_if (λ (cs : List CodeContainer). NoQuoteFrom n (container_views cs)) added (old ++ c ∷ []) old
+    (λ _. subst (λ (cs : List Container). NoQuoteFrom n cs) (sym (map-append container_view old (c ∷ [])))
+    (no_quote_added n (container_views old) (container_view c) is h)) (λ _. h))
 
 pub no_quote_less : (n : ℕ) (cs : List Container) (c : Container) → NoQuoteFrom n (cs ++ c ∷ []) → NoQuoteFrom n cs
 no_quote_less n cs c h = λ k from to. ap is_quote (sym (get_or_append_left cs (c ∷ []) Quote k to)) ∙ h k from (omega (arith, to, length-append cs (c ∷ [])))

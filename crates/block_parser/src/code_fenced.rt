@@ -16,7 +16,7 @@ use block_starts::Cursor;
 use block_starts::code_fenced::{Fence, closes_fence, fence_line, fence_start, is_fence_end};
 use block_starts::math_flow::math_start;
 use block_state::OpenLeaf;
-use block_state::whole_lines::{whole, whole_piece};
+use block_state::whole_lines::whole_piece;
 use definition_text::{Beside, Kind};
 use markdown_options::{Constructs, LineEnding};
 use std::alloc::{AllocError, Allocator};
@@ -140,7 +140,7 @@ impl<'a, A: Allocator> Parser<'a, A> {
             Closes self.old self.new (tree.Fenced fence opening []) (tree.block_and_ending code ending)) }
     {
         self.leaf = NOTHING;
-        self.pieces.push(whole(lines))?;
+        self.pieces.push(whole_piece(lines, None))?;
         self.end_leaf(Row::WholeCode, ending)
     }
 
@@ -152,12 +152,7 @@ impl<'a, A: Allocator> Parser<'a, A> {
     ) -> Result<(), AllocError>
         ensures { OnOk result (Adds self.old self.new (tree.tree tree.Nil (tree.Leaf (tree.Fenced (fence_view fence.entry) ending [])))) }
     {
-        self.pieces.push(Piece {
-            text: fence.info,
-            owed: 0,
-            ending: None,
-            before: Kind::Whitespace,
-        })?;
+        self.pieces.push(whole_piece(fence.info, None))?;
         self.leaf = OpenLeaf::Fenced { fence, ending };
         Ok(())
     }

@@ -3,9 +3,8 @@
 //!     footnote ::= label block*
 
 use crate::parser::Parser;
-use block_rows::Piece;
+use block_state::whole_lines::whole_piece;
 use definition_block::Container;
-use definition_text::Kind;
 use std::alloc::{AllocError, Allocator};
 
 impl<'a, A: Allocator> Parser<'a, A> {
@@ -18,12 +17,7 @@ impl<'a, A: Allocator> Parser<'a, A> {
         ensures { OnOk result (Enters self.old self.new (Footnote label.entry.now)) }
     {
         let container = Container::Footnote(label);
-        self.pieces.push(Piece {
-            text: label,
-            owed: 0,
-            ending: None,
-            before: Kind::Whitespace,
-        })?;
+        self.pieces.push(whole_piece(label, None))?;
         self.rows.enter(container)?;
         self.lines_in_rows += 1;
         self.open.push(container)?;

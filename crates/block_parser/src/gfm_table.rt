@@ -15,8 +15,9 @@ use block_rows::{Piece, Row};
 use block_starts::Cursor;
 use block_starts::indent::is_small;
 use block_state::OpenLeaf;
+use block_state::whole_lines::whole_piece;
 use definition_block::AlignKind;
-use definition_text::{Beside, Kind};
+use definition_text::Beside;
 use markdown_options::{Constructs, LineEnding};
 use std::alloc::{AllocError, Allocator};
 
@@ -167,12 +168,7 @@ fn read_row<A: Allocator>(
 fn line_of<'a>(rest: &Cursor<'a>) -> Piece<'a>
     ensures { (piece_line result).codes ≡ bytes_of (rest_of rest.now) }
 {
-    Piece {
-        text: rest.text(),
-        owed: 0,
-        ending: None,
-        before: Kind::Whitespace,
-    }
+    whole_piece(rest.text(), None)
 }
 
 /// Whether the last of these lines has so many cells.

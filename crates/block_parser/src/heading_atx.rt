@@ -3,9 +3,9 @@
 //!     atx ::= a line by itself
 
 use crate::parser::Parser;
-use block_rows::{Piece, Row};
+use block_rows::Row;
 use block_starts::heading_atx::Atx;
-use definition_text::Kind;
+use block_state::whole_lines::whole_piece;
 use markdown_options::LineEnding;
 use std::alloc::{AllocError, Allocator};
 
@@ -25,12 +25,7 @@ impl<'a, A: Allocator> Parser<'a, A> {
         ensures { OnOk result (Adds self.old self.new
             (tree.tree (tree.block_and_ending (tree.Heading atx.entry.rank (spaced_line atx.entry.content.now None ∷ [])) ending) tree.nothing)) }
     {
-        self.pieces.push(Piece {
-            text: atx.content,
-            owed: 0,
-            ending: None,
-            before: Kind::Whitespace,
-        })?;
+        self.pieces.push(whole_piece(atx.content, None))?;
         self.rows.block(Row::Heading(atx.rank))?;
         self.lines_in_rows += 1;
         self.rows.ending(ending)

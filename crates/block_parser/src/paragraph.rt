@@ -7,7 +7,7 @@ use crate::parser::{NOTHING, Parser, piece};
 use block_rows::{Piece, Row};
 use block_starts::Cursor;
 use block_state::OpenLeaf;
-use block_state::whole_lines::{first_lines, whole};
+use block_state::whole_lines::{first_lines, whole_piece};
 use definition_text::Beside;
 use markdown_options::{Constructs, LineEnding};
 use std::alloc::{AllocError, Allocator};
@@ -126,7 +126,7 @@ impl<'a, A: Allocator> Parser<'a, A> {
     {
         self.leaf = NOTHING;
         self.pieces.truncate(self.lines_in_rows);
-        self.pieces.push(whole(text))?;
+        self.pieces.push(whole_piece(text, None))?;
         self.end_leaf(Row::WholeParagraph, ending)
     }
 }

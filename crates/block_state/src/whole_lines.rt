@@ -1,7 +1,7 @@
 //! Whole lines of a text, which no prefix stands before, as those of a paragraph (CommonMark 4.8).
-ghost use Rattle.std.specs.Prelude.{◌≡◌, ℕ, List, None, IfNone, IfSome, length, take, drop};
+ghost use Rattle.std.specs.Prelude.{◌≡◌, ℕ, List, IfNone, IfSome, length, take, drop};
 ghost use Rattle.definition_text.specs.BlockLines.{spaced_line};
-ghost use Rattle.definition_text.specs.Columns.{bytes_of, whole as whole_rest};
+ghost use Rattle.definition_text.specs.Columns.{bytes_of, whole};
 ghost use Rattle.definition_text.specs.Lines.{ending_text, text_line};
 ghost use Rattle.definition_text.specs.declared.beside.Kind.TheVariants.{Whitespace};
 ghost use Rattle.definition_block.specs.Tree.{beside_line, rest_line};
@@ -13,27 +13,16 @@ use block_rows::Piece;
 use definition_text::Kind;
 use markdown_options::LineEnding;
 
-/// The line of a block that a whole line is, after the ending of another.
-pub fn whole_piece<'a>(content: &'a str, ending: Option<LineEnding>) -> Piece<'a>
-    ensures { piece_line result ≡ rest_line (whole_rest content.now) (beside_line Whitespace (text_line content.now ending)) }
-{
-    Piece {
-        text: content,
-        owed: 0,
-        ending,
-        before: Kind::Whitespace,
-    }
-}
-
-/// The text of a paragraph as one line of it.
-pub fn whole<'a>(text: &'a str) -> Piece<'a>
-    ensures line { piece_line result ≡ spaced_line text.now None }
+/// A text as one line of a block, after white space.
+pub fn whole_piece<'a>(text: &'a str, ending: Option<LineEnding>) -> Piece<'a>
+    ensures line { piece_line result ≡ spaced_line text.now ending }
+    ensures rest { piece_line result ≡ rest_line (whole text.now) (beside_line Whitespace (text_line text.now ending)) }
     ensures bytes { bytes_of text.now ≡ text.now }
 {
     Piece {
         text,
         owed: 0,
-        ending: None,
+        ending,
         before: Kind::Whitespace,
     }
 }

@@ -1,9 +1,15 @@
-use Rattle.std.proofs.Common.{List, ℕ, sym, ap, arith}
+use Rattle.std.proofs.Common.{List, ℕ, ◌<◌, get_or, sym, ap, arith}
 use Rattle.definition_text.specs.BlockLines.{block_line}
 use Rattle.definition_text.specs.declared.beside.Kind.TheVariants.{Whitespace}
+use Rattle.block_rows.proofs.Pieces.{only_bytes}
 use Rattle.text_lines.proofs.Codes.{block_codes_whole}
 use Rattle.block_state.proofs.whole_lines.whole_piece.Goals as goal
 
-pub returns : goal.returns
-returns c =
-    ap (λ (codes : List ℕ). block_line codes c.args.ending Whitespace) (sym (block_codes_whole c.args.content.now (λ k. omega (arith, c.type_inv.content k))))
+pub returns-clause-rest : goal.returns-clause-rest
+returns-clause-rest c =
+    ap (λ (codes : List ℕ). block_line codes c.args.ending Whitespace) (sym (block_codes_whole c.args.text.now (λ k. omega (arith, c.type_inv.text k))))
+
+pub returns-clause-bytes : goal.returns-clause-bytes
+returns-clause-bytes c =
+    let bytes : (k : ℕ) → get_or c.args.text.now k 0 < 256 = λ k. omega (arith, c.type_inv.text k) in
+    only_bytes c.args.text.now bytes

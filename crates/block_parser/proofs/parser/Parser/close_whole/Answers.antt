@@ -17,12 +17,13 @@ returns-clause-read g c =
     let front = take p.lines_in_rows p.pieces.items in
     let cut : piece_lines c.truncate.new.self.items ≡ take (rows_size p.rows.rows.items) pool =
     ap piece_lines c.truncate.ensures.items ∙ sym (take-map piece_line p.lines_in_rows p.pieces.items) ∙ ap (λ n. take n pool) p.counted in
-    let pushed = leaves.piece_pushed c.truncate.new.self.items c.whole.result c.push.new.self.items l c.in_ok-push.ensures.items c.whole.ensures.line in
+    let pushed =
+    leaves.piece_pushed c.truncate.new.self.items c.whole_piece.result c.push.new.self.items l c.in_ok-push.ensures.items c.whole_piece.ensures.line in
     let w = leaves.whole_written p.rows.rows.items p.rows.waiting.items p.rows.bare pool around kids ls h.written l (leaves.enough_lines p) in
     let mid = leaves.written_as p.rows.rows.items p.rows.rows.items p.rows.waiting.items p.rows.waiting.items p.rows.bare p.rows.bare
     (take (rows_size p.rows.rows.items) pool ++ l ∷ []) (piece_lines c.push.new.self.items) around kids (l ∷ []) (l ∷ [])
     refl refl refl (pushed ∙ ap (λ x. x ++ l ∷ []) cut) refl w in
     reads (Text (l ∷ [])) (Paragraph (own_lines ls))
-    (ap (λ x. Single (Paragraph (own_lines x)) ∷ []) (is ∙ ap whole_lines (sym c.whole.ensures.bytes))) refl
+    (ap (λ x. Single (Paragraph (own_lines x)) ∷ []) (is ∙ ap whole_lines (sym c.whole_piece.ensures.bytes))) refl
     around kids record { written = mid; opened = h.opened; same_state = refl })
     c.end_leaf.ensures.read

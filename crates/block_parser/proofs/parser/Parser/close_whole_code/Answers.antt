@@ -17,9 +17,9 @@ returns g c =
     let l = spaced_line c.args.lines.now None in
     let leaf = Fenced fence opening [] in
     let both = Text (leaf_lines leaf ++ l ∷ []) in
-    let pushed = leaves.piece_pushed p.pieces.items c.whole.result c.push.new.self.items l c.in_ok-push.ensures.items c.whole.ensures.line in
+    let pushed = leaves.piece_pushed p.pieces.items c.whole_piece.result c.push.new.self.items l c.in_ok-push.ensures.items c.whole_piece.ensures.line in
     reads both (FencedCode fence.info true (whole_lines c.args.lines.now))
-    (ap (λ x. Single (FencedCode fence.info true (whole_lines x)) ∷ []) (sym c.whole.ensures.bytes)) refl around kids
+    (ap (λ x. Single (FencedCode fence.info true (whole_lines x)) ∷ []) (sym c.whole_piece.ensures.bytes)) refl around kids
     (leaves.shows_line p.rows.rows.items p.rows.waiting.items p.rows.bare (container_views p.open.items) pool (piece_lines c.push.new.self.items)
     (leaf_state p.leaf) InText around kids leaf both l (leaves.enough_lines p) pushed refl refl h))
     c.end_leaf.ensures.read

@@ -14,7 +14,7 @@ returns g c =
     let pool = piece_lines p.pieces.items in
     let l = spaced_line c.args.atx.content.now None in
     let block = Heading c.args.atx.rank (l ∷ []) in
-    let more = leaves.piece_pushed p.pieces.items _ c.push.new.self.items l c.in_ok-push.ensures.items refl in
+    let more = leaves.piece_pushed p.pieces.items _ c.push.new.self.items l c.in_ok-push.ensures.items c.whole_piece.ensures.line in
     let k = leaves.written_as p.rows.rows.items p.rows.rows.items p.rows.waiting.items p.rows.waiting.items p.rows.bare p.rows.bare (pool ++ l ∷ [])
     (piece_lines c.push.new.self.items) around kids (l ∷ []) (l ∷ [])
     refl refl refl more refl (leaves.longer p.rows.rows.items p.rows.waiting.items p.rows.bare pool around kids [] h.written l (leaves.enough_lines p)) in

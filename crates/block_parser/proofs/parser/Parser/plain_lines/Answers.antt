@@ -97,6 +97,6 @@ loop-content-preserved g c =
     let small : (k : ℕ) → get_or text k 0 < 256 = λ k. omega (arith, c.type_inv.text k) in (
       is_after,
       plain_more on text rest next.2.now (HasRead c.args.self.now) c.loop-content.self c.push_line.new.self line k (c.next_line-ending.ensures.rest some)
-          small (sym c.is_plain_line.ensures ∙ c.if-not-is_plain_line.false) _ c.whole_piece.ensures
+          small (sym c.is_plain_line.ensures ∙ c.if-not-is_plain_line.false) _ c.whole_piece.ensures.rest
           (λ kids ls reads. c.in_ok-push_line.ensures [] kids ls reads),
     )

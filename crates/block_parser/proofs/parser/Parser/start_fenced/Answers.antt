@@ -22,4 +22,4 @@ returns g c = λ around kids h.
     (InFenced f c.args.ending) (spine around bs leaf)) (sym (join-nil kids))
     (leaves.shows_line p.rows.rows.items p.rows.waiting.items p.rows.bare (container_views p.open.items) pool (piece_lines c.push.new.self.items)
     (leaf_state p.leaf) (InFenced f c.args.ending) around kids (Text []) leaf l
-    (leaves.enough_lines p) (leaves.piece_pushed p.pieces.items _ c.push.new.self.items l c.in_ok-push.ensures.items refl) refl refl h)
+    (leaves.enough_lines p) (leaves.piece_pushed p.pieces.items _ c.push.new.self.items l c.in_ok-push.ensures.items c.whole_piece.ensures.line) refl refl h)
