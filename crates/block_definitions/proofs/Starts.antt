@@ -2,13 +2,11 @@
 use Rattle.std.proofs.Common.{◌≡◌, ℕ, zero, suc, List, [], ◌∷◌, ◌++◌, eqb, false, Option, None, Some, refl, sym, ap, ◌∙◌, append_assoc, inl, inr}
 use Rattle.std.specs.Prelude.{replicate}
 use Rattle.std.specs.List.{slice_get}
-use Rattle.std.proofs.lemmas.Bool.{cases_Bool, cond-false, or_parts}
+use Rattle.std.proofs.lemmas.Bool.{cases_Bool, cond-false}
 use Rattle.std.proofs.lemmas.Option.{none-some}
-use Rattle.std.proofs.lemmas.List.{append-nil}
 use Rattle.markdown_options.specs.declared.line_ending.LineEnding.{LineEnding}
 use Rattle.markdown_options.specs.declared.line_ending.LineEnding.TheVariants.{CarriageReturnLineFeed, CarriageReturn, LineFeed}
 use Rattle.block_rows.specs.declared.row.Piece.{Piece}
-use Rattle.definition_text.specs.Lines.{ends_line}
 use Rattle.block_rows.specs.Rows.{piece_line, piece_lines}
 use Rattle.definition_text.specs.Columns.{is_white, tab_column}
 use Rattle.definition_text.specs.BlockLines.{BlockLine, own_lines}
@@ -17,7 +15,7 @@ use Rattle.definition_inline.specs.Space.{after_spaces}
 use Rattle.definition_inline.specs.Label.{label_at}
 use Rattle.definition_inline.specs.Definition.{with_label, definition_at}
 use Rattle.block_rows.specs.ParagraphLines.{HaveNoEnding, AreLines}
-use Rattle.definition_text.proofs.ContentBytes.{IsInLine, codes_in_line}
+use Rattle.block_rows.proofs.InLine.{plain_codes}
 use Rattle.definition_inline.proofs.DefinitionParts.{the_same, spaces_pass, spaces_stop}
 use Rattle.block_definitions.specs.Contents.{begins_label, begins_with_bracket}
 
@@ -64,13 +62,6 @@ first_clean line (next ∷ others) h = h.0
 owed_clean : (n : ℕ) (text : List ℕ) → HaveNoEnding (replicate n tab_column ++ text) → HaveNoEnding text
 owed_clean zero text h = h
 owed_clean (suc n) text h = owed_clean n text h.1
-
-plain_line : (text : List ℕ) → HaveNoEnding text → IsInLine text
-plain_line [] h = tt
-plain_line (c ∷ cs) h = ((or_parts (ends_line c) (eqb c 257) h.0).0, plain_line cs h.1)
-
-plain_codes : (text : List ℕ) → HaveNoEnding text → content_codes text ≡ text
-plain_codes text h = ap content_codes (sym (append-nil text)) ∙ codes_in_line text [] (plain_line text h) ∙ append-nil text
 
 pub may_begin_not : (pieces : List Piece) (p : Piece) → slice_get pieces 0 ≡ Some p → AreLines (piece_lines pieces)
     → begins_label (after_spaces (content_codes p.text.now)) ≡ false

@@ -1,13 +1,12 @@
 -- Definitions that are cut from the front of the open paragraph.
-use Rattle.std.proofs.Common.{◌≡◌, ◌∷◌, [], ◌<◌, ◌≤◌, ℕ, zero, suc, if◌then◌else◌, Bool, true, false, List, Option, None, Some, refl, sym, ap, ◌∙◌, subst, take}
+use Rattle.std.proofs.Common.{◌≡◌, ◌∷◌, [], ◌≤◌, ℕ, zero, suc, if◌then◌else◌, Bool, true, false, List, Option, None, Some, refl, sym, ap, ◌∙◌, subst, take}
 use Rattle.std.proofs.Common.{drop, length, arith}
-use Rattle.std.proofs.lemmas.Bool.{cond-true, cond-false, cond_both}
+use Rattle.std.proofs.lemmas.Bool.{cond-true, cond_both}
 use Rattle.std.proofs.lemmas.List.{length-map}
-use Rattle.markdown_options.specs.declared.line_ending.LineEnding.{LineEnding}
 use Rattle.markdown_options.specs.declared.configuration.Constructs.{Constructs}
 use Rattle.block_rows.specs.declared.row.Row.TheVariants as row
 use Rattle.block_rows.specs.declared.row.Piece.{Piece}
-use Rattle.definition_text.specs.BlockLines.{BlockLine, last_ending, last_ending_or, own_lines}
+use Rattle.definition_text.specs.BlockLines.{BlockLine, own_lines}
 use Rattle.definition_block.specs.Tree.{Blocks, Nil, join, Definition, Text, is_some_line}
 use Rattle.std.specs.Option.{option_map}
 use Rattle.definition_text.specs.Columns.{code_byte}
@@ -32,9 +31,6 @@ use Rattle.block_state.proofs.Trees.{join-assoc, join-nil}
 pub cut_on : (on : Constructs) (ls : List BlockLine) → on.definition ≡ true → definition_cut on ls ≡ cut_all ls
 cut_on on ls h = cond-true on.definition _ _ h
 
-pub cut_off : (on : Constructs) (ls : List BlockLine) → on.definition ≡ false → definition_cut on ls ≡ cut_into Nil ls
-cut_off on ls h = cond-false on.definition _ _ h
-
 either : (b : Bool) (x y : DefinitionCut) → x ≡ y → (if b then x else y) ≡ y
 either true x y h = h
 either false x y h = refl
@@ -49,17 +45,6 @@ more_left on ls pieces is same =
     ap (λ n. is_some_line (cut_most n (piece_lines pieces)).left) (sym (length-map pieces piece_line))
     ∙ ap (λ xs. is_some_line (cut_all xs).left) (sym same)
     ∙ ap (λ (x : DefinitionCut). is_some_line x.left) (sym (cut_on on ls is))
-
--- ---- the ending of the last line
-
-last_drop : (e : Option LineEnding) (n : ℕ) (ls : List BlockLine) → n < length ls → last_ending (drop n ls) ≡ last_ending_or e ls
-last_drop e n [] h = absurd (omega (arith, h))
-last_drop e zero (l ∷ ls) h = refl
-last_drop e (suc n) (l ∷ ls) h = last_drop l.ending n ls (omega (arith, h))
-
--- it is that of what is left, if anything is
-pub last_left : (n : ℕ) (ls : List BlockLine) → n < length ls → last_ending ls ≡ last_ending (drop n ls)
-last_left n ls h = sym (last_drop None n ls h)
 
 -- ---- one after another
 

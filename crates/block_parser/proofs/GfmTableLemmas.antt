@@ -3,19 +3,20 @@ use Rattle.std.proofs.Common.{◌≡◌, ℕ, ◌<◌, ◌-◌, suc, Bool, true,
 use Rattle.std.proofs.Common.{get_or, length, arith}
 use Rattle.std.specs.Prelude.{unwrap_or}
 use Rattle.std.specs.List.{list_any}
-use Rattle.std.proofs.lemmas.Bool.{cond-false, cond_both}
+use Rattle.std.proofs.lemmas.Bool.{cond_both}
 use Rattle.markdown_options.specs.declared.configuration.Constructs.{Constructs}
 use Rattle.definition_text.specs.BlockLines.{BlockLine, own_lines, last_ending}
 use Rattle.definition_text.specs.Columns.{Rest, bare, bytes_of}
 use Rattle.definition_text.specs.Indents.{small_indent}
 use Rattle.definition_block.specs.declared.align_kind.AlignKind.{AlignKind}
-use Rattle.definition_block.specs.Definitions.{definition_cut, cut_into, cut_most}
+use Rattle.definition_block.specs.Definitions.{definition_cut}
 use Rattle.definition_block.specs.GfmTable.{alignments_of, cells, delimiter_row, delimiters, is_bar_or_colon, is_head, line_cells, some_alignments}
-use Rattle.definition_block.specs.Tree.{Nil, Paragraph, Tree, block_and_ending, is_some_line, paragraph_of, table_if}
+use Rattle.definition_block.specs.Tree.{Paragraph, Tree, block_and_ending, is_some_line, paragraph_of, table_if}
 use Rattle.block_rows.specs.declared.row.Piece.{Piece}
 use Rattle.block_rows.specs.Rows.{piece_line, piece_lines}
 use Rattle.definition_text.specs.declared.beside.Kind.TheVariants.{Whitespace}
 use Rattle.block_parser.specs.GfmTable.{fits, table_from_cut}
+use Rattle.block_parser.proofs.Steps.{none_cut}
 
 -- a paragraph of some lines
 pub paragraph_some : (ls : List BlockLine) → 0 < length ls → paragraph_of ls ≡ block_and_ending (Paragraph (own_lines ls)) (last_ending ls)
@@ -94,18 +95,8 @@ module _ (on : Constructs) (row : BlockLine) where
         ∙ ap (λ b. table_where b ls) (sym left)
 
     -- no paragraph is open
-    none_cut : (b : Bool) → (if b then cut_most 0 [] else cut_into Nil []).left ≡ []
-    none_cut true = refl
-    none_cut false = refl
-
     pub lines_not : (ls : List BlockLine) → ls ≡ [] → table_if on (delimiter_row on r) ls row ≡ None
     lines_not ls none =
         ap (λ x. table_if on (delimiter_row on r) x row) none ∙ row_fits []
         ∙ ap (λ (x : List BlockLine). table_where (fits (unwrap_or (delimiter_row on r) []) [] && is_some_line x) []) (none_cut on.definition)
         ∙ ap (λ b. table_where b []) (and-none (fits (unwrap_or (delimiter_row on r) []) []))
-
-    -- tables are off
-    pub tables_not : (ls : List BlockLine) → on.gfm_table ≡ false → table_if on (delimiter_row on r) ls row ≡ None
-    tables_not ls off =
-        ap (λ o. table_if on o ls row) (cond-false (on.gfm_table && small_indent on r) (delimiters (bytes_of (bare r))) None
-        (ap (λ b. b && small_indent on r) off))

@@ -1,8 +1,8 @@
 -- What is shown after a leaf goes on, starts or is closed.
 use Rattle.std.proofs.Common.{◌≡◌, ℕ, ◌+◌, ◌-◌, ◌≤◌, ◌<◌, ◌==◌, get_or, List, [], ◌∷◌, ◌++◌, Option, Bool, true, false, refl, sym, ap, ◌∙◌, subst, take, drop}
-use Rattle.std.proofs.Common.{length, append_assoc, arith, ltb, vec_len}
+use Rattle.std.proofs.Common.{length, append_assoc, arith, vec_len}
 use Rattle.std.specs.Prelude.{map}
-use Rattle.std.proofs.lemmas.Bool.{lt-ltb, le-ltb, eq-eqb, ne_eqb}
+use Rattle.std.proofs.lemmas.Bool.{eq-eqb, ne_eqb}
 use Rattle.std.proofs.lemmas.List.{append-nil, length-append, length-map, map-append, take_all, drop_all, take-append-le, drop-append-le, take-map, drop-map}
 use Rattle.std.proofs.lemmas.List.{drop-drop, take_more, get_or-drop, length-drop, length-take, take-append-drop}
 use Rattle.std.proofs.lemmas.List.Sums.{sum_by-append}
@@ -15,7 +15,7 @@ use Rattle.block_rows.specs.declared.row.Piece.{Piece}
 use Rattle.definition_text.specs.BlockLines.{BlockLine, last_ending, own_lines}
 use Rattle.definition_block.specs.Tree.{Block, IndentedCode, Ending, Blank, Blocks, Nil, join, one, block_and_ending, container_block}
 use Rattle.definition_block.specs.Tree.{OpenLeaf, Text, Indented, Fenced, OpenHtml, OpenTable, Leaf}
-use Rattle.definition_block.specs.Tree.{is_nothing, close_leaf, is_some_line, blanks, is_ending, front}
+use Rattle.definition_block.specs.Tree.{is_nothing, close_leaf, blanks, is_ending, front}
 use Rattle.block_rows.proofs.Pieces.{lines_from}
 use Rattle.block_rows.specs.Rows.{Single, start_row, block_rows, row_value, rows_of, rows_value, value_with, row_size, rows_size, piece_line}
 use Rattle.block_rows.specs.Rows.{piece_lines}
@@ -112,10 +112,6 @@ text_left p s count h same len =
     of (Fenced fence opening ls) left is = let wrong = is in cc
     of (OpenHtml kind ls) left is = let wrong = is in cc
     of (OpenTable ls) left is = let wrong = is in cc
-
-pub text_is_open : (count len : ℕ) (ls : List BlockLine) → count + length ls ≡ len → ltb count len ≡ is_some_line ls
-text_is_open count len [] h = le-ltb count len (omega (arith, h))
-text_is_open count len (x ∷ ls) h = lt-ltb count len (omega (arith, h))
 
 pub nothing_is_open : (count len : ℕ) (ls : List BlockLine) → count + length ls ≡ len → (count == len) ≡ is_nothing (Leaf (Text ls))
 nothing_is_open count len [] h = eq-eqb count len (omega (arith, h))

@@ -1,5 +1,5 @@
 -- Plain lines.
-use Rattle.std.proofs.Common.{◌≡◌, ℕ, List, [], ◌∷◌, Bool, true, false, ◌&&◌, ap, ◌∙◌, refl, arith}
+use Rattle.std.proofs.Common.{◌≡◌, ℕ, List, [], Bool, true, ◌&&◌, ap, ◌∙◌, arith}
 use Rattle.std.specs.Prelude.{leb}
 use Rattle.std.specs.Option.{option_or}
 use Rattle.std.proofs.lemmas.Bool.{and_parts}
@@ -9,7 +9,7 @@ use Rattle.definition_text.specs.Columns.{Rest, indent, bare, bytes_of}
 use Rattle.definition_text.specs.BlockLines.{BlockLine}
 use Rattle.definition_block.specs.MathFlow.{math_start}
 use Rattle.definition_block.specs.Tree.{Blocks, Text, Indented, Fenced, OpenHtml, OpenTable, Opening, Leaf, Inside, Tree, tree}
-use Rattle.definition_block.specs.Tree.{is_some_line, has_text, text_here, rest_line, leaf_line, text_line_of, table_if, new}
+use Rattle.definition_block.specs.Tree.{has_text, text_here, rest_line, leaf_line, text_line_of, table_if, new}
 use Rattle.block_starts.specs.Plain.{begins_plain, is_plain}
 use Rattle.block_starts.proofs.PlainLemmas.{plain_starts, plain_not_blank, plain_not_code, plain_fence, plain_math, plain_html, plain_heading, plain_underline}
 use Rattle.block_starts.proofs.PlainLemmas.{plain_break, plain_delimiters}
@@ -48,8 +48,3 @@ of_text P h kids (Leaf (Fenced f opening ls)) none is = let wrong : InText ≡ I
 of_text P h kids (Leaf (OpenHtml kind ls)) none is = let wrong : InText ≡ InHtml _ _ = is in cc
 of_text P h kids (Leaf (OpenTable ls)) none is = let wrong : InText ≡ InTable _ = is in cc
 of_text P h kids (Inside c inner_kids inner) none is = absurd (omega (arith, none))
-
--- whether a paragraph is open
-pub none_open : (ls : List BlockLine) → is_some_line ls ≡ false → ls ≡ []
-none_open [] is = refl
-none_open (l ∷ ls) is = let wrong : true ≡ false = is in cc

@@ -160,16 +160,3 @@ module _ {A : Type 0} (on : Constructs) (text rest : List ℕ) (Old : Spine → 
   plain_front front none is keeps =
       let all : ls ++ map whole_line h.read ≡ map whole_line h.read = ap (λ (xs : List BlockLine). xs ++ map whole_line h.read) none in
       front_lines (map whole_line h.read) text rest front h.begins is (subst AreLines all (plain_clean keeps)) ∙ sym all
-
-  -- the text ends after them
-  pub read_all : 0 < length text → length rest ≡ 0 → Old (spine [] kids (Text ls)) → ReadsSome on Whitespace (text_open kids ls) text rest new
-  read_all some none so_far = record {
-    read = h.read;
-    some = some_read h.read h.begins.split;
-    split = h.split;
-    reads = subst (λ (t : Tree). HasRead new (spine_of t)) (sym (h.plain kids ls)) (h.reads kids ls so_far);
-  }
-    where
-      some_read : (read : List TextLine) → text ≡ flat_map line_text (map whole_line read) ++ rest → 0 < length read
-      some_read [] is = absurd (omega (arith, ap length is, some, none))
-      some_read (line ∷ others) is = omega arith

@@ -69,10 +69,6 @@ popped n old new c is h =
     no_quote_less n (container_views new) (container_view c)
     (subst (λ (cs : List Container). NoQuoteFrom n cs) (ap container_views is ∙ map-append container_view new (c ∷ [])) h)
 
-pub pushed : (n : ℕ) (old new : List CodeContainer) (c : CodeContainer) → new ≡ old ++ c ∷ [] → NoQuoteFrom n (container_views old ++ container_view c ∷ [])
-    → NoQuoteFrom n (container_views new)
-pushed n old new c is h = subst (λ (cs : List Container). NoQuoteFrom n cs) (sym (ap container_views is ∙ map-append container_view old (c ∷ []))) h
-
 pub not_true : (b : Bool) → not b ≡ true → b ≡ false
 not_true true h = sym h
 not_true false h = refl

@@ -145,12 +145,12 @@ module _ (on : Constructs) (away : Opening) (r : Rest) (e : Beside) where
 
 -- ---- an underline
 
-module _ (on : Constructs) (r : Rest) (e : Option LineEnding) where
-  -- nothing is cut from nothing
-  none_cut : (b : Bool) → (if b then cut_most 0 [] else cut_into Nil []).left ≡ []
-  none_cut true = refl
-  none_cut false = refl
+-- nothing is cut from nothing
+pub none_cut : (b : Bool) → (if b then cut_most 0 [] else cut_into Nil []).left ≡ []
+none_cut true = refl
+none_cut false = refl
 
+module _ (on : Constructs) (r : Rest) (e : Option LineEnding) where
   not_headed : (rank : ℕ) (definitions : Blocks) (left : List BlockLine) → is_some_line left ≡ false → heading_of rank definitions left e ≡ None
   not_headed rank definitions [] none = refl
   not_headed rank definitions (l ∷ ls) none = let wrong : true ≡ false = none in cc
@@ -179,14 +179,15 @@ module _ (on : Constructs) (r : Rest) (e : Option LineEnding) where
       → turns on (Leaf (Text ls)) r e ≡ heading_tree on (Some rank) (Leaf (Text ls)) e
   turns_some ls rank is some = ap (λ o. heading_if on o ls e) is ∙ is_headed rank (definition_cut on ls).definitions (definition_cut on ls).left some
 
+-- no paragraph is open
+pub no_text : (ls : List BlockLine) → is_some_line ls ≡ false → ls ≡ []
+no_text [] h = refl
+no_text (l ∷ ls) h = let wrong : true ≡ false = h in cc
+
 -- whether a paragraph is open where all containers are
 pub here_or_not : (depth count : ℕ) (away : Opening) → (opening_depth away ≡ 0 → (depth == count) ≡ true) → ((depth == count) && has_text away) ≡ false
     → text_here away ≡ []
 here_or_not depth count (Leaf leaf) last h = no_text (leaf_text leaf) (sym (ap (λ b. b && has_text (Leaf leaf)) (last refl)) ∙ h)
-  where
-    no_text : (ls : List BlockLine) → is_some_line ls ≡ false → ls ≡ []
-    no_text [] k = refl
-    no_text (l ∷ ls) k = let wrong : true ≡ false = k in cc
 here_or_not depth count (Inside c kids inner) last h = refl
 
 pub text_leaf_here : (P : Opening → Type 0) (away : Opening) → opening_depth away ≡ 0 → has_text away ≡ true

@@ -20,9 +20,6 @@ use Rattle.block_rows.specs.declared.row.Piece.{Piece}
 use Rattle.block_rows.specs.Rows.{whole_line, whole_lines, piece_line, piece_lines}
 use Rattle.block_state.specs.WholeLines.{AreWhole, Begins, BeginsNot, BeginsWith, IsWhole}
 
-pub none_whole : AreWhole []
-none_whole = tt
-
 pub more_whole : (ls : List BlockLine) (l : BlockLine) → AreWhole ls → IsWhole l → AreWhole (ls ++ l ∷ [])
 more_whole [] l h w = (w, tt)
 more_whole (k ∷ ks) l h w = (h.0, more_whole ks l h.1 w)

@@ -1,4 +1,3 @@
-pub mod Leads
 mod Notes
 mod NoDefinition
 mod NoFootnote

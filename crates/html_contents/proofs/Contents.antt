@@ -1,30 +1,18 @@
--- The content of a paragraph's lines and of one line, and codes without an ending.
-use Rattle.std.proofs.Common.{◌≡◌, ℕ, Bool, List, [], ◌∷◌, None, eqb, map, sym, ap, ◌∙◌}
-use Rattle.std.proofs.lemmas.Bool.{or_parts}
+-- The content of a paragraph's lines and of one line.
+use Rattle.std.proofs.Common.{◌≡◌, ℕ, Bool, List, [], ◌∷◌, None, map, ap, ◌∙◌}
 use Rattle.std.proofs.lemmas.List.{append-nil}
 use Rattle.std.proofs.lemmas.List.Concat.{flat_map-cons}
 use Rattle.definition_text.specs.declared.beside.Kind.{Kind}
 use Rattle.definition_text.specs.BlockLines.{BlockLine, block_line, own_lines}
 use Rattle.definition_text.specs.Columns.{code_byte}
-use Rattle.definition_text.specs.Content.{content_codes}
 use Rattle.definition_text.specs.InlineCode.{inline_content, line_content, with_kinds}
-use Rattle.definition_text.specs.Lines.{ends_line}
-use Rattle.block_rows.specs.ParagraphLines.{HaveNoEnding, AreLines}
-use Rattle.definition_text.proofs.ContentBytes.{IsInLine, codes_in_line}
+use Rattle.block_rows.specs.ParagraphLines.{AreLines}
 use Rattle.inline_content.specs.Lines.{AreContentLines}
 
 pub content_lines : (ls : List BlockLine) → AreLines ls → AreContentLines ls
 content_lines [] h = tt
 content_lines (line ∷ []) h = h.0
 content_lines (line ∷ next ∷ others) h = h
-
-in_line : (text : List ℕ) → HaveNoEnding text → IsInLine text
-in_line [] h = tt
-in_line (c ∷ cs) h = ((or_parts (ends_line c) (eqb c 257) h.0).0, in_line cs h.1)
-
--- codes without an ending are their own content
-pub plain_codes : (text : List ℕ) → HaveNoEnding text → content_codes text ≡ text
-plain_codes text h = ap content_codes (sym (append-nil text)) ∙ codes_in_line text [] (in_line text h) ∙ append-nil text
 
 -- the content of one line
 pub line_alone : (is_punctuation : ℕ → Bool) (after : Kind) (line : BlockLine)

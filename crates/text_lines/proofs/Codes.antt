@@ -65,10 +65,3 @@ no_columns column (b ∷ bs) h =
 
 pub block_codes_whole : (bs : List ℕ) → ((k : ℕ) → get_or bs k 0 < 256) → block_codes (whole bs) ≡ bs
 block_codes_whole bs h = ap (λ n. take n (whole bs) ++ bytes_of (whole bs)) (no_columns 0 bs h) ∙ bytes_of_codes 0 bs h
-
--- the bytes of a front
-pub front_bytes : (n : ℕ) (bs : List ℕ) → ((k : ℕ) → get_or bs k 0 < 256) → (k : ℕ) → get_or (take n bs) k 0 < 256
-front_bytes zero bs h k = omega arith
-front_bytes (suc n) [] h k = omega arith
-front_bytes (suc n) (b ∷ bs) h zero = h 0
-front_bytes (suc n) (b ∷ bs) h (suc k) = front_bytes n bs (tail_bytes b bs h) k

@@ -1,11 +1,12 @@
 use Rattle.std.proofs.Common.{sym, ap, ◌∙◌}
 use Rattle.definition_block.specs.Tree.{is_some_line, leaf_text}
 use Rattle.block_state.specs.Leaves.{leaf_state}
-use Rattle.block_parser.proofs.Leaves.{text_is_open, text_left}
+use Rattle.block_definitions.proofs.Cuts.{left_if}
+use Rattle.block_parser.proofs.Leaves.{text_left}
 use Rattle.block_parser.proofs.parser.Parser.has_text.Goals as goal
 
 pub returns-in-Text : goal.returns-in-Text
 returns-in-Text g c = λ s h.
     let p = c.args.self.now in
     let text = text_left p s c.len.result h (sym (ap leaf_state c.in-Text.is)) c.len.ensures in
-    text_is_open p.lines_in_rows c.len.result text.ls text.left ∙ ap (λ leaf. is_some_line (leaf_text leaf)) (sym text.is)
+    left_if p.lines_in_rows c.len.result text.ls text.left ∙ ap (λ leaf. is_some_line (leaf_text leaf)) (sym text.is)

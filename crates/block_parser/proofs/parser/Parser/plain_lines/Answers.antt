@@ -14,7 +14,7 @@ use Rattle.block_rows.specs.Rows.{whole_line, whole_lines}
 use Rattle.block_state.specs.Spine.{spine, spine_after}
 use Rattle.block_parser.specs.View.{HasRead}
 use Rattle.block_parser.proofs.Closing as closing
-use Rattle.block_parser.proofs.Plain.{none_open}
+use Rattle.block_parser.proofs.Steps.{no_text}
 use Rattle.block_parser.proofs.PlainLines.{plain_clean, plain_front, plain_more, plain_none, read_after, shorter_after}
 use Rattle.block_state.proofs.WholeLines.{cut_boundary}
 use Rattle.block_parser.proofs.parser.Parser.plain_lines.Goals as goal
@@ -59,7 +59,7 @@ returns-then-is_empty-clause-read g c = λ kids ls keeps h.
     let known : IfSome c.known_front.result (λ front. whole_lines front.now ≡ all) =
     IfSome_then c.known_front.result c.known_front.ensures.front (λ front is.
     plain_front on text rest (HasRead c.args.self.now) c.loop-content.self k kids ls front.now
-    (none_open ls (sym (c.has_text-goes_on.ensures (spine [] kids (Text ls)) h) ∙ is.0)) is.1 keeps) in
+    (no_text ls (sym (c.has_text-goes_on.ensures (spine [] kids (Text ls)) h) ∙ is.0)) is.1 keeps) in
     let none : next.0.now ≡ [] =
     nil_from_length next.0.now (eqb-true (length next.0.now) 0 (sym c.is_empty-in-loop-content.ensures ∙ c.if-is_empty.true)) in
     let shut = c.in_ok-close_text.ensures.read all clean known [] kids (k.reads kids ls h) in
