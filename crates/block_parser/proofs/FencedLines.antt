@@ -1,5 +1,5 @@
 -- Lines of fenced code at the front of a text, which it takes at once.
-use Rattle.std.proofs.Common.{◌≡◌, ℕ, ◌<◌, ◌≤◌, ◌-◌, false, true, List, [], ◌∷◌, ◌++◌, Option, refl, sym, ap, ◌∙◌, subst, get_or, length, take}
+use Rattle.std.proofs.Common.{◌≡◌, ℕ, ◌<◌, ◌-◌, false, true, List, [], ◌∷◌, ◌++◌, Option, refl, sym, ap, ◌∙◌, subst, get_or, length, take}
 use Rattle.std.proofs.Common.{append_assoc, arith}
 use native.Mathlib.Numerals.{unary_clauses}
 use Rattle.std.specs.Prelude.{◌||◌, map}
@@ -67,81 +67,6 @@ code_step on f line other kids opening ls =
     ap (λ (t : Tree). tree (join kids t.done) t.now) (fenced_goes_on on (beside_line Whitespace line) (whole line.content) f opening ls other)
     ∙ ap (λ (bs : Blocks). fenced_open f bs opening (ls ++ code_line f line ∷ [])) (join-nil kids)
 
--- ---- the lines so far
-
-pub record FencedSoFar {A : Type 0} (on : Constructs) (f : Fence) (text rest : List ℕ) (Old : Spine → Type 0) (new : Parser A)
-    (last : Option LineEnding) : Type 0 where
-  pub read : List TextLine
-  pub split : lines text ≡ read ++ lines rest
-  pub content_steps : (kids : Blocks) (opening : Option LineEnding) (ls : List BlockLine)
-      → steps on Whitespace (fenced_open f kids opening ls) read ≡ fenced_open f kids opening (ls ++ map (code_line f) read)
-  pub reads : (kids : Blocks) (opening : Option LineEnding) (ls : List BlockLine) → Old (spine [] kids (Fenced f opening ls))
-      → ShowsFenced new f last (spine [] kids (Fenced f opening (ls ++ map (code_line f) read)))
-
-pub fenced_none : {A : Type 0} (on : Constructs) (f : Fence) (text : List ℕ) (p : Parser A) (last : Option LineEnding) → leaf_state p.leaf ≡ InFenced f last
-    → FencedSoFar on f text text (HasRead p) p last
-fenced_none on f text p last leaf = record {
-  read = [];
-  split = refl;
-  content_steps = λ kids opening ls. ap (fenced_open f kids opening) (sym (append-nil ls));
-  reads = λ kids opening ls h.
-      subst (λ (xs : List BlockLine). ShowsFenced p f last (spine [] kids (Fenced f opening xs))) (sym (append-nil ls))
-      (record { written = h.written; opened = h.opened; same_state = sym leaf ∙ h.same_state });
-}
-
-module _ {A : Type 0} (on : Constructs) (f : Fence) (text rest after : List ℕ) (Old : Spine → Type 0) (mid : Parser A) (last : Option LineEnding)
-    (line : TextLine) (h : FencedSoFar on f text rest Old mid last) (first : lines rest ≡ line ∷ lines after) where
-  abbrev more : List TextLine
-  more = h.read ++ line ∷ []
-
-  all_of : (ls : List BlockLine) → (ls ++ map (code_line f) h.read) ++ code_line f line ∷ [] ≡ ls ++ map (code_line f) more
-  all_of ls =
-      append_assoc ls (map (code_line f) h.read) (code_line f line ∷ []) ∙ ap (λ xs. ls ++ xs) (sym (map-append (code_line f) h.read (line ∷ [])))
-
-  -- one more line
-  pub fenced_more : (new : Parser A) → is_fence_end on f (whole line.content) ≡ false
-      → ((kids : Blocks) (opening : Option LineEnding) (ls : List BlockLine) → ShowsFenced mid f last (spine [] kids (Fenced f opening ls))
-      → ShowsFenced new f line.ending (spine [] kids (Fenced f opening (ls ++ code_line f line ∷ []))))
-      → FencedSoFar on f text after Old new line.ending
-  fenced_more new other push = record {
-    read = more;
-    split = split_more text rest after h.read line h.split first;
-    content_steps = λ kids opening ls.
-        steps_to on (fenced_open f kids opening ls) _ h.read line (h.content_steps kids opening ls)
-        ∙ code_step on f line other kids opening (ls ++ map (code_line f) h.read)
-        ∙ ap (fenced_open f kids opening) (all_of ls);
-    reads = λ kids opening ls so_far.
-        subst (λ (xs : List BlockLine). ShowsFenced new f line.ending (spine [] kids (Fenced f opening xs))) (all_of ls)
-        (push kids opening (ls ++ map (code_line f) h.read) (h.reads kids opening ls so_far));
-  }
-
-  -- the line after them
-  pub fenced_after : (new : Parser A) (kids : Blocks) (opening : Option LineEnding) (ls : List BlockLine)
-      → HasRead new (spine_of (step on Whitespace (fenced_open f kids opening (ls ++ map (code_line f) h.read)) line))
-      → ReadsSome on Whitespace (fenced_open f kids opening ls) text after new
-  fenced_after new kids opening ls reads = record {
-    read = more;
-    some = omega (arith, length-append h.read (line ∷ []));
-    split = split_more text rest after h.read line h.split first;
-    reads =
-        subst (λ (t : Tree). HasRead new (spine_of t))
-        (sym (steps_to on (fenced_open f kids opening ls) _ h.read line (h.content_steps kids opening ls))) reads;
-  }
-
--- the text ends after them
-pub fenced_all : {A : Type 0} (on : Constructs) (f : Fence) (text rest : List ℕ) (Old : Spine → Type 0) (mid new : Parser A) (last : Option LineEnding)
-    (h : FencedSoFar on f text rest Old mid last) (kids : Blocks) (opening : Option LineEnding) (ls : List BlockLine)
-    → 0 < length text → length rest ≡ 0 → HasRead new (spine [] kids (Fenced f opening (ls ++ map (code_line f) h.read)))
-    → ReadsSome on Whitespace (fenced_open f kids opening ls) text rest new
-fenced_all on f text rest Old mid new last h kids opening ls some none reads = record {
-  read = h.read;
-  some = some_lines text rest h.read h.split some none;
-  split = h.split;
-  reads = subst (λ (t : Tree). HasRead new (spine_of t)) (sym (h.content_steps kids opening ls)) reads;
-}
-
--- ---- the content as one text
-
 -- lines that don't close the fence
 code_steps : (on : Constructs) (f : Fence) (read : List TextLine) → list_any (line_closes on f) read ≡ false
     → (kids : Blocks) (opening : Option LineEnding) (ls : List BlockLine)
@@ -152,6 +77,135 @@ code_steps on f (line ∷ others) none kids opening ls =
     ap (λ (t : Tree). steps on Whitespace t others) (code_step on f line parts.0 kids opening ls)
     ∙ code_steps on f others parts.1 kids opening (ls ++ code_line f line ∷ [])
     ∙ ap (fenced_open f kids opening) (append_assoc ls (code_line f line ∷ []) (map (code_line f) others))
+
+-- ---- the search for the line that closes the fence
+
+-- no line so far does
+pub record CodeSoFar (on : Constructs) (f : Fence) (text rest : List ℕ) : Type 0 where
+  pub read : List TextLine
+  pub split : lines text ≡ read ++ lines rest
+  pub content : list_any (line_closes on f) read ≡ false
+
+pub code_none : (on : Constructs) (f : Fence) (text : List ℕ) → CodeSoFar on f text text
+code_none on f text = record { read = []; split = refl; content = refl }
+
+module _ (on : Constructs) (f : Fence) (text rest : List ℕ) (so_far : CodeSoFar on f text rest) where
+  -- the lines so far stand before the rest
+  before_rest : text_of so_far.read ≡ take (length text - length rest) text
+  before_rest =
+      let read = text_of so_far.read in
+      let split = front_of_text text rest so_far.read so_far.split in
+      let long : length text - length rest ≡ length read = omega (arith, ap length split, length-append read rest) in
+      sym (ap (λ n. take n text) long ∙ ap (take (length read)) split ∙ take_at read rest (length read) refl)
+
+  pub code_boundary : IsUtf8 rest → IsCharBoundary text (length text - length rest)
+  code_boundary utf8 =
+      let split = front_of_text text rest so_far.read so_far.split in
+      subst (IsCharBoundary text) (omega (arith, ap length split, length-append (text_of so_far.read) rest))
+      (IsCharBoundary-at_seam text (text_of so_far.read) rest split utf8)
+
+  module _ (after : List ℕ) (line : TextLine) (first : lines rest ≡ line ∷ lines after) where
+    -- one more line
+    pub code_more : line_closes on f line ≡ false → CodeSoFar on f text after
+    code_more other = record {
+      read = so_far.read ++ line ∷ [];
+      split = split_more text rest after so_far.read line so_far.split first;
+      content =
+          list_any-append (line_closes on f) so_far.read (line ∷ [])
+          ∙ ap (λ b. b || (line_closes on f line || false)) so_far.content ∙ ap (λ b. b || false) other;
+    }
+
+    -- the line that closes the fence
+    pub code_ends : ((k : ℕ) → get_or text k 0 < 256) → line_closes on f line ≡ true
+        → IsWholeCode on f text (take (length text - length rest) text) line.ending after
+    code_ends bytes closes =
+        let read = so_far.read in
+        let front : lines (take (length text - length rest) text) ≡ read =
+        ap lines (sym before_rest)
+        ∙ lines_of_front read rest (ap lines (sym (front_of_text text rest read so_far.split)) ∙ so_far.split)
+        (subst AreTextLines so_far.split (lines_of_text text bytes)) (omega (arith, ap length first)) in
+        record {
+          line = line;
+          split = so_far.split ∙ ap (λ xs. read ++ xs) first ∙ ap (λ xs. xs ++ line ∷ lines after) (sym front);
+          content = ap (list_any (line_closes on f)) front ∙ so_far.content;
+          closes = closes;
+          ends = refl;
+        }
+
+  -- none does
+  pub code_unclosed : length rest ≡ 0 → list_any (line_closes on f) (lines text) ≡ false
+  code_unclosed none = unclosed rest none so_far.split
+    where
+      unclosed : (rest : List ℕ) → length rest ≡ 0 → lines text ≡ so_far.read ++ lines rest → list_any (line_closes on f) (lines text) ≡ false
+      unclosed [] none split = ap (list_any (line_closes on f)) (split ∙ append-nil so_far.read) ∙ so_far.content
+      unclosed (b ∷ bs) none split = absurd (omega (arith, none))
+
+-- ---- the lines so far, and what was read of them
+
+pub record FencedSoFar {A : Type 0} (on : Constructs) (f : Fence) (text rest : List ℕ) (Old : Spine → Type 0) (new : Parser A)
+    (last : Option LineEnding) : Type 0 where
+  pub code : CodeSoFar on f text rest
+  pub reads : (kids : Blocks) (opening : Option LineEnding) (ls : List BlockLine) → Old (spine [] kids (Fenced f opening ls))
+      → ShowsFenced new f last (spine [] kids (Fenced f opening (ls ++ map (code_line f) code.read)))
+
+pub fenced_none : {A : Type 0} (on : Constructs) (f : Fence) (text : List ℕ) (p : Parser A) (last : Option LineEnding) → leaf_state p.leaf ≡ InFenced f last
+    → FencedSoFar on f text text (HasRead p) p last
+unfolding code_none
+fenced_none on f text p last leaf = record {
+  code = code_none on f text;
+  reads = λ kids opening ls h.
+      subst (λ (xs : List BlockLine). ShowsFenced p f last (spine [] kids (Fenced f opening xs))) (sym (append-nil ls))
+      (record { written = h.written; opened = h.opened; same_state = sym leaf ∙ h.same_state });
+}
+
+module _ {A : Type 0} (on : Constructs) (f : Fence) (text rest after : List ℕ) (Old : Spine → Type 0) (mid : Parser A) (last : Option LineEnding)
+    (line : TextLine) (h : FencedSoFar on f text rest Old mid last) (first : lines rest ≡ line ∷ lines after) where
+  abbrev more : List TextLine
+  more = h.code.read ++ line ∷ []
+
+  all_of : (ls : List BlockLine) → (ls ++ map (code_line f) h.code.read) ++ code_line f line ∷ [] ≡ ls ++ map (code_line f) more
+  all_of ls =
+      append_assoc ls (map (code_line f) h.code.read) (code_line f line ∷ []) ∙ ap (λ xs. ls ++ xs) (sym (map-append (code_line f) h.code.read (line ∷ [])))
+
+  -- one more line
+  pub fenced_more : (new : Parser A) → is_fence_end on f (whole line.content) ≡ false
+      → ((kids : Blocks) (opening : Option LineEnding) (ls : List BlockLine) → ShowsFenced mid f last (spine [] kids (Fenced f opening ls))
+      → ShowsFenced new f line.ending (spine [] kids (Fenced f opening (ls ++ code_line f line ∷ []))))
+      → FencedSoFar on f text after Old new line.ending
+  unfolding code_more
+  fenced_more new other push = record {
+    code = code_more on f text rest h.code after line first other;
+    reads = λ kids opening ls so_far.
+        subst (λ (xs : List BlockLine). ShowsFenced new f line.ending (spine [] kids (Fenced f opening xs))) (all_of ls)
+        (push kids opening (ls ++ map (code_line f) h.code.read) (h.reads kids opening ls so_far));
+  }
+
+  -- the line after them
+  pub fenced_after : (new : Parser A) (kids : Blocks) (opening : Option LineEnding) (ls : List BlockLine)
+      → HasRead new (spine_of (step on Whitespace (fenced_open f kids opening (ls ++ map (code_line f) h.code.read)) line))
+      → ReadsSome on Whitespace (fenced_open f kids opening ls) text after new
+  fenced_after new kids opening ls reads = record {
+    read = more;
+    some = omega (arith, length-append h.code.read (line ∷ []));
+    split = split_more text rest after h.code.read line h.code.split first;
+    reads =
+        subst (λ (t : Tree). HasRead new (spine_of t))
+        (sym (steps_to on (fenced_open f kids opening ls) _ h.code.read line (code_steps on f h.code.read h.code.content kids opening ls))) reads;
+  }
+
+-- the text ends after them
+pub fenced_all : {A : Type 0} (on : Constructs) (f : Fence) (text rest : List ℕ) (Old : Spine → Type 0) (mid new : Parser A) (last : Option LineEnding)
+    (h : FencedSoFar on f text rest Old mid last) (kids : Blocks) (opening : Option LineEnding) (ls : List BlockLine)
+    → 0 < length text → length rest ≡ 0 → HasRead new (spine [] kids (Fenced f opening (ls ++ map (code_line f) h.code.read)))
+    → ReadsSome on Whitespace (fenced_open f kids opening ls) text rest new
+fenced_all on f text rest Old mid new last h kids opening ls some none reads = record {
+  read = h.code.read;
+  some = some_lines text rest h.code.read h.code.split some none;
+  split = h.code.split;
+  reads = subst (λ (t : Tree). HasRead new (spine_of t)) (sym (code_steps on f h.code.read h.code.content kids opening ls)) reads;
+}
+
+-- ---- the content as one text
 
 -- a line loses nothing, if the fence has no indent
 none_lost : (f : Fence) (r : Rest) → fence_line (record f { indent = 0 }) r ≡ r
@@ -203,68 +257,3 @@ whole_read on f text code ending rest new w indent bytes kids opening ls none re
       split = w.split ∙ sym (append_assoc read (w.line ∷ []) (lines rest));
       reads = subst (λ (t : Tree). HasRead new (spine_of t)) (sym all) reads;
     }
-
--- ---- the search for the line that closes it
-
-pub record CodeSoFar (on : Constructs) (f : Fence) (text rest : List ℕ) : Type 0 where
-  pub read : List TextLine
-  pub split : lines text ≡ read ++ lines rest
-  pub content : list_any (line_closes on f) read ≡ false
-
-pub code_none : (on : Constructs) (f : Fence) (text : List ℕ) → CodeSoFar on f text text
-code_none on f text = record { read = []; split = refl; content = refl }
-
-module _ (on : Constructs) (f : Fence) (text rest : List ℕ) (so_far : CodeSoFar on f text rest) where
-  -- no more than the text
-  pub code_within : length rest ≤ length text
-  code_within = let split = front_of_text text rest so_far.read so_far.split in omega (arith, ap length split, length-append (text_of so_far.read) rest)
-
-  -- the lines so far stand before the rest
-  before_rest : text_of so_far.read ≡ take (length text - length rest) text
-  before_rest =
-      let read = text_of so_far.read in
-      let split = front_of_text text rest so_far.read so_far.split in
-      let long : length text - length rest ≡ length read = omega (arith, ap length split, length-append read rest) in
-      sym (ap (λ n. take n text) long ∙ ap (take (length read)) split ∙ take_at read rest (length read) refl)
-
-  pub code_boundary : IsUtf8 rest → IsCharBoundary text (length text - length rest)
-  code_boundary utf8 =
-      let split = front_of_text text rest so_far.read so_far.split in
-      subst (IsCharBoundary text) (omega (arith, ap length split, length-append (text_of so_far.read) rest))
-      (IsCharBoundary-at_seam text (text_of so_far.read) rest split utf8)
-
-  module _ (after : List ℕ) (line : TextLine) (first : lines rest ≡ line ∷ lines after) where
-    -- one more line
-    pub code_more : line_closes on f line ≡ false → CodeSoFar on f text after
-    code_more other = record {
-      read = so_far.read ++ line ∷ [];
-      split = split_more text rest after so_far.read line so_far.split first;
-      content =
-          list_any-append (line_closes on f) so_far.read (line ∷ [])
-          ∙ ap (λ b. b || (line_closes on f line || false)) so_far.content ∙ ap (λ b. b || false) other;
-    }
-
-    -- the line that closes the fence
-    pub code_ends : ((k : ℕ) → get_or text k 0 < 256) → line_closes on f line ≡ true
-        → IsWholeCode on f text (take (length text - length rest) text) line.ending after
-    code_ends bytes closes =
-        let read = so_far.read in
-        let front : lines (take (length text - length rest) text) ≡ read =
-        ap lines (sym before_rest)
-        ∙ lines_of_front read rest (ap lines (sym (front_of_text text rest read so_far.split)) ∙ so_far.split)
-        (subst AreTextLines so_far.split (lines_of_text text bytes)) (omega (arith, ap length first)) in
-        record {
-          line = line;
-          split = so_far.split ∙ ap (λ xs. read ++ xs) first ∙ ap (λ xs. xs ++ line ∷ lines after) (sym front);
-          content = ap (list_any (line_closes on f)) front ∙ so_far.content;
-          closes = closes;
-          ends = refl;
-        }
-
-  -- none does
-  pub code_unclosed : length rest ≡ 0 → list_any (line_closes on f) (lines text) ≡ false
-  code_unclosed none = unclosed rest none so_far.split
-    where
-      unclosed : (rest : List ℕ) → length rest ≡ 0 → lines text ≡ so_far.read ++ lines rest → list_any (line_closes on f) (lines text) ≡ false
-      unclosed [] none split = ap (list_any (line_closes on f)) (split ∙ append-nil so_far.read) ∙ so_far.content
-      unclosed (b ∷ bs) none split = absurd (omega (arith, none))

@@ -2,14 +2,16 @@
 use Rattle.std.specs.Prelude.{◌≡◌, ℕ, ◌<◌, true, false, List, [], ◌∷◌, ◌++◌, Option, IfSome, drop, length}
 use Rattle.std.proofs.Common.{Bor}
 use Rattle.markdown_options.specs.declared.configuration.Constructs.{Constructs}
+use Rattle.markdown_options.specs.declared.line_ending.LineEnding.{LineEnding}
 use Rattle.definition_text.specs.declared.beside.Beside.{Beside}
 use Rattle.definition_text.specs.declared.beside.Kind.{Kind}
 use Rattle.definition_text.specs.declared.beside.Kind.TheVariants.{Whitespace}
 use Rattle.definition_text.specs.Lines.{TextLine, lines}
 use Rattle.definition_text.specs.BlockLines.{BlockLine}
 use Rattle.definition_text.specs.Columns.{Rest}
+use Rattle.definition_block.specs.CodeFenced.{Fence}
 use Rattle.definition_block.specs.Container.{Container}
-use Rattle.definition_block.specs.Tree.{Blocks, Nil, OpenLeaf, Text, Opening, Leaf, Inside, Tree, tree, nothing, open_text, new, leaf_line, grow, steps}
+use Rattle.definition_block.specs.Tree.{Blocks, Nil, OpenLeaf, Text, Fenced, Opening, Leaf, Inside, Tree, tree, nothing, open_text, new, leaf_line, grow, steps}
 use Rattle.block_rows.specs.ParagraphLines.{AreLines}
 use Rattle.block_rows.specs.Rows.{piece_lines, whole_lines}
 use Rattle.block_starts.specs.View.{container_views}
@@ -37,6 +39,12 @@ pub record ReadsSome {A : Type 0} (on : Constructs) (before : Kind) (t : Tree) (
   pub some : 0 < length read
   pub split : lines text ≡ read ++ lines rest
   pub reads : HasRead p (spine_of (steps on before t read))
+
+-- where this fence is open, and no container, lines of a text were read, and the rest follows them
+abbrev pub ReadsFenced : {A : Type 0} → Constructs → Fence → List ℕ → Parser A → Parser A → List ℕ → Type 0
+ReadsFenced on fence text old new rest =
+    (kids : Blocks) (opening : Option LineEnding) (ls : List BlockLine) → let t = tree kids (Leaf (Fenced fence opening ls)) in
+    KeepsLines on Whitespace t text → HasRead old (spine_of t) → ReadsSome on Whitespace t text rest new
 
 -- a leaf that is open becomes this, whatever it stands in
 abbrev pub Becomes : {A : Type 0} → Parser A → Parser A → OpenLeaf → Tree → Type 0

@@ -28,11 +28,9 @@ impl<'a, A: Allocator> Parser<'a, A> {
     ghost use Rattle.definition_block.specs.CodeFenced.{Fence as FenceRecord};
     ghost use Rattle.definition_text.specs.BlockLines.{BlockLine, last_ending_or};
     ghost use Rattle.definition_block.specs.Tree as tree;
-    ghost use Rattle.definition_text.specs.declared.beside.Kind.TheVariants.{Whitespace};
     ghost use Rattle.block_state.specs.Leaves.{leaf_state};
     ghost use Rattle.block_state.specs.Shows.{InFenced};
-    ghost use Rattle.block_state.specs.Spine.{spine_of};
-    ghost use Rattle.block_parser.specs.View.{Becomes, Closes, Adds, HasRead, KeepsLines, ReadsSome, leaf_grown};
+    ghost use Rattle.block_parser.specs.View.{Becomes, Closes, Adds, ReadsFenced, leaf_grown};
     ghost use Rattle.block_starts.specs.View.{rest_of};
     ghost use Rattle.block_rows.specs.Rows.{whole_lines};
 
@@ -74,9 +72,7 @@ impl<'a, A: Allocator> Parser<'a, A> {
         requires leaf { leaf_state self.old.leaf ≡ InFenced (fence_view fence) ending }
         requires lines { self.old.lines_in_rows + 1 ≤ vec_len self.old.pieces }
         ensures shorter { IfOk result (λ rest. length rest.now < length text.now) }
-        ensures read { IfOk result (λ rest. (kids : tree.Blocks) (opening : Option LineEnding) (ls : List BlockLine) →
-            let t = tree.tree kids (tree.Leaf (tree.Fenced (fence_view fence.entry) opening ls)) in
-            KeepsLines on.now Whitespace t text.now → HasRead self.old (spine_of t) → ReadsSome on.now Whitespace t text.now rest.now self.new) }
+        ensures read { IfOk result (λ rest. ReadsFenced on.now (fence_view fence.entry) text.now self.old self.new rest.now) }
     {
         if fence.indent == 0 && self.pieces.len() - self.lines_in_rows == 1 {
             if let Some(code) = whole_code(on, &fence, text) {
@@ -100,9 +96,7 @@ impl<'a, A: Allocator> Parser<'a, A> {
         requires leaf { leaf_state self.old.leaf ≡ InFenced (fence_view fence) ending }
         requires lines { self.old.lines_in_rows + 1 ≤ vec_len self.old.pieces }
         ensures shorter { IfOk result (λ rest. length rest.now < length text.now) }
-        ensures read { IfOk result (λ rest. (kids : tree.Blocks) (opening : Option LineEnding) (ls : List BlockLine) →
-            let t = tree.tree kids (tree.Leaf (tree.Fenced (fence_view fence.entry) opening ls)) in
-            KeepsLines on.now Whitespace t text.now → HasRead self.old (spine_of t) → ReadsSome on.now Whitespace t text.now rest.now self.new) }
+        ensures read { IfOk result (λ rest. ReadsFenced on.now (fence_view fence.entry) text.now self.old self.new rest.now) }
     {
         let mut rest = text;
         let mut last = ending;

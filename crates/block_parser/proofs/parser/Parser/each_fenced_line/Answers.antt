@@ -37,7 +37,7 @@ returns-then-closes_fence-clause-read g c = λ kids opening ls keeps h.
     let line = text_line next.0.now next.1 in
     fenced.fenced_after c.args.on.now f c.args.text.now rest next.2.now (HasRead c.args.self.now) c.loop-content.self c.loop-content.last line k
     (c.next_line-ending.ensures.rest some) c.any_line.new.self kids opening ls
-    (c.in_ok-any_line.ensures (tree kids (Leaf (Fenced f opening (ls ++ map (code_line f) k.read)))) tt (k.reads kids opening ls h))
+    (c.in_ok-any_line.ensures (tree kids (Leaf (Fenced f opening (ls ++ map (code_line f) k.code.read)))) tt (k.reads kids opening ls h))
 
 pub loop-content-smaller : goal.loop-content-smaller
 loop-content-smaller g c =
