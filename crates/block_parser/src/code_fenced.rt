@@ -3,7 +3,6 @@
 //!     fenced ::= fence line* end_of_fence?
 ghost use Rattle.std.specs.Prelude.{◌≡◌, ◌<◌, ◌^◌, IfNone, IfSome, false, length};
 ghost use Rattle.std.specs.List.{list_any};
-ghost use Rattle.definition_text.specs.Columns.{whole};
 ghost use Rattle.definition_text.specs.Lines.{lines, text_line};
 ghost use Rattle.block_rows.specs.Rows.{piece_line};
 ghost use Rattle.block_starts.specs.View.{rest_of};

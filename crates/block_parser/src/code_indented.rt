@@ -15,8 +15,7 @@ use markdown_options::{Constructs, LineEnding};
 use std::alloc::{AllocError, Allocator};
 
 impl<'a, A: Allocator> Parser<'a, A> {
-    ghost use Rattle.std.specs.Prelude.{◌≡◌, OnOk, List, Option, ◌≤◌, ◌+◌, ◌∷◌, [], length, vec_len};
-    ghost use Rattle.markdown_options.specs.declared.line_ending.LineEnding.{LineEnding};
+    ghost use Rattle.std.specs.Prelude.{◌≡◌, OnOk, List, ◌≤◌, ◌+◌, ◌∷◌, [], length, vec_len};
     ghost use Rattle.definition_text.specs.Indents.{outdent};
     ghost use Rattle.definition_text.specs.BlockLines.{BlockLine, last_ending};
     ghost use Rattle.definition_block.specs.Tree as tree;

@@ -15,13 +15,11 @@ use markdown_options::{Constructs, LineEnding};
 use std::alloc::{AllocError, Allocator};
 
 impl<'a, A: Allocator> Parser<'a, A> {
-    ghost use Rattle.std.specs.Prelude.{◌≡◌, ◌≤◌, ◌+◌, ◌∷◌, [], true, false, List, OnOk, IfOk, drop, take, vec_len};
-    ghost use Rattle.definition_text.specs.BlockLines.{BlockLine, last_ending};
+    ghost use Rattle.std.specs.Prelude.{◌≡◌, true, false, List, OnOk, IfOk};
+    ghost use Rattle.definition_text.specs.BlockLines.{BlockLine};
     ghost use Rattle.definition_block.specs.Tree as tree;
     ghost use Rattle.definition_block.specs.Definitions.{definition_cut, cut_into};
     ghost use Rattle.block_rows.specs.ParagraphLines.{AreLines};
-    ghost use Rattle.block_rows.specs.declared.row.Row.TheVariants as row_variant;
-    ghost use Rattle.block_rows.specs.Rows.{block_rows, row_value};
     ghost use Rattle.block_state.specs.Spine.{Level, Spine, spine};
     ghost use Rattle.block_parser.specs.View.{Becomes, HasRead};
 

@@ -22,14 +22,13 @@ use markdown_options::{Constructs, LineEnding};
 use std::alloc::{AllocError, Allocator};
 
 impl<'a, A: Allocator> Parser<'a, A> {
-    ghost use Rattle.std.specs.Prelude.{◌≡◌, ◌==◌, ◌&&◌, ◌-◌, ◌++◌, ◌∷◌, [], true, IfOk, OnOk, List, drop, take, length, vec_len};
+    ghost use Rattle.std.specs.Prelude.{◌≡◌, ◌-◌, ◌++◌, ◌∷◌, [], true, IfOk, OnOk, List, drop, take, length};
     ghost use Rattle.markdown_options.specs.declared.configuration.Constructs.{Constructs as ConstructsOf};
     ghost use Rattle.definition_text.specs.BlockLines.{BlockLine, last_ending};
     ghost use Rattle.definition_block.specs.Definitions.{definition_cut};
     ghost use Rattle.definition_block.specs.GfmTable.{delimiter_row};
     ghost use Rattle.definition_block.specs.Tree as tree;
     ghost use Rattle.block_rows.specs.ParagraphLines.{AreLines};
-    ghost use Rattle.block_rows.specs.Rows.{piece_lines};
     ghost use Rattle.block_parser.specs.GfmTable.{fits, table_from_cut, table_tree};
     ghost use Rattle.block_parser.specs.HeadingSetext.{IsText};
     ghost use Rattle.block_state.specs.Shows.{leaf_lines};

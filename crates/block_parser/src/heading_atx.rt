@@ -10,8 +10,7 @@ use markdown_options::LineEnding;
 use std::alloc::{AllocError, Allocator};
 
 impl<'a, A: Allocator> Parser<'a, A> {
-    ghost use Rattle.std.specs.Prelude.{OnOk, Option, None, ◌∷◌, []};
-    ghost use Rattle.markdown_options.specs.declared.line_ending.LineEnding.{LineEnding};
+    ghost use Rattle.std.specs.Prelude.{OnOk, None, ◌∷◌, []};
     ghost use Rattle.definition_text.specs.BlockLines.{spaced_line};
     ghost use Rattle.definition_block.specs.Tree as tree;
     ghost use Rattle.block_parser.specs.View.{Adds};

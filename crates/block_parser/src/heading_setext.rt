@@ -10,7 +10,7 @@ use markdown_options::{Constructs, LineEnding};
 use std::alloc::{AllocError, Allocator};
 
 impl<'a, A: Allocator> Parser<'a, A> {
-    ghost use Rattle.std.specs.Prelude.{◌≡◌, IfOk, OnOk, List, Option, ℕ, Some, None, length};
+    ghost use Rattle.std.specs.Prelude.{◌≡◌, IfOk, OnOk, List, Option, ℕ, Some, length};
     ghost use Rattle.markdown_options.specs.declared.line_ending.LineEnding.{LineEnding};
     ghost use Rattle.definition_text.specs.BlockLines.{BlockLine};
     ghost use Rattle.definition_block.specs.Tree as tree;
