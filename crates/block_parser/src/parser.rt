@@ -523,7 +523,8 @@ fn is_empty(rest: &Cursor<'_>) -> bool
 /// not beyond the innermost.
 fn quotes_end(end: usize, containers: &[Container<'_>]) -> usize
     requires { NoQuoteFrom end (container_views containers.now) }
-    ensures { NoQuoteFrom result (container_views containers.now) }
+    ensures none { NoQuoteFrom result (container_views containers.now) }
+    ensures within { result ≤ length containers.now }
 {
     if end <= containers.len() {
         return end;
