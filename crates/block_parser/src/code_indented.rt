@@ -11,6 +11,7 @@ use block_starts::Cursor;
 use block_starts::code_indented::starts_code_indented;
 use block_state::OpenLeaf;
 use definition_text::Beside;
+use markdown_options::constants::TAB_SIZE;
 use markdown_options::{Constructs, LineEnding};
 use std::alloc::{AllocError, Allocator};
 
@@ -33,11 +34,11 @@ impl<'a, A: Allocator> Parser<'a, A> {
             Becomes self.old self.new (tree.Indented ls pending) (leaf_grown on.now beside (rest_of rest.now) (tree.Leaf (tree.Indented ls pending)))) }
     {
         if rest.is_blank() {
-            self.pieces.push(piece(&rest.outdent(4), beside))?;
+            self.pieces.push(piece(&rest.outdent(TAB_SIZE), beside))?;
             return Ok(());
         }
         if starts_code_indented(on, *rest) {
-            self.pieces.push(piece(&rest.outdent(4), beside))?;
+            self.pieces.push(piece(&rest.outdent(TAB_SIZE), beside))?;
             let count = self.pieces.len() - self.lines_in_rows;
             self.leaf = OpenLeaf::Indented {
                 count,
@@ -58,7 +59,7 @@ impl<'a, A: Allocator> Parser<'a, A> {
         ensures { OnOk result (Adds self.old self.new
             (tree.tree tree.Nil (tree.Leaf (tree.Indented (tree.rest_line (outdent 4 (rest_of rest.now)) beside ∷ []) [])))) }
     {
-        self.pieces.push(piece(&rest.outdent(4), beside))?;
+        self.pieces.push(piece(&rest.outdent(TAB_SIZE), beside))?;
         self.leaf = OpenLeaf::Indented {
             count: 1,
             ending: beside.ending,

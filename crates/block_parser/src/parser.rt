@@ -451,12 +451,9 @@ impl<'a, A: Allocator> Parser<'a, A> {
         ensures read { OnOk result ((s : Spine) → s.leaf ≡ tree.Text [] → HasRead self.old s → HasRead self.new (without_innermost s)) }
         ensures count { OnOk result (vec_len self.new.open ≡ vec_len self.old.open - 1) }
     {
-        match self.open.pop() {
-            Some(container) => {
-                self.quotes_end = quotes_end(self.quotes_end, &self.open);
-                self.rows.exit(container)?;
-            }
-            None => {}
+        if let Some(container) = self.open.pop() {
+            self.quotes_end = quotes_end(self.quotes_end, &self.open);
+            self.rows.exit(container)?;
         }
         Ok(())
     }

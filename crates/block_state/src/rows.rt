@@ -23,6 +23,7 @@ pub struct Rows<A: Allocator> {
 }
 
 impl<A: Allocator> Rows<A> {
+    /// No rows, and nothing that waits.
     pub fn new(rows_alloc: A, waiting_alloc: A) -> Rows<A>
         ensures rows { result.rows.items ≡ [] }
         ensures waiting { result.waiting.items ≡ [] }

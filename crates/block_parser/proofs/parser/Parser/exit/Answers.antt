@@ -12,8 +12,8 @@ use Rattle.block_parser.proofs.Closing as closing
 use Rattle.block_parser.proofs.Quotes as quotes
 use Rattle.block_parser.proofs.parser.Parser.exit.Goals as goal
 
-pub returns-in_ok-exit-in-Some-clause-read : goal.returns-in_ok-exit-in-Some-clause-read
-returns-in_ok-exit-in-Some-clause-read g c = λ s leaf h. some_case s.around s.kids s.leaf h
+pub returns-in_ok-exit-clause-read : goal.returns-in_ok-exit-clause-read
+returns-in_ok-exit-clause-read g c = λ s leaf h. some_case s.around s.kids s.leaf h
   where
     some_case : (around : List Level) (kids : Blocks) (leaf : OpenLeaf) → HasRead c.args.self.now (spine around kids leaf)
         → Shows c.exit.new.self.rows.items c.exit.new.self.waiting.items c.exit.new.self.bare (container_views c.pop.new.self.items)
@@ -32,8 +32,8 @@ returns-in_ok-exit-in-Some-clause-read g c = λ s leaf h. some_case s.around s.k
           written = leaves.exited_as p.rows.rows.items p.rows.waiting.items p.rows.bare (piece_lines p.pieces.items) ls l kids
               (leaf_lines leaf) h.written p.rows.none
               c.exit.new.self.rows.items c.exit.new.self.waiting.items c.exit.new.self.bare
-              (container_view c.in-Some.container) parts.1 c.in_ok-exit-in-Some.ensures.rows c.in_ok-exit-in-Some.ensures.waiting
-              c.in_ok-exit-in-Some.ensures.bare;
+              (container_view c.in-Some.container) parts.1 c.in_ok-exit.ensures.rows c.in_ok-exit.ensures.waiting
+              c.in_ok-exit.ensures.bare;
           opened = parts.0;
           same_state = h.same_state;
         }
