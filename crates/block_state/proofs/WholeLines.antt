@@ -146,7 +146,8 @@ front_begins ls text rest cut h is =
 
 -- one more of them
 pub begins_more : (pieces : List Piece) (i : ℕ) (d : Piece) (text rest after : List ℕ) → i < length pieces → Begins (piece_lines (take i pieces)) text rest
-    → rest ≡ line_text (piece_line (get_or pieces i d)) ++ after → IsWhole (piece_line (get_or pieces i d)) → Begins (piece_lines (take (i + 1) pieces)) text after
+    → rest ≡ line_text (piece_line (get_or pieces i d)) ++ after → IsWhole (piece_line (get_or pieces i d))
+    → Begins (piece_lines (take (i + 1) pieces)) text after
 begins_more pieces i d text rest after lt so_far line whole =
     let front = take i pieces in
     let last = get_or pieces i d in

@@ -24,7 +24,8 @@ returns-then-closes_fence-clause-closed c =
     let next = c.next_line-ending.result in
     let line = text_line next.0.now next.1 in
     let bytes : (k : ℕ) → get_or c.args.text.now k 0 < 256 = λ k. omega (arith, c.type_inv.text k) in
-    subst (λ xs. IsWholeCode c.args.on.now f c.args.text.now xs line.ending next.2.now) (sym (c.range.ensures.value ∙ ap (λ n. take n c.args.text.now) (omega arith)))
+    subst (λ xs. IsWholeCode c.args.on.now f c.args.text.now xs line.ending next.2.now)
+    (sym (c.range.ensures.value ∙ ap (λ n. take n c.args.text.now) (omega arith)))
     (code_ends c.args.on.now f c.args.text.now rest k next.2.now line (c.next_line-ending.ensures.rest some) bytes
     (sym c.closes_fence.ensures ∙ c.if-closes_fence.true))
 

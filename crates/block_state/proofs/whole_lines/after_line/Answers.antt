@@ -25,7 +25,8 @@ returns-then-piece-ne0-clause-none c = λ rest h.
 
 pub returns-in_err-after-clause-none : goal.returns-in_err-after-clause-none
 returns-in_err-after-clause-none c =
-    subst (λ (o : Option (Bor (List ℕ))). IfNone o ((rest : List ℕ) → BeginsWith (piece_line c.args.piece) c.args.text.now rest → ⊥)) (sym c.from_residual.ensures)
+    subst (λ (o : Option (Bor (List ℕ))). IfNone o ((rest : List ℕ) → BeginsWith (piece_line c.args.piece) c.args.text.now rest → ⊥))
+    (sym c.from_residual.ensures)
     (λ rest h. c.in_err-after.ensures.cases _ (piece_first c.args.piece c.args.text.now rest c.if-piece-ne0.false h))
 
 pub returns-in_err-rest-clause-none : goal.returns-in_err-rest-clause-none

@@ -18,7 +18,8 @@ loop-piece-preserved c =
 
 pub range-requires-clause-end_boundary : goal.range-requires-clause-end_boundary
 range-requires-clause-end_boundary c =
-    cut_boundary (piece_lines (take c.loop-piece.piece-index c.args.pieces.now)) c.args.text.now c.loop-piece.rest.now c.loop-piece.invariant.1 c.loop-piece.invariant.0
+    cut_boundary (piece_lines (take c.loop-piece.piece-index c.args.pieces.now)) c.args.text.now c.loop-piece.rest.now c.loop-piece.invariant.1
+    c.loop-piece.invariant.0
 
 pub returns-clause-front : goal.returns-clause-front
 returns-clause-front c =
