@@ -1,9 +1,9 @@
 -- What the states of `gfm_task_list_item_check` do.
-use Rattle.std.specs.Prelude.{Bool, true, false, refl, ◌==◌, ◌||◌, ◌-◌, ◌^◌}
+use Rattle.std.specs.Prelude.{Bool, true, false, refl, nat_lt, ◌==◌, ◌||◌, ◌-◌, ◌^◌}
 use Rattle.engine_events.specs.declared.event.Name.TheVariants as names
 use Rattle.engine_events.specs.declared.state.Inline.TheVariants as inline_states
 use Rattle.engine_events.specs.declared.state.State.TheVariants as states
-use Rattle.engine_programs.specs.Bodies.{FixedName, Body, Answer, Enter, Exit, Keep, Tries, Byte, On, Test, around}
+use Rattle.engine_programs.specs.Bodies.{FixedName, Body, Answer, Consume, Enter, Exit, Keep, Tries, Byte, On, AfterFeed, Test, around}
 use Rattle.inline_states_table.specs.Words.{next, retry}
 use Rattle.definition_text.specs.Ascii.{tab, line_feed, space, capital_x, left_bracket, right_bracket, small_x}
 
@@ -28,12 +28,13 @@ module _ {M : Type 0} where
       (Answer (next inline_states.GfmTaskListItemCheckClose)))
       (Answer states.Nok))
 
-  -- at the `]`
+  -- at the `]`, or at a further column of the tab before it
   abbrev pub gfm_task_list_item_check_close : Body M
   gfm_task_list_item_check_close =
-      Byte (Answer states.Nok)
-      (On (λ b. b == right_bracket)
+      On (λ b. b == right_bracket)
       (around (FixedName names.GfmTaskListItemMarker) (Exit (FixedName names.GfmTaskListItemCheck) (Answer (next inline_states.GfmTaskListItemCheckAfter))))
+      (On (λ b. b == space) (Test (λ c. nat_lt 0 c.point.vs) (AfterFeed (Answer states.Nok) (Consume (Answer (next inline_states.GfmTaskListItemCheckClose))))
+      (Answer states.Nok))
       (Answer states.Nok))
 
   -- after the `]`: looks ahead

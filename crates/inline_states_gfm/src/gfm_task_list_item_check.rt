@@ -4,7 +4,7 @@
 //! gfm_task_list_item_check ::= '[' (' ' | tab | line_ending | 'x' | 'X') ']'
 //! ```
 //!
-//! White space that isn't the end of the content follows.
+//! White space that isn't the end of the content follows. A tab is one byte here, however many columns it has.
 ghost use Rattle.std.specs.Prelude.{[], ◌∷◌};
 ghost use Rattle.engine_events.specs.declared.event.Name.TheVariants as names;
 ghost use Rattle.markdown_engine.specs.Machine.{constructs_of};
@@ -15,7 +15,7 @@ ghost use Rattle.inline_states_gfm.specs.GfmTaskListItemCheck.{gfm_task_list_ite
 ghost use Rattle.inline_states_gfm.specs.GfmTaskListItemCheck.{gfm_task_list_item_check_after_space_or_tab};
 
 use engine_programs::around::around;
-use engine_programs::steps::{around_to, attempt_to, check_to, exit_to};
+use engine_programs::steps::{around_to, attempt_to, check_to, consume_to, exit_to};
 use inline_states_table::{next, retry};
 use markdown_engine::event::Name as EventName;
 use markdown_engine::state::{Inline, State};
@@ -61,22 +61,27 @@ pub fn inside<M, T, A: Allocator>(tokenizer: &mut Tokenizer<'_, M, T, A>) -> Sta
     }
 }
 
-/// At the `]`.
+/// At the `]`, or at a further column of the tab before it.
 pub fn close<M, T, A: Allocator>(tokenizer: &mut Tokenizer<'_, M, T, A>) -> State
     requires { IsOpen (FixedName names.GfmTaskListItemCheck ∷ []) tokenizer.old }
     ensures { Does gfm_task_list_item_check_close tokenizer.old tokenizer.new result }
 {
-    if tokenizer.current != Some(b']') {
-        return State::Nok;
+    match tokenizer.current {
+        Some(b']') => {
+            if around(tokenizer, EventName::GfmTaskListItemMarker).is_err() {
+                return State::out_of_memory();
+            }
+            exit_to(
+                tokenizer,
+                EventName::GfmTaskListItemCheck,
+                next(Inline::GfmTaskListItemCheckAfter),
+            )
+        },
+        Some(b' ') if tokenizer.point.vs > 0 && tokenizer.previous != Some(b'\n') => {
+            consume_to(tokenizer, next(Inline::GfmTaskListItemCheckClose))
+        },
+        _ => State::Nok,
     }
-    if around(tokenizer, EventName::GfmTaskListItemMarker).is_err() {
-        return State::out_of_memory();
-    }
-    exit_to(
-        tokenizer,
-        EventName::GfmTaskListItemCheck,
-        next(Inline::GfmTaskListItemCheckAfter),
-    )
 }
 
 /// After the `]`: looks ahead.

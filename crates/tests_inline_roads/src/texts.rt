@@ -77,6 +77,8 @@ pub const GFM_TEXTS: &[&str] = &[
     "[x] a",
     "[X]\nb",
     "[ ] *c*",
+    "[\t] a",
+    "[\n] a",
     "[x]a",
     "[ ]",
 ];
