@@ -12,9 +12,10 @@ use Rattle.html_safe_page.specs.SafePage.{Letter, Void, Element, attribute_start
 use Rattle.html_safe_page.specs.SafePage.{is_tag_of, is_safe, OneReading}
 use Rattle.html_safe_page.specs.Reader.{read_tag, Rest, Last, Then, Reading, Outside, Inside, at_first, outside, open_tag, open_or, read_opening, read_mark}
 use Rattle.html_safe_page.specs.Reader.{step, read, whole, read_page}
+use Rattle.html_safe_page.proofs.Options.{weaker}
 use Rattle.html_safe_page.proofs.Text.{by_kind, is_plain}
 use Rattle.html_safe_page.proofs.Spelled.{is_word_byte, is_word, starts_word, is_worded_row, is_worded_list, is_worded, all_values, bytes_same, IsRead}
-use Rattle.html_safe_page.proofs.Spelled.{tag_sound, tag_spelled, tags_same, listed_worded, weaker}
+use Rattle.html_safe_page.proofs.Spelled.{tag_sound, tag_spelled, tags_same, listed_worded}
 
 -- ---- the bytes of a tag
 

@@ -2,13 +2,13 @@
 use Rattle.std.proofs.Common.{◌≡◌, ℕ, ◌+◌, ◌-◌, ◌<◌, List, [], ◌∷◌, ◌++◌, Bool, true, false, ◌&&◌, cond, eqb, Option, None, Some, Bor, codes, length, take}
 use Rattle.std.proofs.Common.{drop, get_or, refl, sym, ap, ◌∙◌, append_assoc}
 use Rattle.std.specs.Cmp.Lexicographic.{pointwise}
-use Rattle.std.specs.Option.{IfSome, MatchOption, is_some, option_map, option_copied}
+use Rattle.std.specs.Option.{IfSome, MatchOption, is_some, option_and_then, option_map, option_copied}
 use Rattle.std.proofs.lemmas.Bool.{cond-true, cond-false}
 use Rattle.std.proofs.lemmas.Bool.Decides.{Decides-eqb}
 use Rattle.std.proofs.lemmas.List.{at_drop_more, take_more, take_rest, append-nil}
 use Rattle.std.proofs.lemmas.Slice.Eq.{strip_prefix_is}
 use Rattle.html_safe_page.specs.SafePage.{attribute_start}
-use Rattle.html_safe_page.specs.Reader.{and_then, strip, read_text, QuotedText, longer, before_quote}
+use Rattle.html_safe_page.specs.Reader.{strip, read_text, QuotedText, longer, before_quote}
 use Rattle.html_safe_page.specs.Machine.{may_stand, split_tag}
 use Rattle.html_safe_page.proofs.Text.{split, strip_sound}
 use Rattle.html_safe_page.proofs.Spelled.{strip_spelled}
@@ -89,26 +89,28 @@ pub strip_is : (prefix bytes : List ℕ) (r : Option (Bor (List ℕ)))
     → option_copied r ≡ strip prefix bytes
 strip_is prefix bytes r h = stripped prefix bytes r (strip_prefix_is Decides-eqb bytes prefix r h)
 
-strip_if : (t : Bool) (o : Option (List ℕ)) (f : List ℕ → Option (List ℕ)) → cond t (and_then o f) None ≡ and_then (cond t o None) f
+strip_if : (t : Bool) (o : Option (List ℕ)) (f : List ℕ → Option (List ℕ)) → cond t (option_and_then f o) None ≡ option_and_then f (cond t o None)
 strip_if true o f = refl
 strip_if false o f = refl
 
-strip_append : (a b bytes : List ℕ) → strip (a ++ b) bytes ≡ and_then (strip a bytes) (strip b)
+strip_append : (a b bytes : List ℕ) → strip (a ++ b) bytes ≡ option_and_then (strip b) (strip a bytes)
 strip_append [] b bytes = refl
 strip_append (p ∷ ps) b [] = refl
 strip_append (p ∷ ps) b (x ∷ xs) = ap (λ o. cond (eqb x p) o None) (strip_append ps b xs) ∙ strip_if (eqb x p) (strip ps xs) (strip b)
 
-bind_assoc : (o : Option (List ℕ)) (f g : List ℕ → Option (List ℕ)) → and_then o (λ x. and_then (f x) g) ≡ and_then (and_then o f) g
+bind_assoc : (o : Option (List ℕ)) (f g : List ℕ → Option (List ℕ))
+    → option_and_then (λ x. option_and_then g (f x)) o ≡ option_and_then g (option_and_then f o)
 bind_assoc None f g = refl
 bind_assoc (Some x) f g = refl
 
-bind_same : (o : Option (List ℕ)) (f g : List ℕ → Option (List ℕ)) → ((x : List ℕ) → f x ≡ g x) → and_then o f ≡ and_then o g
+bind_same : (o : Option (List ℕ)) (f g : List ℕ → Option (List ℕ)) → ((x : List ℕ) → f x ≡ g x) → option_and_then f o ≡ option_and_then g o
 bind_same None f g h = refl
 bind_same (Some x) f g h = h x
 
-pub start_is : (name bytes : List ℕ) → strip (attribute_start name) bytes ≡ and_then (and_then (strip (codes " ") bytes) (strip name)) (strip (codes "=\""))
+pub start_is : (name bytes : List ℕ)
+    → strip (attribute_start name) bytes ≡ option_and_then (strip (codes "=\"")) (option_and_then (strip name) (strip (codes " ") bytes))
 start_is name bytes =
     let spaced = strip (codes " ") bytes in
     strip_append (codes " ") (name ++ codes "=\"") bytes
-    ∙ bind_same spaced (strip (name ++ codes "=\"")) (λ x. and_then (strip name x) (strip (codes "=\""))) (strip_append name (codes "=\""))
+    ∙ bind_same spaced (strip (name ++ codes "=\"")) (λ x. option_and_then (strip (codes "=\"")) (strip name x)) (strip_append name (codes "=\""))
     ∙ bind_assoc spaced (strip name) (strip (codes "=\""))

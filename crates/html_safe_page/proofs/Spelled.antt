@@ -2,15 +2,15 @@
 use Rattle.std.proofs.Common.{◌≡◌, ℕ, List, [], ◌∷◌, ◌++◌, Bool, true, false, not, ◌&&◌, ◌||◌, cond, eqb, Option, None, Some, codes, refl, sym, ap, ◌∙◌, subst}
 use Rattle.std.proofs.Common.{inl, inr, append_assoc}
 use Rattle.std.specs.List.{list_any, list_all}
-use Rattle.std.specs.Option.{IfSome, option_map}
+use Rattle.std.specs.Option.{IfSome, option_and_then, option_map, option_or}
 use Rattle.std.specs.Str.{bytes_eq}
 use Rattle.std.proofs.lemmas.Bool.{cases_Bool, cond-true, cond-false, true≢false, false≢true, eq-eqb, and_parts, and_from}
 use Rattle.std.proofs.lemmas.Slice.Eq.{bytes_eq-Decides}
 use Rattle.html_safe_page.specs.Table.{Row}
 use Rattle.html_safe_page.specs.SafePage.{kind, spell_text, Attribute, Tag, attribute_start, spell_attributes, spell_tag, are_named, is_of_row, is_value}
-use Rattle.html_safe_page.specs.Reader.{and_then, or_else, strip, read_text, QuotedText, before_quote, read_value, attribute, read_attributes, tag_of, read_row}
+use Rattle.html_safe_page.specs.Reader.{strip, read_text, QuotedText, before_quote, quoted_value, read_value, attribute, read_attributes, tag_of, read_row}
 use Rattle.html_safe_page.specs.Reader.{read_tag}
-use Rattle.html_safe_page.proofs.Options.{then_if, else_if, map_if}
+use Rattle.html_safe_page.proofs.Options.{then_if, else_if, weaker, map_if}
 use Rattle.html_safe_page.proofs.Text.{is_plain, read_spelled, strip_sound, text_sound, split, quoted_spelled, quoted_sound, spell_text-append}
 
 pub same_bytes : (xs ys : List ℕ) → bytes_eq xs ys ≡ true → xs ≡ ys
@@ -53,10 +53,14 @@ abbrev after_value : List ℕ → List (List ℕ) → List ℕ → List ℕ → 
 after_value n ns ending rest v = option_map (λ others. attribute n v ∷ others) (read_attributes ns ending rest)
 
 abbrev after_quoted : List ℕ → List (List ℕ) → List ℕ → QuotedText → Option (List Attribute)
-after_quoted n ns ending q = and_then (read_value n q.inside) (λ v. after_value n ns ending q.rest v)
+after_quoted n ns ending q = option_and_then (after_value n ns ending q.rest) (read_value n q.inside)
 
-abbrev after_start : List ℕ → List (List ℕ) → List ℕ → List ℕ → Option (List Attribute)
-after_start n ns ending start = and_then (before_quote start) (λ q. after_quoted n ns ending q)
+quoted_value_sound : (name bytes : List ℕ) → IfSome (quoted_value name bytes) (λ q. attribute_start name ++ (q.inside ++ (34 ∷ q.rest)) ≡ bytes)
+quoted_value_sound name bytes =
+    let P = λ (q : QuotedText). attribute_start name ++ (q.inside ++ (34 ∷ q.rest)) ≡ bytes in
+    then_if (strip (attribute_start name) bytes) before_quote (λ start. attribute_start name ++ start ≡ bytes) P (strip_sound (attribute_start name) bytes)
+    (λ start h.
+    weaker (before_quote start) (λ q. q.inside ++ (34 ∷ q.rest) ≡ start) P (λ q k. ap (λ x. attribute_start name ++ x) k ∙ h) (quoted_sound start))
 
 pub attributes_sound : (names : List (List ℕ)) (ending bytes : List ℕ) → IfSome (read_attributes names ending bytes) (AreRead names ending bytes)
 attributes_sound [] ending bytes =
@@ -68,9 +72,8 @@ attributes_sound [] ending bytes =
     ]
 attributes_sound (n ∷ ns) ending bytes =
     let P = AreRead (n ∷ ns) ending bytes in
-    then_if (strip (attribute_start n) bytes) (after_start n ns ending) (λ start. attribute_start n ++ start ≡ bytes) P (strip_sound (attribute_start n) bytes)
-    (λ start from_start.
-    then_if (before_quote start) (after_quoted n ns ending) (λ q. q.inside ++ (34 ∷ q.rest) ≡ start) P (quoted_sound start) (λ q from_quoted.
+    then_if (quoted_value n bytes) (after_quoted n ns ending) (λ q. attribute_start n ++ (q.inside ++ (34 ∷ q.rest)) ≡ bytes) P
+    (quoted_value_sound n bytes) (λ q from_quoted.
     then_if (read_value n q.inside) (after_value n ns ending q.rest) (λ v. (spell_text v [] ≡ q.inside)
     × (is_value n v ≡ true)) P (value_sound n q.inside) (λ v from_value.
     map_if (read_attributes ns ending q.rest) (λ others. attribute n v ∷ others) (AreRead ns ending q.rest) P (attributes_sound ns ending q.rest) (λ others h.
@@ -79,11 +82,10 @@ attributes_sound (n ∷ ns) ending bytes =
           ap (λ x. attribute_start n ++ spell_text v (34 ∷ x)) h.spelling
           ∙ ap (λ x. attribute_start n ++ x) (sym (spell_text-append v (34 ∷ q.rest)))
           ∙ ap (λ x. attribute_start n ++ (x ++ (34 ∷ q.rest))) from_value.0
-          ∙ ap (λ x. attribute_start n ++ x) from_quoted
-          ∙ from_start;
+          ∙ from_quoted;
       named = and_from (bytes_eq n n) (are_named ns others) (bytes_same n) h.named;
       values = and_from (is_value n v) (all_values others) from_value.1 h.values;
-    }))))
+    })))
 
 record IsReadRow (row : Row) (ending bytes : List ℕ) (tag : Tag) : Type 0 where
   spelling : spell_tag tag ending ≡ bytes
@@ -101,11 +103,6 @@ row_sound row ending bytes =
       listed = and_from (bytes_eq row.name row.name) (are_named row.attributes attributes) (bytes_same row.name) h.named;
       values = h.values;
     }))
-
--- a fact of a value that is weakened
-pub weaker : {A : Type 0} (o : Option A) (P Q : A → Type 0) → ((a : A) → P a → Q a) → IfSome o P → IfSome o Q
-weaker None P Q f h = tt
-weaker (Some a) P Q f h = f a h
 
 or_right : (a b : Bool) → b ≡ true → (a || b) ≡ true
 or_right true b h = refl
@@ -137,13 +134,13 @@ attributes_spelled (n ∷ ns) (a ∷ others) ending h k =
     let start = spell_text a.value (34 ∷ rest) in
     let text = spell_text a.value [] in
     let value : read_value a.name text ≡ Some a.value =
-    ap (λ o. and_then o (λ v. cond (is_value a.name v) (Some v) None)) (read_spelled a.value)
+    ap (option_and_then (λ v. cond (is_value a.name v) (Some v) None)) (read_spelled a.value)
     ∙ cond-true (is_value a.name a.value) (Some a.value) None valued.0 in
     subst (λ m. read_attributes (m ∷ ns) ending (attribute_start a.name ++ start) ≡ Some (a ∷ others)) (sym (same_bytes n a.name named.0))
-    (ap (λ o. and_then o (after_start a.name ns ending)) (strip_spelled (attribute_start a.name) start)
-    ∙ (ap (λ o. and_then o (after_quoted a.name ns ending)) (quoted_spelled a.value rest)
-    ∙ (ap (λ o. and_then o (after_value a.name ns ending rest)) value
-    ∙ ap (λ o. option_map (λ others. attribute a.name a.value ∷ others) o) (attributes_spelled ns others ending named.1 valued.1))))
+    (ap (λ o. option_and_then (after_quoted a.name ns ending) (option_and_then before_quote o)) (strip_spelled (attribute_start a.name) start)
+    ∙ (ap (option_and_then (after_quoted a.name ns ending)) (quoted_spelled a.value rest)
+    ∙ (ap (option_and_then (after_value a.name ns ending rest)) value
+    ∙ ap (option_map (λ others. attribute a.name a.value ∷ others)) (attributes_spelled ns others ending named.1 valued.1))))
 
 row_spelled : (row : Row) (tag : Tag) (ending : List ℕ) → is_of_row tag row ≡ true → all_values tag.attributes ≡ true
     → read_row ending (spell_tag tag ending) row ≡ Some tag
@@ -151,8 +148,8 @@ row_spelled row tag ending h k =
     let parts = and_parts (bytes_eq row.name tag.name) (are_named row.attributes tag.attributes) h in
     let rest = spell_attributes tag.attributes ending in
     let after = λ (name : List ℕ) (rest : List ℕ). option_map (tag_of name) (read_attributes row.attributes ending rest) in
-    subst (λ name. and_then (strip name (tag.name ++ rest)) (after name) ≡ Some tag) (sym (same_bytes row.name tag.name parts.0))
-    (ap (λ o. and_then o (after tag.name)) (strip_spelled tag.name rest)
+    subst (λ name. option_and_then (after name) (strip name (tag.name ++ rest)) ≡ Some tag) (sym (same_bytes row.name tag.name parts.0))
+    (ap (option_and_then (after tag.name)) (strip_spelled tag.name rest)
     ∙ ap (option_map (tag_of tag.name)) (attributes_spelled row.attributes tag.attributes ending parts.1 k))
 
 -- ---- tags with the same spelling
@@ -302,7 +299,7 @@ found : (rows : List Row) (row : Row) (tag : Tag) (ending : List ℕ) (o : Optio
     → starts_word ending ≡ false → starts_attribute ending ≡ false
     → IfSome o (IsReadRow row ending (spell_tag tag ending)) → (is_of_row tag row ≡ true → o ≡ Some tag)
     → (is_of_row tag row ≡ false → read_tag rows ending (spell_tag tag ending) ≡ Some tag)
-    → or_else o (read_tag rows ending (spell_tag tag ending)) ≡ Some tag
+    → option_or o (read_tag rows ending (spell_tag tag ending)) ≡ Some tag
 found rows row tag ending None hr ht w a sound here later =
     elim (cases_Bool (is_of_row tag row)) [
       | inl e ↦ absurd (false≢true (ap is_found (here e)))

@@ -3,13 +3,13 @@ use Rattle.std.proofs.Common.{◌≡◌, ℕ, List, [], ◌∷◌, ◌++◌, Boo
 use Rattle.std.proofs.Common.{inr}
 use Rattle.std.specs.Prelude.{IsTrue}
 use Rattle.std.specs.List.{list_all}
-use Rattle.std.specs.Option.{IfSome, is_some, option_map}
+use Rattle.std.specs.Option.{IfSome, is_some, option_and_then, option_map, option_or}
 use Rattle.std.specs.Str.{bytes_eq}
 use Rattle.std.proofs.lemmas.Bool.{cases_Bool, cond-true, cond-false, true≢false, false≢true, and_parts, and_right, ne_eqb, eqb-true}
 use Rattle.html_safe_page.specs.Table.{start_rows, void_rows}
 use Rattle.html_safe_page.specs.SafePage.{Kind, And, Quote, Less, Greater, Plain, kind, spell_kind, spell_letter, spell_text, Tag, Items, End, Letter, Void}
 use Rattle.html_safe_page.specs.SafePage.{Element, void_end, spell_before, IsReading, IsSafePage}
-use Rattle.html_safe_page.specs.Reader.{and_then, or_else, strip, replace, join_reference, join_kind, read_text, QuotedText, longer, read_tag, Rest, Last, Then}
+use Rattle.html_safe_page.specs.Reader.{strip, replace, join_reference, join_kind, read_text, QuotedText, longer, read_tag, Rest, Last, Then}
 use Rattle.html_safe_page.specs.Reader.{Reading, Nowhere, Outside, Inside, at_first, strip_letters, replace_letters, join_letters, outside, join_rest, open_or}
 use Rattle.html_safe_page.specs.Reader.{read_mark, step, read, whole, read_page}
 use Rattle.html_safe_page.specs.Machine.{begins_reference, stands, may_stand, split_tag, close, with_open_tag, follows}
@@ -19,7 +19,7 @@ use Rattle.html_safe_page.proofs.Sound.{spell_rest, IsRest, IsSound, read_sound,
 
 -- ---- references
 
-four : {A : Type 0} (a b c d : Option A) → is_some (or_else a (or_else b (or_else c d))) ≡ (((is_some a || is_some b) || is_some c) || is_some d)
+four : {A : Type 0} (a b c d : Option A) → is_some (option_or a (option_or b (option_or c d))) ≡ (((is_some a || is_some b) || is_some c) || is_some d)
 four (Some a) b c d = refl
 four None (Some b) c d = refl
 four None None (Some c) d = refl
@@ -113,7 +113,7 @@ and_true true = refl
 and_true false = refl
 
 text_step : (b : ℕ) (bytes : List ℕ) (o : Option (List ℕ)) → IfSome o (λ v. spell_text v [] ≡ bytes)
-    → is_some (and_then o (join_kind (kind b) b)) ≡ (may_stand b bytes && is_some o)
+    → is_some (option_and_then (join_kind (kind b) b) o) ≡ (may_stand b bytes && is_some o)
 text_step b bytes None h = sym (and_right (may_stand b bytes) false refl)
 text_step b bytes (Some v) h =
     by_kind (λ b. is_some (join_kind (kind b) b v) ≡ (may_stand b bytes && true))

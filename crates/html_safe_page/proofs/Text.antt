@@ -1,9 +1,9 @@
 -- A text is spelled in one way, and read back.
 use Rattle.std.proofs.Common.{◌≡◌, ℕ, List, [], ◌∷◌, ◌++◌, Bool, true, false, eqb, Option, None, Some, codes, refl, sym, ap, ◌∙◌, subst, inl, inr, append_assoc}
-use Rattle.std.specs.Option.{IfSome, option_map}
+use Rattle.std.specs.Option.{IfSome, option_and_then, option_map}
 use Rattle.std.proofs.lemmas.Bool.{cases_Bool, cond-true, cond-false, eqb-true, ne_eqb, false≢true}
 use Rattle.html_safe_page.specs.SafePage.{Kind, And, Quote, Less, Greater, Plain, kind, spell_kind, spell_letter, spell_text}
-use Rattle.html_safe_page.specs.Reader.{and_then, strip, replace, join_kind, read_text, QuotedText, longer, before_quote}
+use Rattle.html_safe_page.specs.Reader.{strip, replace, join_kind, read_text, QuotedText, longer, before_quote}
 use Rattle.html_safe_page.proofs.Options.{then_if, else_if, map_if}
 
 -- a fact of each byte, where it holds of the four and of the others
@@ -38,7 +38,7 @@ plain_other b n h k = ne_eqb b n (λ e. false≢true (sym k ∙ ap (λ x. is_pla
 
 abbrev feed : List ℕ → Option (List ℕ) → Option (List ℕ)
 feed [] o = o
-feed (b ∷ bs) o = and_then (feed bs o) (join_kind (kind b) b)
+feed (b ∷ bs) o = option_and_then (join_kind (kind b) b) (feed bs o)
 
 pub read_spelled : (text : List ℕ) → read_text (spell_text text []) ≡ Some text
 read_spelled [] = refl
@@ -52,8 +52,8 @@ read_spelled (b ∷ bs) =
     (ap (feed (codes "&gt;")) known)
     (λ b h.
     ap (λ k. read_text (spell_kind k b ++ more)) h
-    ∙ (ap (λ k. and_then (read_text more) (join_kind k b)) h
-    ∙ ap (λ o. and_then o (join_kind Plain b)) known))
+    ∙ (ap (λ k. option_and_then (join_kind k b) (read_text more)) h
+    ∙ ap (option_and_then (join_kind Plain b)) known))
     b
 
 pub strip_sound : (prefix bytes : List ℕ) → IfSome (strip prefix bytes) (λ rest. prefix ++ rest ≡ bytes)

@@ -3,15 +3,14 @@ use Rattle.std.proofs.Common.{◌≡◌, ℕ, ◌+◌, suc, List, [], ◌∷◌,
 use Rattle.std.proofs.Common.{◌∙◌, inl, inr, arith}
 use Rattle.std.specs.Char.{to_ascii_lowercase}
 use Rattle.std.specs.List.{list_any, list_all, prefix_len, take_while}
-use Rattle.std.specs.Option.{IfSome, is_some, option_map}
+use Rattle.std.specs.Option.{IfSome, is_some, option_and_then, option_map}
 use Rattle.std.specs.Str.{bytes_eq}
 use Rattle.std.proofs.lemmas.Bool.{cases_Bool, cond-true, cond-false, true≢false, false≢true, and_parts}
 use Rattle.std.proofs.lemmas.List.Sums.{take_while-cons}
 use Rattle.definition_text.specs.Bytes.{lower, after_all}
 use Rattle.definition_page.specs.Urls.{in_protocol, protocol, begins_with_colon, is_permitted, permits, href_protocols, src_protocols}
 use Rattle.html_safe_page.specs.SafePage.{Kind, And, Quote, Less, Greater, Plain, kind, spell_kind, spell_letter, spell_text, is_value, Attribute}
-use Rattle.html_safe_page.specs.SafePage.{attribute_start}
-use Rattle.html_safe_page.specs.Reader.{and_then, strip, read_text, before_quote, read_value, read_attributes, attribute}
+use Rattle.html_safe_page.specs.Reader.{quoted_value, read_text, read_value, read_attributes, attribute}
 use Rattle.html_safe_page.specs.Machine.{after_attribute}
 use Rattle.html_safe_page.proofs.Text.{by_kind, is_plain, plain_other, text_sound}
 use Rattle.html_safe_page.proofs.Steps.{some_mapped}
@@ -154,7 +153,7 @@ some_if true a = refl
 some_if false a = refl
 
 value_read : (name bytes : List ℕ) (o : Option (List ℕ)) → IfSome o (λ v. spell_text v [] ≡ bytes)
-    → is_some (and_then o (λ v. cond (is_value name v) (Some v) None)) ≡ (is_some o && is_value name bytes)
+    → is_some (option_and_then (λ v. cond (is_value name v) (Some v) None) o) ≡ (is_some o && is_value name bytes)
 value_read name bytes None h = refl
 value_read name bytes (Some v) h = some_if (is_value name v) v ∙ value_spelled name v ∙ ap (is_value name) h
 
@@ -163,27 +162,23 @@ value_more name bytes = value_read name bytes (read_text bytes) (text_sound byte
 
 -- ---- attributes
 
-under : {A B C : Type 0} (o : Option A) (f : A → Option B) (g : A → Option C) (h : C → Option B) → ((a : A) → is_some (f a) ≡ is_some (and_then (g a) h))
-    → is_some (and_then o f) ≡ is_some (and_then (and_then o g) h)
+under : {A B C : Type 0} (o : Option A) (f : A → Option B) (g : A → Option C) (h : C → Option B)
+    → ((a : A) → is_some (f a) ≡ is_some (option_and_then h (g a)))
+    → is_some (option_and_then f o) ≡ is_some (option_and_then h (option_and_then g o))
 under None f g h k = refl
 under (Some a) f g h k = k a
 
 last : (n rest : List ℕ) (o : Option (List ℕ)) (next : List ℕ → Option (List Attribute))
-    → is_some (and_then o (λ v. option_map (λ others. attribute n v ∷ others) (next rest))) ≡ is_some (and_then (cond (is_some o) (Some rest) None) next)
+    → is_some (option_and_then (λ v. option_map (λ others. attribute n v ∷ others) (next rest)) o)
+    ≡ is_some (option_and_then next (cond (is_some o) (Some rest) None))
 last n rest None next = refl
 last n rest (Some v) next = some_mapped (λ others. attribute n v ∷ others) (next rest)
 
 pub attribute_more : (n : List ℕ) (ns : List (List ℕ)) (ending bytes : List ℕ)
-    → is_some (read_attributes (n ∷ ns) ending bytes) ≡ is_some (and_then (after_attribute n bytes) (read_attributes ns ending))
+    → is_some (read_attributes (n ∷ ns) ending bytes) ≡ is_some (option_and_then (read_attributes ns ending) (after_attribute n bytes))
 attribute_more n ns ending bytes =
-    under (strip (attribute_start n) bytes)
-    (λ start. and_then (before_quote start) (λ q. and_then (read_value n q.inside)
-    (λ v. option_map (λ others. attribute n v ∷ others) (read_attributes ns ending q.rest))))
-    (λ start. and_then (before_quote start) (λ q. cond (is_some (read_value n q.inside)) (Some q.rest) None))
-    (read_attributes ns ending)
-    (λ start.
-    under (before_quote start)
-    (λ q. and_then (read_value n q.inside) (λ v. option_map (λ others. attribute n v ∷ others) (read_attributes ns ending q.rest)))
+    under (quoted_value n bytes)
+    (λ q. option_and_then (λ v. option_map (λ others. attribute n v ∷ others) (read_attributes ns ending q.rest)) (read_value n q.inside))
     (λ q. cond (is_some (read_value n q.inside)) (Some q.rest) None)
     (read_attributes ns ending)
-    (λ q. last n q.rest (read_value n q.inside) (read_attributes ns ending)))
+    (λ q. last n q.rest (read_value n q.inside) (read_attributes ns ending))

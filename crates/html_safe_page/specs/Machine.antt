@@ -1,10 +1,10 @@
 -- The steps of the test, which keeps only the names of open tags.
 use Rattle.std.specs.Prelude.{ℕ, Bool, true, false, if◌then◌else◌, ◌==◌, ◌||◌, List, [], ◌∷◌, Option, None, Some, codes}
-use Rattle.std.specs.Option.{is_some, option_map}
+use Rattle.std.specs.Option.{is_some, option_and_then, option_map}
 use Rattle.std.specs.Str.{bytes_eq}
 use Rattle.html_safe_page.specs.Table.{start_rows, void_rows}
-use Rattle.html_safe_page.specs.SafePage.{Kind, And, Quote, Less, Greater, Plain, kind, Tag, attribute_start, void_end}
-use Rattle.html_safe_page.specs.Reader.{and_then, strip, QuotedText, longer, before_quote, read_value, read_tag}
+use Rattle.html_safe_page.specs.SafePage.{Kind, And, Quote, Less, Greater, Plain, kind, Tag, void_end}
+use Rattle.html_safe_page.specs.Reader.{strip, QuotedText, longer, quoted_value, read_value, read_tag}
 use Rattle.definition_text.specs.Ascii.{slash, less_than, greater_than}
 
 abbrev pub begins_reference : List ℕ → Bool
@@ -25,9 +25,7 @@ may_stand b after = stands (kind b) after
 -- what follows the attribute of this name that bytes begin with
 abbrev pub after_attribute : List ℕ → List ℕ → Option (List ℕ)
 after_attribute name bytes =
-    and_then (strip (attribute_start name) bytes) (λ start.
-    and_then (before_quote start) (λ q.
-    if is_some (read_value name q.inside) then Some q.rest else None))
+    option_and_then (λ (q : QuotedText). if is_some (read_value name q.inside) then Some q.rest else None) (quoted_value name bytes)
 
 -- a tag before its `>`, and what follows that
 abbrev pub split_tag : List ℕ → Option QuotedText

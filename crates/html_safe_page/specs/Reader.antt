@@ -1,19 +1,11 @@
 -- The reading of a page, found from its last byte to its first.
 use Rattle.std.specs.Prelude.{ℕ, if◌then◌else◌, ◌==◌, List, [], ◌∷◌, Option, None, Some, codes}
-use Rattle.std.specs.Option.{option_map}
+use Rattle.std.specs.Option.{option_and_then, option_map, option_or}
 use Rattle.std.specs.Str.{bytes_eq}
 use Rattle.html_safe_page.specs.Table.{Row, start_rows, void_rows}
 use Rattle.html_safe_page.specs.SafePage.{Kind, And, Quote, Less, Greater, Plain, kind, Attribute, Tag, Items, End, Letter, Void, Element, attribute_start}
 use Rattle.html_safe_page.specs.SafePage.{void_end, is_value}
 use Rattle.definition_text.specs.Ascii.{double_quote, ampersand, slash, less_than, greater_than}
-
-abbrev pub and_then : {A B : Type 0} → Option A → (A → Option B) → Option B
-and_then None f = None
-and_then (Some a) f = f a
-
-abbrev pub or_else : {A : Type 0} → Option A → Option A → Option A
-or_else None other = other
-or_else (Some a) other = Some a
 
 -- ---- texts
 
@@ -30,9 +22,9 @@ replace b rest = option_map (λ bs. b ∷ bs) rest
 -- the text that follows `&`, with what that begins
 abbrev pub join_reference : List ℕ → Option (List ℕ)
 join_reference text =
-    or_else (replace ampersand (strip (codes "amp;") text))
-    (or_else (replace double_quote (strip (codes "quot;") text))
-    (or_else (replace less_than (strip (codes "lt;") text))
+    option_or (replace ampersand (strip (codes "amp;") text))
+    (option_or (replace double_quote (strip (codes "quot;") text))
+    (option_or (replace less_than (strip (codes "lt;") text))
     (replace greater_than (strip (codes "gt;") text))))
 
 abbrev pub join_kind : Kind → ℕ → List ℕ → Option (List ℕ)
@@ -45,7 +37,7 @@ join_kind Plain b text = Some (b ∷ text)
 -- what a text stands for
 abbrev pub read_text : List ℕ → Option (List ℕ)
 read_text [] = Some []
-read_text (b ∷ bs) = and_then (read_text bs) (join_kind (kind b) b)
+read_text (b ∷ bs) = option_and_then (join_kind (kind b) b) (read_text bs)
 
 -- ---- tags
 
@@ -61,8 +53,12 @@ abbrev pub before_quote : List ℕ → Option QuotedText
 before_quote [] = None
 before_quote (b ∷ bs) = if b == double_quote then Some (record { inside = []; rest = bs }) else option_map (longer b) (before_quote bs)
 
+-- the value of the attribute of this name that bytes begin with, as it is spelled, and what follows its `"`
+abbrev pub quoted_value : List ℕ → List ℕ → Option QuotedText
+quoted_value name bytes = option_and_then before_quote (strip (attribute_start name) bytes)
+
 abbrev pub read_value : List ℕ → List ℕ → Option (List ℕ)
-read_value name bytes = and_then (read_text bytes) (λ v. if is_value name v then Some v else None)
+read_value name bytes = option_and_then (λ v. if is_value name v then Some v else None) (read_text bytes)
 
 abbrev pub attribute : List ℕ → List ℕ → Attribute
 attribute name value = record { name = name; value = value }
@@ -71,20 +67,19 @@ attribute name value = record { name = name; value = value }
 abbrev pub read_attributes : List (List ℕ) → List ℕ → List ℕ → Option (List Attribute)
 read_attributes [] ending bytes = if bytes_eq bytes ending then Some [] else None
 read_attributes (n ∷ ns) ending bytes =
-    and_then (strip (attribute_start n) bytes) (λ start.
-    and_then (before_quote start) (λ q.
-    and_then (read_value n q.inside) (λ v.
-    option_map (λ others. attribute n v ∷ others) (read_attributes ns ending q.rest))))
+    option_and_then (λ (q : QuotedText).
+    option_and_then (λ v. option_map (λ others. attribute n v ∷ others) (read_attributes ns ending q.rest)) (read_value n q.inside))
+    (quoted_value n bytes)
 
 abbrev pub tag_of : List ℕ → List Attribute → Tag
 tag_of name attributes = record { name = name; attributes = attributes }
 
 abbrev pub read_row : List ℕ → List ℕ → Row → Option Tag
-read_row ending bytes row = and_then (strip row.name bytes) (λ rest. option_map (tag_of row.name) (read_attributes row.attributes ending rest))
+read_row ending bytes row = option_and_then (λ rest. option_map (tag_of row.name) (read_attributes row.attributes ending rest)) (strip row.name bytes)
 
 abbrev pub read_tag : List Row → List ℕ → List ℕ → Option Tag
 read_tag [] ending bytes = None
-read_tag (row ∷ rows) ending bytes = or_else (read_row ending bytes row) (read_tag rows ending bytes)
+read_tag (row ∷ rows) ending bytes = option_or (read_row ending bytes row) (read_tag rows ending bytes)
 
 -- ---- pages
 
@@ -115,9 +110,9 @@ replace_letters b rest = option_map (Letter b) rest
 
 abbrev pub join_letters : Items → Option Items
 join_letters items =
-    or_else (replace_letters ampersand (strip_letters (codes "amp;") items))
-    (or_else (replace_letters double_quote (strip_letters (codes "quot;") items))
-    (or_else (replace_letters less_than (strip_letters (codes "lt;") items))
+    option_or (replace_letters ampersand (strip_letters (codes "amp;") items))
+    (option_or (replace_letters double_quote (strip_letters (codes "quot;") items))
+    (option_or (replace_letters less_than (strip_letters (codes "lt;") items))
     (replace_letters greater_than (strip_letters (codes "gt;") items))))
 
 abbrev pub outside : Option Rest → Reading

@@ -16,9 +16,6 @@ abbrev pub quoted_of : Option (Bor (List ℕ) × Bor (List ℕ)) → Option Quot
 quoted_of None = None
 quoted_of (Some p) = Some (record { inside = p.0.now; rest = p.1.now })
 
-abbrev pub split_of : Option (Bor (List ℕ) × Bor (List ℕ)) → Option QuotedText
-split_of p = quoted_of p
-
 -- names in front of others, the last first
 abbrev pub onto : List (Bor (List ℕ)) → List (List ℕ) → List (List ℕ)
 onto [] others = others

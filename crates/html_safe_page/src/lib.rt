@@ -5,4 +5,4 @@ mod letters;
 mod page;
 mod tags;
 
-pub use page::{has_one_reading, is_closed, is_safe_page};
+pub use page::{closure_law, is_safe_page, one_reading_law};

@@ -3,26 +3,26 @@ ghost use Rattle.std.specs.Prelude.{◌≡◌, ◌↔◌, IfOk, IsTrue};
 ghost use Rattle.html_safe_page.specs.SafePage.{IsSafePage, OneReading};
 ghost use Rattle.html_safe_page.specs.Closed.{Closure};
 ghost use Rattle.html_safe_page.specs.Machine.{split_tag, follows, if_goes_on};
-ghost use Rattle.html_safe_page.specs.Views.{split_of, open_names};
+ghost use Rattle.html_safe_page.specs.Views.{open_names, quoted_of};
 
 use crate::letters::may_stand;
 use crate::tags::{START_ROWS, VOID_ROWS, tag_name};
 use std::alloc::{AllocError, Allocator};
 
 /// A page has at most one reading.
-pub fn has_one_reading()
+pub fn one_reading_law()
     ensures { OneReading }
 {}
 
 /// What safe pages are made of: texts, line endings, void tags, and elements, in a row, and one
 /// put before a tag of another one.
-pub fn is_closed()
+pub fn closure_law()
     ensures { Closure }
 {}
 
 /// The bytes of a tag before its `>`, and what follows that.
 fn split_tag(bytes: &[u8]) -> Option<(&[u8], &[u8])>
-    ensures { split_of result ≡ split_tag bytes.now }
+    ensures { quoted_of result ≡ split_tag bytes.now }
 {
     for (i, b) in bytes.iter().enumerate() {
         match *b {

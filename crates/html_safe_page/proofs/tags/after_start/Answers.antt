@@ -1,6 +1,6 @@
 use Rattle.std.proofs.Common.{◌∙◌, ap, sym, codes}
-use Rattle.std.specs.Option.{option_copied}
-use Rattle.html_safe_page.specs.Reader.{and_then, strip}
+use Rattle.std.specs.Option.{option_and_then, option_copied}
+use Rattle.html_safe_page.specs.Reader.{strip}
 use Rattle.html_safe_page.proofs.Places.{start_is}
 use Rattle.html_safe_page.proofs.tags.after_start.Goals as goal
 
@@ -11,8 +11,8 @@ returns-in_err-named c =
     let spaced = c.in_ok-spaced.spaced.now in
     ap option_copied c.from_residual-in_err-named.ensures
     ∙ sym (start_is name c.args.bytes.now
-    ∙ ap (λ o. and_then (and_then o (strip name)) last) (sym c.in_ok-spaced.ensures)
-    ∙ ap (λ o. and_then o last) (ap (λ n. strip n spaced) (sym c.as_bytes.ensures.value) ∙ sym c.in_err-named.ensures))
+    ∙ ap (λ o. option_and_then last (option_and_then (strip name) o)) (sym c.in_ok-spaced.ensures)
+    ∙ ap (option_and_then last) (ap (λ n. strip n spaced) (sym c.as_bytes.ensures.value) ∙ sym c.in_err-named.ensures))
 
 pub returns : goal.returns
 returns c =
@@ -21,5 +21,5 @@ returns c =
     let spaced = c.in_ok-spaced.spaced.now in
     c.strip-3.ensures
     ∙ sym (start_is name c.args.bytes.now
-    ∙ ap (λ o. and_then (and_then o (strip name)) last) (sym c.in_ok-spaced.ensures)
-    ∙ ap (λ o. and_then o last) (ap (λ n. strip n spaced) (sym c.as_bytes.ensures.value) ∙ sym c.in_ok-named.ensures))
+    ∙ ap (λ o. option_and_then last (option_and_then (strip name) o)) (sym c.in_ok-spaced.ensures)
+    ∙ ap (option_and_then last) (ap (λ n. strip n spaced) (sym c.as_bytes.ensures.value) ∙ sym c.in_ok-named.ensures))

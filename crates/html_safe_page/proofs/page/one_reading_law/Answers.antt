@@ -1,5 +1,5 @@
 use Rattle.html_safe_page.proofs.Pages.{one_reading}
-use Rattle.html_safe_page.proofs.page.has_one_reading.Goals as goal
+use Rattle.html_safe_page.proofs.page.one_reading_law.Goals as goal
 
 pub returns : goal.returns
 returns c = one_reading

@@ -1,5 +1,5 @@
 use Rattle.html_safe_page.proofs.Closing.{closed}
-use Rattle.html_safe_page.proofs.page.is_closed.Goals as goal
+use Rattle.html_safe_page.proofs.page.closure_law.Goals as goal
 
 pub returns : goal.returns
 returns c = closed
