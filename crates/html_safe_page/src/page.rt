@@ -51,7 +51,10 @@ fn follow<'a, A: Allocator>(names: &mut Vec<&'a [u8], A>, tag: &'a [u8]) -> Resu
     Ok(tag_name(&VOID_ROWS, b" /", tag).is_some())
 }
 
-/// Whether a page is safe. Its open tags are kept in a list.
+/// Whether a page is a safe one: bytes other than `&`, `"`, `<` and `>`, the references `&amp;`,
+/// `&quot;`, `&lt;` and `&gt;`, and tags of a fixed table, each void or closed, whose `href` and
+/// `src` have a permitted protocol or none (`specs/SafePage.antt`). Time is linear, and the only
+/// error is want of memory, which the list of open tags may take.
 pub fn is_safe_page<A: Allocator>(alloc: A, page: &str) -> Result<bool, AllocError>
     ensures { IfOk result (λ safe. IsTrue safe ↔ IsSafePage page.now) }
 {
