@@ -3,7 +3,7 @@
 //!     footnote ::= prefix 'fn-' label
 //!     call     ::= prefix 'fnref-' label ('-' count)?, with a count from the second call on
 ghost use Rattle.std.specs.Prelude.{◌≡◌};
-ghost use Rattle.definition_page.specs.GfmLabelStartFootnote.{text_or};
+ghost use Rattle.definition_page.specs.GfmLabelStartFootnote.{id_prefix, text_or};
 ghost use Rattle.html_bytes.specs.GfmLabelStartFootnote.{call_id, count_of, footnote_id};
 ghost use Rattle.html_escape.specs.Prints.{Prints};
 
@@ -21,6 +21,13 @@ pub(crate) fn text_or<'a>(text: &'a Option<String>, default: &'a str) -> &'a str
     }
 }
 
+/// What ids begin with.
+fn id_prefix(compile: &CompileOptions) -> &str
+    ensures { result.now ≡ id_prefix compile.now }
+{
+    text_or(&compile.gfm_footnote_clobber_prefix, "user-content-")
+}
+
 /// Prints the id of a footnote.
 pub(crate) fn push_footnote_id<A: Allocator>(
     out: &mut String<A>,
@@ -29,10 +36,7 @@ pub(crate) fn push_footnote_id<A: Allocator>(
 ) -> Result<(), AllocError>
     ensures { Prints result out.old out.new (footnote_id compile.now label.now) }
 {
-    push_encoded(
-        out,
-        text_or(&compile.gfm_footnote_clobber_prefix, "user-content-"),
-    )?;
+    push_encoded(out, id_prefix(compile))?;
     out.push_str("fn-")?;
     push_sanitized(out, label)
 }
@@ -46,10 +50,7 @@ pub(crate) fn push_call_id<A: Allocator>(
 ) -> Result<(), AllocError>
     ensures { Prints result out.old out.new (call_id compile.now label.now count) }
 {
-    push_encoded(
-        out,
-        text_or(&compile.gfm_footnote_clobber_prefix, "user-content-"),
-    )?;
+    push_encoded(out, id_prefix(compile))?;
     out.push_str("fnref-")?;
     push_sanitized(out, label)?;
     push_id_count(out, count)
