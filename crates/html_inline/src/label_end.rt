@@ -19,6 +19,12 @@ use inline_rows::LinkTarget;
 use markdown_options::Tables;
 use std::alloc::{AllocError, Allocator};
 
+/// What leads nowhere.
+pub(crate) const NOWHERE: LinkTexts<'static> = LinkTexts {
+    destination: "",
+    title: None,
+};
+
 /// Where a link or an image leads. A place past the last definition leads nowhere.
 pub(crate) fn linked_at<'a>(
     definitions: &'a [LinkTexts<'a>],
@@ -32,10 +38,7 @@ pub(crate) fn linked_at<'a>(
             if place < definitions.len() {
                 definitions[place]
             } else {
-                LinkTexts {
-                    destination: "",
-                    title: None,
-                }
+                NOWHERE
             }
         }
     }

@@ -23,7 +23,7 @@ ghost use Rattle.html_inline.specs.Printed.{is_described, parts_html, with_row, 
 ghost use Rattle.html_inline.specs.Prints.{meaning_by, Definitions, Prints};
 
 use crate::gfm_label_start_footnote::push_call;
-use crate::label_end::{linked_at, push_image_end, push_image_start, push_link_start};
+use crate::label_end::{NOWHERE, linked_at, push_image_end, push_image_start, push_link_start};
 use crate::leaf::{push_description, push_leaf};
 use crate::printing::{Printing, Scratch};
 use crate::stack::{OpenPart, is_described};
@@ -166,7 +166,7 @@ fn push_part<A: Allocator + Clone, T: Tables>(
     }
 }
 
-/// Emphasis or strong emphasis starts (CommonMark 6.2).
+/// Emphasis, strong emphasis or strikethrough starts (CommonMark 6.2 and GFM 6.5).
 fn enter_span<A: Allocator + Clone>(
     out: &mut Output<A>,
     scratch: &mut Scratch<A>,
@@ -290,10 +290,7 @@ fn image_linked<'a, A: Allocator + Clone, T>(
             return linked_at(printing.definitions, target);
         }
     }
-    LinkTexts {
-        destination: "",
-        title: None,
-    }
+    NOWHERE
 }
 
 /// The start tag of a span.

@@ -11,11 +11,13 @@ returns-in-Text g c = λ definition footnotes default is held same.
     let p = c.args.printing.now in
     let meaning = meaning_by (g.T.Tables.reference_of p.tables.now) p definition footnotes in
     c.push_plain.ensures meaning default p.cell is
-    (sym (append-nil (data_rows c.in-Text.text.now)) ∙ ap (λ (r : InlineRow). rows_view (place_target p.definitions.now) (r ∷ [])) (sym c.in-Text.is) ∙ same)
+    (sym (append-nil (data_rows c.in-Text.text.now))
+    ∙ ap (λ (r : InlineRow). rows_view (place_target p.definitions.now) (r ∷ [])) (sym c.in-Text.is) ∙ same)
 
 pub returns-in-Verbatim : goal.returns-in-Verbatim
 returns-in-Verbatim g c = λ definition footnotes default is held same.
     let p = c.args.printing.now in
     let meaning = meaning_by (g.T.Tables.reference_of p.tables.now) p definition footnotes in
     c.push_verbatim.ensures meaning default p.cell is
-    (sym (append-nil (data_rows c.in-Verbatim.verbatim.text.now)) ∙ ap (λ (r : InlineRow). rows_view (place_target p.definitions.now) (r ∷ [])) (sym c.in-Verbatim.is) ∙ same)
+    (sym (append-nil (data_rows c.in-Verbatim.verbatim.text.now))
+    ∙ ap (λ (r : InlineRow). rows_view (place_target p.definitions.now) (r ∷ [])) (sym c.in-Verbatim.is) ∙ same)
