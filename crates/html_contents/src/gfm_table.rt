@@ -14,7 +14,6 @@ use markdown_options::Tables;
 use std::alloc::{AllocError, Allocator};
 
 impl<'a, T: Tables, A: Allocator + Clone> Texts<'a, '_, T, A> {
-    ghost use Rattle.std.specs.Prelude.{List};
     ghost use Rattle.html_contents.specs.Texts.{KnowsTargets, LaysOut, document_by};
 
     /// Prints the text of a cell (GFM 4.10).

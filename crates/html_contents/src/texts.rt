@@ -4,7 +4,6 @@ ghost use Rattle.html_bytes.specs.Document.{context_of, meaning_of, text_of, par
 ghost use Rattle.definition_text.specs.Encode.{encode};
 ghost use Rattle.html_bytes.specs.InlineHtml.{inline_counts, inline_pieces};
 ghost use Rattle.definition_page.specs.Targets.{Targets};
-ghost use Rattle.inline_rows.specs.InlineRows.{inline_rows};
 ghost use Rattle.block_rows.specs.ParagraphLines.{HaveNoEnding, AreLines};
 ghost use Rattle.block_rows.specs.Rows.{piece_line, piece_lines, whole_lines};
 ghost use Rattle.definition_inline.specs.Scan.{inlines, inlines_from};
@@ -228,10 +227,9 @@ impl<'a, T: Tables, A: Allocator + Clone> Texts<'a, '_, T, A> {
             footnotes: self.footnotes,
             cell,
         };
-        match found {
-            FoundRows::Alone(row) => push_alone(out, scratch, &printing, row),
-            FoundRows::InRoom(rows) => push_rows(out, scratch, &printing, rows),
-            FoundRows::InList(rows) => push_rows(out, scratch, &printing, rows.as_slice()),
+        match &found {
+            FoundRows::Alone(row) => push_alone(out, scratch, &printing, *row),
+            _ => push_rows(out, scratch, &printing, found.as_slice()),
         }
     }
 

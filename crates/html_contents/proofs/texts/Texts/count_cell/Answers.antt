@@ -22,5 +22,6 @@ returns g c = λ ds known plain default.
     (output_view c.count_content.new.out
     ≡ fold (lay texts.options.now.compile default) (output_view c.args.out.now)
     (inline_counts (meaning_of d) (in_cell (inlines (context_of d) content)))))
-    (c.content-content.ensures is_punctuation ∙ c.in_ok-join.ensures is_punctuation cell.after plain ∙ line_alone is_punctuation cell.after (piece_line cell.line))
+    (c.content-content.ensures is_punctuation ∙ c.in_ok-join.ensures is_punctuation cell.after plain
+    ∙ line_alone is_punctuation cell.after (piece_line cell.line))
     (c.count_content.ensures ds known default)

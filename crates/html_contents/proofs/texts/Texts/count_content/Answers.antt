@@ -20,6 +20,7 @@ returns g c = λ ds known default.
     c.count_rows.ensures (linked_by ds.definitions) ds.footnotes default (inlines (context_of d) (content_view is_punctuation c.args.content))
     known.has_labels.noted
     (ap (rows_view (place_target texts.links.now)) c.as_slice.ensures
-    ∙ same_rows (place_target texts.links.now) (linked_at ds.definitions) (same_place texts.links.now ds.definitions known.leads) (found_rows c.in_ok-found.found)
+    ∙ same_rows (place_target texts.links.now) (linked_at ds.definitions) (same_place texts.links.now ds.definitions known.leads)
+    (found_rows c.in_ok-found.found)
     ∙ c.in_ok-found.ensures ds known.has_labels
     ∙ ap (λ v. inline_rows (leads_to (linked_by ds.definitions)) (inlines_from (context_of d) v)) (c.content_start.ensures.view is_punctuation))

@@ -22,26 +22,14 @@ returns-in-Alone g c = λ ds known default.
     ∙ same_rows at (linked_at ds.definitions) (same_place texts.links.now ds.definitions known.leads) (found_rows c.in_ok-found.found)
     ∙ c.in_ok-found.ensures ds known.has_labels)
 
-pub returns-in-InRoom : goal.returns-in-InRoom
-returns-in-InRoom g c = λ ds known default.
+pub returns : goal.returns
+returns g c = λ ds known default.
     let texts = c.args.self.now in
     let is_punctuation = g.T.Tables.punctuation_of texts.tables.now in
     let d = document texts.options.now (text_tables (g.T.Tables.reference_of texts.tables.now) is_punctuation) ds in
     let at = place_target texts.links.now in
     c.push_rows.ensures (linked_by ds.definitions) ds.footnotes default (inlines_from (context_of d) (view_at is_punctuation c.args.content c.args.start.now))
     known.has_labels.noted
-    (ap (rows_view at) (ap found_rows (sym c.in-InRoom.is))
-    ∙ same_rows at (linked_at ds.definitions) (same_place texts.links.now ds.definitions known.leads) (found_rows c.in_ok-found.found)
-    ∙ c.in_ok-found.ensures ds known.has_labels)
-
-pub returns-in-InList : goal.returns-in-InList
-returns-in-InList g c = λ ds known default.
-    let texts = c.args.self.now in
-    let is_punctuation = g.T.Tables.punctuation_of texts.tables.now in
-    let d = document texts.options.now (text_tables (g.T.Tables.reference_of texts.tables.now) is_punctuation) ds in
-    let at = place_target texts.links.now in
-    c.push_rows-in-InList.ensures (linked_by ds.definitions) ds.footnotes default (inlines_from (context_of d) (view_at is_punctuation c.args.content c.args.start.now))
-    known.has_labels.noted
-    (ap (rows_view at) c.as_slice.ensures.value ∙ ap (rows_view at) (ap found_rows (sym c.in-InList.is))
+    (ap (rows_view at) c.as_slice.ensures
     ∙ same_rows at (linked_at ds.definitions) (same_place texts.links.now ds.definitions known.leads) (found_rows c.in_ok-found.found)
     ∙ c.in_ok-found.ensures ds known.has_labels)
