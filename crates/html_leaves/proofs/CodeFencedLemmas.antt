@@ -1,6 +1,6 @@
 -- Fenced code, and what it takes from the lines.
-use Rattle.std.proofs.Common.{Option, None, Some, subst, ◌≡◌, ℕ, ◌+◌, ◌-◌, ◌<◌, ◌≤◌, take, drop, List, [], ◌∷◌, ◌++◌, Bool, true, false, ◌==◌, codes, sym, refl, ap, ◌∙◌}
-use Rattle.std.proofs.Common.{length, get_or, arith, append_assoc}
+use Rattle.std.proofs.Common.{Option, None, Some, subst, ◌≡◌, ℕ, ◌-◌, ◌<◌, ◌≤◌, take, drop, List, [], ◌∷◌, ◌++◌, Bool, true, false}
+use Rattle.std.proofs.Common.{◌==◌, codes, sym, refl, ap, ◌∙◌, length, get_or, arith, append_assoc}
 use Rattle.std.specs.Prelude.{map, if◌then◌else◌, ◌||◌}
 use Rattle.std.specs.List.{list_all}
 use Rattle.std.proofs.lemmas.List.{take-map, drop-map, take_rest}
@@ -8,6 +8,7 @@ use Rattle.std.proofs.lemmas.List.Sums.{fold-append}
 use Rattle.markdown_options.specs.declared.line_ending.LineEnding.{LineEnding}
 use Rattle.markdown_options.specs.LineEndings.{ending_bytes}
 use Rattle.block_rows.specs.declared.row.Piece.{Piece}
+use Rattle.block_rows.specs.ParagraphLines.{HaveNoEnding}
 use Rattle.definition_text.specs.Lines.{TextLine, ending_text, lines}
 use Rattle.definition_text.proofs.CodeBytes.{code_bytes}
 use Rattle.markdown_options.specs.declared.line_ending.LineEnding.TheVariants.{CarriageReturnLineFeed, CarriageReturn, LineFeed}
@@ -165,17 +166,24 @@ content_is count pieces =
     ∙ sym (take-map piece_line count (drop 1 pieces))
     ∙ ap (take count) (sym (drop-map piece_line 1 pieces))
 
-pub fenced_laid : (d : Document) (e : LineEnding) (out : LayoutState) (s : Standing) (tight silent closed : Bool) (count : ℕ) (pieces : List Piece)
-    → 1 + count ≤ length pieces → list_all is_byte (first_codes (piece_lines pieces)) ≡ true
-    → layout_after d.options.compile e out (block_pieces d (standing_at s.top) false false
-    (FencedCode (get_or pieces 0 no_piece).text.now closed (piece_lines (take count (take (length pieces - 1) (drop 1 pieces))))))
-    ≡ layout_after d.options.compile e out
-    (block_pieces d s tight silent (FencedCode (first_codes (piece_lines pieces)) closed (take count (drop 1 (piece_lines pieces)))))
-fenced_laid d e out s tight silent closed count pieces enough h =
+-- the info of a row can be printed
+abbrev pub HasInfo : List Piece → Type 0
+HasInfo pieces = (list_all is_byte (first_codes (piece_lines pieces)) ≡ true) × HaveNoEnding (first_codes (piece_lines pieces))
+
+pub clear_info : (pieces : List Piece) → 0 < length pieces → HasInfo pieces → HaveNoEnding (get_or pieces 0 no_piece).text.now
+clear_info pieces some has = subst HaveNoEnding (info_is pieces some has.0) has.1
+
+pub code_pieces : (d : Document) (top : Bool) (s : Standing) (tight silent closed : Bool) (count : ℕ) (pieces : List Piece)
+    → top ≡ s.top → 0 < length pieces → HasInfo pieces
+    → block_pieces d (standing_at top) false false
+    (FencedCode (get_or pieces 0 no_piece).text.now closed (piece_lines (take count (take (length pieces - 1) (drop 1 pieces)))))
+    ≡ block_pieces d s tight silent (FencedCode (first_codes (piece_lines pieces)) closed (take count (drop 1 (piece_lines pieces))))
+code_pieces d top s tight silent closed count pieces same some has =
     let info = (get_or pieces 0 no_piece).text.now in
-    ap (λ ls. layout_after d.options.compile e out (block_pieces d s tight silent (FencedCode info closed ls))) (content_is count pieces)
-    ∙ ap (λ x. layout_after d.options.compile e out (block_pieces d s tight silent (FencedCode x closed (take count (drop 1 (piece_lines pieces))))))
-    (sym (info_is pieces (omega arith) h))
+    let content = take count (drop 1 (piece_lines pieces)) in
+    ap (λ ls. block_pieces d (standing_at top) false false (FencedCode info closed ls)) (content_is count pieces)
+    ∙ ap (λ (top : Bool). block_pieces d (standing_at top) false false (FencedCode info closed content)) same
+    ∙ ap (λ x. block_pieces d s tight silent (FencedCode x closed content)) (sym (info_is pieces some has.0))
 
 -- the text of the second piece is that of the lines
 pub second_codes : (pieces : List Piece) → 2 ≤ length pieces → ((k : ℕ) → get_or (get_or pieces 1 no_piece).text.now k 0 < 256)
@@ -183,3 +191,15 @@ pub second_codes : (pieces : List Piece) → 2 ≤ length pieces → ((k : ℕ) 
 second_codes [] enough bytes = absurd (omega (arith, enough))
 second_codes (a ∷ []) enough bytes = absurd (omega (arith, enough))
 second_codes (a ∷ b ∷ others) enough bytes = bytes_owed b.owed b.text.now bytes
+
+pub whole_code_pieces : (d : Document) (s : Standing) (tight silent : Bool) (pieces : List Piece) → 2 ≤ length pieces → HasInfo pieces
+    → ((k : ℕ) → get_or (get_or pieces 1 no_piece).text.now k 0 < 256)
+    → block_pieces d (standing_at s.top) false false
+    (FencedCode (get_or pieces 0 no_piece).text.now true (whole_lines (get_or pieces 1 no_piece).text.now))
+    ≡ block_pieces d s tight silent
+    (FencedCode (first_codes (piece_lines pieces)) true (whole_lines (bytes_of (first_codes (drop 1 (piece_lines pieces))))))
+whole_code_pieces d s tight silent pieces enough has bytes =
+    let info = first_codes (piece_lines pieces) in
+    ap (λ x. block_pieces d s tight silent (FencedCode x true (whole_lines (get_or pieces 1 no_piece).text.now)))
+    (sym (info_is pieces (omega (arith, enough)) has.0))
+    ∙ ap (λ x. block_pieces d s tight silent (FencedCode info true (whole_lines x))) (sym (second_codes pieces enough bytes))

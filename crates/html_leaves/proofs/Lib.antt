@@ -3,3 +3,4 @@ pub mod Owed
 pub mod Lines
 pub mod GfmTableLemmas
 pub mod CodeFencedLemmas
+pub mod RowPieces
