@@ -1,9 +1,9 @@
 //! The page, printed piece by piece.
-ghost use Rattle.std.specs.Prelude.{◌≡◌, ◌≤◌, ◌<◌, IfOk, OnOk, length, string_bytes, true, false};
+ghost use Rattle.std.specs.Prelude.{◌≡◌, ◌≤◌, IfOk, OnOk, length, string_bytes};
 ghost use Rattle.markdown_options.specs.LineEndings.{ending_bytes};
 ghost use Rattle.definition_text.specs.Lines.{ending_text};
 ghost use Rattle.definition_page.specs.Targets.{Targets};
-ghost use Rattle.definition_block.specs.Tree.{Paragraph, Break, Ending};
+ghost use Rattle.definition_block.specs.Tree.{Ending};
 ghost use Rattle.block_rows.specs.Rows.{row_size, piece_lines, row_value, Single};
 ghost use Rattle.html_bytes.specs.Document.{Document};
 ghost use Rattle.html_bytes.specs.Layout.{nothing_laid, with_footnotes};

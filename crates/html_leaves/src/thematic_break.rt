@@ -1,5 +1,5 @@
 //! Thematic breaks (CommonMark 4.1).
-ghost use Rattle.std.specs.Prelude.{◌<◌, OnOk, false};
+ghost use Rattle.std.specs.Prelude.{OnOk, false};
 ghost use Rattle.html_bytes.specs.Document.{Document};
 ghost use Rattle.definition_block.specs.Tree.{Break};
 ghost use Rattle.definition_page.specs.Read.{on_page};

@@ -1,7 +1,7 @@
 //! Where containers start and end (CommonMark 5).
 ghost use Rattle.std.specs.Prelude.{◌≡◌, OnOk};
 ghost use Rattle.markdown_options.specs.LineEndings.{ending_bytes};
-ghost use Rattle.html_page.specs.PrinterView.{leave_quote, exit, leave_item, leave_list, within, within_at, outside, printer_view};
+ghost use Rattle.html_page.specs.PrinterView.{exit, within, within_at, outside, printer_view};
 ghost use Rattle.html_leaves.specs.Prints.{KeepsEnding};
 
 use crate::printer::Printer;

@@ -1,7 +1,7 @@
 //! List items (CommonMark 5.2).
 ghost use Rattle.std.specs.Prelude.{◌≡◌, OnOk};
 ghost use Rattle.markdown_options.specs.LineEndings.{ending_bytes};
-ghost use Rattle.html_page.specs.PrinterView.{enter_item, enter_list, start_item, leave_item, printer_view};
+ghost use Rattle.html_page.specs.PrinterView.{enter_item, start_item, leave_item, printer_view};
 ghost use Rattle.html_leaves.specs.Prints.{KeepsEnding};
 
 use crate::printer::Printer;

@@ -1,5 +1,5 @@
 //! The tags of a safe page.
-ghost use Rattle.std.specs.Prelude.{◌≡◌, map, ◌<◌};
+ghost use Rattle.std.specs.Prelude.{◌≡◌, map};
 ghost use Rattle.std.specs.Option.{is_some, option_map, option_copied};
 ghost use Rattle.html_safe_page.specs.SafePage.{attribute_start};
 ghost use Rattle.html_safe_page.specs.Reader.{before_quote, strip, read_value, read_attributes, read_row, read_tag};
