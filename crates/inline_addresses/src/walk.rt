@@ -12,7 +12,7 @@ ghost use Rattle.inline_addresses.specs.Addresses.{literal_text, part_text, part
 ghost use Rattle.inline_addresses.specs.Addresses.{row_text, rows_text, run_parts, text_or_end, walk_rows, IsNext};
 
 use inline_leaves::LeafPart;
-use inline_leaves::cut::{text_before, text_between};
+use inline_leaves::cut::{rest_from, text_before, text_between};
 use inline_literals::first_address;
 use inline_rows::InlineRow;
 use std::alloc::{AllocError, Allocator};
@@ -192,14 +192,6 @@ fn text_after(text: &str, at: usize) -> &str
     ensures { result.now ≡ drop (at + 1) text.now }
 {
     &text[at + 1..]
-}
-
-/// The text from a place on that isn't inside a character.
-fn rest_from(text: &str, at: usize) -> &str
-    requires { IsCharBoundary text.now at }
-    ensures { result.now ≡ drop at text.now }
-{
-    &text[at..]
 }
 
 /// A row that is no text: in a link a literal is text (CommonMark 6.3).

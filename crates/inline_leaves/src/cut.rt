@@ -20,6 +20,14 @@ pub fn text_before(content: &str, end: usize) -> &str
     &content[..end]
 }
 
+/// The content from a place on that isn't inside a character.
+pub fn rest_from(content: &str, start: usize) -> &str
+    requires { IsCharBoundary content.now start }
+    ensures { result.now ≡ drop start content.now }
+{
+    &content[start..]
+}
+
 /// The content between two places that stand after ASCII bytes.
 pub fn text_between(content: &str, start: usize, end: usize) -> &str
     requires start { IsCharBoundary content.now start }

@@ -5,7 +5,6 @@
 //!               | ('http://' | 'https://') after anything but a letter
 ghost use Rattle.std.specs.Prelude.{◌≡◌, ◌<◌, ◌≤◌, ◌+◌, ◌&&◌, ◌||◌, Some, IfErr, IfOk, IfSome, codes, drop, length, slice_index};
 ghost use Rattle.std.specs.Option.{option_map};
-ghost use Rattle.std.specs.Str.{IsCharBoundary};
 ghost use Rattle.definition_text.specs.Content.{content_codes};
 ghost use Rattle.definition_text.specs.InlineCode.{is_continuation};
 ghost use Rattle.definition_inline.specs.GfmAutolinkLiteral.{begins_caselessly, literal_at};
@@ -20,7 +19,7 @@ use crate::name::{goes_beyond, has_no_parenthesis, last_low_line, name_size};
 use crate::names_in_vain::NamesInVain;
 use definition_text::Kind;
 use inline_content::{Content, first_kind};
-use inline_leaves::cut::{cut_after, text_before};
+use inline_leaves::cut::{cut_after, rest_from, text_before};
 use inline_leaves::{Leaf, LeafPart, LiteralKind};
 use markdown_options::{Constructs, Tables};
 
@@ -73,14 +72,6 @@ fn may_begin(bytes: &[u8]) -> bool
     ensures { result ≡ may_begin bytes.now }
 {
     begins_caselessly(b"ww", bytes) || begins_caselessly(b"ht", bytes)
-}
-
-/// The content from a place on that isn't inside a character.
-fn rest_from(text: &str, at: usize) -> &str
-    requires { IsCharBoundary text.now at }
-    ensures { result.now ≡ drop at text.now }
-{
-    &text[at..]
 }
 
 /// How many bytes the name has that begins at a rest of a content, where it may stand there (GFM

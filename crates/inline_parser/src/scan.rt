@@ -41,7 +41,7 @@ use inline_content::Content;
 use inline_label_ends::{LabelForm, call_or_link, link_or_image};
 use inline_labels::LabelTable;
 use inline_leaves::Leaf;
-use inline_leaves::cut::{cut_after, text_before};
+use inline_leaves::cut::{cut_after, rest_from, text_before};
 use inline_leaves::leaf_at::leaf_at;
 use inline_leaves::searches::Searches;
 use inline_leaves::space::white_size;
@@ -224,14 +224,6 @@ fn after_white(text: &str) -> &str
         return text;
     }
     cut_after(text, size)
-}
-
-/// The content from a place on that isn't inside a character.
-fn rest_from(text: &str, at: usize) -> &str
-    requires { IsCharBoundary text.now at }
-    ensures { result.now ≡ drop at text.now }
-{
-    &text[at..]
 }
 
 /// The first byte of a text, which is ASCII.
