@@ -28,7 +28,7 @@ pub fn rest_from(content: &str, start: usize) -> &str
     &content[start..]
 }
 
-/// The content between two places that stand after ASCII bytes.
+/// The content between two places that aren't inside a character.
 pub fn text_between(content: &str, start: usize, end: usize) -> &str
     requires start { IsCharBoundary content.now start }
     requires end { IsCharBoundary content.now end }
