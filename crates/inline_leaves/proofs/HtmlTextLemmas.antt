@@ -21,7 +21,7 @@ use Rattle.inline_tags.specs.Places.{ClosingStart, ClosingName, ClosingSpace, En
 use Rattle.inline_tags.specs.Places.{tag_rest, rest_after}
 use Rattle.inline_tags.proofs.Grammar.{open_reads, closing_reads}
 use Rattle.inline_leaves.specs.Leaves.{IsEnd, size_before}
-use Rattle.inline_leaves.specs.HtmlText.{html_bytes, line_feed, is_end, tag_after, open_after, closing_after, html_after, IsClosed, ClosesText}
+use Rattle.inline_leaves.specs.HtmlText.{html_bytes, ending_as_feed, is_end, tag_after, open_after, closing_after, html_after, IsClosed, ClosesText}
 use Rattle.inline_leaves.proofs.Codes.{at_return, plain_code, end_after}
 use Rattle.inline_leaves.proofs.Fronts.{begun}
 
@@ -452,13 +452,13 @@ no_end ClosingSpace b goes_on h = closing_no b h
 no_end End b goes_on h = absurd (true≢false goes_on)
 no_end Nowhere b goes_on h = refl
 
-pub ends_at_greater : (place : Place) (b : ℕ) → is_end place ≡ false → is_end (next place (line_feed b)) ≡ true → b ≡ 62
+pub ends_at_greater : (place : Place) (b : ℕ) → is_end place ≡ false → is_end (next place (ending_as_feed b)) ≡ true → b ≡ 62
 ends_at_greater place b goes_on ends = elim (cases_Bool (eqb b 62)) [
   | inl h ↦ eqb-true b 62 h
-  | inr h ↦ absurd (false≢true (sym (no_end place (line_feed b) goes_on (other h)) ∙ ends))
+  | inr h ↦ absurd (false≢true (sym (no_end place (ending_as_feed b) goes_on (other h)) ∙ ends))
 ]
   where
-    other : eqb b 62 ≡ false → eqb (line_feed b) 62 ≡ false
+    other : eqb b 62 ≡ false → eqb (ending_as_feed b) 62 ≡ false
     other h = elim (cases_Bool (eqb b 13)) [
       | inl k ↦ ap (λ x. eqb x 62) (cond-true (eqb b 13) 10 b k)
       | inr k ↦ ap (λ x. eqb x 62) (cond-false (eqb b 13) 10 b k) ∙ h

@@ -10,8 +10,8 @@ use Rattle.inline_tags.specs.Places.{Place, NameStart, ClosingStart, End, next, 
 abbrev pub html_bytes : List ℕ → List ℕ
 html_bytes content = map html_byte (content_codes content)
 
-abbrev pub line_feed : ℕ → ℕ
-line_feed b = if b == 13 then 10 else b
+abbrev pub ending_as_feed : ℕ → ℕ
+ending_as_feed b = if b == 13 then 10 else b
 
 abbrev pub is_end : Place → Bool
 is_end End = true
@@ -20,7 +20,7 @@ is_end place = false
 -- what follows a tag that goes on from a place, in bytes whose line endings are white space
 abbrev pub tag_after : Place → List ℕ → Option (List ℕ)
 tag_after place [] = None
-tag_after place (b ∷ bs) = tag_rest (next place (line_feed b)) bs (tag_after (next place (line_feed b)) bs)
+tag_after place (b ∷ bs) = tag_rest (next place (ending_as_feed b)) bs (tag_after (next place (ending_as_feed b)) bs)
 
 abbrev pub open_after : List ℕ → Option (List ℕ)
 open_after bytes = if begins_with (codes "<") bytes then tag_after NameStart (drop 1 bytes) else None

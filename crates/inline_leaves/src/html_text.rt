@@ -14,7 +14,7 @@ ghost use Rattle.definition_text.specs.Bytes.{begins_with};
 ghost use Rattle.definition_text.specs.Content.{content_codes};
 ghost use Rattle.inline_tags.specs.Views.{place_of};
 ghost use Rattle.inline_leaves.specs.Leaves.{found_leaf, LeavesRest};
-ghost use Rattle.inline_leaves.specs.HtmlText.{line_feed, is_end, tag_after, open_after, closing_after, html_after, IsClosed, ClosesText};
+ghost use Rattle.inline_leaves.specs.HtmlText.{ending_as_feed, is_end, tag_after, open_after, closing_after, html_after, IsClosed, ClosesText};
 
 use crate::cut::{cut_after, text_before};
 use crate::leaf::{Leaf, LeafPart};
@@ -161,8 +161,8 @@ pub fn text_end(text: &[u8], bytes: &[u8], start: usize) -> Option<usize>
 }
 
 /// A line ending in a tag is LF.
-fn line_feed(byte: u8) -> u8
-    ensures { result ≡ line_feed byte }
+fn ending_as_feed(byte: u8) -> u8
+    ensures { result ≡ ending_as_feed byte }
 {
     if byte == b'\r' { b'\n' } else { byte }
 }
@@ -176,7 +176,7 @@ fn tag_end(start: Place, bytes: &[u8], read: usize) -> Option<usize>
 {
     let mut place = start;
     for i in read..bytes.len() {
-        place = next(place, line_feed(bytes[i]));
+        place = next(place, ending_as_feed(bytes[i]));
         match place {
             Place::End => return Some(i + 1),
             Place::Nowhere => return None,

@@ -8,7 +8,7 @@ use Rattle.inline_leaves.proofs.html_text.tag_end.Goals as goal
 pub returns-in-End-clause-place : goal.returns-in-End-clause-place
 returns-in-End-clause-place c =
     let place = place_of c.loop-i.place in
-    let ends = sym (ap is_end (c.in-End.ensures ∙ ap (next place) c.line_feed.ensures)) in
+    let ends = sym (ap is_end (c.in-End.ensures ∙ ap (next place) c.ending_as_feed.ensures)) in
     let last = ends_at_greater place (get_or c.args.bytes.now c.loop-i.i 0) c.loop-i.invariant.goes_on ends in
     let here : c.loop-i.i ≡ c.loop-i.i + 1 - 1 = omega arith in
     record {
