@@ -33,7 +33,7 @@ pub struct Check<'a> {
 
 /// A check among bytes, and where it ends.
 #[derive(Clone, Copy)]
-struct Mark {
+struct FoundCheck {
     done: bool,
     end: usize,
 }
@@ -47,15 +47,15 @@ pub fn check_at<'a>(on: &Constructs, first: bool, content: &'a str) -> Option<Ch
     if !first || !on.gfm_task_list_item {
         return None;
     }
-    let mark = mark_of(content.as_bytes())?;
+    let found = find_check(content.as_bytes())?;
     Some(Check {
-        done: mark.done,
-        after: cut_after(content, mark.end),
+        done: found.done,
+        after: cut_after(content, found.end),
     })
 }
 
 /// The check that bytes begin with.
-fn mark_of(bytes: &[u8]) -> Option<Mark>
+fn find_check(bytes: &[u8]) -> Option<FoundCheck>
     ensures read { option_map (λ found. found.done) result ≡ check_of (content_codes bytes.now) }
     ensures place { IfSome result (λ found. IsCheckEnd bytes.now found.end) }
 {
@@ -70,7 +70,7 @@ fn mark_of(bytes: &[u8]) -> Option<Mark>
     }
     let done = is_done(mark.code)?;
     let end = mark.next + 1;
-    Some(Mark { done, end })
+    Some(FoundCheck { done, end })
 }
 
 /// Whether an item with this code in its check is done.

@@ -1,7 +1,7 @@
 use Rattle.std.proofs.Common.{◌≡◌, ◌∷◌, ◌∙◌, ap, drop}
 use Rattle.definition_text.specs.Content.{content_codes}
 use Rattle.inline_leaves.proofs.GfmTaskListItemLemmas.{check_end}
-use Rattle.inline_leaves.proofs.gfm_task_list_item.mark_of.Goals as goal
+use Rattle.inline_leaves.proofs.gfm_task_list_item.find_check.Goals as goal
 
 pub returns-clause-place : goal.returns-clause-place
 returns-clause-place c =
