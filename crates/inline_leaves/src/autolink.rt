@@ -29,7 +29,7 @@ struct Address {
 }
 
 /// An autolink (CommonMark 6.5).
-pub fn autolink_at<'a>(on: &Constructs, content: &'a str) -> Option<Leaf<'a>>
+pub(crate) fn autolink_at<'a>(on: &Constructs, content: &'a str) -> Option<Leaf<'a>>
     ensures read { found_leaf content.now result ≡ autolink_at on.now (content_codes content.now) }
     ensures place { LeavesRest content.now result }
 {

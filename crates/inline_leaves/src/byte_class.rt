@@ -5,7 +5,7 @@ ghost use Rattle.inline_leaves.specs.Leaves.{is_of, IsPlain};
 
 /// A class of bytes.
 #[derive(Clone, Copy)]
-pub enum ByteClass {
+pub(crate) enum ByteClass {
     /// Of a URI's scheme: a letter, a digit, `+`, `.` or `-` (CommonMark 6.5).
     Scheme,
     /// Of a URI after its scheme: no control character, space, `<` or `>` (CommonMark 6.5).
@@ -17,7 +17,7 @@ pub enum ByteClass {
 }
 
 /// Whether a byte is of a class.
-pub fn is_of(class: ByteClass, byte: u8) -> bool
+pub(crate) fn is_of(class: ByteClass, byte: u8) -> bool
     ensures { result ≡ is_of class byte }
 {
     match class {
@@ -33,7 +33,7 @@ pub fn is_of(class: ByteClass, byte: u8) -> bool
 }
 
 /// How many bytes of a class come first.
-pub fn prefix_size(class: ByteClass, bytes: &[u8]) -> usize
+pub(crate) fn prefix_size(class: ByteClass, bytes: &[u8]) -> usize
     ensures size { result ≡ prefix_len (is_of class) bytes.now }
     ensures plain { IsPlain bytes.now result }
 {

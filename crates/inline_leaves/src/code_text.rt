@@ -15,7 +15,7 @@ use markdown_options::Constructs;
 use std::alloc::{AllocError, Allocator};
 
 /// A run of backticks: a code span, where another run closes it, and otherwise text (CommonMark 6.1).
-pub fn code_text_at<'a, A: Allocator + Clone>(
+pub(crate) fn code_text_at<'a, A: Allocator + Clone>(
     on: &Constructs,
     searches: &mut Searches<'a, A>,
     rest: &'a str,

@@ -25,7 +25,7 @@ use markdown_options::constants::HTML_CDATA_PREFIX;
 use text_bytes::begins_with_letter;
 
 /// Raw HTML (CommonMark 6.6).
-pub fn html_text_at<'a>(on: &Constructs, content: &'a str) -> Option<Leaf<'a>>
+pub(crate) fn html_text_at<'a>(on: &Constructs, content: &'a str) -> Option<Leaf<'a>>
     ensures read { found_leaf content.now result ≡ html_text_at on.now (content_codes content.now) }
     ensures place { LeavesRest content.now result }
 {
@@ -146,7 +146,7 @@ pub(crate) fn begins_cdata(bytes: &[u8]) -> bool
 }
 
 /// Where the first of the texts ends that stand in bytes from a place on.
-pub fn text_end(text: &[u8], bytes: &[u8], start: usize) -> Option<usize>
+pub(crate) fn text_end(text: &[u8], bytes: &[u8], start: usize) -> Option<usize>
     requires start { start ≤ length bytes.now }
     requires text { ClosesText text.now }
     ensures read { option_map (λ end. drop end bytes.now) result ≡ after_text text.now (drop start bytes.now) }

@@ -1,20 +1,20 @@
 //! The inline constructs that hold no other (CommonMark 6).
 #![tactic(auto)]
 
-pub mod autolink;
-pub mod byte_class;
+mod autolink;
+mod byte_class;
 pub mod character_escape;
 pub mod character_reference;
-pub mod code_text;
+mod code_text;
 pub mod cut;
 pub mod gfm_task_list_item;
-pub mod hard_break_escape;
-pub mod hard_break_trailing;
-pub mod html_text;
+mod hard_break_escape;
+mod hard_break_trailing;
+mod html_text;
 pub mod leaf;
 pub mod leaf_at;
 pub mod line_ending;
-pub mod math_text;
+mod math_text;
 mod raw_runs;
 mod raw_text;
 pub mod searches;

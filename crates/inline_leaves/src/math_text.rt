@@ -19,7 +19,7 @@ use std::alloc::{AllocError, Allocator};
 use text_bytes::run;
 
 /// A run of dollars that may open math: math, where another run closes it, and otherwise text.
-pub fn math_text_at<'a, A: Allocator + Clone>(
+pub(crate) fn math_text_at<'a, A: Allocator + Clone>(
     options: &ParseOptions,
     searches: &mut Searches<'a, A>,
     rest: &'a str,
