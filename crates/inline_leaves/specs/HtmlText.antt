@@ -1,6 +1,7 @@
 -- Raw HTML in the bytes of a content.
 use Rattle.std.specs.Prelude.{◌≡◌, ◌<◌, ◌≤◌, ◌-◌, ◌==◌, ℕ, Bool, true, false, if◌then◌else◌, List, [], ◌∷◌, Option, None, codes, drop, length, map, slice_index}
 use Rattle.std.specs.Option.{option_or}
+use Rattle.definition_text.specs.Ascii.{carriage_return, greater_than, line_feed}
 use Rattle.definition_text.specs.Content.{content_codes}
 use Rattle.definition_text.specs.Bytes.{begins_with}
 use Rattle.definition_inline.specs.HtmlText.{html_byte, marked_html}
@@ -10,8 +11,9 @@ use Rattle.inline_tags.specs.Places.{Place, NameStart, ClosingStart, End, next, 
 abbrev pub html_bytes : List ℕ → List ℕ
 html_bytes content = map html_byte (content_codes content)
 
+-- in a tag a line ending is LF
 abbrev pub ending_as_feed : ℕ → ℕ
-ending_as_feed b = if b == 13 then 10 else b
+ending_as_feed b = if b == carriage_return then line_feed else b
 
 abbrev pub is_end : Place → Bool
 is_end End = true
@@ -36,9 +38,9 @@ html_after bytes = option_or (open_after bytes) (option_or (closing_after bytes)
 pub record IsClosed (bytes : List ℕ) (end : ℕ) : Type 0 where
   pub some : 0 < end
   pub within : end ≤ length bytes
-  pub greater : slice_index bytes (end - 1) ≡ 62
+  pub greater : slice_index bytes (end - 1) ≡ greater_than
 
 -- a text that a `>` ends
 pub record ClosesText (text : List ℕ) : Type 0 where
   pub some : 0 < length text
-  pub greater : slice_index text (length text - 1) ≡ 62
+  pub greater : slice_index text (length text - 1) ≡ greater_than

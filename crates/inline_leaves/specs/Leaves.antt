@@ -7,6 +7,7 @@ use Rattle.std.specs.Prelude.{IfSome, take}
 use Rattle.std.specs.Option.{option_map}
 use Rattle.markdown_options.specs.declared.configuration.Constructs.{Constructs}
 use Rattle.definition_inline.specs.HardBreak.{is_trailing_break}
+use Rattle.definition_text.specs.Ascii.{backslash, carriage_return, greater_than, space}
 use Rattle.definition_text.specs.Columns.{is_white}
 use Rattle.definition_text.specs.Columns as columns
 use Rattle.definition_text.specs.Content.{content_codes, line_ending_code}
@@ -81,9 +82,9 @@ escape_leaf (Some byte) = Some (inline.leaf (inline.Escape byte ∷ []) 2)
 -- a backslash, and a byte that it escapes
 pub record IsEscape (bytes : List ℕ) (byte : ℕ) : Type 0 where
   pub within : 2 ≤ length bytes
-  pub backslash : slice_index bytes 0 ≡ 92
+  pub first : slice_index bytes 0 ≡ backslash
   pub escaped : slice_index bytes 1 ≡ byte
-  pub visible : 32 < byte
+  pub visible : space < byte
   pub ascii : byte < 128
 
 -- a line ending comes first: its code, and the bytes of it
@@ -125,7 +126,7 @@ character_parts text = inline.Character text ∷ []
 -- the first bytes, of which none is CR
 pub record IsPlain (bytes : List ℕ) (size : ℕ) : Type 0 where
   pub within : size ≤ length bytes
-  pub plain : (k : ℕ) → k < size → slice_index bytes k ≡ 13 → ⊥
+  pub plain : (k : ℕ) → k < size → slice_index bytes k ≡ carriage_return → ⊥
 
 -- the codes after the first bytes, where so many are found
 abbrev pub codes_after : List ℕ → Option ℕ → Option (List ℕ)
@@ -134,8 +135,8 @@ codes_after bytes size = option_map (λ size. content_codes (drop size bytes)) s
 -- the bytes of an address, before a `>`
 pub record IsAddress (bytes : List ℕ) (size : ℕ) : Type 0 where
   pub within : size < length bytes
-  pub plain : (k : ℕ) → k < size → slice_index bytes k ≡ 13 → ⊥
-  pub greater : slice_index bytes size ≡ 62
+  pub plain : (k : ℕ) → k < size → slice_index bytes k ≡ carriage_return → ⊥
+  pub greater : slice_index bytes size ≡ greater_than
 
 -- what an address makes
 abbrev pub address_leaf : List ℕ → Option Address → Option inline.Leaf

@@ -1,6 +1,7 @@
 -- Runs of a byte, and where the last one of each size ends.
 use Rattle.std.specs.Prelude.{◌≡◌, ◌<◌, ◌≤◌, ◌==◌, ℕ, false, nat_lt, if◌then◌else◌, List, [], ◌∷◌, None, drop, length}
 use Rattle.definition_inline.specs.CodeText.{run_of}
+use Rattle.definition_text.specs.Ascii.{backtick, dollar}
 use Rattle.definition_text.specs.Runs.{run}
 use Rattle.inline_leaves.specs.declared.raw_runs.LastRun.{LastRun}
 use Rattle.inline_leaves.specs.declared.raw_runs.RawMarker.{RawMarker}
@@ -8,8 +9,8 @@ use Rattle.inline_leaves.specs.declared.raw_runs.RawMarker.TheVariants.{Backtick
 
 -- the byte that raw text stands between
 abbrev pub marker_byte : RawMarker → ℕ
-marker_byte Backtick = 96
-marker_byte Dollar = 36
+marker_byte Backtick = backtick
+marker_byte Dollar = dollar
 
 -- where the last run of a size ends, by a list that is ascending by size; 0 if there is none
 abbrev pub last_end : List LastRun → ℕ → ℕ

@@ -6,6 +6,7 @@
 ghost use Rattle.std.specs.Prelude.{◌≡◌, ◌==◌};
 ghost use Rattle.std.specs.List.{list_all};
 ghost use Rattle.definition_inline.specs.HardBreak.{is_trailing_break, line_spaces_at};
+ghost use Rattle.definition_text.specs.Ascii.{space};
 ghost use Rattle.definition_text.specs.Content.{content_codes};
 ghost use Rattle.inline_leaves.specs.Leaves.{found_leaf, parts_of, spaces_parts, LeavesRest};
 
@@ -60,7 +61,7 @@ fn is_trailing_break(bytes: &[u8]) -> bool
 }
 
 fn are_spaces(bytes: &[u8]) -> bool
-    ensures { result ≡ list_all (λ b. b == 32) bytes.now }
+    ensures { result ≡ list_all (λ b. b == space) bytes.now }
 {
     bytes.iter().all(|b| *b == b' ')
 }

@@ -5,6 +5,7 @@
 //! A run of one dollar opens math only where `math_text_single_dollar` is on.
 ghost use Rattle.std.specs.Prelude.{◌≡◌, IfOk};
 ghost use Rattle.definition_inline.specs.MathText.{may_open_math, math_text_at};
+ghost use Rattle.definition_text.specs.Ascii.{dollar};
 ghost use Rattle.definition_text.specs.Content.{content_codes};
 ghost use Rattle.definition_text.specs.Runs.{run as run_of};
 ghost use Rattle.inline_links.specs.Codes.{IsRest};
@@ -35,7 +36,7 @@ pub(crate) fn math_text_at<'a, A: Allocator + Clone>(
 
 /// Whether the dollars that bytes begin with may open math.
 fn may_open_math(options: &ParseOptions, bytes: &[u8]) -> bool
-    ensures { result ≡ may_open_math options.now (run_of 36 bytes.now) }
+    ensures { result ≡ may_open_math options.now (run_of dollar bytes.now) }
 {
     options.constructs.math_text && (options.math_text_single_dollar || run(b'$', bytes) != 1)
 }
