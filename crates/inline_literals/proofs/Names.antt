@@ -279,6 +279,10 @@ none_for_other byte size before is sized within other =
 
 -- ---- the last parts of a domain
 
+pub low_line_none : (parts : ℕ) → low_line_in parts [] ≡ false
+low_line_none zero = refl
+low_line_none (suc parts) = refl
+
 low_line_at : (parts end : ℕ) (xs : List ℕ) → 0 < parts → 0 < end → end ≤ length xs
     → low_line_in parts (reverse (take end xs))
     ≡ cond (eqb (get_or xs (end - 1) 0) 95) true

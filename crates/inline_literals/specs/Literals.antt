@@ -2,7 +2,7 @@
 use Rattle.std.specs.Prelude.{◌≡◌, ◌+◌, ◌-◌, ◌<◌, ◌≤◌, ℕ, zero, suc, Bool, true, false, not, ◌&&◌, ◌||◌, ◌==◌, if◌then◌else◌, List, [], ◌∷◌, Option, None, Some}
 use Rattle.std.specs.Prelude.{codes, drop, length, slice_index, take}
 use Rattle.std.specs.Str.{IsCharBoundary}
-use Rattle.definition_text.specs.Ascii.{right_parenthesis, semicolon}
+use Rattle.definition_text.specs.Ascii.{line_feed, right_parenthesis, semicolon, underscore}
 use Rattle.definition_text.specs.declared.beside.Kind.TheVariants.{Whitespace}
 use Rattle.definition_text.specs.Bytes.{is_letter_or_digit}
 use Rattle.definition_text.specs.Content.{content_codes}
@@ -32,10 +32,12 @@ is_in_reference (b ∷ bs) = is_letter_or_digit b || (b == semicolon)
 abbrev pub is_kept : ℕ → List ℕ → Bool
 is_kept byte after = not (is_trailing byte) && (not (byte == right_parenthesis) && not (is_in_reference after))
 
--- a `_` at a place of a domain, for which it and each of its rests up to there is none
+-- the last `_` of a domain, at a place: it and each of its rests up to there has `_` in its last two parts, and what comes after it has none there
 pub record HasLowLineAt (domain : List ℕ) (at : ℕ) : Type 0 where
   pub within : at < length domain
+  pub byte : slice_index domain at ≡ underscore
   pub refused : (k : ℕ) → k ≤ at → has_low_line (drop k domain) ≡ true
+  pub last : has_low_line (drop (at + 1) domain) ≡ false
 
 -- bytes that a literal begins with: none of them is CR, and the last is ASCII and no LF
 pub record StartsLiteral (bytes : List ℕ) (size : ℕ) : Type 0 where

@@ -2,8 +2,9 @@
 //!
 //!     name ::= byte+ up to white space, '<', a ']' that may end a label, or nothing, without its tail
 //!     tail ::= (trailing byte | '&' (letter | digit)+ ';' | ')' while there are more of them than '(')*
-ghost use Rattle.std.specs.Prelude.{◌≡◌, ◌<◌, ◌≤◌, ◌+◌, ◌-◌, true, false, length, reverse, slice_index, take, MatchOption};
+ghost use Rattle.std.specs.Prelude.{◌≡◌, ◌<◌, ◌≤◌, ◌==◌, ◌&&◌, ◌+◌, ◌-◌, true, false, length, reverse, slice_index, take, MatchOption};
 ghost use Rattle.std.specs.List.{suffix_len};
+ghost use Rattle.definition_text.specs.Ascii.{left_parenthesis, right_parenthesis};
 ghost use Rattle.definition_text.specs.Bytes.{is_letter_or_digit};
 ghost use Rattle.definition_text.specs.Content.{content_codes};
 ghost use Rattle.definition_inline.specs.GfmAutolinkLiteral.{count_of, cut_more, follows_label, ends_literal, is_trailing};
@@ -158,8 +159,7 @@ fn is_in_reference(after: &[u8]) -> bool
 
 /// Whether a text has no parenthesis.
 pub(crate) fn has_no_parenthesis(text: &[u8]) -> bool
-    ensures opened { result ≡ true → count_of 40 (reverse text.now) ≡ 0 }
-    ensures closed { result ≡ true → count_of 41 (reverse text.now) ≡ 0 }
+    ensures { result ≡ ((count_of left_parenthesis (reverse text.now) == 0) && (count_of right_parenthesis (reverse text.now) == 0)) }
 {
     count_of(b'(', text) == 0 && count_of(b')', text) == 0
 }

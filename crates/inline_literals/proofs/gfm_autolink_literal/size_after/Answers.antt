@@ -1,4 +1,5 @@
 use Rattle.std.proofs.Common.{reverse, take, sym, ap, ◌∙◌, arith, subst}
+use Rattle.std.proofs.lemmas.Bool.{and_parts, eqb-true}
 use Rattle.definition_inline.specs.GfmAutolinkLiteral.{count_of, has_low_line}
 use Rattle.inline_literals.specs.Literals.{HasLowLineAt}
 use Rattle.inline_literals.proofs.InVain.{none_begins, none_here, none_later, none_named}
@@ -15,9 +16,10 @@ returns-in-Some-clause-vain g c =
     let at = c.in-Some.at in
     let value = c.as_bytes-bytes.ensures.value in
     let domain = c.domain_in_name-domain.result in
+    let none = and_parts _ _ (sym c.has_no_parenthesis.ensures ∙ c.if-has_no_parenthesis.true) in
     none_later p c.args.after.now domain at c.domain_in_name-domain.ensures.size (subst (λ l. HasLowLineAt (take domain l) at) value c.in-Some.ensures)
-    (ap (λ l. count_of 40 (reverse (take at l))) (sym value) ∙ c.has_no_parenthesis.ensures.opened c.if-has_no_parenthesis.true)
-    (ap (λ l. count_of 41 (reverse (take at l))) (sym value) ∙ c.has_no_parenthesis.ensures.closed c.if-has_no_parenthesis.true)
+    (ap (λ l. count_of 40 (reverse (take at l))) (sym value) ∙ eqb-true _ 0 none.0)
+    (ap (λ l. count_of 41 (reverse (take at l))) (sym value) ∙ eqb-true _ 0 none.1)
 
 pub returns-in-Some-2-clause-vain : goal.returns-in-Some-2-clause-vain
 returns-in-Some-2-clause-vain g c =
