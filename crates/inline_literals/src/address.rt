@@ -5,7 +5,7 @@
 //!     user      ::= (letter | digit | '+' | '-' | '.' | '_')+, not after '/'
 //!     host      ::= host_byte+, with a dot, and a letter at its end
 //!     host_byte ::= letter | digit | '-' | '_' | '.' before a letter or digit | '/' after 'xmpp:'
-ghost use Rattle.std.specs.Prelude.{◌≡◌, ◌+◌, ◌-◌, ◌<◌, ◌≤◌, ◌==◌, ◌&&◌, ◌||◌, true, drop, length, map, slice_index, IfSome, MatchOption};
+ghost use Rattle.std.specs.Prelude.{◌≡◌, ◌+◌, ◌-◌, ◌<◌, ◌≤◌, true, drop, length, map, slice_index, IfSome, MatchOption};
 ghost use Rattle.std.specs.List.{suffix_len};
 ghost use Rattle.std.specs.Option.{option_map};
 ghost use Rattle.definition_inline.specs.Inline.{Data};

@@ -3,7 +3,7 @@
 //!     literal ::= start name
 //!     start   ::= 'www.' after nothing, white space or one of '(*_[]~'
 //!               | ('http://' | 'https://') after anything but a letter
-ghost use Rattle.std.specs.Prelude.{◌≡◌, ◌<◌, ◌≤◌, ◌+◌, ◌&&◌, ◌||◌, Some, IfErr, IfOk, IfSome, codes, drop, length, slice_index};
+ghost use Rattle.std.specs.Prelude.{◌≡◌, ◌<◌, ◌≤◌, ◌+◌, Some, IfErr, IfOk, IfSome, codes, drop, length, slice_index};
 ghost use Rattle.std.specs.Option.{option_map};
 ghost use Rattle.definition_text.specs.Content.{content_codes};
 ghost use Rattle.definition_text.specs.InlineCode.{is_continuation};

@@ -2,7 +2,7 @@
 //!
 //!     name ::= byte+ up to white space, '<', a ']' that may end a label, or nothing, without its tail
 //!     tail ::= (trailing byte | '&' (letter | digit)+ ';' | ')' while there are more of them than '(')*
-ghost use Rattle.std.specs.Prelude.{◌≡◌, ◌<◌, ◌≤◌, ◌==◌, ◌&&◌, ◌+◌, ◌-◌, true, false, length, reverse, slice_index, take, MatchOption};
+ghost use Rattle.std.specs.Prelude.{◌≡◌, ◌<◌, ◌≤◌, ◌==◌, ◌&&◌, ◌-◌, true, false, length, reverse, slice_index, take, MatchOption};
 ghost use Rattle.std.specs.List.{suffix_len};
 ghost use Rattle.definition_text.specs.Ascii.{left_parenthesis, right_parenthesis};
 ghost use Rattle.definition_text.specs.Bytes.{is_letter_or_digit};

@@ -1,7 +1,7 @@
 //! Names that begin in vain, since `_` stands in their domains (GFM 6.9): a domain ends at one place
 //! wherever in it a name begins, so that what is known of a name is known of those that begin later
 //! in its domain, up to that `_`.
-ghost use Rattle.std.specs.Prelude.{◌≡◌, ◌-◌, ◌≤◌, ℕ, Bool, List, None, true, length};
+ghost use Rattle.std.specs.Prelude.{◌≡◌, ◌≤◌, ℕ, Bool, List, None, true, length};
 ghost use Rattle.inline_links.specs.Codes.{IsRest};
 ghost use Rattle.inline_literals.specs.Literals.{size_after, AreInVain, KnowsNames};
 
