@@ -24,11 +24,12 @@ start_view start = literal_start (kind_view start.kind) start.size
 abbrev pub may_begin : List ℕ → Bool
 may_begin bytes = begins_caselessly (codes "ww") bytes || begins_caselessly (codes "ht") bytes
 
--- a byte that is never cut from a name's end, before these: it isn't cut alone, and ends no reference and stands in none
+-- a letter, a digit or `;` comes first
 abbrev pub is_in_reference : List ℕ → Bool
 is_in_reference [] = false
 is_in_reference (b ∷ bs) = is_letter_or_digit b || (b == semicolon)
 
+-- a byte that is never cut from a name's end, before these: it isn't cut alone, and ends no reference and stands in none
 abbrev pub is_kept : ℕ → List ℕ → Bool
 is_kept byte after = not (is_trailing byte) && (not (byte == right_parenthesis) && not (is_in_reference after))
 
