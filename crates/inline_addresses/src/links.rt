@@ -3,6 +3,7 @@
 ghost use Rattle.std.specs.Prelude.{◌≡◌, ◌==◌, [], ℕ, false};
 ghost use Rattle.std.specs.List.{list_any};
 ghost use Rattle.std.specs.Option.{option_map};
+ghost use Rattle.definition_text.specs.Ascii.{at_sign};
 ghost use Rattle.definition_inline.specs.GfmAutolinkLiteral.{with_literals};
 ghost use Rattle.definition_inline.specs.Inline.{Target, LinkTexts, Inlines};
 ghost use Rattle.inline_rows.specs.InlineRows.{inline_rows};
@@ -73,7 +74,7 @@ fn has_at_sign(text: Option<&str>) -> bool
 
 /// Whether an `@` is among bytes.
 fn holds_at_sign(bytes: &[u8]) -> bool
-    ensures { result ≡ list_any (λ b. b == 64) bytes.now }
+    ensures { result ≡ list_any (λ b. b == at_sign) bytes.now }
 {
     next_of(bytes, AT_SIGN) < bytes.len()
 }

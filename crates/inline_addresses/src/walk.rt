@@ -1,9 +1,10 @@
 //! Rows from left to right: the text of rows that stand side by side is one run, in which email
 //! addresses are looked for where it stands in no link (GFM 6.9).
-ghost use Rattle.std.specs.Prelude.{◌≡◌, ◌+◌, ◌<◌, ◌≤◌, ◌++◌, ◌∷◌, [], ℕ, List, IfOk, OnOk, drop, length, slice_index, string_bytes, take};
+ghost use Rattle.std.specs.Prelude.{◌≡◌, ◌^◌, ◌+◌, ◌-◌, ◌<◌, ◌≤◌, ◌++◌, ◌∷◌, [], ℕ, List, IfOk, OnOk, drop, length, slice_index, string_bytes, take};
 ghost use Rattle.std.specs.List.{flat_map};
 ghost use Rattle.std.specs.Option.{option_map};
 ghost use Rattle.std.specs.Str.{IsCharBoundary};
+ghost use Rattle.definition_text.specs.Ascii.{line_feed};
 ghost use Rattle.definition_inline.specs.GfmAutolinkLiteral.{with_addresses, with_literals};
 ghost use Rattle.definition_inline.specs.Inline.{Target, LinkTexts, Inlines};
 ghost use Rattle.inline_rows.specs.InlineRows as seen;
@@ -108,7 +109,7 @@ impl<'a, A: Allocator> Walk<'a, A> {
     /// The next row, whose text comes after the run.
     fn step(&mut self, row: InlineRow<'a>) -> Result<(), AllocError>
         requires next { IsNext self.old.text.now self.old.size (text_or_end (row_text row)) }
-        requires depth { self.old.depth < 18446744073709551615 }
+        requires depth { self.old.depth < 2 ^ 64 - 1 }
         ensures depth { OnOk result (self.new.depth ≤ self.old.depth + 1) }
         ensures within { OnOk result (self.new.size ≤ length self.new.text.now) }
         ensures text { OnOk result (drop self.new.size self.new.text.now
@@ -127,9 +128,9 @@ impl<'a, A: Allocator> Walk<'a, A> {
 
     /// A row that is no text.
     fn other(&mut self, row: InlineRow<'a>) -> Result<(), AllocError>
-        requires next { IsNext self.old.text.now self.old.size (10 ∷ []) }
+        requires next { IsNext self.old.text.now self.old.size (line_feed ∷ []) }
         requires none { row_text row ≡ None }
-        requires depth { self.old.depth < 18446744073709551615 }
+        requires depth { self.old.depth < 2 ^ 64 - 1 }
         ensures depth { OnOk result (self.new.depth ≤ self.old.depth + 1) }
         ensures within { OnOk result (self.new.size ≤ length self.new.text.now) }
         ensures text { OnOk result (drop self.new.size self.new.text.now ≡ drop 1 (drop self.old.size self.old.text.now)) }
@@ -219,7 +220,7 @@ pub(crate) fn literal_of<'a>(row: InlineRow<'a>) -> Option<&'a str>
 
 /// How many parts are open after a row that is no text, counted from the link on in which it stands.
 fn depth_after(depth: usize, row: InlineRow<'_>) -> usize
-    requires { depth < 18446744073709551615 }
+    requires { depth < 2 ^ 64 - 1 }
     ensures depth { result ≡ row_depth depth row.entry }
     ensures within { result ≤ depth + 1 }
 {

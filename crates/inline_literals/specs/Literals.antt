@@ -45,7 +45,7 @@ pub record StartsLiteral (bytes : List ℕ) (size : ℕ) : Type 0 where
   pub some : 0 < size
   pub plain : IsPlain bytes size
   pub ascii : slice_index bytes (size - 1) < 128
-  pub inside : slice_index bytes (size - 1) ≡ 10 → ⊥
+  pub inside : slice_index bytes (size - 1) ≡ line_feed → ⊥
 
 module _ (p : ℕ → Bool) where
   -- a character comes first that is neither whitespace nor punctuation

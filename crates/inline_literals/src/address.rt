@@ -5,7 +5,7 @@
 //!     user      ::= (letter | digit | '+' | '-' | '.' | '_')+, not after '/'
 //!     host      ::= host_byte+, with a dot, and a letter at its end
 //!     host_byte ::= letter | digit | '-' | '_' | '.' before a letter or digit | '/' after 'xmpp:'
-ghost use Rattle.std.specs.Prelude.{◌≡◌, ◌+◌, ◌-◌, ◌<◌, ◌≤◌, true, drop, length, map, slice_index, IfSome, MatchOption};
+ghost use Rattle.std.specs.Prelude.{◌≡◌, ◌^◌, ◌+◌, ◌-◌, ◌<◌, ◌≤◌, true, drop, length, map, slice_index, IfSome, MatchOption};
 ghost use Rattle.std.specs.List.{suffix_len};
 ghost use Rattle.std.specs.Option.{option_map};
 ghost use Rattle.definition_inline.specs.Inline.{Data};
@@ -76,7 +76,7 @@ fn address_at(before: &[u8], after: &[u8]) -> Option<Address>
 
 /// An address whose user, protocol and host have so many bytes.
 fn address_of(user: usize, protocol: usize, host: usize) -> Address
-    requires { user + protocol < 18446744073709551616 }
+    requires { user + protocol < 2 ^ 64 }
     ensures { address_view result ≡ address_of user protocol host }
 {
     let kind = if protocol == 0 {

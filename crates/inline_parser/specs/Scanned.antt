@@ -5,7 +5,7 @@ use Rattle.std.specs.Str.{IsCharBoundary}
 use Rattle.markdown_options.specs.declared.configuration.ParseOptions.{ParseOptions}
 use Rattle.markdown_options.specs.declared.tables.Tables as tables
 use Rattle.definition_text.specs.Ascii.{carriage_return}
-use Rattle.definition_text.specs.Content.{content_codes}
+use Rattle.definition_text.specs.Content.{content_codes, return_and_feed}
 use Rattle.definition_page.specs.InlinePieces.{leads_to}
 use Rattle.definition_inline.specs.Attention.{run_at}
 use Rattle.definition_inline.specs.Scan as scan
@@ -33,7 +33,7 @@ pub record HasTargets {A : Type 0} (labels footnotes : LabelTable A) (ds : Targe
 
 -- none of these bytes is CR, and none the code of a line ending of two
 abbrev pub has_no_return : List ℕ → Bool
-has_no_return bytes = list_all (λ b. not (b == carriage_return) && not (b == 257)) bytes
+has_no_return bytes = list_all (λ b. not (b == carriage_return) && not (b == return_and_feed)) bytes
 
 -- the context of a document whose labels lead to these targets
 abbrev pub context_by : ParseOptions → (List ℕ → Option (List ℕ)) → Targets → InlineContext
@@ -72,7 +72,7 @@ ended_here context content (label ∷ others) inner = ended_by context content l
 -- a byte that is a code of one byte
 pub record IsSingle (bytes : List ℕ) : Type 0 where
   pub ascii : slice_index bytes 0 < 128
-  pub apart : slice_index bytes 0 ≡ 13 → ⊥
+  pub apart : slice_index bytes 0 ≡ carriage_return → ⊥
   pub boundary : IsCharBoundary bytes 1
   pub next : IsAfter bytes (drop 1 bytes)
   pub code : content_codes bytes ≡ slice_index bytes 0 ∷ content_codes (drop 1 bytes)

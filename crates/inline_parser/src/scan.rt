@@ -6,6 +6,7 @@ ghost use Rattle.std.specs.Prelude.{length, map, IfOk, IfSome, OnOk, take, drop,
 ghost use Rattle.std.specs.List.{prefix_len};
 ghost use Rattle.std.specs.Option.{option_map};
 ghost use Rattle.std.specs.Str.{IsCharBoundary};
+ghost use Rattle.definition_text.specs.Ascii.{right_bracket};
 ghost use Rattle.definition_text.specs.Columns.{is_blank, is_white};
 ghost use Rattle.definition_text.specs.Bytes.{begins_with};
 ghost use Rattle.definition_text.specs.Encode.{encode};
@@ -435,7 +436,7 @@ impl<'a, A: Allocator + Clone> Scanner<'a, A> {
         requires first { IsSingle self.old.rest.now }
         requires no_run { HasNoRun (T.punctuation_of source.now.tables.now) source.now self.old.rest.now }
         requires no_start { label_start_at source.now.options.now.constructs (content_codes self.old.rest.now) ≡ None }
-        requires bracket { (source.now.options.now.constructs.label_end && (slice_index self.old.rest.now 0 == 93)) ≡ true }
+        requires bracket { (source.now.options.now.constructs.label_end && (slice_index self.old.rest.now 0 == right_bracket)) ≡ true }
         ensures placed { OnOk result (IsPlacedBy T.Tables source.now self.new) }
         ensures shorter { Shortens self.old result self.new }
         ensures read { GoesOnBy T.Tables source.now self.old result self.new }
@@ -467,7 +468,7 @@ impl<'a, A: Allocator + Clone> Scanner<'a, A> {
         after: &'a str,
     ) -> Result<Option<LabelForm<'a>>, AllocError>
         requires placed { StartsBefore self.now.rest.now self.now.reading }
-        requires bracket { self.now.rest.now ≡ 93 ∷ after.now }
+        requires bracket { self.now.rest.now ≡ right_bracket ∷ after.now }
         ensures read { (leads : Target → LinkTexts) (at : ℕ → LinkTexts) (r : scan.Reading) (names : List ℕ → Option (List ℕ)) (ds : Targets) →
             HasTargets source.now.labels.now source.now.footnotes.now ds → Shows leads at self.now.reading r →
             IfOk result (λ found. IsFormed (labels_of ds.definitions) after.now found
@@ -511,7 +512,7 @@ fn formed_at<'a, T, A: Allocator + Clone>(
 /// Whether a `]` comes first that may end a label (CommonMark 6.3).
 fn is_label_end(on: &Constructs, rest: &str) -> bool
     requires { 0 < length rest.now }
-    ensures { result ≡ (on.now.label_end && (slice_index rest.now 0 == 93)) }
+    ensures { result ≡ (on.now.label_end && (slice_index rest.now 0 == right_bracket)) }
 {
     on.label_end && rest.as_bytes()[0] == b']'
 }
