@@ -2,7 +2,7 @@
 use Rattle.std.proofs.Common.{◌≡◌, ℕ, zero, suc, ◌+◌, ◌-◌, ◌<◌, ◌≤◌, Bool, true, false, ◌&&◌, inl, inr, eqb, List, [], ◌∷◌, map, refl, sym, ap, ap₂, ◌∙◌}
 use Rattle.std.proofs.Common.{length, arith, subst, take, drop, get_or, Option, None, Some}
 use Rattle.std.specs.List.{prefix_len}
-use Rattle.std.specs.Str.{IsCharBoundary, IsUtf8}
+use Rattle.std.specs.Str.{IsUtf8}
 use Rattle.std.proofs.lemmas.Str.{IsCharBoundary-after_ascii}
 use Rattle.std.specs.Prelude.{IfSome}
 use Rattle.std.specs.Result.{OnOk}
@@ -63,10 +63,6 @@ on_one (Err e) p f = tt
 
 pub dropped : (rest after : List ℕ) (n : ℕ) → after ≡ drop n rest → 0 < n → n ≤ length rest → length after < length rest
 dropped rest after n e some le = omega (arith, ap length e, length-drop n rest)
-
--- a place before an ASCII byte
-pub ascii_boundary : (bs : List ℕ) (n : ℕ) → n ≤ length bs → (n < length bs → get_or bs n 0 < 128) → IsCharBoundary bs n
-ascii_boundary bs n le ascii = (le, λ lt high. absurd (omega (arith, ascii lt, high)))
 
 -- an ASCII byte that is no line ending is a code
 pub single_of : (bytes : List ℕ) → IsUtf8 bytes → 0 < length bytes → texts.IsSpecial bytes → IsSingle bytes

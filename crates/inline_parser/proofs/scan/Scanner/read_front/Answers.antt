@@ -5,6 +5,7 @@ use Rattle.definition_inline.specs.Scan.{read_tokens}
 use Rattle.definition_inline.specs.Spans.{Item}
 use Rattle.definition_page.specs.InlinePieces.{leads_to}
 use Rattle.definition_page.specs.Targets.{linked_at, linked_by}
+use Rattle.text_bytes.proofs.Ascii.{boundary_before}
 use Rattle.inline_content.specs.View.{view_at}
 use Rattle.inline_parser.specs.Scanned.{context_by}
 use Rattle.inline_parser.proofs.Follow as follow
@@ -13,7 +14,7 @@ use Rattle.inline_parser.proofs.scan.Scanner.read_front.Goals as goal
 
 pub front-requires-clause-boundary : goal.front-requires-clause-boundary
 front-requires-clause-boundary g c =
-    follow.ascii_boundary c.args.self.now.rest.now c.args.front.size c.requires.front.within c.requires.front.ascii
+    boundary_before c.args.self.now.rest.now c.args.front.size c.requires.front.within c.requires.front.ascii
 
 pub front-requires-clause-next : goal.front-requires-clause-next
 front-requires-clause-next g c = c.requires.front.ending (omega (arith, c.if-front-eq0.false))
