@@ -65,5 +65,7 @@ returns g c ds has =
     let f = c.loop-source.invariant.follows ds has in
     let none = no_bytes c.loop-source.scanner.rest.now (sym c.loop-source-test.ensures) in
     let end = ap (scan.scan (context_by c.args.options.now names ds) 0 f.now) (sym (whole.last_view p content c.loop-source.scanner.rest.now none)) ∙ f.same in
-    subst (λ r. OnOk c.finish.result (rows_view (linked_at ds.definitions) c.finish.new.row_room.rows.items ≡ inline_rows leads (with_spans (whole_text r).tokens))) end
+    subst
+    (λ r. OnOk c.finish.result (rows_view (linked_at ds.definitions) c.finish.new.row_room.rows.items ≡ inline_rows leads (with_spans (whole_text r).tokens)))
+    end
     (c.finish.ensures.read leads (linked_at ds.definitions) f.now f.shows)
