@@ -20,7 +20,7 @@ use std::alloc::{AllocError, Allocator};
 
 /// Where a walk over the rows of a content stands.
 #[derive(Drop)]
-pub struct Walk<'a, A: Allocator> {
+struct Walk<'a, A: Allocator> {
     /// What is left of the rows' text, from the run on that stands before the next row.
     text: &'a str,
     /// How many bytes this run has so far.
