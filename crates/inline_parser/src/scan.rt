@@ -1,10 +1,10 @@
 //! The scan of a content from left to right (CommonMark 6 and appendix, phase 2).
 //!
 //!     content ::= white* (text | leaf | literal | run | start | ']')*
-ghost use Rattle.std.specs.Prelude.{◌≡◌, ◌<◌, ◌≤◌, ◌==◌, ◌&&◌, ℕ, Bool, List, [], ◌∷◌, Option, None, true};
-ghost use Rattle.std.specs.Prelude.{length, map, IfOk, IfSome, OnOk, take, drop, slice_index};
+ghost use Rattle.std.specs.Prelude.{◌≡◌, ◌<◌, ◌≤◌, ◌==◌, ◌&&◌, ℕ, Bool, List, [], ◌∷◌, Option, None, Some, true};
+ghost use Rattle.std.specs.Prelude.{length, map, not, IfOk, IfSome, OnOk, take, drop, slice_index};
 ghost use Rattle.std.specs.List.{prefix_len};
-ghost use Rattle.std.specs.Option.{option_map};
+ghost use Rattle.std.specs.Option.{is_some, option_map};
 ghost use Rattle.std.specs.Str.{IsCharBoundary};
 ghost use Rattle.definition_text.specs.Ascii.{right_bracket};
 ghost use Rattle.definition_text.specs.Columns.{is_blank, is_white};
@@ -28,7 +28,8 @@ ghost use Rattle.inline_rows.specs.View.{data_rows, row_view, rows_view};
 ghost use Rattle.inline_label_ends.specs.Ends.{IsAfterFormed, IsFormed};
 ghost use Rattle.inline_parser.specs.Scanned.{context_by, ended_here, has_no_return, HasTargets, IsPlace, IsPlacedBy, IsRunFront, IsSingle, StartsLabel};
 ghost use Rattle.inline_parser.specs.Scanned.{GoesOnBy, HasNoLeaf, HasNoLeafHere, HasNoRun, Shortens, StaysPlaced};
-ghost use Rattle.inline_parser.specs.Found.{found_rows};
+ghost use Rattle.inline_addresses.specs.Addresses.{has_at_sign, row_text};
+ghost use Rattle.inline_parser.specs.Found.{found_rows, is_alone};
 ghost use Rattle.inline_text.specs.Verbatim.{AreVerbatim, TellsVerbatim};
 ghost use Rattle.inline_text.specs.Fronts.{IsTextFront};
 ghost use Rattle.inline_parser.specs.Shows.{with_open_label, start_view, IsSound, Shows, ShowsThen, StartsBefore};
@@ -165,7 +166,9 @@ pub fn content_start<'a>(content: Content<'a>) -> &'a str
 /// spaces and tabs at its end: nothing starts in it, and no address may be in it (GFM 6.9).
 fn text_alone<'a>(options: &ParseOptions, start: &'a str, front: Front) -> Option<InlineRow<'a>>
     requires { IsTextFront options.now.constructs.gfm_autolink_literal start.now front }
-    ensures { (names : List ℕ → Option (List ℕ)) (is_punctuation : ℕ → Bool) (ds : Targets) (leads : Target → LinkTexts) (at : ℕ → LinkTexts)
+    ensures alone { is_some result
+        ≡ (is_alone front start.now && not (options.now.constructs.gfm_autolink_literal && has_at_sign (Some (take front.size start.now)))) }
+    ensures rows { (names : List ℕ → Option (List ℕ)) (is_punctuation : ℕ → Bool) (ds : Targets) (leads : Target → LinkTexts) (at : ℕ → LinkTexts)
         (content : SeenContent) → IsPlace content.text.now start.now → IfSome result (λ row. row_view at row
         ≡ inline_rows leads (inlines_from (context_by options.now names ds) (view_at is_punctuation content start.now))) }
 {
@@ -179,7 +182,9 @@ fn text_alone<'a>(options: &ParseOptions, start: &'a str, front: Front) -> Optio
 /// The same while addresses are text.
 fn span_alone<'a>(options: &ParseOptions, start: &'a str, front: Front) -> Option<InlineRow<'a>>
     requires { IsTextFront options.now.constructs.gfm_autolink_literal start.now front }
-    ensures { (names : List ℕ → Option (List ℕ)) (is_punctuation : ℕ → Bool) (ds : Targets) (leads : Target → LinkTexts) (at : ℕ → LinkTexts)
+    ensures alone { is_some result ≡ is_alone front start.now }
+    ensures text { IfSome result (λ row. row_text row ≡ Some (take front.size start.now)) }
+    ensures rows { (names : List ℕ → Option (List ℕ)) (is_punctuation : ℕ → Bool) (ds : Targets) (leads : Target → LinkTexts) (at : ℕ → LinkTexts)
         (content : SeenContent) → IsPlace content.text.now start.now → IfSome result (λ row. row_view at row
         ≡ inline_rows leads (spans_from (context_by options.now names ds) (view_at is_punctuation content start.now))) }
 {
@@ -206,7 +211,8 @@ fn is_blank_from(text: &str, at: usize) -> bool
 /// The row of a text that is all at its front.
 fn text_row<'a>(front: Front, text: &'a str) -> InlineRow<'a>
     requires { front.is_verbatim ≡ true → encode text.now ≡ text.now }
-    ensures { (at : ℕ → LinkTexts) → row_view at result ≡ data_rows text.now }
+    ensures text { row_text result ≡ Some text.now }
+    ensures rows { (at : ℕ → LinkTexts) → row_view at result ≡ data_rows text.now }
 {
     if front.is_verbatim {
         InlineRow::Verbatim(VerbatimText { text })

@@ -36,4 +36,4 @@ returns-in-Some g c ds has =
     let kids = inlines_from (context_by options names ds) (view_at p c.args.content c.args.start.now) in
     append-nil (row_view at c.in-Some.row)
     ∙ subst (λ (o : Option InlineRow). IfSome o (λ row. row_view at row ≡ inline_rows leads kids)) c.in-Some.is
-    (c.text_alone.ensures names p ds leads at c.args.content c.requires)
+    (c.text_alone.ensures.rows names p ds leads at c.args.content c.requires)

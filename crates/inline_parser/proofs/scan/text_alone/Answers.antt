@@ -10,13 +10,13 @@ use Rattle.inline_parser.specs.Scanned.{context_by}
 use Rattle.inline_parser.proofs.scan.text_alone.Goals as goal
 use Rattle.inline_parser.proofs.scan.text_alone.Goals.{else-options-via-then-options+else-may_link, else-options-via-else-options}
 
-pub returns : goal.returns
-returns c = λ names p ds leads at content place.
+pub returns-clause-rows : goal.returns-clause-rows
+returns-clause-rows c = λ names p ds leads at content place.
     let options = c.args.options.now in
     let kids = spans_from (context_by options names ds) (view_at p content c.args.start.now) in
     let row = c.in_ok-row.row in
     let one = append-nil (row_view at row) in
-    let spans : row_view at row ≡ inline_rows leads kids = c.in_ok-row.ensures names p ds leads at content place in
+    let spans : row_view at row ≡ inline_rows leads kids = c.in_ok-row.ensures.rows names p ds leads at content place in
     elim c.else-options.branch [
       | else-options-via-then-options+else-may_link w ↦
           let same = ap (rows_view at) w.from_ref.ensures.value in
