@@ -423,7 +423,8 @@ leaf_fits context content l is = subst (MayFit (length content)) is (fit_leaf co
 
 -- ---- literals
 
-tail_fits : (k : ℕ) (cs : List ℕ) → length (without_tail k cs) ≤ length cs
+-- a name is no longer without its tail
+pub tail_fits : (k : ℕ) (cs : List ℕ) → length (without_tail k cs) ≤ length cs
 tail_fits zero [] = omega arith
 tail_fits (suc k) [] = omega arith
 tail_fits zero (c ∷ cs) =

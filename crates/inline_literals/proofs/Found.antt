@@ -34,7 +34,7 @@ use Rattle.inline_leaves.proofs.AutolinkLemmas.{plain_join}
 use Rattle.inline_literals.specs.Literals.{StartsLiteral, IsNameEnd, may_begin, size_after, begins_name, begins_domain, domain_size}
 use Rattle.inline_literals.proofs.Names.{run_ends, no_return}
 use Rattle.inline_literals.proofs.Starts.{start_codes}
-use Rattle.inline_literals.proofs.Tails.{tail_fits}
+use Rattle.definition_inline.proofs.InlineSizes.{tail_fits}
 
 -- the bytes up to what ends a literal are codes
 record IsRun (xs : List ℕ) : Type 0 where

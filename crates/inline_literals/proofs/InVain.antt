@@ -14,7 +14,8 @@ use Rattle.inline_leaves.proofs.Codes.{plain_code}
 use Rattle.inline_literals.specs.Literals.{begins_domain, begins_name, domain_size, is_in_reference, is_kept, size_after, HasLowLineAt}
 use Rattle.inline_literals.proofs.Found.{name_plain}
 use Rattle.inline_literals.proofs.Names.{drop_backwards, no_return, not_counted, run_ends, run_goes_on}
-use Rattle.inline_literals.proofs.Tails.{kept_before, kept_last, tail_fits, tail_front}
+use Rattle.definition_inline.proofs.InlineSizes.{tail_fits}
+use Rattle.inline_literals.proofs.Tails.{kept_before, kept_last, tail_front}
 
 -- how many bytes a name has
 abbrev pub name_length : List ℕ → ℕ

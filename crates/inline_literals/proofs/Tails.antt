@@ -9,15 +9,8 @@ use Rattle.std.proofs.lemmas.List.Sums.{prefix_len-le-length}
 use Rattle.std.proofs.lemmas.List.Folds.{prefix_len-append}
 use Rattle.definition_text.specs.Bytes.{is_letter_or_digit, begins_with}
 use Rattle.definition_inline.specs.GfmAutolinkLiteral.{count_of, is_trailing, is_cut, name_size, cut_more, without_tail}
+use Rattle.definition_inline.proofs.InlineSizes.{tail_fits}
 use Rattle.inline_literals.proofs.Names.{not_counted, tail_skipped}
-
-pub tail_fits : (k : ℕ) (bs : List ℕ) → length (without_tail k bs) ≤ length bs
-tail_fits zero [] = omega arith
-tail_fits (suc k) [] = omega arith
-tail_fits zero (c ∷ cs) =
-    cond_both (is_cut c cs) (without_tail (cut_more c cs) cs) (c ∷ cs) (λ (l : List ℕ). length l ≤ length (c ∷ cs))
-    (λ _. omega (arith, tail_fits (cut_more c cs) cs)) (λ _. omega arith)
-tail_fits (suc k) (c ∷ cs) = omega (arith, tail_fits k cs)
 
 -- ---- where it doesn't matter what stands further back
 
