@@ -1,6 +1,6 @@
 //! Texts and their pages, written as one text.
-ghost use Rattle.std.specs.Prelude.{◌≡◌, ◌++◌, IfOk, IfSome};
-ghost use Rattle.tests_helpers.specs.Pages.{row_bytes, pages_bytes};
+ghost use Rattle.std.specs.Prelude.{◌≡◌, ◌<◌, ◌∷◌, ◌++◌, [], IfOk, IfSome, length};
+ghost use Rattle.tests_helpers.specs.Pages.{between_marks, row_texts, rows_texts};
 
 use markdown::RunError;
 use std::alloc::{AllocError, Global};
@@ -19,7 +19,8 @@ macro_rules! pages {
 
 /// The row that pages begin with, a text and its page, and what follows it.
 fn first_row(pages: &str) -> Option<((&str, &str), &str)>
-    ensures { IfSome result (λ it. pages.now ≡ row_bytes it.0 ++ it.1.now) }
+    ensures row { IfSome result (λ it. between_marks pages.now ≡ row_texts it.0 ++ between_marks it.1.now) }
+    ensures shorter { IfSome result (λ it. length it.1.now < length pages.now) }
 {
     let (text, after) = pages.split_once(MARK)?;
     let (page, rest) = after.split_once(MARK)?;
@@ -31,7 +32,7 @@ fn read_rows<'a>(
     alloc: Global,
     pages: &'a str,
 ) -> Result<Option<Vec<(&'a str, &'a str)>>, AllocError>
-    ensures { IfOk result (λ found. IfSome found (λ rows. pages_bytes rows.items ≡ pages.now)) }
+    ensures { IfOk result (λ found. IfSome found (λ rows. between_marks pages.now ≡ rows_texts rows.items ++ [] ∷ [])) }
 {
     let mut rows = Vec::new(alloc);
     let mut rest = pages;
@@ -42,9 +43,10 @@ fn read_rows<'a>(
     Ok(if rest.is_empty() { Some(rows) } else { None })
 }
 
-/// The rows of texts and pages that `pages!` wrote: all of them, in order. `Read` where something is left that is no row.
+/// The rows of texts and pages that `pages!` wrote: what stands between the marks, two and two. `Read` where
+/// something is left that is no row.
 pub fn rows_of<'a>(alloc: Global, pages: &'a str) -> Result<Vec<(&'a str, &'a str)>, RunError>
-    ensures { IfOk result (λ rows. pages_bytes rows.items ≡ pages.now) }
+    ensures { IfOk result (λ rows. between_marks pages.now ≡ rows_texts rows.items ++ [] ∷ []) }
 {
     match read_rows(alloc, pages) {
         Ok(Some(rows)) => Ok(rows),
