@@ -18,7 +18,7 @@ use crate::transfer::{RunError, run, write_all};
 use crate::watched::Watched;
 use markdown_options::{Options, Tables};
 use markdown_settings::{Settings, SettingsError, settings};
-use markdown_tables::{Builtin, Rows, RowsError};
+use markdown_tables::{Builtin, Rows};
 use std::alloc::Global;
 use std::fs;
 use std::io::{self, ErrorKind, Read, Write};
