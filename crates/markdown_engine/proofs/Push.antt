@@ -406,6 +406,15 @@ flushed view step to old new s r p (inr h) =
     ]
 
 -- what else the tokenizer holds doesn't matter
+pub flushed_as : {M V T A : Type 0} (view : M → V) (text : Text) (step : Steps V) (s : State) (old new later : Tokenizer M T A) (r : State)
+    → view_config view later ≡ view_config view new → IsRefused r ⊎ HasFlushed view text step s old new r → IsRefused r ⊎ HasFlushed view text step s old later r
+flushed_as view text step s old new later r e (inl h) = inl h
+flushed_as {V = V} view text step s old new later r e (inr h) = inr (record {
+  well = h.well;
+  state = h.state;
+  outcome = subst (λ (z : Config V). Outcome text step old.attempts.items (view_config view old) [] s z h.well) (sym e) h.outcome;
+})
+
 pub pushed_as : {M V T A : Type 0} (view : M → V) (steps : Context T → Steps V) (x y : Context T) (to : ℕ
     × ℕ) (end : Bool) (s : State) (old new later : Tokenizer M T A) (r : State) → x ≡ y → view_config view later ≡ view_config view new
     → later.attempts.items ≡ new.attempts.items → Around new later

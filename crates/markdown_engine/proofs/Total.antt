@@ -92,3 +92,10 @@ module _ {M : Type 0} (size : ℕ) (valid : HoldsAt M) (step : Steps M) (rank : 
   -- with nothing that waits, it is read
   pub has_run : (c : Config M) (s : State) → valid c [] s → HasRun text step c s
   has_run c s h = run_of text step c s (has_outcome c [] s h)
+
+-- whatever holds is read to the end of the bytes
+pub has_whole_run : {M : Type 0} (s : Source) (valid : HoldsAt M) (step : Steps M) (rank : RanksAt M) → LawfulAt (length s.bytes) valid step rank
+    → (c : Config M) (state : State) → valid c [] state → HasRun (text_to s (length s.bytes, 0)) step c state
+has_whole_run s valid step rank lawful c state h =
+    let size = length s.bytes in
+    has_run size valid step rank lawful (text_to s (size, 0)) (feeds_to s (size, 0) (omega arith) (λ e. refl)) c state h

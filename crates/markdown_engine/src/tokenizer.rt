@@ -186,6 +186,7 @@ impl<'a, M, T, A: Allocator + Clone> Tokenizer<'a, M, T, A> {
         ensures skips { OnOk result (self.new.skips.entries ≡
             insert_entry nat_cmp self.old.skips.entries (line_start self.old.parse_state.now.bytes.now point.index) point) }
         ensures err { OnErr result (self.new.skips.entries ≡ self.old.skips.entries) }
+        ensures end { self.new.end ≡ self.old.end }
         ensures config { config self.new ≡ config self.old }
         ensures attempts { KeepsAttempts self.old self.new }
         ensures parse_state { KeepsParseState self.old self.new }
@@ -522,33 +523,47 @@ impl<'a, M: Machine<T>, T: Tables, A: Allocator> Tokenizer<'a, M, T, A> {
             self.old.attempts.items state }
         ensures whole { IsWholeUnlessRefused self.new result }
         ensures failed { IsRefused result → HasFailed self.new }
+        ensures refused { HasFailed self.new → IsRefused result }
     {
-        self.read(to, true, state)
+        let last = self.read(to, true, state);
+        self.failed = matches!(last, State::Error(_));
+        last
     }
 
-    /// Reads a text at once.
+    /// Reads a text at once. Once memory was refused, an error is answered.
     pub fn read_at_once(&mut self, state: State) -> State
         requires fresh { NothingWaits self.old }
         requires valid { IsValidAlone M.seen (M.valid (read_with self.old)) self.old state }
         ensures reads { IsRefused result ⊎ ReadWhole M.seen (source self.old) (M.step (read_with self.old)) state self.old self.new result }
         ensures total { HasRun (text_to (source self.old) (length (bytes_of self.old), 0)) (M.step (read_with self.old)) (view_config M.seen self.old) state }
         ensures whole { IsWholeUnlessRefused self.new result }
+        ensures stays { HasFailed self.old → HasFailed self.new }
         ensures failed { IsRefused result → HasFailed self.new }
+        ensures refused { HasFailed self.new → IsRefused result }
     {
+        if self.failed {
+            return State::out_of_memory();
+        }
         let to = (self.parse_state.bytes.len(), 0);
         self.finish(to, state)
     }
 
     /// Reads a text in ranges, cut anywhere, inside of a tab or a line ending, too: each ends at one
-    /// of these places, an index and a column of a tab there, and the last at the text's end.
+    /// of these places, an index and a column of a tab there, and the last at the text's end. Once
+    /// memory was refused, an error is answered.
     pub fn read_in_ranges(&mut self, cuts: &[(usize, usize)], state: State) -> State
         requires cuts { AreCuts (0, 0) cuts.now (length (bytes_of self.old)) }
         requires fresh { NothingWaits self.old }
         requires valid { IsValidAlone M.seen (M.valid (read_with self.old)) self.old state }
         ensures reads { IsRefused result ⊎ ReadWhole M.seen (source self.old) (M.step (read_with self.old)) state self.old self.new result }
         ensures whole { IsWholeUnlessRefused self.new result }
+        ensures stays { HasFailed self.old → HasFailed self.new }
         ensures failed { IsRefused result → HasFailed self.new }
+        ensures refused { HasFailed self.new → IsRefused result }
     {
+        if self.failed {
+            return State::out_of_memory();
+        }
         let mut next = state;
         for cut in cuts {
             next = self.read(*cut, false, next);
@@ -568,7 +583,8 @@ impl<'a, M: Machine<T>, T: Tables, A: Allocator + Clone> Tokenizer<'a, M, T, A> 
     ghost use Rattle.markdown_engine.specs.VirtualText.{line_start, with_skip};
 
     /// Reads a text in two ranges, the second of which is read from a later place of its line: what
-    /// is read is the text that skips the line's start.
+    /// is read is the text that skips the line's start. Once memory was refused, an error is
+    /// answered.
     pub fn read_in_lines(&mut self, cut: usize, point: Point, state: State) -> State
         requires cut { cut < length (bytes_of self.old) }
         requires within { point.index ≤ length (bytes_of self.old) }
@@ -577,8 +593,13 @@ impl<'a, M: Machine<T>, T: Tables, A: Allocator + Clone> Tokenizer<'a, M, T, A> 
         requires valid { IsValidAlone M.seen (M.valid (read_with self.old)) self.old state }
         ensures reads { IsRefused result ⊎ ReadWhole M.seen (with_skip (source self.old) point) (M.step (read_with self.old)) state self.old self.new result }
         ensures whole { IsWholeUnlessRefused self.new result }
+        ensures stays { HasFailed self.old → HasFailed self.new }
         ensures failed { IsRefused result → HasFailed self.new }
+        ensures refused { HasFailed self.new → IsRefused result }
     {
+        if self.failed {
+            return State::out_of_memory();
+        }
         let first = self.read((cut, 0), false, state);
         if let State::Error(_) = first {
             return first;

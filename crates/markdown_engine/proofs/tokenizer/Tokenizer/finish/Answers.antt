@@ -2,17 +2,22 @@ use Rattle.std.proofs.Common.{refl, length, inl, inr}
 use Rattle.markdown_engine.specs.Machine.{view_config, read_with, source}
 use Rattle.markdown_engine.specs.VirtualText.{text_to}
 use Rattle.markdown_engine.proofs.Order.{read_whole}
-use Rattle.markdown_engine.proofs.Push.{ended_valid, flushed}
+use Rattle.markdown_engine.proofs.Push.{ended_valid, flushed, flushed_as}
 use Rattle.markdown_engine.proofs.Total.{feeds_to, has_outcome}
 use Rattle.markdown_engine.proofs.tokenizer.Tokenizer.finish.Goals as goal
 
 pub returns-clause-reads : goal.returns-clause-reads
-returns-clause-reads g c = flushed g.M.Machine.seen (g.M.Machine.step (read_with c.args.self.now)) c.args.to c.args.self.now c.read.new.self c.args.state
-    c.read.result c.read.ensures.reads (c.read.ensures.ends refl)
+returns-clause-reads g c =
+    let old = c.args.self.now in
+    let step = g.M.Machine.step (read_with old) in
+    let new = c.read-last.new.self in
+    let r = c.read-last.result in
+    flushed_as g.M.Machine.seen (text_to (source old) c.args.to) step c.args.state old new (record new { failed = c.match-matches.self }) r refl
+    (flushed g.M.Machine.seen step c.args.to old new c.args.state r c.read-last.ensures.reads (c.read-last.ensures.ends refl))
 
 pub returns-clause-valid : goal.returns-clause-valid
-returns-clause-valid g c = ended_valid g.M.Machine.seen (g.M.Machine.valid (read_with c.args.self.now)) c.read.new.self c.read.result
-    (c.read.ensures.ends refl) c.read.ensures.valid
+returns-clause-valid g c = ended_valid g.M.Machine.seen (g.M.Machine.valid (read_with c.args.self.now)) c.read-last.new.self c.read-last.result
+    (c.read-last.ensures.ends refl) c.read-last.ensures.valid
 
 pub returns-clause-total : goal.returns-clause-total
 returns-clause-total g c =
@@ -30,4 +35,4 @@ pub returns-clause-whole : goal.returns-clause-whole
 returns-clause-whole g c =
     let x = read_with c.args.self.now in
     read_whole g.M.Machine.seen (length x.bytes) (g.M.Machine.valid x) (g.M.Machine.step x) (g.M.Machine.rank x)
-    (g.met.M.Machine.lawful x) c.read.new.self c.read.result c.read.ensures.valid (c.read.ensures.ends refl)
+    (g.met.M.Machine.lawful x) c.read-last.new.self c.read-last.result c.read-last.ensures.valid (c.read-last.ensures.ends refl)

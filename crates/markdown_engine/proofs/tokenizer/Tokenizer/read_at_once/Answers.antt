@@ -1,8 +1,6 @@
-use Rattle.std.proofs.Common.{length, refl, arith}
 use Rattle.markdown_engine.specs.Machine.{view_config, read_with, source}
-use Rattle.markdown_engine.specs.VirtualText.{text_to}
 use Rattle.markdown_engine.proofs.Push.{at_once}
-use Rattle.markdown_engine.proofs.Total.{feeds_to, has_run}
+use Rattle.markdown_engine.proofs.Total.{has_whole_run}
 use Rattle.markdown_engine.proofs.tokenizer.Tokenizer.read_at_once.Goals as goal
 
 pub returns-clause-reads : goal.returns-clause-reads
@@ -13,7 +11,12 @@ pub returns-clause-total : goal.returns-clause-total
 returns-clause-total g c =
     let old = c.args.self.now in
     let x = read_with old in
-    let size = length old.parse_state.now.bytes.now in
-    has_run size (g.M.Machine.valid x) (g.M.Machine.step x) (g.M.Machine.rank x) (g.met.M.Machine.lawful x)
-    (text_to (source old) (size, 0)) (feeds_to (source old) (size, 0) (omega arith) (λ e. refl))
-    (view_config g.M.Machine.seen old) c.args.state c.requires.valid
+    has_whole_run (source old) (g.M.Machine.valid x) (g.M.Machine.step x) (g.M.Machine.rank x) (g.met.M.Machine.lawful x) (view_config g.M.Machine.seen old)
+    c.args.state c.requires.valid
+
+pub returns-then-self-clause-total : goal.returns-then-self-clause-total
+returns-then-self-clause-total g c =
+    let old = c.args.self.now in
+    let x = read_with old in
+    has_whole_run (source old) (g.M.Machine.valid x) (g.M.Machine.step x) (g.M.Machine.rank x) (g.met.M.Machine.lawful x) (view_config g.M.Machine.seen old)
+    c.args.state c.requires.valid

@@ -26,7 +26,13 @@ finish-requires g c =
     }
 
 pub returns-then-is_err : goal.returns-then-is_err
-returns-then-is_err g c = record { reads = inl c.out_of_memory.ensures; whole = inl c.out_of_memory.ensures; failed = λ r. refl }
+returns-then-is_err g c = record {
+  reads = inl c.out_of_memory-then-is_err.ensures;
+  whole = inl c.out_of_memory-then-is_err.ensures;
+  stays = λ h. refl;
+  failed = λ r. refl;
+  refused = λ h. c.out_of_memory-then-is_err.ensures;
+}
 
 pub returns-in-Error-clause-whole : goal.returns-in-Error-clause-whole
 returns-in-Error-clause-whole g c =

@@ -35,7 +35,13 @@ returns-in-Error g c =
     let x = read_with t in
     let refused = only_memory (length x.bytes) (g.M.Machine.valid x) (g.M.Machine.step x) (g.met.M.Machine.lawful x).keeps
     (view_config g.M.Machine.seen u) u.attempts.items c.read-next.result _ c.in-Error.is c.read-next.ensures.valid in
-    record { reads = inl refused; whole = inl refused; failed = c.read-next.ensures.failed }
+    record {
+      reads = inl refused;
+      whole = inl refused;
+      stays = λ h. c.read-next.ensures.failed refused;
+      failed = c.read-next.ensures.failed;
+      refused = λ h. refused;
+    }
 
 pub finish-requires : goal.finish-requires
 finish-requires g c =
