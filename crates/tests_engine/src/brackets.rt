@@ -186,6 +186,7 @@ pub fn read_both_ways<T: Tables, A: Allocator + Clone>(
     cuts: &[(usize, usize)],
 ) -> Result<(Vec<Event, A>, Vec<Event, A>), Message>
     requires { AreCuts (0, 0) cuts.now (length parse_state.now.bytes.now) }
+    ensures reads { IfOk result (λ both. IsBracketsReading parse_state.now.bytes.now machine both.0.items) }
     ensures same { IfOk result (λ both. both.0.items ≡ both.1.items) }
     ensures memory { IfErr result IsOutOfMemory }
 {
