@@ -2,6 +2,7 @@ use crate::compare::assert_same;
 use engine_events::event::Name;
 use engine_events::place::START;
 use engine_events::{Event, Kind, Point};
+use engine_text::bytes::{code_after, code_before, first_code, goes_on, part, width};
 use engine_text::char::{
     Kind as CharacterKind, after_index, before_index, classify, classify_opt, format, format_byte,
     format_byte_opt, format_opt, kind_after_index,
@@ -198,4 +199,25 @@ fn indices_cut_no_tabs(rt: HostRuntime) {
         &Slice::from_indices(text.as_bytes(), 0, 3).as_str(),
         &"aé",
     );
+}
+
+#[test]
+fn characters_of_bytes_are_found(rt: HostRuntime) {
+    let bytes = b"a\xC3\xA9\xFF";
+    for (index, before, after) in [
+        (0, None, Some('a')),
+        (1, Some('a'), Some('é')),
+        (2, None, None),
+        (3, Some('é'), None),
+        (4, None, None),
+        (5, None, None),
+    ] {
+        assert_same(&rt, &code_before(bytes, index), &before);
+        assert_same(&rt, &code_after(bytes, index), &after);
+    }
+    assert_same(&rt, &part(bytes, 1, 2), &"é".as_bytes());
+    assert_same(&rt, &first_code("é".as_bytes()), &Some('é'));
+    assert_same(&rt, &first_code(bytes), &None);
+    assert_same(&rt, &(width(b'a'), width(0xC3)), &(1, 2));
+    assert_same(&rt, &(goes_on(0xC3), goes_on(0xA9)), &(false, true));
 }
