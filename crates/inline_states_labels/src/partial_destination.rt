@@ -1,9 +1,11 @@
 //! Destinations of definitions and resources (CommonMark 4.7 and 6.3).
 //!
 //! ```text
-//! destination ::= '<' *(byte - line_ending - '<' - '>' | '\\' byte) '>' | raw
-//! raw ::= 1*(byte - control - ' ' - '\\' - '(' - ')' | '\\' byte | '(' [raw] ')'), not beginning with '<'
+//! destination ::= '<' *(byte - line_ending - '<' - '>' - '\\' | '\\' ['<' | '>' | '\\']) '>' | raw, not beginning with '<'
+//! raw ::= 1*(byte - control - ' ' - '\\' - '(' - ')' | '\\' ['(' | ')' | '\\'] | '(' [raw] ')')
 //! ```
+//!
+//! A backslash takes the byte after it if it can.
 //!
 //! The caller names the events: the destination; a literal, its markers; a raw one; the text. `size_b` is
 //! how many parentheses may be open at once.
