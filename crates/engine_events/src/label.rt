@@ -15,7 +15,7 @@ pub struct LabelStart {
     pub kind: LabelKind,
     /// The indices of the events that enter and exit the start.
     pub start: (usize, usize),
-    /// Whether a link was formed after it, so that it can't form one itself.
+    /// Always false: `TokenizeState::start` tells which starts are inactive.
     pub inactive: bool,
 }
 
