@@ -1,4 +1,4 @@
--- Each chunk of a chain replaced by the child events up to and at its end that come after the last chunk's end.
+-- Each chunk of a chain replaced by the child events up to and at its end that come after the end of the chunk before.
 use Rattle.std.specs.Prelude.{ℕ, ◌+◌, ◌-◌, false, List, [], ◌∷◌, ◌++◌, map, take, drop}
 use Rattle.engine_events.specs.declared.event.Event.{Event}
 use Rattle.engine_edits.specs.Edits.{EditAt, with_edit}

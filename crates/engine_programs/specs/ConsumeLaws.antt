@@ -171,7 +171,8 @@ module _ {M : Type 0} where
         let p = and_parts _ _ h in
         either_way (ConsumesOnce c) (t d) (run a d) (run b d) (λ e. run_once a n z c d p.0 i) (λ e. run_once b n z c d p.1 i)
 
--- next comes a byte after exactly one was consumed, and the same byte after none; at the end at most one was
+-- next comes a byte after exactly one was consumed, and the same byte after none; a state that ends consumes at most one, and at the text's end none is
+-- consumed
 pub program_consumes : {M : Type 0} (sorts : Name → Sort) (most size : ℕ) (bodies : Name → Body M) → ((n : Name) → fits sorts most n (bodies n) ≡ true)
     → ConsumesAt (program_valid sorts most size) (step_by bodies)
 unfolding ConsumesOnce Once

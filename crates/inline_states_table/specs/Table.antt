@@ -17,6 +17,38 @@ pub record Row : Type 0 where
 abbrev pub of_group : Group → Sort → Row
 of_group g s = record { group = g; sort = s }
 
+-- ---- what is open
+
+abbrev pub html_tokens : List Token
+html_tokens = FixedName names.HtmlTextData ∷ FixedName names.HtmlText ∷ []
+
+abbrev pub reference_tokens : List Token
+reference_tokens = FixedName names.CharacterReference ∷ []
+
+abbrev pub address_tokens : List Token
+address_tokens = FixedName names.AutolinkProtocol ∷ FixedName names.Autolink ∷ []
+
+abbrev pub raw_tokens : List Token
+raw_tokens = HeldName 1 ∷ []
+
+abbrev pub check_tokens : List Token
+check_tokens = FixedName names.GfmTaskListItemCheck ∷ []
+
+abbrev pub label_tokens : List Token
+label_tokens = HeldName 3 ∷ HeldName 1 ∷ []
+
+abbrev pub title_tokens : List Token
+title_tokens = HeldName 3 ∷ HeldName 1 ∷ []
+
+abbrev pub enclosed_tokens : List Token
+enclosed_tokens = HeldName 2 ∷ HeldName 1 ∷ []
+
+abbrev pub resource_tokens : List Token
+resource_tokens = FixedName names.Resource ∷ []
+
+abbrev pub raw_destination_tokens : List Token
+raw_destination_tokens = FixedName names.Data ∷ HeldName 5 ∷ HeldName 4 ∷ HeldName 1 ∷ []
+
 -- ---- sorts
 
 abbrev pub base : List Token → ℕ → Sort
@@ -56,9 +88,6 @@ abbrev pub resumes : Sort → Sort
 resumes s = record s { after = true }
 
 -- the same, in data of HTML that the attempt left open
-abbrev pub html_tokens : List Token
-html_tokens = FixedName names.HtmlTextData ∷ FixedName names.HtmlText ∷ []
-
 abbrev pub in_html : ℕ → Sort
 in_html height = record (base html_tokens height) { given = 1; after = true; exits = false }
 
@@ -77,35 +106,6 @@ in_data open_tokens height = record (base open_tokens height) { sure = true }
 -- a look ahead, that may end where it begins
 abbrev pub ahead : ℕ → Sort
 ahead height = record (first height) { yields = false; firm = false }
-
--- ---- what is open
-
-abbrev pub reference_tokens : List Token
-reference_tokens = FixedName names.CharacterReference ∷ []
-
-abbrev pub address_tokens : List Token
-address_tokens = FixedName names.AutolinkProtocol ∷ FixedName names.Autolink ∷ []
-
-abbrev pub raw_tokens : List Token
-raw_tokens = HeldName 1 ∷ []
-
-abbrev pub check_tokens : List Token
-check_tokens = FixedName names.GfmTaskListItemCheck ∷ []
-
-abbrev pub label_tokens : List Token
-label_tokens = HeldName 3 ∷ HeldName 1 ∷ []
-
-abbrev pub title_tokens : List Token
-title_tokens = HeldName 3 ∷ HeldName 1 ∷ []
-
-abbrev pub enclosed_tokens : List Token
-enclosed_tokens = HeldName 2 ∷ HeldName 1 ∷ []
-
-abbrev pub resource_tokens : List Token
-resource_tokens = FixedName names.Resource ∷ []
-
-abbrev pub raw_destination_tokens : List Token
-raw_destination_tokens = FixedName names.Data ∷ HeldName 5 ∷ HeldName 4 ∷ HeldName 1 ∷ []
 
 abbrev pub inline_row : InlineName → Row
 -- attention

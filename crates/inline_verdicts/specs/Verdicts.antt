@@ -13,7 +13,7 @@ use Rattle.inline_states.specs.declared.inlines.Inlines.{Inlines}
 use Rattle.inline_states.specs.Inlines.{bodies}
 use Rattle.inline_codes.specs.Codes.{Sees}
 
--- these events were added, this is kept, and reading is at this place; of what else stays once an attempt went well nothing has changed
+-- these events were added, this is kept, and reading is at this place; and neither edits nor resolvers were added
 pub record Leaves (c d : Config Inlines) (keeps : KeptState) (added : List Event) (p : Point) : Type 0 where
   pub events : d.events ≡ c.events ++ added
   pub point : d.point ≡ p

@@ -123,7 +123,8 @@ abbrev pub BeginAround : {M : Type 0} → Config M → List (Frame M) → Type 0
 BeginAround c [] = Unit {0}
 BeginAround c (f ∷ fs) = MayConsume c f.start × MovesOn f.ok × MovesOn f.nok × BeginAround c fs
 
--- next comes a byte after exactly one was consumed, and the same byte after none; at the end none is consumed
+-- next comes a byte after exactly one was consumed, and the same byte after none; a state that ends consumes at most one, and at the text's end none is
+-- consumed
 abbrev pub ConsumesAt : {M : Type 0} → HoldsAt M → Steps M → Type 0
 ConsumesAt {M} valid step = (c : Config M) (stack : List Attempt) (n : Name) → valid c stack (states.Retry n) → let e = step c n in
     Consumes e.state c e.config × BeginAround c e.pushed
