@@ -1,6 +1,7 @@
 //! Email addresses among data, outside of links and calls (GFM 6.9).
 ghost use Rattle.std.specs.Prelude.{◌≡◌, ◌==◌, ◌<◌, ◌^◌, ◌+◌, [], OnOk, IfOk, IfErr, length, slice_get};
 ghost use Rattle.std.specs.List.{list_any};
+ghost use Rattle.definition_text.specs.Ascii.{at_sign};
 ghost use Rattle.markdown_options.specs.Messages.{IsOutOfMemory};
 ghost use Rattle.inline_leaves.specs.Leaves.{kind_view};
 ghost use Rattle.engine_edits.specs.Edits.{edits_of};
@@ -139,7 +140,7 @@ fn is_data_at(events: &[Event], index: usize) -> bool
 
 /// Whether there is an `@`.
 fn has_at_sign(run: &[u8]) -> bool
-    ensures { result ≡ list_any (λ b. b == 64) run.now }
+    ensures { result ≡ list_any (λ b. b == at_sign) run.now }
 {
     run.contains(&b'@')
 }

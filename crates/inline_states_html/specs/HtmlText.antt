@@ -183,10 +183,10 @@ module _ {M : Type 0} where
       (On (λ b. b == line_feed) (html_text_line inline_states.HtmlTextTagOpenAttributeValueBefore)
       (On (λ b. (b == tab) || (b == space)) (Consume (Answer (next inline_states.HtmlTextTagOpenAttributeValueBefore)))
       (On (λ b. b == double_quote)
-      (Keep (λ c. record c.tokenize_state { marker = 34 }) (λ c i. refl)
+      (Keep (λ c. record c.tokenize_state { marker = double_quote }) (λ c i. refl)
       (Consume (Answer (next inline_states.HtmlTextTagOpenAttributeValueQuoted))))
       (On (λ b. b == single_quote)
-      (Keep (λ c. record c.tokenize_state { marker = 39 }) (λ c i. refl)
+      (Keep (λ c. record c.tokenize_state { marker = single_quote }) (λ c i. refl)
       (Consume (Answer (next inline_states.HtmlTextTagOpenAttributeValueQuoted))))
       (Consume (Answer (next inline_states.HtmlTextTagOpenAttributeValueUnquoted))))))))
 

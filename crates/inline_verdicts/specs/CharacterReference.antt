@@ -5,7 +5,7 @@
 --     numeric ::= '#' (1*7digit | ('x' | 'X') 1*6hexadecimal_digit)
 use Rattle.std.specs.Prelude.{◌≡◌, ℕ, ◌<◌, ◌≤◌, Bool, true, false, ◌==◌, ◌||◌, List, [], ◌∷◌, ◌++◌, drop, Option, None, Some}
 use Rattle.std.specs.Char.{is_ascii_alphanumeric, is_ascii_digit, is_ascii_hexdigit}
-use Rattle.definition_text.specs.Ascii.{ampersand, capital_x, small_x}
+use Rattle.definition_text.specs.Ascii.{ampersand, capital_x, number_sign, semicolon, small_x}
 use Rattle.definition_inline.specs.CharacterReference.{reference_at}
 use Rattle.definition_inline.specs.Inline.{Leaf}
 use Rattle.engine_events.specs.Events.{event}
@@ -43,17 +43,17 @@ pub record IsValue (text : Text) (is : ℕ → Bool) (most size : ℕ) (from to 
   pub some : 0 < size
   pub few : size ≤ most
   pub value : Stretch text is size from to
-  pub semicolon : text.byte (text.start to) ≡ Some (as_byte 59 end)
+  pub semicolon : text.byte (text.start to) ≡ Some (as_byte semicolon end)
 
 -- these are the events of a reference after whose `&` is a place, with the byte that tells its kind and the size of its value
 pub data IsReference (text : Text) (p q : Point) : ℕ → ℕ → List Event → Point → Type 0 where
   named : {size : ℕ} {to end : Point} → IsValue text is_ascii_alphanumeric 31 size q to end
-      → IsReference text p q 38 size (reference_events p q [] (text.start q) (text.start to) end) end
-  decimal : {size : ℕ} {r to end : Point} → text.byte (text.start q) ≡ Some (as_byte 35 r) → IsValue text is_ascii_digit 7 size r to end
-      → IsReference text p q 35 size (reference_events p q (numeric_events (text.start q) r) (text.start r) (text.start to) end) end
-  hexadecimal : {b size : ℕ} {r s to end : Point} → text.byte (text.start q) ≡ Some (as_byte 35 r) → ((b == small_x) || (b == capital_x)) ≡ true
+      → IsReference text p q ampersand size (reference_events p q [] (text.start q) (text.start to) end) end
+  decimal : {size : ℕ} {r to end : Point} → text.byte (text.start q) ≡ Some (as_byte number_sign r) → IsValue text is_ascii_digit 7 size r to end
+      → IsReference text p q number_sign size (reference_events p q (numeric_events (text.start q) r) (text.start r) (text.start to) end) end
+  hexadecimal : {b size : ℕ} {r s to end : Point} → text.byte (text.start q) ≡ Some (as_byte number_sign r) → ((b == small_x) || (b == capital_x)) ≡ true
       → text.byte (text.start r) ≡ Some (as_byte b s) → IsValue text is_ascii_hexdigit 6 size s to end
-      → IsReference text p q 120 size (reference_events p q (hexadecimal_events (text.start q) r (text.start r) s) s (text.start to) end) end
+      → IsReference text p q small_x size (reference_events p q (hexadecimal_events (text.start q) r (text.start r) s) s (text.start to) end) end
 
 -- what is kept once a reference was read
 abbrev pub referring : ℕ → ℕ → KeptState → KeptState

@@ -38,7 +38,7 @@ pub data Pieces (text : Text) (given : SpanNames) (marker size : ℕ) : Point �
   run : {n : ℕ} {p q r : Point} {events : List Event} → 0 < n → (n == size) ≡ false → Stretch text (λ b. b == marker) n p q
       → Pieces text given marker size q events r
       → Pieces text given marker size p (piece given.sequence (text.start p) (text.start q) events) r
-  ending : {p q r : Point} {events : List Event} → text.byte (text.start p) ≡ Some (as_byte 10 q) → Pieces text given marker size q events r
+  ending : {p q r : Point} {events : List Event} → text.byte (text.start p) ≡ Some (as_byte line_feed q) → Pieces text given marker size q events r
       → Pieces text given marker size p (piece names.LineEnding (text.start p) q events) r
   others : {n : ℕ} {p q r : Point} {events : List Event} → 0 < n → Stretch text (is_other marker) n p q → Pieces text given marker size q events r
       → Pieces text given marker size p (piece given.content (text.start p) (text.start q) events) r
