@@ -117,3 +117,7 @@ pub record Text : Type 0 where
 -- the virtual text up to an index and a column of a tab there
 abbrev pub text_to : Source → ℕ × ℕ → Text
 text_to s to = record { start = place_in s.skips; byte = byte_before s.bytes to }
+
+-- all of a text of which nothing is skipped
+abbrev pub whole_text : List ℕ → Text
+whole_text bytes = text_to (without_skips bytes) (length bytes, 0)

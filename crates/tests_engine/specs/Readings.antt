@@ -1,5 +1,5 @@
 -- What reading a text by a machine gives.
-use Rattle.std.specs.Prelude.{◌≡◌, ℕ, Bool, List, [], length, MatchOption, Option}
+use Rattle.std.specs.Prelude.{◌≡◌, ℕ, Bool, List, [], MatchOption, Option}
 use Rattle.engine_events.specs.declared.event.Content.{Content}
 use Rattle.engine_events.specs.declared.event.Event.{Event}
 use Rattle.engine_events.specs.declared.state.Name.{Name}
@@ -11,17 +11,13 @@ use Rattle.markdown_engine.specs.Machine.{fresh_config}
 use Rattle.markdown_engine.specs.Order.{text_start}
 use Rattle.markdown_engine.specs.Reading.{Config, Runs, Steps}
 use Rattle.markdown_engine.specs.Resolving.{Resolves, found_in}
-use Rattle.markdown_engine.specs.VirtualText.{Text, text_to, without_skips}
-
--- all of a text
-abbrev pub text_of : List ℕ → Text
-text_of bytes = text_to (without_skips bytes) (length bytes, 0)
+use Rattle.markdown_engine.specs.VirtualText.{whole_text}
 
 -- these are the events of the one reading of a text, from a state on
 pub record IsReading {M : Type 0} (step : Steps M) (first : Name) (bytes : List ℕ) (machine : M) (events : List Event) : Type 0 where
   pub config : Config M
   pub well : Bool
-  pub runs : Runs (text_of bytes) step (fresh_config text_start machine) [] (states.Next first) config well
+  pub runs : Runs (whole_text bytes) step (fresh_config text_start machine) [] (states.Next first) config well
   pub read : events ≡ config.events
 
 -- the chains that are asked for were read where they can be; otherwise the events are left

@@ -17,9 +17,9 @@ use Rattle.markdown_engine.specs.Machine.{fresh_config, to_run_last}
 use Rattle.markdown_engine.specs.Order.{AreWhole, text_start}
 use Rattle.markdown_engine.specs.Reading.{Config, Runs, Steps}
 use Rattle.markdown_engine.specs.Resolving.{FoundLabels, ResolverResult, resolve_all}
+use Rattle.markdown_engine.specs.VirtualText.{whole_text}
 use Rattle.tests_engine.specs.declared.wrapped.Wrapped.{Wrapped}
 use Rattle.tests_engine.specs.EachByte.{HoldsEach, each_byte}
-use Rattle.tests_engine.specs.Readings.{text_of}
 use Rattle.tests_engine.specs.Letters.{IsBetween, round_byte}
 
 -- the resolver is registered
@@ -82,6 +82,6 @@ wrapped_start = states.Next (Inline DataInside)
 -- these are the events of the one reading of a text, resolved, and what was found in it
 pub record IsWrapped (bytes : List ℕ) (machine : Wrapped) (events : List Event) (found : FoundLabels) : Type 0 where
   pub read : Config Wrapped
-  pub runs : Runs (text_of bytes) wrapped_step (fresh_config text_start machine) [] wrapped_start read true
+  pub runs : Runs (whole_text bytes) wrapped_step (fresh_config text_start machine) [] wrapped_start read true
   pub are : events ≡ (resolve_all wraps_all read).config.events
   pub labels : found ≡ (resolve_all wraps_all read).found

@@ -11,12 +11,11 @@ use Rattle.markdown_engine.specs.Machine.{Around, Begins, HasCompleted, GoesAll,
 use Rattle.markdown_engine.specs.Order.{text_start}
 use Rattle.markdown_engine.specs.Reading.{Config, Frame, Outcome, Runs, ends-ok, ends-nok, next, retry, first, second, feed, hand_on, at_point}
 use Rattle.markdown_engine.specs.Resolving.{FoundLabels, found_in, nothing_found, resolve_each}
-use Rattle.markdown_engine.specs.VirtualText.{Source, Text, place_in, text_to, without_skips}
+use Rattle.markdown_engine.specs.VirtualText.{Source, Text, place_in, text_to, whole_text, without_skips}
 use Rattle.markdown_engine.proofs.Push.{around, at_outcome, same_goes_on, unless_refused, whole_run}
 use Rattle.markdown_engine.proofs.Starts.{before}
 use Rattle.tests_engine.specs.declared.wrapped.Wrapped.{Wrapped}
 use Rattle.tests_engine.specs.EachByte.{at_byte}
-use Rattle.tests_engine.specs.Readings.{text_of}
 use Rattle.tests_engine.specs.Wrapped.{IsWrapped, MayRun, found_one_label, only_text, over_byte, reads_wrapped}
 use Rattle.tests_engine.specs.Wrapped.{with_text, wrapped_start, wrapped_step, wraps_all}
 use Rattle.tests_engine.specs.WrappedLaws.{registers}
@@ -100,7 +99,7 @@ found_one : (bytes : List ℕ) (machine : Wrapped) (events : List Event) (found 
 unfolding wraps_all
 found_one bytes machine events found h =
     h.labels ∙ ap (λ (names : List Resolver). (resolve_each wraps_all names (record h.read { resolvers = [] }) nothing_found).found)
-    (read_once (text_of bytes) h.runs (inl refl))
+    (read_once (whole_text bytes) h.runs (inl refl))
 
 pub returns-clause-reads : goal.returns-clause-reads
 returns-clause-reads g c =
