@@ -94,10 +94,6 @@ past_all f n [] h = refl
 past_all f zero (e ∷ es) h = absurd (omega arith)
 past_all f (suc n) (e ∷ es) h = ap (λ (z : List Event). e ∷ z) (past_all f n es (omega arith))
 
-joined_length : (before : List Event) (k : ℕ) (es : List Event) → length (link_from before k es) ≡ length es
-joined_length before k [] = refl
-joined_length before k (e ∷ es) = ap suc (joined_length before (k + 1) es)
-
 joined_at : (before : List Event) (k n : ℕ) (es : List Event) (d c : Event) → n < length es
     → get_or (link_from before k es) n d ≡ with_next_if (last_after (k + n) 0 before None) (get_or es n c)
 joined_at before k n [] d c h = absurd (omega arith)
@@ -125,9 +121,6 @@ take_one old i d low = ap (λ (n : ℕ). take n old) (let z : i + 1 ≡ suc i = 
 -- what the list is after the events before an index
 abbrev pub IsJoined : List Event → ℕ → List Event → Type 0
 IsJoined old i now = now ≡ link_from (take i old) 0 old
-
-pub same_length : (old now : List Event) (i : ℕ) → IsJoined old i now → length now ≡ length old
-same_length old now i h = ap length h ∙ joined_length (take i old) 0 old
 
 previous_there : (old now : List Event) (i : ℕ) (d c : Event) → i < length old → IsJoined old i now
     → previous_of (link_of (get_or now i d)) ≡ previous_of (link_of (get_or old i c))

@@ -1,8 +1,8 @@
 -- One chunk of a walk over a chain.
-use Rattle.std.proofs.Common.{◌≡◌, ◌∙◌, ◌+◌, ◌-◌, ◌<◌, ◌++◌, ℕ, zero, suc, List, ◌∷◌, map, take, drop, Some, false, refl, sym, ap, subst, arith, append_assoc}
+use Rattle.std.proofs.Common.{◌≡◌, ◌∙◌, ◌+◌, ◌-◌, ◌<◌, ◌++◌, ℕ, zero, suc, List, ◌∷◌, map, take, drop, Some, false, refl, sym, ap, subst, arith}
 use Rattle.engine_events.specs.declared.event.Event.{Event}
 use Rattle.engine_edits.specs.Edits.{EditAt, with_edit}
-use Rattle.engine_edits.specs.Replacement.{Places, rising, with_new_links}
+use Rattle.engine_edits.specs.Replacement.{Places, with_new_links}
 use Rattle.engine_chunks.specs.Chunks.{chunks_from, next_chunk, part_size}
 use Rattle.engine_chunks.specs.Parts.{places_of, counts, with_division_at}
 use Rattle.std.specs.Prelude.{slice_get}
@@ -16,21 +16,6 @@ module _ (events children : List Event) where
   pub record Placing (found : Places) (ks : List ℕ) (from removed added : ℕ) (all : Places) (counted : ℕ × ℕ) : Type 0 where
     pub places : found ++ places_of events ks children from removed added ≡ all
     pub counts : counts events ks children from removed added ≡ counted
-
-  pub placing : (found found' : Places) (ks rest : List ℕ) (k size from removed added : ℕ) (all : Places) (counted : ℕ × ℕ) → ks ≡ k ∷ rest
-      → size ≡ part_size events k (drop from children)
-      → found' ≡ found ++ rising ((k - removed) + added) size → Placing found ks from removed added all counted
-      → Placing found' rest (from + size) (removed + 2) (added + size) all counted
-  placing found found' ks rest k size from removed added all counted eks es ef h =
-      let n = part_size events k (drop from children) in
-      let g = subst (λ (z : List ℕ). Placing found z from removed added all counted) eks h in
-      let tail = places_of events rest children (from + n) (removed + 2) (added + n) in
-      let f : found' ≡ found ++ rising ((k - removed) + added) n = subst (λ (z : ℕ). found' ≡ found ++ rising ((k - removed) + added) z) es ef in
-      let made : Placing found' rest (from + n) (removed + 2) (added + n) all counted = record {
-        places = ap (λ (z : Places). z ++ tail) f ∙ (append_assoc found (rising ((k - removed) + added) n) tail ∙ g.places);
-        counts = g.counts;
-      } in
-      subst (λ (z : ℕ). Placing found' rest (from + z) (removed + 2) (added + z) all counted) (sym es) made
 
   pub parting : (ps : Places) (edits edits' : List EditAt) (part : List Event) (ks rest : List ℕ) (k size from : ℕ) (all : List EditAt) → ks ≡ k ∷ rest
       → size ≡ part_size events k (drop from children)

@@ -51,9 +51,6 @@ pub nested_front : (names : List Name) (a b : List Event) → IsNested names (a 
 nested_front names [] b h = tt
 nested_front names (e ∷ es) b h = (h.0, nested_front (opened_by e.kind e.name names) es b h.1)
 
-pub nested_take : (names : List Name) (n : ℕ) (es : List Event) → IsNested names es → IsNested names (take n es)
-nested_take names n es h = nested_front names (take n es) (drop n es) (subst (λ (z : List Event). IsNested names z) (sym (take-append-drop n es)) h)
-
 pub order_on : (from p q : Point) (es : List Event) → InOrder from es p → Reaches p q → InOrder from es q
 order_on from p q [] h k = reaches_on from p q h k
 order_on from p q (e ∷ es) h k = (h.0, order_on (point_of e) p q es h.1 k)
@@ -123,9 +120,6 @@ module _ {M : Type 0} where
     nested = nested_append [] c.events (e ∷ []) h.0.nested (k, tt);
     order = order_more text_start c.point c.events e h.0.order h.1;
   }
-
-  pub exited_here : (name : Name) (c : Config M) → is_feed c.previous ≡ false → IsInnermost name c.events → IsTidy c → IsTidy (with_exit name c)
-  exited_here name c f k h = exited_tidy name c (rw f (h, stays c.point)) k
 
   pub exited_opened : (name : Name) (c : Config M) (rest : List Name) → open_after [] c.events ≡ name ∷ rest → open_after [] (with_exit name c).events ≡ rest
   exited_opened name c rest h = opened_append [] c.events (event Exit name (if is_feed c.previous then c.line_start else c.point) None ∷ []) ∙ ap outer h
