@@ -39,7 +39,7 @@ pub const FIRST: Link = Link {
 };
 
 /// Adds that a chunk begins here.
-pub fn enter_chunk<M, T, A: Allocator>(
+fn enter_chunk<M, T, A: Allocator>(
     tokenizer: &mut Tokenizer<'_, M, T, A>,
     name: Name,
 ) -> Result<(), Message>

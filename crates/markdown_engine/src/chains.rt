@@ -32,7 +32,7 @@ use markdown_options::{Message, Tables};
 use std::alloc::Allocator;
 
 /// The content of the chain that an event begins, if that is asked for.
-pub fn chain_content(event: &Event, filter: Option<Content>) -> Option<Content>
+pub(crate) fn chain_content(event: &Event, filter: Option<Content>) -> Option<Content>
     ensures { result ≡ chain_content filter event.now }
 {
     let link = event.link()?;

@@ -103,7 +103,7 @@ pub fn is_before(point: Point, to: (usize, usize)) -> bool
 }
 
 /// The place at or after an index and a column of a tab there, on the way from a place before.
-pub fn place_over(bytes: &[u8], point: Point, to: (usize, usize)) -> Point
+pub(crate) fn place_over(bytes: &[u8], point: Point, to: (usize, usize)) -> Point
     requires to { IsCut bytes.now to }
     ensures walks { Walks bytes.now to point result }
     ensures forward { remaining (length bytes.now) result ≤ remaining (length bytes.now) point }
@@ -149,7 +149,7 @@ pub fn place_in<A: Allocator>(skips: &BTreeMap<usize, Point, A>, point: Point) -
 }
 
 /// Where a line is read from: from its start, or from a later place that is given for it.
-pub fn start_of_line(start: Point, given: Option<Point>) -> Point
+fn start_of_line(start: Point, given: Option<Point>) -> Point
     ensures { result ≡ start_of_line start given }
 {
     match given {
