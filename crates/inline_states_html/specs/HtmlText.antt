@@ -195,9 +195,8 @@ module _ {M : Type 0} where
   html_text_tag_open_attribute_value_quoted =
       Byte (Answer states.Nok)
       (Test at_marker (Consume (Answer (next inline_states.HtmlTextTagOpenAttributeValueQuotedAfter)))
-      (Byte (Answer states.Nok)
       (On (λ b. b == line_feed) (html_text_line inline_states.HtmlTextTagOpenAttributeValueQuoted)
-      (Consume (Answer (next inline_states.HtmlTextTagOpenAttributeValueQuoted))))))
+      (Consume (Answer (next inline_states.HtmlTextTagOpenAttributeValueQuoted)))))
 
   -- in a value with no quotes
   abbrev pub html_text_tag_open_attribute_value_unquoted : Body M

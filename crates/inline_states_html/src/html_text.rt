@@ -428,11 +428,10 @@ pub fn tag_open_attribute_value_quoted<M, T, A: Allocator>(
             next(Inline::HtmlTextTagOpenAttributeValueQuotedAfter),
         );
     }
-    match tokenizer.current {
-        None => State::Nok,
-        Some(b'\n') => at_line_ending(tokenizer, Inline::HtmlTextTagOpenAttributeValueQuoted),
-        Some(_) => consume_to(tokenizer, next(Inline::HtmlTextTagOpenAttributeValueQuoted)),
+    if byte == b'\n' {
+        return at_line_ending(tokenizer, Inline::HtmlTextTagOpenAttributeValueQuoted);
     }
+    consume_to(tokenizer, next(Inline::HtmlTextTagOpenAttributeValueQuoted))
 }
 
 /// In a value with no quotes.
