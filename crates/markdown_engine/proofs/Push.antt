@@ -407,7 +407,8 @@ flushed view step to old new s r p (inr h) =
 
 -- what else the tokenizer holds doesn't matter
 pub flushed_as : {M V T A : Type 0} (view : M → V) (text : Text) (step : Steps V) (s : State) (old new later : Tokenizer M T A) (r : State)
-    → view_config view later ≡ view_config view new → IsRefused r ⊎ HasFlushed view text step s old new r → IsRefused r ⊎ HasFlushed view text step s old later r
+    → view_config view later ≡ view_config view new → IsRefused r ⊎ HasFlushed view text step s old new r
+    → IsRefused r ⊎ HasFlushed view text step s old later r
 flushed_as view text step s old new later r e (inl h) = inl h
 flushed_as {V = V} view text step s old new later r e (inr h) = inr (record {
   well = h.well;
