@@ -1,1 +1,2 @@
 pub mod GfmFootnoteDefinition
+pub mod BlockReads

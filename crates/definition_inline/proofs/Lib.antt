@@ -9,3 +9,5 @@ pub mod ClosingRuns
 pub mod InlineSizes
 pub mod GfmAutolinkLiteral
 pub mod LabelPairs
+pub mod LiteralsKept
+pub mod InlineReads

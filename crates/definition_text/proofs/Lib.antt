@@ -1,2 +1,3 @@
 pub mod ContentBytes
 pub mod CodeBytes
+pub mod Each

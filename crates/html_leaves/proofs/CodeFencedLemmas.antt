@@ -24,7 +24,7 @@ use Rattle.definition_page.specs.Layout.{LayoutState}
 use Rattle.markdown_options.specs.declared.configuration.CompileOptions.{CompileOptions}
 use Rattle.html_bytes.specs.Document.{Document, info_of}
 use Rattle.definition_page.specs.Read.{Standing}
-use Rattle.html_levels.specs.Levels.{standing_at}
+use Rattle.html_looseness.specs.Levels.{standing_at}
 use Rattle.html_bytes.specs.Html.{block_pieces, class_of, code_of, fenced_content, fresh_unless}
 use Rattle.block_rows.specs.Rows.{piece_line, piece_lines, first_codes, whole_line, whole_lines}
 use Rattle.block_rows.proofs.RowSteps.{no_piece}

@@ -29,7 +29,7 @@ use Rattle.html_bytes.specs.Layout.{lay, with_text}
 use Rattle.definition_page.specs.Layout.{LayoutState}
 use Rattle.html_leaves.specs.Prints.{with_bytes, with_fresh}
 use Rattle.html_leaves.specs.GfmTable.{next_cell_pieces, IsClearIf, CellsAreClear}
-use Rattle.html_levels.specs.Printable.{AreClear}
+use Rattle.html_looseness.specs.Printable.{AreClear}
 
 -- ---- cells without a line ending
 

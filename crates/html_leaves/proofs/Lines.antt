@@ -4,7 +4,7 @@ use Rattle.block_rows.specs.declared.row.Piece.{Piece}
 use Rattle.block_rows.specs.ParagraphLines.{AreLines}
 use Rattle.block_rows.specs.Rows.{first_codes, piece_line, piece_lines}
 use Rattle.definition_text.specs.BlockLines.{BlockLine, own_lines}
-use Rattle.html_levels.specs.Printable.{AreHeadingLines, AreClear}
+use Rattle.html_looseness.specs.Printable.{AreHeadingLines, AreClear}
 
 -- the first line
 pub first_codes_of : (pieces : List Piece) (d : Piece) → 1 ≤ length pieces → first_codes (piece_lines pieces) ≡ (piece_line (get_or pieces 0 d)).codes

@@ -7,9 +7,9 @@ use Rattle.block_rows.specs.declared.row.Piece.{Piece}
 use Rattle.block_rows.specs.declared.row.Row.{Row}
 use Rattle.html_bytes.specs.Document.{Document}
 use Rattle.html_bytes.specs.Pieces as laid
-use Rattle.html_levels.specs.Levels.{row_pieces}
-use Rattle.html_levels.specs.Printable.{IsPrintableRow}
-use Rattle.html_levels.specs.declared.level.Level.{Level}
+use Rattle.html_looseness.specs.Levels.{row_pieces}
+use Rattle.html_looseness.specs.Printable.{IsPrintableRow}
+use Rattle.html_looseness.specs.declared.level.Level.{Level}
 use Rattle.html_leaves.specs.Prints.{LaysOut}
 use Rattle.html_leaves.specs.declared.page.Page.{Page}
 

@@ -10,7 +10,7 @@ ghost use Rattle.html_bytes.specs.Html.{block_pieces, class_of, fenced_content};
 ghost use Rattle.block_rows.specs.Rows.{piece_lines, whole_lines};
 ghost use Rattle.html_contents.specs.Texts.{document_by};
 ghost use Rattle.definition_text.specs.Encode.{encode};
-ghost use Rattle.html_levels.specs.Levels.{standing_at};
+ghost use Rattle.html_looseness.specs.Levels.{standing_at};
 ghost use Rattle.html_escape.specs.Prints as escape;
 ghost use Rattle.html_leaves.specs.Prints.{LaysOut, Prints, page_view, with_bytes, with_fresh, with_tag, KeepsEnding};
 

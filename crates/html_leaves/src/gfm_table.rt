@@ -18,7 +18,7 @@ ghost use Rattle.html_bytes.specs.GfmTable.{cell_tag, cell_end, cell_pieces, mis
 ghost use Rattle.html_bytes.specs.GfmTable.{row_pieces, body_row_pieces, body_pieces, head_pieces, table_pieces};
 ghost use Rattle.html_contents.specs.Texts.{KnowsTargets, document_by};
 ghost use Rattle.html_leaves.specs.GfmTable.{CellsAreClear, IsClearIf, cell_name, next_cell_pieces};
-ghost use Rattle.html_levels.specs.Printable.{AreClear};
+ghost use Rattle.html_looseness.specs.Printable.{AreClear};
 ghost use Rattle.html_leaves.specs.Prints.{LaysOut, KeepsEnding};
 
 use crate::page::Page;

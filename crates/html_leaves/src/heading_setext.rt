@@ -8,7 +8,7 @@ ghost use Rattle.definition_page.specs.Read.{on_page};
 ghost use Rattle.html_bytes.specs.Html.{block_pieces};
 ghost use Rattle.block_rows.specs.Rows.{piece_lines};
 ghost use Rattle.html_contents.specs.Texts.{KnowsTargets, document_by};
-ghost use Rattle.html_levels.specs.Printable.{AreHeadingLines};
+ghost use Rattle.html_looseness.specs.Printable.{AreHeadingLines};
 ghost use Rattle.html_leaves.specs.Prints.{LaysOut, KeepsEnding};
 
 use crate::page::Page;

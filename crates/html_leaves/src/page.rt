@@ -8,13 +8,13 @@ ghost use Rattle.block_rows.specs.Rows.{row_size, piece_lines, row_value, Single
 ghost use Rattle.html_bytes.specs.Document.{Document};
 ghost use Rattle.html_bytes.specs.Layout.{nothing_laid, with_footnotes};
 ghost use Rattle.html_contents.specs.Texts.{KnowsTargets, document_by};
-ghost use Rattle.html_levels.specs.Levels.{row_pieces};
-ghost use Rattle.html_levels.specs.Printable.{IsPrintableRow};
+ghost use Rattle.html_looseness.specs.Levels.{row_pieces};
+ghost use Rattle.html_looseness.specs.Printable.{IsPrintableRow};
 
 use block_rows::{Piece, Row, push_ending};
 use html_contents::{TextBuffers, Texts};
 use html_footnotes::{Output, push_fresh};
-use html_levels::Level;
+use html_looseness::Level;
 use markdown_options::{CompileOptions, LineEnding, Tables};
 use std::alloc::{AllocError, Allocator};
 

@@ -7,7 +7,7 @@ ghost use Rattle.definition_block.specs.Tree.{Paragraph};
 ghost use Rattle.html_bytes.specs.Html.{block_pieces};
 ghost use Rattle.block_rows.specs.Rows.{piece_lines, whole_lines};
 ghost use Rattle.html_contents.specs.Texts.{KnowsTargets, document_by};
-ghost use Rattle.html_levels.specs.Levels.{standing_first};
+ghost use Rattle.html_looseness.specs.Levels.{standing_first};
 ghost use Rattle.html_leaves.specs.Prints.{LaysOut, KeepsEnding};
 
 use crate::page::Page;

@@ -15,18 +15,18 @@ use Rattle.html_bytes.specs.Document.{Document}
 use Rattle.definition_page.specs.Read.{in_container, in_item}
 use Rattle.html_bytes.specs.Html.{block_pieces, children_pieces, ends_tight, fresh_unless, number_tag, number_end}
 use Rattle.block_rows.specs.Rows.{Single, Exit, rows_of, block_rows}
-use Rattle.html_levels.specs.declared.level.Level.{Level}
-use Rattle.html_levels.specs.declared.level.Holder.{Holder}
-use Rattle.html_levels.specs.declared.level.Holder.TheVariants as holder
-use Rattle.html_levels.specs.declared.loose.Place.{Place}
-use Rattle.html_levels.specs.Printable.{IsPrintable, CanBePrinted}
-use Rattle.html_levels.specs.Loose.{place_at}
-use Rattle.html_levels.specs.Levels.{standing_of, is_list, level_of, new_level, after_block, after_footnote, level_after}
+use Rattle.html_looseness.specs.declared.level.Level.{Level}
+use Rattle.html_looseness.specs.declared.level.Holder.{Holder}
+use Rattle.html_looseness.specs.declared.level.Holder.TheVariants as holder
+use Rattle.html_looseness.specs.declared.loose.Place.{Place}
+use Rattle.html_looseness.specs.Printable.{IsPrintable, CanBePrinted}
+use Rattle.html_looseness.specs.Loose.{place_at}
+use Rattle.html_looseness.specs.Levels.{standing_of, is_list, level_of, new_level, after_block, after_footnote, level_after}
 use Rattle.html_page.specs.PrinterView.{PrinterView, printer_at, in_list, start_item, exit_of, leave_list_if, print_row, print_all, more}
-use Rattle.html_levels.proofs.Ahead.{ahead_of, before_item_is, list_ahead, after_list, on_list, off_list, no_marker}
-use Rattle.html_levels.proofs.BlockPlaces.{places_in, places_within}
-use Rattle.html_levels.proofs.ListPlaces.{next_marker, place_loose}
-use Rattle.html_levels.proofs.Past.{level_past, past_kind, past_plain}
+use Rattle.html_looseness.proofs.Ahead.{ahead_of, before_item_is, list_ahead, after_list, on_list, off_list, no_marker}
+use Rattle.html_looseness.proofs.BlockPlaces.{places_in, places_within}
+use Rattle.html_looseness.proofs.ListPlaces.{next_marker, place_loose}
+use Rattle.html_looseness.proofs.Past.{level_past, past_kind, past_plain}
 
 module _ (d : Document) (default : List ℕ) where
   -- a page after pieces

@@ -17,7 +17,7 @@ use Rattle.definition_inline.specs.Label.{label_end}
 use Rattle.definition_block.specs.GfmFootnoteDefinition.{is_footnote_label, label_before, with_colon, after_open, after_bracket, footnote_mark, footnote_of}
 use Rattle.definition_block.specs.GfmFootnoteDefinition.{footnote_start}
 use Rattle.definition_block.specs.Containers.{quote_or, footnote_or, starts}
-use Rattle.html_levels.specs.Printable.{IsPrintableContainer}
+use Rattle.html_looseness.specs.Printable.{IsPrintableContainer}
 use Rattle.html_page.proofs.Choose.{choose_if, choose}
 
 record MarkerFits (o : Option Marker) : Type 0 where

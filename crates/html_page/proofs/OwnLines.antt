@@ -2,7 +2,7 @@
 use Rattle.std.proofs.Common.{List, [], ◌∷◌}
 use Rattle.block_rows.specs.ParagraphLines.{AreLines}
 use Rattle.definition_text.specs.BlockLines.{BlockLine, own_lines}
-use Rattle.html_levels.specs.Printable.{AreHeadingLines}
+use Rattle.html_looseness.specs.Printable.{AreHeadingLines}
 
 pub without_ending : (ls : List BlockLine) → AreLines ls → AreLines (own_lines ls)
 without_ending [] h = tt

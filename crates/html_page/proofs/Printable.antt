@@ -49,7 +49,7 @@ use Rattle.definition_block.specs.Tree.{began_blank}
 use Rattle.definition_block.specs.Tree.{goes_on, grow, step, steps, blocks_at_end, children_after, blocks}
 use Rattle.block_rows.specs.Rows.{RowsValue, rows_value, value_with, rows_of}
 use Rattle.block_rows.specs.declared.row.Row.{Row}
-use Rattle.html_levels.specs.Printable.{IsPrintableContainer, AreClear, IsTable, IsPrintable, ArePrintable, CanBePrinted}
+use Rattle.html_looseness.specs.Printable.{IsPrintableContainer, AreClear, IsTable, IsPrintable, ArePrintable, CanBePrinted}
 use Rattle.html_page.proofs.Choose.{choose_if, choose}
 use Rattle.html_leaves.proofs.Lines.{own_length}
 use Rattle.html_page.proofs.OwnLines.{without_ending, heading_lines}

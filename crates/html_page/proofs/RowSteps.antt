@@ -9,8 +9,8 @@ use Rattle.block_rows.specs.declared.row.Row.{Row}
 use Rattle.html_bytes.specs.Document.{Document}
 use Rattle.definition_text.specs.BlockLines.{BlockLine}
 use Rattle.block_rows.specs.Rows.{BlockRow, RowsValue, rows_value, value_with, show_row, row_value, row_size}
-use Rattle.html_levels.proofs.ShownRows.{shown_after}
-use Rattle.html_levels.specs.Printable.{IsPrintableRow, ArePrintable}
+use Rattle.html_looseness.proofs.ShownRows.{shown_after}
+use Rattle.html_looseness.specs.Printable.{IsPrintableRow, ArePrintable}
 use Rattle.html_page.specs.PrinterView.{PrinterView, print_row, print_all}
 
 -- a row is printed after those before it

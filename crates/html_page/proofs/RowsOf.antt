@@ -14,13 +14,13 @@ use Rattle.definition_page.specs.Read.{ends_blank, is_blank_ending}
 use Rattle.definition_page.specs.Read.{on_page}
 use Rattle.html_bytes.specs.Html.{children_pieces, last_piece, document_pieces}
 use Rattle.block_rows.specs.Rows.{BlockRow, Single, Exit, start_row, rows_of, block_rows, spaced_definition}
-use Rattle.html_levels.specs.declared.level.Holder.TheVariants as holder
-use Rattle.html_levels.specs.declared.loose.Place.{Place}
-use Rattle.html_levels.specs.Printable.{IsPrintable, IsPrintableContainer, IsPrintableRow, ArePrintable, CanBePrinted}
-use Rattle.html_levels.specs.Loose.{PassView}
-use Rattle.html_levels.specs.Levels.{new_level}
+use Rattle.html_looseness.specs.declared.level.Holder.TheVariants as holder
+use Rattle.html_looseness.specs.declared.loose.Place.{Place}
+use Rattle.html_looseness.specs.Printable.{IsPrintable, IsPrintableContainer, IsPrintableRow, ArePrintable, CanBePrinted}
+use Rattle.html_looseness.specs.Loose.{PassView}
+use Rattle.html_looseness.specs.Levels.{new_level}
 use Rattle.html_page.specs.PrinterView.{PrinterView, printer_at, print_all, is_blank_row, ends_blank_rows, rows_html}
-use Rattle.html_levels.proofs.BlockPlaces.{blocks_passed}
+use Rattle.html_looseness.proofs.BlockPlaces.{blocks_passed}
 use Rattle.html_page.proofs.Children.{blocks_printed}
 
 -- ---- whether the last row is the ending of a blank line

@@ -8,14 +8,14 @@ use Rattle.definition_page.specs.Layout.{LayoutState}
 use Rattle.definition_page.specs.Read.{is_blank_ending}
 use Rattle.html_bytes.specs.Html.{number_tag, number_end, fresh_unless, last_piece}
 use Rattle.block_rows.specs.Rows.{BlockRow, Single, EnterQuote, EnterItem, EnterFootnote, Exit}
-use Rattle.html_levels.specs.declared.loose.Place.{Place}
-use Rattle.html_levels.specs.declared.level.Level.{Level}
-use Rattle.html_levels.specs.declared.level.Holder.{Holder}
-use Rattle.html_levels.specs.declared.level.Holder.TheVariants as holder
+use Rattle.html_looseness.specs.declared.loose.Place.{Place}
+use Rattle.html_looseness.specs.declared.level.Level.{Level}
+use Rattle.html_looseness.specs.declared.level.Holder.{Holder}
+use Rattle.html_looseness.specs.declared.level.Holder.TheVariants as holder
 use Rattle.html_page.specs.declared.printer.Printer.{Printer}
-use Rattle.html_levels.specs.Loose.{places_of}
+use Rattle.html_looseness.specs.Loose.{places_of}
 use Rattle.html_leaves.specs.Prints.{page_view, footnote_text_started, footnote_text_left}
-use Rattle.html_levels.specs.Levels.{is_list, new_level, after_block, after_footnote, level_after, row_pieces}
+use Rattle.html_looseness.specs.Levels.{is_list, new_level, after_block, after_footnote, level_after, row_pieces}
 
 -- a page, the level that is open, the levels around it, and the places of the items to come
 pub record PrinterView : Type 0 where

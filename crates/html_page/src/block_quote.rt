@@ -5,7 +5,7 @@ ghost use Rattle.html_page.specs.PrinterView.{enter_quote, leave_quote, printer_
 ghost use Rattle.html_leaves.specs.Prints.{KeepsEnding};
 
 use crate::printer::Printer;
-use html_levels::Holder;
+use html_looseness::Holder;
 use std::alloc::{AllocError, Allocator};
 
 impl<A: Allocator + Clone> Printer<'_, A> {

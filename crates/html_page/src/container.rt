@@ -5,7 +5,7 @@ ghost use Rattle.html_page.specs.PrinterView.{exit, within, within_at, outside, 
 ghost use Rattle.html_leaves.specs.Prints.{KeepsEnding};
 
 use crate::printer::Printer;
-use html_levels::{Holder, Level};
+use html_looseness::{Holder, Level};
 use std::alloc::{AllocError, Allocator};
 
 impl<A: Allocator + Clone> Printer<'_, A> {

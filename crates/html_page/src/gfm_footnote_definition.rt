@@ -5,7 +5,7 @@ ghost use Rattle.html_page.specs.PrinterView.{enter_footnote, leave_footnote, pr
 
 use crate::printer::Printer;
 use block_rows::Row;
-use html_levels::Holder;
+use html_looseness::Holder;
 use std::alloc::{AllocError, Allocator};
 
 impl<A: Allocator + Clone> Printer<'_, A> {

@@ -5,7 +5,7 @@ ghost use Rattle.markdown_options.specs.LineEndings.{ending_bytes};
 ghost use Rattle.html_page.specs.PrinterView.{enter_list, leave_list, printer_view};
 
 use crate::printer::Printer;
-use html_levels::Holder;
+use html_looseness::Holder;
 use std::alloc::{AllocError, Allocator};
 
 impl<A: Allocator + Clone> Printer<'_, A> {

@@ -19,7 +19,7 @@ use Rattle.inline_rows.specs.View.{rows_view, row_view, data_rows, target_texts}
 use Rattle.inline_rows.specs.declared.row.InlineRow.{InlineRow}
 use Rattle.inline_rows.specs.declared.row.InlineRow.TheVariants.{Exit}
 use Rattle.inline_rows.specs.declared.row.LinkTarget.{LinkTarget}
-use Rattle.inline_spans.specs.Container.{AreWithin, AreBytes, AreTold, text_of}
+use Rattle.inline_rows.specs.Container.{AreWithin, AreBytes, AreTold, text_of}
 use Rattle.inline_parser.specs.declared.label.OpenLabel.{OpenLabel}
 use Rattle.inline_parser.specs.Shows.{ShowsBy, IsOpen, AreOutside, unformed_in, formed_in, start_view, enter_row}
 use Rattle.inline_parser.proofs.Readings as readings

@@ -17,8 +17,8 @@ use Rattle.inline_rows.specs.View.{rows_view, row_view, target_texts}
 use Rattle.inline_rows.specs.declared.row.LinkTarget.{LinkTarget}
 use Rattle.inline_rows.specs.declared.row.InlineRow.{InlineRow}
 use Rattle.inline_rows.specs.declared.row.InlineRow.TheVariants.{Exit}
-use Rattle.inline_spans.specs.Container.{IsContainer, AreTold}
-use Rattle.inline_spans.proofs.Container as container
+use Rattle.inline_rows.specs.Container.{IsContainer, AreTold}
+use Rattle.inline_rows.proofs.Container as container
 use Rattle.inline_parser.specs.declared.label.LabelStart.{LabelStart}
 use Rattle.inline_parser.specs.declared.label.LabelStart.TheVariants as start
 use Rattle.inline_parser.specs.declared.label.OpenLabel.{OpenLabel}

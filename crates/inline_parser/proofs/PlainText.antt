@@ -24,9 +24,9 @@ use Rattle.inline_leaves.proofs.FirstBytes.{by_white}
 use Rattle.inline_rows.specs.InlineRows.{inline_rows}
 use Rattle.inline_rows.specs.View.{data_rows}
 use Rattle.inline_rows.specs.declared.row.InlineRow.TheVariants.{Text}
-use Rattle.inline_spans.specs.Container.{Parts}
-use Rattle.inline_spans.proofs.Container as container
-use Rattle.inline_spans.proofs.Runs.{all_told, none_told}
+use Rattle.inline_rows.specs.Container.{Parts}
+use Rattle.inline_rows.proofs.Container as container
+use Rattle.inline_rows.proofs.Runs.{all_told, none_told}
 use Rattle.inline_text.specs.declared.plain.Front.{Front}
 use Rattle.inline_text.specs.Fronts.{IsTextFront}
 use Rattle.inline_parser.specs.Scanned.{IsPlace, context_by}

@@ -12,8 +12,8 @@ use Rattle.inline_runs.specs.View.{run_view}
 use Rattle.inline_runs.specs.declared.run.Run.{Run}
 use Rattle.inline_rows.specs.View.{rows_view, row_view, data_rows}
 use Rattle.inline_rows.specs.declared.row.InlineRow.{InlineRow}
-use Rattle.inline_spans.specs.Container.{IsContainer, AreBytes}
-use Rattle.inline_spans.proofs.Container as container
+use Rattle.inline_rows.specs.Container.{IsContainer, AreBytes}
+use Rattle.inline_rows.proofs.Container as container
 use Rattle.inline_parser.specs.declared.label.OpenLabel.{OpenLabel}
 use Rattle.inline_parser.specs.Shows.{IsOpen, AreOpen, NoneOpen, Inside, ShowsBy}
 

@@ -4,7 +4,7 @@ use Rattle.std.proofs.lemmas.Bool.{cases_lt}
 use Rattle.std.proofs.lemmas.List.{length-append, get_or_append_left, get_or-append-add, get_or-take, get_or-drop, length-take-le, length-drop, take-append-le}
 use Rattle.std.proofs.lemmas.List.{take-take}
 use Rattle.inline_runs.specs.declared.run.Run.{Run}
-use Rattle.inline_spans.specs.Container.{AreWithin}
+use Rattle.inline_rows.specs.Container.{AreWithin}
 use Rattle.inline_parser.specs.declared.label.OpenLabel.{OpenLabel}
 use Rattle.inline_parser.specs.Shows.{AreOutside}
 

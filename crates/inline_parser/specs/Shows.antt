@@ -14,7 +14,7 @@ use Rattle.inline_rows.specs.declared.row.LinkTarget.{LinkTarget}
 use Rattle.inline_rows.specs.declared.row.InlineRow.{InlineRow}
 use Rattle.inline_rows.specs.declared.row.InlineRow.TheVariants.{EnterLink, EnterImage}
 use Rattle.inline_rows.specs.View.{row_view, data_rows}
-use Rattle.inline_spans.specs.Container.{IsContainer, AreWithin}
+use Rattle.inline_rows.specs.Container.{IsContainer, AreWithin}
 use Rattle.inline_parser.specs.declared.label.LabelStart.{LabelStart}
 use Rattle.inline_parser.specs.declared.label.LabelStart.TheVariants.{Link, Image}
 use Rattle.inline_parser.specs.declared.label.OpenLabel.{OpenLabel}

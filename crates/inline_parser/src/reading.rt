@@ -16,16 +16,15 @@ ghost use Rattle.inline_leaves.specs.Leaves.{parts_of};
 ghost use Rattle.inline_runs.specs.View.{run_view};
 ghost use Rattle.inline_rows.specs.View.{rows_view, target_texts};
 ghost use Rattle.inline_rows.specs.declared.row.InlineRow.{InlineRow as SeenRow};
-ghost use Rattle.inline_spans.specs.Container.{IsContainer, AreTold, AreWithin};
+ghost use Rattle.inline_rows.specs.Container.{IsContainer, AreTold, AreWithin};
 ghost use Rattle.inline_links.specs.Codes.{IsRest};
 ghost use Rattle.inline_parser.specs.Shows.{Shows, ShowsThen, StartsBefore, KeepsStarts, IsSound, OpensAt, with_open_label, formed_last, unformed_last};
 
 use crate::label::{LabelStart, OpenLabel};
 use crate::room::{Room, RowRoom};
 use inline_leaves::LeafPart;
-use inline_rows::{InlineRow, LinkTarget, VerbatimText};
+use inline_rows::{InlineRow, LinkTarget, VerbatimText, tell_apart};
 use inline_runs::{Pairing, Run};
-use inline_spans::tell_apart;
 use std::alloc::{AllocError, Allocator};
 use std::mem::replace;
 

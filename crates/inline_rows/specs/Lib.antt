@@ -1,2 +1,4 @@
 pub mod View
 pub mod InlineRows
+pub mod Container
+pub mod Told

@@ -25,8 +25,8 @@ use Rattle.definition_block.specs.Tree.{Block, Paragraph, Heading, Break, Indent
 use Rattle.definition_block.specs.Tree.{Blocks}
 use Rattle.definition_block.specs.Tree.{Nil, Cons, blocks}
 use Rattle.laws_endings.proofs.Rests.{starts-fine, continues-fine}
-use Rattle.laws_each.proofs.Each.{Each, each-append, each-take, each-drop, each_filter, each_same, WhereSome}
-use Rattle.laws_reads.proofs.Blocks.{Property, BlockGood, BlocksGood, TextLineGood, AtxGood, Reads, blocks_good}
+use Rattle.definition_text.proofs.Each.{Each, each-append, each-take, each-drop, each_filter, each_same, WhereSome}
+use Rattle.definition_block.proofs.BlockReads.{Property, BlockGood, BlocksGood, TextLineGood, AtxGood, Reads, blocks_good}
 use Rattle.laws_codes.specs.Codes.{IsCode, AreCodes, block_lines, all_lines, CodesLaw, ApartLaw}
 
 -- ---- no two symbols have the same code

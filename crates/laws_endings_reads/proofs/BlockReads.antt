@@ -20,7 +20,7 @@ use Rattle.definition_block.specs.HeadingAtx.{Atx, atx, begins_apart, ends_apart
 use Rattle.definition_block.specs.HeadingSetext.{underline}
 use Rattle.definition_block.specs.Tree.{Block, Blocks, join, rest_line, blocks}
 use Rattle.laws_endings.proofs.Rests.{starts-fine, continues-fine}
-use Rattle.laws_reads.proofs.Blocks.{Property, BlockGood, BlocksGood, TextLineGood, AtxGood, FenceGood, Reads, join_good, own_good, blocks_good}
+use Rattle.definition_block.proofs.BlockReads.{Property, BlockGood, BlocksGood, TextLineGood, AtxGood, FenceGood, Reads, join_good, own_good, blocks_good}
 use Rattle.laws_endings_reads.proofs.Each.{Each, each-append, each-take, each-drop, each_filter, WhereSome, where_passed}
 use Rattle.laws_endings_reads.proofs.Characters.{IsWhole, AreWhole}
 use Rattle.laws_endings_reads.proofs.Fits.{Single, Plain, TitleFits, definition_fits}

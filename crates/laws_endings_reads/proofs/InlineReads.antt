@@ -35,7 +35,7 @@ use Rattle.definition_inline.specs.Scan.{InlineContext, leaf_at, leaf_here, Labe
 use Rattle.definition_inline.specs.Scan.{inlines_from, without_indent}
 use Rattle.laws_endings.proofs.Contents.{no_ending_here}
 use Rattle.laws_endings_reads.specs.Kinds.{may_mark}
-use Rattle.laws_reads.proofs.Inlines.{LeafGood, BeginsGood, either_begins, Nests, FormedGood, Reads, spans_good}
+use Rattle.definition_inline.proofs.InlineReads.{LeafGood, BeginsGood, either_begins, Nests, FormedGood, Reads, spans_good}
 use Rattle.laws_endings_reads.proofs.Each.{Each, each-append, each-take, each-drop, each_map, WhereSome, where_passed}
 use Rattle.laws_endings_reads.proofs.Neighbours.{marker_marks}
 use Rattle.laws_endings_reads.proofs.LiteralTexts.{name_plain, StartPlain, start_plain}

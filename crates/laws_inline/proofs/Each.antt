@@ -1,2 +1,2 @@
 -- What holds of each element of a list.
-pub use Rattle.laws_each.proofs.Each.{Each, WhereSome, each-append, each_map, each_same}
+pub use Rattle.definition_text.proofs.Each.{Each, WhereSome, each-append, each_map, each_same}

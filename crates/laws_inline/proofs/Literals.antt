@@ -6,7 +6,7 @@ use Rattle.definition_inline.specs.Inline.{LiteralKind, Target, Inline, Data, Li
 use Rattle.definition_inline.specs.GfmAutolinkLiteral.{without_literals, with_literals, linked_literals}
 use Rattle.laws_inline.specs.Occurs.{part_has, has}
 use Rattle.laws_inline.proofs.Each.{Each}
-use Rattle.laws_literals.proofs.Carried.{Holds, Carries, literals_good, linked_good}
+use Rattle.definition_inline.proofs.LiteralsKept.{Holds, Carries, literals_good, linked_good}
 
 module _ (test : Inline → Bool) where
   -- a part lacks what passes the test, at any depth

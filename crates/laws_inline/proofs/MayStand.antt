@@ -34,7 +34,7 @@ use Rattle.definition_inline.specs.Scan.{start_bytes, start_tokens, may_form as 
 use Rattle.definition_inline.specs.Scan.{read_tokens, with_plain_start, with_link_or_call, Step, Next, data_step, ended_step, ended_by, label_end_step}
 use Rattle.definition_inline.specs.Scan.{last_step, label_step, run_step, leaf_step, step, and_then, scan, whole_text, spans_from, without_indent, inlines}
 use Rattle.laws_inline.proofs.Each.{Each, WhereSome, each-append, each_map, each_same}
-use Rattle.laws_literals.proofs.Carried.{Carries, literals_good, linked_good}
+use Rattle.definition_inline.proofs.LiteralsKept.{Carries, literals_good, linked_good}
 
 -- the construct of each part is on, at any depth
 abbrev mutual

@@ -17,7 +17,7 @@ use Rattle.definition_block.specs.MathFlow.{math_start}
 use Rattle.definition_block.specs.HeadingAtx.{Atx, begins_apart, atx_of, heading_atx}
 use Rattle.definition_block.specs.HeadingSetext.{underline, underline_of}
 use Rattle.definition_block.specs.Tree.{Block, Blocks, join, blocks}
-use Rattle.laws_reads.proofs.Blocks.{Property, BlockGood, BlocksGood, TextLineGood, AtxGood, RankGood, Reads, join_good, blocks_good}
+use Rattle.definition_block.proofs.BlockReads.{Property, BlockGood, BlocksGood, TextLineGood, AtxGood, RankGood, Reads, join_good, blocks_good}
 use Rattle.laws_safe_page.proofs.Each.{Each, WhereSome}
 use Rattle.laws_safe_page.proofs.BlockAdds.{is_rank}
 

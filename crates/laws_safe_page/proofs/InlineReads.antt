@@ -20,8 +20,8 @@ use Rattle.definition_inline.specs.Attention.{Run}
 use Rattle.definition_inline.specs.GfmAutolinkLiteral.{literal_at}
 use Rattle.definition_inline.proofs.GfmAutolinkLiteral.{any_literal}
 use Rattle.definition_inline.specs.Scan.{InlineContext, leaf_at, leaf_here, formed_at, text, spans_from, inlines, inlines_from, without_indent}
-use Rattle.laws_literals.proofs.Carried.{Holds as CarriesHolding, Carries, literals_good, linked_good}
-use Rattle.laws_reads.proofs.Inlines.{LeafGood, BeginsGood, either_begins, Nests, FormedGood, Reads, spans_good}
+use Rattle.definition_inline.proofs.LiteralsKept.{Holds as CarriesHolding, Carries, literals_good, linked_good}
+use Rattle.definition_inline.proofs.InlineReads.{LeafGood, BeginsGood, either_begins, Nests, FormedGood, Reads, spans_good}
 use Rattle.laws_safe_page.proofs.Each.{Each, each_map, where_passed}
 use Rattle.laws_safe_page.proofs.InlineAdds.{EndsLines, AllEndLines}
 

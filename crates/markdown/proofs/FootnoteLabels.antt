@@ -7,7 +7,7 @@ use Rattle.definition_text.specs.Content.{is_space}
 use Rattle.definition_inline.specs.Label.{is_label}
 use Rattle.block_rows.specs.Rows.{BlockRow, Single, EnterQuote, EnterItem, EnterFootnote, Exit}
 use Rattle.block_targets.specs.GfmFootnoteDefinition.{is_bare_row, are_bare_rows}
-use Rattle.html_levels.specs.Printable.{IsPrintableRow, ArePrintable}
+use Rattle.html_looseness.specs.Printable.{IsPrintableRow, ArePrintable}
 
 bare_row : (r : BlockRow) → IsPrintableRow r → is_bare_row r ≡ true
 bare_row (Single b) h = refl

@@ -10,7 +10,7 @@ use Rattle.engine_events.specs.declared.event.Link.{Link}
 use Rattle.engine_events.specs.declared.place.Point.{Point}
 use Rattle.engine_events.specs.declared.state.Name.{Name}
 use Rattle.engine_events.specs.declared.state.Name.TheVariants.{Inline, Block}
-use Rattle.engine_events.specs.declared.state.Inline.TheVariants as inline_states
+use Rattle.engine_events.specs.declared.state.Inline.TheVariants as state_inline
 use Rattle.engine_events.specs.declared.state.Block.TheVariants as block_states
 use Rattle.engine_events.specs.declared.state.State.TheVariants as states
 use Rattle.engine_events.specs.Events.{link_of, point_of}
@@ -118,9 +118,9 @@ chain_text bytes events k =
 -- the state that a content is read by
 abbrev pub first_state : Content → Name
 first_state contents.Content = Block block_states.ContentDefinitionBefore
-first_state contents.String = Inline inline_states.StringStart
-first_state contents.Flow = Inline inline_states.TextStart
-first_state contents.Text = Inline inline_states.TextStart
+first_state contents.String = Inline state_inline.StringStart
+first_state contents.Flow = Inline state_inline.TextStart
+first_state contents.Text = Inline state_inline.TextStart
 
 module _ {M : Type 0} (step : Steps M) (resolve : Resolves M) (bytes : List ℕ) (machine : M) (events : List Event) where
   -- these are the events that reading a chain's text gives once resolvers have run, and what these found

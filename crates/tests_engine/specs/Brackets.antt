@@ -4,7 +4,7 @@ use Rattle.engine_events.specs.declared.event.Name.{Name as EventName}
 use Rattle.engine_events.specs.declared.event.Name.TheVariants as names
 use Rattle.engine_events.specs.declared.state.Name.{Name}
 use Rattle.engine_events.specs.declared.state.Name.TheVariants.{Inline}
-use Rattle.engine_events.specs.declared.state.Inline.TheVariants as inline_states
+use Rattle.engine_events.specs.declared.state.Inline.TheVariants as state_inline
 use Rattle.engine_events.specs.declared.state.State.{State}
 use Rattle.engine_events.specs.declared.state.State.TheVariants as states
 use Rattle.markdown_engine.specs.declared.attempt.Attempt.{Attempt}
@@ -19,16 +19,16 @@ use Rattle.engine_events.specs.declared.event.Event.{Event}
 
 -- what a state reads: items, a group, a group's end, and data
 abbrev pub items_state : Name
-items_state = Inline inline_states.TextStart
+items_state = Inline state_inline.TextStart
 
 abbrev pub group_state : Name
-group_state = Inline inline_states.LabelStart
+group_state = Inline state_inline.LabelStart
 
 abbrev pub close_state : Name
-close_state = Inline inline_states.LabelInside
+close_state = Inline state_inline.LabelInside
 
 abbrev pub rest_state : Name
-rest_state = Inline inline_states.DataInside
+rest_state = Inline state_inline.DataInside
 
 module _ {M : Type 0} where
   unfoldable pub items : Option ℕ → Config M → Effect M
@@ -57,9 +57,9 @@ pub data Part : Type 0 where
   Rest : Part
 
 unfoldable pub part : Name → Part
-part (Inline inline_states.TextStart) = Items
-part (Inline inline_states.LabelStart) = Group
-part (Inline inline_states.LabelInside) = Close
+part (Inline state_inline.TextStart) = Items
+part (Inline state_inline.LabelStart) = Group
+part (Inline state_inline.LabelInside) = Close
 part n = Rest
 
 module _ {M : Type 0} where

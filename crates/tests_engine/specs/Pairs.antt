@@ -5,7 +5,7 @@ use Rattle.engine_events.specs.declared.event.Name.{Name as EventName}
 use Rattle.engine_events.specs.declared.event.Name.TheVariants.{AttentionSequence, Data}
 use Rattle.engine_events.specs.declared.state.Name.{Name}
 use Rattle.engine_events.specs.declared.state.Name.TheVariants.{Inline}
-use Rattle.engine_events.specs.declared.state.Inline.TheVariants as inline_states
+use Rattle.engine_events.specs.declared.state.Inline.TheVariants as state_inline
 use Rattle.engine_events.specs.declared.state.State.{State}
 use Rattle.engine_events.specs.declared.state.State.TheVariants as states
 use Rattle.markdown_engine.specs.declared.attempt.Attempt.{Attempt}
@@ -20,22 +20,22 @@ use Rattle.tests_engine.specs.Readings.{IsReading}
 
 -- what a state reads: items, the two bytes ahead, a single byte, and the two bytes of a pair
 abbrev pub items_state : Name
-items_state = Inline inline_states.TextStart
+items_state = Inline state_inline.TextStart
 
 abbrev pub first_state : Name
-first_state = Inline inline_states.AttentionStart
+first_state = Inline state_inline.AttentionStart
 
 abbrev pub second_state : Name
-second_state = Inline inline_states.AttentionInside
+second_state = Inline state_inline.AttentionInside
 
 abbrev pub single_state : Name
-single_state = Inline inline_states.DataStart
+single_state = Inline state_inline.DataStart
 
 abbrev pub pair_state : Name
-pair_state = Inline inline_states.LabelStart
+pair_state = Inline state_inline.LabelStart
 
 abbrev pub close_state : Name
-close_state = Inline inline_states.LabelInside
+close_state = Inline state_inline.LabelInside
 
 module _ {M : Type 0} where
   -- a byte is kept to compare with
@@ -76,11 +76,11 @@ pub data Part : Type 0 where
   Close : Part
 
 unfoldable pub part : Name → Part
-part (Inline inline_states.AttentionStart) = First
-part (Inline inline_states.AttentionInside) = Second
-part (Inline inline_states.DataStart) = Single
-part (Inline inline_states.LabelStart) = Pair
-part (Inline inline_states.LabelInside) = Close
+part (Inline state_inline.AttentionStart) = First
+part (Inline state_inline.AttentionInside) = Second
+part (Inline state_inline.DataStart) = Single
+part (Inline state_inline.LabelStart) = Pair
+part (Inline state_inline.LabelInside) = Close
 part n = Items
 
 module _ {M : Type 0} where

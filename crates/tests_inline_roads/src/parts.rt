@@ -5,11 +5,11 @@ use crate::contents::CONTENTS;
 use crate::generate::Numbers;
 use crate::roads::{Roads, as_text, full_options};
 use crate::texts::{GFM_TEXTS, TEXTS};
-use inline_states::reading::{read_text, read_text_in_ranges, resolved_text};
 use linked_list_allocator::LocalHeap;
 use markdown_engine::event::Event;
 use markdown_engine::{Message, ParseState};
 use markdown_tables::Builtin;
+use state_inline::reading::{read_text, read_text_in_ranges, resolved_text};
 use std::alloc::Global;
 use std::test::Fail;
 

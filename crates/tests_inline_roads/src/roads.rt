@@ -6,10 +6,10 @@ use inline_content::whole_content;
 use inline_labels::LabelTable;
 use inline_leaves::gfm_task_list_item::check_at;
 use inline_parser::{Room, RowRoom, content_start, inline_rows};
-use inline_states::reading::resolved_text;
 use markdown_engine::{Message, ParseState};
 use markdown_options::{Constructs, ParseOptions};
 use markdown_tables::Builtin;
+use state_inline::reading::resolved_text;
 use std::alloc::{AllocError, Allocator, Global};
 use std::test::Fail;
 

@@ -1,8 +1,7 @@
 //! Runs told apart among rows.
 use definition_text::Kind;
-use inline_rows::InlineRow;
+use inline_rows::{InlineRow, tell_apart};
 use inline_runs::{Pairing, Span, run_between};
-use inline_spans::tell_apart;
 use markdown_options::ParseOptions;
 use std::alloc::{AllocError, Global};
 use std::test::Fail;

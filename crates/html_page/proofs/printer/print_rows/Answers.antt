@@ -9,7 +9,7 @@ use Rattle.block_rows.specs.declared.row.Row.{Row}
 use Rattle.block_rows.specs.declared.row.Piece.{Piece}
 use Rattle.definition_text.specs.BlockLines.{BlockLine}
 use Rattle.block_rows.specs.Rows.{BlockRow, piece_lines, rows_value, rows_size, row_size}
-use Rattle.html_levels.specs.Printable.{ArePrintable}
+use Rattle.html_looseness.specs.Printable.{ArePrintable}
 use Rattle.html_page.specs.PrinterView.{PrinterView, print_row, print_all, blank_page, ends_blank_rows, rows_html, printer_view}
 use Rattle.std.specs.Result.{IfOk}
 use Rattle.definition_page.specs.Layout.{LayoutState}

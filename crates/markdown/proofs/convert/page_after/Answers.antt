@@ -18,7 +18,7 @@ use Rattle.inline_links.specs.View.{link_texts_view}
 use Rattle.inline_links.specs.declared.text.LinkTexts.{LinkTexts}
 use Rattle.markdown_definition.specs.TextTables.{TextTables, text_tables}
 use Rattle.html_contents.specs.Texts.{KnowsTargets}
-use Rattle.html_levels.specs.Printable.{ArePrintable}
+use Rattle.html_looseness.specs.Printable.{ArePrintable}
 use Rattle.html_page.proofs.RowsOf.{printable_rows_of}
 use Rattle.html_page.proofs.Printable.{blocks_printable}
 use Rattle.laws_endings_page.proofs.NoFootnotes.{no_footnotes}

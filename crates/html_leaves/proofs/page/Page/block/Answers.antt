@@ -9,8 +9,8 @@ use Rattle.definition_page.specs.Read.{on_page}
 use Rattle.html_bytes.specs.Html.{block_pieces}
 use Rattle.html_contents.specs.Texts.{document_by}
 use Rattle.block_rows.specs.Rows.{whole_lines, piece_line, piece_lines}
-use Rattle.html_levels.specs.Levels.{standing_of, standing_first}
-use Rattle.html_levels.specs.Printable.{AreHeadingLines, AreClear, IsTable}
+use Rattle.html_looseness.specs.Levels.{standing_of, standing_first}
+use Rattle.html_looseness.specs.Printable.{AreHeadingLines, AreClear, IsTable}
 use Rattle.html_leaves.proofs.Lines.{first_codes_of, first_line, with_ending, clear_with_ending, own_length}
 use Rattle.html_leaves.proofs.Owed.{bytes_owed}
 use Rattle.block_rows.proofs.RowSteps.{no_piece}

@@ -9,7 +9,7 @@ use Rattle.definition_text.specs.BlockLines.{BlockLine, own_lines}
 use Rattle.block_rows.specs.Rows.{piece_line, piece_lines}
 use Rattle.html_footnotes.specs.Output.{output_view}
 use Rattle.html_leaves.specs.Prints.{layout_after, page_view}
-use Rattle.html_levels.specs.Printable.{AreHeadingLines}
+use Rattle.html_looseness.specs.Printable.{AreHeadingLines}
 use Rattle.html_leaves.proofs.Lines.{one_line, several_lines}
 use Rattle.html_leaves.proofs.page.Page.heading_text.Goals as goal
 

@@ -11,7 +11,7 @@ use Rattle.html_bytes.specs.GfmTable.{body_pieces, head_pieces, table_pieces}
 use Rattle.html_contents.specs.Texts.{document_by}
 use Rattle.block_rows.proofs.RowSteps.{no_piece}
 use Rattle.block_rows.specs.Rows.{piece_line, piece_lines}
-use Rattle.html_levels.specs.Printable.{AreClear}
+use Rattle.html_looseness.specs.Printable.{AreClear}
 use Rattle.html_leaves.specs.Prints.{layout_after, page_view, with_fresh, with_tag}
 use Rattle.html_leaves.proofs.GfmTableLemmas.{table_laid, two_lines}
 use Rattle.html_leaves.proofs.page.Page.table.Goals as goal

@@ -1,8 +1,8 @@
 use Rattle.std.proofs.Common.{[], ◌∷◌, ◌∙◌, ap, List}
 use Rattle.std.proofs.lemmas.List.{reverse-append}
 use Rattle.std.specs.Prelude.{reverse}
-use Rattle.html_levels.specs.declared.level.Level.{Level}
-use Rattle.html_levels.specs.Levels.{new_level}
+use Rattle.html_looseness.specs.declared.level.Level.{Level}
+use Rattle.html_looseness.specs.Levels.{new_level}
 use Rattle.html_leaves.specs.Prints.{page_view}
 use Rattle.html_page.specs.PrinterView.{printer_at}
 use Rattle.html_page.proofs.printer.Printer.enter_at.Goals as goal

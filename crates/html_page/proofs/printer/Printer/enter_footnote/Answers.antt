@@ -2,9 +2,9 @@ use Rattle.std.proofs.Common.{◌≡◌, [], ap, ◌∙◌, subst, false}
 use Rattle.std.specs.Prelude.{reverse}
 use Rattle.std.specs.Result.{OnOk}
 use Rattle.definition_page.specs.Layout.{LayoutState}
-use Rattle.html_levels.specs.declared.level.Level.{Level}
-use Rattle.html_levels.specs.declared.level.Holder.TheVariants as holder
-use Rattle.html_levels.specs.Levels.{after_footnote}
+use Rattle.html_looseness.specs.declared.level.Level.{Level}
+use Rattle.html_looseness.specs.declared.level.Holder.TheVariants as holder
+use Rattle.html_looseness.specs.Levels.{after_footnote}
 use Rattle.html_leaves.specs.Prints.{page_view}
 use Rattle.html_page.specs.PrinterView.{printer_at, printer_view, within_at}
 use Rattle.html_page.proofs.printer.Printer.enter_footnote.Goals as goal

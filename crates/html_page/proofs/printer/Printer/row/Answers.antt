@@ -5,8 +5,8 @@ use Rattle.definition_page.specs.Layout.{LayoutState}
 use Rattle.block_rows.specs.declared.row.Row.{Row}
 use Rattle.block_rows.specs.declared.row.Row.TheVariants as row
 use Rattle.block_rows.specs.Rows.{piece_lines, row_value}
-use Rattle.html_levels.specs.declared.level.Level.{Level}
-use Rattle.html_levels.specs.Levels.{level_after}
+use Rattle.html_looseness.specs.declared.level.Level.{Level}
+use Rattle.html_looseness.specs.Levels.{level_after}
 use Rattle.html_leaves.specs.Prints.{page_view}
 use Rattle.html_page.specs.PrinterView.{printer_at, printer_view, print_row}
 use Rattle.html_page.proofs.printer.Printer.row.Goals as goal

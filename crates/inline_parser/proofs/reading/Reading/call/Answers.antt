@@ -5,7 +5,7 @@ use Rattle.definition_text.specs.Content.{content_codes}
 use Rattle.definition_inline.specs.LabelEnd.{Calls}
 use Rattle.definition_inline.specs.Scan.{makes_link}
 use Rattle.inline_rows.specs.declared.row.InlineRow.TheVariants.{Call}
-use Rattle.inline_spans.specs.Container.{AreWithin}
+use Rattle.inline_rows.specs.Container.{AreWithin}
 use Rattle.inline_parser.specs.Shows.{ShowsBy, AreOutside, start_view}
 use Rattle.inline_parser.proofs.Formed as forming
 use Rattle.inline_parser.proofs.Changes as changes

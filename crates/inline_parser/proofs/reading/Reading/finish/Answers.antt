@@ -1,5 +1,5 @@
 use Rattle.std.proofs.Common.{[], refl, sym, subst, reverse}
-use Rattle.inline_spans.specs.Container.{IsContainer}
+use Rattle.inline_rows.specs.Container.{IsContainer}
 use Rattle.definition_inline.specs.Scan.{whole_text}
 use Rattle.inline_parser.proofs.Readings as readings
 use Rattle.inline_parser.proofs.reading.Reading.finish.Goals as goal

@@ -2,7 +2,7 @@ use Rattle.std.proofs.Common.{◌≡◌, ◌+◌, ◌-◌, arith, [], ◌∷◌,
 use Rattle.std.specs.Prelude.{vec_len}
 use Rattle.std.proofs.lemmas.List.{append-nil, length-append, length-set}
 use Rattle.inline_rows.specs.declared.row.InlineRow.TheVariants.{Exit}
-use Rattle.inline_spans.specs.Container.{IsContainer, AreWithin}
+use Rattle.inline_rows.specs.Container.{IsContainer, AreWithin}
 use Rattle.inline_parser.specs.Shows.{ShowsBy, AreOutside, start_view}
 use Rattle.definition_inline.specs.LabelEnd.{Leads}
 use Rattle.definition_inline.specs.Scan.{makes_link}

@@ -1,6 +1,6 @@
 use Rattle.std.proofs.Common.{reverse}
 use Rattle.inline_leaves.specs.Leaves.{parts_of}
-use Rattle.inline_spans.proofs.Container as container
+use Rattle.inline_rows.proofs.Container as container
 use Rattle.inline_parser.proofs.Changes as changes
 use Rattle.inline_parser.proofs.reading.Reading.leaf.Goals as goal
 

@@ -1,5 +1,5 @@
 use Rattle.std.proofs.Common.{[], refl, sym, ap, ◌∙◌, subst, reverse}
-use Rattle.inline_spans.proofs.Container as container
+use Rattle.inline_rows.proofs.Container as container
 use Rattle.inline_parser.specs.Shows.{AreOpen, NoneOpen}
 use Rattle.inline_parser.proofs.reading.Reading.new.Goals as goal
 

@@ -1,6 +1,6 @@
 use Rattle.std.proofs.Common.{map, reverse}
 use Rattle.definition_inline.specs.Inline.{Data}
-use Rattle.inline_spans.proofs.Container as container
+use Rattle.inline_rows.proofs.Container as container
 use Rattle.inline_parser.proofs.Changes as changes
 use Rattle.inline_parser.proofs.reading.Reading.text.Goals as goal
 

@@ -1,9 +1,0 @@
-use Rattle.std.proofs.Common.{◌≡◌, map}
-use Rattle.std.specs.List.{fold}
-use Rattle.html_levels.specs.Loose.{pass_view, pass_start}
-use Rattle.html_levels.proofs.Backward.{pass_bare}
-use Rattle.html_levels.proofs.loose.places.Given as goal
-
--- the last rows are passed
-abbrev pub invariant-loop-row : goal.invariant-loop-row
-invariant-loop-row g l = pass_view l.pass ≡ fold pass_bare pass_start (map (λ y. y.now) l.yielded)

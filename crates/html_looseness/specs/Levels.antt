@@ -1,0 +1,93 @@
+-- What holds a row, and what a block prints in it.
+use Rattle.std.specs.Prelude.{Bool, true, false, ◌&&◌, List, []}
+use Rattle.definition_block.specs.Container.{Quote, Item, Footnote}
+use Rattle.definition_block.specs.Tree.{Block, Paragraph, Heading, Break, IndentedCode, FencedCode, Html, Table, Definition, Holds, Items, Ending, Blank}
+use Rattle.definition_block.specs.Tree.{is_ending}
+use Rattle.definition_page.specs.Read.{Standing}
+use Rattle.html_bytes.specs.Pieces.{Piece}
+use Rattle.html_bytes.specs.Document.{Document}
+use Rattle.html_bytes.specs.Html.{block_pieces, silences}
+use Rattle.block_rows.specs.Rows.{BlockRow, Single, EnterQuote, EnterItem, EnterFootnote, Exit}
+use Rattle.html_looseness.specs.declared.level.Level.{Level}
+use Rattle.html_looseness.specs.declared.level.Holder.{Holder}
+use Rattle.html_looseness.specs.declared.level.Holder.TheVariants as holder
+
+abbrev pub is_document : Holder → Bool
+is_document holder.Document = true
+is_document holder.Quote = false
+is_document (holder.List number) = false
+is_document (holder.Item last) = false
+is_document holder.Footnote = false
+
+abbrev pub is_list : Holder → Bool
+is_list holder.Document = false
+is_list holder.Quote = false
+is_list (holder.List number) = true
+is_list (holder.Item last) = false
+is_list holder.Footnote = false
+
+abbrev pub is_item : Holder → Bool
+is_item holder.Document = false
+is_item holder.Quote = false
+is_item (holder.List number) = false
+is_item (holder.Item last) = true
+is_item holder.Footnote = false
+
+abbrev pub level_of : Holder → Bool → Bool → Bool → Bool → Level
+level_of k tight plain silent first = record { holder = k; tight = tight; plain = plain; silent = silent; first = first }
+
+-- where its next block stands
+abbrev pub standing_of : Level → Standing
+standing_of l = record { top = is_document l.holder; first = l.first }
+
+-- a block at the top or not, and one that is the first in an item or not: the rest of where they stand doesn't matter to what they print
+abbrev pub standing_at : Bool → Standing
+standing_at top = record { top = top; first = false }
+
+abbrev pub standing_first : Bool → Standing
+standing_first first = record { top = true; first = first }
+
+-- nothing was printed in it
+abbrev pub new_level : Holder → Bool → Level
+new_level k tight = level_of k tight true false (is_item k)
+
+-- a block stands last in it, and no tight paragraph
+abbrev pub after_block : Level → Level
+after_block l = level_of l.holder l.tight false false (l.first && false)
+
+-- a footnote definition stands last in it
+abbrev pub after_footnote : Level → Level
+after_footnote l = level_of l.holder l.tight l.plain true (l.first && false)
+
+-- whether the last block that prints anything, if there is any, is a tight paragraph, after one more
+abbrev pub plain_after : Bool → Bool → Block → Bool
+plain_after tight before (Paragraph ls) = tight
+plain_after tight before (Heading rank ls) = false
+plain_after tight before Break = false
+plain_after tight before (IndentedCode ls) = false
+plain_after tight before (FencedCode info closed ls) = false
+plain_after tight before (Html ls) = false
+plain_after tight before (Table ls) = false
+plain_after tight before (Definition label destination title) = before
+plain_after tight before (Holds Quote kids) = false
+plain_after tight before (Holds (Item item) kids) = false
+plain_after tight before (Holds (Footnote label) kids) = before
+plain_after tight before (Items items) = false
+plain_after tight before (Ending ending) = before
+plain_after tight before (Blank ending) = before
+
+abbrev pub level_after : Level → BlockRow → Level
+level_after l (Single b) = level_of l.holder l.tight (plain_after l.tight l.plain b) (silences (is_document l.holder) l.tight l.silent b)
+    (l.first && is_ending b)
+level_after l EnterQuote = after_block l
+level_after l (EnterItem marker number) = after_block l
+level_after l (EnterFootnote label) = after_footnote l
+level_after l Exit = after_block l
+
+-- what a block prints at a level
+abbrev pub row_pieces : Document → Level → BlockRow → List Piece
+row_pieces d l (Single b) = block_pieces d (standing_of l) l.tight l.silent b
+row_pieces d l EnterQuote = []
+row_pieces d l (EnterItem marker number) = []
+row_pieces d l (EnterFootnote label) = []
+row_pieces d l Exit = []

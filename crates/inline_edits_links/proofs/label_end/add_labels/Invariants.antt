@@ -1,9 +1,0 @@
-use Rattle.std.proofs.Common.{◌≡◌, drop}
-use Rattle.std.specs.List.{fold}
-use Rattle.engine_edits.specs.Edits.{edits_of}
-use Rattle.inline_edits_links.specs.LabelEnd.{with_label}
-use Rattle.inline_edits_links.proofs.label_end.add_labels.Given as goal
-
--- those that are left do to the edits what all do to the first
-abbrev pub invariant-loop-index : goal.invariant-loop-index
-invariant-loop-index g l = fold (with_label l.events) (edits_of l.edits) (drop l.index l.labels) ≡ fold (with_label l.events) (edits_of l.fn.edits) l.labels

@@ -1,2 +1,0 @@
-pub mod Container
-pub mod Told

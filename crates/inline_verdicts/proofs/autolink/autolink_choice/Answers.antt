@@ -1,5 +1,0 @@
-use Rattle.inline_verdicts.proofs.TextChoices.{autolink_choice}
-use Rattle.inline_verdicts.proofs.autolink.autolink_choice.Goals as goal
-
-pub returns : goal.returns
-returns g c = autolink_choice _

@@ -1,5 +1,0 @@
-use Rattle.inline_verdicts.proofs.TextChoices.{escape_choice}
-use Rattle.inline_verdicts.proofs.character_escape.character_escape_choice.Goals as goal
-
-pub returns : goal.returns
-returns g c = escape_choice _

@@ -1,5 +1,0 @@
-use Rattle.inline_verdicts.proofs.EscapeReads.{escape_verdict}
-use Rattle.inline_verdicts.proofs.character_escape.character_escape_verdict.Goals as goal
-
-pub returns : goal.returns
-returns g c = escape_verdict _

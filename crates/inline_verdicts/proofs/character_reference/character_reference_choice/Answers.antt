@@ -1,5 +1,0 @@
-use Rattle.inline_verdicts.proofs.TextChoices.{reference_choice}
-use Rattle.inline_verdicts.proofs.character_reference.character_reference_choice.Goals as goal
-
-pub returns : goal.returns
-returns g c = reference_choice _

@@ -1,5 +1,0 @@
-use Rattle.inline_verdicts.proofs.ReferenceReads.{reference_verdict}
-use Rattle.inline_verdicts.proofs.character_reference.character_reference_verdict.Goals as goal
-
-pub returns : goal.returns
-returns g c = reference_verdict _

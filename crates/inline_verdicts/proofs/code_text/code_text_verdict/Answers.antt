@@ -1,5 +1,0 @@
-use Rattle.inline_verdicts.proofs.CodeReads.{code_text}
-use Rattle.inline_verdicts.proofs.code_text.code_text_verdict.Goals as goal
-
-pub returns : goal.returns
-returns g c = code_text _

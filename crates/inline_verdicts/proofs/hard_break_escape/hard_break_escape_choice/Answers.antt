@@ -1,5 +1,0 @@
-use Rattle.inline_verdicts.proofs.TextChoices.{break_choice}
-use Rattle.inline_verdicts.proofs.hard_break_escape.hard_break_escape_choice.Goals as goal
-
-pub returns : goal.returns
-returns g c = break_choice _

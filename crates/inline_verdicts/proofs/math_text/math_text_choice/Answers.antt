@@ -1,5 +1,0 @@
-use Rattle.inline_verdicts.proofs.TextChoices.{math_choice}
-use Rattle.inline_verdicts.proofs.math_text.math_text_choice.Goals as goal
-
-pub returns : goal.returns
-returns g c = math_choice _

@@ -1,5 +1,0 @@
-use Rattle.inline_verdicts.proofs.CodeReads.{math_text}
-use Rattle.inline_verdicts.proofs.math_text.math_text_verdict.Goals as goal
-
-pub returns : goal.returns
-returns g c = math_text _

@@ -1,5 +1,0 @@
-use Rattle.inline_verdicts.proofs.TextReads.{choice_law}
-use Rattle.inline_verdicts.proofs.text.choice_law.Goals as goal
-
-pub returns : goal.returns
-returns g c = choice_law _

@@ -1,5 +1,0 @@
-use Rattle.inline_verdicts.proofs.TextReads.{text_end}
-use Rattle.inline_verdicts.proofs.text.text_end_verdict.Goals as goal
-
-pub returns : goal.returns
-returns g c = text_end _

@@ -1,2 +1,0 @@
-//! What holds of each element of a list, for the proofs of the laws.
-#![tactic(auto)]

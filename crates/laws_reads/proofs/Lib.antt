@@ -1,2 +1,0 @@
-pub mod Inlines
-pub mod Blocks

@@ -1,0 +1,26 @@
+//! Texts: what they come to before each part.
+ghost use Rattle.state_verdicts.specs.Text.{BackslashChoice, ChoiceLaw, DataChoice, TextEndVerdict};
+
+/// A state that attempts a construct at a byte comes to what reading on comes to once the attempt was
+/// made: after it, or with the next choice at the same place.
+pub fn choice_law<T>()
+    ensures { ChoiceLaw T }
+{}
+
+/// Before a part of a text that begins with a backslash that escapes nothing, reading goes on after a
+/// hard break exactly where the definition has one, and otherwise with data at the same place.
+pub fn text_backslash_choice<T>()
+    ensures { BackslashChoice T }
+{}
+
+/// Before a part of a text that begins with a byte with which no construct may begin, reading goes on
+/// with data at that byte.
+pub fn text_data_choice<T>()
+    ensures { DataChoice T }
+{}
+
+/// At the end of a text reading ends well with no event more, and the resolvers of data and of texts
+/// are to run last.
+pub fn text_end_verdict<T>()
+    ensures { TextEndVerdict T }
+{}
