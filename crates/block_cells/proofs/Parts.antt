@@ -4,8 +4,8 @@ use Rattle.std.proofs.Common.{get_or, arith, inl, inr, Option, None, Some}
 use Rattle.std.specs.Prelude.{replicate, is_some}
 use Rattle.std.proofs.lemmas.Bool.{true≢false, cases_Bool, cond-true, cond-false, and_parts, eqb-true}
 use Rattle.std.specs.Str.{IsCharBoundary, IsUtf8}
-use Rattle.definition_text.specs.declared.beside.Kind.{Kind}
-use Rattle.definition_text.specs.declared.beside.Kind.TheVariants.{Whitespace, Punctuation}
+use Rattle.markdown_options.specs.declared.beside.Kind.{Kind}
+use Rattle.markdown_options.specs.declared.beside.Kind.TheVariants.{Whitespace, Punctuation}
 use Rattle.definition_text.specs.Content.{may_escape}
 use Rattle.definition_block.specs.GfmTable.{Cell, cell, parts, is_bar, in_first_cell, without_blank_last}
 use Rattle.definition_text.specs.Columns.{is_blank}

@@ -3,8 +3,8 @@ use Rattle.std.proofs.Common.{◌≡◌, ◌≢◌, ℕ, zero, suc, ◌+◌, ◌
 use Rattle.std.proofs.Common.{length, drop, take, get_or, arith, inl, inr, None}
 use Rattle.std.specs.List.{prefix_len, list_any, suffix_len}
 use Rattle.std.proofs.lemmas.Bool.{cases_Bool, cond-true, cond-false, or_parts, eqb-false, ne_eqb}
-use Rattle.definition_text.specs.declared.beside.Kind.{Kind}
-use Rattle.definition_text.specs.declared.beside.Kind.TheVariants.{Whitespace}
+use Rattle.markdown_options.specs.declared.beside.Kind.{Kind}
+use Rattle.markdown_options.specs.declared.beside.Kind.TheVariants.{Whitespace}
 use Rattle.definition_text.specs.Columns.{is_white, is_blank, trim, bare}
 use Rattle.definition_text.specs.Content.{may_escape}
 use Rattle.definition_block.specs.GfmTable.{Cell, cell, cells, parts, is_bar, in_first_cell, without_blank_first, without_blank_last}

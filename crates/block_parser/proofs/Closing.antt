@@ -2,7 +2,7 @@
 use Rattle.std.proofs.Common.{◌≡◌, ℕ, zero, suc, ◌+◌, ◌<◌, get_or, List, [], ◌∷◌, ◌++◌, refl, sym, ap, ◌∙◌, subst, length, arith}
 use Rattle.std.proofs.lemmas.List.{length-append, length-map, map-append, get_or-map}
 use Rattle.markdown_options.specs.declared.configuration.Constructs.{Constructs}
-use Rattle.definition_block.specs.declared.container.Container.{Container as CodeContainer}
+use Rattle.markdown_options.specs.declared.container.Container.{Container as CodeContainer}
 use Rattle.block_starts.specs.View.{container_view, container_views}
 use Rattle.definition_block.specs.Tree.{Blocks, join, OpenLeaf, Text, Opening, Leaf, Inside, Tree, close, close_leaf, after}
 use Rattle.block_state.specs.Spine.{Level, level, Spine, spine, spine_at, spine_after, containers_of, without_innermost, without_innermost_at}

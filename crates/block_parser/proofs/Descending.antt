@@ -6,7 +6,7 @@ use Rattle.std.proofs.lemmas.List.{append-nil}
 use Rattle.std.specs.Prelude.{map, if◌then◌else◌}
 use Rattle.markdown_options.specs.declared.line_ending.LineEnding.{LineEnding}
 use Rattle.markdown_options.specs.declared.configuration.Constructs.{Constructs}
-use Rattle.definition_text.specs.declared.beside.Beside.{Beside}
+use Rattle.markdown_options.specs.declared.beside.Beside.{Beside}
 use Rattle.definition_block.specs.Container.{Container}
 use Rattle.block_rows.specs.declared.row.Row.{Row}
 use Rattle.block_rows.specs.declared.row.Row.TheVariants as row

@@ -5,7 +5,7 @@ use Rattle.std.proofs.lemmas.List.{length-drop}
 use Rattle.std.specs.Prelude.{min}
 use Rattle.std.specs.List.{prefix_len}
 use Rattle.markdown_options.specs.declared.configuration.Constructs.{Constructs}
-use Rattle.definition_text.specs.declared.beside.Beside.{Beside}
+use Rattle.markdown_options.specs.declared.beside.Beside.{Beside}
 use Rattle.definition_block.specs.Container.{Container}
 use Rattle.definition_text.specs.Columns.{Rest, bare, indent}
 use Rattle.definition_text.specs.Indents.{small_indent}

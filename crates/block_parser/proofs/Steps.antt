@@ -4,7 +4,7 @@ use Rattle.std.proofs.Common.{subst, length, arith}
 use Rattle.std.proofs.lemmas.Bool.{cond-true, cond-false, or_left, or_from}
 use Rattle.markdown_options.specs.declared.line_ending.LineEnding.{LineEnding}
 use Rattle.markdown_options.specs.declared.configuration.Constructs.{Constructs}
-use Rattle.definition_text.specs.declared.beside.Beside.{Beside}
+use Rattle.markdown_options.specs.declared.beside.Beside.{Beside}
 use Rattle.definition_text.specs.Columns.{Rest, is_blank}
 use Rattle.definition_text.specs.Indents.{outdent}
 use Rattle.definition_block.specs.CodeIndented.{starts_code_indented}

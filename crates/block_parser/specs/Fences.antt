@@ -3,7 +3,7 @@ use Rattle.std.specs.Prelude.{◌≡◌, ℕ, true, false, Bool, List, ◌∷◌
 use Rattle.std.specs.List.{list_any}
 use Rattle.std.specs.Option.{option_or}
 use Rattle.markdown_options.specs.declared.configuration.Constructs.{Constructs}
-use Rattle.definition_text.specs.declared.beside.Kind.TheVariants.{Whitespace}
+use Rattle.markdown_options.specs.declared.beside.Kind.TheVariants.{Whitespace}
 use Rattle.definition_text.specs.BlockLines.{BlockLine}
 use Rattle.definition_text.specs.Columns.{Rest, whole}
 use Rattle.definition_text.specs.Lines.{TextLine, lines}

@@ -2,7 +2,7 @@
 use Rattle.std.specs.Prelude.{Bool, false, if◌then◌else◌, List, [], ◌∷◌, Option, None, Some, length}
 use Rattle.markdown_options.specs.declared.configuration.Constructs.{Constructs}
 use Rattle.definition_text.specs.BlockLines.{BlockLine}
-use Rattle.definition_block.specs.declared.align_kind.AlignKind.{AlignKind}
+use Rattle.markdown_options.specs.declared.align_kind.AlignKind.{AlignKind}
 use Rattle.definition_block.specs.Definitions.{DefinitionCut, definition_cut}
 use Rattle.definition_block.specs.GfmTable.{is_head}
 use Rattle.definition_block.specs.Tree.{Opening, Tree, text_here, table_of}

@@ -16,8 +16,7 @@ use block_starts::code_fenced::{Fence, closes_fence, fence_line, fence_start, is
 use block_starts::math_flow::math_start;
 use block_state::OpenLeaf;
 use block_state::whole_lines::whole_piece;
-use definition_text::{Beside, Kind};
-use markdown_options::{Constructs, LineEnding};
+use markdown_options::{Beside, Constructs, Kind, LineEnding};
 use std::alloc::{AllocError, Allocator};
 use text_lines::next_line;
 

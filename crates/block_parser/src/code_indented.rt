@@ -10,9 +10,8 @@ use block_rows::Row;
 use block_starts::Cursor;
 use block_starts::code_indented::starts_code_indented;
 use block_state::OpenLeaf;
-use definition_text::Beside;
 use markdown_options::constants::TAB_SIZE;
-use markdown_options::{Constructs, LineEnding};
+use markdown_options::{Beside, Constructs, LineEnding};
 use std::alloc::{AllocError, Allocator};
 
 impl<'a, A: Allocator> Parser<'a, A> {

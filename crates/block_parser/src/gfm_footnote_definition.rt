@@ -4,7 +4,7 @@
 
 use crate::parser::Parser;
 use block_state::whole_lines::whole_piece;
-use definition_block::Container;
+use markdown_options::Container;
 use std::alloc::{AllocError, Allocator};
 
 impl<'a, A: Allocator> Parser<'a, A> {

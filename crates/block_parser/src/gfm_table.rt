@@ -16,9 +16,7 @@ use block_starts::Cursor;
 use block_starts::indent::is_small;
 use block_state::OpenLeaf;
 use block_state::whole_lines::whole_piece;
-use definition_block::AlignKind;
-use definition_text::Beside;
-use markdown_options::{Constructs, LineEnding};
+use markdown_options::{AlignKind, Beside, Constructs, LineEnding};
 use std::alloc::{AllocError, Allocator};
 
 impl<'a, A: Allocator> Parser<'a, A> {

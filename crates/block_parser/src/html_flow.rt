@@ -14,8 +14,7 @@ use block_starts::Cursor;
 use block_starts::html_flow::{HtmlKind, html_ends, html_kind};
 use block_starts::indent::is_small;
 use block_state::OpenLeaf;
-use definition_text::Beside;
-use markdown_options::{Constructs, LineEnding};
+use markdown_options::{Beside, Constructs, LineEnding};
 use std::alloc::{AllocError, Allocator};
 
 impl<'a, A: Allocator> Parser<'a, A> {

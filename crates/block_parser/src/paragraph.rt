@@ -8,8 +8,7 @@ use block_rows::{Piece, Row};
 use block_starts::Cursor;
 use block_state::OpenLeaf;
 use block_state::whole_lines::{first_lines, whole_piece};
-use definition_text::Beside;
-use markdown_options::{Constructs, LineEnding};
+use markdown_options::{Beside, Constructs, LineEnding};
 use std::alloc::{AllocError, Allocator};
 
 impl<'a, A: Allocator> Parser<'a, A> {

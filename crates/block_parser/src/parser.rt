@@ -21,9 +21,7 @@ use block_starts::plain::{is_plain, is_plain_line};
 use block_starts::thematic_break::is_break;
 use block_state::whole_lines::whole_piece;
 use block_state::{OpenLeaf, Rows};
-use definition_block::{AlignKind, Container};
-use definition_text::{Beside, Kind};
-use markdown_options::{Constructs, LineEnding};
+use markdown_options::{AlignKind, Beside, Constructs, Container, Kind, LineEnding};
 use std::alloc::{AllocError, Allocator};
 use text_lines::next_line;
 
@@ -72,7 +70,7 @@ impl<'a, A: Allocator> Parser<'a, A> {
     ghost use Rattle.block_parser.specs.Quotes.{NoQuoteFrom, NoneBeganBlank};
     ghost use Rattle.block_state.specs.Shows.{leaf_lines};
     ghost use Rattle.block_parser.specs.View.{Adds, Becomes, Closes, Descent, Enters, Grows, HasRead, IsEntered, KeepsLines, ReadsSome};
-    ghost use Rattle.definition_text.specs.declared.beside.Kind.TheVariants.{Whitespace};
+    ghost use Rattle.markdown_options.specs.declared.beside.Kind.TheVariants.{Whitespace};
     ghost use Rattle.definition_block.specs.Container.{Container as Holder};
     ghost use Rattle.definition_text.specs.BlockLines.{BlockLine, last_ending};
     ghost use Rattle.block_state.specs.Waits.{enter_row};

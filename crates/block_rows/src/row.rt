@@ -2,8 +2,7 @@
 ghost use Rattle.std.specs.Prelude.{◌≡◌, ◌<◌, ◌^◌};
 ghost use Rattle.block_rows.specs.Rows.{row_size};
 
-use definition_text::beside::Kind;
-use markdown_options::LineEnding;
+use markdown_options::{Kind, LineEnding};
 
 /// A line of a block: a piece of the text.
 #[derive(Clone, Copy)]

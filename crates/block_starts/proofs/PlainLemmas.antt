@@ -6,8 +6,8 @@ use Rattle.std.specs.List.{list_any, prefix_len, suffix_len}
 use Rattle.std.proofs.lemmas.Bool.{cases_Bool, cond-true, cond-false, cond_both, and_left, and_right, or_parts, or_from, ne_eqb, leb-true}
 use Rattle.std.proofs.Math.ListN.{drop_of_length-le}
 use Rattle.markdown_options.specs.declared.configuration.Constructs.{Constructs}
-use Rattle.definition_text.specs.declared.beside.Kind.{Kind}
-use Rattle.definition_text.specs.declared.beside.Kind.TheVariants.{Whitespace}
+use Rattle.markdown_options.specs.declared.beside.Kind.{Kind}
+use Rattle.markdown_options.specs.declared.beside.Kind.TheVariants.{Whitespace}
 use Rattle.definition_text.specs.Columns.{Rest, is_white, is_blank, indent, bare, is_byte, bytes_of, trim}
 use Rattle.definition_text.specs.Content.{may_escape}
 use Rattle.definition_text.specs.Indents.{small_indent}

@@ -1,7 +1,7 @@
 -- What a cursor stands for.
 use Rattle.std.specs.Prelude.{◌++◌, List, map, replicate, Option, None, Some}
-use Rattle.definition_block.specs.declared.container.Container.{Container as CodeContainer}
-use Rattle.definition_block.specs.declared.container.Container.TheVariants as code
+use Rattle.markdown_options.specs.declared.container.Container.{Container as CodeContainer}
+use Rattle.markdown_options.specs.declared.container.Container.TheVariants as code
 use Rattle.definition_block.specs.Container.{Container, Quote, Item, Footnote}
 use Rattle.definition_text.specs.Columns.{Rest, tab_column, codes_from}
 use Rattle.definition_block.specs.ContainerLine.{ContainerLine, container_line}

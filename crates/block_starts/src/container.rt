@@ -12,8 +12,7 @@ use crate::container_line::ContainerLine;
 use crate::cursor::Cursor;
 use crate::gfm_footnote_definition::{footnote_continues, footnote_may_start, footnote_start};
 use crate::list_item::{item_continues, item_start};
-use definition_block::Container;
-use markdown_options::Constructs;
+use markdown_options::{Constructs, Container};
 
 /// What is left after what the container has on this line, if it goes on. `began_blank` says of an
 /// item that it began with a blank rest on the line before.

@@ -4,7 +4,7 @@ ghost use Rattle.definition_block.specs.ContainerLine.{kind_before_content as ki
 ghost use Rattle.block_starts.specs.View.{rest_of};
 
 use crate::cursor::Cursor;
-use definition_text::Kind;
+use markdown_options::Kind;
 
 /// The rest of a line after what a container has on it, and the kind of the character before that
 /// rest.

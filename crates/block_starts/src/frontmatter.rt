@@ -8,9 +8,8 @@ ghost use Rattle.definition_block.specs.Frontmatter as spec;
 ghost use Rattle.definition_block.specs.Tree.{blocks, children};
 ghost use Rattle.block_starts.specs.Frontmatter.{lines_if};
 
-use definition_text::Kind;
-use markdown_options::Constructs;
 use markdown_options::constants::FRONTMATTER_SEQUENCE_SIZE;
+use markdown_options::{Constructs, Kind};
 use text_bytes::{is_blank, run};
 use text_lines::next_line;
 

@@ -15,9 +15,8 @@ use crate::container_line::{ContainerLine, kind_before_content};
 use crate::cursor::Cursor;
 use crate::indent::is_small;
 use crate::list_item::item_continues;
-use definition_block::Container;
-use markdown_options::Constructs;
 use markdown_options::constants::{LINK_REFERENCE_SIZE_MAX, TAB_SIZE};
+use markdown_options::{Constructs, Container};
 
 /// The marker of a footnote definition: its label, and the rest after its colon.
 #[derive(Clone, Copy)]

@@ -15,10 +15,8 @@ use crate::container_line::ContainerLine;
 use crate::cursor::Cursor;
 use crate::indent::is_small;
 use crate::thematic_break::is_break;
-use definition_block::{Container, Item};
-use definition_text::Kind;
-use markdown_options::Constructs;
 use markdown_options::constants::LIST_ITEM_VALUE_SIZE_MAX;
+use markdown_options::{Constructs, Container, Item, Kind};
 
 /// A marker: its last byte, its number, its bytes, and the rest after it.
 #[derive(Clone, Copy)]

@@ -7,8 +7,7 @@ ghost use Rattle.block_starts.specs.View.{container_view};
 ghost use Rattle.block_state.specs.Waits.{inside, outside, is_one_blank_row, enter_row as row_of_start};
 
 use block_rows::Row;
-use definition_block::Container;
-use markdown_options::LineEnding;
+use markdown_options::{Container, LineEnding};
 use std::alloc::{AllocError, Allocator};
 
 /// The rows so far, but for the endings at their end: these wait, since a container that ends may

@@ -3,15 +3,14 @@ ghost use Rattle.std.specs.Prelude.{◌≡◌, ℕ, List, IfNone, IfSome, length
 ghost use Rattle.definition_text.specs.BlockLines.{spaced_line};
 ghost use Rattle.definition_text.specs.Columns.{bytes_of, whole};
 ghost use Rattle.definition_text.specs.Lines.{ending_text, text_line};
-ghost use Rattle.definition_text.specs.declared.beside.Kind.TheVariants.{Whitespace};
+ghost use Rattle.markdown_options.specs.declared.beside.Kind.TheVariants.{Whitespace};
 ghost use Rattle.definition_block.specs.Tree.{beside_line, rest_line};
 ghost use Rattle.block_rows.specs.ParagraphLines.{AreLines};
 ghost use Rattle.block_rows.specs.Rows.{piece_line, piece_lines, whole_lines};
 ghost use Rattle.block_state.specs.WholeLines.{Begins, BeginsNot, BeginsWith};
 
 use block_rows::Piece;
-use definition_text::Kind;
-use markdown_options::LineEnding;
+use markdown_options::{Kind, LineEnding};
 
 /// A text as one line of a block, after white space.
 pub fn whole_piece<'a>(text: &'a str, ending: Option<LineEnding>) -> Piece<'a>

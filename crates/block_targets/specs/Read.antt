@@ -4,7 +4,7 @@ use Rattle.std.specs.Option.{option_map}
 use Rattle.definition_text.specs.Content.{content_codes}
 use Rattle.definition_inline.specs.Inline.{LinkTexts, link_texts}
 use Rattle.definition_inline.specs.Definition.{Definition, definition, definition_at}
-use Rattle.definition_page.specs.Targets.{labels_of, no_definition}
+use Rattle.definition_inline.specs.Targets.{labels_of, no_definition}
 use Rattle.block_rows.specs.declared.row.Row.{Row}
 use Rattle.block_rows.specs.declared.row.Row.TheVariants as row
 use Rattle.inline_labels.specs.Table.{HasLabels}

@@ -1,7 +1,7 @@
 -- What containers leave of a line (CommonMark 5).
 use Rattle.std.specs.Prelude.{Bool, false, if◌then◌else◌, [], ◌∷◌}
-use Rattle.definition_text.specs.declared.beside.Kind.{Kind}
-use Rattle.definition_text.specs.declared.beside.Kind.TheVariants.{Whitespace, Punctuation}
+use Rattle.markdown_options.specs.declared.beside.Kind.{Kind}
+use Rattle.markdown_options.specs.declared.beside.Kind.TheVariants.{Whitespace, Punctuation}
 use Rattle.definition_text.specs.Columns.{Rest, is_white}
 
 -- the rest of a line after what a container has on it, and the kind of the character before that rest

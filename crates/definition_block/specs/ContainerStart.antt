@@ -1,5 +1,5 @@
 -- Containers that start on a line (CommonMark 5).
-use Rattle.definition_text.specs.declared.beside.Kind.{Kind}
+use Rattle.markdown_options.specs.declared.beside.Kind.{Kind}
 use Rattle.definition_text.specs.Columns.{Rest}
 use Rattle.definition_block.specs.Container.{Container}
 

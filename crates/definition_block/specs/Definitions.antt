@@ -1,13 +1,15 @@
 -- Link reference definitions at the front of a paragraph (CommonMark 4.7), and the definitions of a whole document.
-use Rattle.std.specs.Prelude.{ℕ, suc, zero, ◌+◌, ◌-◌, if◌then◌else◌, List, [], ◌∷◌, ◌++◌, Option, None, Some, take, drop, length}
+use Rattle.std.specs.Prelude.{ℕ, suc, zero, ◌+◌, ◌-◌, if◌then◌else◌, List, [], ◌∷◌, ◌++◌, Option, None, Some, take, drop, length, map}
 use Rattle.std.specs.List.{count_by}
+use Rattle.std.specs.Option.{option_map}
 use Rattle.markdown_options.specs.declared.configuration.Constructs.{Constructs}
-use Rattle.definition_text.specs.Columns.{Code}
+use Rattle.definition_text.specs.Columns.{Code, code_byte}
 use Rattle.definition_text.specs.BlockLines.{BlockLine, last_ending, own_lines}
 use Rattle.definition_block.specs.Container.{Container, Footnote}
 use Rattle.definition_block.specs.Blocks.{Block, Definition, Holds, Items, Blocks, Nil, Cons, join, block_and_ending}
 use Rattle.definition_text.specs.Content.{is_eol, content_of}
 use Rattle.definition_inline.specs.Definition.{Definition as LinkDefinition, definition, definition_at}
+use Rattle.definition_inline.specs.Targets.{Targets, targets}
 
 -- the definitions at the front of a paragraph, each with the ending of its last line, and the lines after them
 pub record DefinitionCut : Type 0 where
@@ -74,3 +76,15 @@ abbrev mutual
   pub footnotes : Blocks → List (List Code)
   footnotes Nil = []
   footnotes (Cons b bs) = block_footnotes b ++ footnotes bs
+
+-- a definition whose columns that are left of a tab are spaces
+abbrev pub with_spaces : LinkDefinition → LinkDefinition
+with_spaces d = definition (map code_byte d.label) (map code_byte d.destination) (option_map (map code_byte) d.title) (map code_byte d.rest)
+
+-- the definitions of a document, as labels lead to them (CommonMark 4.7)
+abbrev pub document_definitions : Blocks → List LinkDefinition
+document_definitions bs = map with_spaces (definitions bs)
+
+-- what the labels of a document lead to; those of footnotes have no white space, and so no columns left of a tab
+abbrev pub document_targets : Blocks → Targets
+document_targets bs = targets (document_definitions bs) (footnotes bs)

@@ -4,8 +4,8 @@ use Rattle.std.specs.List.{prefix_len}
 use Rattle.markdown_options.specs.declared.configuration.ParseOptions.{ParseOptions}
 use Rattle.definition_text.specs.Ascii.{asterisk, underscore}
 use Rattle.definition_text.specs.Columns.{Code}
-use Rattle.definition_text.specs.declared.beside.Kind.{Kind}
-use Rattle.definition_text.specs.declared.beside.Kind.TheVariants.{Whitespace, Punctuation, Other}
+use Rattle.markdown_options.specs.declared.beside.Kind.{Kind}
+use Rattle.markdown_options.specs.declared.beside.Kind.TheVariants.{Whitespace, Punctuation, Other}
 use Rattle.definition_text.specs.InlineCode.{InlineCode}
 use Rattle.definition_inline.specs.GfmStrikethrough.{is_tilde, has_span_size}
 

@@ -6,7 +6,7 @@ use Rattle.std.specs.Str.{bytes_eq}
 use Rattle.markdown_options.specs.declared.configuration.Constructs.{Constructs}
 use Rattle.definition_text.specs.Ascii.{left_parenthesis, right_parenthesis, dot, slash, semicolon, less_than, at_sign, left_bracket, right_bracket, underscore}
 use Rattle.definition_text.specs.Ascii.{delete}
-use Rattle.definition_text.specs.declared.beside.Kind.{Kind}
+use Rattle.markdown_options.specs.declared.beside.Kind.{Kind}
 use Rattle.definition_text.specs.Bytes.{is_letter, is_letter_or_digit, same_caselessly, begins_with}
 use Rattle.definition_text.specs.Columns.{Code, is_white}
 use Rattle.definition_text.specs.Content.{is_eol, is_space}

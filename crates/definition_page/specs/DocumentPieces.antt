@@ -3,7 +3,7 @@ use Rattle.std.specs.Prelude.{ℕ, List, unwrap_or}
 use Rattle.markdown_options.specs.declared.configuration.Options.{Options}
 use Rattle.markdown_options.specs.LineEndings.{ending_bytes}
 use Rattle.definition_text.specs.Lines.{first_line}
-use Rattle.definition_page.specs.Targets.{linked_by}
+use Rattle.definition_inline.specs.Targets.{linked_by}
 use Rattle.definition_page.specs.TextTables.{TextTables}
 use Rattle.definition_page.specs.Page.{Page}
 use Rattle.definition_page.specs.Pieces.{Piece}

@@ -7,8 +7,8 @@ use Rattle.definition_text.specs.BlockLines.{BlockLine, spaced_line}
 use Rattle.definition_text.specs.Lines.{ending_text}
 use Rattle.definition_inline.specs.Inline.{Inline, Code, Math, Emphasis}
 use Rattle.definition_inline.specs.Inline.{Strong, Strikethrough, Link, Image, Inlines, Nil, Cons}
-use Rattle.definition_block.specs.declared.align_kind.AlignKind.{AlignKind}
-use Rattle.definition_block.specs.declared.align_kind.AlignKind.TheVariants as align
+use Rattle.markdown_options.specs.declared.align_kind.AlignKind.{AlignKind}
+use Rattle.markdown_options.specs.declared.align_kind.AlignKind.TheVariants as align
 use Rattle.definition_block.specs.GfmTable.{delimiters}
 use Rattle.definition_page.specs.Tags.{Words, Attribute, attribute, tag, bare_tag}
 use Rattle.definition_page.specs.Pieces.{Piece, Says, Fresh}

@@ -1,16 +1,17 @@
 -- What the inline structure of a content prints (CommonMark 6).
-use Rattle.std.specs.Prelude.{ℕ, Bool, true, false, if◌then◌else◌, ◌||◌, List, [], ◌∷◌, ◌++◌, Option, None, Some, codes, map, unwrap_or}
+use Rattle.std.specs.Prelude.{ℕ, Bool, true, false, if◌then◌else◌, ◌||◌, List, [], ◌∷◌, ◌++◌, Option, None, Some, codes, map}
 use Rattle.std.specs.List.{flat_map}
 use Rattle.markdown_options.specs.declared.configuration.Constructs.{Constructs}
 use Rattle.markdown_options.specs.declared.configuration.CompileOptions.{CompileOptions}
 use Rattle.definition_text.specs.Columns.{Code as ContentCode, bytes_of, bare}
 use Rattle.definition_text.specs.Content.{is_eol}
 use Rattle.definition_text.specs.Encode.{plain}
-use Rattle.definition_inline.specs.Inline.{Target, Resource, Reference, LinkTexts, link_texts, LiteralKind, Www, Protocol, Email, Inline, Data, Escape}
+use Rattle.definition_inline.specs.Inline.{LinkTexts, LiteralKind, Www, Protocol, Email, Inline, Data, Escape}
 use Rattle.definition_inline.specs.Inline.{Character}
 use Rattle.definition_inline.specs.Inline.{Code, Math, Autolink, Literal, Html, EscapedBreak, TrailingBreak, LineEnd, Emphasis, Strong, Strikethrough, Link}
 use Rattle.definition_inline.specs.Inline.{Image, Call, Inlines, Nil, Cons}
 use Rattle.definition_inline.specs.LabelMatch.{normal_label, first_match}
+use Rattle.definition_inline.specs.Targets.{leads_to}
 use Rattle.definition_inline.specs.Strings.{string_text}
 use Rattle.definition_page.specs.GfmTagfilter.{filter_if}
 use Rattle.definition_page.specs.Urls.{percent, sanitize, permits, href_protocols, src_protocols}
@@ -74,11 +75,6 @@ link_url options url = permitted_url options.allow_dangerous_protocol href_proto
 
 abbrev pub image_url : CompileOptions → List ℕ → List ℕ
 image_url options url = permitted_url (options.allow_any_img_src || options.allow_dangerous_protocol) src_protocols url
-
--- where a link or an image leads, by what the definition of a label leads to
-abbrev pub leads_to : (List ContentCode → Option LinkTexts) → Target → LinkTexts
-leads_to definition (Resource destination title) = link_texts destination title
-leads_to definition (Reference label) = unwrap_or (definition label) (link_texts [] None)
 
 -- the URL of a destination: its text, in which NUL is U+FFFD (CommonMark 6.3)
 abbrev pub url_of : Meaning → LinkTexts → List ℕ

@@ -1,6 +1,5 @@
 pub mod GfmTagfilter
 pub mod Urls
-pub mod Targets
 pub mod TextTables
 pub mod Tags
 pub mod Pieces

@@ -1,8 +1,8 @@
 -- From the lines of a text to a page (CommonMark appendix).
 use Rattle.std.specs.Prelude.{ℕ, Bool, true, false, if◌then◌else◌, not, ◌&&◌, ◌||◌, List, [], ◌∷◌, Option, None, Some, drop, map}
 use Rattle.markdown_options.specs.declared.configuration.ParseOptions.{ParseOptions}
-use Rattle.definition_text.specs.declared.beside.Kind.{Kind}
-use Rattle.definition_text.specs.declared.beside.Kind.TheVariants.{Whitespace}
+use Rattle.markdown_options.specs.declared.beside.Kind.{Kind}
+use Rattle.markdown_options.specs.declared.beside.Kind.TheVariants.{Whitespace}
 use Rattle.definition_text.specs.BlockLines.{BlockLine, own_lines}
 use Rattle.definition_text.specs.Columns.{Code, code_byte}
 use Rattle.definition_text.specs.InlineCode.{InlineCode, codes_of, inline_content, with_kinds}
@@ -17,7 +17,8 @@ use Rattle.definition_block.specs.Tree.{is_ending, blocks}
 use Rattle.definition_block.specs.Lists.{group_items, is_loose}
 use Rattle.definition_block.specs.GfmTable.{Cell, line_cells}
 use Rattle.definition_page.specs.GfmTable.{Table, TableRow, head_line, delimiter_line, body_lines, line_aligns, in_cell}
-use Rattle.definition_page.specs.Targets.{Targets, document_targets, is_label_of, is_footnote_of}
+use Rattle.definition_inline.specs.Targets.{Targets, is_label_of, is_footnote_of}
+use Rattle.definition_block.specs.Definitions.{document_targets}
 use Rattle.definition_page.specs.TextTables.{TextTables}
 use Rattle.definition_page.specs.Page as page
 use Rattle.definition_page.specs.Page.{Page, cons_ending, cons_blank}

@@ -1,6 +1,2 @@
 //! What a text is: lines, columns, contents as codes, and the kinds of characters.
 #![tactic(auto)]
-
-pub mod beside;
-
-pub use beside::{Beside, Kind};

@@ -6,7 +6,7 @@ ghost use Rattle.definition_text.specs.InlineCode.{character_kind};
 ghost use Rattle.engine_text.specs.Characters.{IsLast, kind_of_any};
 ghost use Rattle.engine_text.specs.CharacterTexts.{hex_digit, code_text, character_text, text_or_end};
 
-pub use definition_text::Kind;
+pub use markdown_options::Kind;
 use markdown_options::{Message, Tables};
 use std::alloc::{AllocError, Allocator};
 

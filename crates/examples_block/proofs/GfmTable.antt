@@ -1,8 +1,8 @@
 -- Tables: their cells, rows of delimiters, and pages, which the definition computes.
 use Rattle.std.specs.Prelude.{◌≡◌, true, false, Bool, [], ◌∷◌, ◌++◌, None, Some, codes}
 use Rattle.std.proofs.Common.{refl}
-use Rattle.definition_text.specs.declared.beside.Kind.TheVariants.{Whitespace, Punctuation}
-use Rattle.definition_block.specs.declared.align_kind.AlignKind.TheVariants as align
+use Rattle.markdown_options.specs.declared.beside.Kind.TheVariants.{Whitespace, Punctuation}
+use Rattle.markdown_options.specs.declared.align_kind.AlignKind.TheVariants as align
 use Rattle.definition_block.specs.GfmTable.{cell, cells, delimiters}
 use Rattle.markdown_options.specs.declared.configuration.Options.{Options}
 use Rattle.markdown_options.specs.Defaults.{default_constructs, default_parse_options, default_options}

@@ -5,7 +5,7 @@ use Rattle.markdown_options.specs.declared.configuration.Options.{Options}
 use Rattle.markdown_options.specs.Defaults.{no_constructs, default_parse_options, default_compile_options, default_options}
 use Rattle.definition_block.specs.HtmlNames.{raw_names, block_names}
 use Rattle.definition_page.specs.GfmTagfilter.{filtered_names}
-use Rattle.definition_text.specs.declared.beside.Kind.TheVariants.{Whitespace}
+use Rattle.markdown_options.specs.declared.beside.Kind.TheVariants.{Whitespace}
 use Rattle.definition_block.specs.Tree.{blocks}
 use Rattle.definition_block.specs.Blocks.{Blocks}
 use Rattle.definition_block.specs.Definitions.{definitions}

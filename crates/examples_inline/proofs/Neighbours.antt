@@ -3,7 +3,7 @@ use Rattle.std.specs.Prelude.{◌≡◌, [], ◌∷◌, ◌++◌, codes}
 use Rattle.std.proofs.Common.{refl}
 use Rattle.examples_inline.proofs.Computing.{pages}
 use Rattle.examples_inline.specs.Pages.{page, line_between, two_lines}
-use Rattle.definition_text.specs.declared.beside.Kind.TheVariants.{Whitespace, Punctuation, Other}
+use Rattle.markdown_options.specs.declared.beside.Kind.TheVariants.{Whitespace, Punctuation, Other}
 
 row_0 : two_lines (codes "*a") Punctuation (codes "*.") ≡ codes "<em>a\n</em>."
 unfolding pages

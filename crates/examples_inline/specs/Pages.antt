@@ -5,13 +5,13 @@ use Rattle.std.specs.Char.{is_ascii_punctuation}
 use Rattle.markdown_options.specs.declared.line_ending.LineEnding.TheVariants.{LineFeed}
 use Rattle.markdown_options.specs.declared.configuration.Options.{Options}
 use Rattle.markdown_options.specs.Defaults.{default_constructs, default_parse_options, default_compile_options, default_options}
-use Rattle.definition_text.specs.declared.beside.Kind.{Kind}
-use Rattle.definition_text.specs.declared.beside.Kind.TheVariants.{Whitespace}
+use Rattle.markdown_options.specs.declared.beside.Kind.{Kind}
+use Rattle.markdown_options.specs.declared.beside.Kind.TheVariants.{Whitespace}
 use Rattle.definition_text.specs.BlockLines.{BlockLine, block_line}
 use Rattle.definition_text.specs.InlineCode.{inline_content}
 use Rattle.definition_inline.specs.Scan.{inlines}
 use Rattle.html_bytes.specs.InlineHtml.{inline_html}
-use Rattle.definition_page.specs.Targets.{no_targets}
+use Rattle.definition_inline.specs.Targets.{no_targets}
 use Rattle.definition_page.specs.TextTables.{TextTables}
 use Rattle.html_bytes.specs.Document.{document, context_of, meaning_of}
 use Rattle.definition_page.specs.Html.{html}

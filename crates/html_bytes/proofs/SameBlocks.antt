@@ -19,10 +19,10 @@ use Rattle.definition_inline.specs.Inline.{Inlines}
 use Rattle.definition_inline.specs.GfmTaskListItem.{check_at, check_size}
 use Rattle.definition_inline.specs.Scan.{inlines_from, without_indent}
 use Rattle.definition_block.specs.Container.{Quote, Item, Footnote}
-use Rattle.definition_block.specs.declared.container.Item.{Item as ItemOf}
+use Rattle.markdown_options.specs.declared.container.Item.{Item as ItemOf}
 use Rattle.definition_block.specs.Blocks as tree
 use Rattle.definition_block.specs.Lists.{is_loose}
-use Rattle.definition_page.specs.Targets.{Targets, linked_by}
+use Rattle.definition_inline.specs.Targets.{Targets, linked_by}
 use Rattle.definition_page.specs.TextTables.{TextTables}
 use Rattle.definition_page.specs.Tags.{Words, Number, said_bytes, Attribute, Tag, tag, bare_tag, attribute, start_tag, end_tag, void_tag, attribute_bytes}
 use Rattle.definition_page.specs.Pieces.{Piece, Close, Void, Says, Eol, Fresh, NoteEnd}

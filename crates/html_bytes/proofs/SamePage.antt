@@ -7,7 +7,7 @@ use Rattle.definition_text.specs.Lines.{without_mark, kind_before_text}
 use Rattle.definition_block.specs.Lists.{group_items}
 use Rattle.definition_block.specs.Tree.{blocks}
 use Rattle.definition_page.specs.TextTables.{TextTables}
-use Rattle.definition_page.specs.Targets.{document_targets}
+use Rattle.definition_block.specs.Definitions.{document_targets}
 use Rattle.definition_page.specs.Pieces.{Piece, print}
 use Rattle.definition_page.specs.Layout.{LayoutState, layout_state, note_of, page_layout}
 use Rattle.definition_page.specs.GfmFootnoteDefinition.{section_pieces}

@@ -9,10 +9,10 @@ use Rattle.definition_text.specs.BlockLines.{BlockLine}
 use Rattle.definition_text.specs.Encode.{encode}
 use Rattle.definition_text.specs.Lines.{ending_text}
 use Rattle.definition_inline.specs.Inline as inline
-use Rattle.definition_block.specs.declared.align_kind.AlignKind.{AlignKind}
-use Rattle.definition_block.specs.declared.align_kind.AlignKind.TheVariants as align
+use Rattle.markdown_options.specs.declared.align_kind.AlignKind.{AlignKind}
+use Rattle.markdown_options.specs.declared.align_kind.AlignKind.TheVariants as align
 use Rattle.definition_block.specs.GfmTable.{Cell, line_cells}
-use Rattle.definition_page.specs.Targets.{Targets, linked_by}
+use Rattle.definition_inline.specs.Targets.{Targets, linked_by}
 use Rattle.definition_page.specs.TextTables.{TextTables}
 use Rattle.definition_page.specs.Tags.{tag, bare_tag, start_tag}
 use Rattle.definition_page.specs.Pieces.{Piece, Fresh}

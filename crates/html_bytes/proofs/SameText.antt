@@ -19,7 +19,8 @@ use Rattle.definition_inline.specs.LabelMatch.{first_match, normal_label}
 use Rattle.definition_page.specs.Layout.{layout_state, lay, once_more, latest_call}
 use Rattle.definition_page.specs.Pieces.{Says}
 use Rattle.definition_page.specs.InlinePieces as page
-use Rattle.definition_page.specs.InlinePieces.{Meaning, HtmlLine, html_lines, leads_to, address, literal_address, element, part_says}
+use Rattle.definition_page.specs.InlinePieces.{Meaning, HtmlLine, html_lines, address, literal_address, element, part_says}
+use Rattle.definition_inline.specs.Targets.{leads_to}
 use Rattle.html_bytes.specs.InlineHtml.{html_line_bytes, later_line_bytes, html_lines_bytes, html_text_bytes, title_attribute, title_html, link_tag, image_tag}
 use Rattle.html_bytes.specs.InlineHtml.{part_description, description, InlineMeaning, call_at, count_at, part_counts, inline_counts, part_pieces, inline_pieces}
 use Rattle.html_bytes.specs.Pieces.{Bytes}

@@ -1,7 +1,7 @@
 -- What a document gives to its texts, and what they print.
 use Rattle.std.specs.Prelude.{ℕ, Bool, List, ◌∷◌, Option, None, Some, drop, map}
 use Rattle.markdown_options.specs.declared.configuration.Options.{Options}
-use Rattle.definition_text.specs.declared.beside.Kind.TheVariants.{Whitespace}
+use Rattle.markdown_options.specs.declared.beside.Kind.TheVariants.{Whitespace}
 use Rattle.definition_text.specs.BlockLines.{BlockLine}
 use Rattle.definition_text.specs.InlineCode.{InlineCode, codes_of, inline_content, with_kinds}
 use Rattle.definition_inline.specs.Inline.{Inlines}
@@ -15,7 +15,7 @@ use Rattle.html_bytes.specs.InlineHtml.{InlineMeaning, inline_counts, inline_pie
 use Rattle.html_bytes.specs.Pieces.{Piece, Bytes}
 use Rattle.html_bytes.specs.Meaning.{inline_meaning}
 use Rattle.definition_page.specs.TextTables.{TextTables}
-use Rattle.definition_page.specs.Targets.{Targets, is_label_of, is_footnote_of, linked_by}
+use Rattle.definition_inline.specs.Targets.{Targets, is_label_of, is_footnote_of, linked_by}
 
 -- the options, the tables, and what labels lead to
 pub record Document : Type 0 where

@@ -4,8 +4,8 @@ use Rattle.std.specs.List.{flat_map}
 use Rattle.markdown_options.specs.declared.line_ending.LineEnding.{LineEnding}
 use Rattle.definition_text.specs.BlockLines.{BlockLine}
 use Rattle.definition_text.specs.Lines.{ending_text}
-use Rattle.definition_block.specs.declared.align_kind.AlignKind.{AlignKind}
-use Rattle.definition_block.specs.declared.align_kind.AlignKind.TheVariants as align
+use Rattle.markdown_options.specs.declared.align_kind.AlignKind.{AlignKind}
+use Rattle.markdown_options.specs.declared.align_kind.AlignKind.TheVariants as align
 use Rattle.definition_block.specs.GfmTable.{Cell, line_cells}
 use Rattle.definition_page.specs.GfmTable.{head_line, delimiter_line, body_lines, line_aligns}
 use Rattle.html_bytes.specs.Document.{Document, cell_of, cell_counts}

@@ -7,7 +7,7 @@ use Rattle.markdown_options.specs.declared.configuration.CompileOptions.{Compile
 use Rattle.markdown_options.specs.declared.configuration.Options.{Options}
 use Rattle.markdown_options.specs.LineEndings.{ending_bytes}
 use Rattle.definition_block.specs.Container.{Quote, Item, Footnote}
-use Rattle.definition_text.specs.declared.beside.Kind.{Kind}
+use Rattle.markdown_options.specs.declared.beside.Kind.{Kind}
 use Rattle.definition_text.specs.Lines.{ending_text, first_line}
 use Rattle.definition_text.specs.Columns.{code_byte, bytes_of}
 use Rattle.definition_text.specs.Encode.{encode}
@@ -16,7 +16,7 @@ use Rattle.definition_text.specs.BlockLines.{BlockLine, own_lines}
 use Rattle.definition_block.specs.Tree.{Block, Paragraph, Heading, Break, IndentedCode, FencedCode, Html, Table, Definition, Holds, Items, Ending, Blank}
 use Rattle.definition_block.specs.Tree.{Blocks, Nil, Cons, is_ending, blocks}
 use Rattle.definition_block.specs.Lists.{group_items, is_loose}
-use Rattle.definition_page.specs.Targets.{document_targets}
+use Rattle.definition_block.specs.Definitions.{document_targets}
 use Rattle.definition_page.specs.TextTables.{TextTables}
 use Rattle.definition_page.specs.Read.{Standing, on_page, in_container, in_item, next_standing, list_number, ends_blank}
 use Rattle.html_bytes.specs.Document.{Document, document, text_of, paragraph_of, info_of}

@@ -5,7 +5,8 @@ use Rattle.markdown_options.specs.declared.configuration.Constructs.{Constructs}
 use Rattle.markdown_options.specs.declared.configuration.CompileOptions.{CompileOptions}
 use Rattle.definition_text.specs.Columns.{bytes_of, bare}
 use Rattle.definition_text.specs.Encode.{encode, encoded_byte, plain}
-use Rattle.definition_page.specs.InlinePieces.{HtmlLine, html_lines, leads_to, address, literal_address}
+use Rattle.definition_page.specs.InlinePieces.{HtmlLine, html_lines, address, literal_address}
+use Rattle.definition_inline.specs.Targets.{leads_to}
 use Rattle.html_bytes.specs.RawHtml.{raw_html}
 use Rattle.html_bytes.specs.Pieces.{Piece, Bytes, CallOf, CountOf}
 use Rattle.definition_inline.specs.LabelMatch.{first_match, normal_label}

@@ -3,7 +3,7 @@ use Rattle.std.specs.Prelude.{◌≡◌, ℕ, List, OnOk, Result, map}
 use Rattle.std.specs.List.{fold}
 use Rattle.definition_inline.specs.Inline as inline
 use Rattle.definition_inline.specs.Definition.{Definition}
-use Rattle.definition_page.specs.Targets.{Targets}
+use Rattle.definition_inline.specs.Targets.{Targets}
 use Rattle.inline_parser.specs.Scanned.{HasTargets}
 use Rattle.inline_links.specs.View.{link_texts_view}
 use Rattle.markdown_options.specs.declared.tables.Tables as tables

@@ -23,7 +23,7 @@ pub struct TextBuffers<'a, A: Allocator + Clone> {
 }
 
 impl<'a, A: Allocator + Clone> TextBuffers<'a, A> {
-    ghost use Rattle.definition_text.specs.declared.beside.Kind.{Kind};
+    ghost use Rattle.markdown_options.specs.declared.beside.Kind.{Kind};
     /// Buffers that hold nothing yet.
     pub fn new(alloc: A) -> Result<TextBuffers<'a, A>, AllocError>
         ensures content { (is_punctuation : ℕ → Bool) (after : Kind) → IfOk result (λ buffers. buffer_view is_punctuation after buffers.content ≡ []) }

@@ -1,6 +1,6 @@
 //! The cells of tables (GFM 4.10).
 ghost use Rattle.html_bytes.specs.Document.{cell_counts, cell_of};
-ghost use Rattle.definition_page.specs.Targets.{Targets};
+ghost use Rattle.definition_inline.specs.Targets.{Targets};
 ghost use Rattle.block_rows.specs.ParagraphLines.{HaveNoEnding};
 ghost use Rattle.block_rows.specs.Rows.{piece_line};
 ghost use Rattle.block_cells.specs.GfmTable.{cell_view};

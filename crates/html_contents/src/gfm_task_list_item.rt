@@ -1,5 +1,5 @@
 //! Paragraphs that may begin with a check (GFM 5.3).
-ghost use Rattle.definition_page.specs.Targets.{Targets};
+ghost use Rattle.definition_inline.specs.Targets.{Targets};
 ghost use Rattle.definition_inline.specs.GfmTaskListItem.{check_at};
 ghost use Rattle.definition_inline.specs.Scan.{without_indent};
 ghost use Rattle.definition_text.specs.InlineCode.{codes_of};

@@ -3,7 +3,7 @@ ghost use Rattle.std.specs.Prelude.{◌≡◌, ◌++◌, ◌∷◌, [], OnOk, st
 ghost use Rattle.html_bytes.specs.Document.{context_of, meaning_of, text_of, paragraph_of, info_of};
 ghost use Rattle.definition_text.specs.Encode.{encode};
 ghost use Rattle.html_bytes.specs.InlineHtml.{inline_counts, inline_pieces};
-ghost use Rattle.definition_page.specs.Targets.{Targets};
+ghost use Rattle.definition_inline.specs.Targets.{Targets};
 ghost use Rattle.block_rows.specs.ParagraphLines.{HaveNoEnding, AreLines};
 ghost use Rattle.block_rows.specs.Rows.{piece_line, piece_lines, whole_lines};
 ghost use Rattle.definition_inline.specs.Scan.{inlines, inlines_from};
@@ -16,14 +16,13 @@ ghost use Rattle.html_inline.specs.GfmTable.{parts_in_cell};
 
 use crate::buffers::TextBuffers;
 use block_rows::Piece;
-use definition_text::Kind;
 use html_footnotes::Output;
 use html_inline::{Printing, Scratch, count_rows, push_alone, push_encoded_string, push_rows};
 use inline_content::{Content, line_content, whole_content};
 use inline_labels::LabelTable;
 use inline_links::LinkTexts;
 use inline_parser::{FoundRows, Room, RowRoom, content_start, inline_rows};
-use markdown_options::{Options, Tables};
+use markdown_options::{Kind, Options, Tables};
 use std::alloc::{AllocError, Allocator};
 
 /// What the texts of a document are read and printed by.

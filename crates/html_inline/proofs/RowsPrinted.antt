@@ -7,7 +7,7 @@ use Rattle.definition_inline.specs.LabelMatch.{first_match, normal_label}
 use Rattle.definition_inline.specs.Inline.{LinkTexts, Inline, Data, Escape, Character, Code, Math, Autolink, Literal, Html, EscapedBreak, TrailingBreak}
 use Rattle.definition_inline.specs.Inline.{LineEnd}
 use Rattle.definition_inline.specs.Inline.{Emphasis, Strong, Strikethrough, Link, Image, Call, Inlines, Nil, Cons}
-use Rattle.definition_page.specs.InlinePieces.{leads_to}
+use Rattle.definition_inline.specs.Targets.{leads_to}
 use Rattle.definition_page.specs.Layout.{LayoutState}
 use Rattle.html_bytes.specs.InlineHtml.{InlineMeaning, title_attribute, link_tag, image_tag, description, part_description, part_html, call_at, count_at}
 use Rattle.html_bytes.specs.InlineHtml.{part_counts, inline_counts, part_pieces, inline_pieces}

@@ -5,7 +5,7 @@ ghost use Rattle.markdown_options.specs.declared.configuration.CompileOptions as
 ghost use Rattle.definition_text.specs.Content.{content_codes};
 ghost use Rattle.definition_inline.specs.Inline as inline;
 ghost use Rattle.definition_inline.specs.LabelMatch.{first_match, normal_label};
-ghost use Rattle.definition_page.specs.InlinePieces.{leads_to};
+ghost use Rattle.definition_inline.specs.Targets.{leads_to};
 ghost use Rattle.html_bytes.specs.InlineHtml.{InlineMeaning, count_at, inline_counts};
 ghost use Rattle.html_bytes.specs.Layout.{lay};
 ghost use Rattle.html_footnotes.specs.Output.{output_view};

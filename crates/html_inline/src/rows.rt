@@ -5,7 +5,7 @@
 ghost use Rattle.std.specs.Prelude.{◌≡◌, ◌∷◌, [], ℕ, Bool, List, OnOk, map, reverse, slice_index_or};
 ghost use Rattle.std.specs.List.{fold};
 ghost use Rattle.definition_inline.specs.Inline as inline;
-ghost use Rattle.definition_page.specs.InlinePieces.{leads_to};
+ghost use Rattle.definition_inline.specs.Targets.{leads_to};
 ghost use Rattle.html_bytes.specs.InlineHtml.{InlineMeaning, inline_pieces};
 ghost use Rattle.html_bytes.specs.Layout.{lay};
 ghost use Rattle.html_footnotes.specs.Output.{output_view};

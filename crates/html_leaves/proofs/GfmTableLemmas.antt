@@ -12,9 +12,9 @@ use Rattle.definition_text.specs.BlockLines.{BlockLine, own_lines, last_ending}
 use Rattle.definition_text.specs.Columns.{is_blank}
 use Rattle.definition_text.specs.Content.{is_eol, may_escape}
 use Rattle.definition_text.specs.Lines.{ending_text}
-use Rattle.definition_text.specs.declared.beside.Kind.{Kind}
-use Rattle.definition_text.specs.declared.beside.Kind.TheVariants.{Punctuation}
-use Rattle.definition_block.specs.declared.align_kind.AlignKind.{AlignKind}
+use Rattle.markdown_options.specs.declared.beside.Kind.{Kind}
+use Rattle.markdown_options.specs.declared.beside.Kind.TheVariants.{Punctuation}
+use Rattle.markdown_options.specs.declared.align_kind.AlignKind.{AlignKind}
 use Rattle.definition_block.specs.GfmTable.{Cell, in_first_cell, is_bar, parts, without_blank_first, without_blank_last, line_cells}
 use Rattle.block_rows.specs.ParagraphLines.{HaveNoEnding}
 use Rattle.block_rows.specs.declared.row.Piece.{Piece as LinePiece}

@@ -1,6 +1,6 @@
 -- The cells of a table, as they are printed one by one.
 use Rattle.std.specs.Prelude.{ℕ, List, [], ◌∷◌, Option, None, Some, codes}
-use Rattle.definition_block.specs.declared.align_kind.AlignKind.{AlignKind}
+use Rattle.markdown_options.specs.declared.align_kind.AlignKind.{AlignKind}
 use Rattle.definition_block.specs.GfmTable as table
 use Rattle.block_rows.specs.ParagraphLines.{HaveNoEnding}
 use Rattle.block_cells.specs.declared.gfm_table.Cell.{Cell}

@@ -2,7 +2,7 @@
 ghost use Rattle.std.specs.Prelude.{◌≡◌, ◌<◌, ◌++◌, ℕ, Bool, OnOk, codes, slice_index, true, false};
 ghost use Rattle.markdown_options.specs.LineEndings.{ending_bytes};
 ghost use Rattle.definition_text.specs.Lines.{ending_text};
-ghost use Rattle.definition_page.specs.Targets.{Targets};
+ghost use Rattle.definition_inline.specs.Targets.{Targets};
 ghost use Rattle.markdown_options.specs.declared.configuration.CompileOptions.{CompileOptions};
 ghost use Rattle.block_rows.specs.ParagraphLines.{HaveNoEnding};
 ghost use Rattle.definition_block.specs.Tree.{FencedCode};

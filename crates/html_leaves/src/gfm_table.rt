@@ -7,7 +7,7 @@
 ghost use Rattle.std.specs.Prelude.{◌≡◌, ◌≤◌, OnOk, length};
 ghost use Rattle.std.specs.List.{flat_map};
 ghost use Rattle.markdown_options.specs.declared.configuration.CompileOptions.{CompileOptions};
-ghost use Rattle.definition_page.specs.Targets.{Targets};
+ghost use Rattle.definition_inline.specs.Targets.{Targets};
 ghost use Rattle.definition_text.specs.BlockLines.{own_lines};
 ghost use Rattle.definition_block.specs.GfmTable.{line_cells};
 ghost use Rattle.block_rows.specs.ParagraphLines.{HaveNoEnding};
@@ -24,9 +24,8 @@ ghost use Rattle.html_leaves.specs.Prints.{LaysOut, KeepsEnding};
 use crate::page::Page;
 use block_cells::{Cell, Cells, read_delimiters};
 use block_rows::Piece;
-use definition_block::AlignKind;
 use html_contents::Texts;
-use markdown_options::{LineEnding, Tables};
+use markdown_options::{AlignKind, LineEnding, Tables};
 use std::alloc::{AllocError, Allocator};
 
 /// Which part of a table a cell is in.

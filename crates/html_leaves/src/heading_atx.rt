@@ -1,6 +1,6 @@
 //! ATX headings (CommonMark 4.2).
 ghost use Rattle.std.specs.Prelude.{◌≤◌, ◌∷◌, [], OnOk, false};
-ghost use Rattle.definition_page.specs.Targets.{Targets};
+ghost use Rattle.definition_inline.specs.Targets.{Targets};
 ghost use Rattle.definition_text.specs.BlockLines.{own_lines};
 ghost use Rattle.definition_block.specs.Tree.{Heading};
 ghost use Rattle.definition_page.specs.Read.{on_page};

@@ -1,7 +1,7 @@
 //! Setext headings (CommonMark 4.3).
 ghost use Rattle.std.specs.Prelude.{◌≤◌, OnOk, false};
 ghost use Rattle.html_bytes.specs.Document.{text_of};
-ghost use Rattle.definition_page.specs.Targets.{Targets};
+ghost use Rattle.definition_inline.specs.Targets.{Targets};
 ghost use Rattle.definition_text.specs.BlockLines.{own_lines};
 ghost use Rattle.definition_block.specs.Tree.{Heading};
 ghost use Rattle.definition_page.specs.Read.{on_page};

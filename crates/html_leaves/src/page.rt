@@ -2,7 +2,7 @@
 ghost use Rattle.std.specs.Prelude.{◌≡◌, ◌≤◌, IfOk, OnOk, length, string_bytes};
 ghost use Rattle.markdown_options.specs.LineEndings.{ending_bytes};
 ghost use Rattle.definition_text.specs.Lines.{ending_text};
-ghost use Rattle.definition_page.specs.Targets.{Targets};
+ghost use Rattle.definition_inline.specs.Targets.{Targets};
 ghost use Rattle.definition_block.specs.Tree.{Ending};
 ghost use Rattle.block_rows.specs.Rows.{row_size, piece_lines, row_value, Single};
 ghost use Rattle.html_bytes.specs.Document.{Document};

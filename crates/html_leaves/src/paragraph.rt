@@ -1,6 +1,6 @@
 //! Paragraphs (CommonMark 4.8).
 ghost use Rattle.std.specs.Prelude.{◌<◌, ℕ, slice_index, OnOk, false};
-ghost use Rattle.definition_page.specs.Targets.{Targets};
+ghost use Rattle.definition_inline.specs.Targets.{Targets};
 ghost use Rattle.block_rows.specs.ParagraphLines.{AreLines};
 ghost use Rattle.definition_text.specs.BlockLines.{own_lines};
 ghost use Rattle.definition_block.specs.Tree.{Paragraph};

@@ -1,7 +1,7 @@
 //! Rows to HTML.
 ghost use Rattle.std.specs.Prelude.{◌≡◌, ◌≤◌, ◌<◌, ◌*◌, List, IfOk, string_bytes, length, drop, vec_capacity, vec_len};
 ghost use Rattle.markdown_options.specs.LineEndings.{ending_bytes};
-ghost use Rattle.definition_page.specs.Targets.{Targets};
+ghost use Rattle.definition_inline.specs.Targets.{Targets};
 ghost use Rattle.definition_text.specs.BlockLines.{BlockLine};
 ghost use Rattle.definition_block.specs.Tree.{Blocks};
 ghost use Rattle.html_bytes.specs.Layout.{page_layout};

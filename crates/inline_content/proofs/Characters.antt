@@ -3,7 +3,7 @@ use Rattle.std.proofs.Common.{◌≡◌, ℕ, zero, suc, ◌+◌, ◌-◌, ◌*�
 use Rattle.std.proofs.Common.{sym, ap, ◌∙◌, arith, ◌||◌, length, get_or}
 use Rattle.std.specs.Char.{encode_utf8}
 use Rattle.std.proofs.lemmas.Bool.{cases_lt, cond-true, cond-false, lt-ltb, le-ltb, le-leb, and_left, and_from, and_right, lt-leb, ne_eqb, or_from}
-use Rattle.definition_text.specs.declared.beside.Kind.{Kind}
+use Rattle.markdown_options.specs.declared.beside.Kind.{Kind}
 use Rattle.definition_text.specs.Lines.{ends_line}
 use Rattle.definition_text.specs.Content.{is_eol}
 use Rattle.definition_text.specs.InlineCode.{first_character, first_kind, is_continuation, character_kind}

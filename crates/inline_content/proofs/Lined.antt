@@ -8,8 +8,8 @@ use Rattle.std.proofs.lemmas.List.{append-nil, length-append, map-append}
 use Rattle.markdown_options.specs.declared.line_ending.LineEnding.{LineEnding}
 use Rattle.markdown_options.specs.declared.line_ending.LineEnding.TheVariants.{CarriageReturnLineFeed, CarriageReturn, LineFeed}
 use Rattle.markdown_options.specs.LineEndings.{ending_bytes}
-use Rattle.definition_text.specs.declared.beside.Kind.{Kind}
-use Rattle.definition_text.specs.declared.beside.Kind.TheVariants.{Whitespace, Punctuation, Other}
+use Rattle.markdown_options.specs.declared.beside.Kind.{Kind}
+use Rattle.markdown_options.specs.declared.beside.Kind.TheVariants.{Whitespace, Punctuation, Other}
 use Rattle.definition_text.specs.Lines.{ending_text}
 use Rattle.definition_text.specs.Columns.{code_byte}
 use Rattle.definition_text.specs.BlockLines.{BlockLine, own_lines}

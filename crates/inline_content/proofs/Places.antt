@@ -4,8 +4,8 @@ use Rattle.std.proofs.Common.{drop, subst, arith, ◌⊎◌}
 use Rattle.std.specs.Char.{encode_utf8}
 use Rattle.std.proofs.lemmas.Bool.{cases_Bool, cases_eq, cond-true, cond-false, eqb-true, ne_eqb, or_cases, true≢false}
 use Rattle.std.proofs.lemmas.List.{append-nil, take_at, drop_at, get_or_at, length-append, drop-drop}
-use Rattle.definition_text.specs.declared.beside.Kind.{Kind}
-use Rattle.definition_text.specs.declared.beside.Kind.TheVariants.{Whitespace}
+use Rattle.markdown_options.specs.declared.beside.Kind.{Kind}
+use Rattle.markdown_options.specs.declared.beside.Kind.TheVariants.{Whitespace}
 use Rattle.definition_text.specs.Lines.{ends_line}
 use Rattle.definition_text.specs.Content.{is_eol, content_codes}
 use Rattle.definition_text.specs.InlineCode.{first_kind, character_kind}

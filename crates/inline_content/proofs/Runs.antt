@@ -8,7 +8,7 @@ use Rattle.std.proofs.lemmas.List.Sums.{prefix_len_passes, prefix_len-le-length}
 use Rattle.std.specs.Str.{IsUtf8, IsCharBoundary}
 use Rattle.std.proofs.lemmas.Str.{IsCharBoundary-after_ascii}
 use Rattle.markdown_options.specs.declared.configuration.ParseOptions.{ParseOptions}
-use Rattle.definition_text.specs.declared.beside.Kind.{Kind}
+use Rattle.markdown_options.specs.declared.beside.Kind.{Kind}
 use Rattle.definition_text.specs.Content.{is_eol, content_codes}
 use Rattle.definition_text.specs.InlineCode.{InlineCode, codes_of, first_kind, inline_code}
 use Rattle.definition_inline.specs.Attention.{is_marker, run_between, run_size, run_at}

@@ -1,7 +1,7 @@
 -- The codes that a content stands for, and what stands beside them (CommonMark 6.2).
 use Rattle.std.specs.Prelude.{Option, None, Some, ℕ, ◌+◌, ◌-◌, Bool, if◌then◌else◌, ◌==◌, List, [], ◌∷◌, ◌++◌, drop, take, length}
-use Rattle.definition_text.specs.declared.beside.Kind.{Kind}
-use Rattle.definition_text.specs.declared.beside.Kind.TheVariants.{Whitespace}
+use Rattle.markdown_options.specs.declared.beside.Kind.{Kind}
+use Rattle.markdown_options.specs.declared.beside.Kind.TheVariants.{Whitespace}
 use Rattle.definition_text.specs.BlockLines.{own_lines}
 use Rattle.definition_text.specs.Content.{return_and_feed, is_eol, content_codes}
 use Rattle.block_rows.specs.Rows.{whole_lines}

@@ -6,7 +6,7 @@ ghost use Rattle.inline_content.specs.Marks.{mark_place};
 use crate::content::Content;
 use crate::mark::{Mark, push_mark};
 use block_rows::{Piece, push_ending, push_line};
-use definition_text::Kind;
+use markdown_options::Kind;
 use std::alloc::{AllocError, Allocator};
 
 /// The content of the lines of a block. Its memory is used again for the next block.
@@ -18,7 +18,7 @@ pub struct ContentBuffer<A: Allocator> {
 }
 
 impl<A: Allocator + Clone> ContentBuffer<A> {
-    ghost use Rattle.definition_text.specs.declared.beside.Kind.{Kind};
+    ghost use Rattle.markdown_options.specs.declared.beside.Kind.{Kind};
     ghost use Rattle.inline_content.specs.Buffers.{buffer_view};
 
     /// The content of no lines.
@@ -33,7 +33,7 @@ impl<A: Allocator + Clone> ContentBuffer<A> {
 }
 
 impl<A: Allocator> ContentBuffer<A> {
-    ghost use Rattle.definition_text.specs.declared.beside.Kind.{Kind};
+    ghost use Rattle.markdown_options.specs.declared.beside.Kind.{Kind};
     ghost use Rattle.definition_text.specs.BlockLines.{own_lines};
     ghost use Rattle.block_rows.specs.Rows.{piece_lines};
     ghost use Rattle.definition_text.specs.InlineCode.{inline_content};

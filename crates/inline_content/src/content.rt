@@ -4,7 +4,7 @@ ghost use Rattle.std.specs.List.Sorted.{IsNonDecreasingBy};
 ghost use Rattle.inline_content.specs.Marks.{kind_at, mark_place};
 
 use crate::mark::Mark;
-use definition_text::Kind;
+use markdown_options::Kind;
 
 /// A content: its bytes, and what stands before its lines in the text.
 #[derive(Clone, Copy)]

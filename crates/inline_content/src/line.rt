@@ -11,7 +11,7 @@ ghost use Rattle.inline_content.specs.View.{content_view, codes_with_marks};
 use crate::content::Content;
 use crate::mark::Mark;
 use block_rows::Piece;
-use definition_text::Kind;
+use markdown_options::Kind;
 
 /// The mark of a first line after punctuation.
 const AFTER_PUNCTUATION: Mark = Mark {

@@ -5,7 +5,7 @@ ghost use Rattle.std.specs.List.Sorted.{IsNonDecreasingBy};
 ghost use Rattle.inline_content.specs.Marks.{mark_place};
 ghost use Rattle.inline_content.specs.Lines.{mark_of};
 
-use definition_text::Kind;
+use markdown_options::Kind;
 use std::alloc::{AllocError, Allocator};
 
 /// The start of a line before which something else than white space stands in the text.

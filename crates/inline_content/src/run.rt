@@ -15,9 +15,8 @@ ghost use Rattle.inline_content.specs.Fronts.{StartsRun};
 ghost use Rattle.inline_content.specs.View.{line_rest, kind_at_place, view_at};
 
 use crate::content::Content;
-use definition_text::Kind;
 use inline_runs::{Run, run_between};
-use markdown_options::{ParseOptions, Tables};
+use markdown_options::{Kind, ParseOptions, Tables};
 
 impl<'a> Content<'a> {
     /// The run that a rest of the content begins with (CommonMark 6.2).

@@ -7,7 +7,7 @@ ghost use Rattle.inline_content.specs.Endings.{without_last};
 ghost use Rattle.inline_content.specs.View.{content_view, whole_view};
 
 use crate::content::Content;
-use definition_text::Kind;
+use markdown_options::Kind;
 
 /// The content of the lines of a text, without the last ending.
 #[inline(always)]

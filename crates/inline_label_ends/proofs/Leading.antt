@@ -3,9 +3,9 @@ use Rattle.std.proofs.Common.{◌≡◌, ℕ, List, [], None, ap, sym, ◌∙◌
 use Rattle.std.specs.Option.{option_map, unwrap_or}
 use Rattle.definition_inline.specs.Inline.{Target, LinkTexts, link_texts}
 use Rattle.definition_inline.specs.Inline as inline
-use Rattle.definition_page.specs.InlinePieces.{leads_to}
+use Rattle.definition_inline.specs.Targets.{leads_to}
 use Rattle.definition_inline.specs.Definition.{Definition}
-use Rattle.definition_page.specs.Targets.{labels_of, linked_at, linked_by}
+use Rattle.definition_inline.specs.Targets.{labels_of, linked_at, linked_by}
 use Rattle.inline_rows.specs.declared.row.LinkTarget.{LinkTarget}
 use Rattle.inline_rows.specs.declared.row.LinkTarget.TheVariants.{Resource, Definition as Place}
 use Rattle.inline_rows.specs.View.{target_texts}

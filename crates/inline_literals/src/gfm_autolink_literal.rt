@@ -17,11 +17,10 @@ ghost use Rattle.inline_literals.specs.Literals.{may_begin, size_after, start_vi
 
 use crate::name::{goes_beyond, has_no_parenthesis, last_low_line, name_size};
 use crate::names_in_vain::NamesInVain;
-use definition_text::Kind;
 use inline_content::{Content, first_kind};
 use inline_leaves::cut::{cut_after, rest_from, text_before};
 use inline_leaves::{Leaf, LeafPart, LiteralKind};
-use markdown_options::{Constructs, Tables};
+use markdown_options::{Constructs, Kind, Tables};
 
 /// What begins a literal.
 #[derive(Clone, Copy)]

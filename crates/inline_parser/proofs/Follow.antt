@@ -23,7 +23,7 @@ use Rattle.definition_inline.specs.Attention.{run_at}
 use Rattle.definition_inline.specs.Spans.{Item, Delimiters}
 use Rattle.definition_inline.specs.LabelEnd.{LinkTail, formed_size}
 use Rattle.definition_inline.specs.LabelEnd as ends
-use Rattle.definition_page.specs.Targets.{Targets}
+use Rattle.definition_inline.specs.Targets.{Targets}
 use Rattle.definition_inline.specs.Scan as scan
 use Rattle.definition_inline.specs.Scan.{label_start_at, start_bytes, start_more, read_tokens, leaf_here}
 use Rattle.inline_runs.specs.View.{run_view}

@@ -14,7 +14,7 @@ use Rattle.definition_inline.specs.Inline.{Target, LinkTexts, link_texts, Data, 
 use Rattle.definition_inline.specs.Scan as scan
 use Rattle.definition_inline.specs.Scan.{InlineContext, read_tokens, spans_from, whole_text}
 use Rattle.definition_inline.specs.Spans.{Item, with_spans}
-use Rattle.definition_page.specs.Targets.{Targets}
+use Rattle.definition_inline.specs.Targets.{Targets}
 use Rattle.inline_content.specs.declared.content.Content.{Content}
 use Rattle.inline_content.specs.View.{view_at}
 use Rattle.inline_leaves.specs.Leaves.{size_before, IsAfter}

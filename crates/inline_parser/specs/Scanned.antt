@@ -6,12 +6,12 @@ use Rattle.markdown_options.specs.declared.configuration.ParseOptions.{ParseOpti
 use Rattle.markdown_options.specs.declared.tables.Tables as tables
 use Rattle.definition_text.specs.Ascii.{carriage_return}
 use Rattle.definition_text.specs.Content.{content_codes, return_and_feed}
-use Rattle.definition_page.specs.InlinePieces.{leads_to}
+use Rattle.definition_inline.specs.Targets.{leads_to}
 use Rattle.definition_inline.specs.Attention.{run_at}
 use Rattle.definition_inline.specs.Scan as scan
 use Rattle.definition_inline.specs.LabelEnd.{LinkOrCall}
 use Rattle.definition_inline.specs.Scan.{InlineContext, ended_by, leaf_here, start_bytes}
-use Rattle.definition_page.specs.Targets.{Targets, is_label_of, is_footnote_of, labels_of, linked_at, linked_by}
+use Rattle.definition_inline.specs.Targets.{Targets, is_label_of, is_footnote_of, labels_of, linked_at, linked_by}
 use Rattle.inline_content.specs.declared.content.Content.{Content}
 use Rattle.inline_content.specs.View.{view_at}
 use Rattle.inline_leaves.specs.Leaves.{size_before, IsAfter, IsEnd}

@@ -9,8 +9,7 @@ ghost use Rattle.definition_inline.specs.Attention.{is_other, is_punctuation_kin
 ghost use Rattle.inline_runs.specs.View.{run_view};
 
 use crate::gfm_strikethrough::has_span_size;
-use definition_text::Kind;
-use markdown_options::ParseOptions;
+use markdown_options::{Kind, ParseOptions};
 
 /// A run of one byte (CommonMark 6.2).
 #[derive(Clone, Copy)]

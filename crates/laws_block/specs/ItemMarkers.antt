@@ -2,7 +2,7 @@
 use Rattle.std.specs.Prelude.{◌≡◌, ℕ, Bool, false, not, ◌==◌, ◌||◌, List}
 use Rattle.markdown_options.specs.declared.configuration.Constructs.{Constructs}
 use Rattle.definition_text.specs.Ascii.{right_parenthesis, asterisk, plus, hyphen, dot}
-use Rattle.definition_text.specs.declared.beside.Kind.{Kind}
+use Rattle.markdown_options.specs.declared.beside.Kind.{Kind}
 use Rattle.definition_block.specs.Container.{Item}
 use Rattle.definition_block.specs.Tree.{Block, Holds, blocks}
 use Rattle.laws_block.specs.Occurs.{has}

@@ -1,6 +1,6 @@
 -- A character that an ending cuts.
 use Rattle.std.proofs.Common.{cond, refl, ap}
-use Rattle.definition_text.specs.declared.beside.Kind.TheVariants.{Punctuation, Other}
+use Rattle.markdown_options.specs.declared.beside.Kind.TheVariants.{Punctuation, Other}
 use Rattle.laws_endings.specs.Laws.{CutCharacterLaw}
 
 pub cut_character_law : CutCharacterLaw

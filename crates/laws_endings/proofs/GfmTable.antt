@@ -5,8 +5,8 @@ use Rattle.markdown_options.specs.declared.line_ending.LineEnding.{LineEnding}
 use Rattle.definition_text.specs.BlockLines.{BlockLine}
 use Rattle.definition_text.specs.Columns.{is_blank, is_white}
 use Rattle.definition_text.specs.Content.{may_escape}
-use Rattle.definition_text.specs.declared.beside.Kind.{Kind}
-use Rattle.definition_text.specs.declared.beside.Kind.TheVariants.{Punctuation}
+use Rattle.markdown_options.specs.declared.beside.Kind.{Kind}
+use Rattle.markdown_options.specs.declared.beside.Kind.TheVariants.{Punctuation}
 use Rattle.definition_block.specs.GfmTable.{Cell, cell, in_first_cell, is_bar, parts, without_blank_first, without_blank_last, cells, line_cells, is_head}
 use Rattle.laws_endings.specs.Endings.{code_with, codes_with, lines_with}
 use Rattle.laws_endings.proofs.Codes.{cond-under, same_code}

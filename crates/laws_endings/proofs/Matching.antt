@@ -14,7 +14,8 @@ use Rattle.definition_block.specs.Blocks.{Block, Paragraph, Heading, Break, Inde
 use Rattle.definition_block.specs.Blocks.{Blocks, Nil, Cons}
 use Rattle.definition_block.specs.Definitions.{block_definitions, definitions, container_footnotes, block_footnotes, footnotes}
 use Rattle.definition_block.specs.Tree.{blocks}
-use Rattle.definition_page.specs.Targets.{with_spaces, document_definitions}
+use Rattle.definition_block.specs.Definitions.{with_spaces}
+use Rattle.definition_block.specs.Definitions.{document_definitions}
 use Rattle.laws_endings.specs.Endings.{code_with, codes_with, definition_with, block_with, blocks_with}
 use Rattle.laws_endings.specs.Laws.{LabelsLaw, DefinitionsLaw, FootnotesLaw}
 use Rattle.laws_endings.proofs.Codes.{same_code}

@@ -1,6 +1,6 @@
 -- What is open after some lines, with another line ending in place of each LF.
 use Rattle.markdown_options.specs.declared.line_ending.LineEnding.{LineEnding}
-use Rattle.definition_text.specs.declared.beside.Beside.{Beside}
+use Rattle.markdown_options.specs.declared.beside.Beside.{Beside}
 use Rattle.definition_block.specs.Tree.{OpenLeaf, Text, Indented, Fenced, OpenHtml, OpenTable, Opening, Leaf, Inside, Tree, tree}
 use Rattle.laws_endings.specs.Endings.{if_ending_with, lines_with, blocks_with}
 

@@ -10,7 +10,7 @@ use Rattle.markdown_options.specs.declared.configuration.Constructs.{Constructs}
 use Rattle.definition_block.specs.Container.{Container, Quote, Item, Footnote}
 use Rattle.definition_text.specs.Columns.{Rest, codes_from, tab_column, columns_after_tab, indent, bare, is_tab_column, is_byte, bytes_of, block_codes}
 use Rattle.definition_text.specs.Columns.{is_white, trim}
-use Rattle.definition_text.specs.declared.beside.Kind.TheVariants.{Whitespace}
+use Rattle.markdown_options.specs.declared.beside.Kind.TheVariants.{Whitespace}
 use Rattle.definition_text.specs.Indents.{small_indent, outdent}
 use Rattle.definition_text.specs.Content.{line_ending_code}
 use Rattle.definition_text.specs.Runs.{run, after_run}

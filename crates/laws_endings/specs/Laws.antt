@@ -4,8 +4,8 @@ use Rattle.std.specs.List.{All}
 use Rattle.markdown_options.specs.declared.line_ending.LineEnding.{LineEnding}
 use Rattle.markdown_options.specs.declared.configuration.Constructs.{Constructs}
 use Rattle.definition_text.specs.Ascii.{line_feed, carriage_return}
-use Rattle.definition_text.specs.declared.beside.Kind.{Kind}
-use Rattle.definition_text.specs.declared.beside.Kind.TheVariants.{Whitespace, Other}
+use Rattle.markdown_options.specs.declared.beside.Kind.{Kind}
+use Rattle.markdown_options.specs.declared.beside.Kind.TheVariants.{Whitespace, Other}
 use Rattle.markdown_options.specs.declared.line_ending.LineEnding.TheVariants.{CarriageReturnLineFeed}
 use Rattle.definition_text.specs.Lines.{lines}
 use Rattle.definition_block.specs.Definitions.{footnotes}
@@ -13,7 +13,7 @@ use Rattle.definition_block.specs.Tree.{blocks}
 use Rattle.definition_text.specs.InlineCode.{InlineCode, first_kind}
 use Rattle.definition_inline.specs.LabelMatch.{first_match}
 use Rattle.definition_inline.specs.Scan.{InlineContext, inlines}
-use Rattle.definition_page.specs.Targets.{document_definitions}
+use Rattle.definition_block.specs.Definitions.{document_definitions}
 use Rattle.laws_endings.specs.Endings.{with_ending, text_line_with, codes_with, definition_with, blocks_with}
 use Rattle.laws_endings.specs.Inlines.{content_with, inlines_with}
 

@@ -12,8 +12,8 @@ use Rattle.definition_text.specs.Lines.{ending_text}
 use Rattle.definition_text.specs.Columns.{is_byte, is_tab_column, code_byte, bytes_of}
 use Rattle.definition_text.specs.Encode.{encode}
 use Rattle.definition_inline.specs.Inline.{LinkTexts, Inlines, Nil as NoText}
-use Rattle.definition_block.specs.declared.align_kind.AlignKind.{AlignKind}
-use Rattle.definition_block.specs.declared.align_kind.AlignKind.TheVariants as kind
+use Rattle.markdown_options.specs.declared.align_kind.AlignKind.{AlignKind}
+use Rattle.markdown_options.specs.declared.align_kind.AlignKind.TheVariants as kind
 use Rattle.definition_page.specs.GfmTable.{TableRow, Table as TableOf, align_attributes, cell_pieces, cells_pieces, row_pieces, ending_piece, body_row_pieces}
 use Rattle.definition_page.specs.GfmTable.{head_pieces, body_pieces, table_pieces}
 use Rattle.definition_page.specs.Tags.{Words, Number, Attribute, attribute, tag, bare_tag}

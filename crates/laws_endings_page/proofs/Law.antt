@@ -11,7 +11,7 @@ use Rattle.markdown_options.specs.declared.line_ending.LineEnding.TheVariants.{L
 use Rattle.markdown_options.specs.declared.configuration.CompileOptions.{CompileOptions}
 use Rattle.markdown_options.specs.declared.configuration.Options.{Options}
 use Rattle.markdown_options.specs.LineEndings.{ending_bytes}
-use Rattle.definition_text.specs.declared.beside.Kind.{Kind}
+use Rattle.markdown_options.specs.declared.beside.Kind.{Kind}
 use Rattle.definition_text.specs.Columns.{is_tab_column, code_byte}
 use Rattle.definition_text.specs.Lines.{TextLine, text_line, in_first_line, after_return, lines, first_of, first_line, has_mark, without_mark, kind_before_text}
 use Rattle.definition_inline.specs.Inline.{link_texts}
@@ -21,8 +21,10 @@ use Rattle.definition_block.specs.Tree as tree
 use Rattle.definition_block.specs.Definitions.{block_definitions, definitions, footnotes}
 use Rattle.definition_block.specs.Lists.{group_items}
 use Rattle.definition_page.specs.TextTables.{TextTables}
-use Rattle.definition_page.specs.Targets.{with_spaces, document_definitions, labels_of, no_definition, linked_at, linked_by, is_label_of, targets}
-use Rattle.definition_page.specs.Targets.{is_footnote_of}
+use Rattle.definition_block.specs.Definitions.{with_spaces}
+use Rattle.definition_inline.specs.Targets.{labels_of, no_definition, linked_at, linked_by, is_label_of, targets}
+use Rattle.definition_block.specs.Definitions.{document_definitions}
+use Rattle.definition_inline.specs.Targets.{is_footnote_of}
 use Rattle.definition_page.specs.Page.{Page}
 use Rattle.definition_page.specs.Pieces.{Piece}
 use Rattle.definition_page.specs.Layout.{LayoutState, layout_state, note_of, page_layout}

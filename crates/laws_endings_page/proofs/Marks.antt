@@ -4,7 +4,7 @@ use Rattle.std.proofs.lemmas.Bool.{and_left, and_right, and_parts, true≢false,
 use Rattle.markdown_options.specs.declared.line_ending.LineEnding.{LineEnding}
 use Rattle.markdown_options.specs.declared.line_ending.LineEnding.TheVariants.{CarriageReturnLineFeed, CarriageReturn, LineFeed}
 use Rattle.markdown_options.specs.LineEndings.{ending_bytes}
-use Rattle.definition_text.specs.declared.beside.Kind.TheVariants.{Whitespace, Other}
+use Rattle.markdown_options.specs.declared.beside.Kind.TheVariants.{Whitespace, Other}
 use Rattle.definition_text.specs.Lines.{has_mark, without_mark, kind_before_text}
 use Rattle.laws_endings.specs.Endings.{with_ending}
 use Rattle.laws_endings_reads.proofs.Neighbours.{no_feed}

@@ -2,7 +2,7 @@
 use Rattle.std.proofs.Common.{◌≡◌, ℕ, false, List, [], ◌++◌, refl, ap, ◌∙◌, true≢false}
 use Rattle.std.proofs.lemmas.Bool.{or_parts}
 use Rattle.markdown_options.specs.declared.configuration.Constructs.{Constructs}
-use Rattle.definition_text.specs.declared.beside.Kind.{Kind}
+use Rattle.markdown_options.specs.declared.beside.Kind.{Kind}
 use Rattle.definition_block.specs.Container.{Quote, Item, Footnote}
 use Rattle.definition_block.specs.Definitions.{block_footnotes, footnotes}
 use Rattle.definition_block.specs.Tree.{Block, Holds, Items, Blocks, Nil, Cons, blocks}

@@ -8,8 +8,8 @@ use Rattle.std.specs.List.{prefix_len}
 use Rattle.definition_text.specs.Columns.{is_white}
 use Rattle.markdown_options.specs.declared.line_ending.LineEnding.{LineEnding}
 use Rattle.markdown_options.specs.declared.line_ending.LineEnding.TheVariants.{CarriageReturnLineFeed, CarriageReturn, LineFeed}
-use Rattle.definition_text.specs.declared.beside.Kind.{Kind}
-use Rattle.definition_text.specs.declared.beside.Kind.TheVariants.{Whitespace}
+use Rattle.markdown_options.specs.declared.beside.Kind.{Kind}
+use Rattle.markdown_options.specs.declared.beside.Kind.TheVariants.{Whitespace}
 use Rattle.definition_text.specs.BlockLines.{BlockLine, own_lines}
 use Rattle.definition_text.specs.Columns.{is_tab_column, code_byte}
 use Rattle.definition_text.specs.Content.{ending_code, line_codes}

@@ -17,7 +17,8 @@ use Rattle.definition_inline.specs.Strings.{string_text}
 use Rattle.definition_page.specs.Urls.{percent, permits, sanitize, href_protocols, src_protocols}
 use Rattle.definition_page.specs.Tags.{PrintedPart, Words, EndOfLine, Attribute, attribute, attribute_bytes}
 use Rattle.definition_page.specs.Pieces.{Piece, Void, Says}
-use Rattle.definition_page.specs.InlinePieces.{Meaning, permitted_url, link_url, image_url, leads_to, url_of, title_attributes, title_attribute, link_tag}
+use Rattle.definition_page.specs.InlinePieces.{Meaning, permitted_url, link_url, image_url, url_of, title_attributes, title_attribute, link_tag}
+use Rattle.definition_inline.specs.Targets.{leads_to}
 use Rattle.definition_page.specs.InlinePieces.{image_tag, address, literal_address, math_tag, html_says, description, call_at, count_at, part_counts}
 use Rattle.definition_page.specs.InlinePieces.{inline_counts, element, part_pieces, inline_pieces}
 use Rattle.laws_endings.specs.Endings.{with_ending, code_with, codes_with}

@@ -6,8 +6,8 @@ use Rattle.std.proofs.lemmas.Bool.{cond_both, cond-true, and_parts, both_ways}
 use Rattle.markdown_options.specs.declared.line_ending.LineEnding.{LineEnding}
 use Rattle.markdown_options.specs.declared.line_ending.LineEnding.TheVariants.{CarriageReturnLineFeed, CarriageReturn, LineFeed}
 use Rattle.markdown_options.specs.declared.configuration.Constructs.{Constructs}
-use Rattle.definition_text.specs.declared.beside.Beside.{Beside}
-use Rattle.definition_text.specs.declared.beside.Kind.{Kind}
+use Rattle.markdown_options.specs.declared.beside.Beside.{Beside}
+use Rattle.markdown_options.specs.declared.beside.Kind.{Kind}
 use Rattle.definition_text.specs.BlockLines.{BlockLine, own_lines}
 use Rattle.definition_text.specs.Columns.{Rest, is_tab_column, is_byte, bytes_of, code_byte, block_codes, is_white, indent, bare, trim}
 use Rattle.definition_text.specs.Content.{is_eol, ending_code, line_codes, content_of}

@@ -5,7 +5,7 @@ use Rattle.std.specs.Prelude.{codes, nat_lt}
 use Rattle.std.specs.Char.{to_ascii_lowercase}
 use Rattle.std.proofs.lemmas.Bool.{cases_Bool, cond_both, and_parts, or_left, eqb-true, ltb-false, true≢false}
 use Rattle.markdown_options.specs.declared.configuration.Constructs.{Constructs}
-use Rattle.definition_text.specs.declared.beside.Kind.{Kind}
+use Rattle.markdown_options.specs.declared.beside.Kind.{Kind}
 use Rattle.definition_text.specs.InlineCode.{InlineCode, codes_of, is_continuation}
 use Rattle.definition_inline.specs.Attention.{is_other}
 use Rattle.definition_inline.specs.Inline.{Www, Protocol, Literal, Leaf, leaf}

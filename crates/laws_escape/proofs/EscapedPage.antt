@@ -7,8 +7,8 @@ use Rattle.markdown_options.specs.declared.line_ending.LineEnding.{LineEnding}
 use Rattle.markdown_options.specs.LineEndings.{ending_bytes}
 use Rattle.markdown_options.specs.declared.configuration.CompileOptions.{CompileOptions}
 use Rattle.markdown_options.specs.declared.configuration.Options.{Options}
-use Rattle.definition_text.specs.declared.beside.Kind.{Kind}
-use Rattle.definition_text.specs.declared.beside.Kind.TheVariants.{Whitespace}
+use Rattle.markdown_options.specs.declared.beside.Kind.{Kind}
+use Rattle.markdown_options.specs.declared.beside.Kind.TheVariants.{Whitespace}
 use Rattle.definition_text.specs.Encode.{encode}
 use Rattle.definition_text.specs.Lines.{has_mark, kind_before_text}
 use Rattle.definition_text.specs.BlockLines.{BlockLine, block_line}
@@ -16,7 +16,7 @@ use Rattle.definition_text.specs.InlineCode.{inline_content}
 use Rattle.definition_block.specs.Tree.{Paragraph, block_and_ending, blocks}
 use Rattle.definition_inline.specs.Scan.{inlines}
 use Rattle.definition_page.specs.Layout.{layout_state}
-use Rattle.definition_page.specs.Targets.{no_targets}
+use Rattle.definition_inline.specs.Targets.{no_targets}
 use Rattle.definition_page.specs.TextTables.{TextTables}
 use Rattle.html_bytes.specs.Document.{Document, document, context_of, meaning_of, text_of}
 use Rattle.html_bytes.specs.Html.{default_ending, blocks_html, marked_html}

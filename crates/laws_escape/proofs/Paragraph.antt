@@ -4,8 +4,8 @@ use Rattle.std.specs.Prelude.{◌+◌, ◌==◌}
 use Rattle.std.specs.List.{list_all}
 use Rattle.std.proofs.lemmas.Bool.{cond-false, cond_both, and_parts, or_parts}
 use Rattle.markdown_options.specs.declared.configuration.Constructs.{Constructs}
-use Rattle.definition_text.specs.declared.beside.Beside.{Beside}
-use Rattle.definition_text.specs.declared.beside.Kind.{Kind}
+use Rattle.markdown_options.specs.declared.beside.Beside.{Beside}
+use Rattle.markdown_options.specs.declared.beside.Kind.{Kind}
 use Rattle.definition_text.specs.Columns.{is_blank, is_tab_column, bytes_of, block_codes, codes_from}
 use Rattle.definition_text.specs.Lines.{text_line, in_first_line, lines}
 use Rattle.definition_text.specs.BlockLines.{BlockLine, block_line}
@@ -17,7 +17,7 @@ use Rattle.definition_block.specs.Definitions.{DefinitionCut, cut_into, cut_afte
 use Rattle.definition_block.specs.Frontmatter.{is_metadata_fence, after_frontmatter}
 use Rattle.definition_block.specs.HeadingSetext.{underline}
 use Rattle.definition_block.specs.ThematicBreak.{is_break}
-use Rattle.definition_block.specs.declared.align_kind.AlignKind.{AlignKind}
+use Rattle.markdown_options.specs.declared.align_kind.AlignKind.{AlignKind}
 use Rattle.definition_block.specs.GfmTable.{delimiter_row, is_head}
 use Rattle.definition_block.specs.Tree.{is_some_line, table_if, Nil, Paragraph, join, block_and_ending, Text, Leaf, Tree, tree, nothing, empty_tree}
 use Rattle.definition_block.specs.Tree.{with_paragraph, rest_line, leaf_tree_or, tree_or, heading_if, text_line_of, break_or_text, beside_in, leaf_line, start}

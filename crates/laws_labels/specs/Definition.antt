@@ -2,15 +2,16 @@
 use Rattle.std.specs.Prelude.{◌≡◌, ◌≢◌, ℕ, true, false, ◌⊎◌, List, [], ◌∷◌, ◌++◌, Some}
 use Rattle.std.specs.List.{All}
 use Rattle.markdown_options.specs.declared.configuration.Constructs.{Constructs}
-use Rattle.definition_text.specs.declared.beside.Kind.{Kind}
-use Rattle.definition_text.specs.declared.beside.Kind.TheVariants.{Whitespace}
+use Rattle.markdown_options.specs.declared.beside.Kind.{Kind}
+use Rattle.markdown_options.specs.declared.beside.Kind.TheVariants.{Whitespace}
 use Rattle.definition_text.specs.Lines.{first_line}
 use Rattle.definition_inline.specs.Definition.{Definition as LinkDefinition, definition}
 use Rattle.definition_inline.specs.Inline.{link_texts}
 use Rattle.definition_inline.specs.LabelMatch.{normal_label}
 use Rattle.definition_block.specs.Blocks.{Block, Definition, Holds, Items, Blocks, Nil, Cons}
 use Rattle.definition_block.specs.Tree.{blocks}
-use Rattle.definition_page.specs.Targets.{with_spaces, document_definitions, labels_of, linked_by, is_label_of}
+use Rattle.definition_inline.specs.Targets.{with_spaces, labels_of, linked_by, is_label_of}
+use Rattle.definition_block.specs.Definitions.{document_definitions}
 use Rattle.laws_quote.specs.Quoted.{quote_lines}
 use Rattle.laws_quote.specs.Laws.{HasNoTab}
 use Rattle.laws_list.specs.Listed.{list_lines}

@@ -5,13 +5,14 @@ use Rattle.std.proofs.lemmas.Bool.{and_parts}
 use Rattle.std.proofs.lemmas.List.Sums.{fold-append}
 use Rattle.markdown_options.specs.declared.line_ending.LineEnding.{LineEnding}
 use Rattle.markdown_options.specs.declared.configuration.Options.{Options}
-use Rattle.definition_text.specs.declared.beside.Kind.TheVariants.{Whitespace}
+use Rattle.markdown_options.specs.declared.beside.Kind.TheVariants.{Whitespace}
 use Rattle.definition_text.specs.Lines.{TextLine, lines, first_of, has_mark}
 use Rattle.definition_block.specs.Tree as tree
 use Rattle.definition_block.specs.Lists.{group_items, has_gap, is_loose}
 use Rattle.definition_inline.specs.Definition.{Definition}
 use Rattle.definition_page.specs.TextTables.{TextTables}
-use Rattle.definition_page.specs.Targets.{document_definitions, with_spaces}
+use Rattle.definition_inline.specs.Targets.{with_spaces}
+use Rattle.definition_block.specs.Definitions.{document_definitions}
 use Rattle.definition_page.specs.Page as page
 use Rattle.definition_page.specs.Pieces.{Piece, Close, Eol}
 use Rattle.definition_page.specs.BlockPieces.{inside, last_visible, ends_plainly, fresh_unless, children_pieces}

@@ -11,9 +11,10 @@ use Rattle.definition_inline.specs.Inline.{LinkTexts, Inline, Autolink, Literal,
 use Rattle.definition_page.specs.Tags.{PrintedPart, Words, EndOfLine, Attribute, attribute, Tag, tag, bare_tag}
 use Rattle.definition_page.specs.Pieces.{Piece, Void, Says, Eol, Fresh, NoteStart, NoteEnd}
 use Rattle.definition_page.specs.InlinePieces.{Meaning, link_url, image_url, url_of, title_attribute, address, literal_address, raw_html, HtmlLine, html_lines}
-use Rattle.definition_page.specs.InlinePieces.{html_line_says, later_line_says, html_lines_say, leads_to, link_tag, image_tag, part_says, description}
+use Rattle.definition_page.specs.InlinePieces.{html_line_says, later_line_says, html_lines_say, link_tag, image_tag, part_says, description}
+use Rattle.definition_inline.specs.Targets.{leads_to}
 use Rattle.definition_page.specs.InlinePieces.{part_counts, inline_counts, element, part_pieces, inline_pieces}
-use Rattle.definition_block.specs.declared.align_kind.AlignKind.{AlignKind}
+use Rattle.markdown_options.specs.declared.align_kind.AlignKind.{AlignKind}
 use Rattle.definition_page.specs.GfmTable.{Table, TableRow, align_attributes, cell_pieces, cells_pieces, row_pieces, ending_piece, body_row_pieces, head_pieces}
 use Rattle.definition_page.specs.GfmTable.{body_pieces, table_pieces}
 use Rattle.definition_page.specs.Page as page

@@ -12,10 +12,11 @@ use Rattle.definition_block.specs.Container.{Quote, Item, Footnote}
 use Rattle.definition_block.specs.Tree as tree
 use Rattle.definition_block.specs.Tree.{blocks}
 use Rattle.definition_block.specs.Definitions.{block_footnotes, footnotes}
-use Rattle.definition_block.specs.declared.align_kind.AlignKind.{AlignKind}
+use Rattle.markdown_options.specs.declared.align_kind.AlignKind.{AlignKind}
 use Rattle.definition_page.specs.Tags.{PrintedPart, Tag, tag, bare_tag}
 use Rattle.definition_page.specs.Pieces.{Piece, Close, Says, Eol, Fresh, NoteEnd}
-use Rattle.definition_page.specs.InlinePieces.{Meaning, html_says, leads_to, link_tag, call_at, count_at, part_counts, inline_counts, element, part_pieces}
+use Rattle.definition_page.specs.InlinePieces.{Meaning, html_says, link_tag, call_at, count_at, part_counts, inline_counts, element, part_pieces}
+use Rattle.definition_inline.specs.Targets.{leads_to}
 use Rattle.definition_page.specs.InlinePieces.{inline_pieces}
 use Rattle.definition_page.specs.GfmTable.{Table, TableRow, align_attributes, cell_pieces, cells_pieces, row_pieces, ending_piece, body_row_pieces, head_pieces}
 use Rattle.definition_page.specs.GfmTable.{body_pieces, table_pieces}

@@ -7,13 +7,14 @@ use Rattle.markdown_options.specs.declared.line_ending.LineEnding.{LineEnding}
 use Rattle.markdown_options.specs.declared.configuration.Constructs.{Constructs}
 use Rattle.markdown_options.specs.declared.configuration.Options.{Options}
 use Rattle.markdown_options.specs.LineEndings.{ending_bytes}
-use Rattle.definition_text.specs.declared.beside.Kind.TheVariants.{Whitespace, Other}
+use Rattle.markdown_options.specs.declared.beside.Kind.TheVariants.{Whitespace, Other}
 use Rattle.definition_text.specs.Lines.{TextLine, lines, first_of, first_line, has_mark}
 use Rattle.definition_block.specs.Tree as tree
 use Rattle.definition_block.specs.Lists.{group_items}
 use Rattle.definition_inline.specs.Definition.{Definition}
 use Rattle.definition_page.specs.TextTables.{TextTables}
-use Rattle.definition_page.specs.Targets.{targets, document_definitions, linked_by, with_spaces}
+use Rattle.definition_inline.specs.Targets.{targets, linked_by, with_spaces}
+use Rattle.definition_block.specs.Definitions.{document_definitions}
 use Rattle.definition_page.specs.Tags.{end_tag}
 use Rattle.definition_page.specs.Pieces.{Close, Fresh}
 use Rattle.definition_page.specs.InlinePieces.{Meaning}

@@ -6,7 +6,7 @@ use Rattle.std.proofs.lemmas.Bool.{cond_both, both_ways}
 use Rattle.markdown_options.specs.declared.configuration.Constructs.{Constructs}
 use Rattle.markdown_options.specs.declared.line_ending.LineEnding.{LineEnding}
 use Rattle.definition_text.specs.BlockLines.{BlockLine}
-use Rattle.definition_text.specs.declared.beside.Kind.{Kind}
+use Rattle.markdown_options.specs.declared.beside.Kind.{Kind}
 use Rattle.definition_inline.specs.Inline.{Inline, Data, Escape, Character, Code, Math, Autolink, Literal, Html, EscapedBreak, TrailingBreak, LineEnd, Emphasis}
 use Rattle.definition_inline.specs.Inline.{Strong, Strikethrough, Link, Image, Call, Inlines, Nil, Cons}
 use Rattle.definition_text.specs.InlineCode.{InlineCode, codes_of}
@@ -19,7 +19,7 @@ use Rattle.definition_block.specs.Tree.{is_ending, one, blocks}
 use Rattle.definition_block.specs.Definitions.{block_footnotes, footnotes}
 use Rattle.definition_block.specs.Lists.{endings_of, after_endings, list_items, list_marker, rest_of, item_marker, before_list, put_before, grouped_block}
 use Rattle.definition_block.specs.Lists.{group_items}
-use Rattle.definition_block.specs.declared.align_kind.AlignKind.{AlignKind}
+use Rattle.markdown_options.specs.declared.align_kind.AlignKind.{AlignKind}
 use Rattle.definition_page.specs.Tags.{PrintedPart, tag, bare_tag}
 use Rattle.definition_page.specs.Pieces.{Piece, Close, Eol, Fresh}
 use Rattle.definition_page.specs.InlinePieces.{Meaning, html_says, call_at, count_at, part_counts, inline_counts, element, part_pieces, inline_pieces}

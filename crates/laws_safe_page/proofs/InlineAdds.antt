@@ -12,7 +12,8 @@ use Rattle.definition_page.specs.GfmTagfilter.{filter_if}
 use Rattle.definition_page.specs.Tags.{Words, AsItIs, EndOfLine, attribute, tag, bare_tag}
 use Rattle.definition_page.specs.Pieces.{Void, Says}
 use Rattle.definition_page.specs.InlinePieces.{Meaning, raw_html, HtmlLine, html_text_line, in_first_line, html_lines, html_line_says, later_line_says}
-use Rattle.definition_page.specs.InlinePieces.{html_lines_say, html_says, leads_to, url_of, link_url, link_tag, image_tag, math_tag, address, literal_address}
+use Rattle.definition_page.specs.InlinePieces.{html_lines_say, html_says, url_of, link_url, link_tag, image_tag, math_tag, address, literal_address}
+use Rattle.definition_inline.specs.Targets.{leads_to}
 use Rattle.definition_page.specs.InlinePieces.{part_says, description, call_at, count_at, part_counts, inline_counts, part_pieces, inline_pieces}
 use Rattle.html_safe_page.specs.Table.{start_rows, void_rows}
 use Rattle.laws_safe_page.specs.SafeHtml.{AreSafe}

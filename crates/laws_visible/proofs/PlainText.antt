@@ -14,8 +14,8 @@ use Rattle.markdown_options.specs.declared.configuration.CompileOptions.{Compile
 use Rattle.markdown_options.specs.declared.configuration.Constructs.{Constructs}
 use Rattle.markdown_options.specs.declared.configuration.ParseOptions.{ParseOptions}
 use Rattle.markdown_options.specs.Defaults.{no_constructs}
-use Rattle.definition_text.specs.declared.beside.Kind.{Kind}
-use Rattle.definition_text.specs.declared.beside.Kind.TheVariants.{Whitespace}
+use Rattle.markdown_options.specs.declared.beside.Kind.{Kind}
+use Rattle.markdown_options.specs.declared.beside.Kind.TheVariants.{Whitespace}
 use Rattle.definition_text.specs.Lines.{ends_line, ending_text}
 use Rattle.definition_text.specs.Columns.{is_white, is_blank, indent, bare, is_tab_column, code_byte, trim}
 use Rattle.definition_text.specs.Encode.{encode}
@@ -31,7 +31,7 @@ use Rattle.definition_inline.specs.Strings.{or_byte}
 use Rattle.html_bytes.specs.InlineHtml.{InlineMeaning, part_html, inline_html, inline_pieces}
 use Rattle.html_bytes.specs.Layout.{lay}
 use Rattle.html_bytes.specs.Document.{Document, meaning_of, text_of}
-use Rattle.definition_page.specs.Targets.{is_label_of, is_footnote_of}
+use Rattle.definition_inline.specs.Targets.{is_label_of, is_footnote_of}
 use Rattle.html_bytes.proofs.SameLayout.{add}
 use Rattle.html_bytes.proofs.WithoutCalls.{part_calls, has_calls, AddsBytes, without_calls}
 use Rattle.definition_inline.proofs.Scanning.{drop-codes_of}

@@ -15,10 +15,9 @@ ghost use Rattle.markdown_tables.specs.Builtin.{builtin_tables};
 
 use block_parser::{BlockRows, block_rows};
 use block_targets::{definition_contents, document_definitions, document_footnotes};
-use definition_text::Kind;
 use html_contents::Texts;
 use html_page::print_rows;
-use markdown_options::{LineEnding, Message, Options, Tables};
+use markdown_options::{Kind, LineEnding, Message, Options, Tables};
 use markdown_tables::Builtin;
 use std::alloc::{AllocError, Allocator};
 use text_lines::{next_line, without_mark};

@@ -50,7 +50,7 @@ pub mod gfm_tagfilter {
 
 /// How the columns of tables are aligned (GFM 4.10).
 pub mod mdast {
-    pub use definition_block::AlignKind;
+    pub use markdown_options::AlignKind;
 }
 
 /// Labels as they are matched (CommonMark 6.3).

@@ -19,6 +19,6 @@ pub use Rattle.definition_page.specs.GfmLabelStartFootnote
 pub use Rattle.definition_page.specs.GfmFootnoteDefinition
 pub use Rattle.definition_page.specs.Layout
 pub use Rattle.definition_page.specs.Tags
-pub use Rattle.definition_page.specs.Targets
+pub use Rattle.definition_inline.specs.Targets
 pub use Rattle.definition_page.specs.TextTables
 pub use Rattle.definition_page.specs.Urls

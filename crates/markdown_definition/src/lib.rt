@@ -1,5 +1,4 @@
 //! The written definition of Markdown to HTML, under one name.
 #![tactic(auto)]
 
-pub use definition_block::{Container, Item};
-pub use definition_text::{Beside, Kind};
+pub use markdown_options::{Beside, Container, Item, Kind};

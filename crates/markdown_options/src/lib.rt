@@ -1,16 +1,23 @@
-//! Options, line endings, places, messages, limits and tables: the plain data of all crates.
+//! Options, line endings, places, messages, limits and tables, and what stands beside a line and around a block: the plain data of
+//! all crates.
 //!
 //! Sizes and offsets are in bytes; lines and columns count from 1.
 #![tactic(auto)]
 
+pub mod align_kind;
+pub mod beside;
 pub mod configuration;
 pub mod constants;
+pub mod container;
 pub mod line_ending;
 pub mod message;
 pub mod tables;
 pub mod unist;
 
+pub use align_kind::AlignKind;
+pub use beside::{Beside, Kind};
 pub use configuration::{CompileOptions, Constructs, Options, ParseOptions};
+pub use container::{Container, Item};
 pub use line_ending::{LineEnding, LineEndingError};
 pub use message::{Message, Place};
 pub use tables::Tables;

@@ -2,8 +2,8 @@
 
 use block_parser::{BlockRows, block_rows};
 use block_rows::Row;
-use definition_text::Kind;
 use markdown::{Constructs, LineEnding, fits};
+use markdown_options::Kind;
 use std::alloc::{AllocError, Global};
 
 /// Texts of one line, and the label of the footnote definition that begins each, if one does.

@@ -3,8 +3,8 @@
 
 use block_parser::block_rows;
 use block_targets::{Definitions, definition_contents, document_definitions};
-use definition_text::Kind;
 use markdown::{Constructs, fits};
+use markdown_options::Kind;
 use std::alloc::{AllocError, Global};
 
 /// Texts, a label, and the place of the first definition that has it.

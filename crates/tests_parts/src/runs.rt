@@ -1,7 +1,6 @@
 //! Runs of `*`, `_` and `~`: what each becomes.
-use definition_text::Kind;
 use inline_runs::{Pairing, Run, RunSpans, Span, pair_runs};
-use markdown_options::ParseOptions;
+use markdown_options::{Kind, ParseOptions};
 use std::alloc::{AllocError, Global};
 use std::test::Fail;
 

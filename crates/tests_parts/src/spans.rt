@@ -1,8 +1,7 @@
 //! Runs told apart among rows.
-use definition_text::Kind;
 use inline_rows::{InlineRow, tell_apart};
 use inline_runs::{Pairing, Span, run_between};
-use markdown_options::ParseOptions;
+use markdown_options::{Kind, ParseOptions};
 use std::alloc::{AllocError, Global};
 use std::test::Fail;
 

@@ -2,7 +2,7 @@
 ghost use Rattle.std.specs.Prelude.{◌≡◌};
 ghost use Rattle.definition_text.specs.Lines.{kind_before_text, without_mark};
 
-use definition_text::Kind;
+use markdown_options::Kind;
 
 /// The kind of the character before the first line, and a text without a byte order mark at its
 /// start. The mark is a character of kind other; where there is none, the start of the text counts

@@ -3,7 +3,7 @@ use Rattle.std.specs.Prelude.{unwrap_or}
 use Rattle.std.specs.List.{list_any}
 use Rattle.std.specs.Option.{option_map}
 use Rattle.std.proofs.lemmas.Bool.{cond-false}
-use Rattle.definition_text.specs.declared.beside.Kind.TheVariants.{Whitespace}
+use Rattle.markdown_options.specs.declared.beside.Kind.TheVariants.{Whitespace}
 use Rattle.definition_block.specs.GfmTable.{cells, column_delimiter, alignments_of, delimiters, is_bar_or_colon}
 use Rattle.block_rows.specs.Rows.{piece_line}
 use Rattle.block_cells.specs.GfmTable.{cell_view, cells_left}

@@ -1,6 +1,6 @@
 use Rattle.std.proofs.Common.{sym, ap, ◌∙◌, Some, drop}
 use Rattle.std.proofs.lemmas.Bool.{cond-true}
-use Rattle.definition_text.specs.declared.beside.Kind.TheVariants.{Whitespace}
+use Rattle.markdown_options.specs.declared.beside.Kind.TheVariants.{Whitespace}
 use Rattle.definition_block.specs.ContainerLine.{container_line}
 use Rattle.definition_block.specs.ListItem.{is_inside}
 use Rattle.block_starts.specs.View.{rest_of}

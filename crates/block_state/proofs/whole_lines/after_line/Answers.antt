@@ -1,5 +1,5 @@
 use Rattle.std.proofs.Common.{◌≡◌, ◌++◌, ap, sym, ◌∙◌, ℕ, ◌<◌, List, Option, Bor, IfNone, get_or, subst, arith, rules}
-use Rattle.definition_text.specs.declared.beside.Kind.TheVariants.{Whitespace}
+use Rattle.markdown_options.specs.declared.beside.Kind.TheVariants.{Whitespace}
 use Rattle.block_rows.specs.Rows.{piece_line}
 use Rattle.block_state.specs.WholeLines.{BeginsWith}
 use Rattle.block_state.proofs.WholeLines.{ending_next, none_owed, piece_cut, piece_first, piece_whole}

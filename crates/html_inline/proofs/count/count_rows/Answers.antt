@@ -1,7 +1,7 @@
 use Rattle.std.proofs.Common.{◌≡◌, List, sym, ap, ◌∙◌, take}
 use Rattle.std.specs.List.{fold}
 use Rattle.std.proofs.lemmas.List.{take_all}
-use Rattle.definition_page.specs.InlinePieces.{leads_to}
+use Rattle.definition_inline.specs.Targets.{leads_to}
 use Rattle.html_bytes.specs.Layout.{lay}
 use Rattle.html_footnotes.specs.Output.{output_view}
 use Rattle.inline_rows.specs.InlineRows as rows_of

@@ -8,7 +8,7 @@ use Rattle.inline_rows.specs.declared.row.InlineRow.TheVariants.{Exit}
 use Rattle.inline_rows.specs.View.{row_view, rows_view}
 use Rattle.html_inline.specs.Opens.{place_target, printed_of}
 use Rattle.html_inline.specs.Printed.{PrintState, printed_at, with_row}
-use Rattle.definition_page.specs.InlinePieces.{leads_to}
+use Rattle.definition_inline.specs.Targets.{leads_to}
 use Rattle.html_inline.specs.GfmTable.{parts_in_cell, row_printed_in}
 use Rattle.html_inline.proofs.CellRows.{rows_shown, fold_shown}
 use Rattle.html_inline.proofs.OpenStack.{rows_step}

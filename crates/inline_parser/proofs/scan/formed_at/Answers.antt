@@ -1,7 +1,7 @@
 use Rattle.std.proofs.Common.{sym, subst, IfOk}
 use Rattle.definition_text.specs.Content.{content_codes}
 use Rattle.definition_inline.specs.Scan.{formed_at}
-use Rattle.definition_page.specs.Targets.{labels_of}
+use Rattle.definition_inline.specs.Targets.{labels_of}
 use Rattle.inline_label_ends.specs.Ends.{IsFormed}
 use Rattle.inline_parser.specs.declared.label.LabelStart.{LabelStart}
 use Rattle.inline_parser.specs.Scanned.{context_by}

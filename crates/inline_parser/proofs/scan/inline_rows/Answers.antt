@@ -3,8 +3,8 @@ use Rattle.std.proofs.lemmas.List.{append-nil}
 use Rattle.std.proofs.lemmas.Bool.{cond-true}
 use Rattle.definition_inline.specs.GfmAutolinkLiteral.{with_literals}
 use Rattle.definition_inline.specs.Scan.{inlines_from, spans_from}
-use Rattle.definition_page.specs.InlinePieces.{leads_to}
-use Rattle.definition_page.specs.Targets.{linked_at, linked_by}
+use Rattle.definition_inline.specs.Targets.{leads_to}
+use Rattle.definition_inline.specs.Targets.{linked_at, linked_by}
 use Rattle.inline_content.specs.View.{view_at}
 use Rattle.inline_rows.specs.InlineRows.{inline_rows}
 use Rattle.inline_rows.specs.View.{row_view, rows_view}

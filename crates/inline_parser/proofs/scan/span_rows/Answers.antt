@@ -2,12 +2,12 @@ use Rattle.std.proofs.Common.{◌≡◌, ℕ, true, false, eqb, List, [], ◌∷
 use Rattle.std.specs.Prelude.{OnOk}
 use Rattle.std.specs.List.{All}
 use Rattle.std.proofs.lemmas.Bool.{eqb-true}
-use Rattle.definition_page.specs.InlinePieces.{leads_to}
+use Rattle.definition_inline.specs.Targets.{leads_to}
 use Rattle.inline_rows.specs.InlineRows.{inline_rows}
 use Rattle.definition_inline.specs.Scan as scan
 use Rattle.definition_inline.specs.Scan.{whole_text}
 use Rattle.definition_inline.specs.Spans.{with_spans}
-use Rattle.definition_page.specs.Targets.{linked_at, linked_by}
+use Rattle.definition_inline.specs.Targets.{linked_at, linked_by}
 use Rattle.inline_rows.specs.View.{rows_view}
 use Rattle.inline_links.specs.Codes.{IsRest}
 use Rattle.inline_parser.specs.Scanned.{context_by}

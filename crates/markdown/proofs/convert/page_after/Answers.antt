@@ -8,8 +8,8 @@ use Rattle.block_rows.specs.declared.row.Piece.{Piece}
 use Rattle.html_bytes.specs.Document.{document}
 use Rattle.html_bytes.specs.Layout.{page_layout}
 use Rattle.html_bytes.specs.Html.{document_pieces, blocks_html}
-use Rattle.definition_page.specs.Targets.{document_targets}
-use Rattle.definition_text.specs.declared.beside.Kind.{Kind}
+use Rattle.definition_block.specs.Definitions.{document_targets}
+use Rattle.markdown_options.specs.declared.beside.Kind.{Kind}
 use Rattle.markdown_options.specs.declared.configuration.Constructs.{Constructs}
 use Rattle.definition_block.specs.Tree.{Blocks, blocks}
 use Rattle.block_rows.specs.Rows.{RowsValue, piece_lines, rows_value, value_with, rows_of}

@@ -1,7 +1,7 @@
 use Rattle.std.proofs.Common.{[], None, List, sym, ap, ◌∙◌, subst}
 use Rattle.definition_text.specs.BlockLines.{BlockLine}
-use Rattle.definition_text.specs.declared.beside.Beside.{Beside}
-use Rattle.definition_text.specs.declared.beside.Kind.TheVariants.{Whitespace}
+use Rattle.markdown_options.specs.declared.beside.Beside.{Beside}
+use Rattle.markdown_options.specs.declared.beside.Kind.TheVariants.{Whitespace}
 use Rattle.definition_block.specs.Tree.{Blocks, Text, close_leaf, join}
 use Rattle.block_state.specs.Spine.{spine}
 use Rattle.block_parser.specs.View.{HasRead}

@@ -1,5 +1,5 @@
 use Rattle.std.proofs.Common.{◌≡◌, [], refl, ◌<◌, length, vec_len, sym, ap, ◌∙◌, subst, arith}
-use Rattle.definition_text.specs.declared.beside.Kind.TheVariants.{Whitespace}
+use Rattle.markdown_options.specs.declared.beside.Kind.TheVariants.{Whitespace}
 use Rattle.definition_text.specs.Columns.{Rest}
 use Rattle.definition_block.specs.ContainerLine.{container_line}
 use Rattle.definition_block.specs.Tree.{beside_in}

@@ -6,7 +6,7 @@ use Rattle.std.proofs.lemmas.Bool.{eqb-true, eqb-false}
 use Rattle.std.proofs.lemmas.List.{length-append, nil_from_length}
 use Rattle.std.proofs.lemmas.Option.{IfSome_then}
 use Rattle.definition_text.specs.Columns.{whole}
-use Rattle.definition_text.specs.declared.beside.Kind.TheVariants.{Whitespace}
+use Rattle.markdown_options.specs.declared.beside.Kind.TheVariants.{Whitespace}
 use Rattle.definition_text.specs.Content.{line_text}
 use Rattle.definition_text.specs.Lines.{text_line}
 use Rattle.definition_block.specs.Tree.{Blank, Leaf, Text, beside_line, close_leaf, grow, join, nothing, one, tree}

@@ -1,7 +1,7 @@
 use Rattle.std.proofs.Common.{sym, ap, ◌∙◌}
 use Rattle.html_bytes.specs.Document.{context_of, document}
 use Rattle.definition_inline.specs.Scan.{inlines_from}
-use Rattle.definition_page.specs.Targets.{linked_at, linked_by}
+use Rattle.definition_inline.specs.Targets.{linked_at, linked_by}
 use Rattle.definition_page.specs.TextTables.{text_tables}
 use Rattle.inline_content.specs.View.{view_at}
 use Rattle.html_inline.specs.Opens.{place_target}

@@ -1,6 +1,6 @@
 use Rattle.std.proofs.Common.{◌≡◌, length}
 use Rattle.std.specs.List.{flat_map}
-use Rattle.definition_page.specs.Targets.{Targets}
+use Rattle.definition_inline.specs.Targets.{Targets}
 use Rattle.html_bytes.specs.Document.{cell_counts}
 use Rattle.html_contents.specs.Texts.{KnowsTargets, document_by}
 use Rattle.block_cells.specs.GfmTable.{cells_left}

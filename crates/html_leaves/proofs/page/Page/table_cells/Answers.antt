@@ -2,8 +2,8 @@ use Rattle.std.proofs.Common.{◌≡◌, ◌+◌, refl, sym, ap, ◌∙◌, drop
 use Rattle.std.proofs.lemmas.List.{drop_more}
 use Rattle.markdown_options.specs.declared.line_ending.LineEnding.{LineEnding}
 use Rattle.markdown_options.specs.LineEndings.{ending_bytes}
-use Rattle.definition_block.specs.declared.align_kind.AlignKind.{AlignKind}
-use Rattle.definition_block.specs.declared.align_kind.AlignKind.TheVariants as kind
+use Rattle.markdown_options.specs.declared.align_kind.AlignKind.{AlignKind}
+use Rattle.markdown_options.specs.declared.align_kind.AlignKind.TheVariants as kind
 use Rattle.block_cells.specs.GfmTable.{cells_left}
 use Rattle.block_rows.specs.Rows.{piece_line}
 use Rattle.html_bytes.specs.GfmTable.{cells_pieces}

@@ -1,5 +1,5 @@
 use Rattle.std.proofs.Common.{◌≡◌, drop}
-use Rattle.definition_page.specs.Targets.{Targets}
+use Rattle.definition_inline.specs.Targets.{Targets}
 use Rattle.definition_block.specs.GfmTable.{line_cells}
 use Rattle.html_bytes.specs.GfmTable.{cells_pieces}
 use Rattle.html_contents.specs.Texts.{KnowsTargets, document_by}

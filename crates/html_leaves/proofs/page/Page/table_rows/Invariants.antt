@@ -1,6 +1,6 @@
 use Rattle.std.proofs.Common.{◌≡◌, take}
 use Rattle.std.specs.List.{flat_map}
-use Rattle.definition_page.specs.Targets.{Targets}
+use Rattle.definition_inline.specs.Targets.{Targets}
 use Rattle.definition_text.specs.BlockLines.{own_lines, last_ending}
 use Rattle.html_bytes.specs.GfmTable.{body_row_pieces}
 use Rattle.html_contents.specs.Texts.{KnowsTargets, document_by}

@@ -1,6 +1,6 @@
 use Rattle.std.proofs.Common.{◌≡◌, ◌+◌, take, drop}
 use Rattle.markdown_options.specs.LineEndings.{ending_bytes}
-use Rattle.definition_page.specs.Targets.{Targets}
+use Rattle.definition_inline.specs.Targets.{Targets}
 use Rattle.html_contents.specs.Texts.{KnowsTargets, document_by}
 use Rattle.block_rows.specs.Rows.{rows_size, piece_lines, rows_value}
 use Rattle.html_page.specs.PrinterView.{print_all, printer_view}

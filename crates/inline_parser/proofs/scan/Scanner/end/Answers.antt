@@ -7,8 +7,8 @@ use Rattle.inline_label_ends.specs.declared.gfm_label_start_footnote.LabelForm.{
 use Rattle.definition_inline.specs.Scan as scan
 use Rattle.definition_inline.specs.Scan.{read_tokens}
 use Rattle.definition_inline.specs.Spans.{Item}
-use Rattle.definition_page.specs.InlinePieces.{leads_to}
-use Rattle.definition_page.specs.Targets.{linked_at, linked_by, labels_of}
+use Rattle.definition_inline.specs.Targets.{leads_to}
+use Rattle.definition_inline.specs.Targets.{linked_at, linked_by, labels_of}
 use Rattle.inline_content.specs.View.{view_at}
 use Rattle.inline_leaves.specs.Leaves.{size_before}
 use Rattle.inline_parser.specs.Scanned.{context_by, ended_here, IsPlace}

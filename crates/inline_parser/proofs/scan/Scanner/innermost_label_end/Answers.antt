@@ -4,7 +4,7 @@ use Rattle.std.specs.List.{slice_get}
 use Rattle.definition_text.specs.Content.{text_before, content_codes}
 use Rattle.definition_inline.specs.LabelEnd.{LinkOrCall}
 use Rattle.definition_inline.specs.Scan.{formed_at}
-use Rattle.definition_page.specs.Targets.{labels_of}
+use Rattle.definition_inline.specs.Targets.{labels_of}
 use Rattle.inline_label_ends.specs.Ends.{IsFormed}
 use Rattle.inline_parser.specs.declared.label.OpenLabel.{OpenLabel}
 use Rattle.inline_parser.specs.Scanned.{context_by, ended_here}

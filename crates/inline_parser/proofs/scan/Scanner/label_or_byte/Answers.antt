@@ -4,8 +4,8 @@ use Rattle.definition_inline.specs.Inline.{Data}
 use Rattle.definition_inline.specs.Scan as scan
 use Rattle.definition_inline.specs.Scan.{read_tokens, start_bytes}
 use Rattle.definition_inline.specs.Spans.{Item}
-use Rattle.definition_page.specs.InlinePieces.{leads_to}
-use Rattle.definition_page.specs.Targets.{linked_at, linked_by}
+use Rattle.definition_inline.specs.Targets.{leads_to}
+use Rattle.definition_inline.specs.Targets.{linked_at, linked_by}
 use Rattle.inline_content.specs.View.{view_at}
 use Rattle.inline_parser.specs.Scanned.{context_by}
 use Rattle.inline_parser.specs.Shows.{start_view, with_open_label}

@@ -1,5 +1,5 @@
 //! What stands beside the rest of a line in the text.
-use markdown_options::LineEnding;
+use crate::line_ending::LineEnding;
 
 /// What a character is beside a run of delimiters (CommonMark 6.2).
 #[derive(Clone, Copy, Debug, PartialEq, Eq)]
