@@ -9,8 +9,8 @@ use Rattle.markdown_options.specs.declared.beside.Kind.TheVariants.{Whitespace, 
 use Rattle.definition_text.specs.Content.{may_escape}
 use Rattle.definition_block.specs.GfmTable.{Cell, cell, parts, is_bar, in_first_cell, without_blank_last}
 use Rattle.definition_text.specs.Columns.{is_blank}
-use Rattle.block_rows.specs.declared.row.Piece.{Piece}
-use Rattle.block_rows.specs.Rows.{piece_line}
+use Rattle.text_pieces.specs.declared.piece.Piece.{Piece}
+use Rattle.text_pieces.specs.Pieces.{piece_line}
 use Rattle.text_bytes.proofs.Ascii.{boundary_before, boundary_after}
 use Rattle.block_cells.specs.GfmTable.{bar_at, parts_if}
 

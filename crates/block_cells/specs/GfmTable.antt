@@ -5,8 +5,8 @@ use Rattle.definition_text.specs.Columns.{Code, bare}
 use Rattle.definition_text.specs.Content.{may_escape}
 use Rattle.definition_block.specs.GfmTable as table
 use Rattle.definition_block.specs.GfmTable.{cell, parts, is_bar, is_bar_or_colon, without_blank_last}
-use Rattle.block_rows.specs.declared.row.Piece.{Piece}
-use Rattle.block_rows.specs.Rows.{piece_line}
+use Rattle.text_pieces.specs.declared.piece.Piece.{Piece}
+use Rattle.text_pieces.specs.Pieces.{piece_line}
 use Rattle.block_cells.specs.declared.gfm_table.Cell.{Cell}
 use Rattle.block_cells.specs.declared.gfm_table.Cells.{Cells}
 

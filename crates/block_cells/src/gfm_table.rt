@@ -8,14 +8,14 @@ ghost use Rattle.std.specs.List.{list_any};
 ghost use Rattle.markdown_options.specs.declared.beside.Kind.TheVariants.{Whitespace};
 ghost use Rattle.definition_text.specs.Columns.{is_blank as are_white, trim};
 ghost use Rattle.definition_block.specs.GfmTable as spec;
-ghost use Rattle.block_rows.specs.Rows.{piece_line};
+ghost use Rattle.text_pieces.specs.Pieces.{piece_line};
 ghost use Rattle.block_cells.specs.GfmTable.{bar_at, begins_delimiters, cell_view, may_be_delimiters, parts_if};
 
-use block_rows::Piece;
 use markdown_options::{AlignKind, Kind};
 use std::alloc::{AllocError, Allocator};
 use text_bytes::{is_blank, may_escape, split_run, white_size};
 use text_lines::trim;
+use text_pieces::Piece;
 use text_search::{BytePair, next_of};
 
 /// A bar, and what may escape one.

@@ -8,8 +8,8 @@ use Rattle.markdown_options.specs.declared.line_ending.LineEnding.TheVariants.{C
 use Rattle.definition_text.specs.Columns.{code_byte}
 use Rattle.definition_text.specs.BlockLines.{BlockLine, block_line, own_lines}
 use Rattle.definition_text.specs.Content.{content_codes, ending_code, content_of, line_text, content_text}
-use Rattle.block_rows.specs.ParagraphLines.{AreLines}
-use Rattle.block_rows.proofs.InLine.{in_line}
+use Rattle.text_pieces.specs.ParagraphLines.{AreLines}
+use Rattle.text_pieces.proofs.InLine.{in_line}
 use Rattle.definition_text.proofs.ContentBytes.{AreFilled, block_line_bytes, content_codes_of}
 
 abbrev spaced : BlockLine → BlockLine

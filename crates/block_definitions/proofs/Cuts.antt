@@ -9,7 +9,7 @@ use Rattle.definition_text.specs.Content.{content_of, content_text}
 use Rattle.definition_block.specs.Tree.{is_some_line}
 use Rattle.definition_block.specs.Definitions.{DefinitionCut, cut_into, cut_after, cut_most, definition_lines}
 use Rattle.definition_inline.specs.Definition.{definition_at}
-use Rattle.block_rows.specs.ParagraphLines.{AreLines}
+use Rattle.text_pieces.specs.ParagraphLines.{AreLines}
 use Rattle.block_rows.proofs.DefinitionLines.{cut_enough}
 use Rattle.block_definitions.specs.declared.front.DefinitionEnd.{DefinitionEnd}
 use Rattle.block_definitions.specs.Ends.{EndsAt}

@@ -9,7 +9,7 @@ use Rattle.definition_text.specs.BlockLines.{BlockLine, own_lines}
 use Rattle.definition_text.specs.Content.{content_codes, content_of, content_text}
 use Rattle.definition_block.specs.Definitions.{lines_before}
 use Rattle.definition_inline.specs.Definition.{Definition, definition_at}
-use Rattle.block_rows.specs.ParagraphLines.{AreLines}
+use Rattle.text_pieces.specs.ParagraphLines.{AreLines}
 use Rattle.definition_inline.proofs.DefinitionParts.{the_same}
 use Rattle.block_rows.proofs.DefinitionLines.{definition_cuts}
 use Rattle.definition_inline.proofs.LinkRenaming.{renamed_definition, definition_renamed, code_byte-renames}

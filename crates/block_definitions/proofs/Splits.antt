@@ -6,9 +6,9 @@ use Rattle.std.proofs.lemmas.List.Sums.{sum_by-cons, sum_by-append}
 use Rattle.definition_text.specs.Columns.{code_byte}
 use Rattle.definition_text.specs.Lines.{ending_text}
 use Rattle.definition_text.specs.BlockLines.{BlockLine}
-use Rattle.block_rows.specs.ParagraphLines.{AreLines}
-use Rattle.block_rows.specs.declared.row.Piece.{Piece}
-use Rattle.block_rows.specs.Rows.{piece_line, piece_lines}
+use Rattle.text_pieces.specs.ParagraphLines.{AreLines}
+use Rattle.text_pieces.specs.declared.piece.Piece.{Piece}
+use Rattle.text_pieces.specs.Pieces.{piece_line, piece_lines}
 use Rattle.definition_text.specs.Content.{line_text, content_text}
 use Rattle.block_definitions.specs.Contents.{room, total}
 

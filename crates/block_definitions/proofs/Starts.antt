@@ -6,16 +6,16 @@ use Rattle.std.proofs.lemmas.Bool.{cases_Bool, cond-false}
 use Rattle.std.proofs.lemmas.Option.{none-some}
 use Rattle.markdown_options.specs.declared.line_ending.LineEnding.{LineEnding}
 use Rattle.markdown_options.specs.declared.line_ending.LineEnding.TheVariants.{CarriageReturnLineFeed, CarriageReturn, LineFeed}
-use Rattle.block_rows.specs.declared.row.Piece.{Piece}
-use Rattle.block_rows.specs.Rows.{piece_line, piece_lines}
+use Rattle.text_pieces.specs.declared.piece.Piece.{Piece}
+use Rattle.text_pieces.specs.Pieces.{piece_line, piece_lines}
 use Rattle.definition_text.specs.Columns.{is_white, tab_column}
 use Rattle.definition_text.specs.BlockLines.{BlockLine, own_lines}
 use Rattle.definition_text.specs.Content.{line_ending_code, ending_code, content_codes, content_of}
 use Rattle.definition_inline.specs.Space.{after_spaces}
 use Rattle.definition_inline.specs.Label.{label_at}
 use Rattle.definition_inline.specs.Definition.{with_label, definition_at}
-use Rattle.block_rows.specs.ParagraphLines.{HaveNoEnding, AreLines}
-use Rattle.block_rows.proofs.InLine.{plain_codes}
+use Rattle.text_pieces.specs.ParagraphLines.{HaveNoEnding, AreLines}
+use Rattle.text_pieces.proofs.InLine.{plain_codes}
 use Rattle.definition_inline.proofs.DefinitionParts.{the_same, spaces_pass, spaces_stop}
 use Rattle.block_definitions.specs.Contents.{begins_label, begins_with_bracket}
 

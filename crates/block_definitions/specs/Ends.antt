@@ -4,7 +4,7 @@ use Rattle.definition_text.specs.BlockLines.{BlockLine, own_lines}
 use Rattle.definition_text.specs.Content.{content_of, content_text}
 use Rattle.definition_block.specs.Definitions.{lines_before}
 use Rattle.definition_inline.specs.Definition.{Definition, definition_at}
-use Rattle.block_rows.specs.ParagraphLines.{AreLines}
+use Rattle.text_pieces.specs.ParagraphLines.{AreLines}
 use Rattle.block_definitions.specs.declared.front.DefinitionEnd.{DefinitionEnd}
 
 -- a definition is on the first lines, and the content of the others is what is left of that of all

@@ -9,16 +9,16 @@ ghost use Rattle.definition_text.specs.Content.{content_codes, content_of, conte
 ghost use Rattle.definition_block.specs.Definitions.{cut_most};
 ghost use Rattle.definition_inline.specs.Definition.{definition_at};
 ghost use Rattle.definition_inline.specs.Space.{after_spaces};
-ghost use Rattle.block_rows.specs.ParagraphLines.{AreLines};
-ghost use Rattle.block_rows.specs.Rows.{piece_lines, piece_line};
+ghost use Rattle.text_pieces.specs.ParagraphLines.{AreLines};
+ghost use Rattle.text_pieces.specs.Pieces.{piece_lines, piece_line};
 ghost use Rattle.definition_block.specs.Tree.{is_some_line};
 ghost use Rattle.block_definitions.specs.Contents.{room, total, begins_label, begins_with_bracket};
 ghost use Rattle.block_definitions.specs.Ends.{EndsAt};
 
-use block_rows::Piece;
 use inline_links::code::next_code;
 use inline_links::definition::definition;
 use inline_links::spaces;
+use text_pieces::Piece;
 
 const OPENING_BRACKET: u16 = b'[' as u16;
 

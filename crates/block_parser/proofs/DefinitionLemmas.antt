@@ -5,7 +5,7 @@ use Rattle.std.proofs.lemmas.Bool.{cond-true, cond_both}
 use Rattle.std.proofs.lemmas.List.{length-map}
 use Rattle.markdown_options.specs.declared.configuration.Constructs.{Constructs}
 use Rattle.block_rows.specs.declared.row.Row.TheVariants as row
-use Rattle.block_rows.specs.declared.row.Piece.{Piece}
+use Rattle.text_pieces.specs.declared.piece.Piece.{Piece}
 use Rattle.definition_text.specs.BlockLines.{BlockLine, own_lines}
 use Rattle.definition_block.specs.Tree.{Blocks, Nil, join, Definition, Text, is_some_line}
 use Rattle.std.specs.Option.{option_map}
@@ -13,8 +13,9 @@ use Rattle.definition_text.specs.Columns.{code_byte}
 use Rattle.definition_text.specs.Content.{content_of, content_text}
 use Rattle.definition_inline.specs.Definition.{Definition as LinkDefinition, definition, definition_at}
 use Rattle.definition_block.specs.Definitions.{DefinitionCut, cut_after, cut_into, cut_most, definition_cut, definition_lines, lines_before}
-use Rattle.block_rows.specs.ParagraphLines.{AreLines}
-use Rattle.block_rows.specs.Rows.{Single, definition_on, definition_value, row_value, block_rows, piece_line, piece_lines}
+use Rattle.text_pieces.specs.ParagraphLines.{AreLines}
+use Rattle.block_rows.specs.Rows.{Single, definition_on, definition_value, row_value, block_rows}
+use Rattle.text_pieces.specs.Pieces.{piece_line, piece_lines}
 use Rattle.block_rows.proofs.DefinitionLines.{definition_cuts}
 use Rattle.definition_inline.proofs.LinkRenaming.{renamed_definition, definition_renamed, code_byte-renames}
 use Rattle.block_definitions.specs.declared.front.DefinitionEnd.{DefinitionEnd}

@@ -19,7 +19,7 @@ use Rattle.definition_text.specs.BlockLines.{BlockLine, block_line, last_ending_
 use Rattle.definition_block.specs.CodeFenced.{Fence, fence_line, is_fence_end}
 use Rattle.definition_block.specs.Tree.{Blocks, FencedCode, block_and_ending, join, nothing, rest_line}
 use Rattle.definition_block.specs.Tree.{Text, Indented, Fenced, OpenHtml, OpenTable, Opening, Leaf, Inside, Tree, tree, beside_line, step, steps}
-use Rattle.block_rows.specs.Rows.{piece_lines, whole_line, whole_lines}
+use Rattle.text_pieces.specs.Pieces.{piece_lines, whole_line, whole_lines}
 use Rattle.block_rows.proofs.OpenLines.{AreTextLines, lines_of_text}
 use Rattle.block_rows.proofs.TextLines.{front_bytes, front_of_text, later_bytes, line_bytes, lines_of_front, text_back, text_of}
 use Rattle.text_lines.proofs.Codes.{block_codes_whole}

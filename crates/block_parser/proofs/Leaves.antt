@@ -11,14 +11,15 @@ use Rattle.markdown_options.specs.declared.configuration.Constructs.{Constructs}
 use Rattle.definition_block.specs.Container.{Container, Quote, Item, Footnote}
 use Rattle.block_rows.specs.declared.row.Row.{Row}
 use Rattle.block_rows.specs.declared.row.Row.TheVariants as row
-use Rattle.block_rows.specs.declared.row.Piece.{Piece}
+use Rattle.text_pieces.specs.declared.piece.Piece.{Piece}
 use Rattle.definition_text.specs.BlockLines.{BlockLine, last_ending, own_lines}
 use Rattle.definition_block.specs.Tree.{Block, IndentedCode, Ending, Blank, Blocks, Nil, join, one, block_and_ending, container_block}
 use Rattle.definition_block.specs.Tree.{OpenLeaf, Text, Indented, Fenced, OpenHtml, OpenTable, Leaf}
 use Rattle.definition_block.specs.Tree.{is_nothing, close_leaf, blanks, is_ending, front}
-use Rattle.block_rows.proofs.Pieces.{lines_from}
-use Rattle.block_rows.specs.Rows.{Single, start_row, block_rows, row_value, rows_of, rows_value, value_with, row_size, rows_size, piece_line}
-use Rattle.block_rows.specs.Rows.{piece_lines}
+use Rattle.text_pieces.proofs.Pieces.{lines_from}
+use Rattle.block_rows.specs.Rows.{Single, start_row, block_rows, row_value, rows_of, rows_value, value_with, row_size, rows_size}
+use Rattle.text_pieces.specs.Pieces.{piece_line}
+use Rattle.text_pieces.specs.Pieces.{piece_lines}
 use Rattle.block_parser.specs.declared.parser.Parser.{Parser}
 use Rattle.block_state.specs.Spine.{Level, Spine, level, spine, rows_around}
 use Rattle.block_state.specs.Waits.{enter_row, inside, outside}

@@ -15,8 +15,8 @@ use Rattle.definition_text.specs.BlockLines.{BlockLine, block_line}
 use Rattle.definition_text.specs.Content.{line_text}
 use Rattle.definition_text.proofs.CodeBytes.{code_bytes}
 use Rattle.definition_block.specs.Tree.{Blocks, Nil, join, Text, Leaf, Tree, tree, beside_line, grow, open_text, rest_line, step, steps, text_line_of}
-use Rattle.block_rows.specs.ParagraphLines.{AreLines}
-use Rattle.block_rows.specs.Rows.{whole_line, whole_lines}
+use Rattle.text_pieces.specs.ParagraphLines.{AreLines}
+use Rattle.text_pieces.specs.Pieces.{whole_line, whole_lines}
 use Rattle.block_rows.proofs.TextLines.{first_bytes, front_bytes, later_bytes, text_back, text_of}
 use Rattle.block_starts.specs.Plain.{is_plain}
 use Rattle.text_lines.proofs.Codes.{block_codes_whole}

@@ -17,7 +17,7 @@ use Rattle.definition_block.specs.HeadingAtx.{Atx, heading_atx}
 use Rattle.definition_block.specs.HeadingSetext.{underline}
 use Rattle.definition_block.specs.ThematicBreak.{is_break}
 use Rattle.definition_block.specs.Definitions.{definition_cut, cut_into, cut_most}
-use Rattle.block_rows.specs.ParagraphLines.{AreLines}
+use Rattle.text_pieces.specs.ParagraphLines.{AreLines}
 use Rattle.definition_text.specs.BlockLines.{BlockLine, spaced_line, own_lines}
 use Rattle.definition_block.specs.Tree.{Heading, Break, FencedCode, Blank, Blocks, Nil, join, one, block_and_ending, OpenLeaf, Text, Indented, Fenced, OpenHtml}
 use Rattle.definition_block.specs.Tree.{OpenTable, Opening, Leaf, Inside, Tree, tree, nothing, close, after, leaf_text, open_text, text_here, is_some_line}

@@ -12,8 +12,8 @@ use Rattle.definition_text.specs.Columns.{Rest}
 use Rattle.definition_block.specs.CodeFenced.{Fence}
 use Rattle.definition_block.specs.Container.{Container}
 use Rattle.definition_block.specs.Tree.{Blocks, Nil, OpenLeaf, Text, Fenced, Opening, Leaf, Inside, Tree, tree, nothing, open_text, new, leaf_line, grow, steps}
-use Rattle.block_rows.specs.ParagraphLines.{AreLines}
-use Rattle.block_rows.specs.Rows.{piece_lines, whole_lines}
+use Rattle.text_pieces.specs.ParagraphLines.{AreLines}
+use Rattle.text_pieces.specs.Pieces.{piece_lines, whole_lines}
 use Rattle.block_starts.specs.View.{container_views}
 use Rattle.block_parser.specs.declared.parser.Parser.{Parser}
 use Rattle.block_state.specs.Leaves.{leaf_state}

@@ -4,13 +4,13 @@
 ghost use Rattle.std.specs.Prelude.{◌≡◌, ◌<◌, ◌^◌, IfNone, IfSome, false, length};
 ghost use Rattle.std.specs.List.{list_any};
 ghost use Rattle.definition_text.specs.Lines.{lines, text_line};
-ghost use Rattle.block_rows.specs.Rows.{piece_line};
+ghost use Rattle.text_pieces.specs.Pieces.{piece_line};
 ghost use Rattle.block_starts.specs.View.{rest_of};
 ghost use Rattle.block_starts.specs.CodeFenced.{fence_if, fence_view};
 ghost use Rattle.block_parser.specs.Fences.{IsWholeCode, code_line, line_closes, opening_fence as fence_here};
 
 use crate::parser::{NOTHING, Parser, piece};
-use block_rows::{Piece, Row};
+use block_rows::Row;
 use block_starts::Cursor;
 use block_starts::code_fenced::{Fence, closes_fence, fence_line, fence_start, is_fence_end};
 use block_starts::math_flow::math_start;
@@ -19,6 +19,7 @@ use block_state::whole_lines::whole_piece;
 use markdown_options::{Beside, Constructs, Kind, LineEnding};
 use std::alloc::{AllocError, Allocator};
 use text_lines::next_line;
+use text_pieces::Piece;
 
 impl<'a, A: Allocator> Parser<'a, A> {
     ghost use Rattle.std.specs.Prelude.{◌≡◌, IfOk, OnOk, List, Option, ◌≤◌, ◌<◌, ◌+◌, ◌^◌, [], length, true, vec_len};
@@ -30,7 +31,7 @@ impl<'a, A: Allocator> Parser<'a, A> {
     ghost use Rattle.block_state.specs.Shows.{InFenced};
     ghost use Rattle.block_parser.specs.View.{Becomes, Closes, Adds, ReadsFenced, leaf_grown};
     ghost use Rattle.block_starts.specs.View.{rest_of};
-    ghost use Rattle.block_rows.specs.Rows.{whole_lines};
+    ghost use Rattle.text_pieces.specs.Pieces.{whole_lines};
 
     /// Fenced code takes every line up to its closing fence.
     pub(crate) fn fenced_line(

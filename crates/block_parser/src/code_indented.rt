@@ -10,7 +10,7 @@ use block_rows::Row;
 use block_starts::Cursor;
 use block_starts::code_indented::starts_code_indented;
 use block_state::OpenLeaf;
-use markdown_options::constants::TAB_SIZE;
+use markdown_options::constants::CODE_INDENT;
 use markdown_options::{Beside, Constructs, LineEnding};
 use std::alloc::{AllocError, Allocator};
 
@@ -33,11 +33,11 @@ impl<'a, A: Allocator> Parser<'a, A> {
             Becomes self.old self.new (tree.Indented ls pending) (leaf_grown on.now beside (rest_of rest.now) (tree.Leaf (tree.Indented ls pending)))) }
     {
         if rest.is_blank() {
-            self.pieces.push(piece(&rest.outdent(TAB_SIZE), beside))?;
+            self.pieces.push(piece(&rest.outdent(CODE_INDENT), beside))?;
             return Ok(());
         }
         if starts_code_indented(on, *rest) {
-            self.pieces.push(piece(&rest.outdent(TAB_SIZE), beside))?;
+            self.pieces.push(piece(&rest.outdent(CODE_INDENT), beside))?;
             let count = self.pieces.len() - self.lines_in_rows;
             self.leaf = OpenLeaf::Indented {
                 count,
@@ -58,7 +58,7 @@ impl<'a, A: Allocator> Parser<'a, A> {
         ensures { OnOk result (Adds self.old self.new
             (tree.tree tree.Nil (tree.Leaf (tree.Indented (tree.rest_line (outdent 4 (rest_of rest.now)) beside ∷ []) [])))) }
     {
-        self.pieces.push(piece(&rest.outdent(TAB_SIZE), beside))?;
+        self.pieces.push(piece(&rest.outdent(CODE_INDENT), beside))?;
         self.leaf = OpenLeaf::Indented {
             count: 1,
             ending: beside.ending,

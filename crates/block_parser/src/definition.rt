@@ -6,20 +6,21 @@
 //! follows.
 ghost use Rattle.std.specs.Prelude.{◌≡◌};
 ghost use Rattle.definition_text.specs.BlockLines.{last_ending};
-ghost use Rattle.block_rows.specs.Rows.{piece_lines};
+ghost use Rattle.text_pieces.specs.Pieces.{piece_lines};
 
 use crate::parser::Parser;
 use block_definitions::{first_definition, has_more, may_begin};
-use block_rows::{Piece, Row, join_lines};
+use block_rows::Row;
 use markdown_options::{Constructs, LineEnding};
 use std::alloc::{AllocError, Allocator};
+use text_pieces::{Piece, join_lines};
 
 impl<'a, A: Allocator> Parser<'a, A> {
     ghost use Rattle.std.specs.Prelude.{◌≡◌, true, false, List, OnOk, IfOk};
     ghost use Rattle.definition_text.specs.BlockLines.{BlockLine};
     ghost use Rattle.definition_block.specs.Tree as tree;
     ghost use Rattle.definition_block.specs.Definitions.{definition_cut, cut_into};
-    ghost use Rattle.block_rows.specs.ParagraphLines.{AreLines};
+    ghost use Rattle.text_pieces.specs.ParagraphLines.{AreLines};
     ghost use Rattle.block_state.specs.Spine.{Level, Spine, spine};
     ghost use Rattle.block_parser.specs.View.{Becomes, HasRead};
 

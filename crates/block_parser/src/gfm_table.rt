@@ -6,18 +6,19 @@
 ghost use Rattle.std.specs.Prelude.{◌≡◌, [], OnOk, unwrap_or};
 ghost use Rattle.definition_block.specs.GfmTable as spec;
 ghost use Rattle.definition_text.specs.Columns.{bytes_of};
-ghost use Rattle.block_rows.specs.Rows.{piece_line, piece_lines};
+ghost use Rattle.text_pieces.specs.Pieces.{piece_line, piece_lines};
 ghost use Rattle.block_starts.specs.View.{rest_of};
 
 use crate::parser::{Parser, piece};
 use block_cells::{has_cells, read_delimiters};
-use block_rows::{Piece, Row};
+use block_rows::Row;
 use block_starts::Cursor;
 use block_starts::indent::is_small;
 use block_state::OpenLeaf;
 use block_state::whole_lines::whole_piece;
 use markdown_options::{AlignKind, Beside, Constructs, LineEnding};
 use std::alloc::{AllocError, Allocator};
+use text_pieces::Piece;
 
 impl<'a, A: Allocator> Parser<'a, A> {
     ghost use Rattle.std.specs.Prelude.{◌≡◌, ◌-◌, ◌++◌, ◌∷◌, [], true, IfOk, OnOk, List, drop, take, length};
@@ -26,7 +27,7 @@ impl<'a, A: Allocator> Parser<'a, A> {
     ghost use Rattle.definition_block.specs.Definitions.{definition_cut};
     ghost use Rattle.definition_block.specs.GfmTable.{delimiter_row};
     ghost use Rattle.definition_block.specs.Tree as tree;
-    ghost use Rattle.block_rows.specs.ParagraphLines.{AreLines};
+    ghost use Rattle.text_pieces.specs.ParagraphLines.{AreLines};
     ghost use Rattle.block_parser.specs.GfmTable.{fits, table_from_cut, table_tree};
     ghost use Rattle.block_parser.specs.HeadingSetext.{IsText};
     ghost use Rattle.block_state.specs.Shows.{leaf_lines};

@@ -14,7 +14,7 @@ impl<'a, A: Allocator> Parser<'a, A> {
     ghost use Rattle.markdown_options.specs.declared.line_ending.LineEnding.{LineEnding};
     ghost use Rattle.definition_text.specs.BlockLines.{BlockLine};
     ghost use Rattle.definition_block.specs.Tree as tree;
-    ghost use Rattle.block_rows.specs.ParagraphLines.{AreLines};
+    ghost use Rattle.text_pieces.specs.ParagraphLines.{AreLines};
     ghost use Rattle.block_parser.specs.HeadingSetext.{IsText, heading_blocks, heading_tree};
     ghost use Rattle.block_state.specs.Spine.{Level, Spine, spine_at};
     ghost use Rattle.block_parser.specs.View.{Closes, HasRead};

@@ -4,21 +4,22 @@
 
 use crate::definition::last_ending;
 use crate::parser::{NOTHING, Parser, piece};
-use block_rows::{Piece, Row};
+use block_rows::Row;
 use block_starts::Cursor;
 use block_state::OpenLeaf;
 use block_state::whole_lines::{first_lines, whole_piece};
 use markdown_options::{Beside, Constructs, LineEnding};
 use std::alloc::{AllocError, Allocator};
+use text_pieces::Piece;
 
 impl<'a, A: Allocator> Parser<'a, A> {
     ghost use Rattle.std.specs.Prelude.{◌≡◌, IfNone, IfSome, List, None, OnOk};
     ghost use Rattle.definition_text.specs.BlockLines.{BlockLine, own_lines};
     ghost use Rattle.definition_block.specs.Tree as tree;
-    ghost use Rattle.block_rows.specs.ParagraphLines.{AreLines};
+    ghost use Rattle.text_pieces.specs.ParagraphLines.{AreLines};
     ghost use Rattle.block_state.specs.WholeLines.{BeginsNot};
     ghost use Rattle.block_parser.specs.View.{AreKnown, Closes, ClosesText, HasLine, lines_left};
-    ghost use Rattle.block_rows.specs.Rows.{piece_line, whole_lines};
+    ghost use Rattle.text_pieces.specs.Pieces.{piece_line, whole_lines};
     ghost use Rattle.block_starts.specs.View.{rest_of};
 
     /// A line of text goes on the paragraph, or is its first.

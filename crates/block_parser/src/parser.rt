@@ -3,7 +3,8 @@ ghost use Rattle.std.specs.Prelude.{◌≡◌, ◌≤◌, ◌<◌, ◌+◌, ◌-
 ghost use Rattle.std.specs.Str.{IsCharBoundary};
 ghost use Rattle.definition_text.specs.Lines.{lines};
 ghost use Rattle.definition_block.specs.Tree.{blocks, children, rest_line};
-ghost use Rattle.block_rows.specs.Rows.{rows_size, piece_line, piece_lines, rows_of, rows_value, value_with};
+ghost use Rattle.block_rows.specs.Rows.{rows_size, rows_of, rows_value, value_with};
+ghost use Rattle.text_pieces.specs.Pieces.{piece_line, piece_lines};
 ghost use Rattle.block_starts.specs.View.{rest_of, container_view, container_views};
 ghost use Rattle.block_parser.specs.Quotes.{NoQuoteFrom, is_quote};
 ghost use Rattle.block_state.specs.Leaves.{lines_needed};
@@ -12,7 +13,7 @@ use crate::code_fenced::opening_fence;
 use crate::code_indented::begins_code;
 use crate::definition::last_ending;
 use crate::html_flow::html_start;
-use block_rows::{Piece, Row};
+use block_rows::Row;
 use block_starts::Cursor;
 use block_starts::container::{container_may_start, continues, starts};
 use block_starts::frontmatter::without_frontmatter;
@@ -24,6 +25,7 @@ use block_state::{OpenLeaf, Rows};
 use markdown_options::{AlignKind, Beside, Constructs, Container, Kind, LineEnding};
 use std::alloc::{AllocError, Allocator};
 use text_lines::next_line;
+use text_pieces::Piece;
 
 /// The blocks of a text: rows, and the lines that they take.
 #[derive(Drop)]
@@ -64,7 +66,7 @@ impl<'a, A: Allocator> Parser<'a, A> {
     ghost use Rattle.std.specs.Prelude.{◌≡◌, ◌==◌, ◌&&◌, OnOk, IfOk, List, true, false};
     ghost use Rattle.definition_text.specs.Lines.{text_line};
     ghost use Rattle.definition_block.specs.Tree as tree;
-    ghost use Rattle.block_rows.specs.ParagraphLines.{AreLines};
+    ghost use Rattle.text_pieces.specs.ParagraphLines.{AreLines};
     ghost use Rattle.block_rows.specs.Rows.{block_rows, row_value, row_size};
     ghost use Rattle.block_state.specs.Spine.{Level, Spine, spine, spine_at, spine_of, without_innermost};
     ghost use Rattle.block_parser.specs.Quotes.{NoQuoteFrom, NoneBeganBlank};

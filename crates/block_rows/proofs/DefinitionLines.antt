@@ -12,7 +12,7 @@ use Rattle.markdown_options.specs.declared.line_ending.LineEnding.TheVariants.{C
 use Rattle.definition_text.specs.BlockLines.{BlockLine, own_lines}
 use Rattle.definition_block.specs.Blocks.{Nil, join}
 use Rattle.definition_text.specs.Content.{is_eol, line_ending_code, ending_code, content_of}
-use Rattle.block_rows.specs.ParagraphLines.{HaveNoEnding, AreLines}
+use Rattle.text_pieces.specs.ParagraphLines.{HaveNoEnding, AreLines}
 use Rattle.definition_inline.specs.Definition.{Definition as LinkDefinition, definition, definition_at}
 use Rattle.definition_block.specs.Definitions.{DefinitionCut, cut_into, cut_after, cut_most, definition_lines, line_count, lines_before}
 use Rattle.definition_inline.proofs.DefinitionAlone.{definition_alone}

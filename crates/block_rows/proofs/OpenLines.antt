@@ -34,7 +34,7 @@ use Rattle.definition_inline.specs.Label.{ends_label, label_end}
 use Rattle.definition_block.specs.Definitions.{definition_cut}
 use Rattle.markdown_options.specs.declared.align_kind.AlignKind.{AlignKind}
 use Rattle.definition_block.specs.GfmTable.{delimiter_row, is_head}
-use Rattle.block_rows.specs.ParagraphLines.{HaveNoEnding, AreLines}
+use Rattle.text_pieces.specs.ParagraphLines.{HaveNoEnding, AreLines}
 use Rattle.definition_text.specs.BlockLines.{BlockLine}
 use Rattle.definition_block.specs.Tree.{Blocks, OpenLeaf, Text, Indented, Fenced, OpenHtml, OpenTable, Opening, Leaf, Inside, Tree, nothing, empty_tree}
 use Rattle.definition_block.specs.Tree.{open_text, has_text, has_table, is_some_line, table_if, makes_table, with_line, rest_line, takes, html_with, or_heading}

@@ -1,11 +1,9 @@
 -- Rows that are shown one by one.
-use Rattle.std.proofs.Common.{◌≡◌, ℕ, ◌+◌, ◌<◌, List, [], None, ap, ◌∙◌, take, drop, get_or, length}
+use Rattle.std.proofs.Common.{◌≡◌, ℕ, ◌+◌, ◌<◌, List, [], ap, ◌∙◌, take, drop, get_or, length}
 use Rattle.std.specs.Prelude.{map}
 use Rattle.std.proofs.lemmas.List.{drop-drop, drop-map}
 use Rattle.std.proofs.lemmas.List.Sums.{fold_more, sum_by-drop_more}
-use Rattle.markdown_options.specs.declared.beside.Kind.TheVariants.{Whitespace}
 use Rattle.block_rows.specs.declared.row.Row.{Row}
-use Rattle.block_rows.specs.declared.row.Piece.{Piece}
 use Rattle.definition_text.specs.BlockLines.{BlockLine}
 use Rattle.block_rows.specs.Rows.{rows_value, value_with, show_row, row_size, rows_size}
 
@@ -20,7 +18,3 @@ taken_more rows i d lt = sum_by-drop_more row_size rows i d lt
 -- the lines that a row leaves
 pub left_more : {X : Type 0} (f : X → BlockLine) (n taken : ℕ) (lines : List X) → drop n (map f (drop taken lines)) ≡ map f (drop (taken + n) lines)
 left_more f n taken lines = drop-map f n (drop taken lines) ∙ ap (map f) (drop-drop n taken lines)
-
--- a piece where none is
-abbrev pub no_piece : Piece
-no_piece = record { text = record { ref_ptr = (0, 0); now = [] }; owed = 0; ending = None; before = Whitespace }

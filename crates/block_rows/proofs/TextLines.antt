@@ -9,7 +9,7 @@ use Rattle.markdown_options.specs.declared.line_ending.LineEnding.{LineEnding}
 use Rattle.markdown_options.specs.declared.line_ending.LineEnding.TheVariants.{CarriageReturnLineFeed, CarriageReturn, LineFeed}
 use Rattle.definition_text.specs.Lines.{TextLine, text_line, first_of, in_first_line, after_return, lines, ending_text}
 use Rattle.definition_text.specs.Content.{is_eol}
-use Rattle.block_rows.specs.ParagraphLines.{HaveNoEnding}
+use Rattle.text_pieces.specs.ParagraphLines.{HaveNoEnding}
 use Rattle.block_rows.proofs.OpenLines.{AreTextLines}
 
 -- ---- a text is the bytes of its lines

@@ -1,14 +1,13 @@
 -- The rows of a block tree: what the block parser hands to the printer.
-use Rattle.std.specs.Prelude.{ℕ, ◌+◌, true, false, Option, None, Some, List, [], ◌∷◌, ◌++◌, map, take, drop, replicate}
+use Rattle.std.specs.Prelude.{ℕ, ◌+◌, true, false, Option, None, Some, List, [], ◌∷◌, ◌++◌, map, take, drop}
 use Rattle.std.specs.List.{fold, sum_by}
 use Rattle.std.specs.Option.{option_map}
 use Rattle.definition_block.specs.Container.{Container, Quote, Item, Footnote}
 use Rattle.block_rows.specs.declared.row.Row.{Row}
 use Rattle.block_rows.specs.declared.row.Row.TheVariants as row
-use Rattle.block_rows.specs.declared.row.Piece.{Piece}
-use Rattle.definition_text.specs.Lines.{TextLine, lines}
-use Rattle.definition_text.specs.Columns.{bytes_of, code_byte, tab_column}
-use Rattle.definition_text.specs.BlockLines.{BlockLine, block_line, spaced_line, own_lines}
+use Rattle.definition_text.specs.Columns.{bytes_of, code_byte}
+use Rattle.definition_text.specs.BlockLines.{BlockLine, own_lines}
+use Rattle.text_pieces.specs.Pieces.{whole_lines}
 use Rattle.definition_block.specs.Tree.{Block, Paragraph, Heading, Break, IndentedCode, FencedCode, Html, Table, Definition, Holds, Items, Ending, Blank}
 use Rattle.definition_block.specs.Tree.{Blocks, Nil, Cons}
 use Rattle.definition_text.specs.Content.{content_codes, content_text}
@@ -98,13 +97,6 @@ abbrev pub first_codes : List BlockLine → List ℕ
 first_codes [] = []
 first_codes (line ∷ others) = line.codes
 
--- the lines of a text as lines of a block
-abbrev pub whole_line : TextLine → BlockLine
-whole_line line = spaced_line line.content line.ending
-
-abbrev pub whole_lines : List ℕ → List BlockLine
-whole_lines text = map whole_line (lines text)
-
 -- the definition that is read off the bytes of these lines
 abbrev pub definition_on : List BlockLine → Option LinkDefinition
 definition_on ls = definition_at (content_codes (content_text ls))
@@ -139,10 +131,3 @@ show_row s r = value_with (s.rows ++ row_value r s.left ∷ []) (drop (row_size 
 
 abbrev pub rows_value : List Row → List BlockLine → RowsValue
 rows_value rows ls = fold show_row (value_with [] ls) rows
-
--- the line that a piece of the text stands for
-abbrev pub piece_line : Piece → BlockLine
-piece_line piece = block_line (replicate piece.owed tab_column ++ piece.text.now) piece.ending piece.before
-
-abbrev pub piece_lines : List Piece → List BlockLine
-piece_lines pieces = map piece_line pieces

@@ -2,20 +2,7 @@
 ghost use Rattle.std.specs.Prelude.{◌≡◌, ◌<◌, ◌^◌};
 ghost use Rattle.block_rows.specs.Rows.{row_size};
 
-use markdown_options::{Kind, LineEnding};
-
-/// A line of a block: a piece of the text.
-#[derive(Clone, Copy)]
-pub struct Piece<'a> {
-    /// The bytes of the line, after the prefixes of containers.
-    pub text: &'a str,
-    /// The columns before them that are left of a tab in which a prefix ended.
-    pub owed: u8,
-    /// The line's ending, which a text's last line may lack.
-    pub ending: Option<LineEnding>,
-    /// The kind of the character before it in the text.
-    pub before: Kind,
-}
+use markdown_options::LineEnding;
 
 /// A block, the start or end of a container, or the end of a line, in the order of the text.
 ///

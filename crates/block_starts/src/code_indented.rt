@@ -7,11 +7,11 @@ ghost use Rattle.block_starts.specs.View.{rest_of};
 
 use crate::cursor::Cursor;
 use markdown_options::Constructs;
-use markdown_options::constants::TAB_SIZE;
+use markdown_options::constants::CODE_INDENT;
 
 /// Whether the line has the indent of code.
 pub fn starts_code_indented(on: &Constructs, rest: Cursor<'_>) -> bool
     ensures { result ≡ starts_code on.now (rest_of rest.entry) }
 {
-    on.code_indented && rest.indent() >= TAB_SIZE
+    on.code_indented && rest.indent() >= CODE_INDENT
 }

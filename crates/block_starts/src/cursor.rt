@@ -14,6 +14,7 @@ ghost use Rattle.block_starts.specs.Labels.{NoLabel, IsLabelBefore, label_len};
 ghost use Rattle.block_starts.specs.ThematicBreak.{BreaksWithin};
 
 use crate::thematic_break::break_tail;
+use markdown_options::constants::TAB_SIZE;
 use text_bytes::{is_space, is_space_or_tab, may_escape};
 
 /// The rest of a line.
@@ -334,5 +335,9 @@ fn width(column: usize, byte: u8) -> usize
     ensures some { 1 ≤ result }
     ensures few { result ≤ 4 }
 {
-    if byte == b'\t' { 4 - column % 4 } else { 1 }
+    if byte == b'\t' {
+        TAB_SIZE - column % TAB_SIZE
+    } else {
+        1
+    }
 }

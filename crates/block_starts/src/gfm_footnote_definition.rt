@@ -15,7 +15,7 @@ use crate::container_line::{ContainerLine, kind_before_content};
 use crate::cursor::Cursor;
 use crate::indent::is_small;
 use crate::list_item::item_continues;
-use markdown_options::constants::{LINK_REFERENCE_SIZE_MAX, TAB_SIZE};
+use markdown_options::constants::{CODE_INDENT, LINK_REFERENCE_SIZE_MAX};
 use markdown_options::{Constructs, Container};
 
 /// The marker of a footnote definition: its label, and the rest after its colon.
@@ -105,5 +105,5 @@ fn after_byte(byte: u8, rest: Cursor<'_>) -> Option<Cursor<'_>>
 pub(crate) fn footnote_continues(rest: Cursor<'_>) -> Option<ContainerLine<'_>>
     ensures { line_if result ≡ spec.footnote_continues (rest_of rest.entry) }
 {
-    item_continues(TAB_SIZE, false, rest)
+    item_continues(CODE_INDENT, false, rest)
 }

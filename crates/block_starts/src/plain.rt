@@ -8,7 +8,7 @@ ghost use Rattle.block_starts.specs.View.{rest_of};
 
 use crate::cursor::Cursor;
 use markdown_options::Constructs;
-use markdown_options::constants::TAB_SIZE;
+use markdown_options::constants::CODE_INDENT;
 use text_bytes::is_space_or_tab;
 
 /// Whether a rest is plain: an indent of at most three columns, and then a byte that is no white
@@ -16,7 +16,7 @@ use text_bytes::is_space_or_tab;
 pub fn is_plain(on: &Constructs, rest: Cursor<'_>) -> bool
     ensures { result ≡ is_plain on.now (rest_of rest.entry) }
 {
-    rest.indent() < TAB_SIZE && begins_plain(on, rest.bare_text().as_bytes())
+    rest.indent() < CODE_INDENT && begins_plain(on, rest.bare_text().as_bytes())
 }
 
 /// The same of a whole line.

@@ -10,7 +10,8 @@ use Rattle.definition_text.specs.Columns.{bytes_of}
 use Rattle.definition_text.specs.BlockLines.{BlockLine, own_lines}
 use Rattle.definition_block.specs.Tree.{Paragraph, Heading, IndentedCode, FencedCode, Html, Table}
 use Rattle.block_state.specs.Shows.{lone}
-use Rattle.block_rows.specs.Rows.{whole_lines, definition_on, definition_value, BlockRow, Single, RowsValue, rows_value, value_with, show_row, row_value}
+use Rattle.block_rows.specs.Rows.{definition_on, definition_value, BlockRow, Single, RowsValue, rows_value, value_with, show_row, row_value}
+use Rattle.text_pieces.specs.Pieces.{whole_lines}
 use Rattle.block_rows.specs.Rows.{row_size, rows_size}
 
 -- ---- more lines beside the rows

@@ -14,10 +14,10 @@ use Rattle.markdown_options.specs.declared.beside.Kind.TheVariants.{Whitespace}
 use Rattle.definition_text.specs.BlockLines.{BlockLine, block_line}
 use Rattle.definition_text.specs.Content.{line_text}
 use Rattle.definition_text.proofs.CodeBytes.{code_bytes}
-use Rattle.block_rows.specs.ParagraphLines.{HaveNoEnding, AreLines}
+use Rattle.text_pieces.specs.ParagraphLines.{HaveNoEnding, AreLines}
 use Rattle.block_rows.proofs.TextLines.{NoFeed, ending_read, front_bytes, front_end, front_line, front_read, no_feed_follows, other_byte, with_front}
-use Rattle.block_rows.specs.declared.row.Piece.{Piece}
-use Rattle.block_rows.specs.Rows.{whole_line, whole_lines, piece_line, piece_lines}
+use Rattle.text_pieces.specs.declared.piece.Piece.{Piece}
+use Rattle.text_pieces.specs.Pieces.{whole_line, whole_lines, piece_line, piece_lines}
 use Rattle.block_state.specs.WholeLines.{AreWhole, Begins, BeginsNot, BeginsWith, IsWhole}
 
 pub more_whole : (ls : List BlockLine) (l : BlockLine) → AreWhole ls → IsWhole l → AreWhole (ls ++ l ∷ [])

@@ -5,12 +5,12 @@ ghost use Rattle.definition_text.specs.Columns.{bytes_of, whole};
 ghost use Rattle.definition_text.specs.Lines.{ending_text, text_line};
 ghost use Rattle.markdown_options.specs.declared.beside.Kind.TheVariants.{Whitespace};
 ghost use Rattle.definition_block.specs.Tree.{beside_line, rest_line};
-ghost use Rattle.block_rows.specs.ParagraphLines.{AreLines};
-ghost use Rattle.block_rows.specs.Rows.{piece_line, piece_lines, whole_lines};
+ghost use Rattle.text_pieces.specs.ParagraphLines.{AreLines};
+ghost use Rattle.text_pieces.specs.Pieces.{piece_line, piece_lines, whole_lines};
 ghost use Rattle.block_state.specs.WholeLines.{Begins, BeginsNot, BeginsWith};
 
-use block_rows::Piece;
 use markdown_options::{Kind, LineEnding};
+use text_pieces::Piece;
 
 /// A text as one line of a block, after white space.
 pub fn whole_piece<'a>(text: &'a str, ending: Option<LineEnding>) -> Piece<'a>

@@ -3,12 +3,14 @@ ghost use Rattle.std.specs.Prelude.{◌≡◌, ◌≤◌, ◌++◌, ◌∷◌, [
 ghost use Rattle.std.specs.List.{list_any};
 ghost use Rattle.definition_block.specs.Blocks.{Blocks};
 ghost use Rattle.definition_inline.specs.Definition.{Definition};
-ghost use Rattle.block_rows.specs.Rows.{rows_size, definition_on, row_size, piece_lines, row_definitions, row_value, rows_of, rows_value};
+ghost use Rattle.block_rows.specs.Rows.{rows_size, definition_on, row_size, row_definitions, row_value, rows_of, rows_value};
+ghost use Rattle.text_pieces.specs.Pieces.{piece_lines};
 ghost use Rattle.definition_block.specs.Definitions.{document_definitions};
 ghost use Rattle.block_targets.specs.Read.{HasContents, alone, is_definition, takes_lines};
 
-use block_rows::{Piece, Row, join_lines};
+use block_rows::Row;
 use std::alloc::{AllocError, Allocator};
+use text_pieces::{Piece, join_lines};
 
 /// The contents of definitions, in the order of the text.
 #[derive(Drop)]

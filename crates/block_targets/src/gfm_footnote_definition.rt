@@ -5,14 +5,16 @@ ghost use Rattle.std.specs.Option.{option_map};
 ghost use Rattle.definition_text.specs.Content.{content_codes};
 ghost use Rattle.definition_block.specs.Blocks.{Blocks};
 ghost use Rattle.definition_block.specs.Definitions.{footnotes};
-ghost use Rattle.block_rows.specs.Rows.{rows_size, row_size, piece_lines, row_value, rows_of, rows_value};
+ghost use Rattle.block_rows.specs.Rows.{rows_size, row_size, row_value, rows_of, rows_value};
+ghost use Rattle.text_pieces.specs.Pieces.{piece_lines};
 ghost use Rattle.block_targets.specs.GfmFootnoteDefinition.{HasEnded, HasLabelsSoFar, LabelsSoFar, labels_so_far, nothing_noted};
 ghost use Rattle.block_targets.specs.GfmFootnoteDefinition.{are_bare_rows, is_bare_row, note_exit, note_row};
 ghost use Rattle.block_targets.specs.GfmFootnoteDefinition.{starts_footnote};
 
-use block_rows::{Piece, Row};
+use block_rows::Row;
 use inline_labels::LabelTable;
 use std::alloc::{AllocError, Allocator};
+use text_pieces::Piece;
 
 /// The footnote definitions of a document, in the order in which they end: one ends after those
 /// that stand in it.

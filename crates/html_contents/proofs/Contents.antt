@@ -6,7 +6,7 @@ use Rattle.markdown_options.specs.declared.beside.Kind.{Kind}
 use Rattle.definition_text.specs.BlockLines.{BlockLine, block_line, own_lines}
 use Rattle.definition_text.specs.Columns.{code_byte}
 use Rattle.definition_text.specs.InlineCode.{inline_content, line_content, with_kinds}
-use Rattle.block_rows.specs.ParagraphLines.{AreLines}
+use Rattle.text_pieces.specs.ParagraphLines.{AreLines}
 use Rattle.inline_content.specs.Lines.{AreContentLines}
 
 pub content_lines : (ls : List BlockLine) → AreLines ls → AreContentLines ls

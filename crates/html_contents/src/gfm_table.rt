@@ -1,8 +1,8 @@
 //! The cells of tables (GFM 4.10).
 ghost use Rattle.html_bytes.specs.Document.{cell_counts, cell_of};
 ghost use Rattle.definition_inline.specs.Targets.{Targets};
-ghost use Rattle.block_rows.specs.ParagraphLines.{HaveNoEnding};
-ghost use Rattle.block_rows.specs.Rows.{piece_line};
+ghost use Rattle.text_pieces.specs.ParagraphLines.{HaveNoEnding};
+ghost use Rattle.text_pieces.specs.Pieces.{piece_line};
 ghost use Rattle.block_cells.specs.GfmTable.{cell_view};
 
 use crate::buffers::TextBuffers;

@@ -4,8 +4,8 @@ ghost use Rattle.html_bytes.specs.Document.{context_of, meaning_of, text_of, par
 ghost use Rattle.definition_text.specs.Encode.{encode};
 ghost use Rattle.html_bytes.specs.InlineHtml.{inline_counts, inline_pieces};
 ghost use Rattle.definition_inline.specs.Targets.{Targets};
-ghost use Rattle.block_rows.specs.ParagraphLines.{HaveNoEnding, AreLines};
-ghost use Rattle.block_rows.specs.Rows.{piece_line, piece_lines, whole_lines};
+ghost use Rattle.text_pieces.specs.ParagraphLines.{HaveNoEnding, AreLines};
+ghost use Rattle.text_pieces.specs.Pieces.{piece_line, piece_lines, whole_lines};
 ghost use Rattle.definition_inline.specs.Scan.{inlines, inlines_from};
 ghost use Rattle.definition_text.specs.BlockLines.{own_lines};
 ghost use Rattle.definition_text.specs.InlineCode.{inline_content};
@@ -15,7 +15,6 @@ ghost use Rattle.inline_parser.specs.Scanned.{IsPlace};
 ghost use Rattle.html_inline.specs.GfmTable.{parts_in_cell};
 
 use crate::buffers::TextBuffers;
-use block_rows::Piece;
 use html_footnotes::Output;
 use html_inline::{Printing, Scratch, count_rows, push_alone, push_encoded_string, push_rows};
 use inline_content::{Content, line_content, whole_content};
@@ -24,6 +23,7 @@ use inline_links::LinkTexts;
 use inline_parser::{FoundRows, Room, RowRoom, content_start, inline_rows};
 use markdown_options::{Kind, Options, Tables};
 use std::alloc::{AllocError, Allocator};
+use text_pieces::Piece;
 
 /// What the texts of a document are read and printed by.
 #[derive(Drop)]

@@ -7,8 +7,8 @@ use Rattle.std.proofs.lemmas.List.{take-map, drop-map, take_rest}
 use Rattle.std.proofs.lemmas.List.Sums.{fold-append}
 use Rattle.markdown_options.specs.declared.line_ending.LineEnding.{LineEnding}
 use Rattle.markdown_options.specs.LineEndings.{ending_bytes}
-use Rattle.block_rows.specs.declared.row.Piece.{Piece}
-use Rattle.block_rows.specs.ParagraphLines.{HaveNoEnding}
+use Rattle.text_pieces.specs.declared.piece.Piece.{Piece}
+use Rattle.text_pieces.specs.ParagraphLines.{HaveNoEnding}
 use Rattle.definition_text.specs.Lines.{TextLine, ending_text, lines}
 use Rattle.definition_text.proofs.CodeBytes.{code_bytes}
 use Rattle.markdown_options.specs.declared.line_ending.LineEnding.TheVariants.{CarriageReturnLineFeed, CarriageReturn, LineFeed}
@@ -26,11 +26,12 @@ use Rattle.html_bytes.specs.Document.{Document, info_of}
 use Rattle.definition_page.specs.Read.{Standing}
 use Rattle.html_looseness.specs.Levels.{standing_at}
 use Rattle.html_bytes.specs.Html.{block_pieces, class_of, code_of, fenced_content, fresh_unless}
-use Rattle.block_rows.specs.Rows.{piece_line, piece_lines, first_codes, whole_line, whole_lines}
-use Rattle.block_rows.proofs.RowSteps.{no_piece}
+use Rattle.block_rows.specs.Rows.{first_codes}
+use Rattle.text_pieces.specs.Pieces.{piece_line, piece_lines, whole_line, whole_lines}
+use Rattle.text_pieces.proofs.Pieces.{no_piece}
 use Rattle.html_leaves.specs.Prints.{layout_after, with_bytes, with_fresh, with_tag}
 use Rattle.html_leaves.proofs.Owed.{bytes_owed, none_owed}
-use Rattle.block_rows.proofs.OwnLines.{with_last_ending}
+use Rattle.text_pieces.proofs.OwnLines.{with_last_ending}
 
 -- the class of an info that isn't empty
 pub class_some : (d : Document) (info : List ℕ) → (length info == 0) ≡ false

@@ -16,9 +16,9 @@ use Rattle.markdown_options.specs.declared.beside.Kind.{Kind}
 use Rattle.markdown_options.specs.declared.beside.Kind.TheVariants.{Punctuation}
 use Rattle.markdown_options.specs.declared.align_kind.AlignKind.{AlignKind}
 use Rattle.definition_block.specs.GfmTable.{Cell, in_first_cell, is_bar, parts, without_blank_first, without_blank_last, line_cells}
-use Rattle.block_rows.specs.ParagraphLines.{HaveNoEnding}
-use Rattle.block_rows.specs.declared.row.Piece.{Piece as LinePiece}
-use Rattle.block_rows.specs.Rows.{piece_line, piece_lines}
+use Rattle.text_pieces.specs.ParagraphLines.{HaveNoEnding}
+use Rattle.text_pieces.specs.declared.piece.Piece.{Piece as LinePiece}
+use Rattle.text_pieces.specs.Pieces.{piece_line, piece_lines}
 use Rattle.definition_page.specs.GfmTable.{line_aligns}
 use Rattle.html_bytes.specs.Document.{Document, cell_counts}
 use Rattle.block_cells.specs.declared.gfm_table.Cell.{Cell as CellOf}

@@ -1,8 +1,9 @@
 -- The lines of a block.
 use Rattle.std.proofs.Common.{◌≡◌, ◌≤◌, arith, take, length, get_or, List, [], ◌∷◌, refl, ap, suc}
-use Rattle.block_rows.specs.declared.row.Piece.{Piece}
-use Rattle.block_rows.specs.ParagraphLines.{AreLines}
-use Rattle.block_rows.specs.Rows.{first_codes, piece_line, piece_lines}
+use Rattle.text_pieces.specs.declared.piece.Piece.{Piece}
+use Rattle.text_pieces.specs.ParagraphLines.{AreLines}
+use Rattle.block_rows.specs.Rows.{first_codes}
+use Rattle.text_pieces.specs.Pieces.{piece_line, piece_lines}
 use Rattle.definition_text.specs.BlockLines.{BlockLine, own_lines}
 use Rattle.html_looseness.specs.Printable.{AreHeadingLines, AreClear}
 

@@ -4,7 +4,7 @@ use Rattle.std.specs.Prelude.{map, replicate}
 use Rattle.std.specs.List.{list_all}
 use Rattle.definition_text.specs.Columns.{code_byte, tab_column, is_byte, bytes_of}
 use Rattle.definition_text.specs.Encode.{encode}
-use Rattle.block_rows.proofs.Pieces.{only_bytes}
+use Rattle.text_pieces.proofs.Pieces.{only_bytes}
 use Rattle.definition_text.proofs.CodeBytes.{code_bytes}
 
 -- ---- in code they are spaces

@@ -2,8 +2,9 @@
 use Rattle.std.proofs.Common.{◌≡◌, ◌≤◌, ◌∙◌, List, ap, length, subst, sym}
 use Rattle.std.specs.Result.{OnOk}
 use Rattle.std.specs.declared.result.Result.{Result}
-use Rattle.block_rows.specs.Rows.{piece_lines, row_size, row_value}
-use Rattle.block_rows.specs.declared.row.Piece.{Piece}
+use Rattle.block_rows.specs.Rows.{row_size, row_value}
+use Rattle.text_pieces.specs.Pieces.{piece_lines}
+use Rattle.text_pieces.specs.declared.piece.Piece.{Piece}
 use Rattle.block_rows.specs.declared.row.Row.{Row}
 use Rattle.html_bytes.specs.Document.{Document}
 use Rattle.html_bytes.specs.Pieces as laid

@@ -2,7 +2,7 @@
 use Rattle.std.specs.Prelude.{ℕ, List, [], ◌∷◌, Option, None, Some, codes}
 use Rattle.markdown_options.specs.declared.align_kind.AlignKind.{AlignKind}
 use Rattle.definition_block.specs.GfmTable as table
-use Rattle.block_rows.specs.ParagraphLines.{HaveNoEnding}
+use Rattle.text_pieces.specs.ParagraphLines.{HaveNoEnding}
 use Rattle.block_cells.specs.declared.gfm_table.Cell.{Cell}
 use Rattle.block_cells.specs.GfmTable.{cell_view}
 use Rattle.html_bytes.specs.Document.{Document}

@@ -4,10 +4,10 @@ ghost use Rattle.markdown_options.specs.LineEndings.{ending_bytes};
 ghost use Rattle.definition_text.specs.Lines.{ending_text};
 ghost use Rattle.definition_inline.specs.Targets.{Targets};
 ghost use Rattle.markdown_options.specs.declared.configuration.CompileOptions.{CompileOptions};
-ghost use Rattle.block_rows.specs.ParagraphLines.{HaveNoEnding};
+ghost use Rattle.text_pieces.specs.ParagraphLines.{HaveNoEnding};
 ghost use Rattle.definition_block.specs.Tree.{FencedCode};
 ghost use Rattle.html_bytes.specs.Html.{block_pieces, class_of, fenced_content};
-ghost use Rattle.block_rows.specs.Rows.{piece_lines, whole_lines};
+ghost use Rattle.text_pieces.specs.Pieces.{piece_lines, whole_lines};
 ghost use Rattle.html_contents.specs.Texts.{document_by};
 ghost use Rattle.definition_text.specs.Encode.{encode};
 ghost use Rattle.html_looseness.specs.Levels.{standing_at};
@@ -15,11 +15,11 @@ ghost use Rattle.html_escape.specs.Prints as escape;
 ghost use Rattle.html_leaves.specs.Prints.{LaysOut, Prints, page_view, with_bytes, with_fresh, with_tag, KeepsEnding};
 
 use crate::page::Page;
-use block_rows::Piece;
 use html_contents::Texts;
 use html_escape::push_encoded;
 use markdown_options::{LineEnding, Tables};
 use std::alloc::{AllocError, Allocator};
+use text_pieces::Piece;
 
 impl<'t, A: Allocator + Clone> Page<'t, A> {
     /// Prints fenced code (CommonMark 4.5), at the top or in a container. Its info has no line ending.

@@ -5,12 +5,12 @@ ghost use Rattle.definition_text.specs.BlockLines.{own_lines};
 ghost use Rattle.definition_block.specs.Tree.{IndentedCode};
 ghost use Rattle.definition_page.specs.Read.{on_page};
 ghost use Rattle.html_bytes.specs.Html.{block_pieces};
-ghost use Rattle.block_rows.specs.Rows.{piece_lines};
+ghost use Rattle.text_pieces.specs.Pieces.{piece_lines};
 ghost use Rattle.html_leaves.specs.Prints.{LaysOut, KeepsEnding};
 
 use crate::page::Page;
-use block_rows::Piece;
 use std::alloc::{AllocError, Allocator};
+use text_pieces::Piece;
 
 impl<A: Allocator + Clone> Page<'_, A> {
     /// Prints indented code (CommonMark 4.4).

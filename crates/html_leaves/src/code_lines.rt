@@ -4,14 +4,14 @@ ghost use Rattle.definition_text.specs.Columns.{tab_column, code_byte};
 ghost use Rattle.definition_text.specs.Encode.{encode};
 ghost use Rattle.definition_text.specs.BlockLines.{own_lines};
 ghost use Rattle.html_bytes.specs.Html.{code_of};
-ghost use Rattle.block_rows.specs.Rows.{piece_lines};
+ghost use Rattle.text_pieces.specs.Pieces.{piece_lines};
 ghost use Rattle.html_escape.specs.Prints as escape;
 ghost use Rattle.html_leaves.specs.Prints.{Prints, KeepsEnding};
 
 use crate::page::Page;
-use block_rows::{Piece, push_columns, push_ending};
 use html_escape::push_encoded;
 use std::alloc::{AllocError, Allocator};
+use text_pieces::{Piece, push_columns, push_ending};
 
 impl<A: Allocator + Clone> Page<'_, A> {
     /// Prints lines of code without the last ending.

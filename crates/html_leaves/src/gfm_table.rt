@@ -10,8 +10,8 @@ ghost use Rattle.markdown_options.specs.declared.configuration.CompileOptions.{C
 ghost use Rattle.definition_inline.specs.Targets.{Targets};
 ghost use Rattle.definition_text.specs.BlockLines.{own_lines};
 ghost use Rattle.definition_block.specs.GfmTable.{line_cells};
-ghost use Rattle.block_rows.specs.ParagraphLines.{HaveNoEnding};
-ghost use Rattle.block_rows.specs.Rows.{piece_line, piece_lines};
+ghost use Rattle.text_pieces.specs.ParagraphLines.{HaveNoEnding};
+ghost use Rattle.text_pieces.specs.Pieces.{piece_line, piece_lines};
 ghost use Rattle.block_cells.specs.GfmTable.{cell_view, cells_left};
 ghost use Rattle.html_bytes.specs.Document.{cell_counts};
 ghost use Rattle.html_bytes.specs.GfmTable.{cell_tag, cell_end, cell_pieces, missing_pieces, cells_pieces};
@@ -23,10 +23,10 @@ ghost use Rattle.html_leaves.specs.Prints.{LaysOut, KeepsEnding};
 
 use crate::page::Page;
 use block_cells::{Cell, Cells, read_delimiters};
-use block_rows::Piece;
 use html_contents::Texts;
 use markdown_options::{AlignKind, LineEnding, Tables};
 use std::alloc::{AllocError, Allocator};
+use text_pieces::Piece;
 
 /// Which part of a table a cell is in.
 #[derive(Clone, Copy)]

@@ -6,16 +6,16 @@ ghost use Rattle.definition_text.specs.BlockLines.{own_lines};
 ghost use Rattle.definition_block.specs.Tree.{Heading};
 ghost use Rattle.definition_page.specs.Read.{on_page};
 ghost use Rattle.html_bytes.specs.Html.{block_pieces};
-ghost use Rattle.block_rows.specs.Rows.{piece_lines};
+ghost use Rattle.text_pieces.specs.Pieces.{piece_lines};
 ghost use Rattle.html_contents.specs.Texts.{KnowsTargets, document_by};
 ghost use Rattle.html_looseness.specs.Printable.{AreHeadingLines};
 ghost use Rattle.html_leaves.specs.Prints.{LaysOut, KeepsEnding};
 
 use crate::page::Page;
-use block_rows::Piece;
 use html_contents::Texts;
 use markdown_options::Tables;
 use std::alloc::{AllocError, Allocator};
+use text_pieces::Piece;
 
 impl<'t, A: Allocator + Clone> Page<'t, A> {
     /// Prints a heading of these lines.

@@ -8,15 +8,15 @@ ghost use Rattle.definition_text.specs.Columns.{bytes_of, tab_column};
 ghost use Rattle.html_bytes.specs.Html.{html_of};
 ghost use Rattle.html_bytes.specs.RawHtml.{raw_html};
 ghost use Rattle.html_bytes.specs.Pieces.{Bytes, Fresh};
-ghost use Rattle.block_rows.specs.Rows.{piece_lines};
+ghost use Rattle.text_pieces.specs.Pieces.{piece_lines};
 ghost use Rattle.html_escape.specs.Prints as escape;
 ghost use Rattle.html_leaves.specs.Prints.{LaysOut, Prints, KeepsEnding};
 
 use crate::page::Page;
-use block_rows::{Piece, push_ending};
 use html_escape::push_html;
 use markdown_options::CompileOptions;
 use std::alloc::{AllocError, Allocator};
+use text_pieces::{Piece, push_ending};
 
 impl<'t, A: Allocator + Clone> Page<'t, A> {
     /// Prints an HTML block (CommonMark 4.6).

@@ -4,19 +4,21 @@ ghost use Rattle.markdown_options.specs.LineEndings.{ending_bytes};
 ghost use Rattle.definition_text.specs.Lines.{ending_text};
 ghost use Rattle.definition_inline.specs.Targets.{Targets};
 ghost use Rattle.definition_block.specs.Tree.{Ending};
-ghost use Rattle.block_rows.specs.Rows.{row_size, piece_lines, row_value, Single};
+ghost use Rattle.block_rows.specs.Rows.{row_size, row_value, Single};
+ghost use Rattle.text_pieces.specs.Pieces.{piece_lines};
 ghost use Rattle.html_bytes.specs.Document.{Document};
 ghost use Rattle.html_bytes.specs.Layout.{nothing_laid, with_footnotes};
 ghost use Rattle.html_contents.specs.Texts.{KnowsTargets, document_by};
 ghost use Rattle.html_looseness.specs.Levels.{row_pieces};
 ghost use Rattle.html_looseness.specs.Printable.{IsPrintableRow};
 
-use block_rows::{Piece, Row, push_ending};
+use block_rows::Row;
 use html_contents::{TextBuffers, Texts};
 use html_footnotes::{Output, push_fresh};
 use html_looseness::Level;
 use markdown_options::{CompileOptions, LineEnding, Tables};
 use std::alloc::{AllocError, Allocator};
+use text_pieces::{Piece, push_ending};
 
 /// A page that is being printed.
 #[derive(Drop)]

@@ -1,20 +1,20 @@
 //! Paragraphs (CommonMark 4.8).
 ghost use Rattle.std.specs.Prelude.{◌<◌, ℕ, slice_index, OnOk, false};
 ghost use Rattle.definition_inline.specs.Targets.{Targets};
-ghost use Rattle.block_rows.specs.ParagraphLines.{AreLines};
+ghost use Rattle.text_pieces.specs.ParagraphLines.{AreLines};
 ghost use Rattle.definition_text.specs.BlockLines.{own_lines};
 ghost use Rattle.definition_block.specs.Tree.{Paragraph};
 ghost use Rattle.html_bytes.specs.Html.{block_pieces};
-ghost use Rattle.block_rows.specs.Rows.{piece_lines, whole_lines};
+ghost use Rattle.text_pieces.specs.Pieces.{piece_lines, whole_lines};
 ghost use Rattle.html_contents.specs.Texts.{KnowsTargets, document_by};
 ghost use Rattle.html_looseness.specs.Levels.{standing_first};
 ghost use Rattle.html_leaves.specs.Prints.{LaysOut, KeepsEnding};
 
 use crate::page::Page;
-use block_rows::Piece;
 use html_contents::Texts;
 use markdown_options::Tables;
 use std::alloc::{AllocError, Allocator};
+use text_pieces::Piece;
 
 impl<'t, A: Allocator + Clone> Page<'t, A> {
     /// Prints a paragraph, which may be the first block of an item (CommonMark 4.8). That of a tight

@@ -4,7 +4,7 @@ use Rattle.std.specs.List.{list_all, All}
 use Rattle.definition_block.specs.Container.{Container, Quote, Item, Footnote}
 use Rattle.definition_block.specs.GfmFootnoteDefinition.{is_footnote_label}
 use Rattle.definition_text.specs.Columns.{is_byte}
-use Rattle.block_rows.specs.ParagraphLines.{HaveNoEnding, AreLines}
+use Rattle.text_pieces.specs.ParagraphLines.{HaveNoEnding, AreLines}
 use Rattle.definition_text.specs.BlockLines.{BlockLine}
 use Rattle.definition_block.specs.Tree.{Block, Paragraph, Heading, Break, IndentedCode, FencedCode, Html, Table, Definition, Holds, Items, Ending, Blank}
 use Rattle.definition_block.specs.Tree.{Blocks, Nil, Cons}

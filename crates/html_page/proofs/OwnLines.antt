@@ -1,6 +1,6 @@
 -- The lines of a paragraph and of a heading without the ending of the last one.
 use Rattle.std.proofs.Common.{List, [], ◌∷◌}
-use Rattle.block_rows.specs.ParagraphLines.{AreLines}
+use Rattle.text_pieces.specs.ParagraphLines.{AreLines}
 use Rattle.definition_text.specs.BlockLines.{BlockLine, own_lines}
 use Rattle.html_looseness.specs.Printable.{AreHeadingLines}
 

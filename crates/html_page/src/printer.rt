@@ -6,18 +6,20 @@ ghost use Rattle.definition_text.specs.BlockLines.{BlockLine};
 ghost use Rattle.definition_block.specs.Tree.{Blocks};
 ghost use Rattle.html_bytes.specs.Layout.{page_layout};
 ghost use Rattle.html_bytes.specs.Html.{document_pieces};
-ghost use Rattle.block_rows.specs.Rows.{rows_size, row_size, piece_lines, rows_of, row_value, rows_value};
+ghost use Rattle.block_rows.specs.Rows.{rows_size, row_size, rows_of, row_value, rows_value};
+ghost use Rattle.text_pieces.specs.Pieces.{piece_lines};
 ghost use Rattle.html_contents.specs.Texts.{KnowsTargets, document_by};
 ghost use Rattle.html_looseness.specs.Printable.{IsPrintableRow, ArePrintable, CanBePrinted};
 ghost use Rattle.html_page.specs.PrinterView.{ends_blank_rows, is_blank_row, printer_view, print_row, print_all};
 ghost use Rattle.html_leaves.specs.Prints.{KeepsEnding};
 
-use block_rows::{Piece, Row};
+use block_rows::Row;
 use html_contents::Texts;
 use html_leaves::Page;
 use html_looseness::{Holder, Level, Place, places};
 use markdown_options::{LineEnding, Tables};
 use std::alloc::{AllocError, Allocator};
+use text_pieces::Piece;
 
 /// A page that is being printed, and what is open on it.
 #[derive(Drop)]

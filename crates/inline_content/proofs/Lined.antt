@@ -14,14 +14,14 @@ use Rattle.definition_text.specs.Lines.{ending_text}
 use Rattle.definition_text.specs.Columns.{code_byte}
 use Rattle.definition_text.specs.BlockLines.{BlockLine, own_lines}
 use Rattle.definition_text.specs.Content.{is_eol, line_ending_code, ending_code, content_codes, content_of, content_text, line_text}
-use Rattle.block_rows.specs.declared.row.Piece.{Piece}
-use Rattle.block_rows.specs.ParagraphLines.{HaveNoEnding, AreLines}
-use Rattle.block_rows.specs.Rows.{piece_lines}
+use Rattle.text_pieces.specs.declared.piece.Piece.{Piece}
+use Rattle.text_pieces.specs.ParagraphLines.{HaveNoEnding, AreLines}
+use Rattle.text_pieces.specs.Pieces.{piece_lines}
 use Rattle.definition_text.proofs.CodeBytes.{owed_bytes}
 use Rattle.definition_text.specs.InlineCode.{InlineCode, with_kinds, inline_content, inline_code, first_kind, next_kind}
 use Rattle.definition_text.proofs.ContentBytes.{codes_in_line}
 use Rattle.inline_links.proofs.Cuts.{first_code}
-use Rattle.block_rows.proofs.InLine.{in_line}
+use Rattle.text_pieces.proofs.InLine.{in_line}
 use Rattle.inline_content.specs.declared.mark.Mark.{Mark}
 use Rattle.inline_content.specs.Marks.{kind_at}
 use Rattle.inline_content.specs.View.{width, line_rest, kind_after, kind_before, previous_after, view_from, codes_with_marks}

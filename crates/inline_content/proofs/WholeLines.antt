@@ -12,9 +12,9 @@ use Rattle.definition_text.specs.Lines.{TextLine, text_line, in_first_line, afte
 use Rattle.definition_text.specs.Columns.{code_byte}
 use Rattle.definition_text.specs.BlockLines.{own_lines}
 use Rattle.definition_text.specs.Content.{is_eol, content_text, line_text}
-use Rattle.block_rows.specs.ParagraphLines.{HaveNoEnding}
+use Rattle.text_pieces.specs.ParagraphLines.{HaveNoEnding}
 use Rattle.definition_text.specs.InlineCode.{inline_content}
-use Rattle.block_rows.specs.Rows.{whole_line, whole_lines}
+use Rattle.text_pieces.specs.Pieces.{whole_line, whole_lines}
 use Rattle.inline_content.specs.Endings.{without_last}
 use Rattle.inline_content.specs.View.{codes_with_marks}
 use Rattle.inline_content.proofs.Lined.{AreApart, Agree, content_is, head_clear}

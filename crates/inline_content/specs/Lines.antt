@@ -4,8 +4,8 @@ use Rattle.markdown_options.specs.declared.beside.Kind.{Kind}
 use Rattle.markdown_options.specs.declared.beside.Kind.TheVariants.{Whitespace, Punctuation, Other}
 use Rattle.definition_text.specs.BlockLines.{BlockLine}
 use Rattle.definition_text.specs.Content.{line_text}
-use Rattle.block_rows.specs.declared.row.Piece.{Piece}
-use Rattle.block_rows.specs.ParagraphLines.{HaveNoEnding, AreLines}
+use Rattle.text_pieces.specs.declared.piece.Piece.{Piece}
+use Rattle.text_pieces.specs.ParagraphLines.{HaveNoEnding, AreLines}
 use Rattle.inline_content.specs.declared.mark.Mark.{Mark}
 
 abbrev pub mark_of : ℕ → Kind → List Mark

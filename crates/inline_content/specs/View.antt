@@ -4,7 +4,7 @@ use Rattle.markdown_options.specs.declared.beside.Kind.{Kind}
 use Rattle.markdown_options.specs.declared.beside.Kind.TheVariants.{Whitespace}
 use Rattle.definition_text.specs.BlockLines.{own_lines}
 use Rattle.definition_text.specs.Content.{return_and_feed, is_eol, content_codes}
-use Rattle.block_rows.specs.Rows.{whole_lines}
+use Rattle.text_pieces.specs.Pieces.{whole_lines}
 use Rattle.definition_text.specs.InlineCode.{InlineCode, inline_code, inline_content, first_kind, next_kind}
 use Rattle.inline_content.specs.declared.mark.Mark.{Mark}
 use Rattle.inline_content.specs.declared.content.Content.{Content}

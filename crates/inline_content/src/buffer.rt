@@ -5,9 +5,9 @@ ghost use Rattle.inline_content.specs.Marks.{mark_place};
 
 use crate::content::Content;
 use crate::mark::{Mark, push_mark};
-use block_rows::{Piece, push_ending, push_line};
 use markdown_options::Kind;
 use std::alloc::{AllocError, Allocator};
+use text_pieces::{Piece, push_ending, push_line};
 
 /// The content of the lines of a block. Its memory is used again for the next block.
 #[derive(Drop)]
@@ -35,7 +35,7 @@ impl<A: Allocator + Clone> ContentBuffer<A> {
 impl<A: Allocator> ContentBuffer<A> {
     ghost use Rattle.markdown_options.specs.declared.beside.Kind.{Kind};
     ghost use Rattle.definition_text.specs.BlockLines.{own_lines};
-    ghost use Rattle.block_rows.specs.Rows.{piece_lines};
+    ghost use Rattle.text_pieces.specs.Pieces.{piece_lines};
     ghost use Rattle.definition_text.specs.InlineCode.{inline_content};
     ghost use Rattle.inline_content.specs.View.{content_view};
     ghost use Rattle.inline_content.specs.Buffers.{buffer_view};

@@ -2,7 +2,7 @@
 ghost use Rattle.std.specs.Prelude.{◌≡◌, ◌<◌, ℕ, Bool, IfSome, is_some, slice_index};
 ghost use Rattle.definition_text.specs.BlockLines.{own_lines};
 ghost use Rattle.definition_text.specs.InlineCode.{inline_content};
-ghost use Rattle.block_rows.specs.Rows.{piece_lines};
+ghost use Rattle.text_pieces.specs.Pieces.{piece_lines};
 ghost use Rattle.std.specs.List.Sorted.{IsNonDecreasingBy};
 ghost use Rattle.inline_content.specs.Lines.{AreContentLines, is_one_line, mark_of};
 ghost use Rattle.inline_content.specs.Marks.{mark_place};
@@ -10,8 +10,8 @@ ghost use Rattle.inline_content.specs.View.{content_view, codes_with_marks};
 
 use crate::content::Content;
 use crate::mark::Mark;
-use block_rows::Piece;
 use markdown_options::Kind;
+use text_pieces::Piece;
 
 /// The mark of a first line after punctuation.
 const AFTER_PUNCTUATION: Mark = Mark {

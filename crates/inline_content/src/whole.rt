@@ -2,7 +2,7 @@
 ghost use Rattle.std.specs.Prelude.{◌≡◌, ℕ, Bool};
 ghost use Rattle.definition_text.specs.Ascii.{line_feed, carriage_return};
 ghost use Rattle.definition_text.specs.Content.{content_text};
-ghost use Rattle.block_rows.specs.Rows.{whole_lines};
+ghost use Rattle.text_pieces.specs.Pieces.{whole_lines};
 ghost use Rattle.inline_content.specs.Endings.{without_last};
 ghost use Rattle.inline_content.specs.View.{content_view, whole_view};
 

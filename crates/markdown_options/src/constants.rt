@@ -18,6 +18,10 @@ pub const CHARACTER_REFERENCE_NAMED_SIZE_MAX: usize = 31;
 /// The fewest backticks or tildes of a code fence (CommonMark 4.5).
 pub const CODE_FENCED_SEQUENCE_SIZE_MIN: usize = 3;
 
+/// The columns of indentation that make a line indented code, and that the content of a footnote
+/// definition has (CommonMark 4.4).
+pub const CODE_INDENT: usize = 4;
+
 /// The number of markers of a frontmatter fence.
 pub const FRONTMATTER_SEQUENCE_SIZE: usize = 3;
 

@@ -1,6 +1,6 @@
 use Rattle.std.proofs.Common.{◌≡◌, eqb, length}
 use Rattle.definition_block.specs.GfmTable.{cells}
-use Rattle.block_rows.specs.Rows.{piece_line}
+use Rattle.text_pieces.specs.Pieces.{piece_line}
 use Rattle.block_cells.specs.GfmTable.{cells_left}
 use Rattle.block_cells.proofs.gfm_table.has_cells.Given as goal
 

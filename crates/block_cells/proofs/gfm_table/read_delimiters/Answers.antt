@@ -5,7 +5,7 @@ use Rattle.std.specs.Option.{option_map}
 use Rattle.std.proofs.lemmas.Bool.{cond-false}
 use Rattle.markdown_options.specs.declared.beside.Kind.TheVariants.{Whitespace}
 use Rattle.definition_block.specs.GfmTable.{cells, column_delimiter, alignments_of, delimiters, is_bar_or_colon}
-use Rattle.block_rows.specs.Rows.{piece_line}
+use Rattle.text_pieces.specs.Pieces.{piece_line}
 use Rattle.block_cells.specs.GfmTable.{cell_view, cells_left}
 use Rattle.block_cells.proofs.Columns.{trimmed_columns}
 use Rattle.block_cells.proofs.Delimiters.{one_more, no_more, no_row}

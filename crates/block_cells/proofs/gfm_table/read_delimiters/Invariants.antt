@@ -2,7 +2,7 @@ use Rattle.std.proofs.Common.{◌≡◌, ◌++◌, length}
 use Rattle.std.specs.Option.{option_map}
 use Rattle.markdown_options.specs.declared.beside.Kind.TheVariants.{Whitespace}
 use Rattle.definition_block.specs.GfmTable.{cells, alignments_of}
-use Rattle.block_rows.specs.Rows.{piece_line}
+use Rattle.text_pieces.specs.Pieces.{piece_line}
 use Rattle.block_cells.specs.GfmTable.{cells_left}
 use Rattle.block_cells.proofs.gfm_table.read_delimiters.Given as goal
 

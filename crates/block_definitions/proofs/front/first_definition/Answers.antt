@@ -4,8 +4,8 @@ use Rattle.std.proofs.lemmas.List.{length-map}
 use Rattle.definition_text.specs.BlockLines.{own_lines}
 use Rattle.definition_text.specs.Content.{content_of, content_text}
 use Rattle.definition_inline.specs.Definition.{definition_at}
-use Rattle.block_rows.specs.ParagraphLines.{AreLines}
-use Rattle.block_rows.specs.Rows.{piece_line, piece_lines}
+use Rattle.text_pieces.specs.ParagraphLines.{AreLines}
+use Rattle.text_pieces.specs.Pieces.{piece_line, piece_lines}
 use Rattle.inline_links.specs.View.{definition_of}
 use Rattle.block_definitions.specs.Ends.{EndsAt}
 use Rattle.inline_links.proofs.Texts.{AreBytes}

@@ -1,7 +1,7 @@
 use Rattle.std.proofs.Common.{◌≡◌, suc, take, ap, arith, inl, inr}
 use Rattle.std.proofs.lemmas.Bool.{cases_lt}
-use Rattle.block_rows.specs.Rows.{piece_lines}
-use Rattle.block_rows.proofs.RowSteps.{no_piece}
+use Rattle.text_pieces.specs.Pieces.{piece_lines}
+use Rattle.text_pieces.proofs.Pieces.{no_piece}
 use Rattle.block_definitions.specs.Contents.{total}
 use Rattle.block_definitions.proofs.Splits.{total_more, total_grows}
 use Rattle.block_definitions.proofs.front.lines_within.Goals as goal

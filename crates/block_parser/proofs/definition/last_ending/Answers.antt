@@ -1,8 +1,8 @@
 use Rattle.std.proofs.Common.{◌≡◌, ◌-◌, ◌<◌, length, Some, sym, ap, ◌∙◌, arith}
 use Rattle.std.specs.List.{slice_get}
 use Rattle.std.proofs.lemmas.Option.{slice_get_within, get_or_from_slice_get}
-use Rattle.block_rows.specs.declared.row.Piece.{Piece}
-use Rattle.block_rows.proofs.OwnLines.{last_piece_ending}
+use Rattle.text_pieces.specs.declared.piece.Piece.{Piece}
+use Rattle.text_pieces.proofs.OwnLines.{last_piece_ending}
 use Rattle.block_parser.proofs.definition.last_ending.Goals as goal
 
 pub returns-in-Some : goal.returns-in-Some

@@ -2,8 +2,8 @@ use Rattle.std.proofs.Common.{◌≡◌, ◌-◌, ◌<◌, ◌==◌, length, Som
 use Rattle.std.specs.List.{slice_get}
 use Rattle.std.proofs.lemmas.Option.{slice_get_within, get_or_from_slice_get}
 use Rattle.definition_block.specs.GfmTable.{line_cells}
-use Rattle.block_rows.specs.declared.row.Piece.{Piece}
-use Rattle.block_rows.specs.Rows.{piece_line}
+use Rattle.text_pieces.specs.declared.piece.Piece.{Piece}
+use Rattle.text_pieces.specs.Pieces.{piece_line}
 use Rattle.block_parser.proofs.GfmTableLemmas.{last_is_head}
 use Rattle.block_parser.proofs.gfm_table.is_head.Goals as goal
 

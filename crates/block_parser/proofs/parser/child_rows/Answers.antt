@@ -5,7 +5,8 @@ use Rattle.std.proofs.lemmas.List.{append-nil, nil_from_length}
 use Rattle.definition_text.specs.Lines.{TextLine, lines}
 use Rattle.block_rows.specs.declared.row.Row.{Row}
 use Rattle.definition_block.specs.Tree.{steps, empty_tree, join, close, blocks_at_end}
-use Rattle.block_rows.specs.Rows.{piece_lines, rows_of, rows_value, value_with}
+use Rattle.block_rows.specs.Rows.{rows_of, rows_value, value_with}
+use Rattle.text_pieces.specs.Pieces.{piece_lines}
 use Rattle.block_rows.proofs.OpenLines.{open_lines}
 use Rattle.block_parser.proofs.Read.{keeps_lines, read_more}
 use Rattle.block_state.proofs.Written.{settled}

@@ -1,6 +1,6 @@
 use Rattle.std.proofs.Common.{◌≡◌, ◌++◌, ap, sym, ◌∙◌, ℕ, ◌<◌, List, Option, Bor, IfNone, get_or, subst, arith, rules}
 use Rattle.markdown_options.specs.declared.beside.Kind.TheVariants.{Whitespace}
-use Rattle.block_rows.specs.Rows.{piece_line}
+use Rattle.text_pieces.specs.Pieces.{piece_line}
 use Rattle.block_state.specs.WholeLines.{BeginsWith}
 use Rattle.block_state.proofs.WholeLines.{ending_next, none_owed, piece_cut, piece_first, piece_whole}
 use Rattle.block_state.proofs.whole_lines.after_line.Goals as goal

@@ -1,6 +1,6 @@
 use Rattle.std.proofs.Common.{ℕ, List, Option, Bor, IfNone, rules, arith, ap, sym, ◌∙◌, subst, take}
 use Rattle.std.specs.Str.{IsUtf8}
-use Rattle.block_rows.specs.Rows.{piece_lines}
+use Rattle.text_pieces.specs.Pieces.{piece_lines}
 use Rattle.block_state.specs.WholeLines.{BeginsNot}
 use Rattle.block_state.proofs.WholeLines.{begins_none, begins_more, begins_not, begun, begun_before, begun_first, cut_boundary}
 use Rattle.block_state.proofs.whole_lines.first_lines.Goals as goal

@@ -1,7 +1,7 @@
 use Rattle.std.proofs.Common.{take}
 use denote.Text.{Utf8}
 use denote.Shadow.{shadow}
-use Rattle.block_rows.specs.Rows.{piece_lines}
+use Rattle.text_pieces.specs.Pieces.{piece_lines}
 use Rattle.block_state.specs.WholeLines.{Begins}
 use Rattle.block_state.proofs.whole_lines.first_lines.Given as goal
 

@@ -1,7 +1,7 @@
 use Rattle.std.proofs.Common.{List, ℕ, ◌<◌, get_or, sym, ap, arith}
 use Rattle.definition_text.specs.BlockLines.{block_line}
 use Rattle.markdown_options.specs.declared.beside.Kind.TheVariants.{Whitespace}
-use Rattle.block_rows.proofs.Pieces.{only_bytes}
+use Rattle.text_pieces.proofs.Pieces.{only_bytes}
 use Rattle.text_lines.proofs.Codes.{block_codes_whole}
 use Rattle.block_state.proofs.whole_lines.whole_piece.Goals as goal
 

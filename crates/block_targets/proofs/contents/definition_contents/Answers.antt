@@ -5,7 +5,8 @@ use Rattle.std.proofs.lemmas.List.Concat.{flat_map-append}
 use Rattle.block_rows.specs.declared.row.Row.{Row}
 use Rattle.block_rows.specs.declared.row.Row.TheVariants.{Paragraph}
 use Rattle.definition_text.specs.BlockLines.{BlockLine}
-use Rattle.block_rows.specs.Rows.{BlockRow, RowsValue, row_definitions, row_value, piece_lines, piece_line, rows_value, row_size}
+use Rattle.block_rows.specs.Rows.{BlockRow, RowsValue, row_definitions, row_value, rows_value, row_size}
+use Rattle.text_pieces.specs.Pieces.{piece_lines, piece_line}
 use Rattle.block_rows.proofs.DefinitionRows.{definitions_of}
 use Rattle.block_rows.proofs.RowSteps.{shown_more, taken_more, left_more}
 use Rattle.block_targets.specs.Read.{HasContents}

@@ -1,6 +1,7 @@
 use Rattle.std.proofs.Common.{◌≡◌, ◌≤◌, ◌+◌, length, take, drop}
 use Rattle.std.specs.List.{flat_map}
-use Rattle.block_rows.specs.Rows.{rows_size, piece_lines, row_definitions, rows_value}
+use Rattle.block_rows.specs.Rows.{rows_size, row_definitions, rows_value}
+use Rattle.text_pieces.specs.Pieces.{piece_lines}
 use Rattle.block_targets.specs.Read.{HasContents}
 use Rattle.block_targets.proofs.contents.definition_contents.Given as goal
 

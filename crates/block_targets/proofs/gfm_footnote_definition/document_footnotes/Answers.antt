@@ -6,7 +6,8 @@ use Rattle.std.proofs.lemmas.List.Sums.{fold-append}
 use Rattle.block_rows.specs.declared.row.Row.{Row}
 use Rattle.block_rows.specs.declared.row.Row.TheVariants.{Paragraph}
 use Rattle.definition_text.specs.BlockLines.{BlockLine}
-use Rattle.block_rows.specs.Rows.{BlockRow, RowsValue, row_value, piece_lines, piece_line, rows_value, row_size}
+use Rattle.block_rows.specs.Rows.{BlockRow, RowsValue, row_value, rows_value, row_size}
+use Rattle.text_pieces.specs.Pieces.{piece_lines, piece_line}
 use Rattle.block_rows.proofs.RowSteps.{shown_more, taken_more, left_more}
 use Rattle.block_targets.specs.GfmFootnoteDefinition.{HasLabelsSoFar, are_bare_rows, is_bare_row, labels_so_far, note_row, note_rows, nothing_noted}
 use Rattle.block_targets.proofs.Notes.{notes_of}

@@ -1,5 +1,6 @@
 use Rattle.std.proofs.Common.{◌≡◌, ◌≤◌, ◌+◌, length, take, drop, true}
-use Rattle.block_rows.specs.Rows.{rows_size, piece_lines, rows_value}
+use Rattle.block_rows.specs.Rows.{rows_size, rows_value}
+use Rattle.text_pieces.specs.Pieces.{piece_lines}
 use Rattle.block_targets.specs.GfmFootnoteDefinition.{HasLabelsSoFar, are_bare_rows, note_rows}
 use Rattle.block_targets.proofs.gfm_footnote_definition.document_footnotes.Given as goal
 

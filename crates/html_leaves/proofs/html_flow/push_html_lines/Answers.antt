@@ -6,9 +6,9 @@ use Rattle.definition_text.specs.Columns.{bytes_of}
 use Rattle.definition_text.specs.BlockLines.{BlockLine, own_lines, last_ending}
 use Rattle.html_bytes.specs.Html.{html_of}
 use Rattle.html_bytes.specs.RawHtml.{raw_html}
-use Rattle.block_rows.specs.Rows.{piece_line, piece_lines}
-use Rattle.block_rows.proofs.RowSteps.{no_piece}
-use Rattle.block_rows.proofs.OwnLines.{lines_printed, last_ending_more}
+use Rattle.text_pieces.specs.Pieces.{piece_line, piece_lines}
+use Rattle.text_pieces.proofs.Pieces.{no_piece}
+use Rattle.text_pieces.proofs.OwnLines.{lines_printed, last_ending_more}
 use Rattle.html_leaves.proofs.html_flow.push_html_lines.Goals as goal
 
 pub loop-line-preserved : goal.loop-line-preserved

@@ -6,9 +6,10 @@ use Rattle.std.proofs.lemmas.List.Sums.{fold-append, sum_by-take-drop}
 use Rattle.markdown_options.specs.declared.line_ending.LineEnding.{LineEnding}
 use Rattle.markdown_options.specs.LineEndings.{ending_bytes}
 use Rattle.block_rows.specs.declared.row.Row.{Row}
-use Rattle.block_rows.specs.declared.row.Piece.{Piece}
+use Rattle.text_pieces.specs.declared.piece.Piece.{Piece}
 use Rattle.definition_text.specs.BlockLines.{BlockLine}
-use Rattle.block_rows.specs.Rows.{BlockRow, piece_lines, rows_value, rows_size, row_size}
+use Rattle.block_rows.specs.Rows.{BlockRow, rows_value, rows_size, row_size}
+use Rattle.text_pieces.specs.Pieces.{piece_lines}
 use Rattle.html_looseness.specs.Printable.{ArePrintable}
 use Rattle.html_page.specs.PrinterView.{PrinterView, print_row, print_all, blank_page, ends_blank_rows, rows_html, printer_view}
 use Rattle.std.specs.Result.{IfOk}

@@ -4,7 +4,7 @@ use Rattle.markdown_options.specs.declared.line_ending.LineEnding.{LineEnding}
 use Rattle.markdown_options.specs.LineEndings.{ending_bytes}
 use Rattle.markdown_options.specs.declared.configuration.Options.{Options}
 use Rattle.block_rows.specs.declared.row.Row.{Row}
-use Rattle.block_rows.specs.declared.row.Piece.{Piece}
+use Rattle.text_pieces.specs.declared.piece.Piece.{Piece}
 use Rattle.html_bytes.specs.Document.{document}
 use Rattle.html_bytes.specs.Layout.{page_layout}
 use Rattle.html_bytes.specs.Html.{document_pieces, blocks_html}
@@ -12,7 +12,8 @@ use Rattle.definition_block.specs.Definitions.{document_targets}
 use Rattle.markdown_options.specs.declared.beside.Kind.{Kind}
 use Rattle.markdown_options.specs.declared.configuration.Constructs.{Constructs}
 use Rattle.definition_block.specs.Tree.{Blocks, blocks}
-use Rattle.block_rows.specs.Rows.{RowsValue, piece_lines, rows_value, value_with, rows_of}
+use Rattle.block_rows.specs.Rows.{RowsValue, rows_value, value_with, rows_of}
+use Rattle.text_pieces.specs.Pieces.{piece_lines}
 use Rattle.std.specs.Prelude.{map, string_bytes}
 use Rattle.inline_links.specs.View.{link_texts_view}
 use Rattle.inline_links.specs.declared.text.LinkTexts.{LinkTexts}

@@ -1,7 +1,7 @@
 use Rattle.std.proofs.Common.{◌≡◌, [], false, ◌==◌, sym, ap, ◌∙◌, subst, length, arith, vec_len}
 use Rattle.std.proofs.lemmas.Result.{on_ok_weaker}
 use Rattle.definition_text.specs.Columns.{Rest}
-use Rattle.block_rows.specs.ParagraphLines.{AreLines}
+use Rattle.text_pieces.specs.ParagraphLines.{AreLines}
 use Rattle.definition_text.specs.Lines.{text_line}
 use Rattle.definition_block.specs.Tree.{beside_line, new, grow, leaf_text}
 use Rattle.block_starts.specs.View.{rest_of, container_views}

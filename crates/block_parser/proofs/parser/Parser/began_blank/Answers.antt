@@ -1,7 +1,7 @@
 use Rattle.std.proofs.Common.{◌≡◌, ◌+◌, true, false, ◌&&◌, ◌==◌, sym, ap, ◌∙◌, length, arith}
 use Rattle.definition_block.specs.Tree.{Leaf, Inside}
 use Rattle.definition_block.specs.Tree.{is_nothing}
-use Rattle.block_rows.specs.Rows.{piece_lines}
+use Rattle.text_pieces.specs.Pieces.{piece_lines}
 use Rattle.block_starts.specs.View.{container_views}
 use Rattle.block_state.specs.Spine.{spine_at}
 use Rattle.block_state.specs.Shows.{leaf_lines}

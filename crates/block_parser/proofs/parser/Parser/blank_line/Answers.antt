@@ -1,5 +1,5 @@
 use Rattle.std.proofs.lemmas.Result.{on_ok_weaker}
-use Rattle.block_rows.specs.Rows.{piece_lines}
+use Rattle.text_pieces.specs.Pieces.{piece_lines}
 use Rattle.block_parser.proofs.Leaves as leaves
 use Rattle.block_parser.proofs.parser.Parser.blank_line.Goals as goal
 

@@ -4,7 +4,7 @@ use Rattle.markdown_options.specs.declared.line_ending.LineEnding.{LineEnding}
 use Rattle.definition_block.specs.CodeFenced.{Fence}
 use Rattle.definition_text.specs.BlockLines.{BlockLine, last_ending, last_ending_or}
 use Rattle.definition_block.specs.Tree.{Blocks, join, OpenLeaf, Text, Indented, Fenced, OpenHtml, OpenTable, close_leaf, leaf_text}
-use Rattle.block_rows.specs.ParagraphLines.{AreLines}
+use Rattle.text_pieces.specs.ParagraphLines.{AreLines}
 use Rattle.block_starts.specs.CodeFenced.{fence_view}
 use Rattle.block_starts.specs.HtmlFlow.{number_of}
 use Rattle.block_state.specs.Spine.{Level, spine}

@@ -5,8 +5,9 @@ use Rattle.std.proofs.lemmas.Result.{on_ok_weaker}
 use Rattle.markdown_options.specs.declared.line_ending.LineEnding.{LineEnding}
 use Rattle.definition_text.specs.BlockLines.{BlockLine, last_ending, own_lines}
 use Rattle.definition_block.specs.Tree.{Blocks, Paragraph, block_and_ending, join, Text, paragraph_of}
-use Rattle.block_rows.specs.ParagraphLines.{AreLines}
-use Rattle.block_rows.specs.Rows.{piece_lines, piece_line, Single, whole_lines}
+use Rattle.text_pieces.specs.ParagraphLines.{AreLines}
+use Rattle.block_rows.specs.Rows.{Single}
+use Rattle.text_pieces.specs.Pieces.{piece_lines, piece_line, whole_lines}
 use Rattle.block_parser.specs.declared.parser.Parser.{Parser}
 use Rattle.block_state.specs.Spine.{Level, spine}
 use Rattle.block_parser.specs.View.{HasRead}

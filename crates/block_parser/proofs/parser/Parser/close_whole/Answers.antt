@@ -2,7 +2,8 @@ use Rattle.std.proofs.Common.{◌≡◌, ◌++◌, ◌∷◌, [], None, sym, ap,
 use Rattle.std.proofs.lemmas.Result.{on_ok_weaker}
 use Rattle.definition_text.specs.BlockLines.{spaced_line, own_lines}
 use Rattle.definition_block.specs.Tree.{Paragraph, Text}
-use Rattle.block_rows.specs.Rows.{whole_lines, piece_lines, piece_line, rows_size, Single}
+use Rattle.block_rows.specs.Rows.{rows_size, Single}
+use Rattle.text_pieces.specs.Pieces.{whole_lines, piece_lines, piece_line}
 use Rattle.block_parser.proofs.Leaves as leaves
 use Rattle.std.proofs.lemmas.List.{take-map}
 use Rattle.block_parser.proofs.parser.Parser.close_whole.Goals as goal

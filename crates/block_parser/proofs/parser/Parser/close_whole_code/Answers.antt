@@ -2,7 +2,8 @@ use Rattle.std.proofs.Common.{◌++◌, ◌∷◌, [], None, true, sym, ap, refl
 use Rattle.std.proofs.lemmas.Result.{on_ok_weaker}
 use Rattle.definition_text.specs.BlockLines.{spaced_line}
 use Rattle.definition_block.specs.Tree.{FencedCode, Fenced, Text}
-use Rattle.block_rows.specs.Rows.{Single, piece_lines, whole_lines}
+use Rattle.block_rows.specs.Rows.{Single}
+use Rattle.text_pieces.specs.Pieces.{piece_lines, whole_lines}
 use Rattle.block_starts.specs.View.{container_views}
 use Rattle.block_state.specs.Leaves.{leaf_state}
 use Rattle.block_state.specs.Shows.{InText, leaf_lines}

@@ -2,7 +2,7 @@ use Rattle.std.proofs.Common.{◌≡◌, ◌+◌, ℕ, List, None, refl, sym, ap
 use Rattle.std.proofs.lemmas.List.{drop-drop, length-drop, take_rest}
 use Rattle.definition_text.specs.Content.{content_of, content_text}
 use Rattle.definition_inline.specs.Definition.{definition_at}
-use Rattle.block_rows.specs.ParagraphLines.{AreLines}
+use Rattle.text_pieces.specs.ParagraphLines.{AreLines}
 use Rattle.definition_text.specs.BlockLines.{BlockLine, own_lines}
 use Rattle.definition_block.specs.Tree.{Blocks, Definition, Text, join}
 use Rattle.definition_block.specs.Definitions.{DefinitionCut}

@@ -1,7 +1,7 @@
 use Rattle.std.proofs.Common.{◌≡◌, ◌≤◌, ◌-◌, List, drop, length, string_bytes}
 use Rattle.definition_text.specs.BlockLines.{BlockLine}
 use Rattle.definition_block.specs.Tree.{Blocks, Text}
-use Rattle.block_rows.specs.ParagraphLines.{AreLines}
+use Rattle.text_pieces.specs.ParagraphLines.{AreLines}
 use Rattle.block_state.specs.Spine.{Level, spine}
 use Rattle.block_parser.specs.View.{HasRead}
 use Rattle.block_parser.proofs.DefinitionLemmas.{Cutting}

@@ -4,8 +4,8 @@ use Rattle.std.specs.Str.{IsUtf8}
 use Rattle.std.proofs.lemmas.Bool.{eqb-false, eqb-true}
 use Rattle.definition_text.specs.Lines.{text_line}
 use Rattle.definition_block.specs.Tree.{Fenced, Leaf, tree}
-use Rattle.block_rows.specs.Rows.{piece_lines}
-use Rattle.block_rows.proofs.OwnLines.{last_ending_or-more}
+use Rattle.text_pieces.specs.Pieces.{piece_lines}
+use Rattle.text_pieces.proofs.OwnLines.{last_ending_or-more}
 use Rattle.block_starts.specs.CodeFenced.{fence_view}
 use Rattle.block_starts.specs.View.{container_views}
 use Rattle.block_state.specs.Shows.{InFenced}

@@ -1,7 +1,8 @@
 use Rattle.std.proofs.Common.{[], sym, ◌∙◌, refl, arith}
 use Rattle.std.proofs.lemmas.List.{length-map, drop_all}
 use Rattle.std.proofs.lemmas.Result.{on_ok_weaker}
-use Rattle.block_rows.specs.Rows.{piece_lines, piece_line, row_size}
+use Rattle.block_rows.specs.Rows.{row_size}
+use Rattle.text_pieces.specs.Pieces.{piece_lines, piece_line}
 use Rattle.block_state.specs.Shows.{leaf_lines}
 use Rattle.block_parser.proofs.Leaves as leaves
 use Rattle.block_parser.proofs.parser.Parser.end_leaf.Goals as goal

@@ -4,7 +4,7 @@ use Rattle.std.specs.Result.{is_ok}
 use Rattle.std.proofs.lemmas.List.{map-append}
 use Rattle.definition_text.specs.BlockLines.{spaced_line}
 use Rattle.definition_block.specs.Container.{Container, Footnote}
-use Rattle.block_rows.specs.Rows.{piece_lines}
+use Rattle.text_pieces.specs.Pieces.{piece_lines}
 use Rattle.block_starts.specs.View.{container_view}
 use Rattle.block_parser.proofs.Leaves as leaves
 use Rattle.block_parser.proofs.Quotes as quotes

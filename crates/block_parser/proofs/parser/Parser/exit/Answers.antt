@@ -1,7 +1,7 @@
 use Rattle.std.proofs.Common.{◌≡◌, ◌++◌, ◌∷◌, [], List, ap, length, arith}
 use Rattle.std.proofs.lemmas.List.{length-append}
 use Rattle.definition_block.specs.Tree.{Blocks, OpenLeaf}
-use Rattle.block_rows.specs.Rows.{piece_lines}
+use Rattle.text_pieces.specs.Pieces.{piece_lines}
 use Rattle.block_starts.specs.View.{container_view, container_views}
 use Rattle.block_state.specs.Spine.{Level, spine, without_innermost_at}
 use Rattle.block_state.specs.Shows.{leaf_lines, Shows}

@@ -4,8 +4,9 @@ use Rattle.std.proofs.lemmas.Result.{on_ok_weaker}
 use Rattle.definition_text.specs.Columns.{Rest}
 use Rattle.definition_block.specs.CodeFenced.{fence_line}
 use Rattle.definition_block.specs.Tree.{Blocks, FencedCode, Tree, Fenced, rest_line}
-use Rattle.block_rows.specs.Rows.{piece_lines, piece_line, Single}
-use Rattle.block_rows.proofs.OwnLines.{last_ending_or-more}
+use Rattle.block_rows.specs.Rows.{Single}
+use Rattle.text_pieces.specs.Pieces.{piece_lines, piece_line}
+use Rattle.text_pieces.proofs.OwnLines.{last_ending_or-more}
 use Rattle.block_starts.specs.View.{rest_of, container_views}
 use Rattle.block_starts.specs.CodeFenced.{fence_view}
 use Rattle.block_state.specs.Spine.{spine, spine_after}

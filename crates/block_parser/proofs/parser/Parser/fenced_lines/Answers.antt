@@ -2,7 +2,7 @@ use Rattle.std.proofs.Common.{◌≡◌, [], ◌<◌, List, length, get_or, ℕ,
 use Rattle.std.proofs.lemmas.List.{length-map, nil_from_length}
 use Rattle.definition_text.specs.BlockLines.{BlockLine}
 use Rattle.definition_block.specs.Tree.{Fenced}
-use Rattle.block_rows.specs.Rows.{piece_line, piece_lines}
+use Rattle.text_pieces.specs.Pieces.{piece_line, piece_lines}
 use Rattle.block_starts.specs.CodeFenced.{fence_view}
 use Rattle.block_state.specs.Shows.{leaf_lines}
 use Rattle.block_state.specs.Spine.{spine}

@@ -1,7 +1,7 @@
 use Rattle.std.proofs.Common.{◌≡◌, ap, ◌∙◌, drop, length, arith}
 use Rattle.definition_block.specs.GfmTable.{is_head}
-use Rattle.block_rows.proofs.Pieces.{lines_from}
-use Rattle.block_rows.specs.Rows.{piece_lines}
+use Rattle.text_pieces.proofs.Pieces.{lines_from}
+use Rattle.text_pieces.specs.Pieces.{piece_lines}
 use Rattle.block_parser.proofs.GfmTableLemmas.{fits_some}
 use Rattle.block_parser.proofs.parser.Parser.has_head.Goals as goal
 

@@ -3,8 +3,8 @@ use Rattle.std.proofs.lemmas.Result.{on_ok_weaker}
 use Rattle.markdown_options.specs.declared.line_ending.LineEnding.{LineEnding}
 use Rattle.definition_text.specs.BlockLines.{last_ending, own_lines}
 use Rattle.definition_block.specs.Tree.{Blocks, Html, Tree, block_and_ending, join, Text, OpenHtml, rest_line}
-use Rattle.block_rows.specs.Rows.{piece_lines}
-use Rattle.block_rows.proofs.OwnLines.{last_ending_or-more}
+use Rattle.text_pieces.specs.Pieces.{piece_lines}
+use Rattle.text_pieces.proofs.OwnLines.{last_ending_or-more}
 use Rattle.block_starts.specs.View.{rest_of, container_views}
 use Rattle.block_starts.specs.HtmlFlow.{number_of}
 use Rattle.definition_block.specs.HtmlFlow.{html_ends_here}

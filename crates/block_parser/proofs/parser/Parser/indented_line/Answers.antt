@@ -4,8 +4,8 @@ use Rattle.std.proofs.lemmas.Result.{on_ok_weaker}
 use Rattle.definition_text.specs.Columns.{Rest}
 use Rattle.definition_text.specs.Indents.{outdent}
 use Rattle.definition_block.specs.Tree.{Blocks, Tree, Indented, Leaf, rest_line, new}
-use Rattle.block_rows.specs.Rows.{piece_lines, piece_line}
-use Rattle.block_rows.proofs.OwnLines.{last_ending_or-more}
+use Rattle.text_pieces.specs.Pieces.{piece_lines, piece_line}
+use Rattle.text_pieces.proofs.OwnLines.{last_ending_or-more}
 use Rattle.block_starts.specs.View.{rest_of, container_views}
 use Rattle.block_state.specs.Spine.{spine, spine_after}
 use Rattle.block_state.specs.Shows.{InIndented, Shows}

@@ -1,7 +1,7 @@
 use Rattle.std.proofs.Common.{sym, ap, ◌∙◌, subst, take, drop, length, ◌-◌}
 use Rattle.definition_block.specs.Tree.{Text, is_some_line}
 use Rattle.definition_block.specs.Definitions.{DefinitionCut}
-use Rattle.block_rows.specs.ParagraphLines.{AreLines}
+use Rattle.text_pieces.specs.ParagraphLines.{AreLines}
 use Rattle.definition_text.specs.Content.{content_text}
 use Rattle.block_state.specs.Spine.{spine}
 use Rattle.block_parser.proofs.DefinitionLemmas.{more_left}

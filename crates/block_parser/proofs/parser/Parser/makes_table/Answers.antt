@@ -1,6 +1,6 @@
 use Rattle.std.proofs.Common.{◌≡◌, ◌∷◌, None, refl, sym, ap, ◌∙◌}
 use Rattle.std.proofs.lemmas.Result.{IfOk-weaker}
-use Rattle.block_rows.specs.ParagraphLines.{AreLines}
+use Rattle.text_pieces.specs.ParagraphLines.{AreLines}
 use Rattle.definition_block.specs.GfmTable.{delimiter_row}
 use Rattle.definition_block.specs.Tree.{Text, open_text, table_if, text_here}
 use Rattle.block_starts.specs.View.{rest_of}

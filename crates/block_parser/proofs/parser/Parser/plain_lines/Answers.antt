@@ -10,7 +10,7 @@ use Rattle.markdown_options.specs.declared.beside.Kind.TheVariants.{Whitespace}
 use Rattle.definition_text.specs.Content.{line_text}
 use Rattle.definition_text.specs.Lines.{text_line}
 use Rattle.definition_block.specs.Tree.{Blank, Leaf, Text, beside_line, close_leaf, grow, join, nothing, one, tree}
-use Rattle.block_rows.specs.Rows.{whole_line, whole_lines}
+use Rattle.text_pieces.specs.Pieces.{whole_line, whole_lines}
 use Rattle.block_state.specs.Spine.{spine, spine_after}
 use Rattle.block_parser.specs.View.{HasRead}
 use Rattle.block_parser.proofs.Closing as closing

@@ -4,7 +4,8 @@ use Rattle.std.proofs.lemmas.Result.{on_ok_weaker}
 use Rattle.definition_text.specs.BlockLines.{own_lines}
 use Rattle.definition_block.specs.Tree.{Blocks, Heading, Text, block_and_ending, join}
 use Rattle.definition_block.specs.Definitions.{definition_cut}
-use Rattle.block_rows.specs.Rows.{piece_lines, piece_line, Single}
+use Rattle.block_rows.specs.Rows.{Single}
+use Rattle.text_pieces.specs.Pieces.{piece_lines, piece_line}
 use Rattle.block_state.specs.Spine.{spine}
 use Rattle.block_parser.specs.View.{HasRead}
 use Rattle.block_parser.proofs.Leaves as leaves

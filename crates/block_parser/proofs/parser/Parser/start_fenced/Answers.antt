@@ -1,7 +1,7 @@
 use Rattle.std.proofs.Common.{[], None, sym, subst, refl}
 use Rattle.definition_text.specs.BlockLines.{spaced_line}
 use Rattle.definition_block.specs.Tree.{Blocks, Text, Fenced}
-use Rattle.block_rows.specs.Rows.{piece_lines}
+use Rattle.text_pieces.specs.Pieces.{piece_lines}
 use Rattle.block_starts.specs.CodeFenced.{fence_view}
 use Rattle.block_starts.specs.View.{container_views}
 use Rattle.block_state.specs.Spine.{spine}

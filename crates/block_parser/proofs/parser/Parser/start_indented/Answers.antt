@@ -2,7 +2,7 @@ use Rattle.std.proofs.Common.{◌∷◌, [], sym, ap, ◌∙◌, subst, refl}
 use Rattle.definition_text.specs.Columns.{Rest}
 use Rattle.definition_text.specs.Indents.{outdent}
 use Rattle.definition_block.specs.Tree.{Blocks, Text, Indented, rest_line}
-use Rattle.block_rows.specs.Rows.{piece_lines}
+use Rattle.text_pieces.specs.Pieces.{piece_lines}
 use Rattle.block_starts.specs.View.{rest_of, container_views}
 use Rattle.block_state.specs.Spine.{spine}
 use Rattle.block_state.specs.Shows.{InIndented, Shows}

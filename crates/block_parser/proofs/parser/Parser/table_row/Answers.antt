@@ -1,8 +1,8 @@
 use Rattle.std.proofs.Common.{◌≡◌, ◌++◌, ◌∷◌, [], None, sym, ap, subst}
 use Rattle.definition_text.specs.BlockLines.{last_ending}
 use Rattle.definition_block.specs.Tree.{Blocks, OpenTable, rest_line}
-use Rattle.block_rows.specs.Rows.{piece_lines}
-use Rattle.block_rows.proofs.OwnLines.{last_ending_or-more}
+use Rattle.text_pieces.specs.Pieces.{piece_lines}
+use Rattle.text_pieces.proofs.OwnLines.{last_ending_or-more}
 use Rattle.block_starts.specs.View.{rest_of, container_views}
 use Rattle.block_state.specs.Spine.{spine}
 use Rattle.block_state.specs.Shows.{InTable, Shows}

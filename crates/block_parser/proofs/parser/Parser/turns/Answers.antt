@@ -1,5 +1,5 @@
 use Rattle.std.proofs.Common.{◌≡◌, ◌∷◌, None, Some, refl, sym, ◌∙◌}
-use Rattle.block_rows.specs.ParagraphLines.{AreLines}
+use Rattle.text_pieces.specs.ParagraphLines.{AreLines}
 use Rattle.definition_block.specs.Tree.{open_text, turns}
 use Rattle.block_starts.specs.View.{rest_of}
 use Rattle.block_parser.specs.HeadingSetext.{IsText, heading_tree}

@@ -1,10 +1,10 @@
 use Rattle.std.proofs.Common.{◌≡◌, List, ◌∙◌, ap, drop, subst}
 use Rattle.std.specs.Prelude.{IfNone, IfSome}
 use Rattle.definition_text.specs.BlockLines.{BlockLine}
-use Rattle.block_rows.specs.ParagraphLines.{AreLines}
-use Rattle.block_rows.specs.declared.row.Piece.{Piece}
-use Rattle.block_rows.specs.Rows.{piece_lines, whole_lines}
-use Rattle.block_rows.proofs.Pieces.{lines_from}
+use Rattle.text_pieces.specs.ParagraphLines.{AreLines}
+use Rattle.text_pieces.specs.declared.piece.Piece.{Piece}
+use Rattle.text_pieces.specs.Pieces.{piece_lines, whole_lines}
+use Rattle.text_pieces.proofs.Pieces.{lines_from}
 use Rattle.block_state.specs.WholeLines.{BeginsNot}
 use Rattle.block_parser.proofs.parser.Parser.whole_text.Goals as goal
 

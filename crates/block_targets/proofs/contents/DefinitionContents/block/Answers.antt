@@ -4,7 +4,8 @@ use Rattle.std.proofs.lemmas.List.{take-map}
 use Rattle.std.proofs.lemmas.Result.{on_ok_weaker}
 use Rattle.block_rows.specs.declared.row.Row.{Row}
 use Rattle.definition_inline.specs.Definition.{Definition}
-use Rattle.block_rows.specs.Rows.{Single, definition_on, definition_value, piece_line, piece_lines, row_definitions, row_value}
+use Rattle.block_rows.specs.Rows.{Single, definition_on, definition_value, row_definitions, row_value}
+use Rattle.text_pieces.specs.Pieces.{piece_line, piece_lines}
 use Rattle.block_targets.specs.Read.{HasContents, alone}
 use Rattle.block_targets.proofs.contents.DefinitionContents.block.Goals as goal
 

@@ -1,6 +1,6 @@
 use Rattle.std.proofs.Common.{◌++◌, sym, ap, ◌∙◌, subst}
 use Rattle.std.proofs.lemmas.List.{append-nil}
-use Rattle.block_rows.specs.Rows.{piece_lines}
+use Rattle.text_pieces.specs.Pieces.{piece_lines}
 use Rattle.block_targets.specs.Read.{HasContents}
 use Rattle.block_targets.proofs.NoDefinition.{no_lines}
 use Rattle.block_targets.proofs.contents.DefinitionContents.row.Goals as goal

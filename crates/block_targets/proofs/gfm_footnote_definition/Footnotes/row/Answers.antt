@@ -2,10 +2,11 @@ use Rattle.std.proofs.Common.{◌≡◌, ◌≤◌, List, [], ◌∷◌, Some, t
 use Rattle.std.specs.Prelude.{slice_index_or}
 use Rattle.std.proofs.lemmas.Result.{on_ok_weaker}
 use Rattle.definition_text.specs.Content.{content_codes}
-use Rattle.block_rows.specs.declared.row.Piece.{Piece}
+use Rattle.text_pieces.specs.declared.piece.Piece.{Piece}
 use Rattle.block_rows.specs.declared.row.Row.{Row}
 use Rattle.block_rows.specs.declared.row.Row.TheVariants as row
-use Rattle.block_rows.specs.Rows.{EnterFootnote, first_codes, piece_lines, row_size, row_value}
+use Rattle.block_rows.specs.Rows.{EnterFootnote, first_codes, row_size, row_value}
+use Rattle.text_pieces.specs.Pieces.{piece_lines}
 use Rattle.block_targets.specs.GfmFootnoteDefinition.{HasLabelsSoFar, is_bare_row, labels_so_far, note_row}
 use Rattle.block_targets.proofs.Notes.{bare_codes}
 use Rattle.block_targets.proofs.gfm_footnote_definition.Footnotes.row.Goals as goal

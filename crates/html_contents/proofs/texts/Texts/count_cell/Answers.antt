@@ -3,7 +3,7 @@ use Rattle.std.specs.List.{fold}
 use Rattle.std.specs.Prelude.{OnOk}
 use Rattle.definition_inline.specs.Scan.{inlines}
 use Rattle.definition_page.specs.GfmTable.{in_cell}
-use Rattle.block_rows.specs.Rows.{piece_line}
+use Rattle.text_pieces.specs.Pieces.{piece_line}
 use Rattle.html_bytes.specs.Document.{context_of, meaning_of}
 use Rattle.html_bytes.specs.InlineHtml.{inline_counts}
 use Rattle.html_bytes.specs.Layout.{lay}

@@ -1,7 +1,7 @@
 use Rattle.std.proofs.Common.{◌≡◌, ◌++◌, OnOk, string_bytes, subst}
 use Rattle.definition_text.specs.Encode.{encode}
 use Rattle.definition_inline.specs.Strings.{string_text}
-use Rattle.block_rows.proofs.InLine.{plain_codes}
+use Rattle.text_pieces.proofs.InLine.{plain_codes}
 use Rattle.html_contents.proofs.texts.Texts.push_info.Goals as goal
 
 -- src/texts.rt:84:5

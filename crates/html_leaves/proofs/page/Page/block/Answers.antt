@@ -4,16 +4,16 @@ use Rattle.std.proofs.lemmas.List.{length-map}
 use Rattle.definition_text.specs.Columns.{bytes_of}
 use Rattle.definition_text.specs.BlockLines.{own_lines, BlockLine}
 use Rattle.definition_block.specs.Tree.{Paragraph, Heading, IndentedCode, Html, Table}
-use Rattle.block_rows.specs.ParagraphLines.{AreLines}
+use Rattle.text_pieces.specs.ParagraphLines.{AreLines}
 use Rattle.definition_page.specs.Read.{on_page}
 use Rattle.html_bytes.specs.Html.{block_pieces}
 use Rattle.html_contents.specs.Texts.{document_by}
-use Rattle.block_rows.specs.Rows.{whole_lines, piece_line, piece_lines}
+use Rattle.text_pieces.specs.Pieces.{whole_lines, piece_line, piece_lines}
 use Rattle.html_looseness.specs.Levels.{standing_of, standing_first}
 use Rattle.html_looseness.specs.Printable.{AreHeadingLines, AreClear, IsTable}
 use Rattle.html_leaves.proofs.Lines.{first_codes_of, first_line, with_ending, clear_with_ending, own_length}
 use Rattle.html_leaves.proofs.Owed.{bytes_owed}
-use Rattle.block_rows.proofs.RowSteps.{no_piece}
+use Rattle.text_pieces.proofs.Pieces.{no_piece}
 use Rattle.html_leaves.proofs.CodeFencedLemmas.{HasInfo, clear_info, code_pieces, whole_code_pieces}
 use Rattle.html_leaves.proofs.RowPieces.{row_enough, row_printable, row_laid}
 use Rattle.html_leaves.proofs.page.Page.block.Goals as goal

@@ -1,6 +1,6 @@
 use Rattle.std.proofs.Common.{◌≡◌, ◌∙◌, subst}
 use Rattle.std.specs.Result.{OnOk}
-use Rattle.block_rows.specs.Rows.{piece_lines}
+use Rattle.text_pieces.specs.Pieces.{piece_lines}
 use Rattle.html_leaves.specs.Prints.{page_view}
 use Rattle.html_leaves.proofs.CodeFencedLemmas.{closed_laid, open_laid}
 use Rattle.html_leaves.proofs.page.Page.fenced_code.Goals as goal

@@ -5,12 +5,12 @@ use Rattle.std.proofs.lemmas.List.{length-map}
 use Rattle.std.proofs.lemmas.Option.{slice_get_within, get_or_from_slice_get}
 use Rattle.markdown_options.specs.declared.line_ending.LineEnding.{LineEnding}
 use Rattle.markdown_options.specs.LineEndings.{ending_bytes}
-use Rattle.block_rows.specs.declared.row.Piece.{Piece}
+use Rattle.text_pieces.specs.declared.piece.Piece.{Piece}
 use Rattle.definition_text.specs.Lines.{ending_text}
 use Rattle.definition_text.specs.BlockLines.{own_lines, last_ending}
 use Rattle.html_bytes.specs.Html.{code_of}
-use Rattle.block_rows.specs.Rows.{piece_line, piece_lines}
-use Rattle.block_rows.proofs.OwnLines.{last_piece_ending}
+use Rattle.text_pieces.specs.Pieces.{piece_line, piece_lines}
+use Rattle.text_pieces.proofs.OwnLines.{last_piece_ending}
 use Rattle.html_leaves.specs.Prints.{page_view, with_bytes, with_fresh}
 use Rattle.html_leaves.proofs.CodeFencedLemmas.{content_ending, content_laid}
 use Rattle.html_leaves.proofs.page.Page.fenced_content.Goals as goal

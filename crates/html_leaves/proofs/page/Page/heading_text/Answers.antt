@@ -2,11 +2,11 @@ use Rattle.std.proofs.Common.{◌≡◌, ◌∙◌, sym, subst, List}
 use Rattle.std.proofs.lemmas.List.{length-map}
 use Rattle.std.specs.Result.{OnOk}
 use Rattle.markdown_options.specs.LineEndings.{ending_bytes}
-use Rattle.block_rows.proofs.RowSteps.{no_piece}
+use Rattle.text_pieces.proofs.Pieces.{no_piece}
 use Rattle.html_bytes.specs.Document.{text_of}
 use Rattle.html_contents.specs.Texts.{document_by}
 use Rattle.definition_text.specs.BlockLines.{BlockLine, own_lines}
-use Rattle.block_rows.specs.Rows.{piece_line, piece_lines}
+use Rattle.text_pieces.specs.Pieces.{piece_line, piece_lines}
 use Rattle.html_footnotes.specs.Output.{output_view}
 use Rattle.html_leaves.specs.Prints.{layout_after, page_view}
 use Rattle.html_looseness.specs.Printable.{AreHeadingLines}

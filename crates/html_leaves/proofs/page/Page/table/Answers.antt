@@ -9,8 +9,8 @@ use Rattle.markdown_options.specs.declared.align_kind.AlignKind.{AlignKind}
 use Rattle.definition_page.specs.GfmTable.{line_aligns}
 use Rattle.html_bytes.specs.GfmTable.{body_pieces, head_pieces, table_pieces}
 use Rattle.html_contents.specs.Texts.{document_by}
-use Rattle.block_rows.proofs.RowSteps.{no_piece}
-use Rattle.block_rows.specs.Rows.{piece_line, piece_lines}
+use Rattle.text_pieces.proofs.Pieces.{no_piece}
+use Rattle.text_pieces.specs.Pieces.{piece_line, piece_lines}
 use Rattle.html_looseness.specs.Printable.{AreClear}
 use Rattle.html_leaves.specs.Prints.{layout_after, page_view, with_fresh, with_tag}
 use Rattle.html_leaves.proofs.GfmTableLemmas.{table_laid, two_lines}

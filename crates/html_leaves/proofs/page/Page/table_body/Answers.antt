@@ -7,7 +7,7 @@ use Rattle.std.specs.Prelude.{codes}
 use Rattle.markdown_options.specs.declared.line_ending.LineEnding.{LineEnding}
 use Rattle.markdown_options.specs.LineEndings.{ending_bytes}
 use Rattle.definition_text.specs.BlockLines.{own_lines}
-use Rattle.block_rows.specs.Rows.{piece_line, piece_lines}
+use Rattle.text_pieces.specs.Pieces.{piece_line, piece_lines}
 use Rattle.html_bytes.specs.GfmTable.{body_row_pieces}
 use Rattle.html_contents.specs.Texts.{document_by}
 use Rattle.html_leaves.specs.Prints.{layout_after, page_view, with_bytes, with_tag}

@@ -5,7 +5,7 @@ use Rattle.markdown_options.specs.LineEndings.{ending_bytes}
 use Rattle.markdown_options.specs.declared.align_kind.AlignKind.{AlignKind}
 use Rattle.markdown_options.specs.declared.align_kind.AlignKind.TheVariants as kind
 use Rattle.block_cells.specs.GfmTable.{cells_left}
-use Rattle.block_rows.specs.Rows.{piece_line}
+use Rattle.text_pieces.specs.Pieces.{piece_line}
 use Rattle.html_bytes.specs.GfmTable.{cells_pieces}
 use Rattle.html_leaves.specs.GfmTable.{CellsAreClear, cell_name, next_cell_pieces}
 use Rattle.html_leaves.specs.Prints.{layout_after, page_view}

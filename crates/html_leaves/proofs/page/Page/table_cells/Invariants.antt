@@ -4,8 +4,8 @@ use Rattle.definition_block.specs.GfmTable.{line_cells}
 use Rattle.html_bytes.specs.GfmTable.{cells_pieces}
 use Rattle.html_contents.specs.Texts.{KnowsTargets, document_by}
 use Rattle.block_cells.specs.GfmTable.{cells_left}
-use Rattle.block_rows.specs.ParagraphLines.{HaveNoEnding}
-use Rattle.block_rows.specs.Rows.{piece_line}
+use Rattle.text_pieces.specs.ParagraphLines.{HaveNoEnding}
+use Rattle.text_pieces.specs.Pieces.{piece_line}
 use Rattle.html_leaves.specs.GfmTable.{CellsAreClear, cell_name}
 use Rattle.html_leaves.specs.Prints.{layout_after, page_view}
 use Rattle.html_leaves.proofs.page.Page.table_cells.Given as goal

@@ -4,7 +4,7 @@ use Rattle.std.specs.Prelude.{codes}
 use Rattle.markdown_options.specs.declared.line_ending.LineEnding.{LineEnding}
 use Rattle.markdown_options.specs.LineEndings.{ending_bytes}
 use Rattle.definition_block.specs.GfmTable.{line_cells}
-use Rattle.block_rows.specs.Rows.{piece_line}
+use Rattle.text_pieces.specs.Pieces.{piece_line}
 use Rattle.html_bytes.specs.GfmTable.{cells_pieces}
 use Rattle.html_contents.specs.Texts.{document_by}
 use Rattle.html_leaves.specs.GfmTable.{cell_name}

@@ -6,9 +6,9 @@ use Rattle.markdown_options.specs.LineEndings.{ending_bytes}
 use Rattle.std.specs.Prelude.{codes}
 use Rattle.definition_text.specs.BlockLines.{BlockLine, own_lines, last_ending}
 use Rattle.definition_text.specs.Lines.{ending_text}
-use Rattle.block_rows.proofs.OwnLines.{last_ending_more}
-use Rattle.block_rows.proofs.RowSteps.{no_piece}
-use Rattle.block_rows.specs.Rows.{piece_line, piece_lines}
+use Rattle.text_pieces.proofs.OwnLines.{last_ending_more}
+use Rattle.text_pieces.proofs.Pieces.{no_piece}
+use Rattle.text_pieces.specs.Pieces.{piece_line, piece_lines}
 use Rattle.html_bytes.specs.GfmTable.{row_pieces, body_row_pieces}
 use Rattle.html_contents.specs.Texts.{document_by}
 use Rattle.html_leaves.specs.Prints.{layout_after, page_view, with_bytes}

@@ -4,7 +4,7 @@ use Rattle.definition_inline.specs.Targets.{Targets}
 use Rattle.definition_text.specs.BlockLines.{own_lines, last_ending}
 use Rattle.html_bytes.specs.GfmTable.{body_row_pieces}
 use Rattle.html_contents.specs.Texts.{KnowsTargets, document_by}
-use Rattle.block_rows.specs.Rows.{piece_lines}
+use Rattle.text_pieces.specs.Pieces.{piece_lines}
 use Rattle.html_looseness.specs.Printable.{AreClear}
 use Rattle.html_leaves.specs.Prints.{layout_after, page_view}
 use Rattle.html_leaves.proofs.page.Page.table_rows.Given as goal

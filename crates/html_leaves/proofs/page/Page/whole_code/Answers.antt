@@ -1,6 +1,6 @@
 use Rattle.std.proofs.Common.{◌≡◌, true, refl, subst}
 use Rattle.std.specs.Result.{OnOk}
-use Rattle.block_rows.specs.Rows.{whole_lines}
+use Rattle.text_pieces.specs.Pieces.{whole_lines}
 use Rattle.html_contents.specs.Texts.{document_by}
 use Rattle.html_leaves.specs.Prints.{page_view}
 use Rattle.html_leaves.proofs.CodeFencedLemmas.{closed_laid}

@@ -4,7 +4,8 @@ use Rattle.markdown_options.specs.LineEndings.{ending_bytes}
 use Rattle.definition_page.specs.Layout.{LayoutState}
 use Rattle.block_rows.specs.declared.row.Row.{Row}
 use Rattle.block_rows.specs.declared.row.Row.TheVariants as row
-use Rattle.block_rows.specs.Rows.{piece_lines, row_value}
+use Rattle.block_rows.specs.Rows.{row_value}
+use Rattle.text_pieces.specs.Pieces.{piece_lines}
 use Rattle.html_looseness.specs.declared.level.Level.{Level}
 use Rattle.html_looseness.specs.Levels.{level_after}
 use Rattle.html_leaves.specs.Prints.{page_view}

@@ -5,7 +5,8 @@ use Rattle.markdown_options.specs.LineEndings.{ending_bytes}
 use Rattle.block_rows.specs.declared.row.Row.{Row}
 use Rattle.block_rows.specs.declared.row.Row.TheVariants.{Paragraph}
 use Rattle.definition_text.specs.BlockLines.{BlockLine}
-use Rattle.block_rows.specs.Rows.{RowsValue, row_value, piece_lines, piece_line, rows_value, row_size}
+use Rattle.block_rows.specs.Rows.{RowsValue, row_value, rows_value, row_size}
+use Rattle.text_pieces.specs.Pieces.{piece_lines, piece_line}
 use Rattle.html_looseness.specs.Printable.{IsPrintableRow}
 use Rattle.html_page.specs.PrinterView.{PrinterView, print_row, print_all, printer_view}
 use Rattle.html_contents.specs.Texts.{document_by}

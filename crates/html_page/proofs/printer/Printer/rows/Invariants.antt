@@ -2,7 +2,8 @@ use Rattle.std.proofs.Common.{◌≡◌, ◌+◌, take, drop}
 use Rattle.markdown_options.specs.LineEndings.{ending_bytes}
 use Rattle.definition_inline.specs.Targets.{Targets}
 use Rattle.html_contents.specs.Texts.{KnowsTargets, document_by}
-use Rattle.block_rows.specs.Rows.{rows_size, piece_lines, rows_value}
+use Rattle.block_rows.specs.Rows.{rows_size, rows_value}
+use Rattle.text_pieces.specs.Pieces.{piece_lines}
 use Rattle.html_page.specs.PrinterView.{print_all, printer_view}
 use Rattle.html_page.proofs.printer.Printer.rows.Given as goal
 

@@ -7,9 +7,9 @@ use Rattle.definition_text.specs.Lines.{ending_text}
 use Rattle.definition_text.specs.Columns.{code_byte}
 use Rattle.definition_text.specs.BlockLines.{BlockLine, last_ending}
 use Rattle.definition_text.specs.Content.{content_text, line_text}
-use Rattle.block_rows.specs.Rows.{piece_line, piece_lines}
-use Rattle.block_rows.proofs.RowSteps.{no_piece}
-use Rattle.block_rows.proofs.OwnLines.{last_ending_more, lines_more, with_last_ending}
+use Rattle.text_pieces.specs.Pieces.{piece_line, piece_lines}
+use Rattle.text_pieces.proofs.Pieces.{no_piece}
+use Rattle.text_pieces.proofs.OwnLines.{last_ending_more, lines_more, with_last_ending}
 use Rattle.inline_content.specs.Lines.{mark_of, marks_of}
 use Rattle.inline_content.specs.View.{codes_with_marks}
 use Rattle.inline_content.proofs.Lined.{content_is, content_lines_apart, lines_agree, marks_more}

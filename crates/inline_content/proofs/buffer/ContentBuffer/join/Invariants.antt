@@ -2,7 +2,7 @@ use Rattle.std.proofs.Common.{◌≡◌, ◌≤◌, string_bytes, length, take}
 use Rattle.std.specs.List.{All}
 use Rattle.std.specs.List.Sorted.{IsNonDecreasingBy}
 use Rattle.definition_text.specs.BlockLines.{last_ending}
-use Rattle.block_rows.specs.Rows.{piece_lines}
+use Rattle.text_pieces.specs.Pieces.{piece_lines}
 use Rattle.definition_text.specs.Content.{content_text}
 use Rattle.inline_content.specs.declared.mark.Mark.{Mark}
 use Rattle.inline_content.specs.Lines.{marks_of}

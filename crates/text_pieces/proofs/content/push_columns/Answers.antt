@@ -1,7 +1,7 @@
 use Rattle.std.proofs.Common.{◌≡◌, ◌++◌, ◌∷◌, [], string_bytes, ap, ◌∙◌, append_assoc, arith}
 use Rattle.std.specs.Prelude.{replicate}
 use Rattle.std.proofs.lemmas.List.{replicate_more}
-use Rattle.block_rows.proofs.content.push_columns.Goals as goal
+use Rattle.text_pieces.proofs.content.push_columns.Goals as goal
 
 pub loop-preserved : goal.loop-preserved
 loop-preserved g c =

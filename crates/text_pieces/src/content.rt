@@ -5,10 +5,10 @@
 ghost use Rattle.std.specs.Prelude.{◌≡◌, ◌++◌, OnOk, map, replicate, string_bytes};
 ghost use Rattle.definition_text.specs.Columns.{tab_column, code_byte};
 ghost use Rattle.definition_text.specs.Lines.{ending_text};
-ghost use Rattle.block_rows.specs.Rows.{piece_lines};
+ghost use Rattle.text_pieces.specs.Pieces.{piece_lines};
 ghost use Rattle.definition_text.specs.Content.{content_text};
 
-use crate::row::Piece;
+use crate::piece::Piece;
 use markdown_options::LineEnding;
 use std::alloc::{AllocError, Allocator};
 

@@ -2,7 +2,7 @@ use Rattle.std.proofs.Common.{◌≡◌, ◌++◌, ℕ, ◌<◌, cond, List, str
 use Rattle.std.specs.Prelude.{replicate, Result, Ok, Err, OnOk}
 use Rattle.std.specs.Result.{is_ok}
 use Rattle.definition_text.proofs.CodeBytes.{owed_bytes}
-use Rattle.block_rows.proofs.content.push_line.Goals as goal
+use Rattle.text_pieces.proofs.content.push_line.Goals as goal
 
 pub returns : goal.returns
 returns g c =

@@ -1,6 +1,6 @@
 use Rattle.std.proofs.Common.{◌≡◌, ◌++◌, string_bytes}
 use Rattle.std.specs.Prelude.{replicate}
-use Rattle.block_rows.proofs.content.push_columns.Given as goal
+use Rattle.text_pieces.proofs.content.push_columns.Given as goal
 
 -- a space for each column so far
 abbrev pub invariant-loop : goal.invariant-loop

@@ -6,7 +6,7 @@ use Rattle.std.proofs.lemmas.List.{append-nil}
 use Rattle.definition_text.specs.Lines.{ends_line}
 use Rattle.definition_text.specs.Columns.{code_byte}
 use Rattle.definition_text.specs.Content.{content_codes, is_eol}
-use Rattle.block_rows.specs.ParagraphLines.{HaveNoEnding}
+use Rattle.text_pieces.specs.ParagraphLines.{HaveNoEnding}
 use Rattle.definition_text.proofs.ContentBytes.{IsInLine, codes_in_line}
 
 -- no byte of a line ends it

@@ -5,11 +5,11 @@ use Rattle.markdown_options.specs.declared.line_ending.LineEnding.{LineEnding}
 use Rattle.definition_text.specs.Lines.{ending_text}
 use Rattle.definition_text.specs.Columns.{code_byte}
 use Rattle.definition_text.specs.BlockLines.{BlockLine, last_ending}
-use Rattle.block_rows.specs.Rows.{piece_line, piece_lines}
-use Rattle.block_rows.proofs.RowSteps.{no_piece}
-use Rattle.block_rows.proofs.OwnLines.{last_ending_more, lines_more}
+use Rattle.text_pieces.specs.Pieces.{piece_line, piece_lines}
+use Rattle.text_pieces.proofs.Pieces.{no_piece}
+use Rattle.text_pieces.proofs.OwnLines.{last_ending_more, lines_more}
 use Rattle.definition_text.specs.Content.{content_text}
-use Rattle.block_rows.proofs.content.join_lines.Goals as goal
+use Rattle.text_pieces.proofs.content.join_lines.Goals as goal
 
 pub loop-line-preserved : goal.loop-line-preserved
 loop-line-preserved g c =

@@ -1,8 +1,8 @@
 use Rattle.std.proofs.Common.{◌≡◌, string_bytes, take}
 use Rattle.definition_text.specs.BlockLines.{last_ending}
-use Rattle.block_rows.specs.Rows.{piece_lines}
+use Rattle.text_pieces.specs.Pieces.{piece_lines}
 use Rattle.definition_text.specs.Content.{content_text}
-use Rattle.block_rows.proofs.content.join_lines.Given as goal
+use Rattle.text_pieces.proofs.content.join_lines.Given as goal
 
 -- the lines so far are there, and the ending of the last one waits
 abbrev pub invariant-loop-line : goal.invariant-loop-line

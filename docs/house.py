@@ -1,0 +1,74 @@
+#!/usr/bin/env python3
+"""Prints what a construct costs in this repository: how many files name it, by group, and how large specifications and proofs are.
+
+usage: docs/house.py            the figures, one a line
+"""
+import collections
+import re
+import subprocess
+import sys
+from pathlib import Path
+
+TOP = Path(__file__).resolve().parent.parent
+# Groups whose files count apart: tests and examples, and the machines of the road by states.
+TESTS = ("tests_", "examples_", "markdown_bench")
+MACHINES = ("engine_", "state_", "markdown_engine")
+# The constructors of the definition's trees, by which files go by cases.
+INLINE = "Data Escape Character Code Math Autolink Literal Html EscapedBreak TrailingBreak LineEnd Emphasis Strong Strikethrough Link Image Call".split()
+BLOCK = "Paragraph Heading Break IndentedCode FencedCode Html Table Definition Holds Items Ending Blank".split()
+
+
+def tracked(*endings):
+    names = subprocess.run(["git", "ls-files", "crates"], cwd=TOP, capture_output=True, text=True, check=True).stdout.split()
+    return [it for it in names if it.endswith(endings) and (TOP / it).is_file()]
+
+
+def group_of(file):
+    crate = file.split("/")[1]
+    if crate.startswith(TESTS):
+        return "tests and examples"
+    if crate.startswith(MACHINES):
+        return "machines"
+    return crate.split("_")[0]
+
+
+def by_group(files):
+    counts = collections.Counter(map(group_of, files))
+    return f"{len(files)} ({', '.join(f'{name} {count}' for name, count in sorted(counts.items()))})"
+
+
+def main():
+    files = tracked(".rt", ".antt")
+    text = {it: (TOP / it).read_text(encoding="utf-8") for it in files}
+    print("files that name strikethrough:", by_group([it for it in files if "strikethrough" in text[it].lower()]))
+    named = [it for it in files if re.search(r"\bMath\b", text[it])]
+    print("files that name Math:", by_group(named))
+    inner = [it for it in named if group_of(it) not in ("tests and examples", "machines")]
+    print("files that name Math, without tests, examples and machines:", len(inner))
+    # A file goes by cases where clauses of one function take most of the constructors.
+    for what, names in (("inline", INLINE), ("block", BLOCK)):
+        rows = []
+        for it in files:
+            if not it.endswith(".antt") or group_of(it) in ("tests and examples", "machines"):
+                continue
+            heads = re.findall(r"^\s*([\w-]+)(?: [^\n=]*?)? \(?(?:\w+\.)?(" + "|".join(names) + r")\b[^\n]*=", text[it], re.M)
+            cases = collections.defaultdict(set)
+            for function, name in heads:
+                cases[function].add(name)
+            if any(len(found) * 3 >= len(names) * 2 for found in cases.values()):
+                rows.append(it)
+        print(f"files by cases over the {what} constructors:", by_group(rows))
+    names = collections.defaultdict(dict)
+    for it in files:
+        if "/specs/" in it:
+            for name, said in re.findall(r"^\s*(?:abbrev )?pub (?:abbrev )?([\w-]+) : ([^\n]*)$", text[it], re.M):
+                names[name].setdefault(it.split("/")[1], set()).add(said)
+    twice = [name for name, where in names.items() if {"definition_page", "html_bytes"} <= set(where) and where["definition_page"] != where["html_bytes"]]
+    print("names in definition_page and html_bytes with two types:", len(twice))
+    for part in ("src", "specs", "proofs"):
+        print(f"lines of {part}:", sum(text[it].count("\n") for it in files if f"/{part}/" in it))
+    return 0
+
+
+if __name__ == "__main__":
+    sys.exit(main())
