@@ -13,8 +13,8 @@ use Rattle.definition_inline.specs.LabelMatch.{normal_label, first_match}
 use Rattle.definition_block.specs.Blocks.{Block, Paragraph, Heading, Break, IndentedCode, FencedCode, Html, Table, Definition, Holds, Items, Ending, Blank}
 use Rattle.definition_block.specs.Blocks.{Blocks, Nil, Cons}
 use Rattle.definition_block.specs.Definitions.{block_definitions, definitions}
-use Rattle.definition_inline.specs.Targets.{with_spaces, labels_of, no_definition, linked_at, linked_by}
-use Rattle.definition_block.specs.Definitions.{document_definitions}
+use Rattle.definition_inline.specs.Targets.{labels_of, no_definition, linked_at, linked_by}
+use Rattle.definition_block.specs.Definitions.{document_definitions, with_spaces}
 use Rattle.laws_inline.proofs.Matching.{first_label_matches}
 use Rattle.laws_quote.proofs.Quotes.{quote_definitions_law}
 use Rattle.laws_list.proofs.Items.{list_definitions_law}

@@ -10,8 +10,8 @@ use Rattle.definition_inline.specs.Inline.{link_texts}
 use Rattle.definition_inline.specs.LabelMatch.{normal_label}
 use Rattle.definition_block.specs.Blocks.{Block, Definition, Holds, Items, Blocks, Nil, Cons}
 use Rattle.definition_block.specs.Tree.{blocks}
-use Rattle.definition_inline.specs.Targets.{with_spaces, labels_of, linked_by, is_label_of}
-use Rattle.definition_block.specs.Definitions.{document_definitions}
+use Rattle.definition_inline.specs.Targets.{labels_of, linked_by, is_label_of}
+use Rattle.definition_block.specs.Definitions.{document_definitions, with_spaces}
 use Rattle.laws_quote.specs.Quoted.{quote_lines}
 use Rattle.laws_quote.specs.Laws.{HasNoTab}
 use Rattle.laws_list.specs.Listed.{list_lines}

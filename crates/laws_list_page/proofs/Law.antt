@@ -11,8 +11,7 @@ use Rattle.definition_block.specs.Tree as tree
 use Rattle.definition_block.specs.Lists.{group_items, has_gap, is_loose}
 use Rattle.definition_inline.specs.Definition.{Definition}
 use Rattle.definition_page.specs.TextTables.{TextTables}
-use Rattle.definition_inline.specs.Targets.{with_spaces}
-use Rattle.definition_block.specs.Definitions.{document_definitions}
+use Rattle.definition_block.specs.Definitions.{document_definitions, with_spaces}
 use Rattle.definition_page.specs.Page as page
 use Rattle.definition_page.specs.Pieces.{Piece, Close, Eol}
 use Rattle.definition_page.specs.BlockPieces.{inside, last_visible, ends_plainly, fresh_unless, children_pieces}

@@ -13,8 +13,8 @@ use Rattle.definition_block.specs.Tree as tree
 use Rattle.definition_block.specs.Lists.{group_items}
 use Rattle.definition_inline.specs.Definition.{Definition}
 use Rattle.definition_page.specs.TextTables.{TextTables}
-use Rattle.definition_inline.specs.Targets.{targets, linked_by, with_spaces}
-use Rattle.definition_block.specs.Definitions.{document_definitions}
+use Rattle.definition_inline.specs.Targets.{targets, linked_by}
+use Rattle.definition_block.specs.Definitions.{document_definitions, with_spaces}
 use Rattle.definition_page.specs.Tags.{end_tag}
 use Rattle.definition_page.specs.Pieces.{Close, Fresh}
 use Rattle.definition_page.specs.InlinePieces.{Meaning}
