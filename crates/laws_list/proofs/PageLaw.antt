@@ -17,6 +17,7 @@ use Rattle.definition_page.specs.Pieces.{Piece, Close, Eol}
 use Rattle.definition_page.specs.BlockPieces.{inside, last_visible, ends_plainly, fresh_unless, children_pieces}
 use Rattle.definition_page.specs.Read.{in_container, in_item, read_blocks}
 use Rattle.laws_list.proofs.GfmTaskListItem.{read_in_item}
+use Rattle.laws_block.proofs.Looseness.{line_gap}
 use Rattle.laws_quote.specs.Squeeze.{SqueezeState, kept_and_run, with_byte, with_bytes, nothing_yet, squeeze}
 use Rattle.laws_quote.proofs.Bytes.{after_text, bytes_after_text, dropped_ending}
 use Rattle.laws_quote.proofs.Printed.{with_piece, with_pieces, pieces_after_text, kept_at_fresh}
@@ -167,5 +168,5 @@ list_page_law tables text options h =
     ∙ ap (λ ending. print ending (document_definitions list) list) (added_ending-listed options text)
     ∙ ap (λ ds. print default (map with_spaces ds) list) (list_definitions_law on Whitespace text h.3 h.4 h.0 h.1)
     ∙ ap (print default (document_definitions kids)) (list_law on Whitespace text h.3 h.4 h.0 h.1))
-    ∙ squeeze_both tables options default (document_definitions kids) h.6 kids h.7
+    ∙ squeeze_both tables options default (document_definitions kids) h.6 kids (line_gap on (group_items kids) h.7)
     ∙ sym (ap (λ bytes. squeeze (list_around bytes)) (html_unmarked tables text options h.2 h.5))

@@ -5,17 +5,18 @@ use Rattle.markdown_options.specs.declared.configuration.Options.{Options}
 use Rattle.definition_text.specs.declared.beside.Kind.TheVariants.{Whitespace}
 use Rattle.definition_text.specs.Lines.{first_line, has_mark}
 use Rattle.definition_block.specs.Tree.{blocks}
-use Rattle.definition_block.specs.Lists.{group_items, has_gap}
+use Rattle.definition_block.specs.Lists.{group_items}
 use Rattle.definition_page.specs.TextTables.{TextTables}
 use Rattle.definition_page.specs.Html.{html}
+use Rattle.laws_block.specs.Looseness.{AreApart, SomeAre}
 use Rattle.laws_quote.specs.Laws.{HasNoTab}
 use Rattle.laws_quote.specs.Squeeze.{squeeze}
 use Rattle.laws_list.specs.Listed.{list_lines}
 use Rattle.laws_list.specs.Laws.{begins_dark}
 
--- some two neighbouring blocks at the top of a text have a line between them
+-- some two neighbouring blocks at the top of a text, items put into lists, have a line between them
 abbrev pub HasGap : List ℕ → Constructs → Type 0
-HasGap text on = has_gap (group_items (blocks on Whitespace text)) ≡ true
+HasGap text on = SomeAre (AreApart on) (group_items (blocks on Whitespace text))
 
 -- a text that is read in an item of a loose list as it is alone: its first line begins with something other than a space, it has no tab and no byte
 -- order mark, and some two of its blocks have a line between them; items are on, frontmatter, footnote definitions and task list items off
