@@ -94,6 +94,7 @@ SHARED = {
     "examples_block/Leaves.antt": "definition heading_setext html_flow",
     "examples_inline/LabelStartImage.antt": "label_end",
     "examples_inline/LabelStartLink.antt": "label_end",
+    "laws_endings/PrintedTable.antt": "gfm_table",
     "laws_footnotes/Footnotes.antt": "gfm_footnote_definition",
     "laws_footnotes/footnotes.rt": "gfm_footnote_definition",
     "tests_pages/hard_break.rt": "hard_break_escape hard_break_trailing",

@@ -5,4 +5,5 @@ pub mod Neighbours
 pub mod Plain
 pub mod GfmTable
 pub mod GroupedRows
+pub mod TextLines
 pub mod Looseness

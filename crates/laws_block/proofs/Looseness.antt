@@ -1,10 +1,13 @@
--- When a list is loose, by the numbers of lines.
+-- When a list is loose, by the lines of its blocks.
 use Rattle.std.proofs.Common.{◌≡◌, ℕ, suc, ◌+◌, ◌≤◌, Bool, true, false, not, leb, ◌&&◌, ◌||◌, refl, sym, ap, ◌∙◌, inl, inr, arith}
 use Rattle.std.proofs.lemmas.Bool.{cases_Bool, cond-true, cond-false, and_parts, and_from, false≢true, le-leb, leb-true}
+use Rattle.markdown_options.specs.declared.configuration.Constructs.{Constructs}
 use Rattle.definition_block.specs.Container.{Container}
-use Rattle.definition_block.specs.Tree.{Block, Holds, Blocks, Nil, Cons, join, is_ending, all_endings}
+use Rattle.definition_block.specs.Tree.{Block, Holds, Ending, Blank, Blocks, Nil, Cons, join, is_ending, all_endings}
 use Rattle.definition_block.specs.Lists.{endings_at_front, is_some_block, has_gap, has_gap_inside, is_loose}
-use Rattle.laws_block.specs.Looseness.{child_endings, line_endings, HasLineBetween, IsLoose, BetweenItems, InItem, LoosenessIsOfLines}
+use Rattle.laws_block.specs.TextLines.{AreOn}
+use Rattle.laws_block.specs.Looseness.{AreAlwaysApart, AreApart, SomeAre, SomeAreInList, BetweenItems}
+use Rattle.laws_block.specs.Looseness.{InItem, LoosenessIsOfLines}
 
 or_right : (a b : Bool) → b ≡ true → (a || b) ≡ true
 or_right true b h = refl
@@ -19,6 +22,10 @@ not_true false h = refl
 
 -- ---- endings, and a child that is none
 
+abbrev size : Blocks → ℕ
+size Nil = 0
+size (Cons b bs) = suc (size bs)
+
 -- children that some other than endings are among: endings at the front, and the first that is none
 record Front (bs : Blocks) : Type 0 where
   between : Blocks
@@ -27,7 +34,7 @@ record Front (bs : Blocks) : Type 0 where
   here : bs ≡ join between (Cons second after)
   are_endings : all_endings between ≡ true
   is_none : is_ending second ≡ false
-  count : (inside : Block → ℕ) → line_endings inside between ≡ endings_at_front bs
+  count : size between ≡ endings_at_front bs
 
 front : (bs : Blocks) → is_some_block bs ≡ true → Front bs
 front Nil p = absurd (false≢true p)
@@ -41,11 +48,7 @@ front (Cons b bs) p = elim (cases_Bool (is_ending b)) [
         here = ap (Cons b) more.here;
         are_endings = and_from (is_ending b) _ e more.are_endings;
         is_none = more.is_none;
-        count = λ inside.
-            ap (λ n. n + line_endings inside more.between) (cond-true (is_ending b) 1 (inside b) e)
-            ∙ ap (λ n. 1 + n) (more.count inside)
-            ∙ one_more (endings_at_front bs)
-            ∙ sym (cond-true (is_ending b) _ _ e);
+        count = ap suc more.count ∙ sym (cond-true (is_ending b) _ _ e);
       }
   | inr e ↦
       record {
@@ -55,73 +58,82 @@ front (Cons b bs) p = elim (cases_Bool (is_ending b)) [
         here = refl;
         are_endings = refl;
         is_none = e;
-        count = λ inside. sym (cond-false (is_ending b) _ _ e);
+        count = sym (cond-false (is_ending b) _ _ e);
       }
 ]
-  where
-    one_more : (n : ℕ) → 1 + n ≡ suc n
-    one_more n = omega arith
 
 is_some : (es : Blocks) (b : Block) (bs : Blocks) → is_ending b ≡ false → is_some_block (join es (Cons b bs)) ≡ true
 is_some Nil b bs h = or_left (not (is_ending b)) (is_some_block bs) (ap not h)
 is_some (Cons e es) b bs h = or_right (not (is_ending e)) _ (is_some es b bs h)
 
-leading_endings : (inside : Block → ℕ) (es : Blocks) (b : Block) (bs : Blocks) → all_endings es ≡ true → is_ending b ≡ false
-    → endings_at_front (join es (Cons b bs)) ≡ line_endings inside es
-leading_endings inside Nil b bs p q = cond-false (is_ending b) _ _ q
-leading_endings inside (Cons e es) b bs p q =
+leading_endings : (es : Blocks) (b : Block) (bs : Blocks) → all_endings es ≡ true → is_ending b ≡ false
+    → endings_at_front (join es (Cons b bs)) ≡ size es
+leading_endings Nil b bs p q = cond-false (is_ending b) _ _ q
+leading_endings (Cons e es) b bs p q =
     let parts = and_parts (is_ending e) (all_endings es) p in
-    let one : child_endings inside e ≡ 1 = cond-true (is_ending e) 1 (inside e) parts.0 in
-    let more = leading_endings inside es b bs parts.1 q in
-    let here : endings_at_front (join (Cons e es) (Cons b bs)) ≡ suc (endings_at_front (join es (Cons b bs))) = cond-true (is_ending e) _ _ parts.0 in
-    omega (arith, one, more, here)
+    cond-true (is_ending e) _ _ parts.0 ∙ ap suc (leading_endings es b bs parts.1 q)
 
--- ---- neighbours
+module _ (on : Constructs) where
+  -- each ending leads to the next line
+  endings_on : (es : Blocks) (a b : ℕ) → all_endings es ≡ true → AreOn on es a b → b ≡ a + size es
+  endings_on Nil a b h p = omega (arith, p)
+  endings_on (Cons (Ending ending) es) a b h p = let k = p.1 in let more = endings_on es p.0 b h p.2 in omega (arith, k, more)
+  endings_on (Cons (Blank ending) es) a b h p = let k = p.1 in let more = endings_on es p.0 b h p.2 in omega (arith, k, more)
+  endings_on (Cons x es) a b h p = absurd (false≢true h)
 
--- a line between two neighbours, where another child comes first
-further : (inside : Block → ℕ) (top : ℕ) (b : Block) (bs : Blocks) → HasLineBetween inside (top + child_endings inside b) bs
-    → HasLineBetween inside top (Cons b bs)
-further inside top b bs h =
-    let p = h.pair in
-    record {
-      pair = record { before = Cons b p.before; first = p.first; between = p.between; second = p.second; after = p.after };
-      here = ap (Cons b) h.here;
-      are_neighbours = record {
-        first_is_none = h.are_neighbours.first_is_none;
-        between_are_endings = h.are_neighbours.between_are_endings;
-        second_is_none = h.are_neighbours.second_is_none;
-      };
-      line = h.line;
-      after_first = omega (arith, h.after_first);
-      before_second = omega (arith, h.before_second);
-    }
+  -- ---- neighbours
 
-here_first : (inside : Block → ℕ) (top : ℕ) (b : Block) (bs : Blocks) → is_ending b ≡ false → leb 2 (endings_at_front bs) ≡ true → is_some_block bs ≡ true
-    → HasLineBetween inside top (Cons b bs)
-here_first inside top b bs p q r =
-    let f = front bs r in
-    let two : 2 ≤ endings_at_front bs = leb-true 2 (endings_at_front bs) q in
-    let count = f.count inside in
-    record {
-      pair = record { before = Nil; first = b; between = f.between; second = f.second; after = f.after };
-      here = ap (Cons b) f.here;
-      are_neighbours = record { first_is_none = p; between_are_endings = f.are_endings; second_is_none = f.is_none };
-      line = suc (top + inside b);
-      after_first = omega arith;
-      before_second = omega (arith, two, count);
-    }
+  -- two neighbours that are apart, where another child comes first
+  further : (b : Block) (bs : Blocks) → SomeAre (AreAlwaysApart on) bs → SomeAre (AreAlwaysApart on) (Cons b bs)
+  further b bs h =
+      let p = h.pair in
+      record {
+        pair = record { before = Cons b p.before; first = p.first; between = p.between; second = p.second; after = p.after };
+        here = ap (Cons b) h.here;
+        are_neighbours = record {
+          first_is_none = h.are_neighbours.first_is_none;
+          between_are_endings = h.are_neighbours.between_are_endings;
+          second_is_none = h.are_neighbours.second_is_none;
+        };
+        are_apart = λ ls.
+            let line = h.are_apart (record {
+              top = ls.before_are_on.0;
+              first_line = ls.first_line;
+              last_line = ls.last_line;
+              next_line = ls.next_line;
+              before_are_on = ls.before_are_on.2;
+              first_is_on = ls.first_is_on;
+              between_are_on = ls.between_are_on;
+            }) in
+            record { line = line.line; after_first = line.after_first; before_second = line.before_second };
+      }
 
-gap_line : (inside : Block → ℕ) (top : ℕ) (bs : Blocks) → has_gap bs ≡ true → HasLineBetween inside top bs
-gap_line inside top Nil h = absurd (false≢true h)
-gap_line inside top (Cons b bs) h =
-    let first = not (is_ending b) && leb 2 (endings_at_front bs) && is_some_block bs in
-    elim (cases_Bool first) [
-      | inl e ↦
-          let parts = and_parts (not (is_ending b) && leb 2 (endings_at_front bs)) (is_some_block bs) e in
-          let others = and_parts (not (is_ending b)) (leb 2 (endings_at_front bs)) parts.0 in
-          here_first inside top b bs (not_true (is_ending b) others.0) others.1 parts.1
-      | inr e ↦ further inside top b bs (gap_line inside (top + child_endings inside b) bs (sym (ap (λ x. x || has_gap bs) e) ∙ h))
-    ]
+  here_first : (b : Block) (bs : Blocks) → is_ending b ≡ false → leb 2 (endings_at_front bs) ≡ true → is_some_block bs ≡ true
+      → SomeAre (AreAlwaysApart on) (Cons b bs)
+  here_first b bs p q r =
+      let f = front bs r in
+      let two : 2 ≤ endings_at_front bs = leb-true 2 (endings_at_front bs) q in
+      let count = f.count in
+      record {
+        pair = record { before = Nil; first = b; between = f.between; second = f.second; after = f.after };
+        here = ap (Cons b) f.here;
+        are_neighbours = record { first_is_none = p; between_are_endings = f.are_endings; second_is_none = f.is_none };
+        are_apart = λ ls.
+            let next = endings_on f.between ls.last_line ls.next_line f.are_endings ls.between_are_on in
+            record { line = suc ls.last_line; after_first = omega arith; before_second = omega (arith, two, count, next) };
+      }
+
+  gap_line : (bs : Blocks) → has_gap bs ≡ true → SomeAre (AreAlwaysApart on) bs
+  gap_line Nil h = absurd (false≢true h)
+  gap_line (Cons b bs) h =
+      let first = not (is_ending b) && leb 2 (endings_at_front bs) && is_some_block bs in
+      elim (cases_Bool first) [
+        | inl e ↦
+            let parts = and_parts (not (is_ending b) && leb 2 (endings_at_front bs)) (is_some_block bs) e in
+            let others = and_parts (not (is_ending b)) (leb 2 (endings_at_front bs)) parts.0 in
+            here_first b bs (not_true (is_ending b) others.0) others.1 parts.1
+        | inr e ↦ further b bs (gap_line bs (sym (ap (λ x. x || has_gap bs) e) ∙ h))
+      ]
 
 -- two neighbours with two endings between
 gap_at : (before : Blocks) (first : Block) (bs : Blocks) → is_ending first ≡ false → leb 2 (endings_at_front bs) ≡ true → is_some_block bs ≡ true
@@ -132,12 +144,18 @@ gap_at Nil first bs p q r =
     (and_from (not (is_ending first) && leb 2 (endings_at_front bs)) (is_some_block bs) two r)
 gap_at (Cons b before) first bs p q r = or_right _ (has_gap (join before (Cons first bs))) (gap_at before first bs p q r)
 
-line_gap : (inside : Block → ℕ) (top : ℕ) (bs : Blocks) → HasLineBetween inside top bs → has_gap bs ≡ true
-line_gap inside top bs h =
+-- two neighbours between whose lines another one is
+pub line_gap : (on : Constructs) (bs : Blocks) → SomeAre (AreApart on) bs → has_gap bs ≡ true
+line_gap on bs h =
     let p = h.pair in
     let n = h.are_neighbours in
-    let count = leading_endings inside p.between p.second p.after n.between_are_endings n.second_is_none in
-    let two : 2 ≤ endings_at_front (join p.between (Cons p.second p.after)) = omega (arith, h.after_first, h.before_second, count) in
+    let ls = h.are_apart.0 in
+    let line = h.are_apart.1 in
+    let after_first = line.after_first in
+    let before_second = line.before_second in
+    let next = endings_on on p.between ls.last_line ls.next_line n.between_are_endings ls.between_are_on in
+    let count = leading_endings p.between p.second p.after n.between_are_endings n.second_is_none in
+    let two : 2 ≤ endings_at_front (join p.between (Cons p.second p.after)) = omega (arith, after_first, before_second, count, next) in
     ap has_gap h.here
     ∙ gap_at p.before p.first (join p.between (Cons p.second p.after)) n.first_is_none (le-leb 2 _ two)
     (is_some p.between p.second p.after n.second_is_none)
@@ -170,19 +188,18 @@ inside_at Nil c kids after h = or_left (has_gap kids) (has_gap_inside after) h
 inside_at (Cons (Holds d others) before) c kids after h = or_right (has_gap others) _ (inside_at before c kids after h)
 inside_at (Cons b before) c kids after h = inside_at before c kids after h
 
-has_line : (inside : Block → ℕ) (top : ℕ) (items : Blocks) → is_loose items ≡ true → IsLoose inside top items
-has_line inside top items h = elim (cases_Bool (has_gap items)) [
-  | inl e ↦ BetweenItems (gap_line inside top items e)
+has_line : (on : Constructs) (items : Blocks) → is_loose items ≡ true → SomeAreInList (AreAlwaysApart on) items
+has_line on items h = elim (cases_Bool (has_gap items)) [
+  | inl e ↦ BetweenItems (gap_line on items e)
   | inr e ↦
       let s = in_some items (sym (ap (λ x. x || has_gap_inside items) e) ∙ h) in
-      InItem s.before s.container s.kids s.after s.here (gap_line inside (top + line_endings inside s.before) s.kids s.gap)
+      InItem s.before s.container s.kids s.after s.here (gap_line on s.kids s.gap)
 ]
 
-is_told : (inside : Block → ℕ) (top : ℕ) (items : Blocks) → IsLoose inside top items → is_loose items ≡ true
-is_told inside top items (BetweenItems h) = or_left (has_gap items) (has_gap_inside items) (line_gap inside top items h)
-is_told inside top items (InItem before c kids after here h) =
-    or_right (has_gap items) (has_gap_inside items)
-    (ap has_gap_inside here ∙ inside_at before c kids after (line_gap inside (top + line_endings inside before) kids h))
+is_told : (on : Constructs) (items : Blocks) → SomeAreInList (AreApart on) items → is_loose items ≡ true
+is_told on items (BetweenItems h) = or_left (has_gap items) (has_gap_inside items) (line_gap on items h)
+is_told on items (InItem before c kids after here h) =
+    or_right (has_gap items) (has_gap_inside items) (ap has_gap_inside here ∙ inside_at before c kids after (line_gap on kids h))
 
 pub looseness_is_of_lines : LoosenessIsOfLines
 looseness_is_of_lines = record { has_line = has_line; is_told = is_told }

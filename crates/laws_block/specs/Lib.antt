@@ -6,4 +6,5 @@ pub mod Neighbours
 pub mod Plain
 pub mod GfmTable
 pub mod GroupedRows
+pub mod TextLines
 pub mod Looseness

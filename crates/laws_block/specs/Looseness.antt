@@ -1,18 +1,11 @@
--- When a list is loose, by the numbers of lines (CommonMark 5.3).
-use Rattle.std.specs.Prelude.{◌≡◌, ℕ, ◌+◌, ◌<◌, true, false, if◌then◌else◌}
+-- When a list is loose (CommonMark 5.3).
+use Rattle.std.specs.Prelude.{◌≡◌, ℕ, ◌<◌, true, false}
+use Rattle.markdown_options.specs.declared.configuration.Constructs.{Constructs}
 use Rattle.definition_block.specs.Container.{Container}
-use Rattle.definition_block.specs.Tree.{Block, Holds, Blocks, Nil, Cons, join, is_ending, all_endings}
+use Rattle.definition_block.specs.Tree.{Block, Holds, Blocks, Cons, join, is_ending, all_endings}
 use Rattle.definition_block.specs.Lists.{is_loose}
 use Rattle.laws_block.specs.Neighbours.{children}
-
--- how many line endings a child has, where each that is none itself has so many inside
-abbrev pub child_endings : (Block → ℕ) → Block → ℕ
-child_endings inside b = if is_ending b then 1 else inside b
-
--- how many line endings these children have
-abbrev pub line_endings : (Block → ℕ) → Blocks → ℕ
-line_endings inside Nil = 0
-line_endings inside (Cons b bs) = child_endings inside b + line_endings inside bs
+use Rattle.laws_block.specs.TextLines.{IsOn, AreOn}
 
 -- two neighbouring children: only endings stand between them
 pub record Pair : Type 0 where
@@ -31,30 +24,47 @@ pub record AreNeighbours (p : Pair) : Type 0 where
   pub between_are_endings : all_endings p.between ≡ true
   pub second_is_none : is_ending p.second ≡ false
 
--- the number of the first one's last line, where the children begin on the line of this number
-abbrev pub last_line : (Block → ℕ) → ℕ → Pair → ℕ
-last_line inside top p = top + line_endings inside p.before + inside p.first
+-- the lines of two neighbours, by those of the children before them
+pub record PairLines (on : Constructs) (p : Pair) : Type 0 where
+  -- the first line of all children
+  pub top : ℕ
+  -- the first line and the last line of the first one of the two
+  pub first_line : ℕ
+  pub last_line : ℕ
+  -- the first line of the second one
+  pub next_line : ℕ
+  pub before_are_on : AreOn on p.before top first_line
+  pub first_is_on : IsOn on p.first first_line last_line
+  pub between_are_on : AreOn on p.between last_line next_line
 
--- the number of the second one's first line
-abbrev pub first_line : (Block → ℕ) → ℕ → Pair → ℕ
-first_line inside top p = last_line inside top p + line_endings inside p.between
+-- a line after the last line of the first one, and before the first line of the second one
+pub record LineBetween (on : Constructs) (p : Pair) (ls : PairLines on p) : Type 0 where
+  pub line : ℕ
+  pub after_first : ls.last_line < line
+  pub before_second : line < ls.next_line
 
--- some two neighbouring children have a line between them
-pub record HasLineBetween (inside : Block → ℕ) (top : ℕ) (kids : Blocks) : Type 0 where
+-- whichever lines two neighbours stand on, a line is between them
+abbrev pub AreAlwaysApart : Constructs → Pair → Type 0
+AreAlwaysApart on p = (ls : PairLines on p) → LineBetween on p ls
+
+-- they stand on lines between which another one is
+abbrev pub AreApart : Constructs → Pair → Type 0
+AreApart on p = (ls : PairLines on p) × LineBetween on p ls
+
+-- some two neighbouring children are apart
+pub record SomeAre (apart : Pair → Type 0) (kids : Blocks) : Type 0 where
   pub pair : Pair
   pub here : kids ≡ around pair
   pub are_neighbours : AreNeighbours pair
-  pub line : ℕ
-  pub after_first : last_line inside top pair < line
-  pub before_second : line < first_line inside top pair
+  pub are_apart : apart pair
 
--- a list of these items is loose: some two neighbouring items, or some two neighbouring children of one item, have a line between them
-pub data IsLoose (inside : Block → ℕ) (top : ℕ) (items : Blocks) : Type 0 where
-  BetweenItems : HasLineBetween inside top items → IsLoose inside top items
+-- some two neighbouring items, or some two neighbouring children of one item, are apart
+pub data SomeAreInList (apart : Pair → Type 0) (items : Blocks) : Type 0 where
+  BetweenItems : SomeAre apart items → SomeAreInList apart items
   InItem : (before : Blocks) (c : Container) (kids after : Blocks) → items ≡ join before (Cons (Holds c kids) after)
-      → HasLineBetween inside (top + line_endings inside before) kids → IsLoose inside top items
+      → SomeAre apart kids → SomeAreInList apart items
 
--- that is what the definition tells, whatever line the list begins on, and however many line endings each block has inside
+-- a list is loose exactly if a line is between some two neighbouring items, or between some two neighbouring children of one item
 pub record LoosenessIsOfLines : Type 0 where
-  pub has_line : (inside : Block → ℕ) (top : ℕ) (items : Blocks) → is_loose items ≡ true → IsLoose inside top items
-  pub is_told : (inside : Block → ℕ) (top : ℕ) (items : Blocks) → IsLoose inside top items → is_loose items ≡ true
+  pub has_line : (on : Constructs) (items : Blocks) → is_loose items ≡ true → SomeAreInList (AreAlwaysApart on) items
+  pub is_told : (on : Constructs) (items : Blocks) → SomeAreInList (AreApart on) items → is_loose items ≡ true

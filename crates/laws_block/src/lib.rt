@@ -6,3 +6,4 @@ pub mod constructs;
 pub mod gfm_table;
 pub mod lists;
 pub mod rows;
+pub mod text_lines;

@@ -29,8 +29,8 @@ pub fn grouped_law()
 {}
 
 /// A list is loose exactly if some two neighbouring items, or some two neighbouring children of one
-/// item, have a line between them: one whose number lies between that of the first one's last line
-/// and that of the second one's first line (CommonMark 5.3).
+/// item, have a line between them: one after the last line of the first, and before the first line
+/// of the second (CommonMark 5.3).
 #[tactic(auto, using(crate::proofs::Looseness::looseness_is_of_lines))]
 pub fn looseness_law()
     ensures { LoosenessIsOfLines }

@@ -1,20 +1,46 @@
 pub mod Lines
-pub mod Codes
-pub mod Labels
+mod Codes
+mod Labels
 mod Definitions
-pub mod Cuts
-pub mod Rests
+mod Cuts
+mod Rests
 mod Openings
 mod Closing
 mod GfmTable
 mod Growing
 pub mod Blocks
-pub mod Leaves
-pub mod Literals
-pub mod Addresses
+mod Leaves
+mod Literals
+mod Addresses
 mod LabelEnds
 mod Tokens
 pub mod Contents
 pub mod Matching
 pub mod CutCharacters
-pub mod GfmTaskListItem
+mod GfmTaskListItem
+mod Each
+mod Characters
+mod AlikeLiterals
+pub mod Neighbours
+mod Fits
+mod LiteralTexts
+mod Parts
+mod AddressReads
+mod InlineReads
+mod BlockReads
+mod TextLines
+mod Bytes
+mod Saids
+mod Pieces
+mod ParagraphEnds
+mod GfmLabelStartFootnote
+mod GfmFootnoteDefinition
+mod Printed
+mod PrintedTable
+mod Pages
+mod PrintedBlocks
+mod Marks
+pub mod NoFootnotes
+pub mod PageLaw
+pub mod Rows
+pub mod CodeSymbols

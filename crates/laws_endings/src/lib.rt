@@ -1,4 +1,8 @@
-//! What a text is with another line ending in place of each LF: the same with that ending.
+//! A text with another line ending in place of each LF: it is the same with that ending, and prints the text's page with it.
+//! What its codes stand for.
 #![tactic(auto)]
 
+pub mod kinds;
 pub mod laws;
+pub mod page;
+pub mod symbols;

@@ -4,3 +4,10 @@ pub mod Tabs
 pub mod Endings
 pub mod Lines
 pub mod Quotes
+pub mod Lists
+pub mod Siblings
+pub mod Bytes
+pub mod Printed
+pub mod PlainPages
+pub mod PageLaw
+pub mod Rows

@@ -1,2 +1,5 @@
 pub mod Quoted
 pub mod Laws
+pub mod Squeeze
+pub mod PageLaws
+pub mod Refused

@@ -9,10 +9,10 @@ use Rattle.html_bytes.specs.Html.{marked_html}
 use Rattle.html_bytes.proofs.SamePage.{html_is}
 use Rattle.laws_safe_page.specs.SafeHtml.{AreSafe, HasOneReading}
 use Rattle.laws_safe_page.proofs.SafeHtml.{safe_page_law}
-use Rattle.laws_quote_page.specs.Squeeze.{squeeze}
-use Rattle.laws_quote_page.proofs.Law.{quote_page_law}
-use Rattle.laws_list_page.proofs.Law.{list_page_law}
-use Rattle.laws_endings_page.proofs.Law.{ending_page_law}
+use Rattle.laws_quote.specs.Squeeze.{squeeze}
+use Rattle.laws_quote.proofs.PageLaw.{quote_page_law}
+use Rattle.laws_list.proofs.PageLaw.{list_page_law}
+use Rattle.laws_endings.proofs.PageLaw.{ending_page_law}
 use Rattle.laws_escape.proofs.EscapedPage.{escaped_page_law}
 use Rattle.markdown.specs.PageLaws.{QuotesPage, SaysEscapedLine, EndsPage, ListsPage}
 

@@ -7,13 +7,13 @@ use Rattle.definition_text.specs.Lines.{has_mark}
 use Rattle.markdown_definition.specs.Html.{html}
 use Rattle.markdown_definition.specs.TextTables.{TextTables}
 use Rattle.laws_list.specs.Listed.{list_lines}
-use Rattle.laws_list_page.specs.Laws.{IsListable, list_around}
+use Rattle.laws_list.specs.PageLaws.{IsListable, list_around}
 use Rattle.laws_endings.specs.Endings.{with_ending}
-use Rattle.laws_endings_page.specs.Laws.{EndsInFeeds, FootnotesHoldNoFeed}
+use Rattle.laws_endings.specs.PageLaws.{EndsInFeeds, FootnotesHoldNoFeed}
 use Rattle.laws_inline.specs.Escaped.{with_backslashes, IsTrimmedLine}
 use Rattle.laws_quote.specs.Quoted.{quote_lines}
-use Rattle.laws_quote_page.specs.Laws.{IsQuotable, quote_around}
-use Rattle.laws_quote_page.specs.Squeeze.{squeeze}
+use Rattle.laws_quote.specs.PageLaws.{IsQuotable, quote_around}
+use Rattle.laws_quote.specs.Squeeze.{squeeze}
 
 -- the page of a text with `> ` before every line is a block quote around the page of that text, but for line endings beside tags
 abbrev pub QuotesPage : TextTables → Options → List ℕ → List ℕ → Type 0

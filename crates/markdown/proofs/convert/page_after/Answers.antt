@@ -22,7 +22,7 @@ use Rattle.html_contents.specs.Texts.{KnowsTargets}
 use Rattle.html_looseness.specs.Printable.{ArePrintable}
 use Rattle.html_page.proofs.RowsOf.{printable_rows_of}
 use Rattle.html_page.proofs.Printable.{blocks_printable}
-use Rattle.laws_endings_page.proofs.NoFootnotes.{no_footnotes}
+use Rattle.laws_endings.proofs.NoFootnotes.{no_footnotes}
 use Rattle.markdown.proofs.FootnoteLabels.{bare_rows}
 use Rattle.markdown.proofs.convert.page_after.Goals as goal
 

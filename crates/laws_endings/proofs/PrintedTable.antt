@@ -1,0 +1,139 @@
+-- Tables of a page with another line ending in place of each LF (GFM 4.10).
+use Rattle.std.proofs.Common.{◌≡◌, ℕ, Bool, false, List, [], ◌∷◌, refl, ap, ◌∙◌, map}
+use Rattle.std.proofs.lemmas.Bool.{cond_both}
+use Rattle.markdown_options.specs.declared.line_ending.LineEnding.{LineEnding}
+use Rattle.definition_text.specs.BlockLines.{BlockLine}
+use Rattle.definition_text.specs.Columns.{is_blank}
+use Rattle.definition_text.specs.Content.{may_escape}
+use Rattle.markdown_options.specs.declared.beside.Kind.{Kind}
+use Rattle.markdown_options.specs.declared.beside.Kind.TheVariants.{Punctuation}
+use Rattle.definition_inline.specs.Inline.{Inline, Data, Escape, Character, Code, Math, Autolink, Literal, Html, EscapedBreak, TrailingBreak, LineEnd, Emphasis}
+use Rattle.definition_inline.specs.Inline.{Strong, Strikethrough, Link, Image, Call, Inlines, Nil, Cons}
+use Rattle.definition_block.specs.GfmTable.{Cell, in_first_cell, is_bar, parts, without_blank_first, without_blank_last, line_cells}
+use Rattle.definition_page.specs.GfmTable.{TableRow, Table, escapes_bar, cell_code, part_in_cell, in_cell, head_line, delimiter_line}
+use Rattle.laws_endings.specs.Endings.{if_ending_with, line_with, lines_with}
+use Rattle.laws_endings.specs.Inlines.{target_with, inline_with, inlines_with}
+use Rattle.laws_endings.proofs.Each.{Each}
+use Rattle.laws_endings.proofs.Fits.{Plain}
+use Rattle.laws_endings.proofs.Parts.{IsFit, AreFit}
+use Rattle.laws_endings.proofs.BlockReads.{IsFed, LineFits, LinesFit}
+
+-- ---- what is fit
+
+abbrev pub RowFits : TableRow → Type 0
+RowFits row = Each AreFit row.cells × IsFed row.ending
+
+abbrev pub TableFits : Table → Type 0
+TableFits t = RowFits t.head × IsFed t.ending × Each RowFits t.rows
+
+code_fits : (text : List ℕ) → Each Plain text → Each Plain (cell_code text)
+code_fits [] p = tt
+code_fits (c ∷ cs) p =
+    cond_both (escapes_bar c cs) (cell_code cs) (c ∷ cell_code cs) (Each Plain) (λ _. code_fits cs p.1) (λ _. (p.0, code_fits cs p.1))
+
+mutual
+  part_fits : (i : Inline) → IsFit i → IsFit (part_in_cell i)
+  part_fits (Data b) p = p
+  part_fits (Escape b) p = p
+  part_fits (Character text) p = p
+  part_fits (Code text) p = code_fits text p
+  part_fits (Math text) p = code_fits text p
+  part_fits (Autolink is_email text) p = p
+  part_fits (Literal kind text) p = p
+  part_fits (Html html) p = p
+  part_fits EscapedBreak p = tt
+  part_fits TrailingBreak p = tt
+  part_fits (LineEnd code) p = p
+  part_fits (Emphasis kids) p = in_cell_fits kids p
+  part_fits (Strong kids) p = in_cell_fits kids p
+  part_fits (Strikethrough kids) p = in_cell_fits kids p
+  part_fits (Link target kids) p = (p.0, in_cell_fits kids p.1)
+  part_fits (Image target kids) p = (p.0, in_cell_fits kids p.1)
+  part_fits (Call label) p = tt
+
+  pub in_cell_fits : (is : Inlines) → AreFit is → AreFit (in_cell is)
+  in_cell_fits Nil p = tt
+  in_cell_fits (Cons i is) p = (part_fits i p.0, in_cell_fits is p.1)
+
+-- ---- the codes of cells
+
+abbrev pub CellFits : Cell → Type 0
+CellFits c = Each Plain c.codes
+
+first_fits : (code : ℕ) (before : Kind) (cs : List Cell) → Plain code → Each CellFits cs → Each CellFits (in_first_cell code before cs)
+first_fits code before [] h p = tt
+first_fits code before (c ∷ cs) h p = ((h, p.0), p.1)
+
+parts_fit : (before : Kind) (escaped : Bool) (codes : List ℕ) → Each Plain codes → Each CellFits (parts before escaped codes)
+parts_fit before escaped [] p = (tt, tt)
+parts_fit before escaped (c ∷ cs) p =
+    cond_both (is_bar escaped c) _ _ (Each CellFits) (λ _. (tt, parts_fit Punctuation false cs p.1))
+    (λ _. first_fits c before (parts before (may_escape escaped c) cs) p.0 (parts_fit before (may_escape escaped c) cs p.1))
+
+without_first_fits : (cs : List Cell) → Each CellFits cs → Each CellFits (without_blank_first cs)
+without_first_fits [] p = tt
+without_first_fits (c ∷ cs) p = cond_both (is_blank c.codes) cs (c ∷ cs) (Each CellFits) (λ _. p.1) (λ _. p)
+
+without_last_fits : (cs : List Cell) → Each CellFits cs → Each CellFits (without_blank_last cs)
+without_last_fits [] p = tt
+without_last_fits (c ∷ []) p = cond_both (is_blank c.codes) [] (c ∷ []) (Each CellFits) (λ _. tt) (λ _. p)
+without_last_fits (c ∷ d ∷ cs) p = (p.0, without_last_fits (d ∷ cs) p.1)
+
+pub cells_fit : (line : BlockLine) → LineFits line → Each CellFits (line_cells line)
+cells_fit line p =
+    let all = parts line.before false line.codes in
+    without_last_fits (without_blank_first all) (without_first_fits all (parts_fit line.before false line.codes p.0))
+
+-- ---- the lines of a table
+
+pub head_fits : (ls : List BlockLine) → LinesFit ls → LineFits (head_line ls)
+head_fits [] p = (tt, (tt, tt))
+head_fits (line ∷ ls) p = p.0
+
+pub delimiters_fit : (ls : List BlockLine) → LinesFit ls → LineFits (delimiter_line ls)
+delimiters_fit [] p = (tt, (tt, tt))
+delimiters_fit (line ∷ []) p = (tt, (tt, tt))
+delimiters_fit (line ∷ next ∷ ls) p = p.1.0
+
+module _ (e : LineEnding) where
+  pub head-with : (ls : List BlockLine) → head_line (lines_with e ls) ≡ line_with e (head_line ls)
+  head-with [] = refl
+  head-with (line ∷ ls) = refl
+
+  pub delimiters-with : (ls : List BlockLine) → delimiter_line (lines_with e ls) ≡ line_with e (delimiter_line ls)
+  delimiters-with [] = refl
+  delimiters-with (line ∷ []) = refl
+  delimiters-with (line ∷ next ∷ ls) = refl
+
+  -- ---- tables
+
+  abbrev pub row_with : TableRow → TableRow
+  row_with row = record { cells = map (inlines_with e) row.cells; ending = if_ending_with e row.ending }
+
+  abbrev pub table_with : Table → Table
+  table_with t =
+      record { aligns = t.aligns; head = row_with t.head; ending = if_ending_with e t.ending; rows = map row_with t.rows }
+
+  mutual
+    part-with : (i : Inline) → part_in_cell (inline_with e i) ≡ inline_with e (part_in_cell i)
+    part-with (Data b) = refl
+    part-with (Escape b) = refl
+    part-with (Character text) = refl
+    part-with (Code text) = refl
+    part-with (Math text) = refl
+    part-with (Autolink is_email text) = refl
+    part-with (Literal kind text) = refl
+    part-with (Html html) = refl
+    part-with EscapedBreak = refl
+    part-with TrailingBreak = refl
+    part-with (LineEnd code) = refl
+    part-with (Emphasis kids) = ap Emphasis (in_cell-with kids)
+    part-with (Strong kids) = ap Strong (in_cell-with kids)
+    part-with (Strikethrough kids) = ap Strikethrough (in_cell-with kids)
+    part-with (Link target kids) = ap (Link (target_with e target)) (in_cell-with kids)
+    part-with (Image target kids) = ap (Image (target_with e target)) (in_cell-with kids)
+    part-with (Call label) = refl
+
+    pub in_cell-with : (is : Inlines) → in_cell (inlines_with e is) ≡ inlines_with e (in_cell is)
+    in_cell-with Nil = refl
+    in_cell-with (Cons i is) = ap (λ x. Cons x (in_cell (inlines_with e is))) (part-with i) ∙ ap (Cons (inline_with e (part_in_cell i))) (in_cell-with is)

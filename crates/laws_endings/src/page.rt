@@ -1,0 +1,17 @@
+//! The law of the page of a text with another line ending in place of each LF.
+ghost use Rattle.laws_endings.specs.PageLaws.{EndingPageLaw};
+ghost use Rattle.laws_endings.specs.Refused.{RefusedRows};
+
+/// A text in UTF-8 that has an LF, no CR and no `&`, with an ending in place of each LF, prints its
+/// page with that ending in place of each LF. Where footnotes can be defined, what the options say
+/// around them holds no LF, either.
+#[tactic(auto, using(crate::proofs::PageLaw::ending_page_law))]
+pub fn ending_page_law()
+    ensures { EndingPageLaw }
+{}
+
+/// Pages of texts with CR LF that the law refuses by itself.
+#[tactic(auto, using(crate::proofs::Rows::refused_rows))]
+pub fn refused_rows()
+    ensures { RefusedRows }
+{}

@@ -1,8 +1,0 @@
-//! The law of the kinds of characters that count in a content.
-ghost use Rattle.laws_endings_reads.specs.Kinds.{KindsLaw};
-
-/// The inline structure of a content depends on no kind inside of a character.
-#[tactic(auto, using(crate::proofs::Neighbours::kinds_law))]
-pub fn kinds_law()
-    ensures { KindsLaw }
-{}

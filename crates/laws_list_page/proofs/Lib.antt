@@ -1,3 +1,0 @@
-pub mod GfmTaskListItem
-mod Gaps
-pub mod Law

@@ -1,0 +1,30 @@
+//! The law of the page of a text with `> ` before every line.
+ghost use Rattle.laws_quote.specs.PageLaws.{QuotePageLaw, QuotePagesLaw, SqueezeRows};
+ghost use Rattle.laws_quote.specs.Refused.{RefusedRows};
+
+/// Where block quotes are on, and frontmatter and footnote definitions off, a text that has a byte,
+/// no tab and no byte order mark, with `> ` before every line, prints a block quote around what it
+/// prints alone: the two pages are the same without the runs of line endings at their start and
+/// end, after `>` and before `<`.
+#[tactic(auto, using(crate::proofs::PageLaw::quote_page_law))]
+pub fn quote_page_law()
+    ensures { QuotePageLaw }
+{}
+
+/// The same with `> ` n times before every line: n block quotes, one in another.
+#[tactic(auto, using(crate::proofs::PageLaw::quote_pages_law))]
+pub fn quote_pages_law()
+    ensures { QuotePagesLaw }
+{}
+
+/// What is left of some bytes without such runs.
+#[tactic(auto, using(crate::proofs::Rows::squeeze_rows))]
+pub fn squeeze_rows()
+    ensures { SqueezeRows }
+{}
+
+/// Pages of quoted texts that the law refuses by itself.
+#[tactic(auto, using(crate::proofs::Rows::refused_rows))]
+pub fn refused_rows()
+    ensures { RefusedRows }
+{}

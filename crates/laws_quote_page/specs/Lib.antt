@@ -1,3 +1,0 @@
-pub mod Squeeze
-pub mod Laws
-pub mod Refused
