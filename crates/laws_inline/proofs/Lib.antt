@@ -3,6 +3,7 @@ mod Literals
 mod NestedLiterals
 mod MayStand
 pub mod Occurs
+pub mod Strings
 pub mod Pairs
 pub mod Emphasis
 pub mod Escaped
