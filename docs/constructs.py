@@ -114,6 +114,7 @@ SHARED = {
 # Laws whose names have another word before `_law` than the construct that they speak of.
 LAW_NAMES = {
     "escape": "character_escape",
+    "escaped_page": "character_escape",
     "first_match": "label_end",
     "grouped": "list_item",
     "heading": "heading_atx heading_setext",

@@ -6,8 +6,6 @@ pub mod Occurs
 pub mod Strings
 pub mod Pairs
 pub mod Emphasis
-pub mod Escaped
-pub mod EscapedString
 pub mod NestedLinks
 pub mod Matching
 pub mod References
