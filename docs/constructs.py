@@ -124,6 +124,7 @@ LAW_NAMES = {
     "list_page": "list_item",
     "listed_lines": "list_item",
     "looseness": "list_item",
+    "looseness_told": "list_item",
     "marker": "list_item",
     "neighbours": "list_item",
     "nested_links": "label_end",

@@ -80,7 +80,7 @@ module _ (on : Constructs) where
   join_on Nil cs a m c p q = subst (λ n. AreOn on cs n c) (sym p) q
   join_on (Cons b bs) cs a m c p q = (p.0, p.1, join_on bs cs p.0 m c p.2 q)
 
-  split_on : (bs cs : Blocks) (a c : ℕ) → AreOn on (join bs cs) a c → (m : ℕ) × AreOn on bs a m × AreOn on cs m c
+  pub split_on : (bs cs : Blocks) (a c : ℕ) → AreOn on (join bs cs) a c → (m : ℕ) × AreOn on bs a m × AreOn on cs m c
   split_on Nil cs a c p = (a, refl, p)
   split_on (Cons b bs) cs a c p = let m = split_on bs cs p.0 c p.2 in (m.0, (p.0, p.1, m.1), m.2)
 
