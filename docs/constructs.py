@@ -114,13 +114,17 @@ SHARED = {
 # Laws whose names have another word before `_law` than the construct that they speak of.
 LAW_NAMES = {
     "escape": "character_escape",
+    "escaped_page": "character_escape",
     "first_match": "label_end",
     "grouped": "list_item",
     "heading": "heading_atx heading_setext",
+    "heading_lines": "heading_atx heading_setext",
     "labels_match": "label_end",
     "list": "list_item",
     "list_page": "list_item",
     "listed_lines": "list_item",
+    "looseness": "list_item",
+    "looseness_told": "list_item",
     "marker": "list_item",
     "neighbours": "list_item",
     "nested_links": "label_end",

@@ -1,13 +1,14 @@
 -- When a list is loose, by the lines of its blocks.
-use Rattle.std.proofs.Common.{◌≡◌, ℕ, suc, ◌+◌, ◌≤◌, Bool, true, false, not, leb, ◌&&◌, ◌||◌, refl, sym, ap, ◌∙◌, inl, inr, arith}
+use Rattle.std.proofs.Common.{◌≡◌, ℕ, suc, ◌+◌, ◌≤◌, Bool, true, false, not, leb, ◌&&◌, ◌||◌, refl, sym, ap, ◌∙◌, subst, inl, inr, arith}
 use Rattle.std.proofs.lemmas.Bool.{cases_Bool, cond-true, cond-false, and_parts, and_from, false≢true, le-leb, leb-true}
 use Rattle.markdown_options.specs.declared.configuration.Constructs.{Constructs}
 use Rattle.definition_block.specs.Container.{Container}
 use Rattle.definition_block.specs.Tree.{Block, Holds, Ending, Blank, Blocks, Nil, Cons, join, is_ending, all_endings}
 use Rattle.definition_block.specs.Lists.{endings_at_front, is_some_block, has_gap, has_gap_inside, is_loose}
 use Rattle.laws_block.specs.TextLines.{AreOn}
-use Rattle.laws_block.specs.Looseness.{AreAlwaysApart, AreApart, SomeAre, SomeAreInList, BetweenItems}
-use Rattle.laws_block.specs.Looseness.{InItem, LoosenessIsOfLines}
+use Rattle.laws_block.proofs.TextLines.{split_on}
+use Rattle.laws_block.specs.Looseness.{Pair, around, PairLines, AreAlwaysApart, AreApart, SomeAre, SomeAreInList, BetweenItems}
+use Rattle.laws_block.specs.Looseness.{InItem, LoosenessIsOfLines, OnlyLoosenessIsTold}
 
 or_right : (a b : Bool) → b ≡ true → (a || b) ≡ true
 or_right true b h = refl
@@ -203,3 +204,43 @@ is_told on items (InItem before c kids after here h) =
 
 pub looseness_is_of_lines : LoosenessIsOfLines
 looseness_is_of_lines = record { has_line = has_line; is_told = is_told }
+
+-- ---- no other definition
+
+-- the lines of two neighbours among children that stand on lines
+pair_lines : (on : Constructs) (p : Pair) (a b : ℕ) → AreOn on (around p) a b → PairLines on p
+pair_lines on p a b h =
+    let front = split_on on p.before (Cons p.first (join p.between (Cons p.second p.after))) a b h in
+    let behind = split_on on p.between (Cons p.second p.after) front.2.0 b front.2.2 in
+    record {
+      top = a;
+      first_line = front.0;
+      last_line = front.2.0;
+      next_line = behind.0;
+      before_are_on = front.1;
+      first_is_on = front.2.1;
+      between_are_on = behind.1;
+    }
+
+are_apart : (on : Constructs) (kids : Blocks) (a b : ℕ) → AreOn on kids a b → SomeAre (AreAlwaysApart on) kids → SomeAre (AreApart on) kids
+are_apart on kids a b h some =
+    let ls = pair_lines on some.pair a b (subst (λ bs. AreOn on bs a b) some.here h) in
+    record { pair = some.pair; here = some.here; are_neighbours = some.are_neighbours; are_apart = (ls, some.are_apart ls) }
+
+apart_in_list : (on : Constructs) (items : Blocks) (a b : ℕ) → AreOn on items a b → SomeAreInList (AreAlwaysApart on) items
+    → SomeAreInList (AreApart on) items
+apart_in_list on items a b h (BetweenItems some) = BetweenItems (are_apart on items a b h some)
+apart_in_list on items a b h (InItem before c kids after here some) =
+    let item = split_on on before (Cons (Holds c kids) after) a b (subst (λ bs. AreOn on bs a b) here h) in
+    InItem before c kids after here (are_apart on kids item.0 item.2.0 item.2.1 some)
+
+same_answer : (x y : Bool) → (x ≡ true → y ≡ true) → (y ≡ true → x ≡ true) → x ≡ y
+same_answer true true p q = refl
+same_answer true false p q = sym (p refl)
+same_answer false true p q = q refl
+same_answer false false p q = refl
+
+pub only_looseness_is_told : OnlyLoosenessIsTold
+only_looseness_is_told told tells on items a b h =
+    same_answer (told items) (is_loose items) (λ e. is_told on items (apart_in_list on items a b h (tells.has_line on items e)))
+    (λ e. tells.is_told on items (apart_in_list on items a b h (has_line on items e)))

@@ -1,7 +1,7 @@
 -- On which lines of a text its blocks stand.
 use Rattle.std.proofs.Common.{◌≡◌, ◌≢◌, ℕ, suc, zero, ◌+◌, ◌-◌, ◌≤◌, Bool, true, false, cond, not, leb, eqb, ◌&&◌, ◌||◌, List, [], ◌∷◌, ◌++◌, Option, None, Some}
 use Rattle.std.proofs.Common.{length, take, drop, refl, sym, ap, ◌∙◌, subst, inl, inr, arith}
-use Rattle.std.proofs.lemmas.Bool.{cases_Bool, cond-true, cond-false, cond_both, and_parts, or_cases, eqb-true, eqb-false, false≢true}
+use Rattle.std.proofs.lemmas.Bool.{both_ways, cases_Bool, cond-true, cond-false, cond_both, and_parts, or_cases, eqb-true, eqb-false, false≢true}
 use Rattle.std.proofs.lemmas.List.{length-append, length-drop, length-take}
 use Rattle.markdown_options.specs.declared.line_ending.LineEnding.{LineEnding}
 use Rattle.markdown_options.specs.declared.line_ending.LineEnding.TheVariants.{LineFeed}
@@ -43,7 +43,7 @@ use Rattle.definition_block.specs.Lists.{group_items}
 use Rattle.text_pieces.specs.ParagraphLines.{AreLines}
 use Rattle.block_rows.proofs.DefinitionLines.{definition_cuts}
 use Rattle.block_rows.proofs.OpenLines.{AreTextLines, AreLinesTo, are_lines, lines_of_text, open_step}
-use Rattle.laws_block.specs.TextLines.{IsOn, AreOn, lines_after, lines_read, BlocksAreOnLines}
+use Rattle.laws_block.specs.TextLines.{IsOn, AreOn, lines_after, lines_read, BlocksAreOnLines, HeadingsAreOfLines}
 
 -- what holds of a value, where there is one
 abbrev WhereSome : {A : Type 0} → (A → Type 0) → Option A → Type 0
@@ -80,7 +80,7 @@ module _ (on : Constructs) where
   join_on Nil cs a m c p q = subst (λ n. AreOn on cs n c) (sym p) q
   join_on (Cons b bs) cs a m c p q = (p.0, p.1, join_on bs cs p.0 m c p.2 q)
 
-  split_on : (bs cs : Blocks) (a c : ℕ) → AreOn on (join bs cs) a c → (m : ℕ) × AreOn on bs a m × AreOn on cs m c
+  pub split_on : (bs cs : Blocks) (a c : ℕ) → AreOn on (join bs cs) a c → (m : ℕ) × AreOn on bs a m × AreOn on cs m c
   split_on Nil cs a c p = (a, refl, p)
   split_on (Cons b bs) cs a c p = let m = split_on bs cs p.0 c p.2 in (m.0, (p.0, p.1, m.1), m.2)
 
@@ -537,3 +537,9 @@ blocks_are_on_lines on before text bytes =
     let found = after_frontmatter on ls in
     group_on on (blocks on before text) (length ls - length (lines_read on text)) (length ls)
     (children_after_on on before ls found clean (after_frontmatter_later on ls clean))
+
+pub headings_are_of_lines : HeadingsAreOfLines
+headings_are_of_lines = record {
+  without_atx = λ on rank ls first last off p. elim p [ inl h ↦ absurd (both_ways on.heading_atx off h.0) | inr h ↦ h ];
+  without_setext = λ on rank ls first last off p. elim p [ inl h ↦ h | inr h ↦ absurd (both_ways on.heading_setext off h.0) ];
+}

@@ -1,5 +1,5 @@
 -- When a list is loose (CommonMark 5.3).
-use Rattle.std.specs.Prelude.{◌≡◌, ℕ, ◌<◌, true, false}
+use Rattle.std.specs.Prelude.{◌≡◌, ℕ, ◌<◌, Bool, true, false}
 use Rattle.markdown_options.specs.declared.configuration.Constructs.{Constructs}
 use Rattle.definition_block.specs.Container.{Container}
 use Rattle.definition_block.specs.Tree.{Block, Holds, Blocks, Cons, join, is_ending, all_endings}
@@ -64,7 +64,17 @@ pub data SomeAreInList (apart : Pair → Type 0) (items : Blocks) : Type 0 where
   InItem : (before : Blocks) (c : Container) (kids after : Blocks) → items ≡ join before (Cons (Holds c kids) after)
       → SomeAre apart kids → SomeAreInList apart items
 
--- a list is loose exactly if a line is between some two neighbouring items, or between some two neighbouring children of one item
-pub record LoosenessIsOfLines : Type 0 where
-  pub has_line : (on : Constructs) (items : Blocks) → is_loose items ≡ true → SomeAreInList (AreAlwaysApart on) items
-  pub is_told : (on : Constructs) (items : Blocks) → SomeAreInList (AreApart on) items → is_loose items ≡ true
+-- what tells of a list whether a line is between some two neighbouring items, or between some two neighbouring children of one item
+pub record TellsLooseness (told : Blocks → Bool) : Type 0 where
+  pub has_line : (on : Constructs) (items : Blocks) → told items ≡ true → SomeAreInList (AreAlwaysApart on) items
+  pub is_told : (on : Constructs) (items : Blocks) → SomeAreInList (AreApart on) items → told items ≡ true
+
+-- that is when a list is loose
+abbrev pub LoosenessIsOfLines : Type 0
+LoosenessIsOfLines = TellsLooseness is_loose
+
+-- whatever tells it tells the same of each list that stands on lines, as those of a text do: no other definition of looseness has the law
+abbrev pub OnlyLoosenessIsTold : Type 0
+OnlyLoosenessIsTold =
+    (told : Blocks → Bool) → TellsLooseness told → (on : Constructs) (items : Blocks) (first last : ℕ) → AreOn on items first last
+    → told items ≡ is_loose items

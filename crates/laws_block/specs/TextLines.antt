@@ -1,5 +1,5 @@
 -- On which lines of a text its blocks stand (CommonMark 3).
-use Rattle.std.specs.Prelude.{◌≡◌, ℕ, suc, ◌+◌, ◌-◌, ◌≤◌, ◌<◌, ◌⊎◌, true, if◌then◌else◌, leb, List, Option, None, Some, length, get_or}
+use Rattle.std.specs.Prelude.{◌≡◌, ℕ, suc, ◌+◌, ◌-◌, ◌≤◌, ◌<◌, ◌⊎◌, true, false, if◌then◌else◌, leb, List, Option, None, Some, length, get_or}
 use Rattle.markdown_options.specs.declared.configuration.Constructs.{Constructs}
 use Rattle.markdown_options.specs.declared.beside.Kind.{Kind}
 use Rattle.definition_text.specs.BlockLines.{BlockLine}
@@ -53,3 +53,10 @@ abbrev pub BlocksAreOnLines : Type 0
 BlocksAreOnLines =
     (on : Constructs) (before : Kind) (text : List ℕ) → ((k : ℕ) → get_or text k 0 < 256)
     → AreOn on (group_items (blocks on before text)) (length (lines text) - length (lines_read on text)) (length (lines text))
+
+-- where ATX headings are off, a heading has the lines of its content and that of an underline; where setext headings are off, it has one line
+pub record HeadingsAreOfLines : Type 0 where
+  pub without_atx : (on : Constructs) (rank : ℕ) (ls : List BlockLine) (first last : ℕ) → on.heading_atx ≡ false → IsOn on (Heading rank ls) first last
+      → IsSetextOn on rank ls first last
+  pub without_setext : (on : Constructs) (rank : ℕ) (ls : List BlockLine) (first last : ℕ) → on.heading_setext ≡ false → IsOn on (Heading rank ls) first last
+      → IsAtxOn on rank ls first last

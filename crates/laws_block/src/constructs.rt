@@ -69,13 +69,15 @@ pub fn heading_law()
     ensures { NoHeadings }
 {}
 
-/// Where setext headings are off, each heading of a text has one line.
+/// Where setext headings are off, each heading of a text has one line. On which lines of the text headings stand, with either
+/// construct off, `lines_law` and `heading_lines_law` say.
 #[tactic(auto, using(crate::proofs::Occurs::no_long_headings))]
 pub fn heading_setext_law()
     ensures { NoLongHeadings }
 {}
 
-/// Where ATX headings are off, no heading of a text has a rank above 2.
+/// Where ATX headings are off, no heading of a text has a rank above 2. That each has an underline then, too, `lines_law` and
+/// `heading_lines_law` say.
 #[tactic(auto, using(crate::proofs::Occurs::no_deep_headings))]
 pub fn heading_atx_law()
     ensures { NoDeepHeadings }

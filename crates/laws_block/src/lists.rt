@@ -1,7 +1,7 @@
 //! Items in lists.
 ghost use Rattle.laws_block.specs.GroupedRows.{ListsOnlyGroup};
 ghost use Rattle.laws_block.specs.ItemMarkers.{ItemsAreMarked};
-ghost use Rattle.laws_block.specs.Looseness.{LoosenessIsOfLines};
+ghost use Rattle.laws_block.specs.Looseness.{LoosenessIsOfLines, OnlyLoosenessIsTold};
 ghost use Rattle.laws_block.specs.Neighbours.{NeighboursAreListed, OthersPartLists};
 
 /// Two items between which only endings stand are in one list if they have the same marker, and otherwise the first ends a list and the second begins the next.
@@ -34,4 +34,11 @@ pub fn grouped_law()
 #[tactic(auto, using(crate::proofs::Looseness::looseness_is_of_lines))]
 pub fn looseness_law()
     ensures { LoosenessIsOfLines }
+{}
+
+/// Whatever tells this of lists tells the same as `is_loose`, of each list that stands on lines, as
+/// those of a text do: no other definition of looseness has this law.
+#[tactic(auto, using(crate::proofs::Looseness::only_looseness_is_told))]
+pub fn looseness_told_law()
+    ensures { OnlyLoosenessIsTold }
 {}

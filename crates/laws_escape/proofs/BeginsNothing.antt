@@ -23,9 +23,9 @@ use Rattle.definition_block.specs.HeadingAtx.{atx_of, heading_atx}
 use Rattle.definition_block.specs.HeadingSetext.{underline_of, underline}
 use Rattle.definition_block.specs.ThematicBreak.{is_break_text, is_break}
 use Rattle.definition_block.specs.Tree.{or_heading, or_fence, or_html, begins}
-use Rattle.laws_visible.proofs.PlainText.{and_no, bare_other}
-use Rattle.laws_inline.specs.Escaped.{is_line_byte}
-use Rattle.laws_inline.proofs.Escaped.{no_and, no_column}
+use Rattle.laws_escape.proofs.PlainText.{and_no, bare_other}
+use Rattle.laws_escape.specs.Escaped.{is_line_byte}
+use Rattle.laws_escape.proofs.Escaped.{no_and, no_column}
 
 -- the codes of a line whose first is no space and no punctuation but a backslash, and in which no delimiter follows the digits at its front
 pub record BeginsNothing (first : ℕ) (others : List ℕ) : Type 0 where

@@ -6,9 +6,9 @@ use Rattle.std.specs.Char.{is_ascii_punctuation}
 use Rattle.std.proofs.lemmas.Bool.{cases_Bool, cond-true, cond-false, and_parts, or_parts, or_from, ltb-true}
 use Rattle.definition_text.specs.Lines.{has_mark}
 use Rattle.definition_block.specs.ListItem.{is_digit, after_number}
-use Rattle.laws_visible.proofs.PlainText.{AreInLine, and_no}
-use Rattle.laws_inline.specs.Escaped.{with_backslashes, is_line_byte, IsTrimmedLine}
-use Rattle.laws_inline.proofs.Escaped.{no_and, other, line_byte, not_white, escaped_punctuation, escaped_other}
+use Rattle.laws_escape.proofs.PlainText.{AreInLine, and_no}
+use Rattle.laws_escape.specs.Escaped.{with_backslashes, is_line_byte, IsTrimmedLine}
+use Rattle.laws_escape.proofs.Escaped.{no_and, other, line_byte, not_white, escaped_punctuation, escaped_other}
 use Rattle.laws_escape.proofs.BeginsNothing.{BeginsNothing, apart_both}
 
 -- codes that begin nothing

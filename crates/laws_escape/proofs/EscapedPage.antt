@@ -25,9 +25,9 @@ use Rattle.html_bytes.specs.Pieces.{Piece, Bytes}
 use Rattle.html_bytes.proofs.SameLayout.{add, add_nil}
 use Rattle.html_bytes.proofs.SamePage.{html_is}
 use Rattle.html_bytes.proofs.WithoutCalls.{AddsBytes, adds_append, without_calls}
-use Rattle.laws_visible.proofs.PlainText.{content_codes}
-use Rattle.laws_inline.specs.Escaped.{with_backslashes, IsTrimmedLine}
-use Rattle.laws_inline.proofs.Escaped.{escape_law, escaped_calls_nothing}
+use Rattle.laws_escape.proofs.PlainText.{content_codes}
+use Rattle.laws_escape.specs.Escaped.{with_backslashes, IsTrimmedLine}
+use Rattle.laws_escape.proofs.Escaped.{escape_law, escaped_calls_nothing}
 use Rattle.laws_escape.specs.EscapedPage.{EscapedPageLaw}
 use Rattle.laws_escape.proofs.Paragraph.{one_paragraph}
 use Rattle.laws_escape.proofs.EscapedLine.{Begins, begins_nothing, escaped_in_line, no_mark}

@@ -1,4 +1,10 @@
-pub mod BeginsNothing
-pub mod Paragraph
-pub mod EscapedLine
+mod Plain
+mod InlineParts
+mod PlainText
+pub mod VisibleText
+pub mod Escaped
+pub mod EscapedString
+mod BeginsNothing
+mod Paragraph
+mod EscapedLine
 pub mod EscapedPage

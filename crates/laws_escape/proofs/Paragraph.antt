@@ -23,9 +23,9 @@ use Rattle.definition_block.specs.Tree.{is_some_line, table_if, Nil, Paragraph, 
 use Rattle.definition_block.specs.Tree.{with_paragraph, rest_line, leaf_tree_or, tree_or, heading_if, text_line_of, break_or_text, beside_in, leaf_line, start}
 use Rattle.definition_block.specs.Tree.{new}
 use Rattle.definition_block.specs.Tree.{grow, beside_line, step, blocks_at_end, children, children_after, blocks}
-use Rattle.laws_visible.proofs.PlainText.{and_no, bare_other}
-use Rattle.laws_inline.specs.Escaped.{is_line_byte}
-use Rattle.laws_inline.proofs.Escaped.{no_and, no_column, line_byte}
+use Rattle.laws_escape.proofs.PlainText.{and_no, bare_other}
+use Rattle.laws_escape.specs.Escaped.{is_line_byte}
+use Rattle.laws_escape.proofs.Escaped.{no_and, no_column, line_byte}
 use Rattle.laws_escape.proofs.BeginsNothing.{BeginsNothing, same_bytes, no_start, not_blank, no_underline, no_break, no_leaf}
 
 -- ---- one line without tabs

@@ -5,7 +5,7 @@ use Rattle.definition_text.specs.Encode.{encode}
 use Rattle.definition_text.specs.Lines.{has_mark}
 use Rattle.definition_page.specs.TextTables.{TextTables}
 use Rattle.definition_page.specs.Html.{html}
-use Rattle.laws_inline.specs.Escaped.{with_backslashes, IsTrimmedLine}
+use Rattle.laws_escape.specs.Escaped.{with_backslashes, IsTrimmedLine}
 
 -- a line that isn't empty, has no tab, no space at either end and no byte order mark at its front, escaped: its page is a paragraph that says the line,
 -- whatever is on besides escapes

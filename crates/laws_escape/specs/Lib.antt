@@ -1,1 +1,3 @@
+pub mod Visible
+pub mod Escaped
 pub mod EscapedPage

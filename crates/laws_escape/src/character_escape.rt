@@ -1,10 +1,17 @@
-//! The page of an escaped line.
-ghost use Rattle.laws_escape.specs.EscapedPage.{EscapedPageLaw};
+//! What is escaped is text.
+ghost use Rattle.laws_escape.specs.Escaped.{EscapeLaw, StringEscapeLaw};
 
-/// Where escapes are on, the page of a line with a backslash before each ASCII punctuation byte is
-/// a paragraph of the line as text: of a line that isn't empty and has no tab, no space at either
-/// end and no byte order mark at its front.
-#[tactic(auto, using(crate::proofs::EscapedPage::escaped_page_law))]
-pub fn escaped_page_law()
-    ensures { EscapedPageLaw }
+/// Where escapes are on, a line without tabs and without a space at either end, with a backslash
+/// before each ASCII punctuation byte, prints itself as text.
+#[tactic(auto, using(crate::proofs::Escaped::escape_law))]
+pub fn escape_law()
+    ensures { EscapeLaw }
+{}
+
+/// Where escapes are on, a text in which no space or tab stands beside a line ending, with a
+/// backslash before each ASCII punctuation byte, gives itself back as a title, a destination or an
+/// info.
+#[tactic(auto, using(crate::proofs::EscapedString::string_escape_law))]
+pub fn string_escape_law()
+    ensures { StringEscapeLaw }
 {}

@@ -3,10 +3,9 @@ mod Literals
 mod NestedLiterals
 mod MayStand
 pub mod Occurs
+pub mod Strings
 pub mod Pairs
 pub mod Emphasis
-pub mod Escaped
-pub mod EscapedString
 pub mod NestedLinks
 pub mod Matching
 pub mod References

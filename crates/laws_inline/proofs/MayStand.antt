@@ -62,7 +62,7 @@ abbrev mutual
   MayStand on (Cons i is) = PartMayStand on i × MayStand on is
 
 -- what only stands where a construct is on, and more holds
-guarded : {A : Type 0} (P : A → Type 0) (on more : Bool) (x : A) → (on ≡ true → P x) → WhereSome P (cond (on && more) (Some x) None)
+pub guarded : {A : Type 0} (P : A → Type 0) (on more : Bool) (x : A) → (on ≡ true → P x) → WhereSome P (cond (on && more) (Some x) None)
 guarded P on more x p = cond_both (on && more) (Some x) None (WhereSome P) (λ e. p (and_parts on more e).0) (λ _. tt)
 
 module _ (on : Constructs) where

@@ -1,7 +1,6 @@
 pub mod Occurs
 pub mod Pairs
 pub mod Emphasis
-pub mod Escaped
 pub mod NestedLinks
 pub mod Matching
 pub mod References

@@ -1,10 +1,14 @@
 -- Which parts a content can have (CommonMark 6): a construct that is off never occurs.
 use Rattle.std.specs.Prelude.{◌≡◌, Bool, true, false, ◌||◌, List}
+use Rattle.std.specs.List.{list_any, list_all}
 use Rattle.markdown_options.specs.declared.configuration.Constructs.{Constructs}
 use Rattle.definition_text.specs.InlineCode.{InlineCode}
-use Rattle.definition_inline.specs.Inline.{Inline, Escape, Character, Code, Math, Autolink, Literal, Html, EscapedBreak, TrailingBreak, Emphasis, Strong}
+use Rattle.definition_text.specs.Columns.{Code as TextCode}
+use Rattle.definition_inline.specs.CharacterReference.{Names}
+use Rattle.definition_inline.specs.Inline.{Inline, Data, Escape, Character, LineEnd, Code, Math, Autolink, Literal, Html, EscapedBreak, TrailingBreak, Emphasis, Strong}
 use Rattle.definition_inline.specs.Inline.{Strikethrough, Link, Image, Call, Inlines, Nil, Cons}
 use Rattle.definition_inline.specs.Scan.{InlineContext, inlines}
+use Rattle.definition_inline.specs.Strings.{string_parts}
 
 -- whether one of these parts passes a test, at any depth
 abbrev mutual
@@ -24,6 +28,11 @@ abbrev mutual
 abbrev pub Never : (Constructs → Bool) → (Inline → Bool) → Type 0
 Never construct test =
     (context : InlineContext) (content : List InlineCode) → construct context.options.constructs ≡ false → has test (inlines context content) ≡ false
+
+-- where this construct is off, no string, that is no title, destination or info, has a part that passes this test
+abbrev pub NeverInStrings : (Constructs → Bool) → (Inline → Bool) → Type 0
+NeverInStrings construct test =
+    (on : Constructs) (names : Names) (string : List TextCode) → construct on ≡ false → list_any test (string_parts on names 0 string) ≡ false
 
 -- ---- tests
 
@@ -166,3 +175,25 @@ NoCalls = Never (λ on. on.gfm_label_start_footnote) is_call
 -- without ends of labels no link, no image and no call of a footnote (CommonMark 6.3 and 6.4)
 abbrev pub NoLabelEnds : Type 0
 NoLabelEnds = Never (λ on. on.label_end) is_labelled
+
+-- ---- strings
+
+-- a byte, an escape, what a character reference stands for, or a line ending
+abbrev pub is_string_part : Inline → Bool
+is_string_part (Data b) = true
+is_string_part (Escape b) = true
+is_string_part (Character bytes) = true
+is_string_part (LineEnd code) = true
+is_string_part i = false
+
+-- without backslash escapes none in a title, a destination or an info (CommonMark 2.4)
+abbrev pub NoEscapesInStrings : Type 0
+NoEscapesInStrings = NeverInStrings (λ on. on.character_escape) is_escape
+
+-- without character references none in a title, a destination or an info (CommonMark 2.5)
+abbrev pub NoCharactersInStrings : Type 0
+NoCharactersInStrings = NeverInStrings (λ on. on.character_reference) is_character
+
+-- whatever is on, a title, a destination or an info has no other parts than these
+abbrev pub OnlyStringParts : Type 0
+OnlyStringParts = (on : Constructs) (names : Names) (string : List TextCode) → list_all is_string_part (string_parts on names 0 string) ≡ true

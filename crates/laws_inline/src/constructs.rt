@@ -1,5 +1,6 @@
-//! A construct that is off never occurs, at any depth.
+//! A construct that is off never occurs: in a content, at any depth, or in a string, that is a title, a destination or an info.
 ghost use Rattle.laws_inline.specs.Occurs.{NoEscapes, NoCharacters, NoCode, NoMath, NoAutolinks, NoLiterals, NoHtml, NoEscapedBreaks};
+ghost use Rattle.laws_inline.specs.Occurs.{NoEscapesInStrings, NoCharactersInStrings, OnlyStringParts};
 ghost use Rattle.laws_inline.specs.Occurs.{NoTrailingBreaks, NoSpans, NoStrikethrough, NoLinks, NoImages, NoCalls, NoLabelEnds};
 
 /// Where backslash escapes are off, no content has one.
@@ -90,4 +91,23 @@ pub fn gfm_label_start_footnote_law()
 #[tactic(auto, using(crate::proofs::Occurs::no_label_ends))]
 pub fn label_end_law()
     ensures { NoLabelEnds }
+{}
+
+/// Where backslash escapes are off, no title, destination or info has one.
+#[tactic(auto, using(crate::proofs::Strings::no_escapes))]
+pub fn character_escape_in_strings_law()
+    ensures { NoEscapesInStrings }
+{}
+
+/// Where character references are off, no title, destination or info has one.
+#[tactic(auto, using(crate::proofs::Strings::no_characters))]
+pub fn character_reference_in_strings_law()
+    ensures { NoCharactersInStrings }
+{}
+
+/// Whatever is on, a title, a destination or an info has only bytes, escapes, what references stand
+/// for, and line endings: no other construct occurs in it.
+#[tactic(auto, using(crate::proofs::Strings::only_string_parts))]
+pub fn string_parts_law()
+    ensures { OnlyStringParts }
 {}

@@ -2,7 +2,6 @@
 #![tactic(auto)]
 
 pub mod attention;
-pub mod character_escape;
 pub mod constructs;
 pub mod label_start_link;
 pub mod labels;

@@ -10,7 +10,7 @@ use Rattle.laws_list.specs.Listed.{list_lines}
 use Rattle.laws_list.specs.PageLaws.{IsListable, list_around}
 use Rattle.laws_endings.specs.Endings.{with_ending}
 use Rattle.laws_endings.specs.PageLaws.{EndsInFeeds, FootnotesHoldNoFeed}
-use Rattle.laws_inline.specs.Escaped.{with_backslashes, IsTrimmedLine}
+use Rattle.laws_escape.specs.Escaped.{with_backslashes, IsTrimmedLine}
 use Rattle.laws_quote.specs.Quoted.{quote_lines}
 use Rattle.laws_quote.specs.PageLaws.{IsQuotable, quote_around}
 use Rattle.laws_quote.specs.Squeeze.{squeeze}

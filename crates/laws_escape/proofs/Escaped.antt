@@ -33,10 +33,10 @@ use Rattle.definition_inline.specs.Scan.{Next, data_step, label_end_step, step, 
 use Rattle.html_bytes.specs.InlineHtml.{InlineMeaning, part_html, inline_html}
 use Rattle.definition_inline.proofs.Scanning.{scan_step, step_leaf, step_last}
 use Rattle.html_bytes.proofs.WithoutCalls.{part_calls, has_calls}
-use Rattle.laws_visible.proofs.InlineParts.{read_nothing, white_codes, parts_alone, html_followed, calls_followed}
-use Rattle.laws_visible.proofs.PlainText.{and_no, bare_white, bare_other}
-use Rattle.laws_inline.specs.Escaped.{with_backslashes, is_line_byte, begins_with_space, ends_with_space, IsTrimmedLine, EscapeLaw}
-use Rattle.laws_inline.proofs.Each.{Each, each-append}
+use Rattle.laws_escape.proofs.InlineParts.{read_nothing, white_codes, parts_alone, html_followed, calls_followed}
+use Rattle.laws_escape.proofs.PlainText.{and_no, bare_white, bare_other}
+use Rattle.laws_escape.specs.Escaped.{with_backslashes, is_line_byte, begins_with_space, ends_with_space, IsTrimmedLine, EscapeLaw}
+use Rattle.definition_text.proofs.Each.{Each, each-append}
 
 -- ---- a byte that isn't ASCII punctuation begins nothing
 

@@ -1,8 +1,8 @@
-//! Laws of the definition.
-ghost use Rattle.laws_visible.specs.Visible.{VisibleLaw};
+//! What is visible with every construct off.
+ghost use Rattle.laws_escape.specs.Visible.{VisibleLaw};
 
 /// Where every construct is off, what stands in a page outside of tags and line endings is what the text's nonblank lines hold, trimmed, encoded and joined.
-#[tactic(auto, using(crate::proofs::Visible::visible_law))]
+#[tactic(auto, using(crate::proofs::VisibleText::visible_law))]
 pub fn visible_law()
     ensures { VisibleLaw }
 {}

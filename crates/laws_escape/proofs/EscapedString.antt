@@ -14,11 +14,11 @@ use Rattle.definition_inline.specs.CharacterEscape.{escape_at}
 use Rattle.definition_inline.specs.CharacterReference.{reference_at}
 use Rattle.definition_inline.specs.HardBreak.{line_end_at}
 use Rattle.definition_inline.specs.Strings.{begins_with_eol, eol_bytes, spaces_at, string_bytes, string_leaf_at, string_text}
-use Rattle.laws_visible.proofs.PlainText.{bare_white, bare_other}
+use Rattle.laws_escape.proofs.PlainText.{bare_white, bare_other}
 use Rattle.definition_inline.proofs.Scanning.{string_step, string_byte}
-use Rattle.laws_inline.specs.Escaped.{with_backslashes, is_octet, has_bare_endings, StringEscapeLaw}
+use Rattle.laws_escape.specs.Escaped.{with_backslashes, is_octet, has_bare_endings, StringEscapeLaw}
 use Rattle.definition_block.specs.ContainerLine.{begins_with_white}
-use Rattle.laws_inline.proofs.Escaped.{or_none, or_first, no_escape, no_reference, escaped_punctuation, escaped_other}
+use Rattle.laws_escape.proofs.Escaped.{or_none, or_first, no_escape, no_reference, escaped_punctuation, escaped_other}
 
 -- ---- the codes of an escaped text
 

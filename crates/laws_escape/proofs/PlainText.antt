@@ -35,7 +35,7 @@ use Rattle.definition_inline.specs.Targets.{is_label_of, is_footnote_of}
 use Rattle.html_bytes.proofs.SameLayout.{add}
 use Rattle.html_bytes.proofs.WithoutCalls.{part_calls, has_calls, AddsBytes, without_calls}
 use Rattle.definition_inline.proofs.Scanning.{drop-codes_of}
-use Rattle.laws_visible.proofs.InlineParts.{read_nothing, white_codes, html_of_parts, calls_of_parts}
+use Rattle.laws_escape.proofs.InlineParts.{read_nothing, white_codes, html_of_parts, calls_of_parts}
 
 -- a line of text: the spaces and tabs at its ends are dropped
 abbrev pub line_text : BlockLine → List ℕ

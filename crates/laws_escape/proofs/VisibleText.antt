@@ -37,9 +37,9 @@ use Rattle.definition_page.specs.TextTables.{TextTables}
 use Rattle.html_bytes.specs.Document.{Document, document, text_of}
 use Rattle.html_bytes.proofs.SamePage.{html_is}
 use Rattle.html_bytes.proofs.WithoutCalls.{AddsBytes}
-use Rattle.laws_visible.specs.Visible.{visible, is_not_blank, said_by, all_said_by, VisibleLaw}
-use Rattle.laws_visible.proofs.PlainText.{line_text, plain_text, AreInLine, AreText, line_drop, first_line, other_lines, text_is_plain}
-use Rattle.laws_visible.proofs.Plain.{paragraph, blank_tree, text_tree, plain_tree, plain_grow}
+use Rattle.laws_escape.specs.Visible.{visible, is_not_blank, said_by, all_said_by, VisibleLaw}
+use Rattle.laws_escape.proofs.PlainText.{line_text, plain_text, AreInLine, AreText, line_drop, first_line, other_lines, text_is_plain}
+use Rattle.laws_escape.proofs.Plain.{paragraph, blank_tree, text_tree, plain_tree, plain_grow}
 
 -- ---- the lines of a text
 

@@ -1,4 +1,0 @@
-pub mod Plain
-pub mod InlineParts
-pub mod PlainText
-pub mod Visible

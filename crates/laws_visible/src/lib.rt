@@ -1,4 +1,0 @@
-//! With every construct off, what is visible in a page.
-#![tactic(auto)]
-
-pub mod laws;
