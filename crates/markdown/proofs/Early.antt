@@ -1,5 +1,5 @@
 -- Conversions that end before anything was read.
-use Rattle.std.proofs.Common.{◌≡◌, ℕ, Bool, true, false, not, ◌&&◌, List, [], Option, None, Some, IfSome, refl, inr, arith}
+use Rattle.std.proofs.Common.{◌≡◌, ℕ, Bool, true, false, not, ◌&&◌, List, [], Option, None, Some, refl, sym, arith}
 use Rattle.std.proofs.KnownBytes.{Keeps-refl}
 use Rattle.markdown_options.specs.declared.configuration.Options.{Options}
 use Rattle.markdown_definition.specs.Html.{html}
@@ -8,8 +8,8 @@ use Rattle.markdown.specs.declared.convert.TheConstants.{SIZE_MAX}
 use Rattle.markdown.specs.declared.watched.Watched.{Watched}
 use Rattle.markdown.specs.Endings.{Ends, EndsBy}
 use Rattle.markdown.specs.Tables.{AreTables}
-use Rattle.markdown.specs.Transfer.{AppendsAllOrNothing, TellsMore}
-use Rattle.markdown.specs.Watched.{device, has_ended, has_failed}
+use Rattle.markdown.specs.Transfer.{TellsMore}
+use Rattle.markdown.specs.Watched.{device, has_ended, has_failed, has_flush_failed}
 
 nothing_told : (a : Option (List ℕ)) (most : ℕ) → TellsMore most a a → ⊥
 nothing_told None most more = absurd more
@@ -22,10 +22,6 @@ no_end false h = cc
 working : (failed : Bool) → failed ≡ false → failed ≡ true → ⊥
 working failed is isnt = cc
 
-kept : (known a : Option (List ℕ)) (page : List ℕ → List ℕ) → IfSome known (λ text. AppendsAllOrNothing a a (page text))
-kept None a page = tt
-kept (Some x) a page = inr (Keeps-refl a)
-
 -- nothing was read or written, and nothing failed
 ends_early : {D E : Type 0} (remaining : D → Option (List ℕ)) (contents : E → Option (List ℕ)) (reader : Watched D) (writer : Watched E) (page : List ℕ
     → List ℕ)
@@ -37,7 +33,9 @@ ends_early remaining contents reader writer page reads writes = record {
   utf8 = λ h. absurd (no_end (has_ended reader) h);
   unread = λ h. (refl, Keeps-refl (contents (device writer)));
   write = λ h. absurd (working (has_failed writer) writes h);
-  fault = λ h k. kept (remaining (device reader)) (contents (device writer)) page;
+  flush = λ h k. absurd (working (has_flush_failed writer) h k);
+  fault = λ _ _ _. Keeps-refl (contents (device writer));
+  flushed = λ h. sym h;
 }
 
 -- every path has tables, as those of an empty file

@@ -50,6 +50,11 @@ RefusesPast-after (Some x) (Some y) (Some z) bytes most len refused same fits to
 pub still_working : (old new some : Bool) (n : ℕ) → new ≡ (old || ((eqb n 0) && some)) → old ≡ false → (n ≡ 0 → ⊥) → new ≡ false
 still_working old new some n e was took = e ∙ or_from old (eqb n 0 && some) was (and_left (eqb n 0) some (ne_eqb n 0 took))
 
+-- and none that took nothing
+pub still_moving : (old new some : Bool) (n : ℕ) → new ≡ (old || ((eqb n 0) && some)) → (n ≡ 0 → ⊥) → new ≡ old
+still_moving true new some n e took = e
+still_moving false new some n e took = e ∙ and_left (eqb n 0) some (ne_eqb n 0 took)
+
 -- a read that gave some bytes is no end
 pub still_going : (old new : Bool) (n : ℕ) → new ≡ (old || eqb n 0) → (n ≡ 0 → ⊥) → new ≡ old
 still_going true new n e some = e

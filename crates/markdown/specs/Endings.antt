@@ -1,5 +1,5 @@
 -- How a conversion ends.
-use Rattle.std.specs.Prelude.{◌≡◌, ℕ, Bool, true, false, List, Option, IfSome}
+use Rattle.std.specs.Prelude.{◌≡◌, ◌||◌, ℕ, Bool, true, false, List, Option, IfSome}
 use Rattle.std.specs.Str.{IsUtf8}
 use Rattle.std.specs.Io.KnownBytes.{Appends, Keeps}
 use Rattle.markdown_options.specs.declared.configuration.Options.{Options}
@@ -8,8 +8,8 @@ use Rattle.markdown_definition.specs.Html.{html}
 use Rattle.markdown.specs.declared.convert.TheConstants.{SIZE_MAX}
 use Rattle.markdown.specs.declared.watched.Watched.{Watched}
 use Rattle.markdown.specs.Tables.{AreTables}
-use Rattle.markdown.specs.Transfer.{AppendsAllOrNothing, AppendsBeginning, TellsMore}
-use Rattle.markdown.specs.Watched.{came_to_end, device, has_ended, has_failed}
+use Rattle.markdown.specs.Transfer.{AppendsBeginning, TellsMore}
+use Rattle.markdown.specs.Watched.{came_to_end, device, has_ended, has_failed, has_flushed, has_flush_failed}
 
 -- how a conversion ends that reads from a reader and writes a page of what it read, by what the two were and are
 pub record Ends {D E : Type 0} (remaining : D → Option (List ℕ)) (contents : E → Option (List ℕ))
@@ -21,17 +21,21 @@ pub record Ends {D E : Type 0} (remaining : D → Option (List ℕ)) (contents :
   -- nor where more than the size was read
   pub size : TellsMore SIZE_MAX (remaining (device reader)) (remaining (device reader'))
       → (ok ≡ false) × Keeps (contents (device writer)) (contents (device writer'))
-  -- nor where what was read to its end is not UTF-8
-  pub utf8 : came_to_end reader reader' ≡ true
+  -- nor where all was read, and that is not UTF-8
+  pub utf8 : (ok || came_to_end reader reader') ≡ true
       → IfSome (remaining (device reader)) (λ text. ¬ IsUtf8 text → (ok ≡ false) × Keeps (contents (device writer)) (contents (device writer')))
   -- nor where it was not read to its end, as where the names of references are at fault, or memory is wanted before
   pub unread : has_ended reader' ≡ false → (ok ≡ false) × Keeps (contents (device writer)) (contents (device writer'))
   -- where the writer failed, what was written is a beginning of the page
   pub write : has_failed writer' ≡ true
       → (ok ≡ false) × IfSome (remaining (device reader)) (λ text. AppendsBeginning (contents (device writer)) (contents (device writer')) (page text))
-  -- at any other fault it is nothing, or all of the page, which could not be flushed
-  pub fault : ok ≡ false → has_failed writer' ≡ false
-      → IfSome (remaining (device reader)) (λ text. AppendsAllOrNothing (contents (device writer)) (contents (device writer')) (page text))
+  -- where the flush failed, it is all of the page
+  pub flush : has_flush_failed writer ≡ false → has_flush_failed writer' ≡ true
+      → (ok ≡ false) × IfSome (remaining (device reader)) (λ text. Appends (contents (device writer)) (contents (device writer')) (page text))
+  -- and at any other fault it is nothing
+  pub fault : ok ≡ false → has_failed writer' ≡ false → has_flush_failed writer' ≡ false → Keeps (contents (device writer)) (contents (device writer'))
+  -- it ends well exactly where the writer was flushed in the end
+  pub flushed : has_flushed writer ≡ false → ok ≡ has_flushed writer'
 
 -- so ends one by the tables of a path
 abbrev pub EndsBy : {D E : Type 0} → Option (List ℕ) → Options → (D → Option (List ℕ)) → (E → Option (List ℕ))

@@ -5,4 +5,6 @@ pub mod Transfer
 pub mod Tables
 pub mod Endings
 pub mod Statuses
+pub mod Complaints
+pub mod Program
 pub mod PageLaws

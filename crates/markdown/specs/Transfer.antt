@@ -1,16 +1,12 @@
 -- What a run reads and writes.
-use Rattle.std.specs.Prelude.{◌≡◌, ℕ, ◌+◌, Bool, nat_lt, ◌<◌, ◌⊎◌, List, length, take, Option, IfSome, IsSomeAnd}
+use Rattle.std.specs.Prelude.{◌≡◌, ℕ, ◌+◌, Bool, nat_lt, ◌<◌, List, length, take, Option, IfSome, IsSomeAnd}
 use Rattle.std.specs.Bool.{MatchBool}
 use Rattle.std.specs.Str.{IsUtf8}
-use Rattle.std.specs.Io.KnownBytes.{Appends, Keeps}
+use Rattle.std.specs.Io.KnownBytes.{Appends}
 
 -- what was written is a beginning of these bytes
 abbrev pub AppendsBeginning : Option (List ℕ) → Option (List ℕ) → List ℕ → Type 0
 AppendsBeginning old new bytes = (n : ℕ) × Appends old new (take n bytes)
-
--- these bytes were written, or nothing
-abbrev pub AppendsAllOrNothing : Option (List ℕ) → Option (List ℕ) → List ℕ → Type 0
-AppendsAllOrNothing old new bytes = Appends old new bytes ⊎ Keeps old new
 
 -- a reader that tells its bytes gave more than so many
 abbrev pub TellsMore : ℕ → Option (List ℕ) → Option (List ℕ) → Type 0

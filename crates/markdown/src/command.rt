@@ -1,30 +1,35 @@
 //! The program, over any reader and writer.
-ghost use Rattle.std.specs.Prelude.{◌≡◌, ◌≤◌, ◌⊎◌, ◌==◌, ℕ, List, [], IfOk, IfErr, OnOk, is_ok};
+ghost use Rattle.std.specs.Prelude.{◌≡◌, ◌≤◌, ◌⊎◌, ◌||◌, ℕ, List, [], IfOk, IfErr, IfSome, OnOk, MatchResult, is_ok, is_err};
 ghost use Rattle.std.specs.Prelude.{option_map, string_bytes, true, false, None};
-ghost use Rattle.std.specs.Io.KnownBytes.{Keeps};
+ghost use Rattle.std.specs.Option.{option_map_or};
+ghost use Rattle.std.specs.Prelude.{decimal};
+ghost use Rattle.std.specs.Io.KnownBytes.{Appends, Keeps};
 ghost use Rattle.markdown_options.specs.Mdx.{HasNoMdx};
 ghost use Rattle.markdown_definition.specs.Html.{html};
 ghost use Rattle.html_contents.specs.Texts.{tables_by};
 ghost use Rattle.markdown_tables.specs.Rows.{names_of};
 ghost use Rattle.markdown_tables.specs.RowsFaults.{text_fault};
-ghost use Rattle.markdown_settings.specs.Settings.{faults_of, options_of, path_of, HasFault, word_texts};
+ghost use Rattle.markdown_settings.specs.Settings.{faults_of, options_of, path_of, word_texts, AsksFor};
+ghost use Rattle.markdown.specs.Complaints.{complaint};
 ghost use Rattle.markdown.specs.Endings.{Ends, EndsBy};
-ghost use Rattle.markdown.specs.Statuses.{status_of};
+ghost use Rattle.markdown.specs.Program.{Complains, Runs, WritesAnswer, WritesText};
+ghost use Rattle.markdown.specs.Statuses.{is_write_fault, references_fault, status_of, MayComeOf, MayComeOfRows};
 ghost use Rattle.markdown.specs.Tables.{file_names};
-ghost use Rattle.markdown.specs.Watched.{device, has_failed};
+ghost use Rattle.markdown.specs.Watched.{device, has_failed, has_stopped, has_flushed, has_flush_failed};
 
 use crate::fault::Fault;
 use crate::transfer::{RunError, run, write_all};
 use crate::watched::Watched;
+use itoa::Buffer;
 use markdown_options::{Options, Tables};
 use markdown_settings::{Settings, SettingsError, settings};
 use markdown_tables::{Builtin, Rows};
 use std::alloc::Global;
-use std::fs;
+use std::fs::File;
 use std::io::{self, ErrorKind, Read, Write};
 use std::rt::Files;
 
-/// Runs the program, and answers its status. The words are those after its name.
+/// Runs the program, and returns its status. The words are those after its name.
 ///
 /// A fault is one line on `faults`. One that can't be printed leaves the status.
 pub fn program<R: Read, W: Write, F: Write>(
@@ -32,38 +37,53 @@ pub fn program<R: Read, W: Write, F: Write>(
     words: &[String],
     reader: &mut Watched<R>,
     writer: &mut Watched<W>,
-    faults: &mut F,
+    faults: &mut Watched<F>,
 ) -> u8
     requires reader { has_failed reader.old ≡ false }
     requires writer { has_failed writer.old ≡ false }
-
-    // Words without a fault ask for a page: 0 where all of it was written, and otherwise 1.
-    ensures page { faults_of (word_texts words.now) ≡ [] → EndsBy (path_of (word_texts words.now)) (options_of (word_texts words.now))
-        R.remaining W.contents reader.old reader.new writer.old writer.new (result == 0) }
-    ensures asked { faults_of (word_texts words.now) ≡ [] → result ≤ 1 }
-
-    // Others may ask for the help, and nothing is read for them.
-    ensures help { result ≡ 0 → (faults_of (word_texts words.now) ≡ []) ⊎ HasFault (faults_of (word_texts words.now)) true }
-    ensures unread { ¬ (faults_of (word_texts words.now) ≡ []) → reader.new ≡ reader.old }
-
-    // Whatever the status, nothing is written unless a page, the help or the version is asked for.
-    ensures kept { (faults_of (word_texts words.now) ≡ []) ⊎ HasFault (faults_of (word_texts words.now)) true
-        ⊎ Keeps (W.contents (device writer.old)) (W.contents (device writer.new)) }
-
-    // 2: the words are no command line, and nothing was written.
-    ensures words { result ≡ 2 → HasFault (faults_of (word_texts words.now)) false }
-    ensures nothing { result ≡ 2 → Keeps (W.contents (device writer.old)) (W.contents (device writer.new)) }
-
-    // 0: there is no complaint.
-    ensures silent { result ≡ 0 → Keeps (F.contents faults.old) (F.contents faults.new) }
-    ensures status { result ≤ 2 }
+    requires faults { has_failed faults.old ≡ false }
+    ensures { Runs (word_texts words.now) R.remaining W.contents F.contents
+        reader.old reader.new writer.old writer.new faults.old faults.new result }
 {
-    match obey(rt, words, reader, writer) {
+    let outcome = obey(rt, words, reader, writer);
+    end(faults, &outcome)
+}
+
+/// The status of an outcome, with one line on `faults` for a fault.
+pub(crate) fn end<F: Write>(faults: &mut Watched<F>, outcome: &Result<(), Fault>) -> u8
+    requires { has_failed faults.old ≡ false }
+    ensures { MatchResult outcome.now (λ _. (result ≡ 0) × (faults.new ≡ faults.old)) (Complains F.contents faults.old faults.new result) }
+{
+    match outcome {
         Ok(()) => 0,
         Err(fault) => {
-            let _ = writeln!(faults, "markdown: {fault}");
+            let _ = complain(faults, fault);
             fault.status()
         }
+    }
+}
+
+/// Prints a fault in one line.
+fn complain<F: Write>(faults: &mut Watched<F>, fault: &Fault) -> Result<(), RunError>
+    requires { has_failed faults.old ≡ false }
+    ensures line { OnOk result (Appends (F.contents (device faults.old)) (F.contents (device faults.new)) (complaint fault.now)) }
+    ensures failed { has_failed faults.new ≡ is_err result }
+{
+    write_all(faults, b"markdown: ")?;
+    write_all(faults, fault.words().as_bytes())?;
+    write_number(faults, fault.line())?;
+    write_all(faults, b"\n")
+}
+
+/// Writes a number, if there is one.
+fn write_number<F: Write>(faults: &mut Watched<F>, number: Option<usize>) -> Result<(), RunError>
+    requires { has_failed faults.old ≡ false }
+    ensures digits { OnOk result (Appends (F.contents (device faults.old)) (F.contents (device faults.new)) (option_map_or decimal number [])) }
+    ensures failed { has_failed faults.new ≡ is_err result }
+{
+    match number {
+        Some(number) => write_all(faults, Buffer::new().format(number).as_bytes()),
+        None => Ok(()),
     }
 }
 
@@ -78,17 +98,14 @@ fn obey<R: Read, W: Write>(
     requires writer { has_failed writer.old ≡ false }
     ensures page { faults_of (word_texts words.now) ≡ [] → EndsBy (path_of (word_texts words.now)) (options_of (word_texts words.now))
         R.remaining W.contents reader.old reader.new writer.old writer.new (is_ok result) }
-    ensures asked { faults_of (word_texts words.now) ≡ [] → IfErr result (λ fault. status_of fault ≡ 1) }
-    ensures help { OnOk result ((faults_of (word_texts words.now) ≡ []) ⊎ HasFault (faults_of (word_texts words.now)) true) }
+    ensures answer { ¬ (faults_of (word_texts words.now) ≡ [])
+        → WritesAnswer (faults_of (word_texts words.now)) W.contents writer.old writer.new (is_ok result) }
     ensures unread { ¬ (faults_of (word_texts words.now) ≡ []) → reader.new ≡ reader.old }
-    ensures kept { (faults_of (word_texts words.now) ≡ []) ⊎ HasFault (faults_of (word_texts words.now)) true
-        ⊎ Keeps (W.contents (device writer.old)) (W.contents (device writer.new)) }
-    ensures words { IfErr result (λ fault. status_of fault ≡ 2 → HasFault (faults_of (word_texts words.now)) false) }
-    ensures nothing { IfErr result (λ fault. status_of fault ≡ 2 → Keeps (W.contents (device writer.old)) (W.contents (device writer.new))) }
+    ensures fault { IfErr result (MayComeOf (faults_of (word_texts words.now))) }
 {
     match settings(rt.alloc(), words) {
         Ok(settings) => page(rt, &settings, reader, writer),
-        Err(SettingsError::Help(text)) => answer(writer, &text),
+        Err(SettingsError::Help(text)) => answer(writer, text),
         Err(SettingsError::Words) => Err(Fault::Words),
         Err(SettingsError::Memory) => Err(Fault::Run(RunError::Memory)),
     }
@@ -111,23 +128,43 @@ fn page<R: Read, W: Write>(
     match &settings.references {
         None => print(rt.alloc(), reader, writer, &settings.options, &Builtin),
         Some(path) => {
-            let rows = read_rows(rt, path)?;
+            let rows = file_rows(rt, path)?;
             print(rt.alloc(), reader, writer, &settings.options, &rows)
         }
     }
 }
 
 /// The rows of a file.
-fn read_rows(rt: &(impl Files + AllocGlobal), path: &str) -> Result<Rows, Fault>
+fn file_rows(rt: &(impl Files + AllocGlobal), path: &str) -> Result<Rows, Fault>
     ensures rows { IfOk result (λ rows. (file : List ℕ) × (text_fault file ≡ None) × ((name : List ℕ) → names_of rows name ≡ file_names file name)) }
     ensures status { IfErr result (λ fault. status_of fault ≡ 1) }
 {
-    match fs::read_to_string(rt, path) {
-        Ok(text) => Rows::read(rt.alloc(), &text).map_err(Fault::Rows),
-        Err(error) => match error.kind() {
-            ErrorKind::OutOfMemory => Err(Fault::Run(RunError::Memory)),
-            _ => Err(Fault::References),
-        },
+    match File::open(rt, path) {
+        Ok(file) => read_rows(rt.alloc(), file),
+        Err(error) => Err(references_fault(error.kind())),
+    }
+}
+
+/// The rows that a reader gives.
+fn read_rows<R: Read + Drop>(alloc: Global, reader: R) -> Result<Rows, Fault>
+    ensures rows { IfOk result (λ rows. (file : List ℕ) × IfSome (R.remaining reader) (λ told. file ≡ told)
+        × (text_fault file ≡ None) × ((name : List ℕ) → names_of rows name ≡ file_names file name)) }
+    ensures fault { IfErr result (λ fault. IfSome (R.remaining reader) (MayComeOfRows fault)) }
+    ensures status { IfErr result (λ fault. status_of fault ≡ 1) }
+{
+    match io::read_to_string(alloc, reader) {
+        Ok(text) => Rows::read(alloc, &text).map_err(Fault::Rows),
+        Err(error) => Err(references_fault(error.kind())),
+    }
+}
+
+/// The fault where a file of references can't be read.
+fn references_fault(kind: ErrorKind) -> Fault
+    ensures { result ≡ references_fault kind }
+{
+    match kind {
+        ErrorKind::OutOfMemory => Fault::Run(RunError::Memory),
+        _ => Fault::References,
     }
 }
 
@@ -153,7 +190,8 @@ fn print<R: Read, W: Write, T: Tables>(
 /// Prints a text, and flushes it.
 fn answer<W: Write>(writer: &mut Watched<W>, text: &str) -> Result<(), Fault>
     requires { has_failed writer.old ≡ false }
-    ensures { IfErr result (λ fault. status_of fault ≡ 1) }
+    ensures text { WritesText W.contents writer.old writer.new (is_ok result) text.now }
+    ensures fault { IfErr result (λ fault. is_write_fault fault ≡ true) }
 {
     write_all(writer, text.as_bytes()).map_err(Fault::Run)?;
     flush(writer)
@@ -163,7 +201,9 @@ fn answer<W: Write>(writer: &mut Watched<W>, text: &str) -> Result<(), Fault>
 fn flush<W: Write>(writer: &mut Watched<W>) -> Result<(), Fault>
     ensures bytes { Keeps (W.contents (device writer.old)) (W.contents (device writer.new)) }
     ensures failed { has_failed writer.new ≡ has_failed writer.old }
-    ensures status { IfErr result (λ fault. status_of fault ≡ 1) }
+    ensures flushed { has_flushed writer.new ≡ is_ok result }
+    ensures flush_failed { has_flush_failed writer.new ≡ is_err result }
+    ensures fault { IfErr result (λ fault. is_write_fault fault ≡ true) }
 {
     writer
         .flush()

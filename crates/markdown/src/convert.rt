@@ -2,7 +2,7 @@
 //!
 //! Of quoted, listed and escaped texts and of other line endings the calls promise the laws of
 //! docs/LAWS.md, each under its premises (`specs/PageLaws.antt`).
-ghost use Rattle.std.specs.Prelude.{◌≡◌, ◌/◌, ◌≤◌, ◌↔◌, IsTrue, IfOk, IfErr, length, string_bytes};
+ghost use Rattle.std.specs.Prelude.{◌≡◌, ◌/◌, ◌*◌, ◌^◌, ◌-◌, ◌≤◌, ◌↔◌, IsTrue, IfOk, IfErr, length, string_bytes};
 ghost use Rattle.markdown_options.specs.Mdx.{HasNoMdx};
 ghost use Rattle.markdown_options.specs.Messages.{IsOutOfMemory};
 ghost use Rattle.markdown_options.specs.Defaults.{default_options};
@@ -27,7 +27,8 @@ pub const SIZE_MAX: usize = usize::MAX / 8;
 
 /// Whether a text is short enough to be read: it has at most `usize::MAX / 8` bytes.
 pub fn fits(value: &str) -> bool
-    ensures { IsTrue result ↔ (length value.now ≤ SIZE_MAX) }
+    ensures number { IsTrue result ↔ (8 * length value.now ≤ 2 ^ 64 - 1) }
+    ensures size { IsTrue result ↔ (length value.now ≤ SIZE_MAX) }
 {
     value.len() <= SIZE_MAX
 }

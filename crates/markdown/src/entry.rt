@@ -1,54 +1,56 @@
 //! The program, on the words that it was started with.
-ghost use Rattle.std.specs.Prelude.{◌≡◌, ◌≤◌};
-ghost use Rattle.std.specs.Io.KnownBytes.{Keeps};
-ghost use Rattle.markdown.specs.Statuses.{unread_status};
+ghost use Rattle.std.specs.Prelude.{◌≡◌, IfErr, IfOk, drop, false};
+ghost use Rattle.std.specs.IoError.{error_kind};
+ghost use Rattle.markdown_settings.specs.Settings.{word_texts};
+ghost use Rattle.markdown.specs.Program.{Complains, Runs};
+ghost use Rattle.markdown.specs.Statuses.{unread_fault};
+ghost use Rattle.markdown.specs.Watched.{has_failed};
 
-use crate::command::program;
+use crate::command::{end, program};
+use crate::fault::Fault;
+use crate::transfer::RunError;
 use crate::watched::Watched;
-use std::env;
 use std::io::{self, ErrorKind, Read, Write};
-use std::rt::{Env, Files};
+use std::rt::Files;
 
-/// Runs [`program`] on the words of the command line, and answers its status.
+/// Runs [`program`] on the words of the command line, and returns its status. Its name is the first
+/// of them.
 ///
-/// With status 0 there is no complaint. That the words and the devices are those that it was given
-/// is only tested.
-pub fn start<R: Read + Drop, W: Write + Drop, F: Write>(
-    rt: &(impl Env + Files + AllocGlobal),
-    reader: R,
-    writer: W,
-    faults: &mut F,
+/// Words that the system doesn't give are no command line, unless memory was refused.
+pub fn start<R: Read, W: Write, F: Write>(
+    rt: &(impl Files + AllocGlobal),
+    words: io::Result<Vec<String>>,
+    reader: &mut Watched<R>,
+    writer: &mut Watched<W>,
+    faults: &mut Watched<F>,
 ) -> u8
-    ensures silent { result ≡ 0 → Keeps (F.contents faults.old) (F.contents faults.new) }
-    ensures status { result ≤ 2 }
+    requires reader { has_failed reader.old ≡ false }
+    requires writer { has_failed writer.old ≡ false }
+    requires faults { has_failed faults.old ≡ false }
+    ensures runs { IfOk words (λ words. Runs (word_texts (drop 1 words.items)) R.remaining W.contents F.contents
+        reader.old reader.new writer.old writer.new faults.old faults.new result) }
+    ensures refused { IfErr words (λ error. (reader.new ≡ reader.old) × (writer.new ≡ writer.old)
+        × Complains F.contents faults.old faults.new result (unread_fault (error_kind error))) }
 {
-    match words(rt) {
-        Ok(words) => {
-            let mut reader = Watched::new(reader);
-            let mut writer = Watched::new(writer);
-            program(rt, &words, &mut reader, &mut writer, faults)
-        }
-        Err(error) => refuse_words(faults, error.kind()),
+    match words {
+        Ok(words) => program(rt, after_name(&words), reader, writer, faults),
+        Err(error) => end(faults, &Err(unread_fault(error.kind()))),
     }
 }
 
 /// The words after the program's name.
-fn words(rt: &(impl Env + AllocGlobal)) -> io::Result<Vec<String>> {
-    let mut words = Vec::new(rt.alloc());
-    for word in env::args(rt)?.skip(1) {
-        words.push(word)?;
-    }
-    Ok(words)
+fn after_name(words: &[String]) -> &[String]
+    ensures { result.now ≡ drop 1 words.now }
+{
+    if words.is_empty() { words } else { &words[1..] }
 }
 
-/// The status where the words can't be had, with one line on `faults`.
-fn refuse_words<F: Write>(faults: &mut F, kind: ErrorKind) -> u8
-    ensures { result ≡ unread_status kind }
+/// The fault where the words can't be had.
+fn unread_fault(kind: ErrorKind) -> Fault
+    ensures { result ≡ unread_fault kind }
 {
-    let (status, line): (u8, &[u8]) = match kind {
-        ErrorKind::OutOfMemory => (1, b"markdown: out of memory\n"),
-        _ => (2, b"markdown: wrong command line\n"),
-    };
-    let _ = faults.write_all(line);
-    status
+    match kind {
+        ErrorKind::OutOfMemory => Fault::Run(RunError::Memory),
+        _ => Fault::Words,
+    }
 }

@@ -1,21 +1,21 @@
 //! Why the program ends with another status than 0.
 ghost use Rattle.std.specs.Prelude.{◌≡◌};
+ghost use Rattle.markdown.specs.Complaints.{fault_line, fault_words, rows_line, rows_words};
 ghost use Rattle.markdown.specs.Statuses.{status_of};
 
 use crate::transfer::RunError;
 use markdown_tables::RowsError;
-use thiserror::Error;
 
 /// Why the program ends with another status than 0.
-#[derive(Debug, Drop, Error)]
+#[derive(Debug, Drop)]
 pub(crate) enum Fault {
-    #[error("wrong command line")]
+    /// The words are no command line.
     Words,
-    #[error("cannot read references")]
+    /// The file of references can't be read.
     References,
-    #[error("{0}")]
+    /// The rows of that file are at fault.
     Rows(RowsError),
-    #[error("{0}")]
+    /// The page can't be made, or not be written.
     Run(RunError),
 }
 
@@ -28,5 +28,47 @@ impl Fault {
             Fault::Words => 2,
             _ => 1,
         }
+    }
+
+    /// The words of the fault, without the number of a line.
+    pub(crate) fn words(&self) -> &'static str
+        ensures { result.now ≡ fault_words self.now }
+    {
+        match self {
+            Fault::Words => "wrong command line",
+            Fault::References => "cannot read references",
+            Fault::Rows(error) => rows_words(error),
+            Fault::Run(error) => error.words(),
+        }
+    }
+
+    /// The line of the references file that is at fault.
+    pub(crate) fn line(&self) -> Option<usize>
+        ensures { result ≡ fault_line self.now }
+    {
+        match self {
+            Fault::Rows(error) => rows_line(error),
+            _ => None,
+        }
+    }
+}
+
+/// The words of what is wrong with rows, without the number of a line.
+fn rows_words(error: &RowsError) -> &'static str
+    ensures { result.now ≡ rows_words error.now }
+{
+    match error {
+        RowsError::Syntax(_) | RowsError::Repeated(_) => "references line ",
+        RowsError::Memory => "out of memory",
+    }
+}
+
+/// The line of these rows that is at fault.
+fn rows_line(error: &RowsError) -> Option<usize>
+    ensures { result ≡ rows_line error.now }
+{
+    match error {
+        RowsError::Syntax(line) | RowsError::Repeated(line) => Some(*line),
+        RowsError::Memory => None,
     }
 }

@@ -6,9 +6,9 @@ ghost use Rattle.std.specs.Io.KnownBytes.{Appends, Consumes, IsAtEnd, Keeps};
 ghost use Rattle.markdown_options.specs.Mdx.{HasNoMdx};
 ghost use Rattle.markdown_definition.specs.Html.{html};
 ghost use Rattle.html_contents.specs.Texts.{tables_by};
-ghost use Rattle.markdown.specs.Watched.{device, has_failed, has_ended};
+ghost use Rattle.markdown.specs.Watched.{device, has_failed, has_stopped, has_ended, has_flushed, has_flush_failed, came_to_end};
 ghost use Rattle.markdown.specs.Faults.{is_read_error, is_write_error, is_size_error, is_utf8_error};
-ghost use Rattle.markdown.specs.Faults.{read_failed, write_failed, size_failed, utf8_failed, reads_all, gave_none};
+ghost use Rattle.markdown.specs.Faults.{read_failed, write_failed, write_stopped, size_failed, utf8_failed, reads_all, gave_none};
 ghost use Rattle.markdown.specs.Transfer.{AppendsBeginning, RefusesPast, RefusesUtf8};
 
 use crate::convert::{SIZE_MAX, to_html_with_tables};
@@ -16,30 +16,50 @@ use crate::watched::Watched;
 use markdown_options::{Message, Options, Tables};
 use std::alloc::{AllocError, Allocator};
 use std::io::{self, Read, Write};
-use thiserror::Error;
+use std::{error, fmt};
 
 /// Why a run gave no whole page. No read or write is tried again, not even one that was interrupted.
-#[derive(Debug, Drop, Error)]
+#[derive(Debug, Drop)]
 pub enum RunError {
     /// More than `usize::MAX / 8` bytes were read.
-    #[error("input is too large")]
     Size,
     /// All was read, and it is not UTF-8.
-    #[error("input is not UTF-8")]
     Utf8,
     /// Memory was refused.
-    #[error("out of memory")]
     Memory,
-    /// The reader answered this error.
-    #[error("cannot read")]
+    /// The reader returned this error.
     Read(io::Error),
-    /// The writer answered this error; a beginning of the page is written.
-    #[error("cannot write")]
+    /// The writer returned this error; a beginning of the page is written.
     Write(io::Error),
     /// The writer took nothing; a beginning of the page is written.
-    #[error("cannot write")]
     Stopped,
 }
+
+impl RunError {
+    ghost use Rattle.std.specs.Prelude.{◌≡◌};
+    ghost use Rattle.markdown.specs.Complaints.{run_words};
+
+    /// The words of the error.
+    pub fn words(&self) -> &'static str
+        ensures { result.now ≡ run_words self.now }
+    {
+        match self {
+            RunError::Size => "input is too large",
+            RunError::Utf8 => "input is not UTF-8",
+            RunError::Memory => "out of memory",
+            RunError::Read(_) => "cannot read",
+            RunError::Write(_) | RunError::Stopped => "cannot write",
+        }
+    }
+}
+
+impl fmt::Display for RunError {
+    fn fmt<W: fmt::Write>(&self, f: &mut fmt::Formatter<W>) -> fmt::Result {
+        f.write_str(self.words())
+    }
+}
+
+impl error::Error for RunError {}
 
 /// Memory was refused.
 impl From<AllocError> for RunError {
@@ -87,9 +107,15 @@ pub fn run<A: Allocator + Clone, R: Read, W: Write, T: Tables>(
         let page = html (tables_by T.Tables tables.now) text options.now in
         Appends (W.contents (device writer.old)) (W.contents (device writer.new)) page)) }
 
-    // `Read` comes exactly where the reader failed, `Write` and `Stopped` where the writer did.
+    // `Read` comes exactly where the reader failed, `Write` and `Stopped` where the writer did,
+    // `Stopped` where it took nothing.
     ensures read { has_failed reader.new ≡ read_failed result }
     ensures write { has_failed writer.new ≡ write_failed result }
+    ensures stopped { has_stopped writer.new ≡ (has_stopped writer.old || write_stopped result) }
+
+    // The writer isn't flushed.
+    ensures unflushed { has_flushed writer.old ≡ false → has_flushed writer.new ≡ false }
+    ensures flush_failed { has_flush_failed writer.new ≡ has_flush_failed writer.old }
 
     // What was written is then a beginning of the page, and otherwise nothing.
     ensures beginning { IfErr result (λ e. is_write_error e ≡ true → IfSome (R.remaining (device reader.old)) (λ text.
@@ -102,8 +128,8 @@ pub fn run<A: Allocator + Clone, R: Read, W: Write, T: Tables>(
     ensures size { RefusesPast SIZE_MAX (R.remaining (device reader.old)) (R.remaining (device reader.new)) (size_failed result) }
     ensures end { IsTrue (reads_all result) → has_ended reader.new ≡ true }
 
-    // Once it came there, `Utf8` is answered exactly where what was read is not UTF-8.
-    ensures utf8 { has_ended reader.old ≡ false → has_ended reader.new ≡ true
+    // Where all was read, `Utf8` is answered exactly where that is not UTF-8.
+    ensures utf8 { IsTrue (reads_all result || came_to_end reader.old reader.new)
         → IfSome (R.remaining (device reader.old)) (λ text. RefusesUtf8 text (utf8_failed result)) }
 {
     let bytes = read_all(alloc.clone()?, reader)?;
@@ -212,6 +238,9 @@ pub(crate) fn write_all<W: Write>(writer: &mut Watched<W>, bytes: &[u8]) -> Resu
     ensures ok { OnOk result (Appends (W.contents (device writer.old)) (W.contents (device writer.new)) bytes.now) }
     ensures beginning { AppendsBeginning (W.contents (device writer.old)) (W.contents (device writer.new)) bytes.now }
     ensures write { has_failed writer.new ≡ is_err result }
+    ensures stopped { has_stopped writer.new ≡ (has_stopped writer.old || write_stopped result) }
+    ensures unflushed { has_flushed writer.old ≡ false → has_flushed writer.new ≡ false }
+    ensures flush_failed { has_flush_failed writer.new ≡ has_flush_failed writer.old }
     ensures only { IfErr result (λ e. is_write_error e ≡ true) }
 {
     let mut at = 0;

@@ -1,11 +1,11 @@
 //! From a text to HTML in a buffer of the caller's.
-ghost use Rattle.std.specs.Prelude.{◌≡◌, ◌≤◌, ◌<◌, ◌↔◌, length, None};
+ghost use Rattle.std.specs.Prelude.{◌≡◌, ◌≤◌, ◌<◌, ◌↔◌, ◌*◌, ◌^◌, ◌-◌, length, None};
 ghost use Rattle.std.specs.Str.{IsUtf8};
 ghost use Rattle.markdown_c.specs.Flags.{options_of};
 ghost use Rattle.markdown_c.specs.Pages.{OfPage, HoldsPage};
 
 use crate::flags::options_of;
-use markdown::{SIZE_MAX, fits, to_html_with_options};
+use markdown::{fits, to_html_with_options};
 use std::alloc::Global;
 
 /// The buffer begins with the page.
@@ -49,7 +49,7 @@ pub extern "C" fn markdown_convert(
 
     ensures flags { (result ≡ FLAGS) ↔ (options_of flags ≡ None) }
     ensures utf8 { (result ≡ UTF8) ↔ (¬ (options_of flags ≡ None) × ¬ IsUtf8 text.now) }
-    ensures size { (result ≡ SIZE) ↔ (¬ (options_of flags ≡ None) × (IsUtf8 text.now × SIZE_MAX < length text.now)) }
+    ensures size { (result ≡ SIZE) ↔ (¬ (options_of flags ≡ None) × (IsUtf8 text.now × 2 ^ 64 - 1 < 8 * length text.now)) }
     ensures status { result ≤ MEMORY }
 {
     *size = 0;

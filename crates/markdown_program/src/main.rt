@@ -1,9 +1,24 @@
 //! Markdown from standard input, HTML to standard output.
 #![tactic(auto)]
 
+use markdown::{Watched, start};
 use std::process::ExitCode;
+use std::rt::Env;
+use std::{env, io};
 
 fn main(rt: HostRuntime) -> ExitCode {
-    let status = markdown::start(&rt, rt.stdin(), rt.stdout(), &mut rt.stderr());
+    let mut reader = Watched::new(rt.stdin());
+    let mut writer = Watched::new(rt.stdout());
+    let mut faults = Watched::new(rt.stderr());
+    let status = start(&rt, words(&rt), &mut reader, &mut writer, &mut faults);
     ExitCode::from(status)
+}
+
+/// The words that the program was started with, its name first.
+fn words(rt: &(impl Env + AllocGlobal)) -> io::Result<Vec<String>> {
+    let mut words = Vec::new(rt.alloc());
+    for word in env::args(rt)? {
+        words.push(word)?;
+    }
+    Ok(words)
 }

@@ -1,10 +1,11 @@
 -- What the words of the command line ask for.
-use Rattle.std.specs.Prelude.{◌≡◌, ⊤, Bool, true, false, List, Option, codes, map, string_bytes}
+use Rattle.std.specs.Prelude.{◌≡◌, ◌⊎◌, ⊤, Bool, true, false, List, Option, codes, map, string_bytes}
 use Rattle.std.specs.declared.string.String.{String}
 use Rattle.clap.specs.Words.{Kinds, IsAmong, Row, Text, fault_of, first_of, matches_of, takes}
 use Rattle.clap.specs.declared.error.kind.ErrorKind.{ErrorKind}
 use Rattle.clap.specs.declared.error.kind.ErrorKind.TheVariants.{DisplayHelp, DisplayVersion}
 use Rattle.markdown_options.specs.declared.configuration.Options.{Options}
+use Rattle.markdown_settings.specs.declared.help.TheConstants.{HELP, VERSION}
 use Rattle.markdown_settings.specs.declared.settings_error.SettingsError.{SettingsError}
 use Rattle.markdown_settings.specs.declared.settings_error.SettingsError.TheVariants.{Help, Words, Memory}
 use Rattle.markdown_settings.specs.Command.{markdown_command}
@@ -47,8 +48,12 @@ is_request kind = false
 abbrev pub HasFault : Kinds → Bool → Type 0
 HasFault faults request = (kind : ErrorKind) × IsAmong kind faults × (is_request kind ≡ request)
 
+-- one of the faults asks for this text: the help or the version
+abbrev pub AsksFor : Kinds → Text → Type 0
+AsksFor faults text = (IsAmong DisplayHelp faults × (text ≡ HELP.now)) ⊎ (IsAmong DisplayVersion faults × (text ≡ VERSION.now))
+
 -- why words with these faults are refused
 abbrev pub Refuses : Kinds → SettingsError → Type 0
-Refuses faults (Help text) = HasFault faults true
+Refuses faults (Help text) = AsksFor faults text.now
 Refuses faults Words = HasFault faults false
 Refuses faults Memory = ⊤

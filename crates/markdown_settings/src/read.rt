@@ -7,6 +7,7 @@ ghost use Rattle.markdown_settings.specs.Settings.{faults_of, options_of, path_o
 
 use crate::command::command;
 use crate::flags::{Settings, flag_options};
+use crate::help::{HELP, VERSION};
 use crate::settings_error::SettingsError;
 use clap::error::ErrorKind;
 use clap::{ArgMatches, Error};
@@ -30,7 +31,7 @@ pub fn settings(alloc: Global, words: &[String]) -> Result<Settings, SettingsErr
     let command = command(alloc)?;
     match command.try_get_matches_from(words) {
         Ok(matches) => settings_of(alloc, &matches),
-        Err(error) => Err(refusal(alloc, &error)),
+        Err(error) => Err(refusal(&error)),
     }
 }
 
@@ -75,23 +76,14 @@ fn path(alloc: Global, matches: &ArgMatches<'_>) -> Result<Option<String>, Alloc
 }
 
 /// Why the words are refused, by the command's error.
-fn refusal(alloc: Global, error: &Error) -> SettingsError
+fn refusal(error: &Error) -> SettingsError
     ensures memory { kind_of error.now ≡ ErrorKind.OutOfMemory → result ≡ SettingsError.Memory }
     ensures refused { (faults : Kinds) → IsAmong (kind_of error.now) faults → Refuses faults result }
 {
     match error.kind() {
         ErrorKind::OutOfMemory => SettingsError::Memory,
-        ErrorKind::DisplayHelp | ErrorKind::DisplayVersion => request(alloc, error),
+        ErrorKind::DisplayHelp => SettingsError::Help(HELP),
+        ErrorKind::DisplayVersion => SettingsError::Help(VERSION),
         _ => SettingsError::Words,
-    }
-}
-
-/// The text that was asked for.
-fn request(alloc: Global, error: &Error) -> SettingsError
-    ensures { (faults : Kinds) → HasFault faults true → Refuses faults result }
-{
-    match error.to_string(alloc) {
-        Ok(text) => SettingsError::Help(text),
-        Err(_) => SettingsError::Memory,
     }
 }

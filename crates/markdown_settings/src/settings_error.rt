@@ -5,7 +5,7 @@ use std::alloc::AllocError;
 #[derive(Debug, Drop)]
 pub enum SettingsError {
     /// The words ask for the help or the version: the text to print.
-    Help(String),
+    Help(&'static str),
     /// The words are no command line.
     Words,
     /// Memory was refused.

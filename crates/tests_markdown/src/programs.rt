@@ -42,9 +42,10 @@ fn other(rt: &(impl Files + AllocGlobal), run: &Run<'_>) -> io::Result<Option<&'
     let words = owned(rt, run.words)?;
     let mut reader = Watched::new(run.input);
     let mut writer = Watched::new(Vec::new(rt.alloc()));
-    let mut faults = Vec::new(rt.alloc());
+    let mut faults = Watched::new(Vec::new(rt.alloc()));
     let status = program(rt, &words, &mut reader, &mut writer, &mut faults);
     let output = writer.into_inner();
+    let faults = faults.into_inner();
     Ok(other_part(run, status, output.as_slice(), faults.as_slice()))
 }
 
@@ -203,48 +204,61 @@ fn refuses_references(rt: HostRuntime) -> io::Result<()> {
 
 #[test]
 fn complains_of_devices(rt: HostRuntime) -> io::Result<()> {
-    let mut faults = Vec::new(rt.alloc());
+    let mut faults = Watched::new(Vec::new(rt.alloc()));
     let mut reader = Watched::new(Short::new(&b"abc"[..], 1, 2));
     let mut writer = Watched::new(Vec::new(rt.alloc()));
     let status = program(&rt, &[], &mut reader, &mut writer, &mut faults);
     assert_eq!(rt; status, 1);
     assert!(rt; writer.into_inner().is_empty());
+    assert_eq!(rt;
+        faults.into_inner().as_slice(),
+        b"markdown: cannot read\n".as_slice()
+    );
+    let mut faults = Watched::new(Vec::new(rt.alloc()));
     let mut reader = Watched::new(&b"abc"[..]);
     let mut writer = Watched::new(Short::new(Vec::new(rt.alloc()), 1, 2));
     let status = program(&rt, &[], &mut reader, &mut writer, &mut faults);
     assert_eq!(rt; status, 1);
-    let want = b"markdown: cannot read\nmarkdown: cannot write\n";
-    assert_eq!(rt; faults.as_slice(), want.as_slice());
+    assert_eq!(rt;
+        faults.into_inner().as_slice(),
+        b"markdown: cannot write\n".as_slice()
+    );
     Ok(())
 }
 
 #[test]
 fn complains_where_help_cannot_be_written(rt: HostRuntime) -> io::Result<()> {
     let words = owned(&rt, &["--help"])?;
-    let mut faults = Vec::new(rt.alloc());
+    let mut faults = Watched::new(Vec::new(rt.alloc()));
     let mut reader = Watched::new(&b"abc"[..]);
     let mut writer = Watched::new(Short::new(Vec::new(rt.alloc()), 1, 2));
     let status = program(&rt, &words, &mut reader, &mut writer, &mut faults);
     assert_eq!(rt; status, 1);
-    assert_eq!(rt; faults.as_slice(), b"markdown: cannot write\n".as_slice());
+    assert_eq!(rt;
+        faults.into_inner().as_slice(),
+        b"markdown: cannot write\n".as_slice()
+    );
     Ok(())
 }
 
 #[test]
 fn complains_of_what_is_not_flushed(rt: HostRuntime) {
-    let mut faults = Vec::new(rt.alloc());
+    let mut faults = Watched::new(Vec::new(rt.alloc()));
     let mut reader = Watched::new(&b"a"[..]);
     let mut writer = Watched::new(Short::stuck(Vec::new(rt.alloc()), 1, 20));
     let status = program(&rt, &[], &mut reader, &mut writer, &mut faults);
     assert_eq!(rt; status, 1);
     let output = writer.into_inner().into_inner();
     assert_eq!(rt; output.as_slice(), b"<p>a</p>".as_slice());
-    assert_eq!(rt; faults.as_slice(), b"markdown: cannot write\n".as_slice());
+    assert_eq!(rt;
+        faults.into_inner().as_slice(),
+        b"markdown: cannot write\n".as_slice()
+    );
 }
 
 #[test]
 fn keeps_the_status_where_a_fault_cannot_be_printed(rt: HostRuntime) {
-    let mut faults = Short::new(Vec::new(rt.alloc()), 1, 0);
+    let mut faults = Watched::new(Short::new(Vec::new(rt.alloc()), 1, 0));
     let mut reader = Watched::new(&b"\xFF"[..]);
     let mut writer = Watched::new(Vec::new(rt.alloc()));
     let status = program(&rt, &[], &mut reader, &mut writer, &mut faults);

@@ -1,9 +1,16 @@
-use Rattle.std.specs.Prelude.{map, string_bytes}
-use Rattle.markdown_settings.specs.Settings.{options_of, path_of}
+use Rattle.std.proofs.Common.{map, string_bytes, subst}
+use Rattle.markdown_settings.specs.Settings.{Refuses, faults_of, options_of, path_of}
 use Rattle.markdown.proofs.Early.{early}
+use Rattle.markdown.proofs.Refusals.{may_come_of_writer}
 use Rattle.markdown.proofs.command.obey.Goals as goal
 
 pub returns-in-Err-Memory-clause-page : goal.returns-in-Err-Memory-clause-page
 returns-in-Err-Memory-clause-page g c faultless =
     let words = map string_bytes c.args.words.now in
     early (path_of words) (options_of words) g.R.Read.remaining g.W.Write.contents c.args.reader.now c.args.writer.now c.requires.reader c.requires.writer
+
+pub returns-in-Err-Help-clause-fault : goal.returns-in-Err-Help-clause-fault
+returns-in-Err-Help-clause-fault g c =
+    let kinds = faults_of (map string_bytes c.args.words.now) in
+    let help = c.in-Err-Help in
+    may_come_of_writer kinds help.text.now c.answer.result (subst (Refuses kinds) help.field-0-is help.ensures.refused) c.answer.ensures.fault

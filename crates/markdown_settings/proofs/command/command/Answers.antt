@@ -12,8 +12,8 @@ versioned a = on_top (λ s. record s { has_version = true }) a
 
 pub returns : goal.returns
 returns c =
-    let named = ap app_of_fields c.about.ensures ∙ ap app_of_fields c.no_binary_name.ensures ∙ ap nameless c.new.ensures.app in
-    let bare_is : app_of c.after_help.result ≡ bare = ap app_of_fields c.after_help.ensures ∙ ap app_of_fields c.version.ensures ∙ ap versioned named in
+    let named = ap app_of_fields c.no_binary_name.ensures ∙ ap nameless c.new.ensures.app in
+    let bare_is : app_of c.version.result ≡ bare = ap app_of_fields c.version.ensures ∙ ap versioned named in
     c.in_ok-command.ensures.shape (search rules)
     ∙ ap₂ with_rule (c.in_ok-arg-3.ensures.shape (search rules)
     ∙ ap₂ with_rule (c.in_ok-arg-2.ensures.shape (search rules)

@@ -1,13 +1,11 @@
-use Rattle.std.proofs.Common.{true, ◌≡◌, ◌∙◌, ap, sym, inl, inr}
-use Rattle.clap.specs.Words.{kind_of}
-use Rattle.markdown_settings.specs.Settings.{is_request}
+use Rattle.std.proofs.Common.{◌∙◌, inl, inr, refl, subst, sym}
+use Rattle.clap.specs.Words.{IsAmong}
 use Rattle.markdown_settings.proofs.read.refusal.Goals as goal
 
 pub returns-in-DisplayHelp-clause-refused : goal.returns-in-DisplayHelp-clause-refused
 returns-in-DisplayHelp-clause-refused c faults among =
-    let asked : is_request (kind_of c.args.error.now) ≡ true =
-    elim c.in-DisplayHelp.is [
-      | inl e ↦ ap is_request (sym c.kind.ensures ∙ e)
-      | inr e ↦ ap is_request (sym c.kind.ensures ∙ e)
-    ] in
-    c.request.ensures faults (kind_of c.args.error.now, among, asked)
+    inl (subst (λ k. IsAmong k faults) (sym c.kind.ensures ∙ c.in-DisplayHelp.is) among, refl)
+
+pub returns-in-DisplayVersion-clause-refused : goal.returns-in-DisplayVersion-clause-refused
+returns-in-DisplayVersion-clause-refused c faults among =
+    inr (subst (λ k. IsAmong k faults) (sym c.kind.ensures ∙ c.in-DisplayVersion.is) among, refl)
