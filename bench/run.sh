@@ -18,7 +18,7 @@ mkdir -p "$folder"
 python3 "$here/corpus.py" "$folder/corpus" "$bytes" > /dev/null
 python3 "$here/run.py" "$folder" "$program" "$rounds"
 "$here/../install.sh" --library "$folder" > "$folder/log" 2>&1 || { cat "$folder/log" >&2; exit 1; }
-cc -O2 -I"$folder/include" -L"$folder/lib" -o "$folder/tiny" "$here/tiny.c" -l:libmarkdown.a -lmd4c-html -lmd4c -lcmark
+cc -O2 -I"$folder/include" -L"$folder/lib" -o "$folder/tiny" "$here/tiny.c" -l:libmarkdown-proved.a -lmd4c-html -lmd4c -lcmark
 "$folder/tiny"
 echo
 python3 "$here/run.py" "$folder" "$program" "$rounds" --gfm

@@ -1,11 +1,11 @@
 #!/bin/sh
-# Builds the programs in C, Rust and Python over the library for C, each where its compiler works, and compares what each
-# writes of a page with each feature with that page's HTML. The last line is `N passed, M failed`.
+# Builds the programs in C, C++, Rust and Python over the library for C, each if its compiler is there, and compares what they
+# write for a text with each feature with its HTML. The last line is `N passed, M failed`.
 #
 #     examples/run.sh [FOLDER]
 #
-# FOLDER has the library as `install.sh --library FOLDER` leaves it; without one it is built. $CC names the C compiler, if
-# it isn't cc. With valgrind on the PATH, the C programs run under it too.
+# FOLDER has the library, as ./install.sh --library FOLDER leaves it. Without FOLDER the library is built first. $CC and $CXX name
+# the compilers, if they aren't cc and c++. If valgrind is there, the C programs run under it too.
 set -eu
 here=$(cd "$(dirname "$0")" && pwd)
 page=$here/../crates/examples_library
@@ -31,7 +31,22 @@ tries() {
     check "$name: HTML" filters "$@"
     check "$name: no UTF-8" refuses "$@"
 }
-compile() { ${CC:-cc} -std=c11 -O2 -Wall -Wextra -I"$library/include" -L"$library/lib" "$@" -l:libmarkdown.a; }
+compile() { ${CC:-cc} -std=c11 -O2 -Wall -Wextra -Werror -I"$library/include" -L"$library/lib" "$@" -l:libmarkdown-proved.a; }
+# By pkg-config, with the shared library.
+compile_shared() (
+    PKG_CONFIG_PATH=$library/lib/pkgconfig
+    export PKG_CONFIG_PATH
+    ${CXX:-c++} -std=c++11 -O2 -Wall -Wextra -Wpedantic -Werror "$@" $(pkg-config --cflags --libs markdown-proved) -Wl,-rpath,"$library/lib"
+)
+# Whether the shared library exports these functions alone, and its version is the header's.
+exports() { [ "$(nm -D --defined-only "$library/lib/libmarkdown-proved.so" | awk '{ print $3 }' | sort | tr '\n' ' ')" = "$*" ]; }
+names_itself() { objdump -p "$library/lib/libmarkdown-proved.so" | grep -q "SONAME *$1$"; }
+tells_version() {
+    printf '#include "markdown.h"\nint main(void) { return markdown_version() != MARKDOWN_VERSION || !markdown_is_supported(); }\n' > "$scratch/version.c"
+    compile -o "$scratch/version" "$scratch/version.c" && "$scratch/version" \
+        && [ "$(printf '%d' "$(sed -n 's/^#define MARKDOWN_VERSION //p' "$library/include/markdown.h")")" \
+            = "$(sed -n 's/^#define MARKDOWN_VERSION_TEXT "\(.*\)"/\1/p' "$library/include/markdown.h" | awk -F. '{ print $1 * 65536 + $2 * 256 + $3 }')" ]
+}
 
 printf 'int main(void) { return 0; }\n' > "$scratch/empty.c"
 works ${CC:-cc} -o "$scratch/empty" "$scratch/empty.c" || { echo "0 passed, 0 failed: there is no C compiler"; exit; }
@@ -40,18 +55,25 @@ library=${1:-$scratch}
 
 check "C" compile -o "$scratch/convert" "$here/c/convert.c"
 tries "C" "$scratch/convert"
+check "C: the version" tells_version
+if works nm --version; then check "the functions of the library" exports "markdown_convert markdown_version "; fi
+if works objdump --version; then check "the name of the library" names_itself libmarkdown-proved.so.0; fi
 check "C: refusals" compile -Wl,--wrap=malloc -Wl,--wrap=realloc -o "$scratch/refusals" "$here/c/refusals.c"
 check "C: refusals" "$scratch/refusals"
 if works valgrind true; then
     check "C: memory" converts valgrind -q --error-exitcode=9 --leak-check=full "$scratch/convert"
     check "C: memory of refusals" valgrind -q --error-exitcode=9 --leak-check=full "$scratch/refusals"
 fi
+if works pkg-config --version && works ${CXX:-c++} --version; then
+    check "C++" compile_shared -o "$scratch/cpp" "$here/cpp/convert.cpp"
+    tries "C++" "$scratch/cpp"
+fi
 if works rustc --version; then
     check "Rust" rustc --edition 2021 -O -L "$library/lib" -o "$scratch/rust" "$here/rust/convert.rs"
     tries "Rust" "$scratch/rust"
 fi
 if works python3 -c 'import ctypes'; then
-    tries "Python" python3 "$here/python/convert.py" "$library/lib/libmarkdown.so"
+    tries "Python" python3 "$here/python/convert.py" "$library/lib/libmarkdown-proved.so"
 fi
 echo "$passed passed, $failed failed"
 [ "$failed" = 0 ]

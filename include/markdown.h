@@ -1,8 +1,10 @@
-/* Markdown to HTML: the calls of libmarkdown.a and libmarkdown.so. docs/LIBRARY.md says how to build and link them.
+/* Markdown to HTML: the functions of libmarkdown-proved, for C and C++. docs/LIBRARY.md says how to build and link it.
  *
- * Texts and pages are UTF-8, with their length in bytes, and no byte ends them. No call aborts, and none keeps anything
- * between calls, so several threads may call at once. What a call takes from malloc, it gives back before it ends, but for
- * the buffer that markdown_convert_growing hands over. */
+ * Input and HTML are UTF-8. Lengths are in bytes; no terminating NUL is read or written. No function aborts or keeps state
+ * between calls, so threads may call them at the same time. markdown_convert frees all memory that it takes from malloc.
+ *
+ * The library is compiled for x86-64-v2 (SSE4.2 and POPCNT: processors since about 2009). The loader refuses the shared library
+ * on an older one. A program with the static library can ask markdown_is_supported first. */
 #ifndef MARKDOWN_H
 #define MARKDOWN_H
 
@@ -10,22 +12,26 @@
 #include <stdint.h>
 #include <stdlib.h>
 
+/* The version of this header, as a text and as a number: major, minor and patch, a byte each. */
+#define MARKDOWN_VERSION_TEXT "0.1.0"
+#define MARKDOWN_VERSION 0x000100
+
 #ifdef __cplusplus
 extern "C" {
 #endif
 
-/* Flags, to be added up. With none a page is safe: HTML of the text is printed as text, and a URL with a protocol that
- * isn't permitted as an empty one. */
+/* Flags, to be added up. Without flags the input is CommonMark and the HTML is safe: HTML in the input is escaped, and URLs
+ * with a protocol that isn't allowed become empty. */
 enum {
-    /* HTML of the text is printed as it is, and links may have any protocol: for texts of authors who are trusted. */
+    /* Keep HTML and every protocol of the input. Only for input from trusted authors. */
     MARKDOWN_DANGEROUS = 1,
-    /* Every construct is off: paragraphs alone. It wins over the flags below. */
+    /* Turn every construct off: the input is paragraphs. This wins over the flags below. */
     MARKDOWN_PLAIN = 2,
     /* ~~a~~ and ~a~ are struck through. */
     MARKDOWN_STRIKETHROUGH = 4,
     /* $a$ and $$a$$ are math, and so is a block between lines of $$. */
     MARKDOWN_MATH = 8,
-    /* Metadata at the front of a text, between lines of --- or of +++, is skipped. */
+    /* Skip metadata at the start of the input, between lines of --- or of +++. */
     MARKDOWN_FRONTMATTER = 16,
     /* An item that begins with [ ] or [x] has a check box. */
     MARKDOWN_TASK_LIST_ITEMS = 32,
@@ -33,46 +39,48 @@ enum {
     MARKDOWN_TABLES = 64,
     /* www.a.b, https://a.b and a@b.c are links. */
     MARKDOWN_AUTOLINK_LITERALS = 128,
-    /* [^a] calls the footnote that [^a]: b defines; footnotes that are called stand at the page's end. */
+    /* [^a] calls the footnote that [^a]: b defines. Called footnotes are printed at the end. */
     MARKDOWN_FOOTNOTES = 256,
-    /* Where HTML is printed as it is, < before the names title, textarea, style, xmp, iframe, noembed, noframes, script and
-     * plaintext is printed as text. */
+    /* With MARKDOWN_DANGEROUS: escape < before the names title, textarea, style, xmp, iframe, noembed, noframes, script and
+     * plaintext. */
     MARKDOWN_TAGFILTER = 512,
-    /* What GitHub does: the flags above that are its own, added up. */
+    /* GitHub Flavored Markdown: the sum of the flags that GitHub turns on. */
     MARKDOWN_GFM = MARKDOWN_STRIKETHROUGH + MARKDOWN_TASK_LIST_ITEMS + MARKDOWN_TABLES + MARKDOWN_AUTOLINK_LITERALS
         + MARKDOWN_FOOTNOTES + MARKDOWN_TAGFILTER
 };
 
-/* What a call answers. */
+/* What markdown_convert returns. */
 enum {
-    /* The buffer begins with the page. */
+    /* The HTML is in the buffer. */
     MARKDOWN_OK = 0,
-    /* The buffer is too small for the page, whose length is told. */
+    /* The buffer is too small. *length is what the HTML needs. */
     MARKDOWN_ROOM = 1,
-    /* The text isn't UTF-8. */
+    /* The input isn't UTF-8. */
     MARKDOWN_UTF8 = 2,
-    /* There is a flag that isn't known. */
+    /* A flag isn't known. */
     MARKDOWN_FLAGS = 3,
-    /* The text has more than SIZE_MAX / 8 bytes. */
+    /* The input has more than SIZE_MAX / 8 bytes. */
     MARKDOWN_SIZE = 4,
-    /* There was no memory. */
+    /* Out of memory. */
     MARKDOWN_MEMORY = 5
 };
 
-/* Converts the text_length bytes at text into the room bytes at buffer, and answers a status.
+/* Returns the version of the library that is linked or loaded, to be compared with MARKDOWN_VERSION. */
+uint32_t markdown_version(void);
+
+/* Converts the text_length bytes at text into HTML, in the room bytes at buffer, and returns a status.
  *
- * *length is the length of the page where the status is MARKDOWN_OK or MARKDOWN_ROOM, and 0 otherwise. The buffer changes
- * where the status is MARKDOWN_OK alone, and nothing past the page's end.
+ * *length becomes the length of the HTML if the status is MARKDOWN_OK or MARKDOWN_ROOM, otherwise 0. Only with MARKDOWN_OK is
+ * the buffer written, from its start to the end of the HTML.
  *
- * No pointer is NULL, not even where it is of no bytes. Buffer, length and text don't overlap. */
+ * No pointer may be NULL, even if it points to no bytes. buffer, length and text must not overlap. */
 uint32_t markdown_convert(const unsigned char *text, size_t text_length, uint32_t flags, unsigned char *buffer,
                           size_t room, size_t *length);
 
-/* Converts the text_length bytes at text into a buffer that it makes or grows, and answers a status, never MARKDOWN_ROOM.
+/* Converts the text_length bytes at text into a buffer that it allocates or grows, and returns a status, never MARKDOWN_ROOM.
  *
- * *buffer is NULL or comes from malloc, and has *room bytes; both are kept up to date where the buffer grows. Whoever
- * calls gives it back by free, whatever the status. Text may be NULL where it has no bytes. A buffer that is used for
- * call after call soon grows no more. */
+ * *buffer is NULL or comes from malloc, and has *room bytes. Both are updated if the buffer grows. The caller frees the buffer,
+ * whatever the status. text may be NULL if text_length is 0. A buffer that is used for call after call soon stops growing. */
 static inline uint32_t markdown_convert_growing(const unsigned char *text, size_t text_length, uint32_t flags,
                                                 unsigned char **buffer, size_t *room, size_t *length)
 {
@@ -94,6 +102,16 @@ static inline uint32_t markdown_convert_growing(const unsigned char *text, size_
         wanted = *length;
     }
     return status;
+}
+
+/* Returns whether this processor has what the library is compiled for. */
+static inline int markdown_is_supported(void)
+{
+#if defined(__GNUC__) && defined(__x86_64__)
+    return __builtin_cpu_supports("ssse3") && __builtin_cpu_supports("sse4.2") && __builtin_cpu_supports("popcnt");
+#else
+    return 0;
+#endif
 }
 
 #ifdef __cplusplus

@@ -20,7 +20,7 @@ mod calls {
     pub const FOOTNOTES: u32 = 256;
     pub const TAGFILTER: u32 = 512;
 
-    #[link(name = "markdown", kind = "static")]
+    #[link(name = "markdown-proved", kind = "static")]
     extern "C" {
         pub fn markdown_convert(
             text: *const u8,

@@ -4,9 +4,10 @@ ghost use Rattle.std.specs.Str.{IsUtf8};
 ghost use Rattle.markdown_c.specs.Flags.{options_of};
 ghost use Rattle.markdown_c.specs.Pages.{OfPage, HoldsPage};
 
-use crate::flags::options_of;
+use crate::flags::{ALL, flagged_options};
 use markdown::{fits, to_html_with_options};
 use std::alloc::Global;
+use std::mem::ManuallyDrop;
 
 /// The buffer begins with the page.
 const OK: u32 = 0;
@@ -53,16 +54,19 @@ pub extern "C" fn markdown_convert(
     ensures status { result ≤ MEMORY }
 {
     *size = 0;
-    let Some(options) = options_of(flags) else {
+    if flags > ALL {
         return FLAGS;
-    };
+    }
+    // Not dropped: it owns no memory, and its destructor would need the C library, which WebAssembly
+    // doesn't have.
+    let options = ManuallyDrop::new(flagged_options(flags));
     let Ok(text) = str::from_utf8(text) else {
         return UTF8;
     };
     if !fits(text) {
         return SIZE;
     }
-    let Ok(page) = to_html_with_options(alloc, text, &options) else {
+    let Ok(page) = to_html_with_options(alloc, text, &*options) else {
         return MEMORY;
     };
     *size = page.len();

@@ -36,7 +36,7 @@ const FOOTNOTES: u32 = 256;
 const TAGFILTER: u32 = 512;
 
 /// All flags together.
-const ALL: u32 = DANGEROUS
+pub(crate) const ALL: u32 = DANGEROUS
     + PLAIN
     + STRIKETHROUGH
     + MATH
@@ -46,17 +46,6 @@ const ALL: u32 = DANGEROUS
     + AUTOLINK_LITERALS
     + FOOTNOTES
     + TAGFILTER;
-
-/// The options that a sum of flags asks for, if it has no others.
-pub(crate) fn options_of(flags: u32) -> Option<Options>
-    ensures options { result ≡ options_of flags }
-    ensures without_mdx { IfSome result HasNoMdx }
-{
-    if flags > ALL {
-        return None;
-    }
-    Some(flagged_options(flags))
-}
 
 /// Whether a flag is in a sum of flags.
 fn has_flag(flag: u32, flags: u32) -> bool
@@ -89,7 +78,7 @@ fn flagged_constructs(flags: u32) -> Constructs
 }
 
 /// The default options, with what the flags change.
-fn flagged_options(flags: u32) -> Options
+pub(crate) fn flagged_options(flags: u32) -> Options
     ensures options { result ≡ flagged_options flags }
     ensures without_mdx { HasNoMdx result }
 {

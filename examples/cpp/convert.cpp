@@ -1,0 +1,53 @@
+// Reads Markdown from standard input, and writes its HTML to standard output.
+//
+//     convert [--gfm] [--dangerous] [--plain] [--math] [--frontmatter]
+#include <cstddef>
+#include <cstdint>
+#include <exception>
+#include <iostream>
+#include <iterator>
+#include <map>
+#include <new>
+#include <stdexcept>
+#include <string>
+
+#include "markdown.h"
+
+// Returns the HTML of `text`.
+static std::string to_html(const std::string &text, std::uint32_t flags)
+{
+    std::string html(text.size() + text.size() / 4 + 64, '\0');
+    std::uint32_t status = MARKDOWN_ROOM;
+    while (status == MARKDOWN_ROOM) {
+        std::size_t length = 0;
+        status = markdown_convert(reinterpret_cast<const unsigned char *>(text.data()), text.size(), flags,
+                                  reinterpret_cast<unsigned char *>(&html[0]), html.size(), &length);
+        html.resize(length);
+    }
+    switch (status) {
+    case MARKDOWN_OK: return html;
+    case MARKDOWN_MEMORY: throw std::bad_alloc();
+    case MARKDOWN_UTF8: throw std::invalid_argument("input is not UTF-8");
+    case MARKDOWN_SIZE: throw std::length_error("input is too large");
+    default: throw std::invalid_argument("wrong flags");
+    }
+}
+
+int main(int count, char **words)
+{
+    static const std::map<std::string, std::uint32_t> flags_of = {
+        {"--gfm", MARKDOWN_GFM},   {"--dangerous", MARKDOWN_DANGEROUS},     {"--plain", MARKDOWN_PLAIN},
+        {"--math", MARKDOWN_MATH}, {"--frontmatter", MARKDOWN_FRONTMATTER},
+    };
+    try {
+        std::uint32_t flags = 0;
+        for (int i = 1; i < count; i++)
+            flags |= flags_of.at(words[i]);
+        const std::string text{std::istreambuf_iterator<char>(std::cin), {}};
+        std::cout << to_html(text, flags) << std::flush;
+        return std::cout ? 0 : 1;
+    } catch (const std::exception &fault) {
+        std::cerr << "convert: " << fault.what() << '\n';
+        return 1;
+    }
+}

@@ -1,0 +1,119 @@
+#!/bin/sh
+# Makes packages for Debian of an installed program and library, and prints their paths: markdown-proved (the program),
+# libmarkdown-proved0 (the shared library) and libmarkdown-proved-dev (header, static library, pkg-config).
+#
+#     packaging/deb.sh PROGRAM FOLDER OUT
+#
+# PROGRAM is what ./install.sh has installed, FOLDER what `./install.sh --library FOLDER` has made. Debian has other packages
+# `markdown` and `libmarkdown2`. So the program is /usr/bin/markdown-proved, and /usr/bin/markdown is an alternative that leads to
+# it. $DEBFULLNAME and $DEBEMAIL name the maintainer, $SOURCE_DATE_EPOCH the time of the build.
+set -eu
+[ $# = 3 ] || { echo "usage: packaging/deb.sh PROGRAM FOLDER OUT" >&2; exit 2; }
+program=$1 folder=$2 out=$(cd "$3" && pwd)
+here=$(cd "$(dirname "$0")" && pwd)
+upstream=$("$program" --version | sed 's/.* //')
+version=$upstream-1
+architecture=$(dpkg --print-architecture)
+triple=$(dpkg-architecture -qDEB_HOST_MULTIARCH)
+maintainer="${DEBFULLNAME:-Developers of markdown} <${DEBEMAIL:-markdown@localhost.localdomain}>"
+SOURCE_DATE_EPOCH=${SOURCE_DATE_EPOCH:-$(date +%s)}
+export SOURCE_DATE_EPOCH
+umask 022
+scratch=$(mktemp -d)
+trap 'rm -rf "$scratch"' EXIT
+so=libmarkdown-proved.so.$upstream
+soname=libmarkdown-proved.so.${upstream%%.*}
+package=libmarkdown-proved${upstream%%.*}
+
+# Makes a package of the tree $scratch/NAME: its name, section and first words of its description; further fields; more of the
+# description.
+make_package() {
+    name=$1 section=$2 summary=$3 fields=$4 more=$5
+    root=$scratch/$name
+    doc=$root/usr/share/doc/$name
+    mkdir -p "$root/DEBIAN" "$doc"
+    {
+        printf 'Format: https://www.debian.org/doc/packaging-manuals/copyright-format/1.0/\n\nFiles: *\n'
+        printf 'Copyright:\n'
+        sed -n 's/^Copyright (c)//p' "$here/../LICENSE"
+        printf 'License: Expat\n'
+        sed '/^MIT License$/d; /^Copyright/d; s/^$/./; s/^/ /' "$here/../LICENSE" | sed '1,/^ \.$/{/^ \.$/d}' | sed '1{/^ \.$/d}'
+    } > "$doc/copyright"
+    printf 'markdown-proved (%s) unstable; urgency=medium\n\n  * Package version %s.\n\n -- %s  %s\n' "$version" "$upstream" \
+        "$maintainer" "$(date -uR -d "@$SOURCE_DATE_EPOCH")" | gzip -9n > "$doc/changelog.Debian.gz"
+    {
+        printf 'Package: %s\nSource: markdown-proved\nVersion: %s\nArchitecture: %s\nMaintainer: %s\n' "$name" "$version" "$architecture" "$maintainer"
+        printf 'Installed-Size: %s\n%s\nSection: %s\nPriority: optional\nDescription: %s\n%s\n' "$(du -sk "$root/usr" | cut -f1)" "$fields" "$section" "$summary" "$more"
+    } > "$root/DEBIAN/control"
+    (cd "$root" && find usr -type f -print0 | sort -z | xargs -0 md5sum) > "$root/DEBIAN/md5sums"
+    dpkg-deb --root-owner-group --build "$root" "$out/${name}_${version}_$architecture.deb" > /dev/null
+    echo "$out/${name}_${version}_$architecture.deb"
+}
+
+# What a file needs of other packages, beside the processor's vectors.
+needs() (
+    mkdir -p "$scratch/shlibs/debian"
+    touch "$scratch/shlibs/debian/control"
+    cd "$scratch/shlibs"
+    dpkg-shlibdeps -O -e"$1" 2> /dev/null | sed 's/^shlibs:Depends=//; s/$/, sse4.2-support/'
+)
+ABOUT=' This converter reads CommonMark 0.31.2 and GitHub Flavored Markdown, and
+ writes HTML that is safe by default. It is proved to return exactly the HTML
+ of a written definition.'
+
+# The program.
+root=$scratch/markdown-proved
+install -D -s -m755 "$program" "$root/usr/bin/markdown-proved"
+mkdir -p "$root/usr/share/man/man1"
+sed "s/@DATE@/$(date -u -d "@$SOURCE_DATE_EPOCH" +%F)/; s/@VERSION@/$upstream/; s/@NAMES@/markdown-proved, markdown/; s/@NAME@/markdown-proved/
+    s/markdown-proved/markdown\\\\-proved/g" "$here/markdown.1" | gzip -9n > "$root/usr/share/man/man1/markdown-proved.1.gz"
+completions=usr/share/bash-completion/completions
+install -D -m644 "$here/markdown.bash" "$root/$completions/markdown-proved"
+install -D -m644 "$here/markdown.fish" "$root/usr/share/fish/vendor_completions.d/markdown-proved.fish"
+install -D -m644 "$here/_markdown" "$root/usr/share/zsh/vendor-completions/_markdown-proved"
+mkdir "$root/DEBIAN"
+cat > "$root/DEBIAN/postinst" <<END
+#!/bin/sh
+set -e
+if [ "\$1" = configure ] || [ "\$1" = abort-upgrade ] || [ "\$1" = abort-deconfigure ] || [ "\$1" = abort-remove ]; then
+    update-alternatives --install /usr/bin/markdown markdown /usr/bin/markdown-proved 50 \\
+        --slave /usr/share/man/man1/markdown.1.gz markdown.1.gz /usr/share/man/man1/markdown-proved.1.gz \\
+        --slave /$completions/markdown markdown.bash /$completions/markdown-proved
+fi
+END
+cat > "$root/DEBIAN/prerm" <<'END'
+#!/bin/sh
+set -e
+if [ "$1" = remove ] || [ "$1" = deconfigure ]; then
+    update-alternatives --remove markdown /usr/bin/markdown-proved
+fi
+END
+chmod 755 "$root/DEBIAN/postinst" "$root/DEBIAN/prerm"
+make_package markdown-proved text "proved converter from Markdown to HTML" "Depends: $(needs "$root/usr/bin/markdown-proved")" "$ABOUT"
+
+# The shared library.
+root=$scratch/$package
+install -D -m644 "$folder/lib/$so" "$root/usr/lib/$triple/$so"
+strip --strip-unneeded --remove-section=.comment "$root/usr/lib/$triple/$so"
+ln -s "$so" "$root/usr/lib/$triple/$soname"
+mkdir "$root/DEBIAN"
+echo "libmarkdown-proved ${upstream%%.*} $package (>= $upstream)" > "$root/DEBIAN/shlibs"
+echo "activate-noawait ldconfig" > "$root/DEBIAN/triggers"
+make_package "$package" libs "proved converter from Markdown to HTML (shared library)" "Depends: $(needs "$root/usr/lib/$triple/$so")
+Multi-Arch: same" "$ABOUT
+ .
+ This package has the shared library."
+
+# What is needed to build programs with it.
+root=$scratch/libmarkdown-proved-dev
+install -D -m644 "$folder/include/markdown.h" "$root/usr/include/markdown-proved/markdown.h"
+install -D -m644 "$folder/lib/libmarkdown-proved.a" "$root/usr/lib/$triple/libmarkdown-proved.a"
+strip --strip-debug --enable-deterministic-archives "$root/usr/lib/$triple/libmarkdown-proved.a"
+ln -s "$soname" "$root/usr/lib/$triple/libmarkdown-proved.so"
+mkdir "$root/usr/lib/$triple/pkgconfig"
+sed "s|^prefix=.*|prefix=/usr|; s|^libdir=.*|libdir=\${prefix}/lib/$triple|; s|^includedir=.*|includedir=\${prefix}/include/markdown-proved|" \
+    "$folder/lib/pkgconfig/markdown-proved.pc" > "$root/usr/lib/$triple/pkgconfig/markdown-proved.pc"
+make_package libmarkdown-proved-dev libdevel "proved converter from Markdown to HTML (development files)" "Depends: $package (= $version)
+Multi-Arch: same" "$ABOUT
+ .
+ This package has the header, the static library and the file for pkg-config."

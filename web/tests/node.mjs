@@ -1,0 +1,76 @@
+// Tries markdown.wasm under Node: the 652 examples of CommonMark, a page with each feature, refusals, and that memory is freed.
+// The last line is `N passed, M failed`.
+//
+//     node web/tests/node.mjs FOLDER
+//
+// FOLDER is what bin/wasm has made.
+import { readdirSync, readFileSync } from "node:fs";
+import { pathToFileURL } from "node:url";
+
+const top = new URL("../../", import.meta.url);
+const { load, DANGEROUS, FRONTMATTER, GFM, MATH, PLAIN } = await import(new URL("markdown.mjs", pathToFileURL(`${process.argv[2]}/`)));
+const markdown = await load();
+let passed = 0, failed = 0;
+
+function check(what, isRight) {
+    if (isRight) passed++;
+    else {
+        failed++;
+        console.error(`failed: ${what}`);
+    }
+}
+
+function fault(call) {
+    try {
+        call();
+        return null;
+    } catch (fault) {
+        return fault.message;
+    }
+}
+
+// The examples are in the tests as rows `(TEXT, HTML)`, with the escapes of Rust.
+const ROW = /\(\s*"((?:[^"\\]|\\.)*)",\s*"((?:[^"\\]|\\.)*)",?\s*\)/gs;
+const ESCAPES = { n: "\n", t: "\t", r: "\r", 0: "\0", "\\": "\\", '"': '"' };
+const unescaped = text =>
+    text.replace(/\\(?:\n\s*|u\{([0-9a-f]+)\}|(.))/g, (_, code, mark) => (code ? String.fromCodePoint(parseInt(code, 16)) : ESCAPES[mark] ?? ""));
+
+const folder = new URL("crates/tests_pages/src/commonmark/", top);
+let examples = 0;
+for (const name of readdirSync(folder)) {
+    for (const [, text, html] of readFileSync(new URL(name, folder), "utf8").matchAll(ROW)) {
+        examples++;
+        check(`${name}: ${text}`, markdown.toHtml(unescaped(text), DANGEROUS) === unescaped(html));
+    }
+}
+check(`${examples} examples`, examples === 652);
+
+const read = name => readFileSync(new URL(`crates/examples_library/${name}`, top), "utf8");
+check("a page with each feature", markdown.toHtml(read("stdin"), GFM + MATH + FRONTMATTER) === read("stdout"));
+check("the version", readFileSync(new URL("include/markdown.h", top), "utf8").includes(`MARKDOWN_VERSION_TEXT "${markdown.version}"`));
+check("safe", markdown.toHtml("<b>a</b> [b](javascript:c)") === '<p>&lt;b&gt;a&lt;/b&gt; <a href="">b</a></p>');
+check("plain", markdown.toHtml("# a", PLAIN) === "<p># a</p>");
+check("an empty text", markdown.toHtml("") === "");
+check("a page far longer than its text", markdown.toHtml('"'.repeat(1000)) === `<p>${"&quot;".repeat(1000)}</p>`);
+check("wrong flags", fault(() => markdown.toHtml("a", 1024)) === "wrong flags" && fault(() => markdown.toHtml("a", 2 ** 32)) === "wrong flags");
+check("no UTF-8", fault(() => markdown.convert(new Uint8Array([97, 255]))) === "input is not UTF-8");
+
+// How many bytes of memory the engine has for the module, after a collection.
+async function held() {
+    for (let i = 0; i < 5; i++) {
+        gc();
+        await new Promise(done => setTimeout(done, 20));
+    }
+    return process.memoryUsage().arrayBuffers + process.memoryUsage().external;
+}
+const large = "A *paragraph* of `text` with [a link](b).\n\n".repeat(25000);
+const first = markdown.toHtml(large).length;
+if (typeof gc === "function") {
+    const before = await held();
+    for (let i = 0; i < 20; i++) check("a large text again", markdown.toHtml(large).length === first);
+    check("memory stays", (await held()) <= before + (1 << 20));
+    check("brackets", markdown.toHtml("[".repeat(2_000_000)).length === 2_000_007);
+    check("memory is freed", (await held()) <= before + (1 << 20));
+}
+console.log(`${passed} passed, ${failed} failed`);
+process.exitCode = failed ? 1 : 0;
