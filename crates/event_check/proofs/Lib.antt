@@ -1,0 +1,5 @@
+pub mod Kinds
+pub mod Steps
+pub mod Fits
+pub mod FitsBack
+pub mod Joined

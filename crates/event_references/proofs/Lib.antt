@@ -1,0 +1,2 @@
+pub mod TextLaw
+pub mod LostLaw
