@@ -24,7 +24,7 @@ use Rattle.event_grammar.specs.Checks.{Open, Check, check_at, opened, with_child
 use Rattle.event_grammar.specs.Trees.{Node, Nodes, Around, Nil, Cons, events_of}
 use Rattle.event_grammar.specs.Faults.{fault_from}
 use Rattle.event_grammar.specs.InGrammar.{Within, within, inside, Before, before, after, node_name, kids_of, cells_of, CellsAgree, NodeFits, fits, KidsFit, end, takes, between, PlacesFit}
-use Rattle.event_check.proofs.Kinds.{HasKinds, HaveKinds}
+use Rattle.event_check.proofs.NodeKinds.{HasKinds, HaveKinds}
 use Rattle.event_check.proofs.Steps.{Taking, Passing, Enters, enters, enters_back, Exits, exits, exits_back, Stands, Goes, goes_on, goes_back}
 
 pub split : (kids others : Nodes) (exit : Event) (es : List Event)
@@ -183,9 +183,9 @@ module _ (names : List ℕ → Option (List ℕ)) (bytes : List ℕ) where
       let moves : exited (check_at k (after_enter ∷ outer) ran.at) (spot_of exit) exit.name ≡ Some g.next =
       ap (λ (z : Kind). moved (check_at k (after_enter ∷ outer) ran.at) z exit.name (spot_of exit)) (sym xk) ∙ g.stands.goes in
       let x = exits k after_enter outer exit.name ran.at (spot_of exit) g.next moves in
-      let first = and_parts (same_name enter.name exit.name) (may_end ran.rest && has_limit (limit_of o enter.name) ran.cells) x.may in
-      let second = and_parts (may_end ran.rest) (has_limit (limit_of o enter.name) ran.cells) first.1 in
-      let name_is : exit.name ≡ enter.name = sym (same_true the_type tt enter.name exit.name first.0) in
+      let first = and_parts (same_name enter.name exit.name && may_end ran.rest) (has_limit (limit_of o enter.name) ran.cells) x.may in
+      let second = and_parts (same_name enter.name exit.name) (may_end ran.rest) first.0 in
+      let name_is : exit.name ≡ enter.name = sym (same_true the_type tt enter.name exit.name second.0) in
       let cells_are : ran.cells ≡ cells_of kids = let c = ran.counted in omega (arith, c) in
       let unlinked = (or_parts (o.linked && is_listed link_names enter.name) (is_listed cell_names enter.name && is_limit o.limit o.cells) free).0 in
       let fact : is_fact names exit.name form o.last (bytes_between bytes (spot_of enter) (spot_of exit)) ≡ true =
@@ -199,9 +199,9 @@ module _ (names : List ℕ → Option (List ℕ)) (bytes : List ℕ) where
         i = ran.i + 1;
         way = way;
         node_fits = fits ek xk name_is known unlinked
-            (λ (h : same_name enter.name n.GfmTableDelimiterRow ≡ true). sym cells_are ∙ limit_is (same_name enter.name n.GfmTableDelimiterRow) o.above ran.cells h second.1)
+            (λ (h : same_name enter.name n.GfmTableDelimiterRow ≡ true). sym cells_are ∙ limit_is (same_name enter.name n.GfmTableDelimiterRow) o.above ran.cells h first.1)
             (ap (λ (z : Name). is_fact names z form o.last (bytes_between bytes (spot_of enter) (spot_of exit))) (sym name_is) ∙ fact)
-            (ran.fit second.0);
+            (ran.fit second.1);
         name_is = name_is;
         cells_are = cells_are;
         others = subst (λ (z : Check). fault_from names bytes z (ran.i + 1) es ≡ None) x.next_is g.others;
@@ -239,10 +239,7 @@ module _ (names : List ℕ → Option (List ℕ)) (bytes : List ℕ) where
       → Taking o (node_name node) d.form d.after_enter → Ran (exit_of d.after_enter d.name d.cells) outer ns es → Ran o outer (Cons node ns) es
   took o outer node ns es d w ran = took_by ran
     where
-      abbrev next_open : Open
-      next_open = exit_of (with_child o (node_name node) w.0.rest) d.name d.cells
-
-      took_to : Ran next_open outer ns es → Ran o outer (Cons node ns) es
+      took_to : Ran (exit_of (with_child o (node_name node) w.0.rest) d.name d.cells) outer ns es → Ran o outer (Cons node ns) es
       took_to ran =
           record {
             rest = ran.rest;

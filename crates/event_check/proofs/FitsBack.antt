@@ -62,7 +62,7 @@ full_by : (b : Bool) (above cells read : ℕ) → (b ≡ true → cells ≡ abov
 full_by true above cells read h e = eq-eqb read above (let k = h refl in omega (arith, k, e))
 full_by false above cells read h e = refl
 
-all_three : (a b c : Bool) → a ≡ true → b ≡ true → c ≡ true → (a && (b && c)) ≡ true
+all_three : (a b c : Bool) → a ≡ true → b ≡ true → c ≡ true → (a && b && c) ≡ true
 all_three true true true h k l = refl
 all_three true true false h k l = l
 all_three true false c h k l = k
@@ -156,7 +156,7 @@ module _ (names : List ℕ → Option (List ℕ)) (bytes : List ℕ) where
       let k = later inner d.rest d.last d.cells d.above in
       let may : may_exit k exit.name ≡ true =
       all_three (same_name name exit.name) (may_end d.rest) (has_limit (limit_of o name) d.cells) (true_same the_type name exit.name (sym p.name_is)) d.ends
-          (full_by (same_name name n.GfmTableDelimiterRow) o.above (cells_of kids) d.cells p.agree d.counted) in
+      (full_by (same_name name n.GfmTableDelimiterRow) o.above (cells_of kids) d.cells p.agree d.counted) in
       let exits : Stands names bytes (check_at k around d.spot) exit (check_at (exit_of after_enter exit.name d.cells) outer (spot_of exit)) =
       record {
         known = ap (is_listed mdx_names) p.name_is ∙ p.known;
@@ -190,13 +190,13 @@ module _ (names : List ℕ → Option (List ℕ)) (bytes : List ℕ) where
       let p = parts (within_of o) w.0.form (before_of o) node w.2 in
       let after_enter = with_child o enter.name w.0.rest in
       let d = node_done o after_enter outer at i enter kids exit w.0.form rest p
-          (free_by (o.linked && is_listed link_names enter.name) (is_listed cell_names enter.name) o.limit o.cells (cells_of ns) p.unlinked room)
-          (inl (w.0, w.1, refl, refl)) ih places in
+      (free_by (o.linked && is_listed link_names enter.name) (is_listed cell_names enter.name) o.limit o.cells (cells_of ns) p.unlinked room)
+      (inl (w.0, w.1, refl, refl)) ih places in
       let next = exit_of after_enter exit.name d.cells in
       let fit = subst (λ (z : ℕ). KidsFit names bytes (within_of o) (before (Some enter.name) z) w.0.rest ns)
-          (sym (above_is names bytes o.above exit.name node d.cells p.name_is d.cells_are)) w.3 in
+      (sym (above_is names bytes o.above exit.name node d.cells p.name_is d.cells_are)) w.3 in
       let l = others next outer (spot_of exit) d.index es fit
-          (λ (limit : ℕ) (h : o.limit ≡ Some limit). room_after (is_listed cell_names enter.name) o.cells (cells_of ns) limit (room limit h)) d.places in
+      (λ (limit : ℕ) (h : o.limit ≡ Some limit). room_after (is_listed cell_names enter.name) o.cells (cells_of ns) limit (room limit h)) d.places in
       record {
         rest = l.rest;
         last = l.last;
@@ -224,14 +224,14 @@ module _ (names : List ℕ → Option (List ℕ)) (bytes : List ℕ) where
       let p = parts (within_of o) Plain (before_of o) node w.2 in
       let filled : Fills enter.name = between_fills o.around enter.name w.1 in
       let d = node_done o o outer at i enter kids exit Plain rest p
-          (free_by (o.linked && is_listed link_names enter.name) (is_listed cell_names enter.name) o.limit o.cells (cells_of ns) p.unlinked room)
-          (inr (w.0, w.1, refl, refl)) ih places in
+      (free_by (o.linked && is_listed link_names enter.name) (is_listed cell_names enter.name) o.limit o.cells (cells_of ns) p.unlinked room)
+      (inr (w.0, w.1, refl, refl)) ih places in
       let next = exit_of o exit.name d.cells in
       let same : (if same_name exit.name n.GfmTableRow then d.cells else o.above) ≡ o.above =
       ap (λ (z : Name). if same_name z n.GfmTableRow then d.cells else o.above) p.name_is ∙ ap (λ (z : Bool). if z then d.cells else o.above) filled.1 in
       let fit = subst (λ (z : ℕ). KidsFit names bytes (within_of o) (before o.last z) o.rest ns) (sym same) w.3 in
       let l = others next outer (spot_of exit) d.index es fit
-          (λ (limit : ℕ) (h : o.limit ≡ Some limit). ap (λ (z : Bool). o.cells + (if z then cells_of ns + 1 else cells_of ns)) (sym filled.0) ∙ room limit h) d.places in
+      (λ (limit : ℕ) (h : o.limit ≡ Some limit). ap (λ (z : Bool). o.cells + (if z then cells_of ns + 1 else cells_of ns)) (sym filled.0) ∙ room limit h) d.places in
       record {
         rest = l.rest;
         last = l.last;

@@ -24,7 +24,7 @@ use Rattle.event_grammar.proofs.TreeLaw.{tree_law}
 use Rattle.event_references.specs.Texts.{texts_of}
 use Rattle.event_references.specs.Lost.{new_media, lost_from}
 use Rattle.event_references.proofs.LostLaw.{lost_law}
-use Rattle.event_check.proofs.Kinds.{tree_kinds}
+use Rattle.event_check.proofs.NodeKinds.{tree_kinds}
 use Rattle.event_check.proofs.Steps.{enters, goes_on, no_fault}
 use Rattle.event_check.proofs.Fits.{sound, loose_ends}
 use Rattle.event_check.proofs.FitsBack.{complete}
@@ -66,9 +66,11 @@ module _ (names : List ℕ → Option (List ℕ)) (bytes : List ℕ) where
   places_are : (es : List Event) (c : Check) (i : ℕ) → fault_from names bytes c i es ≡ None → PlacesFit bytes c.spot es
   places_are [] c i h = tt
   places_are (e ∷ es) c i h =
-      let g = goes_on names bytes c i e es h in
-      (g.stands.later, g.stands.spot,
-      subst (λ (z : Spot). PlacesFit bytes z es) (moved_spot e.kind c g.next e.name (spot_of e) g.stands.goes) (places_are es g.next (i + 1) g.others))
+      let g = goes_on names bytes c i e es h in (
+        g.stands.later,
+        g.stands.spot,
+        subst (λ (z : Spot). PlacesFit bytes z es) (moved_spot e.kind c g.next e.name (spot_of e) g.stands.goes) (places_are es g.next (i + 1) g.others),
+      )
 
   -- ---- the law, but for references
 
@@ -83,7 +85,7 @@ module _ (names : List ℕ → Option (List ℕ)) (bytes : List ℕ) where
       let nested = tree_law names bytes events h in
       let same : events ≡ events_of (tree events) ++ [] = nested ∙ sym (append-nil (events_of (tree events))) in
       let ran = sound names bytes (tree events) (tree_kinds events) the_document [] (spot 0 0) 0 []
-          (subst (λ (z : List Event). fault_from names bytes at_start 0 z ≡ None) same h) in
+      (subst (λ (z : List Event). fault_from names bytes at_start 0 z ≡ None) same h) in
       record {
         nested = nested;
         fit = ran.fit (loose_ends ran.rest (ran.loose refl));

@@ -1,4 +1,4 @@
-pub mod Kinds
+pub mod NodeKinds
 pub mod Steps
 pub mod Fits
 pub mod FitsBack

@@ -128,9 +128,9 @@ module _ (names : List ℕ → Option (List ℕ)) (bytes : List ℕ) where
       → is_place names bytes c e ≡ t → placed names bytes t n ≡ Ok next → Stands c e next
   stands_at false c n next e k g p h = no_ok _ kinds.Place next h
   stands_at true c n next e k g p h =
-      let first = and_parts (reaches c.spot (spot_of e)) (is_spot bytes (spot_of e) && fact_at names bytes c.inner e.kind e.name (spot_of e)) p in
-      let second = and_parts (is_spot bytes (spot_of e)) (fact_at names bytes c.inner e.kind e.name (spot_of e)) first.1 in
-      record { known = k; goes = g ∙ ap (λ (z : Check). Some z) (ok_is n next h); later = first.0; spot = second.0; fact = second.1 }
+      let first = and_parts (reaches c.spot (spot_of e) && is_spot bytes (spot_of e)) (fact_at names bytes c.inner e.kind e.name (spot_of e)) p in
+      let second = and_parts (reaches c.spot (spot_of e)) (is_spot bytes (spot_of e)) first.0 in
+      record { known = k; goes = g ∙ ap (λ (z : Check). Some z) (ok_is n next h); later = second.0; spot = second.1; fact = first.1 }
 
   stands_by : (b : Bool) (m : Option Check) (c next : Check) (e : Event) → is_listed mdx_names e.name ≡ b → moved c e.kind e.name (spot_of e) ≡ m
       → answer b c e m ≡ Ok next → Stands c e next

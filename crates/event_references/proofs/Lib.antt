@@ -1,2 +1,3 @@
 pub mod TextLaw
 pub mod LostLaw
+pub mod Loops
