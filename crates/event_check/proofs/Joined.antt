@@ -146,3 +146,25 @@ module _ (names : List ℕ → Option (List ℕ)) (bytes : List ℕ) where
       let f = fits_then events h in
       ap (λ (z : List Event). lost_from bytes (texts_of bytes n.DefinitionLabelString z) (texts_of bytes n.GfmFootnoteDefinitionLabelString z) new_media [] 0 z) f.nested
       ∙ lost_law bytes (tree events) (are_nodes _ _ _ (tree events) f.fit)
+
+  abbrev lost_event : List Event → Option ℕ
+  lost_event events =
+      lost_from bytes (texts_of bytes n.DefinitionLabelString events) (texts_of bytes n.GfmFootnoteDefinitionLabelString events) new_media [] 0 events
+
+  pub first_is : (events : List Event) (found : EventFault) → fault_from names bytes at_start 0 events ≡ Some found → fault names bytes events ≡ Some found
+  first_is events found h = ap (or_lost names bytes events) h
+
+  -- without another fault it is that of a reference
+  lost_is : (events : List Event) (lost : Option ℕ) → fault_from names bytes at_start 0 events ≡ None → lost_event events ≡ lost
+      → fault names bytes events ≡ lost_fault names bytes lost
+  lost_is events lost h k = ap (or_lost names bytes events) h ∙ ap (lost_fault names bytes) (sym (lost_found events h) ∙ k)
+
+  pub reference_is : (events : List Event) (index : ℕ) → fault_from names bytes at_start 0 events ≡ None → lost_event events ≡ Some index
+      → fault names bytes events ≡ Some (event_fault kinds.Reference index)
+  reference_is events index h k = lost_is events (Some index) h k
+
+  pub holds : (events : List Event) → fault_from names bytes at_start 0 events ≡ None → lost_event events ≡ None → IsInGrammar names bytes events
+  holds events h k = fault_free events (lost_is events None h k)
+
+  pub not_both : (A : Type 0) (events : List Event) (found : EventFault) → fault names bytes events ≡ Some found → IsInGrammar names bytes events → A
+  not_both A events found h g = no_fault A found (sym h ∙ in_grammar events g)
