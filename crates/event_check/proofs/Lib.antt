@@ -3,3 +3,5 @@ pub mod Steps
 pub mod Fits
 pub mod FitsBack
 pub mod Joined
+pub mod LooseLaw
+pub mod AlignLaw

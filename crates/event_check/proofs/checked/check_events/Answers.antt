@@ -18,7 +18,7 @@ returns-in-Some-2-clause-passes g c =
     let bytes = c.args.bytes.now in
     λ (h : IsInGrammar names bytes c.args.events.now).
     not_both names bytes _ c.args.events.now (event_fault kinds.Reference c.in-Some-2.index)
-        (reference_is names bytes c.args.events.now c.in-Some-2.index (sym c.in_ok-found.ensures ∙ c.in_default.is) (sym c.in_ok-index.ensures ∙ c.in-Some-2.is)) h
+    (reference_is names bytes c.args.events.now c.in-Some-2.index (sym c.in_ok-found.ensures ∙ c.in_default.is) (sym c.in_ok-index.ensures ∙ c.in-Some-2.is)) h
 
 pub returns-in-Some-2-clause-fault : goal.returns-in-Some-2-clause-fault
 returns-in-Some-2-clause-fault g c =
