@@ -1,0 +1,7 @@
+pub mod NodeKinds
+pub mod Steps
+pub mod Fits
+pub mod FitsBack
+pub mod Joined
+pub mod LooseLaw
+pub mod AlignLaw

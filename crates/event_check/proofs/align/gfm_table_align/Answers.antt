@@ -1,0 +1,12 @@
+use Rattle.std.proofs.Common.{◌≡◌, ◌∙◌, ◌+◌, ap, drop}
+use Rattle.event_grammar.specs.Trees.{Node}
+use Rattle.event_check.specs.Align.{aligns_after}
+use Rattle.event_check.specs.Loose.{IsAt}
+use Rattle.event_check.proofs.AlignLaw.{aligns_are}
+use Rattle.event_check.proofs.align.gfm_table_align.Goals as goal
+
+pub returns : goal.returns
+returns g c = λ (node : Node) (h : IsAt c.args.checked.now.events.now c.args.index node).
+    c.in_ok-aligns.ensures
+    ∙ ap (aligns_after 0) (c.events_after.ensures ∙ ap (drop (c.args.index + 1)) c.events.ensures)
+    ∙ aligns_are c.args.checked.now.events.now c.args.index node h

@@ -1,0 +1,65 @@
+//! Lists of events that are in the grammar.
+ghost use Rattle.std.specs.Prelude.{◌≡◌, IfErr, IfOk, OnOk, None};
+ghost use Rattle.event_grammar.specs.Faults.{fault};
+ghost use Rattle.event_grammar.specs.InGrammar.{IsInGrammar};
+ghost use Rattle.event_check.specs.Checked.{Refuses};
+ghost use Rattle.event_check.specs.declared.error.CompileError.TheVariants.{Memory};
+
+use crate::error::CompileError;
+use engine_events::event::Event;
+use event_grammar::check::first_fault;
+use event_grammar::{EventFault, FaultKind};
+use event_references::first_lost;
+use markdown_options::Tables;
+use std::alloc::Allocator;
+
+/// A list of events of a text that is in the grammar.
+#[derive(Clone, Copy)]
+pub struct Checked<'a> {
+    events: &'a [Event],
+    bytes: &'a [u8],
+}
+
+impl<'a> Checked<'a> {
+    /// The events.
+    pub fn events(&self) -> &'a [Event]
+        ensures { result.now ≡ self.now.events.now }
+    {
+        self.events
+    }
+
+    /// The text.
+    pub fn bytes(&self) -> &'a [u8]
+        ensures { result.now ≡ self.now.bytes.now }
+    {
+        self.bytes
+    }
+}
+
+/// Checks that a list of events of a text is in the grammar. Otherwise returns its first fault, or
+/// fails with `out of memory`.
+///
+/// No point's line or column is read: places are an index and columns of a tab there.
+pub fn check_events<'a, T: Tables, A: Allocator + Clone>(
+    alloc: A,
+    events: &'a [Event],
+    bytes: &'a [u8],
+    tables: &T,
+) -> Result<Checked<'a>, CompileError>
+    ensures right { OnOk result (IsInGrammar (T.reference_of tables.now) bytes.now events.now) }
+    ensures passes { IsInGrammar (T.reference_of tables.now) bytes.now events.now → IfErr result (λ error. error ≡ Memory) }
+    ensures fault { IfErr result (λ error. Refuses error (fault (T.reference_of tables.now) bytes.now events.now)) }
+    ensures events { IfOk result (λ checked. checked.events.now ≡ events.now) }
+    ensures bytes { IfOk result (λ checked. checked.bytes.now ≡ bytes.now) }
+{
+    if let Some(found) = first_fault(alloc.clone()?, events, bytes, tables)? {
+        return Err(CompileError::Events(found));
+    }
+    if let Some(index) = first_lost(alloc, events, bytes)? {
+        return Err(CompileError::Events(EventFault {
+            kind: FaultKind::Reference,
+            index,
+        }));
+    }
+    Ok(Checked { events, bytes })
+}

@@ -1,0 +1,7 @@
+use Rattle.std.proofs.Common.{◌≡◌, ◌∙◌, true, sym, ap, take}
+use Rattle.std.specs.Str.{is_utf8}
+use Rattle.event_grammar.proofs.PlaceLaws.{text_more}
+use Rattle.event_grammar.proofs.place.is_text_on.Goals as goal
+
+pub returns : goal.returns
+returns c = c.is_text.ensures ∙ sym (text_more c.args.bytes.now c.args.from c.args.to c.requires.text c.requires.order)

@@ -1,0 +1,3 @@
+pub mod TextLaw
+pub mod LostLaw
+pub mod Loops

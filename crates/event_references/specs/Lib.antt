@@ -1,0 +1,3 @@
+pub mod Texts
+pub mod Lost
+pub mod Views

@@ -1,0 +1,66 @@
+//! The labels of definitions among events.
+ghost use Rattle.std.specs.Prelude.{◌≡◌, ◌<◌, List, ℕ, IfOk, length, map, is_some};
+ghost use Rattle.std.specs.Option.{option_map};
+ghost use Rattle.definition_text.specs.Content.{content_codes};
+ghost use Rattle.inline_labels.specs.Table.{HasLabels};
+ghost use Rattle.event_grammar.specs.References.{is_defined};
+ghost use Rattle.event_references.specs.Texts.{is_enter, texts_of};
+ghost use Rattle.event_references.specs.Views.{text_at};
+
+use crate::label::{push_text, push_text_at};
+use engine_events::event::{Event, Kind, Name};
+use event_grammar::spot::spot_of;
+use inline_labels::LabelTable;
+use std::alloc::{AllocError, Allocator};
+
+/// The texts of all events of a name, as a table of labels.
+pub fn label_table<A: Allocator + Clone>(
+    alloc: A,
+    events: &[Event],
+    bytes: &[u8],
+    name: Name,
+) -> Result<LabelTable<A>, AllocError>
+    ensures { IfOk result (λ table. HasLabels table (map content_codes (texts_of bytes.now name events.now))) }
+{
+    let mut table = LabelTable::new(alloc.clone()?)?;
+    let mut text = Vec::new(alloc);
+    let mut count = 0;
+    for (index, event) in events.iter().enumerate() {
+        if is_enter(event.kind) && event.name == name {
+            text.clear();
+            push_text(&mut text, bytes, spot_of(event), &events[index + 1..])?;
+            table.insert(&text, count)?;
+            count += 1;
+        }
+    }
+    Ok(table)
+}
+
+fn is_enter(kind: Kind) -> bool
+    ensures { result ≡ is_enter kind }
+{
+    match kind {
+        Kind::Enter => true,
+        Kind::Exit => false,
+    }
+}
+
+/// Whether the text of an event, given by its index, is a label of the table; without an event
+/// nothing is asked.
+pub fn is_defined<A: Allocator + Clone>(
+    table: &LabelTable<A>,
+    text: &mut Vec<u8, A>,
+    events: &[Event],
+    bytes: &[u8],
+    label: Option<usize>,
+) -> Result<bool, AllocError>
+    ensures { (labels : List (List ℕ)) → HasLabels table.now (map content_codes labels) →
+        IfOk result (λ found. found ≡ is_defined labels (option_map (text_at bytes.now events.now) label)) }
+{
+    let Some(index) = label else {
+        return Ok(true);
+    };
+    text.clear();
+    push_text_at(text, bytes, events, index)?;
+    Ok(table.find(text)?.is_some())
+}

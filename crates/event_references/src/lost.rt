@@ -1,0 +1,189 @@
+//! Links, images and footnote calls whose labels have no definition.
+ghost use Rattle.std.specs.Prelude.{◌≡◌, ◌∷◌, ◌++◌, [], true, false, List, ℕ, IfOk, OnOk, drop, map, reverse};
+ghost use Rattle.std.specs.Option.{option_map, option_or};
+ghost use Rattle.engine_events.specs.Names.{is_listed};
+ghost use Rattle.engine_events.specs.declared.event.Event.{Event as AnEvent};
+ghost use Rattle.engine_events.specs.declared.event.Name.TheVariants as names;
+ghost use Rattle.definition_text.specs.Content.{content_codes};
+ghost use Rattle.inline_labels.specs.Table.{HasLabels};
+ghost use Rattle.event_grammar.specs.References.{media_names, leads};
+ghost use Rattle.event_references.specs.Texts.{texts_of};
+ghost use Rattle.event_references.specs.Lost.{new_media, noted, only_if, label_of, around, lost_from};
+ghost use Rattle.event_references.specs.Views.{text_at, media_view};
+
+use crate::labels::{is_defined, label_table};
+use engine_events::event::{Event, Kind, Name};
+use inline_labels::LabelTable;
+use std::alloc::{AllocError, Allocator};
+
+const MEDIA_NAMES: [Name; 3] = [Name::Link, Name::Image, Name::GfmFootnoteCall];
+
+/// A link, an image or a call that is open. Its parts are given by the indices of their enters.
+#[derive(Clone, Copy)]
+pub struct Media {
+    /// Whether it has a resource.
+    resource: bool,
+    /// The string of its reference.
+    reference: Option<usize>,
+    /// Its text.
+    text: Option<usize>,
+}
+
+impl Media {
+    fn new() -> Media
+        ensures { (bytes : List ℕ) → (events : List AnEvent) → media_view bytes events result ≡ new_media }
+    {
+        Media {
+            resource: false,
+            reference: None,
+            text: None,
+        }
+    }
+
+    /// An event of this name, with this index, is in it.
+    fn noted(self, name: Name, index: usize) -> Media
+        ensures { (bytes : List ℕ) → (events : List AnEvent) →
+            media_view bytes events result ≡ noted name (text_at bytes events index) (media_view bytes events self) }
+    {
+        Media {
+            resource: self.resource || name == Name::Resource,
+            reference: first_of(self.reference, name == Name::ReferenceString, index),
+            text: first_of(self.text, name == Name::LabelText, index),
+        }
+    }
+
+    /// The index of its label. With a resource it needs none.
+    fn label(self) -> Option<usize>
+        ensures { (bytes : List ℕ) → (events : List AnEvent) →
+            option_map (text_at bytes events) result ≡ label_of (media_view bytes events self) }
+    {
+        if self.resource {
+            return None;
+        }
+        match self.reference {
+            Some(index) => Some(index),
+            None => self.text,
+        }
+    }
+}
+
+/// The index that is known, otherwise this one, if it is one.
+fn first_of(known: Option<usize>, is_one: bool, index: usize) -> Option<usize>
+    ensures { (text : ℕ → List ℕ) → option_map text result ≡ option_or (option_map text known) (only_if is_one (text index)) }
+{
+    match known {
+        Some(known) => Some(known),
+        None => { if is_one { Some(index) } else { None } }
+    }
+}
+
+/// The links, images and calls that are open.
+#[derive(Drop)]
+struct Open<A: Allocator> {
+    /// The innermost, or what stands for the document.
+    inner: Media,
+    /// Those around it, the innermost last.
+    outer: Vec<Media, A>,
+}
+
+impl<A: Allocator> Open<A> {
+    /// An event of this name is entered.
+    fn enter(&mut self, name: Name, index: usize) -> Result<(), AllocError>
+        ensures media { (bytes : List ℕ) → (events : List AnEvent) → is_listed media_names name ≡ true → OnOk result
+            ((media_view bytes events self.new.inner ≡ new_media) × (self.new.outer.items ≡ self.old.outer.items ++ self.old.inner ∷ [])) }
+        ensures other { (bytes : List ℕ) → (events : List AnEvent) → is_listed media_names name ≡ false → OnOk result
+            ((media_view bytes events self.new.inner ≡ noted name (text_at bytes events index) (media_view bytes events self.old.inner))
+            × (self.new.outer.items ≡ self.old.outer.items)) }
+    {
+        if MEDIA_NAMES.contains(&name) {
+            self.outer.push(self.inner)?;
+            self.inner = Media::new();
+        } else {
+            self.inner = self.inner.noted(name, index);
+        }
+        Ok(())
+    }
+
+    /// The innermost is exited.
+    fn leave(&mut self)
+        ensures inner { (bytes : List ℕ) → (events : List AnEvent) →
+            media_view bytes events self.new.inner ≡ around (map (media_view bytes events) (reverse self.old.outer.items)) }
+        ensures outer { reverse self.new.outer.items ≡ drop 1 (reverse self.old.outer.items) }
+    {
+        self.inner = match self.outer.pop() {
+            Some(media) => media,
+            None => Media::new(),
+        };
+    }
+}
+
+/// The definitions of a list.
+#[derive(Drop)]
+struct Definitions<A: Allocator + Clone> {
+    links: LabelTable<A>,
+    footnotes: LabelTable<A>,
+}
+
+impl<A: Allocator + Clone> Definitions<A> {
+    /// Whether a label, given by the index of its event, leads to a definition from what has this
+    /// name. `text` is written over.
+    fn leads(
+        &self,
+        text: &mut Vec<u8, A>,
+        events: &[Event],
+        bytes: &[u8],
+        name: Name,
+        label: Option<usize>,
+    ) -> Result<bool, AllocError>
+        ensures { (links footnotes : List (List ℕ)) → HasLabels self.now.links (map content_codes links) → HasLabels self.now.footnotes (map content_codes footnotes) →
+            IfOk result (λ found. found ≡ leads links footnotes name (option_map (text_at bytes.now events.now) label)) }
+    {
+        let table = if name == Name::GfmFootnoteCall {
+            &self.footnotes
+        } else {
+            &self.links
+        };
+        is_defined(table, text, events, bytes, label)
+    }
+}
+
+/// The index of the first exit of a link, an image or a call whose label has no definition among
+/// these events, if there is one.
+pub fn first_lost<A: Allocator + Clone>(
+    alloc: A,
+    events: &[Event],
+    bytes: &[u8],
+) -> Result<Option<usize>, AllocError>
+    ensures { IfOk result (λ found. found ≡ lost_from bytes.now (texts_of bytes.now names.DefinitionLabelString events.now)
+        (texts_of bytes.now names.GfmFootnoteDefinitionLabelString events.now) new_media [] 0 events.now) }
+{
+    let definitions = Definitions {
+        links: label_table(alloc.clone()?, events, bytes, Name::DefinitionLabelString)?,
+        footnotes: label_table(
+            alloc.clone()?,
+            events,
+            bytes,
+            Name::GfmFootnoteDefinitionLabelString,
+        )?,
+    };
+    let mut text = Vec::new(alloc.clone()?);
+    let mut open = Open {
+        inner: Media::new(),
+        outer: Vec::new(alloc),
+    };
+    for (index, event) in events.iter().enumerate() {
+        match event.kind {
+            Kind::Enter => open.enter(event.name, index)?,
+            Kind::Exit => {
+                if MEDIA_NAMES.contains(&event.name) {
+                    let label = open.inner.label();
+                    if !definitions.leads(&mut text, events, bytes, event.name, label)? {
+                        return Ok(Some(index));
+                    }
+                    open.leave();
+                }
+            }
+        }
+    }
+    Ok(None)
+}
