@@ -10,7 +10,9 @@ use Rattle.definition_text.specs.Indents.{outdent}
 use Rattle.definition_block.specs.CodeIndented.{starts_code_indented}
 use Rattle.definition_block.specs.CodeFenced.{Fence, fence_start, is_fence_end, fence_line}
 use Rattle.definition_block.specs.MathFlow.{math_start}
-use Rattle.std.specs.Option.{option_or}
+use Rattle.std.specs.Prelude.{unwrap_or}
+use Rattle.std.specs.Bool.{then_some}
+use Rattle.std.specs.Option.{option_or, option_map, option_and_then}
 use Rattle.block_parser.specs.Fences.{opening_fence}
 use Rattle.definition_block.specs.HtmlFlow.{html_start, ends_before_blank}
 use Rattle.definition_block.specs.HeadingAtx.{Atx, heading_atx}
@@ -21,9 +23,8 @@ use Rattle.text_pieces.specs.ParagraphLines.{AreLines}
 use Rattle.definition_text.specs.BlockLines.{BlockLine, spaced_line, own_lines}
 use Rattle.definition_block.specs.Tree.{Heading, Break, FencedCode, Blank, Blocks, Nil, join, one, block_and_ending, OpenLeaf, Text, Indented, Fenced, OpenHtml}
 use Rattle.definition_block.specs.Tree.{OpenTable, Opening, Leaf, Inside, Tree, tree, nothing, close, after, leaf_text, open_text, text_here, is_some_line}
-use Rattle.definition_block.specs.Tree.{has_text, is_table_leaf, has_table, makes_table, with_line, rest_line, leaf_line, leaf_tree_or, or_fence, or_html}
-use Rattle.definition_block.specs.Tree.{or_heading}
-use Rattle.definition_block.specs.Tree.{html_with, break_or_text, text_line_of, tree_or, turns, heading_if, heading_of, new}
+use Rattle.definition_block.specs.Tree.{has_text, is_table_leaf, has_table, makes_table, with_line, rest_line, leaf_line, html_with, text_line_of, turns}
+use Rattle.definition_block.specs.Tree.{indented_tree, fence_tree, html_tree, atx_tree, break_tree, underlined, heading_of, anew, first_of, leaf_starts, new}
 use Rattle.block_state.specs.Spine.{Level, level, Spine, spine, spine_at, spine_after}
 use Rattle.block_parser.specs.HeadingSetext.{IsText, heading_blocks, heading_tree}
 use Rattle.block_parser.specs.GfmTable.{table_from_cut}
@@ -39,109 +40,134 @@ module _ (on : Constructs) (e : Beside) (r : Rest) where
 
   pub indented_blank : (ls pending : List BlockLine) → is_blank r ≡ true
       → leaf_grown on e r (Leaf (Indented ls pending)) ≡ tree Nil (Leaf (Indented ls (pending ++ rest_line (outdent 4 r) e ∷ [])))
-  indented_blank ls pending h = ap (λ o. tree_or o (other_line (Indented ls pending))) (cond-true (is_blank r) _ _ h)
+  indented_blank ls pending h = ap (λ o. unwrap_or o (other_line (Indented ls pending))) (cond-true (is_blank r) _ _ h)
 
   pub indented_code : (ls pending : List BlockLine) → is_blank r ≡ false → starts_code_indented on r ≡ true
       → leaf_grown on e r (Leaf (Indented ls pending)) ≡ tree Nil (Leaf (Indented (ls ++ pending ++ rest_line (outdent 4 r) e ∷ []) []))
   indented_code ls pending h k =
-      ap (λ o. tree_or o (other_line (Indented ls pending))) (cond-false (is_blank r) _ _ h ∙ cond-true (starts_code_indented on r) _ _ k)
+      ap (λ o. unwrap_or o (other_line (Indented ls pending))) (cond-false (is_blank r) _ _ h ∙ cond-true (starts_code_indented on r) _ _ k)
 
   pub indented_other : (ls pending : List BlockLine) → is_blank r ≡ false → starts_code_indented on r ≡ false
       → leaf_grown on e r (Leaf (Indented ls pending)) ≡ new (length r) on true (Leaf (Indented ls pending)) e r
   indented_other ls pending h k =
-      ap (λ o. tree_or o (other_line (Indented ls pending))) (cond-false (is_blank r) _ _ h ∙ cond-false (starts_code_indented on r) _ _ k)
+      ap (λ o. unwrap_or o (other_line (Indented ls pending))) (cond-false (is_blank r) _ _ h ∙ cond-false (starts_code_indented on r) _ _ k)
 
   pub fenced_end : (f : Fence) (opening : Option LineEnding) (ls : List BlockLine) → is_fence_end on f r ≡ true
       → leaf_grown on e r (Leaf (Fenced f opening ls)) ≡ tree (block_and_ending (FencedCode f.info true ls) e.ending) nothing
-  fenced_end f opening ls h = ap (λ o. tree_or o (other_line (Fenced f opening ls))) (cond-true (is_fence_end on f r) _ _ h)
+  fenced_end f opening ls h = ap (λ o. unwrap_or o (other_line (Fenced f opening ls))) (cond-true (is_fence_end on f r) _ _ h)
 
   pub fenced_goes_on : (f : Fence) (opening : Option LineEnding) (ls : List BlockLine) → is_fence_end on f r ≡ false
       → leaf_grown on e r (Leaf (Fenced f opening ls)) ≡ tree Nil (Leaf (Fenced f opening (ls ++ rest_line (fence_line f r) e ∷ [])))
-  fenced_goes_on f opening ls h = ap (λ o. tree_or o (other_line (Fenced f opening ls))) (cond-false (is_fence_end on f r) _ _ h)
+  fenced_goes_on f opening ls h = ap (λ o. unwrap_or o (other_line (Fenced f opening ls))) (cond-false (is_fence_end on f r) _ _ h)
 
 -- ---- an HTML block takes a line
 
 module _ (on : Constructs) (e : Beside) (r : Rest) (kind : ℕ) (ls : List BlockLine) where
   pub html_goes_on : (ends_before_blank kind && is_blank r) ≡ false → leaf_grown on e r (Leaf (OpenHtml kind ls)) ≡ html_with kind ls r e
-  html_goes_on h = ap (λ o. tree_or o (new (length r) on true (Leaf (OpenHtml kind ls)) e r)) (cond-false (ends_before_blank kind && is_blank r) _ _ h)
+  html_goes_on h = ap (λ o. unwrap_or o (new (length r) on true (Leaf (OpenHtml kind ls)) e r)) (cond-false (ends_before_blank kind && is_blank r) _ _ h)
 
   pub html_stops : (ends_before_blank kind && is_blank r) ≡ true → leaf_grown on e r (Leaf (OpenHtml kind ls))
       ≡ new (length r) on true (Leaf (OpenHtml kind ls)) e r
-  html_stops h = ap (λ o. tree_or o (new (length r) on true (Leaf (OpenHtml kind ls)) e r)) (cond-true (ends_before_blank kind && is_blank r) _ _ h)
+  html_stops h = ap (λ o. unwrap_or o (new (length r) on true (Leaf (OpenHtml kind ls)) e r)) (cond-true (ends_before_blank kind && is_blank r) _ _ h)
 
 -- ---- a line that the open leaf doesn't take
 
--- a fence, or else another
-either_fence : (ending : Option LineEnding) (o p : Option Fence) (other : Option Tree)
-    → or_fence ending o (or_fence ending p other) ≡ or_fence ending (option_or o p) other
-either_fence ending None p other = refl
-either_fence ending (Some f) p other = refl
+-- the fence of code, or else that of math
+either_fence : (f : Fence → Tree) (g : Tree → Tree) (o p : Option Fence) (other : Option Tree)
+    → option_or (option_map g (option_map f o)) (option_or (option_map g (option_map f p)) other) ≡ option_or (option_map g (option_map f (option_or o p))) other
+either_fence f g None p other = refl
+either_fence f g (Some fence) p other = refl
 
 module _ (on : Constructs) (away : Opening) (r : Rest) (e : Beside) where
-  abbrev rest_of_leaves : Option Tree → Tree
-  rest_of_leaves o = leaf_tree_or on o away (tree_or (turns on away r e.ending) (break_or_text on away r e))
+  -- what is found, or a line of text
+  abbrev or_text : Option Tree → Tree
+  or_text o = unwrap_or o (text_line_of on away r e)
 
-  abbrev html_or_heading : Option ℕ → Option Tree
-  html_or_heading o = or_html r e o (or_heading e.ending (heading_atx on r))
+  -- the first that begins, of those from a break, an underline, an ATX heading, an HTML block, a fence or indented code on
+  abbrev from_break : Bool → Option Tree
+  from_break b = option_or (anew on away (then_some b (break_tree e))) (option_or (makes_table on away r e) None)
+
+  abbrev from_underline : Option Tree → Option Tree
+  from_underline o = option_or o (from_break (is_break on r))
+
+  abbrev from_heading : Option Atx → Option Tree
+  from_heading o = option_or (anew on away (option_map (atx_tree e) o)) (from_underline (turns on away r e.ending))
+
+  abbrev from_html : Option ℕ → Option Tree
+  from_html o = option_or (anew on away (option_map (html_tree r e) o)) (from_heading (heading_atx on r))
+
+  abbrev from_fence : Option Fence → Option Tree
+  from_fence o = option_or (anew on away (option_map (fence_tree e) o)) (from_html (html_start on (has_text away) r))
+
+  abbrev from_code : Bool → Option Tree
+  from_code b = option_or (anew on away (then_some b (indented_tree r e))) (from_fence (opening_fence on r))
+
+  first_leaf : first_of (leaf_starts on away r e) ≡ from_code (starts_code_indented on r && not (has_text away))
+  first_leaf =
+      ap (option_or (anew on away (then_some (starts_code_indented on r && not (has_text away)) (indented_tree r e))))
+      (either_fence (fence_tree e) (after on away) (fence_start on r) (math_start on r) (from_html (html_start on (has_text away) r)))
 
   pub blank_leaf : is_blank r ≡ true → leaf_line on away r e ≡ after on away (tree (one (Blank e.ending)) nothing)
   blank_leaf h = cond-true (is_blank r) _ _ h
 
   module _ (h : is_blank r ≡ false) where
+    any_leaf : leaf_line on away r e ≡ or_text (from_code (starts_code_indented on r && not (has_text away)))
+    any_leaf = cond-false (is_blank r) _ _ h ∙ ap or_text first_leaf
+
     pub indented_leaf : (starts_code_indented on r && not (has_text away)) ≡ true
         → leaf_line on away r e ≡ after on away (tree Nil (Leaf (Indented (rest_line (outdent 4 r) e ∷ []) [])))
-    indented_leaf k = cond-false (is_blank r) _ _ h ∙ ap rest_of_leaves (cond-true (starts_code_indented on r && not (has_text away)) _ _ k)
+    indented_leaf k = any_leaf ∙ ap (λ b. or_text (from_code b)) k
 
     module _ (k : (starts_code_indented on r && not (has_text away)) ≡ false) where
       -- no indented code begins
-      other_leaf : leaf_line on away r e ≡ rest_of_leaves (or_fence e.ending (opening_fence on r) (html_or_heading (html_start on (has_text away) r)))
-      other_leaf =
-          cond-false (is_blank r) _ _ h
-          ∙ ap rest_of_leaves (cond-false (starts_code_indented on r && not (has_text away)) _ _ k
-          ∙ either_fence e.ending (fence_start on r) (math_start on r) _)
+      other_leaf : leaf_line on away r e ≡ or_text (from_fence (opening_fence on r))
+      other_leaf = any_leaf ∙ ap (λ b. or_text (from_code b)) k
 
       pub fenced_leaf : (f : Fence) → opening_fence on r ≡ Some f → leaf_line on away r e ≡ after on away (tree Nil (Leaf (Fenced f e.ending [])))
-      fenced_leaf f fence = other_leaf ∙ ap (λ o. rest_of_leaves (or_fence e.ending o (html_or_heading (html_start on (has_text away) r)))) fence
+      fenced_leaf f fence = other_leaf ∙ ap (λ o. or_text (from_fence o)) fence
 
       module _ (fence : opening_fence on r ≡ None) where
         -- and no fenced code
-        html_leaves : leaf_line on away r e ≡ rest_of_leaves (html_or_heading (html_start on (has_text away) r))
-        html_leaves = other_leaf ∙ ap (λ o. rest_of_leaves (or_fence e.ending o (html_or_heading (html_start on (has_text away) r)))) fence
+        html_leaves : leaf_line on away r e ≡ or_text (from_html (html_start on (has_text away) r))
+        html_leaves = other_leaf ∙ ap (λ o. or_text (from_fence o)) fence
 
         pub html_leaf : (kind : ℕ) → html_start on (has_text away) r ≡ Some kind → leaf_line on away r e ≡ after on away (html_with kind [] r e)
-        html_leaf kind html = html_leaves ∙ ap (λ o. rest_of_leaves (html_or_heading o)) html
+        html_leaf kind html = html_leaves ∙ ap (λ o. or_text (from_html o)) html
 
         module _ (html : html_start on (has_text away) r ≡ None) where
           -- and no HTML block
-          heading_leaves : leaf_line on away r e ≡ rest_of_leaves (or_heading e.ending (heading_atx on r))
-          heading_leaves = html_leaves ∙ ap (λ o. rest_of_leaves (html_or_heading o)) html
+          heading_leaves : leaf_line on away r e ≡ or_text (from_heading (heading_atx on r))
+          heading_leaves = html_leaves ∙ ap (λ o. or_text (from_html o)) html
 
           pub heading_leaf : (atx : Atx) → heading_atx on r ≡ Some atx
               → leaf_line on away r e ≡ after on away (tree (block_and_ending (Heading atx.rank (spaced_line atx.content None ∷ [])) e.ending) nothing)
-          heading_leaf atx heading = heading_leaves ∙ ap (λ o. rest_of_leaves (or_heading e.ending o)) heading
+          heading_leaf atx heading = heading_leaves ∙ ap (λ o. or_text (from_heading o)) heading
 
           module _ (heading : heading_atx on r ≡ None) where
             -- and no heading
-            last_leaves : leaf_line on away r e ≡ tree_or (turns on away r e.ending) (break_or_text on away r e)
-            last_leaves = heading_leaves ∙ ap (λ o. rest_of_leaves (or_heading e.ending o)) heading
+            last_leaves : leaf_line on away r e ≡ or_text (from_underline (turns on away r e.ending))
+            last_leaves = heading_leaves ∙ ap (λ o. or_text (from_heading o)) heading
 
             pub turned_leaf : (t : Tree) → turns on away r e.ending ≡ Some t → leaf_line on away r e ≡ t
-            turned_leaf t turned = last_leaves ∙ ap (λ o. tree_or o (break_or_text on away r e)) turned
+            turned_leaf t turned = last_leaves ∙ ap (λ o. or_text (from_underline o)) turned
 
             module _ (unturned : turns on away r e.ending ≡ None) where
+              break_leaves : leaf_line on away r e ≡ or_text (from_break (is_break on r))
+              break_leaves = last_leaves ∙ ap (λ o. or_text (from_underline o)) unturned
+
               pub break_leaf : is_break on r ≡ true → leaf_line on away r e ≡ after on away (tree (block_and_ending Break e.ending) nothing)
-              break_leaf b = last_leaves ∙ ap (λ o. tree_or o (break_or_text on away r e)) unturned ∙ cond-true (is_break on r) _ _ b
+              break_leaf b = break_leaves ∙ ap (λ b. or_text (from_break b)) b
 
               module _ (unbroken : is_break on r ≡ false) where
                 -- and no break
-                table_or_text : leaf_line on away r e ≡ tree_or (makes_table on away r e) (text_line_of on away r e)
-                table_or_text = last_leaves ∙ ap (λ o. tree_or o (break_or_text on away r e)) unturned ∙ cond-false (is_break on r) _ _ unbroken
+                table_or_text : leaf_line on away r e ≡ or_text (option_or (makes_table on away r e) None)
+                table_or_text = break_leaves ∙ ap (λ b. or_text (from_break b)) unbroken
 
                 pub table_leaf : (t : Tree) → makes_table on away r e ≡ Some t → leaf_line on away r e ≡ t
-                table_leaf t made = table_or_text ∙ ap (λ o. tree_or o (text_line_of on away r e)) made
+                table_leaf t made = table_or_text ∙ ap (λ o. or_text (option_or o None)) made
 
                 pub text_leaf : makes_table on away r e ≡ None → leaf_line on away r e ≡ text_line_of on away r e
-                text_leaf unmade = table_or_text ∙ ap (λ o. tree_or o (text_line_of on away r e)) unmade
+                text_leaf unmade = table_or_text ∙ ap (λ o. or_text (option_or o None)) unmade
 
 -- ---- an underline
 
@@ -160,24 +186,24 @@ module _ (on : Constructs) (r : Rest) (e : Option LineEnding) where
   is_headed rank definitions [] some = let wrong : false ≡ true = some in cc
   is_headed rank definitions (l ∷ ls) some = refl
 
-  none_here : (o : Option ℕ) → heading_if on o [] e ≡ None
+  none_here : (o : Option ℕ) → option_and_then (underlined on [] e) o ≡ None
   none_here None = refl
   none_here (Some rank) = not_headed rank (definition_cut on []).definitions (definition_cut on []).left (ap is_some_line (none_cut on.definition))
 
   pub turns_nothing : (away : Opening) → text_here away ≡ [] → turns on away r e ≡ None
-  turns_nothing away none = ap (λ ls. heading_if on (underline on r) ls e) none ∙ none_here (underline on r)
+  turns_nothing away none = ap (λ ls. option_and_then (underlined on ls e) (underline on r)) none ∙ none_here (underline on r)
 
   pub turns_not : (away : Opening) → underline on r ≡ None → turns on away r e ≡ None
-  turns_not away is = ap (λ o. heading_if on o (text_here away) e) is
+  turns_not away is = ap (λ o. option_and_then (underlined on (text_here away) e) o) is
 
   -- the definitions take the whole of it, or a heading of what is left
   pub turns_none : (ls : List BlockLine) (rank : ℕ) → underline on r ≡ Some rank → is_some_line (definition_cut on ls).left ≡ false
       → turns on (Leaf (Text ls)) r e ≡ None
-  turns_none ls rank is none = ap (λ o. heading_if on o ls e) is ∙ not_headed rank (definition_cut on ls).definitions (definition_cut on ls).left none
+  turns_none ls rank is none = ap (λ o. option_and_then (underlined on ls e) o) is ∙ not_headed rank (definition_cut on ls).definitions (definition_cut on ls).left none
 
   pub turns_some : (ls : List BlockLine) (rank : ℕ) → underline on r ≡ Some rank → is_some_line (definition_cut on ls).left ≡ true
       → turns on (Leaf (Text ls)) r e ≡ heading_tree on (Some rank) (Leaf (Text ls)) e
-  turns_some ls rank is some = ap (λ o. heading_if on o ls e) is ∙ is_headed rank (definition_cut on ls).definitions (definition_cut on ls).left some
+  turns_some ls rank is some = ap (λ o. option_and_then (underlined on ls e) o) is ∙ is_headed rank (definition_cut on ls).definitions (definition_cut on ls).left some
 
 -- no paragraph is open
 pub no_text : (ls : List BlockLine) → is_some_line ls ≡ false → ls ≡ []

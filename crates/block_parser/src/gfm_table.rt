@@ -28,7 +28,7 @@ impl<'a, A: Allocator> Parser<'a, A> {
     ghost use Rattle.definition_block.specs.GfmTable.{delimiter_row};
     ghost use Rattle.definition_block.specs.Tree as tree;
     ghost use Rattle.text_pieces.specs.ParagraphLines.{AreLines};
-    ghost use Rattle.block_parser.specs.GfmTable.{fits, table_from_cut, table_tree};
+    ghost use Rattle.block_parser.specs.GfmTable.{fits, table_from_cut, table_if, table_tree};
     ghost use Rattle.block_parser.specs.HeadingSetext.{IsText};
     ghost use Rattle.block_state.specs.Shows.{leaf_lines};
     ghost use Rattle.block_state.specs.Spine.{Level, Spine, spine_at};
@@ -45,7 +45,7 @@ impl<'a, A: Allocator> Parser<'a, A> {
     ) -> Result<bool, AllocError>
         ensures made { IfOk result (λ made. (around : List Level) (kids : tree.Blocks) (away : tree.Opening) (row : BlockLine) → depth ≡ length around →
             AreLines (tree.open_text away) → HasRead self.old (spine_at around kids away) →
-            tree.table_if on.now (delimiter_row on.now (rest_of rest.now)) (tree.text_here away) row ≡ table_tree on.now made away row) }
+            table_if on.now (delimiter_row on.now (rest_of rest.now)) (tree.text_here away) row ≡ table_tree on.now made away row) }
         ensures here { IfOk result (λ made. (around : List Level) (kids : tree.Blocks) (away : tree.Opening) → depth ≡ length around →
             HasRead self.old (spine_at around kids away) → made ≡ true → IsText away) }
         ensures kept { (s : Spine) → HasRead self.old s → HasRead self.new s }

@@ -37,8 +37,11 @@ use Rattle.definition_block.specs.GfmTable.{delimiter_row, is_head}
 use Rattle.text_pieces.specs.ParagraphLines.{HaveNoEnding, AreLines}
 use Rattle.definition_text.specs.BlockLines.{BlockLine}
 use Rattle.definition_block.specs.Tree.{Blocks, OpenLeaf, Text, Indented, Fenced, OpenHtml, OpenTable, Opening, Leaf, Inside, Tree, nothing, empty_tree}
-use Rattle.definition_block.specs.Tree.{open_text, has_text, has_table, is_some_line, table_if, makes_table, with_line, rest_line, takes, html_with, or_heading}
-use Rattle.definition_block.specs.Tree.{or_fence, or_html, begins, text_line_of, break_or_text, text_here, heading_of, heading_if, turns, leaf_tree_or, tree_or}
+use Rattle.std.specs.Option.{option_and_then}
+use Rattle.definition_text.proofs.Each.{WhereSome}
+use Rattle.definition_block.proofs.LeafLines.{where_leaf_line, where_unwrapped}
+use Rattle.definition_block.specs.Tree.{open_text, has_text, has_table, is_some_line, with_line, rest_line, takes, html_with, text_line_of, text_here}
+use Rattle.definition_block.specs.Tree.{fence_tree, html_tree, atx_tree, heading_of, underlined, tabled}
 use Rattle.definition_block.specs.Tree.{leaf_line, start, new, began_blank, goes_on, grow, beside_in, beside_line, step, steps}
 
 -- ---- codes without a line ending
@@ -292,16 +295,7 @@ module _ (on : Constructs) (e : LineEnding) (beside : Beside) where
   OpenTo t = AreLinesTo beside.ending (open_text t.now)
 
   abbrev SomeOpenTo : Option Tree → Type 0
-  SomeOpenTo None = Unit {0}
-  SomeOpenTo (Some t) = OpenTo t
-
-  open_taken : (o : Option Tree) (other : Tree) → SomeOpenTo o → OpenTo other → OpenTo (tree_or o other)
-  open_taken None other p q = q
-  open_taken (Some t) other p q = p
-
-  open_begun : (o : Option Tree) (away : Opening) (other : Tree) → SomeOpenTo o → OpenTo other → OpenTo (leaf_tree_or on o away other)
-  open_begun None away other p q = q
-  open_begun (Some t) away other p q = p
+  SomeOpenTo o = WhereSome OpenTo o
 
   open_html : (kind : ℕ) (ls : List BlockLine) (rest : Rest) → OpenTo (html_with kind ls rest beside)
   open_html kind ls rest = cond_both (html_ends_here kind rest) _ _ OpenTo (λ _. tt) (λ _. tt)
@@ -314,31 +308,23 @@ module _ (on : Constructs) (e : LineEnding) (beside : Beside) where
   open_takes (OpenHtml kind ls) rest = cond_both (ends_before_blank kind && is_blank rest) _ _ SomeOpenTo (λ _. tt) (λ _. open_html kind ls rest)
   open_takes (OpenTable ls) rest = tt
 
-  open_or_heading : (o : Option Atx) → SomeOpenTo (or_heading beside.ending o)
-  open_or_heading None = tt
-  open_or_heading (Some atx) = tt
+  open_atx : (o : Option Atx) → WhereSome (λ (atx : Atx). OpenTo (atx_tree beside atx)) o
+  open_atx None = tt
+  open_atx (Some atx) = tt
 
-  open_or_fence : (o : Option Fence) (other : Option Tree) → SomeOpenTo other → SomeOpenTo (or_fence beside.ending o other)
-  open_or_fence None other p = p
-  open_or_fence (Some fence) other p = tt
+  open_fence : (o : Option Fence) → WhereSome (λ (fence : Fence). OpenTo (fence_tree beside fence)) o
+  open_fence None = tt
+  open_fence (Some fence) = tt
 
-  open_or_html : (rest : Rest) (o : Option ℕ) (other : Option Tree) → SomeOpenTo other → SomeOpenTo (or_html rest beside o other)
-  open_or_html rest None other p = p
-  open_or_html rest (Some kind) other p = open_html kind [] rest
-
-  open_begins : (paragraph : Bool) (rest : Rest) → SomeOpenTo (begins on paragraph rest beside)
-  open_begins paragraph rest =
-      cond_both (starts_code_indented on rest && not paragraph) _ _ SomeOpenTo (λ _. tt)
-      (λ _.
-      open_or_fence (fence_start on rest) _
-      (open_or_fence (math_start on rest) _
-      (open_or_html rest (html_start on paragraph rest) _ (open_or_heading (heading_atx on rest)))))
+  open_html_start : (rest : Rest) (o : Option ℕ) → WhereSome (λ kind. OpenTo (html_tree rest beside kind)) o
+  open_html_start rest None = tt
+  open_html_start rest (Some kind) = open_html kind [] rest
 
   open_heading : (rank : ℕ) (definitions : Blocks) (ls : List BlockLine) → SomeOpenTo (heading_of rank definitions ls beside.ending)
   open_heading rank definitions [] = tt
   open_heading rank definitions (line ∷ others) = tt
 
-  open_underlined : (o : Option ℕ) (ls : List BlockLine) → SomeOpenTo (heading_if on o ls beside.ending)
+  open_underlined : (o : Option ℕ) (ls : List BlockLine) → SomeOpenTo (option_and_then (underlined on ls beside.ending) o)
   open_underlined None ls = tt
   open_underlined (Some rank) ls = open_heading rank (definition_cut on ls).definitions (definition_cut on ls).left
 
@@ -359,23 +345,27 @@ module _ (on : Constructs) (e : LineEnding) (beside : Beside) where
       (λ _. open_with_line (rest_line rest beside) away (clear_block rest clear) (some_code rest some) h)
       (λ _. (clear_block rest clear, some_code rest some, refl))
 
-  open_table : (o : Option (List AlignKind)) (ls : List BlockLine) (row : BlockLine) → SomeOpenTo (table_if on o ls row)
+  open_table : (o : Option (List AlignKind)) (ls : List BlockLine) (row : BlockLine) → SomeOpenTo (option_and_then (tabled on ls row) o)
   open_table None ls row = tt
   open_table (Some columns) ls row =
       cond_both (is_some_line (definition_cut on ls).left && is_head (length columns) ls) _ _ SomeOpenTo (λ _. tt) (λ _. tt)
 
-  open_break_or_text : (away : Opening) (rest : Rest) → HaveNoEnding rest → is_blank rest ≡ false → AreLinesTo (Some e) (open_text away)
-      → OpenTo (break_or_text on away rest beside)
-  open_break_or_text away rest clear some h = cond_both (is_break on rest) _ _ OpenTo (λ _. tt)
-      (λ _. open_taken (makes_table on away rest beside) _ (open_table (delimiter_row on rest) (text_here away) (rest_line rest beside))
-      (open_text_line away rest clear some h))
-
   open_leaf_line : (away : Opening) (rest : Rest) → HaveNoEnding rest → AreLinesTo (Some e) (open_text away) → OpenTo (leaf_line on away rest beside)
   open_leaf_line away rest clear h =
-      cond_both (is_blank rest) _ _ OpenTo (λ _. tt)
-      (λ some.
-      open_begun (begins on (has_text away) rest beside) away _ (open_begins (has_text away) rest)
-      (open_taken (turns on away rest beside.ending) _ (open_underlined (underline on rest) (text_here away)) (open_break_or_text away rest clear some h)))
+      where_leaf_line OpenTo OpenTo on away rest beside
+      record {
+        blank = λ _. tt;
+        closes = λ t k. k;
+        indented = λ _. tt;
+        fenced = open_fence (fence_start on rest);
+        math = open_fence (math_start on rest);
+        html = open_html_start rest (html_start on (has_text away) rest);
+        heading = open_atx (heading_atx on rest);
+        underlined = open_underlined (underline on rest) (text_here away);
+        breaks = λ _. tt;
+        tabled = open_table (delimiter_row on rest) (text_here away) (rest_line rest beside);
+        text = λ some. open_text_line away rest clear some h;
+      }
 
 -- what is open after containers that start, and after those that go on
 module _ (on : Constructs) (e : LineEnding) where
@@ -402,7 +392,8 @@ module _ (on : Constructs) (e : LineEnding) where
   open_grow : (beside : Beside) (now : Opening) (rest : Rest) → HaveNoEnding rest → AreLinesTo (Some e) (open_text now)
       → OpenTo on e beside (grow on beside now rest)
   open_grow beside (Leaf leaf) rest clear h =
-      open_taken on e beside (takes on leaf rest beside) _ (open_takes on e beside leaf rest) (open_new beside (length rest) true (Leaf leaf) rest clear h)
+      where_unwrapped (OpenTo on e beside) (takes on leaf rest beside) (new (length rest) on true (Leaf leaf) beside rest) (open_takes on e beside leaf rest)
+      (open_new beside (length rest) true (Leaf leaf) rest clear h)
   open_grow beside (Inside c kids inner) rest clear h =
       open_goes_on beside (continues on c (began_blank kids inner) rest) c kids inner rest (λ line. grow on (beside_in line.before beside) inner line.rest)
       (clear_continue on c (began_blank kids inner) rest clear) clear h (λ line k. open_grow (beside_in line.before beside) inner line.rest k h)

@@ -1,6 +1,7 @@
 -- If each part that is read of lines is good, so are all their blocks.
-use Rattle.std.proofs.Common.{ℕ, suc, zero, Bool, true, false, cond, ◌&&◌, ◌||◌, ◌-◌, not, List, [], ◌∷◌, ◌++◌, Option, None, Some, length, take, drop}
+use Rattle.std.proofs.Common.{ℕ, suc, zero, Bool, true, false, cond, ◌&&◌, ◌||◌, ◌-◌, List, [], ◌∷◌, ◌++◌, Option, None, Some, length, take, drop}
 use Rattle.std.specs.Prelude.{min}
+use Rattle.std.specs.Option.{option_and_then}
 use Rattle.std.proofs.lemmas.Bool.{cond_both}
 use Rattle.markdown_options.specs.declared.line_ending.LineEnding.{LineEnding}
 use Rattle.markdown_options.specs.declared.configuration.Constructs.{Constructs}
@@ -24,7 +25,6 @@ use Rattle.definition_block.specs.Frontmatter.{is_metadata_fence, after_metadata
 use Rattle.definition_block.specs.HtmlFlow.{html_start, html_ends_here, ends_before_blank}
 use Rattle.definition_block.specs.HeadingAtx.{Atx, heading_atx}
 use Rattle.definition_block.specs.HeadingSetext.{underline}
-use Rattle.definition_block.specs.ThematicBreak.{is_break}
 use Rattle.markdown_options.specs.declared.align_kind.AlignKind.{AlignKind}
 use Rattle.definition_block.specs.GfmTable.{delimiter_row, is_head}
 use Rattle.definition_block.specs.Definitions.{lines_before, DefinitionCut, cut_into, definition_lines, cut_after, cut_most, definition_cut}
@@ -32,9 +32,9 @@ use Rattle.definition_block.specs.Tree.{Block, Paragraph, Heading, Break, Indent
 use Rattle.definition_block.specs.Tree.{Blocks, Nil, Cons, join, one, block_and_ending, OpenLeaf, Text, Indented, Fenced, OpenHtml, OpenTable, Opening, Leaf}
 use Rattle.definition_block.specs.Tree.{Inside, Tree as BlockTree, tree, nothing, empty_tree, blanks, paragraph_of, close_leaf, is_ending, all_endings, front}
 use Rattle.definition_block.specs.Tree.{trailing, without_last, last_of, container_block, close, leaf_text, has_text, has_table, is_some_line, table_of}
-use Rattle.definition_block.specs.Tree.{table_if}
-use Rattle.definition_block.specs.Tree.{makes_table, leaf_with_line, with_line, rest_line, html_with, takes, or_heading, or_fence, or_html, begins, after}
-use Rattle.definition_block.specs.Tree.{break_or_text, text_line_of, text_here, heading_of, heading_if, turns, leaf_tree_or, tree_or, leaf_line, beside_in}
+use Rattle.definition_block.specs.Tree.{leaf_with_line, with_line, rest_line, html_with, takes, after, text_line_of, text_here, fence_tree}
+use Rattle.definition_block.specs.Tree.{html_tree, atx_tree, heading_of, underlined, tabled, leaf_line, beside_in}
+use Rattle.definition_block.proofs.LeafLines.{where_leaf_line, where_unwrapped}
 use Rattle.definition_block.specs.Tree.{start, new}
 use Rattle.definition_block.specs.Tree.{began_blank, goes_on, grow, beside_line, step, steps, children, children_after, blocks}
 use Rattle.std.specs.Prelude.{IfSome}
@@ -227,30 +227,12 @@ module _ (good : Property) where
         (tree Nil (Leaf (OpenHtml kind more))) TreeGood
         (λ _. ((own_good reads.unended more h, (f, tt)), tt)) (λ _. (tt, h))
 
-    or_heading_good : (ending : Option LineEnding) (o : Option Atx) → EndGood ending → AtxGood o → SomeGood (or_heading ending o)
-    or_heading_good ending None f p = tt
-    or_heading_good ending (Some a) f p = ((reads.ranked a.rank (spaced_line a.content None ∷ []) p.0 (p.1, tt), (f, tt)), tt)
-
-    or_fence_good : (ending : Option LineEnding) (o : Option Fence) (other : Option BlockTree) → EndGood ending → FenceGood o → SomeGood other
-        → SomeGood (or_fence ending o other)
-    or_fence_good ending None other f p q = q
-    or_fence_good ending (Some fence) other f p q = (tt, (p, (f, tt)))
-
-    or_html_good : (rest : Rest) (beside : Beside) (o : Option ℕ) (other : Option BlockTree) → RestGood rest → EndGood beside.ending → SomeGood other
-        → SomeGood (or_html rest beside o other)
-    or_html_good rest beside None other p f q = q
-    or_html_good rest beside (Some kind) other p f q = html_with_good kind [] rest beside tt p f
-
     heading_of_good : (rank : ℕ) (definitions : Blocks) (ls : List BlockLine) (ending : Option LineEnding) → good.rank rank
         → BlocksGood definitions → LinesGood ls → EndGood ending
         → SomeGood (heading_of rank definitions ls ending)
     heading_of_good rank definitions [] ending h p q f = tt
     heading_of_good rank definitions (line ∷ others) ending h p q f =
         (join_good definitions _ p (reads.ranked rank (own_lines (line ∷ others)) h (own_good reads.unended (line ∷ others) q), (f, tt)), tt)
-
-    taken_good : (o : Option BlockTree) (other : BlockTree) → SomeGood o → TreeGood other → TreeGood (tree_or o other)
-    taken_good None other p q = q
-    taken_good (Some t) other p q = p
 
     leaf_with_line_good : (line : BlockLine) (leaf : OpenLeaf) → LineGood line → LeafGood leaf → LeafGood (leaf_with_line line leaf)
     leaf_with_line_good line (Text ls) l p = each-append LineGood ls (line ∷ []) p (l, tt)
@@ -305,14 +287,6 @@ module _ (good : Property) where
         cond_both (ends_before_blank kind && is_blank rest) _ _ SomeGood (λ _. tt) (λ _. html_with_good kind ls rest beside p q f)
     takes_good (OpenTable ls) rest beside p q f = tt
 
-    begins_good : (paragraph : Bool) (rest : Rest) (beside : Beside) → RestGood rest → EndGood beside.ending → SomeGood (begins on paragraph rest beside)
-    begins_good paragraph rest beside q f =
-        cond_both (starts_code_indented on rest && not paragraph) _ _ SomeGood
-        (λ _. (tt, ((reads.taken_line (outdent 4 rest) beside (outdented_good 4 rest q) f, tt), tt)))
-        (λ _. or_fence_good beside.ending (fence_start on rest) _ f (reads.fences rest q)
-        (or_fence_good beside.ending (math_start on rest) _ f (reads.math rest q)
-        (or_html_good rest beside (html_start on paragraph rest) _ q f (or_heading_good beside.ending (heading_atx on rest) f (reads.atx rest q)))))
-
     after_good : (away : Opening) (t : BlockTree) → OpeningGood away → TreeGood t → TreeGood (after on away t)
     after_good away t p q = (join_good (close on away) t.done (close_good away p) q.0, q.1)
 
@@ -331,40 +305,50 @@ module _ (good : Property) where
           each-append LineGood (drop head ls) (row ∷ []) (each-drop LineGood head ls q) (l, tt),
         )
 
-    table_good : (o : Option (List AlignKind)) (ls : List BlockLine) (row : BlockLine) → LinesGood ls → LineGood row → SomeGood (table_if on o ls row)
+    table_good : (o : Option (List AlignKind)) (ls : List BlockLine) (row : BlockLine) → LinesGood ls → LineGood row
+        → SomeGood (option_and_then (tabled on ls row) o)
     table_good None ls row p l = tt
     table_good (Some columns) ls row p l =
         let parts = cut_good ls p in
         cond_both (is_some_line (definition_cut on ls).left && is_head (length columns) ls) _ _ SomeGood
         (λ _. table_of_good (definition_cut on ls).definitions (definition_cut on ls).left row parts.0 parts.1 l) (λ _. tt)
 
-    break_good : (away : Opening) (rest : Rest) (beside : Beside) → OpeningGood away → RestGood rest → EndGood beside.ending
-        → TreeGood (break_or_text on away rest beside)
-    break_good away rest beside p q f =
-        cond_both (is_break on rest) _ _ TreeGood (λ _. after_good away (tree (block_and_ending Break beside.ending) nothing) p ((tt, (f, tt)), tt))
-        (λ _. taken_good (makes_table on away rest beside) _
-        (table_good (delimiter_row on rest) (text_here away) (rest_line rest beside) (text_here_good away p) (reads.taken_line rest beside q f))
-        (text_line_good away rest beside p q f))
-
     underlined_good : (o : Option ℕ) (ls : List BlockLine) (ending : Option LineEnding) → RankGood o → LinesGood ls → EndGood ending
-        → SomeGood (heading_if on o ls ending)
+        → SomeGood (option_and_then (underlined on ls ending) o)
     underlined_good None ls ending h p f = tt
     underlined_good (Some rank) ls ending h p f =
         let parts = cut_good ls p in heading_of_good rank (definition_cut on ls).definitions (definition_cut on ls).left ending h parts.0 parts.1 f
 
-    begun_good : (o : Option BlockTree) (away : Opening) (other : BlockTree) → SomeGood o → OpeningGood away → TreeGood other
-        → TreeGood (leaf_tree_or on o away other)
-    begun_good None away other p a q = q
-    begun_good (Some t) away other p a q = after_good away t a p
+    html_good : (o : Option ℕ) (rest : Rest) (beside : Beside) → RestGood rest → EndGood beside.ending
+        → WhereSome (λ kind. TreeGood (html_tree rest beside kind)) o
+    html_good None rest beside q f = tt
+    html_good (Some kind) rest beside q f = html_with_good kind [] rest beside tt q f
+
+    fence_good : (o : Option Fence) (beside : Beside) → EndGood beside.ending → FenceGood o → WhereSome (λ (fence : Fence). TreeGood (fence_tree beside fence)) o
+    fence_good None beside f p = tt
+    fence_good (Some fence) beside f p = (tt, (p, (f, tt)))
+
+    atx_good : (o : Option Atx) (beside : Beside) → EndGood beside.ending → AtxGood o → WhereSome (λ (atx : Atx). TreeGood (atx_tree beside atx)) o
+    atx_good None beside f p = tt
+    atx_good (Some atx) beside f p = ((reads.ranked atx.rank (spaced_line atx.content None ∷ []) p.0 (p.1, tt), (f, tt)), tt)
 
     leaf_line_good : (away : Opening) (rest : Rest) (beside : Beside) → OpeningGood away → RestGood rest → EndGood beside.ending
         → TreeGood (leaf_line on away rest beside)
     leaf_line_good away rest beside p q f =
-        cond_both (is_blank rest) _ _ TreeGood (λ _. after_good away (tree (one (Blank beside.ending)) nothing) p ((f, tt), tt))
-        (λ _. begun_good (begins on (has_text away) rest beside) away _ (begins_good (has_text away) rest beside q f) p
-        (taken_good (turns on away rest beside.ending) _
-        (underlined_good (underline on rest) (text_here away) beside.ending (reads.underlines rest) (text_here_good away p) f)
-        (break_good away rest beside p q f)))
+        where_leaf_line TreeGood TreeGood on away rest beside
+        record {
+          blank = λ _. after_good away (tree (one (Blank beside.ending)) nothing) p ((f, tt), tt);
+          closes = λ t g. after_good away t p g;
+          indented = λ _. (tt, ((reads.taken_line (outdent 4 rest) beside (outdented_good 4 rest q) f, tt), tt));
+          fenced = fence_good (fence_start on rest) beside f (reads.fences rest q);
+          math = fence_good (math_start on rest) beside f (reads.math rest q);
+          html = html_good (html_start on (has_text away) rest) rest beside q f;
+          heading = atx_good (heading_atx on rest) beside f (reads.atx rest q);
+          underlined = underlined_good (underline on rest) (text_here away) beside.ending (reads.underlines rest) (text_here_good away p) f;
+          breaks = λ _. ((tt, (f, tt)), tt);
+          tabled = table_good (delimiter_row on rest) (text_here away) (rest_line rest beside) (text_here_good away p) (reads.taken_line rest beside q f);
+          text = λ _. text_line_good away rest beside p q f;
+        }
 
     -- ---- containers
 
@@ -394,7 +378,8 @@ module _ (good : Property) where
 
     grow_good : (beside : Beside) (now : Opening) (rest : Rest) → OpeningGood now → RestGood rest → EndGood beside.ending → TreeGood (grow on beside now rest)
     grow_good beside (Leaf leaf) rest p q f =
-        taken_good (takes on leaf rest beside) _ (takes_good leaf rest beside p q f) (new_good (length rest) true (Leaf leaf) beside rest p q f)
+        where_unwrapped TreeGood (takes on leaf rest beside) (new (length rest) on true (Leaf leaf) beside rest) (takes_good leaf rest beside p q f)
+        (new_good (length rest) true (Leaf leaf) beside rest p q f)
     grow_good beside (Inside c kids inner) rest p q f =
         goes_on_good (continues on c (began_blank kids inner) rest) c kids inner beside rest
         (λ line. grow on (beside_in line.before beside) inner line.rest) (reads.stays c (began_blank kids inner) rest q) p.0 p.1 q f

@@ -1,2 +1,3 @@
+pub mod LeafLines
 pub mod GfmFootnoteDefinition
 pub mod BlockReads

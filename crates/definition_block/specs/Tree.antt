@@ -1,5 +1,7 @@
 -- The block tree of a text, line by line (CommonMark 4, 5 and appendix, phase 1).
-use Rattle.std.specs.Prelude.{ℕ, suc, zero, Bool, true, false, if◌then◌else◌, ◌&&◌, ◌||◌, ◌-◌, not, List, [], ◌∷◌, ◌++◌, Option, None, Some, length, take, drop}
+use Rattle.std.specs.Prelude.{ℕ, suc, zero, Bool, true, false, if◌then◌else◌, ◌&&◌, ◌||◌, ◌-◌, not, List, [], ◌∷◌, ◌++◌, Option, None, Some, unwrap_or, length, take, drop}
+use Rattle.std.specs.Bool.{then_some}
+use Rattle.std.specs.Option.{option_or, option_map, option_and_then}
 use Rattle.markdown_options.specs.declared.line_ending.LineEnding.{LineEnding}
 use Rattle.markdown_options.specs.declared.configuration.Constructs.{Constructs}
 use Rattle.markdown_options.specs.declared.beside.Beside.{Beside}
@@ -74,7 +76,8 @@ paragraph_of (line ∷ others) = block_and_ending (Paragraph (own_lines (line �
 abbrev pub with_paragraph : DefinitionCut → Blocks
 with_paragraph parts = join parts.definitions (paragraph_of parts.left)
 
--- the children that are finished where this leaf is closed
+-- The children that are finished where this leaf is closed. Fenced code that is open here was never closed by a fence: it ends with its container or the text,
+-- and has all lines after its fence (CommonMark 4.5).
 abbrev pub close_leaf : Constructs → OpenLeaf → Blocks
 close_leaf on (Text ls) = with_paragraph (definition_cut on ls)
 close_leaf on (Indented ls pending) = join (block_and_ending (IndentedCode (own_lines ls)) (last_ending ls)) (blanks pending)
@@ -111,8 +114,8 @@ last_of Nil = Nil
 last_of (Cons b Nil) = if is_ending b then one b else Nil
 last_of (Cons b (Cons c bs)) = last_of (Cons c bs)
 
--- A container ends right before the ending of its last line. Each line of a quote has its marker; blank lines at the end of an item or a footnote definition
--- are not its own.
+-- A container ends right before the ending of its last line. A blank line at the end of a quote has the quote's marker, and is its own; those at the end of an
+-- item or a footnote definition are not.
 abbrev pub container_block : Container → Blocks → Blocks
 container_block Quote kids = Cons (Holds Quote (without_last kids)) (last_of kids)
 container_block (Item item) kids = Cons (Holds (Item item) (front kids)) (trailing kids)
@@ -195,29 +198,6 @@ takes on (Fenced fence opening ls) rest beside = fenced_takes on fence opening l
 takes on (OpenHtml kind ls) rest beside = html_takes kind ls rest beside
 takes on leaf rest beside = None
 
-abbrev pub or_heading : Option LineEnding → Option Atx → Option Tree
-or_heading ending None = None
-or_heading ending (Some atx) = Some (tree (block_and_ending (Heading atx.rank (spaced_line atx.content None ∷ [])) ending) nothing)
-
-abbrev pub or_fence : Option LineEnding → Option Fence → Option Tree → Option Tree
-or_fence ending None other = other
-or_fence ending (Some fence) other = Some (tree Nil (Leaf (Fenced fence ending [])))
-
--- an HTML block of a kind, which may end on its first line (CommonMark 4.6)
-abbrev pub or_html : Rest → Beside → Option ℕ → Option Tree → Option Tree
-or_html rest beside None other = other
-or_html rest beside (Some kind) other = Some (html_with kind [] rest beside)
-
--- the leaf that a rest begins, other than a paragraph or a break: indented code, which can't interrupt a paragraph, fenced code, math, an HTML block, or an ATX
--- heading, in this order
-abbrev pub begins : Constructs → Bool → Rest → Beside → Option Tree
-begins on paragraph rest beside =
-    if starts_code_indented on rest && not paragraph then Some (tree Nil (Leaf (Indented (rest_line (outdent 4 rest) beside ∷ []) [])))
-    else or_fence beside.ending (fence_start on rest)
-    (or_fence beside.ending (math_start on rest)
-    (or_html rest beside (html_start on paragraph rest)
-    (or_heading beside.ending (heading_atx on rest))))
-
 -- what a line leaves where something new starts on it, after what it isn't in is closed
 abbrev pub after : Constructs → Opening → Tree → Tree
 after on away t = tree (join (close on away) t.done) t.now
@@ -234,20 +214,40 @@ abbrev pub text_here : Opening → List BlockLine
 text_here (Leaf leaf) = leaf_text leaf
 text_here (Inside c kids inner) = []
 
+-- ---- what a line of text begins
+
+-- indented code with its first line
+abbrev pub indented_tree : Rest → Beside → Tree
+indented_tree rest beside = tree Nil (Leaf (Indented (rest_line (outdent 4 rest) beside ∷ []) []))
+
+-- code or math after its fence
+abbrev pub fence_tree : Beside → Fence → Tree
+fence_tree beside fence = tree Nil (Leaf (Fenced fence beside.ending []))
+
+-- an HTML block of a kind, which may end on its first line
+abbrev pub html_tree : Rest → Beside → ℕ → Tree
+html_tree rest beside kind = html_with kind [] rest beside
+
+-- a heading on one line
+abbrev pub atx_tree : Beside → Atx → Tree
+atx_tree beside atx = tree (block_and_ending (Heading atx.rank (spaced_line atx.content None ∷ [])) beside.ending) nothing
+
+abbrev pub break_tree : Beside → Tree
+break_tree beside = tree (block_and_ending Break beside.ending) nothing
+
 -- a heading of what is left of a paragraph, if anything is, after the definitions at its front
 abbrev pub heading_of : ℕ → Blocks → List BlockLine → Option LineEnding → Option Tree
 heading_of rank definitions [] ending = None
 heading_of rank definitions (line ∷ others) ending =
     Some (tree (join definitions (block_and_ending (Heading rank (own_lines (line ∷ others))) ending)) nothing)
 
--- the same for an underline of a rank, where there is one
-abbrev pub heading_if : Constructs → Option ℕ → List BlockLine → Option LineEnding → Option Tree
-heading_if on None ls ending = None
-heading_if on (Some rank) ls ending = let parts = definition_cut on ls in heading_of rank parts.definitions parts.left ending
+-- what an underline of a rank makes of a paragraph's lines
+abbrev pub underlined : Constructs → List BlockLine → Option LineEnding → ℕ → Option Tree
+underlined on ls ending rank = let parts = definition_cut on ls in heading_of rank parts.definitions parts.left ending
 
--- what an underline makes of the open paragraph: a heading (CommonMark 4.3)
+-- what an underline makes of the open paragraph: a heading
 abbrev pub turns : Constructs → Opening → Rest → Option LineEnding → Option Tree
-turns on away rest ending = heading_if on (underline on rest) (text_here away) ending
+turns on away rest ending = option_and_then (underlined on (text_here away) ending) (underline on rest)
 
 -- the definitions and the lines before the last one of a paragraph, and an open table with that one as its head
 abbrev pub table_of : Blocks → List BlockLine → BlockLine → Tree
@@ -255,38 +255,53 @@ table_of definitions ls row =
     let head = length ls - 1 in
     tree (join definitions (paragraph_of (take head ls))) (Leaf (OpenTable (drop head ls ++ row ∷ [])))
 
--- what a row of delimiters makes of a paragraph's lines, where there is one, and something is left of them after their definitions, of which the last has as
--- many cells
-abbrev pub table_if : Constructs → Option (List AlignKind) → List BlockLine → BlockLine → Option Tree
-table_if on None ls row = None
-table_if on (Some columns) ls row =
+-- what a row of delimiters of so many columns makes of a paragraph's lines, where something is left of them after their definitions, and the last has as many
+-- cells
+abbrev pub tabled : Constructs → List BlockLine → BlockLine → List AlignKind → Option Tree
+tabled on ls row columns =
     let parts = definition_cut on ls in
     if is_some_line parts.left && is_head (length columns) ls then Some (table_of parts.definitions parts.left row) else None
 
--- what a row of delimiters makes of the open paragraph: a table (GFM 4.10)
+-- what a row of delimiters makes of the open paragraph: a table
 abbrev pub makes_table : Constructs → Opening → Rest → Beside → Option Tree
-makes_table on away rest beside = table_if on (delimiter_row on rest) (text_here away) (rest_line rest beside)
+makes_table on away rest beside = option_and_then (tabled on (text_here away) (rest_line rest beside)) (delimiter_row on rest)
 
-abbrev pub leaf_tree_or : Constructs → Option Tree → Opening → Tree → Tree
-leaf_tree_or on None away other = other
-leaf_tree_or on (Some t) away other = after on away t
+-- a leaf that begins here, after what the line isn't in is closed
+abbrev pub anew : Constructs → Opening → Option Tree → Option Tree
+anew on away o = option_map (after on away) o
 
--- what takes the line, or something other
-abbrev pub tree_or : Option Tree → Tree → Tree
-tree_or None other = other
-tree_or (Some t) other = t
+-- what a line of text may begin, tried in this order, where `away` is what it isn't in
+abbrev pub leaf_starts : Constructs → Opening → Rest → Beside → List (Option Tree)
+leaf_starts on away rest beside =
+    -- indented code, which can't interrupt a paragraph (CommonMark 4.4)
+    anew on away (then_some (starts_code_indented on rest && not (has_text away)) (indented_tree rest beside))
+    -- fenced code (CommonMark 4.5)
+    ∷ anew on away (option_map (fence_tree beside) (fence_start on rest))
+    -- math (in neither standard)
+    ∷ anew on away (option_map (fence_tree beside) (math_start on rest))
+    -- an HTML block (CommonMark 4.6)
+    ∷ anew on away (option_map (html_tree rest beside) (html_start on (has_text away) rest))
+    -- an ATX heading (CommonMark 4.2)
+    ∷ anew on away (option_map (atx_tree beside) (heading_atx on rest))
+    -- the underline of a setext heading (CommonMark 4.3)
+    ∷ turns on away rest beside.ending
+    -- a thematic break (CommonMark 4.1)
+    ∷ anew on away (then_some (is_break on rest) (break_tree beside))
+    -- the row of delimiters of a table (GFM 4.10)
+    ∷ makes_table on away rest beside
+    ∷ []
 
--- a rest in which no other leaf begins: a break, a table, or text
-abbrev pub break_or_text : Constructs → Opening → Rest → Beside → Tree
-break_or_text on away rest beside =
-    if is_break on rest then after on away (tree (block_and_ending Break beside.ending) nothing)
-    else tree_or (makes_table on away rest beside) (text_line_of on away rest beside)
+-- the first that is there
+abbrev pub first_of : {A : Type 0} → List (Option A) → Option A
+first_of [] = None
+first_of (o ∷ others) = option_or o (first_of others)
 
--- the rest of a line that starts no container, where `away` is what the line isn't in: a blank one closes it (CommonMark 4.9)
+-- A line that starts no container: a blank one closes what it isn't in (CommonMark 4.9), one of text begins the first leaf that it can, and where it begins
+-- none, it is a line of a paragraph or a row of a table.
 abbrev pub leaf_line : Constructs → Opening → Rest → Beside → Tree
 leaf_line on away rest beside =
     if is_blank rest then after on away (tree (one (Blank beside.ending)) nothing)
-    else leaf_tree_or on (begins on (has_text away) rest beside) away (tree_or (turns on away rest beside.ending) (break_or_text on away rest beside))
+    else unwrap_or (first_of (leaf_starts on away rest beside)) (text_line_of on away rest beside)
 
 -- what stands beside the rest that a container leaves of a line, after a character of this kind
 abbrev pub beside_in : Kind → Beside → Beside
@@ -326,7 +341,7 @@ goes_on (Some line) on c kids inner beside rest more = in_container c kids (more
 
 -- a line: the containers that go on, then the leaf that takes it, or what is new
 abbrev pub grow : Constructs → Beside → Opening → Rest → Tree
-grow on beside (Leaf leaf) rest = tree_or (takes on leaf rest beside) (new (length rest) on true (Leaf leaf) beside rest)
+grow on beside (Leaf leaf) rest = unwrap_or (takes on leaf rest beside) (new (length rest) on true (Leaf leaf) beside rest)
 grow on beside (Inside c kids inner) rest =
     goes_on (continues on c (began_blank kids inner) rest) on c kids inner beside rest (λ line. grow on (beside_in line.before beside) inner line.rest)
 

@@ -6,8 +6,8 @@ ghost use Rattle.event_check.specs.Loose.{IsAt, kids_of};
 
 use crate::checked::Checked;
 use crate::loose::events_after;
-use markdown_options::AlignKind;
 use engine_events::event::{Event, Kind, Name};
+use markdown_options::AlignKind;
 use std::alloc::{AllocError, Allocator};
 
 /// The alignments of a table's columns, by the markers of its row of delimiters. The index is that

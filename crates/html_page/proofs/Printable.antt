@@ -23,7 +23,6 @@ use Rattle.definition_block.specs.MathFlow.{math_info, math_start}
 use Rattle.definition_block.specs.Frontmatter.{is_metadata_fence, after_metadata_fence, after_frontmatter}
 use Rattle.definition_text.specs.Indents.{small_indent}
 use Rattle.definition_block.specs.CodeIndented.{starts_code_indented}
-use Rattle.definition_block.specs.ThematicBreak.{is_break}
 use Rattle.markdown_options.specs.declared.align_kind.AlignKind.{AlignKind}
 use Rattle.definition_block.specs.GfmTable.{delimiter_row, is_head}
 use Rattle.definition_block.specs.HeadingAtx.{Atx, atx_of, begins_apart, ends_apart, without_run, without_closing, heading_atx}
@@ -37,14 +36,17 @@ use Rattle.block_rows.proofs.OpenLines.{AreTextLines, AreLinesTo, LineClear, Sta
 use Rattle.block_rows.proofs.OpenLines.{clear_bare, clear_start, clear_continue, lines_of_text, are_lines, open_step}
 use Rattle.markdown_options.specs.declared.line_ending.LineEnding.{LineEnding}
 use Rattle.markdown_options.specs.declared.line_ending.LineEnding.TheVariants.{LineFeed}
-use Rattle.definition_text.specs.BlockLines.{BlockLine, spaced_line, own_lines}
+use Rattle.definition_text.specs.BlockLines.{BlockLine, own_lines}
 use Rattle.definition_block.specs.Tree.{leaf_text, open_text, beside_in, beside_line, in_container, Block, Paragraph, Heading, Break, IndentedCode, FencedCode}
 use Rattle.definition_block.specs.Tree.{Html, Table, Definition, Holds, Items, Ending, Blank, Blocks, Nil, Cons, join, one, block_and_ending, OpenLeaf, Text}
 use Rattle.definition_block.specs.Tree.{Indented, Fenced, OpenHtml, OpenTable, Opening, Leaf, Inside, Tree, tree, nothing, empty_tree, paragraph_of, close_leaf}
 use Rattle.definition_block.specs.Tree.{close, blanks, is_ending, all_endings, front, trailing, without_last, last_of, container_block, has_text, has_table}
 use Rattle.definition_block.specs.Tree.{is_some_line}
-use Rattle.definition_block.specs.Tree.{table_of, table_if, makes_table, with_line, rest_line, html_with, takes, tree_or, or_heading, or_fence, or_html, begins}
-use Rattle.definition_block.specs.Tree.{text_here, heading_of, heading_if, turns, after, text_line_of, break_or_text, leaf_tree_or, leaf_line, start, new}
+use Rattle.definition_block.specs.Tree.{table_of, tabled, makes_table, with_line, rest_line, html_with, takes, indented_tree, fence_tree, html_tree, atx_tree}
+use Rattle.definition_block.specs.Tree.{break_tree, text_here, heading_of, underlined, turns, after, text_line_of, leaf_line, start, new}
+use Rattle.std.specs.Option.{option_and_then}
+use Rattle.definition_text.proofs.Each.{WhereSome}
+use Rattle.definition_block.proofs.LeafLines.{where_leaf_line, where_unwrapped}
 use Rattle.definition_block.specs.Tree.{began_blank}
 use Rattle.definition_block.specs.Tree.{goes_on, grow, step, steps, blocks_at_end, children_after, blocks}
 use Rattle.block_rows.specs.Rows.{RowsValue, rows_value, value_with, rows_of}
@@ -367,10 +369,6 @@ with_line_fits line (Leaf (OpenHtml kind ls)) clear h = tt
 with_line_fits line (Leaf (OpenTable ls)) clear h = longer_table ls line h clear
 with_line_fits line (Inside c kids inner) clear h = (h.0, h.1, with_line_fits line inner clear h.2)
 
-taken_fits : (o : Option Tree) (other : Tree) → OptionFits o → TreeFits other → TreeFits (tree_or o other)
-taken_fits None other h k = k
-taken_fits (Some t) other h k = h.tree
-
 -- ---- a line
 
 module _ (on : Constructs) (e : Beside) (r : Rest) where
@@ -389,25 +387,17 @@ module _ (on : Constructs) (e : Beside) (r : Rest) where
   takes_fits (OpenHtml kind ls) h =
       choose OptionFits (ends_before_blank kind && is_blank r) None (Some (html_with kind ls r e)) record { tree = tt } record { tree = html_with_fits kind ls }
 
-  or_heading_fits : (o : Option Atx) → AtxFits o → OptionFits (or_heading e.ending o)
-  or_heading_fits None h = record { tree = tt }
-  or_heading_fits (Some atx) h = some_fits (tree (block_and_ending (Heading atx.rank (spaced_line atx.content None ∷ [])) e.ending) nothing)
-      ((h.rank, h.content), (tt, tt)) tt
+  atx_tree_fits : (o : Option Atx) → AtxFits o → WhereSome (λ (atx : Atx). TreeFits (atx_tree e atx)) o
+  atx_tree_fits None h = tt
+  atx_tree_fits (Some atx) h = fits (atx_tree e atx) ((h.rank, h.content), (tt, tt)) tt
 
-  or_fence_fits : (o : Option Fence) (other : Option Tree) → FenceFits o → OptionFits other → OptionFits (or_fence e.ending o other)
-  or_fence_fits None other h k = k
-  or_fence_fits (Some fence) other h k = some_fits (tree Nil (Leaf (Fenced fence e.ending []))) tt h.info
+  fence_tree_fits : (o : Option Fence) → FenceFits o → WhereSome (λ (fence : Fence). TreeFits (fence_tree e fence)) o
+  fence_tree_fits None h = tt
+  fence_tree_fits (Some fence) h = fits (fence_tree e fence) tt h.info
 
-  or_html_fits : (o : Option ℕ) (other : Option Tree) → OptionFits other → OptionFits (or_html r e o other)
-  or_html_fits None other h = h
-  or_html_fits (Some kind) other h = record { tree = html_with_fits kind [] }
-
-  begins_fits : (paragraph : Bool) → HaveNoEnding r → OptionFits (begins on paragraph r e)
-  begins_fits paragraph clear =
-      choose OptionFits (starts_code_indented on r && not paragraph) _ _ (some_fits _ tt tt)
-      (or_fence_fits (fence_start on r) _ (fence_start_fits on r clear)
-      (or_fence_fits (math_start on r) (or_html r e (html_start on paragraph r) (or_heading e.ending (heading_atx on r))) (math_start_fits on r)
-      (or_html_fits (html_start on paragraph r) (or_heading e.ending (heading_atx on r)) (or_heading_fits (heading_atx on r) (heading_fits on r clear)))))
+  html_tree_fits : (o : Option ℕ) → WhereSome (λ kind. TreeFits (html_tree r e kind)) o
+  html_tree_fits None = tt
+  html_tree_fits (Some kind) = html_with_fits kind []
 
   heading_of_fits : (rank : ℕ) (definitions : Blocks) (ls : List BlockLine) → (1 ≤ rank) × (rank ≤ 6) → CanBePrinted definitions → AreLines ls
       → OptionFits (heading_of rank definitions ls e.ending)
@@ -416,7 +406,7 @@ module _ (on : Constructs) (e : Beside) (r : Rest) where
       let heading = block_and_ending (Heading rank (own_lines (l ∷ ls))) e.ending in
       some_fits (tree (join definitions heading) nothing) (joined definitions heading k ((h, heading_lines (l ∷ ls) clean), (tt, tt))) tt
 
-  underlined_fits : (o : Option ℕ) (ls : List BlockLine) → RankFits o → AreLines ls → OptionFits (heading_if on o ls e.ending)
+  underlined_fits : (o : Option ℕ) (ls : List BlockLine) → RankFits o → AreLines ls → OptionFits (option_and_then (underlined on ls e.ending) o)
   underlined_fits None ls h clean = record { tree = tt }
   underlined_fits (Some rank) ls h clean =
       heading_of_fits rank (definition_cut on ls).definitions (definition_cut on ls).left h.rank (cut_printable on ls) (cut_left on ls clean)
@@ -435,9 +425,9 @@ module _ (on : Constructs) (e : Beside) (r : Rest) where
       choose TreeFits (has_text away || has_table away) _ _ (fits (tree Nil (with_line line away)) tt (with_line_fits line away (clear_block r clear) h.fits))
       (after_fits on away (tree Nil (Leaf (Text (line ∷ [])))) h (fits (tree Nil (Leaf (Text (line ∷ [])))) tt tt))
 
-  table_if_fits : (o : Option (List AlignKind)) (ls : List BlockLine) → HaveNoEnding r → AreLines ls → OptionFits (table_if on o ls (rest_line r e))
-  table_if_fits None ls clear clean = record { tree = tt }
-  table_if_fits (Some columns) ls clear clean =
+  tabled_fits : (o : Option (List AlignKind)) (ls : List BlockLine) → HaveNoEnding r → AreLines ls → OptionFits (option_and_then (tabled on ls (rest_line r e)) o)
+  tabled_fits None ls clear clean = record { tree = tt }
+  tabled_fits (Some columns) ls clear clean =
       let left = (definition_cut on ls).left in
       let front = take (length left - 1) left in
       let clean_left = cut_left on ls clean in
@@ -449,23 +439,27 @@ module _ (on : Constructs) (e : Beside) (r : Rest) where
       (headed_table left (rest_line r e) (and_parts (is_some_line left) (is_head (length columns) ls) both).0 clean_left (clear_block r clear)))
       record { tree = tt }
 
-  break_fits : (away : Opening) → HaveNoEnding r → CanClose away → TreeFits (break_or_text on away r e)
-  break_fits away clear h =
-      let t = tree (block_and_ending Break e.ending) nothing in
-      choose TreeFits (is_break on r) _ _ (after_fits on away t h (fits t (tt, (tt, tt)) tt))
-      (taken_fits (makes_table on away r e) (text_line_of on away r e) (table_if_fits (delimiter_row on r) (text_here away) clear (lines_here away h.lines))
-      (text_fits away clear h))
-
-  begun_fits : (o : Option Tree) (away : Opening) (other : Tree) → CanClose away → OptionFits o → TreeFits other → TreeFits (leaf_tree_or on o away other)
-  begun_fits None away other h k l = l
-  begun_fits (Some t) away other h k l = after_fits on away t h k.tree
+  where_fits : (o : Option Tree) → OptionFits o → WhereSome TreeFits o
+  where_fits None h = tt
+  where_fits (Some t) h = h.tree
 
   leaf_line_fits : (away : Opening) → HaveNoEnding r → CanClose away → TreeFits (leaf_line on away r e)
   leaf_line_fits away clear h =
       let t = tree (one (Blank e.ending)) nothing in
-      choose TreeFits (is_blank r) _ _ (after_fits on away t h (fits t (tt, tt) tt))
-      (begun_fits (begins on (has_text away) r e) away (tree_or (turns on away r e.ending) (break_or_text on away r e)) h (begins_fits (has_text away) clear)
-      (taken_fits (turns on away r e.ending) (break_or_text on away r e) (turns_fits away h.lines) (break_fits away clear h)))
+      where_leaf_line TreeFits TreeFits on away r e
+      record {
+        blank = λ _. after_fits on away t h (fits t (tt, tt) tt);
+        closes = λ begun k. after_fits on away begun h k;
+        indented = λ _. fits (indented_tree r e) tt tt;
+        fenced = fence_tree_fits (fence_start on r) (fence_start_fits on r clear);
+        math = fence_tree_fits (math_start on r) (math_start_fits on r);
+        html = html_tree_fits (html_start on (has_text away) r);
+        heading = atx_tree_fits (heading_atx on r) (heading_fits on r clear);
+        underlined = where_fits (turns on away r e.ending) (turns_fits away h.lines);
+        breaks = λ _. fits (break_tree e) (tt, (tt, tt)) tt;
+        tabled = where_fits (makes_table on away r e) (tabled_fits (delimiter_row on r) (text_here away) clear (lines_here away h.lines));
+        text = λ _. text_fits away clear h;
+      }
 
   start_fits : (o : Option ContainerStart) (away : Opening) (other : Tree) (more : ContainerStart → Tree) → StartFits o → StartedClear o → CanClose away
       → TreeFits other → ((s : ContainerStart) → HaveNoEnding s.rest → TreeFits (more s)) → TreeFits (start on o away other more)
@@ -496,7 +490,7 @@ goes_on_fits on e r (Some line) c kids inner more clear some h k = in_container_
 
 grow_fits : (on : Constructs) (e : Beside) (now : Opening) (r : Rest) → HaveNoEnding r → CanClose now → TreeFits (grow on e now r)
 grow_fits on e (Leaf leaf) r clear h =
-    taken_fits (takes on leaf r e) (new (length r) on true (Leaf leaf) e r) (takes_fits on e r leaf h.fits)
+    where_unwrapped TreeFits (takes on leaf r e) (new (length r) on true (Leaf leaf) e r) (where_fits on e r (takes on leaf r e) (takes_fits on e r leaf h.fits))
     (new_fits on e (length r) true (Leaf leaf) r clear h)
 grow_fits on e (Inside c kids inner) r clear h =
     goes_on_fits on e r (continues on c (began_blank kids inner) r) c kids inner (λ line. grow on (beside_in line.before e) inner line.rest) clear

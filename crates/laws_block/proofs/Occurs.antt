@@ -38,11 +38,12 @@ use Rattle.definition_inline.specs.Definition.{Definition as LinkDefinition, def
 use Rattle.definition_text.specs.Content.{Part, content_of}
 use Rattle.definition_block.specs.Definitions.{lines_before, DefinitionCut, cut_into, cut_after, cut_most, definition_cut}
 use Rattle.definition_text.specs.BlockLines.{own_lines, BlockLine}
-use Rattle.definition_block.specs.Tree.{one, block_and_ending, empty_tree, nothing, tree, blanks, paragraph_of, close_leaf, is_ending, all_endings, front}
-use Rattle.definition_block.specs.Tree.{trailing, without_last, last_of, container_block, close, has_text, has_table, is_some_line, table_of, table_if}
-use Rattle.definition_block.specs.Tree.{makes_table}
-use Rattle.definition_block.specs.Tree.{leaf_with_line, with_line, rest_line, indented_takes, fenced_takes, html_with, html_takes, takes, or_heading, or_fence}
-use Rattle.definition_block.specs.Tree.{or_html, begins, after, text_line_of, break_or_text, text_here, heading_of, heading_if, turns, leaf_tree_or, tree_or}
+use Rattle.definition_block.specs.Tree.{one, empty_tree, nothing, tree, blanks, paragraph_of, close_leaf, is_ending, all_endings, front}
+use Rattle.definition_block.specs.Tree.{trailing, without_last, last_of, container_block, close, has_text, has_table, is_some_line, table_of, tabled, makes_table}
+use Rattle.definition_block.specs.Tree.{leaf_with_line, with_line, rest_line, indented_takes, fenced_takes, html_with, html_takes, takes, fence_tree}
+use Rattle.definition_block.specs.Tree.{html_tree, atx_tree, after, text_line_of, text_here, heading_of, underlined}
+use Rattle.definition_block.proofs.LeafLines.{where_leaf_line, where_unwrapped}
+use Rattle.std.specs.Option.{option_and_then}
 use Rattle.definition_block.specs.Tree.{leaf_line, beside_in, start, new, began_blank, goes_on, grow, beside_line, step, steps, blocks_at_end, children}
 use Rattle.definition_block.specs.Tree.{children_after, Block, Paragraph, Heading, Break, IndentedCode, FencedCode, Html, Table, Definition, Holds, Items}
 use Rattle.definition_block.specs.Tree.{Ending, Blank, Blocks, Nil, Cons, join, blocks, OpenLeaf, Text, Indented, Fenced, OpenHtml, OpenTable, Opening, Leaf}
@@ -248,9 +249,10 @@ module _ (on : Constructs) where
   may_take (OpenTable ls) rest beside p = tt
 
   -- a heading, a fence and an HTML block are read where they are on
-  may_or_heading : (ending : Option LineEnding) (o : Option Atx) → WhereSome (λ (a : Atx). on.heading_atx ≡ true) o → SomeTreeMayStand (or_heading ending o)
-  may_or_heading ending None p = tt
-  may_or_heading ending (Some a) p = ((inl (p, refl), (tt, tt)), tt)
+  may_atx : (beside : Beside) (o : Option Atx) → WhereSome (λ (a : Atx). on.heading_atx ≡ true) o
+      → WhereSome (λ (a : Atx). TreeMayStand on (atx_tree beside a)) o
+  may_atx beside None p = tt
+  may_atx beside (Some a) p = ((inl (p, refl), (tt, tt)), tt)
 
   -- the info of code is a word, that of math isn't
   may_code_fence : (rest : Rest) → WhereSome (λ (f : Fence). InfoMayStand on f.info) (fence_start on rest)
@@ -272,24 +274,15 @@ module _ (on : Constructs) where
       cond_both (leb 2 (run 36 text) && list_all (λ b. not (b == 36)) (after_run 36 text)) _ _ P (λ _. inr (h, refl)) (λ _. tt))
       (λ _. tt)
 
-  may_or_fence : (ending : Option LineEnding) (o : Option Fence) (other : Option BlockTree) → WhereSome (λ (f : Fence). InfoMayStand on f.info) o
-      → SomeTreeMayStand other → SomeTreeMayStand (or_fence ending o other)
-  may_or_fence ending None other p q = q
-  may_or_fence ending (Some f) other p q = (tt, p)
+  may_fence : (beside : Beside) (o : Option Fence) → WhereSome (λ (f : Fence). InfoMayStand on f.info) o
+      → WhereSome (λ (f : Fence). TreeMayStand on (fence_tree beside f)) o
+  may_fence beside None p = tt
+  may_fence beside (Some f) p = (tt, p)
 
-  may_or_html : (rest : Rest) (beside : Beside) (o : Option ℕ) (other : Option BlockTree) → WhereSome (λ (k : ℕ). on.html_flow ≡ true) o
-      → SomeTreeMayStand other → SomeTreeMayStand (or_html rest beside o other)
-  may_or_html rest beside None other p q = q
-  may_or_html rest beside (Some kind) other p q = may_html kind [] rest beside p
-
-  may_begin : (paragraph : Bool) (rest : Rest) (beside : Beside) → SomeTreeMayStand (begins on paragraph rest beside)
-  may_begin paragraph rest beside =
-      cond_both (starts_code_indented on rest && not paragraph) _ _ SomeTreeMayStand
-      (λ e. (tt, (and_parts on.code_indented _ (and_parts (starts_code_indented on rest) (not paragraph) e).0).0))
-      (λ _. may_or_fence beside.ending (fence_start on rest) _ (may_code_fence rest)
-      (may_or_fence beside.ending (math_start on rest) _ (may_math_fence rest)
-      (may_or_html rest beside (html_start on paragraph rest) _ (guarded on.html_flow (small_indent on rest) _)
-      (may_or_heading beside.ending (heading_atx on rest) (guarded on.heading_atx (small_indent on rest) _)))))
+  may_html_start : (rest : Rest) (beside : Beside) (o : Option ℕ) → WhereSome (λ (k : ℕ). on.html_flow ≡ true) o
+      → WhereSome (λ kind. TreeMayStand on (html_tree rest beside kind)) o
+  may_html_start rest beside None p = tt
+  may_html_start rest beside (Some kind) p = may_html kind [] rest beside p
 
   may_after : (away : Opening) (t : BlockTree) → OpeningMayStand on away → TreeMayStand on t → TreeMayStand on (after on away t)
   may_after away t p q = (may-join (close on away) t.done (may_close away p) q.0, q.1)
@@ -310,22 +303,13 @@ module _ (on : Constructs) where
       cond_both (has_text away || has_table away) _ _ (TreeMayStand on) (λ _. (tt, may_with_line (rest_line rest beside) away p))
       (λ _. may_after away (tree Nil (Leaf (Text (rest_line rest beside ∷ [])))) p (tt, tt))
 
-  may_begun : (o : Option BlockTree) (away : Opening) (other : BlockTree) → SomeTreeMayStand o → OpeningMayStand on away → TreeMayStand on other
-      → TreeMayStand on (leaf_tree_or on o away other)
-  may_begun None away other p a q = q
-  may_begun (Some t) away other p a q = may_after away t a p
-
-  may_taken : (o : Option BlockTree) (other : BlockTree) → SomeTreeMayStand o → TreeMayStand on other → TreeMayStand on (tree_or o other)
-  may_taken None other p q = q
-  may_taken (Some t) other p q = p
-
   -- a row of delimiters is read where tables are on
   may_table_of : (definitions : Blocks) (ls : List BlockLine) (row : BlockLine) → on.gfm_table ≡ true → MayStand on definitions
       → TreeMayStand on (table_of definitions ls row)
   may_table_of definitions ls row h p = (may-join definitions (paragraph_of (take (length ls - 1) ls)) p (may_paragraph (take (length ls - 1) ls)), h)
 
   may_table : (o : Option (List AlignKind)) (ls : List BlockLine) (row : BlockLine) → WhereSome {A = List AlignKind} (λ x. on.gfm_table ≡ true) o
-      → SomeTreeMayStand (table_if on o ls row)
+      → SomeTreeMayStand (option_and_then (tabled on ls row) o)
   may_table None ls row h = tt
   may_table (Some columns) ls row h =
       let parts = definition_cut on ls in
@@ -336,13 +320,6 @@ module _ (on : Constructs) where
   may_make_table away rest beside =
       may_table (delimiter_row on rest) (text_here away) (rest_line rest beside)
       (guarded on.gfm_table (small_indent on rest) (delimiters (bytes_of (bare rest))))
-
-  may_break : (away : Opening) (rest : Rest) (beside : Beside) → OpeningMayStand on away → TreeMayStand on (break_or_text on away rest beside)
-  may_break away rest beside p =
-      cond_both (is_break on rest) _ _ (TreeMayStand on)
-      (λ e. may_after away (tree (block_and_ending Break beside.ending) nothing) p
-      (((and_parts on.thematic_break _ (and_parts (on.thematic_break && small_indent on rest) _ e).0).0, (tt, tt)), tt))
-      (λ _. may_taken (makes_table on away rest beside) (text_line_of on away rest beside) (may_make_table away rest beside) (may_text away rest beside p))
 
   -- an underline gives the rank 1 or 2
   may_underline : (rest : Rest) → WhereSome (λ rank. (on.heading_setext ≡ true) × (leb rank 2 ≡ true)) (underline on rest)
@@ -361,17 +338,26 @@ module _ (on : Constructs) where
   may_heading rank definitions (line ∷ others) ending h p = (may-join definitions _ p (inr h, (tt, tt)), tt)
 
   may_underlined : (o : Option ℕ) (ls : List BlockLine) (ending : Option LineEnding) → WhereSome (λ rank. (on.heading_setext ≡ true) × (leb rank 2 ≡ true)) o
-      → SomeTreeMayStand (heading_if on o ls ending)
+      → SomeTreeMayStand (option_and_then (underlined on ls ending) o)
   may_underlined None ls ending h = tt
   may_underlined (Some rank) ls ending h = may_heading rank (definition_cut on ls).definitions (definition_cut on ls).left ending h (may_cut ls)
 
   may_leaf_line : (away : Opening) (rest : Rest) (beside : Beside) → OpeningMayStand on away → TreeMayStand on (leaf_line on away rest beside)
   may_leaf_line away rest beside p =
-      cond_both (is_blank rest) _ _ (TreeMayStand on)
-      (λ _. may_after away (tree (one (Blank beside.ending)) nothing) p ((tt, tt), tt))
-      (λ _. may_begun (begins on (has_text away) rest beside) away _ (may_begin (has_text away) rest beside) p
-      (may_taken (turns on away rest beside.ending) _ (may_underlined (underline on rest) (text_here away) beside.ending (may_underline rest))
-      (may_break away rest beside p)))
+      where_leaf_line (TreeMayStand on) (TreeMayStand on) on away rest beside
+      record {
+        blank = λ _. may_after away (tree (one (Blank beside.ending)) nothing) p ((tt, tt), tt);
+        closes = λ t q. may_after away t p q;
+        indented = λ e. (tt, (and_parts on.code_indented _ (and_parts (starts_code_indented on rest) (not (has_text away)) e).0).0);
+        fenced = may_fence beside (fence_start on rest) (may_code_fence rest);
+        math = may_fence beside (math_start on rest) (may_math_fence rest);
+        html = may_html_start rest beside (html_start on (has_text away) rest) (guarded on.html_flow (small_indent on rest) _);
+        heading = may_atx beside (heading_atx on rest) (guarded on.heading_atx (small_indent on rest) _);
+        underlined = may_underlined (underline on rest) (text_here away) beside.ending (may_underline rest);
+        breaks = λ e. (((and_parts on.thematic_break _ (and_parts (on.thematic_break && small_indent on rest) _ e).0).0, (tt, tt)), tt);
+        tabled = may_make_table away rest beside;
+        text = λ _. may_text away rest beside p;
+      }
 
   -- ---- containers
 
@@ -436,7 +422,8 @@ module _ (on : Constructs) where
 
   may_grow : (beside : Beside) (now : Opening) (rest : Rest) → OpeningMayStand on now → TreeMayStand on (grow on beside now rest)
   may_grow beside (Leaf leaf) rest p =
-      may_taken (takes on leaf rest beside) _ (may_take leaf rest beside p) (may_new (length rest) true (Leaf leaf) beside rest p)
+      where_unwrapped (TreeMayStand on) (takes on leaf rest beside) (new (length rest) on true (Leaf leaf) beside rest) (may_take leaf rest beside p)
+      (may_new (length rest) true (Leaf leaf) beside rest p)
   may_grow beside (Inside c kids inner) rest p =
       may_go_on (continues on c (began_blank kids inner) rest) c kids inner beside rest
       (λ line. grow on (beside_in line.before beside) inner line.rest) p.0 p.1 p.2 (λ line. may_grow (beside_in line.before beside) inner line.rest p.2)

@@ -1,5 +1,5 @@
 -- On which lines of a text its blocks stand.
-use Rattle.std.proofs.Common.{◌≡◌, ◌≢◌, ℕ, suc, zero, ◌+◌, ◌-◌, ◌≤◌, Bool, true, false, cond, not, leb, eqb, ◌&&◌, ◌||◌, List, [], ◌∷◌, ◌++◌, Option, None, Some}
+use Rattle.std.proofs.Common.{◌≡◌, ◌≢◌, ℕ, suc, zero, ◌+◌, ◌-◌, ◌≤◌, Bool, true, false, cond, leb, eqb, ◌&&◌, ◌||◌, List, [], ◌∷◌, ◌++◌, Option, None, Some}
 use Rattle.std.proofs.Common.{length, take, drop, refl, sym, ap, ◌∙◌, subst, inl, inr, arith}
 use Rattle.std.proofs.lemmas.Bool.{both_ways, cases_Bool, cond-true, cond-false, cond_both, and_parts, or_cases, eqb-true, eqb-false, false≢true}
 use Rattle.std.proofs.lemmas.List.{length-append, length-drop, length-take}
@@ -26,29 +26,27 @@ use Rattle.definition_block.specs.MathFlow.{math_start}
 use Rattle.definition_block.specs.HtmlFlow.{html_start, html_ends_here, ends_before_blank}
 use Rattle.definition_block.specs.HeadingAtx.{Atx, begins_apart, atx_of, heading_atx}
 use Rattle.definition_block.specs.HeadingSetext.{underline, underline_of}
-use Rattle.definition_block.specs.ThematicBreak.{is_break}
 use Rattle.definition_block.specs.Frontmatter.{is_metadata_fence, after_metadata_fence, after_frontmatter}
 use Rattle.markdown_options.specs.declared.align_kind.AlignKind.{AlignKind}
 use Rattle.definition_block.specs.GfmTable.{delimiter_row, is_head}
 use Rattle.definition_block.specs.Definitions.{lines_before, DefinitionCut, cut_into, cut_after, cut_most, definition_cut}
-use Rattle.definition_block.specs.Tree.{Block, Paragraph, Heading, Break, FencedCode, Html, Table, Holds, Items, Blank, Blocks, Nil, Cons, join, one}
+use Rattle.definition_block.specs.Tree.{Block, Paragraph, Heading, FencedCode, Html, Table, Holds, Items, Blank, Blocks, Nil, Cons, join, one}
 use Rattle.definition_block.specs.Tree.{block_and_ending, OpenLeaf, Text, Indented, Fenced, OpenHtml, OpenTable, Opening, Leaf, Inside, Tree as BlockTree, tree}
 use Rattle.definition_block.specs.Tree.{nothing, empty_tree, blanks, paragraph_of, close_leaf, is_ending, all_endings, front, trailing, without_last, last_of}
-use Rattle.definition_block.specs.Tree.{container_block, close, leaf_text, open_text, has_text, has_table, is_some_line, table_of, table_if, makes_table}
-use Rattle.definition_block.specs.Tree.{with_line, rest_line, html_with, takes, or_heading, or_fence, or_html, begins, after, text_line_of}
-use Rattle.definition_block.specs.Tree.{break_or_text, heading_of, heading_if, turns, leaf_tree_or, tree_or, leaf_line, beside_in, start, new}
+use Rattle.definition_block.specs.Tree.{container_block, close, leaf_text, open_text, has_text, has_table, is_some_line, table_of, makes_table}
+use Rattle.definition_block.specs.Tree.{with_line, rest_line, html_with, takes, after, text_line_of}
+use Rattle.definition_block.specs.Tree.{heading_of, turns, leaf_line, beside_in, start, new}
 use Rattle.definition_block.specs.Tree.{began_blank, goes_on, grow, beside_line, step, steps, children, children_after, blocks}
+use Rattle.definition_block.specs.Tree.{fence_tree, html_tree, atx_tree, underlined, tabled}
+use Rattle.definition_block.proofs.LeafLines.{where_leaf_line, where_unwrapped}
+use Rattle.definition_text.proofs.Each.{WhereSome}
+use Rattle.std.specs.Option.{option_and_then}
 use Rattle.definition_block.specs.Lists.{endings_of, after_endings, item_marker, list_marker, list_items, rest_of, before_list, put_before, grouped_block}
 use Rattle.definition_block.specs.Lists.{group_items}
 use Rattle.text_pieces.specs.ParagraphLines.{AreLines}
 use Rattle.block_rows.proofs.DefinitionLines.{definition_cuts}
 use Rattle.block_rows.proofs.OpenLines.{AreTextLines, AreLinesTo, are_lines, lines_of_text, open_step}
 use Rattle.laws_block.specs.TextLines.{IsOn, AreOn, lines_after, lines_read, BlocksAreOnLines, HeadingsAreOfLines}
-
--- what holds of a value, where there is one
-abbrev WhereSome : {A : Type 0} → (A → Type 0) → Option A → Type 0
-WhereSome P None = Unit {0}
-WhereSome P (Some x) = P x
 
 length-own : (ls : List BlockLine) → length (own_lines ls) ≡ length ls
 length-own [] = refl
@@ -243,27 +241,18 @@ module _ (on : Constructs) where
       (λ _. cond_both (is_run 1 45 text) _ _ (WhereSome P) (λ _. (h, refl)) (λ _. tt)))
       (λ _. tt)
 
-  or_heading_on : (ending : Option LineEnding) (o : Option Atx) (b : ℕ) → WhereSome (λ (x : Atx). (on.heading_atx ≡ true) × (leb x.rank 6 ≡ true)) o
-      → SomeOn b (suc b) (or_heading ending o)
-  or_heading_on ending None b h = tt
-  or_heading_on ending (Some x) b h = (suc b, (b, inl (h.0, h.1, refl, refl), (suc b, refl, refl)), omega arith)
+  atx_on : (beside : Beside) (o : Option Atx) (b : ℕ) → WhereSome (λ (x : Atx). (on.heading_atx ≡ true) × (leb x.rank 6 ≡ true)) o
+      → WhereSome (λ (x : Atx). TreeOn (atx_tree beside x) b (suc b)) o
+  atx_on beside None b h = tt
+  atx_on beside (Some x) b h = (suc b, (b, inl (h.0, h.1, refl, refl), (suc b, refl, refl)), omega arith)
 
-  or_fence_on : (ending : Option LineEnding) (o : Option Fence) (other : Option BlockTree) (b : ℕ) → SomeOn b (suc b) other
-      → SomeOn b (suc b) (or_fence ending o other)
-  or_fence_on ending None other b q = q
-  or_fence_on ending (Some fence) other b q = (b, refl, omega arith)
+  fence_on : (beside : Beside) (o : Option Fence) (b : ℕ) → WhereSome (λ (fence : Fence). TreeOn (fence_tree beside fence) b (suc b)) o
+  fence_on beside None b = tt
+  fence_on beside (Some fence) b = (b, refl, omega arith)
 
-  or_html_on : (rest : Rest) (beside : Beside) (o : Option ℕ) (other : Option BlockTree) (b : ℕ) → SomeOn b (suc b) other
-      → SomeOn b (suc b) (or_html rest beside o other)
-  or_html_on rest beside None other b q = q
-  or_html_on rest beside (Some kind) other b q = html_on kind [] rest beside b b (omega arith)
-
-  begins_on : (paragraph : Bool) (rest : Rest) (beside : Beside) (b : ℕ) → SomeOn b (suc b) (begins on paragraph rest beside)
-  begins_on paragraph rest beside b =
-      cond_both (starts_code_indented on rest && not paragraph) _ _ (SomeOn b (suc b)) (λ _. (b, refl, (omega arith, omega arith)))
-      (λ _. or_fence_on beside.ending (fence_start on rest) _ b
-      (or_fence_on beside.ending (math_start on rest) _ b
-      (or_html_on rest beside (html_start on paragraph rest) _ b (or_heading_on beside.ending (heading_atx on rest) b (atx_read rest)))))
+  html_start_on : (rest : Rest) (beside : Beside) (o : Option ℕ) (b : ℕ) → WhereSome (λ kind. TreeOn (html_tree rest beside kind) b (suc b)) o
+  html_start_on rest beside None b = tt
+  html_start_on rest beside (Some kind) b = html_on kind [] rest beside b b (omega arith)
 
   after_on : (away : Opening) (t : BlockTree) (a b c : ℕ) → AreLines (open_text away) → OpeningOn away a b → TreeOn t b c → TreeOn (after on away t) a c
   after_on away t a b c h p q = (q.0, join_on (close on away) t.done a b q.0 (close_on away a b h p) q.1, q.2)
@@ -299,7 +288,7 @@ module _ (on : Constructs) where
       (suc b, join_on definitions (block_and_ending heading ending) a m (suc b) p (ended_on heading ending m b (suc b) here refl), omega arith)
 
   -- of no lines nothing is made
-  no_heading : (o : Option ℕ) (ending : Option LineEnding) (a b : ℕ) → SomeOn a b (heading_if on o [] ending)
+  no_heading : (o : Option ℕ) (ending : Option LineEnding) (a b : ℕ) → SomeOn a b (option_and_then (underlined on [] ending) o)
   no_heading None ending a b = tt
   no_heading (Some rank) ending a b =
       cond_both on.definition (cut_most 0 []) (cut_into Nil [])
@@ -307,7 +296,7 @@ module _ (on : Constructs) where
 
   underlined_on : (o : Option ℕ) (ls : List BlockLine) (ending : Option LineEnding) (a b : ℕ)
       → WhereSome (λ rank. (on.heading_setext ≡ true) × (leb rank 2 ≡ true)) o → AreLines ls → b ≡ a + length ls
-      → SomeOn a (suc b) (heading_if on o ls ending)
+      → SomeOn a (suc b) (option_and_then (underlined on ls ending) o)
   underlined_on None ls ending a b r h e = tt
   underlined_on (Some rank) ls ending a b r h e =
       let parts = cut_on ls a b h e in heading_on rank (definition_cut on ls).definitions (definition_cut on ls).left ending a parts.0 b r parts.1 parts.2
@@ -336,14 +325,14 @@ module _ (on : Constructs) where
       )
 
   table_on : (o : Option (List AlignKind)) (ls : List BlockLine) (row : BlockLine) (a b : ℕ) → AreLines ls → b ≡ a + length ls
-      → SomeOn a (suc b) (table_if on o ls row)
+      → SomeOn a (suc b) (option_and_then (tabled on ls row) o)
   table_on None ls row a b h e = tt
   table_on (Some columns) ls row a b h e =
       let parts = cut_on ls a b h e in
       cond_both (is_some_line (definition_cut on ls).left && is_head (length columns) ls) _ _ (SomeOn a (suc b))
       (λ _. table_of_on (definition_cut on ls).definitions (definition_cut on ls).left row a parts.0 b parts.1 parts.2) (λ _. tt)
 
-  no_table : (o : Option (List AlignKind)) (row : BlockLine) (a b : ℕ) → SomeOn a b (table_if on o [] row)
+  no_table : (o : Option (List AlignKind)) (row : BlockLine) (a b : ℕ) → SomeOn a b (option_and_then (tabled on [] row) o)
   no_table None row a b = tt
   no_table (Some columns) row a b =
       cond_both on.definition (cut_most 0 []) (cut_into Nil [])
@@ -359,30 +348,23 @@ module _ (on : Constructs) where
   makes_table_on (Leaf (OpenTable ls)) rest beside a b h p = no_table (delimiter_row on rest) (rest_line rest beside) a (suc b)
   makes_table_on (Inside c kids inner) rest beside a b h p = no_table (delimiter_row on rest) (rest_line rest beside) a (suc b)
 
-  taken_on : (o : Option BlockTree) (other : BlockTree) (a b : ℕ) → SomeOn a b o → TreeOn other a b → TreeOn (tree_or o other) a b
-  taken_on None other a b p q = q
-  taken_on (Some t) other a b p q = p
-
-  begun_on : (o : Option BlockTree) (away : Opening) (other : BlockTree) (a b c : ℕ) → SomeOn b c o → AreLines (open_text away) → OpeningOn away a b
-      → TreeOn other a c → TreeOn (leaf_tree_or on o away other) a c
-  begun_on None away other a b c o h p q = q
-  begun_on (Some t) away other a b c o h p q = after_on away t a b c h p o
-
-  break_on : (away : Opening) (rest : Rest) (beside : Beside) (a b : ℕ) → AreLines (open_text away) → OpeningOn away a b
-      → TreeOn (break_or_text on away rest beside) a (suc b)
-  break_on away rest beside a b h p =
-      cond_both (is_break on rest) _ _ (λ (t : BlockTree). TreeOn t a (suc b))
-      (λ _. after_on away (tree (block_and_ending Break beside.ending) nothing) a b (suc b) h p (suc b, (b, refl, (suc b, refl, refl)), omega arith))
-      (λ _. taken_on (makes_table on away rest beside) (text_line_of on away rest beside) a (suc b) (makes_table_on away rest beside a b h p)
-      (text_line_on away rest beside a b h p))
-
   leaf_line_on : (away : Opening) (rest : Rest) (beside : Beside) (a b : ℕ) → AreLines (open_text away) → OpeningOn away a b
       → TreeOn (leaf_line on away rest beside) a (suc b)
   leaf_line_on away rest beside a b h p =
-      cond_both (is_blank rest) _ _ (λ (t : BlockTree). TreeOn t a (suc b))
-      (λ _. after_on away (tree (one (Blank beside.ending)) nothing) a b (suc b) h p (suc b, (suc b, refl, refl), omega arith))
-      (λ _. begun_on (begins on (has_text away) rest beside) away _ a b (suc b) (begins_on (has_text away) rest beside b) h p
-      (taken_on (turns on away rest beside.ending) _ a (suc b) (turns_on away rest beside.ending a b h p) (break_on away rest beside a b h p)))
+      where_leaf_line (λ (t : BlockTree). TreeOn t a (suc b)) (λ (t : BlockTree). TreeOn t b (suc b)) on away rest beside
+      record {
+        blank = λ _. after_on away (tree (one (Blank beside.ending)) nothing) a b (suc b) h p (suc b, (suc b, refl, refl), omega arith);
+        closes = λ t q. after_on away t a b (suc b) h p q;
+        indented = λ _. (b, refl, (omega arith, omega arith));
+        fenced = fence_on beside (fence_start on rest) b;
+        math = fence_on beside (math_start on rest) b;
+        html = html_start_on rest beside (html_start on (has_text away) rest) b;
+        heading = atx_on beside (heading_atx on rest) b (atx_read rest);
+        underlined = turns_on away rest beside.ending a b h p;
+        breaks = λ _. (suc b, (b, refl, (suc b, refl, refl)), omega arith);
+        tabled = makes_table_on away rest beside a b h p;
+        text = λ _. text_line_on away rest beside a b h p;
+      }
 
   -- ---- containers
 
@@ -410,7 +392,8 @@ module _ (on : Constructs) where
 
   grow_on : (beside : Beside) (now : Opening) (rest : Rest) (a b : ℕ) → AreLines (open_text now) → OpeningOn now a b → TreeOn (grow on beside now rest) a (suc b)
   grow_on beside (Leaf leaf) rest a b h p =
-      taken_on (takes on leaf rest beside) _ a (suc b) (takes_on leaf rest beside a b p) (new_on (length rest) true (Leaf leaf) beside rest a b h p)
+      where_unwrapped (λ (t : BlockTree). TreeOn t a (suc b)) (takes on leaf rest beside) (new (length rest) on true (Leaf leaf) beside rest)
+      (takes_on leaf rest beside a b p) (new_on (length rest) true (Leaf leaf) beside rest a b h p)
   grow_on beside (Inside c kids inner) rest a b h p =
       goes_on_on (continues on c (began_blank kids inner) rest) c kids inner beside rest (λ line. grow on (beside_in line.before beside) inner line.rest)
       a p.0 b h p.1 p.2 (λ line. grow_on (beside_in line.before beside) inner line.rest p.0 b h p.2)

@@ -1,7 +1,9 @@
 -- One more line, with another ending in place of each LF.
 use Rattle.std.proofs.Common.{◌≡◌, ℕ, zero, suc, List, [], ◌∷◌, ◌++◌, None, Some, Option, Bool, true, false, cond, not, ◌&&◌, ◌||◌, ◌-◌, refl, sym, ap, ◌∙◌}
 use Rattle.std.proofs.Common.{length, take, drop}
-use Rattle.std.specs.Option.{option_map}
+use Rattle.std.specs.Prelude.{unwrap_or}
+use Rattle.std.specs.Bool.{then_some}
+use Rattle.std.specs.Option.{option_or, option_map, option_and_then}
 use Rattle.std.proofs.lemmas.List.{map-append, take-map, drop-map, length-map}
 use Rattle.markdown_options.specs.declared.line_ending.LineEnding.{LineEnding}
 use Rattle.markdown_options.specs.declared.configuration.Constructs.{Constructs}
@@ -25,10 +27,10 @@ use Rattle.definition_block.specs.Definitions.{DefinitionCut, definition_cut}
 use Rattle.definition_block.specs.Tree.{BlockLine, block_line, spaced_line, own_lines, Paragraph, Heading, Break, IndentedCode, FencedCode, Html, Table}
 use Rattle.definition_block.specs.Tree.{Definition, Holds, Items, Ending, Blank, Blocks, Nil, Cons, join, one, block_and_ending}
 use Rattle.definition_block.specs.Tree.{OpenLeaf, Text, Indented, Fenced, OpenHtml, OpenTable, Opening, Leaf, Inside, Tree, tree, nothing, close, leaf_text}
-use Rattle.definition_block.specs.Tree.{open_text, is_some_line, has_text, has_table, table_of, table_if, makes_table, paragraph_of, leaf_with_line, with_line}
+use Rattle.definition_block.specs.Tree.{open_text, is_some_line, has_text, has_table, table_of, tabled, makes_table, paragraph_of, leaf_with_line, with_line}
 use Rattle.definition_block.specs.Tree.{rest_line}
-use Rattle.definition_block.specs.Tree.{indented_takes, fenced_takes, html_with, takes, or_heading, or_fence, or_html, begins, after, text_line_of}
-use Rattle.definition_block.specs.Tree.{break_or_text, text_here, heading_of, heading_if, turns, leaf_tree_or, tree_or, leaf_line}
+use Rattle.definition_block.specs.Tree.{indented_takes, fenced_takes, html_with, takes, after, text_line_of, text_here, heading_of, underlined, turns}
+use Rattle.definition_block.specs.Tree.{indented_tree, fence_tree, html_tree, atx_tree, break_tree, anew, first_of, leaf_starts, leaf_line}
 use Rattle.definition_block.specs.Tree.{beside_in, start, new, in_container, is_nothing, is_one_blank, began_blank, goes_on, grow}
 use Rattle.laws_endings.specs.Endings.{if_ending_with, line_with, lines_with, blocks_with}
 use Rattle.laws_endings.proofs.Codes.{cond-under}
@@ -131,31 +133,24 @@ module _ (e : LineEnding) where
 
   -- ---- a leaf that begins
 
-  or_heading-with : (ending : Option LineEnding) (found : Option Atx) → KeptAtx e found
-      → or_heading (if_ending_with e ending) found ≡ if_tree (or_heading ending found)
-  or_heading-with ending None k = refl
-  or_heading-with ending (Some atx) k =
-      ap (λ content. Some (tree (block_and_ending (Heading atx.rank (spaced_line content None ∷ [])) (if_ending_with e ending)) nothing)) (sym k)
+  atx-with : (beside : Beside) (found : Option Atx) → KeptAtx e found
+      → option_map (atx_tree (beside_with e beside)) found ≡ if_tree (option_map (atx_tree beside) found)
+  atx-with beside None k = refl
+  atx-with beside (Some atx) k =
+      ap (λ content. Some (tree (block_and_ending (Heading atx.rank (spaced_line content None ∷ [])) (if_ending_with e beside.ending)) nothing)) (sym k)
 
-  or_fence-with : (ending : Option LineEnding) (found : Option Fence) (more other : Option Tree) → more ≡ if_tree other
-      → or_fence (if_ending_with e ending) found more ≡ if_tree (or_fence ending found other)
-  or_fence-with ending None more other same = same
-  or_fence-with ending (Some fence) more other same = refl
+  fence-with : (beside : Beside) (found : Option Fence)
+      → option_map (fence_tree (beside_with e beside)) found ≡ if_tree (option_map (fence_tree beside) found)
+  fence-with beside None = refl
+  fence-with beside (Some fence) = refl
 
-  or_html-with : (rest : Rest) (beside : Beside) (found : Option ℕ) (more other : Option Tree) → Kept e rest → more ≡ if_tree other
-      → or_html rest (beside_with e beside) found more ≡ if_tree (or_html rest beside found other)
-  or_html-with rest beside None more other k same = same
-  or_html-with rest beside (Some kind) more other k same = ap Some (html_with-with kind [] rest beside k)
+  html-with : (rest : Rest) (beside : Beside) (found : Option ℕ) → Kept e rest
+      → option_map (html_tree rest (beside_with e beside)) found ≡ if_tree (option_map (html_tree rest beside) found)
+  html-with rest beside None k = refl
+  html-with rest beside (Some kind) k = ap Some (html_with-with kind [] rest beside k)
 
-  begins-with : (on : Constructs) (paragraph : Bool) (rest : Rest) (beside : Beside) → Kept e rest
-      → begins on paragraph rest (beside_with e beside) ≡ if_tree (begins on paragraph rest beside)
-  begins-with on paragraph rest beside k =
-      cond-under if_tree (starts_code_indented on rest && not paragraph)
-      (ap (λ line. Some (tree Nil (Leaf (Indented (line ∷ []) [])))) (rest_line-with (outdent 4 rest) beside (outdented-kept e 4 rest k)))
-      (or_fence-with beside.ending (fence_start on rest) _ _
-      (or_fence-with beside.ending (math_start on rest) _ _
-      (or_html-with rest beside (html_start on paragraph rest) _ _ k
-      (or_heading-with beside.ending (heading_atx on rest) (heading_atx-kept e on rest k)))))
+  indented-with : (rest : Rest) (beside : Beside) → Kept e rest → indented_tree rest (beside_with e beside) ≡ tree_with e (indented_tree rest beside)
+  indented-with rest beside k = ap (λ line. tree Nil (Leaf (Indented (line ∷ []) []))) (rest_line-with (outdent 4 rest) beside (outdented-kept e 4 rest k))
 
   after-with : (on : Constructs) (away : Opening) (t : Tree) → after on (opening_with e away) (tree_with e t) ≡ tree_with e (after on away t)
   after-with on away t =
@@ -190,7 +185,7 @@ module _ (e : LineEnding) where
       ∙ ap (λ done. Some (tree done nothing)) (join-with e definitions (block_and_ending (Heading rank (own_lines (line ∷ ls))) ending))
 
   underlined-with : (on : Constructs) (rank : Option ℕ) (ls : List BlockLine) (ending : Option LineEnding)
-      → heading_if on rank (lines_with e ls) (if_ending_with e ending) ≡ if_tree (heading_if on rank ls ending)
+      → option_and_then (underlined on (lines_with e ls) (if_ending_with e ending)) rank ≡ if_tree (option_and_then (underlined on ls ending) rank)
   underlined-with on None ls ending = refl
   underlined-with on (Some rank) ls ending =
       ap (λ (parts : DefinitionCut). heading_of rank parts.definitions parts.left (if_ending_with e ending)) (cut-with e on ls)
@@ -199,12 +194,12 @@ module _ (e : LineEnding) where
   turns-with : (on : Constructs) (away : Opening) (rest : Rest) (ending : Option LineEnding)
       → turns on (opening_with e away) rest (if_ending_with e ending) ≡ if_tree (turns on away rest ending)
   turns-with on away rest ending =
-      ap (λ ls. heading_if on (underline on rest) ls (if_ending_with e ending)) (text_here-with away)
+      ap (λ ls. option_and_then (underlined on ls (if_ending_with e ending)) (underline on rest)) (text_here-with away)
       ∙ underlined-with on (underline on rest) (text_here away) ending
 
   -- ---- tables
 
-  taken-with : (found : Option Tree) (other : Tree) → tree_or (if_tree found) (tree_with e other) ≡ tree_with e (tree_or found other)
+  taken-with : (found : Option Tree) (other : Tree) → unwrap_or (if_tree found) (tree_with e other) ≡ tree_with e (unwrap_or found other)
   taken-with None other = refl
   taken-with (Some t) other = refl
 
@@ -221,10 +216,10 @@ module _ (e : LineEnding) where
       ∙ ap (λ bs. table bs (lines_with e (drop head ls))) (join-with e definitions (paragraph_of (take head ls)))
       ∙ ap (λ own. tree (blocks_with e (join definitions (paragraph_of (take head ls)))) (Leaf (OpenTable own))) (one_more (drop head ls) row)
 
-  table_if-with : (on : Constructs) (o : Option (List AlignKind)) (ls : List BlockLine) (row : BlockLine)
-      → table_if on o (lines_with e ls) (line_with e row) ≡ if_tree (table_if on o ls row)
-  table_if-with on None ls row = refl
-  table_if-with on (Some columns) ls row =
+  tabled-with : (on : Constructs) (o : Option (List AlignKind)) (ls : List BlockLine) (row : BlockLine)
+      → option_and_then (tabled on (lines_with e ls) (line_with e row)) o ≡ if_tree (option_and_then (tabled on ls row) o)
+  tabled-with on None ls row = refl
+  tabled-with on (Some columns) ls row =
       let parts = definition_cut on ls in
       let count = length columns in
       let made : DefinitionCut → Bool → Option Tree =
@@ -238,43 +233,61 @@ module _ (e : LineEnding) where
   makes_table-with : (on : Constructs) (away : Opening) (rest : Rest) (beside : Beside) → Kept e rest
       → makes_table on (opening_with e away) rest (beside_with e beside) ≡ if_tree (makes_table on away rest beside)
   makes_table-with on away rest beside k =
-      ap (λ ls. table_if on (delimiter_row on rest) ls (rest_line rest (beside_with e beside))) (text_here-with away)
-      ∙ ap (table_if on (delimiter_row on rest) (lines_with e (text_here away))) (rest_line-with rest beside k)
-      ∙ table_if-with on (delimiter_row on rest) (text_here away) (rest_line rest beside)
-
-  break_or_text-with : (on : Constructs) (away : Opening) (rest : Rest) (beside : Beside) → Kept e rest
-      → break_or_text on (opening_with e away) rest (beside_with e beside) ≡ tree_with e (break_or_text on away rest beside)
-  break_or_text-with on away rest beside k =
-      let text = text_line_of on away rest beside in
-      cond-under (tree_with e) (is_break on rest) (after-with on away (tree (block_and_ending Break beside.ending) nothing))
-      (ap (λ found. tree_or found (text_line_of on (opening_with e away) rest (beside_with e beside))) (makes_table-with on away rest beside k)
-      ∙ ap (tree_or (if_tree (makes_table on away rest beside))) (text_line_of-with on away rest beside k)
-      ∙ taken-with (makes_table on away rest beside) text)
+      ap (λ ls. option_and_then (tabled on ls (rest_line rest (beside_with e beside))) (delimiter_row on rest)) (text_here-with away)
+      ∙ ap (λ row. option_and_then (tabled on (lines_with e (text_here away)) row) (delimiter_row on rest)) (rest_line-with rest beside k)
+      ∙ tabled-with on (delimiter_row on rest) (text_here away) (rest_line rest beside)
 
   -- ---- a rest that starts no container
 
-  begun-with : (on : Constructs) (found : Option Tree) (away : Opening) (other : Tree)
-      → leaf_tree_or on (if_tree found) (opening_with e away) (tree_with e other) ≡ tree_with e (leaf_tree_or on found away other)
-  begun-with on None away other = refl
-  begun-with on (Some t) away other = after-with on away t
+  -- a leaf that is found begins
+  anew-with : (on : Constructs) (away : Opening) (more other : Option Tree) → more ≡ if_tree other
+      → anew on (opening_with e away) more ≡ if_tree (anew on away other)
+  anew-with on away more other same = ap (anew on (opening_with e away)) same ∙ both other
+    where
+      both : (o : Option Tree) → anew on (opening_with e away) (if_tree o) ≡ if_tree (anew on away o)
+      both None = refl
+      both (Some t) = ap Some (after-with on away t)
+
+  -- or one that begins where a test passes
+  tested-with : (on : Constructs) (away : Opening) (b : Bool) (more other : Tree) → more ≡ tree_with e other
+      → anew on (opening_with e away) (then_some b more) ≡ if_tree (anew on away (then_some b other))
+  tested-with on away true more other same = anew-with on away (Some more) (Some other) (ap Some same)
+  tested-with on away false more other same = refl
+
+  or-with : (o p other more : Option Tree) → o ≡ if_tree p → other ≡ if_tree more → option_or o other ≡ if_tree (option_or p more)
+  or-with o p other more same rest = ap (λ x. option_or x other) same ∙ ap (option_or (if_tree p)) rest ∙ either p
+    where
+      either : (x : Option Tree) → option_or (if_tree x) (if_tree more) ≡ if_tree (option_or x more)
+      either None = refl
+      either (Some t) = refl
+
+  starts-with : (on : Constructs) (away : Opening) (rest : Rest) (beside : Beside) → Kept e rest
+      → first_of (leaf_starts on (opening_with e away) rest (beside_with e beside)) ≡ if_tree (first_of (leaf_starts on away rest beside))
+  starts-with on away rest beside k =
+      let now = opening_with e away in
+      let ends = beside_with e beside in
+      let code = starts_code_indented on rest in
+      or-with _ _ _ _
+      (ap (λ has. anew on now (then_some (code && not has) (indented_tree rest ends))) (has_text-with away)
+      ∙ tested-with on away (code && not (has_text away)) (indented_tree rest ends) (indented_tree rest beside) (indented-with rest beside k))
+      (or-with _ _ _ _ (anew-with on away _ _ (fence-with beside (fence_start on rest)))
+      (or-with _ _ _ _ (anew-with on away _ _ (fence-with beside (math_start on rest)))
+      (or-with _ _ _ _
+      (ap (λ has. anew on now (option_map (html_tree rest ends) (html_start on has rest))) (has_text-with away)
+      ∙ anew-with on away _ _ (html-with rest beside (html_start on (has_text away) rest) k))
+      (or-with _ _ _ _ (anew-with on away _ _ (atx-with beside (heading_atx on rest) (heading_atx-kept e on rest k)))
+      (or-with _ _ _ _ (turns-with on away rest beside.ending)
+      (or-with _ _ _ _ (tested-with on away (is_break on rest) (break_tree ends) (break_tree beside) refl)
+      (or-with (makes_table on now rest ends) (makes_table on away rest beside) None None (makes_table-with on away rest beside k) refl)))))))
 
   leaf_line-with : (on : Constructs) (away : Opening) (rest : Rest) (beside : Beside) → Kept e rest
       → leaf_line on (opening_with e away) rest (beside_with e beside) ≡ tree_with e (leaf_line on away rest beside)
   leaf_line-with on away rest beside k =
-      let now = opening_with e away in
-      let ends = beside_with e beside in
-      let turned = turns on away rest beside.ending in
-      let text = break_or_text on away rest beside in
+      let found = first_of (leaf_starts on away rest beside) in
       cond-under (tree_with e) (is_blank rest) (after-with on away (tree (one (Blank beside.ending)) nothing))
-      (ap (λ has. leaf_tree_or on (begins on has rest ends) now (tree_or (turns on now rest ends.ending) (break_or_text on now rest ends))) (has_text-with away)
-      ∙ ap (λ found. leaf_tree_or on found now (tree_or (turns on now rest ends.ending) (break_or_text on now rest ends)))
-      (begins-with on (has_text away) rest beside k)
-      ∙ ap (λ found. leaf_tree_or on (if_tree (begins on (has_text away) rest beside)) now (tree_or found (break_or_text on now rest ends)))
-      (turns-with on away rest beside.ending)
-      ∙ ap (λ other. leaf_tree_or on (if_tree (begins on (has_text away) rest beside)) now (tree_or (if_tree turned) other))
-      (break_or_text-with on away rest beside k)
-      ∙ ap (leaf_tree_or on (if_tree (begins on (has_text away) rest beside)) now) (taken-with turned text)
-      ∙ begun-with on (begins on (has_text away) rest beside) away (tree_or turned text))
+      (ap (λ o. unwrap_or o (text_line_of on (opening_with e away) rest (beside_with e beside))) (starts-with on away rest beside k)
+      ∙ ap (unwrap_or (if_tree found)) (text_line_of-with on away rest beside k)
+      ∙ taken-with found (text_line_of on away rest beside))
 
   -- ---- containers
 
@@ -343,8 +356,8 @@ module _ (e : LineEnding) where
       → grow on (beside_with e beside) (opening_with e now) rest ≡ tree_with e (grow on beside now rest)
   grow-with on beside (Leaf leaf) rest k =
       let other = new (length rest) on true (Leaf leaf) beside rest in
-      ap (λ found. tree_or found (new (length rest) on true (opening_with e (Leaf leaf)) (beside_with e beside) rest)) (takes-with on leaf rest beside k)
-      ∙ ap (tree_or (if_tree (takes on leaf rest beside))) (new-with (length rest) on true (Leaf leaf) beside rest k)
+      ap (λ found. unwrap_or found (new (length rest) on true (opening_with e (Leaf leaf)) (beside_with e beside) rest)) (takes-with on leaf rest beside k)
+      ∙ ap (unwrap_or (if_tree (takes on leaf rest beside))) (new-with (length rest) on true (Leaf leaf) beside rest k)
       ∙ taken-with (takes on leaf rest beside) other
   grow-with on beside (Inside c kids inner) rest k =
       let inside = opening_with e inner in

@@ -15,14 +15,17 @@ use Rattle.definition_block.specs.ListItem.{is_digit, number_of, bullet, after_n
 use Rattle.definition_block.specs.GfmFootnoteDefinition.{after_bracket, footnote_mark, footnote_of, footnote_start}
 use Rattle.definition_block.specs.Containers.{quote_or, footnote_or, starts}
 use Rattle.definition_block.specs.CodeIndented.{starts_code_indented}
-use Rattle.definition_block.specs.CodeFenced.{Fence, fence_of, fence_start}
+use Rattle.definition_block.specs.CodeFenced.{fence_of, fence_start}
 use Rattle.definition_block.specs.MathFlow.{math_fence_of, math_start}
 use Rattle.definition_block.specs.HtmlFlow.{starts_raw, starts_declaration, starts_basic, starts_complete, stands_alone, html_kind, html_start}
 use Rattle.definition_inline.specs.HtmlTags.{open_tag, closing_tag}
 use Rattle.definition_block.specs.HeadingAtx.{atx_of, heading_atx}
 use Rattle.definition_block.specs.HeadingSetext.{underline_of, underline}
 use Rattle.definition_block.specs.ThematicBreak.{is_break_text, is_break}
-use Rattle.definition_block.specs.Tree.{or_heading, or_fence, or_html, begins}
+use Rattle.definition_block.specs.Tree.{Tree, nothing, makes_table, indented_tree, fence_tree, html_tree, atx_tree, break_tree, underlined, anew, first_of}
+use Rattle.definition_block.specs.Tree.{leaf_starts}
+use Rattle.std.specs.Bool.{then_some}
+use Rattle.std.specs.Option.{option_or, option_map, option_and_then}
 use Rattle.laws_escape.proofs.PlainText.{and_no, bare_other}
 use Rattle.laws_escape.specs.Escaped.{is_line_byte}
 use Rattle.laws_escape.proofs.Escaped.{no_and, no_column}
@@ -176,11 +179,17 @@ module _ (on : Constructs) (c : ℕ) (cs : List ℕ) (line : BeginsNothing c cs)
   pub no_break : is_break on here ≡ false
   no_break = and_no (on.thematic_break && small_indent on here) _ (ap is_break_text same_text ∙ no_break_text)
 
-  pub no_leaf : (beside : Beside) → begins on false here beside ≡ None
-  no_leaf beside =
-      let heading = or_heading beside.ending (heading_atx on here) in
-      let html = λ (o : Option ℕ). or_html here beside o heading in
-      let math = λ (o : Option Fence). or_fence beside.ending o (html (html_start on false here)) in
-      cond-false _ _ _ (no_and (starts_code_indented on here) _ no_code)
-      ∙ ap (λ o. or_fence beside.ending o (math (math_start on here))) no_fence
-      ∙ ap math no_math ∙ ap html no_html ∙ ap (or_heading beside.ending) no_heading
+  none_or : (o p : Option Tree) → o ≡ None → p ≡ None → option_or o p ≡ None
+  none_or o p h k = ap (λ x. option_or x p) h ∙ k
+
+  -- no leaf begins where no table is made
+  pub no_leaf : (beside : Beside) → makes_table on nothing here beside ≡ None → first_of (leaf_starts on nothing here beside) ≡ None
+  no_leaf beside no_table =
+      none_or _ _ (ap (λ b. anew on nothing (then_some b (indented_tree here beside))) (no_and (starts_code_indented on here) true no_code))
+      (none_or _ _ (ap (λ o. anew on nothing (option_map (fence_tree beside) o)) no_fence)
+      (none_or _ _ (ap (λ o. anew on nothing (option_map (fence_tree beside) o)) no_math)
+      (none_or _ _ (ap (λ o. anew on nothing (option_map (html_tree here beside) o)) no_html)
+      (none_or _ _ (ap (λ o. anew on nothing (option_map (atx_tree beside) o)) no_heading)
+      (none_or _ _ (ap (option_and_then (underlined on [] beside.ending)) no_underline)
+      (none_or _ _ (ap (λ b. anew on nothing (then_some b (break_tree beside))) no_break)
+      (none_or (makes_table on nothing here beside) None no_table refl)))))))

@@ -1,6 +1,7 @@
 -- A text of one line that begins nothing is a paragraph.
 use Rattle.std.proofs.Common.{◌≡◌, ℕ, zero, suc, true, false, ◌&&◌, ◌||◌, List, [], ◌∷◌, ◌++◌, Option, None, Some, refl, ap, ◌∙◌, take, length}
-use Rattle.std.specs.Prelude.{◌+◌, ◌==◌}
+use Rattle.std.specs.Prelude.{◌+◌, ◌==◌, unwrap_or}
+use Rattle.std.specs.Option.{option_and_then}
 use Rattle.std.specs.List.{list_all}
 use Rattle.std.proofs.lemmas.Bool.{cond-false, cond_both, and_parts, or_parts}
 use Rattle.markdown_options.specs.declared.configuration.Constructs.{Constructs}
@@ -15,18 +16,16 @@ use Rattle.definition_inline.specs.Definition.{with_label, definition_at}
 use Rattle.definition_block.specs.ContainerStart.{ContainerStart}
 use Rattle.definition_block.specs.Definitions.{DefinitionCut, cut_into, cut_after, cut_most, definition_cut}
 use Rattle.definition_block.specs.Frontmatter.{is_metadata_fence, after_frontmatter}
-use Rattle.definition_block.specs.HeadingSetext.{underline}
-use Rattle.definition_block.specs.ThematicBreak.{is_break}
 use Rattle.markdown_options.specs.declared.align_kind.AlignKind.{AlignKind}
 use Rattle.definition_block.specs.GfmTable.{delimiter_row, is_head}
-use Rattle.definition_block.specs.Tree.{is_some_line, table_if, Nil, Paragraph, join, block_and_ending, Text, Leaf, Tree, tree, nothing, empty_tree}
-use Rattle.definition_block.specs.Tree.{with_paragraph, rest_line, leaf_tree_or, tree_or, heading_if, text_line_of, break_or_text, beside_in, leaf_line, start}
+use Rattle.definition_block.specs.Tree.{is_some_line, tabled, Nil, Paragraph, join, block_and_ending, Text, Leaf, Tree, tree, nothing, empty_tree}
+use Rattle.definition_block.specs.Tree.{with_paragraph, rest_line, text_line_of, beside_in, leaf_line, start}
 use Rattle.definition_block.specs.Tree.{new}
 use Rattle.definition_block.specs.Tree.{grow, beside_line, step, blocks_at_end, children, children_after, blocks}
 use Rattle.laws_escape.proofs.PlainText.{and_no, bare_other}
 use Rattle.laws_escape.specs.Escaped.{is_line_byte}
 use Rattle.laws_escape.proofs.Escaped.{no_and, no_column, line_byte}
-use Rattle.laws_escape.proofs.BeginsNothing.{BeginsNothing, same_bytes, no_start, not_blank, no_underline, no_break, no_leaf}
+use Rattle.laws_escape.proofs.BeginsNothing.{BeginsNothing, same_bytes, no_start, not_blank, no_leaf}
 
 -- ---- one line without tabs
 
@@ -63,7 +62,7 @@ module _ (on : Constructs) (c : ℕ) (cs : List ℕ) (line : BeginsNothing c cs)
   its_text : (beside : Beside) → text_line_of on nothing here beside ≡ in_paragraph beside
   its_text beside = ap (λ x. tree (join (with_paragraph x) Nil) (Leaf (Text (rest_line here beside ∷ [])))) cut_none
 
-  no_table : (o : Option (List AlignKind)) (row : BlockLine) → table_if on o [] row ≡ None
+  no_table : (o : Option (List AlignKind)) (row : BlockLine) → option_and_then (tabled on [] row) o ≡ None
   no_table None row = refl
   no_table (Some columns) row =
       cond-false (is_some_line (definition_cut on []).left && is_head (length columns) []) _ _
@@ -71,13 +70,9 @@ module _ (on : Constructs) (c : ℕ) (cs : List ℕ) (line : BeginsNothing c cs)
 
   its_leaf : (beside : Beside) → leaf_line on nothing here beside ≡ in_paragraph beside
   its_leaf beside =
-      let text = break_or_text on nothing here beside in
-      let turned = λ (o : Option ℕ). tree_or (heading_if on o [] beside.ending) text in
       cond-false (is_blank here) _ _ (not_blank on c cs line)
-      ∙ ap (λ o. leaf_tree_or on o nothing (turned (underline on here))) (no_leaf on c cs line beside)
-      ∙ ap turned (no_underline on c cs line)
-      ∙ cond-false (is_break on here) _ _ (no_break on c cs line)
-      ∙ ap (λ o. tree_or o (text_line_of on nothing here beside)) (no_table (delimiter_row on here) (rest_line here beside)) ∙ its_text beside
+      ∙ ap (λ o. unwrap_or o (text_line_of on nothing here beside)) (no_leaf on c cs line beside (no_table (delimiter_row on here) (rest_line here beside)))
+      ∙ its_text beside
 
   its_place : (most : ℕ) (beside : Beside) → new most on true nothing beside here ≡ in_paragraph beside
   its_place zero beside = its_leaf beside

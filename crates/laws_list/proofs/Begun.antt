@@ -1,5 +1,5 @@
 -- After a first line that isn't blank, a tree doesn't hold a blank line alone: so an item that holds it goes on over blank lines.
-use Rattle.std.proofs.Common.{◌≡◌, ℕ, zero, suc, List, [], ◌∷◌, ◌++◌, None, Some, Option, Bool, true, false, ◌&&◌, ◌||◌, ◌-◌, take, not, inl, inr, ◌⊎◌, ⊎_elim}
+use Rattle.std.proofs.Common.{◌≡◌, ℕ, zero, suc, List, [], ◌∷◌, ◌++◌, None, Some, Option, Bool, true, false, ◌&&◌, ◌||◌, ◌-◌, take, inl, inr, ◌⊎◌, ⊎_elim}
 use Rattle.std.proofs.Common.{refl, sym, ap, subst, length}
 use Rattle.std.proofs.lemmas.Bool.{cond_both, both_ways, true≢false}
 use Rattle.markdown_options.specs.declared.line_ending.LineEnding.{LineEnding}
@@ -18,16 +18,17 @@ use Rattle.definition_block.specs.MathFlow.{math_start}
 use Rattle.definition_block.specs.HtmlFlow.{html_start, html_ends_here, ends_before_blank}
 use Rattle.definition_block.specs.HeadingAtx.{Atx, heading_atx}
 use Rattle.definition_block.specs.HeadingSetext.{underline}
-use Rattle.definition_block.specs.ThematicBreak.{is_break}
 use Rattle.markdown_options.specs.declared.align_kind.AlignKind.{AlignKind}
 use Rattle.definition_block.specs.GfmTable.{delimiter_row, is_head}
 use Rattle.definition_block.specs.Definitions.{DefinitionCut, cut_into, cut_after, cut_most, definition_cut}
-use Rattle.definition_block.specs.Tree.{BlockLine, own_lines, Break, Blank, Blocks, Nil, Cons, join, one, block_and_ending, OpenLeaf, Text, Indented, Fenced}
+use Rattle.definition_block.specs.Tree.{BlockLine, own_lines, Blank, Blocks, Nil, Cons, join, one, OpenLeaf, Text, Indented, Fenced}
 use Rattle.definition_block.specs.Tree.{OpenHtml, OpenTable, Opening, Leaf, Inside, Tree, tree, nothing, paragraph_of, with_paragraph, container_block, close}
-use Rattle.definition_block.specs.Tree.{has_text}
-use Rattle.definition_block.specs.Tree.{has_table, is_some_line, table_of, table_if, makes_table, leaf_with_line, with_line, rest_line, html_with, takes}
-use Rattle.definition_block.specs.Tree.{or_heading, or_fence, or_html, begins, after, break_or_text, text_line_of, text_here, heading_of, heading_if, turns}
-use Rattle.definition_block.specs.Tree.{leaf_tree_or, tree_or, leaf_line, beside_in, start, new, is_nothing, is_one_blank, began_blank, goes_on, grow}
+use Rattle.definition_block.specs.Tree.{has_text, has_table, is_some_line, table_of, tabled, leaf_with_line, with_line, rest_line, html_with, takes, after}
+use Rattle.definition_block.specs.Tree.{fence_tree, html_tree, atx_tree, text_line_of, text_here, heading_of, underlined, leaf_line, beside_in, start, new}
+use Rattle.definition_block.specs.Tree.{is_nothing, is_one_blank, began_blank, goes_on, grow}
+use Rattle.definition_text.proofs.Each.{WhereSome}
+use Rattle.definition_block.proofs.LeafLines.{where_leaf_line, where_unwrapped}
+use Rattle.std.specs.Option.{option_and_then}
 
 -- the first of these blocks is there, and is no blank line
 abbrev IsDark : Blocks → Type 0
@@ -45,8 +46,7 @@ abbrev pub IsBegun : Tree → Type 0
 IsBegun t = IsDark t.done ⊎ ((t.done ≡ Nil) × IsOpen t.now)
 
 abbrev SomeBegun : Option Tree → Type 0
-SomeBegun None = Unit {0}
-SomeBegun (Some t) = IsBegun t
+SomeBegun o = WhereSome IsBegun o
 
 dark_join : (bs others : Blocks) → IsDark bs → IsDark (join bs others)
 dark_join Nil others d = absurd (true≢false d)
@@ -87,26 +87,22 @@ paragraph_after (Some d) line ls more = tt
 html_begun : (kind : ℕ) (ls : List BlockLine) (rest : Rest) (beside : Beside) → IsBegun (html_with kind ls rest beside)
 html_begun kind ls rest beside = cond_both (html_ends_here kind rest) _ _ IsBegun (λ _. inl tt) (λ _. inr (refl, tt))
 
-or_heading_begun : (ending : Option LineEnding) (o : Option Atx) → SomeBegun (or_heading ending o)
-or_heading_begun ending None = tt
-or_heading_begun ending (Some a) = inl tt
+atx_begun : (beside : Beside) (o : Option Atx) → WhereSome (λ (a : Atx). IsBegun (atx_tree beside a)) o
+atx_begun beside None = tt
+atx_begun beside (Some a) = inl tt
 
-or_fence_begun : (ending : Option LineEnding) (o : Option Fence) (other : Option Tree) → SomeBegun other → SomeBegun (or_fence ending o other)
-or_fence_begun ending None other q = q
-or_fence_begun ending (Some fence) other q = inr (refl, tt)
+fence_begun : (beside : Beside) (o : Option Fence) → WhereSome (λ (f : Fence). IsBegun (fence_tree beside f)) o
+fence_begun beside None = tt
+fence_begun beside (Some fence) = inr (refl, tt)
 
-or_html_begun : (rest : Rest) (beside : Beside) (o : Option ℕ) (other : Option Tree) → SomeBegun other → SomeBegun (or_html rest beside o other)
-or_html_begun rest beside None other q = q
-or_html_begun rest beside (Some kind) other q = html_begun kind [] rest beside
+html_start_begun : (rest : Rest) (beside : Beside) (o : Option ℕ) → WhereSome (λ kind. IsBegun (html_tree rest beside kind)) o
+html_start_begun rest beside None = tt
+html_start_begun rest beside (Some kind) = html_begun kind [] rest beside
 
 heading_begun : (rank : ℕ) (definitions : Blocks) (ls : List BlockLine) (ending : Option LineEnding) → NoneOrDark definitions
     → SomeBegun (heading_of rank definitions ls ending)
 heading_begun rank definitions [] ending h = tt
 heading_begun rank definitions (line ∷ ls) ending h = inl (join_dark definitions _ h tt)
-
-taken_begun : (o : Option Tree) (other : Tree) → SomeBegun o → IsBegun other → IsBegun (tree_or o other)
-taken_begun None other p q = q
-taken_begun (Some t) other p q = p
 
 paragraph_either : (ls : List BlockLine) → NoneOrDark (paragraph_of ls)
 paragraph_either [] = inl refl
@@ -191,38 +187,21 @@ module _ (on : Constructs) where
       cond_both (ends_before_blank kind && is_blank rest) _ _ SomeBegun (λ _. tt) (λ _. html_begun kind ls rest beside)
   takes_begun (OpenTable ls) rest beside = tt
 
-  begins_begun : (paragraph : Bool) (rest : Rest) (beside : Beside) → SomeBegun (begins on paragraph rest beside)
-  begins_begun paragraph rest beside =
-      cond_both (starts_code_indented on rest && not paragraph) _ _ SomeBegun (λ _. inr (refl, tt))
-      (λ _. or_fence_begun beside.ending (fence_start on rest) _
-      (or_fence_begun beside.ending (math_start on rest) _
-      (or_html_begun rest beside (html_start on paragraph rest) _ (or_heading_begun beside.ending (heading_atx on rest)))))
-
   text_begun : (away : Opening) (rest : Rest) (beside : Beside) → IsBegun (text_line_of on away rest beside)
   text_begun away rest beside =
       cond_both (has_text away || has_table away) _ _ IsBegun (λ _. inr (refl, line_open (rest_line rest beside) away))
       (λ _. after_begun away (tree Nil (Leaf (Text (rest_line rest beside ∷ [])))) (inr (refl, tt)))
 
-  table_begun : (o : Option (List AlignKind)) (ls : List BlockLine) (row : BlockLine) → SomeBegun (table_if on o ls row)
+  table_begun : (o : Option (List AlignKind)) (ls : List BlockLine) (row : BlockLine) → SomeBegun (option_and_then (tabled on ls row) o)
   table_begun None ls row = tt
   table_begun (Some columns) ls row =
       let parts = definition_cut on ls in
       cond_both (is_some_line parts.left && is_head (length columns) ls) _ _ SomeBegun
       (λ _. table_of_begun parts.definitions parts.left row (cut_dark ls)) (λ _. tt)
 
-  break_begun : (away : Opening) (rest : Rest) (beside : Beside) → IsBegun (break_or_text on away rest beside)
-  break_begun away rest beside =
-      cond_both (is_break on rest) _ _ IsBegun (λ _. after_begun away (tree (block_and_ending Break beside.ending) nothing) (inl tt))
-      (λ _. taken_begun (makes_table on away rest beside) _ (table_begun (delimiter_row on rest) (text_here away) (rest_line rest beside))
-      (text_begun away rest beside))
-
-  underlined_begun : (o : Option ℕ) (ls : List BlockLine) (ending : Option LineEnding) → SomeBegun (heading_if on o ls ending)
+  underlined_begun : (o : Option ℕ) (ls : List BlockLine) (ending : Option LineEnding) → SomeBegun (option_and_then (underlined on ls ending) o)
   underlined_begun None ls ending = tt
   underlined_begun (Some rank) ls ending = heading_begun rank (definition_cut on ls).definitions (definition_cut on ls).left ending (cut_dark ls)
-
-  begun_begun : (o : Option Tree) (away : Opening) (other : Tree) → SomeBegun o → IsBegun other → IsBegun (leaf_tree_or on o away other)
-  begun_begun None away other p q = q
-  begun_begun (Some t) away other p q = after_begun away t p
 
   -- something is open, or the rest isn't blank
   abbrev HasText : Opening → Rest → Type 0
@@ -230,11 +209,21 @@ module _ (on : Constructs) where
 
   leaf_line_begun : (away : Opening) (rest : Rest) (beside : Beside) → HasText away rest → IsBegun (leaf_line on away rest beside)
   leaf_line_begun away rest beside h =
-      cond_both (is_blank rest) _ _ IsBegun
-      (λ blank. ⊎_elim (λ is_open. inl (dark_join (close on away) (one (Blank beside.ending)) (close_dark away is_open)))
-      (λ other. absurd (both_ways (is_blank rest) other blank)) h)
-      (λ _. begun_begun (begins on (has_text away) rest beside) away _ (begins_begun (has_text away) rest beside)
-      (taken_begun (turns on away rest beside.ending) _ (underlined_begun (underline on rest) (text_here away) beside.ending) (break_begun away rest beside)))
+      where_leaf_line IsBegun IsBegun on away rest beside
+      record {
+        blank = λ blank. ⊎_elim (λ is_open. inl (dark_join (close on away) (one (Blank beside.ending)) (close_dark away is_open)))
+            (λ other. absurd (both_ways (is_blank rest) other blank)) h;
+        closes = λ t b. after_begun away t b;
+        indented = λ _. inr (refl, tt);
+        fenced = fence_begun beside (fence_start on rest);
+        math = fence_begun beside (math_start on rest);
+        html = html_start_begun rest beside (html_start on (has_text away) rest);
+        heading = atx_begun beside (heading_atx on rest);
+        underlined = underlined_begun (underline on rest) (text_here away) beside.ending;
+        breaks = λ _. inl tt;
+        tabled = table_begun (delimiter_row on rest) (text_here away) (rest_line rest beside);
+        text = λ _. text_begun away rest beside;
+      }
 
   start_begun : (o : Option ContainerStart) (away : Opening) (other : Tree) (more : ContainerStart → Tree) → IsBegun other
       → IsBegun (start on o away other more)
@@ -253,7 +242,8 @@ module _ (on : Constructs) where
 
   grow_begun : (beside : Beside) (now : Opening) (rest : Rest) → IsOpen now → IsBegun (grow on beside now rest)
   grow_begun beside (Leaf leaf) rest h =
-      taken_begun (takes on leaf rest beside) _ (takes_begun leaf rest beside) (new_begun (length rest) true (Leaf leaf) beside rest (inl h))
+      where_unwrapped IsBegun (takes on leaf rest beside) (new (length rest) on true (Leaf leaf) beside rest) (takes_begun leaf rest beside)
+      (new_begun (length rest) true (Leaf leaf) beside rest (inl h))
   grow_begun beside (Inside c kids inner) rest h =
       goes_on_begun (continues on c (began_blank kids inner) rest) c kids inner beside rest
       (λ line. grow on (beside_in line.before beside) inner line.rest)

@@ -2,9 +2,9 @@ use Rattle.std.proofs.Common.{◌≡◌, ◌∷◌, None, refl, sym, ap, ◌∙�
 use Rattle.std.proofs.lemmas.Result.{IfOk-weaker}
 use Rattle.text_pieces.specs.ParagraphLines.{AreLines}
 use Rattle.definition_block.specs.GfmTable.{delimiter_row}
-use Rattle.definition_block.specs.Tree.{Text, open_text, table_if, text_here}
+use Rattle.definition_block.specs.Tree.{Text, open_text, text_here}
 use Rattle.block_starts.specs.View.{rest_of}
-use Rattle.block_parser.specs.GfmTable.{fits, table_tree}
+use Rattle.block_parser.specs.GfmTable.{fits, table_if, table_tree}
 use Rattle.block_parser.specs.HeadingSetext.{IsText}
 use Rattle.block_state.specs.Spine.{spine_at}
 use Rattle.block_parser.specs.View.{HasRead}
