@@ -19,6 +19,9 @@ use std::alloc::{AllocError, Allocator};
 use text_bytes::{is_short_one_of, without_slash};
 use text_search::ByteSet;
 
+/// The last name is the longest, so the most bytes of a name are as many as it has.
+const _: () = prove!(GFM_HTML_TAGFILTER_NAMES[8].len() == GFM_HTML_TAGFILTER_SIZE_MAX);
+
 /// NUL and `<`.
 const OPENINGS: ByteSet = ByteSet {
     first: [0, 2, 3, 4, 5, 6, 7, 8, 9, 10, 11, 12, b'<', 14, 15, 0],

@@ -9,7 +9,7 @@ use inline_references::builtin_reference;
 use markdown_options::Tables;
 
 /// The names of HTML 4 and 44 more of HTML 5, and Unicode punctuation.
-#[derive(Clone, Copy, Debug)]
+#[derive(Clone, Copy, Debug, PartialEq, Eq)]
 pub struct Builtin;
 
 impl Tables for Builtin {

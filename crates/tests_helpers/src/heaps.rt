@@ -6,7 +6,7 @@ use markdown::{Builtin, Options, RunError, Watched, run};
 use std::alloc::Global;
 
 /// The unit of a heap, by which it grows from one run to the next.
-const UNIT: usize = 16;
+const UNIT: usize = 64;
 
 /// How many bytes make a text long: it takes so much memory that its heaps grow by a part of its size.
 const LONG: usize = 512;

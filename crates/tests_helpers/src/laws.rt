@@ -31,6 +31,43 @@ pub fn broken_law(
     Ok(None)
 }
 
+/// The first of these texts that breaks a law where both constructs of footnotes are off, and frontmatter, with task list items as
+/// the options have them and without, so that texts are quoted and listed, too.
+pub fn first_unlawful<'a>(
+    alloc: Global,
+    rows: &[(&'a str, &str)],
+    options: Options,
+) -> Result<Option<&'a str>, RunError>
+    requires { HasNoMdx options }
+{
+    let mut options = options;
+    options.parse.constructs.gfm_footnote_definition = false;
+    options.parse.constructs.gfm_label_start_footnote = false;
+    options.parse.constructs.frontmatter = false;
+    let broken = first_broken(alloc, rows, &options)?;
+    if broken.is_some() || !options.parse.constructs.gfm_task_list_item {
+        return Ok(broken);
+    }
+    options.parse.constructs.gfm_task_list_item = false;
+    first_broken(alloc, rows, &options)
+}
+
+/// The first of these texts that breaks a law.
+fn first_broken<'a>(
+    alloc: Global,
+    rows: &[(&'a str, &str)],
+    options: &Options,
+) -> Result<Option<&'a str>, RunError>
+    requires { HasNoMdx options.now }
+{
+    for (text, _) in rows {
+        if broken_law(alloc, text, options)?.is_some() {
+            return Ok(Some(text));
+        }
+    }
+    Ok(None)
+}
+
 /// Whether the pages of a text quoted once and twice are quotes of its page, where it is quotable.
 fn quotes(alloc: Global, text: &str, options: &Options) -> Result<bool, RunError>
     requires { HasNoMdx options.now }
@@ -68,10 +105,16 @@ fn lists(alloc: Global, text: &str, options: &Options) -> Result<bool, RunError>
     if !keeps_in_containers(text, options) || !on.list_item || on.gfm_task_list_item {
         return Ok(true);
     }
-    let loose = wrapped(alloc, LOOSE, text, "")?;
-    let page = html(alloc, &loose, options)?;
+    is_listed(alloc, &wrapped(alloc, LOOSE, text, "")?, options)
+}
+
+/// Whether the page of a listed text is a list around the text's page, line endings beside tags aside.
+pub fn is_listed(alloc: Global, text: &str, options: &Options) -> Result<bool, RunError>
+    requires { HasNoMdx options.now }
+{
+    let page = html(alloc, text, options)?;
     let want = wrapped(alloc, "<ul><li>", &page, "</li></ul>")?;
-    let listed = html(alloc, &prefixed(alloc, &loose, "+ ", "  ")?, options)?;
+    let listed = html(alloc, &prefixed(alloc, text, "+ ", "  ")?, options)?;
     Ok(squeeze(alloc, &listed)? == squeeze(alloc, &want)?)
 }
 

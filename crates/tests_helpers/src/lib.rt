@@ -2,14 +2,18 @@
 #![tactic(auto)]
 
 mod compare;
+mod failures;
 mod heaps;
 mod laws;
 mod names;
 mod options;
 mod pages;
+mod refusals;
+mod short;
 
 pub use compare::{first_wrong, is_same_by_default, runs_to};
-pub use laws::broken_law;
+pub use laws::{broken_law, first_unlawful, is_listed};
 pub use names::Names;
 pub use options::{blocks, plain};
 pub use pages::rows_of;
+pub use short::Short;

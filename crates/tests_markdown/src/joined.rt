@@ -4,7 +4,7 @@ ghost use Rattle.markdown_options.specs.Mdx.{HasNoMdx};
 use markdown::{Options, RunError, fits, to_html_with_options};
 use std::alloc::Global;
 use std::process::Abort;
-use tests_helpers::{first_wrong, rows_of};
+use tests_helpers::{first_unlawful, first_wrong, rows_of};
 
 /// Whether a text is printed with another after it and an empty line between.
 fn is_joined(alloc: Global, first: &str, second: &str, options: &Options) -> Result<bool, RunError>
@@ -64,7 +64,7 @@ fn first_fault<'a>(
     }
 }
 
-/// Fails, and shows the first text, where some of these are at fault.
+/// Fails, and shows the first text, where some of these are at fault, or break a law where footnotes and frontmatter are off.
 pub(crate) fn assert_no_fault(
     rt: &(impl AllocGlobal + Abort),
     pages: &str,
@@ -74,5 +74,19 @@ pub(crate) fn assert_no_fault(
 {
     let fault = first_fault(rt.alloc(), pages, &options)?;
     assert!(rt; fault.is_none(), "{fault:?}");
+    assert_lawful(rt, pages, options)
+}
+
+/// Fails, and shows the first text, where some of these break a law where footnotes and frontmatter are off.
+pub(crate) fn assert_lawful(
+    rt: &(impl AllocGlobal + Abort),
+    pages: &str,
+    options: Options,
+) -> Result<(), RunError>
+    requires { HasNoMdx options }
+{
+    let rows = rows_of(rt.alloc(), pages)?;
+    let broken = first_unlawful(rt.alloc(), rows.as_slice(), options)?;
+    assert!(rt; broken.is_none(), "{broken:?}");
     Ok(())
 }

@@ -1,9 +1,9 @@
 //! What the program answers, prints and complains of.
-use crate::devices::Short;
 use markdown::{Watched, program};
 use std::process::Abort;
 use std::rt::Files;
 use std::{fs, io};
+use tests_helpers::Short;
 
 /// Words, input, and what the program answers, prints and complains of.
 #[derive(Clone, Copy)]
@@ -105,7 +105,10 @@ fn prints_pages(rt: HostRuntime) -> io::Result<()> {
     prints(&rt, &["--gfm"], b"~a~", "<p><del>a</del></p>")?;
     let filtered = "<p>a <b>&lt;title></b></p>";
     let html = b"a <b><title></b>";
-    prints(&rt, &["--gfm", "--dangerous"], html, filtered)
+    prints(&rt, &["--gfm", "--dangerous"], html, filtered)?;
+    let link = "<p><a href=\"javascript:x\">a</a></p>";
+    prints(&rt, &["--dangerous"], b"<b>x</b>", "<p><b>x</b></p>")?;
+    prints(&rt, &["--dangerous"], b"[a](javascript:x)", link)
 }
 
 #[test]

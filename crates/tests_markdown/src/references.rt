@@ -1,11 +1,11 @@
 //! Rows of names, read from a text.
-use crate::devices::Short;
 use linked_list_allocator::LocalHeap;
 use markdown::{
     Options, Rows, RowsError, RunError, Tables, Watched, fits, run, to_html_with_tables,
 };
 use std::alloc::{AllocError, Global};
 use std::test::Fail;
+use tests_helpers::Short;
 
 /// Names, and what they stand for by the rows of a text, or built in.
 const NAMES: &[(&str, Option<&str>)] = &[

@@ -1,15 +1,14 @@
 //! Texts for rules that are easily read wrongly, and their HTML: in heaps of every size, a byte a call, and every two of them.
 ghost use Rattle.markdown_options.specs.Mdx.{HasNoMdx};
 
-use crate::devices::Short;
 use crate::extensions::FRONTMATTER;
 use crate::gfm_examples::{FILTERED, with_html};
-use crate::joined::assert_no_fault;
+use crate::joined::{assert_lawful, assert_no_fault};
 use crate::rows::PLAIN;
 use markdown::{Builtin, Options, RunError, Watched, run};
 use std::alloc::Global;
 use std::process::Abort;
-use tests_helpers::{pages, plain, rows_of};
+use tests_helpers::{Short, is_listed, pages, plain, rows_of};
 
 /// Read by the default options.
 pub(crate) const COMMONMARK: &str = pages![
@@ -100,6 +99,28 @@ pub(crate) const COMMONMARK: &str = pages![
     ),
     ("<!--", "&lt;!--"),
     ("a\rb\nc", "<p>a\rb\nc</p>"),
+    ("[a]: x\n===", "<p>===</p>"),
+    ("[a]: x\n---", "<hr />"),
+    ("[a]\n\n[a]: x", "<p><a href=\"x\">a</a></p>\n"),
+    ("> [a]: x", "<blockquote>\n</blockquote>"),
+    ("<div>\na", "&lt;div&gt;\na"),
+    ("> a\nb", "<blockquote>\n<p>a\nb</p>\n</blockquote>"),
+    (
+        "- a\n+ b",
+        "<ul>\n<li>a</li>\n</ul>\n<ul>\n<li>b</li>\n</ul>",
+    ),
+    (
+        "1. a\n\n   b\n2. c",
+        "<ol>\n<li>\n<p>a</p>\n<p>b</p>\n</li>\n<li>\n<p>c</p>\n</li>\n</ol>",
+    ),
+    (
+        "+ a\n  \n  b",
+        "<ul>\n<li>\n<p>a</p>\n<p>b</p>\n</li>\n</ul>",
+    ),
+    (
+        "+ # a\n  \n  - b",
+        "<ul>\n<li>\n<h1>a</h1>\n<ul>\n<li>b</li>\n</ul>\n</li>\n</ul>",
+    ),
 ];
 
 /// Read by those of GitHub.
@@ -208,4 +229,24 @@ fn prints_worked_texts_of_frontmatter(rt: HostRuntime) -> Result<(), RunError> {
 fn prints_filtered_and_plain_texts_by_bytes(rt: HostRuntime) -> Result<(), RunError> {
     assert_pages_by_bytes(&rt, FILTERED, with_html())?;
     assert_pages_by_bytes(&rt, PLAIN, plain())
+}
+
+#[test]
+fn keeps_laws_by_options_of_github(rt: HostRuntime) -> Result<(), RunError> {
+    assert_lawful(&rt, COMMONMARK, Options::gfm())?;
+    assert_lawful(&rt, FRONTMATTER, Options::gfm())?;
+    assert_lawful(&rt, PLAIN, Options::gfm())
+}
+
+/// A list's first item is loose only where a line stands between two of its blocks, and begins where the text does.
+#[test]
+fn lists_texts_of_two_blocks(rt: HostRuntime) -> Result<(), RunError> {
+    let options = Options::default();
+    for text in ["a\n\nb", "# a\n\n- b"] {
+        assert!(rt; is_listed(rt.alloc(), text, &options)?, "{text:?}");
+    }
+    for text in ["a", " a\n\nb"] {
+        assert!(rt; !is_listed(rt.alloc(), text, &options)?, "{text:?}");
+    }
+    Ok(())
 }

@@ -10,6 +10,7 @@ fn texts(rt: HostRuntime) -> Result<(), Fail> {
     let text = "I <3 \"🦀\" & é>\0";
     let want = "I &lt;3 &quot;🦀&quot; &amp; é&gt;\u{FFFD}";
     assert!(rt; encode(rt.alloc(), text, true)?.as_str() == want);
+    assert!(rt; encode(rt.alloc(), "I <3 🦀", true)?.as_str() == "I &lt;3 🦀");
     assert!(rt; encode(rt.alloc(), text, false)?.as_str() == "I <3 \"🦀\" & é>\u{FFFD}");
     Ok(())
 }
@@ -17,6 +18,8 @@ fn texts(rt: HostRuntime) -> Result<(), Fail> {
 /// HTML, and what the filter of tags makes of it.
 const TAGS: &[(&str, &str)] = &[
     ("<iframe>", "&lt;iframe>"),
+    ("</XMP >", "&lt;/XMP >"),
+    ("<plaintexts>", "<plaintexts>"),
     (
         "é</XMP\n><titles><b><script",
         "é&lt;/XMP\n><titles><b>&lt;script",
@@ -45,6 +48,7 @@ fn tags(rt: HostRuntime) -> Result<(), Fail> {
 
 /// URLs, and what is printed of each.
 const URLS: &[(&str, &str)] = &[
+    ("a&b", "a&amp;b"),
     ("javascript:alert(1)", "javascript:alert(1)"),
     ("https://a👍b.c/%20/%", "https://a%F0%9F%91%8Db.c/%20/%25"),
     ("é?a=1&b=\"2\"", "%C3%A9?a=1&amp;b=%222%22"),

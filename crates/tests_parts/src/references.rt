@@ -2,6 +2,7 @@
 use inline_references::parse::parse;
 use inline_references::{builtin_reference, decode_numeric};
 use markdown_options::Message;
+use markdown_tables::Builtin;
 use std::alloc::Global;
 use std::test::Fail;
 use tests_helpers::Names;
@@ -61,6 +62,7 @@ fn first_other_text(
 
 #[test]
 fn texts(rt: HostRuntime) -> Result<(), Fail> {
+    assert!(rt; parse(rt.alloc(), "a&amp;b&x;", &Builtin)?.as_str() == "a&b&x;");
     let other = first_other_text(rt.alloc(), TEXTS)?;
     assert!(rt; other.is_none(), "{other:?}");
     Ok(())

@@ -7,6 +7,7 @@ const NAMES: &[(&str, Option<&str>)] = &[
     ("amp", Some("&")),
     ("ngE", Some("\u{2267}\u{338}")),
     ("amp;", None),
+    ("Amp", None),
     ("AMp", None),
     ("", None),
 ];
@@ -31,6 +32,8 @@ fn names(rt: HostRuntime) {
 const CHARACTERS: &[(char, bool)] = &[
     ('_', true),
     ('$', true),
+    ('+', true),
+    ('€', true),
     ('£', true),
     ('„', true),
     ('𝄞', true),
