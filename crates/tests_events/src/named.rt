@@ -1,11 +1,11 @@
 //! A list with each kind of fault, what is told of lists without one, and memory that runs out.
 use crate::lists::events_of;
 use crate::names::Names;
-use markdown_options::AlignKind;
 use engine_events::event::Event;
 use event_check::{CompileError, check_events, gfm_table_align, list_item_loose, list_loose};
 use event_grammar::{EventFault, FaultKind};
 use linked_list_allocator::LocalHeap;
+use markdown_options::AlignKind;
 use markdown_tables::Builtin;
 use std::alloc::AllocError;
 use std::io::{self, ErrorKind};
