@@ -6,14 +6,14 @@ use Rattle.std.proofs.lemmas.List.{append-nil, map-append}
 use Rattle.engine_events.specs.Names.{same_name}
 use Rattle.engine_events.specs.declared.event.Event.{Event}
 use Rattle.engine_events.specs.declared.event.Kind.{Kind}
-use Rattle.engine_events.specs.declared.event.Kind.TheVariants.{Enter, Exit}
+use Rattle.engine_events.specs.declared.event.Kind.TheVariants.{Exit}
 use Rattle.engine_events.specs.declared.event.Name.{Name}
 use Rattle.engine_events.specs.declared.event.Name.TheVariants as n
 use Rattle.markdown_options.specs.declared.align_kind.AlignKind.{AlignKind}
 use Rattle.event_grammar.specs.Trees.{Node, Nodes, Around, Nil, Cons, events_of, AreNodes}
 use Rattle.event_grammar.specs.References.{named}
 use Rattle.event_check.specs.declared.align.Marks.{Marks}
-use Rattle.event_check.specs.Align.{marks, mark, align_of, node_marks, marks_in, value_align, table_align, marks_next, marks_after, aligns_next, aligns_after}
+use Rattle.event_check.specs.Align.{marks, mark, align_of, marks_in, value_align, table_align, marks_next, marks_after, aligns_next, aligns_after}
 use Rattle.event_check.specs.Loose.{IsAt, kids_of}
 use Rattle.event_check.proofs.Fits.{split}
 use Rattle.event_check.proofs.LooseLaw.{nonzero, less, inside}

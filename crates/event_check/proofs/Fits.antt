@@ -1,5 +1,5 @@
 -- The fold over events finds no fault exactly where their tree fits the grammar.
-use Rattle.std.proofs.Common.{◌≡◌, ℕ, ◌+◌, ◌==◌, Bool, true, false, ◌&&◌, ◌||◌, if◌then◌else◌, ◌⊎◌, inl, inr, List, [], ◌∷◌, ◌++◌, Option, None, Some, refl, sym, ap, ◌∙◌, subst, arith, append_assoc}
+use Rattle.std.proofs.Common.{◌≡◌, ℕ, ◌+◌, Bool, true, false, ◌&&◌, ◌||◌, if◌then◌else◌, ◌⊎◌, inl, inr, List, [], ◌∷◌, ◌++◌, Option, None, Some, refl, sym, ap, ◌∙◌, subst, arith, append_assoc}
 use Rattle.std.proofs.lemmas.Bool.{and_parts, or_parts, eqb-true}
 use denote.Enum.Bare.{same_true}
 use Rattle.engine_events.specs.contracts.event.Name.{the_type}
@@ -12,20 +12,19 @@ use Rattle.engine_events.specs.declared.event.Name.TheVariants as n
 use Rattle.event_grammar.specs.declared.slot.Between.{Between}
 use Rattle.event_grammar.specs.declared.slot.Between.TheVariants.{Nothing, Spaces, Lines}
 use Rattle.event_grammar.specs.declared.slot.Form.{Form}
-use Rattle.event_grammar.specs.declared.slot.Form.TheVariants.{Plain}
 use Rattle.event_grammar.specs.declared.slot.Slot.{Slot}
 use Rattle.event_grammar.specs.declared.slot.Slot.TheVariants.{One, Opt, Lead, Many}
 use Rattle.event_grammar.specs.declared.spot.Spot.{Spot}
-use Rattle.event_grammar.specs.Grammar.{row, space_names, line_names, mdx_names, link_names, cell_names}
+use Rattle.event_grammar.specs.Grammar.{space_names, line_names, mdx_names, link_names, cell_names}
 use Rattle.event_grammar.specs.Slots.{Taken, has, taken, take_child, may_end}
-use Rattle.event_grammar.specs.Points.{reaches, is_spot, bytes_between}
+use Rattle.event_grammar.specs.Points.{bytes_between}
 use Rattle.event_grammar.specs.Facts.{is_fact}
-use Rattle.event_grammar.specs.Checks.{Open, Check, check_at, opened, with_child, with_above, limit_of, is_limit, has_limit, is_barred, may_exit, moved, entered, exited, stands_between, spot_of, fact_at}
+use Rattle.event_grammar.specs.Checks.{Open, Check, check_at, opened, with_child, with_above, limit_of, is_limit, has_limit, is_barred, moved, entered, exited, stands_between, spot_of, fact_at}
 use Rattle.event_grammar.specs.Trees.{Node, Nodes, Around, Nil, Cons, events_of}
 use Rattle.event_grammar.specs.Faults.{fault_from}
-use Rattle.event_grammar.specs.InGrammar.{Within, within, inside, Before, before, after, node_name, kids_of, cells_of, CellsAgree, NodeFits, fits, KidsFit, end, takes, between, PlacesFit}
+use Rattle.event_grammar.specs.InGrammar.{Within, within, Before, before, node_name, kids_of, cells_of, NodeFits, fits, KidsFit, end, takes, between}
 use Rattle.event_check.proofs.NodeKinds.{HasKinds, HaveKinds}
-use Rattle.event_check.proofs.Steps.{Taking, Passing, Enters, enters, enters_back, Exits, exits, exits_back, Stands, Goes, goes_on, goes_back}
+use Rattle.event_check.proofs.Steps.{Taking, Passing, enters, exits, goes_on}
 
 pub split : (kids others : Nodes) (exit : Event) (es : List Event)
     → ((events_of kids ++ exit ∷ []) ++ events_of others) ++ es ≡ events_of kids ++ exit ∷ (events_of others ++ es)

@@ -1,5 +1,5 @@
 -- Where a tree fits the grammar, the fold over its events finds no fault.
-use Rattle.std.proofs.Common.{◌≡◌, ℕ, ◌+◌, ◌==◌, Bool, true, false, ◌&&◌, ◌||◌, if◌then◌else◌, ◌⊎◌, inl, inr, List, [], ◌∷◌, ◌++◌, Option, None, Some, refl, sym, ap, ◌∙◌, subst, arith}
+use Rattle.std.proofs.Common.{◌≡◌, ℕ, ◌+◌, ◌==◌, Bool, true, false, ◌&&◌, ◌||◌, if◌then◌else◌, ◌⊎◌, inl, inr, List, ◌∷◌, ◌++◌, Option, None, Some, refl, sym, ap, ◌∙◌, subst, arith}
 use Rattle.std.proofs.lemmas.Bool.{eqb-true, eq-eqb}
 use denote.Enum.Bare.{true_same}
 use Rattle.engine_events.specs.contracts.event.Name.{the_type}
@@ -17,10 +17,10 @@ use Rattle.event_grammar.specs.Grammar.{row, mdx_names, link_names, cell_names}
 use Rattle.event_grammar.specs.Slots.{Taken, take_child, may_end}
 use Rattle.event_grammar.specs.Points.{bytes_between}
 use Rattle.event_grammar.specs.Facts.{is_fact}
-use Rattle.event_grammar.specs.Checks.{Open, Check, check_at, opened, with_child, limit_of, is_limit, has_limit, is_barred, may_exit, moved, stands_between, spot_of, fact_at}
+use Rattle.event_grammar.specs.Checks.{Open, check_at, opened, with_child, limit_of, is_limit, has_limit, is_barred, may_exit, moved, stands_between, spot_of, fact_at}
 use Rattle.event_grammar.specs.Trees.{Node, Nodes, Around, Nil, Cons, events_of}
 use Rattle.event_grammar.specs.Faults.{fault_from}
-use Rattle.event_grammar.specs.InGrammar.{Within, within, inside, Before, before, after, node_name, kids_of, cells_of, CellsAgree, NodeFits, fits, KidsFit, end, takes, between, PlacesFit}
+use Rattle.event_grammar.specs.InGrammar.{Within, inside, Before, before, after, node_name, cells_of, CellsAgree, NodeFits, fits, KidsFit, end, takes, between, PlacesFit}
 use Rattle.event_check.proofs.Steps.{Taking, Passing, enters_back, exits_back, Stands, goes_back}
 use Rattle.event_check.proofs.Fits.{Fills, between_fills, split, later, within_of, before_of, exit_of, above_is, count_taken}
 

@@ -15,8 +15,8 @@ use Rattle.event_grammar.specs.declared.slot.Slot.{Slot}
 use Rattle.event_grammar.specs.declared.spot.Spot.{Spot}
 use Rattle.event_grammar.specs.Grammar.{document_row}
 use Rattle.event_grammar.specs.Points.{spot}
-use Rattle.event_grammar.specs.Checks.{Open, Check, check_at, with_above, at_start, the_document, moved, exited, exited_to, may_exit, spot_of}
-use Rattle.event_grammar.specs.Trees.{Node, Nodes, Around, Nil, Cons, events_of, tree, IsNode, AreNodes}
+use Rattle.event_grammar.specs.Checks.{Open, Check, check_at, with_above, at_start, the_document, moved, exited_to, may_exit, spot_of}
+use Rattle.event_grammar.specs.Trees.{Node, Nodes, events_of, tree, IsNode, AreNodes}
 use Rattle.event_grammar.specs.References.{first_lost}
 use Rattle.event_grammar.specs.Faults.{fault, fault_from, or_lost, lost_fault, event_fault}
 use Rattle.event_grammar.specs.InGrammar.{Within, within, Before, before, NodeFits, fits, KidsFit, end, takes, between, PlacesFit, IsInGrammar}

@@ -5,3 +5,4 @@ pub mod FitsBack
 pub mod Joined
 pub mod LooseLaw
 pub mod AlignLaw
+pub mod Matching

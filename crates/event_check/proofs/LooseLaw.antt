@@ -10,12 +10,12 @@ use Rattle.engine_events.specs.declared.event.Kind.TheVariants.{Enter, Exit}
 use Rattle.engine_events.specs.declared.event.Name.{Name}
 use Rattle.engine_events.specs.declared.event.Name.TheVariants as n
 use Rattle.event_grammar.specs.declared.slot.Child.{Child}
-use Rattle.event_grammar.specs.declared.slot.Child.TheVariants.{Only, Block}
+use Rattle.event_grammar.specs.declared.slot.Child.TheVariants.{Block}
 use Rattle.event_grammar.specs.declared.spot.Spot.{Spot}
 use Rattle.event_grammar.specs.Slots.{has}
 use Rattle.event_grammar.specs.Checks.{spot_of}
-use Rattle.event_grammar.specs.Trees.{Node, Nodes, Around, Nil, Cons, events_of, node_events, IsNode, AreNodes}
-use Rattle.event_check.specs.Loose.{is_far, are_apart, is_loose_item, has_loose_item, is_loose_list, apart_next, apart_after, item_next, item_after, IsAt, kids_of}
+use Rattle.event_grammar.specs.Trees.{Node, Nodes, Around, Nil, Cons, events_of, AreNodes}
+use Rattle.event_check.specs.Loose.{is_far, are_apart, is_loose_item, has_loose_item, apart_next, apart_after, item_next, item_after, IsAt, kids_of}
 use Rattle.event_check.proofs.Fits.{split}
 
 zero_by : (q : ℕ) (t : Bool) → ((q + 1) == 0) ≡ t → t ≡ false

@@ -1,3 +1,4 @@
 pub mod Checked
 pub mod Loose
 pub mod Align
+pub mod Matches

@@ -1,7 +1,7 @@
 //! Lists of events that are in the grammar.
 ghost use Rattle.std.specs.Prelude.{◌≡◌, IfErr, IfOk, OnOk, None};
 ghost use Rattle.event_grammar.specs.Faults.{fault};
-ghost use Rattle.event_grammar.specs.InGrammar.{IsInGrammar};
+ghost use Rattle.event_check.specs.Matches.{MatchesGrammar};
 ghost use Rattle.event_check.specs.Checked.{Refuses};
 ghost use Rattle.event_check.specs.declared.error.CompileError.TheVariants.{Memory};
 
@@ -46,8 +46,8 @@ pub fn check_events<'a, T: Tables, A: Allocator + Clone>(
     bytes: &'a [u8],
     tables: &T,
 ) -> Result<Checked<'a>, CompileError>
-    ensures right { OnOk result (IsInGrammar (T.reference_of tables.now) bytes.now events.now) }
-    ensures passes { IsInGrammar (T.reference_of tables.now) bytes.now events.now → IfErr result (λ error. error ≡ Memory) }
+    ensures right { OnOk result (MatchesGrammar (T.reference_of tables.now) bytes.now events.now) }
+    ensures passes { MatchesGrammar (T.reference_of tables.now) bytes.now events.now → IfErr result (λ error. error ≡ Memory) }
     ensures fault { IfErr result (λ error. Refuses error (fault (T.reference_of tables.now) bytes.now events.now)) }
     ensures events { IfOk result (λ checked. checked.events.now ≡ events.now) }
     ensures bytes { IfOk result (λ checked. checked.bytes.now ≡ bytes.now) }

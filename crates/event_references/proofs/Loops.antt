@@ -1,6 +1,6 @@
 -- Events, one after another.
-use Rattle.std.proofs.Common.{◌≡◌, ◌<◌, ℕ, ◌+◌, Bool, true, false, ◌&&◌, if◌then◌else◌, List, [], ◌∷◌, ◌++◌, Option, None, Some, refl, sym, ap, ◌∙◌, subst, get_or, drop-cons, add-one, append_assoc, drop, take, ◌-◌, length, OnOk, arith}
-use Rattle.std.specs.Prelude.{Result, Ok, Err, map, reverse}
+use Rattle.std.proofs.Common.{◌≡◌, ◌<◌, ℕ, ◌+◌, Bool, true, false, ◌&&◌, if◌then◌else◌, List, [], ◌∷◌, ◌++◌, Option, Some, refl, sym, ap, ◌∙◌, subst, get_or, drop-cons, add-one, append_assoc, drop, take, ◌-◌, length, OnOk, arith}
+use Rattle.std.specs.Prelude.{Result, Ok, map, reverse}
 use Rattle.std.proofs.lemmas.List.{map-append, length-append, length-map, reverse-append, take_rest}
 use Rattle.definition_text.specs.Content.{content_codes}
 use Rattle.engine_events.specs.Names.{same_name, is_listed}

@@ -1,5 +1,5 @@
 -- What leads nowhere among events is what leads nowhere in their tree.
-use Rattle.std.proofs.Common.{◌≡◌, ℕ, ◌+◌, Bool, true, false, ◌||◌, if◌then◌else◌, List, [], ◌∷◌, ◌++◌, length, drop, Option, None, Some, refl, sym, ap, ◌∙◌, append_assoc, arith}
+use Rattle.std.proofs.Common.{◌≡◌, ℕ, ◌+◌, Bool, true, false, ◌||◌, if◌then◌else◌, List, [], ◌∷◌, ◌++◌, length, drop, Option, None, Some, refl, sym, ap, ◌∙◌, arith}
 use Rattle.std.specs.Prelude.{is_some, map}
 use Rattle.std.specs.Option.{option_map, option_or}
 use Rattle.std.proofs.lemmas.List.{append-nil, length-append}
@@ -10,7 +10,7 @@ use Rattle.engine_events.specs.declared.event.Kind.TheVariants.{Enter, Exit}
 use Rattle.engine_events.specs.declared.event.Name.{Name}
 use Rattle.engine_events.specs.declared.event.Name.TheVariants as n
 use Rattle.event_grammar.specs.Trees.{Node, Nodes, Around, Nil, Cons, events_of, IsNode, AreNodes}
-use Rattle.event_grammar.specs.References.{media_names, leads, leads_on, named, own, own_in, own_label, label_text, link_labels, footnote_labels, lost, lost_in, first_lost}
+use Rattle.event_grammar.specs.References.{media_names, leads, named, own, own_label, label_text, link_labels, footnote_labels, lost, lost_in, first_lost}
 use Rattle.event_references.specs.Texts.{text_of, texts_of}
 use Rattle.event_references.specs.Lost.{Media, media, new_media, noted, only_if, label_of, around, lost_from, lost_next}
 use Rattle.event_references.proofs.TextLaw.{split, text_law, texts_law}

@@ -12,8 +12,8 @@ use Rattle.engine_events.specs.declared.event.Name.TheVariants as n
 use Rattle.event_grammar.specs.declared.spot.Spot.{Spot}
 use Rattle.event_grammar.specs.Points.{bytes_between}
 use Rattle.event_grammar.specs.Checks.{spot_of}
-use Rattle.event_grammar.specs.Trees.{Node, Nodes, Around, Nil, Cons, events_of, node_events, IsNode, AreNodes}
-use Rattle.event_grammar.specs.References.{named, named_in, nodes_text, node_text, label_text}
+use Rattle.event_grammar.specs.Trees.{Node, Nodes, Around, Nil, Cons, events_of, AreNodes}
+use Rattle.event_grammar.specs.References.{named, nodes_text, node_text, label_text}
 use Rattle.event_references.specs.Texts.{text_next, piece, text_after, text_of, is_enter, texts_of}
 
 -- the events of a node and those after it, as its enter, its children, its exit and the others

@@ -135,7 +135,8 @@ impl<A: Allocator + Clone> Definitions<A> {
         name: Name,
         label: Option<usize>,
     ) -> Result<bool, AllocError>
-        ensures { (links footnotes : List (List ℕ)) → HasLabels self.now.links (map content_codes links) → HasLabels self.now.footnotes (map content_codes footnotes) →
+        ensures { (links footnotes : List (List ℕ)) → HasLabels self.now.links (map content_codes links) →
+            HasLabels self.now.footnotes (map content_codes footnotes) →
             IfOk result (λ found. found ≡ leads links footnotes name (option_map (text_at bytes.now events.now) label)) }
     {
         let table = if name == Name::GfmFootnoteCall {

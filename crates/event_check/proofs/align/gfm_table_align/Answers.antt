@@ -1,4 +1,4 @@
-use Rattle.std.proofs.Common.{◌≡◌, ◌∙◌, ◌+◌, ap, drop}
+use Rattle.std.proofs.Common.{◌∙◌, ◌+◌, ap, drop}
 use Rattle.event_grammar.specs.Trees.{Node}
 use Rattle.event_check.specs.Align.{aligns_after}
 use Rattle.event_check.specs.Loose.{IsAt}

@@ -1,4 +1,4 @@
-use Rattle.std.proofs.Common.{◌≡◌, ◌∙◌, ◌+◌, ap, drop, None, List, ℕ}
+use Rattle.std.proofs.Common.{◌∙◌, ◌+◌, ap, drop, None, List, ℕ}
 use Rattle.event_grammar.specs.declared.slot.Child.TheVariants.{Block}
 use Rattle.event_grammar.specs.Trees.{Node}
 use Rattle.event_check.specs.Loose.{apart_after, IsAt}

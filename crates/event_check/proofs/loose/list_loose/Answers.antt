@@ -1,4 +1,4 @@
-use Rattle.std.proofs.Common.{◌≡◌, ◌∙◌, ◌+◌, ◌&&◌, ap, drop, None, List, ℕ}
+use Rattle.std.proofs.Common.{◌∙◌, ◌+◌, ◌&&◌, ap, drop, None, List, ℕ}
 use Rattle.engine_events.specs.declared.event.Name.TheVariants as names
 use Rattle.event_grammar.specs.declared.slot.Child.TheVariants.{Only}
 use Rattle.event_grammar.specs.Trees.{Node}

@@ -1,5 +1,4 @@
-use Rattle.std.proofs.Common.{◌≡◌, ◌∙◌, true, sym, ap, take}
-use Rattle.std.specs.Str.{is_utf8}
+use Rattle.std.proofs.Common.{◌∙◌, sym}
 use Rattle.event_grammar.proofs.PlaceLaws.{text_more}
 use Rattle.event_grammar.proofs.place.is_text_on.Goals as goal
 

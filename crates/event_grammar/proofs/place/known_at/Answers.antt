@@ -1,8 +1,6 @@
-use Rattle.std.proofs.Common.{◌≡◌, ◌∙◌, ◌≤◌, ℕ, Bool, List, length, take, drop, ◌-◌, min, max, sym, ap}
+use Rattle.std.proofs.Common.{◌≡◌, ◌∙◌, ◌≤◌, ℕ, List, length, take, drop, ◌-◌, min, max, sym, ap}
 use Rattle.std.specs.List.{fold}
 use Rattle.engine_events.specs.Columns.{mark_size}
-use Rattle.event_grammar.specs.declared.spot.Spot.{Spot}
-use Rattle.event_grammar.specs.Points.{is_column}
 use Rattle.event_grammar.specs.Phases.{phase_at, phase_on, is_column_by}
 use Rattle.event_grammar.proofs.PlaceLaws.{phase_more}
 use Rattle.event_grammar.proofs.place.known_at.Goals as goal

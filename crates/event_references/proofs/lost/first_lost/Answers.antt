@@ -1,13 +1,11 @@
-use Rattle.std.proofs.Common.{◌≡◌, ◌∙◌, true, false, sym, ap, subst, get_or, arith, drop, ◌++◌, [], ◌∷◌, refl, Bool, List, ℕ, Some}
+use Rattle.std.proofs.Common.{◌∙◌, false, sym, ap, get_or, refl}
 use Rattle.std.specs.Prelude.{map, reverse}
-use Rattle.std.specs.Option.{option_map}
 use Rattle.engine_events.specs.declared.event.Name.TheVariants as names
 use Rattle.engine_events.specs.Names.{is_listed}
 use Rattle.event_grammar.specs.References.{leads, media_names}
 use Rattle.event_grammar.proofs.Runs.{no_event}
 use Rattle.event_references.specs.Texts.{texts_of}
-use Rattle.event_references.specs.Lost.{label_of}
-use Rattle.event_references.specs.Views.{media_view, text_at}
+use Rattle.event_references.specs.Views.{media_view}
 use Rattle.event_references.proofs.Loops.{enter_on, exit_on, exit_media, exit_other}
 use Rattle.event_references.proofs.lost.first_lost.Goals as goal
 use Rattle.event_references.proofs.lost.first_lost.Goals.{in-Enter+in_ok-enter-in-Enter, in-Exit+then-contains+in_ok-leads-in-Exit+else-not-branch, in-Exit+else-contains}
