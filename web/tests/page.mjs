@@ -4,7 +4,7 @@
 //     node web/tests/page.mjs FOLDER BROWSER [SCREENSHOT]
 //
 // FOLDER is what bin/wasm has made, BROWSER a program of Chromium's kind. SCREENSHOT-light.png and SCREENSHOT-dark.png get
-// pictures of the page.
+// pictures of the page. The status is 3 if the browser doesn't start.
 import { spawn } from "node:child_process";
 import { mkdtempSync, readFileSync, rmSync, writeFileSync } from "node:fs";
 import { createServer } from "node:http";
@@ -26,7 +26,7 @@ await new Promise(done => server.listen(0, "127.0.0.1", done));
 
 // The browser takes commands as JSON on its third file, and answers on its fourth, with NUL after each.
 const profile = mkdtempSync(join(tmpdir(), "page-"));
-const words = ["--headless", "--no-sandbox", "--disable-gpu", "--remote-debugging-pipe", `--user-data-dir=${profile}`, "about:blank"];
+const words = ["--headless", "--no-sandbox", "--disable-gpu", "--disable-dev-shm-usage", "--remote-debugging-pipe", `--user-data-dir=${profile}`, "about:blank"];
 const running = spawn(browser, words, { stdio: ["ignore", "ignore", "ignore", "pipe", "pipe"] });
 const waiting = new Map();
 let number = 0, unread = "";
@@ -43,6 +43,21 @@ function send(method, params = {}, sessionId = undefined) {
     running.stdio[3].write(`${JSON.stringify({ id: number, method, params, sessionId })}\0`);
     return new Promise((resolve, reject) => waiting.set(number, { resolve, reject }));
 }
+function giveUp(why, status) {
+    console.error(`failed: ${why}`);
+    running.kill("SIGKILL");
+    rmSync(profile, { recursive: true, force: true, maxRetries: 5 });
+    process.exit(status);
+}
+running.on("error", fault => giveUp(fault.message, 3));
+running.stdio[3].on("error", () => {});
+let isAtWork = false;
+running.on("exit", () => giveUp("the browser ended", isAtWork ? 1 : 3));
+const start = setTimeout(() => giveUp("the browser doesn't start", 3), 120_000);
+await send("Browser.getVersion");
+clearTimeout(start);
+isAtWork = true;
+setTimeout(() => giveUp("the browser hangs", 1), 300_000).unref();
 
 let passed = 0, failed = 0;
 try {
@@ -105,10 +120,12 @@ try {
     failed++;
     console.error(`failed: ${fault.message}`);
 } finally {
-    await Promise.race([send("Browser.close").catch(() => {}), new Promise(done => setTimeout(done, 3000))]);
-    running.kill();
+    running.removeAllListeners("exit");
+    const ended = new Promise(done => running.on("exit", done));
+    send("Browser.close").catch(() => {});
+    await Promise.race([ended, new Promise(done => setTimeout(done, 5000))]);
+    running.kill("SIGKILL");
     server.close();
-    await new Promise(done => setTimeout(done, 300));
     rmSync(profile, { recursive: true, force: true, maxRetries: 5 });
 }
 console.log(`${passed} passed, ${failed} failed`);
