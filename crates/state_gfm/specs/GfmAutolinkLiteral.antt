@@ -3,7 +3,7 @@ use Rattle.std.specs.Prelude.{ℕ, Bool, true, false, not, nat_le, nat_lt, is_no
 use Rattle.std.specs.Prelude.{refl}
 use Rattle.std.specs.Char.{is_ascii_alphabetic, is_ascii_alphanumeric}
 use denote.Enum.Bare.{sameb}
-use Rattle.definition_text.specs.contracts.beside.Kind.{the_type}
+use Rattle.markdown_options.specs.contracts.beside.Kind.{the_type}
 use Rattle.markdown_options.specs.declared.beside.Kind.TheVariants.{Other}
 use Rattle.engine_events.specs.declared.event.Name.TheVariants as names
 use Rattle.engine_events.specs.declared.state.Inline.TheVariants as state_inline
