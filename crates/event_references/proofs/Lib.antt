@@ -1,3 +1,4 @@
 pub mod TextLaw
 pub mod LostLaw
 pub mod Loops
+pub mod Parts

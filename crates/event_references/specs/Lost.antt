@@ -32,6 +32,10 @@ noted name text m =
     media (m.resource || same_name name n.Resource) (option_or m.reference (only_if (same_name name n.ReferenceString) text))
     (option_or m.text (only_if (same_name name n.LabelText) text))
 
+-- whether an event of this name changes what it is in
+abbrev pub is_part : Name → Bool
+is_part name = same_name name n.Resource || (same_name name n.ReferenceString || same_name name n.LabelText)
+
 abbrev pub label_of : Media → Option (List ℕ)
 label_of m = if m.resource then None else option_or m.reference m.text
 

@@ -8,7 +8,7 @@ ghost use Rattle.definition_text.specs.Content.{content_codes};
 ghost use Rattle.inline_labels.specs.Table.{HasLabels};
 ghost use Rattle.event_grammar.specs.References.{media_names, leads};
 ghost use Rattle.event_references.specs.Texts.{texts_of};
-ghost use Rattle.event_references.specs.Lost.{new_media, noted, only_if, label_of, around, lost_from};
+ghost use Rattle.event_references.specs.Lost.{new_media, noted, is_part, only_if, label_of, around, lost_from};
 ghost use Rattle.event_references.specs.Views.{text_at, media_view};
 
 use crate::labels::{is_defined, label_table};
@@ -41,6 +41,15 @@ impl Media {
     }
 
     /// An event of this name, with this index, is in it.
+    fn note(&mut self, name: Name, index: usize)
+        ensures { (bytes : List ℕ) → (events : List AnEvent) →
+            media_view bytes events self.new ≡ noted name (text_at bytes events index) (media_view bytes events self.old) }
+    {
+        if is_part(name) {
+            *self = self.noted(name, index);
+        }
+    }
+
     fn noted(self, name: Name, index: usize) -> Media
         ensures { (bytes : List ℕ) → (events : List AnEvent) →
             media_view bytes events result ≡ noted name (text_at bytes events index) (media_view bytes events self) }
@@ -65,6 +74,13 @@ impl Media {
             None => self.text,
         }
     }
+}
+
+/// Whether an event of this name tells of the label of what it is in.
+fn is_part(name: Name) -> bool
+    ensures { result ≡ is_part name }
+{
+    name == Name::Resource || name == Name::ReferenceString || name == Name::LabelText
 }
 
 /// The index that is known, otherwise this one, if it is one.
@@ -99,7 +115,7 @@ impl<A: Allocator> Open<A> {
             self.outer.push(self.inner)?;
             self.inner = Media::new();
         } else {
-            self.inner = self.inner.noted(name, index);
+            self.inner.note(name, index);
         }
         Ok(())
     }
