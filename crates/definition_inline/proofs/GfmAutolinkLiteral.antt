@@ -4,12 +4,12 @@ use Rattle.std.specs.Prelude.{codes, slice_index_or}
 use Rattle.std.proofs.lemmas.Bool.{cond_both, cond-false}
 use Rattle.markdown_options.specs.declared.configuration.Constructs.{Constructs}
 use Rattle.definition_text.specs.InlineCode.{InlineCode, codes_of}
-use Rattle.definition_inline.specs.Inline.{LiteralKind, Www, Protocol, Literal, Leaf, leaf}
+use Rattle.definition_inline.specs.Inline.{LiteralKind, Www, Protocol, Literal, Found, leaf}
 use Rattle.definition_inline.specs.GfmAutolinkLiteral.{LiteralStart, literal_start, or_start, begins_caselessly, may_precede_www, may_precede_protocol}
 use Rattle.definition_inline.specs.GfmAutolinkLiteral.{literal_start_at, literal_name, literal_after, literal_at}
 
 -- what holds where there is none, and of every leaf with one literal where they are on
-pub any_literal : (P : Option Leaf → Type 0) (on : Constructs) (content : List InlineCode) → P None
+pub any_literal : (P : Option Found → Type 0) (on : Constructs) (content : List InlineCode) → P None
     → ((kind : LiteralKind) (text : List ℕ) (size : ℕ) → on.gfm_autolink_literal ≡ true → P (Some (leaf (Literal kind text ∷ []) size)))
     → P (literal_at on content)
 any_literal P on [] none some = none
@@ -57,7 +57,7 @@ no_literal on [] h = refl
 no_literal on (c ∷ cs) h =
     ap (λ o. cond on.gfm_autolink_literal (literal_after c cs o) None) (no_start_at c.previous (codes_of (c ∷ cs)) h) ∙ either on.gfm_autolink_literal
   where
-    nothing : Option Leaf
+    nothing : Option Found
     nothing = None
 
     either : (t : Bool) → cond t nothing nothing ≡ nothing

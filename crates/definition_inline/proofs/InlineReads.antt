@@ -4,7 +4,7 @@ use Rattle.std.proofs.Common.{refl}
 use Rattle.std.proofs.lemmas.Bool.{cond_both}
 use Rattle.definition_text.specs.Content.{text_before}
 use Rattle.definition_text.specs.InlineCode.{InlineCode, codes_of}
-use Rattle.definition_inline.specs.Inline.{Target, Inline, Data, Call, Emphasis, Strong, Strikethrough, Link, Image, Inlines, Nil, Cons, followed_by, Leaf}
+use Rattle.definition_inline.specs.Inline.{Target, Inline, Data, Call, Emphasis, Strong, Strikethrough, Link, Image, Inlines, Nil, Cons, followed_by, Found}
 use Rattle.definition_inline.specs.Inline.{or_else}
 use Rattle.definition_inline.specs.LabelEnd.{LinkOrCall, Leads, Calls}
 use Rattle.definition_inline.specs.Attention.{Run, run_at}
@@ -18,14 +18,14 @@ use Rattle.definition_inline.specs.Scan.{and_then, scan, whole_text, spans_from}
 use Rattle.definition_text.proofs.Each.{Each, each-append, each_map, each_mapped, each_same, WhereSome}
 
 module _ (Good : Inline → Type 0) where
-  abbrev pub LeafGood : Leaf → Type 0
+  abbrev pub LeafGood : Found → Type 0
   LeafGood l = Each Good l.parts
 
   -- what begins here, if anything does
-  abbrev pub BeginsGood : Option Leaf → Type 0
+  abbrev pub BeginsGood : Option Found → Type 0
   BeginsGood o = WhereSome LeafGood o
 
-  pub either_begins : (a b : Option Leaf) → BeginsGood a → BeginsGood b → BeginsGood (or_else a b)
+  pub either_begins : (a b : Option Found) → BeginsGood a → BeginsGood b → BeginsGood (or_else a b)
   either_begins None b p q = q
   either_begins (Some l) b p q = p
 
@@ -220,7 +220,7 @@ module _ (Good : Inline → Type 0) (AllGood : Inlines → Type 0) (Leading : Ta
     run_step_good code content r None h c q p = label_step_good code content r (label_start_at context.options.constructs content) h c p
     run_step_good code content r (Some found) h c q p = read_good (Delimiters found ∷ []) r (q, tt) p
 
-    leaf_step_good : (code : ℕ) (content : List ℕ) (r : Reading) (run : Option Run) (found : Option Leaf) → (found ≡ None → Good (Data code))
+    leaf_step_good : (code : ℕ) (content : List ℕ) (r : Reading) (run : Option Run) (found : Option Found) → (found ≡ None → Good (Data code))
         → Codes content → RunGood run → ReadingGood r → BeginsGood Good found → StepGood (leaf_step context code content r run found)
     leaf_step_good code content r run None h c q p b = run_step_good code content r run (h refl) c q p
     leaf_step_good code content r run (Some found) h c q p b =

@@ -8,7 +8,7 @@ use Rattle.std.proofs.lemmas.List.{append-nil}
 use mathlib.Core.Bool.{true≢false}
 use Rattle.markdown_options.specs.declared.configuration.ParseOptions.{ParseOptions}
 use Rattle.definition_text.specs.InlineCode.{InlineCode, codes_of}
-use Rattle.definition_inline.specs.Inline.{Data, Leaf}
+use Rattle.definition_inline.specs.Inline.{Data, Found}
 use Rattle.definition_inline.specs.Attention.{Run, run_size, run_at, is_marker}
 use Rattle.definition_inline.specs.Spans.{Token, Item, Delimiters}
 use Rattle.definition_inline.specs.LabelEnd.{LinkOrCall, formed_size}
@@ -101,7 +101,7 @@ module _ (context : InlineContext) (most : ℕ) (c : InlineCode) (cs : List Inli
   abbrev content : List ℕ
   content = codes_of (c ∷ cs)
 
-  leaf_place : (found : Leaf) → leaf_here context (c ∷ cs) ≡ Some found → Here
+  leaf_place : (found : Found) → leaf_here context (c ∷ cs) ≡ Some found → Here
   leaf_place found is =
       let fits = here_fits context (c ∷ cs) found is in
       let some = fits.some in
@@ -183,7 +183,7 @@ module _ (context : InlineContext) (most : ℕ) (c : InlineCode) (cs : List Inli
   no_leaf_place None is none = bare_place (label_start_at context.options.constructs content) refl (record { no_leaf = none; no_run = is })
   no_leaf_place (Some run) is none = run_place run none is
 
-  pub any_place : (o : Option Leaf) → leaf_here context (c ∷ cs) ≡ o → Here
+  pub any_place : (o : Option Found) → leaf_here context (c ∷ cs) ≡ o → Here
   any_place None is = no_leaf_place (run_at context.options (c ∷ cs)) refl is
   any_place (Some found) is = leaf_place found is
 
