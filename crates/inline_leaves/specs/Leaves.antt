@@ -15,7 +15,7 @@ use Rattle.definition_inline.specs.CharacterReference.{number_of, numbered_text}
 use Rattle.inline_leaves.specs.declared.autolink.Address.{Address}
 use Rattle.definition_inline.specs.CodeText.{code_text}
 use Rattle.definition_inline.specs.Inline as inline
-use Rattle.definition_inline.specs.Inline.{Inline}
+use Rattle.definition_inline.specs.Inline.{InlineLeaf}
 use Rattle.inline_links.specs.Codes.{IsCut}
 use Rattle.inline_leaves.specs.declared.leaf.Leaf.{Leaf}
 use Rattle.inline_leaves.specs.declared.line_ending.Ending.{Ending}
@@ -32,7 +32,7 @@ kind_view Protocol = inline.Protocol
 kind_view Email = inline.Email
 
 -- the parts that a construct makes
-abbrev pub parts_of : LeafPart → List Inline
+abbrev pub parts_of : LeafPart → List InlineLeaf
 parts_of (Escape text) = map inline.Escape text.now
 parts_of (Character text) = inline.Character text.now ∷ []
 parts_of (Number radix digits) = inline.Character (numbered_text (number_of radix digits.now)) ∷ []
@@ -104,7 +104,7 @@ pub record IsWhite (bytes : List ℕ) (size : ℕ) : Type 0 where
   pub passes : (k : ℕ) → k < size → is_white (slice_index bytes k) ≡ true
 
 -- what spaces and tabs at a line's end make
-abbrev pub spaces_parts : Constructs → List ℕ → List Inline
+abbrev pub spaces_parts : Constructs → List ℕ → List InlineLeaf
 spaces_parts on content = if on.hard_break_trailing && is_trailing_break content then inline.TrailingBreak ∷ [] else []
 
 -- so many of a byte at a place
@@ -120,7 +120,7 @@ is_of Email b = is_email_byte b
 is_of Domain b = is_domain_byte b
 
 -- the parts that a character makes
-abbrev pub character_parts : List ℕ → List Inline
+abbrev pub character_parts : List ℕ → List InlineLeaf
 character_parts text = inline.Character text ∷ []
 
 -- the first bytes, of which none is CR
