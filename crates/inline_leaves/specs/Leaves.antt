@@ -16,6 +16,7 @@ use Rattle.inline_leaves.specs.declared.autolink.Address.{Address}
 use Rattle.definition_inline.specs.CodeText.{code_text}
 use Rattle.definition_inline.specs.Inline as inline
 use Rattle.definition_inline.specs.Inline.{InlineLeaf}
+use Rattle.definition_inline.specs.Spans.{Token, Item}
 use Rattle.inline_links.specs.Codes.{IsCut}
 use Rattle.inline_leaves.specs.declared.leaf.Leaf.{Leaf}
 use Rattle.inline_leaves.specs.declared.line_ending.Ending.{Ending}
@@ -46,6 +47,14 @@ parts_of EscapedBreak = inline.EscapedBreak ∷ []
 parts_of TrailingBreak = inline.TrailingBreak ∷ []
 parts_of (LineEnd ending) = inline.LineEnd (line_ending_code ending) ∷ []
 parts_of Spaces = []
+
+-- leaves among the parts of a container
+abbrev pub leaf_items : List InlineLeaf → List Token
+leaf_items parts = map Item (map inline.Leaf parts)
+
+-- bytes of text among them
+abbrev pub text_items : List ℕ → List Token
+text_items bytes = leaf_items (map inline.Data bytes)
 
 -- how many codes stand before the rest of a content
 abbrev pub size_before : List ℕ → List ℕ → ℕ

@@ -17,9 +17,9 @@ abbrev pub target_texts : (ℕ → inline.LinkTexts) → LinkTarget → inline.L
 target_texts at (Resource linked) = link_texts_view linked
 target_texts at (Definition place) = at place
 
--- parts of a text
+-- the rows of a text
 abbrev pub data_rows : List ℕ → List rows.InlineRow
-data_rows bytes = map (λ b. rows.Part (inline.Data b)) bytes
+data_rows bytes = map rows.Part (map inline.Data bytes)
 
 -- the definition's rows that a row stands for
 abbrev pub row_view : (ℕ → inline.LinkTexts) → InlineRow → List rows.InlineRow
