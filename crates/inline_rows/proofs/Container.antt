@@ -10,11 +10,8 @@ use Rattle.inline_rows.specs.InlineRows.{part_rows}
 use Rattle.definition_inline.specs.Spans.{Token, Item, Delimiters, runs_of}
 use Rattle.inline_runs.specs.View.{run_view, runs_view}
 use Rattle.inline_runs.specs.declared.run.Run.{Run}
-use Rattle.inline_leaves.specs.Leaves.{parts_of}
-use Rattle.inline_leaves.specs.declared.leaf.LeafPart.{LeafPart}
-use Rattle.inline_rows.specs.View.{rows_view, data_rows}
+use Rattle.inline_rows.specs.View.{row_view, rows_view}
 use Rattle.inline_rows.specs.declared.row.InlineRow.{InlineRow}
-use Rattle.inline_rows.specs.declared.row.InlineRow.TheVariants.{Text, Leaf}
 use Rattle.inline_rows.specs.Container.{text_of, AreBytes, IsContainer, NoRows, Parts, Bytes, AreWithin}
 
 -- ---- one row
@@ -24,13 +21,10 @@ leaves_are : (leads : Target → inline.LinkTexts) (parts : List InlineLeaf) →
 leaves_are leads [] = refl
 leaves_are leads (part ∷ others) = ap (λ xs. rows.Part part ∷ xs) (leaves_are leads others)
 
-pub text_rows : (leads : Target → inline.LinkTexts) (at : ℕ → inline.LinkTexts) (text : _)
-    → rows_view at (Text text ∷ []) ≡ flat_map (part_rows leads) (map inline.Leaf (map inline.Data text.now))
-text_rows leads at text = append-nil (data_rows text.now) ∙ leaves_are leads (map inline.Data text.now)
-
-pub leaf_rows : (leads : Target → inline.LinkTexts) (at : ℕ → inline.LinkTexts) (part : LeafPart)
-    → rows_view at (Leaf part ∷ []) ≡ flat_map (part_rows leads) (map inline.Leaf (parts_of part))
-leaf_rows leads at part = append-nil (map rows.Part (parts_of part)) ∙ leaves_are leads (parts_of part)
+-- a row that stands for leaves alone
+pub leaf_row : (leads : Target → inline.LinkTexts) (at : ℕ → inline.LinkTexts) (row : InlineRow) (parts : List InlineLeaf)
+    → row_view at row ≡ map rows.Part parts → rows_view at (row ∷ []) ≡ flat_map (part_rows leads) (map inline.Leaf parts)
+leaf_row leads at row parts is = append-nil (row_view at row) ∙ is ∙ leaves_are leads parts
 
 -- ---- more rows
 
