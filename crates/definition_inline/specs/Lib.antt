@@ -27,6 +27,7 @@ pub mod NextPair
 pub mod Spans
 pub mod Scan
 pub mod LabelPairs
+pub mod MayStand
 pub mod Strings
 pub mod ReferenceRows
 pub mod BuiltinReferences
