@@ -36,11 +36,11 @@ use Rattle.definition_inline.specs.Scan.{inlines_from, without_indent}
 use Rattle.laws_endings.proofs.Contents.{no_ending_here}
 use Rattle.laws_endings.specs.Kinds.{may_mark}
 use Rattle.definition_inline.proofs.InlineReads.{LeafGood, BeginsGood, either_begins, Nests, FormedGood, Reads, spans_good}
+use Rattle.definition_inline.proofs.LiteralsKept.{Carries, literals_good, linked_good}
 use Rattle.laws_endings.proofs.Each.{Each, each-append, each-take, each-drop, each_map, WhereSome, where_passed}
 use Rattle.laws_endings.proofs.Neighbours.{marker_marks}
 use Rattle.laws_endings.proofs.LiteralTexts.{name_plain, StartPlain, start_plain}
-use Rattle.laws_endings.proofs.Parts.{TargetFits, IsFit, AreFit}
-use Rattle.laws_endings.proofs.AddressReads.{linked_fits}
+use Rattle.laws_endings.proofs.Parts.{TargetFits, IsFitLeaf, IsFit, AreFit}
 use Rattle.laws_endings.proofs.Fits.{Single, Plain, each_plain, no_ending_by, plain_byte, all_passed, Apart, before_apart, after_all_apart}
 use Rattle.laws_endings.proofs.Fits.{after_byte_apart, apart_from, white_fits, PartFits, title_fits, DestinationFits, destination_fits, TitleFits}
 use Rattle.laws_endings.proofs.Fits.{code_text_fits}
@@ -116,8 +116,8 @@ module _ (is_defined : List ℕ → Bool) where
 
 -- ---- constructs that hold no other
 
-abbrev pub LeafFits : Found → Type 0
-LeafFits l = LeafGood IsFit l
+abbrev pub FoundFits : Found → Type 0
+FoundFits found = LeafGood IsFit found
 
 abbrev pub BeginsFit : Option Found → Type 0
 BeginsFit o = BeginsGood IsFit o
@@ -140,16 +140,16 @@ literal_fits on (c ∷ cs) p =
         cond_both _ (Some (leaf (Literal start.kind (take start.size front ++ name) ∷ []) _)) None BeginsFit
         (λ _. (each-append Plain (take start.size front) name h (name_plain (drop start.size front) (each-drop Single start.size front p)), tt)) (λ _. tt)
 
-part_fits : (marker : ℕ) (text : List ℕ) → Each Single text → IsFit (raw_part marker text)
-part_fits marker text p = cond_both (marker == 36) _ _ IsFit (λ _. code_text_fits text p) (λ _. code_text_fits text p)
+part_fits : (marker : ℕ) (text : List ℕ) → Each Single text → IsFitLeaf (raw_part marker text)
+part_fits marker text p = cond_both (marker == 36) _ _ IsFitLeaf (λ _. code_text_fits text p) (λ _. code_text_fits text p)
 
-raw_none_fits : (marker : ℕ) (content : List ℕ) → Plain marker → Each IsFit (map Data (take (run marker content) content))
+raw_none_fits : (marker : ℕ) (content : List ℕ) → Plain marker → Each IsFitLeaf (map Data (take (run marker content) content))
 raw_none_fits marker content h =
-    each_map Plain IsFit Data (take (run marker content) content) (λ b p. p)
+    each_map Plain IsFitLeaf Data (take (run marker content) content) (λ b p. p)
     (all_passed (λ b. eqb b marker) Plain content (λ b is. plain_byte b marker h is))
 
 raw_fits : (marker : ℕ) (content rest : List ℕ) (o : Option (List ℕ)) → Plain marker → Each Single rest
-    → LeafFits (raw_leaf marker (run marker content) content (up_to rest o))
+    → FoundFits (raw_leaf marker (run marker content) content (up_to rest o))
 raw_fits marker content rest None h p = raw_none_fits marker content h
 raw_fits marker content rest (Some end) h p = (part_fits marker (text_before rest end) (each-take Single _ rest p), tt)
 
@@ -157,7 +157,7 @@ raw_at_fits : (marker : ℕ) (may_open : Bool) (content : List ℕ) → Plain ma
 raw_at_fits marker may_open content h p =
     let n = run marker content in
     let rest = after_run marker content in
-    where_passed LeafFits _ (raw_leaf marker n content (up_to rest (run_of marker n false rest)))
+    where_passed FoundFits _ (raw_leaf marker n content (up_to rest (run_of marker n false rest)))
     (raw_fits marker content rest (run_of marker n false rest) h (each-drop Single n content p))
 
 -- ---- autolinks
@@ -191,7 +191,7 @@ autolink_fits : (is_email : Bool) (content : List ℕ) (o : Option (List ℕ)) �
     → BeginsFit (closed_autolink is_email content o)
 autolink_fits is_email content None p q = tt
 autolink_fits is_email content (Some rest) p q =
-    where_passed LeafFits _ (leaf (Autolink is_email (text_before content rest) ∷ []) _)
+    where_passed FoundFits _ (leaf (Autolink is_email (text_before content rest) ∷ []) _)
     (each_plain (text_before content rest) (each-take Single _ content p) (before_apart content rest q), tt)
 
 html_fits : (content : List ℕ) (o : Option (List ℕ)) → Each Single content → BeginsFit (html_leaf content o)
@@ -216,7 +216,7 @@ module _ (on : Constructs) where
 
   escaped_break_fits : (content : List ℕ) → BeginsFit (escaped_break_at on content)
   escaped_break_fits [] = tt
-  escaped_break_fits (c ∷ cs) = where_passed LeafFits _ (leaf (EscapedBreak ∷ []) 1) (tt, tt)
+  escaped_break_fits (c ∷ cs) = where_passed FoundFits _ (leaf (EscapedBreak ∷ []) 1) (tt, tt)
 
   -- no reference begins without its `&`
   no_reference : (names : List ℕ → Option (List ℕ)) (content : List ℕ) → Each Single content → reference_form content ≡ None
@@ -245,12 +245,12 @@ module _ (on : Constructs) where
   spaces_fits : (content : List ℕ) → BeginsFit (line_spaces_at on content)
   spaces_fits content =
       let test = on.hard_break_trailing && is_trailing_break content in
-      where_passed LeafFits _ (leaf (cond test (TrailingBreak ∷ []) []) (indent content))
-      (cond_both test (TrailingBreak ∷ []) [] (Each IsFit) (λ _. (tt, tt)) (λ _. tt))
+      where_passed FoundFits _ (leaf (cond test (TrailingBreak ∷ []) []) (indent content))
+      (cond_both test (TrailingBreak ∷ []) [] (Each IsFitLeaf) (λ _. (tt, tt)) (λ _. tt))
 
 pub line_end_fits : (content : List ℕ) → Each Single content → BeginsFit (line_end_at content)
 line_end_fits [] p = tt
-line_end_fits (c ∷ cs) p = where_passed LeafFits (is_eol c) (leaf (LineEnd c ∷ []) (1 + indent cs)) (p.0, tt)
+line_end_fits (c ∷ cs) p = where_passed FoundFits (is_eol c) (leaf (LineEnd c ∷ []) (1 + indent cs)) (p.0, tt)
 
 -- ---- places
 
@@ -260,9 +260,22 @@ nests = record {
   more = λ i is p q. (p, q);
   first = λ i is p. p.0;
   rest = λ i is p. p.1;
-  emphasis = λ kids p. p;
-  strong = λ kids p. p;
-  strikethrough = λ kids p. p;
+  span = λ kind kids p. p;
+}
+
+-- email addresses and the text of links
+literals : Carries IsFit AreFit (λ kids others. Unit {0})
+literals = record {
+  none = tt;
+  more = λ i is p q. (p, q);
+  first = λ i is p. p.0;
+  rest = λ i is p. p.1;
+  literal = λ kind text p. p;
+  bytes = λ kind text p. p;
+  span = λ kind. record { opens = λ kids p. p; closes = λ kids others p kept q. q };
+  linked = λ kind target. record { opens = λ kids p. p.1; closes = λ kids others p kept q. (p.0, q) };
+  keeps_without = λ kids. tt;
+  keeps_with = λ kids. tt;
 }
 
 abbrev SinglesOf : List ℕ → Type 0
@@ -304,8 +317,7 @@ module _ (context : InlineContext) where
   reads : Reads IsFit AreFit TargetFits SinglesOf context
   reads = record {
     nests = nests;
-    link = λ target kids h p. (h, p);
-    image = λ target kids h p. (h, p);
+    linked = λ kind target kids h p. (h, p);
     call = λ label. tt;
     close = ((refl, refl), refl);
     open_link = ((refl, refl), refl);
@@ -325,8 +337,9 @@ module _ (context : InlineContext) where
   -- from a place of a content on
   pub from_fits : (content : List InlineCode) → Each Single (codes_of content) → AreFit (inlines_from context content)
   from_fits content p =
-      linked_fits context.options.constructs (spans_from context content)
-      (spans_good IsFit AreFit TargetFits SinglesOf context reads content p)
+      let spans = spans_from context content in
+      let fit = spans_good IsFit AreFit TargetFits SinglesOf context reads content p in
+      linked_good context.options.constructs AreFit spans (λ _. literals_good IsFit AreFit (λ kids others. Unit {0}) literals spans fit) fit
 
   pub inlines_fit : (content : List InlineCode) → Each Single (codes_of content) → AreFit (inlines context content)
   inlines_fit content p =
