@@ -1,12 +1,12 @@
 -- One step of the scan of a content, or of a string.
-use Rattle.std.proofs.Common.{◌≡◌, false, ℕ, zero, suc, ◌+◌, ◌-◌, ◌<◌, List, [], ◌∷◌, ◌++◌, refl, ap, ◌∙◌, drop, map, arith, Option, None, Some}
+use Rattle.std.proofs.Common.{◌≡◌, false, ℕ, zero, suc, ◌+◌, ◌-◌, ◌<◌, List, [], ◌∷◌, ◌++◌, refl, ap, ◌∙◌, drop, arith, Option, None, Some}
 use Rattle.std.proofs.lemmas.List.{drop-drop}
 use Rattle.markdown_options.specs.declared.configuration.Constructs.{Constructs}
 use Rattle.definition_text.specs.InlineCode.{InlineCode, codes_of}
 use Rattle.definition_inline.specs.Inline.{Data, Found}
 use Rattle.definition_inline.specs.Attention.{Run, run_at}
-use Rattle.definition_inline.specs.Spans.{Item, Delimiters}
-use Rattle.definition_inline.specs.Scan.{InlineContext, leaf_here, LabelStart, label_start_at, start_more, text, Reading, reading, read_tokens, Next, last_step}
+use Rattle.definition_inline.specs.Spans.{Delimiters}
+use Rattle.definition_inline.specs.Scan.{InlineContext, leaf_here, leaf_tokens, LabelStart, label_start_at, start_more, text, Reading, reading, read_tokens, Next, last_step}
 use Rattle.definition_inline.specs.Scan.{leaf_step, run_step, label_step, step, and_then, scan}
 use Rattle.definition_inline.specs.Strings.{string_leaf_at, or_byte, string_parts}
 
@@ -32,7 +32,7 @@ scan_step context r next c cs more is =
 
 -- a construct that holds no other
 pub step_leaf : (context : InlineContext) (r : Reading) (c : InlineCode) (cs : List InlineCode) (found : Found)
-    → leaf_here context (c ∷ cs) ≡ Some found → step context r c cs ≡ Next (found.size - 1) (read_tokens (map Item found.parts) r)
+    → leaf_here context (c ∷ cs) ≡ Some found → step context r c cs ≡ Next (found.size - 1) (read_tokens (leaf_tokens found) r)
 step_leaf context r c cs found is = ap (leaf_step context c.code (codes_of (c ∷ cs)) r (run_at context.options (c ∷ cs))) is
 
 -- a run

@@ -1,5 +1,5 @@
 -- Which label starts and `]` go together, and what they form, as a grammar (CommonMark 6.3). The scan of a content is proved to read by it.
-use Rattle.std.specs.Prelude.{◌≡◌, ◌+◌, ℕ, Bool, true, false, ◌&&◌, ◌==◌, List, [], ◌∷◌, ◌++◌, Option, None, Some, drop, map}
+use Rattle.std.specs.Prelude.{◌≡◌, ◌+◌, ℕ, Bool, true, false, ◌&&◌, ◌==◌, List, [], ◌∷◌, ◌++◌, Option, None, Some, drop}
 use Rattle.definition_text.specs.Ascii.{right_bracket}
 use Rattle.definition_text.specs.Columns.{Code}
 use Rattle.definition_text.specs.InlineCode.{InlineCode, codes_of}

@@ -8,7 +8,7 @@ use Rattle.definition_text.specs.Content.{is_eol}
 use Rattle.definition_text.specs.Encode.{plain}
 use Rattle.definition_inline.specs.Inline.{LinkTexts, LiteralKind, Www, Protocol, Email, InlineLeaf, Data, Escape, Character, Code, Math, Autolink, Literal}
 use Rattle.definition_inline.specs.Inline.{Html, EscapedBreak, TrailingBreak, LineEnd, TaskCheck, SpanKind, Emphasis, Strong, Strikethrough}
-use Rattle.definition_inline.specs.Inline.{LinkedKind, Link, Image, Inline, Leaf, Span, Linked, Call, Inlines, Nil, Cons}
+use Rattle.definition_inline.specs.Inline.{Link, Image, Inline, Leaf, Span, Linked, Call, Inlines, Nil, Cons}
 use Rattle.definition_inline.specs.LabelMatch.{normal_label, first_match}
 use Rattle.definition_inline.specs.Targets.{leads_to}
 use Rattle.definition_inline.specs.Strings.{string_text}
