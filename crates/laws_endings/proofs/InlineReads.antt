@@ -1,5 +1,5 @@
 -- The inline structure of a content of codes that stand for themselves: its parts are such codes, and no character reference is among them.
-use Rattle.std.proofs.Common.{◌≡◌, ℕ, suc, zero, ◌+◌, Bool, true, false, cond, eqb, ◌&&◌, ◌==◌, List, [], ◌∷◌, ◌++◌, map, Option, None, Some, take, drop, refl}
+use Rattle.std.proofs.Common.{◌≡◌, ℕ, suc, zero, Bool, true, false, cond, eqb, ◌&&◌, ◌==◌, List, [], ◌∷◌, map, Option, None, Some, take, drop, refl}
 use Rattle.std.proofs.Common.{sym, subst}
 use Rattle.std.specs.Prelude.{codes}
 use Rattle.std.specs.Char.{is_ascii_punctuation}
@@ -7,12 +7,12 @@ use Rattle.std.specs.List.{prefix_len}
 use Rattle.std.specs.Option.{option_map}
 use Rattle.std.proofs.lemmas.Bool.{cond_both, cond-false, and_parts}
 use Rattle.markdown_options.specs.declared.configuration.Constructs.{Constructs}
-use Rattle.definition_text.specs.Columns.{is_white, indent}
+use Rattle.definition_text.specs.Columns.{is_white}
 use Rattle.definition_text.specs.Bytes.{begins_with, after_all}
 use Rattle.definition_text.specs.Content.{Part, text_before, up_to, is_eol}
 use Rattle.definition_text.specs.Runs.{run, after_run}
 use Rattle.definition_text.specs.InlineCode.{InlineCode, codes_of}
-use Rattle.definition_inline.specs.Inline.{Data, Escape, Autolink, Literal, EscapedBreak, TrailingBreak, LineEnd, Found, leaf, or_else}
+use Rattle.definition_inline.specs.Inline.{InlineLeaf, Data, Found, leaf, or_else}
 use Rattle.definition_inline.specs.CharacterEscape.{escape_at}
 use Rattle.definition_inline.specs.CharacterReference.{reference_form, reference_after, reference_of, reference_at}
 use Rattle.definition_inline.specs.CodeText.{run_of, raw_part, raw_leaf, raw_at, code_text_at}
@@ -125,6 +125,10 @@ BeginsFit o = BeginsGood IsFit o
 pub begin_or : (a b : Option Found) → BeginsFit a → BeginsFit b → BeginsFit (or_else a b)
 begin_or a b p q = either_begins IsFit a b p q
 
+-- one leaf, where a test passes
+one_fits : (test : Bool) (part : InlineLeaf) (size : ℕ) → IsFitLeaf part → BeginsFit (cond test (Some (leaf (part ∷ []) size)) None)
+one_fits test part size p = where_passed FoundFits test (leaf (part ∷ []) size) (p, tt)
+
 -- a literal
 literal_fits : (on : Constructs) (content : List InlineCode) → Each Single (codes_of content) → BeginsFit (literal_at on content)
 literal_fits on [] p = tt
@@ -137,8 +141,7 @@ literal_fits on (c ∷ cs) p =
     after (Some start) h =
         let front = codes_of (c ∷ cs) in
         let name = literal_name (drop start.size front) in
-        cond_both _ (Some (leaf (Literal start.kind (take start.size front ++ name) ∷ []) _)) None BeginsFit
-        (λ _. (each-append Plain (take start.size front) name h (name_plain (drop start.size front) (each-drop Single start.size front p)), tt)) (λ _. tt)
+        one_fits _ _ _ (each-append Plain (take start.size front) name h (name_plain (drop start.size front) (each-drop Single start.size front p)))
 
 part_fits : (marker : ℕ) (text : List ℕ) → Each Single text → IsFitLeaf (raw_part marker text)
 part_fits marker text p = cond_both (marker == 36) _ _ IsFitLeaf (λ _. code_text_fits text p) (λ _. code_text_fits text p)
@@ -191,8 +194,7 @@ autolink_fits : (is_email : Bool) (content : List ℕ) (o : Option (List ℕ)) �
     → BeginsFit (closed_autolink is_email content o)
 autolink_fits is_email content None p q = tt
 autolink_fits is_email content (Some rest) p q =
-    where_passed FoundFits _ (leaf (Autolink is_email (text_before content rest) ∷ []) _)
-    (each_plain (text_before content rest) (each-take Single _ content p) (before_apart content rest q), tt)
+    one_fits _ _ _ (each_plain (text_before content rest) (each-take Single _ content p) (before_apart content rest q))
 
 html_fits : (content : List ℕ) (o : Option (List ℕ)) → Each Single content → BeginsFit (html_leaf content o)
 html_fits content None p = tt
@@ -203,7 +205,7 @@ module _ (on : Constructs) where
   escape_fits [] p = tt
   escape_fits (c ∷ []) p = tt
   escape_fits (c ∷ next ∷ cs) p =
-      cond_both (on.character_escape && (eqb c 92 && is_ascii_punctuation next)) (Some (leaf (Escape next ∷ []) 2)) None BeginsFit
+      cond_both (on.character_escape && (eqb c 92 && is_ascii_punctuation next)) _ None BeginsFit
       (λ h. (
         (
           p.1.0,
@@ -216,7 +218,7 @@ module _ (on : Constructs) where
 
   escaped_break_fits : (content : List ℕ) → BeginsFit (escaped_break_at on content)
   escaped_break_fits [] = tt
-  escaped_break_fits (c ∷ cs) = where_passed FoundFits _ (leaf (EscapedBreak ∷ []) 1) (tt, tt)
+  escaped_break_fits (c ∷ cs) = one_fits _ _ _ tt
 
   -- no reference begins without its `&`
   no_reference : (names : List ℕ → Option (List ℕ)) (content : List ℕ) → Each Single content → reference_form content ≡ None
@@ -244,13 +246,12 @@ module _ (on : Constructs) where
 
   spaces_fits : (content : List ℕ) → BeginsFit (line_spaces_at on content)
   spaces_fits content =
-      let test = on.hard_break_trailing && is_trailing_break content in
-      where_passed FoundFits _ (leaf (cond test (TrailingBreak ∷ []) []) (indent content))
-      (cond_both test (TrailingBreak ∷ []) [] (Each IsFitLeaf) (λ _. (tt, tt)) (λ _. tt))
+      where_passed FoundFits _ _
+      (cond_both (on.hard_break_trailing && is_trailing_break content) _ [] (Each IsFitLeaf) (λ _. (tt, tt)) (λ _. tt))
 
 pub line_end_fits : (content : List ℕ) → Each Single content → BeginsFit (line_end_at content)
 line_end_fits [] p = tt
-line_end_fits (c ∷ cs) p = where_passed FoundFits (is_eol c) (leaf (LineEnd c ∷ []) (1 + indent cs)) (p.0, tt)
+line_end_fits (c ∷ cs) p = one_fits (is_eol c) _ _ p.0
 
 -- ---- places
 

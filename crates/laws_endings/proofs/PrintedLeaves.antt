@@ -1,4 +1,4 @@
--- What a leaf of inline structure says and prints, with another line ending in place of each LF.
+-- What a leaf of inline structure says and prints, and how it stands in a cell of a table, with another line ending in place of each LF.
 use Rattle.std.proofs.Common.{◌≡◌, ℕ, Bool, true, false, ◌||◌, List, [], ◌∷◌, ◌++◌, refl, sym, true≢false, subst}
 use Rattle.std.specs.Prelude.{codes}
 use Rattle.std.proofs.lemmas.Bool.{cond_both}
