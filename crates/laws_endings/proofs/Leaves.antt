@@ -28,7 +28,7 @@ use Rattle.definition_inline.specs.HtmlText.{html_byte, html_end, html_leaf, htm
 use Rattle.definition_inline.specs.HardBreak.{ends_inner_line, ends_here, line_end_at, escaped_break_at, is_trailing_break, line_spaces_at}
 use Rattle.definition_inline.specs.Scan.{InlineContext, leaf_at}
 use Rattle.laws_endings.specs.Endings.{code_with, codes_with}
-use Rattle.laws_endings.specs.Inlines.{inline_with}
+use Rattle.laws_endings.specs.Inlines.{leaf_with}
 use Rattle.laws_endings.proofs.Codes.{cond-under, same_code, prefix_len-with, after_all-with, part_with, before-with, up_to-with}
 
 one-more : (n : ℕ) → 1 + n ≡ suc n
@@ -41,9 +41,9 @@ module _ (e : LineEnding) where
   abbrev if_codes : Option (List ℕ) → Option (List ℕ)
   if_codes end = option_map (codes_with e) end
 
-  -- a construct with its parts
+  -- a construct with its leaves
   abbrev pub found_with : Found → Found
-  found_with l = leaf (map (inline_with e) l.parts) l.size
+  found_with l = leaf (map (leaf_with e) l.parts) l.size
 
   abbrev pub if_found : Option Found → Option Found
   if_found l = option_map found_with l
@@ -247,14 +247,14 @@ module _ (e : LineEnding) where
   spaces_same f p q [] = refl
   spaces_same f p q (c ∷ cs) = ap (λ code. code ∷ map f (codes_with e cs)) (same_code e f c p q) ∙ ap (λ more. f c ∷ more) (spaces_same f p q cs)
 
-  raw_part-with : (marker : ℕ) (text : List ℕ) → raw_part marker (codes_with e text) ≡ inline_with e (raw_part marker text)
+  raw_part-with : (marker : ℕ) (text : List ℕ) → raw_part marker (codes_with e text) ≡ leaf_with e (raw_part marker text)
   raw_part-with marker text =
       ap (λ spaced. cond (eqb marker 36) (Math (without_padding spaced)) (Code (without_padding spaced))) (spaces_same code_space refl refl text)
-      ∙ cond-under (inline_with e) (eqb marker 36) refl refl
+      ∙ cond-under (leaf_with e) (eqb marker 36) refl refl
 
-  all_data : (cs : List ℕ) → map Data cs ≡ map (inline_with e) (map Data cs)
-  all_data [] = refl
-  all_data (c ∷ cs) = ap (λ more. Data c ∷ more) (all_data cs)
+  pub data_kept : (cs : List ℕ) → map (leaf_with e) (map Data cs) ≡ map Data cs
+  data_kept [] = refl
+  data_kept (c ∷ cs) = ap (λ more. Data c ∷ more) (data_kept cs)
 
   -- a run of a marker that is no ending
   module _ (marker : ℕ) (return : eqb 13 marker ≡ eqb 10 marker) (both : eqb 257 marker ≡ eqb 10 marker) (no_feed : eqb 10 marker ≡ false) where
@@ -274,11 +274,11 @@ module _ (e : LineEnding) where
         → raw_leaf marker (run marker cs) (codes_with e cs) (option_map (part_with e) found) ≡ found_with (raw_leaf marker (run marker cs) cs found)
     raw_leaf-with cs None =
         let n = run marker cs in
-        ap (λ text. leaf (map Data text) n) (taken-kept (λ b. eqb b marker) cs no_feed) ∙ ap (λ parts. leaf parts n) (all_data (take n cs))
+        ap (λ text. leaf (map Data text) n) (taken-kept (λ b. eqb b marker) cs no_feed) ∙ ap (λ parts. leaf parts n) (sym (data_kept (take n cs)))
     raw_leaf-with cs (Some found) =
         let n = run marker cs in
-        ap (λ inline. leaf (inline ∷ []) (n + length (codes_with e found.text) + n)) (raw_part-with marker found.text)
-        ∙ ap (λ size. leaf (inline_with e (raw_part marker found.text) ∷ []) (n + size + n)) (length-map found.text (code_with e))
+        ap (λ raw. leaf (raw ∷ []) (n + length (codes_with e found.text) + n)) (raw_part-with marker found.text)
+        ∙ ap (λ size. leaf (leaf_with e (raw_part marker found.text) ∷ []) (n + size + n)) (length-map found.text (code_with e))
 
     raw_at-with : (may_open : Bool) (cs : List ℕ) → raw_at marker may_open (codes_with e cs) ≡ if_found (raw_at marker may_open cs)
     raw_at-with may_open cs =
