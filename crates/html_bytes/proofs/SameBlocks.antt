@@ -26,7 +26,8 @@ use Rattle.definition_inline.specs.Targets.{Targets, linked_by}
 use Rattle.definition_page.specs.TextTables.{TextTables}
 use Rattle.definition_page.specs.Tags.{Words, Number, said_bytes, Attribute, Tag, tag, bare_tag, attribute, start_tag, end_tag, void_tag, attribute_bytes}
 use Rattle.definition_page.specs.Pieces.{Piece, Close, Void, Says, Eol, Fresh, NoteEnd}
-use Rattle.definition_page.specs.Layout.{LayoutState, layout_state, lay}
+use Rattle.html_bytes.specs.Layout.{LayoutState, layout_state}
+use Rattle.html_bytes.proofs.LayoutSteps.{lay}
 use Rattle.definition_page.specs.InlinePieces.{Meaning, element, inline_pieces}
 use Rattle.definition_page.specs.Page as page
 use Rattle.definition_page.specs.Read.{Reading, reading, context_of, Standing, on_page, in_container, in_item, next_standing, text_content, read_text}

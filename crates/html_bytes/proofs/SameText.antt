@@ -16,7 +16,8 @@ use Rattle.definition_page.specs.GfmTagfilter.{filter_if}
 use Rattle.definition_page.specs.Tags.{PrintedPart, Words, AsItIs, EndOfLine, said_bytes, attribute, attribute_bytes, tag, bare_tag, start_tag, end_tag}
 use Rattle.definition_page.specs.Tags.{void_tag}
 use Rattle.definition_inline.specs.LabelMatch.{first_match, normal_label}
-use Rattle.definition_page.specs.Layout.{layout_state, lay, once_more, latest_call}
+use Rattle.html_bytes.specs.Layout.{layout_state, once_more, latest_call}
+use Rattle.html_bytes.proofs.LayoutSteps.{lay}
 use Rattle.definition_page.specs.Pieces.{Says}
 use Rattle.definition_page.specs.InlinePieces as page
 use Rattle.definition_page.specs.InlinePieces.{Meaning, HtmlLine, html_lines, address, literal_address, element, part_says}

@@ -7,10 +7,9 @@ use Rattle.markdown_options.specs.declared.configuration.CompileOptions.{Compile
 use Rattle.definition_inline.specs.Inline.{Inline, Data, Escape, Character, Code, Math, Autolink, Literal, Html, EscapedBreak, TrailingBreak, LineEnd, Emphasis}
 use Rattle.definition_inline.specs.Inline.{Strong, Strikethrough, Link, Image, Call, Inlines, Nil, Cons}
 use Rattle.definition_inline.specs.Targets.{leads_to}
-use Rattle.definition_page.specs.Layout.{LayoutState}
 use Rattle.html_bytes.specs.InlineHtml.{InlineMeaning, link_tag, image_tag, description, part_html, inline_html, part_counts, inline_counts, part_pieces}
 use Rattle.html_bytes.specs.InlineHtml.{inline_pieces}
-use Rattle.html_bytes.specs.Layout.{lay}
+use Rattle.html_bytes.specs.Layout.{LayoutState, lay}
 use Rattle.html_bytes.specs.Pieces.{Piece, Bytes}
 use Rattle.html_bytes.proofs.SameLayout.{add, add_nil, add_add}
 
