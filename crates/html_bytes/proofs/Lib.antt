@@ -1,3 +1,5 @@
+pub mod CalledFootnotes
+pub mod LayoutSteps
 pub mod SameLayout
 pub mod SamePrint
 pub mod SameCalls

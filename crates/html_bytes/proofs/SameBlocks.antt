@@ -23,7 +23,8 @@ use Rattle.definition_inline.specs.Targets.{Targets}
 use Rattle.definition_page.specs.TextTables.{TextTables}
 use Rattle.definition_page.specs.Tags.{Words, Number, said_bytes, Attribute, Tag, tag, bare_tag, start_tag, end_tag, attribute_bytes}
 use Rattle.definition_page.specs.Pieces.{Piece, Close, Says, Eol, Fresh, NoteEnd}
-use Rattle.definition_page.specs.Layout.{LayoutState, layout_state, lay}
+use Rattle.html_bytes.specs.Layout.{LayoutState, layout_state}
+use Rattle.html_bytes.proofs.LayoutSteps.{lay}
 use Rattle.definition_page.specs.InlinePieces.{Meaning, element, inline_pieces}
 use Rattle.definition_page.specs.Page as page
 use Rattle.definition_page.specs.Read.{Reading, Standing, on_page, in_container, in_item, next_standing, read_text, read_paragraph, read_blocks}

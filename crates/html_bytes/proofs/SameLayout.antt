@@ -7,10 +7,10 @@ use Rattle.markdown_options.specs.declared.configuration.CompileOptions.{Compile
 use Rattle.definition_page.specs.Tags.{PrintedPart, said_bytes, Tag, start_tag, end_tag}
 use Rattle.definition_page.specs.Pieces.{Piece, Close, Says, Fresh}
 use Rattle.definition_page.specs.InlinePieces.{element}
-use Rattle.definition_page.specs.Layout.{LayoutState, layout_state, lay}
 use Rattle.html_bytes.specs.Pieces as bytes
 use Rattle.html_bytes.specs.Layout as bytes_layout
-use Rattle.html_bytes.specs.Layout.{with_text}
+use Rattle.html_bytes.specs.Layout.{LayoutState, layout_state, with_text}
+use Rattle.html_bytes.proofs.LayoutSteps.{lay}
 
 -- ---- texts that grow
 

@@ -1,5 +1,5 @@
 -- The page that is printed in bytes is the page of the definition.
-use Rattle.std.proofs.Common.{◌≡◌, ℕ, Bool, true, false, not, List, [], ◌++◌, None, refl, ap, ◌∙◌, map}
+use Rattle.std.proofs.Common.{◌≡◌, ℕ, Bool, true, false, not, List, ◌++◌, None, refl, ap, ◌∙◌, map}
 use Rattle.std.specs.List.{fold}
 use Rattle.markdown_options.specs.declared.configuration.CompileOptions.{CompileOptions}
 use Rattle.markdown_options.specs.declared.configuration.Options.{Options}
@@ -8,9 +8,8 @@ use Rattle.definition_block.specs.Lists.{group_items}
 use Rattle.definition_block.specs.Tree.{blocks}
 use Rattle.definition_page.specs.TextTables.{TextTables}
 use Rattle.definition_block.specs.Definitions.{document_targets}
-use Rattle.definition_page.specs.Pieces.{Piece, print}
-use Rattle.definition_page.specs.Layout.{LayoutState, layout_state, note_of, page_layout}
-use Rattle.definition_page.specs.GfmFootnoteDefinition.{section_pieces}
+use Rattle.definition_page.specs.Pieces.{Piece}
+use Rattle.definition_page.specs.Layout.{page_layout}
 use Rattle.definition_page.specs.BlockPieces.{at_top, children_pieces, fresh_unless}
 use Rattle.definition_page.specs.DocumentPieces.{default_ending}
 use Rattle.definition_page.specs.Read.{on_page, read_blocks, ends_blank}
@@ -18,6 +17,8 @@ use Rattle.definition_page.specs.Html.{html}
 use Rattle.html_bytes.specs.Document.{document}
 use Rattle.html_bytes.specs.Pieces as bytes
 use Rattle.html_bytes.specs.Layout as bytes_layout
+use Rattle.html_bytes.specs.Layout.{LayoutState, nothing_laid, note_of}
+use Rattle.html_bytes.proofs.LayoutSteps.{with_section, steps_same}
 use Rattle.html_bytes.specs.Html as old
 use Rattle.html_bytes.proofs.SameLayout.{Same, joined}
 use Rattle.html_bytes.proofs.SameFootnotes.{section_same}
@@ -32,9 +33,8 @@ last_same options default false l = refl
 pub page_same : (options : CompileOptions) (default : List ℕ) (ps : List Piece) (bs : List bytes.Piece) → Same options default ps bs
     → page_layout options default ps ≡ bytes_layout.page_layout options default bs
 page_same options default ps bs same =
-    let shown : LayoutState → List ℕ = λ l. fold (print default) l.text (section_pieces options (map (note_of l.notes) l.called)) in
-    let l = fold (bytes_layout.lay options default) bytes_layout.nothing_laid bs in
-    ap shown (same (layout_state [] [] [] [])) ∙ section_same options (map (note_of l.notes) l.called) default l.text
+    let l = fold (bytes_layout.lay options default) nothing_laid bs in
+    steps_same options default ps ∙ ap (with_section options default) (same nothing_laid) ∙ section_same options (map (note_of l.notes) l.called) default l.text
 
 -- the HTML of a text, by the definition and in bytes
 pub html_is : (tables : TextTables) (text : List ℕ) (options : Options)

@@ -2,7 +2,8 @@
 use Rattle.std.proofs.Common.{◌≡◌, ℕ, List, [], ◌∷◌, refl, ap, ◌∙◌}
 use Rattle.std.specs.List.{fold}
 use Rattle.markdown_options.specs.declared.configuration.CompileOptions.{CompileOptions}
-use Rattle.definition_page.specs.Layout.{LayoutState, layout_state, lay, once_more, latest_call}
+use Rattle.html_bytes.specs.Layout.{LayoutState, layout_state, once_more, latest_call}
+use Rattle.html_bytes.proofs.LayoutSteps.{lay}
 use Rattle.definition_page.specs.Pieces.{Piece, Open, Close, Void, Says, Eol, Fresh, CallOf, CountOf, NoteStart, NoteEnd}
 use Rattle.html_bytes.specs.Layout as bytes_layout
 use Rattle.html_bytes.specs.Pieces.{piece_bytes, in_bytes}

@@ -9,14 +9,13 @@ use Rattle.markdown_options.specs.declared.configuration.CompileOptions.{Compile
 use Rattle.definition_inline.specs.Inline as inline
 use Rattle.definition_inline.specs.Inline.{InlineLeaf, Link, Image, Inline, Leaf, Span, Linked, Call, Inlines, Nil, Cons}
 use Rattle.definition_inline.specs.Targets.{leads_to}
-use Rattle.definition_page.specs.Layout.{LayoutState}
+use Rattle.html_bytes.specs.Layout.{LayoutState, lay}
 use Rattle.definition_page.specs.Tags.{PrintedPart, Words, Tag, bare_tag}
 use Rattle.definition_page.specs.Pieces as page
 use Rattle.definition_page.specs.GfmTaskListItem.{check_tag}
 use Rattle.definition_page.specs.InlinePieces.{Meaning, address, literal_address, address_tag, math_tag, leaf_says, leaf_pieces, element, span_name}
 use Rattle.definition_page.specs.InlinePieces.{link_tag, image_tag, description}
 use Rattle.definition_page.specs.InlinePieces.{part_counts, inline_counts, part_pieces, inline_pieces}
-use Rattle.html_bytes.specs.Layout.{lay}
 use Rattle.html_bytes.specs.Pieces.{Piece, piece_bytes, in_bytes, piece_html}
 use Rattle.html_bytes.proofs.SameLayout.{add, add_nil, add_add}
 

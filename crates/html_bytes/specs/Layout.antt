@@ -1,11 +1,55 @@
--- The pieces of a page laid out: its footnotes are numbered by their first calls, and stand at its end.
-use Rattle.std.specs.Prelude.{ℕ, List, [], ◌∷◌, ◌++◌, map}
+-- The pieces of a page laid out one after another, as printers do it: its footnotes are numbered by their first calls, and stand at its end.
+use Rattle.std.specs.Prelude.{ℕ, suc, if◌then◌else◌, ◌==◌, List, [], ◌∷◌, ◌++◌, map, slice_index_or}
 use Rattle.std.specs.List.{fold}
 use Rattle.markdown_options.specs.declared.configuration.CompileOptions.{CompileOptions}
-use Rattle.definition_page.specs.Layout.{once_more, latest_call, LayoutState, layout_state, note_end, note_of}
+use Rattle.definition_page.specs.GfmLabelStartFootnote.{Call}
+use Rattle.definition_page.specs.GfmFootnoteDefinition.{Footnote}
 use Rattle.html_bytes.specs.Pieces.{Piece, Bytes, Eol, Fresh, CallOf, CountOf, NoteStart, NoteEnd, print}
 use Rattle.html_bytes.specs.GfmLabelStartFootnote.{call_html}
 use Rattle.html_bytes.specs.GfmFootnoteDefinition.{section_pieces}
+
+-- ---- what was laid out
+
+-- a footnote that is called: its place among the footnotes of the document, in the order in which these end, its label as labels are matched, and how many
+-- calls it has so far
+pub record NoteCalls : Type 0 where
+  pub place : ℕ
+  pub label : List ℕ
+  pub count : ℕ
+
+-- one more call of the footnote at a place: they stand in the order of their first calls
+abbrev pub once_more : ℕ → List ℕ → List NoteCalls → List NoteCalls
+once_more place label [] = record { place = place; label = label; count = 1 } ∷ []
+once_more place label (c ∷ cs) =
+    if c.place == place then record { place = c.place; label = c.label; count = suc c.count } ∷ cs else c ∷ once_more place label cs
+
+-- the latest call of the footnote at a place, where the first of these has this number
+abbrev pub latest_call : ℕ → ℕ → List NoteCalls → Call
+latest_call place number [] = record { label = []; number = number; count = 0 }
+latest_call place number (c ∷ cs) =
+    if c.place == place then record { label = c.label; number = number; count = c.count } else latest_call place (suc number) cs
+
+-- what was laid out: the innermost text that is open, which is the page or the content of a footnote, those around it, the contents of the footnotes that have
+-- ended, and the footnotes that are called
+pub record LayoutState : Type 0 where
+  pub text : List ℕ
+  pub outer : List (List ℕ)
+  pub notes : List (List ℕ)
+  pub called : List NoteCalls
+
+abbrev pub layout_state : List ℕ → List (List ℕ) → List (List ℕ) → List NoteCalls → LayoutState
+layout_state text outer notes called = record { text = text; outer = outer; notes = notes; called = called }
+
+-- where the innermost text ends, which is the content of a footnote, the one around it goes on, and an empty one where none is
+abbrev pub note_end : List ℕ → List (List ℕ) → List (List ℕ) → List NoteCalls → LayoutState
+note_end text [] notes called = layout_state [] [] (notes ++ text ∷ []) called
+note_end text (around ∷ others) notes called = layout_state around others (notes ++ text ∷ []) called
+
+-- a footnote that is called, with its content
+abbrev pub note_of : List (List ℕ) → NoteCalls → Footnote
+note_of notes c = record { label = c.label; calls = c.count; html = slice_index_or notes c.place [] }
+
+-- ---- steps
 
 -- the innermost text that is open, with more of it
 abbrev pub with_text : LayoutState → List ℕ → LayoutState

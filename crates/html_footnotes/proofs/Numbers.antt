@@ -5,7 +5,7 @@ use Rattle.std.proofs.lemmas.Bool.{cases_lt, cond-true, cond-false, eqb-true, eq
 use Rattle.std.proofs.lemmas.Bool.Decides.{eqb_tells}
 use Rattle.std.proofs.lemmas.List.{get_or_default, get_or-set_same, get_or-set_other}
 use Rattle.std.proofs.Math.ListN.{get_or-eq_default}
-use Rattle.definition_page.specs.Layout.{NoteCalls, once_more, latest_call}
+use Rattle.html_bytes.specs.Layout.{NoteCalls, once_more, latest_call}
 use Rattle.definition_page.specs.GfmLabelStartFootnote.{Call}
 use Rattle.html_footnotes.specs.Calls.{called_once, with_one_more, number_from, number_of, AreNumbers}
 

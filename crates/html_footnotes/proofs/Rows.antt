@@ -2,8 +2,8 @@
 use Rattle.std.proofs.Common.{◌≡◌, ℕ, ◌+◌, ◌<◌, List, length, map, get_or, slice_set, string_bytes, sym, ap, ◌∙◌, add-one, arith}
 use Rattle.std.proofs.lemmas.List.{get_or_default, get_or-map, map-set}
 use Rattle.std.proofs.Math.ListN.{get_or-map as get_or-map_default}
-use Rattle.definition_page.specs.Layout as layout
-use Rattle.definition_page.specs.Layout.{latest_call}
+use Rattle.html_bytes.specs.Layout as layout
+use Rattle.html_bytes.specs.Layout.{latest_call}
 use Rattle.definition_page.specs.GfmLabelStartFootnote.{Call}
 use Rattle.html_footnotes.proofs.Numbers.{latest_found}
 use Rattle.html_footnotes.specs.declared.calls.CalledFootnote.{CalledFootnote}

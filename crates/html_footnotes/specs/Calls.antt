@@ -1,6 +1,6 @@
 -- Numbers of the footnotes that are called.
 use Rattle.std.specs.Prelude.{◌≡◌, ℕ, suc, if◌then◌else◌, ◌==◌, List, [], ◌∷◌, slice_index_or, slice_set, string_bytes}
-use Rattle.definition_page.specs.Layout as layout
+use Rattle.html_bytes.specs.Layout as layout
 use Rattle.html_footnotes.specs.declared.calls.CalledFootnote.{CalledFootnote}
 
 -- a footnote that is called

@@ -1,8 +1,8 @@
 //! The footnotes that are called, by their numbers.
 ghost use Rattle.std.specs.Prelude.{◌≡◌, ℕ, ◌+◌, ◌<◌, [], ◌∷◌, ◌++◌, IfOk, OnErr, OnOk};
 ghost use Rattle.std.specs.Prelude.{map, slice_index_or, slice_set, string_bytes, vec_len};
-ghost use Rattle.definition_page.specs.Layout as layout;
-ghost use Rattle.definition_page.specs.Layout.{latest_call, note_of, once_more};
+ghost use Rattle.html_bytes.specs.Layout as layout;
+ghost use Rattle.html_bytes.specs.Layout.{latest_call, note_of, once_more};
 ghost use Rattle.html_footnotes.specs.Calls.{called_once, called_view, number_of, IsRaised};
 ghost use Rattle.html_footnotes.specs.Footnotes.{call_view, note_view};
 
@@ -33,7 +33,7 @@ pub struct Calls<A: Allocator> {
 
 impl<A: Allocator> Model for Calls<A> {
     ghost use Rattle.std.specs.Prelude.{List, map};
-    ghost use Rattle.definition_page.specs.Layout as layout;
+    ghost use Rattle.html_bytes.specs.Layout as layout;
 
     ghost Value = { List layout.NoteCalls };
 

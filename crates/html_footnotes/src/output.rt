@@ -72,10 +72,12 @@ impl<A: Allocator + Clone> Output<A> {
     pub fn end_footnote(&mut self) -> Result<(), AllocError>
         ensures { (options : CompileOptions) (default : List ℕ) → Lays options default result self.old self.new NoteEnd }
     {
-        if let Some(around) = self.outer.pop() {
-            let content = std::mem::replace(&mut self.html, around);
-            self.notes.push(content)?;
-        }
+        let around = match self.outer.pop() {
+            None => String::new(self.alloc.clone()?),
+            Some(around) => around,
+        };
+        let content = std::mem::replace(&mut self.html, around);
+        self.notes.push(content)?;
         Ok(())
     }
 

@@ -1,9 +1,8 @@
 -- Calls of footnotes among rows.
 use Rattle.std.proofs.Common.{◌≡◌, ℕ, Bool, true, false, List, [], Option, None, Some, sym, ap, ◌∙◌}
 use Rattle.definition_inline.specs.LabelMatch.{first_match, normal_label}
-use Rattle.definition_page.specs.Layout.{LayoutState}
 use Rattle.html_bytes.specs.InlineHtml.{InlineMeaning, call_at, count_at}
-use Rattle.html_bytes.specs.Layout.{lay}
+use Rattle.html_bytes.specs.Layout.{LayoutState, lay}
 use Rattle.html_bytes.specs.Pieces.{CallOf, CountOf}
 use Rattle.html_inline.specs.Printed.{call_row, laid_out}
 

@@ -11,9 +11,8 @@ use Rattle.definition_text.specs.Encode.{encode, encoded_byte}
 use Rattle.definition_inline.specs.CharacterReference.{number_of, numbered_text}
 use Rattle.definition_inline.specs.CodeText.{code_text}
 use Rattle.definition_inline.specs.Inline as inline
-use Rattle.definition_page.specs.Layout.{LayoutState}
 use Rattle.html_bytes.specs.InlineHtml.{InlineMeaning}
-use Rattle.html_bytes.specs.Layout.{with_text}
+use Rattle.html_bytes.specs.Layout.{LayoutState, with_text}
 use Rattle.inline_leaves.specs.Leaves.{kind_view, parts_of}
 use Rattle.inline_leaves.specs.declared.leaf.LeafPart.{LeafPart}
 use Rattle.inline_leaves.specs.declared.leaf.LeafPart.TheVariants as leaf

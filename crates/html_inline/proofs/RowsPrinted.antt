@@ -8,10 +8,9 @@ use Rattle.definition_inline.specs.Inline.{LinkTexts, Inline, Data, Escape, Char
 use Rattle.definition_inline.specs.Inline.{LineEnd}
 use Rattle.definition_inline.specs.Inline.{Emphasis, Strong, Strikethrough, Link, Image, Call, Inlines, Nil, Cons}
 use Rattle.definition_inline.specs.Targets.{leads_to}
-use Rattle.definition_page.specs.Layout.{LayoutState}
 use Rattle.html_bytes.specs.InlineHtml.{InlineMeaning, title_attribute, link_tag, image_tag, description, part_description, part_html, call_at, count_at}
 use Rattle.html_bytes.specs.InlineHtml.{part_counts, inline_counts, part_pieces, inline_pieces}
-use Rattle.html_bytes.specs.Layout.{lay, with_text}
+use Rattle.html_bytes.specs.Layout.{LayoutState, lay, with_text}
 use Rattle.html_bytes.specs.Pieces.{Piece, Bytes}
 use Rattle.inline_rows.specs.InlineRows.{InlineRow, Leave, part_rows, inline_rows}
 use Rattle.html_inline.specs.Printed.{OpenElement, new_part, printed_at, is_described, image_start, image_end, with_more, call_row, laid_out, enter, with_row}

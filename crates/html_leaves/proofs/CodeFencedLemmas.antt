@@ -19,8 +19,7 @@ use Rattle.definition_text.specs.Encode.{encode, encoded_byte}
 use Rattle.definition_text.specs.BlockLines.{BlockLine, own_lines, last_ending}
 use Rattle.definition_block.specs.Tree.{FencedCode}
 use Rattle.html_bytes.specs.Pieces.{Piece as PrinterView, Bytes, Fresh}
-use Rattle.html_bytes.specs.Layout.{lay, with_text}
-use Rattle.definition_page.specs.Layout.{LayoutState}
+use Rattle.html_bytes.specs.Layout.{LayoutState, lay, with_text}
 use Rattle.markdown_options.specs.declared.configuration.CompileOptions.{CompileOptions}
 use Rattle.html_bytes.specs.Document.{Document, info_of}
 use Rattle.definition_page.specs.Read.{Standing}

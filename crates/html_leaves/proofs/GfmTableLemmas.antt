@@ -25,8 +25,7 @@ use Rattle.block_cells.specs.declared.gfm_table.Cell.{Cell as CellOf}
 use Rattle.block_cells.specs.GfmTable.{cell_view}
 use Rattle.html_bytes.specs.GfmTable.{cell_pieces, missing_pieces, cells_pieces, row_pieces, body_row_pieces, body_pieces, head_pieces, table_pieces}
 use Rattle.html_bytes.specs.Pieces.{Piece, Bytes, Fresh}
-use Rattle.html_bytes.specs.Layout.{lay, with_text}
-use Rattle.definition_page.specs.Layout.{LayoutState}
+use Rattle.html_bytes.specs.Layout.{LayoutState, lay, with_text}
 use Rattle.html_leaves.specs.Prints.{with_bytes, with_fresh}
 use Rattle.html_leaves.specs.GfmTable.{next_cell_pieces, IsClearIf, CellsAreClear}
 use Rattle.html_looseness.specs.Printable.{AreClear}

@@ -4,8 +4,7 @@ use Rattle.std.specs.List.{fold}
 use Rattle.markdown_options.specs.declared.configuration.CompileOptions.{CompileOptions}
 use Rattle.markdown_options.specs.declared.line_ending.LineEnding.{LineEnding}
 use Rattle.markdown_options.specs.LineEndings.{ending_bytes}
-use Rattle.definition_page.specs.Layout.{LayoutState, layout_state, note_end}
-use Rattle.html_bytes.specs.Layout.{lay, with_text}
+use Rattle.html_bytes.specs.Layout.{LayoutState, layout_state, note_end, lay, with_text}
 use Rattle.html_bytes.specs.Pieces.{Piece, Fresh, print}
 use Rattle.html_footnotes.specs.Output.{output_view}
 use Rattle.html_leaves.specs.declared.page.Page.{Page}

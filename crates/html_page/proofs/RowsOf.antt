@@ -7,8 +7,7 @@ use Rattle.definition_block.specs.Container.{Container, Quote, Item, Footnote}
 use Rattle.definition_block.specs.Tree.{Block, Paragraph, Heading, Break, IndentedCode, FencedCode, Html, Table, Definition, Holds, Items, Ending, Blank}
 use Rattle.definition_block.specs.Tree.{Blocks, Nil, Cons}
 use Rattle.definition_block.specs.Lists.{group_items}
-use Rattle.html_bytes.specs.Layout.{with_footnotes, lay, nothing_laid, page_layout}
-use Rattle.definition_page.specs.Layout.{LayoutState}
+use Rattle.html_bytes.specs.Layout.{LayoutState, with_footnotes, lay, nothing_laid, page_layout}
 use Rattle.html_bytes.specs.Document.{Document}
 use Rattle.definition_page.specs.Read.{ends_blank, is_blank_ending}
 use Rattle.definition_page.specs.Read.{on_page}

@@ -3,8 +3,7 @@ use Rattle.std.specs.Prelude.{ℕ, Bool, true, false, not, List, [], ◌∷◌, 
 use Rattle.std.specs.List.{fold}
 use Rattle.html_bytes.specs.Document.{Document}
 use Rattle.html_bytes.specs.Pieces.{Piece, Bytes, Eol, Fresh, print}
-use Rattle.html_bytes.specs.Layout.{with_footnotes, lay, nothing_laid, with_text}
-use Rattle.definition_page.specs.Layout.{LayoutState}
+use Rattle.html_bytes.specs.Layout.{LayoutState, with_footnotes, lay, nothing_laid, with_text}
 use Rattle.definition_page.specs.Read.{is_blank_ending}
 use Rattle.html_bytes.specs.Html.{number_tag, number_end, fresh_unless, last_piece}
 use Rattle.block_rows.specs.Rows.{BlockRow, Single, EnterQuote, EnterItem, EnterFootnote, Exit}

@@ -13,8 +13,7 @@ use Rattle.text_pieces.specs.Pieces.{piece_lines}
 use Rattle.html_looseness.specs.Printable.{ArePrintable}
 use Rattle.html_page.specs.PrinterView.{PrinterView, print_row, print_all, blank_page, ends_blank_rows, rows_html, printer_view}
 use Rattle.std.specs.Result.{IfOk}
-use Rattle.definition_page.specs.Layout.{LayoutState}
-use Rattle.html_bytes.specs.Layout.{with_footnotes, lay}
+use Rattle.html_bytes.specs.Layout.{LayoutState, with_footnotes, lay}
 use Rattle.html_leaves.specs.Prints.{page_view, with_fresh}
 use Rattle.html_bytes.specs.Html.{last_piece}
 use Rattle.html_contents.specs.Texts.{document_by}

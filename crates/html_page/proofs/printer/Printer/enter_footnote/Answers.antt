@@ -1,7 +1,7 @@
 use Rattle.std.proofs.Common.{◌≡◌, [], ap, ◌∙◌, subst, false}
 use Rattle.std.specs.Prelude.{reverse}
 use Rattle.std.specs.Result.{OnOk}
-use Rattle.definition_page.specs.Layout.{LayoutState}
+use Rattle.html_bytes.specs.Layout.{LayoutState}
 use Rattle.html_looseness.specs.declared.level.Level.{Level}
 use Rattle.html_looseness.specs.declared.level.Holder.TheVariants as holder
 use Rattle.html_looseness.specs.Levels.{after_footnote}
