@@ -74,8 +74,8 @@ impl Replacement for RawHtml {
     }
 }
 
-/// Returns HTML with `&lt;` for the `<` of each filtered tag (GFM 6.11). The only error is `out of
-/// memory`.
+/// Returns HTML with `&lt;` for the `<` of each filtered tag (GFM 6.11). The only error is
+/// `out of memory`.
 pub fn gfm_tagfilter<A: Allocator>(alloc: A, value: &str) -> Result<String<A>, Message>
     ensures text { IfOk result (λ text. string_bytes text ≡ filter_tags value.now) }
     ensures memory { IfErr result IsOutOfMemory }

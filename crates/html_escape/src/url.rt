@@ -27,8 +27,8 @@ const PLAIN: ByteClass = ByteClass {
     upper: [0, 0, 1, 2, 4, 8, 16, 32, 0, 0, 0, 0, 0, 0, 0, 0],
 };
 
-/// Returns a URL as it is printed in an attribute, whatever its protocol. The only error is `out of
-/// memory`.
+/// Returns a URL as it is printed in an attribute, whatever its protocol. The only error is
+/// `out of memory`.
 pub fn sanitize<A: Allocator>(alloc: A, value: &str) -> Result<String<A>, Message>
     ensures text { IfOk result (λ text. string_bytes text ≡ sanitize value.now) }
     ensures memory { IfErr result IsOutOfMemory }
