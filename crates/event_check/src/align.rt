@@ -1,4 +1,4 @@
-//! How the columns of a table are aligned.
+//! Alignments of the columns of a table (GFM 4.10).
 ghost use Rattle.std.specs.Prelude.{◌≡◌, false, IfOk};
 ghost use Rattle.event_grammar.specs.Trees.{Node};
 ghost use Rattle.event_check.specs.Align.{marks, mark, align_of, marks_after, aligns_after, table_align};
@@ -10,8 +10,8 @@ use engine_events::event::{Event, Kind, Name};
 use markdown_options::AlignKind;
 use std::alloc::{AllocError, Allocator};
 
-/// The alignments of a table's columns, by the markers of its row of delimiters. The index is that
-/// of the table's enter.
+/// Returns the alignments of a table's columns, by the markers of its delimiter row (GFM 4.10). The
+/// index is that of the table's enter. The only error is out of memory.
 pub fn gfm_table_align<A: Allocator>(
     alloc: A,
     checked: &Checked<'_>,
@@ -24,14 +24,14 @@ pub fn gfm_table_align<A: Allocator>(
     Ok(aligns)
 }
 
-/// Which markers the value of a cell has.
+/// Which markers a delimiter cell has.
 #[derive(Clone, Copy)]
 pub struct Marks {
-    /// One before its filler.
+    /// A marker before the dashes.
     before: bool,
-    /// Its filler.
+    /// The dashes.
     filled: bool,
-    /// One after its filler.
+    /// A marker after the dashes.
     after: bool,
 }
 

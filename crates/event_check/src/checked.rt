@@ -1,4 +1,4 @@
-//! Lists of events that are in the grammar.
+//! Lists of events in the grammar.
 ghost use Rattle.std.specs.Prelude.{◌≡◌, IfErr, IfOk, OnOk, None};
 ghost use Rattle.event_grammar.specs.Faults.{fault};
 ghost use Rattle.event_check.specs.Matches.{MatchesGrammar};
@@ -13,7 +13,7 @@ use event_references::first_lost;
 use markdown_options::Tables;
 use std::alloc::Allocator;
 
-/// A list of events of a text that is in the grammar.
+/// A list of events in the grammar, with its text.
 #[derive(Clone, Copy)]
 pub struct Checked<'a> {
     events: &'a [Event],
@@ -21,14 +21,14 @@ pub struct Checked<'a> {
 }
 
 impl<'a> Checked<'a> {
-    /// The events.
+    /// Returns the events.
     pub fn events(&self) -> &'a [Event]
         ensures { result.now ≡ self.now.events.now }
     {
         self.events
     }
 
-    /// The text.
+    /// Returns the bytes of the text.
     pub fn bytes(&self) -> &'a [u8]
         ensures { result.now ≡ self.now.bytes.now }
     {
@@ -36,10 +36,10 @@ impl<'a> Checked<'a> {
     }
 }
 
-/// Checks that a list of events of a text is in the grammar. Otherwise returns its first fault, or
-/// fails with `out of memory`.
+/// Checks a list of events of a text against the grammar (docs/EVENTS.md). Fails with the first
+/// fault of the list, or out of memory.
 ///
-/// No point's line or column is read: places are an index and columns of a tab there.
+/// A point is an index in bytes, and columns of a tab before it. Its line and column are ignored.
 pub fn check_events<'a, T: Tables, A: Allocator + Clone>(
     alloc: A,
     events: &'a [Event],

@@ -1,20 +1,20 @@
-//! Why a list of events can't be printed.
+//! Why a list of events is refused.
 use event_grammar::EventFault;
 use std::alloc::AllocError;
 use thiserror::Error;
 
-/// Why a list of events can't be printed.
+/// Why a list of events is refused.
 #[derive(Clone, Copy, Debug, PartialEq, Eq, Drop, Error)]
 pub enum CompileError {
-    /// Memory was refused.
+    /// Out of memory.
     #[error("out of memory")]
     Memory,
-    /// The list isn't in the grammar: its first fault.
+    /// The list isn't in the grammar. This is its first fault.
     #[error("fault in events")]
     Events(EventFault),
 }
 
-/// Memory was refused.
+/// Out of memory.
 impl From<AllocError> for CompileError {
     ghost use Rattle.std.specs.Prelude.{◌≡◌};
     ghost use Rattle.event_check.specs.declared.error.CompileError.TheVariants.{Memory};

@@ -1,5 +1,5 @@
-//! Checks a list of events against the grammar, and tells what a checked list says of lists and
-//! tables.
+//! Checks a list of events against the grammar, and reads looseness and alignments from a checked
+//! list.
 #![tactic(auto)]
 
 pub mod align;

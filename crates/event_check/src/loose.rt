@@ -1,4 +1,4 @@
-//! Which lists and items are loose.
+//! Whether lists and items are loose (CommonMark 5.3).
 ghost use Rattle.std.specs.Prelude.{◌≡◌, ◌+◌, drop, None};
 ghost use Rattle.event_grammar.specs.Trees.{Node};
 ghost use Rattle.event_grammar.specs.declared.slot.Child.TheVariants.{Only, Block};
@@ -12,8 +12,8 @@ use event_grammar::place::bytes_between;
 use event_grammar::slots::has;
 use event_grammar::spot::{Spot, spot_of};
 
-/// Whether a list is loose: some two neighbouring items are more than a line apart, or, with
-/// `include_items`, some item is loose. The index is that of the list's enter.
+/// Returns whether a list is loose (CommonMark 5.3): some two neighbouring items are more than a
+/// line apart or, with `include_items`, some item is loose. The index is that of the list's enter.
 pub fn list_loose(checked: &Checked<'_>, index: usize, include_items: bool) -> bool
     ensures { (node : Node) → IsAt checked.now.events.now index node →
         result ≡ is_loose_list checked.now.bytes.now include_items (kids_of node) }
@@ -24,8 +24,8 @@ pub fn list_loose(checked: &Checked<'_>, index: usize, include_items: bool) -> b
         || include_items && has_loose_item(bytes, events)
 }
 
-/// Whether an item is loose: some two neighbouring blocks of it are more than a line apart. The
-/// index is that of the item's enter.
+/// Returns whether an item is loose: some two neighbouring blocks of it are more than a line apart.
+/// The index is that of the item's enter.
 pub fn list_item_loose(checked: &Checked<'_>, index: usize) -> bool
     ensures { (node : Node) → IsAt checked.now.events.now index node → result ≡ is_loose_item checked.now.bytes.now (kids_of node) }
 {
@@ -47,8 +47,8 @@ pub(crate) fn events_after(events: &[Event], index: usize) -> &[Event]
     }
 }
 
-/// Whether some two neighbours, among the children that may stand at a place, are more than a line
-/// apart. The events are those after the enter of what holds them.
+/// Whether some two neighbouring children of a kind are more than a line apart. The events are
+/// those after the parent's enter.
 fn are_apart(bytes: &[u8], events: &[Event], child: Child) -> bool
     ensures { result ≡ apart_after bytes.now child 0 None events.now }
 {
@@ -103,7 +103,7 @@ fn has_loose_item(bytes: &[u8], events: &[Event]) -> bool
     false
 }
 
-/// Whether a place is more than a line after the last one, if there is one.
+/// Whether a place is more than a line after the last one. Without a last one it isn't.
 fn is_far(bytes: &[u8], last: Option<Spot>, at: Spot) -> bool
     ensures { result ≡ is_far bytes.now last at }
 {
@@ -129,7 +129,7 @@ fn is_return(bytes: &[u8], index: usize) -> bool
     0 < index && index - 1 < bytes.len() && bytes[index - 1] == b'\r'
 }
 
-/// How many lines end in these bytes, before which a CR is or not.
+/// How many lines end in these bytes. `after_return` says whether a CR is before them.
 fn lines_in(bytes: &[u8], after_return: bool) -> usize
     ensures { result ≡ lines_in after_return 0 bytes.now }
 {
@@ -144,7 +144,7 @@ fn lines_in(bytes: &[u8], after_return: bool) -> usize
     count
 }
 
-/// Whether a line ends at a byte: an LF ends none after a CR, which ended it.
+/// Whether a line ends at a byte. An LF after a CR ends none, since the CR did.
 fn ends_line(returned: bool, byte: u8) -> bool
     ensures { result ≡ ends_line returned byte }
 {

@@ -9,8 +9,8 @@ use event_grammar::place::bytes_between;
 use event_grammar::spot::spot_of;
 use std::alloc::{AllocError, Allocator};
 
-/// How many events are open in an event: those in a quote prefix, that with them, and those around
-/// it.
+/// How many events are open inside an event: quote prefixes with the events in them, and all
+/// others.
 #[derive(Clone, Copy)]
 pub struct Walk {
     quoted: usize,
@@ -18,7 +18,7 @@ pub struct Walk {
 }
 
 impl Walk {
-    /// After an event of this name, unless that exits the event itself.
+    /// The counts after an event of this name, or none if it exits the event itself.
     fn past(self, kind: Kind, name: Name) -> Option<Walk>
         requires quoted { self.quoted + 1 < 2 ^ 64 }
         requires depth { self.depth + 1 < 2 ^ 64 }
@@ -59,8 +59,8 @@ impl Walk {
     }
 }
 
-/// Adds the text of the event that begins at a place, after which these events follow: its bytes but
-/// for those of quote prefixes in it.
+/// Appends the text of the event that begins at a place: its bytes, without those of quote prefixes
+/// in it. The events are those after its enter.
 pub fn push_text<A: Allocator>(
     text: &mut Vec<u8, A>,
     bytes: &[u8],
@@ -88,7 +88,7 @@ pub fn push_text<A: Allocator>(
     Ok(())
 }
 
-/// Adds the text of the event at this index of the list.
+/// Appends the text of the event at this index of the list, or nothing past the list.
 pub fn push_text_at<A: Allocator>(
     text: &mut Vec<u8, A>,
     bytes: &[u8],

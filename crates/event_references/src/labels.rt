@@ -13,7 +13,8 @@ use event_grammar::spot::spot_of;
 use inline_labels::LabelTable;
 use std::alloc::{AllocError, Allocator};
 
-/// The texts of all events of a name, as a table of labels.
+/// Returns the texts of all events of a name, as a table of labels. The only error is out of
+/// memory.
 pub fn label_table<A: Allocator + Clone>(
     alloc: A,
     events: &[Event],
@@ -45,8 +46,8 @@ fn is_enter(kind: Kind) -> bool
     }
 }
 
-/// Whether the text of an event, given by its index, is a label of the table; without an event
-/// nothing is asked.
+/// Returns whether the text of the event at an index is a label of the table. Without an index it
+/// is true. `text` is overwritten.
 pub fn is_defined<A: Allocator + Clone>(
     table: &LabelTable<A>,
     text: &mut Vec<u8, A>,

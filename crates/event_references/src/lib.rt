@@ -1,4 +1,4 @@
-//! The labels of links, images and footnote calls among events, and where they are defined.
+//! Finds links, images and footnote calls whose labels have no definition in a list of events.
 #![tactic(auto)]
 
 pub mod label;

@@ -18,7 +18,7 @@ use std::alloc::{AllocError, Allocator};
 
 const MEDIA_NAMES: [Name; 3] = [Name::Link, Name::Image, Name::GfmFootnoteCall];
 
-/// A link, an image or a call that is open. Its parts are given by the indices of their enters.
+/// A link, an image or a call that is open. Its parts are indices of their enters.
 #[derive(Clone, Copy)]
 pub struct Media {
     /// Whether it has a resource.
@@ -40,7 +40,7 @@ impl Media {
         }
     }
 
-    /// An event of this name, with this index, is in it.
+    /// Records an event inside it, by its name and index.
     fn note(&mut self, name: Name, index: usize)
         ensures { (bytes : List ℕ) → (events : List AnEvent) →
             media_view bytes events self.new ≡ noted name (text_at bytes events index) (media_view bytes events self.old) }
@@ -61,7 +61,7 @@ impl Media {
         }
     }
 
-    /// The index of its label. With a resource it needs none.
+    /// The index of its label, or none if it has a resource.
     fn label(self) -> Option<usize>
         ensures { (bytes : List ℕ) → (events : List AnEvent) →
             option_map (text_at bytes events) result ≡ label_of (media_view bytes events self) }
@@ -76,14 +76,14 @@ impl Media {
     }
 }
 
-/// Whether an event of this name tells of the label of what it is in.
+/// Whether an event of this name decides which label the event around it has.
 fn is_part(name: Name) -> bool
     ensures { result ≡ is_part name }
 {
     name == Name::Resource || name == Name::ReferenceString || name == Name::LabelText
 }
 
-/// The index that is known, otherwise this one, if it is one.
+/// The known index, otherwise this one if `is_one`.
 fn first_of(known: Option<usize>, is_one: bool, index: usize) -> Option<usize>
     ensures { (text : ℕ → List ℕ) → option_map text result ≡ option_or (option_map text known) (only_if is_one (text index)) }
 {
@@ -96,14 +96,14 @@ fn first_of(known: Option<usize>, is_one: bool, index: usize) -> Option<usize>
 /// The links, images and calls that are open.
 #[derive(Drop)]
 struct Open<A: Allocator> {
-    /// The innermost, or what stands for the document.
+    /// The innermost one, or one for the document.
     inner: Media,
     /// Those around it, the innermost last.
     outer: Vec<Media, A>,
 }
 
 impl<A: Allocator> Open<A> {
-    /// An event of this name is entered.
+    /// Records the enter of an event of this name.
     fn enter(&mut self, name: Name, index: usize) -> Result<(), AllocError>
         ensures media { (bytes : List ℕ) → (events : List AnEvent) → is_listed media_names name ≡ true → OnOk result
             ((media_view bytes events self.new.inner ≡ new_media) × (self.new.outer.items ≡ self.old.outer.items ++ self.old.inner ∷ [])) }
@@ -120,7 +120,7 @@ impl<A: Allocator> Open<A> {
         Ok(())
     }
 
-    /// The innermost is exited.
+    /// Records the exit of the innermost one.
     fn leave(&mut self)
         ensures inner { (bytes : List ℕ) → (events : List AnEvent) →
             media_view bytes events self.new.inner ≡ around (map (media_view bytes events) (reverse self.old.outer.items)) }
@@ -141,8 +141,8 @@ struct Definitions<A: Allocator + Clone> {
 }
 
 impl<A: Allocator + Clone> Definitions<A> {
-    /// Whether a label, given by the index of its event, leads to a definition from what has this
-    /// name. `text` is written over.
+    /// Whether the label at this index has a definition for an event of this name. `text` is
+    /// overwritten.
     fn leads(
         &self,
         text: &mut Vec<u8, A>,
@@ -164,8 +164,8 @@ impl<A: Allocator + Clone> Definitions<A> {
     }
 }
 
-/// The index of the first exit of a link, an image or a call whose label has no definition among
-/// these events, if there is one.
+/// Returns the index of the first exit of a link, image or footnote call whose label has no
+/// definition in the list, if there is one. The only error is out of memory.
 pub fn first_lost<A: Allocator + Clone>(
     alloc: A,
     events: &[Event],

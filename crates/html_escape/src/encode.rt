@@ -51,8 +51,8 @@ impl Replacement for Text {
     }
 }
 
-/// A text as HTML prints it: U+FFFD for NUL, and with `encode_html` references for `"`, `&`, `<`
-/// and `>`.
+/// Returns a text with U+FFFD for NUL (CommonMark 2.3) and, with `encode_html`, references for `"`,
+/// `&`, `<` and `>`. The only error is `out of memory`.
 pub fn encode<A: Allocator>(alloc: A, value: &str, encode_html: bool) -> Result<String<A>, Message>
     ensures text { IfOk result (λ text. string_bytes text ≡ encoded_if encode_html value.now) }
     ensures memory { IfErr result IsOutOfMemory }
@@ -62,14 +62,14 @@ pub fn encode<A: Allocator>(alloc: A, value: &str, encode_html: bool) -> Result<
     Ok(out)
 }
 
-/// Prints a text with references for `"`, `&`, `<` and `>`, and U+FFFD for NUL.
+/// Appends a text with references for `"`, `&`, `<` and `>`, and U+FFFD for NUL (CommonMark 2.3).
 pub fn push_encoded<A: Allocator>(out: &mut String<A>, text: &str) -> Result<(), AllocError>
     ensures { OnOk result (string_bytes out.new ≡ string_bytes out.old ++ encode text.now) }
 {
     push_text(out, text, true)
 }
 
-/// Prints a text with U+FFFD for NUL and, where it is for HTML, those references.
+/// Appends a text with U+FFFD for NUL and, with `html`, references for `"`, `&`, `<` and `>`.
 fn push_text<A: Allocator>(out: &mut String<A>, text: &str, html: bool) -> Result<(), AllocError>
     ensures { OnOk result (string_bytes out.new ≡ string_bytes out.old ++ encoded_if html text.now) }
 {

@@ -19,7 +19,7 @@ use std::alloc::{AllocError, Allocator};
 use text_bytes::{is_short_one_of, without_slash};
 use text_search::ByteSet;
 
-/// The last name is the longest, so the most bytes of a name are as many as it has.
+/// The last name is the longest, so its size is the largest one.
 const _: () = prove!(GFM_HTML_TAGFILTER_NAMES[8].len() == GFM_HTML_TAGFILTER_SIZE_MAX);
 
 /// NUL and `<`.
@@ -74,7 +74,8 @@ impl Replacement for RawHtml {
     }
 }
 
-/// HTML in which the `<` of each filtered tag is a reference (GFM 6.11).
+/// Returns HTML with `&lt;` for the `<` of each filtered tag (GFM 6.11). The only error is
+/// `out of memory`.
 pub fn gfm_tagfilter<A: Allocator>(alloc: A, value: &str) -> Result<String<A>, Message>
     ensures text { IfOk result (λ text. string_bytes text ≡ filter_tags value.now) }
     ensures memory { IfErr result IsOutOfMemory }
@@ -84,15 +85,15 @@ pub fn gfm_tagfilter<A: Allocator>(alloc: A, value: &str) -> Result<String<A>, M
     Ok(out)
 }
 
-/// Prints HTML with a reference for the `<` of each filtered tag (GFM 6.11).
+/// Appends HTML with `&lt;` for the `<` of each filtered tag (GFM 6.11).
 pub fn push_filtered<A: Allocator>(out: &mut String<A>, html: &str) -> Result<(), AllocError>
     ensures { OnOk result (string_bytes out.new ≡ string_bytes out.old ++ filter_tags html.now) }
 {
     push_replaced(&Tags, out, html)
 }
 
-/// Prints HTML as it is, but NUL as U+FFFD, and where tags are filtered, the `<` of each such tag
-/// as a reference (GFM 6.11).
+/// Appends HTML as it is, with U+FFFD for NUL. If tags are filtered, the `<` of each filtered tag
+/// is appended as `&lt;` (GFM 6.11).
 pub fn push_raw<A: Allocator>(
     out: &mut String<A>,
     html: &str,
@@ -103,14 +104,14 @@ pub fn push_raw<A: Allocator>(
     push_replaced(&RawHtml { filters }, out, html)
 }
 
-/// Whether the tag whose `<` stands before these bytes is filtered (GFM 6.11).
+/// Whether the `<` before these bytes begins a filtered tag (GFM 6.11).
 fn is_filtered(after: &[u8]) -> bool
     ensures { result ≡ is_filtered after.now }
 {
     begins_with_filtered_name(without_slash(after))
 }
 
-/// A filtered name, and what ends it.
+/// Whether bytes begin with a filtered name and a byte that ends it.
 fn begins_with_filtered_name(bytes: &[u8]) -> bool
     ensures { result ≡ begins_with_filtered_name bytes.now }
 {

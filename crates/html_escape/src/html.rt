@@ -7,8 +7,8 @@ use crate::filter::push_raw;
 use markdown_options::CompileOptions;
 use std::alloc::{AllocError, Allocator};
 
-/// Prints HTML: as it is, where that is allowed, and otherwise as text. In what is printed as it
-/// is, tags may be filtered (GFM 6.11).
+/// Appends raw HTML: as it is if the options allow that, otherwise as text. In HTML that is
+/// appended as it is, tags may be filtered (GFM 6.11).
 pub fn push_html<A: Allocator>(
     out: &mut String<A>,
     compile: &CompileOptions,

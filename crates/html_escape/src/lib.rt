@@ -1,6 +1,6 @@
 //! Text, raw HTML and URLs as HTML.
 //!
-//! Each tool has a form that makes a text and a form `push_` that prints into one.
+//! Each tool has a form that returns a text, and a form `push_` that appends to one.
 #![tactic(auto)]
 
 pub mod encode;

@@ -6,23 +6,22 @@ ghost use Rattle.text_search.specs.Sets.{holds};
 use std::alloc::{AllocError, Allocator};
 use text_search::{ByteSet, next_of};
 
-/// What bytes are printed as.
+/// How bytes are printed.
 pub(crate) trait Replacement {
     // What a byte is printed as, given those after it.
     ghost printed: { Self → ℕ → List ℕ → List ℕ };
 
-    /// Bytes of which each that is replaced is one.
+    /// A set that has each byte that is replaced.
     fn candidates(&self) -> ByteSet
         ensures { (byte : ℕ) (after : List ℕ) → holds result byte ≡ false → printed self.now byte after ≡ byte ∷ [] };
 
-    /// What is printed for a byte before others, if it isn't the byte itself. Only bytes of ASCII
-    /// are replaced.
+    /// The text that replaces a byte before others, if it is replaced. Only ASCII bytes are.
     fn replacement(&self, byte: u8, after: &[u8]) -> Option<&'static str>
         ensures printed { MatchOption result (printed self.now byte after.now ≡ byte ∷ []) (λ text. printed self.now byte after.now ≡ text.now) }
         ensures ascii { OnSome result (byte < 128) };
 }
 
-/// Prints a text, each byte as the tool says.
+/// Appends a text in which the tool replaces bytes.
 pub(crate) fn push_replaced<R: Replacement, A: Allocator>(
     tool: &R,
     out: &mut String<A>,

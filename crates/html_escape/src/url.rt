@@ -27,7 +27,8 @@ const PLAIN: ByteClass = ByteClass {
     upper: [0, 0, 1, 2, 4, 8, 16, 32, 0, 0, 0, 0, 0, 0, 0, 0],
 };
 
-/// A URL as it is printed, whatever its protocol.
+/// Returns a URL as it is printed in an attribute, whatever its protocol. The only error is
+/// `out of memory`.
 pub fn sanitize<A: Allocator>(alloc: A, value: &str) -> Result<String<A>, Message>
     ensures text { IfOk result (λ text. string_bytes text ≡ sanitize value.now) }
     ensures memory { IfErr result IsOutOfMemory }
@@ -37,8 +38,9 @@ pub fn sanitize<A: Allocator>(alloc: A, value: &str) -> Result<String<A>, Messag
     Ok(out)
 }
 
-/// A URL as it is printed, where its protocol is one of these, which are in lower case, or it has
-/// none; otherwise the empty text.
+/// Returns a URL as it is printed in an attribute, if it has no protocol or one of these. Otherwise
+/// it returns the empty text. The protocols are in lower case; a URL's may be in any case. The only
+/// error is `out of memory`.
 pub fn sanitize_with_protocols<A: Allocator>(
     alloc: A,
     value: &str,
@@ -52,8 +54,8 @@ pub fn sanitize_with_protocols<A: Allocator>(
     Ok(out)
 }
 
-/// Prints a URL whose protocol is one of these, which are in lower case, or that has none; of any
-/// other URL nothing is printed.
+/// Appends a URL as it is printed in an attribute, if it has no protocol or one of these. Otherwise
+/// it appends nothing. The protocols are in lower case.
 pub fn push_sanitized_with_protocols<A: Allocator>(
     out: &mut String<A>,
     url: &str,
@@ -69,7 +71,7 @@ pub fn push_sanitized_with_protocols<A: Allocator>(
     Ok(())
 }
 
-/// Whether a URL has no protocol, or one of these, which are in lower case.
+/// Returns whether a URL has no protocol, or one of these. The protocols are in lower case.
 pub fn is_permitted(protocols: &[&str], url: &[u8]) -> bool
     ensures { result ≡ permits (map (λ p. p.now) protocols.now) url.now }
 {
@@ -79,7 +81,7 @@ pub fn is_permitted(protocols: &[&str], url: &[u8]) -> bool
     }
 }
 
-/// What stands before the first `:` of a URL, if no `?`, `#` or `/` stands before it.
+/// The bytes before the first `:` of a URL, if no `?`, `#` or `/` is among them.
 fn protocol(url: &[u8]) -> Option<&[u8]>
     ensures { option_copied result ≡ protocol url.now }
 {
@@ -91,7 +93,7 @@ fn protocol(url: &[u8]) -> Option<&[u8]>
     }
 }
 
-/// How many bytes stand before the first `:`, `?`, `#` or `/`.
+/// How many bytes are before the first `:`, `?`, `#` or `/`.
 fn protocol_len(url: &[u8]) -> usize
     ensures { result ≡ prefix_len in_protocol url.now }
 {
@@ -104,14 +106,14 @@ fn ends_protocol(byte: u8) -> bool
     matches!(byte, b':' | b'?' | b'#' | b'/')
 }
 
-/// Whether a name is in lower case one of these.
+/// Whether a name, in lower case, is one of these.
 fn is_one_of(protocols: &[&str], name: &[u8]) -> bool
     ensures { result ≡ list_any (λ p. bytes_eq p.now (lower name.now)) protocols.now }
 {
     protocols.iter().any(|p| is_lower(p.as_bytes(), name))
 }
 
-/// Whether a name is in lower case this protocol, which then has no letter in upper case.
+/// Whether a name, in lower case, is this protocol. The protocol then has no letter in upper case.
 fn is_lower(protocol: &[u8], name: &[u8]) -> bool
     ensures { result ≡ bytes_eq protocol.now (lower name.now) }
 {
@@ -124,7 +126,7 @@ fn has_uppercase(bytes: &[u8]) -> bool
     bytes.iter().any(|b| b.is_ascii_uppercase())
 }
 
-/// Prints a URL, whatever its protocol.
+/// Appends a URL as it is printed in an attribute, whatever its protocol.
 pub fn push_sanitized<A: Allocator>(out: &mut String<A>, url: &str) -> Result<(), AllocError>
     ensures { OnOk result (string_bytes out.new ≡ string_bytes out.old ++ sanitize url.now) }
 {
@@ -142,7 +144,7 @@ pub fn push_sanitized<A: Allocator>(out: &mut String<A>, url: &str) -> Result<()
     push_slice(out, url, start, bytes.len())
 }
 
-/// The place after such bytes from a place on.
+/// The place after the plain bytes from a place on.
 fn after_plain(bytes: &[u8], at: usize) -> usize
     requires { at ≤ length bytes.now }
     ensures end { result ≡ at + prefix_len is_plain_byte (drop at bytes.now) }
@@ -151,7 +153,7 @@ fn after_plain(bytes: &[u8], at: usize) -> usize
     at + plain_size(&bytes[at..])
 }
 
-/// How many such bytes come first.
+/// How many plain bytes come first.
 fn plain_size(bytes: &[u8]) -> usize
     ensures size { result ≡ prefix_len is_plain_byte bytes.now }
     ensures within { result ≤ length bytes.now }
@@ -159,7 +161,7 @@ fn plain_size(bytes: &[u8]) -> usize
     run_of(bytes, PLAIN)
 }
 
-/// Prints a part of a text, which may be cut at both ends unless the part is empty.
+/// Appends a part of a text, which begins and ends between characters unless it is empty.
 fn push_slice<A: Allocator>(
     out: &mut String<A>,
     text: &str,
@@ -177,7 +179,7 @@ fn push_slice<A: Allocator>(
     out.push_str(&text[start..end])
 }
 
-/// What is printed for a byte of a URL before others, if it isn't the byte itself.
+/// The text that replaces a byte of a URL before others, if it is replaced.
 fn replacement(byte: u8, after: &[u8]) -> Option<&'static str>
     ensures printed { MatchOption result (url_byte byte after.now ≡ byte ∷ []) (λ printed. url_byte byte after.now ≡ printed.now) }
     ensures ascii { IfNone result (byte < 128) }
@@ -191,7 +193,7 @@ fn replacement(byte: u8, after: &[u8]) -> Option<&'static str>
     }
 }
 
-/// Whether a byte before others stays.
+/// Whether a byte before others is kept.
 fn is_kept(byte: u8, after: &[u8]) -> bool
     ensures { result ≡ is_kept byte after.now }
 {

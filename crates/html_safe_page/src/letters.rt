@@ -14,7 +14,7 @@ fn begins_reference(after: &[u8]) -> bool
         || after.starts_with(b"gt;")
 }
 
-/// Whether a byte before others is, or begins, a letter.
+/// Whether a byte before others is a letter, or begins a reference.
 pub fn may_stand(byte: u8, after: &[u8]) -> bool
     ensures { result ≡ may_stand byte after.now }
 {

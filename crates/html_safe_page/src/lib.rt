@@ -1,4 +1,4 @@
-//! Safe HTML pages: whether a page has a reading, and that it has no second one.
+//! Safe HTML pages: a test, and the law that a page has at most one reading.
 #![tactic(auto)]
 
 mod letters;

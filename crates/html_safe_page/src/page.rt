@@ -14,8 +14,8 @@ pub fn one_reading_law()
     ensures { OneReading }
 {}
 
-/// What safe pages are made of: texts, line endings, void tags, and elements, in a row, and one
-/// put before a tag of another one.
+/// Texts, line endings, void tags, elements, and several safe pages in a row are safe pages. So is
+/// a safe page that is inserted before a tag of another one.
 pub fn closure_law()
     ensures { Closure }
 {}
@@ -34,7 +34,7 @@ fn split_tag(bytes: &[u8]) -> Option<(&[u8], &[u8])>
     None
 }
 
-/// Opens or closes what a tag does, if it may stand here.
+/// Opens or closes an element by its tag. Returns false if the tag isn't allowed here.
 fn follow<'a, A: Allocator>(names: &mut Vec<&'a [u8], A>, tag: &'a [u8]) -> Result<bool, AllocError>
     ensures { IfOk result (λ goes_on. follows tag.now (open_names names.old.items) ≡ if_goes_on goes_on (open_names names.new.items)) }
 {
@@ -51,10 +51,15 @@ fn follow<'a, A: Allocator>(names: &mut Vec<&'a [u8], A>, tag: &'a [u8]) -> Resu
     Ok(tag_name(&VOID_ROWS, b" /", tag).is_some())
 }
 
-/// Whether a page is a safe one: bytes other than `&`, `"`, `<` and `>`, the references `&amp;`,
-/// `&quot;`, `&lt;` and `&gt;`, and tags of a fixed table, each void or closed, whose `href` and
-/// `src` have a permitted protocol or none (`specs/SafePage.antt`). Time is linear, and the only
-/// error is want of memory, which the list of open tags may take.
+/// Returns whether a page is safe. `specs/SafePage.antt` defines that. A safe page has only
+///
+/// - bytes other than `&`, `"`, `<` and `>`;
+/// - the references `&amp;`, `&quot;`, `&lt;` and `&gt;`;
+/// - tags of a fixed table, each void or closed, whose `href` and `src` have a permitted protocol
+///   or none.
+///
+/// Time is linear in the page. Memory is taken for the list of open tags. The only error is out of
+/// memory.
 pub fn is_safe_page<A: Allocator>(alloc: A, page: &str) -> Result<bool, AllocError>
     ensures { IfOk result (λ safe. IsTrue safe ↔ IsSafePage page.now) }
 {

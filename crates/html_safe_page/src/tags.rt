@@ -10,7 +10,7 @@ use crate::letters::is_text;
 use html_escape::is_permitted;
 use markdown_options::constants::{SAFE_PROTOCOL_HREF, SAFE_PROTOCOL_SRC};
 
-/// A tag's name and those of its attributes, in order.
+/// The name of a tag, and the names of its attributes in order.
 pub struct Row(&'static str, &'static [&'static str]);
 
 /// Tags that have an end tag.
@@ -57,7 +57,7 @@ pub const START_ROWS: [Row; 34] = [
     ),
 ];
 
-/// Tags that have none.
+/// Void tags, which have no end tag.
 pub const VOID_ROWS: [Row; 8] = [
     Row("hr", &[]),
     Row("br", &[]),
@@ -69,7 +69,7 @@ pub const VOID_ROWS: [Row; 8] = [
     Row("input", &["type", "disabled", "checked"]),
 ];
 
-/// Whether an attribute of this name takes a value that is spelled so.
+/// Whether an attribute of this name may have this value.
 fn is_value(name: &str, value: &[u8]) -> bool
     ensures { result ≡ is_some (read_value name.now value.now) }
 {
@@ -81,7 +81,7 @@ fn is_value(name: &str, value: &[u8]) -> bool
         }
 }
 
-/// What stands before the first `"`, and after it.
+/// The bytes before the first `"`, and those after it.
 fn split_quoted(bytes: &[u8]) -> Option<(&[u8], &[u8])>
     ensures { quoted_of result ≡ before_quote bytes.now }
 {
@@ -93,14 +93,14 @@ fn split_quoted(bytes: &[u8]) -> Option<(&[u8], &[u8])>
     None
 }
 
-/// What follows a text that bytes begin with.
+/// The bytes after a text, if they begin with it.
 fn strip<'a>(prefix: &[u8], bytes: &'a [u8]) -> Option<&'a [u8]>
     ensures { option_copied result ≡ strip prefix.now bytes.now }
 {
     bytes.strip_prefix(prefix)
 }
 
-/// What begins an attribute of this name is left out.
+/// The bytes after the start of an attribute of this name, if they begin with it.
 fn after_start<'a>(name: &str, bytes: &'a [u8]) -> Option<&'a [u8]>
     ensures { option_copied result ≡ strip (attribute_start name.now) bytes.now }
 {
@@ -109,7 +109,7 @@ fn after_start<'a>(name: &str, bytes: &'a [u8]) -> Option<&'a [u8]>
     strip(b"=\"", named)
 }
 
-/// What follows the attribute of this name that bytes begin with.
+/// The bytes after an attribute of this name, if they begin with one.
 fn after_attribute<'a>(name: &str, bytes: &'a [u8]) -> Option<&'a [u8]>
     ensures { option_copied result ≡ after_attribute name.now bytes.now }
 {
@@ -122,7 +122,7 @@ fn after_attribute<'a>(name: &str, bytes: &'a [u8]) -> Option<&'a [u8]>
     }
 }
 
-/// Whether bytes are attributes of these names, and this ending.
+/// Whether bytes are attributes of these names, followed by this ending.
 fn has_attributes(names: &[&str], ending: &[u8], bytes: &[u8]) -> bool
     ensures { result ≡ is_some (read_attributes (names_of names.now) ending.now bytes.now) }
 {
@@ -136,7 +136,7 @@ fn has_attributes(names: &[&str], ending: &[u8], bytes: &[u8]) -> bool
     rest == ending
 }
 
-/// Whether a tag is of a row, before this ending.
+/// Whether a tag is the one of a row, with this ending.
 fn fits(row: &Row, ending: &[u8], tag: &[u8]) -> bool
     ensures { result ≡ is_some (read_row ending.now tag.now (row_of row.now)) }
 {
@@ -146,7 +146,7 @@ fn fits(row: &Row, ending: &[u8], tag: &[u8]) -> bool
     }
 }
 
-/// The name of the tag that is of one of these rows.
+/// Returns the name of a tag, if it is the one of a row, with this ending.
 pub fn tag_name<'a>(rows: &'a [Row], ending: &[u8], tag: &[u8]) -> Option<&'a [u8]>
     ensures { option_copied result ≡ option_map (λ t. t.name) (read_tag (map row_of rows.now) ending.now tag.now) }
 {

@@ -1,6 +1,6 @@
-//! Labels as they are matched (CommonMark 6.3).
+//! Labels in the form in which they match (CommonMark 6.3).
 //!
-//! Two labels match if they have the same words once their case is folded.
+//! Two labels match if they have the same words after their case is folded.
 ghost use Rattle.std.specs.Prelude.{◌≡◌, ◌++◌, IfErr, IfOk, IsAscii, OnOk, string_bytes};
 ghost use Rattle.markdown_options.specs.Messages.{IsOutOfMemory};
 ghost use Rattle.definition_text.specs.Content.{content_codes};
@@ -12,9 +12,9 @@ use caseless::Caseless;
 use markdown_options::Message;
 use std::alloc::{AllocError, Allocator};
 
-/// Makes `normal` the label as it is matched: its case folded in full, no white space at the ends,
-/// and one space for white space inside (CommonMark 6.3). The label is what stands between its
-/// brackets.
+/// Sets `normal` to the form in which a label matches (CommonMark 6.3): its case folded in full, no
+/// white space at the ends, and one space for white space inside. The label is the bytes between
+/// its brackets.
 pub fn normalize_label<A: Allocator>(normal: &mut String<A>, label: &[u8]) -> Result<(), AllocError>
     ensures { OnOk result (string_bytes normal.new ≡ normal_label (content_codes label.now)) }
 {
@@ -28,9 +28,9 @@ pub fn normalize_label<A: Allocator>(normal: &mut String<A>, label: &[u8]) -> Re
     Ok(())
 }
 
-/// A label as it is matched (CommonMark 6.3): its case folded in full, no white space at the ends,
-/// and one space for white space inside. The value is what stands between its brackets. The only
-/// error is want of memory.
+/// Returns the form in which a label matches (CommonMark 6.3): its case folded in full, no white
+/// space at the ends, and one space for white space inside. The value is the text between its
+/// brackets. The only error is `out of memory`.
 pub fn normalize_identifier<A: Allocator>(alloc: A, value: &str) -> Result<String<A>, Message>
     ensures text { IfOk result (λ text. string_bytes text ≡ normal_label (content_codes value.now)) }
     ensures memory { IfErr result IsOutOfMemory }
@@ -40,7 +40,7 @@ pub fn normalize_identifier<A: Allocator>(alloc: A, value: &str) -> Result<Strin
     Ok(normal)
 }
 
-/// Adds a word with its case folded; bytes that are no text count as U+FFFD.
+/// Appends a word with its case folded, and U+FFFD for bytes that aren't UTF-8.
 fn push_word<A: Allocator>(normal: &mut String<A>, word: &[u8]) -> Result<(), AllocError>
     ensures { OnOk result (string_bytes normal.new ≡ string_bytes normal.old ++ fold_word word.now) }
 {
@@ -53,7 +53,7 @@ fn push_word<A: Allocator>(normal: &mut String<A>, word: &[u8]) -> Result<(), Al
     Ok(())
 }
 
-/// Adds a word of ASCII with its case folded.
+/// Appends an ASCII word with its case folded.
 fn push_ascii<A: Allocator>(normal: &mut String<A>, word: &[u8]) -> Result<(), AllocError>
     requires { IsAscii word.now }
     ensures { OnOk result (string_bytes normal.new ≡ string_bytes normal.old ++ fold_word word.now) }
@@ -64,7 +64,7 @@ fn push_ascii<A: Allocator>(normal: &mut String<A>, word: &[u8]) -> Result<(), A
     Ok(())
 }
 
-/// Adds a text with its case folded, and U+FFFD for the bytes after it that are no text.
+/// Appends a text with its case folded, and U+FFFD for the bytes after it that aren't UTF-8.
 fn push_chunk<A: Allocator>(
     normal: &mut String<A>,
     text: &str,
@@ -80,7 +80,7 @@ fn push_chunk<A: Allocator>(
     }
 }
 
-/// Adds a text with its case folded in full.
+/// Appends a text with its case folded in full.
 fn push_folded<A: Allocator>(normal: &mut String<A>, text: &str) -> Result<(), AllocError>
     ensures { OnOk result (string_bytes normal.new ≡ string_bytes normal.old ++ case_fold text.now) }
 {

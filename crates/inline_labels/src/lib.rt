@@ -1,4 +1,4 @@
-//! Labels of definitions, as they are matched.
+//! Labels of definitions, in the form in which they match.
 #![tactic(auto)]
 
 pub mod label;

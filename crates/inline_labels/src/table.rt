@@ -8,7 +8,7 @@ use crate::label::normalize_label;
 use std::alloc::{AllocError, Allocator};
 use std::collections::BTreeMap;
 
-/// The places of definitions by their labels: of equal labels the first counts (CommonMark 4.7).
+/// The places of definitions by their labels. Of equal labels the first counts (CommonMark 4.7).
 #[derive(Drop)]
 pub struct LabelTable<A: Allocator + Clone> {
     places: BTreeMap<String<A>, usize, A>,
@@ -18,7 +18,7 @@ pub struct LabelTable<A: Allocator + Clone> {
 impl<A: Allocator + Clone> LabelTable<A> {
     ghost use Rattle.inline_labels.specs.Table.{AddsLabel, HasLabels, lacks_label};
 
-    /// A table without labels.
+    /// Returns a table without labels.
     pub fn new(alloc: A) -> Result<LabelTable<A>, AllocError>
         ensures { IfOk result (λ table. HasLabels table []) }
     {
@@ -28,9 +28,9 @@ impl<A: Allocator + Clone> LabelTable<A> {
         })
     }
 
-    /// Adds the label of a definition, unless one that matches it is there, and answers whether it
-    /// was new (CommonMark 4.7). The place is how many labels were given before, repeats counted.
-    /// Without memory the table stays as it was.
+    /// Adds the label of a definition, unless the table has one that matches it (CommonMark 4.7).
+    /// Returns whether the label is new. The place is the number of labels before it, including
+    /// repeats. If memory runs out, the table is unchanged.
     pub fn insert(&mut self, label: &[u8], place: usize) -> Result<bool, AllocError>
         ensures added { AddsLabel self.old result self.new place label.now }
         ensures new { (labels : List (List ℕ)) → HasLabels self.old labels → IfOk result (λ is_new. is_new ≡ lacks_label labels label.now) }
@@ -46,7 +46,8 @@ impl<A: Allocator + Clone> LabelTable<A> {
         Ok(true)
     }
 
-    /// The place of the first label that matches this one (CommonMark 6.3).
+    /// Returns the place of the first label that matches this one (CommonMark 6.3). The only error
+    /// is out of memory.
     pub fn find(&self, label: &[u8]) -> Result<Option<usize>, AllocError>
         ensures { (labels : List (List ℕ)) → HasLabels self.now labels → IfOk result (λ place. place ≡ first_match (content_codes label.now) labels) }
     {
@@ -58,7 +59,7 @@ impl<A: Allocator + Clone> LabelTable<A> {
         Ok(self.find_normal(normal.as_str()))
     }
 
-    /// The place of the first label that is this one as labels are matched (CommonMark 6.3).
+    /// Returns the place of the first label whose normal form is this one (CommonMark 6.3).
     pub fn find_normal(&self, normal: &str) -> Option<usize>
         ensures { (labels : List (List ℕ)) → HasLabels self.now labels → result ≡ place_of normal.now (map normal_label labels) }
     {

@@ -10,7 +10,7 @@ ghost use Rattle.definition_inline.specs.LabelMatch.{words};
 
 use text_bytes::{space_size, word_size};
 
-/// The words of a label that are left.
+/// The remaining words of a label.
 #[derive(Drop)]
 pub(crate) struct Words<'a> {
     label: &'a [u8],
@@ -42,7 +42,7 @@ impl<'a> Iterator for Words<'a> {
     }
 }
 
-/// What follows the spaces, tabs and line endings that come first.
+/// The bytes after the spaces, tabs and line endings at the front.
 fn without_white(label: &[u8]) -> &[u8]
     ensures { result.now ≡ drop (prefix_len is_space label.now) label.now }
 {

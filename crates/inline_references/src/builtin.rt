@@ -1,4 +1,4 @@
-//! The named references that are built in: the 252 names of HTML 4 and 44 more of HTML 5.
+//! The built-in named references: the 252 names of HTML 4 and 44 names of HTML 5.
 ghost use Rattle.std.specs.Prelude.{◌≡◌, ◌<◌, [], IfSome, length, map, slice_index_or};
 ghost use Rattle.std.specs.Option.{option_copied};
 ghost use Rattle.definition_inline.specs.BuiltinReferences.{builtin_names};
@@ -70,7 +70,7 @@ static GROUPS: [&str; 52] = [
     "zeta=ζ zwj=\u{200D} zwnj=\u{200C}",
 ];
 
-/// The text of a built-in name (CommonMark 2.5).
+/// Returns the text of a built-in name (CommonMark 2.5).
 pub fn builtin_reference(name: &str) -> Option<&'static str>
     ensures { option_copied result ≡ builtin_names name.now }
 {

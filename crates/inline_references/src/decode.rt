@@ -1,4 +1,4 @@
-//! What a name or digits stand for.
+//! Names and digits of references, decoded.
 ghost use Rattle.std.specs.Prelude.{◌≡◌, ◌++◌, [], IfOk, IfErr, IsTrue, is_some, string_bytes, unwrap_or};
 ghost use Rattle.std.specs.Option.{option_copied, option_map};
 ghost use Rattle.markdown_options.specs.Messages.{IsOutOfMemory};
@@ -9,15 +9,16 @@ use crate::value::numeric_character;
 use markdown_options::{Message, Tables};
 use std::alloc::{AllocError, Allocator};
 
-/// The text of a name, if the tables know it (CommonMark 2.5).
+/// Returns the text of a name, if the tables have it (CommonMark 2.5).
 pub fn decode_named<'a, T: Tables>(value: &str, tables: &'a T) -> Option<&'a str>
     ensures { option_copied result ≡ T.reference_of tables.now value.now }
 {
     tables.reference(value)
 }
 
-/// The text that the digits of a number stand for, with radix 10 or 16: U+FFFD in place of a
-/// character that a text may not have (CommonMark 2.5).
+/// Returns the character of a number, as a text (CommonMark 2.5). The radix is 10 or 16, and the
+/// value is digits of it. A character that a text may not have becomes U+FFFD. The only error is
+/// `out of memory`.
 pub fn decode_numeric<A: Allocator>(alloc: A, value: &str, radix: u32) -> Result<String<A>, Message>
     requires radix { IsTrue (is_radix radix) }
     requires digits { IsNumber radix value.now }
@@ -29,8 +30,8 @@ pub fn decode_numeric<A: Allocator>(alloc: A, value: &str, radix: u32) -> Result
     Ok(text)
 }
 
-/// The text that a value with this marker stands for: of digits always one, of a name the one that
-/// the tables have (CommonMark 2.5).
+/// Returns the text of a value with this marker, if there is one (CommonMark 2.5). Digits always
+/// have a text. A name has one if the tables have it. The only error is `out of memory`.
 pub fn decode<A: Allocator, T: Tables>(
     alloc: A,
     value: &str,
@@ -50,7 +51,7 @@ pub fn decode<A: Allocator, T: Tables>(
     }
 }
 
-/// Prints what a value with this marker stands for, and says whether it stands for anything.
+/// Appends the text of a value with this marker. Returns whether there is one (CommonMark 2.5).
 pub fn push_value<A: Allocator, T: Tables>(
     out: &mut String<A>,
     value: &str,

@@ -2,39 +2,39 @@
 ghost use Rattle.inline_references.specs.Grammar.{WrittenIsRead, ReadIsWritten, DecodesDecoded, DecodesAlone};
 ghost use Rattle.inline_references.specs.Laws.{PlainLaw, RowsLaw, BuiltinLaw};
 
-/// A text without `&` stays as it is, whatever names are known.
+/// A text without `&` is unchanged, by any tables.
 #[tactic(auto, using(crate::proofs::Decoding::plain_law))]
 pub fn plain_law()
     ensures { PlainLaw }
 {}
 
-/// A name that the rows of a text have is 1 to 31 letters and digits, and its text isn't empty and
-/// is UTF-8.
+/// Each name in the rows of a text has 1 to 31 letters and digits. Its text is UTF-8, and isn't
+/// empty.
 pub fn rows_law()
     ensures { RowsLaw }
 {}
 
-/// The same of the built-in names.
+/// Each built-in name has 1 to 31 letters and digits. Its text is UTF-8, and isn't empty.
 pub fn builtin_law()
     ensures { BuiltinLaw }
 {}
 
-/// What is written as a reference is read as it.
+/// A written reference is read as that reference.
 pub fn written_law()
     ensures { WrittenIsRead }
 {}
 
-/// What is read as a reference is written as it.
+/// Bytes that are read as a reference are that reference, written.
 pub fn read_law()
     ensures { ReadIsWritten }
 {}
 
-/// A text is decoded to what its references, and its other bytes, make of it.
+/// A text is decoded to the texts of its references and its other bytes, in order.
 pub fn decodes_law()
     ensures { DecodesDecoded }
 {}
 
-/// And to nothing else.
+/// A text is decoded to one text only.
 pub fn alone_law()
     ensures { DecodesAlone }
 {}

@@ -3,8 +3,8 @@
 //!     reference ::= '&' name ';' | '&#' digit{1,7} ';' | '&#' ('x' | 'X') hexadecimal{1,6} ';'
 //!     name      ::= (letter | digit){1,31}
 //!
-//! Which names there are, the caller's tables say. A byte, the marker, says how a value is
-//! written: `&` a name, `#` decimal digits, `x` hexadecimal ones.
+//! The caller's tables have the names. The marker, a byte, tells how a value is written: `&` for a
+//! name, `#` for decimal digits, `x` for hexadecimal digits.
 #![tactic(auto)]
 
 pub mod builtin;

@@ -10,8 +10,8 @@ use crate::reference::character_reference;
 use markdown_options::{Message, Tables};
 use std::alloc::{AllocError, Allocator};
 
-/// A text with the text of each of its references in place of it. What is no reference, or has a
-/// name that the tables don't know, stays (CommonMark 2.5).
+/// Returns a text in which each reference is replaced by its text (CommonMark 2.5). A reference
+/// whose name isn't in the tables is kept. The only error is `out of memory`.
 pub fn parse<A: Allocator, T: Tables>(
     alloc: A,
     value: &str,
@@ -25,7 +25,7 @@ pub fn parse<A: Allocator, T: Tables>(
     Ok(text)
 }
 
-/// Prints a text with the text of each of its references in place of it (CommonMark 2.5).
+/// Appends a text in which each reference is replaced by its text (CommonMark 2.5).
 pub fn push_decoded<A: Allocator, T: Tables>(
     out: &mut String<A>,
     value: &str,
@@ -41,7 +41,7 @@ pub fn push_decoded<A: Allocator, T: Tables>(
     out.push_str(rest)
 }
 
-/// Prints what the `&` before a text begins, and returns the text that is left.
+/// Appends the text of the reference that `&` begins, or `&`. Returns the text after it.
 fn push_reference<'a, A: Allocator, T: Tables>(
     out: &mut String<A>,
     after: &'a str,

@@ -18,7 +18,7 @@ pub struct Reference {
     pub end: usize,
 }
 
-/// The reference whose `&` stands before these bytes (CommonMark 2.5).
+/// Returns the reference whose `&` is before these bytes, if there is one (CommonMark 2.5).
 pub fn reference_at(bytes: &[u8]) -> Option<Reference>
     ensures read { option_map (placed_reference bytes.now) result ≡ reference_after bytes.now }
     ensures place { IfSome result (IsPlaced bytes.now) }
@@ -49,7 +49,7 @@ fn marker_of(bytes: &[u8]) -> u8
     }
 }
 
-/// How many bytes stand between the `&` and the value.
+/// How many bytes are between the `&` and the value.
 fn marker_size(marker: u8) -> usize
     requires { IsTrue (is_marker marker) }
     ensures { result ≡ marker_size marker }
@@ -68,11 +68,11 @@ pub struct CharacterReference<'a> {
     pub marker: u8,
     /// Its name or digits.
     pub value: &'a str,
-    /// What follows its `;`.
+    /// The text after its `;`.
     pub rest: &'a str,
 }
 
-/// The reference whose `&` stands before a text (CommonMark 2.5).
+/// Returns the reference whose `&` is before a text, if there is one (CommonMark 2.5).
 pub fn character_reference(text: &str) -> Option<CharacterReference<'_>>
     ensures read { option_map text_reference result ≡ reference_after text.now }
     ensures cut { IfSome result (IsCutFrom text.now) }

@@ -9,7 +9,7 @@ use markdown_options::constants::{
     CHARACTER_REFERENCE_NAMED_SIZE_MAX,
 };
 
-/// The most bytes that a value with this marker has (CommonMark 2.5).
+/// Returns how many bytes a value with this marker may have (CommonMark 2.5).
 pub fn value_max(marker: u8) -> usize
     requires { IsTrue (is_marker marker) }
     ensures { result ≡ value_max marker }
@@ -21,8 +21,8 @@ pub fn value_max(marker: u8) -> usize
     }
 }
 
-/// Whether a value with this marker may have a byte: a letter or digit, a digit, or a hexadecimal
-/// digit (CommonMark 2.5).
+/// Returns whether a value with this marker may have a byte (CommonMark 2.5): for `&` a letter or
+/// digit, for `#` a digit, for `x` a hexadecimal digit.
 pub fn value_test(marker: u8, byte: u8) -> bool
     requires { IsTrue (is_marker marker) }
     ensures { result ≡ is_value_byte marker byte }
@@ -42,8 +42,8 @@ pub(crate) fn value_len(marker: u8, bytes: &[u8]) -> usize
     bytes.iter().take_while(|b| value_test(marker, **b)).count()
 }
 
-/// The character that the digits of a number stand for: U+FFFD in place of one that a text may
-/// not have (CommonMark 2.5).
+/// Returns the character of a number with this radix (CommonMark 2.5). A character that a text may
+/// not have becomes U+FFFD.
 pub fn numeric_character(digits: &str, radix: u32) -> char
     requires radix { IsTrue (is_radix radix) }
     requires digits { IsNumber radix digits.now }
@@ -55,7 +55,8 @@ pub fn numeric_character(digits: &str, radix: u32) -> char
     }
 }
 
-/// The character of a number: U+FFFD in place of one that a text may not have (CommonMark 2.5).
+/// Returns the character of a number (CommonMark 2.5). A character that a text may not have becomes
+/// U+FFFD.
 pub fn character_of(code: u32) -> char
     ensures { result ≡ character_of code }
 {
@@ -65,8 +66,8 @@ pub fn character_of(code: u32) -> char
     }
 }
 
-/// Whether U+FFFD stands for a code point: a control character other than tab, line feed, form
-/// feed and return, a surrogate, a noncharacter, or no code point at all.
+/// Whether U+FFFD replaces a number: a control character other than tab, line feed, form feed and
+/// return, a surrogate, a noncharacter, or a number that is no code point.
 fn is_replaced(code: u32) -> bool
     ensures { result ≡ is_replaced code }
 {

@@ -29,9 +29,10 @@ use std::fs::File;
 use std::io::{self, ErrorKind, Read, Write};
 use std::rt::Files;
 
-/// Runs the program, and returns its status. The words are those after its name.
+/// Runs the program, and returns its exit status: 0, 1 or 2. The words don't include its name.
 ///
-/// A fault is one line on `faults`. One that can't be printed leaves the status.
+/// With status 0 the whole output was written and flushed. A fault is printed as one line to
+/// `faults`. If that fails, the status is still that of the fault.
 pub fn program<R: Read, W: Write, F: Write>(
     rt: &(impl Files + AllocGlobal),
     words: &[String],
@@ -49,7 +50,7 @@ pub fn program<R: Read, W: Write, F: Write>(
     end(faults, &outcome)
 }
 
-/// The status of an outcome, with one line on `faults` for a fault.
+/// Returns the status of an outcome, and prints a fault as one line to `faults`.
 pub(crate) fn end<F: Write>(faults: &mut Watched<F>, outcome: &Result<(), Fault>) -> u8
     requires { has_failed faults.old ≡ false }
     ensures { MatchResult outcome.now (λ _. (result ≡ 0) × (faults.new ≡ faults.old)) (Complains F.contents faults.old faults.new result) }
@@ -87,7 +88,7 @@ fn write_number<F: Write>(faults: &mut Watched<F>, number: Option<usize>) -> Res
     }
 }
 
-/// Does what the words ask for.
+/// Runs the command line.
 fn obey<R: Read, W: Write>(
     rt: &(impl Files + AllocGlobal),
     words: &[String],
@@ -111,7 +112,7 @@ fn obey<R: Read, W: Write>(
     }
 }
 
-/// Prints the page that settings ask for.
+/// Prints the page, by these settings.
 fn page<R: Read, W: Write>(
     rt: &(impl Files + AllocGlobal),
     settings: &Settings,
@@ -134,7 +135,7 @@ fn page<R: Read, W: Write>(
     }
 }
 
-/// The rows of a file.
+/// Reads the rows of a references file.
 fn file_rows(rt: &(impl Files + AllocGlobal), path: &str) -> Result<Rows, Fault>
     ensures rows { IfOk result (λ rows. (file : List ℕ) × (text_fault file ≡ None) × ((name : List ℕ) → names_of rows name ≡ file_names file name)) }
     ensures status { IfErr result (λ fault. status_of fault ≡ 1) }
@@ -145,7 +146,7 @@ fn file_rows(rt: &(impl Files + AllocGlobal), path: &str) -> Result<Rows, Fault>
     }
 }
 
-/// The rows that a reader gives.
+/// Reads the rows of a reader's text.
 fn read_rows<R: Read + Drop>(alloc: Global, reader: R) -> Result<Rows, Fault>
     ensures rows { IfOk result (λ rows. (file : List ℕ) × IfSome (R.remaining reader) (λ told. file ≡ told)
         × (text_fault file ≡ None) × ((name : List ℕ) → names_of rows name ≡ file_names file name)) }
@@ -158,7 +159,7 @@ fn read_rows<R: Read + Drop>(alloc: Global, reader: R) -> Result<Rows, Fault>
     }
 }
 
-/// The fault where a file of references can't be read.
+/// The fault if the references file can't be read.
 fn references_fault(kind: ErrorKind) -> Fault
     ensures { result ≡ references_fault kind }
 {

@@ -1,7 +1,7 @@
 //! From a text to HTML.
 //!
-//! Of quoted, listed and escaped texts and of other line endings the calls promise the laws of
-//! docs/LAWS.md, each under its premises (`specs/PageLaws.antt`).
+//! The calls promise five laws: safe pages, quoted, listed and escaped texts, other line endings.
+//! docs/LAWS.md explains them. `specs/PageLaws.antt` states the last four, with their premises.
 ghost use Rattle.std.specs.Prelude.{◌≡◌, ◌/◌, ◌*◌, ◌^◌, ◌-◌, ◌≤◌, ◌↔◌, IsTrue, IfOk, IfErr, length, string_bytes};
 ghost use Rattle.markdown_options.specs.Mdx.{HasNoMdx};
 ghost use Rattle.markdown_options.specs.Messages.{IsOutOfMemory};
@@ -22,10 +22,10 @@ use markdown_tables::Builtin;
 use std::alloc::{AllocError, Allocator};
 use text_lines::{next_line, without_mark};
 
-/// The longest text that is read, in bytes.
+/// The largest size of a text, in bytes.
 pub const SIZE_MAX: usize = usize::MAX / 8;
 
-/// Whether a text is short enough to be read: it has at most `usize::MAX / 8` bytes.
+/// Returns whether a text is short enough to be converted: it has at most `usize::MAX / 8` bytes.
 pub fn fits(value: &str) -> bool
     ensures number { IsTrue result ↔ (8 * length value.now ≤ 2 ^ 64 - 1) }
     ensures size { IsTrue result ↔ (length value.now ≤ SIZE_MAX) }
@@ -33,10 +33,10 @@ pub fn fits(value: &str) -> bool
     value.len() <= SIZE_MAX
 }
 
-/// The HTML of a text, with the default options and the tables that are built in.
+/// Converts a text to HTML, with the default options and the built-in tables.
 ///
-/// The text [`fits`]: at most `usize::MAX / 8` bytes. The only error is want of memory. The HTML is
-/// a safe page, and has one reading as such.
+/// The text must have at most `usize::MAX / 8` bytes, which [`fits`] tests. The page is safe, with
+/// exactly one reading (see `is_safe_page`). The only error is `out of memory`.
 pub fn to_html<A: Allocator + Clone>(alloc: A, value: &str) -> Result<String<A>, Message>
     requires size { length value.now ≤ SIZE_MAX }
     ensures page { IfOk result (λ page. string_bytes page ≡ html builtin_tables value.now default_options) }
@@ -50,11 +50,11 @@ pub fn to_html<A: Allocator + Clone>(alloc: A, value: &str) -> Result<String<A>,
     to_html_with_options(alloc, value, &Options::default())
 }
 
-/// The HTML of a text, with the tables that are built in.
+/// Converts a text to HTML, with the built-in tables.
 ///
-/// The text [`fits`], and the options turn on no construct of MDX, which `Options::has_mdx` tests.
-/// The only error is want of memory. Under safe options the HTML is a safe page, and has one
-/// reading as such.
+/// The text must have at most `usize::MAX / 8` bytes, which [`fits`] tests. No construct of MDX may
+/// be on, which `Options::has_mdx` tests. Under safe options, such as the default ones, the page is
+/// safe, with exactly one reading (see `is_safe_page`). The only error is `out of memory`.
 pub fn to_html_with_options<A: Allocator + Clone>(
     alloc: A,
     value: &str,
@@ -73,11 +73,11 @@ pub fn to_html_with_options<A: Allocator + Clone>(
     to_html_with_tables(alloc, value, options, &Builtin)
 }
 
-/// The HTML of a text, with tables of named references and punctuation.
+/// Converts a text to HTML, with the caller's tables of character references and punctuation.
 ///
-/// The text [`fits`], and the options turn on no construct of MDX, which `Options::has_mdx` tests.
-/// The only error is want of memory. Under safe options the HTML is a safe page, and has one
-/// reading as such.
+/// The text must have at most `usize::MAX / 8` bytes, which [`fits`] tests. No construct of MDX may
+/// be on, which `Options::has_mdx` tests. Under safe options, such as the default ones, the page is
+/// safe, with exactly one reading (see `is_safe_page`). The only error is `out of memory`.
 pub fn to_html_with_tables<T: Tables, A: Allocator + Clone>(
     alloc: A,
     value: &str,
@@ -103,7 +103,7 @@ pub fn to_html_with_tables<T: Tables, A: Allocator + Clone>(
     Ok(page)
 }
 
-/// The HTML of a text without a byte order mark, after a character of a kind.
+/// The HTML of a text whose byte order mark is removed, after a character of a kind.
 fn page_after<'a, T: Tables, A: Allocator + Clone>(
     alloc: A,
     before: Kind,
@@ -134,15 +134,15 @@ fn page_after<'a, T: Tables, A: Allocator + Clone>(
     print_rows(alloc, room, ending, &texts, rows, pieces)
 }
 
-/// How many bytes a page is given at once: those of the text, and some for tags and references, so
-/// that few pages grow. Those that aren't used aren't touched.
+/// The initial capacity of a page, in bytes: the size of the text, and some for tags and
+/// references. So few pages grow. Unused bytes are never touched.
 fn room(len: usize) -> usize
     requires { len ≤ SIZE_MAX }
 {
     len + len / 4 + 64
 }
 
-/// The text's first ending, or another.
+/// The first line ending of the text, or the other one if it has none.
 fn default_ending(text: &str, other: LineEnding) -> LineEnding
     ensures { (options : Options) → options.compile.default_line_ending ≡ other → result ≡ default_ending options text.now }
 {

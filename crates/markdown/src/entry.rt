@@ -1,4 +1,4 @@
-//! The program, on the words that it was started with.
+//! The program, with the words of the process.
 ghost use Rattle.std.specs.Prelude.{◌≡◌, IfErr, IfOk, drop, false};
 ghost use Rattle.std.specs.IoError.{error_kind};
 ghost use Rattle.markdown_settings.specs.Settings.{word_texts};
@@ -13,10 +13,11 @@ use crate::watched::Watched;
 use std::io::{self, ErrorKind, Read, Write};
 use std::rt::Files;
 
-/// Runs [`program`] on the words of the command line, and returns its status. Its name is the first
-/// of them.
+/// Runs [`program`] with the words of the process, and returns its exit status. The first word is
+/// the program's name.
 ///
-/// Words that the system doesn't give are no command line, unless memory was refused.
+/// If the system gives no words, nothing is read or written. The fault is then a wrong command
+/// line, or `out of memory`.
 pub fn start<R: Read, W: Write, F: Write>(
     rt: &(impl Files + AllocGlobal),
     words: io::Result<Vec<String>>,
@@ -45,7 +46,7 @@ fn after_name(words: &[String]) -> &[String]
     if words.is_empty() { words } else { &words[1..] }
 }
 
-/// The fault where the words can't be had.
+/// The fault if the system gives no words.
 fn unread_fault(kind: ErrorKind) -> Fault
     ensures { result ≡ unread_fault kind }
 {

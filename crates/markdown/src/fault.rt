@@ -1,4 +1,4 @@
-//! Why the program ends with another status than 0.
+//! Why the program ends with a status other than 0.
 ghost use Rattle.std.specs.Prelude.{◌≡◌};
 ghost use Rattle.markdown.specs.Complaints.{fault_line, fault_words, rows_line, rows_words};
 ghost use Rattle.markdown.specs.Statuses.{status_of};
@@ -6,21 +6,21 @@ ghost use Rattle.markdown.specs.Statuses.{status_of};
 use crate::transfer::RunError;
 use markdown_tables::RowsError;
 
-/// Why the program ends with another status than 0.
+/// Why the program ends with a status other than 0.
 #[derive(Debug, Drop)]
 pub(crate) enum Fault {
-    /// The words are no command line.
+    /// The command line is wrong.
     Words,
-    /// The file of references can't be read.
+    /// The references file can't be read.
     References,
-    /// The rows of that file are at fault.
+    /// A line of the references file is wrong, or memory ran out.
     Rows(RowsError),
-    /// The page can't be made, or not be written.
+    /// The page can't be made or written.
     Run(RunError),
 }
 
 impl Fault {
-    /// The status: 2 for words that are no command line, and 1 for every other fault.
+    /// The exit status: 2 for a wrong command line, 1 for any other fault.
     pub(crate) fn status(&self) -> u8
         ensures { result ≡ status_of self.now }
     {
@@ -30,7 +30,7 @@ impl Fault {
         }
     }
 
-    /// The words of the fault, without the number of a line.
+    /// The message of the fault, without the number of a line.
     pub(crate) fn words(&self) -> &'static str
         ensures { result.now ≡ fault_words self.now }
     {
@@ -42,7 +42,7 @@ impl Fault {
         }
     }
 
-    /// The line of the references file that is at fault.
+    /// The wrong line of the references file, from 1.
     pub(crate) fn line(&self) -> Option<usize>
         ensures { result ≡ fault_line self.now }
     {
@@ -53,7 +53,7 @@ impl Fault {
     }
 }
 
-/// The words of what is wrong with rows, without the number of a line.
+/// The message of an error in rows, without the number of a line.
 fn rows_words(error: &RowsError) -> &'static str
     ensures { result.now ≡ rows_words error.now }
 {
@@ -63,7 +63,7 @@ fn rows_words(error: &RowsError) -> &'static str
     }
 }
 
-/// The line of these rows that is at fault.
+/// The wrong line of these rows, from 1.
 fn rows_line(error: &RowsError) -> Option<usize>
     ensures { result ≡ rows_line error.now }
 {

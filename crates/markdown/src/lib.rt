@@ -1,14 +1,14 @@
 //! Markdown to safe HTML.
 //!
-//! Begin with [`to_html`]; [`fits`] tests its one condition.
+//! Start with [`to_html`]. [`fits`] tests its only condition.
 //!
 //!     let text = "# Hello, *world*!";
 //!     if fits(text) {
 //!         let page = to_html(rt.alloc(), text)?; // <h1>Hello, <em>world</em>!</h1>
 //!     }
 //!
-//! The calls and their types stand here by name; the modules have the names of the Rust crate's
-//! files.
+//! All calls and their types are exported here. The modules have the names of the files of the
+//! Rust crate `markdown`.
 #![tactic(auto)]
 
 mod command;
@@ -38,7 +38,7 @@ pub mod character_reference {
     pub use inline_references::{decode_named, decode_numeric, value_max, value_test};
 }
 
-/// Text as HTML.
+/// Text encoded as HTML.
 pub mod encode {
     pub use html_escape::encode::encode;
 }
@@ -48,17 +48,17 @@ pub mod gfm_tagfilter {
     pub use html_escape::gfm_tagfilter;
 }
 
-/// How the columns of tables are aligned (GFM 4.10).
+/// Alignments of the columns of tables (GFM 4.10).
 pub mod mdast {
     pub use markdown_options::AlignKind;
 }
 
-/// Labels as they are matched (CommonMark 6.3).
+/// Labels in the form in which they match (CommonMark 6.3).
 pub mod normalize_identifier {
     pub use inline_labels::normalize_identifier;
 }
 
-/// URLs as attributes.
+/// URLs as values of attributes.
 pub mod sanitize_uri {
     pub use html_escape::url::{sanitize, sanitize_with_protocols};
 }

@@ -18,20 +18,20 @@ use std::alloc::{AllocError, Allocator};
 use std::io::{self, Read, Write};
 use std::{error, fmt};
 
-/// Why a run gave no whole page. No read or write is tried again, not even one that was interrupted.
+/// Why [`run`] wrote no whole page. No read or write is repeated, not even an interrupted one.
 #[derive(Debug, Drop)]
 pub enum RunError {
     /// More than `usize::MAX / 8` bytes were read.
     Size,
-    /// All was read, and it is not UTF-8.
+    /// The text was read to its end, and isn't UTF-8.
     Utf8,
-    /// Memory was refused.
+    /// Out of memory.
     Memory,
     /// The reader returned this error.
     Read(io::Error),
-    /// The writer returned this error; a beginning of the page is written.
+    /// The writer returned this error. A beginning of the page was written.
     Write(io::Error),
-    /// The writer took nothing; a beginning of the page is written.
+    /// The writer took no byte. A beginning of the page was written.
     Stopped,
 }
 
@@ -39,7 +39,7 @@ impl RunError {
     ghost use Rattle.std.specs.Prelude.{◌≡◌};
     ghost use Rattle.markdown.specs.Complaints.{run_words};
 
-    /// The words of the error.
+    /// Returns the message of the error, as the program prints it.
     pub fn words(&self) -> &'static str
         ensures { result.now ≡ run_words self.now }
     {
@@ -61,7 +61,7 @@ impl fmt::Display for RunError {
 
 impl error::Error for RunError {}
 
-/// Memory was refused.
+/// Out of memory.
 impl From<AllocError> for RunError {
     ghost use Rattle.markdown.specs.declared.transfer.RunError.TheVariants.{Memory};
 
@@ -72,7 +72,7 @@ impl From<AllocError> for RunError {
     }
 }
 
-/// The only message that a conversion answers says that memory was refused.
+/// A conversion fails only with `out of memory`.
 impl From<Message> for RunError {
     ghost use Rattle.markdown.specs.declared.transfer.RunError.TheVariants.{Memory};
 
@@ -83,14 +83,17 @@ impl From<Message> for RunError {
     }
 }
 
-/// How many bytes are asked of a reader at once.
+/// The size of a read, in bytes.
 const CHUNK: usize = 65536;
 
-/// Reads a text to its end, and writes its HTML by these tables.
+/// Reads a text to its end, and writes its HTML, with the caller's tables. The writer isn't
+/// flushed.
 ///
-/// The options turn on no construct of MDX, which `Options::has_mdx` tests, and neither the reader
-/// nor the writer has failed. The text is at most `usize::MAX / 8` bytes of UTF-8. Nothing is
-/// written before the whole page is there; the writer isn't flushed.
+/// No construct of MDX may be on, which `Options::has_mdx` tests. Neither device may have failed
+/// before, which [`Watched::failed`] tests. Nothing is written before the whole page is made.
+///
+/// It fails if the text has more than `usize::MAX / 8` bytes or isn't UTF-8, if a device fails, or
+/// if memory runs out.
 pub fn run<A: Allocator + Clone, R: Read, W: Write, T: Tables>(
     alloc: A,
     reader: &mut Watched<R>,
@@ -107,8 +110,8 @@ pub fn run<A: Allocator + Clone, R: Read, W: Write, T: Tables>(
         let page = html (tables_by T.Tables tables.now) text options.now in
         Appends (W.contents (device writer.old)) (W.contents (device writer.new)) page)) }
 
-    // `Read` comes exactly where the reader failed, `Write` and `Stopped` where the writer did,
-    // `Stopped` where it took nothing.
+    // `Read` is returned exactly if the reader failed, `Write` or `Stopped` exactly if the writer
+    // did, and `Stopped` exactly if it took no byte.
     ensures read { has_failed reader.new ≡ read_failed result }
     ensures write { has_failed writer.new ≡ write_failed result }
     ensures stopped { has_stopped writer.new ≡ (has_stopped writer.old || write_stopped result) }
@@ -117,18 +120,18 @@ pub fn run<A: Allocator + Clone, R: Read, W: Write, T: Tables>(
     ensures unflushed { has_flushed writer.old ≡ false → has_flushed writer.new ≡ false }
     ensures flush_failed { has_flush_failed writer.new ≡ has_flush_failed writer.old }
 
-    // What was written is then a beginning of the page, and otherwise nothing.
+    // With `Write` and `Stopped` a beginning of the page was written, with any other error nothing.
     ensures beginning { IfErr result (λ e. is_write_error e ≡ true → IfSome (R.remaining (device reader.old)) (λ text.
         let page = html (tables_by T.Tables tables.now) text options.now in
         AppendsBeginning (W.contents (device writer.old)) (W.contents (device writer.new)) page)) }
     ensures nothing { IfErr result (λ e. is_write_error e ≡ false → Keeps (W.contents (device writer.old)) (W.contents (device writer.new))) }
 
-    // `Size` comes exactly where more than the size was read, and without it, `Read` or `Memory`
-    // the reader came to its end.
+    // `Size` is returned exactly if more than `SIZE_MAX` bytes were read. The reader has ended,
+    // unless the error is `Size`, `Read` or `Memory`.
     ensures size { RefusesPast SIZE_MAX (R.remaining (device reader.old)) (R.remaining (device reader.new)) (size_failed result) }
     ensures end { IsTrue (reads_all result) → has_ended reader.new ≡ true }
 
-    // Where all was read, `Utf8` is answered exactly where that is not UTF-8.
+    // If all was read, `Utf8` is returned exactly if it isn't UTF-8.
     ensures utf8 { IsTrue (reads_all result || came_to_end reader.old reader.new)
         → IfSome (R.remaining (device reader.old)) (λ text. RefusesUtf8 text (utf8_failed result)) }
 {
@@ -201,7 +204,7 @@ fn read_chunks<A: Allocator, R: Read>(
     unreachable!()
 }
 
-/// Reads once, and answers how many bytes came: none at the end.
+/// Reads once, and returns how many bytes were read: 0 at the end.
 fn read_chunk<A: Allocator, R: Read>(
     reader: &mut Watched<R>,
     chunk: &mut [u8],

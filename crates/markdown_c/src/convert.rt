@@ -1,4 +1,4 @@
-//! From a text to HTML in a buffer of the caller's.
+//! From a text to HTML in the caller's buffer.
 ghost use Rattle.std.specs.Prelude.{◌≡◌, ◌≤◌, ◌<◌, ◌↔◌, ◌*◌, ◌^◌, ◌-◌, length, None};
 ghost use Rattle.std.specs.Str.{IsUtf8};
 ghost use Rattle.markdown_c.specs.Flags.{options_of};
@@ -18,19 +18,19 @@ const ROOM: u32 = 1;
 /// The text isn't UTF-8.
 const UTF8: u32 = 2;
 
-/// There is a flag that isn't known.
+/// A flag is unknown.
 const FLAGS: u32 = 3;
 
 /// The text has more than `usize::MAX / 8` bytes.
 const SIZE: u32 = 4;
 
-/// No memory was left.
+/// Out of memory.
 const MEMORY: u32 = 5;
 
-/// Converts a text to HTML, into a buffer, and answers a status. `size` is then the page's length
-/// where the status is `OK` or `ROOM`, and otherwise 0.
+/// Converts a text to HTML in a buffer, and returns a status. `size` becomes the length of the page
+/// in bytes if the status is `OK` or `ROOM`, and otherwise 0.
 ///
-/// A page that is too long for the buffer isn't written, nor is anything past a page's end.
+/// The buffer is written only with `OK`, from its start to the end of the page.
 #[unsafe(no_mangle)]
 pub extern "C" fn markdown_convert(
     alloc: Global,
@@ -39,11 +39,12 @@ pub extern "C" fn markdown_convert(
     buffer: &mut [u8],
     size: &mut usize,
 ) -> u32
-    // The buffer begins with the page, and goes on as it was. Otherwise it is as it was.
+    // With `OK` the buffer begins with the page, and the rest of it is unchanged. With any other
+    // status all of it is unchanged.
     ensures ok { result ≡ OK → OfPage flags text.now (λ page. HoldsPage page buffer.old buffer.new) }
     ensures unchanged { ¬ (result ≡ OK) → buffer.new ≡ buffer.old }
 
-    // The page's length is told where there is room, and where there isn't.
+    // The length of the page is stored with `OK` and `ROOM`, otherwise 0.
     ensures length { result ≤ ROOM → OfPage flags text.now (λ page. size.new ≡ length page) }
     ensures room { result ≤ ROOM → ((result ≡ OK) ↔ (size.new ≤ length buffer.old)) }
     ensures none { ROOM < result → size.new ≡ 0 }

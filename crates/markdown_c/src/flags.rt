@@ -1,11 +1,11 @@
-//! The options that a sum of flags asks for.
+//! The options of a sum of flags.
 ghost use Rattle.std.specs.Prelude.{◌≡◌, ◌<◌, false};
 ghost use Rattle.markdown_options.specs.Mdx.{has_mdx, HasNoMdx};
 ghost use Rattle.markdown_c.specs.Flags.{flagged_constructs, flagged_options, has_flag};
 
 use markdown::{CompileOptions, Constructs, Options, ParseOptions};
 
-/// HTML of the text is printed as it is, and links may have any protocol.
+/// HTML of the text is printed as it is, and URLs may have any protocol.
 const DANGEROUS: u32 = 1;
 
 /// Every construct is off.
@@ -32,7 +32,7 @@ const AUTOLINK_LITERALS: u32 = 128;
 /// `[^a]` calls the footnote that `[^a]: b` defines.
 const FOOTNOTES: u32 = 256;
 
-/// Where HTML of the text is printed as it is, `<` before nine names is text (GFM 6.11).
+/// With `DANGEROUS`: the `<` of nine tags is printed as `&lt;` (GFM 6.11).
 const TAGFILTER: u32 = 512;
 
 /// All flags together.
@@ -55,7 +55,7 @@ fn has_flag(flag: u32, flags: u32) -> bool
     flags / flag % 2 == 1
 }
 
-/// The constructs that are on by default, and those of the flags; none with the flag for none.
+/// The default constructs and those of the flags, or none with `PLAIN`.
 fn flagged_constructs(flags: u32) -> Constructs
     ensures constructs { result ≡ flagged_constructs flags }
     ensures without_mdx { has_mdx result ≡ false }
@@ -77,7 +77,7 @@ fn flagged_constructs(flags: u32) -> Constructs
     }
 }
 
-/// The default options, with what the flags change.
+/// The default options, changed by the flags.
 pub(crate) fn flagged_options(flags: u32) -> Options
     ensures options { result ≡ flagged_options flags }
     ensures without_mdx { HasNoMdx result }

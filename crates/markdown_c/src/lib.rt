@@ -1,4 +1,4 @@
-//! From a text to HTML, called from C.
+//! Converts Markdown to HTML, called from C.
 #![tactic(auto)]
 
 mod convert;

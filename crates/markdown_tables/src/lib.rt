@@ -1,5 +1,5 @@
 //! Named character references (CommonMark 2.5) and Unicode punctuation (CommonMark 2.1): the
-//! tables that are built in, and rows of a caller's.
+//! built-in tables, and rows of a caller.
 #![tactic(auto)]
 
 mod name_texts;

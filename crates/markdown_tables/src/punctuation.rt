@@ -6,7 +6,7 @@ ghost use Rattle.markdown_tables.specs.Punctuation.{builtin_punctuation};
 
 use ucd_category::{GeneralCategory, GeneralCategoryGroup};
 
-/// Whether a character is Unicode punctuation (CommonMark 2.1).
+/// Returns whether a character is Unicode punctuation (CommonMark 2.1).
 pub fn is_unicode_punctuation(character: char) -> bool
     ensures { result ≡ builtin_punctuation character }
 {

@@ -15,21 +15,21 @@ use markdown_options::constants::{
     CHARACTER_REFERENCE_HEXADECIMAL_SIZE_MAX, CHARACTER_REFERENCE_NAMED_SIZE_MAX,
 };
 
-/// The one or two characters that a name stands for.
+/// The one or two characters of a name.
 #[derive(Clone, Copy)]
 pub(crate) struct Characters {
     pub first: char,
     pub second: Option<char>,
 }
 
-/// A name, and the characters that it stands for.
+/// A name, and its characters.
 #[derive(Clone, Copy)]
 pub(crate) struct NamedCharacters<'a> {
     pub name: &'a str,
     pub characters: Characters,
 }
 
-/// The row that a line is, if it is one.
+/// Reads a line as a row.
 pub(crate) fn read_row(line: &str) -> Option<NamedCharacters<'_>>
     ensures row { option_map row_view result ≡ row_of line.now }
     ensures named { IfSome result (λ r. IsTrue (is_name r.name.now)) }
@@ -67,7 +67,7 @@ fn read_codes(codes: &str) -> Option<Characters>
     }
 }
 
-/// What stands before and after the first `+`.
+/// The texts before and after the first `+`.
 fn split_codes(codes: &str) -> Option<(&str, &str)>
     ensures { MatchOption result (position_or_len is_plus codes.now ≡ length codes.now) (λ x. IsSplitAtPlus codes.now x.0.now x.1.now) }
 {
@@ -120,7 +120,7 @@ fn are_hexadecimal(bytes: &[u8]) -> bool
     bytes.iter().all(|b| b.is_ascii_hexdigit())
 }
 
-/// The number that so few digits write.
+/// The number of 1 to 6 hexadecimal digits.
 fn code_value(digits: &str) -> u32
     requires { IsTrue (are_code_digits digits.now) }
     ensures { result ≡ digits_value 16 digits.now }

@@ -11,7 +11,7 @@ use std::alloc::{AllocError, Allocator, Global};
 use std::collections::BTreeMap;
 use text_lines::{is_blank, next_line};
 
-/// Names with their texts, before the built-in ones, and Unicode punctuation.
+/// A caller's names with their texts, then the built-in names, and Unicode punctuation.
 #[derive(Debug, Drop)]
 pub struct Rows<A: Allocator = Global> {
     texts: BTreeMap<String<A>, String<A>, A>,
@@ -26,11 +26,12 @@ impl<A: Allocator + Clone> Rows<A> {
     ghost use Rattle.markdown_tables.specs.RowsFaults.{line_fault, text_fault};
     ghost use Rattle.markdown_tables.specs.RowParts.{characters_text};
 
-    /// Reads rows, a line for each: a name of 1 to 31 ASCII letters or digits, `=`, and 1 to 6
-    /// hexadecimal digits of a scalar value, or two such codes with a `+` between, as `ngE=2267+338`.
+    /// Reads the rows of a text, one a line: `name=HEX` or `name=HEX+HEX`, such as `ngE=2267+338`.
+    /// A name has 1 to 31 ASCII letters or digits. `HEX` is 1 to 6 hexadecimal digits of a scalar
+    /// value.
     ///
-    /// Lines of spaces and tabs alone are skipped. No name stands twice. Lines end as in any text
-    /// (CommonMark 2.1), and the first line at fault is answered.
+    /// Lines of spaces and tabs alone are skipped. Lines end as in any text (CommonMark 2.1). It
+    /// fails with the first line that is no row or repeats a name, or out of memory.
     pub fn read(alloc: A, text: &str) -> Result<Rows<A>, RowsError>
         ensures rows { IfOk result (λ read. (name : List ℕ) → texts_of read name ≡ text_in (rows text.now) name) }
         ensures faultless { IfOk result (λ read. text_fault text.now ≡ None) }
@@ -91,7 +92,7 @@ impl<A: Allocator> Tables for Rows<A> {
 
     ghost punctuation_of = { λ _ code. builtin_punctuation code };
 
-    /// The text of a name of these rows, and otherwise of a built-in one (CommonMark 2.5).
+    /// Returns the text of a name of these rows, otherwise of a built-in one (CommonMark 2.5).
     fn reference(&self, name: &str) -> Option<&str> {
         match self.texts.get(name) {
             Some(text) => Some(text.as_str()),
@@ -99,7 +100,7 @@ impl<A: Allocator> Tables for Rows<A> {
         }
     }
 
-    /// Whether the general category of a character is P or S (CommonMark 2.1).
+    /// Returns whether the general category of a character is P or S (CommonMark 2.1).
     fn is_punctuation(&self, character: char) -> bool {
         is_unicode_punctuation(character)
     }

@@ -1,4 +1,4 @@
-//! The tables that are built in.
+//! The built-in tables.
 ghost use Rattle.definition_inline.specs.BuiltinReferences.{builtin_names};
 ghost use Rattle.inline_references.specs.LawfulRows.{builtin_is_lawful};
 ghost use Rattle.markdown_tables.specs.Punctuation.{builtin_punctuation};
@@ -8,7 +8,7 @@ use crate::punctuation::is_unicode_punctuation;
 use inline_references::builtin_reference;
 use markdown_options::Tables;
 
-/// The names of HTML 4 and 44 more of HTML 5, and Unicode punctuation.
+/// The built-in tables: the 252 names of HTML 4, 44 names of HTML 5, and Unicode punctuation.
 #[derive(Clone, Copy, Debug, PartialEq, Eq)]
 pub struct Builtin;
 
@@ -17,12 +17,12 @@ impl Tables for Builtin {
 
     ghost punctuation_of = { λ _ code. builtin_punctuation code };
 
-    /// The text of a built-in name (CommonMark 2.5).
+    /// Returns the text of a built-in name (CommonMark 2.5).
     fn reference(&self, name: &str) -> Option<&str> {
         builtin_reference(name)
     }
 
-    /// Whether the general category of a character is P or S (CommonMark 2.1).
+    /// Returns whether the general category of a character is P or S (CommonMark 2.1).
     fn is_punctuation(&self, character: char) -> bool {
         is_unicode_punctuation(character)
     }
