@@ -12,9 +12,9 @@ use Rattle.definition_block.specs.BlockQuote.{after_byte, after_mark, quote_pref
 use Rattle.definition_block.specs.ContainerStart.{ContainerStart}
 use Rattle.definition_block.specs.ThematicBreak.{is_break}
 use Rattle.definition_block.specs.ListItem.{is_digit, bullet, after_number, marker, item_after, item_start, is_inside}
-use Rattle.definition_block.specs.GfmFootnoteDefinition.{after_bracket, footnote_mark, footnote_of, footnote_start}
+use Rattle.definition_block.specs.GfmFootnoteDefinition.{after_open, after_bracket, footnote_mark, footnote_of, footnote_start}
 use Rattle.definition_block.specs.Containers.{quote_or, footnote_or, starts}
-use Rattle.block_starts.specs.Marks.{NoMark, is_mark, begins_with_bracket, container_may_start, footnote_may_start, may_start}
+use Rattle.block_starts.specs.Marks.{NoMark, is_mark, begins_with_caret, begins_with_marker, container_may_start, footnote_may_start, may_start}
 
 -- ---- no marker
 
@@ -106,17 +106,22 @@ only_footnote on interrupts rest h =
     alone None = refl
     alone (Some s) = refl
 
--- a rest that doesn't begin with `[` has no marker of one
-no_bracket_none : (rest : Rest) → begins_with_bracket rest ≡ false → footnote_mark rest ≡ None
-no_bracket_none [] h = refl
-no_bracket_none (c ∷ cs) h = ap after_bracket (cond-false (eqb c 91) _ _ h)
+-- a rest that doesn't begin with `[^` has no marker of one
+no_caret_none : (rest : Rest) → begins_with_caret rest ≡ false → after_bracket (Some rest) ≡ None
+no_caret_none [] h = refl
+no_caret_none (c ∷ cs) h = ap after_open (cond-false (eqb c 94) _ _ h)
+
+pub no_marker_none : (rest : Rest) → begins_with_marker rest ≡ false → footnote_mark rest ≡ None
+no_marker_none [] h = refl
+no_marker_none (c ∷ cs) h =
+    cond_both (eqb c 91) (Some cs) None (λ o. after_bracket o ≡ None) (λ is. no_caret_none cs (ap (λ b. b && begins_with_caret cs) (sym is) ∙ h)) (λ _. refl)
 
 -- where a footnote definition may not start, none does
 no_footnote_ahead : (on : Constructs) (rest : Rest) → footnote_may_start on rest ≡ false → footnote_start on rest ≡ None
 no_footnote_ahead on rest h =
     cond_both (on.gfm_footnote_definition && small_indent on rest) (footnote_of (footnote_mark (bare rest))) None (λ o. o ≡ None)
     (λ both. let is_on = (and_parts on.gfm_footnote_definition (small_indent on rest) both).0 in
-    ap footnote_of (no_bracket_none (bare rest) (ap (λ b. b && begins_with_bracket (bare rest)) (sym is_on) ∙ h))) (λ _. refl)
+    ap footnote_of (no_marker_none (bare rest) (ap (λ b. b && begins_with_marker (bare rest)) (sym is_on) ∙ h))) (λ _. refl)
 
 -- no container does
 pub none_starts : (on : Constructs) (interrupts : Bool) (rest : Rest) → container_may_start on rest ≡ false → starts on interrupts rest ≡ None

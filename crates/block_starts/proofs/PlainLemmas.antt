@@ -3,7 +3,7 @@ use Rattle.std.proofs.Common.{inl, inr, ◌≡◌, ℕ, ◌+◌, ◌-◌, Bool, 
 use Rattle.std.proofs.Common.{length, drop, take, zero, suc, arith}
 use Rattle.std.specs.Prelude.{◌==◌, leb, codes}
 use Rattle.std.specs.List.{list_any, prefix_len, suffix_len}
-use Rattle.std.proofs.lemmas.Bool.{cases_Bool, cond-true, cond-false, cond_both, and_left, and_right, or_parts, or_from, ne_eqb, leb-true}
+use Rattle.std.proofs.lemmas.Bool.{cases_Bool, cond-true, cond-false, cond_both, and_left, and_right, and_parts, eqb-true, or_parts, or_from, ne_eqb, leb-true}
 use Rattle.std.proofs.Math.ListN.{drop_of_length-le}
 use Rattle.markdown_options.specs.declared.configuration.Constructs.{Constructs}
 use Rattle.markdown_options.specs.declared.beside.Kind.{Kind}
@@ -15,7 +15,7 @@ use Rattle.definition_text.specs.Bytes.{begins_with}
 use Rattle.definition_text.specs.Runs.{run}
 use Rattle.definition_inline.specs.HtmlTags.{open_tag, closing_tag}
 use Rattle.definition_block.specs.ListItem.{is_digit}
-use Rattle.definition_block.specs.GfmFootnoteDefinition.{after_bracket, footnote_mark, footnote_of}
+use Rattle.definition_block.specs.GfmFootnoteDefinition.{footnote_mark, footnote_of}
 use Rattle.definition_block.specs.Containers.{starts}
 use Rattle.definition_block.specs.CodeIndented.{starts_code_indented}
 use Rattle.definition_block.specs.CodeFenced.{fence_of, fence_start}
@@ -26,9 +26,9 @@ use Rattle.definition_block.specs.HeadingSetext.{underline_of, underline}
 use Rattle.definition_block.specs.ThematicBreak.{is_break_text, is_break}
 use Rattle.definition_block.specs.GfmTable.{Cell, cell, in_first_cell, is_bar, parts, without_blank_first, without_blank_last, column_delimiter}
 use Rattle.definition_block.specs.GfmTable.{and_alignment, alignments_of, is_bar_or_colon, some_alignments, delimiters, delimiter_row}
-use Rattle.block_starts.specs.Marks.{may_start}
-use Rattle.block_starts.specs.Plain.{begins_block, begins_extension, begins_standard_block, is_plain_byte, begins_plain}
-use Rattle.block_starts.proofs.MarkLemmas.{only_footnote, indent_blank}
+use Rattle.block_starts.specs.Marks.{begins_with_marker, may_start}
+use Rattle.block_starts.specs.Plain.{begins_block, begins_extension, begins_footnote, begins_standard_block, is_plain_byte, begins_plain}
+use Rattle.block_starts.proofs.MarkLemmas.{only_footnote, indent_blank, no_marker_none}
 
 -- ---- tests that fail
 
@@ -68,9 +68,34 @@ module _ (on : Constructs) where
   no_run : (x b : ℕ) (bs : List ℕ) → is_plain_byte on b ≡ true → is_plain_byte on x ≡ false → run x (b ∷ bs) ≡ 0
   no_run x b bs plain mark = cond-false (b == x) _ 0 (other b x plain mark)
 
+  -- the byte that comes first
+  first_plain : (b : ℕ) (bs : List ℕ) → begins_plain on (b ∷ bs) ≡ true → is_plain_byte on b ≡ true
+  first_plain b bs plain = (and_parts (is_plain_byte on b) (not (begins_footnote on b bs)) plain).0
+
+  -- no marker of a footnote definition
+  plain_marker : (c : ℕ) (cs : Rest) → on.gfm_footnote_definition ≡ true → not (begins_footnote on c (bytes_of cs)) ≡ true
+      → begins_with_marker (c ∷ cs) ≡ false
+  plain_marker c cs footnotes plain =
+      elim (cases_Bool ((c == 91) && begins_with (codes "^") (bytes_of cs))) [
+        | inl some ↦
+            let wrong : false ≡ true = sym (ap (λ f. not (f && ((c == 91) && begins_with (codes "^") (bytes_of cs)))) footnotes ∙ ap not some) ∙ plain in cc
+        | inr none ↦ with_caret cs none
+      ]
+    where
+      with_caret : (cs : Rest) → ((c == 91) && begins_with (codes "^") (bytes_of cs)) ≡ false → begins_with_marker (c ∷ cs) ≡ false
+      with_caret [] none = and_right (c == 91) false refl
+      with_caret (d ∷ ds) none =
+          elim (cases_Bool (d == 94)) [
+            | inl caret ↦
+                let same : begins_with (codes "^") (bytes_of (d ∷ ds)) ≡ true =
+                ap (λ e. begins_with (codes "^") (bytes_of (e ∷ ds))) (eqb-true d 94 caret) in
+                ap (λ b. (c == 91) && b) caret ∙ sym (ap (λ b. (c == 91) && b) same) ∙ none
+            | inr other ↦ and_right (c == 91) (d == 94) other
+          ]
+
   -- the first code after the indent is the first byte
   first_code : (P : Rest → Type 0) (r : Rest) → begins_plain on (bytes_of (bare r)) ≡ true
-      → ((c : ℕ) (cs : Rest) → is_plain_byte on c ≡ true → P (c ∷ cs)) → P (bare r)
+      → ((c : ℕ) (cs : Rest) → begins_plain on (c ∷ bytes_of cs) ≡ true → P (c ∷ cs)) → P (bare r)
   first_code P [] plain k = let wrong : false ≡ true = plain in cc
   first_code P (c ∷ cs) plain k =
       elim (cases_Bool (is_white c)) [
@@ -93,16 +118,18 @@ module _ (on : Constructs) where
   no_container interrupts r none =
       sym (only_footnote on interrupts r none.0) ∙ where_on on.gfm_footnote_definition (small_indent on r) _ (λ footnotes. ap footnote_of (none.1 footnotes))
 
-  no_first : (c : ℕ) (cs : Rest) → is_plain_byte on c ≡ true
+  no_first : (c : ℕ) (cs : Rest) → begins_plain on (c ∷ bytes_of cs) ≡ true
       → (may_start (c ∷ cs) ≡ false) × (on.gfm_footnote_definition ≡ true → footnote_mark (c ∷ cs) ≡ None)
-  no_first c cs plain = (
-    or_from ((c == 62) || (c == 45) || (c == 43) || (c == 42)) _
-        (or_from ((c == 62) || (c == 45) || (c == 43)) _
-        (or_from ((c == 62) || (c == 45)) _ (or_from (c == 62) _ (other c 62 plain refl) (other c 45 plain refl)) (other c 43 plain refl))
-        (other c 42 plain refl))
-        (no_digit c plain),
-    (λ footnotes. ap after_bracket (cond-false (c == 91) _ _ (other c 91 plain (ap not footnotes)))),
-  )
+  no_first c cs first =
+      let parts = and_parts (is_plain_byte on c) (not (begins_footnote on c (bytes_of cs))) first in
+      let plain = parts.0 in (
+        or_from ((c == 62) || (c == 45) || (c == 43) || (c == 42)) _
+            (or_from ((c == 62) || (c == 45) || (c == 43)) _
+            (or_from ((c == 62) || (c == 45)) _ (or_from (c == 62) _ (other c 62 plain refl) (other c 45 plain refl)) (other c 43 plain refl))
+            (other c 42 plain refl))
+            (no_digit c plain),
+        (λ footnotes. no_marker_none (c ∷ cs) (plain_marker c cs footnotes parts.1)),
+      )
 
   pub plain_starts : (interrupts : Bool) (r : Rest) → begins_plain on (bytes_of (bare r)) ≡ true → starts on interrupts r ≡ None
   plain_starts interrupts r plain =
@@ -128,14 +155,16 @@ module _ (on : Constructs) where
 
   no_fence_of : (columns : ℕ) (text : List ℕ) → begins_plain on text ≡ true → fence_of columns text ≡ None
   no_fence_of columns [] plain = let wrong : false ≡ true = plain in cc
-  no_fence_of columns (b ∷ bs) plain =
+  no_fence_of columns (b ∷ bs) first =
+      let plain = first_plain b bs first in
       cond-false _ _ _ (and_left (leb 3 (run 96 (b ∷ bs))) _ (ap (leb 3) (no_run 96 b bs plain refl)))
       ∙ cond-false _ _ _ (ap (leb 3) (no_run 126 b bs plain refl))
 
   no_math_of : (columns : ℕ) (text : List ℕ) → on.math_flow ≡ true → begins_plain on text ≡ true → math_fence_of columns text ≡ None
   no_math_of columns [] math plain = let wrong : false ≡ true = plain in cc
-  no_math_of columns (b ∷ bs) math plain =
-      cond-false _ _ _ (and_left (leb 2 (run 36 (b ∷ bs))) _ (ap (leb 2) (no_run 36 b bs plain (ap (λ m. not (m || false || false)) math))))
+  no_math_of columns (b ∷ bs) math first =
+      let plain = first_plain b bs first in
+      cond-false _ _ _ (and_left (leb 2 (run 36 (b ∷ bs))) _ (ap (leb 2) (no_run 36 b bs plain (ap (λ m. not (m || false)) math))))
 
   module _ (b : ℕ) (bs : List ℕ) (plain : is_plain_byte on b ≡ true) where
     abbrev here : List ℕ
@@ -168,21 +197,23 @@ module _ (on : Constructs) where
 
   no_kind : (paragraph : Bool) (text : List ℕ) → begins_plain on text ≡ true → html_kind paragraph text ≡ None
   no_kind paragraph [] plain = let wrong : false ≡ true = plain in cc
-  no_kind paragraph (b ∷ bs) plain = no_kind_here b bs plain paragraph
+  no_kind paragraph (b ∷ bs) first = let plain = first_plain b bs first in no_kind_here b bs plain paragraph
 
   no_rank : (text : List ℕ) → begins_plain on text ≡ true → atx_of text ≡ None
   no_rank [] plain = let wrong : false ≡ true = plain in cc
-  no_rank (b ∷ bs) plain = cond-false _ _ _ (and_left _ _ (and_left (leb 1 (run 35 (b ∷ bs))) _ (ap (leb 1) (no_run 35 b bs plain refl))))
+  no_rank (b ∷ bs) first = let plain = first_plain b bs first in cond-false _ _ _ (and_left _ _ (and_left (leb 1 (run 35 (b ∷ bs))) _ (ap (leb 1) (no_run 35 b bs plain refl))))
 
   no_underline_of : (text : List ℕ) → begins_plain on text ≡ true → underline_of text ≡ None
   no_underline_of [] plain = let wrong : false ≡ true = plain in cc
-  no_underline_of (b ∷ bs) plain =
+  no_underline_of (b ∷ bs) first =
+      let plain = first_plain b bs first in
       cond-false _ _ _ (and_left (leb 1 (run 61 (b ∷ bs))) _ (ap (leb 1) (no_run 61 b bs plain refl)))
       ∙ cond-false _ _ _ (and_left (leb 1 (run 45 (b ∷ bs))) _ (ap (leb 1) (no_run 45 b bs plain refl)))
 
   no_break_text : (text : List ℕ) → begins_plain on text ≡ true → is_break_text text ≡ false
   no_break_text [] plain = let wrong : false ≡ true = plain in cc
-  no_break_text (b ∷ bs) plain =
+  no_break_text (b ∷ bs) first =
+      let plain = first_plain b bs first in
       and_left ((b == 42) || (b == 45) || (b == 95)) _
       (or_from ((b == 42) || (b == 45)) _ (or_from (b == 42) _ (other b 42 plain refl) (other b 45 plain refl)) (other b 95 plain refl))
 
@@ -198,7 +229,7 @@ module _ (on : Constructs) where
         front : (n : ℕ) → column_delimiter (take n (b ∷ bs)) ≡ None
         front zero = refl
         front (suc n) =
-            cond-false (begins_with (codes ":") (b ∷ take n bs)) _ _ (and_left (58 == b) _ (another b 58 plain (ap (λ t. not (t || false)) table)))
+            cond-false (begins_with (codes ":") (b ∷ take n bs)) _ _ (and_left (58 == b) _ (another b 58 plain (ap (λ t. not t) table)))
             ∙ cond-true (run 45 (b ∷ take n bs) == 0) _ _ (ap (λ k. k == 0) (no_run 45 b (take n bs) plain refl))
 
     -- nor is the first of some cells
@@ -222,8 +253,9 @@ module _ (on : Constructs) where
 
     no_delimiters : (text : List ℕ) → begins_plain on text ≡ true → delimiters text ≡ None
     no_delimiters [] plain = let wrong : false ≡ true = plain in cc
-    no_delimiters (b ∷ bs) plain =
-        let no_bar : is_bar false b ≡ false = and_left (b == 124) _ (other b 124 plain (ap (λ t. not (t || false)) table)) in
+    no_delimiters (b ∷ bs) first =
+        let plain = first_plain b bs first in
+        let no_bar : is_bar false b ≡ false = and_left (b == 124) _ (other b 124 plain (ap (λ t. not t) table)) in
         unless (list_any is_bar_or_colon (b ∷ bs)) _
         (ap (λ cs. some_alignments (alignments_of (without_blank_last (without_blank_first cs)))) (cond-false (is_bar false b) _ _ no_bar)
         ∙ in_first b (parts Whitespace (may_escape false b) bs) plain)

@@ -1,5 +1,5 @@
 -- The bytes of a container's marker, and those that it may begin with.
-use Rattle.std.specs.Prelude.{◌≡◌, ℕ, Bool, false, ◌==◌, ◌||◌, ◌&&◌, List, [], ◌∷◌}
+use Rattle.std.specs.Prelude.{◌≡◌, ℕ, Bool, false, ◌==◌, ◌||◌, ◌&&◌, List, [], ◌∷◌, drop}
 use Rattle.definition_text.specs.Ascii.{right_parenthesis, asterisk, plus, hyphen, dot, colon, greater_than, left_bracket, caret}
 use Rattle.definition_block.specs.ListItem.{is_digit}
 use Rattle.markdown_options.specs.declared.configuration.Constructs.{Constructs}
@@ -28,9 +28,18 @@ abbrev pub begins_with_bracket : Rest → Bool
 begins_with_bracket [] = false
 begins_with_bracket (c ∷ cs) = c == left_bracket
 
+-- with `^`
+abbrev pub begins_with_caret : Rest → Bool
+begins_with_caret [] = false
+begins_with_caret (c ∷ cs) = c == caret
+
+-- with `[^`
+abbrev pub begins_with_marker : Rest → Bool
+begins_with_marker rest = begins_with_bracket rest && begins_with_caret (drop 1 rest)
+
 -- a rest with which a footnote definition may start
 abbrev pub footnote_may_start : Constructs → Rest → Bool
-footnote_may_start on rest = on.gfm_footnote_definition && begins_with_bracket (bare rest)
+footnote_may_start on rest = on.gfm_footnote_definition && begins_with_marker (bare rest)
 
 -- or any container
 abbrev pub container_may_start : Constructs → Rest → Bool

@@ -7,7 +7,7 @@ ghost use Rattle.definition_text.specs.Columns.{whole, codes_from, indent, bare,
 ghost use Rattle.definition_text.specs.Indents.{outdent};
 ghost use Rattle.definition_block.specs.ListItem.{is_digit};
 ghost use Rattle.definition_block.specs.ThematicBreak.{is_break_text};
-ghost use Rattle.block_starts.specs.Marks.{NoMark, begins_container, begins_with_bracket, is_mark, may_start};
+ghost use Rattle.block_starts.specs.Marks.{NoMark, begins_container, begins_with_bracket, begins_with_caret, begins_with_marker, is_mark, may_start};
 ghost use Rattle.block_starts.specs.Widths.{width};
 ghost use Rattle.definition_inline.specs.Label.{ends_label};
 ghost use Rattle.block_starts.specs.Labels.{NoLabel, IsLabelBefore, label_len};
@@ -190,13 +190,34 @@ impl<'a> Cursor<'a> {
         self.white < bytes.len() && begins_container(bytes[self.white])
     }
 
+    /// Whether `[^` stands after the spaces and tabs ahead.
+    #[inline(always)]
+    pub(crate) fn begins_with_marker(&self) -> bool
+        ensures { result ≡ begins_with_marker (bare (rest_of self.now)) }
+    {
+        self.begins_with_bracket() && self.caret_follows()
+    }
+
     /// Whether a `[` stands after the spaces and tabs ahead.
     #[inline(always)]
-    pub(crate) fn begins_with_bracket(&self) -> bool
+    fn begins_with_bracket(&self) -> bool
         ensures { result ≡ begins_with_bracket (bare (rest_of self.now)) }
     {
         let bytes = self.text.as_bytes();
         self.white < bytes.len() && bytes[self.white] == b'['
+    }
+
+    /// Whether a `^` stands after the first byte behind the spaces and tabs ahead.
+    #[inline(always)]
+    fn caret_follows(&self) -> bool
+        ensures { result ≡ begins_with_caret (drop 1 (bare (rest_of self.now))) }
+    {
+        let bytes = self.text.as_bytes();
+        if self.white >= bytes.len() {
+            return false;
+        }
+        let next = self.white + 1;
+        next < bytes.len() && bytes[next] == b'^'
     }
 
     /// The next byte and the rest after it, where it is one of a container's marker, and no digit.

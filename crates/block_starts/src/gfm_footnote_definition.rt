@@ -25,12 +25,12 @@ pub(crate) struct FootnoteMarker<'a> {
     rest: Cursor<'a>,
 }
 
-/// Whether a footnote definition may start here: they are on, and the rest begins with `[`.
+/// Whether a footnote definition may start here: they are on, and the rest begins with `[^`.
 #[inline(always)]
 pub(crate) fn footnote_may_start(on: &Constructs, rest: &Cursor<'_>) -> bool
     ensures { result ≡ footnote_may_start on.now (rest_of rest.now) }
 {
-    on.gfm_footnote_definition && rest.begins_with_bracket()
+    on.gfm_footnote_definition && rest.begins_with_marker()
 }
 
 /// The footnote definition that starts here, and what it leaves of the line.

@@ -1,9 +1,9 @@
 //! Plain rests, with which nothing begins but text (CommonMark 4.8).
 //!
-//!     plain ::= column_of_space{0,3} byte_that_begins_no_block any*
+//!     plain ::= column_of_space{0,3} byte_that_begins_no_block any*, and no '[^' where footnotes are on
 ghost use Rattle.std.specs.Prelude.{◌≡◌, ◌<◌, ◌^◌, length};
 ghost use Rattle.definition_text.specs.Columns.{whole};
-ghost use Rattle.block_starts.specs.Plain.{begins_block, begins_extension, begins_plain, begins_standard_block, is_plain, is_plain_byte};
+ghost use Rattle.block_starts.specs.Plain.{begins_block, begins_extension, begins_footnote, begins_plain, begins_standard_block, is_plain, is_plain_byte};
 ghost use Rattle.block_starts.specs.View.{rest_of};
 
 use crate::cursor::Cursor;
@@ -32,8 +32,15 @@ fn begins_plain(on: &Constructs, text: &[u8]) -> bool
 {
     match text {
         [] => false,
-        [first, ..] => is_plain_byte(on, *first),
+        [first, others @ ..] => is_plain_byte(on, *first) && !begins_footnote(on, *first, others),
     }
+}
+
+/// Whether a footnote definition may begin with a byte and those after it, where these are on.
+fn begins_footnote(on: &Constructs, first: u8, others: &[u8]) -> bool
+    ensures { result ≡ begins_footnote on.now first others.now }
+{
+    first == b'[' && on.gfm_footnote_definition && matches!(others, [b'^', ..])
 }
 
 /// Whether a byte is no white space, and none that a block other than a paragraph may begin with.
@@ -59,15 +66,13 @@ fn begins_standard_block(byte: u8) -> bool
     ) || byte.is_ascii_digit()
 }
 
-/// Whether math, a row of delimiters or a footnote definition may begin with a byte, where these
-/// are on.
+/// Whether math or a row of delimiters may begin with a byte, where these are on.
 fn begins_extension(on: &Constructs, byte: u8) -> bool
     ensures { result ≡ begins_extension on.now byte }
 {
     match byte {
         b'$' => on.math_flow,
         b':' | b'|' => on.gfm_table,
-        b'[' => on.gfm_footnote_definition,
         _ => false,
     }
 }
