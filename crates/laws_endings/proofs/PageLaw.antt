@@ -27,7 +27,8 @@ use Rattle.definition_block.specs.Definitions.{document_definitions}
 use Rattle.definition_inline.specs.Targets.{is_footnote_of}
 use Rattle.definition_page.specs.Page.{Page}
 use Rattle.definition_page.specs.Pieces.{Piece}
-use Rattle.definition_page.specs.Layout.{LayoutState, layout_state, note_of, page_layout}
+use Rattle.definition_page.specs.Layout.{page_layout}
+use Rattle.html_bytes.specs.Layout.{LayoutState, layout_state, note_of}
 use Rattle.definition_page.specs.GfmFootnoteDefinition.{section_pieces}
 use Rattle.definition_page.specs.InlinePieces.{Meaning}
 use Rattle.definition_page.specs.BlockPieces.{at_top, fresh_unless, children_pieces}

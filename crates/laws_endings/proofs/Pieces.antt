@@ -10,7 +10,7 @@ use Rattle.markdown_options.specs.declared.configuration.CompileOptions.{Compile
 use Rattle.markdown_options.specs.LineEndings.{ending_bytes}
 use Rattle.definition_page.specs.Tags.{PrintedPart, said_bytes, Attribute, attribute_bytes, tag, tag_bytes, start_tag, end_tag, void_tag}
 use Rattle.definition_page.specs.Pieces.{Piece, Open, Close, Void, Says, Eol, Fresh, NoteStart, NoteEnd, is_fresh, print}
-use Rattle.definition_page.specs.Layout.{NoteCalls, LayoutState, layout_state, note_end, lay}
+use Rattle.html_bytes.specs.Layout.{NoteCalls, LayoutState, layout_state, note_end, lay}
 use Rattle.definition_page.specs.InlinePieces.{element}
 use Rattle.definition_page.proofs.PlainLayout.{ArePlain, plain_laid}
 use Rattle.laws_endings.specs.Endings.{with_ending}

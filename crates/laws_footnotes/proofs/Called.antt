@@ -5,7 +5,7 @@ use Rattle.std.proofs.lemmas.Bool.Decides.{eqb_tells}
 use Rattle.std.specs.List.{fold}
 use Rattle.markdown_options.specs.declared.configuration.CompileOptions.{CompileOptions}
 use Rattle.definition_page.specs.Pieces.{Piece, Open, Close, Void, Says, Eol, Fresh, CallOf, CountOf, NoteStart, NoteEnd, print}
-use Rattle.definition_page.specs.Layout.{NoteCalls, LayoutState, layout_state, latest_call, lay, note_end, note_of, once_more}
+use Rattle.html_bytes.specs.Layout.{NoteCalls, LayoutState, layout_state, latest_call, lay, note_end, note_of, once_more}
 use Rattle.definition_page.specs.GfmFootnoteDefinition.{section_pieces}
 use Rattle.laws_footnotes.specs.Footnotes.{calls_at, calls_of, laid_out, only_calls, NoCallLaw, CountedCallsLaw, CountLaw}
 

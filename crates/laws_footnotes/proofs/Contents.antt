@@ -3,7 +3,7 @@ use Rattle.std.proofs.Common.{◌≡◌, ℕ, List, [], ◌∷◌, ◌++◌, ref
 use Rattle.std.specs.List.{fold}
 use Rattle.markdown_options.specs.declared.configuration.CompileOptions.{CompileOptions}
 use Rattle.definition_page.specs.Pieces.{Piece, Open, Close, Void, Says, Eol, Fresh, CallOf, CountOf, NoteStart, NoteEnd}
-use Rattle.definition_page.specs.Layout.{LayoutState, layout_state, lay, note_end}
+use Rattle.html_bytes.specs.Layout.{LayoutState, layout_state, lay, note_end}
 use Rattle.laws_footnotes.specs.Footnotes.{HasNoNote, ContentLaw}
 
 -- pieces without a footnote keep the texts around

@@ -4,7 +4,7 @@ use Rattle.std.proofs.lemmas.Bool.{cond-true, cond-false}
 use Rattle.std.proofs.lemmas.Bool.Decides.{eqb_tells}
 use Rattle.std.specs.List.{fold}
 use Rattle.definition_page.specs.Pieces.{Piece, Open, Close, Void, Says, Eol, Fresh, CallOf, CountOf, NoteStart, NoteEnd}
-use Rattle.definition_page.specs.Layout.{NoteCalls, layout_state, once_more}
+use Rattle.html_bytes.specs.Layout.{NoteCalls, layout_state, once_more}
 use Rattle.laws_footnotes.specs.Footnotes.{calls_of, is_among, places, NumberLaw}
 use Rattle.laws_footnotes.proofs.Called.{all_called, called_by}
 

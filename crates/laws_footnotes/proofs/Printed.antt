@@ -6,7 +6,7 @@ use Rattle.std.proofs.lemmas.Bool.Decides.{eqb_tells}
 use Rattle.std.specs.List.{fold}
 use Rattle.markdown_options.specs.declared.configuration.CompileOptions.{CompileOptions}
 use Rattle.definition_page.specs.Pieces.{Piece, CallOf, print}
-use Rattle.definition_page.specs.Layout.{NoteCalls, LayoutState, layout_state, latest_call}
+use Rattle.html_bytes.specs.Layout.{NoteCalls, LayoutState, layout_state, latest_call}
 use Rattle.definition_page.specs.GfmLabelStartFootnote.{Call, call_pieces}
 use Rattle.laws_footnotes.specs.Footnotes.{calls_at, calls_of, laid_out}
 use Rattle.laws_footnotes.specs.Section.{NamedCall, named_call, named_calls, first_calls, number_by, label_by, PrintedCallLaw}

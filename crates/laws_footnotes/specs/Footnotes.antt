@@ -3,7 +3,8 @@ use Rattle.std.specs.Prelude.{◌≡◌, ℕ, suc, Bool, true, false, if◌then�
 use Rattle.std.specs.List.{fold}
 use Rattle.markdown_options.specs.declared.configuration.CompileOptions.{CompileOptions}
 use Rattle.definition_page.specs.Pieces.{Piece, CallOf, CountOf, NoteEnd, NoteStart}
-use Rattle.definition_page.specs.Layout.{NoteCalls, LayoutState, layout_state, latest_call, lay, page_layout}
+use Rattle.definition_page.specs.Layout.{page_layout}
+use Rattle.html_bytes.specs.Layout.{NoteCalls, LayoutState, layout_state, latest_call, lay}
 
 -- the places of the footnotes that these pieces call, in the order of the calls
 abbrev pub calls_of : List Piece → List ℕ

@@ -5,7 +5,8 @@ use Rattle.markdown_options.specs.declared.configuration.CompileOptions.{Compile
 use Rattle.definition_page.specs.Pieces.{Piece, CallOf, CountOf, NoteEnd, print}
 use Rattle.definition_page.specs.GfmLabelStartFootnote.{Call, call_pieces}
 use Rattle.definition_page.specs.GfmFootnoteDefinition.{Footnote, section_pieces}
-use Rattle.definition_page.specs.Layout.{NoteCalls, once_more, latest_call, LayoutState, layout_state, note_end, lay, note_of, page_layout}
+use Rattle.definition_page.specs.Layout.{page_layout}
+use Rattle.html_bytes.specs.Layout.{NoteCalls, once_more, latest_call, LayoutState, layout_state, note_end, lay, note_of}
 
 -- options that print calls and the section of footnotes alike
 pub record CallAlike (one another : CompileOptions) : Type 0 where

@@ -21,7 +21,8 @@ use Rattle.definition_page.specs.Page.{Page, Block, Paragraph, Heading, Break, I
 use Rattle.definition_page.specs.Page.{Footnote, Ending, Blank, Blocks, Nil as NoBlocks, Cons}
 use Rattle.definition_page.specs.InlinePieces.{Meaning, inline_counts, element, inline_pieces}
 use Rattle.definition_page.specs.GfmFootnoteDefinition.{Footnote as NoteWithCalls}
-use Rattle.definition_page.specs.Layout.{layout_state, lay, note_of, page_layout}
+use Rattle.definition_page.specs.Layout.{page_layout}
+use Rattle.html_bytes.specs.Layout.{layout_state, lay, note_of}
 use Rattle.definition_page.specs.BlockPieces.{checkable_attributes, done_attributes, check_tag, check_pieces, Place, at_top, inside, code_line, html_line, says}
 use Rattle.definition_page.specs.BlockPieces.{heading_name, info_attributes, list_tag, is_silent, last_visible, ends_plainly, fresh_unless, fenced_pieces}
 use Rattle.definition_page.specs.BlockPieces.{block_pieces, children_pieces, document_pieces}
