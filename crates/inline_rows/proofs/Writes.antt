@@ -6,10 +6,11 @@ use Rattle.std.proofs.lemmas.List.{append-nil, length-map, length-append, length
 use Rattle.std.proofs.lemmas.List.{take_at, drop_at, drop_all, take-append-drop, take-map, drop-map, take-replicate, drop-replicate}
 use Rattle.std.proofs.lemmas.List.Concat.{flat_map-append}
 use borrow.Rule.Slice.PartMut.{put_mid}
-use Rattle.definition_inline.specs.Inline.{Target, LinkTexts, Data}
+use Rattle.definition_inline.specs.Inline as inline
+use Rattle.definition_inline.specs.Inline.{Target, LinkTexts}
 use Rattle.inline_rows.specs.InlineRows as rows
 use Rattle.definition_inline.specs.GfmStrikethrough.{is_tilde}
-use Rattle.definition_inline.specs.Spans.{Holds, Opens, Closes, IsEmphasis, IsStrong, IsStrikethrough, span_of}
+use Rattle.definition_inline.specs.Spans.{Holds, Opens, Closes, span_of}
 use Rattle.definition_inline.proofs.DefinitionParts.{cons_nil}
 use Rattle.inline_runs.specs.View.{bytes_by, pair_view, span_by, span_view}
 use Rattle.inline_runs.specs.Paired.{rows_of}
@@ -98,7 +99,7 @@ span_is : (marker : ℕ) (p : Pair) → span_view (span_by marker p.double) ≡ 
 span_is marker p = by_case (is_tilde marker) p.double
   where
     by_case : (tilde double : Bool)
-        → span_view (cond tilde Strikethrough (cond double Strong Emphasis)) ≡ cond tilde IsStrikethrough (cond (bytes_by double == 2) IsStrong IsEmphasis)
+        → span_view (cond tilde Strikethrough (cond double Strong Emphasis)) ≡ cond tilde inline.Strikethrough (cond (bytes_by double == 2) inline.Strong inline.Emphasis)
     by_case true double = refl
     by_case false true = refl
     by_case false false = refl
@@ -117,7 +118,7 @@ module _ (leads : Target → LinkTexts) (at : ℕ → LinkTexts) where
   blank_view blank zero none = refl
   blank_view blank (suc n) none = ap (λ xs. xs ++ rows_view at (replicate n blank)) none ∙ blank_view blank n none
 
-  byte_view : (row : InlineRow) (marker : ℕ) → text_of row ≡ marker ∷ [] → row_view at row ≡ rows.Part (Data marker) ∷ []
+  byte_view : (row : InlineRow) (marker : ℕ) → text_of row ≡ marker ∷ [] → row_view at row ≡ rows.Part (inline.Data marker) ∷ []
   byte_view (Text text) marker is = ap data_rows is
   byte_view (Verbatim verbatim) marker is = absurd (cons_nil marker [] (sym is))
   byte_view (Leaf part) marker is = absurd (cons_nil marker [] (sym is))
@@ -128,7 +129,7 @@ module _ (leads : Target → LinkTexts) (at : ℕ → LinkTexts) where
   byte_view Exit marker is = absurd (cons_nil marker [] (sym is))
 
   bytes_view : (kept : List InlineRow) (marker n : ℕ) → map text_of kept ≡ replicate n (marker ∷ [])
-      → rows_view at kept ≡ told_rows leads (replicate n (Holds (Data marker)))
+      → rows_view at kept ≡ told_rows leads (replicate n (Holds (inline.Leaf (inline.Data marker))))
   bytes_view [] marker zero is = refl
   bytes_view [] marker (suc n) is = let size = ap length is in absurd (omega arith)
   bytes_view (row ∷ kept) marker zero is = let size = ap length is in absurd (omega arith)
@@ -148,7 +149,7 @@ module _ (leads : Target → LinkTexts) (at : ℕ → LinkTexts) where
       let closed = length spans.closed.now in
       let kept = take spans.text (drop closed old) in
       let ends = map (λ (p : Pair). Closes) spans.closed.now in
-      let texts = replicate spans.text (Holds (Data marker)) in
+      let texts = replicate spans.text (Holds (inline.Leaf (inline.Data marker))) in
       let starts = map (λ (p : Pair). Opens (span_of marker (pair_view p))) spans.opened.now in
       let are_bytes : map text_of kept ≡ replicate spans.text (marker ∷ []) =
       sym (take-map text_of spans.text (drop closed old)) ∙ ap (take spans.text)
