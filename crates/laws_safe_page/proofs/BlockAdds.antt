@@ -15,7 +15,7 @@ use Rattle.markdown_options.specs.declared.align_kind.AlignKind.{AlignKind}
 use Rattle.markdown_options.specs.declared.align_kind.AlignKind.TheVariants as kind
 use Rattle.definition_page.specs.GfmTable.{TableRow, Table as TableOf, align_attributes, cell_pieces, cells_pieces, row_pieces, ending_piece, body_row_pieces}
 use Rattle.definition_page.specs.GfmTable.{head_pieces, body_pieces, table_pieces}
-use Rattle.definition_page.specs.Tags.{Words, Number, Tag, tag, bare_tag, attribute}
+use Rattle.definition_page.specs.Tags.{Words, Number, Tag, tag, bare_tag}
 use Rattle.definition_page.specs.Pieces.{Piece, Void, Says, Eol, Fresh}
 use Rattle.definition_page.specs.Page.{Page, Block, Paragraph, Heading, Break, IndentedCode, FencedCode, Html, Table, Definition, Quote, ItemList, Item}
 use Rattle.definition_page.specs.Page.{Footnote, Ending, Blank, Blocks, Nil as NoBlocks, Cons}
