@@ -5,7 +5,7 @@ pub mod LinkRenaming
 pub mod DefinitionParts
 pub mod DefinitionAlone
 pub mod NearestOpener
-pub mod ClosingRuns
+pub mod PairBytes
 pub mod InlineSizes
 pub mod GfmAutolinkLiteral
 pub mod LabelPairs
