@@ -1,6 +1,7 @@
 pub mod RunPairs
 pub mod NextPair
 pub mod Scanning
+pub mod PartSteps
 pub mod LinkRenaming
 pub mod DefinitionParts
 pub mod DefinitionAlone
