@@ -3,7 +3,6 @@ ghost use Rattle.laws_escape.specs.Escaped.{EscapeLaw, StringEscapeLaw};
 
 /// Where escapes are on, a line without tabs and without a space at either end, with a backslash
 /// before each ASCII punctuation byte, prints itself as text.
-#[tactic(auto, using(crate::proofs::Escaped::escape_law))]
 pub fn escape_law()
     ensures { EscapeLaw }
 {}
