@@ -6,6 +6,7 @@ pub mod Title
 pub mod Definition
 pub mod LabelMatch
 pub mod Inline
+pub mod EachPart
 pub mod Targets
 pub mod CharacterEscape
 pub mod CharacterReference
@@ -27,6 +28,7 @@ pub mod NextPair
 pub mod Spans
 pub mod Scan
 pub mod LabelPairs
+pub mod MayStand
 pub mod Strings
 pub mod ReferenceRows
 pub mod BuiltinReferences
