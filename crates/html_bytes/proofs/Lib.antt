@@ -4,7 +4,6 @@ pub mod SameLayout
 pub mod SamePrint
 pub mod SameCalls
 pub mod SameText
-pub mod SameTable
 pub mod SameFootnotes
 pub mod SameBlocks
 pub mod SamePage

@@ -7,6 +7,7 @@ use Rattle.std.proofs.lemmas.List.{append-nil}
 use Rattle.std.proofs.lemmas.List.Sums.{fold-append}
 use Rattle.std.proofs.lemmas.List.Concat.{flat_map-append}
 use Rattle.markdown_options.specs.declared.line_ending.LineEnding.{LineEnding}
+use Rattle.markdown_options.specs.declared.line_ending.LineEnding.TheVariants.{CarriageReturnLineFeed, CarriageReturn, LineFeed}
 use Rattle.markdown_options.specs.LineEndings.{ending_bytes}
 use Rattle.markdown_options.specs.declared.configuration.CompileOptions.{CompileOptions}
 use Rattle.markdown_options.specs.declared.configuration.Options.{Options}
@@ -23,6 +24,7 @@ use Rattle.definition_inline.specs.Targets.{Targets}
 use Rattle.definition_page.specs.TextTables.{TextTables}
 use Rattle.definition_page.specs.Tags.{Words, Number, said_bytes, Attribute, Tag, tag, bare_tag, start_tag, end_tag, attribute_bytes}
 use Rattle.definition_page.specs.Pieces.{Piece, Close, Says, Eol, Fresh, NoteEnd}
+use Rattle.definition_page.specs.GfmTable.{table_pieces}
 use Rattle.html_bytes.specs.Layout.{LayoutState, layout_state}
 use Rattle.html_bytes.proofs.LayoutSteps.{lay}
 use Rattle.definition_page.specs.InlinePieces.{Meaning, element, inline_pieces}
@@ -37,7 +39,6 @@ use Rattle.html_bytes.specs.Document.{Document, document, reading_of, document_m
 use Rattle.html_bytes.specs.Layout as bytes_layout
 use Rattle.html_bytes.specs.Pieces as bytes
 use Rattle.html_bytes.specs.Html as old
-use Rattle.html_bytes.proofs.SameTable.{end_said, ending_said, table_same}
 use Rattle.html_bytes.proofs.SameLayout.{Same, Adds, add, fresh, add_nil, add_add, none_same, joined, after_fresh, after_added, element_same, element_with}
 use Rattle.html_bytes.proofs.SameLayout.{says_added}
 use Rattle.html_bytes.proofs.SameText.{pieces_same}
@@ -48,9 +49,20 @@ use Rattle.html_bytes.proofs.SameText.{pieces_same}
 one_attribute : (start v quote : List ℕ) → start ++ (v ++ []) ++ quote ++ [] ≡ start ++ v ++ quote
 one_attribute start v quote = append-nil (start ++ (v ++ []) ++ quote) ∙ ap (λ x. start ++ x ++ quote) (append-nil v)
 
+-- ---- endings
+
+ending_said : (ending : LineEnding) → encode (ending_bytes ending) ≡ ending_bytes ending
+ending_said LineFeed = refl
+ending_said CarriageReturn = refl
+ending_said CarriageReturnLineFeed = refl
+
+pub end_said : (ending : Option LineEnding) → encode (ending_text ending) ≡ ending_text ending
+end_said None = refl
+end_said (Some ending) = ending_said ending
+
 -- ---- lines
 
-code_line_said : (line : BlockLine) → flat_map said_bytes (code_line line) ≡ old.code_line line
+code_line_said : (line : BlockLine) → flat_map said_bytes (code_line line) ≡ old.code_line_bytes line
 code_line_said line = ap (λ x. encode (map code_byte line.codes) ++ x) (append-nil (encode (ending_text line.ending)) ∙ end_said line.ending)
 
 code_said : (ls : List BlockLine) → flat_map said_bytes (flat_map code_line ls) ≡ old.code_of ls
@@ -58,9 +70,9 @@ code_said [] = refl
 code_said (l ∷ ls) =
     flat_map-append said_bytes (code_line l) (flat_map code_line ls)
     ∙ ap (λ x. x ++ flat_map said_bytes (flat_map code_line ls)) (code_line_said l)
-    ∙ ap (λ x. old.code_line l ++ x) (code_said ls)
+    ∙ ap (λ x. old.code_line_bytes l ++ x) (code_said ls)
 
-html_line_said : (options : CompileOptions) (line : BlockLine) → flat_map said_bytes (html_line options line) ≡ old.html_line options line
+html_line_said : (options : CompileOptions) (line : BlockLine) → flat_map said_bytes (html_line options line) ≡ old.html_line_bytes options line
 html_line_said options line =
     ap (λ x. raw_bytes options (bytes_of line.codes) ++ x) (append-nil (encode (ending_text line.ending)) ∙ end_said line.ending)
 
@@ -69,7 +81,7 @@ html_said options [] = refl
 html_said options (l ∷ ls) =
     flat_map-append said_bytes (html_line options l) (flat_map (html_line options) ls)
     ∙ ap (λ x. x ++ flat_map said_bytes (flat_map (html_line options) ls)) (html_line_said options l)
-    ∙ ap (λ x. old.html_line options l ++ x) (html_said options ls)
+    ∙ ap (λ x. old.html_line_bytes options l ++ x) (html_said options ls)
 
 code_added : (options : CompileOptions) (default : List ℕ) (ls : List BlockLine) → Adds options default (says (flat_map code_line ls)) (old.code_of ls)
 code_added options default ls l = says_added options default (flat_map code_line ls) l ∙ ap (add l) (code_said ls)
@@ -198,7 +210,7 @@ module _ (default : List ℕ) (options : Options) (tables : TextTables) (ds : Ta
 
   paragraph_same : (s : Standing) (tight silent : Bool) (before : Option page.Block) (ls : List BlockLine)
       → Alike (block_pieces m (place_in s tight) before (page.Paragraph (read_paragraph r s.first ls)))
-      (old.block_pieces d s tight silent (tree.Paragraph ls))
+      (old.block_bytes d s tight silent (tree.Paragraph ls))
   paragraph_same s tight silent before ls =
       let is = read_paragraph r s.first ls in tight_same (inline_pieces m is) (structure_pieces d is) (structure_same is) tight
 
@@ -207,14 +219,14 @@ module _ (default : List ℕ) (options : Options) (tables : TextTables) (ds : Ta
   class_same (b ∷ bs) = ap (λ x. codes "<code" ++ x ++ codes ">") (one_attribute (codes " class=\"language-") (encode (info_of d (b ∷ bs))) (codes "\""))
 
   indented_same : (place : Place) (s : Standing) (tight silent : Bool) (before : Option page.Block) (ls : List BlockLine)
-      → Alike (block_pieces m place before (page.IndentedCode ls)) (old.block_pieces d s tight silent (tree.IndentedCode ls))
+      → Alike (block_pieces m place before (page.IndentedCode ls)) (old.block_bytes d s tight silent (tree.IndentedCode ls))
   indented_same place s tight silent before ls l =
       code_element options.compile default (bare_tag (codes "code")) (codes "<code>") (says (flat_map code_line ls) ++ Fresh ∷ [])
       (bytes.Bytes (old.code_of ls) ∷ bytes.Fresh ∷ []) refl refl (lines_same options.compile default ls) (fresh default l)
 
   fence_same : (s : Standing) (tight silent : Bool) (before : Option page.Block) (info : List ℕ) (is_closed : Bool) (ls : List BlockLine)
       → Alike (block_pieces m (place_in s tight) before (page.FencedCode (info_text r info) is_closed (code_lines s.top is_closed ls)))
-      (old.block_pieces d s tight silent (tree.FencedCode info is_closed ls))
+      (old.block_bytes d s tight silent (tree.FencedCode info is_closed ls))
   fence_same s tight silent before info is_closed ls l =
       let code = tag (codes "code") (info_attributes (info_text r info)) in
       let start = codes "<code" ++ old.class_of d info ++ codes ">" in
@@ -288,13 +300,13 @@ module _ (default : List ℕ) (options : Options) (tables : TextTables) (ds : Ta
 
   quote_same : (s : Standing) (tight silent : Bool) (before : Option page.Block) (kids : tree.Blocks)
       → Alike (children_pieces m (record { top = false; tight = false }) None (read_blocks r in_container kids))
-      (old.children_pieces d in_container false false kids)
+      (old.children_bytes d in_container false false kids)
       → Alike (block_pieces m (place_in s tight) before (page.Quote (read_blocks r in_container kids)))
-      (old.block_pieces d s tight silent (tree.Holds Quote kids))
+      (old.block_bytes d s tight silent (tree.Holds Quote kids))
   quote_same s tight silent before kids same l =
       let inside = children_pieces m (record { top = false; tight = false }) None (read_blocks r in_container kids) in
       element_with options.compile default (bare_tag (codes "blockquote")) (codes "<blockquote>") (codes "</blockquote>") inside (Fresh ∷ [])
-      (old.children_pieces d in_container false false kids) (bytes.Fresh ∷ []) refl refl same (fresh_last options.compile default) (fresh default l)
+      (old.children_bytes d in_container false false kids) (bytes.Fresh ∷ []) refl refl same (fresh_last options.compile default) (fresh default l)
 
   -- what an item ends with
   item_last : (tight : Bool) (kids : tree.Blocks)
@@ -304,12 +316,12 @@ module _ (default : List ℕ) (options : Options) (tables : TextTables) (ds : Ta
       ∙ fresh_same options.compile default (old.ends_tight tight true kids) l
 
   item_same : (s : Standing) (tight silent : Bool) (before : Option page.Block) (item : ItemOf) (kids : tree.Blocks)
-      → Alike (children_pieces m (record { top = false; tight = tight }) None (read_blocks r in_item kids)) (old.children_pieces d in_item tight false kids)
+      → Alike (children_pieces m (record { top = false; tight = tight }) None (read_blocks r in_item kids)) (old.children_bytes d in_item tight false kids)
       → Alike (block_pieces m (place_in s tight) before (page.Item (read_blocks r in_item kids)))
-      (old.block_pieces d s tight silent (tree.Holds (Item item) kids))
+      (old.block_bytes d s tight silent (tree.Holds (Item item) kids))
   item_same s tight silent before item kids same l =
       let inside = children_pieces m (record { top = false; tight = tight }) None (read_blocks r in_item kids) in
-      let shown = old.children_pieces d in_item tight false kids in
+      let shown = old.children_bytes d in_item tight false kids in
       let last = old.fresh_unless (old.ends_tight tight true kids) in
       element_with options.compile default (bare_tag (codes "li")) (codes "<li>") (codes "</li>") inside
       (fresh_unless (ends_plainly tight (last_visible None (read_blocks r in_item kids)))) shown last refl refl same (item_last tight kids) (fresh default l)
@@ -318,26 +330,26 @@ module _ (default : List ℕ) (options : Options) (tables : TextTables) (ds : Ta
 
   list_same : (s : Standing) (tight silent : Bool) (before : Option page.Block) (items : tree.Blocks)
       → Alike (children_pieces m (record { top = false; tight = not (is_loose items) }) None (read_blocks r in_container items))
-      (old.children_pieces d in_container (not (is_loose items)) false items)
+      (old.children_bytes d in_container (not (is_loose items)) false items)
       → Alike (block_pieces m (place_in s tight) before
       (page.ItemList (list_number items) (is_loose items) (read_blocks r in_container items)))
-      (old.block_pieces d s tight silent (tree.Items items))
+      (old.block_bytes d s tight silent (tree.Items items))
   list_same s tight silent before items same l =
       let number = list_number items in
       let inside = children_pieces m (record { top = false; tight = not (is_loose items) }) None (read_blocks r in_container items) in
       element_with options.compile default (list_tag number) (old.number_tag number) (old.number_end number) inside (Eol ∷ [])
-      (old.children_pieces d in_container (not (is_loose items)) false items) (bytes.Eol ∷ []) (start_same number) (end_same number) same (λ l. refl)
+      (old.children_bytes d in_container (not (is_loose items)) false items) (bytes.Eol ∷ []) (start_same number) (end_same number) same (λ l. refl)
       (fresh default l)
 
   -- the definition of a footnote: its content is laid out by itself
   footnote_same : (s : Standing) (tight silent : Bool) (before : Option page.Block) (label : List ℕ) (kids : tree.Blocks)
       → Alike (children_pieces m (record { top = false; tight = false }) None (read_blocks r in_container kids))
-      (old.children_pieces d in_container false false kids)
+      (old.children_bytes d in_container false false kids)
       → Alike (block_pieces m (place_in s tight) before (page.Footnote label (read_blocks r in_container kids)))
-      (old.block_pieces d s tight silent (tree.Holds (Footnote label) kids))
+      (old.block_bytes d s tight silent (tree.Holds (Footnote label) kids))
   footnote_same s tight silent before label kids same l =
       joined options.compile default (children_pieces m (record { top = false; tight = false }) None (read_blocks r in_container kids)) (NoteEnd ∷ [])
-      (old.children_pieces d in_container false false kids) (bytes.NoteEnd ∷ []) same (λ l. refl) (layout_state [] (l.text ∷ l.outer) l.notes l.called)
+      (old.children_bytes d in_container false false kids) (bytes.NoteEnd ∷ []) same (λ l. refl) (layout_state [] (l.text ∷ l.outer) l.notes l.called)
 
   -- ---- all blocks
 
@@ -351,19 +363,19 @@ module _ (default : List ℕ) (options : Options) (tables : TextTables) (ds : Ta
   -- siblings print the same, where an ending that comes first is as silent
   abbrev AreSame : Standing → Bool → tree.Blocks → Type 0
   AreSame s tight bs = (silent : Bool) (before : Option page.Block) → is_silent (place_in s tight) before ≡ silent
-      → Alike (children_pieces m (place_in s tight) before (read_blocks r s bs)) (old.children_pieces d s tight silent bs)
+      → Alike (children_pieces m (place_in s tight) before (read_blocks r s bs)) (old.children_bytes d s tight silent bs)
 
   -- the same after fenced code at the top that isn't closed, the last ending of which is its own
   abbrev AreSameAfter : Standing → Bool → tree.Blocks → Type 0
   AreSameAfter s tight bs = (before : Option page.Block) → is_silent (place_in s tight) before ≡ false
-      → Alike (children_pieces m (place_in s tight) before (without_ending (read_blocks r s bs))) (old.children_pieces d s tight true bs)
+      → Alike (children_pieces m (place_in s tight) before (without_ending (read_blocks r s bs))) (old.children_bytes d s tight true bs)
 
   after_same : (first top tight is_closed : Bool) (bs : tree.Blocks) → AreSame (record { top = top; first = first }) tight bs
       → AreSameAfter (record { top = top; first = first }) tight bs
       → (before : Option page.Block) → is_silent (record { top = top; tight = tight }) before ≡ false
       → Alike (children_pieces m (record { top = top; tight = tight }) before
       (after_code top is_closed (read_blocks r (record { top = top; first = first }) bs)))
-      (old.children_pieces d (record { top = top; first = first }) tight (top && not is_closed) bs)
+      (old.children_bytes d (record { top = top; first = first }) tight (top && not is_closed) bs)
   after_same first true tight true bs same after before h l = same false before h l
   after_same first true tight false bs same after before h l = after before h l
   after_same first false tight true bs same after before h l = same false before h l
@@ -372,7 +384,7 @@ module _ (default : List ℕ) (options : Options) (tables : TextTables) (ds : Ta
   -- siblings that begin with a block, before which no ending is silent
   abbrev EachSame : Standing → Bool → tree.Blocks → Type 0
   EachSame s tight bs = (silent : Bool) (before : Option page.Block)
-      → Alike (children_pieces m (place_in s tight) before (read_blocks r s bs)) (old.children_pieces d s tight silent bs)
+      → Alike (children_pieces m (place_in s tight) before (read_blocks r s bs)) (old.children_bytes d s tight silent bs)
 
   -- both, by the same steps
   abbrev AreSameTwice : Standing → Bool → tree.Blocks → Type 0
@@ -388,28 +400,28 @@ module _ (default : List ℕ) (options : Options) (tables : TextTables) (ds : Ta
       let is = read_paragraph r s.first ls in
       let each : EachSame s tight (tree.Cons (tree.Paragraph ls) bs) = λ silent before l.
       siblings (place_in s tight) before (page.Paragraph is) (read_blocks r (next_standing s (tree.Paragraph ls)) bs)
-      (old.block_pieces d s tight silent (tree.Paragraph ls)) (old.children_pieces d (next_standing s (tree.Paragraph ls)) tight tight bs)
+      (old.block_bytes d s tight silent (tree.Paragraph ls)) (old.children_bytes d (next_standing s (tree.Paragraph ls)) tight tight bs)
       (paragraph_same s tight silent before ls)
       ((twice (next_standing s (tree.Paragraph ls)) tight bs).0 tight (Some (page.Paragraph is)) refl) l in
       each_twice s tight (tree.Paragraph ls) bs each (λ before h l. each true before l)
   twice s tight (tree.Cons (tree.Heading rank ls) bs) =
       let each : EachSame s tight (tree.Cons (tree.Heading rank ls) bs) = λ silent before l.
       siblings (place_in s tight) before (page.Heading rank (read_text r ls)) (read_blocks r (next_standing s (tree.Heading rank ls)) bs)
-      (old.block_pieces d s tight silent (tree.Heading rank ls)) (old.children_pieces d (next_standing s (tree.Heading rank ls)) tight false bs)
+      (old.block_bytes d s tight silent (tree.Heading rank ls)) (old.children_bytes d (next_standing s (tree.Heading rank ls)) tight false bs)
       (heading_same rank ls)
       ((twice (next_standing s (tree.Heading rank ls)) tight bs).0 false (Some (page.Heading rank (read_text r ls))) refl) l in
       each_twice s tight (tree.Heading rank ls) bs each (λ before h l. each true before l)
   twice s tight (tree.Cons tree.Break bs) =
       let each : EachSame s tight (tree.Cons tree.Break bs) = λ silent before l.
       siblings (place_in s tight) before (page.Break) (read_blocks r (next_standing s tree.Break) bs)
-      (old.block_pieces d s tight silent tree.Break) (old.children_pieces d (next_standing s tree.Break) tight false bs)
+      (old.block_bytes d s tight silent tree.Break) (old.children_bytes d (next_standing s tree.Break) tight false bs)
       (λ o. refl)
       ((twice (next_standing s tree.Break) tight bs).0 false (Some (page.Break)) refl) l in
       each_twice s tight tree.Break bs each (λ before h l. each true before l)
   twice s tight (tree.Cons (tree.IndentedCode ls) bs) =
       let each : EachSame s tight (tree.Cons (tree.IndentedCode ls) bs) = λ silent before l.
       siblings (place_in s tight) before (page.IndentedCode ls) (read_blocks r (next_standing s (tree.IndentedCode ls)) bs)
-      (old.block_pieces d s tight silent (tree.IndentedCode ls)) (old.children_pieces d (next_standing s (tree.IndentedCode ls)) tight false bs)
+      (old.block_bytes d s tight silent (tree.IndentedCode ls)) (old.children_bytes d (next_standing s (tree.IndentedCode ls)) tight false bs)
       (indented_same (place_in s tight) s tight silent before ls)
       ((twice (next_standing s (tree.IndentedCode ls)) tight bs).0 false (Some (page.IndentedCode ls)) refl) l in
       each_twice s tight (tree.IndentedCode ls) bs each (λ before h l. each true before l)
@@ -417,8 +429,8 @@ module _ (default : List ℕ) (options : Options) (tables : TextTables) (ds : Ta
       let each : EachSame s tight (tree.Cons (tree.FencedCode info is_closed ls) bs) = λ silent before l.
       siblings (place_in s tight) before (page.FencedCode (info_text r info) is_closed (code_lines s.top is_closed ls))
       (after_code s.top is_closed (read_blocks r (next_standing s (tree.FencedCode info is_closed ls)) bs))
-      (old.block_pieces d s tight silent (tree.FencedCode info is_closed ls))
-      (old.children_pieces d (next_standing s (tree.FencedCode info is_closed ls)) tight (s.top && not is_closed) bs)
+      (old.block_bytes d s tight silent (tree.FencedCode info is_closed ls))
+      (old.children_bytes d (next_standing s (tree.FencedCode info is_closed ls)) tight (s.top && not is_closed) bs)
       (fence_same s tight silent before info is_closed ls)
       (after_same (s.first && false) s.top tight is_closed bs (twice (next_standing s (tree.FencedCode info is_closed ls)) tight bs).0
       (twice (next_standing s (tree.FencedCode info is_closed ls)) tight bs).1
@@ -427,36 +439,36 @@ module _ (default : List ℕ) (options : Options) (tables : TextTables) (ds : Ta
   twice s tight (tree.Cons (tree.Html ls) bs) =
       let each : EachSame s tight (tree.Cons (tree.Html ls) bs) = λ silent before l.
       siblings (place_in s tight) before (page.Html ls) (read_blocks r (next_standing s (tree.Html ls)) bs)
-      (old.block_pieces d s tight silent (tree.Html ls)) (old.children_pieces d (next_standing s (tree.Html ls)) tight false bs)
+      (old.block_bytes d s tight silent (tree.Html ls)) (old.children_bytes d (next_standing s (tree.Html ls)) tight false bs)
       (λ l. html_added options.compile default ls (fresh default l))
       ((twice (next_standing s (tree.Html ls)) tight bs).0 false (Some (page.Html ls)) refl) l in
       each_twice s tight (tree.Html ls) bs each (λ before h l. each true before l)
   twice s tight (tree.Cons (tree.Table ls) bs) =
       let each : EachSame s tight (tree.Cons (tree.Table ls) bs) = λ silent before l.
       siblings (place_in s tight) before (page.Table (read_table r ls)) (read_blocks r (next_standing s (tree.Table ls)) bs)
-      (old.block_pieces d s tight silent (tree.Table ls)) (old.children_pieces d (next_standing s (tree.Table ls)) tight false bs)
-      (table_same default options tables ds ls)
+      (old.block_bytes d s tight silent (tree.Table ls)) (old.children_bytes d (next_standing s (tree.Table ls)) tight false bs)
+      (pieces_same options.compile default (table_pieces m (read_table r ls)))
       ((twice (next_standing s (tree.Table ls)) tight bs).0 false (Some (page.Table (read_table r ls))) refl) l in
       each_twice s tight (tree.Table ls) bs each (λ before h l. each true before l)
   twice s tight (tree.Cons (tree.Definition label destination title) bs) =
       let each : EachSame s tight (tree.Cons (tree.Definition label destination title) bs) = λ silent before l.
       siblings (place_in s tight) before (page.Definition) (read_blocks r (next_standing s (tree.Definition label destination title)) bs)
-      (old.block_pieces d s tight silent (tree.Definition label destination title))
-      (old.children_pieces d (next_standing s (tree.Definition label destination title)) tight true bs)
+      (old.block_bytes d s tight silent (tree.Definition label destination title))
+      (old.children_bytes d (next_standing s (tree.Definition label destination title)) tight true bs)
       (λ o. refl)
       ((twice (next_standing s (tree.Definition label destination title)) tight bs).0 true (Some (page.Definition)) refl) l in
       each_twice s tight (tree.Definition label destination title) bs each (λ before h l. each true before l)
   twice s tight (tree.Cons (tree.Holds Quote kids) bs) =
       let each : EachSame s tight (tree.Cons (tree.Holds Quote kids) bs) = λ silent before l.
       siblings (place_in s tight) before (page.Quote (read_blocks r in_container kids)) (read_blocks r (next_standing s (tree.Holds Quote kids)) bs)
-      (old.block_pieces d s tight silent (tree.Holds Quote kids)) (old.children_pieces d (next_standing s (tree.Holds Quote kids)) tight false bs)
+      (old.block_bytes d s tight silent (tree.Holds Quote kids)) (old.children_bytes d (next_standing s (tree.Holds Quote kids)) tight false bs)
       (quote_same s tight silent before kids ((twice in_container false kids).0 false None refl))
       ((twice (next_standing s (tree.Holds Quote kids)) tight bs).0 false (Some (page.Quote (read_blocks r in_container kids))) refl) l in
       each_twice s tight (tree.Holds Quote kids) bs each (λ before h l. each true before l)
   twice s tight (tree.Cons (tree.Holds (Item item) kids) bs) =
       let each : EachSame s tight (tree.Cons (tree.Holds (Item item) kids) bs) = λ silent before l.
       siblings (place_in s tight) before (page.Item (read_blocks r in_item kids)) (read_blocks r (next_standing s (tree.Holds (Item item) kids)) bs)
-      (old.block_pieces d s tight silent (tree.Holds (Item item) kids)) (old.children_pieces d (next_standing s (tree.Holds (Item item) kids)) tight false bs)
+      (old.block_bytes d s tight silent (tree.Holds (Item item) kids)) (old.children_bytes d (next_standing s (tree.Holds (Item item) kids)) tight false bs)
       (item_same s tight silent before item kids ((twice in_item tight kids).0 false None refl))
       ((twice (next_standing s (tree.Holds (Item item) kids)) tight bs).0 false (Some (page.Item (read_blocks r in_item kids))) refl) l in
       each_twice s tight (tree.Holds (Item item) kids) bs each (λ before h l. each true before l)
@@ -465,7 +477,7 @@ module _ (default : List ℕ) (options : Options) (tables : TextTables) (ds : Ta
       let shown = page.Footnote label (read_blocks r in_container kids) in
       let each : EachSame s tight (tree.Cons b bs) = λ silent before l.
       siblings (place_in s tight) before shown (read_blocks r (next_standing s b) bs)
-      (old.block_pieces d s tight silent b) (old.children_pieces d (next_standing s b) tight true bs)
+      (old.block_bytes d s tight silent b) (old.children_bytes d (next_standing s b) tight true bs)
       (footnote_same s tight silent before label kids ((twice in_container false kids).0 false None refl))
       ((twice (next_standing s b) tight bs).0 true (Some shown) refl) l in
       each_twice s tight b bs each (λ before h l. each true before l)
@@ -473,20 +485,20 @@ module _ (default : List ℕ) (options : Options) (tables : TextTables) (ds : Ta
       let each : EachSame s tight (tree.Cons (tree.Items items) bs) = λ silent before l.
       siblings (place_in s tight) before (page.ItemList (list_number items) (is_loose items) (read_blocks r in_container items))
       (read_blocks r (next_standing s (tree.Items items)) bs)
-      (old.block_pieces d s tight silent (tree.Items items)) (old.children_pieces d (next_standing s (tree.Items items)) tight false bs)
+      (old.block_bytes d s tight silent (tree.Items items)) (old.children_bytes d (next_standing s (tree.Items items)) tight false bs)
       (list_same s tight silent before items ((twice in_container (not (is_loose items)) items).0 false None refl))
       ((twice (next_standing s (tree.Items items)) tight bs).0 false
       (Some (page.ItemList (list_number items) (is_loose items) (read_blocks r in_container items))) refl) l in
       each_twice s tight (tree.Items items) bs each (λ before h l. each true before l)
   twice s tight (tree.Cons (tree.Ending None) bs) = (
     λ silent before h l. (twice (next_standing s (tree.Ending None)) tight bs).0 silent before h l ∙ no_ending options.compile default silent
-        (old.children_pieces d (next_standing s (tree.Ending None)) tight silent bs) l,
+        (old.children_bytes d (next_standing s (tree.Ending None)) tight silent bs) l,
     (twice (next_standing s (tree.Ending None)) tight bs).1,
   )
   twice s tight (tree.Cons (tree.Ending (Some ending)) bs) = (
     λ silent before h l.
         siblings (place_in s tight) before (page.Ending ending) (read_blocks r (next_standing s (tree.Ending (Some ending))) bs)
-        (old.block_pieces d s tight silent (tree.Ending (Some ending))) (old.children_pieces d (next_standing s (tree.Ending (Some ending))) tight false bs)
+        (old.block_bytes d s tight silent (tree.Ending (Some ending))) (old.children_bytes d (next_standing s (tree.Ending (Some ending))) tight false bs)
         (λ o. ap (λ t. fold (lay options.compile default) o (cond t [] (Says (Words (ending_bytes ending)) ∷ []))) h
         ∙ ending_same options.compile default ending silent o)
         ((twice (next_standing s (tree.Ending (Some ending))) tight bs).0 false (Some (page.Ending ending)) refl) l,
@@ -500,5 +512,5 @@ module _ (default : List ℕ) (options : Options) (tables : TextTables) (ds : Ta
 
   -- the children of a document
   pub document_same : (bs : tree.Blocks)
-      → Alike (children_pieces m (record { top = true; tight = false }) None (read_blocks r on_page bs)) (old.children_pieces d on_page false false bs)
+      → Alike (children_pieces m (record { top = true; tight = false }) None (read_blocks r on_page bs)) (old.children_bytes d on_page false false bs)
   document_same bs = (twice on_page false bs).0 false None refl

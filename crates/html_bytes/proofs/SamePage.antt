@@ -45,7 +45,7 @@ html_is tables text options =
     let ds = document_targets bs in
     let blank = ends_blank false bs in
     let kids = children_pieces (m default options tables ds) at_top None (read_blocks (r default options tables ds) on_page (group_items bs)) in
-    let shown = old.children_pieces (document options tables ds) on_page false false (group_items bs) in
+    let shown = old.children_bytes (document options tables ds) on_page false false (group_items bs) in
     page_same options.compile default (kids ++ fresh_unless (not blank)) (shown ++ old.last_piece blank)
     (joined options.compile default kids (fresh_unless (not blank)) shown (old.last_piece blank)
     (document_same default options tables ds (group_items bs)) (last_same options.compile default blank))

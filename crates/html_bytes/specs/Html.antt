@@ -18,27 +18,27 @@ use Rattle.definition_block.specs.Tree.{Blocks, Nil, Cons, is_ending, blocks}
 use Rattle.definition_block.specs.Lists.{group_items, is_loose}
 use Rattle.definition_block.specs.Definitions.{document_targets}
 use Rattle.definition_page.specs.TextTables.{TextTables}
-use Rattle.definition_page.specs.Read.{Standing, on_page, in_container, in_item, next_standing, list_number, ends_blank}
-use Rattle.html_bytes.specs.Document.{Document, document, text_of, paragraph_of, info_of}
-use Rattle.html_bytes.specs.GfmTable.{table_pieces}
-use Rattle.html_bytes.specs.Pieces.{Piece, Bytes, Eol, Fresh, NoteStart, NoteEnd}
+use Rattle.definition_page.specs.GfmTable.{table_pieces}
+use Rattle.definition_page.specs.Read.{Standing, on_page, in_container, in_item, next_standing, list_number, ends_blank, read_table}
+use Rattle.html_bytes.specs.Document.{Document, document, reading_of, document_meaning, text_of, paragraph_of, info_of}
+use Rattle.html_bytes.specs.Pieces.{Piece, Bytes, Eol, Fresh, NoteStart, NoteEnd, in_bytes}
 use Rattle.html_bytes.specs.Layout.{page_layout}
 
 -- ---- lines
 
 -- lines of code with their endings
-abbrev pub code_line : BlockLine → List ℕ
-code_line line = encode (map code_byte line.codes) ++ ending_text line.ending
+abbrev pub code_line_bytes : BlockLine → List ℕ
+code_line_bytes line = encode (map code_byte line.codes) ++ ending_text line.ending
 
 abbrev pub code_of : List BlockLine → List ℕ
-code_of ls = flat_map code_line ls
+code_of ls = flat_map code_line_bytes ls
 
 -- lines of HTML with their endings; the columns that are left of a tab aren't printed
-abbrev pub html_line : CompileOptions → BlockLine → List ℕ
-html_line options line = raw_bytes options (bytes_of line.codes) ++ ending_text line.ending
+abbrev pub html_line_bytes : CompileOptions → BlockLine → List ℕ
+html_line_bytes options line = raw_bytes options (bytes_of line.codes) ++ ending_text line.ending
 
 abbrev pub html_of : CompileOptions → List BlockLine → List ℕ
-html_of options ls = flat_map (html_line options) ls
+html_of options ls = flat_map (html_line_bytes options) ls
 
 -- ---- tags, where 48 is the digit 0
 
@@ -77,6 +77,10 @@ abbrev pub fenced_content : Bool → Bool → List BlockLine → List Piece
 fenced_content top closed [] = []
 fenced_content top closed (line ∷ others) = fenced_lines top closed (line ∷ others) ++ Fresh ∷ []
 
+-- a table of its lines (GFM 4.10)
+abbrev pub table_bytes : Document → List BlockLine → List Piece
+table_bytes d ls = in_bytes (table_pieces (document_meaning d) (read_table (reading_of d) ls))
+
 abbrev pub fresh_unless : Bool → List Piece
 fresh_unless said = if said then [] else Fresh ∷ []
 
@@ -101,55 +105,55 @@ ends_tight tight before (Cons b bs) = ends_tight tight (before && is_ending b) b
 
 abbrev mutual
   -- a child that stands here, of a tight item or not, after a child that silences an ending or not
-  pub block_pieces : Document → Standing → Bool → Bool → Block → List Piece
-  block_pieces d standing tight silent (Paragraph ls) =
+  pub block_bytes : Document → Standing → Bool → Bool → Block → List Piece
+  block_bytes d standing tight silent (Paragraph ls) =
       let text = paragraph_of d standing.first ls in
       if tight then text else Fresh ∷ Bytes (codes "<p>") ∷ text ++ Bytes (codes "</p>") ∷ []
-  block_pieces d standing tight silent (Heading rank ls) =
+  block_bytes d standing tight silent (Heading rank ls) =
       Fresh ∷ Bytes (heading_tag rank) ∷ text_of d ls ++ Bytes (heading_end rank) ∷ []
-  block_pieces d standing tight silent Break = Fresh ∷ Bytes (codes "<hr />") ∷ []
-  block_pieces d standing tight silent (IndentedCode ls) =
+  block_bytes d standing tight silent Break = Fresh ∷ Bytes (codes "<hr />") ∷ []
+  block_bytes d standing tight silent (IndentedCode ls) =
       Fresh ∷ Bytes (codes "<pre><code>") ∷ Bytes (code_of ls) ∷ Fresh ∷ Bytes (codes "</code></pre>") ∷ []
-  block_pieces d standing tight silent (FencedCode info closed ls) =
+  block_bytes d standing tight silent (FencedCode info closed ls) =
       Fresh ∷ Bytes (codes "<pre><code" ++ class_of d info ++ codes ">") ∷ fenced_content standing.top closed ls
       ++ Bytes (codes "</code></pre>") ∷ fresh_unless closed
-  block_pieces d standing tight silent (Html ls) = Fresh ∷ Bytes (html_of d.options.compile ls) ∷ []
-  block_pieces d standing tight silent (Table ls) = table_pieces d ls
-  block_pieces d standing tight silent (Definition label destination title) = []
-  block_pieces d standing tight silent (Holds Quote kids) =
-      Fresh ∷ Bytes (codes "<blockquote>") ∷ children_pieces d in_container false false kids ++ Fresh ∷ Bytes (codes "</blockquote>") ∷ []
-  block_pieces d standing tight silent (Holds (Item item) kids) =
-      Fresh ∷ Bytes (codes "<li>") ∷ children_pieces d in_item tight false kids ++ fresh_unless (ends_tight tight true kids) ++ Bytes (codes "</li>") ∷ []
-  block_pieces d standing tight silent (Holds (Footnote label) kids) = NoteStart ∷ children_pieces d in_container false false kids ++ NoteEnd ∷ []
-  block_pieces d standing tight silent (Items items) =
-      Fresh ∷ Bytes (number_tag (list_number items)) ∷ children_pieces d in_container (not (is_loose items)) false items
+  block_bytes d standing tight silent (Html ls) = Fresh ∷ Bytes (html_of d.options.compile ls) ∷ []
+  block_bytes d standing tight silent (Table ls) = table_bytes d ls
+  block_bytes d standing tight silent (Definition label destination title) = []
+  block_bytes d standing tight silent (Holds Quote kids) =
+      Fresh ∷ Bytes (codes "<blockquote>") ∷ children_bytes d in_container false false kids ++ Fresh ∷ Bytes (codes "</blockquote>") ∷ []
+  block_bytes d standing tight silent (Holds (Item item) kids) =
+      Fresh ∷ Bytes (codes "<li>") ∷ children_bytes d in_item tight false kids ++ fresh_unless (ends_tight tight true kids) ++ Bytes (codes "</li>") ∷ []
+  block_bytes d standing tight silent (Holds (Footnote label) kids) = NoteStart ∷ children_bytes d in_container false false kids ++ NoteEnd ∷ []
+  block_bytes d standing tight silent (Items items) =
+      Fresh ∷ Bytes (number_tag (list_number items)) ∷ children_bytes d in_container (not (is_loose items)) false items
       ++ Eol ∷ Bytes (number_end (list_number items)) ∷ []
-  block_pieces d standing tight silent (Ending ending) = if silent then [] else Bytes (ending_text ending) ∷ []
-  block_pieces d standing tight silent (Blank ending) = []
+  block_bytes d standing tight silent (Ending ending) = if silent then [] else Bytes (ending_text ending) ∷ []
+  block_bytes d standing tight silent (Blank ending) = []
 
-  pub children_pieces : Document → Standing → Bool → Bool → Blocks → List Piece
-  children_pieces d standing tight silent Nil = []
-  children_pieces d standing tight silent (Cons b bs) =
-      block_pieces d standing tight silent b ++ children_pieces d (next_standing standing b) tight (silences standing.top tight silent b) bs
+  pub children_bytes : Document → Standing → Bool → Bool → Blocks → List Piece
+  children_bytes d standing tight silent Nil = []
+  children_bytes d standing tight silent (Cons b bs) =
+      block_bytes d standing tight silent b ++ children_bytes d (next_standing standing b) tight (silences standing.top tight silent b) bs
 
 -- the ending of a blank line asks for a fresh line where it is the very last
 abbrev pub last_piece : Bool → List Piece
 last_piece blank = if blank then Fresh ∷ [] else []
 
-abbrev pub document_pieces : Document → Blocks → List Piece
-document_pieces d bs = children_pieces d on_page false false (group_items bs) ++ last_piece (ends_blank false bs)
+abbrev pub document_bytes : Document → Blocks → List Piece
+document_bytes d bs = children_bytes d on_page false false (group_items bs) ++ last_piece (ends_blank false bs)
 
 -- ---- the whole
 
 -- the text's first ending, or the one of the options
-abbrev pub default_ending : Options → List ℕ → LineEnding
-default_ending options text = unwrap_or (first_line text).ending options.compile.default_line_ending
+abbrev pub text_ending : Options → List ℕ → LineEnding
+text_ending options text = unwrap_or (first_line text).ending options.compile.default_line_ending
 
 -- the HTML of blocks, by all definitions among them
 abbrev pub blocks_html : TextTables → Options → LineEnding → Blocks → List ℕ
 blocks_html tables options ending bs =
-    page_layout options.compile (ending_bytes ending) (document_pieces (document options tables (document_targets bs)) bs)
+    page_layout options.compile (ending_bytes ending) (document_bytes (document options tables (document_targets bs)) bs)
 
 -- the HTML of a text without a byte order mark, after a character of this kind
 abbrev pub marked_html : TextTables → Kind → List ℕ → Options → List ℕ
-marked_html tables before text options = blocks_html tables options (default_ending options text) (blocks options.parse.constructs before text)
+marked_html tables before text options = blocks_html tables options (text_ending options text) (blocks options.parse.constructs before text)

@@ -2,7 +2,6 @@ pub mod Pieces
 pub mod RawHtml
 pub mod InlineHtml
 pub mod Document
-pub mod GfmTable
 pub mod Html
 pub mod GfmLabelStartFootnote
 pub mod GfmFootnoteDefinition

@@ -1,13 +1,12 @@
 -- Tables, laid out piece by piece.
 use Rattle.std.proofs.Common.{◌≡◌, ℕ, zero, suc, ◌≤◌, Bool, false, List, [], ◌∷◌, ◌++◌, Option, None, Some, refl, sym, ap, ◌∙◌, drop, length, get_or, arith}
 use Rattle.std.proofs.Common.{◌<◌, subst}
-use Rattle.std.specs.Prelude.{codes}
+use Rattle.std.specs.Prelude.{codes, map}
 use Rattle.std.specs.List.{fold, flat_map}
 use Rattle.std.specs.Option.{MatchOption}
 use Rattle.markdown_options.specs.declared.line_ending.LineEnding.{LineEnding}
 use Rattle.std.proofs.lemmas.Bool.{cond_both}
 use Rattle.std.proofs.lemmas.List.{append-nil, drop_all}
-use Rattle.std.proofs.lemmas.List.Sums.{fold-append}
 use Rattle.definition_text.specs.BlockLines.{BlockLine, own_lines, last_ending}
 use Rattle.definition_text.specs.Columns.{is_blank}
 use Rattle.definition_text.specs.Content.{is_eol, may_escape}
@@ -19,15 +18,23 @@ use Rattle.definition_block.specs.GfmTable.{Cell, in_first_cell, is_bar, parts, 
 use Rattle.text_pieces.specs.ParagraphLines.{HaveNoEnding}
 use Rattle.text_pieces.specs.declared.piece.Piece.{Piece as LinePiece}
 use Rattle.text_pieces.specs.Pieces.{piece_line, piece_lines}
-use Rattle.definition_page.specs.GfmTable.{line_aligns}
-use Rattle.html_bytes.specs.Document.{Document, cell_counts}
+use Rattle.definition_inline.specs.Inline.{Inlines, Nil}
+use Rattle.definition_page.specs.GfmTable.{line_aligns, align_attributes, cell_pieces, cells_pieces, row_pieces, ending_piece, body_row_pieces, head_pieces, body_pieces}
+use Rattle.definition_page.specs.InlinePieces.{element, inline_counts, inline_pieces}
+use Rattle.definition_page.specs.Pieces as page
+use Rattle.definition_page.specs.Read.{read_cell, read_row}
+use Rattle.definition_page.specs.Tags.{bare_tag, tag, start_tag, end_tag}
+use Rattle.html_bytes.specs.Document.{Document, reading_of, document_meaning, structure_pieces, cell_counts}
 use Rattle.block_cells.specs.declared.gfm_table.Cell.{Cell as CellOf}
 use Rattle.block_cells.specs.GfmTable.{cell_view}
-use Rattle.html_bytes.specs.GfmTable.{cell_pieces, missing_pieces, cells_pieces, row_pieces, body_row_pieces, body_pieces, head_pieces, table_pieces}
-use Rattle.html_bytes.specs.Pieces.{Piece, Bytes, Fresh}
-use Rattle.html_bytes.specs.Layout.{LayoutState, lay, with_text}
+use Rattle.html_bytes.specs.Html.{table_bytes}
+use Rattle.html_bytes.specs.Pieces.{Piece, in_bytes}
+use Rattle.html_bytes.proofs.SameBlocks.{end_said}
+use Rattle.html_bytes.proofs.SameText.{laid_both}
+use Rattle.html_bytes.specs.Layout.{lay, with_text}
+use Rattle.html_bytes.specs.Layout.{LayoutState}
 use Rattle.html_leaves.specs.Prints.{with_bytes, with_fresh}
-use Rattle.html_leaves.specs.GfmTable.{next_cell_pieces, IsClearIf, CellsAreClear}
+use Rattle.html_leaves.specs.GfmTable.{cell_bytes, next_cell_bytes, cells_bytes, counts_bytes, row_bytes, rows_bytes, head_bytes, body_bytes, IsClearIf, CellsAreClear}
 use Rattle.html_looseness.specs.Printable.{AreClear}
 
 -- ---- cells without a line ending
@@ -56,56 +63,70 @@ cells_clear line h =
     let all = parts line.before false line.codes in
     without_last_clear (without_blank_first all) (without_first_clear all (parts_clear line.before false line.codes h))
 
+-- ---- pieces in bytes
+
+module _ (default : List ℕ) (d : Document) where
+  abbrev past : LayoutState → List Piece → LayoutState
+  past out ps = fold (lay d.options.compile default) out ps
+
+  -- pieces, a fresh line, and an end tag
+  ended : (out : LayoutState) (ps : List page.Piece) (name : List ℕ)
+      → past out (in_bytes ((ps ++ page.Fresh ∷ []) ++ page.Close name ∷ [])) ≡ with_bytes (end_tag name) (with_fresh default (past out (in_bytes ps)))
+  ended out ps name =
+      laid_both d.options.compile default out (ps ++ page.Fresh ∷ []) (page.Close name ∷ [])
+      ∙ ap (with_bytes (end_tag name)) (laid_both d.options.compile default out ps (page.Fresh ∷ []))
+
+  -- the ending of a row
+  said : (ending : Option LineEnding) (out : LayoutState) → past out (in_bytes (ending_piece ending ∷ [])) ≡ with_bytes (ending_text ending) out
+  said ending out = ap (λ bytes. with_bytes bytes out) (end_said ending)
+
 -- ---- rows of a body
 
 module _ (default : List ℕ) (d : Document) (aligns : List AlignKind) where
-  abbrev one_more : LayoutState → Piece → LayoutState
-  one_more l p = lay d.options.compile default l p
+  abbrev body : BlockLine → List page.Piece
+  body line = row_pieces (document_meaning d) (codes "td") aligns (read_row (reading_of d) line)
 
-  abbrev past : LayoutState → List Piece → LayoutState
-  past out ps = fold one_more out ps
+  abbrev whole : BlockLine → List page.Piece
+  whole line = body_row_pieces (document_meaning d) aligns (read_row (reading_of d) line)
 
-  abbrev body : BlockLine → List Piece
-  body line = row_pieces d (codes "td") aligns line
-
-  abbrev rows : List BlockLine → List Piece
-  rows ls = flat_map (body_row_pieces d aligns) ls
+  abbrev others : List BlockLine → List page.Piece
+  others ls = flat_map (body_row_pieces (document_meaning d) aligns) (map (read_row (reading_of d)) ls)
 
   -- one row prints no ending
   nothing_more : (out : LayoutState) → with_bytes [] out ≡ out
   nothing_more out = ap (with_text out) (append-nil out.text)
 
-  one_row : (l : BlockLine) (out : LayoutState) → past out (rows (own_lines (l ∷ []))) ≡ past out (body l)
+  one_row : (l : BlockLine) (out : LayoutState)
+      → past default d out (rows_bytes d aligns (own_lines (l ∷ []))) ≡ past default d out (row_bytes d (codes "td") aligns l)
   one_row l out =
-      ap (past out) (append-nil (body l ++ Bytes [] ∷ [])) ∙ fold-append one_more out (body l) (Bytes [] ∷ []) ∙ nothing_more (past out (body l))
+      ap (λ ps. past default d out (in_bytes ps)) (append-nil (body l ++ ending_piece None ∷ []))
+      ∙ laid_both d.options.compile default out (body l) (ending_piece None ∷ [])
+      ∙ nothing_more (past default d out (in_bytes (body l)))
 
-  ended_row : (l : BlockLine) (out : LayoutState) → past out (body_row_pieces d aligns l) ≡ with_bytes (ending_text l.ending) (past out (body l))
-  ended_row l out = fold-append one_more out (body l) (Bytes (ending_text l.ending) ∷ [])
+  ended_row : (l : BlockLine) (out : LayoutState)
+      → past default d out (in_bytes (whole l)) ≡ with_bytes (ending_text l.ending) (past default d out (row_bytes d (codes "td") aligns l))
+  ended_row l out =
+      laid_both d.options.compile default out (body l) (ending_piece l.ending ∷ []) ∙ said default d l.ending (past default d out (in_bytes (body l)))
 
   -- and one more prints the ending before it
   pub rows_more : (ls : List BlockLine) (l : BlockLine) (out : LayoutState)
-      → past (with_bytes (ending_text (last_ending ls)) (past out (rows (own_lines ls)))) (body l) ≡ past out (rows (own_lines (ls ++ l ∷ [])))
-  rows_more [] l out = ap (λ x. past x (body l)) (nothing_more out) ∙ sym (one_row l out)
+      → past default d (with_bytes (ending_text (last_ending ls)) (past default d out (rows_bytes d aligns (own_lines ls)))) (row_bytes d (codes "td") aligns l)
+      ≡ past default d out (rows_bytes d aligns (own_lines (ls ++ l ∷ [])))
+  rows_more [] l out = ap (λ x. past default d x (row_bytes d (codes "td") aligns l)) (nothing_more out) ∙ sym (one_row l out)
   rows_more (a ∷ []) l out =
-      ap (λ x. past (with_bytes (ending_text a.ending) x) (body l)) (one_row a out)
-      ∙ ap (λ x. past x (body l)) (sym (ended_row a out))
-      ∙ sym (one_row l (past out (body_row_pieces d aligns a)))
-      ∙ sym (fold-append one_more out (body_row_pieces d aligns a) (rows (own_lines (l ∷ []))))
+      let row = row_bytes d (codes "td") aligns l in
+      ap (λ x. past default d (with_bytes (ending_text a.ending) x) row) (one_row a out)
+      ∙ ap (λ x. past default d x row) (sym (ended_row a out))
+      ∙ sym (one_row l (past default d out (in_bytes (whole a))))
+      ∙ sym (laid_both d.options.compile default out (whole a) (others (own_lines (l ∷ []))))
   rows_more (a ∷ b ∷ bs) l out =
-      ap (λ x. past (with_bytes (ending_text (last_ending (b ∷ bs))) x) (body l))
-      (fold-append one_more out (body_row_pieces d aligns a) (rows (own_lines (b ∷ bs))))
-      ∙ rows_more (b ∷ bs) l (past out (body_row_pieces d aligns a))
-      ∙ sym (fold-append one_more out (body_row_pieces d aligns a) (rows (own_lines ((b ∷ bs) ++ l ∷ []))))
+      let row = row_bytes d (codes "td") aligns l in
+      ap (λ x. past default d (with_bytes (ending_text (last_ending (b ∷ bs))) x) row)
+      (laid_both d.options.compile default out (whole a) (others (own_lines (b ∷ bs))))
+      ∙ rows_more (b ∷ bs) l (past default d out (in_bytes (whole a)))
+      ∙ sym (laid_both d.options.compile default out (whole a) (others (own_lines ((b ∷ bs) ++ l ∷ []))))
 
 -- ---- a table
-
--- that of these lines, the first two by themselves
-table_own : (d : Document) (head delimiters : BlockLine) (ls : List BlockLine)
-    → table_pieces d (own_lines (head ∷ delimiters ∷ ls))
-    ≡ Fresh ∷ Bytes (codes "<table>") ∷ Fresh ∷ head_pieces d (line_aligns delimiters) head
-    ++ body_pieces d (line_aligns delimiters) delimiters.ending (own_lines ls) ++ Fresh ∷ Bytes (codes "</table>") ∷ []
-table_own d head delimiters [] = refl
-table_own d head delimiters (l ∷ ls) = refl
 
 pub two_lines : (pieces : List LinePiece) (p : LinePiece) → 2 ≤ length pieces
     → piece_lines pieces ≡ piece_line (get_or pieces 0 p) ∷ piece_line (get_or pieces 1 p) ∷ piece_lines (drop 2 pieces)
@@ -114,68 +135,69 @@ two_lines (a ∷ []) p le = absurd (omega (arith, le))
 two_lines (a ∷ b ∷ others) p le = refl
 
 module _ (default : List ℕ) (d : Document) (head delimiters : BlockLine) (ls : List BlockLine) where
-  abbrev next : LayoutState → Piece → LayoutState
-  next l p = lay d.options.compile default l p
-
-  abbrev laid : LayoutState → List Piece → LayoutState
-  laid out ps = fold next out ps
-
   abbrev columns : List AlignKind
   columns = line_aligns delimiters
+
+  abbrev first : List page.Piece
+  first = head_pieces (document_meaning d) columns (read_row (reading_of d) head)
+
+  abbrev more : List BlockLine → List page.Piece
+  more own = body_pieces (document_meaning d) columns delimiters.ending (map (read_row (reading_of d)) own)
+
+  -- that of these lines, the first two by themselves
+  table_own : (ls : List BlockLine)
+      → table_bytes d (own_lines (head ∷ delimiters ∷ ls))
+      ≡ in_bytes (page.Fresh ∷ element (bare_tag (codes "table")) (((page.Fresh ∷ first) ++ more (own_lines ls)) ++ page.Fresh ∷ []))
+  table_own [] = refl
+  table_own (l ∷ ls) = refl
 
   -- printed in turn
   pub table_laid : (out : LayoutState)
       → (let start = with_fresh default (with_bytes (codes "<table>") (with_fresh default out)) in
-      with_bytes (codes "</table>") (with_fresh default (laid (laid start (head_pieces d columns head))
-      (body_pieces d columns delimiters.ending (own_lines ls)))))
-      ≡ laid out (table_pieces d (own_lines (head ∷ delimiters ∷ ls)))
+      with_bytes (codes "</table>") (with_fresh default (past default d (past default d start (head_bytes d columns head))
+      (body_bytes d columns delimiters.ending (own_lines ls)))))
+      ≡ past default d out (table_bytes d (own_lines (head ∷ delimiters ∷ ls)))
   table_laid out =
-      let first = head_pieces d columns head in
-      let more = body_pieces d columns delimiters.ending (own_lines ls) in
-      let end = Fresh ∷ Bytes (codes "</table>") ∷ [] in
-      let front = Fresh ∷ Bytes (codes "<table>") ∷ Fresh ∷ first in
-      ap (λ x. laid x end) (sym (fold-append next out front more))
-      ∙ sym (fold-append next out (front ++ more) end)
-      ∙ ap (laid out) (sym (table_own d head delimiters ls))
+      let opened = with_bytes (codes "<table>") (with_fresh default out) in
+      ap (λ x. with_bytes (codes "</table>") (with_fresh default x)) (sym (laid_both d.options.compile default opened (page.Fresh ∷ first) (more (own_lines ls))))
+      ∙ sym (ended default d opened ((page.Fresh ∷ first) ++ more (own_lines ls)) (codes "table"))
+      ∙ ap (past default d out) (sym (table_own ls))
 
 -- ---- printed in turn
 
 module _ (default : List ℕ) (d : Document) (aligns : List AlignKind) (line : BlockLine) where
-  abbrev piece_after : LayoutState → Piece → LayoutState
-  piece_after l p = lay d.options.compile default l p
-
-  abbrev after : LayoutState → List Piece → LayoutState
-  after out ps = fold piece_after out ps
-
   -- a row
   pub row_laid : (name : List ℕ) (out : LayoutState)
-      → with_bytes (codes "</tr>") (with_fresh default (after (with_bytes (codes "<tr>") (with_fresh default out))
-      (cells_pieces d name aligns (line_cells line))))
-      ≡ after out (row_pieces d name aligns line)
+      → with_bytes (codes "</tr>") (with_fresh default (past default d (with_bytes (codes "<tr>") (with_fresh default out))
+      (cells_bytes d name aligns (line_cells line))))
+      ≡ past default d out (row_bytes d name aligns line)
   row_laid name out =
-      sym (fold-append piece_after (with_bytes (codes "<tr>") (with_fresh default out)) (cells_pieces d name aligns (line_cells line))
-      (Fresh ∷ Bytes (codes "</tr>") ∷ []))
+      sym (ended default d (with_bytes (codes "<tr>") (with_fresh default out))
+      (cells_pieces (document_meaning d) name aligns (map (read_cell (reading_of d)) (line_cells line))) (codes "tr"))
 
   -- a head
   pub head_laid : (out : LayoutState)
       → with_bytes (codes "</thead>")
-      (with_fresh default (with_bytes (ending_text line.ending) (after (with_bytes (codes "<thead>") out) (row_pieces d (codes "th") aligns line))))
-      ≡ after out (head_pieces d aligns line)
+      (with_fresh default (with_bytes (ending_text line.ending) (past default d (with_bytes (codes "<thead>") out) (row_bytes d (codes "th") aligns line))))
+      ≡ past default d out (head_bytes d aligns line)
   head_laid out =
-      sym (fold-append piece_after (with_bytes (codes "<thead>") out) (row_pieces d (codes "th") aligns line)
-      (Bytes (ending_text line.ending) ∷ Fresh ∷ Bytes (codes "</thead>") ∷ []))
+      let opened = with_bytes (codes "<thead>") out in
+      let row = row_pieces (document_meaning d) (codes "th") aligns (read_row (reading_of d) line) in
+      ap (λ bytes. with_bytes (codes "</thead>") (with_fresh default (with_bytes bytes (past default d opened (in_bytes row))))) (sym (end_said line.ending))
+      ∙ ap (with_bytes (codes "</thead>")) (sym (laid_both d.options.compile default opened row (ending_piece line.ending ∷ page.Fresh ∷ [])))
+      ∙ sym (laid_both d.options.compile default opened (row ++ ending_piece line.ending ∷ page.Fresh ∷ []) (page.Close (codes "thead") ∷ []))
 
 -- a body
 some_body : (default : List ℕ) (d : Document) (aligns : List AlignKind) (ending : Option LineEnding) (ls : List BlockLine) (out : LayoutState) → 0 < length ls
     → with_bytes (codes "</tbody>")
-    (with_fresh default (fold (lay d.options.compile default) (with_bytes (codes "<tbody>") (with_bytes (ending_text ending) out))
-    (flat_map (body_row_pieces d aligns) ls)))
-    ≡ fold (lay d.options.compile default) out (body_pieces d aligns ending ls)
+    (with_fresh default (past default d (with_bytes (codes "<tbody>") (with_bytes (ending_text ending) out)) (rows_bytes d aligns ls)))
+    ≡ past default d out (body_bytes d aligns ending ls)
 some_body default d aligns ending [] out some = absurd (omega arith)
 some_body default d aligns ending (l ∷ ls) out some =
-    sym (fold-append (lay d.options.compile default) (with_bytes (codes "<tbody>") (with_bytes (ending_text ending) out))
-    (flat_map (body_row_pieces d aligns) (l ∷ ls))
-    (Fresh ∷ Bytes (codes "</tbody>") ∷ []))
+    ap (λ x. with_bytes (codes "</tbody>") (with_fresh default (past default d (with_bytes (codes "<tbody>") x) (rows_bytes d aligns (l ∷ ls)))))
+    (sym (said default d ending out))
+    ∙ sym (ended default d (with_bytes (codes "<tbody>") (past default d out (in_bytes (ending_piece ending ∷ [])))) (others default d aligns (l ∷ ls))
+    (codes "tbody"))
 
 own_some : (ls : List BlockLine) → 0 < length ls → 0 < length (own_lines ls)
 own_some [] some = absurd (omega arith)
@@ -185,31 +207,34 @@ own_some (a ∷ b ∷ others) some = omega arith
 pub body_laid : (default : List ℕ) (d : Document) (aligns : List AlignKind) (ending : Option LineEnding) (ls : List BlockLine) (out : LayoutState)
     → 0 < length ls
     → with_bytes (codes "</tbody>")
-    (with_fresh default (fold (lay d.options.compile default) (with_bytes (codes "<tbody>") (with_bytes (ending_text ending) out))
-    (flat_map (body_row_pieces d aligns) (own_lines ls))))
-    ≡ fold (lay d.options.compile default) out (body_pieces d aligns ending (own_lines ls))
+    (with_fresh default (past default d (with_bytes (codes "<tbody>") (with_bytes (ending_text ending) out)) (rows_bytes d aligns (own_lines ls))))
+    ≡ past default d out (body_bytes d aligns ending (own_lines ls))
 body_laid default d aligns ending ls out some = some_body default d aligns ending (own_lines ls) out (own_some ls some)
+
+-- a cell
+pub cell_laid : (default : List ℕ) (d : Document) (name : List ℕ) (align : AlignKind) (is : Inlines) (out : LayoutState)
+    → with_bytes (end_tag name) (past default d (with_bytes (start_tag (tag name (align_attributes align))) (with_fresh default out)) (structure_pieces d is))
+    ≡ past default d out (cell_bytes d name align is)
+cell_laid default d name align is out =
+    sym (laid_both d.options.compile default (with_bytes (start_tag (tag name (align_attributes align))) (with_fresh default out))
+    (inline_pieces (document_meaning d) is) (page.Close name ∷ []))
 
 -- a cell after those so far
 pub cells_more : (default : List ℕ) (d : Document) (name : List ℕ) (align : AlignKind) (aligns : List AlignKind) (cs left : List Cell) (cell : Option CellOf)
     (out : LayoutState)
     → MatchOption cell ((cs ≡ []) × (left ≡ [])) (λ c. cs ≡ cell_view c ∷ left)
-    → fold (lay d.options.compile default) out (cells_pieces d name (align ∷ aligns) cs)
-    ≡ fold (lay d.options.compile default) (fold (lay d.options.compile default) out (next_cell_pieces d name align cell)) (cells_pieces d name aligns left)
-cells_more default d name align aligns cs left cell out h = takes_more cs left cell h
-  where
-    takes_more : (cs left : List Cell) (cell : Option CellOf) → MatchOption cell ((cs ≡ []) × (left ≡ [])) (λ c. cs ≡ cell_view c ∷ left)
-        → fold (lay d.options.compile default) out (cells_pieces d name (align ∷ aligns) cs)
-        ≡ fold (lay d.options.compile default) (fold (lay d.options.compile default) out (next_cell_pieces d name align cell))
-        (cells_pieces d name aligns left)
-    takes_more cs left None h =
-        ap (λ x. fold (lay d.options.compile default) out (cells_pieces d name (align ∷ aligns) x)) h.0
-        ∙ fold-append (lay d.options.compile default) out (missing_pieces name align) (cells_pieces d name aligns [])
-        ∙ ap (λ x. fold (lay d.options.compile default) (fold (lay d.options.compile default) out (missing_pieces name align)) (cells_pieces d name aligns x))
-        (sym h.1)
-    takes_more cs left (Some c) h =
-        ap (λ x. fold (lay d.options.compile default) out (cells_pieces d name (align ∷ aligns) x)) h
-        ∙ fold-append (lay d.options.compile default) out (cell_pieces d name align (cell_view c)) (cells_pieces d name aligns left)
+    → past default d out (cells_bytes d name (align ∷ aligns) cs)
+    ≡ past default d (past default d out (next_cell_bytes d name align cell)) (cells_bytes d name aligns left)
+cells_more default d name align aligns cs left None out h =
+    let m = document_meaning d in
+    ap (λ x. past default d out (cells_bytes d name (align ∷ aligns) x)) h.0
+    ∙ laid_both d.options.compile default out (cell_pieces m name align Nil) (cells_pieces m name aligns [])
+    ∙ ap (λ x. past default d (past default d out (cell_bytes d name align Nil)) (cells_bytes d name aligns x)) (sym h.1)
+cells_more default d name align aligns cs left (Some c) out h =
+    let m = document_meaning d in
+    let read = read_cell (reading_of d) in
+    ap (λ x. past default d out (cells_bytes d name (align ∷ aligns) x)) h
+    ∙ laid_both d.options.compile default out (cell_pieces m name align (read (cell_view c))) (cells_pieces m name aligns (map read left))
 
 pub clear_taken : (cs left : List Cell) (cell : Option CellOf) → MatchOption cell ((cs ≡ []) × (left ≡ [])) (λ c. cs ≡ cell_view c ∷ left)
     → CellsAreClear cs → IsClearIf cell × CellsAreClear left
@@ -218,17 +243,17 @@ clear_taken cs left (Some c) h p = subst CellsAreClear h p
 
 -- after the last column
 pub no_columns : (aligns : List AlignKind) (i : ℕ) (default : List ℕ) (d : Document) (name : List ℕ) (cs : List Cell) (out : LayoutState) → length aligns ≤ i
-    → fold (lay d.options.compile default) out (flat_map (cell_counts d) cs) ≡ fold (lay d.options.compile default) out (cells_pieces d name (drop i aligns) cs)
-no_columns aligns i default d name cs out le =
-    sym (ap (λ left. fold (lay d.options.compile default) out (cells_pieces d name left cs)) (drop_all i aligns le))
+    → past default d out (counts_bytes d cs) ≡ past default d out (cells_bytes d name (drop i aligns) cs)
+no_columns aligns i default d name cs out le = sym (ap (λ left. past default d out (cells_bytes d name left cs)) (drop_all i aligns le))
 
 -- the calls in one more cell that isn't printed
 pub counts_more : (default : List ℕ) (d : Document) (cs left : List Cell) (c : Cell) (out : LayoutState) → cs ≡ c ∷ left
-    → fold (lay d.options.compile default) (fold (lay d.options.compile default) out (cell_counts d c)) (flat_map (cell_counts d) left)
-    ≡ fold (lay d.options.compile default) out (flat_map (cell_counts d) cs)
+    → past default d (past default d out (cell_counts d c)) (counts_bytes d left) ≡ past default d out (counts_bytes d cs)
 counts_more default d cs left c out is =
-    sym (fold-append (lay d.options.compile default) out (cell_counts d c) (flat_map (cell_counts d) left))
-    ∙ ap (λ x. fold (lay d.options.compile default) out (flat_map (cell_counts d) x)) (sym is)
+    let read = read_cell (reading_of d) in
+    let counts = inline_counts (document_meaning d) in
+    sym (laid_both d.options.compile default out (counts (read c)) (flat_map counts (map read left)))
+    ∙ ap (λ x. past default d out (counts_bytes d x)) (sym is)
 
 -- a line among clear ones
 pub clear_at : (pieces : List LinePiece) (i : ℕ) (p : LinePiece) → i < length pieces → AreClear (piece_lines pieces)

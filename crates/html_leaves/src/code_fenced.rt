@@ -6,7 +6,7 @@ ghost use Rattle.definition_inline.specs.Targets.{Targets};
 ghost use Rattle.markdown_options.specs.declared.configuration.CompileOptions.{CompileOptions};
 ghost use Rattle.text_pieces.specs.ParagraphLines.{HaveNoEnding};
 ghost use Rattle.definition_block.specs.Tree.{FencedCode};
-ghost use Rattle.html_bytes.specs.Html.{block_pieces, class_of, fenced_content};
+ghost use Rattle.html_bytes.specs.Html.{block_bytes, class_of, fenced_content};
 ghost use Rattle.text_pieces.specs.Pieces.{piece_lines, whole_lines};
 ghost use Rattle.html_contents.specs.Texts.{document_by};
 ghost use Rattle.definition_text.specs.Encode.{encode};
@@ -34,7 +34,7 @@ impl<'t, A: Allocator + Clone> Page<'t, A> {
         ensures default { KeepsEnding self.old self.new }
         ensures printed { (ds : Targets) → HaveNoEnding info.now → let code = FencedCode info.now closed (piece_lines lines.now) in
             let d = document_by T.Tables texts.now ds in
-            OnOk result (LaysOut d.options.compile self.old self.new (block_pieces d (standing_at top) false false code)) }
+            OnOk result (LaysOut d.options.compile self.old self.new (block_bytes d (standing_at top) false false code)) }
     {
         self.start_code(texts, info)?;
         self.fenced_content(closed, top, lines)?;
@@ -56,7 +56,7 @@ impl<'t, A: Allocator + Clone> Page<'t, A> {
         ensures default { KeepsEnding self.old self.new }
         ensures printed { (ds : Targets) (top : Bool) → HaveNoEnding info.now → let code = FencedCode info.now true (whole_lines text.now) in
             let d = document_by T.Tables texts.now ds in
-            OnOk result (LaysOut d.options.compile self.old self.new (block_pieces d (standing_at top) false false code)) }
+            OnOk result (LaysOut d.options.compile self.old self.new (block_bytes d (standing_at top) false false code)) }
         ensures bytes { (k : ℕ) → slice_index text.now k < 256 }
     {
         self.start_code(texts, info)?;

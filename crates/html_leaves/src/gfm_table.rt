@@ -5,19 +5,21 @@
 //! A row has a cell for each delimiter: those that are missing are empty, and more aren't printed,
 //! but the calls of footnotes in them count.
 ghost use Rattle.std.specs.Prelude.{◌≡◌, ◌≤◌, OnOk, length};
-ghost use Rattle.std.specs.List.{flat_map};
-ghost use Rattle.markdown_options.specs.declared.configuration.CompileOptions.{CompileOptions};
 ghost use Rattle.definition_inline.specs.Targets.{Targets};
 ghost use Rattle.definition_text.specs.BlockLines.{own_lines};
 ghost use Rattle.definition_block.specs.GfmTable.{line_cells};
 ghost use Rattle.text_pieces.specs.ParagraphLines.{HaveNoEnding};
 ghost use Rattle.text_pieces.specs.Pieces.{piece_line, piece_lines};
 ghost use Rattle.block_cells.specs.GfmTable.{cell_view, cells_left};
-ghost use Rattle.html_bytes.specs.Document.{cell_counts};
-ghost use Rattle.html_bytes.specs.GfmTable.{cell_tag, cell_end, cell_pieces, missing_pieces, cells_pieces};
-ghost use Rattle.html_bytes.specs.GfmTable.{row_pieces, body_row_pieces, body_pieces, head_pieces, table_pieces};
+ghost use Rattle.definition_inline.specs.Inline.{Nil};
+ghost use Rattle.definition_page.specs.GfmTable.{align_attributes};
+ghost use Rattle.definition_page.specs.Read.{read_cell};
+ghost use Rattle.definition_page.specs.Tags.{tag, start_tag, end_tag};
+ghost use Rattle.html_bytes.specs.Document.{Document, reading_of};
+ghost use Rattle.html_bytes.specs.Html.{table_bytes};
 ghost use Rattle.html_contents.specs.Texts.{KnowsTargets, document_by};
-ghost use Rattle.html_leaves.specs.GfmTable.{CellsAreClear, IsClearIf, cell_name, next_cell_pieces};
+ghost use Rattle.html_leaves.specs.GfmTable.{CellsAreClear, IsClearIf, cell_name, cell_bytes, next_cell_bytes, cells_bytes, counts_bytes};
+ghost use Rattle.html_leaves.specs.GfmTable.{row_bytes, rows_bytes, head_bytes, body_bytes};
 ghost use Rattle.html_looseness.specs.Printable.{AreClear};
 ghost use Rattle.html_leaves.specs.Prints.{LaysOut, KeepsEnding};
 
@@ -48,7 +50,7 @@ impl<'t, A: Allocator + Clone> Page<'t, A> {
         ensures default { KeepsEnding self.old self.new }
         ensures printed { (ds : Targets) → KnowsTargets texts.now ds → AreClear (piece_lines lines.now) →
             let d = document_by T.Tables texts.now ds in
-            OnOk result (LaysOut d.options.compile self.old self.new (table_pieces d (own_lines (piece_lines lines.now)))) }
+            OnOk result (LaysOut d.options.compile self.old self.new (table_bytes d (own_lines (piece_lines lines.now)))) }
     {
         let mut aligns = Vec::new(self.buffers.alloc.clone()?);
         read_delimiters(&mut aligns, lines[1])?;
@@ -69,7 +71,7 @@ impl<'t, A: Allocator + Clone> Page<'t, A> {
         ensures default { KeepsEnding self.old self.new }
         ensures printed { (ds : Targets) → KnowsTargets texts.now ds → HaveNoEnding (piece_line line.now).codes →
             let d = document_by T.Tables texts.now ds in
-            OnOk result (LaysOut d.options.compile self.old self.new (head_pieces d aligns.now (piece_line line.now))) }
+            OnOk result (LaysOut d.options.compile self.old self.new (head_bytes d aligns.now (piece_line line.now))) }
     {
         self.say("<thead>")?;
         self.table_line(texts, CellKind::Head, aligns, line)?;
@@ -88,7 +90,7 @@ impl<'t, A: Allocator + Clone> Page<'t, A> {
         ensures default { KeepsEnding self.old self.new }
         ensures printed { (ds : Targets) → KnowsTargets texts.now ds → AreClear (piece_lines rows.now) →
             let d = document_by T.Tables texts.now ds in
-            OnOk result (LaysOut d.options.compile self.old self.new (body_pieces d aligns.now ending (own_lines (piece_lines rows.now)))) }
+            OnOk result (LaysOut d.options.compile self.old self.new (body_bytes d aligns.now ending (own_lines (piece_lines rows.now)))) }
     {
         if rows.is_empty() {
             return Ok(());
@@ -109,7 +111,7 @@ impl<'t, A: Allocator + Clone> Page<'t, A> {
         ensures default { KeepsEnding self.old self.new }
         ensures printed { (ds : Targets) → KnowsTargets texts.now ds → AreClear (piece_lines rows.now) →
             let d = document_by T.Tables texts.now ds in
-            OnOk result (LaysOut d.options.compile self.old self.new (flat_map (body_row_pieces d aligns.now) (own_lines (piece_lines rows.now)))) }
+            OnOk result (LaysOut d.options.compile self.old self.new (rows_bytes d aligns.now (own_lines (piece_lines rows.now)))) }
     {
         let mut waiting = None;
         for row in rows {
@@ -131,7 +133,7 @@ impl<'t, A: Allocator + Clone> Page<'t, A> {
         ensures default { KeepsEnding self.old self.new }
         ensures printed { (ds : Targets) → KnowsTargets texts.now ds → HaveNoEnding (piece_line line.now).codes →
             let d = document_by T.Tables texts.now ds in
-            OnOk result (LaysOut d.options.compile self.old self.new (row_pieces d (cell_name kind) aligns.now (piece_line line.now))) }
+            OnOk result (LaysOut d.options.compile self.old self.new (row_bytes d (cell_name kind) aligns.now (piece_line line.now))) }
     {
         self.fresh_tag("<tr>")?;
         self.table_cells(texts, kind, aligns, line)?;
@@ -149,7 +151,7 @@ impl<'t, A: Allocator + Clone> Page<'t, A> {
         ensures default { KeepsEnding self.old self.new }
         ensures printed { (ds : Targets) → KnowsTargets texts.now ds → HaveNoEnding (piece_line line.now).codes →
             let d = document_by T.Tables texts.now ds in
-            OnOk result (LaysOut d.options.compile self.old self.new (cells_pieces d (cell_name kind) aligns.now (line_cells (piece_line line.now)))) }
+            OnOk result (LaysOut d.options.compile self.old self.new (cells_bytes d (cell_name kind) aligns.now (line_cells (piece_line line.now)))) }
     {
         let mut cells = Cells::new(*line);
         for align in aligns {
@@ -168,7 +170,7 @@ impl<'t, A: Allocator + Clone> Page<'t, A> {
         ensures default { KeepsEnding self.old self.new }
         ensures printed { (ds : Targets) → KnowsTargets texts.now ds → CellsAreClear (cells_left cells.entry) →
             let d = document_by T.Tables texts.now ds in
-            OnOk result (LaysOut d.options.compile self.old self.new (flat_map (cell_counts d) (cells_left cells.entry))) }
+            OnOk result (LaysOut d.options.compile self.old self.new (counts_bytes d (cells_left cells.entry))) }
     {
         let mut left = cells;
         while let Some(cell) = left.next() {
@@ -188,7 +190,7 @@ impl<'t, A: Allocator + Clone> Page<'t, A> {
         ensures default { KeepsEnding self.old self.new }
         ensures printed { (ds : Targets) → KnowsTargets texts.now ds → IsClearIf cell.entry →
             let d = document_by T.Tables texts.now ds in
-            OnOk result (LaysOut d.options.compile self.old self.new (next_cell_pieces d (cell_name kind) align cell.entry)) }
+            OnOk result (LaysOut d.options.compile self.old self.new (next_cell_bytes d (cell_name kind) align cell.entry)) }
     {
         match cell {
             Some(cell) => self.cell(texts, kind, align, &cell),
@@ -208,7 +210,7 @@ impl<'t, A: Allocator + Clone> Page<'t, A> {
         ensures printed { (ds : Targets) → KnowsTargets texts.now ds →
             HaveNoEnding (piece_line cell.now.line).codes →
             let d = document_by T.Tables texts.now ds in
-            OnOk result (LaysOut d.options.compile self.old self.new (cell_pieces d (cell_name kind) align (cell_view cell.now))) }
+            OnOk result (LaysOut d.options.compile self.old self.new (cell_bytes d (cell_name kind) align (read_cell (reading_of d) (cell_view cell.now)))) }
     {
         self.fresh_tag(cell_tag(kind, align))?;
         texts.push_cell(&mut self.out, &mut self.buffers, cell)?;
@@ -218,7 +220,7 @@ impl<'t, A: Allocator + Clone> Page<'t, A> {
     /// Prints a cell that is missing.
     fn missing_cell(&mut self, kind: CellKind, align: AlignKind) -> Result<(), AllocError>
         ensures default { KeepsEnding self.old self.new }
-        ensures printed { (options : CompileOptions) → OnOk result (LaysOut options self.old self.new (missing_pieces (cell_name kind) align)) }
+        ensures printed { (d : Document) → OnOk result (LaysOut d.options.compile self.old self.new (cell_bytes d (cell_name kind) align Nil)) }
     {
         self.fresh_tag(cell_tag(kind, align))?;
         self.say(cell_end(kind))
@@ -227,7 +229,7 @@ impl<'t, A: Allocator + Clone> Page<'t, A> {
 
 /// The tag of a cell.
 fn cell_tag(kind: CellKind, align: AlignKind) -> &'static str
-    ensures { result.now ≡ cell_tag (cell_name kind) align }
+    ensures { result.now ≡ start_tag (tag (cell_name kind) (align_attributes align)) }
 {
     match (kind, align) {
         (CellKind::Head, AlignKind::Left) => "<th align=\"left\">",
@@ -243,7 +245,7 @@ fn cell_tag(kind: CellKind, align: AlignKind) -> &'static str
 
 /// The end of a cell.
 fn cell_end(kind: CellKind) -> &'static str
-    ensures { result.now ≡ cell_end (cell_name kind) }
+    ensures { result.now ≡ end_tag (cell_name kind) }
 {
     match kind {
         CellKind::Head => "</th>",

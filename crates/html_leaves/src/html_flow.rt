@@ -6,7 +6,7 @@ ghost use Rattle.std.specs.Prelude.{ℕ, replicate, ◌++◌, ◌∷◌, [], OnO
 ghost use Rattle.definition_text.specs.BlockLines.{own_lines};
 ghost use Rattle.definition_text.specs.Columns.{bytes_of, tab_column};
 ghost use Rattle.html_bytes.specs.Html.{html_of};
-ghost use Rattle.html_bytes.specs.RawHtml.{raw_html};
+ghost use Rattle.html_bytes.specs.RawHtml.{raw_bytes};
 ghost use Rattle.html_bytes.specs.Pieces.{Bytes, Fresh};
 ghost use Rattle.text_pieces.specs.Pieces.{piece_lines};
 ghost use Rattle.html_escape.specs.Prints as escape;
@@ -68,7 +68,7 @@ fn push_html_line<A: Allocator>(
     options: &CompileOptions,
     text: &str,
 ) -> Result<(), AllocError>
-    ensures { (owed : ℕ) → escape.Prints result out.old out.new (raw_html options.now (bytes_of (replicate owed tab_column ++ text.now))) }
+    ensures { (owed : ℕ) → escape.Prints result out.old out.new (raw_bytes options.now (bytes_of (replicate owed tab_column ++ text.now))) }
 {
     push_html(out, options, text)
 }

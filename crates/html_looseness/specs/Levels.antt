@@ -6,7 +6,7 @@ use Rattle.definition_block.specs.Tree.{is_ending}
 use Rattle.definition_page.specs.Read.{Standing}
 use Rattle.html_bytes.specs.Pieces.{Piece}
 use Rattle.html_bytes.specs.Document.{Document}
-use Rattle.html_bytes.specs.Html.{block_pieces, silences}
+use Rattle.html_bytes.specs.Html.{block_bytes, silences}
 use Rattle.block_rows.specs.Rows.{BlockRow, Single, EnterQuote, EnterItem, EnterFootnote, Exit}
 use Rattle.html_looseness.specs.declared.level.Level.{Level}
 use Rattle.html_looseness.specs.declared.level.Holder.{Holder}
@@ -86,7 +86,7 @@ level_after l Exit = after_block l
 
 -- what a block prints at a level
 abbrev pub row_pieces : Document → Level → BlockRow → List Piece
-row_pieces d l (Single b) = block_pieces d (standing_of l) l.tight l.silent b
+row_pieces d l (Single b) = block_bytes d (standing_of l) l.tight l.silent b
 row_pieces d l EnterQuote = []
 row_pieces d l (EnterItem marker number) = []
 row_pieces d l (EnterFootnote label) = []

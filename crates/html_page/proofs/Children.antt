@@ -12,7 +12,7 @@ use Rattle.html_bytes.specs.Pieces.{Piece, Bytes, Eol, Fresh, NoteStart, NoteEnd
 use Rattle.html_bytes.specs.Layout.{LayoutState, lay as lay_piece, with_text}
 use Rattle.html_bytes.specs.Document.{Document}
 use Rattle.definition_page.specs.Read.{in_container, in_item}
-use Rattle.html_bytes.specs.Html.{block_pieces, children_pieces, ends_tight, fresh_unless, number_tag, number_end}
+use Rattle.html_bytes.specs.Html.{block_bytes, children_bytes, ends_tight, fresh_unless, number_tag, number_end}
 use Rattle.block_rows.specs.Rows.{Single, Exit, rows_of, block_rows}
 use Rattle.html_looseness.specs.declared.level.Level.{Level}
 use Rattle.html_looseness.specs.declared.level.Holder.{Holder}
@@ -47,7 +47,7 @@ module _ (d : Document) (default : List ℕ) where
 
   -- what blocks print at a level
   abbrev at_level : Level → Blocks → List Piece
-  at_level l bs = children_pieces d (standing_of l) l.tight l.silent bs
+  at_level l bs = children_bytes d (standing_of l) l.tight l.silent bs
 
   -- ---- what is to be shown
 
@@ -64,7 +64,7 @@ module _ (d : Document) (default : List ℕ) where
   -- after the rest of a list, and what follows it
   abbrev list_then : LayoutState → Option ℕ → Bool → Level → Blocks → Blocks → List Level → List Place → PrinterView
   list_then out number tight l items others outer places =
-      printer_at (lay (lay out (children_pieces d in_container tight false items ++ Eol ∷ Bytes (number_end number) ∷ [])) (at_level l others))
+      printer_at (lay (lay out (children_bytes d in_container tight false items ++ Eol ∷ Bytes (number_end number) ∷ [])) (at_level l others))
       (level_past l others) outer places
 
   abbrev pub ListPrinted : Blocks → Type 0
@@ -90,14 +90,14 @@ module _ (d : Document) (default : List ℕ) where
       → ChildrenPrinted kids
       → print_all d default (on_list_at out number tight plain l outer (place ∷ (places_within kids ++ places))) (block_rows (Holds (Item item) kids))
       ≡ leave_list_if default (not place.goes_on)
-      (on_list_at (lay out (block_pieces d in_container tight false (Holds (Item item) (group_items kids)))) number tight false l outer places)
+      (on_list_at (lay out (block_bytes d in_container tight false (Holds (Item item) (group_items kids)))) number tight false l outer places)
   item_printed item kids place number tight plain l out outer places k =
       let gs = group_items kids in
       let start : List Piece = Fresh ∷ Bytes (codes "<li>") ∷ [] in
       let new = new_level (holder.Item (not place.goes_on)) tight in
       let inner = level_past new gs in
       let around : List Level = level_of (holder.List number) tight false false false ∷ l ∷ outer in
-      let body = children_pieces d in_item tight false gs in
+      let body = children_bytes d in_item tight false gs in
       let end : List Piece = Bytes (codes "</li>") ∷ [] in
       fold-append (print_row d default) (printer_at (lay out start) new around (places_within kids ++ places)) (rows_of kids) (Exit ∷ [])
       ∙ ap (λ (p : PrinterView). print_row d default p Exit) (k new (lay out start) around places refl)
@@ -139,7 +139,7 @@ module _ (d : Document) (default : List ℕ) where
       → print_all d default (print_row d default (printer_at out l outer (places_within bs ++ places)) (Single b)) (rows_of bs)
       ≡ printer_at (lay out (at_level l (Cons b (group_items bs)))) (level_past l (Cons b (group_items bs))) outer places
   leaf_step b bs children l out outer places no_list =
-      let own = block_pieces d (standing_of l) l.tight l.silent b in
+      let own = block_bytes d (standing_of l) l.tight l.silent b in
       let after = level_after l (Single b) in
       children after (lay out own) outer places no_list
       ∙ ap (λ x. printer_at x (level_past after (group_items bs)) outer places) (lay_more out own (at_level after (group_items bs)))
@@ -153,7 +153,7 @@ module _ (d : Document) (default : List ℕ) where
       let gs = group_items kids in
       let start : List Piece = Fresh ∷ Bytes (codes "<blockquote>") ∷ [] in
       let new = new_level holder.Quote false in
-      let body = children_pieces d in_container false false gs in
+      let body = children_bytes d in_container false false gs in
       let end : List Piece = Fresh ∷ Bytes (codes "</blockquote>") ∷ [] in
       let left = places_within bs ++ places in
       ap (λ (p : PrinterView). print_all d default p (rows_of bs))
@@ -174,7 +174,7 @@ module _ (d : Document) (default : List ℕ) where
       let gs = group_items kids in
       let start : List Piece = NoteStart ∷ [] in
       let new = new_level holder.Footnote false in
-      let body = children_pieces d in_container false false gs in
+      let body = children_bytes d in_container false false gs in
       let end : List Piece = NoteEnd ∷ [] in
       let left = places_within bs ++ places in
       ap (λ (p : PrinterView). print_all d default p (rows_of bs))
@@ -207,16 +207,16 @@ module _ (d : Document) (default : List ℕ) where
       let start : List Piece = Fresh ∷ Bytes (number_tag item.number) ∷ [] in
       let end : List Piece = Eol ∷ Bytes (number_end item.number) ∷ [] in
       let tight = not place.loose in
-      let own = block_pieces d in_container tight false b in
+      let own = block_bytes d in_container tight false b in
       let items = on_list goes_on gs in
       let others = off_list goes_on gs in
-      let body = λ (t : Bool). children_pieces d in_container t false (Cons b items) in
+      let body = λ (t : Bool). children_bytes d in_container t false (Cons b items) in
       let at = λ (x : LayoutState). printer_at x (level_past (after_block l) others) outer places in
       ap (λ (p : PrinterView). print_all d default p (rows_of bs))
       (list_started item kids place l out outer (places_within kids ++ left) no_list
       ∙ item_printed item kids place item.number tight true (after_block l) (lay out start) outer left k)
       ∙ item_then goes_on bs item.number tight (after_block l) (lay (lay out start) own) outer places no_list (next_marker item gs some) children list
-      ∙ ap at (split_list (lay out start) own (children_pieces d in_container tight false items) end (at_level (after_block l) others))
+      ∙ ap at (split_list (lay out start) own (children_bytes d in_container tight false items) end (at_level (after_block l) others))
       ∙ ap (λ (loose : Bool). at (lay (lay (lay out start) (body (not loose) ++ end)) (at_level (after_block l) others)))
       (place_loose item (group_items kids) gs some)
       ∙ ap at (lay_more out (start ++ (body (not (is_loose (Cons b items))) ++ end)) (at_level (after_block l) others))
@@ -237,14 +237,14 @@ module _ (d : Document) (default : List ℕ) where
       → (number : Option ℕ) (tight plain : Bool) (l : Level) (out : LayoutState) (outer : List Level) (places : List Place)
       → is_list l.holder ≡ false → 1 ≤ list_marker (after_endings (group_items bs))
       → print_all d default (on_list_at (lay out own) number tight plain l outer (places_within bs ++ places)) (rows_of bs)
-      ≡ printer_at (lay (lay out ((own ++ children_pieces d in_container tight false (list_ahead (group_items bs))) ++ Eol ∷ Bytes (number_end number) ∷ []))
+      ≡ printer_at (lay (lay out ((own ++ children_bytes d in_container tight false (list_ahead (group_items bs))) ++ Eol ∷ Bytes (number_end number) ∷ []))
       (at_level l (after_list (group_items bs))))
       (level_past l (after_list (group_items bs))) outer places
   ending_on_list own bs list number tight plain l out outer places no_list some =
       let others = after_list (group_items bs) in
       list number tight plain l (lay out own) outer places no_list some
       ∙ ap (λ x. printer_at x (level_past l others) outer places)
-      (split_list out own (children_pieces d in_container tight false (list_ahead (group_items bs))) (Eol ∷ Bytes (number_end number) ∷ []) (at_level l others))
+      (split_list out own (children_bytes d in_container tight false (list_ahead (group_items bs))) (Eol ∷ Bytes (number_end number) ∷ []) (at_level l others))
 
   item_on_list : (item : ItemOf) (kids bs : Blocks) → 1 ≤ item.marker → ChildrenPrinted kids → ChildrenPrinted bs → ListPrinted bs
       → OnListPrinted (Holds (Item item) kids) bs
@@ -254,13 +254,13 @@ module _ (d : Document) (default : List ℕ) where
       let goes_on = list_marker (after_endings gs) == item.marker in
       let place = place_at (ahead_of gs) item.marker (has_gap (group_items kids)) in
       let left = places_within bs ++ places in
-      let own = block_pieces d in_container tight false b in
+      let own = block_bytes d in_container tight false b in
       let items = on_list goes_on gs in
       let others = off_list goes_on gs in
       ap (λ (p : PrinterView). print_all d default p (rows_of bs)) (item_printed item kids place number tight plain l out outer left k)
       ∙ item_then goes_on bs number tight l (lay out own) outer places no_list (next_marker item gs some) children list
       ∙ ap (λ x. printer_at x (level_past l others) outer places)
-      (split_list out own (children_pieces d in_container tight false items) (Eol ∷ Bytes (number_end number) ∷ []) (at_level l others))
+      (split_list out own (children_bytes d in_container tight false items) (Eol ∷ Bytes (number_end number) ∷ []) (at_level l others))
       ∙ ap (λ (cs : Blocks). list_then out number tight l (list_ahead cs) (after_list cs) outer places) (sym (before_item_is item (group_items kids) gs some))
 
   -- ---- all blocks
@@ -288,9 +288,9 @@ module _ (d : Document) (default : List ℕ) where
 
   list_step : (b : Block) (bs : Blocks) → IsPrintable b → KidsPrinted b → ChildrenPrinted bs → ListPrinted bs → OnListPrinted b bs
   list_step (Ending None) bs h k children list number tight plain l out outer places no_list some =
-      ending_on_list (block_pieces d in_container tight false (Ending None)) bs list number tight plain l out outer places no_list some
+      ending_on_list (block_bytes d in_container tight false (Ending None)) bs list number tight plain l out outer places no_list some
   list_step (Ending (Some ending)) bs h k children list number tight plain l out outer places no_list some =
-      ending_on_list (block_pieces d in_container tight false (Ending (Some ending))) bs list number tight plain l out outer places no_list some
+      ending_on_list (block_bytes d in_container tight false (Ending (Some ending))) bs list number tight plain l out outer places no_list some
   list_step (Blank None) bs h k children list number tight plain l out outer places no_list some =
       ending_on_list [] bs list number tight plain l out outer places no_list some
   list_step (Blank (Some ending)) bs h k children list number tight plain l out outer places no_list some =

@@ -11,7 +11,7 @@ use Rattle.html_bytes.specs.Layout.{LayoutState, with_footnotes, lay, nothing_la
 use Rattle.html_bytes.specs.Document.{Document}
 use Rattle.definition_page.specs.Read.{ends_blank, is_blank_ending}
 use Rattle.definition_page.specs.Read.{on_page}
-use Rattle.html_bytes.specs.Html.{children_pieces, last_piece, document_pieces}
+use Rattle.html_bytes.specs.Html.{children_bytes, last_piece, document_bytes}
 use Rattle.block_rows.specs.Rows.{BlockRow, Single, Exit, start_row, rows_of, block_rows, spaced_definition}
 use Rattle.html_looseness.specs.declared.level.Holder.TheVariants as holder
 use Rattle.html_looseness.specs.declared.loose.Place.{Place}
@@ -52,9 +52,9 @@ rows_end_blank (Cons b bs) blank h =
 -- ---- the page
 
 pub rows_html_of : (d : Document) (default : List ℕ) (bs : Blocks) → CanBePrinted bs
-    → rows_html d default (rows_of bs) ≡ page_layout d.options.compile default (document_pieces d bs)
+    → rows_html d default (rows_of bs) ≡ page_layout d.options.compile default (document_bytes d bs)
 rows_html_of d default bs h =
-    let pieces = children_pieces d on_page false false (group_items bs) in
+    let pieces = children_bytes d on_page false false (group_items bs) in
     let start = new_level holder.Document false in
     let o = d.options.compile in
     let last = λ (out : LayoutState) (blank : Bool). with_footnotes o default (fold (lay o default) out (last_piece blank)) in

@@ -5,7 +5,7 @@ ghost use Rattle.definition_inline.specs.Targets.{Targets};
 ghost use Rattle.definition_text.specs.BlockLines.{BlockLine};
 ghost use Rattle.definition_block.specs.Tree.{Blocks};
 ghost use Rattle.html_bytes.specs.Layout.{page_layout};
-ghost use Rattle.html_bytes.specs.Html.{document_pieces};
+ghost use Rattle.html_bytes.specs.Html.{document_bytes};
 ghost use Rattle.block_rows.specs.Rows.{rows_size, row_size, rows_of, row_value, rows_value};
 ghost use Rattle.text_pieces.specs.Pieces.{piece_lines};
 ghost use Rattle.html_contents.specs.Texts.{KnowsTargets, document_by};
@@ -126,7 +126,7 @@ pub fn print_rows<'t, T: Tables, A: Allocator + Clone>(
     ensures { (ds : Targets) → KnowsTargets texts.now ds →
         (bs : Blocks) → (rows_value rows.items (piece_lines pieces.entry.items)).rows ≡ rows_of bs → CanBePrinted bs →
         let d = document_by T.Tables texts.now ds in
-        IfOk result (λ html. string_bytes html ≡ page_layout texts.now.options.now.compile (ending_bytes default_ending) (document_pieces d bs)) }
+        IfOk result (λ html. string_bytes html ≡ page_layout texts.now.options.now.compile (ending_bytes default_ending) (document_bytes d bs)) }
 {
     let mut printer = Printer {
         page: Page::new(alloc.clone()?, room, default_ending)?,

@@ -19,7 +19,7 @@ use Rattle.definition_inline.specs.Targets.{no_targets}
 use Rattle.definition_page.specs.TextTables.{TextTables}
 use Rattle.html_bytes.specs.Document.{Document, document, reading_of, document_meaning, text_of}
 use Rattle.definition_page.specs.Read.{context_of}
-use Rattle.html_bytes.specs.Html.{default_ending, blocks_html, marked_html}
+use Rattle.html_bytes.specs.Html.{text_ending, blocks_html, marked_html}
 use Rattle.html_bytes.specs.Layout.{layout_state, with_footnotes}
 use Rattle.html_bytes.specs.Pieces.{Piece, Bytes}
 use Rattle.html_bytes.proofs.SameLayout.{add, add_nil}
@@ -77,7 +77,7 @@ marked_page : (tables : TextTables) (line : List ℕ) (options : Options) (befor
     → IsTrimmedLine line → Begins (with_backslashes line)
     → marked_html tables before (with_backslashes line) options ≡ codes "<p>" ++ encode line ++ codes "</p>"
 marked_page tables line options before on h begins =
-    let ending = default_ending options (with_backslashes line) in
+    let ending = text_ending options (with_backslashes line) in
     ap (blocks_html tables options ending) (its_blocks options before line begins)
     ∙ paragraph_html tables options ending (block_line (with_backslashes line) None before ∷ []) (encode line)
     (line_says (document options tables no_targets) options.compile (ending_bytes ending) line before on h)

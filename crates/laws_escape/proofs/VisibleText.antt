@@ -30,7 +30,7 @@ use Rattle.definition_page.specs.Pieces.{is_fresh}
 use Rattle.html_bytes.specs.Pieces.{Piece, Bytes, Fresh, print}
 use Rattle.html_bytes.specs.Layout.{LayoutState, with_text, lay, nothing_laid, with_footnotes, page_layout}
 use Rattle.definition_page.specs.Read.{on_page, ends_blank}
-use Rattle.html_bytes.specs.Html.{silences, block_pieces, children_pieces, last_piece, document_pieces, default_ending, blocks_html, marked_html}
+use Rattle.html_bytes.specs.Html.{silences, block_bytes, children_bytes, last_piece, document_bytes, text_ending, blocks_html, marked_html}
 use Rattle.definition_block.specs.Definitions.{document_targets}
 use Rattle.definition_page.specs.TextTables.{TextTables}
 use Rattle.html_bytes.specs.Document.{Document, document, text_of}
@@ -318,7 +318,7 @@ module _ (d : Document) (off : d.options.parse.constructs ≡ no_constructs) (op
   lines_show ls p = pieces_add options default (text_of d ls) (plain_text ls) (said_in_lines ls) (text_is_plain d options default off ls p) (plain_shows ls p)
 
   paragraph_shows : (silent : Bool) (ls : List BlockLine) → AreText ls
-      → PiecesShow options default (block_pieces d on_page false silent (Paragraph ls)) (said_in_lines ls)
+      → PiecesShow options default (block_bytes d on_page false silent (Paragraph ls)) (said_in_lines ls)
   paragraph_shows silent ls p =
       let start = Fresh ∷ Bytes (codes "<p>") ∷ [] in
       let end = Bytes (codes "</p>") ∷ [] in
@@ -329,25 +329,25 @@ module _ (d : Document) (off : d.options.parse.constructs ≡ no_constructs) (op
       (pieces_bytes options default (codes "<p>") [] shows_p) in
       let more = pieces-append options default start text [] said first (lines_show ls p) in
       let all = pieces-append options default (start ++ text) end said [] more (pieces_bytes options default (codes "</p>") [] shows_end_of_p) in
-      subst (PiecesShow options default (block_pieces d on_page false silent (Paragraph ls))) (append-nil said) all
+      subst (PiecesShow options default (block_bytes d on_page false silent (Paragraph ls))) (append-nil said) all
 
-  ending_shows : (silent : Bool) (ending : Option LineEnding) → PiecesShow options default (block_pieces d on_page false silent (Ending ending)) []
+  ending_shows : (silent : Bool) (ending : Option LineEnding) → PiecesShow options default (block_bytes d on_page false silent (Ending ending)) []
   ending_shows silent ending =
       cond_both silent [] (Bytes (ending_text ending) ∷ []) (λ ps. PiecesShow options default ps [])
       (λ _. pieces_none options default)
       (λ _. pieces_bytes options default (ending_text ending) [] (shows_ending_text ending))
 
-  block_shows : (silent : Bool) (b : Block) → BlockIsText b → PiecesShow options default (block_pieces d on_page false silent b) (said_in_block b)
+  block_shows : (silent : Bool) (b : Block) → BlockIsText b → PiecesShow options default (block_bytes d on_page false silent b) (said_in_block b)
   block_shows silent (Paragraph ls) p = paragraph_shows silent ls p
   block_shows silent (Ending ending) p = ending_shows silent ending
   block_shows silent (Blank ending) p = pieces_none options default
   block_shows silent b p = absurd p
 
-  blocks_show : (silent : Bool) (bs : Blocks) → BlocksAreText bs → PiecesShow options default (children_pieces d on_page false silent bs) (said_in_blocks bs)
+  blocks_show : (silent : Bool) (bs : Blocks) → BlocksAreText bs → PiecesShow options default (children_bytes d on_page false silent bs) (said_in_blocks bs)
   blocks_show silent Nil p = pieces_none options default
   blocks_show silent (Cons b bs) p =
       let next = silences true false silent b in
-      pieces-append options default (block_pieces d on_page false silent b) (children_pieces d on_page false next bs) (said_in_block b) (said_in_blocks bs)
+      pieces-append options default (block_bytes d on_page false silent b) (children_bytes d on_page false next bs) (said_in_block b) (said_in_blocks bs)
       (block_shows silent b p.0) (blocks_show next bs p.1)
 
 -- blocks joined
@@ -519,13 +519,13 @@ no_section options default l t p = subst (λ x. Shows (with_footnotes options de
 
 -- a page shows what its blocks say
 document_shows : (d : Document) → d.options.parse.constructs ≡ no_constructs → (options : CompileOptions) (default : List ℕ) (bs : Blocks) → Shows default []
-    → BlocksAreText bs → Shows (page_layout options default (document_pieces d bs)) (said_in_blocks bs)
+    → BlocksAreText bs → Shows (page_layout options default (document_bytes d bs)) (said_in_blocks bs)
 document_shows d off options default bs nothing_shown p =
     let last = last_piece (ends_blank false bs) in
     let shown = blocks_show d off options default nothing_shown false bs p in
-    let all = pieces-append options default (children_pieces d on_page false false bs) last (said_in_blocks bs) [] shown
+    let all = pieces-append options default (children_bytes d on_page false false bs) last (said_in_blocks bs) [] shown
     (pieces_last options default (ends_blank false bs) nothing_shown) in
-    let laid_out = λ (cs : Blocks). fold (lay options default) nothing_laid (children_pieces d on_page false false cs ++ last) in
+    let laid_out = λ (cs : Blocks). fold (lay options default) nothing_laid (children_bytes d on_page false false cs ++ last) in
     subst (λ cs. Shows (with_footnotes options default (laid_out cs)) (said_in_blocks bs)) (sym (no_lists bs p))
     (subst (Shows (with_footnotes options default (laid_out bs))) (append-nil (said_in_blocks bs))
     (no_section options default (laid_out bs) (said_in_blocks bs ++ []) (all nothing_laid [] (λ y. refl))))
@@ -553,7 +553,7 @@ marked_page_shows : (tables : TextTables) (before : Kind) (text : List ℕ) (opt
     → options.parse.constructs ≡ no_constructs
     → visible false (marked_html tables before text options) ≡ all_said_by (lines text)
 marked_page_shows tables before text options p off =
-    let ending = default_ending options text in
+    let ending = text_ending options text in
     ap (λ on. visible false (blocks_html tables options ending (blocks on before text))) off ∙ page_shows tables options before text ending off p
 
 -- a text without a byte order mark has bytes, too

@@ -8,7 +8,7 @@ ghost use Rattle.markdown_options.specs.Messages.{IsOutOfMemory};
 ghost use Rattle.markdown_options.specs.Defaults.{default_options};
 ghost use Rattle.markdown_definition.specs.Html.{html};
 ghost use Rattle.html_contents.specs.Texts.{tables_by};
-ghost use Rattle.html_bytes.specs.Html.{marked_html, default_ending};
+ghost use Rattle.html_bytes.specs.Html.{marked_html, text_ending};
 ghost use Rattle.laws_safe_page.specs.SafeHtml.{AreSafe, HasOneReading};
 ghost use Rattle.markdown.specs.PageLaws.{QuotesPage, SaysEscapedLine, EndsPage, ListsPage};
 ghost use Rattle.markdown_tables.specs.Builtin.{builtin_tables};
@@ -144,7 +144,7 @@ fn room(len: usize) -> usize
 
 /// The first line ending of the text, or the other one if it has none.
 fn default_ending(text: &str, other: LineEnding) -> LineEnding
-    ensures { (options : Options) → options.compile.default_line_ending ≡ other → result ≡ default_ending options text.now }
+    ensures { (options : Options) → options.compile.default_line_ending ≡ other → result ≡ text_ending options text.now }
 {
     let (_, ending, _) = next_line(text);
     ending.unwrap_or(other)

@@ -1,6 +1,6 @@
 use Rattle.std.proofs.Common.{◌≡◌, ◌++◌, ℕ, ◌<◌, string_bytes, sym, subst, get_or, arith}
 use Rattle.std.specs.Result.{OnOk}
-use Rattle.html_bytes.specs.RawHtml.{raw_html}
+use Rattle.html_bytes.specs.RawHtml.{raw_bytes}
 use Rattle.html_leaves.proofs.Owed.{bytes_owed}
 use Rattle.html_leaves.proofs.html_flow.push_html_line.Goals as goal
 
@@ -8,5 +8,5 @@ pub returns : goal.returns
 returns g c = λ owed.
     let text = c.args.text.now in
     let bytes : (k : ℕ) → get_or text k 0 < 256 = λ k. omega (arith, c.type_inv.text k) in
-    subst (λ x. OnOk c.push_html.result (string_bytes c.push_html.new.out ≡ string_bytes c.args.out.now ++ raw_html c.args.options.now x))
+    subst (λ x. OnOk c.push_html.result (string_bytes c.push_html.new.out ≡ string_bytes c.args.out.now ++ raw_bytes c.args.options.now x))
     (sym (bytes_owed owed text bytes)) c.push_html.ensures

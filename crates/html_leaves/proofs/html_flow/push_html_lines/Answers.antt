@@ -5,7 +5,7 @@ use Rattle.definition_text.specs.Lines.{ending_text}
 use Rattle.definition_text.specs.Columns.{bytes_of}
 use Rattle.definition_text.specs.BlockLines.{BlockLine, own_lines, last_ending}
 use Rattle.html_bytes.specs.Html.{html_of}
-use Rattle.html_bytes.specs.RawHtml.{raw_html}
+use Rattle.html_bytes.specs.RawHtml.{raw_bytes}
 use Rattle.text_pieces.specs.Pieces.{piece_line, piece_lines}
 use Rattle.text_pieces.proofs.Pieces.{no_piece}
 use Rattle.text_pieces.proofs.OwnLines.{lines_printed, last_ending_more}
@@ -20,7 +20,7 @@ loop-line-preserved g c =
     let before = piece_lines (take i lines) in
     let piece = get_or lines i no_piece in
     let line : BlockLine = piece_line piece in
-    let body : List ℕ → List ℕ = λ codes. raw_html options (bytes_of codes) in
+    let body : List ℕ → List ℕ = λ codes. raw_bytes options (bytes_of codes) in
     let k = c.loop-line.invariant in
     let more : piece_lines (take (i + 1) lines) ≡ before ++ line ∷ [] = map_more piece_line lines i _ c.loop-line-test.true in
     record {

@@ -7,7 +7,7 @@ use Rattle.block_rows.specs.declared.row.Row.{Row}
 use Rattle.text_pieces.specs.declared.piece.Piece.{Piece}
 use Rattle.html_bytes.specs.Document.{document}
 use Rattle.html_bytes.specs.Layout.{page_layout}
-use Rattle.html_bytes.specs.Html.{document_pieces, blocks_html}
+use Rattle.html_bytes.specs.Html.{document_bytes, blocks_html}
 use Rattle.definition_block.specs.Definitions.{document_targets}
 use Rattle.markdown_options.specs.declared.beside.Kind.{Kind}
 use Rattle.markdown_options.specs.declared.configuration.Constructs.{Constructs}
@@ -45,11 +45,11 @@ print_rows-requires-clause-printable g c =
 
 -- the page of blocks, by an ending that is another's
 page_of_blocks : (tables : TextTables) (options : Options) (ending other : LineEnding) (bs : Blocks) (page : List ℕ) → ending ≡ other
-    → page ≡ page_layout options.compile (ending_bytes ending) (document_pieces (document options tables (document_targets bs)) bs)
+    → page ≡ page_layout options.compile (ending_bytes ending) (document_bytes (document options tables (document_targets bs)) bs)
     → page ≡ blocks_html tables options other bs
 page_of_blocks tables options ending other bs page is printed =
     printed
-    ∙ ap (λ (e : LineEnding). page_layout options.compile (ending_bytes e) (document_pieces (document options tables (document_targets bs)) bs)) is
+    ∙ ap (λ (e : LineEnding). page_layout options.compile (ending_bytes e) (document_bytes (document options tables (document_targets bs)) bs)) is
 
 pub returns : goal.returns
 returns g c =

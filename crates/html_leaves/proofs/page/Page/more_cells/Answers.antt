@@ -1,10 +1,8 @@
 use Rattle.std.proofs.Common.{◌≡◌, ◌∷◌, sym, ap, ◌∙◌, subst}
-use Rattle.std.specs.List.{flat_map}
 use Rattle.markdown_options.specs.LineEndings.{ending_bytes}
 use Rattle.block_cells.specs.GfmTable.{cell_view, cells_left}
-use Rattle.html_bytes.specs.Document.{cell_counts}
 use Rattle.html_contents.specs.Texts.{document_by}
-use Rattle.html_leaves.specs.GfmTable.{CellsAreClear}
+use Rattle.html_leaves.specs.GfmTable.{CellsAreClear, counts_bytes}
 use Rattle.html_leaves.specs.Prints.{layout_after, page_view}
 use Rattle.html_leaves.proofs.GfmTableLemmas.{counts_more}
 use Rattle.html_leaves.proofs.page.Page.more_cells.Goals as goal
@@ -23,7 +21,7 @@ loop-cell-preserved g c =
       printed = λ ds has clear.
           let d = document_by g.T.Tables c.args.texts.now ds in
           let here = page_view c.loop-cell.self in
-          ap (λ x. layout_after d.options.compile e x (flat_map (cell_counts d) left))
+          ap (λ x. layout_after d.options.compile e x (counts_bytes d left))
           (c.in_ok-count_cell.ensures ds has (subst CellsAreClear steps (k.clear clear)).0 (ending_bytes e))
           ∙ counts_more (ending_bytes e) d cs left found here steps
           ∙ k.printed ds has clear;
@@ -33,5 +31,5 @@ pub returns-clause-printed : goal.returns-clause-printed
 returns-clause-printed g c = λ ds has clear.
     let d = document_by g.T.Tables c.args.texts.now ds in
     let e = c.args.self.now.default_ending in
-    ap (λ cs. layout_after d.options.compile e (page_view c.loop-cell.self) (flat_map (cell_counts d) cs)) (sym c.in_default.ensures.steps.0)
+    ap (λ cs. layout_after d.options.compile e (page_view c.loop-cell.self) (counts_bytes d cs)) (sym c.in_default.ensures.steps.0)
     ∙ c.loop-cell.invariant.printed ds has clear

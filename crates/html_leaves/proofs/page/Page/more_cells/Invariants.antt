@@ -1,10 +1,8 @@
 use Rattle.std.proofs.Common.{◌≡◌, length}
-use Rattle.std.specs.List.{flat_map}
 use Rattle.definition_inline.specs.Targets.{Targets}
-use Rattle.html_bytes.specs.Document.{cell_counts}
 use Rattle.html_contents.specs.Texts.{KnowsTargets, document_by}
 use Rattle.block_cells.specs.GfmTable.{cells_left}
-use Rattle.html_leaves.specs.GfmTable.{CellsAreClear}
+use Rattle.html_leaves.specs.GfmTable.{CellsAreClear, counts_bytes}
 use Rattle.html_leaves.specs.Prints.{layout_after, page_view}
 use Rattle.html_leaves.proofs.page.Page.more_cells.Given as goal
 
@@ -15,8 +13,8 @@ invariant-loop-cell g l = record {
   clear : CellsAreClear (cells_left l.cells) → CellsAreClear (cells_left l.left);
   printed : (ds : Targets) → KnowsTargets l.texts ds → CellsAreClear (cells_left l.cells) →
       let d = document_by g.T.Tables l.texts ds in
-      layout_after d.options.compile l.initial.self.default_ending (page_view l.self) (flat_map (cell_counts d) (cells_left l.left))
-      ≡ layout_after d.options.compile l.initial.self.default_ending (page_view l.initial.self) (flat_map (cell_counts d) (cells_left l.cells));
+      layout_after d.options.compile l.initial.self.default_ending (page_view l.self) (counts_bytes d (cells_left l.left))
+      ≡ layout_after d.options.compile l.initial.self.default_ending (page_view l.initial.self) (counts_bytes d (cells_left l.cells));
 }
 
 abbrev pub decreases-loop-cell : goal.decreases-loop-cell

@@ -7,7 +7,8 @@ use Rattle.markdown_options.specs.LineEndings.{ending_bytes}
 use Rattle.definition_text.specs.BlockLines.{BlockLine, own_lines}
 use Rattle.markdown_options.specs.declared.align_kind.AlignKind.{AlignKind}
 use Rattle.definition_page.specs.GfmTable.{line_aligns}
-use Rattle.html_bytes.specs.GfmTable.{body_pieces, head_pieces, table_pieces}
+use Rattle.html_bytes.specs.Html.{table_bytes}
+use Rattle.html_leaves.specs.GfmTable.{head_bytes, body_bytes}
 use Rattle.html_contents.specs.Texts.{document_by}
 use Rattle.text_pieces.proofs.Pieces.{no_piece}
 use Rattle.text_pieces.specs.Pieces.{piece_line, piece_lines}
@@ -42,24 +43,24 @@ returns-clause-printed g c = λ ds has clear.
     let same_columns = c.deref.ensures.value ∙ c.in_ok-read_delimiters.ensures in
     let headed =
     c.in_ok-table_head.ensures.printed ds has clean.0
-    ∙ ap (λ (x : LineEnding). layout_after o x (page_view c.fresh.new.self) (head_pieces d columns head)) later
-    ∙ ap (λ x. layout_after o e x (head_pieces d columns head)) started
-    ∙ ap (λ (all : List AlignKind). layout_after o e start (head_pieces d all head)) same_columns in
-    let after_head = layout_after o e start (head_pieces d (line_aligns second) head) in
+    ∙ ap (λ (x : LineEnding). layout_after o x (page_view c.fresh.new.self) (head_bytes d columns head)) later
+    ∙ ap (λ x. layout_after o e x (head_bytes d columns head)) started
+    ∙ ap (λ (all : List AlignKind). layout_after o e start (head_bytes d all head)) same_columns in
+    let after_head = layout_after o e start (head_bytes d (line_aligns second) head) in
     let others = c.deref-2.result.now in
     let same_others = c.deref-2.ensures.value ∙ c.in_ok-read_delimiters.ensures in
     let rows = own_lines (piece_lines slice) in
     let bodied =
     c.in_ok-table_body.ensures.printed ds has (subst AreClear (sym same_rows) clean.1.1)
-    ∙ ap (λ (x : LineEnding). layout_after o x (page_view c.table_head.new.self) (body_pieces d others second.ending rows))
+    ∙ ap (λ (x : LineEnding). layout_after o x (page_view c.table_head.new.self) (body_bytes d others second.ending rows))
     (c.in_ok-table_head.ensures.default ∙ later)
-    ∙ ap (λ x. layout_after o e x (body_pieces d others second.ending rows)) headed
-    ∙ ap (λ (all : List AlignKind). layout_after o e after_head (body_pieces d all second.ending rows)) same_others
-    ∙ ap (λ (left : List BlockLine). layout_after o e after_head (body_pieces d (line_aligns second) second.ending (own_lines left))) same_rows in
+    ∙ ap (λ x. layout_after o e x (body_bytes d others second.ending rows)) headed
+    ∙ ap (λ (all : List AlignKind). layout_after o e after_head (body_bytes d all second.ending rows)) same_others
+    ∙ ap (λ (left : List BlockLine). layout_after o e after_head (body_bytes d (line_aligns second) second.ending (own_lines left))) same_rows in
     subst (λ x. OnOk c.fresh_tag-2.result (page_view c.fresh_tag-2.new.self ≡ x))
     (ap (λ (x : LineEnding). with_tag (ending_bytes x) (codes "</table>") (page_view c.table_body.new.self))
     (c.in_ok-table_body.ensures.default ∙ c.in_ok-table_head.ensures.default ∙ later)
     ∙ ap (with_tag default (codes "</table>")) bodied
     ∙ table_laid default d head second ls out
-    ∙ ap (λ (all : List BlockLine). layout_after o e out (table_pieces d (own_lines all))) (sym two))
+    ∙ ap (λ (all : List BlockLine). layout_after o e out (table_bytes d (own_lines all))) (sym two))
     c.fresh_tag-2.ensures.printed

@@ -1,6 +1,5 @@
 use Rattle.std.proofs.Common.{◌≡◌, ◌<◌, sym, ap, ◌∙◌, length, arith, subst}
 use Rattle.std.specs.Result.{OnOk}
-use Rattle.std.specs.List.{flat_map}
 use Rattle.std.proofs.lemmas.Bool.{eqb-false}
 use Rattle.std.proofs.lemmas.List.{length-map}
 use Rattle.std.specs.Prelude.{codes}
@@ -8,7 +7,7 @@ use Rattle.markdown_options.specs.declared.line_ending.LineEnding.{LineEnding}
 use Rattle.markdown_options.specs.LineEndings.{ending_bytes}
 use Rattle.definition_text.specs.BlockLines.{own_lines}
 use Rattle.text_pieces.specs.Pieces.{piece_line, piece_lines}
-use Rattle.html_bytes.specs.GfmTable.{body_row_pieces}
+use Rattle.html_leaves.specs.GfmTable.{rows_bytes}
 use Rattle.html_contents.specs.Texts.{document_by}
 use Rattle.html_leaves.specs.Prints.{layout_after, page_view, with_bytes, with_tag}
 use Rattle.html_leaves.proofs.GfmTableLemmas.{body_laid}
@@ -24,7 +23,7 @@ returns-clause-printed g c = λ ds has clear.
     let ending = c.args.ending in
     let ls = piece_lines c.args.rows.now in
     let start = page_view c.args.self.now in
-    let ps = flat_map (body_row_pieces d aligns) (own_lines ls) in
+    let ps = rows_bytes d aligns (own_lines ls) in
     let first = c.in_ok-say.ensures.default ∙ c.in_ok-push_ending.ensures.default in
     let opened = c.in_ok-say.ensures.printed ∙ ap (with_bytes (codes "<tbody>")) c.in_ok-push_ending.ensures.printed in
     let rows =

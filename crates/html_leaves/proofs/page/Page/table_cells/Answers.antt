@@ -6,14 +6,11 @@ use Rattle.markdown_options.specs.declared.align_kind.AlignKind.{AlignKind}
 use Rattle.markdown_options.specs.declared.align_kind.AlignKind.TheVariants as kind
 use Rattle.block_cells.specs.GfmTable.{cells_left}
 use Rattle.text_pieces.specs.Pieces.{piece_line}
-use Rattle.html_bytes.specs.GfmTable.{cells_pieces}
-use Rattle.html_leaves.specs.GfmTable.{CellsAreClear, cell_name, next_cell_pieces}
+use Rattle.html_leaves.specs.GfmTable.{CellsAreClear, cell_name, next_cell_bytes, cells_bytes, counts_bytes}
 use Rattle.html_leaves.specs.Prints.{layout_after, page_view}
 use Rattle.html_leaves.proofs.GfmTableLemmas.{cells_clear, cells_more, clear_taken, no_columns}
 use Rattle.std.proofs.Common.{subst}
-use Rattle.std.specs.List.{flat_map}
 use Rattle.std.specs.Result.{OnOk}
-use Rattle.html_bytes.specs.Document.{cell_counts}
 use Rattle.html_contents.specs.Texts.{document_by}
 use Rattle.html_leaves.proofs.page.Page.table_cells.Goals as goal
 
@@ -26,7 +23,7 @@ loop-align-init g c =
       printed = λ ds has clear.
           let d = document_by g.T.Tables c.args.texts.now ds in
           ap (λ cs. layout_after d.options.compile c.args.self.now.default_ending (page_view c.args.self.now)
-          (cells_pieces d (cell_name c.args.kind) c.args.aligns.now cs)) c.new-cells.ensures;
+          (cells_bytes d (cell_name c.args.kind) c.args.aligns.now cs)) c.new-cells.ensures;
     }
 
 pub loop-align-preserved : goal.loop-align-preserved
@@ -47,13 +44,13 @@ loop-align-preserved g c =
           let d = document_by g.T.Tables c.args.texts.now ds in
           let o = d.options.compile in
           let here = page_view c.loop-align.self in
-          let ps = next_cell_pieces d name align cell in
+          let ps = next_cell_bytes d name align cell in
           let rest = drop (i + 1) aligns in
-          ap (λ x. layout_after o e x (cells_pieces d name rest left))
+          ap (λ x. layout_after o e x (cells_bytes d name rest left))
           (c.in_ok-next_cell.ensures.printed ds has (clear_taken cs left cell c.next-cell.ensures.steps (k.clear clear)).0
           ∙ ap (λ (x : LineEnding). layout_after o x here ps) k.same_default)
           ∙ sym (cells_more (ending_bytes e) d name align rest cs left cell here c.next-cell.ensures.steps)
-          ∙ ap (λ columns. layout_after o e here (cells_pieces d name columns cs)) (sym (drop_more aligns i kind.Left c.loop-align-test.true))
+          ∙ ap (λ columns. layout_after o e here (cells_bytes d name columns cs)) (sym (drop_more aligns i kind.Left c.loop-align-test.true))
           ∙ k.printed ds has clear;
     }
 
@@ -67,7 +64,7 @@ returns-clause-printed g c = λ ds has clear.
     let here = page_view c.loop-align.self in
     let left = cells_left c.loop-align.cells in
     subst (λ x. OnOk c.more_cells.result (page_view c.more_cells.new.self ≡ x))
-    (ap (λ (x : LineEnding). layout_after o x here (flat_map (cell_counts d) left)) k.same_default
+    (ap (λ (x : LineEnding). layout_after o x here (counts_bytes d left)) k.same_default
     ∙ no_columns aligns c.loop-align.align-index (ending_bytes e) d (cell_name c.args.kind) left here c.loop-align-test.false
     ∙ k.printed ds has clear)
     (c.more_cells.ensures.printed ds has (k.clear clear))

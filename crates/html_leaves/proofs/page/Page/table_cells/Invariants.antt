@@ -1,12 +1,11 @@
 use Rattle.std.proofs.Common.{◌≡◌, drop}
 use Rattle.definition_inline.specs.Targets.{Targets}
 use Rattle.definition_block.specs.GfmTable.{line_cells}
-use Rattle.html_bytes.specs.GfmTable.{cells_pieces}
 use Rattle.html_contents.specs.Texts.{KnowsTargets, document_by}
 use Rattle.block_cells.specs.GfmTable.{cells_left}
 use Rattle.text_pieces.specs.ParagraphLines.{HaveNoEnding}
 use Rattle.text_pieces.specs.Pieces.{piece_line}
-use Rattle.html_leaves.specs.GfmTable.{CellsAreClear, cell_name}
+use Rattle.html_leaves.specs.GfmTable.{CellsAreClear, cell_name, cells_bytes}
 use Rattle.html_leaves.specs.Prints.{layout_after, page_view}
 use Rattle.html_leaves.proofs.page.Page.table_cells.Given as goal
 
@@ -18,7 +17,7 @@ invariant-loop-align g l = record {
   printed : (ds : Targets) → KnowsTargets l.texts ds → HaveNoEnding (piece_line l.line).codes →
       let d = document_by g.T.Tables l.texts ds in
       layout_after d.options.compile l.initial.self.default_ending (page_view l.self)
-      (cells_pieces d (cell_name l.kind) (drop l.align-index l.aligns) (cells_left l.cells))
+      (cells_bytes d (cell_name l.kind) (drop l.align-index l.aligns) (cells_left l.cells))
       ≡ layout_after d.options.compile l.initial.self.default_ending (page_view l.initial.self)
-      (cells_pieces d (cell_name l.kind) l.aligns (line_cells (piece_line l.line)));
+      (cells_bytes d (cell_name l.kind) l.aligns (line_cells (piece_line l.line)));
 }

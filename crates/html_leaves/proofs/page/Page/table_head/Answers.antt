@@ -5,7 +5,7 @@ use Rattle.markdown_options.specs.declared.line_ending.LineEnding.{LineEnding}
 use Rattle.markdown_options.specs.LineEndings.{ending_bytes}
 use Rattle.definition_text.specs.Lines.{ending_text}
 use Rattle.text_pieces.specs.Pieces.{piece_line}
-use Rattle.html_bytes.specs.GfmTable.{row_pieces}
+use Rattle.html_leaves.specs.GfmTable.{row_bytes}
 use Rattle.html_contents.specs.Texts.{document_by}
 use Rattle.html_leaves.specs.Prints.{layout_after, page_view, with_bytes, with_tag}
 use Rattle.html_leaves.proofs.GfmTableLemmas.{head_laid}
@@ -20,7 +20,7 @@ returns-clause-printed g c = λ ds has clear.
     let line = piece_line c.args.line.now in
     let aligns = c.args.aligns.now in
     let start = page_view c.args.self.now in
-    let ps = row_pieces d (codes "th") aligns line in
+    let ps = row_bytes d (codes "th") aligns line in
     let row =
     c.in_ok-table_line.ensures.printed ds has clear
     ∙ ap (λ (x : LineEnding). layout_after o x (page_view c.say.new.self) ps) c.in_ok-say.ensures.default

@@ -5,9 +5,8 @@ use Rattle.markdown_options.specs.declared.line_ending.LineEnding.{LineEnding}
 use Rattle.markdown_options.specs.LineEndings.{ending_bytes}
 use Rattle.definition_block.specs.GfmTable.{line_cells}
 use Rattle.text_pieces.specs.Pieces.{piece_line}
-use Rattle.html_bytes.specs.GfmTable.{cells_pieces}
 use Rattle.html_contents.specs.Texts.{document_by}
-use Rattle.html_leaves.specs.GfmTable.{cell_name}
+use Rattle.html_leaves.specs.GfmTable.{cell_name, cells_bytes}
 use Rattle.html_leaves.specs.Prints.{layout_after, page_view, with_tag}
 use Rattle.html_leaves.proofs.GfmTableLemmas.{row_laid}
 use Rattle.html_leaves.proofs.page.Page.table_line.Goals as goal
@@ -22,7 +21,7 @@ returns-clause-printed g c = λ ds has clear.
     let aligns = c.args.aligns.now in
     let name = cell_name c.args.kind in
     let start = page_view c.args.self.now in
-    let ps = cells_pieces d name aligns (line_cells line) in
+    let ps = cells_bytes d name aligns (line_cells line) in
     let first = c.in_ok-fresh_tag.ensures.default in
     let cells =
     c.in_ok-table_cells.ensures.printed ds has clear

@@ -1,8 +1,7 @@
 use Rattle.std.proofs.Common.{◌≡◌, take}
-use Rattle.std.specs.List.{flat_map}
 use Rattle.definition_inline.specs.Targets.{Targets}
 use Rattle.definition_text.specs.BlockLines.{own_lines, last_ending}
-use Rattle.html_bytes.specs.GfmTable.{body_row_pieces}
+use Rattle.html_leaves.specs.GfmTable.{rows_bytes}
 use Rattle.html_contents.specs.Texts.{KnowsTargets, document_by}
 use Rattle.text_pieces.specs.Pieces.{piece_lines}
 use Rattle.html_looseness.specs.Printable.{AreClear}
@@ -16,6 +15,6 @@ invariant-loop-row g l = record {
   printed : (ds : Targets) → KnowsTargets l.texts ds → AreClear (piece_lines l.rows) →
       let d = document_by g.T.Tables l.texts ds in
       page_view l.self ≡ layout_after d.options.compile l.initial.self.default_ending (page_view l.initial.self)
-      (flat_map (body_row_pieces d l.aligns) (own_lines (piece_lines (take l.row-index l.rows))));
+      (rows_bytes d l.aligns (own_lines (piece_lines (take l.row-index l.rows))));
   waits : l.waiting ≡ last_ending (piece_lines (take l.row-index l.rows));
 }
