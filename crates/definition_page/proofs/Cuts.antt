@@ -1,4 +1,4 @@
--- Pieces in which each footnote that starts ends: what they are outside of these, and the content of each.
+-- Pieces after one another: their calls, what they are outside of footnotes, and the content of each footnote.
 use Rattle.std.proofs.Common.{◌≡◌, ℕ, zero, suc, List, [], ◌∷◌, ◌++◌, reverse, refl, sym, ap, ◌∙◌, append_assoc}
 use Rattle.std.proofs.lemmas.List.{append-nil}
 use Rattle.markdown_options.specs.declared.configuration.CompileOptions.{CompileOptions}
@@ -7,9 +7,16 @@ use Rattle.definition_page.specs.GfmLabelStartFootnote.{call_pieces}
 use Rattle.definition_page.specs.Layout.{NamedCall, named_call, named_calls, times, call_of, with_calls, content, contents}
 use Rattle.definition_page.proofs.PlainLayout.{ArePlain, turned, plain_content, plain_outer, plain_contents}
 
--- ---- what calls print
+-- ---- calls
 
--- in pieces after one another
+-- those of pieces after one another
+pub calls_append : (ps qs : List Piece) → named_calls (ps ++ qs) ≡ named_calls ps ++ named_calls qs
+calls_append [] qs = refl
+calls_append (CallOf place label ∷ ps) qs = ap (λ cs. named_call place label ∷ cs) (calls_append ps qs)
+calls_append (CountOf place label ∷ ps) qs = ap (λ cs. named_call place label ∷ cs) (calls_append ps qs)
+calls_append (p ∷ ps) qs = calls_append ps qs
+
+-- what they print
 pub shown_append : (options : CompileOptions) (firsts earlier : List NamedCall) (ps qs : List Piece)
     → with_calls options firsts earlier (ps ++ qs)
     ≡ with_calls options firsts earlier ps ++ with_calls options firsts (earlier ++ named_calls ps) qs

@@ -40,7 +40,7 @@ abbrev pub ArePlain : List Piece → Type 0
 ArePlain [] = Unit {0}
 ArePlain (p ∷ ps) = IsPlain p × ArePlain ps
 
-plain_calls : (ps : List Piece) → ArePlain ps → named_calls ps ≡ []
+pub plain_calls : (ps : List Piece) → ArePlain ps → named_calls ps ≡ []
 plain_calls [] are = refl
 plain_calls (CallOf place label ∷ ps) are = absurd are.0
 plain_calls (CountOf place label ∷ ps) are = absurd are.0

@@ -15,7 +15,7 @@ use Rattle.definition_page.specs.GfmFootnoteDefinition.{Footnote, back_tag, arro
 use Rattle.definition_page.specs.GfmFootnoteDefinition.{content_pieces, item_tag, footnote_pieces, footnotes_pieces, section_heading_name, section_heading_tag}
 use Rattle.definition_page.specs.GfmFootnoteDefinition.{heading_pieces}
 use Rattle.definition_page.specs.GfmFootnoteDefinition.{section_tag, section_pieces}
-use Rattle.html_bytes.specs.Layout.{NoteCalls, note_of}
+use Rattle.definition_page.specs.Layout.{NamedCall, first_calls, times, footnote_of, called_footnotes}
 use Rattle.laws_endings.specs.Endings.{with_ending}
 use Rattle.laws_endings.proofs.Each.{Each}
 use Rattle.laws_endings.specs.PageLaws.{HasNoFeed, HaveNoFeeds}
@@ -139,18 +139,19 @@ module _ (e : LineEnding) (options : CompileOptions) where
         (element-with e options (codes "li") own own (Fresh ∷ other ++ Fresh ∷ []) (Fresh ∷ one ++ Fresh ∷ []) refl (item-with label)
         (then-fresh e options (Fresh ∷ other) (Fresh ∷ one) (fresh-then e options other one (content-with html backs (backs-with label calls)))))
 
-    footnotes-with : (notes : List (List ℕ)) (called : List NoteCalls)
-        → PiecesWith e options (footnotes_pieces options (map (note_of (map (with_ending e) notes)) called))
-        (footnotes_pieces options (map (note_of notes) called))
-    footnotes-with notes [] = no_pieces e options
-    footnotes-with notes (c ∷ cs) =
+    footnotes-with : (notes : List (List ℕ)) (calls cs : List NamedCall)
+        → PiecesWith e options (footnotes_pieces options (map (footnote_of calls (map (with_ending e) notes)) cs))
+        (footnotes_pieces options (map (footnote_of calls notes) cs))
+    footnotes-with notes calls [] = no_pieces e options
+    footnotes-with notes calls (c ∷ cs) =
         let html = slice_index_or notes c.place [] in
         let others = map (with_ending e) notes in
-        append-with e options (footnote_pieces options (note_of others c)) (footnote_pieces options (note_of notes c))
-        (footnotes_pieces options (map (note_of others) cs)) (footnotes_pieces options (map (note_of notes) cs))
-        (subst (λ text. PiecesWith e options (footnote_pieces options (note c.label c.count text)) (footnote_pieces options (note c.label c.count html)))
-        (sym (get_or-map (with_ending e) notes c.place [])) (footnote-with c.label c.count html))
-        (footnotes-with notes cs)
+        let count = times c.place calls in
+        append-with e options (footnote_pieces options (footnote_of calls others c)) (footnote_pieces options (footnote_of calls notes c))
+        (footnotes_pieces options (map (footnote_of calls others) cs)) (footnotes_pieces options (map (footnote_of calls notes) cs))
+        (subst (λ text. PiecesWith e options (footnote_pieces options (note c.label count text)) (footnote_pieces options (note c.label count html)))
+        (sym (get_or-map (with_ending e) notes c.place [])) (footnote-with c.label count html))
+        (footnotes-with notes calls cs)
 
     -- ---- the section
 
@@ -204,10 +205,12 @@ module _ (e : LineEnding) (options : CompileOptions) where
         (fresh-then e options (list others) (list ones)
         (element-with e options (codes "ol") [] [] (others ++ Fresh ∷ []) (ones ++ Fresh ∷ []) refl refl (then-fresh e options others ones p)))))))
 
-  pub section-with : (notes : List (List ℕ)) (called : List NoteCalls) → MayCall e options called
-      → PiecesWith e options (section_pieces options (map (note_of (map (with_ending e) notes)) called)) (section_pieces options (map (note_of notes) called))
+  pub section-with : (notes : List (List ℕ)) (calls : List NamedCall) → MayCall e options calls
+      → PiecesWith e options (section_pieces options (called_footnotes calls (map (with_ending e) notes)))
+      (section_pieces options (called_footnotes calls notes))
   section-with notes [] may = no_pieces e options
   section-with notes (c ∷ cs) (inl none) = absurd (omega (arith, ap length none))
   section-with notes (c ∷ cs) (inr fit) =
-      around-with fit (footnotes_pieces options (map (note_of (map (with_ending e) notes)) (c ∷ cs))) (footnotes_pieces options (map (note_of notes) (c ∷ cs)))
-      (footnotes-with fit notes (c ∷ cs))
+      around-with fit (footnotes_pieces options (called_footnotes (c ∷ cs) (map (with_ending e) notes)))
+      (footnotes_pieces options (called_footnotes (c ∷ cs) notes))
+      (footnotes-with fit notes (c ∷ cs) (first_calls (c ∷ cs)))

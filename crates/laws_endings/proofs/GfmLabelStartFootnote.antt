@@ -1,5 +1,5 @@
 -- Calls of footnotes, with another line ending in place of each LF: none is in them.
-use Rattle.std.proofs.Common.{ℕ, List, [], ◌∷◌, Option, None, Some, String, string_bytes, refl, sym, ap, arith, map, inr, All, decimal}
+use Rattle.std.proofs.Common.{ℕ, suc, List, [], ◌∷◌, Option, None, Some, String, string_bytes, refl, sym, ap, arith, map, inr, All, decimal, subst, append-nil}
 use Rattle.std.specs.Prelude.{codes, ◌≢◌, nat_le}
 use Rattle.std.proofs.lemmas.Bool.{cond_both, ne_eqb}
 use Rattle.std.proofs.lemmas.List.Elements.{All-tail}
@@ -10,13 +10,15 @@ use Rattle.definition_page.specs.Tags.{PrintedPart, Words, Number, Attribute, at
 use Rattle.definition_page.specs.Pieces.{Says, CallOf, CountOf}
 use Rattle.definition_page.specs.InlinePieces.{element}
 use Rattle.definition_page.specs.GfmLabelStartFootnote.{Call, text_or, id_prefix, footnote_id, count_says, call_id, leads_to_id, call_tag, call_pieces}
-use Rattle.html_bytes.specs.Layout.{layout_state, once_more, latest_call}
+use Rattle.definition_page.specs.Layout.{times, call_of}
+use Rattle.definition_page.proofs.PlainLayout.{ArePlain}
 use Rattle.laws_endings.specs.Endings.{with_ending}
 use Rattle.laws_endings.proofs.Each.{Each}
 use Rattle.laws_endings.specs.PageLaws.{HasNoFeed, HaveNoFeeds}
 use Rattle.laws_endings.proofs.Bytes.{IsNoFeed, given_no_feed, decimal_no_feed, percent_no_feed, kept}
 use Rattle.laws_endings.proofs.Saids.{SaidWith, SaidsWith, says_more, says_one, words-kept}
 use Rattle.laws_endings.proofs.Pieces.{BytesWith, AttributesWith, attribute-with, more_attributes, PiecesWith, said-with, element-with}
+use Rattle.laws_endings.proofs.Pieces.{CutWith, plain_cut, no_cut}
 
 -- ---- texts of the options
 
@@ -90,13 +92,16 @@ module _ (e : LineEnding) (options : CompileOptions) (place : ℕ) (label : List
   pub call_piece-with : PiecesWith e options (CallOf place label ∷ []) (CallOf place label ∷ [])
   call_piece-with = (
     (λ out. refl),
-    λ l may.
-        let called = once_more place label l.called in (
-          ap (λ t. layout_state t (map (with_ending e) l.outer) (map (with_ending e) l.notes) called)
-              ((call-with e options fit (latest_call place 1 called)).0 l.text),
-          inr fit,
-        ),
+    record {
+      calls = refl;
+      may = inr fit;
+      cut = λ firsts earlier.
+          let call : Call = call_of place (suc (times place earlier)) 1 firsts in
+          let ps = call_pieces options call in
+          let are : ArePlain ps = (tt, (tt, (tt, (tt, (tt, tt))))) in
+          subst (λ shown. CutWith e options shown shown) (sym (append-nil ps)) (plain_cut e options ps ps are are (call-with e options fit call).0);
+    },
   )
 
   pub count_piece-with : PiecesWith e options (CountOf place label ∷ []) (CountOf place label ∷ [])
-  count_piece-with = ((λ out. refl), λ l may. (refl, inr fit))
+  count_piece-with = ((λ out. refl), record { calls = refl; may = inr fit; cut = λ firsts earlier. no_cut e options })

@@ -1,11 +1,13 @@
 -- With an ending in place of each LF, a text prints its page with that ending.
 use Rattle.std.proofs.Common.{◌≡◌, ℕ, zero, suc, ◌<◌, Bool, true, false, cond, eqb, ◌||◌, not, List, [], ◌∷◌, ◌++◌, Option, None, Some, refl, sym, ap, ◌∙◌}
-use Rattle.std.proofs.Common.{arith, map, drop, length, slice_index_or, All, inl, inr, ◌⊎◌}
+use Rattle.std.proofs.Common.{arith, map, drop, length, slice_index_or, All, inl, inr, ◌⊎◌, reverse}
 use Rattle.std.specs.Prelude.{◌≢◌, is_some, unwrap_or}
+use Rattle.std.specs.List.{fold}
 use Rattle.std.specs.Option.{option_map}
 use Rattle.std.proofs.Math.ListN.{get_or-map}
 use Rattle.std.proofs.lemmas.Bool.{cond_both, ne_eqb, eqb-true, eq-eqb, or_left, or_right, true≢false, and_parts}
 use Rattle.std.proofs.lemmas.List.Elements.{All-tail, All-drop}
+use Rattle.std.proofs.lemmas.List.Sums.{fold-append}
 use Rattle.markdown_options.specs.declared.line_ending.LineEnding.{LineEnding}
 use Rattle.markdown_options.specs.declared.line_ending.LineEnding.TheVariants.{LineFeed}
 use Rattle.markdown_options.specs.declared.configuration.CompileOptions.{CompileOptions}
@@ -26,10 +28,10 @@ use Rattle.definition_inline.specs.Targets.{labels_of, no_definition, linked_at,
 use Rattle.definition_block.specs.Definitions.{document_definitions}
 use Rattle.definition_inline.specs.Targets.{is_footnote_of}
 use Rattle.definition_page.specs.Page.{Page}
-use Rattle.definition_page.specs.Pieces.{Piece}
-use Rattle.definition_page.specs.Layout.{page_layout}
-use Rattle.html_bytes.specs.Layout.{nothing_laid}
-use Rattle.html_bytes.proofs.LayoutSteps.{with_section, steps_same}
+use Rattle.definition_page.specs.Pieces.{Piece, print}
+use Rattle.definition_page.specs.GfmFootnoteDefinition.{section_pieces}
+use Rattle.definition_page.specs.Layout.{named_calls, first_calls, with_calls, content, contents, layout, called_footnotes, page_layout}
+use Rattle.definition_page.proofs.Cuts.{outside_is, insides_are}
 use Rattle.definition_page.specs.InlinePieces.{Meaning}
 use Rattle.definition_page.specs.BlockPieces.{at_top, fresh_unless, children_pieces}
 use Rattle.definition_page.specs.DocumentPieces.{pieces, default_ending}
@@ -46,7 +48,7 @@ use Rattle.laws_endings.proofs.Fits.{Single, Plain, TitleFits}
 use Rattle.laws_endings.proofs.BlockReads.{BlockFits, BlocksFit, blocks_fit}
 use Rattle.laws_endings.proofs.TextLines.{ByteFits, text_lines_fit}
 use Rattle.laws_endings.proofs.Marks.{without_mark-with, kind_before-with}
-use Rattle.laws_endings.proofs.Pieces.{PiecesWith, append-with, laid_out}
+use Rattle.laws_endings.proofs.Pieces.{PiecesWith, append-with}
 use Rattle.laws_endings.proofs.GfmFootnoteDefinition.{section-with}
 use Rattle.laws_endings.proofs.NoFootnotes.{no_footnotes}
 use Rattle.laws_endings.proofs.Printed.{LinkedFits, linked_with}
@@ -136,12 +138,28 @@ module _ (e : LineEnding) (ds : List Definition) where
 page_layout-with : (e : LineEnding) (options : CompileOptions) (others ones : List Piece) → PiecesWith e options others ones
     → page_layout options (ending_bytes e) others ≡ with_ending e (page_layout options (ending_bytes LineFeed) ones)
 page_layout-with e options others ones p =
-    let both = p.1 nothing_laid (inl refl) in
-    let l = laid_out e options nothing_laid ones in
-    steps_same options (ending_bytes e) others
-    ∙ ap (with_section options (ending_bytes e)) both.0
-    ∙ (section-with e options l.notes l.called both.1).0 l.text
-    ∙ sym (ap (with_ending e) (steps_same options (ending_bytes LineFeed) ones))
+    let calls = named_calls ones in
+    let cut = p.1.cut (first_calls calls) [] in
+    let other_shown = with_calls options (first_calls calls) [] others in
+    let one_shown = with_calls options (first_calls calls) [] ones in
+    let section : List (List ℕ) → List Piece = λ notes. section_pieces options (called_footnotes calls notes) in
+    let page : List ℕ → List Piece → List (List Piece) → List ℕ = λ default outside insides.
+    layout default (outside ++ section (map (layout default) insides)) in
+    let default = ending_bytes LineFeed in
+    let notes = map (layout default) cut.one_insides in
+    let text = layout default cut.one_outside in
+    ap (λ cs. let shown = with_calls options (first_calls cs) [] others in layout (ending_bytes e) (content zero (reverse shown)
+    ++ section_pieces options (called_footnotes cs (map (layout (ending_bytes e)) (contents [] shown))))) p.1.calls
+    ∙ ap (λ outside. page (ending_bytes e) outside (contents [] other_shown)) (outside_is other_shown cut.other_outside cut.other_insides cut.other_cut)
+    ∙ ap (page (ending_bytes e) cut.other_outside) (insides_are other_shown cut.other_outside cut.other_insides cut.other_cut)
+    ∙ ap (λ notes. layout (ending_bytes e) (cut.other_outside ++ section notes)) cut.insides_with
+    ∙ fold-append (print (ending_bytes e)) [] cut.other_outside (section (map (with_ending e) notes))
+    ∙ ap (λ out. fold (print (ending_bytes e)) out (section (map (with_ending e) notes))) (cut.outside_with [])
+    ∙ (section-with e options notes calls p.1.may).0 text
+    ∙ sym (ap (with_ending e)
+    (ap (λ outside. page default outside (contents [] one_shown)) (outside_is one_shown cut.one_outside cut.one_insides cut.one_cut)
+    ∙ ap (page default cut.one_outside) (insides_are one_shown cut.one_outside cut.one_insides cut.one_cut)
+    ∙ fold-append (print default) [] cut.one_outside (section notes)))
 
 module _ (e : LineEnding) (tables : TextTables) (options : Options) (bs : tree.Blocks) (fit : BlocksFit bs)
     (notes : (footnotes bs ≡ []) ⊎ HaveNoFeeds options.compile) where

@@ -1,6 +1,6 @@
 -- Pieces of a page with another line ending in place of each LF.
 use Rattle.std.proofs.Common.{◌≡◌, ℕ, Bool, true, false, cond, List, [], ◌∷◌, ◌++◌, refl, sym, ap, ◌∙◌, map, fold, append_assoc, append-nil, flat_map, subst}
-use Rattle.std.proofs.Common.{◌⊎◌}
+use Rattle.std.proofs.Common.{◌⊎◌, inl, inr}
 use Rattle.std.specs.Prelude.{codes}
 use Rattle.std.proofs.lemmas.List.{map-append}
 use Rattle.std.proofs.lemmas.List.Sums.{fold-append}
@@ -10,10 +10,10 @@ use Rattle.markdown_options.specs.declared.configuration.CompileOptions.{Compile
 use Rattle.markdown_options.specs.LineEndings.{ending_bytes}
 use Rattle.definition_page.specs.Tags.{PrintedPart, said_bytes, Attribute, attribute_bytes, tag, tag_bytes, start_tag, end_tag, void_tag}
 use Rattle.definition_page.specs.Pieces.{Piece, Open, Close, Void, Says, Eol, Fresh, NoteStart, NoteEnd, is_fresh, print}
-use Rattle.html_bytes.specs.Layout.{NoteCalls, LayoutState, layout_state, note_end}
+use Rattle.definition_page.specs.Layout.{NamedCall, named_calls, with_calls, layout}
 use Rattle.definition_page.specs.InlinePieces.{element}
-use Rattle.definition_page.proofs.PlainLayout.{ArePlain}
-use Rattle.html_bytes.proofs.LayoutSteps.{lay, plain_laid}
+use Rattle.definition_page.proofs.PlainLayout.{ArePlain, plain_calls, uncalled_shown}
+use Rattle.definition_page.proofs.Cuts.{calls_append, shown_append, Cut, cut_plain, cut_append, cut_note}
 use Rattle.laws_endings.specs.Endings.{with_ending}
 use Rattle.laws_endings.specs.PageLaws.{HaveNoFeeds}
 use Rattle.laws_endings.proofs.Bytes.{fresh-with}
@@ -69,31 +69,15 @@ module _ (e : LineEnding) where
   end-with name p =
       then-with e (codes "</" ++ name) (codes "</" ++ name) (codes ">") (codes ">") (then-with e (codes "</") (codes "</") name name refl p) refl
 
-  -- ---- what is laid out
-
   abbrev pub default : List ℕ
   default = ending_bytes LineFeed
-
-  -- texts and footnotes with this ending in place of each LF, after the same calls
-  abbrev pub laid_with : LayoutState → LayoutState
-  laid_with l = layout_state (with_ending e l.text) (map (with_ending e) l.outer) (map (with_ending e) l.notes) l.called
-
-  note_ended-with : (text : List ℕ) (outer notes : List (List ℕ)) (called : List NoteCalls)
-      → note_end (with_ending e text) (map (with_ending e) outer) (map (with_ending e) notes) called ≡ laid_with (note_end text outer notes called)
-  note_ended-with text [] notes called = ap (λ all. layout_state [] [] all called) (sym (map-append (with_ending e) notes (text ∷ [])))
-  note_ended-with text (around ∷ others) notes called =
-      ap (λ all. layout_state (with_ending e around) (map (with_ending e) others) all called) (sym (map-append (with_ending e) notes (text ∷ [])))
-
-  called_same : (text : List ℕ) (outer notes : List (List ℕ)) (called : List NoteCalls) → (note_end text outer notes called).called ≡ called
-  called_same text [] notes called = refl
-  called_same text (around ∷ others) notes called = refl
 
   module _ (options : CompileOptions) where
     -- ---- pieces
 
     -- where a footnote is called, the texts of the options hold no LF
-    abbrev pub MayCall : List NoteCalls → Type 0
-    MayCall called = (called ≡ []) ⊎ HaveNoFeeds options
+    abbrev pub MayCall : List NamedCall → Type 0
+    MayCall calls = (calls ≡ []) ⊎ HaveNoFeeds options
 
     abbrev pub printed : List ℕ → List Piece → List ℕ
     printed out ps = fold (print default) out ps
@@ -101,61 +85,134 @@ module _ (e : LineEnding) where
     abbrev pub printed_with : List ℕ → List Piece → List ℕ
     printed_with out ps = fold (print (ending_bytes e)) out ps
 
-    abbrev pub laid_out : LayoutState → List Piece → LayoutState
-    laid_out l ps = fold (lay options default) l ps
-
-    abbrev pub laid_out_with : LayoutState → List Piece → LayoutState
-    laid_out_with l ps = fold (lay options (ending_bytes e)) l ps
+    abbrev pub shown : List NamedCall → List NamedCall → List Piece → List Piece
+    shown firsts earlier ps = with_calls options firsts earlier ps
 
     -- after whatever was printed, pieces print what others do with this ending in place of each LF
     abbrev pub PrintWith : List Piece → List Piece → Type 0
     PrintWith others ones = (out : List ℕ) → printed_with (with_ending e out) others ≡ with_ending e (printed out ones)
 
-    -- after whatever was laid out, so they lay out
-    abbrev pub LayWith : List Piece → List Piece → Type 0
-    LayWith others ones =
-        (l : LayoutState) → MayCall l.called → (laid_out_with (laid_with l) others ≡ laid_with (laid_out l ones)) × MayCall (laid_out l ones).called
+    -- so they print outside of footnotes and in each
+    pub record CutWith (others ones : List Piece) : Type 0 where
+      pub other_outside : List Piece
+      pub one_outside : List Piece
+      pub other_insides : List (List Piece)
+      pub one_insides : List (List Piece)
+      pub other_cut : Cut others other_outside other_insides
+      pub one_cut : Cut ones one_outside one_insides
+      pub outside_with : PrintWith other_outside one_outside
+      pub insides_with : map (layout (ending_bytes e)) other_insides ≡ map (with_ending e) (map (layout default) one_insides)
+
+    -- they have the same calls, and print so with what these print, whatever calls come first and before them
+    pub record CallWith (others ones : List Piece) : Type 0 where
+      pub calls : named_calls others ≡ named_calls ones
+      pub may : MayCall (named_calls ones)
+      pub cut : (firsts earlier : List NamedCall) → CutWith (shown firsts earlier others) (shown firsts earlier ones)
 
     abbrev pub PiecesWith : List Piece → List Piece → Type 0
-    PiecesWith others ones = PrintWith others ones × LayWith others ones
+    PiecesWith others ones = PrintWith others ones × CallWith others ones
+
+    -- pieces that footnotes don't need
+    pub plain_cut : (others ones : List Piece) → ArePlain others → ArePlain ones → PrintWith others ones → CutWith others ones
+    plain_cut others ones a b p = record {
+      other_outside = others;
+      one_outside = ones;
+      other_insides = [];
+      one_insides = [];
+      other_cut = cut_plain others a;
+      one_cut = cut_plain ones b;
+      outside_with = p;
+      insides_with = refl;
+    }
+
+    pub no_cut : CutWith [] []
+    no_cut = plain_cut [] [] tt tt (λ out. refl)
 
     pub no_pieces : PiecesWith [] []
-    no_pieces = ((λ out. refl), λ l may. (refl, may))
+    no_pieces = ((λ out. refl), record { calls = refl; may = inl refl; cut = λ firsts earlier. no_cut })
+
+    print_append : (others ones others' ones' : List Piece) → PrintWith others ones → PrintWith others' ones' → PrintWith (others ++ others') (ones ++ ones')
+    print_append others ones others' ones' p q out =
+        fold-append (print (ending_bytes e)) (with_ending e out) others others'
+        ∙ ap (λ t. printed_with t others') (p out)
+        ∙ q (printed out ones)
+        ∙ sym (ap (with_ending e) (fold-append (print default) out ones ones'))
+
+    insides_append : (xs' ys' xs ys : List (List Piece))
+        → map (layout (ending_bytes e)) xs' ≡ map (with_ending e) (map (layout default) xs)
+        → map (layout (ending_bytes e)) ys' ≡ map (with_ending e) (map (layout default) ys)
+        → map (layout (ending_bytes e)) (xs' ++ ys') ≡ map (with_ending e) (map (layout default) (xs ++ ys))
+    insides_append xs' ys' xs ys p q =
+        map-append (layout (ending_bytes e)) xs' ys'
+        ∙ ap (λ all. all ++ map (layout (ending_bytes e)) ys') p
+        ∙ ap (λ all. map (with_ending e) (map (layout default) xs) ++ all) q
+        ∙ sym (ap (map (with_ending e)) (map-append (layout default) xs ys) ∙ map-append (with_ending e) (map (layout default) xs) (map (layout default) ys))
+
+    cut_after : (others ones others' ones' : List Piece) → CutWith others ones → CutWith others' ones' → CutWith (others ++ others') (ones ++ ones')
+    cut_after others ones others' ones' p q = record {
+      other_outside = p.other_outside ++ q.other_outside;
+      one_outside = p.one_outside ++ q.one_outside;
+      other_insides = p.other_insides ++ q.other_insides;
+      one_insides = p.one_insides ++ q.one_insides;
+      other_cut = cut_append others others' p.other_outside q.other_outside p.other_insides q.other_insides p.other_cut q.other_cut;
+      one_cut = cut_append ones ones' p.one_outside q.one_outside p.one_insides q.one_insides p.one_cut q.one_cut;
+      outside_with = print_append p.other_outside p.one_outside q.other_outside q.one_outside p.outside_with q.outside_with;
+      insides_with = insides_append p.other_insides q.other_insides p.one_insides q.one_insides p.insides_with q.insides_with;
+    }
+
+    -- what was said of both of two lists of pieces with calls
+    shown_both : (others ones others' ones' : List Piece) (firsts earlier : List NamedCall)
+        → CutWith (shown firsts earlier others ++ shown firsts (earlier ++ named_calls others) others')
+        (shown firsts earlier ones ++ shown firsts (earlier ++ named_calls ones) ones')
+        → CutWith (shown firsts earlier (others ++ others')) (shown firsts earlier (ones ++ ones'))
+    shown_both others ones others' ones' firsts earlier p =
+        subst (λ ps. CutWith ps (shown firsts earlier (ones ++ ones'))) (sym (shown_append options firsts earlier others others'))
+        (subst (CutWith (shown firsts earlier others ++ shown firsts (earlier ++ named_calls others) others'))
+        (sym (shown_append options firsts earlier ones ones')) p)
+
+    may_both : (cs ds : List NamedCall) → MayCall cs → MayCall ds → MayCall (cs ++ ds)
+    may_both cs ds (inl none) (inl no_more) = inl (ap (λ calls. calls ++ ds) none ∙ no_more)
+    may_both cs ds (inl none) (inr fit) = inr fit
+    may_both cs ds (inr fit) may = inr fit
 
     pub append-with : (others ones others' ones' : List Piece) → PiecesWith others ones → PiecesWith others' ones'
         → PiecesWith (others ++ others') (ones ++ ones')
     append-with others ones others' ones' p q = (
-      (λ out. fold-append (print (ending_bytes e)) (with_ending e out) others others'
-          ∙ ap (λ t. printed_with t others') (p.0 out)
-          ∙ q.0 (printed out ones)
-          ∙ sym (ap (with_ending e) (fold-append (print default) out ones ones'))),
-      λ l may.
-          let first = p.1 l may in
-          let next = q.1 (laid_out l ones) first.1 in
-          let whole = fold-append (lay options default) l ones ones' in (
-            fold-append (lay options (ending_bytes e)) (laid_with l) others others'
-                ∙ ap (λ t. laid_out_with t others') first.0
-                ∙ next.0
-                ∙ sym (ap laid_with whole),
-            subst (λ (t : LayoutState). MayCall t.called) (sym whole) next.1,
-          ),
+      print_append others ones others' ones' p.0 q.0,
+      record {
+        calls =
+            calls_append others others' ∙ ap (λ cs. cs ++ named_calls others') p.1.calls ∙ ap (λ cs. named_calls ones ++ cs) q.1.calls
+            ∙ sym (calls_append ones ones');
+        may = subst MayCall (sym (calls_append ones ones')) (may_both (named_calls ones) (named_calls ones') p.1.may q.1.may);
+        cut = λ firsts earlier.
+            let now = earlier ++ named_calls others in
+            let first = p.1.cut firsts earlier in
+            let next : CutWith (shown firsts now others') (shown firsts (earlier ++ named_calls ones) ones') =
+            subst (λ cs. CutWith (shown firsts now others') (shown firsts (earlier ++ cs) ones')) p.1.calls (q.1.cut firsts now) in
+            shown_both others ones others' ones' firsts earlier
+            (cut_after (shown firsts earlier others) (shown firsts earlier ones) (shown firsts now others') (shown firsts (earlier ++ named_calls ones) ones')
+            first next);
+      },
     )
 
     pub more-with : (other one : Piece) (others ones : List Piece) → PiecesWith (other ∷ []) (one ∷ []) → PiecesWith others ones
         → PiecesWith (other ∷ others) (one ∷ ones)
     more-with other one others ones p q = append-with (other ∷ []) (one ∷ []) others ones p q
 
-    -- pieces that footnotes don't need lay out what they print
+    -- pieces that footnotes don't need
+    plain_shown : (ps : List Piece) → ArePlain ps → (firsts earlier : List NamedCall) → shown firsts earlier ps ≡ ps
+    plain_shown ps are firsts earlier = uncalled_shown options firsts earlier ps (plain_calls ps are)
+
     plain-with : (others ones : List Piece) → ArePlain others → ArePlain ones → PrintWith others ones → PiecesWith others ones
     plain-with others ones a b p = (
       p,
-      λ l may.
-          let whole = plain_laid options default ones b l in (
-            plain_laid options (ending_bytes e) others a (laid_with l)
-                ∙ ap (λ t. layout_state t (map (with_ending e) l.outer) (map (with_ending e) l.notes) l.called) (p l.text)
-                ∙ sym (ap laid_with whole),
-            subst (λ (t : LayoutState). MayCall t.called) (sym whole) may,
-          ),
+      record {
+        calls = plain_calls others a ∙ sym (plain_calls ones b);
+        may = inl (plain_calls ones b);
+        cut = λ firsts earlier.
+            subst (λ ps. CutWith ps (shown firsts earlier ones)) (sym (plain_shown others a firsts earlier))
+            (subst (CutWith others) (sym (plain_shown ones b firsts earlier)) (plain_cut others ones a b p));
+      },
     )
 
     bytes_printed : (out others ones : List ℕ) → BytesWith others ones → with_ending e out ++ others ≡ with_ending e (out ++ ones)
@@ -228,14 +285,31 @@ module _ (e : LineEnding) where
 
     -- ---- footnotes
 
-    pub note_start-with : PiecesWith (NoteStart ∷ []) (NoteStart ∷ [])
-    note_start-with = ((λ out. refl), λ l may. (refl, may))
+    note_cut : (others ones : List Piece) → CutWith others ones → CutWith (NoteStart ∷ (others ++ NoteEnd ∷ [])) (NoteStart ∷ (ones ++ NoteEnd ∷ []))
+    note_cut others ones p = record {
+      other_outside = [];
+      one_outside = [];
+      other_insides = p.other_insides ++ p.other_outside ∷ [];
+      one_insides = p.one_insides ++ p.one_outside ∷ [];
+      other_cut = cut_note others p.other_outside p.other_insides p.other_cut;
+      one_cut = cut_note ones p.one_outside p.one_insides p.one_cut;
+      outside_with = λ out. refl;
+      insides_with =
+          insides_append p.other_insides (p.other_outside ∷ []) p.one_insides (p.one_outside ∷ []) p.insides_with
+          (ap (λ html. html ∷ []) (p.outside_with []));
+    }
 
-    pub note_end-with : PiecesWith (NoteEnd ∷ []) (NoteEnd ∷ [])
-    note_end-with = (
-      (λ out. refl),
-      λ l may. (
-        note_ended-with l.text l.outer l.notes l.called,
-        subst MayCall (sym (called_same l.text l.outer l.notes l.called)) may,
-      ),
-    )
+    -- a footnote around pieces
+    pub note-with : (others ones : List Piece) → PiecesWith others ones → PiecesWith (NoteStart ∷ (others ++ NoteEnd ∷ [])) (NoteStart ∷ (ones ++ NoteEnd ∷ []))
+    note-with others ones p =
+        let end = NoteEnd ∷ [] in (
+          print_append others ones end end p.0 (λ out. refl),
+          record {
+            calls = calls_append others end ∙ ap (λ cs. cs ++ []) p.1.calls ∙ sym (calls_append ones end);
+            may = subst MayCall (sym (calls_append ones end ∙ append-nil (named_calls ones))) p.1.may;
+            cut = λ firsts earlier.
+                subst (λ ps. CutWith (NoteStart ∷ ps) (NoteStart ∷ shown firsts earlier (ones ++ end))) (sym (shown_append options firsts earlier others end))
+                (subst (λ ps. CutWith (NoteStart ∷ (shown firsts earlier others ++ end)) (NoteStart ∷ ps)) (sym (shown_append options firsts earlier ones end))
+                (note_cut (shown firsts earlier others) (shown firsts earlier ones) (p.1.cut firsts earlier)));
+          },
+        )

@@ -34,8 +34,7 @@ use Rattle.laws_endings.proofs.Bytes.{IsNoFeed, decimal_no_feed, with-append, ke
 use Rattle.laws_endings.proofs.Saids.{plains_no_feed, codes-kept, SaidWith, SaidsWith, says_more, says_one, says_append, words-kept, raw-kept}
 use Rattle.laws_endings.specs.PageLaws.{HaveNoFeeds}
 use Rattle.laws_endings.proofs.Pieces.{BytesWith, AttributesWith, attribute-with, more_attributes, PiecesWith, no_pieces, append-with, more-with}
-use Rattle.laws_endings.proofs.Pieces.{said-with, void_piece-with, eol_piece-with, fresh_piece-with, element-with, saids-with, note_start-with}
-use Rattle.laws_endings.proofs.Pieces.{note_end-with}
+use Rattle.laws_endings.proofs.Pieces.{said-with, void_piece-with, eol_piece-with, fresh_piece-with, element-with, saids-with, note-with}
 use Rattle.laws_endings.proofs.Printed.{LinkedFits, linked_with, counts-with, inlines-with}
 use Rattle.laws_endings.proofs.PrintedTable.{RowFits, TableFits, row_with, table_with}
 use Rattle.laws_endings.proofs.Pages.{page_block_with, page_blocks_with, InfoFits, PageBlockFits, PageFits}
@@ -355,8 +354,7 @@ module _ (e : LineEnding) where
       block-with place before (Footnote label kids) p =
           let kids' = children_pieces m' (inside false) None (page_blocks_with e kids) in
           let ps = children_pieces m (inside false) None kids in
-          more-with e m.compile NoteStart NoteStart (kids' ++ NoteEnd ∷ []) (ps ++ NoteEnd ∷ []) (note_start-with e m.compile)
-          (append-with e m.compile kids' ps (NoteEnd ∷ []) (NoteEnd ∷ []) (children-with (inside false) None kids p) (note_end-with e m.compile))
+          note-with e m.compile kids' ps (children-with (inside false) None kids p)
       block-with place before (Ending ending) p =
           subst (λ silent. PiecesWith e m.compile (cond silent [] (Says (Words (ending_bytes (ending_with e ending))) ∷ []))
           (cond (is_silent place before) [] (Says (Words (ending_bytes ending)) ∷ [])))

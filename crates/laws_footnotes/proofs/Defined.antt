@@ -26,6 +26,7 @@ use Rattle.definition_page.specs.DocumentPieces.{meaning_of}
 use Rattle.definition_page.specs.Page.{Page, Block, Paragraph, Heading, IndentedCode, FencedCode, Html, Table, Quote, ItemList, Item, Footnote, Ending, Blocks}
 use Rattle.definition_page.specs.Page.{Nil, Cons}
 use Rattle.definition_page.specs.Layout.{NamedCall, named_call, named_calls}
+use Rattle.definition_page.proofs.Cuts.{calls_append}
 use Rattle.laws_footnotes.specs.Defined.{HasDefinition, CallHasDefinitionLaw}
 
 -- ---- labels
@@ -41,20 +42,6 @@ leads_there labels label place found =
     (within, sym ((bytes_eq-Decides normal (get_or (map normal_label labels) place [])).0 is.1 ∙ there))
 
 -- ---- pieces
-
--- the calls of pieces after one another
-pub calls_append : (xs ys : List Piece) → named_calls (xs ++ ys) ≡ named_calls xs ++ named_calls ys
-calls_append [] ys = refl
-calls_append (CallOf place label ∷ xs) ys = ap (λ (ks : List NamedCall). named_call place label ∷ ks) (calls_append xs ys)
-calls_append (CountOf place label ∷ xs) ys = ap (λ (ks : List NamedCall). named_call place label ∷ ks) (calls_append xs ys)
-calls_append (NoteStart ∷ xs) ys = calls_append xs ys
-calls_append (NoteEnd ∷ xs) ys = calls_append xs ys
-calls_append (Open t ∷ xs) ys = calls_append xs ys
-calls_append (Close name ∷ xs) ys = calls_append xs ys
-calls_append (Void t ∷ xs) ys = calls_append xs ys
-calls_append (Says said ∷ xs) ys = calls_append xs ys
-calls_append (Eol ∷ xs) ys = calls_append xs ys
-calls_append (Fresh ∷ xs) ys = calls_append xs ys
 
 module _ (m : Meaning) where
   abbrev Has : NamedCall → Type 0

@@ -4,8 +4,8 @@ use Rattle.std.proofs.lemmas.List.{append-nil}
 use Rattle.std.proofs.lemmas.List.Elements.{filter-append}
 use Rattle.definition_page.specs.Pieces.{CallOf}
 use Rattle.definition_page.specs.Layout.{NamedCall, named_call, named_calls, of_others, first_calls}
+use Rattle.definition_page.proofs.Cuts.{calls_append}
 use Rattle.laws_footnotes.specs.Footnotes.{is_called, NumberLaw}
-use Rattle.laws_footnotes.proofs.Defined.{calls_append}
 
 -- the first calls of others, where one more call is the first of its footnote or not
 others_after : (a c : NamedCall) (firsts : List NamedCall) (called : Bool)

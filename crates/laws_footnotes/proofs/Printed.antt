@@ -5,9 +5,8 @@ use Rattle.markdown_options.specs.declared.configuration.CompileOptions.{Compile
 use Rattle.definition_page.specs.Pieces.{Piece, CallOf, CountOf}
 use Rattle.definition_page.specs.Layout.{NamedCall, named_call, named_calls, first_calls, times, call_of, with_calls}
 use Rattle.definition_page.specs.GfmLabelStartFootnote.{Call, call_pieces}
-use Rattle.definition_page.proofs.Cuts.{shown_append}
+use Rattle.definition_page.proofs.Cuts.{calls_append, shown_append}
 use Rattle.laws_footnotes.specs.Section.{number_by, label_by, PrintedCallLaw}
-use Rattle.laws_footnotes.proofs.Defined.{calls_append}
 
 -- a call by its label, its number and its count
 abbrev call_by : List ℕ → ℕ → ℕ → Call
