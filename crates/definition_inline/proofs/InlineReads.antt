@@ -4,52 +4,51 @@ use Rattle.std.proofs.Common.{refl}
 use Rattle.std.proofs.lemmas.Bool.{cond_both}
 use Rattle.definition_text.specs.Content.{text_before}
 use Rattle.definition_text.specs.InlineCode.{InlineCode, codes_of}
-use Rattle.definition_inline.specs.Inline.{Target, Inline, Data, Call, Emphasis, Strong, Strikethrough, Link, Image, Inlines, Nil, Cons, followed_by, Leaf}
-use Rattle.definition_inline.specs.Inline.{or_else}
+use Rattle.definition_inline.specs.Inline.{Target, InlineLeaf, Data, SpanKind, LinkedKind, Inline, Leaf, Span, Linked, Call, Inlines, Nil, Cons, followed_by, Found, or_else}
 use Rattle.definition_inline.specs.LabelEnd.{LinkOrCall, Leads, Calls}
 use Rattle.definition_inline.specs.Attention.{Run, run_at}
 use Rattle.definition_inline.specs.Pairing.{Pair, pairs}
-use Rattle.definition_inline.specs.Spans.{Token, Item, Delimiters, runs_of, Span, IsEmphasis, IsStrong, IsStrikethrough, span_of, SpanRow, Holds, Opens, Closes}
-use Rattle.definition_inline.specs.Spans.{bytes_taken, run_rows, rows_from, OpenSpan, Nest, nest, span_part, leave, nest_row, with_spans}
-use Rattle.definition_inline.specs.Scan.{InlineContext, leaf_here, LabelStart, LinkStart, ImageStart, label_start_at, start_tokens, may_form, label_part}
+use Rattle.definition_inline.specs.Spans.{Token, Item, Delimiters, runs_of, span_of, SpanRow, Holds, Opens, Closes}
+use Rattle.definition_inline.specs.Spans.{bytes_taken, run_rows, rows_from, OpenSpan, Nest, nest, leave, nest_row, with_spans}
+use Rattle.definition_inline.specs.Scan.{InlineContext, leaf_here, LabelStart, LinkStart, ImageStart, label_start_at, leaf_tokens, start_tokens, may_form, started_kind}
 use Rattle.definition_inline.specs.Scan.{formed_part, formed_at, Text, text, OpenLabel, Reading, reading, read_tokens, with_plain_start, with_link_or_call}
 use Rattle.definition_inline.specs.Scan.{Step, Next, data_step, ended_step, ended_by, label_end_step, last_step, label_step, run_step, leaf_step, step}
 use Rattle.definition_inline.specs.Scan.{and_then, scan, whole_text, spans_from}
 use Rattle.definition_text.proofs.Each.{Each, each-append, each_map, each_mapped, each_same, WhereSome}
 
 module _ (Good : Inline → Type 0) where
-  abbrev pub LeafGood : Leaf → Type 0
-  LeafGood l = Each Good l.parts
+  abbrev pub LeafGood : Found → Type 0
+  LeafGood l = Each (λ (part : InlineLeaf). Good (Leaf part)) l.parts
 
   -- what begins here, if anything does
-  abbrev pub BeginsGood : Option Leaf → Type 0
+  abbrev pub BeginsGood : Option Found → Type 0
   BeginsGood o = WhereSome LeafGood o
 
-  pub either_begins : (a b : Option Leaf) → BeginsGood a → BeginsGood b → BeginsGood (or_else a b)
+  pub either_begins : (a b : Option Found) → BeginsGood a → BeginsGood b → BeginsGood (or_else a b)
   either_begins None b p q = q
   either_begins (Some l) b p q = p
 
   abbrev TokenGood : Token → Type 0
   TokenGood (Item i) = Good i
-  TokenGood (Delimiters run) = Good (Data run.marker)
+  TokenGood (Delimiters run) = Good (Leaf (Data run.marker))
 
   abbrev RowGood : SpanRow → Type 0
   RowGood (Holds i) = Good i
-  RowGood (Opens span) = Unit {0}
+  RowGood (Opens kind) = Unit {0}
   RowGood Closes = Unit {0}
 
   -- ---- runs
 
-  run_good : (ps : List Pair) (place : ℕ) (r : Run) → Good (Data r.marker) → Each RowGood (run_rows ps place r)
+  run_good : (ps : List Pair) (place : ℕ) (r : Run) → Good (Leaf (Data r.marker)) → Each RowGood (run_rows ps place r)
   run_good ps place r h =
       let closed = filter (λ (p : Pair). p.closer == place) ps in
       let started = filter (λ (p : Pair). p.opener == place) ps in
       let closing = map (λ (p : Pair). Closes) closed in
       let left = r.left - (bytes_taken closed + bytes_taken started) in
       let opening = map (λ (p : Pair). Opens (span_of r.marker p)) (reverse started) in
-      each-append RowGood (closing ++ replicate left (Holds (Data r.marker))) opening
-      (each-append RowGood closing (replicate left (Holds (Data r.marker))) (each_map RowGood (λ (p : Pair). Closes) closed (λ p. tt))
-      (each_same RowGood left (Holds (Data r.marker)) h))
+      each-append RowGood (closing ++ replicate left (Holds (Leaf (Data r.marker)))) opening
+      (each-append RowGood closing (replicate left (Holds (Leaf (Data r.marker)))) (each_map RowGood (λ (p : Pair). Closes) closed (λ p. tt))
+      (each_same RowGood left (Holds (Leaf (Data r.marker))) h))
       (each_map RowGood (λ (p : Pair). Opens (span_of r.marker p)) (reverse started) (λ p. tt))
 
   rows_good : (ps : List Pair) (place : ℕ) (tokens : List Token) → Each TokenGood tokens → Each RowGood (rows_from ps place tokens)
@@ -65,9 +64,7 @@ module _ (Good : Inline → Type 0) (AllGood : Inlines → Type 0) where
     pub more : (i : Inline) (is : Inlines) → Good i → AllGood is → AllGood (Cons i is)
     pub first : (i : Inline) (is : Inlines) → AllGood (Cons i is) → Good i
     pub rest : (i : Inline) (is : Inlines) → AllGood (Cons i is) → AllGood is
-    pub emphasis : (kids : Inlines) → AllGood kids → Good (Emphasis kids)
-    pub strong : (kids : Inlines) → AllGood kids → Good (Strong kids)
-    pub strikethrough : (kids : Inlines) → AllGood kids → Good (Strikethrough kids)
+    pub span : (kind : SpanKind) (kids : Inlines) → AllGood kids → Good (Span kind kids)
 
   abbrev SpanGood : OpenSpan → Type 0
   SpanGood s = AllGood s.before
@@ -80,18 +77,13 @@ module _ (Good : Inline → Type 0) (AllGood : Inlines → Type 0) where
     follow_good Nil last p q = n.more last Nil q n.none
     follow_good (Cons i is) last p q = n.more i (followed_by is last) (n.first i is p) (follow_good is last (n.rest i is p) q)
 
-    span_good : (span : Span) (kids : Inlines) → AllGood kids → Good (span_part span kids)
-    span_good IsEmphasis kids p = n.emphasis kids p
-    span_good IsStrong kids p = n.strong kids p
-    span_good IsStrikethrough kids p = n.strikethrough kids p
-
     leave_good : (now : Inlines) (around : List OpenSpan) → AllGood now → Each SpanGood around → NestGood (leave now around)
     leave_good now [] p h = (p, tt)
-    leave_good now (s ∷ others) p h = (follow_good s.before (span_part s.span now) h.0 (span_good s.span now p), h.1)
+    leave_good now (s ∷ others) p h = (follow_good s.before (Span s.kind now) h.0 (n.span s.kind now p), h.1)
 
     nest_row_good : (here : Nest) (row : SpanRow) → NestGood here → RowGood Good row → NestGood (nest_row here row)
     nest_row_good here (Holds i) p q = (follow_good here.now i p.0 q, p.1)
-    nest_row_good here (Opens span) p q = (n.none, (p.0, p.1))
+    nest_row_good here (Opens kind) p q = (n.none, (p.0, p.1))
     nest_row_good here Closes p q = leave_good here.now here.around p.0 p.1
 
     nest_good : (here : Nest) (rows : List SpanRow) → NestGood here → Each (RowGood Good) rows → NestGood (fold nest_row here rows)
@@ -120,18 +112,17 @@ module _ (Good : Inline → Type 0) (AllGood : Inlines → Type 0) (Leading : Ta
   -- what is good of the parts that are read of such codes
   pub record Reads (context : InlineContext) : Type 0 where
     pub nests : Nests Good AllGood
-    pub link : (target : Target) (kids : Inlines) → Leading target → AllGood kids → Good (Link target kids)
-    pub image : (target : Target) (kids : Inlines) → Leading target → AllGood kids → Good (Image target kids)
+    pub linked : (kind : LinkedKind) (target : Target) (kids : Inlines) → Leading target → AllGood kids → Good (Linked kind target kids)
     pub call : (label : List ℕ) → Good (Call label)
     -- `]`, `[` and `!` that form nothing
-    pub close : Good (Data 93)
-    pub open_link : Good (Data 91)
-    pub open_image : Good (Data 33)
+    pub close : Good (Leaf (Data 93))
+    pub open_link : Good (Leaf (Data 91))
+    pub open_image : Good (Leaf (Data 33))
     pub tail : (c : ℕ) (cs : List ℕ) → Codes (c ∷ cs) → Codes cs
     pub begun : (content : List InlineCode) → Codes (codes_of content) → BeginsGood Good (leaf_here context content)
-    pub byte : (c : InlineCode) (cs : List InlineCode) → Codes (codes_of (c ∷ cs)) → leaf_here context (c ∷ cs) ≡ None → Good (Data c.code)
+    pub byte : (c : InlineCode) (cs : List InlineCode) → Codes (codes_of (c ∷ cs)) → leaf_here context (c ∷ cs) ≡ None → Good (Leaf (Data c.code))
     pub marker : (c : InlineCode) (cs : List InlineCode) → Codes (codes_of (c ∷ cs))
-        → WhereSome (λ (r : Run). Good (Data r.marker)) (run_at context.options (c ∷ cs))
+        → WhereSome (λ (r : Run). Good (Leaf (Data r.marker))) (run_at context.options (c ∷ cs))
     pub forms : (start : LabelStart) (between content : List ℕ) → Codes content → FormsGood (formed_at context start between (drop 1 content))
 
   abbrev TokenIs : Token → Type 0
@@ -159,10 +150,6 @@ module _ (Good : Inline → Type 0) (AllGood : Inlines → Type 0) (Leading : Ta
   module _ (context : InlineContext) (reads : Reads context) where
     -- ---- labels
 
-    label_good : (start : LabelStart) (target : Target) (kids : Inlines) → Leading target → AllGood kids → Good (label_part start target kids)
-    label_good LinkStart target kids h p = reads.link target kids h p
-    label_good ImageStart target kids h p = reads.image target kids h p
-
     start_good : (start : LabelStart) → Each TokenIs (start_tokens start)
     start_good LinkStart = (reads.open_link, tt)
     start_good ImageStart = (reads.open_image, (reads.open_link, tt))
@@ -174,7 +161,7 @@ module _ (Good : Inline → Type 0) (AllGood : Inlines → Type 0) (Leading : Ta
 
     part_good : (start : LabelStart) (found : LinkOrCall) (tokens : List Token) → FormedIs Leading found → Each TokenIs tokens
         → Good (formed_part start found tokens)
-    part_good start (Leads end) tokens h p = label_good start end.target (with_spans tokens) h (emphasized_good Good AllGood reads.nests tokens p)
+    part_good start (Leads end) tokens h p = reads.linked (started_kind start) end.target (with_spans tokens) h (emphasized_good Good AllGood reads.nests tokens p)
     part_good start (Calls label) tokens h p = reads.call label
 
     formed_good : (label : OpenLabel) (found : LinkOrCall) (inner : Text) → LabelGood label → FormedIs Leading found → TextGood inner
@@ -185,7 +172,7 @@ module _ (Good : Inline → Type 0) (AllGood : Inlines → Type 0) (Leading : Ta
     ended_good : (label : OpenLabel) (others : List OpenLabel) (inner : Text) (found : Option LinkOrCall) → LabelGood label → Each LabelGood others
         → TextGood inner → FormsGood found → StepGood (ended_step label others inner found)
     ended_good label others inner None h hs p q =
-        read_good (Item (Data 93) ∷ []) (reading (with_plain_start label inner) others) (reads.close, tt) (unformed_good label inner h p, hs)
+        read_good (Item (Leaf (Data 93)) ∷ []) (reading (with_plain_start label inner) others) (reads.close, tt) (unformed_good label inner h p, hs)
     ended_good label others inner (Some found) h hs p q = (formed_good label found inner h q p, hs)
 
     -- ---- places
@@ -198,33 +185,34 @@ module _ (Good : Inline → Type 0) (AllGood : Inlines → Type 0) (Leading : Ta
 
     label_end_good : (content : List ℕ) (inner : Text) (open_labels : List OpenLabel) → Codes content → TextGood inner → Each LabelGood open_labels
         → StepGood (label_end_step context content inner open_labels)
-    label_end_good content inner [] c p hs = read_good (Item (Data 93) ∷ []) (reading inner []) (reads.close, tt) (p, tt)
+    label_end_good content inner [] c p hs = read_good (Item (Leaf (Data 93)) ∷ []) (reading inner []) (reads.close, tt) (p, tt)
     label_end_good content inner (label ∷ others) c p hs =
         ended_good label others inner (ended_by context content label inner) hs.0 hs.1 p (ended_by_good content label inner c)
 
-    last_good : (code : ℕ) (content : List ℕ) (r : Reading) → Good (Data code) → Codes content → ReadingGood r → StepGood (last_step context code content r)
+    last_good : (code : ℕ) (content : List ℕ) (r : Reading) → Good (Leaf (Data code)) → Codes content → ReadingGood r → StepGood (last_step context code content r)
     last_good code content r h c p =
         cond_both _ (label_end_step context content r.now r.open_labels) (data_step code r) StepGood
-        (λ _. label_end_good content r.now r.open_labels c p.0 p.1) (λ _. read_good (Item (Data code) ∷ []) r (h, tt) p)
+        (λ _. label_end_good content r.now r.open_labels c p.0 p.1) (λ _. read_good (Item (Leaf (Data code)) ∷ []) r (h, tt) p)
 
-    label_step_good : (code : ℕ) (content : List ℕ) (r : Reading) (start : Option LabelStart) → Good (Data code) → Codes content → ReadingGood r
+    label_step_good : (code : ℕ) (content : List ℕ) (r : Reading) (start : Option LabelStart) → Good (Leaf (Data code)) → Codes content → ReadingGood r
         → StepGood (label_step context code content r start)
     label_step_good code content r None h c p = last_good code content r h c p
     label_step_good code content r (Some start) h c p = (tt, (p.0, p.1))
 
     abbrev RunGood : Option Run → Type 0
-    RunGood o = WhereSome (λ (r : Run). Good (Data r.marker)) o
+    RunGood o = WhereSome (λ (r : Run). Good (Leaf (Data r.marker))) o
 
-    run_step_good : (code : ℕ) (content : List ℕ) (r : Reading) (found : Option Run) → Good (Data code) → Codes content → RunGood found → ReadingGood r
+    run_step_good : (code : ℕ) (content : List ℕ) (r : Reading) (found : Option Run) → Good (Leaf (Data code)) → Codes content → RunGood found → ReadingGood r
         → StepGood (run_step context code content r found)
     run_step_good code content r None h c q p = label_step_good code content r (label_start_at context.options.constructs content) h c p
     run_step_good code content r (Some found) h c q p = read_good (Delimiters found ∷ []) r (q, tt) p
 
-    leaf_step_good : (code : ℕ) (content : List ℕ) (r : Reading) (run : Option Run) (found : Option Leaf) → (found ≡ None → Good (Data code))
+    leaf_step_good : (code : ℕ) (content : List ℕ) (r : Reading) (run : Option Run) (found : Option Found) → (found ≡ None → Good (Leaf (Data code)))
         → Codes content → RunGood run → ReadingGood r → BeginsGood Good found → StepGood (leaf_step context code content r run found)
     leaf_step_good code content r run None h c q p b = run_step_good code content r run (h refl) c q p
     leaf_step_good code content r run (Some found) h c q p b =
-        read_good (map Item found.parts) r (each_mapped Good TokenIs Item found.parts (λ i h. h) b) p
+        read_good (leaf_tokens found) r
+        (each_mapped (λ (part : InlineLeaf). Good (Leaf part)) TokenIs (λ part. Item (Leaf part)) found.parts (λ i h. h) b) p
 
     step_good : (r : Reading) (c : InlineCode) (cs : List InlineCode) → Codes (codes_of (c ∷ cs)) → ReadingGood r → StepGood (step context r c cs)
     step_good r c cs h p =

@@ -19,7 +19,7 @@ use Rattle.definition_text.specs.Content.{Part, part, text_before, up_to}
 use Rattle.definition_inline.specs.HtmlTags.{then_part, is_tag_space, tag_space, is_tag_name_byte, after_tag_name, begins_attribute, is_attribute_byte}
 use Rattle.definition_inline.specs.HtmlTags.{is_unquoted, quoted_value, unquoted_value, value, value_or, specification, attribute, has_attribute, attributes}
 use Rattle.definition_inline.specs.HtmlTags.{tag_end, open_end, closing_end, open_rest, closing_rest, open_tag, closing_tag}
-use Rattle.definition_inline.specs.Inline.{Reference, Escape, Autolink, Literal, Www, Protocol, EscapedBreak, LineEnd, Leaf, leaf, or_else}
+use Rattle.definition_inline.specs.Inline.{Reference, Escape, Autolink, Literal, Www, Protocol, EscapedBreak, LineEnd, Found, leaf, or_else}
 use Rattle.definition_inline.specs.CharacterEscape.{escape_at}
 use Rattle.definition_inline.specs.CharacterReference.{CharacterReference, before_semicolon, part_to_semicolon, reference_by_number, reference_by_name}
 use Rattle.definition_inline.specs.CharacterReference.{number_reference, reference_after, reference_form, reference_text, reference_leaf, reference_of}
@@ -44,18 +44,18 @@ WhereSome P None = Unit {0}
 WhereSome P (Some x) = P x
 
 -- a code at least, and at most these many
-pub record Fits (most : ℕ) (l : Leaf) : Type 0 where
+pub record Fits (most : ℕ) (l : Found) : Type 0 where
   pub some : 0 < l.size
   pub within : l.size ≤ most
 
-abbrev MayFit : ℕ → Option Leaf → Type 0
+abbrev MayFit : ℕ → Option Found → Type 0
 MayFit most o = WhereSome (Fits most) o
 
-fit_or : (most : ℕ) (a b : Option Leaf) → MayFit most a → MayFit most b → MayFit most (or_else a b)
+fit_or : (most : ℕ) (a b : Option Found) → MayFit most a → MayFit most b → MayFit most (or_else a b)
 fit_or most None b p q = q
 fit_or most (Some l) b p q = p
 
-fit_if : (most : ℕ) (test : Bool) (l : Leaf) → (test ≡ true → Fits most l) → MayFit most (cond test (Some l) None)
+fit_if : (most : ℕ) (test : Bool) (l : Found) → (test ≡ true → Fits most l) → MayFit most (cond test (Some l) None)
 fit_if most test l p = cond_both test (Some l) None (MayFit most) p (λ _. tt)
 
 -- ---- escapes, references, breaks and line endings
@@ -247,7 +247,7 @@ fit_autolink_after content =
     fit_or (length content + 1) (closed_autolink false content (uri_end content)) (closed_autolink true content (email_end content))
     (fit_closed false content (uri_end content) (leaves_uri content)) (fit_closed true content (email_end content) (leaves_email content))
 
-fit_more : (few most : ℕ) (o : Option Leaf) → few ≤ most → MayFit few o → MayFit most o
+fit_more : (few most : ℕ) (o : Option Found) → few ≤ most → MayFit few o → MayFit most o
 fit_more few most None le p = tt
 fit_more few most (Some l) le p = record { some = p.some; within = omega (arith, p.within) }
 
@@ -418,7 +418,7 @@ fit_leaf context content =
     (fit_line_spaces context.options.constructs content))))))))
 
 -- a construct takes a code at least, and none past the end of the content
-pub leaf_fits : (context : InlineContext) (content : List ℕ) (l : Leaf) → leaf_at context content ≡ Some l → Fits (length content) l
+pub leaf_fits : (context : InlineContext) (content : List ℕ) (l : Found) → leaf_at context content ≡ Some l → Fits (length content) l
 leaf_fits context content l is = subst (MayFit (length content)) is (fit_leaf context content)
 
 -- ---- literals
@@ -497,7 +497,7 @@ fit_literal on (c ∷ cs) =
     (λ _. tt)
 
 -- a construct that holds no other, or a literal, takes a code at least, and none past the end of the content
-pub here_fits : (context : InlineContext) (content : List InlineCode) (l : Leaf) → leaf_here context content ≡ Some l → Fits (length content) l
+pub here_fits : (context : InlineContext) (content : List InlineCode) (l : Found) → leaf_here context content ≡ Some l → Fits (length content) l
 here_fits context content l is =
     subst (MayFit (length content)) is
     (fit_or (length content) (leaf_at context (codes_of content)) (literal_at context.options.constructs content)

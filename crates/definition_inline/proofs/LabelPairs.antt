@@ -1,6 +1,6 @@
 -- The scan of a content reads by the grammar of label pairs.
 use Rattle.std.proofs.Common.{◌≡◌, ℕ, zero, suc, ◌+◌, ◌-◌, ◌<◌, ◌≤◌, Bool, true, false, cond, List, [], ◌∷◌, ◌++◌, Option, None, Some, refl, sym, ap, ◌∙◌}
-use Rattle.std.proofs.Common.{subst, length, drop, map, arith, append_assoc, length-drop, inl, inr}
+use Rattle.std.proofs.Common.{subst, length, drop, arith, append_assoc, length-drop, inl, inr}
 use Rattle.std.specs.Prelude.{◌==◌}
 use Rattle.std.specs.List.{fold}
 use Rattle.std.proofs.lemmas.Bool.{cases_Bool, cond_both, cond-true, cond-false, eq-eqb}
@@ -8,11 +8,11 @@ use Rattle.std.proofs.lemmas.List.{append-nil}
 use mathlib.Core.Bool.{true≢false}
 use Rattle.markdown_options.specs.declared.configuration.ParseOptions.{ParseOptions}
 use Rattle.definition_text.specs.InlineCode.{InlineCode, codes_of}
-use Rattle.definition_inline.specs.Inline.{Data, Leaf}
+use Rattle.definition_inline.specs.Inline.{Leaf, Data, Found}
 use Rattle.definition_inline.specs.Attention.{Run, run_size, run_at, is_marker}
 use Rattle.definition_inline.specs.Spans.{Token, Item, Delimiters}
 use Rattle.definition_inline.specs.LabelEnd.{LinkOrCall, formed_size}
-use Rattle.definition_inline.specs.Scan.{InlineContext, leaf_here, LabelStart, label_start_at, start_more, OpenLabel, Text, text, Reading, reading, read_tokens}
+use Rattle.definition_inline.specs.Scan.{InlineContext, leaf_here, leaf_tokens, LabelStart, label_start_at, start_more, OpenLabel, Text, text, Reading, reading, read_tokens}
 use Rattle.definition_inline.specs.Scan.{with_tokens, with_plain_start, ended_by, ended_step, label_end_step, Next, step, scan}
 use Rattle.definition_inline.specs.Scan.{whole_text}
 use Rattle.definition_inline.specs.LabelPairs.{Stretch, Plain, Start, End, is_label_end, IsBare, AreStretches, AtEnd, AtLeaf, AtRun, AtLabelStart}
@@ -101,14 +101,14 @@ module _ (context : InlineContext) (most : ℕ) (c : InlineCode) (cs : List Inli
   abbrev content : List ℕ
   content = codes_of (c ∷ cs)
 
-  leaf_place : (found : Leaf) → leaf_here context (c ∷ cs) ≡ Some found → Here
+  leaf_place : (found : Found) → leaf_here context (c ∷ cs) ≡ Some found → Here
   leaf_place found is =
       let fits = here_fits context (c ∷ cs) found is in
       let some = fits.some in
       let size : 1 + (found.size - 1) ≡ found.size = omega arith in
-      one_place context most c cs r (read_tokens (map Item found.parts) r) ss (found.size - 1) (Plain (map Item found.parts)) shorter le
+      one_place context most c cs r (read_tokens (leaf_tokens found) r) ss (found.size - 1) (Plain (leaf_tokens found)) shorter le
       (step_leaf context r c cs found is)
-      (more_open context r.open_labels r.now ss (map Item found.parts) so)
+      (more_open context r.open_labels r.now ss (leaf_tokens found) so)
       (λ others stand. AtLeaf c cs found others is (subst (λ n. AreStretches context (drop n (c ∷ cs)) others) size stand))
 
   run_place : (run : Run) → leaf_here context (c ∷ cs) ≡ None → run_at context.options (c ∷ cs) ≡ Some run → Here
@@ -134,15 +134,15 @@ module _ (context : InlineContext) (most : ℕ) (c : InlineCode) (cs : List Inli
 
   byte_place : IsBare context (c ∷ cs) → label_start_at context.options.constructs content ≡ None → is_label_end context c.code ≡ false → Here
   byte_place bare no_start is =
-      one_place context most c cs r (read_tokens (Item (Data c.code) ∷ []) r) ss 0 (Plain (Item (Data c.code) ∷ [])) shorter le
+      one_place context most c cs r (read_tokens (Item (Leaf (Data c.code)) ∷ []) r) ss 0 (Plain (Item (Leaf (Data c.code)) ∷ [])) shorter le
       (step_last context r c cs bare.no_leaf bare.no_run no_start ∙ cond-false (is_label_end context c.code) _ _ is)
-      (more_open context r.open_labels r.now ss (Item (Data c.code) ∷ []) so) (λ others stand. AtByte c cs others bare no_start is stand)
+      (more_open context r.open_labels r.now ss (Item (Leaf (Data c.code)) ∷ []) so) (λ others stand. AtByte c cs others bare no_start is stand)
 
   -- what a `]` does: the innermost label start that is open is its own
   ended_place : (labels : List OpenLabel) → r.open_labels ≡ labels → IsBare context (c ∷ cs) → label_start_at context.options.constructs content ≡ None
       → is_label_end context c.code ≡ true → step context r c cs ≡ label_end_step context content r.now labels → IsOpen context labels r.now ss → Here
   ended_place [] are bare no_start is steps opened =
-      one_place context most c cs r (reading (with_tokens r.now (Item (Data 93) ∷ [])) []) ss 0 (End content None) shorter le steps
+      one_place context most c cs r (reading (with_tokens r.now (Item (Leaf (Data 93)) ∷ [])) []) ss 0 (End content None) shorter le steps
       (LeftOver ss r.now content opened)
       (λ others stand. AtLabelEnd c cs None others bare no_start is stand)
   ended_place (label ∷ others) are bare no_start is steps (outer, inner, same, around, here) =
@@ -183,7 +183,7 @@ module _ (context : InlineContext) (most : ℕ) (c : InlineCode) (cs : List Inli
   no_leaf_place None is none = bare_place (label_start_at context.options.constructs content) refl (record { no_leaf = none; no_run = is })
   no_leaf_place (Some run) is none = run_place run none is
 
-  pub any_place : (o : Option Leaf) → leaf_here context (c ∷ cs) ≡ o → Here
+  pub any_place : (o : Option Found) → leaf_here context (c ∷ cs) ≡ o → Here
   any_place None is = no_leaf_place (run_at context.options (c ∷ cs)) refl is
   any_place (Some found) is = leaf_place found is
 

@@ -1,12 +1,12 @@
 -- One step of the scan of a content, or of a string.
-use Rattle.std.proofs.Common.{◌≡◌, false, ℕ, zero, suc, ◌+◌, ◌-◌, ◌<◌, List, [], ◌∷◌, ◌++◌, refl, ap, ◌∙◌, drop, map, arith, Option, None, Some}
+use Rattle.std.proofs.Common.{◌≡◌, false, ℕ, zero, suc, ◌+◌, ◌-◌, ◌<◌, List, [], ◌∷◌, ◌++◌, refl, ap, ◌∙◌, drop, arith, Option, None, Some}
 use Rattle.std.proofs.lemmas.List.{drop-drop}
 use Rattle.markdown_options.specs.declared.configuration.Constructs.{Constructs}
 use Rattle.definition_text.specs.InlineCode.{InlineCode, codes_of}
-use Rattle.definition_inline.specs.Inline.{Data, Leaf}
+use Rattle.definition_inline.specs.Inline.{Data, Found}
 use Rattle.definition_inline.specs.Attention.{Run, run_at}
-use Rattle.definition_inline.specs.Spans.{Item, Delimiters}
-use Rattle.definition_inline.specs.Scan.{InlineContext, leaf_here, LabelStart, label_start_at, start_more, text, Reading, reading, read_tokens, Next, last_step}
+use Rattle.definition_inline.specs.Spans.{Delimiters}
+use Rattle.definition_inline.specs.Scan.{InlineContext, leaf_here, leaf_tokens, LabelStart, label_start_at, start_more, text, Reading, reading, read_tokens, Next, last_step}
 use Rattle.definition_inline.specs.Scan.{leaf_step, run_step, label_step, step, and_then, scan}
 use Rattle.definition_inline.specs.Strings.{string_leaf_at, or_byte, string_parts}
 
@@ -31,8 +31,8 @@ scan_step context r next c cs more is =
     ∙ ap (scan context 0 next) (drop-drop more 1 (c ∷ cs) ∙ ap (λ n. drop n (c ∷ cs)) (omega arith))
 
 -- a construct that holds no other
-pub step_leaf : (context : InlineContext) (r : Reading) (c : InlineCode) (cs : List InlineCode) (found : Leaf)
-    → leaf_here context (c ∷ cs) ≡ Some found → step context r c cs ≡ Next (found.size - 1) (read_tokens (map Item found.parts) r)
+pub step_leaf : (context : InlineContext) (r : Reading) (c : InlineCode) (cs : List InlineCode) (found : Found)
+    → leaf_here context (c ∷ cs) ≡ Some found → step context r c cs ≡ Next (found.size - 1) (read_tokens (leaf_tokens found) r)
 step_leaf context r c cs found is = ap (leaf_step context c.code (codes_of (c ∷ cs)) r (run_at context.options (c ∷ cs))) is
 
 -- a run
@@ -74,7 +74,7 @@ string_skipped on names zero (c ∷ cs) = refl
 string_skipped on names (suc k) (c ∷ cs) = string_skipped on names k cs
 
 -- what a string begins with, and the parts of what it leaves
-pub string_step : (on : Constructs) (names : List ℕ → Option (List ℕ)) (c : ℕ) (cs : List ℕ) (found : Leaf) → string_leaf_at on names (c ∷ cs) ≡ Some found
+pub string_step : (on : Constructs) (names : List ℕ → Option (List ℕ)) (c : ℕ) (cs : List ℕ) (found : Found) → string_leaf_at on names (c ∷ cs) ≡ Some found
     → 0 < found.size → string_parts on names 0 (c ∷ cs) ≡ found.parts ++ string_parts on names 0 (drop found.size (c ∷ cs))
 string_step on names c cs found is some =
     let e : found.size - 1 + 1 ≡ found.size = omega arith in

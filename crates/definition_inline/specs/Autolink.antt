@@ -7,7 +7,7 @@ use Rattle.definition_text.specs.Ascii.{plus, hyphen, dot, less_than, greater_th
 use Rattle.definition_text.specs.Columns.{Code}
 use Rattle.definition_text.specs.Bytes.{is_letter_or_digit, after_all, begins_with_letter, begins_with}
 use Rattle.definition_text.specs.Content.{text_before}
-use Rattle.definition_inline.specs.Inline.{Leaf, leaf, Autolink, or_else}
+use Rattle.definition_inline.specs.Inline.{Found, leaf, Autolink, or_else}
 
 -- a byte of a scheme: a letter, a digit, `+`, `.` or `-` (CommonMark 6.5)
 abbrev pub is_scheme_byte : Code → Bool
@@ -72,15 +72,15 @@ email_end content =
     if nat_le 1 (prefix_len is_email_byte content) && begins_with (codes "@") rest then domain_end (drop 1 rest) else None
 
 -- an autolink to what stands before the rest, if there is such a rest, and a `>` begins it (CommonMark 6.5)
-abbrev pub closed_autolink : Bool → List Code → Option (List Code) → Option Leaf
+abbrev pub closed_autolink : Bool → List Code → Option (List Code) → Option Found
 closed_autolink is_email content None = None
 closed_autolink is_email content (Some rest) =
     if begins_with (codes ">") rest then Some (leaf (Autolink is_email (text_before content rest) ∷ []) (length (text_before content rest) + 2)) else None
 
 -- an autolink after its `<` (CommonMark 6.5)
-abbrev pub autolink_after : List Code → Option Leaf
+abbrev pub autolink_after : List Code → Option Found
 autolink_after content = or_else (closed_autolink false content (uri_end content)) (closed_autolink true content (email_end content))
 
 -- an autolink (CommonMark 6.5)
-abbrev pub autolink_at : Constructs → List Code → Option Leaf
+abbrev pub autolink_at : Constructs → List Code → Option Found
 autolink_at on content = if on.autolink && begins_with (codes "<") content then autolink_after (drop 1 content) else None

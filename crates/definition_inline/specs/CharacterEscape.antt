@@ -4,10 +4,10 @@ use Rattle.std.specs.Char.{is_ascii_punctuation}
 use Rattle.markdown_options.specs.declared.configuration.Constructs.{Constructs}
 use Rattle.definition_text.specs.Ascii.{backslash}
 use Rattle.definition_text.specs.Columns.{Code}
-use Rattle.definition_inline.specs.Inline.{Leaf, leaf, Escape}
+use Rattle.definition_inline.specs.Inline.{Found, leaf, Escape}
 
 -- a backslash and the ASCII punctuation after it (CommonMark 2.4)
-abbrev pub escape_at : Constructs → List Code → Option Leaf
+abbrev pub escape_at : Constructs → List Code → Option Found
 escape_at on [] = None
 escape_at on (c ∷ []) = None
 escape_at on (c ∷ next ∷ cs) =

@@ -7,7 +7,7 @@ use Rattle.markdown_options.specs.declared.configuration.Constructs.{Constructs}
 use Rattle.definition_text.specs.Ascii.{number_sign, ampersand, semicolon, capital_x, small_x}
 use Rattle.definition_text.specs.Columns.{Code}
 use Rattle.definition_text.specs.Content.{Part, part}
-use Rattle.definition_inline.specs.Inline.{Leaf, leaf, Character}
+use Rattle.definition_inline.specs.Inline.{Found, leaf, Character}
 
 -- the name or the number of a character (CommonMark 2.5)
 pub data CharacterName : Type 0 where
@@ -90,15 +90,15 @@ reference_text names (Named name) = names name
 reference_text names (Numbered number) = Some (numbered_text number)
 
 -- a reference to a text that is there
-abbrev pub reference_leaf : ℕ → Option (List ℕ) → Option Leaf
+abbrev pub reference_leaf : ℕ → Option (List ℕ) → Option Found
 reference_leaf size None = None
 reference_leaf size (Some text) = Some (leaf (Character text ∷ []) size)
 
 -- a reference of this form in a content
-abbrev pub reference_of : Names → List Code → Option CharacterReference → Option Leaf
+abbrev pub reference_of : Names → List Code → Option CharacterReference → Option Found
 reference_of names content None = None
 reference_of names content (Some found) = reference_leaf (length content - length found.rest) (reference_text names found.name)
 
 -- a character reference, whose name the table has (CommonMark 2.5)
-abbrev pub reference_at : Constructs → Names → List Code → Option Leaf
+abbrev pub reference_at : Constructs → Names → List Code → Option Found
 reference_at on names content = if on.character_reference then reference_of names content (reference_form content) else None

@@ -12,8 +12,8 @@ use Rattle.definition_text.specs.Columns.{Code, is_white}
 use Rattle.definition_text.specs.Content.{is_eol, is_space}
 use Rattle.definition_text.specs.InlineCode.{InlineCode, codes_of, is_continuation}
 use Rattle.definition_inline.specs.Attention.{is_other}
-use Rattle.definition_inline.specs.Inline.{LiteralKind, Www, Protocol, Email, Inline, Data, Literal, Emphasis, Strong, Strikethrough, Link, Image, Inlines, Nil}
-use Rattle.definition_inline.specs.Inline.{Cons, Leaf, leaf}
+use Rattle.definition_inline.specs.Inline.{LiteralKind, Www, Protocol, Email, InlineLeaf, Data, Literal, Link, Image, Inline, Leaf, Span, Linked, Call}
+use Rattle.definition_inline.specs.Inline.{Inlines, Nil, Cons, Found, leaf}
 
 -- ---- where a literal begins
 
@@ -147,7 +147,7 @@ has_low_line text = low_line_in 2 (reverse text)
 -- ---- the leaf
 
 -- a literal of this start and this name, the code before which is given; a `www.` at its domain's start holds no `_`, so that it needn't be looked at (GFM 6.9)
-abbrev pub named_literal : LiteralStart → List InlineCode → InlineCode → List Code → Option Leaf
+abbrev pub named_literal : LiteralStart → List InlineCode → InlineCode → List Code → Option Found
 named_literal start content last name =
     let after = drop start.size content in
     if begins_name last.after after && not (has_low_line (domain last.after (take (length name) after)))
@@ -155,13 +155,13 @@ named_literal start content last name =
     else None
 
 -- a literal, given what it begins with (GFM 6.9)
-abbrev pub literal_after : InlineCode → List InlineCode → Option LiteralStart → Option Leaf
+abbrev pub literal_after : InlineCode → List InlineCode → Option LiteralStart → Option Found
 literal_after c cs None = None
 literal_after c cs (Some start) =
     named_literal start (c ∷ cs) (slice_index_or (c ∷ cs) (start.size - 1) c) (literal_name (drop start.size (codes_of (c ∷ cs))))
 
 -- a literal that is no email address (GFM 6.9)
-abbrev pub literal_at : Constructs → List InlineCode → Option Leaf
+abbrev pub literal_at : Constructs → List InlineCode → Option Found
 literal_at on [] = None
 literal_at on (c ∷ cs) =
     if on.gfm_autolink_literal then literal_after c cs (literal_start_at c.previous (codes_of (c ∷ cs))) else None
@@ -244,18 +244,18 @@ address_at before after =
     address_with user (protocol_size (without_last user before)) after
 
 -- the text before an address, and the address
-abbrev pub address_parts : List ℕ → List ℕ → Address → List Inline
+abbrev pub address_parts : List ℕ → List ℕ → Address → List InlineLeaf
 address_parts before after found =
     map Data (without_last found.before before)
     ++ Literal found.kind (drop (length before - found.before) before ++ at_sign ∷ take found.after after) ∷ []
 
 -- the parts of a run of text from an `@` on
-abbrev pub address_or_text : List ℕ → List ℕ → Option Address → (ℕ → List ℕ → List Inline) → List Inline
+abbrev pub address_or_text : List ℕ → List ℕ → Option Address → (ℕ → List ℕ → List InlineLeaf) → List InlineLeaf
 address_or_text before after None rest = rest 0 (before ++ at_sign ∷ [])
 address_or_text before after (Some found) rest = address_parts before after found ++ rest found.after []
 
 -- the parts of a run of text, given the text since the last address, and how many codes of that come next (GFM 6.9)
-abbrev pub parts_from : ℕ → List ℕ → List ℕ → List Inline
+abbrev pub parts_from : ℕ → List ℕ → List ℕ → List InlineLeaf
 parts_from k before [] = map Data before
 parts_from zero before (c ∷ cs) =
     if c == at_sign then address_or_text before cs (address_at before cs) (λ more next. parts_from more next cs)
@@ -263,7 +263,7 @@ parts_from zero before (c ∷ cs) =
 parts_from (suc k) before (c ∷ cs) = parts_from k before cs
 
 -- a run of text with the email addresses in it, from left to right (GFM 6.9)
-abbrev pub with_addresses : List ℕ → List Inline
+abbrev pub with_addresses : List ℕ → List InlineLeaf
 with_addresses run = parts_from 0 [] run
 
 -- ---- the inline structure of a content, once its spans are paired
@@ -273,6 +273,11 @@ abbrev pub parts_before : List Inline → Inlines → Inlines
 parts_before [] others = others
 parts_before (i ∷ is) others = Cons i (parts_before is others)
 
+-- a leaf where no literal may stand: what it is written with
+abbrev pub leaf_without : InlineLeaf → List InlineLeaf
+leaf_without (Literal kind text) = map Data text
+leaf_without other = other ∷ []
+
 abbrev mutual
   -- the text of a link holds no link: a literal in it is text (CommonMark 6.3)
   pub without_literals : Inlines → Inlines
@@ -280,28 +285,28 @@ abbrev mutual
   without_literals (Cons i is) = parts_before (part_without i) (without_literals is)
 
   pub part_without : Inline → List Inline
-  part_without (Literal kind text) = map Data text
-  part_without (Emphasis kids) = Emphasis (without_literals kids) ∷ []
-  part_without (Strong kids) = Strong (without_literals kids) ∷ []
-  part_without (Strikethrough kids) = Strikethrough (without_literals kids) ∷ []
-  part_without (Link target kids) = Link target (without_literals kids) ∷ []
-  part_without (Image target kids) = Image target (without_literals kids) ∷ []
-  part_without i = i ∷ []
+  part_without (Leaf part) = map Leaf (leaf_without part)
+  part_without (Span kind kids) = Span kind (without_literals kids) ∷ []
+  part_without (Linked kind target kids) = Linked kind target (without_literals kids) ∷ []
+  part_without (Call label) = Call label ∷ []
+
+-- a run of text with its email addresses, before others
+abbrev pub addresses_before : List ℕ → Inlines → Inlines
+addresses_before run others = parts_before (map Leaf (with_addresses run)) others
 
 abbrev mutual
   -- email addresses in the longest runs of text outside links, where a run stands before (GFM 6.9)
   pub with_literals : List ℕ → Inlines → Inlines
-  with_literals run Nil = parts_before (with_addresses run) Nil
-  with_literals run (Cons (Data b) is) = with_literals (run ++ b ∷ []) is
-  with_literals run (Cons i is) = parts_before (with_addresses run) (Cons (part_with i) (with_literals [] is))
+  with_literals run Nil = addresses_before run Nil
+  with_literals run (Cons (Leaf (Data b)) is) = with_literals (run ++ b ∷ []) is
+  with_literals run (Cons i is) = addresses_before run (Cons (part_with i) (with_literals [] is))
 
   pub part_with : Inline → Inline
-  part_with (Emphasis kids) = Emphasis (with_literals [] kids)
-  part_with (Strong kids) = Strong (with_literals [] kids)
-  part_with (Strikethrough kids) = Strikethrough (with_literals [] kids)
-  part_with (Link target kids) = Link target (without_literals kids)
-  part_with (Image target kids) = Image target (with_literals [] kids)
-  part_with i = i
+  part_with (Leaf part) = Leaf part
+  part_with (Span kind kids) = Span kind (with_literals [] kids)
+  part_with (Linked Link target kids) = Linked Link target (without_literals kids)
+  part_with (Linked Image target kids) = Linked Image target (with_literals [] kids)
+  part_with (Call label) = Call label
 
 -- the inline structure with its literals, where they are on (GFM 6.9)
 abbrev pub linked_literals : Constructs → Inlines → Inlines

@@ -7,7 +7,7 @@ use Rattle.definition_text.specs.Columns.{Code, code_byte}
 use Rattle.definition_text.specs.Bytes.{begins_with, begins_with_letter}
 use Rattle.definition_inline.specs.HtmlTags.{open_tag, closing_tag}
 use Rattle.definition_text.specs.Content.{is_eol}
-use Rattle.definition_inline.specs.Inline.{Leaf, leaf, Html}
+use Rattle.definition_inline.specs.Inline.{Found, leaf, Html}
 
 -- a code as the grammar of tags reads it: a line ending is 10, and a column that is left of a tab a space
 abbrev pub html_byte : Code → ℕ
@@ -50,13 +50,13 @@ abbrev pub html_end : List ℕ → Option (List ℕ)
 html_end bytes = option_or (open_tag bytes) (option_or (closing_tag bytes) (marked_html bytes))
 
 -- raw HTML of so many codes, those before the rest
-abbrev pub html_leaf : List Code → Option (List ℕ) → Option Leaf
+abbrev pub html_leaf : List Code → Option (List ℕ) → Option Found
 html_leaf content None = None
 html_leaf content (Some rest) =
     let size = length content - length rest in
     Some (leaf (Html (take size content) ∷ []) size)
 
 -- raw HTML (CommonMark 6.6)
-abbrev pub html_text_at : Constructs → List Code → Option Leaf
+abbrev pub html_text_at : Constructs → List Code → Option Found
 html_text_at on content =
     if on.html_text && begins_with (codes "<") content then html_leaf content (html_end (map html_byte content)) else None

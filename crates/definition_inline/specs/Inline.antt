@@ -21,28 +21,41 @@ pub data LiteralKind : Type 0 where
   Protocol : LiteralKind
   Email : LiteralKind
 
--- A part of a text: a byte; a byte after the backslash that escapes it; the text that a character reference stands for; the text of a code span; that of math;
--- an autolink to an email address or not, with what stands between its brackets; a literal; raw HTML by its codes; a hard line break by a backslash; one by
--- spaces; the code of a line ending; emphasis; strong emphasis; strikethrough; a link; an image with its description; a call of a footnote, with the label
--- between its brackets as it is written.
+-- A leaf, which holds no other part: a byte; a byte after the backslash that escapes it; the text that a character reference stands for; the text of a code
+-- span; that of math; an autolink to an email address or not, with what stands between its brackets; a literal; raw HTML by its codes; a hard line break by a
+-- backslash; one by spaces; the code of a line ending; the check of a task list item, which says whether the item is done.
+pub data InlineLeaf : Type 0 where
+  Data : ℕ → InlineLeaf
+  Escape : ℕ → InlineLeaf
+  Character : List ℕ → InlineLeaf
+  Code : List ℕ → InlineLeaf
+  Math : List ℕ → InlineLeaf
+  Autolink : Bool → List ContentCode → InlineLeaf
+  Literal : LiteralKind → List ContentCode → InlineLeaf
+  Html : List ContentCode → InlineLeaf
+  EscapedBreak : InlineLeaf
+  TrailingBreak : InlineLeaf
+  LineEnd : ContentCode → InlineLeaf
+  TaskCheck : Bool → InlineLeaf
+
+-- what stands between two runs that go together
+pub data SpanKind : Type 0 where
+  Emphasis : SpanKind
+  Strong : SpanKind
+  Strikethrough : SpanKind
+
+-- what leads to a target: a link around its text, or an image with its description
+pub data LinkedKind : Type 0 where
+  Link : LinkedKind
+  Image : LinkedKind
+
+-- A part of a text: a leaf; a span with what it holds; a link or an image with its target and what it holds; a call of a footnote, with the label between its
+-- brackets as it is written.
 mutual
   pub data Inline : Type 0 where
-    Data : ℕ → Inline
-    Escape : ℕ → Inline
-    Character : List ℕ → Inline
-    Code : List ℕ → Inline
-    Math : List ℕ → Inline
-    Autolink : Bool → List ContentCode → Inline
-    Literal : LiteralKind → List ContentCode → Inline
-    Html : List ContentCode → Inline
-    EscapedBreak : Inline
-    TrailingBreak : Inline
-    LineEnd : ContentCode → Inline
-    Emphasis : Inlines → Inline
-    Strong : Inlines → Inline
-    Strikethrough : Inlines → Inline
-    Link : Target → Inlines → Inline
-    Image : Target → Inlines → Inline
+    Leaf : InlineLeaf → Inline
+    Span : SpanKind → Inlines → Inline
+    Linked : LinkedKind → Target → Inlines → Inline
     Call : List ContentCode → Inline
 
   pub data Inlines : Type 0 where
@@ -54,15 +67,15 @@ abbrev pub followed_by : Inlines → Inline → Inlines
 followed_by Nil last = Cons last Nil
 followed_by (Cons i is) last = Cons i (followed_by is last)
 
--- a construct that holds no other: the parts that it makes, and how many codes it takes
-pub record Leaf : Type 0 where
-  pub parts : List Inline
+-- what a construct that holds no other makes: its leaves, and how many codes it takes
+pub record Found : Type 0 where
+  pub parts : List InlineLeaf
   pub size : ℕ
 
-abbrev pub leaf : List Inline → ℕ → Leaf
+abbrev pub leaf : List InlineLeaf → ℕ → Found
 leaf parts size = record { parts = parts; size = size }
 
 -- a construct, or else another one
-abbrev pub or_else : Option Leaf → Option Leaf → Option Leaf
+abbrev pub or_else : Option Found → Option Found → Option Found
 or_else None other = other
 or_else (Some found) other = Some found

@@ -1,13 +1,13 @@
 -- Which label starts and `]` go together, and what they form, as a grammar (CommonMark 6.3). The scan of a content is proved to read by it.
-use Rattle.std.specs.Prelude.{◌≡◌, ◌+◌, ℕ, Bool, true, false, ◌&&◌, ◌==◌, List, [], ◌∷◌, ◌++◌, Option, None, Some, drop, map}
+use Rattle.std.specs.Prelude.{◌≡◌, ◌+◌, ℕ, Bool, true, false, ◌&&◌, ◌==◌, List, [], ◌∷◌, ◌++◌, Option, None, Some, drop}
 use Rattle.definition_text.specs.Ascii.{right_bracket}
 use Rattle.definition_text.specs.Columns.{Code}
 use Rattle.definition_text.specs.InlineCode.{InlineCode, codes_of}
-use Rattle.definition_inline.specs.Inline.{Data, Leaf}
+use Rattle.definition_inline.specs.Inline.{Leaf, Data, Found}
 use Rattle.definition_inline.specs.Attention.{Run, run_at}
 use Rattle.definition_inline.specs.Spans.{Token, Item, Delimiters}
 use Rattle.definition_inline.specs.LabelEnd.{LinkOrCall, formed_size}
-use Rattle.definition_inline.specs.Scan.{InlineContext, leaf_here, LabelStart, label_start_at, start_more, OpenLabel, Text, text, with_tokens, with_plain_start}
+use Rattle.definition_inline.specs.Scan.{InlineContext, leaf_here, leaf_tokens, LabelStart, label_start_at, start_more, OpenLabel, Text, text, with_tokens, with_plain_start}
 use Rattle.definition_inline.specs.Scan.{with_link_or_call, ended_by}
 
 -- A stretch of a content: tokens; a label start with the codes after it; a `]` with the codes from it on, and what it forms, if anything.
@@ -33,8 +33,8 @@ pub record IsBare (context : InlineContext) (content : List InlineCode) : Type 0
 -- the stretches of a content, one after another: at each place the first of these that stands there
 pub data AreStretches (context : InlineContext) : List InlineCode → List Stretch → Type 0 where
   AtEnd : AreStretches context [] []
-  AtLeaf : (c : InlineCode) (cs : List InlineCode) (found : Leaf) (others : List Stretch) → leaf_here context (c ∷ cs) ≡ Some found
-      → AreStretches context (drop found.size (c ∷ cs)) others → AreStretches context (c ∷ cs) (Plain (map Item found.parts) ∷ others)
+  AtLeaf : (c : InlineCode) (cs : List InlineCode) (found : Found) (others : List Stretch) → leaf_here context (c ∷ cs) ≡ Some found
+      → AreStretches context (drop found.size (c ∷ cs)) others → AreStretches context (c ∷ cs) (Plain (leaf_tokens found) ∷ others)
   AtRun : (c : InlineCode) (cs : List InlineCode) (run : Run) (others : List Stretch) → leaf_here context (c ∷ cs) ≡ None
       → run_at context.options (c ∷ cs) ≡ Some run
       → AreStretches context (drop run.left (c ∷ cs)) others → AreStretches context (c ∷ cs) (Plain (Delimiters run ∷ []) ∷ others)
@@ -47,7 +47,7 @@ pub data AreStretches (context : InlineContext) : List InlineCode → List Stret
       → AreStretches context (drop (1 + ended_size end) (c ∷ cs)) others → AreStretches context (c ∷ cs) (End (codes_of (c ∷ cs)) end ∷ others)
   AtByte : (c : InlineCode) (cs : List InlineCode) (others : List Stretch) → IsBare context (c ∷ cs)
       → label_start_at context.options.constructs (codes_of (c ∷ cs)) ≡ None → is_label_end context c.code ≡ false
-      → AreStretches context cs others → AreStretches context (c ∷ cs) (Plain (Item (Data c.code) ∷ []) ∷ others)
+      → AreStretches context cs others → AreStretches context (c ∷ cs) (Plain (Item (Leaf (Data c.code)) ∷ []) ∷ others)
 
 -- a label start between the text before it and the text after it
 abbrev pub open_label : LabelStart → List Code → Text → OpenLabel
@@ -55,7 +55,7 @@ open_label start from outer = record { start = start; from = from; outer = outer
 
 -- the text with what a label start and its `]` form; where they form nothing, both are text
 abbrev pub ended_text : OpenLabel → Text → Option LinkOrCall → Text
-ended_text label inner None = with_tokens (with_plain_start label inner) (Item (Data right_bracket) ∷ [])
+ended_text label inner None = with_tokens (with_plain_start label inner) (Item (Leaf (Data right_bracket)) ∷ [])
 ended_text label inner (Some found) = with_link_or_call label found inner
 
 -- Stretches whose label starts are all taken, each by the `]` that matches it, and the text that they stand for. What a pair forms depends on the text between,
@@ -68,7 +68,7 @@ pub data IsText (context : InlineContext) : Bool → List Stretch → Text → T
       → IsText context false between inner → (end : Option LinkOrCall) → end ≡ ended_by context content (open_label start from outer) inner
       → IsText context top (before ++ Start start from ∷ (between ++ End content end ∷ [])) (ended_text (open_label start from outer) inner end)
   LeftOver : (ss : List Stretch) (t : Text) (content : List Code) → IsText context true ss t
-      → IsText context true (ss ++ End content None ∷ []) (with_tokens t (Item (Data right_bracket) ∷ []))
+      → IsText context true (ss ++ End content None ∷ []) (with_tokens t (Item (Leaf (Data right_bracket)) ∷ []))
 
 -- the same after a label start that no `]` matches, with others that are left over
 pub data IsRest (context : InlineContext) : List Stretch → Text → Type 0 where

@@ -4,7 +4,7 @@ use Rattle.markdown_options.specs.declared.configuration.ParseOptions.{ParseOpti
 use Rattle.definition_text.specs.Ascii.{dollar}
 use Rattle.definition_text.specs.Columns.{Code}
 use Rattle.definition_text.specs.Runs.{run}
-use Rattle.definition_inline.specs.Inline.{Leaf}
+use Rattle.definition_inline.specs.Inline.{Found}
 use Rattle.definition_inline.specs.CodeText.{raw_at}
 
 -- whether a run of n dollars may open math: one alone only where that is asked for
@@ -12,5 +12,5 @@ abbrev pub may_open_math : ParseOptions → ℕ → Bool
 may_open_math options n = options.constructs.math_text && (options.math_text_single_dollar || not (n == 1))
 
 -- a run of dollars, which may open math
-abbrev pub math_text_at : ParseOptions → List Code → Option Leaf
+abbrev pub math_text_at : ParseOptions → List Code → Option Found
 math_text_at options content = raw_at dollar (may_open_math options (run dollar content)) content

@@ -10,7 +10,7 @@ use Rattle.definition_text.specs.Columns.{Code, is_white}
 use Rattle.definition_text.specs.Bytes.{begins_with}
 use Rattle.definition_text.specs.Content.{text_before}
 use Rattle.definition_text.specs.InlineCode.{InlineCode, codes_of}
-use Rattle.definition_inline.specs.Inline.{Target, Inline, Data, Link, Image, Call, Inlines, Leaf, or_else}
+use Rattle.definition_inline.specs.Inline.{Target, LinkedKind, Link, Image, Inline, Leaf, Data, Linked, Call, Inlines, Found, or_else}
 use Rattle.definition_inline.specs.CharacterEscape.{escape_at}
 use Rattle.definition_inline.specs.CharacterReference.{Names, reference_at}
 use Rattle.definition_inline.specs.CodeText.{code_text_at}
@@ -36,7 +36,7 @@ pub record InlineContext : Type 0 where
 
 -- the construct that a content begins with, if it holds no other; two of them begin with one byte only where the first of them goes first: an escape and a
 -- break, an autolink and HTML
-abbrev pub leaf_at : InlineContext → List Code → Option Leaf
+abbrev pub leaf_at : InlineContext → List Code → Option Found
 leaf_at context content =
     or_else (escape_at context.options.constructs content)
     (or_else (escaped_break_at context.options.constructs content)
@@ -49,7 +49,7 @@ leaf_at context content =
     (line_spaces_at context.options.constructs content))))))))
 
 -- the same of codes that know what stands beside them, with a literal, which no other of these begins like (CommonMark 6 and GFM 6.9)
-abbrev pub leaf_here : InlineContext → List InlineCode → Option Leaf
+abbrev pub leaf_here : InlineContext → List InlineCode → Option Found
 leaf_here context content = or_else (leaf_at context (codes_of content)) (literal_at context.options.constructs content)
 
 -- ---- labels
@@ -81,19 +81,27 @@ abbrev pub start_more : LabelStart → ℕ
 start_more LinkStart = 0
 start_more ImageStart = 1
 
+-- the tokens of a construct that holds no other
+abbrev pub leaf_tokens : Found → List Token
+leaf_tokens found = map (λ part. Item (Leaf part)) found.parts
+
 -- a label start that forms nothing is text
 abbrev pub start_tokens : LabelStart → List Token
-start_tokens start = map (λ b. Item (Data b)) (start_bytes start)
+start_tokens start = map (λ b. Item (Leaf (Data b))) (start_bytes start)
 
 -- whether a label start may form something, given whether its text holds a link: no link holds another (CommonMark 6.3)
 abbrev pub may_form : LabelStart → Bool → Bool
 may_form LinkStart holds_link = not holds_link
 may_form ImageStart holds_link = true
 
+-- what a label start may form
+abbrev pub started_kind : LabelStart → LinkedKind
+started_kind LinkStart = Link
+started_kind ImageStart = Image
+
 -- a link or an image with its text
 abbrev pub label_part : LabelStart → Target → Inlines → Inline
-label_part LinkStart target kids = Link target kids
-label_part ImageStart target kids = Image target kids
+label_part start target kids = Linked (started_kind start) target kids
 
 -- whether this is a link or a call, or its text holds one
 abbrev pub makes_link : LabelStart → Bool → Bool
@@ -154,11 +162,11 @@ pub data Step : Type 0 where
 
 -- a byte of text
 abbrev pub data_step : Code → Reading → Step
-data_step code r = Next 0 (read_tokens (Item (Data code) ∷ []) r)
+data_step code r = Next 0 (read_tokens (Item (Leaf (Data code)) ∷ []) r)
 
 -- a `]` after the innermost label start that is open: that one is used up, and both are text where nothing is formed (CommonMark 6.3)
 abbrev pub ended_step : OpenLabel → List OpenLabel → Text → Option LinkOrCall → Step
-ended_step label others inner None = Next 0 (read_tokens (Item (Data right_bracket) ∷ []) (reading (with_plain_start label inner) others))
+ended_step label others inner None = Next 0 (read_tokens (Item (Leaf (Data right_bracket)) ∷ []) (reading (with_plain_start label inner) others))
 ended_step label others inner (Some found) = Next (formed_size found) (reading (with_link_or_call label found inner) others)
 
 -- what the text between a label start and a `]` forms, given what follows that
@@ -195,9 +203,9 @@ run_step context code content r None = label_step context code content r (label_
 run_step context code content r (Some run) = Next (run.left - 1) (read_tokens (Delimiters run ∷ []) r)
 
 -- a construct that holds no other, or another place
-abbrev pub leaf_step : InlineContext → Code → List Code → Reading → Option Run → Option Leaf → Step
+abbrev pub leaf_step : InlineContext → Code → List Code → Reading → Option Run → Option Found → Step
 leaf_step context code content r run None = run_step context code content r run
-leaf_step context code content r run (Some found) = Next (found.size - 1) (read_tokens (map Item found.parts) r)
+leaf_step context code content r run (Some found) = Next (found.size - 1) (read_tokens (leaf_tokens found) r)
 
 -- what is read of the codes that come next
 abbrev pub step : InlineContext → Reading → InlineCode → List InlineCode → Step

@@ -1,7 +1,7 @@
 -- Emphasis, strong emphasis and strikethrough: what stands between the runs that go together (CommonMark 6.2 and GFM 6.5).
 use Rattle.std.specs.Prelude.{ℕ, ◌+◌, ◌-◌, if◌then◌else◌, ◌==◌, List, [], ◌∷◌, ◌++◌, map, reverse, replicate}
 use Rattle.std.specs.List.{filter, fold, sum_by}
-use Rattle.definition_inline.specs.Inline.{Inline, Data, Emphasis, Strong, Strikethrough, Inlines, Nil, followed_by}
+use Rattle.definition_inline.specs.Inline.{Inline, Leaf, Data, Span, SpanKind, Emphasis, Strong, Strikethrough, Inlines, Nil, followed_by}
 use Rattle.definition_inline.specs.Attention.{Run}
 use Rattle.definition_inline.specs.GfmStrikethrough.{is_tilde}
 use Rattle.definition_inline.specs.Pairing.{Pair, pairs}
@@ -21,20 +21,14 @@ abbrev pub runs_of : List Token → List Run
 runs_of [] = []
 runs_of (t ∷ ts) = token_run t ++ runs_of ts
 
--- what a pair of runs stands for
-pub data Span : Type 0 where
-  IsEmphasis : Span
-  IsStrong : Span
-  IsStrikethrough : Span
-
 -- what a pair of runs of this byte stands for: strikethrough (GFM 6.5), emphasis, or strong emphasis where two bytes are taken (CommonMark 6.2)
-abbrev pub span_of : ℕ → Pair → Span
-span_of marker pair = if is_tilde marker then IsStrikethrough else (if pair.taken == 2 then IsStrong else IsEmphasis)
+abbrev pub span_of : ℕ → Pair → SpanKind
+span_of marker pair = if is_tilde marker then Strikethrough else (if pair.taken == 2 then Strong else Emphasis)
 
 -- tokens where each run is told apart: a part, the start of a span, or the end of the innermost one
 pub data SpanRow : Type 0 where
   Holds : Inline → SpanRow
-  Opens : Span → SpanRow
+  Opens : SpanKind → SpanRow
   Closes : SpanRow
 
 -- the bytes of these pairs at one of their runs
@@ -47,7 +41,7 @@ run_rows ps place run =
     let closed = filter (λ (p : Pair). p.closer == place) ps in
     let started = filter (λ (p : Pair). p.opener == place) ps in
     map (λ (p : Pair). Closes) closed
-    ++ replicate (run.left - (bytes_taken closed + bytes_taken started)) (Holds (Data run.marker))
+    ++ replicate (run.left - (bytes_taken closed + bytes_taken started)) (Holds (Leaf (Data run.marker)))
     ++ map (λ (p : Pair). Opens (span_of run.marker p)) (reverse started)
 
 -- the rows of tokens, of which the next run has this place
@@ -58,7 +52,7 @@ rows_from ps place (Delimiters run ∷ ts) = run_rows ps place run ++ rows_from 
 
 -- a span that is open, and the parts before it
 pub record OpenSpan : Type 0 where
-  pub span : Span
+  pub kind : SpanKind
   pub before : Inlines
 
 -- the parts of the innermost span that is open, and the open spans, the innermost first
@@ -69,21 +63,15 @@ pub record Nest : Type 0 where
 abbrev pub nest : Inlines → List OpenSpan → Nest
 nest now around = record { now = now; around = around }
 
--- a span and what it holds
-abbrev pub span_part : Span → Inlines → Inline
-span_part IsEmphasis kids = Emphasis kids
-span_part IsStrong kids = Strong kids
-span_part IsStrikethrough kids = Strikethrough kids
-
 -- the innermost span ends
 abbrev pub leave : Inlines → List OpenSpan → Nest
 leave now [] = nest now []
-leave now (innermost ∷ others) = nest (followed_by innermost.before (span_part innermost.span now)) others
+leave now (innermost ∷ others) = nest (followed_by innermost.before (Span innermost.kind now)) others
 
 -- one more row
 abbrev pub nest_row : Nest → SpanRow → Nest
 nest_row n (Holds i) = nest (followed_by n.now i) n.around
-nest_row n (Opens span) = nest Nil (record { span = span; before = n.now } ∷ n.around)
+nest_row n (Opens kind) = nest Nil (record { kind = kind; before = n.now } ∷ n.around)
 nest_row n Closes = leave n.now n.around
 
 -- the parts that rows stand for

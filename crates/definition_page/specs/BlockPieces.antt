@@ -56,29 +56,11 @@ abbrev pub list_tag : Option ℕ → Tag
 list_tag None = bare_tag (codes "ul")
 list_tag (Some number) = tag (codes "ol") (start_attributes number)
 
--- ---- checks of task list items
-
-abbrev pub checkable_attributes : Bool → List Attribute
-checkable_attributes checkable = if checkable then [] else attribute (codes "disabled") [] ∷ []
-
-abbrev pub done_attributes : Bool → List Attribute
-done_attributes done = if done then attribute (codes "checked") [] ∷ [] else []
-
--- a check box, which can't be changed unless that is asked for (GFM 5.3)
-abbrev pub check_tag : CompileOptions → Bool → Tag
-check_tag options done =
-    tag (codes "input")
-    (attribute (codes "type") (codes "checkbox") ∷ checkable_attributes options.gfm_task_list_item_checkable ++ done_attributes done)
-
-abbrev pub check_pieces : CompileOptions → Option Bool → List Piece
-check_pieces options None = []
-check_pieces options (Some done) = Void (check_tag options done) ∷ []
-
 -- ---- siblings
 
 -- whether an ending prints nothing, given the sibling right before: after a tight paragraph, and after a definition of a link or a footnote
 abbrev pub is_silent : Place → Option Block → Bool
-is_silent place (Some (Paragraph check is)) = place.tight
+is_silent place (Some (Paragraph is)) = place.tight
 is_silent place (Some Definition) = true
 is_silent place (Some (Footnote label kids)) = true
 is_silent place b = false
@@ -95,7 +77,7 @@ last_visible before (Cons b bs) = last_visible (Some b) bs
 -- an item whose last child is a tight paragraph, or that has none, ends on the same line
 abbrev pub ends_plainly : Bool → Option Block → Bool
 ends_plainly tight None = true
-ends_plainly tight (Some (Paragraph check is)) = tight
+ends_plainly tight (Some (Paragraph is)) = tight
 ends_plainly tight (Some b) = false
 
 abbrev pub fresh_unless : Bool → List Piece
@@ -112,9 +94,8 @@ fenced_pieces place is_closed (line ∷ others) =
 abbrev mutual
   -- a block, or the ending of a line, after this sibling
   pub block_pieces : Meaning → Place → Option Block → Block → List Piece
-  block_pieces m place before (Paragraph check is) =
-      let text = check_pieces m.compile check ++ inline_pieces m is in
-      if place.tight then text else Fresh ∷ element (bare_tag (codes "p")) text
+  block_pieces m place before (Paragraph is) =
+      if place.tight then inline_pieces m is else Fresh ∷ element (bare_tag (codes "p")) (inline_pieces m is)
   block_pieces m place before (Heading rank is) = Fresh ∷ element (bare_tag (heading_name rank)) (inline_pieces m is)
   block_pieces m place before Break = Fresh ∷ Void (bare_tag (codes "hr")) ∷ []
   block_pieces m place before (IndentedCode ls) =

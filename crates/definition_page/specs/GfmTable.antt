@@ -5,8 +5,7 @@ use Rattle.markdown_options.specs.declared.line_ending.LineEnding.{LineEnding}
 use Rattle.definition_text.specs.Ascii.{backslash, vertical_bar}
 use Rattle.definition_text.specs.BlockLines.{BlockLine, spaced_line}
 use Rattle.definition_text.specs.Lines.{ending_text}
-use Rattle.definition_inline.specs.Inline.{Inline, Code, Math, Emphasis}
-use Rattle.definition_inline.specs.Inline.{Strong, Strikethrough, Link, Image, Inlines, Nil, Cons}
+use Rattle.definition_inline.specs.Inline.{InlineLeaf, Code, Math, Inline, Leaf, Span, Linked, Call, Inlines, Nil, Cons}
 use Rattle.markdown_options.specs.declared.align_kind.AlignKind.{AlignKind}
 use Rattle.markdown_options.specs.declared.align_kind.AlignKind.TheVariants as align
 use Rattle.definition_block.specs.GfmTable.{delimiters}
@@ -55,17 +54,19 @@ abbrev pub cell_code : List ℕ → List ℕ
 cell_code [] = []
 cell_code (c ∷ cs) = if escapes_bar c cs then cell_code cs else c ∷ cell_code cs
 
+-- a leaf as it stands in a cell
+abbrev pub leaf_in_cell : InlineLeaf → InlineLeaf
+leaf_in_cell (Code text) = Code (cell_code text)
+leaf_in_cell (Math text) = Math (cell_code text)
+leaf_in_cell other = other
+
 -- inline structure as it stands in a cell
 abbrev mutual
   pub part_in_cell : Inline → Inline
-  part_in_cell (Code text) = Code (cell_code text)
-  part_in_cell (Math text) = Math (cell_code text)
-  part_in_cell (Emphasis kids) = Emphasis (in_cell kids)
-  part_in_cell (Strong kids) = Strong (in_cell kids)
-  part_in_cell (Strikethrough kids) = Strikethrough (in_cell kids)
-  part_in_cell (Link target kids) = Link target (in_cell kids)
-  part_in_cell (Image target kids) = Image target (in_cell kids)
-  part_in_cell i = i
+  part_in_cell (Leaf part) = Leaf (leaf_in_cell part)
+  part_in_cell (Span kind kids) = Span kind (in_cell kids)
+  part_in_cell (Linked kind target kids) = Linked kind target (in_cell kids)
+  part_in_cell (Call label) = Call label
 
   pub in_cell : Inlines → Inlines
   in_cell Nil = Nil

@@ -6,14 +6,14 @@ use Rattle.markdown_options.specs.declared.configuration.CompileOptions.{Compile
 use Rattle.definition_text.specs.Columns.{Code as ContentCode, bytes_of, bare}
 use Rattle.definition_text.specs.Content.{is_eol}
 use Rattle.definition_text.specs.Encode.{plain}
-use Rattle.definition_inline.specs.Inline.{LinkTexts, LiteralKind, Www, Protocol, Email, Inline, Data, Escape}
-use Rattle.definition_inline.specs.Inline.{Character}
-use Rattle.definition_inline.specs.Inline.{Code, Math, Autolink, Literal, Html, EscapedBreak, TrailingBreak, LineEnd, Emphasis, Strong, Strikethrough, Link}
-use Rattle.definition_inline.specs.Inline.{Image, Call, Inlines, Nil, Cons}
+use Rattle.definition_inline.specs.Inline.{LinkTexts, LiteralKind, Www, Protocol, Email, InlineLeaf, Data, Escape, Character, Code, Math, Autolink, Literal}
+use Rattle.definition_inline.specs.Inline.{Html, EscapedBreak, TrailingBreak, LineEnd, TaskCheck, SpanKind, Emphasis, Strong, Strikethrough}
+use Rattle.definition_inline.specs.Inline.{Link, Image, Inline, Leaf, Span, Linked, Call, Inlines, Nil, Cons}
 use Rattle.definition_inline.specs.LabelMatch.{normal_label, first_match}
 use Rattle.definition_inline.specs.Targets.{leads_to}
 use Rattle.definition_inline.specs.Strings.{string_text}
 use Rattle.definition_page.specs.GfmTagfilter.{filter_if}
+use Rattle.definition_page.specs.GfmTaskListItem.{check_tag}
 use Rattle.definition_page.specs.Urls.{percent, sanitize, permits, href_protocols, src_protocols}
 use Rattle.definition_page.specs.Tags.{PrintedPart, Words, AsItIs, EndOfLine, Attribute, attribute, Tag, tag, bare_tag}
 use Rattle.definition_page.specs.Pieces.{Piece, Open, Close, Void, Says, CallOf, CountOf}
@@ -116,26 +116,56 @@ literal_address Email text = codes "mailto:" ++ text
 abbrev pub math_tag : Tag
 math_tag = tag (codes "code") (attribute (codes "class") (codes "language-math math-inline") ∷ [])
 
--- ---- the description of an image: what its parts say, without tags (CommonMark 6.4)
+-- ---- leaves
 
+-- what a leaf says in the description of an image, without tags (CommonMark 6.4)
+abbrev pub leaf_says : CompileOptions → InlineLeaf → List PrintedPart
+leaf_says options (Data b) = Words (b ∷ []) ∷ []
+leaf_says options (Escape b) = Words (b ∷ []) ∷ []
+leaf_says options (Character text) = Words text ∷ []
+leaf_says options (Code text) = Words text ∷ []
+leaf_says options (Math text) = Words text ∷ []
+leaf_says options (Autolink is_email text) = Words text ∷ []
+leaf_says options (Literal kind text) = Words text ∷ []
+leaf_says options (Html html) = html_says options html
+leaf_says options EscapedBreak = []
+leaf_says options TrailingBreak = []
+leaf_says options (LineEnd code) = EndOfLine code ∷ []
+leaf_says options (TaskCheck done) = []
+
+-- an element around pieces
+abbrev pub element : Tag → List Piece → List Piece
+element t inside = Open t ∷ inside ++ Close t.name ∷ []
+
+-- the start tag of a link to an address
+abbrev pub address_tag : CompileOptions → List ℕ → Tag
+address_tag options url = tag (codes "a") (attribute (codes "href") (link_url options url) ∷ [])
+
+-- what a leaf prints in a text: its tags, if it has any, around what it says (CommonMark 6)
+abbrev pub leaf_pieces : CompileOptions → InlineLeaf → List Piece
+leaf_pieces options (Code text) = element (bare_tag (codes "code")) (Says (Words text) ∷ [])
+leaf_pieces options (Math text) = element math_tag (Says (Words text) ∷ [])
+leaf_pieces options (Autolink is_email text) = element (address_tag options (address is_email text)) (Says (Words text) ∷ [])
+leaf_pieces options (Literal kind text) = element (address_tag options (literal_address kind text)) (Says (Words text) ∷ [])
+leaf_pieces options EscapedBreak = Void (bare_tag (codes "br")) ∷ []
+leaf_pieces options TrailingBreak = Void (bare_tag (codes "br")) ∷ []
+leaf_pieces options (TaskCheck done) = Void (check_tag options done) ∷ []
+leaf_pieces options other = map Says (leaf_says options other)
+
+-- ---- spans, links and images
+
+-- the element that a span is (CommonMark 6.2 and GFM 6.5)
+abbrev pub span_name : SpanKind → List ℕ
+span_name Emphasis = codes "em"
+span_name Strong = codes "strong"
+span_name Strikethrough = codes "del"
+
+-- the description of an image: what its parts say, without tags (CommonMark 6.4)
 abbrev mutual
   pub part_says : CompileOptions → Inline → List PrintedPart
-  part_says options (Data b) = Words (b ∷ []) ∷ []
-  part_says options (Escape b) = Words (b ∷ []) ∷ []
-  part_says options (Character text) = Words text ∷ []
-  part_says options (Code text) = Words text ∷ []
-  part_says options (Math text) = Words text ∷ []
-  part_says options (Autolink is_email text) = Words text ∷ []
-  part_says options (Literal kind text) = Words text ∷ []
-  part_says options (Html html) = html_says options html
-  part_says options EscapedBreak = []
-  part_says options TrailingBreak = []
-  part_says options (LineEnd code) = EndOfLine code ∷ []
-  part_says options (Emphasis kids) = description options kids
-  part_says options (Strong kids) = description options kids
-  part_says options (Strikethrough kids) = description options kids
-  part_says options (Link target kids) = description options kids
-  part_says options (Image target kids) = description options kids
+  part_says options (Leaf part) = leaf_says options part
+  part_says options (Span kind kids) = description options kids
+  part_says options (Linked kind target kids) = description options kids
   part_says options (Call label) = []
 
   pub description : CompileOptions → Inlines → List PrintedPart
@@ -156,13 +186,10 @@ count_at (Some place) label = CountOf place label ∷ []
 abbrev mutual
   -- the calls in what isn't printed, or without tags: they count
   pub part_counts : Meaning → Inline → List Piece
-  part_counts m (Emphasis kids) = inline_counts m kids
-  part_counts m (Strong kids) = inline_counts m kids
-  part_counts m (Strikethrough kids) = inline_counts m kids
-  part_counts m (Link target kids) = inline_counts m kids
-  part_counts m (Image target kids) = inline_counts m kids
+  part_counts m (Leaf part) = []
+  part_counts m (Span kind kids) = inline_counts m kids
+  part_counts m (Linked kind target kids) = inline_counts m kids
   part_counts m (Call label) = count_at (first_match label m.footnotes) (normal_label label)
-  part_counts m i = []
 
   pub inline_counts : Meaning → Inlines → List Piece
   inline_counts m Nil = []
@@ -170,31 +197,13 @@ abbrev mutual
 
 -- ---- pieces
 
--- an element around pieces
-abbrev pub element : Tag → List Piece → List Piece
-element t inside = Open t ∷ inside ++ Close t.name ∷ []
-
 abbrev mutual
   -- what a part prints (CommonMark 6)
   pub part_pieces : Meaning → Inline → List Piece
-  part_pieces m (Data b) = Says (Words (b ∷ [])) ∷ []
-  part_pieces m (Escape b) = Says (Words (b ∷ [])) ∷ []
-  part_pieces m (Character text) = Says (Words text) ∷ []
-  part_pieces m (Code text) = element (bare_tag (codes "code")) (Says (Words text) ∷ [])
-  part_pieces m (Math text) = element math_tag (Says (Words text) ∷ [])
-  part_pieces m (Autolink is_email text) =
-      element (tag (codes "a") (attribute (codes "href") (link_url m.compile (address is_email text)) ∷ [])) (Says (Words text) ∷ [])
-  part_pieces m (Literal kind text) =
-      element (tag (codes "a") (attribute (codes "href") (link_url m.compile (literal_address kind text)) ∷ [])) (Says (Words text) ∷ [])
-  part_pieces m (Html html) = map Says (html_says m.compile html)
-  part_pieces m EscapedBreak = Void (bare_tag (codes "br")) ∷ []
-  part_pieces m TrailingBreak = Void (bare_tag (codes "br")) ∷ []
-  part_pieces m (LineEnd code) = Says (EndOfLine code) ∷ []
-  part_pieces m (Emphasis kids) = element (bare_tag (codes "em")) (inline_pieces m kids)
-  part_pieces m (Strong kids) = element (bare_tag (codes "strong")) (inline_pieces m kids)
-  part_pieces m (Strikethrough kids) = element (bare_tag (codes "del")) (inline_pieces m kids)
-  part_pieces m (Link target kids) = element (link_tag m (leads_to m.definition target)) (inline_pieces m kids)
-  part_pieces m (Image target kids) = Void (image_tag m (leads_to m.definition target) (description m.compile kids)) ∷ inline_counts m kids
+  part_pieces m (Leaf part) = leaf_pieces m.compile part
+  part_pieces m (Span kind kids) = element (bare_tag (span_name kind)) (inline_pieces m kids)
+  part_pieces m (Linked Link target kids) = element (link_tag m (leads_to m.definition target)) (inline_pieces m kids)
+  part_pieces m (Linked Image target kids) = Void (image_tag m (leads_to m.definition target) (description m.compile kids)) ∷ inline_counts m kids
   part_pieces m (Call label) = call_at (first_match label m.footnotes) (normal_label label)
 
   -- what parts print, one after another

@@ -1,4 +1,5 @@
 pub mod GfmTagfilter
+pub mod GfmTaskListItem
 pub mod Urls
 pub mod TextTables
 pub mod Tags

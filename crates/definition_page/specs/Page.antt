@@ -7,13 +7,13 @@ use Rattle.definition_inline.specs.Definition as link
 use Rattle.definition_inline.specs.Inline.{Inlines}
 use Rattle.definition_page.specs.GfmTable as table
 
--- A block, or the ending of a line between blocks: a paragraph, after a check that says whether its item is done, if it has one; a heading of a rank; a
+-- A block, or the ending of a line between blocks: a paragraph; a heading of a rank; a
 -- thematic break; indented code; fenced code with the text of its info, if it has one, and whether it was closed; an HTML block; a table; a link reference
 -- definition; a block quote; a list with the number of its first item, if it is ordered, whether it is loose, and its items; an item; a footnote definition
 -- with its label, as it is written; the ending of a block's last line; the ending of a blank line.
 mutual
   pub data Block : Type 0 where
-    Paragraph : Option Bool → Inlines → Block
+    Paragraph : Inlines → Block
     Heading : ℕ → Inlines → Block
     Break : Block
     IndentedCode : List BlockLine → Block

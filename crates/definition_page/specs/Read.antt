@@ -7,7 +7,7 @@ use Rattle.definition_text.specs.BlockLines.{BlockLine, own_lines}
 use Rattle.definition_text.specs.Columns.{Code, code_byte}
 use Rattle.definition_text.specs.InlineCode.{InlineCode, codes_of, inline_content, with_kinds}
 use Rattle.definition_text.specs.Lines.{without_mark, kind_before_text}
-use Rattle.definition_inline.specs.Inline.{Inlines}
+use Rattle.definition_inline.specs.Inline.{Leaf, TaskCheck, Inlines, Cons}
 use Rattle.definition_inline.specs.GfmTaskListItem.{check_at, check_size}
 use Rattle.definition_inline.specs.Scan.{InlineContext, inlines, inlines_from, without_indent}
 use Rattle.definition_inline.specs.Strings.{string_text}
@@ -64,15 +64,15 @@ text_content r ls = inline_content r.tables.is_punctuation Whitespace ls
 abbrev pub read_text : Reading → List BlockLine → Inlines
 read_text r ls = inlines (context_of r) (text_content r ls)
 
--- a paragraph of a content with this check: the rest of its content has the inline structure
-abbrev pub checked_paragraph : Reading → List InlineCode → Option Bool → page.Block
-checked_paragraph r content None = page.Paragraph None (inlines_from (context_of r) content)
-checked_paragraph r content (Some done) = page.Paragraph (Some done) (inlines_from (context_of r) (drop check_size content))
+-- the inline structure of a paragraph whose content has this check: first the check, and then that of the content after it (GFM 5.3)
+abbrev pub checked_text : Reading → List InlineCode → Option Bool → Inlines
+checked_text r content None = inlines_from (context_of r) content
+checked_text r content (Some done) = Cons (Leaf (TaskCheck done)) (inlines_from (context_of r) (drop check_size content))
 
 -- a paragraph, which may be the first block of an item (CommonMark 4.8 and GFM 5.3)
-abbrev pub read_paragraph : Reading → Bool → List BlockLine → page.Block
+abbrev pub read_paragraph : Reading → Bool → List BlockLine → Inlines
 read_paragraph r first ls =
-    let content = without_indent (text_content r ls) in checked_paragraph r content (check_at r.options.constructs first (codes_of content))
+    let content = without_indent (text_content r ls) in checked_text r content (check_at r.options.constructs first (codes_of content))
 
 -- that of a cell of a table, which ends where its bar stands (GFM 4.10)
 abbrev pub read_cell : Reading → Cell → Inlines
@@ -124,7 +124,7 @@ list_number bs = None
 abbrev mutual
   -- a block that stands here, before others
   pub read_block : Reading → Standing → tree.Block → page.Blocks → page.Blocks
-  read_block r standing (tree.Paragraph ls) others = page.Cons (read_paragraph r standing.first ls) others
+  read_block r standing (tree.Paragraph ls) others = page.Cons (page.Paragraph (read_paragraph r standing.first ls)) others
   read_block r standing (tree.Heading rank ls) others = page.Cons (page.Heading rank (read_text r ls)) others
   read_block r standing tree.Break others = page.Cons page.Break others
   read_block r standing (tree.IndentedCode ls) others = page.Cons (page.IndentedCode ls) others

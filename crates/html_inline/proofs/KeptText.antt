@@ -17,7 +17,7 @@ use Rattle.definition_text.specs.Content.{content_codes, is_eol}
 use Rattle.definition_inline.specs.CharacterEscape.{escape_at}
 use Rattle.definition_inline.specs.CharacterReference.{reference_at, reference_of}
 use Rattle.definition_inline.specs.HardBreak.{line_end_at}
-use Rattle.definition_inline.specs.Inline.{Inline, Leaf, leaf, or_else}
+use Rattle.definition_inline.specs.Inline.{Inline, Found, leaf, or_else}
 use Rattle.definition_inline.specs.Strings.{begins_with_eol, spaces_at, string_bytes, string_leaf_at, string_parts, string_text}
 use Rattle.definition_inline.proofs.Scanning.{string_step, string_byte}
 use Rattle.inline_leaves.specs.Leaves.{IsAfter, size_before}
@@ -26,11 +26,11 @@ use Rattle.html_inline.specs.Kept.{is_ink, kept_size, text_of}
 
 -- ---- steps
 
-pub none_or : (a b : Option Leaf) → or_else a b ≡ None → (a ≡ None) × (b ≡ None)
+pub none_or : (a b : Option Found) → or_else a b ≡ None → (a ≡ None) × (b ≡ None)
 none_or None b h = (refl, h)
 none_or (Some found) b h = absurd (none-some _ (sym h))
 
-pub or_none : (a b : Option Leaf) → a ≡ None → b ≡ None → or_else a b ≡ None
+pub or_none : (a b : Option Found) → a ≡ None → b ≡ None → or_else a b ≡ None
 or_none a b e f = ap (λ x. or_else x b) e ∙ f
 
 -- a byte that stands for itself
@@ -39,7 +39,7 @@ text_byte : (on : Constructs) (names : List ℕ → Option (List ℕ)) (c : ℕ)
 text_byte on names c cs none = ap (flat_map string_bytes) (string_byte on names c cs none)
 
 -- what a string begins with, and the rest
-leaf_text : (on : Constructs) (names : List ℕ → Option (List ℕ)) (codes : List ℕ) (found : Leaf) → string_leaf_at on names codes ≡ Some found
+leaf_text : (on : Constructs) (names : List ℕ → Option (List ℕ)) (codes : List ℕ) (found : Found) → string_leaf_at on names codes ≡ Some found
     → 0 < found.size → 0 < length codes → string_text on names codes ≡ flat_map string_bytes found.parts ++ string_text on names (drop found.size codes)
 leaf_text on names [] found is some filled = absurd (omega arith)
 leaf_text on names (c ∷ cs) found is some filled =
@@ -63,7 +63,7 @@ reference_other : (on : Constructs) (names : List ℕ → Option (List ℕ)) (c 
 reference_other on names c cs h =
     ap (λ f. cond on.character_reference (reference_of names (c ∷ cs) f) None) (cond-false (eqb c 38) _ _ h) ∙ by_case on.character_reference
   where
-    by_case : (t : Bool) → cond {A = Option Leaf} t None None ≡ None
+    by_case : (t : Bool) → cond {A = Option Found} t None None ≡ None
     by_case true = refl
     by_case false = refl
 
@@ -166,7 +166,7 @@ white_run on names (suc n) (x ∷ xs) bytes le inner = elim (cases_Bool (is_whit
 no_return : (xs : List ℕ) → line_end_at (content_codes (13 ∷ xs)) ≡ None → ⊥
 no_return xs h = true≢false (sym (at_return (λ cs. is_found (line_end_at cs)) true xs (λ cs. refl) (λ cs. refl)) ∙ ap is_found h)
   where
-    is_found : Option Leaf → Bool
+    is_found : Option Found → Bool
     is_found None = false
     is_found (Some found) = true
 

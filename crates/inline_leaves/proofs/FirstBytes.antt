@@ -13,7 +13,7 @@ use Rattle.definition_text.specs.Columns.{is_white, indent}
 use Rattle.definition_text.specs.Content.{content_codes, is_eol}
 use Rattle.definition_inline.specs.HardBreak.{escaped_break_at, line_end_at, line_spaces_at}
 use Rattle.definition_inline.specs.HtmlText.{html_text_at}
-use Rattle.definition_inline.specs.Inline.{Leaf, or_else}
+use Rattle.definition_inline.specs.Inline.{Found, or_else}
 use Rattle.definition_text.specs.Runs.{run}
 use Rattle.inline_leaves.specs.Scanned.{leaf_in}
 use Rattle.inline_leaves.proofs.Codes.{at_return, plain_code}
@@ -30,10 +30,10 @@ skip f y P alone both empty none (x ∷ xs) p = elim (cases_Bool (eqb x 13)) [
 abbrev IsNot : ℕ → ℕ → Type 0
 IsNot k c = c ≡ k → ⊥
 
-later : (a b : Option Leaf) → a ≡ None → or_else a b ≡ b
+later : (a b : Option Found) → a ≡ None → or_else a b ≡ b
 later a b none = ap (λ o. or_else o b) none
 
-alone : (a b : Option Leaf) → b ≡ None → or_else a b ≡ a
+alone : (a b : Option Found) → b ≡ None → or_else a b ≡ a
 alone None b none = none
 alone (Some found) b none = refl
 
@@ -103,19 +103,19 @@ module _ (options : ParseOptions) (names : List ℕ → Option (List ℕ)) (xs :
   codes_here = content_codes xs
 
   -- what comes after the first constructs
-  abbrev ends : Option Leaf
+  abbrev ends : Option Found
   ends = or_else (line_end_at codes_here) (line_spaces_at on codes_here)
 
-  abbrev angles : Option Leaf
+  abbrev angles : Option Found
   angles = or_else (autolink_at on codes_here) (or_else (html_text_at on codes_here) ends)
 
-  abbrev dollars : Option Leaf
+  abbrev dollars : Option Found
   dollars = or_else (math_text_at options codes_here) angles
 
-  abbrev ticks : Option Leaf
+  abbrev ticks : Option Found
   ticks = or_else (code_text_at on codes_here) dollars
 
-  abbrev references : Option Leaf
+  abbrev references : Option Found
   references = or_else (reference_at on names codes_here) ticks
 
   from_references : IsNot 92 (get_or xs 0 0) → leaf_in options names codes_here ≡ references

@@ -52,7 +52,7 @@ abbrev pub size_before : List ℕ → List ℕ → ℕ
 size_before content rest = length (content_codes content) - length (content_codes rest)
 
 -- the construct that a content begins with, if it begins with one
-abbrev pub found_leaf : List ℕ → Option Leaf → Option inline.Leaf
+abbrev pub found_leaf : List ℕ → Option Leaf → Option inline.Found
 found_leaf content None = None
 found_leaf content (Some found) = Some (inline.leaf (parts_of found.part) (size_before content found.after.now))
 
@@ -75,7 +75,7 @@ pub record IsEnd (content : List ℕ) (end : ℕ) : Type 0 where
   pub cut : IsCut content end
 
 -- what an escaped byte makes
-abbrev pub escape_leaf : Option ℕ → Option inline.Leaf
+abbrev pub escape_leaf : Option ℕ → Option inline.Found
 escape_leaf None = None
 escape_leaf (Some byte) = Some (inline.leaf (inline.Escape byte ∷ []) 2)
 
@@ -139,6 +139,6 @@ pub record IsAddress (bytes : List ℕ) (size : ℕ) : Type 0 where
   pub greater : slice_index bytes size ≡ greater_than
 
 -- what an address makes
-abbrev pub address_leaf : List ℕ → Option Address → Option inline.Leaf
+abbrev pub address_leaf : List ℕ → Option Address → Option inline.Found
 address_leaf bytes None = None
 address_leaf bytes (Some found) = Some (inline.leaf (inline.Autolink found.email (take found.size bytes) ∷ []) (found.size + 2))

@@ -14,7 +14,7 @@ use Rattle.markdown_options.specs.declared.beside.Kind.TheVariants.{Whitespace}
 use Rattle.definition_text.specs.Content.{is_eol, content_codes}
 use Rattle.definition_text.specs.InlineCode.{InlineCode, codes_of, first_kind, inline_code}
 use Rattle.definition_inline.specs.Attention.{is_other}
-use Rattle.definition_inline.specs.Inline.{Leaf, leaf, Literal}
+use Rattle.definition_inline.specs.Inline.{Found, leaf, Literal}
 use Rattle.definition_inline.specs.GfmAutolinkLiteral as literal
 use Rattle.definition_inline.specs.GfmAutolinkLiteral.{LiteralStart, begins_caselessly}
 use Rattle.definition_inline.specs.GfmAutolinkLiteral.{is_control_or_ending, domain, ends_literal, has_low_line, without_tail, literal_run}
@@ -177,7 +177,7 @@ module _ (p : ℕ → Bool) (end : Kind) (marks : List Mark) where
       ∙ view_drop p end marks place previous before front after
 
   -- the literal of a start
-  abbrev pub literal_of : LiteralStart → List ℕ → Option Leaf
+  abbrev pub literal_of : LiteralStart → List ℕ → Option Found
   literal_of start xs =
       let after = drop start.size xs in
       let name = literal_name (content_codes after) in
@@ -196,7 +196,7 @@ module _ (p : ℕ → Bool) (end : Kind) (marks : List Mark) where
       let name = literal_name (content_codes after) in
       let left = view_from p end marks (place + widths (take size xs)) (previous_from previous (take size xs))
       (kind_between p marks place before (take size xs) (content_codes after)) (content_codes after) in
-      let made : Kind → List InlineCode → List ℕ → List ℕ → Option Leaf =
+      let made : Kind → List InlineCode → List ℕ → List ℕ → Option Found =
       λ kind rest cs named.
       cond (literal.begins_name kind rest && not (has_low_line (domain kind (take (length named) rest))))
       (Some (leaf (Literal start.kind (take size cs ++ named) ∷ []) (size + length named))) None in
@@ -242,7 +242,7 @@ module _ (p : ℕ → Bool) (end : Kind) (marks : List Mark) where
       ∙ ap (λ l. named_literal start (view l) (slice_index_or (view l) (start.size - 1) c) (literal_name (drop start.size (codes_of (view l))))) (sym code)
       ∙ named xs start place previous before c s
 
-abbrev nothing : Option Leaf
+abbrev nothing : Option Found
 nothing = None
 
 -- none where no start is found

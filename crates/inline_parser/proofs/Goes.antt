@@ -3,7 +3,7 @@ use Rattle.std.proofs.Common.{◌≡◌, ℕ, ◌+◌, ◌-◌, ◌<◌, Bool, t
 use Rattle.std.proofs.Common.{Some, get_or}
 use Rattle.std.proofs.lemmas.Bool.{cond-true, true≢false}
 use Rattle.definition_text.specs.InlineCode.{InlineCode, codes_of}
-use Rattle.definition_inline.specs.Inline.{Data, Leaf}
+use Rattle.definition_inline.specs.Inline.{Data, Found}
 use Rattle.definition_inline.specs.Attention.{Run, run_at}
 use Rattle.definition_inline.specs.Spans.{Item, Delimiters}
 use Rattle.definition_inline.specs.LabelEnd.{LinkOrCall, formed_size}
@@ -24,7 +24,7 @@ unfolding is_there
 no_none x e = true≢false (sym (ap is_there e))
 
 module _ (context : InlineContext) where
-  pub leaf_goes : (r : Reading) (view : List InlineCode) (found : Leaf) → leaf_here context view ≡ Some found
+  pub leaf_goes : (r : Reading) (view : List InlineCode) (found : Found) → leaf_here context view ≡ Some found
       → scan context 0 r view ≡ scan context 0 (read_tokens (map Item found.parts) r) (drop found.size view)
   leaf_goes r [] found is = let fits = here_fits context [] found is in absurd (omega (arith, fits.some, fits.within))
   leaf_goes r (c ∷ cs) found is =

@@ -24,7 +24,7 @@ use Rattle.definition_inline.specs.GfmAutolinkLiteral.{literal_at}
 use Rattle.inline_literals.specs.Literals.{may_begin}
 use Rattle.inline_literals.proofs.Found.{may_letter}
 use Rattle.definition_text.specs.InlineCode.{InlineCode, codes_of}
-use Rattle.definition_inline.specs.Inline.{Data, Leaf, or_else}
+use Rattle.definition_inline.specs.Inline.{Data, Found, or_else}
 use Rattle.definition_inline.specs.Attention.{run_at}
 use Rattle.definition_inline.specs.Spans.{Token, Item}
 use Rattle.definition_inline.specs.Scan.{InlineContext, leaf_at, leaf_here, label_start_at, text, Reading, reading, read_tokens, Next, step, scan}
@@ -144,7 +144,7 @@ no_autolink on c cs h = cond-false _ _ _ (and_right on.autolink _ (and_left (eqb
 no_html : (on : Constructs) (c : ℕ) (cs : List ℕ) → eqb c 60 ≡ false → html_text_at on (c ∷ cs) ≡ None
 no_html on c cs h = cond-false _ _ _ (and_right on.html_text _ (and_left (eqb 60 c) _ (flip c 60 h)))
 
-or_none : (one other : Option Leaf) → one ≡ None → or_else one other ≡ other
+or_none : (one other : Option Found) → one ≡ None → or_else one other ≡ other
 or_none one other h = ap (λ o. or_else o other) h
 
 pub text_leaf : (context : InlineContext) (c : ℕ) (cs : List ℕ) → is_text_at (c ∷ cs) ≡ true → leaf_at context (c ∷ cs) ≡ None
@@ -224,14 +224,14 @@ other_step context r c cs no_leaf no_run no_start no_end =
 
 -- ---- a code that isn't text, where no leaf begins
 
-abbrev is_there : Option Leaf → Bool
+abbrev is_there : Option Found → Bool
 is_there None = false
 is_there (Some found) = true
 
-there_not : (one : Option Leaf) → is_there one ≡ true → one ≡ None → ⊥
+there_not : (one : Option Found) → is_there one ≡ true → one ≡ None → ⊥
 there_not one is none = false≢true (sym (ap is_there none) ∙ is)
 
-else_none : (one other : Option Leaf) → or_else one other ≡ None → other ≡ None
+else_none : (one other : Option Found) → or_else one other ≡ None → other ≡ None
 else_none None other h = h
 else_none (Some found) other h = absurd (there_not (Some found) refl h)
 

@@ -8,7 +8,7 @@ use Rattle.markdown_options.specs.declared.configuration.Constructs.{Constructs}
 use Rattle.markdown_options.specs.declared.beside.Kind.{Kind}
 use Rattle.definition_text.specs.InlineCode.{InlineCode, codes_of, is_continuation}
 use Rattle.definition_inline.specs.Attention.{is_other}
-use Rattle.definition_inline.specs.Inline.{Www, Protocol, Literal, Leaf, leaf}
+use Rattle.definition_inline.specs.Inline.{Www, Protocol, Literal, Found, leaf}
 use Rattle.definition_inline.specs.GfmAutolinkLiteral.{is_among, may_precede_www, may_precede_protocol, begins_caselessly, LiteralStart, literal_start}
 use Rattle.definition_inline.specs.GfmAutolinkLiteral.{or_start, www_start, protocol_start, literal_start_at, is_control_or_ending, begins_name, literal_name}
 use Rattle.definition_inline.specs.GfmAutolinkLiteral.{domain}
@@ -137,7 +137,7 @@ alike_named start one other d e name h same =
     let n = start.size in
     let size = length name in
     let rest = alike_drop n one other h in
-    let made : Bool → List ℕ → List ℕ → Option Leaf =
+    let made : Bool → List ℕ → List ℕ → Option Found =
     λ begins low front. cond (begins && not (has_low_line low)) (Some (leaf (Literal start.kind (take n front ++ name) ∷ []) (n + size))) None in
     ap (λ b. made b (domain d.after (take size (drop n one))) (codes_of one)) (alike_begins d.after e.after (drop n one) (drop n other) same rest)
     ∙ ap (λ l. made (begins_name e.after (drop n other)) l (codes_of one)) (alike_domain size d.after e.after (drop n one) (drop n other) rest (λ _. same))

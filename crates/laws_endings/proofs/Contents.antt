@@ -13,7 +13,7 @@ use Rattle.definition_text.specs.Bytes.{begins_with}
 use Rattle.definition_text.specs.Columns.{is_white}
 use Rattle.definition_text.specs.Content.{is_eol, text_before}
 use Rattle.definition_text.specs.InlineCode.{InlineCode, codes_of}
-use Rattle.definition_inline.specs.Inline.{Target, Inline, Data, Inlines, Leaf, or_else}
+use Rattle.definition_inline.specs.Inline.{Target, Inline, Data, Inlines, Found, or_else}
 use Rattle.definition_inline.specs.CharacterEscape.{escape_at}
 use Rattle.definition_inline.specs.CharacterReference.{reference_at}
 use Rattle.definition_inline.specs.CodeText.{code_text_at}
@@ -42,11 +42,11 @@ use Rattle.laws_endings.proofs.Tokens.{token_with, tokens_with, emphasized-with}
 
 -- ---- where no construct begins that holds no other stands no ending
 
-pub or_none : (one other : Option Leaf) → or_else one other ≡ None → (one ≡ None) × (other ≡ None)
+pub or_none : (one other : Option Found) → or_else one other ≡ None → (one ≡ None) × (other ≡ None)
 or_none None other h = (refl, h)
 or_none (Some l) other h = absurd (true≢false (ap is_some h))
 
-pub end_none : (is : Bool) (l : Leaf) → cond is (Some l) None ≡ None → is ≡ false
+pub end_none : (is : Bool) (l : Found) → cond is (Some l) None ≡ None → is ≡ false
 end_none true l h = absurd (true≢false (ap is_some h))
 end_none false l h = refl
 
@@ -247,7 +247,7 @@ module _ (e : LineEnding) where
         ∙ label_step-with code content r (label_start_at context.options.constructs content)
     run_step-with code content r (Some run) = ap (Next (run.left - 1)) (read_tokens-with (Delimiters run ∷ []) r)
 
-    leaf_step-with : (c : InlineCode) (cs : List InlineCode) (r : Reading) (found : Option Leaf) → leaf_here context (c ∷ cs) ≡ found
+    leaf_step-with : (c : InlineCode) (cs : List InlineCode) (r : Reading) (found : Option Found) → leaf_here context (c ∷ cs) ≡ found
         → leaf_step context (code_with e c.code) (codes_with e (codes_of (c ∷ cs))) (reading_with r)
         (run_at context.options (content_with e (c ∷ cs))) (if_found e found)
         ≡ step_with (leaf_step context c.code (codes_of (c ∷ cs)) r (run_at context.options (c ∷ cs)) found)

@@ -12,7 +12,7 @@ use Rattle.definition_text.specs.Bytes.{begins_with, after_all}
 use Rattle.definition_text.specs.Content.{Part, text_before, up_to, is_eol}
 use Rattle.definition_text.specs.Runs.{run, after_run}
 use Rattle.definition_text.specs.InlineCode.{InlineCode, codes_of}
-use Rattle.definition_inline.specs.Inline.{Data, Escape, Autolink, Literal, EscapedBreak, TrailingBreak, LineEnd, Leaf, leaf, or_else}
+use Rattle.definition_inline.specs.Inline.{Data, Escape, Autolink, Literal, EscapedBreak, TrailingBreak, LineEnd, Found, leaf, or_else}
 use Rattle.definition_inline.specs.CharacterEscape.{escape_at}
 use Rattle.definition_inline.specs.CharacterReference.{reference_form, reference_after, reference_of, reference_at}
 use Rattle.definition_inline.specs.CodeText.{run_of, raw_part, raw_leaf, raw_at, code_text_at}
@@ -117,13 +117,13 @@ module _ (is_defined : List ℕ → Bool) where
 
 -- ---- constructs that hold no other
 
-abbrev pub LeafFits : Leaf → Type 0
+abbrev pub LeafFits : Found → Type 0
 LeafFits l = LeafGood IsFit l
 
-abbrev pub BeginsFit : Option Leaf → Type 0
+abbrev pub BeginsFit : Option Found → Type 0
 BeginsFit o = BeginsGood IsFit o
 
-pub begin_or : (a b : Option Leaf) → BeginsFit a → BeginsFit b → BeginsFit (or_else a b)
+pub begin_or : (a b : Option Found) → BeginsFit a → BeginsFit b → BeginsFit (or_else a b)
 begin_or a b p q = either_begins IsFit a b p q
 
 -- a literal

@@ -15,7 +15,7 @@ use Rattle.definition_text.specs.Columns.{is_white, indent, bare}
 use Rattle.definition_text.specs.Bytes.{begins_with, begins_with_letter, is_letter, after_all}
 use Rattle.definition_text.specs.Content.{line_ending_code, is_eol, Part, part, text_before, up_to}
 use Rattle.definition_text.specs.Runs.{run, after_run}
-use Rattle.definition_inline.specs.Inline.{Data, Escape, Code, Math, Autolink, Html, EscapedBreak, TrailingBreak, LineEnd, Leaf, leaf, or_else}
+use Rattle.definition_inline.specs.Inline.{Data, Escape, Code, Math, Autolink, Html, EscapedBreak, TrailingBreak, LineEnd, Found, leaf, or_else}
 use Rattle.definition_inline.specs.CharacterEscape.{escape_at}
 use Rattle.definition_inline.specs.CharacterReference.{CharacterReference, character_reference, before_semicolon, part_to_semicolon, reference_by_number}
 use Rattle.definition_inline.specs.CharacterReference.{reference_by_name, number_reference, reference_after, reference_form, reference_text, reference_leaf}
@@ -42,13 +42,13 @@ module _ (e : LineEnding) where
   if_codes end = option_map (codes_with e) end
 
   -- a construct with its parts
-  abbrev pub found_with : Leaf → Leaf
+  abbrev pub found_with : Found → Found
   found_with l = leaf (map (inline_with e) l.parts) l.size
 
-  abbrev pub if_found : Option Leaf → Option Leaf
+  abbrev pub if_found : Option Found → Option Found
   if_found l = option_map found_with l
 
-  pub or_else-with : (one other : Option Leaf) → or_else (if_found one) (if_found other) ≡ if_found (or_else one other)
+  pub or_else-with : (one other : Option Found) → or_else (if_found one) (if_found other) ≡ if_found (or_else one other)
   or_else-with None other = refl
   or_else-with (Some l) other = refl
 
@@ -100,7 +100,7 @@ module _ (e : LineEnding) where
   escape_at-with on [] = refl
   escape_at-with on (c ∷ []) = refl
   escape_at-with on (c ∷ next ∷ cs) =
-      let found : ℕ → Option Leaf = λ code. Some (leaf (Escape code ∷ []) 2) in
+      let found : ℕ → Option Found = λ code. Some (leaf (Escape code ∷ []) 2) in
       let test : Bool = on.character_escape && (eqb c 92 && is_ascii_punctuation next) in
       same_code e (λ x. cond (on.character_escape && (eqb x 92 && is_ascii_punctuation (code_with e next))) (found (code_with e next)) None) c refl refl
       ∙ same_code e (λ x. cond (on.character_escape && (eqb c 92 && is_ascii_punctuation x)) (found (code_with e next)) None) next refl refl
@@ -118,7 +118,7 @@ module _ (e : LineEnding) where
   escaped_break_at-with : (on : Constructs) (cs : List ℕ) → escaped_break_at on (codes_with e cs) ≡ if_found (escaped_break_at on cs)
   escaped_break_at-with on [] = refl
   escaped_break_at-with on (c ∷ cs) =
-      let found : Option Leaf = Some (leaf (EscapedBreak ∷ []) 1) in
+      let found : Option Found = Some (leaf (EscapedBreak ∷ []) 1) in
       same_code e (λ x. cond (on.hard_break_escape && (eqb x 92 && ends_inner_line (codes_with e cs))) found None) c refl refl
       ∙ ap (λ ends. cond (on.hard_break_escape && (eqb c 92 && ends)) found None) (ends_inner_line-with cs)
       ∙ cond-under if_found (on.hard_break_escape && (eqb c 92 && ends_inner_line cs)) refl refl
@@ -126,7 +126,7 @@ module _ (e : LineEnding) where
   pub line_end_at-with : (cs : List ℕ) → line_end_at (codes_with e cs) ≡ if_found (line_end_at cs)
   line_end_at-with [] = refl
   line_end_at-with (c ∷ cs) =
-      let found : ℕ → Option Leaf = λ n. Some (leaf (LineEnd (code_with e c) ∷ []) (1 + n)) in
+      let found : ℕ → Option Found = λ n. Some (leaf (LineEnd (code_with e c) ∷ []) (1 + n)) in
       same_code e (λ x. cond (is_eol x) (found (indent (codes_with e cs))) None) c refl refl
       ∙ ap (λ n. cond (is_eol c) (found n) None) (prefix_len-with e is_white refl refl cs)
       ∙ cond-under if_found (is_eol c) refl refl
@@ -150,7 +150,7 @@ module _ (e : LineEnding) where
 
   line_spaces_at-with : (on : Constructs) (cs : List ℕ) → line_spaces_at on (codes_with e cs) ≡ if_found (line_spaces_at on cs)
   line_spaces_at-with on cs =
-      let found : ℕ → Bool → Option Leaf = λ n is. Some (leaf (cond (on.hard_break_trailing && is) (TrailingBreak ∷ []) []) n) in
+      let found : ℕ → Bool → Option Found = λ n is. Some (leaf (cond (on.hard_break_trailing && is) (TrailingBreak ∷ []) []) n) in
       ap (λ n. cond (nat_le 1 n && ends_here (bare (codes_with e cs))) (found n (is_trailing_break (codes_with e cs))) None)
       (prefix_len-with e is_white refl refl cs)
       ∙ ap (λ rest. cond (nat_le 1 (indent cs) && ends_here rest) (found (indent cs) (is_trailing_break (codes_with e cs))) None) (bare-with cs)
@@ -285,7 +285,7 @@ module _ (e : LineEnding) where
         let n = run marker cs in
         let all = codes_with e cs in
         let rest = after_run marker cs in
-        let found : ℕ → List ℕ → Leaf = λ size more. raw_leaf marker size all (up_to more (run_of marker size false more)) in
+        let found : ℕ → List ℕ → Found = λ size more. raw_leaf marker size all (up_to more (run_of marker size false more)) in
         ap (λ size. cond (may_open && not (eqb size 0)) (Some (found size (drop size all))) None) (run-with cs)
         ∙ cond-under if_found (may_open && not (eqb n 0))
         (ap (λ more. Some (found n more)) (drop-map (code_with e) n cs)
@@ -364,7 +364,7 @@ module _ (e : LineEnding) where
   closed_autolink-with is_email cs None = refl
   closed_autolink-with is_email cs (Some rest) =
       let text = text_before cs rest in
-      let found : List ℕ → ℕ → Option Leaf = λ inner n. Some (leaf (Autolink is_email inner ∷ []) (n + 2)) in
+      let found : List ℕ → ℕ → Option Found = λ inner n. Some (leaf (Autolink is_email inner ∷ []) (n + 2)) in
       ap (λ closes. let inner = text_before (codes_with e cs) (codes_with e rest) in cond closes (found inner (length inner)) None)
       (begins-byte 62 refl refl rest)
       ∙ cond-under if_found (begins_with (codes ">") rest)
@@ -387,7 +387,7 @@ module _ (e : LineEnding) where
 
   -- ---- each of them
 
-  or_both : (one other a b : Option Leaf) → one ≡ if_found a → other ≡ if_found b → or_else one other ≡ if_found (or_else a b)
+  or_both : (one other a b : Option Found) → one ≡ if_found a → other ≡ if_found b → or_else one other ≡ if_found (or_else a b)
   or_both one other a b p q = ap (λ o. or_else o other) p ∙ ap (or_else (if_found a)) q ∙ or_else-with a b
 
   pub leaf_at-with : (context : InlineContext) (cs : List ℕ) → leaf_at context (codes_with e cs) ≡ if_found (leaf_at context cs)

@@ -16,7 +16,7 @@ use Rattle.definition_text.specs.Columns.{is_white}
 use Rattle.definition_text.specs.Content.{is_eol, is_space}
 use Rattle.definition_text.specs.InlineCode.{InlineCode, codes_of, is_continuation}
 use Rattle.definition_inline.specs.Attention.{is_other}
-use Rattle.definition_inline.specs.Inline.{Www, Protocol, Literal, Leaf, leaf}
+use Rattle.definition_inline.specs.Inline.{Www, Protocol, Literal, Found, leaf}
 use Rattle.definition_inline.specs.GfmAutolinkLiteral.{is_among, may_precede_www, may_precede_protocol, begins_caselessly, LiteralStart, literal_start}
 use Rattle.definition_inline.specs.GfmAutolinkLiteral.{or_start, www_start, protocol_start, literal_start_at, is_control_or_ending, begins_name, follows_label}
 use Rattle.definition_inline.specs.GfmAutolinkLiteral.{ends_literal}
@@ -246,7 +246,7 @@ module _ (e : LineEnding) where
     abbrev test : Kind → List InlineCode → ℕ → Bool
     test kind after size = begins_name kind after && not (has_low_line (domain kind (take size after)))
 
-    abbrev made : Bool → List ℕ → ℕ → Option Leaf
+    abbrev made : Bool → List ℕ → ℕ → Option Found
     made is text size = cond is (Some (leaf (Literal start.kind text ∷ []) (start.size + size))) None
 
     test-with : (kind : Kind) (after : List InlineCode) (size : ℕ) → test kind (content_with e after) size ≡ test kind after size

@@ -12,7 +12,7 @@ use Rattle.definition_text.specs.Columns.{is_white, indent, bare, is_byte, bytes
 use Rattle.definition_text.specs.Content.{is_eol}
 use Rattle.definition_text.specs.Encode.{plain, encode}
 use Rattle.definition_inline.specs.Inline.{Inline, Data, Escape, Character, Code, Math, Autolink, Literal, Html, EscapedBreak, TrailingBreak, LineEnd, Emphasis}
-use Rattle.definition_inline.specs.Inline.{Strong, Strikethrough, Link, Image, Call, Inlines, Nil, Cons, Leaf, leaf, or_else}
+use Rattle.definition_inline.specs.Inline.{Strong, Strikethrough, Link, Image, Call, Inlines, Nil, Cons, Found, leaf, or_else}
 use Rattle.definition_inline.specs.CharacterEscape.{escape_at}
 use Rattle.definition_inline.specs.CharacterReference.{reference_at}
 use Rattle.definition_inline.specs.HardBreak.{line_end_at}
@@ -55,13 +55,13 @@ module _ (e : LineEnding) where
 
   spaces_at-with : (cs : List ℕ) → spaces_at (codes_with e cs) ≡ if_found e (spaces_at cs)
   spaces_at-with cs =
-      let found : ℕ → Bool → Option Leaf = λ n ends. cond (nat_le 1 n && ends) (Some (leaf [] n)) None in
+      let found : ℕ → Bool → Option Found = λ n ends. cond (nat_le 1 n && ends) (Some (leaf [] n)) None in
       ap (λ n. found n (begins_with_eol (bare (codes_with e cs)))) (prefix_len-with e is_white refl refl cs)
       ∙ ap (λ rest. found (indent cs) (begins_with_eol rest)) (bare-with e cs)
       ∙ ap (found (indent cs)) (begins_with_eol-with (bare cs))
       ∙ cond-under (if_found e) (nat_le 1 (indent cs) && begins_with_eol (bare cs)) refl refl
 
-  or_both : (one other one' other' : Option Leaf) → one' ≡ if_found e one → other' ≡ if_found e other → or_else one' other' ≡ if_found e (or_else one other)
+  or_both : (one other one' other' : Option Found) → one' ≡ if_found e one → other' ≡ if_found e other → or_else one' other' ≡ if_found e (or_else one other)
   or_both one other one' other' p q = ap (λ o. or_else o other') p ∙ ap (or_else (if_found e one)) q ∙ or_else-with e one other
 
   module _ (on : Constructs) (names : List ℕ → Option (List ℕ)) where
@@ -79,7 +79,7 @@ module _ (e : LineEnding) where
         let h2 = (or_none (reference_at on names all) ends h1).1 in
         end_none (is_eol c) _ (or_none (line_end_at all) (spaces_at all) h2).0
 
-    or_byte-with : (c : ℕ) (cs : List ℕ) (found : Option Leaf) → string_leaf_at on names (c ∷ cs) ≡ found
+    or_byte-with : (c : ℕ) (cs : List ℕ) (found : Option Found) → string_leaf_at on names (c ∷ cs) ≡ found
         → or_byte (code_with e c) (if_found e found) ≡ found_with e (or_byte c found)
     or_byte-with c cs None h = ap (λ code. leaf (Data code ∷ []) 1) (same_byte e c (ending_no_feed c (string_none c cs h)))
     or_byte-with c cs (Some found) h = refl
@@ -88,7 +88,7 @@ module _ (e : LineEnding) where
     parts-with k [] = refl
     parts-with zero (c ∷ cs) =
         let found = or_byte c (string_leaf_at on names (c ∷ cs)) in
-        let with : Leaf → List Inline = λ l. l.parts ++ string_parts on names (l.size - 1) (codes_with e cs) in
+        let with : Found → List Inline = λ l. l.parts ++ string_parts on names (l.size - 1) (codes_with e cs) in
         ap (λ o. with (or_byte (code_with e c) o)) (string_leaf-with (c ∷ cs))
         ∙ ap with (or_byte-with c cs (string_leaf_at on names (c ∷ cs)) refl)
         ∙ ap (λ more. map (inline_with e) found.parts ++ more) (parts-with (found.size - 1) cs)
@@ -102,7 +102,7 @@ module _ (e : LineEnding) where
         (begin_or (line_end_at cs) (spaces_at cs) (line_end_fits cs p)
         (cond_both (nat_le 1 (indent cs) && begins_with_eol (bare cs)) (Some (leaf [] (indent cs))) None BeginsFit (λ _. tt) (λ _. tt))))
 
-    or_byte_fits : (c : ℕ) (found : Option Leaf) → (found ≡ None → Plain c) → BeginsFit found → LeafFits (or_byte c found)
+    or_byte_fits : (c : ℕ) (found : Option Found) → (found ≡ None → Plain c) → BeginsFit found → LeafFits (or_byte c found)
     or_byte_fits c None h p = (h refl, tt)
     or_byte_fits c (Some found) h p = p
 

@@ -14,7 +14,7 @@ use Rattle.definition_text.specs.Runs.{run}
 use Rattle.definition_text.specs.Content.{is_eol}
 use Rattle.definition_text.specs.Encode.{encoded_byte, encode}
 use Rattle.definition_text.specs.InlineCode.{InlineCode, codes_of}
-use Rattle.definition_inline.specs.Inline.{Inline, Data, Escape, Nil, Cons, Leaf, leaf, or_else}
+use Rattle.definition_inline.specs.Inline.{Inline, Data, Escape, Nil, Cons, Found, leaf, or_else}
 use Rattle.definition_inline.specs.CharacterEscape.{escape_at}
 use Rattle.definition_inline.specs.CharacterReference.{reference_after, reference_form, reference_of, reference_at}
 use Rattle.definition_inline.specs.CodeText.{raw_at, code_text_at}
@@ -65,10 +65,10 @@ line_byte b h =
 pub no_column : (b : ℕ) → is_line_byte b ≡ true → (b == 256) ≡ false
 no_column b h = grind (arith, common_steps)
 
-pub or_none : (a b : Option Leaf) → a ≡ None → b ≡ None → or_else a b ≡ None
+pub or_none : (a b : Option Found) → a ≡ None → b ≡ None → or_else a b ≡ None
 or_none a b e f = ap (λ x. or_else x b) e ∙ f
 
-pub or_first : (a b : Option Leaf) (l : Leaf) → a ≡ Some l → or_else a b ≡ Some l
+pub or_first : (a b : Option Found) (l : Found) → a ≡ Some l → or_else a b ≡ Some l
 or_first a b l e = ap (λ x. or_else x b) e
 
 module _ (on : Constructs) (b : ℕ) (off : is_ascii_punctuation b ≡ false) where

@@ -22,7 +22,7 @@ use Rattle.definition_text.specs.Encode.{encode}
 use Rattle.definition_text.specs.BlockLines.{BlockLine}
 use Rattle.definition_text.specs.Content.{is_eol, ending_code, line_codes, content_of}
 use Rattle.definition_text.specs.InlineCode.{InlineCode, codes_of, next_kind, with_kinds, line_content, inline_content}
-use Rattle.definition_inline.specs.Inline.{Inline, Data, LineEnd, Inlines, Leaf, leaf, or_else}
+use Rattle.definition_inline.specs.Inline.{Inline, Data, LineEnd, Inlines, Found, leaf, or_else}
 use Rattle.definition_inline.specs.HardBreak.{ends_here, line_end_at, line_spaces_at}
 use Rattle.definition_inline.specs.Spans.{Item, with_spans}
 use Rattle.definition_inline.specs.Scan.{InlineContext, leaf_at, leaf_here, text, Reading, reading, read_tokens, Next, leaf_step, step, and_then, scan}
@@ -62,7 +62,7 @@ and_no true y e = e
 and_no false y e = refl
 
 -- a line ending, or the spaces and tabs before one or at the end
-abbrev found_at : List ℕ → Option Leaf
+abbrev found_at : List ℕ → Option Found
 found_at content = or_else (line_end_at content) (line_spaces_at no_constructs content)
 
 -- the parts of a content, of which so many codes are taken already
@@ -77,7 +77,7 @@ parts_skipped (suc k) [] = refl
 parts_skipped zero (c ∷ cs) = refl
 parts_skipped (suc k) (c ∷ cs) = parts_skipped k cs
 
-parts_found : (c : ℕ) (cs : List ℕ) (found : Leaf) → found_at (c ∷ cs) ≡ Some found → parts 0 (c ∷ cs) ≡ found.parts ++ parts (found.size - 1) cs
+parts_found : (c : ℕ) (cs : List ℕ) (found : Found) → found_at (c ∷ cs) ≡ Some found → parts 0 (c ∷ cs) ≡ found.parts ++ parts (found.size - 1) cs
 parts_found c cs found is = ap (λ o. (or_byte c o).parts ++ parts ((or_byte c o).size - 1) cs) is
 
 parts_byte : (c : ℕ) (cs : List ℕ) → found_at (c ∷ cs) ≡ None → parts 0 (c ∷ cs) ≡ Data c ∷ parts 0 cs
@@ -93,14 +93,14 @@ module _ (options : ParseOptions) (names : List ℕ → Option (List ℕ)) (is_d
   plain_leaf c [] = refl
   plain_leaf c (next ∷ cs) = refl
 
-  or_nothing : (o : Option Leaf) → or_else o None ≡ o
+  or_nothing : (o : Option Found) → or_else o None ≡ o
   or_nothing None = refl
   or_nothing (Some found) = refl
 
   plain_here : (c : InlineCode) (cs : List InlineCode) → leaf_here all_off (c ∷ cs) ≡ found_at (codes_of (c ∷ cs))
   plain_here c cs = or_nothing (leaf_at all_off (codes_of (c ∷ cs))) ∙ plain_leaf c.code (codes_of cs)
 
-  found_step : (c : InlineCode) (cs : List InlineCode) (r : Reading) (o : Option Leaf)
+  found_step : (c : InlineCode) (cs : List InlineCode) (r : Reading) (o : Option Found)
       → leaf_step all_off c.code (codes_of (c ∷ cs)) r None o ≡ Next ((or_byte c.code o).size - 1) (read_tokens (map Item (or_byte c.code o).parts) r)
   found_step c cs r None = refl
   found_step c cs r (Some found) = refl
@@ -140,10 +140,10 @@ structure_of_codes options names is_defined is_footnote content =
 -- ---- calls of footnotes
 
 -- whether what is found here calls one
-abbrev calls_in : ℕ → Option Leaf → Bool
+abbrev calls_in : ℕ → Option Found → Bool
 calls_in c found = list_any part_calls (or_byte c found).parts
 
-no_call_or : (c : ℕ) (a b : Option Leaf) → calls_in c a ≡ false → calls_in c b ≡ false → calls_in c (or_else a b) ≡ false
+no_call_or : (c : ℕ) (a b : Option Found) → calls_in c a ≡ false → calls_in c b ≡ false → calls_in c (or_else a b) ≡ false
 no_call_or c None b p q = q
 no_call_or c (Some found) b p q = p
 

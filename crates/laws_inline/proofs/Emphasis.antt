@@ -5,7 +5,7 @@ use Rattle.std.proofs.lemmas.Bool.{cond_both}
 use Rattle.std.proofs.lemmas.List.Elements.{All-nil, All-cons}
 use Rattle.markdown_options.specs.declared.configuration.ParseOptions.{ParseOptions}
 use Rattle.definition_text.specs.InlineCode.{InlineCode, codes_of}
-use Rattle.definition_inline.specs.Inline.{Inline, Data, Leaf}
+use Rattle.definition_inline.specs.Inline.{Inline, Data, Found}
 use Rattle.definition_inline.specs.LabelEnd.{LinkOrCall}
 use Rattle.definition_inline.specs.Attention.{Run, is_marker, run_between, run_at}
 use Rattle.definition_inline.specs.Pairing.{Pair, pairs}
@@ -105,7 +105,7 @@ module _ (context : InlineContext) (whole : List InlineCode) where
   run_stands code content r None h p = label_stands code content r (label_start_at context.options.constructs content) p
   run_stands code content r (Some found) h p = read_stands (Delimiters found ∷ []) r (h, tt) p
 
-  leaf_stands : (code : ℕ) (content : List ℕ) (r : Reading) (run : Option Run) (found : Option Leaf) → RunStands run → ReadingStands r
+  leaf_stands : (code : ℕ) (content : List ℕ) (r : Reading) (run : Option Run) (found : Option Found) → RunStands run → ReadingStands r
       → StepStands (leaf_step context code content r run found)
   leaf_stands code content r run None h p = run_stands code content r run h p
   leaf_stands code content r run (Some found) h p = read_stands (map Item found.parts) r (items_stand found.parts) p

@@ -12,7 +12,7 @@ use Rattle.definition_text.specs.Content.{Part, text_before, up_to}
 use Rattle.definition_text.specs.Runs.{run, after_run}
 use Rattle.definition_text.specs.InlineCode.{InlineCode, codes_of}
 use Rattle.definition_inline.specs.Inline.{Inline, Data, Escape, Character, Code, Math, Autolink, Literal, Html, EscapedBreak, TrailingBreak, LineEnd, Emphasis}
-use Rattle.definition_inline.specs.Inline.{Strong, Strikethrough, Link, Image, Call, Inlines, Nil, Cons, followed_by, Leaf, leaf, or_else}
+use Rattle.definition_inline.specs.Inline.{Strong, Strikethrough, Link, Image, Call, Inlines, Nil, Cons, followed_by, Found, leaf, or_else}
 use Rattle.definition_inline.specs.CharacterEscape.{escape_at}
 use Rattle.definition_inline.specs.CharacterReference.{CharacterReference, reference_form, reference_text, reference_leaf, reference_of, reference_at}
 use Rattle.definition_inline.specs.CodeText.{run_of, raw_leaf, code_text_at}
@@ -66,13 +66,13 @@ pub guarded : {A : Type 0} (P : A → Type 0) (on more : Bool) (x : A) → (on �
 guarded P on more x p = cond_both (on && more) (Some x) None (WhereSome P) (λ e. p (and_parts on more e).0) (λ _. tt)
 
 module _ (on : Constructs) where
-  abbrev LeafMayStand : Leaf → Type 0
+  abbrev LeafMayStand : Found → Type 0
   LeafMayStand l = Each (PartMayStand on) l.parts
 
-  abbrev MayBegin : Option Leaf → Type 0
+  abbrev MayBegin : Option Found → Type 0
   MayBegin o = WhereSome LeafMayStand o
 
-  begin_or : (a b : Option Leaf) → MayBegin a → MayBegin b → MayBegin (or_else a b)
+  begin_or : (a b : Option Found) → MayBegin a → MayBegin b → MayBegin (or_else a b)
   begin_or None b p q = q
   begin_or (Some l) b p q = p
 
@@ -414,7 +414,7 @@ module _ (context : InlineContext) where
   items_stand [] h = tt
   items_stand (i ∷ is) h = (h.0, items_stand is h.1)
 
-  may_leaf_step : (code : ℕ) (content : List ℕ) (r : Reading) (run : Option Run) (found : Option Leaf) → ReadingMayStand constructs r
+  may_leaf_step : (code : ℕ) (content : List ℕ) (r : Reading) (run : Option Run) (found : Option Found) → ReadingMayStand constructs r
       → WhereSome (RunMayStand constructs) run → MayBegin constructs found
       → StepMayStand constructs (leaf_step context code content r run found)
   may_leaf_step code content r run None p h q = may_run_step code content r run p h

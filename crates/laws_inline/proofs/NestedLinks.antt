@@ -11,7 +11,7 @@ use Rattle.definition_text.specs.Content.{Part, text_before, up_to}
 use Rattle.definition_text.specs.Runs.{run, after_run}
 use Rattle.definition_text.specs.InlineCode.{InlineCode, codes_of}
 use Rattle.definition_inline.specs.Inline.{Target, Inline, Data, Escape, Code, Math, Autolink, EscapedBreak, TrailingBreak, LineEnd, Emphasis, Strong}
-use Rattle.definition_inline.specs.Inline.{Strikethrough, Link, Image, Call, Inlines, Nil, Cons, followed_by, Leaf, leaf, or_else}
+use Rattle.definition_inline.specs.Inline.{Strikethrough, Link, Image, Call, Inlines, Nil, Cons, followed_by, Found, leaf, or_else}
 use Rattle.definition_inline.specs.CharacterEscape.{escape_at}
 use Rattle.definition_inline.specs.CharacterReference.{CharacterReference, reference_form, reference_text, reference_leaf, reference_of, reference_at}
 use Rattle.definition_inline.specs.CodeText.{run_of, code_text, raw_leaf, raw_at, code_text_at}
@@ -113,15 +113,15 @@ IsPlain (Image target kids) = ⊥
 IsPlain (Call label) = ⊥
 IsPlain i = Unit {0}
 
-abbrev pub PlainLeaf : Option Leaf → Type 0
+abbrev pub PlainLeaf : Option Found → Type 0
 PlainLeaf None = Unit {0}
 PlainLeaf (Some l) = Each IsPlain l.parts
 
-plain_or : (a b : Option Leaf) → PlainLeaf a → PlainLeaf b → PlainLeaf (or_else a b)
+plain_or : (a b : Option Found) → PlainLeaf a → PlainLeaf b → PlainLeaf (or_else a b)
 plain_or None b p q = q
 plain_or (Some l) b p q = p
 
-plain_if : (b : Bool) (l : Leaf) → Each IsPlain l.parts → PlainLeaf (cond b (Some l) None)
+plain_if : (b : Bool) (l : Found) → Each IsPlain l.parts → PlainLeaf (cond b (Some l) None)
 plain_if b l p = cond_both b (Some l) None PlainLeaf (λ _. p) (λ _. tt)
 
 plain_escape : (on : Constructs) (content : List ℕ) → PlainLeaf (escape_at on content)
@@ -404,7 +404,7 @@ module _ (context : InlineContext) where
   good_run code content r None h = good_label code content r (label_start_at context.options.constructs content) h
   good_run code content r (Some found) h = good_read (Delimiters found ∷ []) r (tt, tt) (tt, tt) h
 
-  good_leaf : (code : ℕ) (content : List ℕ) (r : Reading) (found_run : Option Run) (found : Option Leaf) → IsGoodReading r → PlainLeaf found
+  good_leaf : (code : ℕ) (content : List ℕ) (r : Reading) (found_run : Option Run) (found : Option Found) → IsGoodReading r → PlainLeaf found
       → IsGoodStep (leaf_step context code content r found_run found)
   good_leaf code content r found_run None h p = good_run code content r found_run h
   good_leaf code content r found_run (Some found) h p =

@@ -6,7 +6,7 @@ use Rattle.std.proofs.lemmas.Bool.{cond_both, and_parts, or_from, not_from_true}
 use Rattle.markdown_options.specs.declared.configuration.Constructs.{Constructs}
 use Rattle.definition_text.specs.Content.{Part, text_before}
 use Rattle.definition_text.specs.InlineCode.{InlineCode, codes_of}
-use Rattle.definition_inline.specs.Inline.{Reference, Inline, Data, Emphasis, Strong, Strikethrough, Link, Image, Call, Inlines, Leaf}
+use Rattle.definition_inline.specs.Inline.{Reference, Inline, Data, Emphasis, Strong, Strikethrough, Link, Image, Call, Inlines, Found}
 use Rattle.definition_inline.specs.Label.{label_at}
 use Rattle.definition_inline.specs.Resource.{LinkResource, resource_at}
 use Rattle.definition_inline.specs.LabelEnd.{LinkTail, link_tail, is_label_text, by_text, by_label, by_resource, label_end_at, LinkOrCall, Leads, Calls}
@@ -194,7 +194,7 @@ module _ (context : InlineContext) where
   sound_run code content r None p = sound_label code content r (label_start_at context.options.constructs content) p
   sound_run code content r (Some found) p = sound_read context.is_defined context.is_footnote (Delimiters found ∷ []) r (tt, tt) p
 
-  sound_leaf : (code : ℕ) (content : List ℕ) (r : Reading) (run : Option Run) (found : Option Leaf) → Sound r → PlainLeaf found
+  sound_leaf : (code : ℕ) (content : List ℕ) (r : Reading) (run : Option Run) (found : Option Found) → Sound r → PlainLeaf found
       → SoundStep (leaf_step context code content r run found)
   sound_leaf code content r run None p h = sound_run code content r run p
   sound_leaf code content r run (Some found) p h =

@@ -4,7 +4,7 @@ use Rattle.std.specs.List.{list_any, list_all}
 use Rattle.std.proofs.lemmas.Bool.{cond_both, or_from, and_from, both_ways}
 use Rattle.markdown_options.specs.declared.configuration.Constructs.{Constructs}
 use Rattle.definition_text.specs.Columns.{indent}
-use Rattle.definition_inline.specs.Inline.{Inline, Data, Escape, Character, LineEnd, Leaf, leaf, or_else}
+use Rattle.definition_inline.specs.Inline.{Inline, Data, Escape, Character, LineEnd, Found, leaf, or_else}
 use Rattle.definition_inline.specs.CharacterEscape.{escape_at}
 use Rattle.definition_inline.specs.CharacterReference.{Names, CharacterReference, reference_form, reference_text, reference_leaf, reference_of, reference_at}
 use Rattle.definition_inline.specs.HardBreak.{line_end_at}
@@ -22,13 +22,13 @@ MayStandInString on (LineEnd code) = Unit {0}
 MayStandInString on i = ⊥
 
 module _ (on : Constructs) where
-  abbrev LeafInString : Leaf → Type 0
+  abbrev LeafInString : Found → Type 0
   LeafInString l = Each (MayStandInString on) l.parts
 
-  abbrev MayBegin : Option Leaf → Type 0
+  abbrev MayBegin : Option Found → Type 0
   MayBegin o = WhereSome LeafInString o
 
-  begin_or : (a b : Option Leaf) → MayBegin a → MayBegin b → MayBegin (or_else a b)
+  begin_or : (a b : Option Found) → MayBegin a → MayBegin b → MayBegin (or_else a b)
   begin_or None b p q = q
   begin_or (Some l) b p q = p
 
@@ -58,7 +58,7 @@ module _ (on : Constructs) where
   may_space : (content : List ℕ) → MayBegin (spaces_at content)
   may_space content = cond_both _ (Some (leaf [] (indent content))) None MayBegin (λ _. tt) (λ _. tt)
 
-  found_or_byte : (c : ℕ) (o : Option Leaf) → MayBegin o → LeafInString (or_byte c o)
+  found_or_byte : (c : ℕ) (o : Option Found) → MayBegin o → LeafInString (or_byte c o)
   found_or_byte c None p = (tt, tt)
   found_or_byte c (Some l) p = p
 

@@ -7,7 +7,7 @@ use Rattle.definition_text.specs.Content.{Part, text_before, up_to, is_eol}
 use Rattle.definition_text.specs.Runs.{run, after_run}
 use Rattle.definition_text.specs.InlineCode.{InlineCode, codes_of}
 use Rattle.definition_inline.specs.Inline.{Target, Inline, Data, Escape, Autolink, EscapedBreak, TrailingBreak, LineEnd, Emphasis, Strong, Strikethrough}
-use Rattle.definition_inline.specs.Inline.{Inlines, Leaf, leaf, or_else}
+use Rattle.definition_inline.specs.Inline.{Inlines, Found, leaf, or_else}
 use Rattle.definition_inline.specs.CharacterEscape.{escape_at}
 use Rattle.definition_inline.specs.CharacterReference.{CharacterReference, reference_form, reference_text, reference_leaf, reference_of, reference_at}
 use Rattle.definition_inline.specs.CodeText.{run_of, raw_part, raw_leaf, raw_at, code_text_at}
@@ -27,13 +27,13 @@ use Rattle.laws_safe_page.proofs.InlineAdds.{EndsLines, AllEndLines}
 
 -- ---- constructs that hold no other
 
-abbrev LeafEndsLines : Leaf → Type 0
+abbrev LeafEndsLines : Found → Type 0
 LeafEndsLines l = LeafGood EndsLines l
 
-abbrev BeginsWell : Option Leaf → Type 0
+abbrev BeginsWell : Option Found → Type 0
 BeginsWell o = BeginsGood EndsLines o
 
-begin_or : (a b : Option Leaf) → BeginsWell a → BeginsWell b → BeginsWell (or_else a b)
+begin_or : (a b : Option Found) → BeginsWell a → BeginsWell b → BeginsWell (or_else a b)
 begin_or a b p q = either_begins EndsLines a b p q
 
 part_reads : (marker : ℕ) (text : List ℕ) → EndsLines (raw_part marker text)

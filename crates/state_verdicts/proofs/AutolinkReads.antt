@@ -6,7 +6,7 @@ use Rattle.std.specs.Char.{is_ascii_alphabetic, is_ascii_alphanumeric}
 use Rattle.std.specs.List.{list_all}
 use Rattle.definition_text.specs.Bytes.{is_letter}
 use Rattle.definition_inline.specs.Autolink.{autolink_after, is_email_byte, is_scheme_byte, is_uri_byte}
-use Rattle.definition_inline.specs.Inline.{Leaf}
+use Rattle.definition_inline.specs.Inline.{Found}
 use Rattle.engine_events.specs.Events.{event}
 use Rattle.engine_events.specs.declared.event.Event.{Event}
 use Rattle.engine_events.specs.declared.event.Kind.TheVariants.{Enter, Exit}
@@ -521,7 +521,7 @@ module _ {T : Type 0} (texts : List ℕ → Option (List ℕ)) (is_punctuation :
   abbrev at_mark : Config Inlines
   at_mark = with_byte c p (Some (as_byte 60 q))
 
-  abbrev Verdict_by : Option Leaf → Type 0
+  abbrev Verdict_by : Option Found → Type 0
   Verdict_by = AddressVerdict text (Reads texts is_punctuation x text at_mark (retry state_inline.AutolinkStart)) at_mark p q (60 ∷ cs)
 
   -- after the `<`
@@ -558,7 +558,7 @@ module _ {T : Type 0} (texts : List ℕ → Option (List ℕ)) (is_punctuation :
           (AutolinkStates.autolink_begun at_mark) d w
           (AutolinkStates.starts texts is_punctuation x at_mark true refl on) r
 
-      by_leaf : (o : Option Leaf) → Outcome_at (left cs o) → Verdict_by o
+      by_leaf : (o : Option Found) → Outcome_at (left cs o) → Verdict_by o
       by_leaf None (d, r) = (d, back d false r)
       by_leaf (Some leaf) f = (
         f.config,

@@ -13,7 +13,7 @@ use Rattle.definition_text.specs.Bytes.{after_all, begins_with, is_letter}
 use Rattle.definition_text.specs.Content.{text_before}
 use Rattle.definition_inline.specs.Autolink.{after_uri, autolink_after, begins_with_scheme, closed_autolink, domain_end, email_end, is_domain, is_domain_byte}
 use Rattle.definition_inline.specs.Autolink.{is_email_byte, is_scheme_byte, is_uri_byte, uri_end}
-use Rattle.definition_inline.specs.Inline.{Autolink, Inline, Leaf, leaf, or_else}
+use Rattle.definition_inline.specs.Inline.{Autolink, Inline, Found, leaf, or_else}
 use Rattle.state_verdicts.proofs.AutolinkDomains.{closed, domain_found, domain_read, past_greater, starting}
 use Rattle.state_verdicts.proofs.ReferenceValues.{apart}
 use Rattle.state_verdicts.proofs.Runs.{IsRest}
@@ -302,7 +302,7 @@ email_rest cs found e = rest_if (nat_le 1 (prefix_len is_email_byte cs) && begin
 -- ---- leaves
 
 -- what a leaf after a `<` leaves of the codes
-abbrev pub left : List ℕ → Option Leaf → Option (List ℕ)
+abbrev pub left : List ℕ → Option Found → Option (List ℕ)
 left cs None = None
 left cs (Some leaf) = Some (drop leaf.size (60 ∷ cs))
 
@@ -332,7 +332,7 @@ closed_left is_email cs (Some (c ∷ rest)) is = elim (cases_Bool (c == 62)) [
         (length (text_before cs (c ∷ rest)) + 2)) else None))
         (begins_by 62 c rest first h)
 
-or_none : (cs : List ℕ) (o : Option Leaf) → left cs (or_else o None) ≡ left cs o
+or_none : (cs : List ℕ) (o : Option Found) → left cs (or_else o None) ≡ left cs o
 or_none cs None = refl
 or_none cs (Some leaf) = refl
 

@@ -3,7 +3,7 @@ use Rattle.std.proofs.Common.{◌≡◌, ◌∙◌, ℕ, Bool, true, false, ◌=
 use Rattle.std.proofs.lemmas.Bool.{not-true}
 use Rattle.definition_text.specs.Content.{is_eol}
 use Rattle.definition_inline.specs.HardBreak.{escaped_break_at}
-use Rattle.definition_inline.specs.Inline.{EscapedBreak, Leaf, leaf}
+use Rattle.definition_inline.specs.Inline.{EscapedBreak, Found, leaf}
 use Rattle.engine_events.specs.declared.event.Name.TheVariants as names
 use Rattle.engine_events.specs.declared.place.Point.{Point}
 use Rattle.engine_events.specs.declared.state.Inline.TheVariants as state_inline
@@ -86,7 +86,7 @@ module _ {T : Type 0} (texts : List ℕ → Option (List ℕ)) (is_punctuation :
   unfolding at_mark at_second opened
   made c p q v = record { events = simp append_assoc refl; point = refl; kept = refl; map = refl; resolvers = refl }
 
-  The_verdict : Config Inlines → Point → Point → List ℕ → Option Leaf → Type 0
+  The_verdict : Config Inlines → Point → Point → List ℕ → Option Found → Type 0
   The_verdict c p q cs leaf = Verdict text (Reads texts is_punctuation x text (at_mark c p q) (states.Retry (Inline state_inline.HardBreakEscapeStart)))
       (at_mark c p q) (92 ∷ cs) (λ end. break_events p (text.start end)) text.start leaf
 

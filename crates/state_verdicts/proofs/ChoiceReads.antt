@@ -1,6 +1,6 @@
 -- A choice comes to what its attempt comes to, and then to what reading on from there does.
 use Rattle.std.proofs.Common.{◌≡◌, ℕ, Bool, true, false, List, Option, Some, None, sym, subst}
-use Rattle.definition_inline.specs.Inline.{Leaf}
+use Rattle.definition_inline.specs.Inline.{Found}
 use Rattle.engine_events.specs.declared.event.Event.{Event}
 use Rattle.engine_events.specs.declared.place.Point.{Point}
 use Rattle.engine_events.specs.declared.state.Inline.{Inline as InlineName}
@@ -108,24 +108,24 @@ module _ {T : Type 0} (texts : List ℕ → Option (List ℕ)) (is_punctuation :
 
 -- whatever follows from what an attempt comes to may be said in its place
 module _ (text : Text) (old new : Comes) (follows : (d : Config Inlines) (w : Bool) → old d w → new d w) where
-  pub of_leaf : (c : Config Inlines) (cs : List ℕ) (events : Point → List Event) (stands : Point → Point) (leaf : Option Leaf)
+  pub of_leaf : (c : Config Inlines) (cs : List ℕ) (events : Point → List Event) (stands : Point → Point) (leaf : Option Found)
       → Verdict text old c cs events stands leaf → Verdict text new c cs events stands leaf
   of_leaf c cs events stands None (d, r) = (d, follows d false r)
   of_leaf c cs events stands (Some leaf) (d, end, r, leaves, sees) = (d, end, follows d true r, leaves, sees)
 
-  pub of_reference : (c : Config Inlines) (p q : Point) (cs : List ℕ) (leaf : Option Leaf) → ReferenceVerdict text old c p q cs leaf
+  pub of_reference : (c : Config Inlines) (p q : Point) (cs : List ℕ) (leaf : Option Found) → ReferenceVerdict text old c p q cs leaf
       → ReferenceVerdict text new c p q cs leaf
   of_reference c p q cs None (d, r) = (d, follows d false r)
   of_reference c p q cs (Some leaf) (d, marker, size, added, end, r, is, leaves, sees) =
       (d, marker, size, added, end, follows d true r, is, leaves, sees)
 
-  pub of_autolink : (c : Config Inlines) (p q : Point) (cs : List ℕ) (leaf : Option Leaf) → AddressVerdict text old c p q cs leaf
+  pub of_autolink : (c : Config Inlines) (p q : Point) (cs : List ℕ) (leaf : Option Found) → AddressVerdict text old c p q cs leaf
       → AddressVerdict text new c p q cs leaf
   of_autolink c p q cs None (d, r) = (d, follows d false r)
   of_autolink c p q cs (Some leaf) (d, size, to, end, r, closes, leaves, sees) =
       (d, size, to, end, follows d true r, closes, leaves, sees)
 
-  pub of_span : (given : SpanNames) (marker : ℕ) (c : Config Inlines) (p q : Point) (cs : List ℕ) (leaf : Option Leaf)
+  pub of_span : (given : SpanNames) (marker : ℕ) (c : Config Inlines) (p q : Point) (cs : List ℕ) (leaf : Option Found)
       → SpanVerdict text old given marker c p q cs leaf → SpanVerdict text new given marker c p q cs leaf
   of_span given marker c p q cs None (d, r) = (d, follows d false r)
   of_span given marker c p q cs (Some leaf) (d, size, added, end, r, is, leaves, sees) =

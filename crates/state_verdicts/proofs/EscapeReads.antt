@@ -2,7 +2,7 @@
 use Rattle.std.proofs.Common.{◌≡◌, ◌∙◌, ℕ, Bool, true, false, ◌==◌, ◌&&◌, if◌then◌else◌, List, [], ◌∷◌, Option, Some, None, refl, append_assoc}
 use Rattle.std.specs.Char.{is_ascii_punctuation}
 use Rattle.definition_inline.specs.CharacterEscape.{escape_at}
-use Rattle.definition_inline.specs.Inline.{Escape, Leaf, leaf}
+use Rattle.definition_inline.specs.Inline.{Escape, Found, leaf}
 use Rattle.engine_events.specs.declared.event.Name.TheVariants as names
 use Rattle.engine_events.specs.declared.place.Point.{Point}
 use Rattle.engine_events.specs.declared.state.Inline.TheVariants as state_inline
@@ -102,7 +102,7 @@ module _ {T : Type 0} (texts : List ℕ → Option (List ℕ)) (is_punctuation :
   unfolding at_mark at_second opened closed
   made c p q r b f = record { events = rw f (simp append_assoc refl); point = refl; kept = refl; map = refl; resolvers = refl }
 
-  The_verdict : Config Inlines → Point → Point → List ℕ → Option Leaf → Type 0
+  The_verdict : Config Inlines → Point → Point → List ℕ → Option Found → Type 0
   The_verdict c p q cs leaf = Verdict text (Reads texts is_punctuation x text (at_mark c p q) (states.Retry (Inline state_inline.CharacterEscapeStart)))
       (at_mark c p q) (92 ∷ cs) (escape_events p q (text.start q)) (λ end. end) leaf
 

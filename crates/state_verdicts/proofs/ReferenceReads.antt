@@ -7,7 +7,7 @@ use Rattle.std.specs.List.{prefix_len}
 use Rattle.definition_text.specs.Content.{Part}
 use Rattle.definition_inline.specs.CharacterReference.{before_semicolon, reference_by_name, reference_by_number, numbered_text, number_of, number_reference}
 use Rattle.definition_inline.specs.CharacterReference.{reference_after, reference_leaf, reference_of, part_to_semicolon}
-use Rattle.definition_inline.specs.Inline.{Inline as InlinePart, Character, Leaf, leaf}
+use Rattle.definition_inline.specs.Inline.{Inline as InlinePart, Character, Found, leaf}
 use Rattle.engine_events.specs.Events.{event}
 use Rattle.engine_events.specs.declared.event.Event.{Event}
 use Rattle.engine_events.specs.declared.event.Kind.TheVariants.{Enter, Exit}
@@ -67,7 +67,7 @@ module _ {T : Type 0} (texts : List ℕ → Option (List ℕ)) (is_punctuation :
   abbrev all : List ℕ
   all = 38 ∷ cs
 
-  abbrev Verdict_by : Option Leaf → Type 0
+  abbrev Verdict_by : Option Found → Type 0
   Verdict_by = ReferenceVerdict text (Reads texts is_punctuation x text at_mark (retry state_inline.CharacterReferenceStart)) at_mark p q all
 
   abbrev Reads_from : Config Inlines → State → Config Inlines → Bool → Type 0

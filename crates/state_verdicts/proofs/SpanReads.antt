@@ -7,7 +7,7 @@ use Rattle.definition_text.specs.Content.{is_eol, up_to}
 use Rattle.definition_text.specs.Runs.{after_run}
 use Rattle.definition_text.specs.Runs.{run as run_length}
 use Rattle.definition_inline.specs.CodeText.{code_text, raw_at, raw_leaf, raw_part, run_of}
-use Rattle.definition_inline.specs.Inline.{Code, Leaf, Math, leaf}
+use Rattle.definition_inline.specs.Inline.{Code, Found, Math, leaf}
 use Rattle.engine_events.specs.Events.{event}
 use Rattle.engine_events.specs.declared.event.Event.{Event}
 use Rattle.engine_events.specs.declared.event.Kind.TheVariants.{Enter, Exit}
@@ -43,11 +43,11 @@ no_text_by true text = refl
 no_text_by false text = refl
 
 -- the span, by where its end was found
-abbrev span_by : ℕ → List ℕ → Option (List ℕ) → Option Leaf
+abbrev span_by : ℕ → List ℕ → Option (List ℕ) → Option Found
 span_by m cs found = of_span (Some (raw_leaf m (suc (run_length m cs)) (m ∷ cs) (up_to (after_run m cs) found)))
 
 -- the same, whatever size the run has
-abbrev leaf_of : ℕ → Bool → List ℕ → ℕ → Option Leaf
+abbrev leaf_of : ℕ → Bool → List ℕ → ℕ → Option Found
 leaf_of m on content n = if on && not (n == 0) then Some (raw_leaf m n content (up_to (drop n content) (run_of m n false (drop n content)))) else None
 
 -- how long a run is from its first code on
@@ -55,11 +55,11 @@ pub full_run : (m : ℕ) (cs : List ℕ) → run_length m (m ∷ cs) ≡ suc (ru
 full_run m cs = ap (λ (b : Bool). if b then 1 + run_length m cs else 0) (eq-eqb m m refl)
     ∙ (let e : 1 + run_length m cs ≡ suc (run_length m cs) = omega arith in e)
 
-opens_if : (b on : Bool) (l : Leaf) → b ≡ false → (if on && not b then Some l else None) ≡ (if on then Some l else None)
+opens_if : (b on : Bool) (l : Found) → b ≡ false → (if on && not b then Some l else None) ≡ (if on then Some l else None)
 opens_if b true l h = rw h refl
 opens_if b false l h = refl
 
-pushed : (on : Bool) (l : Leaf) → of_span (if on then Some l else None) ≡ (if on then of_span (Some l) else None)
+pushed : (on : Bool) (l : Found) → of_span (if on then Some l else None) ≡ (if on then of_span (Some l) else None)
 pushed true l = refl
 pushed false l = refl
 
@@ -188,7 +188,7 @@ module _ {T : Type 0} (texts : List ℕ → Option (List ℕ)) (is_punctuation :
         (ap (λ (k : KeptState). k.token_2) after_here.kept) after_here opened_all.held.1 opened_all.at)
         (still_at refl refl refl opened_all.at) opening.sees
 
-    abbrev Verdict_by : Option Leaf → Type 0
+    abbrev Verdict_by : Option Found → Type 0
     Verdict_by = SpanVerdict text (Reads texts is_punctuation x text at_mark (retry state_inline.RawTextStart)) given m at_mark p q (m ∷ cs)
 
     abbrev From_open : Type 0
@@ -302,5 +302,5 @@ module _ {T : Type 0} (texts : List ℕ → Option (List ℕ)) (is_punctuation :
 
       pub span_verdict : Verdict_by (if begins_run m c then of_span (raw_at m (switch && not (refused size)) (m ∷ cs)) else None)
       span_verdict =
-          subst (λ (l : Option Leaf). Verdict_by (if begins_run m c then l else None)) (sym (at_run_start m (switch && not (refused size)) cs))
+          subst (λ (l : Option Found). Verdict_by (if begins_run m c then l else None)) (sym (at_run_start m (switch && not (refused size)) cs))
           (by_tests switch (begins_run m c) (refused size) refl refl refl)

@@ -3,7 +3,7 @@ use Rattle.std.proofs.Common.{◌≡◌, ◌∙◌, ℕ, Bool, true, false, List
 use Rattle.definition_text.specs.Ascii.{ampersand, backslash, backtick, dollar, less_than}
 use Rattle.definition_inline.specs.CharacterEscape.{escape_at}
 use Rattle.definition_inline.specs.HardBreak.{escaped_break_at}
-use Rattle.definition_inline.specs.Inline.{Leaf}
+use Rattle.definition_inline.specs.Inline.{Found}
 use Rattle.engine_events.specs.declared.place.Point.{Point}
 use Rattle.engine_events.specs.declared.state.Inline.{Inline as InlineName}
 use Rattle.engine_events.specs.declared.state.Inline.TheVariants as state_inline
@@ -131,7 +131,7 @@ module _ {T : Type 0} (texts : List ℕ → Option (List ℕ)) (is_punctuation :
   from_escape e first d true second = and_on texts is_punctuation x text first second
   from_escape e first d false second = and_on texts is_punctuation x text first second
 
-  by_escape : (o : Option Leaf) → o ≡ None
+  by_escape : (o : Option Found) → o ≡ None
       → Verdict text (Chooses texts is_punctuation x text c state_inline.TextBefore (byte_at text c backslash q) state_inline.TextBeforeHardBreakEscape)
       (byte_at text c backslash q) (backslash ∷ cs) (escape_events (text.start c.point) q (text.start q)) (λ end. end) o
       → (e : Config Inlines) × Break_from c state_inline.TextBefore (back e) (text.start c.point)

@@ -10,7 +10,7 @@ use Rattle.markdown_options.specs.declared.configuration.Constructs.{Constructs}
 use Rattle.definition_text.specs.Columns.{bare, indent, is_white}
 use Rattle.definition_text.specs.Content.{is_eol}
 use Rattle.definition_inline.specs.HardBreak.{ends_here, ends_inner_line, is_trailing_break, line_spaces_at}
-use Rattle.definition_inline.specs.Inline.{Leaf, TrailingBreak, leaf}
+use Rattle.definition_inline.specs.Inline.{Found, TrailingBreak, leaf}
 use Rattle.engine_edits.specs.Edits.{EditAt, with_edit}
 use Rattle.engine_events.specs.declared.event.Event.{Event}
 use Rattle.engine_events.specs.declared.event.Kind.TheVariants.{Enter, Exit}
@@ -81,7 +81,7 @@ take_over (x ∷ w) rest = ap (λ (l : List ℕ). x ∷ l) (take_over w rest)
 -- ---- the definition's leaf
 
 -- spaces and tabs, and then none
-abbrev white_leaf : Constructs → List ℕ → List ℕ → Option Leaf
+abbrev white_leaf : Constructs → List ℕ → List ℕ → Option Found
 white_leaf on w rest =
     if nat_le 1 (length w) && ends_here rest
     then Some (leaf (if on.hard_break_trailing && (nat_le 2 (length w) && (list_all (λ c. c == 32) w && ends_inner_line rest)) then TrailingBreak ∷ [] else [])
@@ -191,7 +191,7 @@ module _ (on : Constructs) (events : List Event) (i : ℕ) (rest : List ℕ) (fo
   white_is from to =
       let inner = is_line Enter (slice_get events (i + 2)) && is_some (slice_get events (i + 4)) in
       let breaks = on.hard_break_trailing && (nat_le 2 size && (list_all (λ c. c == 32) last && ends_inner_line rest)) in
-      ap (λ (o : Option Leaf). white_events o from to) (leaf_is on last rest last_white follows.apart)
+      ap (λ (o : Option Found). white_events o from to) (leaf_is on last rest last_white follows.apart)
       ∙ (ap (λ (n : ℕ). white_events (if nat_le 1 n && ends_here rest
       then Some (leaf (if on.hard_break_trailing && (nat_le 2 n && (list_all (λ c. c == 32) last && ends_inner_line rest)) then TrailingBreak ∷ [] else []) n)
       else None) from to) last_size

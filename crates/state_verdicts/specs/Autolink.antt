@@ -8,7 +8,7 @@ use Rattle.std.specs.Prelude.{◌≡◌, ℕ, true, false, List, [], ◌∷◌, 
 use Rattle.std.specs.List.{list_all}
 use Rattle.definition_text.specs.Ascii.{greater_than, less_than}
 use Rattle.definition_inline.specs.Autolink.{autolink_at}
-use Rattle.definition_inline.specs.Inline.{Leaf}
+use Rattle.definition_inline.specs.Inline.{Found}
 use Rattle.engine_events.specs.Events.{event}
 use Rattle.engine_events.specs.declared.event.Event.{Event}
 use Rattle.engine_events.specs.declared.event.Kind.TheVariants.{Enter, Exit}
@@ -30,7 +30,7 @@ autolink_events p q to end =
     (piece names.AutolinkMarker to end (event Exit names.Autolink end None ∷ [])))
 
 -- the attempt fails where there is no autolink; otherwise it goes well, with the autolink's events, up to where what it leaves of the codes is seen
-abbrev pub AddressVerdict : Text → Comes → Config Inlines → Point → Point → List ℕ → Option Leaf → Type 0
+abbrev pub AddressVerdict : Text → Comes → Config Inlines → Point → Point → List ℕ → Option Found → Type 0
 AddressVerdict text comes c p q codes None = (d : Config Inlines) × comes d false
 AddressVerdict text comes c p q codes (Some leaf) =
     (d : Config Inlines) × (size : ℕ) × (to : Point) × (end : Point) × comes d true × (text.byte (text.start to) ≡ Some (as_byte greater_than end))

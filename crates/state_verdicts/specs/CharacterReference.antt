@@ -7,7 +7,7 @@ use Rattle.std.specs.Prelude.{◌≡◌, ℕ, ◌<◌, ◌≤◌, Bool, true, fa
 use Rattle.std.specs.Char.{is_ascii_alphanumeric, is_ascii_digit, is_ascii_hexdigit}
 use Rattle.definition_text.specs.Ascii.{ampersand, capital_x, number_sign, semicolon, small_x}
 use Rattle.definition_inline.specs.CharacterReference.{reference_at}
-use Rattle.definition_inline.specs.Inline.{Leaf}
+use Rattle.definition_inline.specs.Inline.{Found}
 use Rattle.engine_events.specs.Events.{event}
 use Rattle.engine_events.specs.declared.event.Event.{Event}
 use Rattle.engine_events.specs.declared.event.Kind.TheVariants.{Enter, Exit}
@@ -60,7 +60,7 @@ abbrev pub referring : ℕ → ℕ → KeptState → KeptState
 referring marker size k = record k { marker = marker; size = size }
 
 -- the attempt fails where there is no reference; otherwise it goes well, with the reference's events, up to where what it leaves of the codes is seen
-abbrev pub ReferenceVerdict : Text → Comes → Config Inlines → Point → Point → List ℕ → Option Leaf → Type 0
+abbrev pub ReferenceVerdict : Text → Comes → Config Inlines → Point → Point → List ℕ → Option Found → Type 0
 ReferenceVerdict text comes c p q codes None = (d : Config Inlines) × comes d false
 ReferenceVerdict text comes c p q codes (Some leaf) =
     (d : Config Inlines) × (marker : ℕ) × (size : ℕ) × (added : List Event) × (end : Point) × comes d true × IsReference text p q marker size added end

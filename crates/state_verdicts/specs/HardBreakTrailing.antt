@@ -6,7 +6,7 @@ use Rattle.markdown_options.specs.declared.configuration.Constructs.{Constructs}
 use Rattle.definition_text.specs.Columns.{indent, is_white}
 use Rattle.definition_text.specs.Content.{is_eol}
 use Rattle.definition_inline.specs.HardBreak.{ends_here, ends_inner_line, line_spaces_at}
-use Rattle.definition_inline.specs.Inline.{Inline, Leaf, TrailingBreak}
+use Rattle.definition_inline.specs.Inline.{Inline, Found, TrailingBreak}
 use Rattle.engine_edits.specs.Edits.{EditAt, with_edit}
 use Rattle.engine_events.specs.declared.event.Event.{Event}
 use Rattle.engine_events.specs.declared.event.Kind.TheVariants.{Enter, Exit}
@@ -28,12 +28,12 @@ is_break (TrailingBreak ∷ parts) = true
 is_break parts = false
 
 -- the events of a leaf of spaces and tabs
-abbrev pub white_events : Option Leaf → Point → Point → List Event
+abbrev pub white_events : Option Found → Point → Point → List Event
 white_events None from to = []
 white_events (Some leaf) from to = around (if is_break leaf.parts then names.HardBreakTrailing else names.SpaceOrTab) from to
 
 -- the events of data of which so many bytes at its start and at its end are cut, by the leaf that the definition has for those at its end
-abbrev pub data_events : List ℕ → ℕ → ℕ → Option Leaf → Point → Point → List Event
+abbrev pub data_events : List ℕ → ℕ → ℕ → Option Found → Point → Point → List Event
 data_events part head tail found from to =
     let first = place_past from (take head part) in
     let last = place_past from (take (length part - tail) part) in

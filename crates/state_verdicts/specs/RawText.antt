@@ -1,7 +1,7 @@
 -- What the states of code and math come to (CommonMark 6.1).
 use Rattle.std.specs.Prelude.{◌≡◌, ℕ, ◌+◌, ◌<◌, Bool, true, false, not, if◌then◌else◌, ◌==◌, ◌||◌, List, [], ◌∷◌, ◌++◌, drop, Option, None, Some}
 use Rattle.definition_text.specs.Ascii.{line_feed}
-use Rattle.definition_inline.specs.Inline.{Inline, Leaf, Data}
+use Rattle.definition_inline.specs.Inline.{Inline, Found, Data}
 use Rattle.engine_events.specs.Events.{event}
 use Rattle.engine_events.specs.declared.event.Event.{Event}
 use Rattle.engine_events.specs.declared.event.Kind.TheVariants.{Enter, Exit}
@@ -63,19 +63,19 @@ is_text (Data code ∷ parts) = true
 is_text parts = false
 
 -- a leaf that is a span: a run that opens none is text
-abbrev pub of_span : Option Leaf → Option Leaf
+abbrev pub of_span : Option Found → Option Found
 of_span None = None
 of_span (Some leaf) = if is_text leaf.parts then None else Some leaf
 
 -- the attempt fails where there is no span; otherwise it goes well, with the span's events, up to where what it leaves of the codes is seen
-abbrev pub SpanVerdict : Text → Comes → SpanNames → ℕ → Config Inlines → Point → Point → List ℕ → Option Leaf → Type 0
+abbrev pub SpanVerdict : Text → Comes → SpanNames → ℕ → Config Inlines → Point → Point → List ℕ → Option Found → Type 0
 SpanVerdict text comes given marker c p q codes None = (d : Config Inlines) × comes d false
 SpanVerdict text comes given marker c p q codes (Some leaf) =
     (d : Config Inlines) × (size : ℕ) × (added : List Event) × (end : Point) × comes d true × IsSpan text given marker p q size added end
     × Leaves c d (spanning given marker size size c.tokenize_state) added (text.start end) × Sees text end (drop leaf.size codes)
 
 -- an attempt at a byte reads a span of such names exactly where a run begins and this leaf of the definition is a span
-abbrev pub ReadsSpan : {T : Type 0} → SpanNames → Option Leaf → Beginning T → Comes → Type 0
+abbrev pub ReadsSpan : {T : Type 0} → SpanNames → Option Found → Beginning T → Comes → Type 0
 ReadsSpan given found here comes =
     SpanVerdict here.text comes given here.byte (at_hand here) here.place here.after (all_codes here)
     (if begins_run here.byte here.config then of_span found else None)

@@ -1,6 +1,6 @@
 -- What an attempt comes to, beside what the definition says.
 use Rattle.std.specs.Prelude.{◌≡◌, ℕ, Bool, true, false, List, [], ◌++◌, drop, Option, None, Some}
-use Rattle.definition_inline.specs.Inline.{Leaf}
+use Rattle.definition_inline.specs.Inline.{Found}
 use Rattle.engine_events.specs.declared.event.Event.{Event}
 use Rattle.engine_events.specs.declared.place.Point.{Point}
 use Rattle.engine_events.specs.declared.state.State.{State}
@@ -39,7 +39,7 @@ abbrev pub Comes : Type 1
 Comes = Config Inlines → Bool → Type 0
 
 -- it fails where the definition has nothing; otherwise it goes well, with these events, up to where what the leaf leaves of the codes is seen
-abbrev pub Verdict : Text → Comes → Config Inlines → List ℕ → (Point → List Event) → (Point → Point) → Option Leaf → Type 0
+abbrev pub Verdict : Text → Comes → Config Inlines → List ℕ → (Point → List Event) → (Point → Point) → Option Found → Type 0
 Verdict text comes c codes events stands None = (d : Config Inlines) × comes d false
 Verdict text comes c codes events stands (Some leaf) =
     (d : Config Inlines) × (end : Point) × comes d true × LeavesEvents c d (events end) (stands end) × Sees text end (drop leaf.size codes)
