@@ -1,6 +1,6 @@
 -- If each part that is read of a content is good, all its inline structure is.
 use Rattle.std.proofs.Common.{◌≡◌, ℕ, suc, zero, ◌+◌, ◌-◌, false, ◌==◌, List, [], ◌∷◌, ◌++◌, map, reverse, replicate, filter, fold, Option, None, Some, drop}
-use Rattle.std.proofs.Common.{refl}
+use Rattle.std.proofs.Common.{refl, sym, subst}
 use Rattle.std.proofs.lemmas.Bool.{cond_both}
 use Rattle.definition_text.specs.Content.{text_before}
 use Rattle.definition_text.specs.InlineCode.{InlineCode, codes_of}
@@ -8,8 +8,9 @@ use Rattle.definition_inline.specs.Inline.{Target, InlineLeaf, Data, SpanKind, L
 use Rattle.definition_inline.specs.LabelEnd.{LinkOrCall, Leads, Calls}
 use Rattle.definition_inline.specs.Attention.{Run, run_at}
 use Rattle.definition_inline.specs.Pairing.{Pair, pairs}
-use Rattle.definition_inline.specs.Spans.{Token, Item, Delimiters, runs_of, span_of, SpanRow, Holds, Opens, Closes}
-use Rattle.definition_inline.specs.Spans.{bytes_taken, run_rows, rows_from, OpenSpan, Nest, nest, leave, nest_row, with_spans}
+use Rattle.definition_inline.specs.Spans.{Token, Item, Delimiters, runs_of, span_of, with_spans}
+use Rattle.definition_inline.specs.SpanRows.{SpanRow, Holds, Opens, Closes, bytes_taken, run_rows, rows_from, OpenSpan, Nest, nest, leave, nest_row}
+use Rattle.definition_inline.proofs.SpanRows.{spans_by_rows}
 use Rattle.definition_inline.specs.Scan.{InlineContext, leaf_here, LabelStart, LinkStart, ImageStart, label_start_at, leaf_tokens, start_tokens, may_form, started_kind}
 use Rattle.definition_inline.specs.Scan.{formed_part, formed_at, Text, text, OpenLabel, Reading, reading, read_tokens, with_plain_start, with_link_or_call}
 use Rattle.definition_inline.specs.Scan.{Step, Next, data_step, ended_step, ended_by, label_end_step, last_step, label_step, run_step, leaf_step, step}
@@ -93,7 +94,7 @@ module _ (Good : Inline → Type 0) (AllGood : Inlines → Type 0) where
     pub emphasized_good : (tokens : List Token) → Each (TokenGood Good) tokens → AllGood (with_spans tokens)
     emphasized_good tokens h =
         let ps = pairs (runs_of tokens) in
-        (nest_good (nest Nil []) (rows_from ps 0 tokens) (n.none, tt) (rows_good Good ps 0 tokens h)).0
+        subst AllGood (sym (spans_by_rows tokens)) (nest_good (nest Nil []) (rows_from ps 0 tokens) (n.none, tt) (rows_good Good ps 0 tokens h)).0
 
 -- what a `]` forms: Leading holds of where it leads
 module _ (Leading : Target → Type 0) where
