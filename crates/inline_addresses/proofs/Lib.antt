@@ -1,3 +1,4 @@
+mod Leaves
 mod Rows
 mod Unlinked
 mod Walks

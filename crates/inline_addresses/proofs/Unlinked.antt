@@ -5,18 +5,18 @@ use Rattle.std.specs.List.{flat_map, list_any}
 use Rattle.std.proofs.lemmas.Bool.{cases_Bool, cond-false, cond-true}
 use Rattle.std.proofs.lemmas.List.{append-nil, map-append}
 use Rattle.definition_inline.specs.GfmAutolinkLiteral.{parts_from, with_literals}
-use Rattle.definition_inline.specs.Inline as inline
-use Rattle.definition_inline.specs.Inline.{Target, LinkTexts, Inlines, Data}
-use Rattle.inline_leaves.specs.declared.leaf.LeafPart.TheVariants as part
+use Rattle.definition_inline.specs.Inline.{Target, LinkTexts, InlineLeaf, Inlines, Data}
+use Rattle.inline_leaves.specs.Leaves.{parts_of}
 use Rattle.inline_rows.specs.InlineRows.{Part, inline_rows}
 use Rattle.inline_rows.specs.View.{data_rows, row_view, rows_view}
 use Rattle.inline_rows.specs.declared.row.InlineRow.{InlineRow}
 use Rattle.inline_rows.specs.declared.row.InlineRow.TheVariants as row
-use Rattle.inline_addresses.specs.Addresses.{has_at_sign, has_link, literal_text, no_bytes, parts_rows, row_depth, row_linked, row_may_link, row_text}
+use Rattle.inline_addresses.specs.Addresses.{has_at_sign, has_link, literal_text, part_text, row_depth, row_linked, row_may_link, row_text}
 use Rattle.inline_addresses.specs.Addresses.{begins_link, rows_may_link}
-use Rattle.inline_addresses.specs.Addresses.{run_parts, linked_rows}
-use Rattle.inline_addresses.proofs.Rows.{rows_linked, text_parts}
-use Rattle.inline_addresses.proofs.Walks.{after, data_parts, outside_rows, row_after, row_in_link, text_or}
+use Rattle.inline_addresses.specs.Addresses.{run_linked, linked_rows}
+use Rattle.inline_addresses.proofs.Leaves.{part_is, text_or, AreText, Bytes, Others}
+use Rattle.inline_addresses.proofs.Rows.{rows_linked}
+use Rattle.inline_addresses.proofs.Walks.{after, outside_rows, row_after, row_in_link}
 
 -- ---- texts without an `@`
 
@@ -47,36 +47,26 @@ no_link : (literal text : Option (List ℕ)) → has_link literal text ≡ false
 no_link None text e = (refl, e)
 no_link (Some literal) text e = absurd (let wrong : true ≡ false = e in cc)
 
-module _ (leads : Target → LinkTexts) (at : ℕ → LinkTexts) where
+data_joined : (xs ys : List ℕ) → data_rows (xs ++ ys) ≡ data_rows xs ++ data_rows ys
+data_joined xs ys = ap (map Part) (map-append (λ b. Data b) xs ys) ∙ map-append Part (map (λ b. Data b) xs) (map (λ b. Data b) ys)
+
+module _ (at : ℕ → LinkTexts) where
   -- a run without an `@` is text
-  run_is_text : (n : ℕ) (run : List ℕ) → HasNone run → parts_rows leads (run_parts n run) ≡ data_rows run
-  run_is_text zero run none = ap (parts_rows leads) (no_address [] run none) ∙ text_parts leads run
-  run_is_text (suc n) run none = text_parts leads run
+  run_is_text : (n : ℕ) (run : List ℕ) → HasNone run → run_linked n run ≡ data_rows run
+  run_is_text zero run none = ap (map Part) (no_address [] run none)
+  run_is_text (suc n) run none = refl
 
   -- ---- a row
 
-  -- an escape of nothing is text
-  escape_is_text : (bytes : List ℕ) → map Part (map inline.Escape bytes) ≡ text_or leads at (map Part (map inline.Escape bytes)) (no_bytes bytes)
-  escape_is_text [] = refl
-  escape_is_text (b ∷ bs) = refl
-
   -- a row that stands for text alone is that text
-  row_is_text : (r : InlineRow) → row_view at r ≡ text_or leads at (row_view at r) (row_text r)
+  leaves_are_text : (parts : List InlineLeaf) (text : Option (List ℕ)) → AreText parts text → map Part parts ≡ text_or (map Part parts) text
+  leaves_are_text _ _ (Bytes text) = refl
+  leaves_are_text _ _ (Others first others ends each) = refl
+
+  row_is_text : (r : InlineRow) → row_view at r ≡ text_or (row_view at r) (row_text r)
   row_is_text (row.Text text) = refl
   row_is_text (row.Verbatim verbatim) = refl
-  row_is_text (row.Leaf (part.Escape text)) = escape_is_text text.now
-  row_is_text (row.Leaf (part.Unclosed text)) = data_parts text.now
-  row_is_text (row.Leaf (part.Literal kind text)) = refl
-  row_is_text (row.Leaf part.Spaces) = refl
-  row_is_text (row.Leaf (part.Character text)) = refl
-  row_is_text (row.Leaf (part.Number radix digits)) = refl
-  row_is_text (row.Leaf (part.Code text)) = refl
-  row_is_text (row.Leaf (part.Math text)) = refl
-  row_is_text (row.Leaf (part.Autolink email text)) = refl
-  row_is_text (row.Leaf (part.Html text)) = refl
-  row_is_text (row.Leaf part.EscapedBreak) = refl
-  row_is_text (row.Leaf part.TrailingBreak) = refl
-  row_is_text (row.Leaf (part.LineEnd ending)) = refl
+  row_is_text (row.Leaf p) = leaves_are_text (parts_of p) (part_text p) (part_is p)
   row_is_text (row.EnterSpan span) = refl
   row_is_text (row.EnterLink to) = refl
   row_is_text (row.EnterImage to) = refl
@@ -85,37 +75,37 @@ module _ (leads : Target → LinkTexts) (at : ℕ → LinkTexts) where
 
   -- a row that is no literal stays as it is, in a link too
   row_unlinked : (n : ℕ) (r : InlineRow) → literal_text r ≡ None → flat_map (row_linked n) (row_view at r) ≡ row_view at r
-  row_unlinked zero r none = outside_rows leads at (row_view at r)
-  row_unlinked (suc n) r none = row_in_link leads at n r ∙ ap (text_or leads at (row_view at r)) none
+  row_unlinked zero r none = outside_rows (row_view at r)
+  row_unlinked (suc n) r none = row_in_link at n r ∙ ap (text_or (row_view at r)) none
 
   -- a row before others that are as they were
   first_unlinked : (r : InlineRow) (rs : List InlineRow) (n : ℕ) (run : List ℕ) (text : Option (List ℕ)) → HasNone run
       → flat_map (row_linked n) (row_view at r) ≡ row_view at r → row_text r ≡ text → has_at_sign text ≡ false
       → ((m : ℕ) (longer : List ℕ) → (m ≡ n) ⊎ (m ≡ row_depth n r) → HasNone longer
-      → linked_rows leads m longer (rows_view at rs) ≡ data_rows longer ++ rows_view at rs)
-      → linked_rows leads n run (row_view at r ++ rows_view at rs) ≡ data_rows run ++ (row_view at r ++ rows_view at rs)
+      → linked_rows m longer (rows_view at rs) ≡ data_rows longer ++ rows_view at rs)
+      → linked_rows n run (row_view at r ++ rows_view at rs) ≡ data_rows run ++ (row_view at r ++ rows_view at rs)
   first_unlinked r rs n run (Some text) none kept is no_at others =
       let later = rows_view at rs in
-      row_after leads at n run r later
-      ∙ ap (after leads at n run (row_view at r) (row_depth n r) later) is
+      row_after at n run r later
+      ∙ ap (after n run (row_view at r) (row_depth n r) later) is
       ∙ others n (run ++ text) (inl refl) (none_joined run text none no_at)
-      ∙ ap (λ l. l ++ later) (map-append (λ b. Part (Data b)) run text)
+      ∙ ap (λ l. l ++ later) (data_joined run text)
       ∙ append_assoc (data_rows run) (data_rows text) later
-      ∙ ap (λ l. data_rows run ++ (l ++ later)) (sym (row_is_text r ∙ ap (text_or leads at (row_view at r)) is))
+      ∙ ap (λ l. data_rows run ++ (l ++ later)) (sym (row_is_text r ∙ ap (text_or (row_view at r)) is))
   first_unlinked r rs n run None none kept is no_at others =
       let later = rows_view at rs in
       let view = row_view at r in
-      row_after leads at n run r later
-      ∙ ap (after leads at n run view (row_depth n r) later) is
-      ∙ ap (λ l. l ++ (flat_map (row_linked n) view ++ linked_rows leads (row_depth n r) [] later)) (run_is_text n run none)
-      ∙ ap (λ l. data_rows run ++ (l ++ linked_rows leads (row_depth n r) [] later)) kept
+      row_after at n run r later
+      ∙ ap (after n run view (row_depth n r) later) is
+      ∙ ap (λ l. l ++ (flat_map (row_linked n) view ++ linked_rows (row_depth n r) [] later)) (run_is_text n run none)
+      ∙ ap (λ l. data_rows run ++ (l ++ linked_rows (row_depth n r) [] later)) kept
       ∙ ap (λ l. data_rows run ++ (view ++ l)) (others (row_depth n r) [] (inr refl) refl)
 
   -- ---- rows
 
   -- rows in which nothing is linked stay as they are, after a run without an `@`
   unlinked : (rs : List InlineRow) (n : ℕ) (run : List ℕ) → HasNone run → list_any row_may_link rs ≡ false
-      → linked_rows leads n run (rows_view at rs) ≡ data_rows run ++ rows_view at rs
+      → linked_rows n run (rows_view at rs) ≡ data_rows run ++ rows_view at rs
   unlinked [] n run none no_link_in = run_is_text n run none ∙ sym (append-nil (data_rows run))
   unlinked (r ∷ rs) n run none no_link_in =
       let both = neither (row_may_link r) (list_any row_may_link rs) no_link_in in
@@ -134,7 +124,7 @@ module _ (leads : Target → LinkTexts) (at : ℕ → LinkTexts) where
 
   -- outside of links a literal stays as it is
   outside : (rs : List InlineRow) (run : List ℕ) → HasNone run → rows_may_link rs ≡ false
-      → linked_rows leads zero run (rows_view at rs) ≡ data_rows run ++ rows_view at rs
+      → linked_rows zero run (rows_view at rs) ≡ data_rows run ++ rows_view at rs
   outside [] run none no_link_in = run_is_text zero run none ∙ sym (append-nil (data_rows run))
   outside (r ∷ rs) run none no_link_in =
       let both = neither (has_at_sign (row_text r)) _ no_link_in in
@@ -142,17 +132,17 @@ module _ (leads : Target → LinkTexts) (at : ℕ → LinkTexts) where
         | inl link ↦ unlinked (r ∷ rs) zero run none (sym (cond-true (begins_link r) _ _ link) ∙ both.1)
         | inr other ↦
             let here = depth_outside r other in
-            first_unlinked r rs zero run (row_text r) none (outside_rows leads at (row_view at r)) refl both.0
+            first_unlinked r rs zero run (row_text r) none (outside_rows (row_view at r)) refl both.0
             (λ m longer which h.
             let none_open : m ≡ zero = elim which [ inl e ↦ e | inr e ↦ e ∙ here ] in
-            ap (λ n. linked_rows leads n longer (rows_view at rs)) none_open
+            ap (λ n. linked_rows n longer (rows_view at rs)) none_open
             ∙ outside rs longer h (sym (cond-false (begins_link r) _ _ other) ∙ both.1))
       ]
 
   -- such rows stand for what the definition makes of their structure
-  pub nothing_linked : (rs : List InlineRow) (kids : Inlines) → rows_may_link rs ≡ false
+  pub nothing_linked : (leads : Target → LinkTexts) (rs : List InlineRow) (kids : Inlines) → rows_may_link rs ≡ false
       → rows_view at rs ≡ inline_rows leads kids → rows_view at rs ≡ inline_rows leads (with_literals [] kids)
-  nothing_linked rs kids none same = sym (outside rs [] refl none) ∙ ap (linked_rows leads zero []) same ∙ rows_linked leads kids
+  nothing_linked leads rs kids none same = sym (outside rs [] refl none) ∙ ap (linked_rows zero []) same ∙ rows_linked leads kids
 
 -- a link comes first, from which on all rows count
 pub from_link : (rs others left : List InlineRow) (r : InlineRow) → rs ≡ r ∷ others → has_at_sign (row_text r) ≡ false → begins_link r ≡ true

@@ -1,18 +1,17 @@
 -- A walk over rows, row by row.
-use Rattle.std.proofs.Common.{◌≡◌, ◌+◌, ◌<◌, ◌≤◌, ℕ, zero, suc, List, [], ◌∷◌, ◌++◌, Option, None, Some, ◌-◌, refl, sym, ap, ◌∙◌, map, take, drop, length}
-use Rattle.std.proofs.Common.{append_assoc, get_or, add-one, drop-cons, arith, subst}
+use Rattle.std.proofs.Common.{◌≡◌, ◌+◌, ◌<◌, ◌≤◌, ℕ, zero, suc, List, [], ◌∷◌, ◌++◌, Option, None, Some, ◌-◌, refl, sym, ap, ap₂, ◌∙◌, map, take, drop}
+use Rattle.std.proofs.Common.{length, append_assoc, get_or, add-one, drop-cons, arith, subst}
 use Rattle.std.specs.List.{flat_map}
 use Rattle.std.specs.Str.{IsCharBoundary, IsUtf8}
-use Rattle.std.proofs.lemmas.List.{append-nil, drop-take, length-append, length-drop, take-append-drop, take-take}
+use Rattle.std.proofs.lemmas.List.{append-nil, drop-take, length-append, length-drop, map-append, take-append-drop, take-take}
 use Rattle.std.proofs.Math.Seq.{drop-append_seam, take-append_seam}
 use Rattle.std.proofs.lemmas.Str.{IsCharBoundary-after_ascii}
 use Rattle.std.proofs.lemmas.Grind.{flat_map-append}
+use Rattle.definition_text.proofs.Each.{Each}
 use Rattle.definition_inline.specs.GfmAutolinkLiteral.{with_addresses}
 use Rattle.definition_inline.specs.Inline as inline
-use Rattle.definition_inline.specs.Inline.{Target, LinkTexts, Data}
+use Rattle.definition_inline.specs.Inline.{LinkTexts, InlineLeaf}
 use Rattle.inline_leaves.specs.Leaves.{kind_view, parts_of}
-use Rattle.inline_leaves.specs.declared.leaf.LeafPart.{LeafPart}
-use Rattle.inline_leaves.specs.declared.leaf.LeafPart.TheVariants as part
 use Rattle.inline_rows.specs.InlineRows as rows
 use Rattle.inline_rows.specs.InlineRows.{Part}
 use Rattle.inline_rows.specs.View.{data_rows, row_view, rows_view}
@@ -20,82 +19,63 @@ use Rattle.inline_rows.specs.declared.row.InlineRow.{InlineRow}
 use Rattle.inline_rows.specs.declared.row.InlineRow.TheVariants as row
 use Rattle.inline_literals.specs.Addresses.{found_parts, IsFound}
 use Rattle.inline_literals.specs.declared.address.FoundAddress.{FoundAddress}
-use Rattle.inline_addresses.specs.Addresses.{literal_text, no_bytes, part_text, parts_rows, row_depth, row_linked, row_text, rows_text, run_parts, linked_rows}
-use Rattle.inline_addresses.specs.Addresses.{text_or_end, IsNext}
-use Rattle.inline_addresses.proofs.Rows.{parts_join, text_parts}
+use Rattle.inline_addresses.specs.Addresses.{literal_text, part_text, row_depth, row_linked, row_text, rows_text, run_linked, linked_rows, text_or_end, IsNext}
+use Rattle.inline_addresses.proofs.Leaves.{all_kept, part_in_link, part_is, text_or, AreText, Bytes, EndsRun, Others}
+use Rattle.inline_addresses.proofs.Rows.{no_run}
 
--- text as parts, and as rows
-pub data_parts : (bytes : List ℕ) → map Part (map Data bytes) ≡ data_rows bytes
-data_parts [] = refl
-data_parts (b ∷ bs) = ap (λ l. Part (Data b) ∷ l) (data_parts bs)
+-- text makes the run longer
+pub run_longer : (n : ℕ) (run bytes : List ℕ) (rest : List rows.InlineRow) → linked_rows n run (data_rows bytes ++ rest) ≡ linked_rows n (run ++ bytes) rest
+run_longer n run [] rest = ap (λ r. linked_rows n r rest) (sym (append-nil run))
+run_longer n run (b ∷ bs) rest = run_longer n (run ++ b ∷ []) bs rest ∙ ap (λ r. linked_rows n r rest) (append_assoc run (b ∷ []) bs)
 
-module _ (leads : Target → LinkTexts) (at : ℕ → LinkTexts) where
-  -- text makes the run longer
-  pub run_longer : (n : ℕ) (run bytes : List ℕ) (rest : List rows.InlineRow)
-      → linked_rows leads n run (data_rows bytes ++ rest) ≡ linked_rows leads n (run ++ bytes) rest
-  run_longer n run [] rest = ap (λ r. linked_rows leads n r rest) (sym (append-nil run))
-  run_longer n run (b ∷ bs) rest = run_longer n (run ++ b ∷ []) bs rest ∙ ap (λ r. linked_rows leads n r rest) (append_assoc run (b ∷ []) bs)
+-- what rows come to, given the text that the first of them stand for, if that is all
+abbrev pub after : ℕ → List ℕ → List rows.InlineRow → ℕ → List rows.InlineRow → Option (List ℕ) → List rows.InlineRow
+after n run view depth rest None = run_linked n run ++ (flat_map (row_linked n) view ++ linked_rows depth [] rest)
+after n run view depth rest (Some text) = linked_rows n (run ++ text) rest
 
-  -- what rows come to, given the text that the first of them stand for, if that is all
-  abbrev pub after : ℕ → List ℕ → List rows.InlineRow → ℕ → List rows.InlineRow → Option (List ℕ) → List rows.InlineRow
-  after n run view depth rest None = parts_rows leads (run_parts n run) ++ (flat_map (row_linked n) view ++ linked_rows leads depth [] rest)
-  after n run view depth rest (Some text) = linked_rows leads n (run ++ text) rest
+-- leaves of which each ends a run, with no run before them
+ended : (n : ℕ) (parts : List InlineLeaf) (rest : List rows.InlineRow) → Each EndsRun parts
+    → linked_rows n [] (map Part parts ++ rest) ≡ flat_map (row_linked n) (map Part parts) ++ linked_rows n [] rest
+ended n [] rest each = refl
+ended n (part ∷ others) rest each =
+    let here = row_linked n (Part part) in
+    each.0.linked n [] (λ next. linked_rows n next (map Part others ++ rest))
+    ∙ ap₂ (λ run later. run ++ (here ++ later)) (no_run n) (ended n others rest each.1)
+    ∙ sym (append_assoc here (flat_map (row_linked n) (map Part others)) (linked_rows n [] rest))
 
-  -- escaped bytes, with no run before them
-  escaped : (n : ℕ) (bytes : List ℕ) (rest : List rows.InlineRow)
-      → linked_rows leads n [] (map Part (map inline.Escape bytes) ++ rest) ≡ flat_map (row_linked n) (map Part (map inline.Escape bytes))
-      ++ linked_rows leads n [] rest
-  escaped n [] rest = refl
-  escaped zero (b ∷ bs) rest = ap (λ l. Part (inline.Escape b) ∷ l) (escaped zero bs rest)
-  escaped (suc n) (b ∷ bs) rest = ap (λ l. Part (inline.Escape b) ∷ l) (escaped (suc n) bs rest)
+-- leaves after a run
+leaves_after : (n : ℕ) (run : List ℕ) (parts : List InlineLeaf) (text : Option (List ℕ)) (rest : List rows.InlineRow) → AreText parts text
+    → linked_rows n run (map Part parts ++ rest) ≡ after n run (map Part parts) n rest text
+leaves_after n run _ _ rest (Bytes text) = run_longer n run text rest
+leaves_after n run _ _ rest (Others first others ends each) =
+    let here = row_linked n (Part first) in
+    ends.linked n run (λ next. linked_rows n next (map Part others ++ rest))
+    ∙ ap (λ later. run_linked n run ++ (here ++ later)) (ended n others rest each)
+    ∙ ap (λ l. run_linked n run ++ l) (sym (append_assoc here (flat_map (row_linked n) (map Part others)) (linked_rows n [] rest)))
 
-  -- escaped bytes after a run; an escape of nothing is text
-  escape_after : (n : ℕ) (run bytes : List ℕ) (rest : List rows.InlineRow)
-      → linked_rows leads n run (map Part (map inline.Escape bytes) ++ rest) ≡ after n run (map Part (map inline.Escape bytes)) n rest (no_bytes bytes)
-  escape_after n run [] rest = ap (λ r. linked_rows leads n r rest) (sym (append-nil run))
-  escape_after zero run (b ∷ bs) rest = ap (λ l. parts_rows leads (run_parts zero run) ++ (Part (inline.Escape b) ∷ l)) (escaped zero bs rest)
-  escape_after (suc n) run (b ∷ bs) rest = ap (λ l. parts_rows leads (run_parts (suc n) run) ++ (Part (inline.Escape b) ∷ l)) (escaped (suc n) bs rest)
+-- a run in a link
+pub inside_run : (n : ℕ) (run : List ℕ) → 0 < n → run_linked n run ≡ data_rows run
+inside_run zero run some = absurd (omega (arith, some))
+inside_run (suc n) run some = refl
 
-  -- a construct that holds no other, after a run
-  leaf_after : (n : ℕ) (run : List ℕ) (p : LeafPart) (rest : List rows.InlineRow)
-      → linked_rows leads n run (map Part (parts_of p) ++ rest) ≡ after n run (map Part (parts_of p)) n rest (part_text p)
-  leaf_after n run (part.Escape text) rest = escape_after n run text.now rest
-  leaf_after n run (part.Unclosed text) rest = ap (λ l. linked_rows leads n run (l ++ rest)) (data_parts text.now) ∙ run_longer n run text.now rest
-  leaf_after n run part.Spaces rest = ap (λ r. linked_rows leads n r rest) (sym (append-nil run))
-  leaf_after zero run (part.Character text) rest = refl
-  leaf_after zero run (part.Number radix digits) rest = refl
-  leaf_after zero run (part.Code text) rest = refl
-  leaf_after zero run (part.Math text) rest = refl
-  leaf_after zero run (part.Autolink email text) rest = refl
-  leaf_after zero run (part.Literal kind text) rest = refl
-  leaf_after zero run (part.Html text) rest = refl
-  leaf_after zero run part.EscapedBreak rest = refl
-  leaf_after zero run part.TrailingBreak rest = refl
-  leaf_after zero run (part.LineEnd ending) rest = refl
-  leaf_after (suc n) run (part.Character text) rest = refl
-  leaf_after (suc n) run (part.Number radix digits) rest = refl
-  leaf_after (suc n) run (part.Code text) rest = refl
-  leaf_after (suc n) run (part.Math text) rest = refl
-  leaf_after (suc n) run (part.Autolink email text) rest = refl
-  leaf_after (suc n) run (part.Literal kind text) rest =
-      ap (λ l. parts_rows leads (run_parts (suc n) run) ++ (l ++ linked_rows leads (suc n) [] rest)) (sym (append-nil (map (λ b. Part (Data b)) text.now)))
-  leaf_after (suc n) run (part.Html text) rest = refl
-  leaf_after (suc n) run part.EscapedBreak rest = refl
-  leaf_after (suc n) run part.TrailingBreak rest = refl
-  leaf_after (suc n) run (part.LineEnd ending) rest = refl
+-- outside of links, rows stay as they are
+pub outside_rows : (rs : List rows.InlineRow) → flat_map (row_linked zero) rs ≡ rs
+outside_rows [] = refl
+outside_rows (r ∷ rs) = ap (λ l. r ∷ l) (outside_rows rs)
 
+module _ (at : ℕ → LinkTexts) where
   -- a row after a run
   pub row_after : (n : ℕ) (run : List ℕ) (r : InlineRow) (rest : List rows.InlineRow)
-      → linked_rows leads n run (row_view at r ++ rest) ≡ after n run (row_view at r) (row_depth n r) rest (row_text r)
+      → linked_rows n run (row_view at r ++ rest) ≡ after n run (row_view at r) (row_depth n r) rest (row_text r)
   row_after n run (row.Text text) rest = run_longer n run text.now rest
   row_after n run (row.Verbatim verbatim) rest = run_longer n run verbatim.text.now rest
-  row_after zero run (row.Leaf p) rest = leaf_after zero run p rest
+  row_after zero run (row.Leaf p) rest = leaves_after zero run (parts_of p) (part_text p) rest (part_is p)
   row_after zero run (row.EnterSpan span) rest = refl
   row_after zero run (row.EnterLink to) rest = refl
   row_after zero run (row.EnterImage to) rest = refl
   row_after zero run (row.Call label) rest = refl
   row_after zero run row.Exit rest = refl
-  row_after (suc n) run (row.Leaf p) rest = leaf_after (suc n) run p rest
+  row_after (suc n) run (row.Leaf p) rest = leaves_after (suc n) run (parts_of p) (part_text p) rest (part_is p)
   row_after (suc n) run (row.EnterSpan span) rest = refl
   row_after (suc n) run (row.EnterLink to) rest = refl
   row_after (suc n) run (row.EnterImage to) rest = refl
@@ -115,16 +95,16 @@ module _ (leads : Target → LinkTexts) (at : ℕ → LinkTexts) where
 
   -- a run of text and a row after it
   pub other_row : (n : ℕ) (run : List ℕ) (r written : InlineRow) (before middle : List InlineRow) (rest : List rows.InlineRow)
-      → rows_view at middle ≡ rows_view at before ++ parts_rows leads (run_parts n run)
+      → rows_view at middle ≡ rows_view at before ++ run_linked n run
       → row_view at written ≡ flat_map (row_linked n) (row_view at r)
       → row_text r ≡ None
-      → rows_view at (middle ++ written ∷ []) ++ linked_rows leads (row_depth n r) [] rest
-      ≡ rows_view at before ++ linked_rows leads n run (row_view at r ++ rest)
+      → rows_view at (middle ++ written ∷ []) ++ linked_rows (row_depth n r) [] rest
+      ≡ rows_view at before ++ linked_rows n run (row_view at r ++ rest)
   other_row n run r written before middle rest ended linked none =
       let b = rows_view at before in
-      let p = parts_rows leads (run_parts n run) in
+      let p = run_linked n run in
       let v = flat_map (row_linked n) (row_view at r) in
-      let end = linked_rows leads (row_depth n r) [] rest in
+      let end = linked_rows (row_depth n r) [] rest in
       ap (λ l. l ++ end) (rows_more middle written ∙ ap (λ l. l ++ row_view at written) ended ∙ ap (λ l. (b ++ p) ++ l) linked)
       ∙ append_assoc (b ++ p) v end
       ∙ append_assoc b p (v ++ end)
@@ -132,20 +112,11 @@ module _ (leads : Target → LinkTexts) (at : ℕ → LinkTexts) where
 
   -- text after a run
   pub text_row : (n : ℕ) (run text longer : List ℕ) (r : InlineRow) (rest : List rows.InlineRow)
-      → row_text r ≡ Some text → longer ≡ run ++ text → linked_rows leads n longer rest ≡ linked_rows leads n run (row_view at r ++ rest)
+      → row_text r ≡ Some text → longer ≡ run ++ text → linked_rows n longer rest ≡ linked_rows n run (row_view at r ++ rest)
   text_row n run text longer r rest some same =
-      ap (λ l. linked_rows leads n l rest) same ∙ sym (row_after n run r rest ∙ ap (after n run (row_view at r) (row_depth n r) rest) some)
+      ap (λ l. linked_rows n l rest) same ∙ sym (row_after n run r rest ∙ ap (after n run (row_view at r) (row_depth n r) rest) some)
 
   -- ---- runs that are written
-
-  -- a run outside of links
-  pub outside_run : (n : ℕ) (run : List ℕ) → n ≡ 0 → with_addresses run ≡ run_parts n run
-  outside_run n run none = sym (ap (λ k. run_parts k run) none)
-
-  -- a run in a link
-  pub inside_run : (n : ℕ) (run : List ℕ) → 0 < n → parts_rows leads (run_parts n run) ≡ data_rows run
-  inside_run zero run some = absurd (omega (arith, some))
-  inside_run (suc n) run some = text_parts leads run
 
   -- text before an address, and the address
   pub address_rows : (before middle after : List InlineRow) (first second : InlineRow) (run left : List ℕ) (found : FoundAddress)
@@ -154,20 +125,19 @@ module _ (leads : Target → LinkTexts) (at : ℕ → LinkTexts) where
       → row_view at second ≡ Part (inline.Literal (kind_view found.kind) (take (found.end - found.start) (drop found.start run))) ∷ []
       → left ≡ drop found.end run
       → with_addresses run ≡ found_parts run found
-      → rows_view at after ++ parts_rows leads (with_addresses left) ≡ rows_view at before ++ parts_rows leads (with_addresses run)
+      → rows_view at after ++ run_linked 0 left ≡ rows_view at before ++ run_linked 0 run
   address_rows before middle after first second run left found is_middle is_after is_first is_second is_left parts =
       let b = rows_view at before in
       let text = take found.start run in
       let d = data_rows text in
       let literal = inline.Literal (kind_view found.kind) (take (found.end - found.start) (drop found.start run)) in
-      let later = parts_rows leads (with_addresses (drop found.end run)) in
+      let later = run_linked 0 (drop found.end run) in
       let written : rows_view at after ≡ (b ++ d) ++ Part literal ∷ [] =
       ap (rows_view at) is_after ∙ rows_more middle second ∙ ap (λ l. l ++ row_view at second) (ap (rows_view at) is_middle ∙ rows_more before first)
       ∙ ap (λ l. (b ++ l) ++ row_view at second) is_first ∙ ap (λ l. (b ++ d) ++ l) is_second in
-      let meant : parts_rows leads (with_addresses run) ≡ d ++ (Part literal ∷ later) =
-      ap (parts_rows leads) parts ∙ parts_join leads (map Data text) (literal ∷ with_addresses (drop found.end run))
-      ∙ ap (λ l. l ++ (Part literal ∷ later)) (text_parts leads text) in
-      ap (λ l. rows_view at after ++ parts_rows leads (with_addresses l)) is_left
+      let meant : run_linked 0 run ≡ d ++ (Part literal ∷ later) =
+      ap (map Part) parts ∙ map-append Part (map inline.Data text) (literal ∷ with_addresses (drop found.end run)) in
+      ap (λ l. rows_view at after ++ run_linked 0 l) is_left
       ∙ ap (λ l. l ++ later) written
       ∙ append_assoc (b ++ d) (Part literal ∷ []) later
       ∙ append_assoc b d (Part literal ∷ later)
@@ -175,51 +145,18 @@ module _ (leads : Target → LinkTexts) (at : ℕ → LinkTexts) where
 
   -- text in which there is no address
   pub rest_rows : (before after : List InlineRow) (last : InlineRow) (run : List ℕ)
-      → after ≡ before ++ last ∷ [] → row_view at last ≡ data_rows run → with_addresses run ≡ map Data run
-      → rows_view at after ≡ rows_view at before ++ parts_rows leads (with_addresses run)
+      → after ≡ before ++ last ∷ [] → row_view at last ≡ data_rows run → with_addresses run ≡ map inline.Data run
+      → rows_view at after ≡ rows_view at before ++ run_linked 0 run
   rest_rows before after last run is_after is_last none =
-      ap (rows_view at) is_after ∙ rows_more before last ∙ ap (λ l. rows_view at before ++ l)
-      (is_last ∙ sym (text_parts leads run) ∙ ap (parts_rows leads) (sym none))
+      ap (rows_view at) is_after ∙ rows_more before last ∙ ap (λ l. rows_view at before ++ l) (is_last ∙ ap (map Part) (sym none))
 
   -- ---- a row in a link
 
-  -- outside of links, rows stay as they are
-  pub outside_rows : (rs : List rows.InlineRow) → flat_map (row_linked zero) rs ≡ rs
-  outside_rows [] = refl
-  outside_rows (r ∷ rs) = ap (λ l. r ∷ l) (outside_rows rs)
-
-  -- in a link, text stays as it is
-  text_linked : (n : ℕ) (bytes : List ℕ) → flat_map (row_linked (suc n)) (data_rows bytes) ≡ data_rows bytes
-  text_linked n [] = refl
-  text_linked n (b ∷ bs) = ap (λ l. Part (Data b) ∷ l) (text_linked n bs)
-
-  -- in a link, escaped bytes stay as they are
-  escapes_linked : (n : ℕ) (bytes : List ℕ) → flat_map (row_linked (suc n)) (map Part (map inline.Escape bytes)) ≡ map Part (map inline.Escape bytes)
-  escapes_linked n [] = refl
-  escapes_linked n (b ∷ bs) = ap (λ l. Part (inline.Escape b) ∷ l) (escapes_linked n bs)
-
-  -- a text, or else these rows
-  abbrev pub text_or : List rows.InlineRow → Option (List ℕ) → List rows.InlineRow
-  text_or rs None = rs
-  text_or rs (Some text) = data_rows text
-
   -- in a link, a literal is text, and any other row stays as it is
   pub row_in_link : (n : ℕ) (r : InlineRow) → flat_map (row_linked (suc n)) (row_view at r) ≡ text_or (row_view at r) (literal_text r)
-  row_in_link n (row.Text text) = text_linked n text.now
-  row_in_link n (row.Verbatim verbatim) = text_linked n verbatim.text.now
-  row_in_link n (row.Leaf (part.Escape text)) = escapes_linked n text.now
-  row_in_link n (row.Leaf (part.Unclosed text)) = ap (flat_map (row_linked (suc n))) (data_parts text.now) ∙ text_linked n text.now ∙ sym (data_parts text.now)
-  row_in_link n (row.Leaf (part.Literal kind text)) = append-nil (data_rows text.now)
-  row_in_link n (row.Leaf part.Spaces) = refl
-  row_in_link n (row.Leaf (part.Character text)) = refl
-  row_in_link n (row.Leaf (part.Number radix digits)) = refl
-  row_in_link n (row.Leaf (part.Code text)) = refl
-  row_in_link n (row.Leaf (part.Math text)) = refl
-  row_in_link n (row.Leaf (part.Autolink email text)) = refl
-  row_in_link n (row.Leaf (part.Html text)) = refl
-  row_in_link n (row.Leaf part.EscapedBreak) = refl
-  row_in_link n (row.Leaf part.TrailingBreak) = refl
-  row_in_link n (row.Leaf (part.LineEnd ending)) = refl
+  row_in_link n (row.Text text) = all_kept n (λ b. inline.Data b) (λ b. refl) text.now
+  row_in_link n (row.Verbatim verbatim) = all_kept n (λ b. inline.Data b) (λ b. refl) verbatim.text.now
+  row_in_link n (row.Leaf p) = part_in_link n p
   row_in_link n (row.EnterSpan span) = refl
   row_in_link n (row.EnterLink to) = refl
   row_in_link n (row.EnterImage to) = refl

@@ -3,11 +3,10 @@ use Rattle.std.specs.Prelude.{◌≡◌, ◌==◌, ◌||◌, ◌+◌, ◌≤◌,
 use Rattle.std.specs.Prelude.{length, drop, map, take}
 use Rattle.std.specs.List.{flat_map, list_any}
 use Rattle.definition_text.specs.Ascii.{line_feed, at_sign}
-use Rattle.definition_inline.specs.GfmAutolinkLiteral.{with_addresses}
-use Rattle.definition_inline.specs.Inline as inline
-use Rattle.definition_inline.specs.Inline.{Target, LinkTexts, Inline, Data}
+use Rattle.definition_inline.specs.GfmAutolinkLiteral.{leaf_without, with_addresses}
+use Rattle.definition_inline.specs.Inline.{LinkTexts, InlineLeaf, Data, Link}
 use Rattle.inline_rows.specs.InlineRows as rows
-use Rattle.inline_rows.specs.InlineRows.{Part, EnterLink, Leave, part_rows}
+use Rattle.inline_rows.specs.InlineRows.{Part, EnterSpan, EnterLinked, Leave}
 use Rattle.inline_leaves.specs.declared.leaf.LeafPart.{LeafPart}
 use Rattle.inline_leaves.specs.declared.leaf.LeafPart.TheVariants.{Escape, Literal, Unclosed, Spaces}
 use Rattle.inline_rows.specs.View.{rows_view}
@@ -17,33 +16,39 @@ use Rattle.inline_addresses.specs.declared.walk.Walk.{Walk}
 
 -- ---- rows of the definition
 
--- the rows of parts
-abbrev pub parts_rows : (Target → LinkTexts) → List Inline → List rows.InlineRow
-parts_rows leads parts = flat_map (part_rows leads) parts
-
 -- how many parts are open after a row, counted from the link on in which it stands; none is where it stands in no link
 abbrev pub depth_after : ℕ → rows.InlineRow → ℕ
-depth_after zero (EnterLink to) = 1
+depth_after zero (EnterLinked Link to) = 1
 depth_after zero r = 0
-depth_after (suc n) (Part i) = suc n
+depth_after (suc n) (EnterSpan kind) = suc (suc n)
+depth_after (suc n) (EnterLinked kind to) = suc (suc n)
 depth_after (suc n) Leave = n
-depth_after (suc n) r = suc (suc n)
+depth_after (suc n) r = suc n
 
 -- a run of text: in a link it holds no address
-abbrev pub run_parts : ℕ → List ℕ → List Inline
+abbrev pub run_parts : ℕ → List ℕ → List InlineLeaf
 run_parts zero run = with_addresses run
 run_parts (suc n) run = map Data run
 
+-- its rows
+abbrev pub run_linked : ℕ → List ℕ → List rows.InlineRow
+run_linked n run = map Part (run_parts n run)
+
 -- a row that is no text: in a link a literal is text
 abbrev pub row_linked : ℕ → rows.InlineRow → List rows.InlineRow
-row_linked (suc n) (Part (inline.Literal kind text)) = map (λ b. Part (Data b)) text
+row_linked (suc n) (Part part) = map Part (leaf_without part)
 row_linked n r = r ∷ []
 
+-- a leaf after a run of text, and the rows that follow, given the run before them: a byte makes the run longer
+abbrev pub leaf_or_byte : ℕ → List ℕ → InlineLeaf → (List ℕ → List rows.InlineRow) → List rows.InlineRow
+leaf_or_byte n run (Data b) rest = rest (run ++ b ∷ [])
+leaf_or_byte n run part rest = run_linked n run ++ (row_linked n (Part part) ++ rest [])
+
 -- rows with email addresses, and links without literals, where a run of text stands before
-abbrev pub linked_rows : (Target → LinkTexts) → ℕ → List ℕ → List rows.InlineRow → List rows.InlineRow
-linked_rows leads n run [] = parts_rows leads (run_parts n run)
-linked_rows leads n run (Part (Data b) ∷ rs) = linked_rows leads n (run ++ b ∷ []) rs
-linked_rows leads n run (r ∷ rs) = parts_rows leads (run_parts n run) ++ (row_linked n r ++ linked_rows leads (depth_after n r) [] rs)
+abbrev pub linked_rows : ℕ → List ℕ → List rows.InlineRow → List rows.InlineRow
+linked_rows n run [] = run_linked n run
+linked_rows n run (Part part ∷ rs) = leaf_or_byte n run part (λ next. linked_rows n next rs)
+linked_rows n run (r ∷ rs) = run_linked n run ++ (r ∷ linked_rows (depth_after n r) [] rs)
 
 -- ---- rows of the parser
 
@@ -116,8 +121,8 @@ row_depth (suc n) r = suc n
 -- ---- a walk over them
 
 -- what a walk makes of the rows of the definition that are left
-abbrev pub walk_rows : {A : Type 0} → (Target → LinkTexts) → (ℕ → LinkTexts) → Walk A → List rows.InlineRow → List rows.InlineRow
-walk_rows leads at walk rest = rows_view at walk.rows.items ++ linked_rows leads walk.depth (take walk.size walk.text.now) rest
+abbrev pub walk_rows : {A : Type 0} → (ℕ → LinkTexts) → Walk A → List rows.InlineRow → List rows.InlineRow
+walk_rows at walk rest = rows_view at walk.rows.items ++ linked_rows walk.depth (take walk.size walk.text.now) rest
 
 -- a text comes next after the first bytes of another, so many
 pub record IsNext (text : List ℕ) (size : ℕ) (next : List ℕ) : Type 0 where

@@ -5,12 +5,12 @@ ghost use Rattle.std.specs.List.{flat_map};
 ghost use Rattle.std.specs.Option.{option_map};
 ghost use Rattle.std.specs.Str.{IsCharBoundary};
 ghost use Rattle.definition_text.specs.Ascii.{line_feed};
-ghost use Rattle.definition_inline.specs.GfmAutolinkLiteral.{with_addresses, with_literals};
+ghost use Rattle.definition_inline.specs.GfmAutolinkLiteral.{with_literals};
 ghost use Rattle.definition_inline.specs.Inline.{Target, LinkTexts, Inlines};
 ghost use Rattle.inline_rows.specs.InlineRows as seen;
 ghost use Rattle.inline_rows.specs.View.{row_view, rows_view};
-ghost use Rattle.inline_addresses.specs.Addresses.{literal_text, part_text, parts_rows, row_depth, row_linked};
-ghost use Rattle.inline_addresses.specs.Addresses.{row_text, rows_text, run_parts, text_or_end, walk_rows, IsNext};
+ghost use Rattle.inline_addresses.specs.Addresses.{literal_text, part_text, row_depth, row_linked};
+ghost use Rattle.inline_addresses.specs.Addresses.{row_text, rows_text, run_linked, text_or_end, walk_rows, IsNext};
 
 use inline_leaves::LeafPart;
 use inline_leaves::cut::{rest_from, text_before, text_between};
@@ -114,8 +114,8 @@ impl<'a, A: Allocator> Walk<'a, A> {
         ensures within { OnOk result (self.new.size ≤ length self.new.text.now) }
         ensures text { OnOk result (drop self.new.size self.new.text.now
             ≡ drop (length (text_or_end (row_text row.entry))) (drop self.old.size self.old.text.now)) }
-        ensures rows { (leads : Target → LinkTexts) (at : ℕ → LinkTexts) (rest : List seen.InlineRow) →
-            OnOk result (walk_rows leads at self.new rest ≡ walk_rows leads at self.old (row_view at row.entry ++ rest)) }
+        ensures rows { (at : ℕ → LinkTexts) (rest : List seen.InlineRow) →
+            OnOk result (walk_rows at self.new rest ≡ walk_rows at self.old (row_view at row.entry ++ rest)) }
     {
         match text_of(row) {
             Some(text) => {
@@ -134,8 +134,8 @@ impl<'a, A: Allocator> Walk<'a, A> {
         ensures depth { OnOk result (self.new.depth ≤ self.old.depth + 1) }
         ensures within { OnOk result (self.new.size ≤ length self.new.text.now) }
         ensures text { OnOk result (drop self.new.size self.new.text.now ≡ drop 1 (drop self.old.size self.old.text.now)) }
-        ensures rows { (leads : Target → LinkTexts) (at : ℕ → LinkTexts) (rest : List seen.InlineRow) →
-            OnOk result (walk_rows leads at self.new rest ≡ walk_rows leads at self.old (row_view at row.entry ++ rest)) }
+        ensures rows { (at : ℕ → LinkTexts) (rest : List seen.InlineRow) →
+            OnOk result (walk_rows at self.new rest ≡ walk_rows at self.old (row_view at row.entry ++ rest)) }
     {
         self.end_run()?;
         self.rows.push(linked_row(self.depth, row))?;
@@ -151,9 +151,9 @@ impl<'a, A: Allocator> Walk<'a, A> {
         ensures text { self.new.text.now ≡ self.old.text.now }
         ensures size { self.new.size ≡ self.old.size }
         ensures depth { self.new.depth ≡ self.old.depth }
-        ensures rows { (leads : Target → LinkTexts) (at : ℕ → LinkTexts) →
+        ensures rows { (at : ℕ → LinkTexts) →
             OnOk result (rows_view at self.new.rows.items
-            ≡ rows_view at self.old.rows.items ++ parts_rows leads (run_parts self.old.depth (take self.old.size self.old.text.now))) }
+            ≡ rows_view at self.old.rows.items ++ run_linked self.old.depth (take self.old.size self.old.text.now)) }
     {
         let run = text_before(self.text, self.size);
         if self.depth == 0 {
@@ -170,8 +170,7 @@ fn push_addresses<'a, A: Allocator>(
     rows: &mut Vec<InlineRow<'a>, A>,
     run: &'a str,
 ) -> Result<(), AllocError>
-    ensures { (leads : Target → LinkTexts) (at : ℕ → LinkTexts) →
-        OnOk result (rows_view at rows.new.items ≡ rows_view at rows.old.items ++ parts_rows leads (with_addresses run.now)) }
+    ensures { (at : ℕ → LinkTexts) → OnOk result (rows_view at rows.new.items ≡ rows_view at rows.old.items ++ run_linked 0 run.now) }
 {
     let mut rest = run;
     while let Some(found) = first_address(rest.as_bytes()) {

@@ -17,7 +17,7 @@ use Rattle.inline_references.specs.Markers.{marker_size}
 use Rattle.inline_references.specs.Places.{IsCutFrom}
 use Rattle.inline_references.specs.declared.reference.CharacterReference.{CharacterReference as TextReference}
 use Rattle.std.proofs.lemmas.Option.{none-some, same_Some}
-use Rattle.definition_inline.specs.Inline.{Inline, leaf}
+use Rattle.definition_inline.specs.Inline.{InlineLeaf, leaf}
 use Rattle.inline_leaves.specs.Leaves.{IsAfter, character_parts, size_before}
 use Rattle.inline_leaves.proofs.Codes.{at_return, plain_code, prefix_codes, prefix_plain, plain_take, plain_drop, is_after, cut_after_byte}
 
@@ -179,7 +179,7 @@ pub unknown_leaf : (size : ℕ) (text : Option (List ℕ)) → None ≡ option_m
 unknown_leaf size None h = refl
 unknown_leaf size (Some text) h = absurd (none-some _ h)
 
-pub known_leaf : (size : ℕ) (text : Option (List ℕ)) (parts : List Inline) → Some parts ≡ option_map character_parts text
+pub known_leaf : (size : ℕ) (text : Option (List ℕ)) (parts : List InlineLeaf) → Some parts ≡ option_map character_parts text
     → reference_leaf size text ≡ Some (leaf parts size)
 known_leaf size None parts h = absurd (none-some _ (sym h))
 known_leaf size (Some text) parts h = ap (λ p. Some (leaf p size)) (sym (same_Some _ _ h))

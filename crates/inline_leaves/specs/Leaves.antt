@@ -15,7 +15,8 @@ use Rattle.definition_inline.specs.CharacterReference.{number_of, numbered_text}
 use Rattle.inline_leaves.specs.declared.autolink.Address.{Address}
 use Rattle.definition_inline.specs.CodeText.{code_text}
 use Rattle.definition_inline.specs.Inline as inline
-use Rattle.definition_inline.specs.Inline.{Inline}
+use Rattle.definition_inline.specs.Inline.{InlineLeaf}
+use Rattle.definition_inline.specs.Spans.{Token, Item}
 use Rattle.inline_links.specs.Codes.{IsCut}
 use Rattle.inline_leaves.specs.declared.leaf.Leaf.{Leaf}
 use Rattle.inline_leaves.specs.declared.line_ending.Ending.{Ending}
@@ -32,7 +33,7 @@ kind_view Protocol = inline.Protocol
 kind_view Email = inline.Email
 
 -- the parts that a construct makes
-abbrev pub parts_of : LeafPart → List Inline
+abbrev pub parts_of : LeafPart → List InlineLeaf
 parts_of (Escape text) = map inline.Escape text.now
 parts_of (Character text) = inline.Character text.now ∷ []
 parts_of (Number radix digits) = inline.Character (numbered_text (number_of radix digits.now)) ∷ []
@@ -46,6 +47,14 @@ parts_of EscapedBreak = inline.EscapedBreak ∷ []
 parts_of TrailingBreak = inline.TrailingBreak ∷ []
 parts_of (LineEnd ending) = inline.LineEnd (line_ending_code ending) ∷ []
 parts_of Spaces = []
+
+-- leaves among the parts of a container
+abbrev pub leaf_items : List InlineLeaf → List Token
+leaf_items parts = map Item (map inline.Leaf parts)
+
+-- bytes of text among them
+abbrev pub text_items : List ℕ → List Token
+text_items bytes = leaf_items (map inline.Data bytes)
 
 -- how many codes stand before the rest of a content
 abbrev pub size_before : List ℕ → List ℕ → ℕ
@@ -104,7 +113,7 @@ pub record IsWhite (bytes : List ℕ) (size : ℕ) : Type 0 where
   pub passes : (k : ℕ) → k < size → is_white (slice_index bytes k) ≡ true
 
 -- what spaces and tabs at a line's end make
-abbrev pub spaces_parts : Constructs → List ℕ → List Inline
+abbrev pub spaces_parts : Constructs → List ℕ → List InlineLeaf
 spaces_parts on content = if on.hard_break_trailing && is_trailing_break content then inline.TrailingBreak ∷ [] else []
 
 -- so many of a byte at a place
@@ -120,7 +129,7 @@ is_of Email b = is_email_byte b
 is_of Domain b = is_domain_byte b
 
 -- the parts that a character makes
-abbrev pub character_parts : List ℕ → List Inline
+abbrev pub character_parts : List ℕ → List InlineLeaf
 character_parts text = inline.Character text ∷ []
 
 -- the first bytes, of which none is CR

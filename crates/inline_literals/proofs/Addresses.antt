@@ -4,7 +4,7 @@ use Rattle.std.proofs.Common.{arith, append_assoc, subst}
 use Rattle.std.proofs.lemmas.Bool.{cond-false, cond-true, eq-eqb, ne_eqb}
 use Rattle.std.proofs.lemmas.List.{drop_all, take_all, drop-drop, drop-append-le, take-append-le, take-append-drop, length-take-le, length-drop, get_or-take}
 use Rattle.std.proofs.Math.Seq.{drop-cons, take-suc, take-append-add}
-use Rattle.definition_inline.specs.Inline.{Inline, Data, Literal}
+use Rattle.definition_inline.specs.Inline.{InlineLeaf, Data, Literal}
 use Rattle.definition_inline.specs.GfmAutolinkLiteral.{Address, address_at, address_or_text, parts_from, with_addresses}
 
 -- codes that are taken already
@@ -57,7 +57,7 @@ pub found_address : (n : ℕ) (xs : List ℕ) (found : Address) → n < length x
 found_address n xs found h is le at =
     let front = take n xs in
     let back = drop (suc n) xs in
-    let rest : ℕ → List ℕ → List Inline = λ more next. parts_from more next back in
+    let rest : ℕ → List ℕ → List InlineLeaf = λ more next. parts_from more next back in
     let size : length front ≡ n = length-take-le n xs (omega (arith, h)) in
     let whole : xs ≡ front ++ 64 ∷ back =
     sym (take-append-drop n xs) ∙ ap (λ l. front ++ l) (drop-cons xs n 0 h) ∙ ap (λ x. front ++ x ∷ back) is in

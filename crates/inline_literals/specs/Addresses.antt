@@ -2,7 +2,7 @@
 use Rattle.std.specs.Prelude.{◌-◌, ◌<◌, ◌≤◌, ℕ, List, ◌∷◌, ◌++◌, drop, take, length, map, slice_index}
 use Rattle.definition_inline.specs.GfmAutolinkLiteral as literal
 use Rattle.definition_inline.specs.GfmAutolinkLiteral.{address, with_addresses}
-use Rattle.definition_inline.specs.Inline.{Inline, Data, Literal}
+use Rattle.definition_inline.specs.Inline.{InlineLeaf, Data, Literal}
 use Rattle.inline_leaves.specs.Leaves.{kind_view}
 use Rattle.inline_literals.specs.declared.address.Address.{Address}
 use Rattle.inline_literals.specs.declared.address.FoundAddress.{FoundAddress}
@@ -12,7 +12,7 @@ abbrev pub address_view : Address → literal.Address
 address_view found = address (kind_view found.kind) found.before found.after
 
 -- a run of text before an address, the address, and what comes after it
-abbrev pub found_parts : List ℕ → FoundAddress → List Inline
+abbrev pub found_parts : List ℕ → FoundAddress → List InlineLeaf
 found_parts text found =
     map Data (take found.start text)
     ++ Literal (kind_view found.kind) (take (found.end - found.start) (drop found.start text)) ∷ with_addresses (drop found.end text)

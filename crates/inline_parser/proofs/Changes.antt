@@ -6,13 +6,15 @@ use Rattle.std.proofs.lemmas.Bool.{false≢true}
 use Rattle.std.specs.Prelude.{replicate}
 use Rattle.std.specs.List.{flat_map}
 use Rattle.std.proofs.lemmas.List.{length-append, reverse-append, take_all, length-drop}
-use Rattle.definition_inline.specs.Inline.{Target, Inline}
+use Rattle.definition_inline.specs.Inline.{Target, InlineLeaf}
 use Rattle.definition_inline.specs.Inline as inline
+use Rattle.inline_rows.specs.InlineRows as seen
 use Rattle.inline_rows.specs.InlineRows.{part_rows}
 use Rattle.definition_inline.specs.Scan as scan
 use Rattle.definition_inline.specs.Scan.{start_bytes, label_part, makes_link}
 use Rattle.definition_inline.specs.LabelEnd.{LinkTail, LinkOrCall, Leads, Calls}
 use Rattle.definition_inline.specs.Spans.{Token, Item, Delimiters, with_spans}
+use Rattle.inline_leaves.specs.Leaves.{leaf_items}
 use Rattle.inline_runs.specs.View.{run_view}
 use Rattle.inline_runs.specs.declared.run.Run.{Run}
 use Rattle.inline_rows.specs.View.{rows_view, row_view, data_rows, target_texts}
@@ -20,6 +22,7 @@ use Rattle.inline_rows.specs.declared.row.InlineRow.{InlineRow}
 use Rattle.inline_rows.specs.declared.row.InlineRow.TheVariants.{Exit}
 use Rattle.inline_rows.specs.declared.row.LinkTarget.{LinkTarget}
 use Rattle.inline_rows.specs.Container.{AreWithin, AreBytes, AreTold, text_of}
+use Rattle.inline_rows.proofs.Container as container
 use Rattle.inline_parser.specs.declared.label.OpenLabel.{OpenLabel}
 use Rattle.inline_parser.specs.Shows.{ShowsBy, IsOpen, AreOutside, unformed_in, formed_in, start_view, enter_row}
 use Rattle.inline_parser.proofs.Readings as readings
@@ -130,13 +133,13 @@ bytes_rows b (suc n) row e = ap₂ (λ x xs. x ∷ xs) e (bytes_rows b n row e)
 -- ---- what is read
 
 module _ (leads : Target → inline.LinkTexts) (at : ℕ → inline.LinkTexts) where
-  pub items_pushed : (rows new : List InlineRow) (row : InlineRow) (runs : List Run) (slots : List ℕ) (opens : List OpenLabel) (labels : List scan.OpenLabel)
-      (ts : List Token) (parts : List Inline)
-      → new ≡ rows ++ row ∷ [] → ShowsBy leads at rows runs slots opens labels ts → rows_view at (row ∷ []) ≡ flat_map (part_rows leads) parts
-      → ShowsBy leads at new runs slots opens labels (ts ++ map Item parts)
-  items_pushed rows new row runs slots opens labels ts parts e s view =
-      subst (λ rs. ShowsBy leads at rs runs slots opens labels (ts ++ map Item parts)) (sym e)
-      (readings.shows_items leads at rows (row ∷ []) runs slots opens labels ts parts s view)
+  pub leaves_pushed : (rows new : List InlineRow) (row : InlineRow) (runs : List Run) (slots : List ℕ) (opens : List OpenLabel) (labels : List scan.OpenLabel)
+      (ts : List Token) (parts : List InlineLeaf)
+      → new ≡ rows ++ row ∷ [] → ShowsBy leads at rows runs slots opens labels ts → row_view at row ≡ map seen.Part parts
+      → ShowsBy leads at new runs slots opens labels (ts ++ leaf_items parts)
+  leaves_pushed rows new row runs slots opens labels ts parts e s view =
+      subst (λ rs. ShowsBy leads at rs runs slots opens labels (ts ++ leaf_items parts)) (sym e)
+      (readings.shows_items leads at rows (row ∷ []) runs slots opens labels ts (map inline.Leaf parts) s (container.leaf_row leads at row parts view))
 
   pub run_pushed : (rows new : List InlineRow) (row : InlineRow) (r : Run) (runs new_runs : List Run) (slots new_slots : List ℕ) (opens : List OpenLabel)
       (labels : List scan.OpenLabel) (ts : List Token)

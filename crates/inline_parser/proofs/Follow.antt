@@ -15,12 +15,12 @@ use Rattle.markdown_options.specs.declared.configuration.Constructs.{Constructs}
 use Rattle.markdown_options.specs.declared.configuration.ParseOptions.{ParseOptions}
 use Rattle.definition_text.specs.Content.{content_codes}
 use Rattle.definition_text.specs.InlineCode.{InlineCode, codes_of}
-use Rattle.definition_inline.specs.Inline.{Inline, Data, leaf, or_else}
+use Rattle.definition_inline.specs.Inline.{InlineLeaf, leaf, or_else}
 use Rattle.definition_inline.specs.GfmAutolinkLiteral.{literal_at}
 use Rattle.definition_inline.proofs.GfmAutolinkLiteral.{literals_off}
 use Rattle.definition_inline.proofs.Scanning.{drop-codes_of}
 use Rattle.definition_inline.specs.Attention.{run_at}
-use Rattle.definition_inline.specs.Spans.{Item, Delimiters}
+use Rattle.definition_inline.specs.Spans.{Delimiters}
 use Rattle.definition_inline.specs.LabelEnd.{LinkTail, formed_size}
 use Rattle.definition_inline.specs.LabelEnd as ends
 use Rattle.definition_inline.specs.Targets.{Targets}
@@ -32,7 +32,7 @@ use Rattle.inline_content.specs.declared.content.Content.{Content}
 use Rattle.inline_content.specs.View.{view_at}
 use Rattle.inline_content.specs.Fronts.{StartsRun}
 use Rattle.inline_content.proofs.Runs.{marker_at, marker_ascii}
-use Rattle.inline_leaves.specs.Leaves.{size_before, IsAfter}
+use Rattle.inline_leaves.specs.Leaves.{leaf_items, size_before, text_items, IsAfter}
 use Rattle.inline_leaves.specs.Leaves.{IsEnd as IsByteEnd}
 use Rattle.inline_leaves.specs.Scanned.{leaf_in, without_labels}
 use Rattle.inline_leaves.proofs.Codes.{end_after, plain_code, plain_take, plain_drop, size_plain, cut_plain, is_after}
@@ -229,34 +229,34 @@ module _ (options : ParseOptions) (names : List ℕ → Option (List ℕ)) (p : 
       → ((k : ℕ) → k < n → is_text_at (drop k (content_codes rest)) ≡ true) → ((k : ℕ) → k < n → get_or rest k 0 ≡ 13 → ⊥)
       → (options.constructs.gfm_autolink_literal ≡ true → (k : ℕ) → k < n → may_begin (drop k rest) ≡ false) → IsAfter rest (drop n rest)
       → scan.scan (context_by options names ds) 0 now (view_at p content rest) ≡ final
-      → scan.scan (context_by options names ds) 0 (read_tokens (map Item (map Data (take n rest))) now) (view_at p content (drop n rest)) ≡ final
+      → scan.scan (context_by options names ds) 0 (read_tokens (text_items (take n rest)) now) (view_at p content (drop n rest)) ≡ final
   text_follows rest n now final place le text plain bare after same =
       let codes = codes_left p content rest place in
       let bytes : take n (codes_of (view_at p content rest)) ≡ take n rest = ap (take n) codes ∙ plain_take n rest le plain in
-      moved rest (drop n rest) now (read_tokens (map Item (map Data (take n rest))) now) final n place (after_next rest (drop n rest) after)
+      moved rest (drop n rest) now (read_tokens (text_items (take n rest)) now) final n place (after_next rest (drop n rest) after)
       (sym (size_plain n rest (drop n rest) refl le plain)) same
       (texts.text_steps (context_by options names ds) n now (view_at p content rest) (λ k lt. ap (λ cs. is_text_at (drop k cs)) codes ∙ text k lt)
       (λ k lt. no_literal options.constructs rest (view_at p content rest) n k le lt plain codes bare)
-      ∙ ap (λ bs. scan.scan (context_by options names ds) 0 (read_tokens (map Item (map Data bs)) now) (drop n (view_at p content rest))) bytes)
+      ∙ ap (λ bs. scan.scan (context_by options names ds) 0 (read_tokens (text_items bs) now) (drop n (view_at p content rest))) bytes)
 
   -- a construct that holds no other
-  pub leaf_follows : (rest after : List ℕ) (parts : List Inline) (now final : scan.Reading) → IsPlace content.text.now rest
+  pub leaf_follows : (rest after : List ℕ) (parts : List InlineLeaf) (now final : scan.Reading) → IsPlace content.text.now rest
       → Some (leaf parts (size_before rest after)) ≡ leaf_in options names (content_codes rest) → IsAfter rest after
       → scan.scan (context_by options names ds) 0 now (view_at p content rest) ≡ final
-      → scan.scan (context_by options names ds) 0 (read_tokens (map Item parts) now) (view_at p content after) ≡ final
+      → scan.scan (context_by options names ds) 0 (read_tokens (leaf_items parts) now) (view_at p content after) ≡ final
   leaf_follows rest after parts now final place found is same =
-      moved rest after now (read_tokens (map Item parts) now) final (size_before rest after) place (after_next rest after is) refl same
+      moved rest after now (read_tokens (leaf_items parts) now) final (size_before rest after) place (after_next rest after is) refl same
       (goes.leaf_goes (context_by options names ds) now (view_at p content rest) (leaf parts (size_before rest after))
       (ap (λ o. or_else o (literal_at options.constructs (view_at p content rest))) (ap (leaf_in options names) (codes_left p content rest place) ∙ sym found)))
 
   -- a literal
-  pub literal_follows : (rest after : List ℕ) (parts : List Inline) (now final : scan.Reading) → IsPlace content.text.now rest
+  pub literal_follows : (rest after : List ℕ) (parts : List InlineLeaf) (now final : scan.Reading) → IsPlace content.text.now rest
       → leaf_in options names (content_codes rest) ≡ None
       → Some (leaf parts (size_before rest after)) ≡ literal_at options.constructs (view_at p content rest) → IsAfter rest after
       → scan.scan (context_by options names ds) 0 now (view_at p content rest) ≡ final
-      → scan.scan (context_by options names ds) 0 (read_tokens (map Item parts) now) (view_at p content after) ≡ final
+      → scan.scan (context_by options names ds) 0 (read_tokens (leaf_items parts) now) (view_at p content after) ≡ final
   literal_follows rest after parts now final place none found is same =
-      moved rest after now (read_tokens (map Item parts) now) final (size_before rest after) place (after_next rest after is) refl same
+      moved rest after now (read_tokens (leaf_items parts) now) final (size_before rest after) place (after_next rest after is) refl same
       (goes.leaf_goes (context_by options names ds) now (view_at p content rest) (leaf parts (size_before rest after))
       (with_literal options names p content rest place none ∙ sym found))
 
@@ -302,17 +302,17 @@ module _ (options : ParseOptions) (names : List ℕ → Option (List ℕ)) (p : 
       → get_or rest 0 0 ≡ 93 → IsSingle rest → 0 < length rest
       → ended_here (context_by options names ds) (content_codes rest) now.open_labels now.now ≡ None
       → scan.scan (context_by options names ds) 0 now (view_at p content rest) ≡ final
-      → scan.scan (context_by options names ds) 0 (read_tokens (map Item (map Data (take 1 rest))) (unformed_in now.open_labels now.now))
+      → scan.scan (context_by options names ds) 0 (read_tokens (text_items (take 1 rest)) (unformed_in now.open_labels now.now))
       (view_at p content (drop 1 rest)) ≡ final
   nothing_follows rest now final place none no_run no_start end bracket single some ended same =
       let codes = codes_left p content rest place in
       let first = first_code rest (view_at p content rest) single codes in
-      moved rest (drop 1 rest) now (read_tokens (map Item (map Data (take 1 rest))) (unformed_in now.open_labels now.now)) final 1 place
+      moved rest (drop 1 rest) now (read_tokens (text_items (take 1 rest)) (unformed_in now.open_labels now.now)) final 1 place
       (single_next rest single) (sym (single_size rest single)) same
       (goes.nothing_view_goes (context_by options names ds) now (view_at p content rest) (view_count rest place (omega (arith, single.next.fewer))) none no_run
       (ap (label_start_at options.constructs) codes ∙ no_start) end (first ∙ bracket)
       (ap (λ cs. ended_here (context_by options names ds) cs now.open_labels now.now) codes ∙ ended)
-      ∙ ap (λ bs. scan.scan (context_by options names ds) 0 (read_tokens (map Item (map Data bs)) (unformed_in now.open_labels now.now))
+      ∙ ap (λ bs. scan.scan (context_by options names ds) 0 (read_tokens (text_items bs) (unformed_in now.open_labels now.now))
       (drop 1 (view_at p content rest)))
       (sym (one_byte rest some ∙ ap (λ b. b ∷ []) bracket)))
 
@@ -346,14 +346,14 @@ module _ (options : ParseOptions) (names : List ℕ → Option (List ℕ)) (p : 
       → run_at options (view_at p content rest) ≡ None → label_start_at options.constructs (content_codes rest) ≡ None
       → (options.constructs.label_end && eqb (get_or rest 0 0) 93) ≡ false → IsSingle rest → 0 < length rest
       → scan.scan (context_by options names ds) 0 now (view_at p content rest) ≡ final
-      → scan.scan (context_by options names ds) 0 (read_tokens (map Item (map Data (take 1 rest))) now) (view_at p content (drop 1 rest)) ≡ final
+      → scan.scan (context_by options names ds) 0 (read_tokens (text_items (take 1 rest)) now) (view_at p content (drop 1 rest)) ≡ final
   byte_follows rest now final place none no_run no_start no_end single some same =
       let codes = codes_left p content rest place in
       let first = first_code rest (view_at p content rest) single codes in
-      moved rest (drop 1 rest) now (read_tokens (map Item (map Data (take 1 rest))) now) final 1 place (single_next rest single)
+      moved rest (drop 1 rest) now (read_tokens (text_items (take 1 rest)) now) final 1 place (single_next rest single)
       (sym (single_size rest single)) same
       (goes.byte_view_goes (context_by options names ds) now (view_at p content rest) (get_or rest 0 0)
       (view_count rest place (omega (arith, single.next.fewer))) none no_run
       (ap (label_start_at options.constructs) codes ∙ no_start) first no_end
-      ∙ ap (λ bs. scan.scan (context_by options names ds) 0 (read_tokens (map Item (map Data bs)) now) (drop 1 (view_at p content rest)))
+      ∙ ap (λ bs. scan.scan (context_by options names ds) 0 (read_tokens (text_items bs) now) (drop 1 (view_at p content rest)))
       (sym (one_byte rest some)))

@@ -5,12 +5,12 @@ use Rattle.std.proofs.lemmas.List.{append-nil, length-append, take_at, drop_at}
 use Rattle.std.proofs.lemmas.List.{take-append-drop}
 use Rattle.std.proofs.Math.Seq.{set-append_seam}
 use Rattle.std.proofs.lemmas.List.Concat.{flat_map-append}
-use Rattle.definition_inline.specs.Inline.{Target, Link, Image, Inlines}
+use Rattle.definition_inline.specs.Inline.{Target, Inlines}
 use Rattle.definition_inline.specs.Inline as inline
 use Rattle.inline_rows.specs.InlineRows as rows
 use Rattle.inline_rows.specs.InlineRows.{part_rows, inline_rows}
 use Rattle.definition_inline.specs.Scan as scan
-use Rattle.definition_inline.specs.Scan.{label_part}
+use Rattle.definition_inline.specs.Scan.{label_part, started_kind}
 use Rattle.definition_inline.specs.Spans.{Token, Item, with_spans}
 use Rattle.inline_runs.specs.declared.run.Run.{Run}
 use Rattle.inline_rows.specs.View.{rows_view, row_view, target_texts}
@@ -26,16 +26,21 @@ use Rattle.inline_parser.specs.Shows.{AreOpen, NoneOpen, Inside, ShowsBy, start_
 use Rattle.inline_parser.proofs.Readings.{has_label}
 
 module _ (leads : Target → inline.LinkTexts) (at : ℕ → inline.LinkTexts) where
+  -- the row that starts what is formed
+  enter_view : (s : LabelStart) (target : LinkTarget)
+      → row_view at (enter_row s target) ≡ rows.EnterLinked (started_kind (start_view s)) (target_texts at target) ∷ []
+  enter_view start.Link target = refl
+  enter_view start.Image target = refl
+
   -- the rows of what is formed
   formed_rows : (s : LabelStart) (target : LinkTarget) (t : Target) (told : List InlineRow) (kids : Inlines) → target_texts at target ≡ leads t
       → rows_view at told ≡ inline_rows leads kids
       → rows_view at (enter_row s target ∷ (told ++ Exit ∷ [])) ≡ flat_map (part_rows leads) (label_part (start_view s) t kids ∷ [])
-  formed_rows start.Link target t told kids e is =
-      ap₂ (λ l xs. rows.EnterLink l ∷ xs) e (flat_map-append (row_view at) told (Exit ∷ []) ∙ ap (λ xs. xs ++ rows.Leave ∷ []) is)
-      ∙ sym (append-nil (rows.EnterLink (leads t) ∷ (inline_rows leads kids ++ rows.Leave ∷ [])))
-  formed_rows start.Image target t told kids e is =
-      ap₂ (λ l xs. rows.EnterImage l ∷ xs) e (flat_map-append (row_view at) told (Exit ∷ []) ∙ ap (λ xs. xs ++ rows.Leave ∷ []) is)
-      ∙ sym (append-nil (rows.EnterImage (leads t) ∷ (inline_rows leads kids ++ rows.Leave ∷ [])))
+  formed_rows s target t told kids e is =
+      let enter = rows.EnterLinked (started_kind (start_view s)) in
+      ap₂ (λ xs ys. xs ++ ys) (enter_view s target ∙ ap (λ l. enter l ∷ []) e)
+      (flat_map-append (row_view at) told (Exit ∷ []) ∙ ap (λ xs. xs ++ rows.Leave ∷ []) is)
+      ∙ sym (append-nil (enter (leads t) ∷ (inline_rows leads kids ++ rows.Leave ∷ [])))
 
   -- rows that are told apart after some others, where the last of those is put for another and one more follows
   put_rows : (outer : List InlineRow) (row enter exit : InlineRow) (told all : List InlineRow) → all ≡ (outer ++ row ∷ []) ++ told

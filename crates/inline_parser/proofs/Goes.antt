@@ -3,14 +3,15 @@ use Rattle.std.proofs.Common.{◌≡◌, ℕ, ◌+◌, ◌-◌, ◌<◌, Bool, t
 use Rattle.std.proofs.Common.{Some, get_or}
 use Rattle.std.proofs.lemmas.Bool.{cond-true, true≢false}
 use Rattle.definition_text.specs.InlineCode.{InlineCode, codes_of}
-use Rattle.definition_inline.specs.Inline.{Data, Found}
+use Rattle.definition_inline.specs.Inline.{InlineLeaf, Leaf, Found}
 use Rattle.definition_inline.specs.Attention.{Run, run_at}
 use Rattle.definition_inline.specs.Spans.{Item, Delimiters}
 use Rattle.definition_inline.specs.LabelEnd.{LinkOrCall, formed_size}
-use Rattle.definition_inline.specs.Scan.{InlineContext, leaf_here, LabelStart, label_start_at, start_more, text, Text, OpenLabel, Reading, reading, read_tokens}
+use Rattle.definition_inline.specs.Scan.{InlineContext, leaf_here, leaf_tokens, LabelStart, label_start_at, start_more, text, Text, OpenLabel, Reading, reading, read_tokens}
 use Rattle.definition_inline.specs.Scan.{label_end_step, ended_step, and_then, scan}
 use Rattle.definition_inline.proofs.Scanning.{scan_skipped, scan_step, step_leaf, step_run, step_start, step_last}
 use Rattle.definition_inline.proofs.InlineSizes.{here_fits}
+use Rattle.inline_leaves.specs.Leaves.{leaf_items, text_items}
 use Rattle.inline_parser.specs.Shows.{unformed_in, formed_in}
 use Rattle.inline_text.proofs.Texts.{other_step}
 use Rattle.inline_parser.specs.Scanned.{ended_here}
@@ -23,14 +24,20 @@ no_none : {A : Type 0} → (x : A) → None ≡ Some x → ⊥
 unfolding is_there
 no_none x e = true≢false (sym (ap is_there e))
 
+-- the tokens of leaves
+tokens_are : (parts : List InlineLeaf) → map (λ part. Item (Leaf part)) parts ≡ leaf_items parts
+tokens_are [] = refl
+tokens_are (part ∷ others) = ap (λ tokens. Item (Leaf part) ∷ tokens) (tokens_are others)
+
 module _ (context : InlineContext) where
   pub leaf_goes : (r : Reading) (view : List InlineCode) (found : Found) → leaf_here context view ≡ Some found
-      → scan context 0 r view ≡ scan context 0 (read_tokens (map Item found.parts) r) (drop found.size view)
+      → scan context 0 r view ≡ scan context 0 (read_tokens (leaf_items found.parts) r) (drop found.size view)
   leaf_goes r [] found is = let fits = here_fits context [] found is in absurd (omega (arith, fits.some, fits.within))
   leaf_goes r (c ∷ cs) found is =
       let fits = here_fits context (c ∷ cs) found is in
-      scan_step context r (read_tokens (map Item found.parts) r) c cs (found.size - 1) (step_leaf context r c cs found is)
-      ∙ ap (λ n. scan context 0 (read_tokens (map Item found.parts) r) (drop n (c ∷ cs))) (omega (arith, fits.some))
+      scan_step context r (read_tokens (leaf_tokens found) r) c cs (found.size - 1) (step_leaf context r c cs found is)
+      ∙ ap (λ n. scan context 0 (read_tokens (leaf_tokens found) r) (drop n (c ∷ cs))) (omega (arith, fits.some))
+      ∙ ap (λ tokens. scan context 0 (read_tokens tokens r) (drop found.size (c ∷ cs))) (tokens_are found.parts)
 
   pub run_goes : (r : Reading) (view : List InlineCode) (run : Run) → leaf_here context view ≡ None → run_at context.options view ≡ Some run → 0 < run.left
       → scan context 0 r view ≡ scan context 0 (read_tokens (Delimiters run ∷ []) r) (drop run.left view)
@@ -66,14 +73,14 @@ module _ (context : InlineContext) where
 
   none_read : (now : Text) (labels : List OpenLabel) (c : InlineCode) (cs : List InlineCode) → ended_here context (codes_of (c ∷ cs)) labels now ≡ None
       → and_then (label_end_step context (codes_of (c ∷ cs)) now labels) (λ k next. scan context k next cs)
-      ≡ scan context 0 (read_tokens (Item (Data 93) ∷ []) (unformed_in labels now)) cs
+      ≡ scan context 0 (read_tokens (text_items (93 ∷ [])) (unformed_in labels now)) cs
   none_read now [] c cs is = refl
   none_read now (label ∷ others) c cs is = ap (λ e. and_then (ended_step label others now e) (λ k next. scan context k next cs)) is
 
   pub end_forms_nothing : (r : Reading) (c : InlineCode) (cs : List InlineCode) → leaf_here context (c ∷ cs) ≡ None → run_at context.options (c ∷ cs) ≡ None
       → label_start_at context.options.constructs (codes_of (c ∷ cs)) ≡ None → (context.options.constructs.label_end && eqb c.code 93) ≡ true
       → ended_here context (codes_of (c ∷ cs)) r.open_labels r.now ≡ None
-      → scan context 0 r (c ∷ cs) ≡ scan context 0 (read_tokens (Item (Data 93) ∷ []) (unformed_in r.open_labels r.now)) cs
+      → scan context 0 r (c ∷ cs) ≡ scan context 0 (read_tokens (text_items (93 ∷ [])) (unformed_in r.open_labels r.now)) cs
   end_forms_nothing r c cs none no_run no_start is ended = end_read r c cs none no_run no_start is ∙ none_read r.now r.open_labels c cs ended
 
   some_read : (now : Text) (labels : List OpenLabel) (c : InlineCode) (cs : List InlineCode) (e : LinkOrCall)
@@ -111,7 +118,7 @@ module _ (context : InlineContext) where
   pub nothing_view_goes : (r : Reading) (view : List InlineCode) → 0 < length view → leaf_here context view ≡ None → run_at context.options view ≡ None
       → label_start_at context.options.constructs (codes_of view) ≡ None → context.options.constructs.label_end ≡ true → get_or (codes_of view) 0 0 ≡ 93
       → ended_here context (codes_of view) r.open_labels r.now ≡ None
-      → scan context 0 r view ≡ scan context 0 (read_tokens (Item (Data 93) ∷ []) (unformed_in r.open_labels r.now)) (drop 1 view)
+      → scan context 0 r view ≡ scan context 0 (read_tokens (text_items (93 ∷ [])) (unformed_in r.open_labels r.now)) (drop 1 view)
   nothing_view_goes r [] some none no_run no_start on is ended = absurd (omega (arith, some))
   nothing_view_goes r (c ∷ cs) some none no_run no_start on is ended = end_forms_nothing r c cs none no_run no_start (is_end c.code on is) ended
 
@@ -126,8 +133,8 @@ module _ (context : InlineContext) where
   pub byte_view_goes : (r : Reading) (view : List InlineCode) (b : ℕ) → 0 < length view → leaf_here context view ≡ None → run_at context.options view ≡ None
       → label_start_at context.options.constructs (codes_of view) ≡ None → get_or (codes_of view) 0 0 ≡ b
       → (context.options.constructs.label_end && eqb b 93) ≡ false
-      → scan context 0 r view ≡ scan context 0 (read_tokens (map Item (map Data (b ∷ []))) r) (drop 1 view)
+      → scan context 0 r view ≡ scan context 0 (read_tokens (text_items (b ∷ [])) r) (drop 1 view)
   byte_view_goes r [] b some none no_run no_start is no_end = absurd (omega (arith, some))
   byte_view_goes r (c ∷ cs) b some none no_run no_start is no_end =
       other_step context r c cs none no_run no_start (ap (λ k. context.options.constructs.label_end && eqb k 93) is ∙ no_end)
-      ∙ ap (λ k. scan context 0 (read_tokens (map Item (map Data (k ∷ []))) r) cs) is
+      ∙ ap (λ k. scan context 0 (read_tokens (text_items (k ∷ [])) r) cs) is

@@ -10,14 +10,14 @@ use Rattle.markdown_options.specs.declared.configuration.ParseOptions.{ParseOpti
 use Rattle.definition_text.specs.Columns.{bare, indent, is_blank, is_white}
 use Rattle.definition_text.specs.Content.{content_codes}
 use Rattle.definition_inline.specs.HardBreak.{ends_here, ends_inner_line, line_spaces_at}
-use Rattle.definition_inline.specs.Inline.{Target, LinkTexts, link_texts, Data, leaf}
+use Rattle.definition_inline.specs.Inline.{Target, LinkTexts, link_texts, Leaf, Data, leaf}
 use Rattle.definition_inline.specs.Scan as scan
 use Rattle.definition_inline.specs.Scan.{InlineContext, read_tokens, spans_from, whole_text}
 use Rattle.definition_inline.specs.Spans.{Item, with_spans}
 use Rattle.definition_inline.specs.Targets.{Targets}
 use Rattle.inline_content.specs.declared.content.Content.{Content}
 use Rattle.inline_content.specs.View.{view_at}
-use Rattle.inline_leaves.specs.Leaves.{size_before, IsAfter}
+use Rattle.inline_leaves.specs.Leaves.{size_before, text_items, IsAfter}
 use Rattle.inline_leaves.specs.Scanned.{leaf_in}
 use Rattle.inline_leaves.proofs.Codes.{plain_code}
 use Rattle.inline_leaves.proofs.FirstBytes.{by_white}
@@ -42,16 +42,17 @@ nowhere : ℕ → LinkTexts
 nowhere place = link_texts [] None
 
 -- the rows of text
-told : (leads : Target → LinkTexts) (text : Bor (List ℕ)) → data_rows text.now ≡ inline_rows leads (with_spans (map Item (map Data text.now)))
+told : (leads : Target → LinkTexts) (text : Bor (List ℕ)) → data_rows text.now ≡ inline_rows leads (with_spans (text_items text.now))
 told leads text =
     let at = nowhere in
     let rows = Text text ∷ [] in
-    let items = map (λ b. Data b) text.now in
+    let bytes = map (λ b. Data b) text.now in
+    let items = map (λ part. Leaf part) bytes in
     let tokens = map (λ i. Item i) items ++ [] in
-    let is = Parts rows [] 0 [] [] items [] (container.text_rows leads at text) (container.none leads at (0 + length rows)) in
+    let is = Parts rows [] 0 [] [] items [] (container.leaf_row leads at (Text text) bytes refl) (container.none leads at (0 + length rows)) in
     sym (append-nil (data_rows text.now))
     ∙ (all_told leads at [] rows tokens [] [] 0 rows (omega arith) is (none_told leads at [] rows tokens [] [] rows refl is)).told
-    ∙ ap (λ ts. inline_rows leads (with_spans ts)) (append-nil (map (λ i. Item i) items))
+    ∙ ap (λ ts. inline_rows leads (with_spans ts)) (append-nil (text_items text.now))
 
 -- ---- spaces and tabs at the end
 
@@ -131,11 +132,11 @@ module _ (options : ParseOptions) (names : List ℕ → Option (List ℕ)) (p : 
       (blank : is_blank (drop front.size rest) ≡ true) (bytes : (k : ℕ) → get_or rest k 0 < 256) where
     -- all that is read of a text with spaces and tabs at its end
     read : IsPlace content.text.now rest
-        → scan.scan context 0 start (view_at p content rest) ≡ read_tokens (map Item (map Data (take front.size rest))) start
+        → scan.scan context 0 start (view_at p content rest) ≡ read_tokens (text_items (take front.size rest)) start
     read place =
         let n = front.size in
         let after = is.ending some in
-        let next = read_tokens (map (λ i. Item i) (map (λ b. Data b) (take n rest))) start in
+        let next = read_tokens (text_items (take n rest)) start in
         at_white (drop n rest) next (scan.scan context 0 start (view_at p content rest)) (place_after content.text.now rest (drop n rest) place after) blank
         (λ k. subst (λ b. b < 256) (sym (get_or-drop n rest k 0)) (bytes (n + k)))
         (follow.text_follows options names p ds content rest n start (scan.scan context 0 start (view_at p content rest)) place is.within is.text is.plain
@@ -146,5 +147,5 @@ module _ (options : ParseOptions) (names : List ℕ → Option (List ℕ)) (p : 
         → data_rows text.now ≡ inline_rows leads (spans_from context (view_at p content rest))
     front_rows leads text cut place =
         told leads text
-        ∙ ap (λ bs. inline_rows leads (with_spans (map (λ i. Item i) (map (λ b. Data b) bs)))) cut
+        ∙ ap (λ bs. inline_rows leads (with_spans (text_items bs))) cut
         ∙ ap (λ r. inline_rows leads (with_spans (whole_text r).tokens)) (sym (read place))

@@ -2,12 +2,13 @@
 use Rattle.std.proofs.Common.{◌≡◌, ℕ, ◌+◌, ◌-◌, List, [], ◌∷◌, ◌++◌, map, refl, sym, ap, ◌∙◌, length, arith, subst, append_assoc}
 use Rattle.std.specs.List.{flat_map, fold}
 use Rattle.std.proofs.lemmas.List.{append-nil, length-append}
-use Rattle.definition_inline.specs.Inline.{Target, Inline, Data}
+use Rattle.definition_inline.specs.Inline.{Target, Inline}
 use Rattle.definition_inline.specs.Inline as inline
 use Rattle.inline_rows.specs.InlineRows.{part_rows}
 use Rattle.definition_inline.specs.Scan as scan
 use Rattle.definition_inline.specs.Scan.{LinkStart, ImageStart, start_bytes, start_tokens, with_plain_start}
 use Rattle.definition_inline.specs.Spans.{Token, Item, Delimiters}
+use Rattle.inline_leaves.specs.Leaves.{text_items}
 use Rattle.inline_runs.specs.View.{run_view}
 use Rattle.inline_runs.specs.declared.run.Run.{Run}
 use Rattle.inline_rows.specs.View.{rows_view, row_view, data_rows}
@@ -17,13 +18,8 @@ use Rattle.inline_rows.proofs.Container as container
 use Rattle.inline_parser.specs.declared.label.OpenLabel.{OpenLabel}
 use Rattle.inline_parser.specs.Shows.{IsOpen, AreOpen, NoneOpen, Inside, ShowsBy}
 
--- the rows of a label start that forms nothing
-start_rows : (leads : Target → inline.LinkTexts) (start : scan.LabelStart) → data_rows (start_bytes start) ++ []
-    ≡ flat_map (part_rows leads) (map Data (start_bytes start))
-start_rows leads LinkStart = refl
-start_rows leads ImageStart = refl
-
-start_items : (start : scan.LabelStart) → map Item (map Data (start_bytes start)) ≡ start_tokens start
+-- a label start that forms nothing
+start_items : (start : scan.LabelStart) → text_items (start_bytes start) ≡ start_tokens start
 start_items LinkStart = refl
 start_items ImageStart = refl
 
@@ -103,13 +99,14 @@ module _ (leads : Target → inline.LinkTexts) (at : ℕ → inline.LinkTexts) w
       (label.outer.tokens ++ (start_tokens label.start ++ ts))
   unform_outer _ now_rows _ now_runs _ now_slots _ _ _ _ ts (Inside rows more runs more_runs slots more_slots opens labels o label row outer inside is view)
       now =
-      let begun = container.items leads at more (row ∷ []) (length rows) more_runs more_slots label.outer.tokens (map Data (start_bytes label.start)) inside
-      (ap (λ v. v ++ []) view ∙ start_rows leads label.start) in
+      let bytes = map inline.Data (start_bytes label.start) in
+      let begun = container.items leads at more (row ∷ []) (length rows) more_runs more_slots label.outer.tokens (map inline.Leaf bytes) inside
+      (container.leaf_row leads at row bytes view) in
       let place : length ((rows ++ more) ++ row ∷ []) ≡ length rows + length (more ++ row ∷ []) =
       ap length (append_assoc rows more (row ∷ [])) ∙ length-append rows (more ++ row ∷ []) in
       let all =
       container.join leads at (more ++ row ∷ []) now_rows (length rows) more_runs now_runs more_slots now_slots
-      (label.outer.tokens ++ map Item (map Data (start_bytes label.start))) ts begun
+      (label.outer.tokens ++ text_items (start_bytes label.start)) ts begun
       (subst (λ n. IsContainer leads at now_rows n now_runs now_slots ts) place now) in
       record {
         outer_rows = rows;
@@ -124,7 +121,7 @@ module _ (leads : Target → inline.LinkTexts) (at : ℕ → inline.LinkTexts) w
         outer = outer;
         now =
             subst (IsContainer leads at ((more ++ row ∷ []) ++ now_rows) (length rows) (more_runs ++ now_runs) (more_slots ++ now_slots))
-            (append_assoc label.outer.tokens (map Item (map Data (start_bytes label.start))) ts
+            (append_assoc label.outer.tokens (text_items (start_bytes label.start)) ts
             ∙ ap (λ xs. label.outer.tokens ++ (xs ++ ts)) (start_items label.start)) all;
       }
 

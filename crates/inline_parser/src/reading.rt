@@ -4,15 +4,15 @@
 //! first. Where a label forms something, the row of its start becomes the start of a link or an
 //! image, and the runs after it are told apart. The runs that are left are told apart at the end.
 ghost use Rattle.std.specs.Prelude.{◌≡◌, OnOk, IfOk};
-ghost use Rattle.std.specs.Prelude.{ℕ, false, List, ◌∷◌, ◌++◌, [], length, map, replicate};
+ghost use Rattle.std.specs.Prelude.{ℕ, false, List, ◌∷◌, ◌++◌, [], length, replicate};
 ghost use Rattle.definition_text.specs.Content.{content_codes};
-ghost use Rattle.definition_inline.specs.Inline.{Target, LinkTexts, Data};
+ghost use Rattle.definition_inline.specs.Inline.{Target, LinkTexts};
 ghost use Rattle.definition_inline.specs.LabelEnd.{LinkTail, Leads, Calls};
 ghost use Rattle.inline_rows.specs.InlineRows.{inline_rows};
 ghost use Rattle.definition_inline.specs.Scan as scan;
 ghost use Rattle.definition_inline.specs.Scan.{read_tokens, whole_text};
-ghost use Rattle.definition_inline.specs.Spans.{Item, Delimiters, Token, with_spans};
-ghost use Rattle.inline_leaves.specs.Leaves.{parts_of};
+ghost use Rattle.definition_inline.specs.Spans.{Delimiters, Token, with_spans};
+ghost use Rattle.inline_leaves.specs.Leaves.{leaf_items, parts_of, text_items};
 ghost use Rattle.inline_runs.specs.View.{run_view};
 ghost use Rattle.inline_rows.specs.View.{rows_view, target_texts};
 ghost use Rattle.inline_rows.specs.declared.row.InlineRow.{InlineRow as SeenRow};
@@ -113,7 +113,7 @@ impl<'a, A: Allocator> Reading<'a, A> {
         requires sound { IsSound self.old }
         ensures sound { OnOk result (IsSound self.new) }
         ensures from { KeepsStarts self.old result self.new }
-        ensures read { ShowsThen self.old result self.new (read_tokens (map Item (map Data text.now))) }
+        ensures read { ShowsThen self.old result self.new (read_tokens (text_items text.now)) }
     {
         self.rows.push(InlineRow::Text(text))?;
         Ok(())
@@ -124,7 +124,7 @@ impl<'a, A: Allocator> Reading<'a, A> {
         requires sound { IsSound self.old }
         ensures sound { OnOk result (IsSound self.new) }
         ensures from { KeepsStarts self.old result self.new }
-        ensures read { ShowsThen self.old result self.new (read_tokens (map Item (map Data verbatim.entry.text.now))) }
+        ensures read { ShowsThen self.old result self.new (read_tokens (text_items verbatim.entry.text.now)) }
     {
         self.rows.push(InlineRow::Verbatim(verbatim))?;
         Ok(())
@@ -135,7 +135,7 @@ impl<'a, A: Allocator> Reading<'a, A> {
         requires sound { IsSound self.old }
         ensures sound { OnOk result (IsSound self.new) }
         ensures from { KeepsStarts self.old result self.new }
-        ensures read { ShowsThen self.old result self.new (read_tokens (map Item (parts_of part.entry))) }
+        ensures read { ShowsThen self.old result self.new (read_tokens (leaf_items (parts_of part.entry))) }
     {
         self.rows.push(InlineRow::Leaf(part))?;
         Ok(())

@@ -2,7 +2,7 @@
 //!
 //!     content ::= white* (text | leaf | literal | run | start | ']')*
 ghost use Rattle.std.specs.Prelude.{◌≡◌, ◌<◌, ◌≤◌, ◌==◌, ◌&&◌, ℕ, Bool, List, [], ◌∷◌, Option, None, Some, true};
-ghost use Rattle.std.specs.Prelude.{length, map, not, IfOk, IfSome, OnOk, take, drop, slice_index};
+ghost use Rattle.std.specs.Prelude.{length, not, IfOk, IfSome, OnOk, take, drop, slice_index};
 ghost use Rattle.std.specs.List.{prefix_len};
 ghost use Rattle.std.specs.Option.{is_some, option_map};
 ghost use Rattle.std.specs.Str.{IsCharBoundary};
@@ -11,18 +11,18 @@ ghost use Rattle.definition_text.specs.Columns.{is_blank, is_white};
 ghost use Rattle.definition_text.specs.Bytes.{begins_with};
 ghost use Rattle.definition_text.specs.Encode.{encode};
 ghost use Rattle.definition_text.specs.Content.{content_codes};
-ghost use Rattle.definition_inline.specs.Inline.{Target, LinkTexts, Data};
+ghost use Rattle.definition_inline.specs.Inline.{Target, LinkTexts};
 ghost use Rattle.definition_inline.specs.Targets.{leads_to};
 ghost use Rattle.inline_rows.specs.InlineRows.{inline_rows};
 ghost use Rattle.definition_inline.specs.Scan as scan;
 ghost use Rattle.definition_inline.specs.Scan.{inlines_from, spans_from, without_indent, formed_at, label_start_at, read_tokens};
 ghost use Rattle.definition_inline.specs.Scan.{start_bytes, starts_image, starts_link};
 ghost use Rattle.definition_inline.specs.GfmLabelStartFootnote.{starts_call, starts_marked_call};
-ghost use Rattle.definition_inline.specs.Spans.{Item, Delimiters};
+ghost use Rattle.definition_inline.specs.Spans.{Delimiters};
 ghost use Rattle.definition_inline.specs.Targets.{Targets, labels_of, linked_at, linked_by};
 ghost use Rattle.inline_runs.specs.View.{run_view};
 ghost use Rattle.inline_content.specs.View.{content_view, view_at};
-ghost use Rattle.inline_leaves.specs.Leaves.{parts_of, size_before, IsAfter};
+ghost use Rattle.inline_leaves.specs.Leaves.{leaf_items, parts_of, size_before, text_items, IsAfter};
 ghost use Rattle.inline_content.specs.declared.content.Content.{Content as SeenContent};
 ghost use Rattle.inline_rows.specs.View.{data_rows, row_view, rows_view};
 ghost use Rattle.inline_label_ends.specs.Ends.{IsAfterFormed, IsFormed};
@@ -309,7 +309,7 @@ impl<'a, A: Allocator + Clone> Scanner<'a, A> {
         requires verbatim { TellsVerbatim self.old.rest.now front }
         ensures placed { StaysPlaced self.old result self.new }
         ensures rest { OnOk result (self.new.rest.now ≡ drop front.size self.old.rest.now) }
-        ensures read { ShowsThen self.old.reading result self.new.reading (read_tokens (map Item (map Data (take front.size self.old.rest.now)))) }
+        ensures read { ShowsThen self.old.reading result self.new.reading (read_tokens (text_items (take front.size self.old.rest.now))) }
     {
         if front.is_verbatim {
             self.verbatim(front.size)
@@ -326,7 +326,7 @@ impl<'a, A: Allocator + Clone> Scanner<'a, A> {
         requires verbatim { AreVerbatim self.old.rest.now size }
         ensures placed { StaysPlaced self.old result self.new }
         ensures rest { OnOk result (self.new.rest.now ≡ drop size self.old.rest.now) }
-        ensures read { ShowsThen self.old.reading result self.new.reading (read_tokens (map Item (map Data (take size self.old.rest.now)))) }
+        ensures read { ShowsThen self.old.reading result self.new.reading (read_tokens (text_items (take size self.old.rest.now))) }
     {
         let text = text_before(self.rest, size);
         self.reading.verbatim(VerbatimText { text })?;
@@ -341,7 +341,7 @@ impl<'a, A: Allocator + Clone> Scanner<'a, A> {
         requires next { IsAfter self.old.rest.now (drop size self.old.rest.now) }
         ensures placed { StaysPlaced self.old result self.new }
         ensures rest { OnOk result (self.new.rest.now ≡ drop size self.old.rest.now) }
-        ensures read { ShowsThen self.old.reading result self.new.reading (read_tokens (map Item (map Data (take size self.old.rest.now)))) }
+        ensures read { ShowsThen self.old.reading result self.new.reading (read_tokens (text_items (take size self.old.rest.now))) }
     {
         self.reading.text(text_before(self.rest, size))?;
         self.rest = rest_from(self.rest, size);
@@ -354,7 +354,7 @@ impl<'a, A: Allocator + Clone> Scanner<'a, A> {
         requires next { IsAfter self.old.rest.now leaf.after.now }
         ensures placed { StaysPlaced self.old result self.new }
         ensures rest { OnOk result (self.new.rest.now ≡ leaf.entry.after.now) }
-        ensures read { ShowsThen self.old.reading result self.new.reading (read_tokens (map Item (parts_of leaf.entry.part))) }
+        ensures read { ShowsThen self.old.reading result self.new.reading (read_tokens (leaf_items (parts_of leaf.entry.part))) }
     {
         self.reading.leaf(leaf.part)?;
         self.rest = leaf.after;

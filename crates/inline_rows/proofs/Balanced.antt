@@ -1,26 +1,25 @@
 -- Where no end of a span comes too early and none is missing, rows stand for the rows of the inline structure.
-use Rattle.std.proofs.Common.{◌≡◌, ℕ, suc, ◌+◌, ◌-◌, ◌<◌, List, [], ◌∷◌, ◌++◌, refl, sym, ap, ◌∙◌, length, arith, subst, append_assoc}
+use Rattle.std.proofs.Common.{◌≡◌, ℕ, suc, ◌+◌, ◌-◌, ◌<◌, List, [], ◌∷◌, ◌++◌, sym, ap, ◌∙◌, length, arith, subst, append_assoc}
 use Rattle.std.specs.List.{fold}
 use Rattle.std.proofs.lemmas.List.{append-nil, nil_from_length}
-use Rattle.definition_inline.specs.Inline.{Target, LinkTexts, Inline, Inlines, Nil, Cons, followed_by}
+use Rattle.definition_inline.specs.Inline.{Target, LinkTexts, Inline, Span, Inlines, Nil, Cons, followed_by}
 use Rattle.inline_rows.specs.InlineRows as rows
 use Rattle.inline_rows.specs.InlineRows.{part_rows, inline_rows}
-use Rattle.definition_inline.specs.Spans.{Span, IsEmphasis, IsStrong, IsStrikethrough, SpanRow, Holds, Opens, Closes, OpenSpan, nest, span_part, nest_row}
-use Rattle.definition_inline.specs.Spans.{nest_spans}
+use Rattle.definition_inline.specs.Spans.{SpanRow, Holds, Opens, Closes, OpenSpan, nest, nest_row, nest_spans}
 use Rattle.inline_rows.specs.Told.{told_rows}
 
 -- from so many open spans rows lead to so many, and none of them ends a span where none is open
 abbrev pub Nests : ℕ → List SpanRow → ℕ → Type 0
 Nests before [] after = before ≡ after
 Nests before (Holds i ∷ rs) after = Nests before rs after
-Nests before (Opens span ∷ rs) after = Nests (before + 1) rs after
+Nests before (Opens kind ∷ rs) after = Nests (before + 1) rs after
 Nests before (Closes ∷ rs) after = (0 < before) × Nests (before - 1) rs after
 
 module _ (leads : Target → LinkTexts) where
   -- the rows of the spans that are open
   abbrev around_rows : List OpenSpan → List rows.InlineRow
   around_rows [] = []
-  around_rows (innermost ∷ others) = around_rows others ++ (inline_rows leads innermost.before ++ rows.EnterSpan innermost.span ∷ [])
+  around_rows (innermost ∷ others) = around_rows others ++ (inline_rows leads innermost.before ++ rows.EnterSpan innermost.kind ∷ [])
 
   abbrev nest_rows : Inlines → List OpenSpan → List rows.InlineRow
   nest_rows now around = around_rows around ++ inline_rows leads now
@@ -30,20 +29,15 @@ module _ (leads : Target → LinkTexts) where
   one_more (Cons j js) i = ap (λ xs. part_rows leads j ++ xs) (one_more js i)
       ∙ sym (append_assoc (part_rows leads j) (inline_rows leads js) (part_rows leads i))
 
-  span_is : (span : Span) (kids : Inlines) → part_rows leads (span_part span kids) ≡ rows.EnterSpan span ∷ (inline_rows leads kids ++ rows.Leave ∷ [])
-  span_is IsEmphasis kids = refl
-  span_is IsStrong kids = refl
-  span_is IsStrikethrough kids = refl
-
   -- the innermost span ends
   left : (now : Inlines) (o : OpenSpan) (others : List OpenSpan)
-      → nest_rows (followed_by o.before (span_part o.span now)) others ≡ nest_rows now (o ∷ others) ++ rows.Leave ∷ []
+      → nest_rows (followed_by o.before (Span o.kind now)) others ≡ nest_rows now (o ∷ others) ++ rows.Leave ∷ []
   left now o others =
       let a = around_rows others in
       let b = inline_rows leads o.before in
-      let e : List rows.InlineRow = rows.EnterSpan o.span ∷ [] in
+      let e : List rows.InlineRow = rows.EnterSpan o.kind ∷ [] in
       let n = inline_rows leads now in
-      ap (λ xs. a ++ xs) (one_more o.before (span_part o.span now) ∙ ap (λ xs. b ++ xs) (span_is o.span now))
+      ap (λ xs. a ++ xs) (one_more o.before (Span o.kind now))
       ∙ sym (append_assoc ((a ++ (b ++ e))) n (rows.Leave ∷ []) ∙ append_assoc a (b ++ e) (n ++ rows.Leave ∷ [])
       ∙ ap (λ xs. a ++ xs) (append_assoc b e (n ++ rows.Leave ∷ [])))
 
@@ -64,22 +58,22 @@ module _ (leads : Target → LinkTexts) where
             ∙ sym (append_assoc (around_rows around) (inline_rows leads now) (part_rows leads i)))
             ∙ append_assoc (nest_rows now around) (part_rows leads i) (told_rows leads rs);
       }
-  read (Opens span ∷ rs) now around after nests =
-      let open_span : OpenSpan = record { span = span; before = now } in
+  read (Opens kind ∷ rs) now around after nests =
+      let open_span : OpenSpan = record { kind = kind; before = now } in
       let deeper : length around + 1 ≡ suc (length around) = omega arith in
       let more = read rs Nil (open_span ∷ around) after (subst (λ n. Nests n rs after) deeper nests) in
-      let here : nest_rows Nil (open_span ∷ around) ≡ nest_rows now around ++ rows.EnterSpan span ∷ [] =
-      append-nil (around_rows (open_span ∷ around)) ∙ sym (append_assoc (around_rows around) (inline_rows leads now) (rows.EnterSpan span ∷ [])) in
+      let here : nest_rows Nil (open_span ∷ around) ≡ nest_rows now around ++ rows.EnterSpan kind ∷ [] =
+      append-nil (around_rows (open_span ∷ around)) ∙ sym (append_assoc (around_rows around) (inline_rows leads now) (rows.EnterSpan kind ∷ [])) in
       record {
         count = more.count;
         same =
             more.same ∙ ap (λ xs. xs ++ told_rows leads rs) here
-            ∙ append_assoc (nest_rows now around) (rows.EnterSpan span ∷ []) (told_rows leads rs);
+            ∙ append_assoc (nest_rows now around) (rows.EnterSpan kind ∷ []) (told_rows leads rs);
       }
   read (Closes ∷ rs) now [] after nests = absurd (omega (arith, nests.0))
   read (Closes ∷ rs) now (o ∷ others) after nests =
       let fewer : suc (length others) - 1 ≡ length others = omega arith in
-      let more = read rs (followed_by o.before (span_part o.span now)) others after (subst (λ n. Nests n rs after) fewer nests.1) in
+      let more = read rs (followed_by o.before (Span o.kind now)) others after (subst (λ n. Nests n rs after) fewer nests.1) in
       record {
         count = more.count;
         same =

@@ -3,55 +3,28 @@ use Rattle.std.proofs.Common.{◌≡◌, ℕ, zero, suc, ◌+◌, ◌<◌, ◌�
 use Rattle.std.specs.Prelude.{slice_index, slice_index_or}
 use Rattle.std.specs.List.{flat_map}
 use Rattle.std.proofs.lemmas.List.{append-nil, length-append, length-map, length-replicate}
-use Rattle.definition_inline.specs.Inline.{Target, Inline, Data}
+use Rattle.definition_inline.specs.Inline.{Target, InlineLeaf, Inline}
 use Rattle.definition_inline.specs.Inline as inline
 use Rattle.inline_rows.specs.InlineRows as rows
 use Rattle.inline_rows.specs.InlineRows.{part_rows}
 use Rattle.definition_inline.specs.Spans.{Token, Item, Delimiters, runs_of}
 use Rattle.inline_runs.specs.View.{run_view, runs_view}
 use Rattle.inline_runs.specs.declared.run.Run.{Run}
-use Rattle.inline_leaves.specs.Leaves.{parts_of}
-use Rattle.inline_leaves.specs.declared.leaf.LeafPart.{LeafPart}
-use Rattle.inline_leaves.specs.declared.leaf.LeafPart.TheVariants as leaf
-use Rattle.inline_rows.specs.View.{rows_view, data_rows}
+use Rattle.inline_rows.specs.View.{row_view, rows_view}
 use Rattle.inline_rows.specs.declared.row.InlineRow.{InlineRow}
-use Rattle.inline_rows.specs.declared.row.InlineRow.TheVariants.{Text, Leaf}
 use Rattle.inline_rows.specs.Container.{text_of, AreBytes, IsContainer, NoRows, Parts, Bytes, AreWithin}
 
 -- ---- one row
 
-data_are : (leads : Target → inline.LinkTexts) (bytes : List ℕ) → data_rows bytes ≡ flat_map (part_rows leads) (map Data bytes)
-data_are leads [] = refl
-data_are leads (b ∷ bs) = ap (λ xs. rows.Part (Data b) ∷ xs) (data_are leads bs)
+-- the rows of leaves
+leaves_are : (leads : Target → inline.LinkTexts) (parts : List InlineLeaf) → map rows.Part parts ≡ flat_map (part_rows leads) (map inline.Leaf parts)
+leaves_are leads [] = refl
+leaves_are leads (part ∷ others) = ap (λ xs. rows.Part part ∷ xs) (leaves_are leads others)
 
-bytes_are : (leads : Target → inline.LinkTexts) (bytes : List ℕ) → map rows.Part (map Data bytes) ≡ flat_map (part_rows leads) (map Data bytes)
-bytes_are leads [] = refl
-bytes_are leads (b ∷ bs) = ap (λ xs. rows.Part (Data b) ∷ xs) (bytes_are leads bs)
-
-pub text_rows : (leads : Target → inline.LinkTexts) (at : ℕ → inline.LinkTexts) (text : _)
-    → rows_view at (Text text ∷ []) ≡ flat_map (part_rows leads) (map Data text.now)
-text_rows leads at text = append-nil (data_rows text.now) ∙ data_are leads text.now
-
-escapes_are : (leads : Target → inline.LinkTexts) (bytes : List ℕ)
-    → map rows.Part (map inline.Escape bytes) ≡ flat_map (part_rows leads) (map inline.Escape bytes)
-escapes_are leads [] = refl
-escapes_are leads (b ∷ bs) = ap (λ xs. rows.Part (inline.Escape b) ∷ xs) (escapes_are leads bs)
-
-pub leaf_rows : (leads : Target → inline.LinkTexts) (at : ℕ → inline.LinkTexts) (part : LeafPart)
-    → rows_view at (Leaf part ∷ []) ≡ flat_map (part_rows leads) (parts_of part)
-leaf_rows leads at (leaf.Escape text) = append-nil (map rows.Part (map inline.Escape text.now)) ∙ escapes_are leads text.now
-leaf_rows leads at (leaf.Character text) = refl
-leaf_rows leads at (leaf.Number radix digits) = refl
-leaf_rows leads at (leaf.Code text) = refl
-leaf_rows leads at (leaf.Math text) = refl
-leaf_rows leads at (leaf.Unclosed text) = append-nil (map rows.Part (map Data text.now)) ∙ bytes_are leads text.now
-leaf_rows leads at (leaf.Autolink email text) = refl
-leaf_rows leads at (leaf.Literal kind text) = refl
-leaf_rows leads at (leaf.Html text) = refl
-leaf_rows leads at leaf.EscapedBreak = refl
-leaf_rows leads at leaf.TrailingBreak = refl
-leaf_rows leads at (leaf.LineEnd ending) = refl
-leaf_rows leads at leaf.Spaces = refl
+-- a row that stands for leaves alone
+pub leaf_row : (leads : Target → inline.LinkTexts) (at : ℕ → inline.LinkTexts) (row : InlineRow) (parts : List InlineLeaf)
+    → row_view at row ≡ map rows.Part parts → rows_view at (row ∷ []) ≡ flat_map (part_rows leads) (map inline.Leaf parts)
+leaf_row leads at row parts is = append-nil (row_view at row) ∙ is ∙ leaves_are leads parts
 
 -- ---- more rows
 

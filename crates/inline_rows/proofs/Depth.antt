@@ -7,7 +7,7 @@ use Rattle.std.proofs.lemmas.Grind.{common_steps}
 use Rattle.std.proofs.lemmas.Bool.{cases_Bool, cond-true, cond-false}
 use Rattle.std.proofs.lemmas.List.{length-reverse}
 use Rattle.definition_inline.specs.Attention.{Run}
-use Rattle.definition_inline.specs.Inline.{Target, LinkTexts, Inline, Data}
+use Rattle.definition_inline.specs.Inline.{Target, LinkTexts, Inline, Leaf, Data}
 use Rattle.inline_rows.specs.InlineRows.{inline_rows}
 use Rattle.definition_inline.specs.Pairing.{Pair, pairs}
 use Rattle.definition_inline.specs.Spans.{Token, Item, Delimiters, SpanRow, Holds, Opens, Closes, span_of, bytes_taken, run_rows, rows_from, runs_of}
@@ -108,11 +108,11 @@ run_nests n ps place run ordered =
     let last : depth + length (reverse started) ≡ count (is_open (place + 1)) ps =
     omega (arith, length-reverse started, count_is (λ (p : Pair). p.opener == place) ps, opens_all n place ps ordered) in
     let ends = map (λ (p : Pair). Closes) closed in
-    let texts = replicate left (Holds (Data run.marker)) in
+    let texts = replicate left (Holds (Leaf (Data run.marker))) in
     let starts = map (λ (p : Pair). Opens (span_of run.marker p)) (reverse started) in
     let all : Nests (length closed + depth) (ends ++ texts ++ starts) (depth + length (reverse started)) =
     after_both (length closed + depth) depth (depth + length (reverse started)) (ends ++ texts) starts
-    (after_both (length closed + depth) depth depth ends texts (closing closed depth) (holding left depth (Data run.marker)))
+    (after_both (length closed + depth) depth depth ends texts (closing closed depth) (holding left depth (Leaf (Data run.marker))))
     (opening run.marker (reverse started) depth) in
     subst (λ m. Nests m (run_rows ps place run) (count (is_open (place + 1)) ps)) first
     (subst (Nests (length closed + depth) (run_rows ps place run)) last all)

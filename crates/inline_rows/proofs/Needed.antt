@@ -6,7 +6,7 @@ use Rattle.std.specs.List.{filter}
 use Rattle.std.proofs.lemmas.List.{length-append, length-map, length-replicate, length-reverse, reverse-append, get_or-map}
 use Rattle.std.proofs.lemmas.List.Sums.{sum_by_push, sum_by-cons}
 use Rattle.definition_inline.specs.Attention.{Run as RunOf}
-use Rattle.definition_inline.specs.Inline.{Data}
+use Rattle.definition_inline.specs.Inline.{Leaf, Data}
 use Rattle.definition_inline.specs.Pairing.{Pair as PairOf, pairs}
 use Rattle.definition_inline.specs.Spans.{SpanRow, Holds, Opens, Closes, span_of, bytes_taken, run_rows}
 use Rattle.inline_runs.specs.View.{run_view, runs_view, pairs_view, pair_view, bytes_by}
@@ -50,17 +50,17 @@ needed_fits runs place d spans lt is_closed is_opened rows =
     let left = run.left - (bytes_taken closed + bytes_taken started) in
     let fit : bytes_taken closed + bytes_taken started ≤ run.left = bytes_fit runs place d lt in
     let ends : List SpanRow = map (λ (p : Pair). Closes) spans.closed.now in
-    let texts : List SpanRow = replicate spans.text (Holds (Data run.marker)) in
+    let texts : List SpanRow = replicate spans.text (Holds (Leaf (Data run.marker))) in
     let starts : List SpanRow = map (λ (p : Pair). Opens (span_of run.marker (pair_view p))) spans.opened.now in
     let ends2 : List SpanRow = map (λ (p : PairOf). Closes) closed in
-    let texts2 : List SpanRow = replicate left (Holds (Data run.marker)) in
+    let texts2 : List SpanRow = replicate left (Holds (Leaf (Data run.marker))) in
     let starts2 : List SpanRow = map (λ (p : PairOf). Opens (span_of run.marker p)) (reverse started) in
     let a : length (ends ++ texts ++ starts) ≡ length spans.closed.now + spans.text + length spans.opened.now =
     omega (
       arith,
       count_three ends texts starts,
       length-map spans.closed.now (λ (p : Pair). Closes),
-      length-replicate spans.text (Holds (Data run.marker)),
+      length-replicate spans.text (Holds (Leaf (Data run.marker))),
       length-map spans.opened.now (λ (p : Pair). Opens (span_of run.marker (pair_view p))),
     ) in
     let b : length (ends2 ++ texts2 ++ starts2) ≡ length closed + left + length started =
@@ -68,7 +68,7 @@ needed_fits runs place d spans lt is_closed is_opened rows =
       arith,
       count_three ends2 texts2 starts2,
       length-map closed (λ (p : PairOf). Closes),
-      length-replicate left (Holds (Data run.marker)),
+      length-replicate left (Holds (Leaf (Data run.marker))),
       length-map (reverse started) (λ (p : PairOf). Opens (span_of run.marker p)),
       length-reverse started,
     ) in

@@ -6,15 +6,14 @@ use Rattle.std.proofs.lemmas.List.{append-nil, length-map, length-append, length
 use Rattle.std.proofs.lemmas.List.{take_at, drop_at, drop_all, take-append-drop, take-map, drop-map, take-replicate, drop-replicate}
 use Rattle.std.proofs.lemmas.List.Concat.{flat_map-append}
 use borrow.Rule.Slice.PartMut.{put_mid}
-use Rattle.definition_inline.specs.Inline.{Target, LinkTexts, Data}
+use Rattle.definition_inline.specs.Inline as inline
+use Rattle.definition_inline.specs.Inline.{Target, LinkTexts}
 use Rattle.inline_rows.specs.InlineRows as rows
-use Rattle.definition_inline.specs.GfmStrikethrough.{is_tilde}
-use Rattle.definition_inline.specs.Spans.{Holds, Opens, Closes, IsEmphasis, IsStrong, IsStrikethrough, span_of}
+use Rattle.definition_inline.specs.Spans.{Holds, Opens, Closes, span_of}
 use Rattle.definition_inline.proofs.DefinitionParts.{cons_nil}
 use Rattle.inline_runs.specs.View.{bytes_by, pair_view, span_by, span_view}
 use Rattle.inline_runs.specs.Paired.{rows_of}
 use Rattle.inline_runs.specs.declared.pair.Pair.{Pair}
-use Rattle.inline_runs.specs.declared.pair.Span.TheVariants.{Emphasis, Strong, Strikethrough}
 use Rattle.inline_runs.specs.declared.spans.RunSpans.{RunSpans}
 use Rattle.inline_rows.specs.View.{row_view, rows_view, data_rows}
 use Rattle.inline_rows.specs.declared.row.InlineRow.{InlineRow}
@@ -94,14 +93,14 @@ parts_are old first between last closed text opened is_closed is_opened fits is_
     ∙ over_rest (front ++ between) (drop n rest) last (length old - opened) (length ((front ++ between) ++ drop n rest) - (length old - opened)) place refl
 
 -- what a pair stands for, as the definition has it
+either_view : {A B : Type 0} (view : A → B) (x y z : A) (tilde double : Bool)
+    → view (cond tilde x (cond double y z)) ≡ cond tilde (view x) (cond (bytes_by double == 2) (view y) (view z))
+either_view view x y z true double = refl
+either_view view x y z false true = refl
+either_view view x y z false false = refl
+
 span_is : (marker : ℕ) (p : Pair) → span_view (span_by marker p.double) ≡ span_of marker (pair_view p)
-span_is marker p = by_case (is_tilde marker) p.double
-  where
-    by_case : (tilde double : Bool)
-        → span_view (cond tilde Strikethrough (cond double Strong Emphasis)) ≡ cond tilde IsStrikethrough (cond (bytes_by double == 2) IsStrong IsEmphasis)
-    by_case true double = refl
-    by_case false true = refl
-    by_case false false = refl
+span_is marker p = either_view span_view _ _ _ _ p.double
 
 module _ (leads : Target → LinkTexts) (at : ℕ → LinkTexts) where
   ends_view : (closed : List Pair) → rows_view at (replicate (length closed) Exit) ≡ told_rows leads (map (λ (p : Pair). Closes) closed)
@@ -117,7 +116,7 @@ module _ (leads : Target → LinkTexts) (at : ℕ → LinkTexts) where
   blank_view blank zero none = refl
   blank_view blank (suc n) none = ap (λ xs. xs ++ rows_view at (replicate n blank)) none ∙ blank_view blank n none
 
-  byte_view : (row : InlineRow) (marker : ℕ) → text_of row ≡ marker ∷ [] → row_view at row ≡ rows.Part (Data marker) ∷ []
+  byte_view : (row : InlineRow) (marker : ℕ) → text_of row ≡ marker ∷ [] → row_view at row ≡ rows.Part (inline.Data marker) ∷ []
   byte_view (Text text) marker is = ap data_rows is
   byte_view (Verbatim verbatim) marker is = absurd (cons_nil marker [] (sym is))
   byte_view (Leaf part) marker is = absurd (cons_nil marker [] (sym is))
@@ -128,7 +127,7 @@ module _ (leads : Target → LinkTexts) (at : ℕ → LinkTexts) where
   byte_view Exit marker is = absurd (cons_nil marker [] (sym is))
 
   bytes_view : (kept : List InlineRow) (marker n : ℕ) → map text_of kept ≡ replicate n (marker ∷ [])
-      → rows_view at kept ≡ told_rows leads (replicate n (Holds (Data marker)))
+      → rows_view at kept ≡ told_rows leads (replicate n (Holds (inline.Leaf (inline.Data marker))))
   bytes_view [] marker zero is = refl
   bytes_view [] marker (suc n) is = let size = ap length is in absurd (omega arith)
   bytes_view (row ∷ kept) marker zero is = let size = ap length is in absurd (omega arith)
@@ -148,7 +147,7 @@ module _ (leads : Target → LinkTexts) (at : ℕ → LinkTexts) where
       let closed = length spans.closed.now in
       let kept = take spans.text (drop closed old) in
       let ends = map (λ (p : Pair). Closes) spans.closed.now in
-      let texts = replicate spans.text (Holds (Data marker)) in
+      let texts = replicate spans.text (Holds (inline.Leaf (inline.Data marker))) in
       let starts = map (λ (p : Pair). Opens (span_of marker (pair_view p))) spans.opened.now in
       let are_bytes : map text_of kept ≡ replicate spans.text (marker ∷ []) =
       sym (take-map text_of spans.text (drop closed old)) ∙ ap (take spans.text)

@@ -2,7 +2,6 @@
 use Rattle.std.specs.Prelude.{ℕ, List, [], ◌∷◌, map}
 use Rattle.std.specs.List.{flat_map}
 use Rattle.definition_text.specs.Content.{content_codes}
-use Rattle.definition_inline.specs.Inline.{Data}
 use Rattle.definition_inline.specs.Inline as inline
 use Rattle.inline_rows.specs.InlineRows as rows
 use Rattle.inline_leaves.specs.Leaves.{parts_of}
@@ -18,9 +17,9 @@ abbrev pub target_texts : (ℕ → inline.LinkTexts) → LinkTarget → inline.L
 target_texts at (Resource linked) = link_texts_view linked
 target_texts at (Definition place) = at place
 
--- parts of a text
+-- the rows of a text
 abbrev pub data_rows : List ℕ → List rows.InlineRow
-data_rows bytes = map (λ b. rows.Part (Data b)) bytes
+data_rows bytes = map rows.Part (map inline.Data bytes)
 
 -- the definition's rows that a row stands for
 abbrev pub row_view : (ℕ → inline.LinkTexts) → InlineRow → List rows.InlineRow
@@ -28,9 +27,9 @@ row_view at (Text text) = data_rows text.now
 row_view at (Verbatim verbatim) = data_rows verbatim.text.now
 row_view at (Leaf part) = map rows.Part (parts_of part)
 row_view at (EnterSpan span) = rows.EnterSpan (span_view span) ∷ []
-row_view at (EnterLink target) = rows.EnterLink (target_texts at target) ∷ []
-row_view at (EnterImage target) = rows.EnterImage (target_texts at target) ∷ []
-row_view at (Call label) = rows.Part (inline.Call (content_codes label.now)) ∷ []
+row_view at (EnterLink target) = rows.EnterLinked inline.Link (target_texts at target) ∷ []
+row_view at (EnterImage target) = rows.EnterLinked inline.Image (target_texts at target) ∷ []
+row_view at (Call label) = rows.CallRow (content_codes label.now) ∷ []
 row_view at Exit = rows.Leave ∷ []
 
 abbrev pub rows_view : (ℕ → inline.LinkTexts) → List InlineRow → List rows.InlineRow

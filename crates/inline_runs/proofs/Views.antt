@@ -8,7 +8,7 @@ use Rattle.std.proofs.lemmas.List.{reverse-append, map-append, get_or-map, lengt
 use Rattle.std.proofs.lemmas.List.Sums.{sum_by-cons}
 use Rattle.definition_inline.specs.Attention.{Run as RunOf}
 use Rattle.definition_inline.specs.Pairing.{Pair as PairOf, pairs}
-use Rattle.definition_inline.specs.Inline.{Data}
+use Rattle.definition_inline.specs.Inline.{Leaf, Data}
 use Rattle.definition_inline.specs.Spans.{Holds, Opens, Closes, span_of, bytes_taken, run_rows}
 use Rattle.inline_runs.specs.View.{pair_view, pairs_view, run_view, runs_view}
 use Rattle.inline_runs.specs.Threads.{closed_by, opened_by, IsEnds}
@@ -84,7 +84,7 @@ pub rows_are : (runs : List RunOf) (ps closed opened : List Pair) (place text : 
     → pairs_view closed ≡ filter (λ (p : PairOf). p.closer == place) (pairs runs)
     → pairs_view opened ≡ reverse (filter (λ (p : PairOf). p.opener == place) (pairs runs))
     → text ≡ text_at ps place (slice_index (run_sizes runs) place)
-    → (map (λ (p : Pair). Closes) closed ++ replicate text (Holds (Data (get_or runs place d).marker))
+    → (map (λ (p : Pair). Closes) closed ++ replicate text (Holds (Leaf (Data (get_or runs place d).marker)))
     ++ map (λ (p : Pair). Opens (span_of (get_or runs place d).marker (pair_view p))) opened)
     ≡ run_rows (pairs runs) place (get_or runs place d)
 rows_are runs ps closed opened place text d are lt is_closed is_opened is_text =
@@ -97,4 +97,4 @@ rows_are runs ps closed opened place text d are lt is_closed is_opened is_text =
     ap₂ (λ m n. m + n) (sym (bytes_view (closed_by place ps)) ∙ ap bytes_taken (closed_of runs ps place are))
     (sym (bytes_view (opened_by place ps)) ∙ ap bytes_taken (opened_of runs ps place are)) in
     let texts = is_text ∙ ap₂ (λ m n. m - n) left taken in
-    ap₂ (λ xs ys. xs ++ ys) (ap₂ (λ xs n. xs ++ replicate n (Holds (Data run.marker))) closes texts) opens
+    ap₂ (λ xs ys. xs ++ ys) (ap₂ (λ xs n. xs ++ replicate n (Holds (Leaf (Data run.marker)))) closes texts) opens

@@ -4,7 +4,7 @@ use Rattle.std.specs.List.{filter}
 use Rattle.definition_inline.specs.Attention.{Run as RunOf}
 use Rattle.definition_inline.specs.Pairing.{Pair as PairOf, OpenRun as PlacedOf, pairs, taken_by, without}
 use Rattle.inline_runs.specs.FoundPairs.{Pairing as PairingOf, pairing, nearest}
-use Rattle.definition_inline.specs.Inline.{Data}
+use Rattle.definition_inline.specs.Inline.{Leaf, Data}
 use Rattle.definition_inline.specs.Spans.{SpanRow, Holds, Opens, Closes, span_of, run_rows}
 use Rattle.inline_runs.specs.View.{pair_view, pairs_view}
 use Rattle.inline_runs.specs.Floors.{AreOpenersAt, openers_view, placed_view}
@@ -49,7 +49,7 @@ pub record IsPaired {A : Type 0} (p : Pairing A) (runs : List RunOf) : Type 0 wh
 abbrev pub rows_of : ℕ → RunSpans → List SpanRow
 rows_of marker spans =
     map (λ (p : Pair). Closes) spans.closed.now
-    ++ replicate spans.text (Holds (Data marker))
+    ++ replicate spans.text (Holds (Leaf (Data marker)))
     ++ map (λ (p : Pair). Opens (span_of marker (pair_view p))) spans.opened.now
 
 -- the run at a place becomes what it does by the definition

@@ -3,7 +3,7 @@ use Rattle.std.specs.Prelude.{ℕ, Bool, if◌then◌else◌, List, map}
 use Rattle.definition_inline.specs.Attention.{Run as RunOf}
 use Rattle.definition_inline.specs.Pairing.{Pair as PairOf}
 use Rattle.definition_inline.specs.GfmStrikethrough.{is_tilde}
-use Rattle.definition_inline.specs.Spans.{Span as SpanOf, IsEmphasis, IsStrong, IsStrikethrough}
+use Rattle.definition_inline.specs.Inline as inline
 use Rattle.inline_runs.specs.declared.run.Run.{Run}
 use Rattle.inline_runs.specs.declared.pair.Span.{Span}
 use Rattle.inline_runs.specs.declared.pair.Span.TheVariants.{Emphasis, Strong, Strikethrough}
@@ -15,10 +15,10 @@ run_view run = record { marker = run.marker; left = run.size; may_open = run.may
 abbrev pub runs_view : List Run → List RunOf
 runs_view runs = map run_view runs
 
-abbrev pub span_view : Span → SpanOf
-span_view Emphasis = IsEmphasis
-span_view Strong = IsStrong
-span_view Strikethrough = IsStrikethrough
+abbrev pub span_view : Span → inline.SpanKind
+span_view Emphasis = inline.Emphasis
+span_view Strong = inline.Strong
+span_view Strikethrough = inline.Strikethrough
 
 -- how many bytes a pair takes of each run
 abbrev pub bytes_by : Bool → ℕ

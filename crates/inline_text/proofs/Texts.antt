@@ -1,6 +1,6 @@
 -- Text in a content: what the scan makes of it, and what stands after it.
 use Rattle.std.proofs.Common.{◌≡◌, ℕ, zero, suc, ◌+◌, ◌-◌, ◌<◌, ◌≤◌, List, [], ◌∷◌, ◌++◌, Bool, true, false, not, eqb, leb, ◌||◌, ◌&&◌, Option, None, Some}
-use Rattle.std.proofs.Common.{refl, sym, ap, ◌∙◌, get_or, length, drop, take, map, arith, subst, ◌⊎◌, inl, inr}
+use Rattle.std.proofs.Common.{refl, sym, ap, ◌∙◌, get_or, length, drop, take, arith, subst, ◌⊎◌, inl, inr}
 use Rattle.std.proofs.lemmas.Bool.{cases_Bool, cond-false, cond-true, eqb-true, eq-eqb, ne_eqb, le-leb, false≢true, true≢false, not-true, not-false, or_parts}
 use Rattle.std.proofs.lemmas.Bool.{or_cases, or_from, and_left, and_right, and_from, and_parts}
 use Rattle.std.proofs.lemmas.List.{append-nil, append_assoc, get_or-drop, length-drop, drop-drop}
@@ -24,12 +24,12 @@ use Rattle.definition_inline.specs.GfmAutolinkLiteral.{literal_at}
 use Rattle.inline_literals.specs.Literals.{may_begin}
 use Rattle.inline_literals.proofs.Found.{may_letter}
 use Rattle.definition_text.specs.InlineCode.{InlineCode, codes_of}
-use Rattle.definition_inline.specs.Inline.{Data, Found, or_else}
+use Rattle.definition_inline.specs.Inline.{Found, or_else}
 use Rattle.definition_inline.specs.Attention.{run_at}
-use Rattle.definition_inline.specs.Spans.{Token, Item}
+use Rattle.definition_inline.specs.Spans.{Token}
 use Rattle.definition_inline.specs.Scan.{InlineContext, leaf_at, leaf_here, label_start_at, text, Reading, reading, read_tokens, Next, step, scan}
 use Rattle.definition_inline.proofs.Scanning.{scan_step, step_last}
-use Rattle.inline_leaves.specs.Leaves.{IsAfter, IsWhite}
+use Rattle.inline_leaves.specs.Leaves.{text_items, IsAfter, IsWhite}
 use Rattle.inline_leaves.specs.Scanned.{leaf_in, without_labels}
 use Rattle.inline_leaves.proofs.Codes.{plain_code, plain_drop, at_return, is_after, cut_plain, cut_after_byte}
 use Rattle.inline_content.proofs.Runs.{no_marker}
@@ -187,7 +187,7 @@ none_here context content none no_literal = ap (λ o. or_else o (literal_at cont
 
 -- one code of text
 pub text_step : (context : InlineContext) (r : Reading) (c : InlineCode) (cs : List InlineCode) → is_text_at (codes_of (c ∷ cs)) ≡ true
-    → literal_at context.options.constructs (c ∷ cs) ≡ None → step context r c cs ≡ Next 0 (read_tokens (Item (Data c.code) ∷ []) r)
+    → literal_at context.options.constructs (c ∷ cs) ≡ None → step context r c cs ≡ Next 0 (read_tokens (text_items (c.code ∷ [])) r)
 text_step context r c cs h no_literal =
     let free = (text_is c.code (codes_of cs) h).0 in
     step_last context r c cs (none_here context (c ∷ cs) (text_leaf context c.code (codes_of cs) h) no_literal) (text_run context.options c cs free)
@@ -205,22 +205,22 @@ read_more first more r = ap (λ tokens. reading (text tokens r.now.holds_link) r
 pub text_steps : (context : InlineContext) (n : ℕ) (r : Reading) (content : List InlineCode)
     → ((k : ℕ) → k < n → is_text_at (drop k (codes_of content)) ≡ true)
     → ((k : ℕ) → k < n → literal_at context.options.constructs (drop k content) ≡ None)
-    → scan context 0 r content ≡ scan context 0 (read_tokens (map Item (map Data (take n (codes_of content)))) r) (drop n content)
+    → scan context 0 r content ≡ scan context 0 (read_tokens (text_items (take n (codes_of content))) r) (drop n content)
 text_steps context zero r content h no_literal = ap (λ x. scan context 0 x content) (sym (read_none r))
 text_steps context (suc n) r [] h no_literal = ap (λ x. scan context 0 x []) (sym (read_none r))
 text_steps context (suc n) r (c ∷ cs) h no_literal =
-    let next = read_tokens (Item (Data c.code) ∷ []) r in
+    let next = read_tokens (text_items (c.code ∷ [])) r in
     scan_step context r next c cs 0 (text_step context r c cs (h 0 (omega arith)) (no_literal 0 (omega arith)))
     ∙ text_steps context n next cs (λ k lt. h (suc k) (omega arith)) (λ k lt. no_literal (suc k) (omega arith))
-    ∙ ap (λ x. scan context 0 x (drop n cs)) (read_more (Item (Data c.code) ∷ []) (map Item (map Data (take n (codes_of cs)))) r)
+    ∙ ap (λ x. scan context 0 x (drop n cs)) (read_more (text_items (c.code ∷ [])) (text_items (take n (codes_of cs))) r)
 
 -- a code at which a construct may start, but none does
 pub other_step : (context : InlineContext) (r : Reading) (c : InlineCode) (cs : List InlineCode) → leaf_here context (c ∷ cs) ≡ None
     → run_at context.options (c ∷ cs) ≡ None → label_start_at context.options.constructs (codes_of (c ∷ cs)) ≡ None
     → (context.options.constructs.label_end && eqb c.code 93) ≡ false
-    → scan context 0 r (c ∷ cs) ≡ scan context 0 (read_tokens (map Item (map Data (c.code ∷ []))) r) cs
+    → scan context 0 r (c ∷ cs) ≡ scan context 0 (read_tokens (text_items (c.code ∷ [])) r) cs
 other_step context r c cs no_leaf no_run no_start no_end =
-    scan_step context r (read_tokens (Item (Data c.code) ∷ []) r) c cs 0 (step_last context r c cs no_leaf no_run no_start ∙ cond-false _ _ _ no_end)
+    scan_step context r (read_tokens (text_items (c.code ∷ [])) r) c cs 0 (step_last context r c cs no_leaf no_run no_start ∙ cond-false _ _ _ no_end)
 
 -- ---- a code that isn't text, where no leaf begins
 

@@ -19,7 +19,7 @@ returns-then-begins_link-clause-same c =
 
 pub returns-then-begins_link-clause-none : goal.returns-then-begins_link-clause-none
 returns-then-begins_link-clause-none c leads at kids is same =
-    nothing_linked leads at c.args.rows.now kids (sym (returns-then-begins_link-clause-same c) ∙ is) same
+    nothing_linked at leads c.args.rows.now kids (sym (returns-then-begins_link-clause-same c) ∙ is) same
 
 pub returns-clause-same : goal.returns-clause-same
 returns-clause-same c =
@@ -29,4 +29,4 @@ returns-clause-same c =
     sym (c.loop-place.invariant ∙ ap rows_may_link ended)
 
 pub returns-clause-none : goal.returns-clause-none
-returns-clause-none c leads at kids is same = nothing_linked leads at c.args.rows.now kids (sym (returns-clause-same c)) same
+returns-clause-none c leads at kids is same = nothing_linked at leads c.args.rows.now kids (sym (returns-clause-same c)) same

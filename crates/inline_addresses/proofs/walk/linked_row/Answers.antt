@@ -1,21 +1,20 @@
-use Rattle.std.proofs.Common.{[], Some, None, sym, ap, ◌∙◌, arith}
+use Rattle.std.proofs.Common.{Some, None, sym, ap, ◌∙◌, arith}
 use Rattle.std.specs.List.{flat_map}
 use Rattle.inline_rows.specs.View.{row_view}
 use Rattle.inline_addresses.specs.Addresses.{row_linked}
 use Rattle.inline_addresses.proofs.Walks.{literal_linked, outside_rows}
-use Rattle.definition_inline.specs.Inline.{link_texts}
 use Rattle.inline_addresses.proofs.walk.linked_row.Goals as goal
 
 pub returns-then-depth-eq0 : goal.returns-then-depth-eq0
 returns-then-depth-eq0 c at =
     let rows = row_view at c.args.row in
-    sym (outside_rows (λ t. link_texts [] None) at rows) ∙ ap (λ n. flat_map (row_linked n) rows) (sym c.if-depth-eq0.true)
+    sym (outside_rows rows) ∙ ap (λ n. flat_map (row_linked n) rows) (sym c.if-depth-eq0.true)
 
 pub returns-in-Some : goal.returns-in-Some
 returns-in-Some c at =
-    sym (literal_linked (λ t. link_texts [] None) at c.args.depth c.args.row (Some c.in-Some.text.now) (omega (arith, c.if-depth-eq0.false))
+    sym (literal_linked at c.args.depth c.args.row (Some c.in-Some.text.now) (omega (arith, c.if-depth-eq0.false))
     (sym c.in-Some.ensures))
 
 pub returns-in-None : goal.returns-in-None
 returns-in-None c at =
-    sym (literal_linked (λ t. link_texts [] None) at c.args.depth c.args.row None (omega (arith, c.if-depth-eq0.false)) (sym c.in-None.ensures))
+    sym (literal_linked at c.args.depth c.args.row None (omega (arith, c.if-depth-eq0.false)) (sym c.in-None.ensures))

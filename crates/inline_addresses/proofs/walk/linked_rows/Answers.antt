@@ -27,11 +27,11 @@ loop-row-preserved g c =
       text =
           next.text ∙ ap (λ (r : InlineRow). drop (length (text_or_end (row_text r))) (drop walk.size walk.text.now)) c.row-item.is
           ∙ after_row walk.text.now walk.size rows i row c.loop-row-test.true c.loop-row.invariant.text;
-      rows = λ leads at.
-          next.rows leads at (rows_view at (drop (i + 1) rows))
-          ∙ ap (λ (r : InlineRow). walk_rows leads at walk (row_view at r ++ rows_view at (drop (i + 1) rows))) c.row-item.is
-          ∙ ap (walk_rows leads at walk) (rows_left leads at rows i row c.loop-row-test.true)
-          ∙ c.loop-row.invariant.rows leads at;
+      rows = λ at.
+          next.rows at (rows_view at (drop (i + 1) rows))
+          ∙ ap (λ (r : InlineRow). walk_rows at walk (row_view at r ++ rows_view at (drop (i + 1) rows))) c.row-item.is
+          ∙ ap (walk_rows at walk) (rows_left at rows i row c.loop-row-test.true)
+          ∙ c.loop-row.invariant.rows at;
     }
 
 pub returns : goal.returns
@@ -39,8 +39,8 @@ returns g c leads at kids same =
     let rows = c.args.rows.now in
     let i = c.loop-row.row-index in
     let ended : drop i rows ≡ [] = drop_all i rows (omega (arith, c.loop-row-test.false)) in
-    c.in_ok-end_run.ensures.rows leads at
-    ∙ ap (λ l. walk_rows leads at c.loop-row.walk (rows_view at l)) (sym ended)
-    ∙ c.loop-row.invariant.rows leads at
-    ∙ ap (linked_rows leads 0 []) same
+    c.in_ok-end_run.ensures.rows at
+    ∙ ap (λ l. walk_rows at c.loop-row.walk (rows_view at l)) (sym ended)
+    ∙ c.loop-row.invariant.rows at
+    ∙ ap (linked_rows 0 []) same
     ∙ rows_linked leads kids

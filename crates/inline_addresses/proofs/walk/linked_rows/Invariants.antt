@@ -1,5 +1,5 @@
 use Rattle.std.proofs.Common.{◌≡◌, ◌≤◌, ℕ, [], length, drop}
-use Rattle.definition_inline.specs.Inline.{Target, LinkTexts}
+use Rattle.definition_inline.specs.Inline.{LinkTexts}
 use Rattle.inline_rows.specs.View.{rows_view}
 use Rattle.inline_addresses.specs.Addresses.{linked_rows, rows_text, walk_rows}
 use Rattle.inline_addresses.proofs.walk.linked_rows.Given as goal
@@ -10,6 +10,5 @@ invariant-loop-row g l = record {
   depth : l.walk.depth ≤ l.row-index;
   within : l.walk.size ≤ length l.walk.text.now;
   text : drop l.walk.size l.walk.text.now ≡ rows_text (drop l.row-index l.rows);
-  rows : (leads : Target → LinkTexts) (at : ℕ → LinkTexts) → walk_rows leads at l.walk (rows_view at (drop l.row-index l.rows))
-      ≡ linked_rows leads 0 [] (rows_view at l.rows);
+  rows : (at : ℕ → LinkTexts) → walk_rows at l.walk (rows_view at (drop l.row-index l.rows)) ≡ linked_rows 0 [] (rows_view at l.rows);
 }

@@ -26,18 +26,18 @@ loop-found-preserved g c =
     let rest = c.loop-found.rest.now in
     let found = c.in-Some.found in (
       c.rest_from-rest.utf8,
-      λ leads at.
-          address_rows leads at c.loop-found.rows.items c.push.new.self.items c.push-in-Some.new.self.items _ _ rest c.rest_from-rest.result.now found
+      λ at.
+          address_rows at c.loop-found.rows.items c.push.new.self.items c.push-in-Some.new.self.items _ _ rest c.rest_from-rest.result.now found
           c.in_ok-push.ensures.items c.in_ok-push-2.ensures.items
           (ap data_rows c.text_before.ensures)
           (ap (λ text. Part (Literal (kind_view found.kind) text) ∷ []) c.text_between.ensures)
           c.rest_from-rest.ensures
           (subst (λ bs. with_addresses bs ≡ found_parts bs found) c.as_bytes.ensures.value c.in-Some.ensures.parts)
-          ∙ c.loop-found.invariant.1 leads at,
+          ∙ c.loop-found.invariant.1 at,
     )
 
 pub returns : goal.returns
-returns g c leads at =
-    rest_rows leads at c.loop-found.rows.items c.push-2.new.self.items _ c.loop-found.rest.now c.in_ok-push-3.ensures.items refl
+returns g c at =
+    rest_rows at c.loop-found.rows.items c.push-2.new.self.items _ c.loop-found.rest.now c.in_ok-push-3.ensures.items refl
     (subst (λ bs. with_addresses bs ≡ map Data bs) c.as_bytes.ensures.value c.in_default.ensures.parts)
-    ∙ c.loop-found.invariant.1 leads at
+    ∙ c.loop-found.invariant.1 at

@@ -1,18 +1,16 @@
 use Rattle.std.proofs.Common.{◌≡◌, ◌++◌, ℕ, length}
 use denote.Text.{Utf8}
 use denote.Shadow.{shadow}
-use Rattle.definition_inline.specs.GfmAutolinkLiteral.{with_addresses}
-use Rattle.definition_inline.specs.Inline.{Target, LinkTexts}
+use Rattle.definition_inline.specs.Inline.{LinkTexts}
 use Rattle.inline_rows.specs.View.{rows_view}
-use Rattle.inline_addresses.specs.Addresses.{parts_rows}
+use Rattle.inline_addresses.specs.Addresses.{run_linked}
 use Rattle.inline_addresses.proofs.walk.push_addresses.Given as goal
 
 -- what is left of the run gives the rest of its rows
 abbrev pub invariant-loop-found : goal.invariant-loop-found
 invariant-loop-found g l =
     shadow (Utf8 l.rest)
-    × ((leads : Target → LinkTexts) (at : ℕ → LinkTexts)
-    → rows_view at l.rows.items ++ parts_rows leads (with_addresses l.rest) ≡ rows_view at l.initial.rows.items ++ parts_rows leads (with_addresses l.run))
+    × ((at : ℕ → LinkTexts) → rows_view at l.rows.items ++ run_linked 0 l.rest ≡ rows_view at l.initial.rows.items ++ run_linked 0 l.run)
 
 abbrev pub decreases-loop-found : goal.decreases-loop-found
 decreases-loop-found g l = length l.rest

@@ -1,6 +1,5 @@
-use Rattle.std.proofs.Common.{map, reverse}
+use Rattle.std.proofs.Common.{map, refl, reverse}
 use Rattle.definition_inline.specs.Inline.{Data}
-use Rattle.inline_rows.proofs.Container as container
 use Rattle.inline_parser.proofs.Changes as changes
 use Rattle.inline_parser.proofs.reading.Reading.text.Goals as goal
 
@@ -15,7 +14,7 @@ pub returns-clause-read : goal.returns-clause-read
 returns-clause-read g c leads at r h =
     let s = c.args.self.now in
     record {
-      by = changes.items_pushed leads at s.rows.items c.push.new.self.items _ s.runs.items s.slots.items (reverse s.labels.items) r.open_labels r.now.tokens
-          (map (λ b. Data b) c.args.text.now) c.in_ok-push.ensures.items h.by (container.text_rows leads at c.args.text);
+      by = changes.leaves_pushed leads at s.rows.items c.push.new.self.items _ s.runs.items s.slots.items (reverse s.labels.items) r.open_labels r.now.tokens
+          (map (λ b. Data b) c.args.text.now) c.in_ok-push.ensures.items h.by refl;
       holds_link = h.holds_link;
     }

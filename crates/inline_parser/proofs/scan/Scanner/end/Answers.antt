@@ -1,16 +1,14 @@
-use Rattle.std.proofs.Common.{Option, Some, eqb, map, sym, ap, ◌∙◌, subst, take, drop, get_or}
+use Rattle.std.proofs.Common.{Option, Some, eqb, sym, ap, ◌∙◌, subst, take, drop, get_or}
 use Rattle.std.proofs.lemmas.Bool.{and_parts, eqb-true}
 use Rattle.definition_text.specs.Content.{content_codes}
-use Rattle.definition_inline.specs.Inline.{Data}
 use Rattle.definition_inline.specs.LabelEnd.{Leads, Calls}
 use Rattle.inline_label_ends.specs.declared.gfm_label_start_footnote.LabelForm.{LabelForm}
 use Rattle.definition_inline.specs.Scan as scan
 use Rattle.definition_inline.specs.Scan.{read_tokens}
-use Rattle.definition_inline.specs.Spans.{Item}
 use Rattle.definition_inline.specs.Targets.{leads_to}
 use Rattle.definition_inline.specs.Targets.{linked_at, linked_by, labels_of}
 use Rattle.inline_content.specs.View.{view_at}
-use Rattle.inline_leaves.specs.Leaves.{size_before}
+use Rattle.inline_leaves.specs.Leaves.{text_items, size_before}
 use Rattle.inline_parser.specs.Scanned.{context_by, ended_here, IsPlace}
 use Rattle.inline_parser.specs.Shows.{formed_in, unformed_in, StartsBefore}
 use Rattle.inline_label_ends.specs.Ends.{IsFormed, IsAfterEnd}
@@ -167,10 +165,10 @@ returns-in-None-clause-read g c ds final has f =
     (c.unform.ensures.read leads at f.now f.shows))
     (λ left shows.
     record {
-      now = read_tokens (map (λ i. Item i) (map (λ b. Data b) (take 1 rest))) (unformed_in f.now.open_labels f.now.now);
+      now = read_tokens (text_items (take 1 rest)) (unformed_in f.now.open_labels f.now.now);
       shows = shows;
       same =
-          ap (λ r. scan.scan (context_by options names ds) 0 (read_tokens (map (λ i. Item i) (map (λ b. Data b) (take 1 rest)))
+          ap (λ r. scan.scan (context_by options names ds) 0 (read_tokens (text_items (take 1 rest))
           (unformed_in f.now.open_labels f.now.now)) (view_at p source.content r)) left
           ∙ follow.nothing_follows options names p ds source.content rest f.now final place c.requires.no_leaf c.requires.no_run c.requires.no_start both.0
           (eqb-true (get_or rest 0 0) 93 both.1)

@@ -1,12 +1,11 @@
-use Rattle.std.proofs.Common.{◌≡◌, map, sym, ap, ◌∙◌, length, take, drop, None}
+use Rattle.std.proofs.Common.{◌≡◌, sym, ap, ◌∙◌, length, take, drop, None}
 use Rattle.definition_text.specs.Content.{content_codes}
-use Rattle.definition_inline.specs.Inline.{Data}
 use Rattle.definition_inline.specs.Scan as scan
 use Rattle.definition_inline.specs.Scan.{read_tokens, start_bytes}
-use Rattle.definition_inline.specs.Spans.{Item}
 use Rattle.definition_inline.specs.Targets.{leads_to}
 use Rattle.definition_inline.specs.Targets.{linked_at, linked_by}
 use Rattle.inline_content.specs.View.{view_at}
+use Rattle.inline_leaves.specs.Leaves.{text_items}
 use Rattle.inline_parser.specs.Scanned.{context_by}
 use Rattle.inline_parser.specs.Shows.{start_view, with_open_label}
 use Rattle.inline_parser.proofs.Follow as follow
@@ -53,10 +52,10 @@ returns-else-is_label_end-clause-read g c ds final has f =
     on_ok c.text.result c.text.ensures.rest (c.text.ensures.read leads at f.now f.shows)
     (λ left shows.
     record {
-      now = read_tokens (map (λ i. Item i) (map (λ b. Data b) (take 1 rest))) f.now;
+      now = read_tokens (text_items (take 1 rest)) f.now;
       shows = shows;
       same =
-          ap (λ r. scan.scan (context_by options names ds) 0 (read_tokens (map (λ i. Item i) (map (λ b. Data b) (take 1 rest))) f.now)
+          ap (λ r. scan.scan (context_by options names ds) 0 (read_tokens (text_items (take 1 rest)) f.now)
           (view_at p source.content r)) left
           ∙ follow.byte_follows options names p ds source.content rest f.now final place c.requires.no_leaf c.requires.no_run none
           (sym c.is_label_end.ensures ∙ c.if-is_label_end.false) c.requires.first c.requires.some f.same;

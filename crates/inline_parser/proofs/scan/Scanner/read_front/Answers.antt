@@ -1,12 +1,11 @@
-use Rattle.std.proofs.Common.{◌<◌, map, ap, ◌∙◌, arith, take}
-use Rattle.definition_inline.specs.Inline.{Data}
+use Rattle.std.proofs.Common.{◌<◌, ap, ◌∙◌, arith, take}
 use Rattle.definition_inline.specs.Scan as scan
 use Rattle.definition_inline.specs.Scan.{read_tokens}
-use Rattle.definition_inline.specs.Spans.{Item}
 use Rattle.definition_inline.specs.Targets.{leads_to}
 use Rattle.definition_inline.specs.Targets.{linked_at, linked_by}
 use Rattle.text_bytes.proofs.Ascii.{boundary_before}
 use Rattle.inline_content.specs.View.{view_at}
+use Rattle.inline_leaves.specs.Leaves.{text_items}
 use Rattle.inline_parser.specs.Scanned.{context_by}
 use Rattle.inline_parser.proofs.Follow as follow
 use Rattle.inline_parser.proofs.Follow.{on_ok}
@@ -35,10 +34,10 @@ returns-clause-read g c ds final has f =
     on_ok c.front.result c.front.ensures.rest (c.front.ensures.read leads at f.now f.shows)
     (λ left shows.
     record {
-      now = read_tokens (map (λ i. Item i) (map (λ b. Data b) (take n rest))) f.now;
+      now = read_tokens (text_items (take n rest)) f.now;
       shows = shows;
       same =
-          ap (λ r. scan.scan (context_by options names ds) 0 (read_tokens (map (λ i. Item i) (map (λ b. Data b) (take n rest))) f.now)
+          ap (λ r. scan.scan (context_by options names ds) 0 (read_tokens (text_items (take n rest)) f.now)
           (view_at p source.content r)) left
           ∙ follow.text_follows options names p ds source.content rest n f.now final place told.within told.text told.plain told.bare (told.ending some) f.same;
     })

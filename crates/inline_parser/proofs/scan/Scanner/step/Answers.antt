@@ -1,11 +1,10 @@
-use Rattle.std.proofs.Common.{IfSome, map, sym, ap, ◌∙◌, arith, subst}
+use Rattle.std.proofs.Common.{IfSome, sym, ap, ◌∙◌, arith, subst}
 use Rattle.definition_inline.specs.Scan as scan
 use Rattle.definition_inline.specs.Scan.{read_tokens}
-use Rattle.definition_inline.specs.Spans.{Item}
 use Rattle.definition_inline.specs.Targets.{leads_to}
 use Rattle.definition_inline.specs.Targets.{linked_at, linked_by}
 use Rattle.inline_content.specs.View.{view_at}
-use Rattle.inline_leaves.specs.Leaves.{parts_of, found_leaf, IsAfter}
+use Rattle.inline_leaves.specs.Leaves.{leaf_items, parts_of, found_leaf, IsAfter}
 use Rattle.inline_parser.specs.Scanned.{context_by}
 use Rattle.inline_parser.proofs.Follow as follow
 use Rattle.inline_parser.proofs.Follow.{on_ok}
@@ -36,10 +35,10 @@ returns-in-Some-clause-read g c ds final has f =
     on_ok c.leaf.result c.leaf.ensures.rest (c.leaf.ensures.read leads at f.now f.shows)
     (λ left shows.
     record {
-      now = read_tokens (map (λ i. Item i) (parts_of found.part)) f.now;
+      now = read_tokens (leaf_items (parts_of found.part)) f.now;
       shows = shows;
       same =
-          ap (λ r. scan.scan (context_by options names ds) 0 (read_tokens (map (λ i. Item i) (parts_of found.part)) f.now) (view_at p source.content r)) left
+          ap (λ r. scan.scan (context_by options names ds) 0 (read_tokens (leaf_items (parts_of found.part)) f.now) (view_at p source.content r)) left
           ∙ follow.leaf_follows options names p ds source.content rest found.after.now (parts_of found.part) f.now final place
           (ap (found_leaf rest) (sym c.in-Some.is) ∙ c.in_ok-leaf.ensures.read)
           (subst (λ o. IfSome o (λ leaf. IsAfter rest leaf.after.now)) c.in-Some.is c.in_ok-leaf.ensures.place) f.same;

@@ -1,8 +1,6 @@
-use Rattle.std.proofs.Common.{subst, sym, map}
-use Rattle.definition_inline.specs.Inline.{Data}
+use Rattle.std.proofs.Common.{subst, sym}
 use Rattle.definition_inline.specs.Scan.{read_tokens}
-use Rattle.definition_inline.specs.Spans.{Item}
-use Rattle.inline_leaves.specs.Leaves.{IsAfter}
+use Rattle.inline_leaves.specs.Leaves.{text_items, IsAfter}
 use Rattle.inline_parser.specs.Shows.{Shows}
 use Rattle.inline_parser.proofs.Placed.{place_after, labels_after}
 use Rattle.inline_parser.proofs.scan.Scanner.text.Goals as goal
@@ -22,4 +20,4 @@ returns-clause-placed g c is_punctuation content p =
 
 pub returns-clause-read : goal.returns-clause-read
 returns-clause-read g c leads at r h =
-    subst (λ text. Shows leads at c.text.new.self (read_tokens (map Item (map Data text)) r)) c.text_before.ensures (c.in_ok-text.ensures.read leads at r h)
+    subst (λ text. Shows leads at c.text.new.self (read_tokens (text_items text) r)) c.text_before.ensures (c.in_ok-text.ensures.read leads at r h)

@@ -1,9 +1,7 @@
-use Rattle.std.proofs.Common.{◌≡◌, ℕ, List, subst, sym, map}
+use Rattle.std.proofs.Common.{◌≡◌, ℕ, List, subst, sym}
 use Rattle.definition_text.specs.Encode.{encode}
-use Rattle.definition_inline.specs.Inline.{Data}
 use Rattle.definition_inline.specs.Scan.{read_tokens}
-use Rattle.definition_inline.specs.Spans.{Item}
-use Rattle.inline_leaves.specs.Leaves.{IsAfter}
+use Rattle.inline_leaves.specs.Leaves.{text_items, IsAfter}
 use Rattle.inline_parser.specs.Shows.{Shows}
 use Rattle.inline_text.proofs.Verbatim.{front_same}
 use Rattle.inline_parser.proofs.Placed.{place_after, labels_after}
@@ -31,5 +29,5 @@ returns-clause-placed g c is_punctuation content p =
 
 pub returns-clause-read : goal.returns-clause-read
 returns-clause-read g c leads at r h =
-    subst (λ text. Shows leads at c.verbatim.new.self (read_tokens (map Item (map Data text)) r)) c.text_before-text.ensures
+    subst (λ text. Shows leads at c.verbatim.new.self (read_tokens (text_items text) r)) c.text_before-text.ensures
     (c.in_ok-verbatim.ensures.read leads at r h)
