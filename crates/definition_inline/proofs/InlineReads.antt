@@ -1,21 +1,16 @@
 -- If each part that is read of a content is good, all its inline structure is.
-use Rattle.std.proofs.Common.{◌≡◌, ℕ, suc, zero, ◌+◌, ◌-◌, false, ◌==◌, List, [], ◌∷◌, ◌++◌, map, reverse, replicate, filter, fold, Option, None, Some, drop}
-use Rattle.std.proofs.Common.{refl, sym, subst}
-use Rattle.std.proofs.lemmas.Bool.{cond_both}
+use Rattle.std.proofs.Common.{◌≡◌, ℕ, false, List, [], ◌∷◌, ◌++◌, Option, None, Some, drop}
 use Rattle.definition_text.specs.Content.{text_before}
 use Rattle.definition_text.specs.InlineCode.{InlineCode, codes_of}
-use Rattle.definition_inline.specs.Inline.{Target, InlineLeaf, Data, SpanKind, LinkedKind, Inline, Leaf, Span, Linked, Call, Inlines, Nil, Cons, followed_by, Found, or_else}
+use Rattle.definition_inline.specs.Inline.{Target, InlineLeaf, Data, SpanKind, LinkedKind, Inline, Leaf, Span, Linked, Call, Inlines, Nil, Cons, Found, or_else}
 use Rattle.definition_inline.specs.LabelEnd.{LinkOrCall, Leads, Calls}
 use Rattle.definition_inline.specs.Attention.{Run, run_at}
-use Rattle.definition_inline.specs.Pairing.{Pair, pairs}
-use Rattle.definition_inline.specs.Spans.{Token, Item, Delimiters, runs_of, span_of, with_spans}
-use Rattle.definition_inline.specs.SpanRows.{SpanRow, Holds, Opens, Closes, bytes_taken, run_rows, rows_from, OpenSpan, Nest, nest, leave, nest_row}
-use Rattle.definition_inline.proofs.SpanRows.{spans_by_rows}
-use Rattle.definition_inline.specs.Scan.{InlineContext, leaf_here, LabelStart, LinkStart, ImageStart, label_start_at, leaf_tokens, start_tokens, may_form, started_kind}
-use Rattle.definition_inline.specs.Scan.{formed_part, formed_at, Text, text, OpenLabel, Reading, reading, read_tokens, with_plain_start, with_link_or_call}
-use Rattle.definition_inline.specs.Scan.{Step, Next, data_step, ended_step, ended_by, label_end_step, last_step, label_step, run_step, leaf_step, step}
-use Rattle.definition_inline.specs.Scan.{and_then, scan, whole_text, spans_from}
-use Rattle.definition_text.proofs.Each.{Each, each-append, each_map, each_mapped, each_same, WhereSome}
+use Rattle.definition_inline.specs.Spans.{Token, Item, Delimiters, span_of, with_spans}
+use Rattle.definition_inline.specs.Scan.{InlineContext, leaf_here, leaf_tokens, LabelStart, LinkStart, ImageStart, label_start_at, start_tokens, started_kind}
+use Rattle.definition_inline.specs.Scan.{formed_part, formed_at, Text, text, reading, scan, whole_text, spans_from}
+use Rattle.definition_inline.proofs.SpansHold.{Siblings, RunGood, TokenGood, spans_hold}
+use Rattle.definition_inline.proofs.ScanHolds.{where_gives, where_always, Keeps, text_holds}
+use Rattle.definition_text.proofs.Each.{Each, each-append, each_mapped, WhereSome}
 
 module _ (Good : Inline → Type 0) where
   abbrev pub LeafGood : Found → Type 0
@@ -29,35 +24,6 @@ module _ (Good : Inline → Type 0) where
   either_begins None b p q = q
   either_begins (Some l) b p q = p
 
-  abbrev TokenGood : Token → Type 0
-  TokenGood (Item i) = Good i
-  TokenGood (Delimiters run) = Good (Leaf (Data run.marker))
-
-  abbrev RowGood : SpanRow → Type 0
-  RowGood (Holds i) = Good i
-  RowGood (Opens kind) = Unit {0}
-  RowGood Closes = Unit {0}
-
-  -- ---- runs
-
-  run_good : (ps : List Pair) (place : ℕ) (r : Run) → Good (Leaf (Data r.marker)) → Each RowGood (run_rows ps place r)
-  run_good ps place r h =
-      let closed = filter (λ (p : Pair). p.closer == place) ps in
-      let started = filter (λ (p : Pair). p.opener == place) ps in
-      let closing = map (λ (p : Pair). Closes) closed in
-      let left = r.left - (bytes_taken closed + bytes_taken started) in
-      let opening = map (λ (p : Pair). Opens (span_of r.marker p)) (reverse started) in
-      each-append RowGood (closing ++ replicate left (Holds (Leaf (Data r.marker)))) opening
-      (each-append RowGood closing (replicate left (Holds (Leaf (Data r.marker)))) (each_map RowGood (λ (p : Pair). Closes) closed (λ p. tt))
-      (each_same RowGood left (Holds (Leaf (Data r.marker))) h))
-      (each_map RowGood (λ (p : Pair). Opens (span_of r.marker p)) (reverse started) (λ p. tt))
-
-  rows_good : (ps : List Pair) (place : ℕ) (tokens : List Token) → Each TokenGood tokens → Each RowGood (rows_from ps place tokens)
-  rows_good ps place [] h = tt
-  rows_good ps place (Item i ∷ ts) h = (h.0, rows_good ps place ts h.1)
-  rows_good ps place (Delimiters r ∷ ts) h =
-      each-append RowGood (run_rows ps place r) (rows_from ps (place + 1) ts) (run_good ps place r h.0) (rows_good ps (place + 1) ts h.1)
-
 module _ (Good : Inline → Type 0) (AllGood : Inlines → Type 0) where
   -- siblings, and the spans that hold them
   pub record Nests : Type 0 where
@@ -66,35 +32,6 @@ module _ (Good : Inline → Type 0) (AllGood : Inlines → Type 0) where
     pub first : (i : Inline) (is : Inlines) → AllGood (Cons i is) → Good i
     pub rest : (i : Inline) (is : Inlines) → AllGood (Cons i is) → AllGood is
     pub span : (kind : SpanKind) (kids : Inlines) → AllGood kids → Good (Span kind kids)
-
-  abbrev SpanGood : OpenSpan → Type 0
-  SpanGood s = AllGood s.before
-
-  abbrev NestGood : Nest → Type 0
-  NestGood n = AllGood n.now × Each SpanGood n.around
-
-  module _ (n : Nests) where
-    follow_good : (is : Inlines) (last : Inline) → AllGood is → Good last → AllGood (followed_by is last)
-    follow_good Nil last p q = n.more last Nil q n.none
-    follow_good (Cons i is) last p q = n.more i (followed_by is last) (n.first i is p) (follow_good is last (n.rest i is p) q)
-
-    leave_good : (now : Inlines) (around : List OpenSpan) → AllGood now → Each SpanGood around → NestGood (leave now around)
-    leave_good now [] p h = (p, tt)
-    leave_good now (s ∷ others) p h = (follow_good s.before (Span s.kind now) h.0 (n.span s.kind now p), h.1)
-
-    nest_row_good : (here : Nest) (row : SpanRow) → NestGood here → RowGood Good row → NestGood (nest_row here row)
-    nest_row_good here (Holds i) p q = (follow_good here.now i p.0 q, p.1)
-    nest_row_good here (Opens kind) p q = (n.none, (p.0, p.1))
-    nest_row_good here Closes p q = leave_good here.now here.around p.0 p.1
-
-    nest_good : (here : Nest) (rows : List SpanRow) → NestGood here → Each (RowGood Good) rows → NestGood (fold nest_row here rows)
-    nest_good here [] p h = p
-    nest_good here (row ∷ rows) p h = nest_good (nest_row here row) rows (nest_row_good here row p h.0) h.1
-
-    pub emphasized_good : (tokens : List Token) → Each (TokenGood Good) tokens → AllGood (with_spans tokens)
-    emphasized_good tokens h =
-        let ps = pairs (runs_of tokens) in
-        subst AllGood (sym (spans_by_rows tokens)) (nest_good (nest Nil []) (rows_from ps 0 tokens) (n.none, tt) (rows_good Good ps 0 tokens h)).0
 
 -- what a `]` forms: Leading holds of where it leads
 module _ (Leading : Target → Type 0) where
@@ -126,115 +63,71 @@ module _ (Good : Inline → Type 0) (AllGood : Inlines → Type 0) (Leading : Ta
         → WhereSome (λ (r : Run). Good (Leaf (Data r.marker))) (run_at context.options (c ∷ cs))
     pub forms : (start : LabelStart) (between content : List ℕ) → Codes content → FormsGood (formed_at context start between (drop 1 content))
 
-  abbrev TokenIs : Token → Type 0
-  TokenIs t = TokenGood Good t
-
-  abbrev TextGood : Text → Type 0
-  TextGood t = Each TokenIs t.tokens
-
-  abbrev LabelGood : OpenLabel → Type 0
-  LabelGood label = TextGood label.outer
-
-  abbrev ReadingGood : Reading → Type 0
-  ReadingGood r = TextGood r.now × Each LabelGood r.open_labels
-
-  abbrev StepGood : Step → Type 0
-  StepGood (Next more r) = ReadingGood r
-
-  read_good : (more : List Token) (r : Reading) → Each TokenIs more → ReadingGood r → ReadingGood (read_tokens more r)
-  read_good more r h p = (each-append TokenIs r.now.tokens more p.0 h, p.1)
-
-  then_good : (s : Step) (rest : ℕ → Reading → Reading) → StepGood s → ((k : ℕ) (r : Reading) → ReadingGood r → ReadingGood (rest k r))
-      → ReadingGood (and_then s rest)
-  then_good (Next more r) rest p h = h more r p
-
   module _ (context : InlineContext) (reads : Reads context) where
-    -- ---- labels
+    abbrev TokenIs : Token → Type 0
+    TokenIs t = TokenGood Good AllGood t
+
+    abbrev TextIs : Text → Type 0
+    TextIs t = Each TokenIs t.tokens
+
+    abbrev RunIs : Run → Type 0
+    RunIs run = RunGood Good AllGood run
+
+    nest_siblings : Siblings Good AllGood
+    nest_siblings = let n = reads.nests in record { none = n.none; more = n.more; first = n.first; rest = n.rest }
+
+    more_good : (t : Text) (more : List Token) → TextIs t → Each TokenIs more → Each TokenIs (t.tokens ++ more)
+    more_good t more h p = each-append TokenIs t.tokens more h p
 
     start_good : (start : LabelStart) → Each TokenIs (start_tokens start)
     start_good LinkStart = (reads.open_link, tt)
     start_good ImageStart = (reads.open_image, (reads.open_link, tt))
 
-    unformed_good : (label : OpenLabel) (inner : Text) → LabelGood label → TextGood inner → TextGood (with_plain_start label inner)
-    unformed_good label inner h p =
-        let start = start_tokens label.start in
-        each-append TokenIs label.outer.tokens (start ++ inner.tokens) h (each-append TokenIs start inner.tokens (start_good label.start) p)
-
     part_good : (start : LabelStart) (found : LinkOrCall) (tokens : List Token) → FormedIs Leading found → Each TokenIs tokens
         → Good (formed_part start found tokens)
-    part_good start (Leads end) tokens h p = reads.linked (started_kind start) end.target (with_spans tokens) h (emphasized_good Good AllGood reads.nests tokens p)
+    part_good start (Leads end) tokens h p =
+        reads.linked (started_kind start) end.target (with_spans tokens) h (spans_hold Good AllGood nest_siblings tokens p)
     part_good start (Calls label) tokens h p = reads.call label
 
-    formed_good : (label : OpenLabel) (found : LinkOrCall) (inner : Text) → LabelGood label → FormedIs Leading found → TextGood inner
-        → TextGood (with_link_or_call label found inner)
-    formed_good label found inner h q p =
-        each-append TokenIs label.outer.tokens (Item (formed_part label.start found inner.tokens) ∷ []) h (part_good label.start found inner.tokens q p, tt)
+    run_read : (content : List InlineCode) → Codes (codes_of content) → WhereSome RunIs (run_at context.options content)
+    run_read [] h = tt
+    run_read (c ∷ cs) h =
+        where_gives (λ (r : Run). Good (Leaf (Data r.marker))) RunIs (run_at context.options (c ∷ cs))
+        (λ r q. (q, λ pair kids. reads.nests.span (span_of r.marker pair) kids)) (reads.marker c cs h)
 
-    ended_good : (label : OpenLabel) (others : List OpenLabel) (inner : Text) (found : Option LinkOrCall) → LabelGood label → Each LabelGood others
-        → TextGood inner → FormsGood found → StepGood (ended_step label others inner found)
-    ended_good label others inner None h hs p q =
-        read_good (Item (Leaf (Data 93)) ∷ []) (reading (with_plain_start label inner) others) (reads.close, tt) (unformed_good label inner h p, hs)
-    ended_good label others inner (Some found) h hs p q = (formed_good label found inner h q p, hs)
+    abbrev AnyStart : LabelStart → Type 0
+    AnyStart start = Unit {0}
 
-    -- ---- places
+    abbrev CodesAre : List InlineCode → Type 0
+    CodesAre content = Codes (codes_of content)
 
-    ended_by_good : (content : List ℕ) (label : OpenLabel) (inner : Text) → Codes content → FormsGood (ended_by context content label inner)
-    ended_by_good content label inner c =
-        let between = text_before label.from content in
-        cond_both (may_form label.start inner.holds_link) (formed_at context label.start between (drop 1 content)) None FormsGood
-        (λ _. reads.forms label.start between content c) (λ _. tt)
-
-    label_end_good : (content : List ℕ) (inner : Text) (open_labels : List OpenLabel) → Codes content → TextGood inner → Each LabelGood open_labels
-        → StepGood (label_end_step context content inner open_labels)
-    label_end_good content inner [] c p hs = read_good (Item (Leaf (Data 93)) ∷ []) (reading inner []) (reads.close, tt) (p, tt)
-    label_end_good content inner (label ∷ others) c p hs =
-        ended_good label others inner (ended_by context content label inner) hs.0 hs.1 p (ended_by_good content label inner c)
-
-    last_good : (code : ℕ) (content : List ℕ) (r : Reading) → Good (Leaf (Data code)) → Codes content → ReadingGood r → StepGood (last_step context code content r)
-    last_good code content r h c p =
-        cond_both _ (label_end_step context content r.now r.open_labels) (data_step code r) StepGood
-        (λ _. label_end_good content r.now r.open_labels c p.0 p.1) (λ _. read_good (Item (Leaf (Data code)) ∷ []) r (h, tt) p)
-
-    label_step_good : (code : ℕ) (content : List ℕ) (r : Reading) (start : Option LabelStart) → Good (Leaf (Data code)) → Codes content → ReadingGood r
-        → StepGood (label_step context code content r start)
-    label_step_good code content r None h c p = last_good code content r h c p
-    label_step_good code content r (Some start) h c p = (tt, (p.0, p.1))
-
-    abbrev RunGood : Option Run → Type 0
-    RunGood o = WhereSome (λ (r : Run). Good (Leaf (Data r.marker))) o
-
-    run_step_good : (code : ℕ) (content : List ℕ) (r : Reading) (found : Option Run) → Good (Leaf (Data code)) → Codes content → RunGood found → ReadingGood r
-        → StepGood (run_step context code content r found)
-    run_step_good code content r None h c q p = label_step_good code content r (label_start_at context.options.constructs content) h c p
-    run_step_good code content r (Some found) h c q p = read_good (Delimiters found ∷ []) r (q, tt) p
-
-    leaf_step_good : (code : ℕ) (content : List ℕ) (r : Reading) (run : Option Run) (found : Option Found) → (found ≡ None → Good (Leaf (Data code)))
-        → Codes content → RunGood run → ReadingGood r → BeginsGood Good found → StepGood (leaf_step context code content r run found)
-    leaf_step_good code content r run None h c q p b = run_step_good code content r run (h refl) c q p
-    leaf_step_good code content r run (Some found) h c q p b =
-        read_good (leaf_tokens found) r
-        (each_mapped (λ (part : InlineLeaf). Good (Leaf part)) TokenIs (λ part. Item (Leaf part)) found.parts (λ i h. h) b) p
-
-    step_good : (r : Reading) (c : InlineCode) (cs : List InlineCode) → Codes (codes_of (c ∷ cs)) → ReadingGood r → StepGood (step context r c cs)
-    step_good r c cs h p =
-        leaf_step_good c.code (codes_of (c ∷ cs)) r (run_at context.options (c ∷ cs)) (leaf_here context (c ∷ cs))
-        (λ none. reads.byte c cs h none) h (reads.marker c cs h) p (reads.begun (c ∷ cs) h)
-
-    scan_good : (k : ℕ) (r : Reading) (content : List InlineCode) → Codes (codes_of content) → ReadingGood r → ReadingGood (scan context k r content)
-    scan_good k r [] h p = p
-    scan_good zero r (c ∷ cs) h p =
-        then_good (step context r c cs) (λ k next. scan context k next cs) (step_good r c cs h p)
-        (λ k next q. scan_good k next cs (reads.tail c.code (codes_of cs) h) q)
-    scan_good (suc k) r (c ∷ cs) h p = scan_good k r cs (reads.tail c.code (codes_of cs) h) p
-
-    whole_good : (inner : Text) (open_labels : List OpenLabel) → TextGood inner → Each LabelGood open_labels
-        → TextGood (fold (λ inner label. with_plain_start label inner) inner open_labels)
-    whole_good inner [] p h = p
-    whole_good inner (label ∷ others) p h = whole_good (with_plain_start label inner) others (unformed_good label inner h.0 p) h.1
+    keeps : Keeps context CodesAre AnyStart TextIs
+    keeps =
+        record {
+          tail = λ c cs h. reads.tail c.code (codes_of cs) h;
+          starts = λ content h. where_always AnyStart (label_start_at context.options.constructs (codes_of content)) (λ start. tt);
+          empty = tt;
+          leaf = λ t content h p.
+              where_gives (LeafGood Good) _ (leaf_here context content)
+              (λ found q. more_good t (leaf_tokens found) p
+              (each_mapped (λ (part : InlineLeaf). Good (Leaf part)) TokenIs (λ (part : InlineLeaf). Item (Leaf part)) found.parts (λ part g. g) q))
+              (reads.begun content h);
+          run = λ t content h p.
+              where_gives RunIs _ (run_at context.options content) (λ run q. more_good t (Delimiters run ∷ []) p (q, tt)) (run_read content h);
+          byte = λ t c cs h none p. more_good t (Item (Leaf (Data c.code)) ∷ []) p (reads.byte c cs h none, tt);
+          close = λ t p. more_good t (Item (Leaf (Data 93)) ∷ []) p (reads.close, tt);
+          unformed = λ label inner h p.
+              let start = start_tokens label.start in
+              more_good label.outer (start ++ inner.tokens) h (each-append TokenIs start inner.tokens (start_good label.start) p);
+          formed = λ label inner content h on may s q p.
+              let between = text_before label.from (codes_of content) in
+              where_gives (FormedIs Leading) _ (formed_at context label.start between (drop 1 (codes_of content)))
+              (λ found f. more_good label.outer (Item (formed_part label.start found inner.tokens) ∷ []) q (part_good label.start found inner.tokens f p, tt))
+              (reads.forms label.start between (codes_of content) h);
+        }
 
     -- from a place of a content on, before its literals are found
     pub spans_good : (content : List InlineCode) → Codes (codes_of content) → AllGood (spans_from context content)
     spans_good content h =
-        let r = scan context 0 (reading (text [] false) []) content in
-        let p : ReadingGood r = scan_good 0 (reading (text [] false) []) content h (tt, tt) in
-        emphasized_good Good AllGood reads.nests (whole_text r).tokens (whole_good r.now r.open_labels p.0 p.1)
+        spans_hold Good AllGood nest_siblings (whole_text (scan context 0 (reading (text [] false) []) content)).tokens
+        (text_holds context CodesAre AnyStart TextIs keeps content h)

@@ -13,3 +13,8 @@ pub mod GfmAutolinkLiteral
 pub mod LabelPairs
 pub mod LiteralsKept
 pub mod InlineReads
+pub mod EachPart
+pub mod LeavesFound
+pub mod SpansHold
+pub mod ScanHolds
+pub mod MayStand

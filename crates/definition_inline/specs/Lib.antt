@@ -7,6 +7,7 @@ pub mod Title
 pub mod Definition
 pub mod LabelMatch
 pub mod Inline
+pub mod EachPart
 pub mod Targets
 pub mod CharacterEscape
 pub mod CharacterReference
@@ -29,6 +30,7 @@ pub mod Spans
 pub mod SpanRows
 pub mod Scan
 pub mod LabelPairs
+pub mod MayStand
 pub mod Strings
 pub mod ReferenceRows
 pub mod BuiltinReferences

@@ -1,6 +1,6 @@
 -- Blocks printed as pieces are the blocks printed as bytes.
 use Rattle.std.proofs.Common.{◌≡◌, ℕ, Bool, true, false, cond, ◌&&◌, not, List, [], ◌∷◌, ◌++◌, Option, None, Some, refl, sym, ap, ◌∙◌, append_assoc, codes, map}
-use Rattle.std.proofs.Common.{eqb, drop}
+use Rattle.std.proofs.Common.{eqb}
 use Rattle.std.specs.Fmt.{decimal}
 use Rattle.std.specs.List.{fold, flat_map}
 use Rattle.std.proofs.lemmas.List.{append-nil}
@@ -14,38 +14,38 @@ use Rattle.definition_text.specs.BlockLines.{BlockLine, own_lines}
 use Rattle.definition_text.specs.Columns.{code_byte, bytes_of}
 use Rattle.definition_text.specs.Encode.{encode}
 use Rattle.definition_text.specs.Lines.{ending_text}
-use Rattle.definition_text.specs.InlineCode.{InlineCode, codes_of}
 use Rattle.definition_inline.specs.Inline.{Inlines}
-use Rattle.definition_inline.specs.GfmTaskListItem.{check_at, check_size}
-use Rattle.definition_inline.specs.Scan.{inlines_from, without_indent}
 use Rattle.definition_block.specs.Container.{Quote, Item, Footnote}
 use Rattle.markdown_options.specs.declared.container.Item.{Item as ItemOf}
 use Rattle.definition_block.specs.Blocks as tree
 use Rattle.definition_block.specs.Lists.{is_loose}
-use Rattle.definition_inline.specs.Targets.{Targets, linked_by}
+use Rattle.definition_inline.specs.Targets.{Targets}
 use Rattle.definition_page.specs.TextTables.{TextTables}
-use Rattle.definition_page.specs.Tags.{Words, Number, said_bytes, Attribute, Tag, tag, bare_tag, attribute, start_tag, end_tag, void_tag, attribute_bytes}
-use Rattle.definition_page.specs.Pieces.{Piece, Close, Void, Says, Eol, Fresh, NoteEnd}
+use Rattle.definition_page.specs.Tags.{Words, Number, said_bytes, Attribute, Tag, tag, bare_tag, start_tag, end_tag, attribute_bytes}
+use Rattle.definition_page.specs.Pieces.{Piece, Close, Says, Eol, Fresh, NoteEnd}
 use Rattle.definition_page.specs.Layout.{LayoutState, layout_state, lay}
 use Rattle.definition_page.specs.InlinePieces.{Meaning, element, inline_pieces}
 use Rattle.definition_page.specs.Page as page
-use Rattle.definition_page.specs.Read.{Reading, reading, context_of, Standing, on_page, in_container, in_item, next_standing, text_content, read_text}
-use Rattle.definition_page.specs.Read.{checked_paragraph, read_paragraph, read_blocks, read_table, info_text, code_lines, without_ending, after_code}
-use Rattle.definition_page.specs.Read.{list_number}
-use Rattle.definition_page.specs.BlockPieces.{Place, says, checkable_attributes, done_attributes, check_tag, code_line, html_line, heading_name}
+use Rattle.definition_page.specs.Read.{Reading, Standing, on_page, in_container, in_item, next_standing, read_text, read_paragraph, read_blocks}
+use Rattle.definition_page.specs.Read.{read_table, info_text, code_lines, without_ending, after_code, list_number}
+use Rattle.definition_page.specs.BlockPieces.{Place, says, code_line, html_line, heading_name}
 use Rattle.definition_page.specs.BlockPieces.{info_attributes, list_tag, is_silent, last_visible, ends_plainly, fresh_unless, fenced_pieces, block_pieces}
 use Rattle.definition_page.specs.BlockPieces.{children_pieces}
-use Rattle.html_bytes.specs.RawHtml.{raw_html}
-use Rattle.html_bytes.specs.Document.{Document, document, meaning_of, text_of, checked_text, info_of}
-use Rattle.html_bytes.specs.InlineHtml as bytes_inline
-use Rattle.html_bytes.specs.InlineHtml.{check_html}
+use Rattle.html_bytes.specs.RawHtml.{raw_bytes}
+use Rattle.html_bytes.specs.Document.{Document, document, reading_of, document_meaning, structure_pieces, text_of, info_of}
 use Rattle.html_bytes.specs.Layout as bytes_layout
 use Rattle.html_bytes.specs.Pieces as bytes
 use Rattle.html_bytes.specs.Html as old
 use Rattle.html_bytes.proofs.SameTable.{end_said, ending_said, table_same}
 use Rattle.html_bytes.proofs.SameLayout.{Same, Adds, add, fresh, add_nil, add_add, none_same, joined, after_fresh, after_added, element_same, element_with}
 use Rattle.html_bytes.proofs.SameLayout.{says_added}
-use Rattle.html_bytes.proofs.SameText.{one_attribute, piece_meaning, raw_said, text_same}
+use Rattle.html_bytes.proofs.SameText.{pieces_same}
+
+-- ---- attributes
+
+-- an attribute, and nothing after it
+one_attribute : (start v quote : List ℕ) → start ++ (v ++ []) ++ quote ++ [] ≡ start ++ v ++ quote
+one_attribute start v quote = append-nil (start ++ (v ++ []) ++ quote) ∙ ap (λ x. start ++ x ++ quote) (append-nil v)
 
 -- ---- lines
 
@@ -61,8 +61,7 @@ code_said (l ∷ ls) =
 
 html_line_said : (options : CompileOptions) (line : BlockLine) → flat_map said_bytes (html_line options line) ≡ old.html_line options line
 html_line_said options line =
-    ap (λ x. x ++ (encode (ending_text line.ending) ++ [])) (raw_said options (bytes_of line.codes))
-    ∙ ap (λ x. raw_html options (bytes_of line.codes) ++ x) (append-nil (encode (ending_text line.ending)) ∙ end_said line.ending)
+    ap (λ x. raw_bytes options (bytes_of line.codes) ++ x) (append-nil (encode (ending_text line.ending)) ∙ end_said line.ending)
 
 html_said : (options : CompileOptions) (ls : List BlockLine) → flat_map said_bytes (flat_map (html_line options) ls) ≡ old.html_of options ls
 html_said options [] = refl
@@ -165,17 +164,17 @@ module _ (default : List ℕ) (options : Options) (tables : TextTables) (ds : Ta
   d = document options tables ds
 
   abbrev pub r : Reading
-  r = reading tables options.parse ds
+  r = reading_of d
 
   abbrev pub m : Meaning
-  m = piece_meaning options.parse.constructs options.compile tables.names (linked_by ds.definitions) ds.footnotes
+  m = document_meaning d
 
   -- pieces that lay out the same
   abbrev Alike : List Piece → List bytes.Piece → Type 0
   Alike ps bs = Same options.compile default ps bs
 
-  structure_same : (is : Inlines) → Alike (inline_pieces m is) (bytes_inline.inline_pieces (meaning_of d) is)
-  structure_same is = text_same options.parse.constructs options.compile tables.names (linked_by ds.definitions) ds.footnotes default is
+  structure_same : (is : Inlines) → Alike (inline_pieces m is) (structure_pieces d is)
+  structure_same is = pieces_same options.compile default (inline_pieces m is)
 
   -- a text between tags
   heading_same : (rank : ℕ) (ls : List BlockLine)
@@ -188,38 +187,6 @@ module _ (default : List ℕ) (options : Options) (tables : TextTables) (ds : Ta
       (text_of d ls)
       refl refl (structure_same (read_text r ls)))
 
-  check_same : (done : Bool) → void_tag (check_tag options.compile done) ≡ check_html options.compile done
-  check_same done = by_case options.compile.gfm_task_list_item_checkable done
-    where
-      by_case : (checkable done : Bool)
-          → void_tag (tag (codes "input") (attribute (codes "type") (codes "checkbox") ∷ checkable_attributes checkable ++ done_attributes done))
-          ≡ codes "<input type=\"checkbox\"" ++ cond checkable [] (codes " disabled=\"\"") ++ cond done (codes " checked=\"\"") [] ++ codes " />"
-      by_case true true = refl
-      by_case true false = refl
-      by_case false true = refl
-      by_case false false = refl
-
-  -- the text after a check
-  done_same : (content : List InlineCode) (done : Bool)
-      → Alike (Void (check_tag options.compile done) ∷ inline_pieces m (inlines_from (context_of r) (drop check_size content)))
-      (checked_text d content (Some done))
-  done_same content done l =
-      let is = inlines_from (context_of r) (drop check_size content) in
-      ap (λ x. fold (lay options.compile default) (add l x) (inline_pieces m is)) (check_same done) ∙ structure_same is
-      (add l (check_html options.compile done))
-
-  -- what holds of each paragraph holds of one with this check
-  by_check : (P : page.Block → Type 0) → ((check : Option Bool) (is : Inlines) → P (page.Paragraph check is))
-      → (content : List InlineCode) (found : Option Bool)
-      → P (checked_paragraph r content found)
-  by_check P each content None = each None (inlines_from (context_of r) content)
-  by_check P each content (Some done) = each (Some done) (inlines_from (context_of r) (drop check_size content))
-
-  of_paragraph : (P : page.Block → Type 0) → ((check : Option Bool) (is : Inlines) → P (page.Paragraph check is)) → (first : Bool) (ls : List BlockLine)
-      → P (read_paragraph r first ls)
-  of_paragraph P each first ls =
-      let content = without_indent (text_content r ls) in by_check P each content (check_at options.parse.constructs first (codes_of content))
-
   -- a text alone or between the tags of a paragraph
   tight_same : (text : List Piece) (shown : List bytes.Piece) → Alike text shown → (tight : Bool)
       → Alike (cond tight text (Fresh ∷ element (bare_tag (codes "p")) text))
@@ -228,24 +195,11 @@ module _ (default : List ℕ) (options : Options) (tables : TextTables) (ds : Ta
   tight_same text shown same false l =
       element_same options.compile default (bare_tag (codes "p")) (codes "<p>") (codes "</p>") text shown refl refl same (fresh default l)
 
-  checked_same : (place : Place) (before : Option page.Block) (content : List InlineCode) (found : Option Bool)
-      → Alike (block_pieces m place before (checked_paragraph r content found))
-      (cond place.tight (checked_text d content found)
-      (bytes.Fresh ∷ bytes.Bytes (codes "<p>") ∷ checked_text d content found ++ bytes.Bytes (codes "</p>") ∷ []))
-  checked_same place before content None =
-      tight_same (inline_pieces m (inlines_from (context_of r) content)) (checked_text d content None)
-      (structure_same (inlines_from (context_of r) content)) place.tight
-  checked_same place before content (Some done) =
-      tight_same (Void (check_tag options.compile done) ∷ inline_pieces m (inlines_from (context_of r) (drop check_size content)))
-      (checked_text d content (Some done))
-      (done_same content done) place.tight
-
   paragraph_same : (s : Standing) (tight silent : Bool) (before : Option page.Block) (ls : List BlockLine)
-      → Alike (block_pieces m (place_in s tight) before (read_paragraph r s.first ls))
+      → Alike (block_pieces m (place_in s tight) before (page.Paragraph (read_paragraph r s.first ls)))
       (old.block_pieces d s tight silent (tree.Paragraph ls))
   paragraph_same s tight silent before ls =
-      let content = without_indent (text_content r ls) in
-      checked_same (place_in s tight) before content (check_at options.parse.constructs s.first (codes_of content))
+      let is = read_paragraph r s.first ls in tight_same (inline_pieces m is) (structure_pieces d is) (structure_same is) tight
 
   class_same : (info : List ℕ) → start_tag (tag (codes "code") (info_attributes (info_text r info))) ≡ codes "<code" ++ old.class_of d info ++ codes ">"
   class_same [] = refl
@@ -301,10 +255,7 @@ module _ (default : List ℕ) (options : Options) (tables : TextTables) (ds : Ta
       → ends_plainly tight (last_visible before (read_blocks r (record { top = false; first = first }) bs)) ≡ old.ends_tight tight said bs
   plain_same first tight before said tree.Nil h = h
   plain_same first tight before said (tree.Cons (tree.Paragraph ls) bs) h =
-      let others = read_blocks r (record { top = false; first = first && false }) bs in
-      ap (λ b. ends_plainly tight b) (of_paragraph (λ b. last_visible before (page.Cons b others) ≡ last_visible (Some b) others) (λ check is. refl) first ls)
-      ∙ plain_same (first && false) tight (Some (read_paragraph r first ls)) tight bs
-      (of_paragraph (λ b. ends_plainly tight (Some b) ≡ tight) (λ check is. refl) first ls)
+      plain_same (first && false) tight (Some (page.Paragraph (read_paragraph r first ls))) tight bs refl
   plain_same first tight before said (tree.Cons (tree.Definition label destination title) bs) h = plain_same (first && false) tight before said bs h
   plain_same first tight before said (tree.Cons (tree.Heading rank ls) bs) h =
       plain_same (first && false) tight (Some (page.Heading rank (read_text r ls))) (said && false) bs (and_false said)
@@ -433,17 +384,13 @@ module _ (default : List ℕ) (options : Options) (tables : TextTables) (ds : Ta
   twice : (s : Standing) (tight : Bool) (bs : tree.Blocks) → AreSameTwice s tight bs
   twice s tight tree.Nil = (λ silent before h l. refl, λ before h l. refl)
   twice s tight (tree.Cons (tree.Paragraph ls) bs) =
+      let is = read_paragraph r s.first ls in
       let each : EachSame s tight (tree.Cons (tree.Paragraph ls) bs) = λ silent before l.
-      siblings (place_in s tight) before (read_paragraph r s.first ls) (read_blocks r (next_standing s (tree.Paragraph ls)) bs)
+      siblings (place_in s tight) before (page.Paragraph is) (read_blocks r (next_standing s (tree.Paragraph ls)) bs)
       (old.block_pieces d s tight silent (tree.Paragraph ls)) (old.children_pieces d (next_standing s (tree.Paragraph ls)) tight tight bs)
       (paragraph_same s tight silent before ls)
-      ((twice (next_standing s (tree.Paragraph ls)) tight bs).0 tight (Some (read_paragraph r s.first ls))
-      (of_paragraph (λ b. is_silent (place_in s tight) (Some b) ≡ tight) (λ check is. refl) s.first ls)) l in
-      let others = read_blocks r (next_standing s (tree.Paragraph ls)) bs in
-      let kept = of_paragraph (λ b. without_ending (page.Cons b others) ≡ page.Cons b others) (λ check is. refl) s.first ls in
-      each_twice s tight (tree.Paragraph ls) bs each
-      (λ before h l. ap (λ all. fold (lay options.compile default) l (children_pieces m (place_in s tight) before all)) kept
-      ∙ each true before l)
+      ((twice (next_standing s (tree.Paragraph ls)) tight bs).0 tight (Some (page.Paragraph is)) refl) l in
+      each_twice s tight (tree.Paragraph ls) bs each (λ before h l. each true before l)
   twice s tight (tree.Cons (tree.Heading rank ls) bs) =
       let each : EachSame s tight (tree.Cons (tree.Heading rank ls) bs) = λ silent before l.
       siblings (place_in s tight) before (page.Heading rank (read_text r ls)) (read_blocks r (next_standing s (tree.Heading rank ls)) bs)

@@ -12,20 +12,19 @@ use Rattle.definition_inline.specs.Inline as inline
 use Rattle.markdown_options.specs.declared.align_kind.AlignKind.{AlignKind}
 use Rattle.markdown_options.specs.declared.align_kind.AlignKind.TheVariants as align
 use Rattle.definition_block.specs.GfmTable.{Cell, line_cells}
-use Rattle.definition_inline.specs.Targets.{Targets, linked_by}
+use Rattle.definition_inline.specs.Targets.{Targets}
 use Rattle.definition_page.specs.TextTables.{TextTables}
 use Rattle.definition_page.specs.Tags.{tag, bare_tag, start_tag}
 use Rattle.definition_page.specs.Pieces.{Piece, Fresh}
 use Rattle.definition_page.specs.InlinePieces.{Meaning, element, inline_counts, inline_pieces}
-use Rattle.definition_page.specs.Read.{Reading, reading, read_cell, read_row, read_table}
+use Rattle.definition_page.specs.Read.{Reading, read_cell, read_row, read_table}
 use Rattle.definition_page.specs.GfmTable.{head_line, delimiter_line, body_lines, line_aligns, align_attributes, cell_pieces, cells_pieces, row_pieces}
 use Rattle.definition_page.specs.GfmTable.{ending_piece, body_row_pieces, head_pieces, body_pieces, table_pieces}
-use Rattle.html_bytes.specs.Document.{Document, document, meaning_of, cell_of, cell_counts}
+use Rattle.html_bytes.specs.Document.{Document, document, reading_of, document_meaning, cell_of, cell_counts}
 use Rattle.html_bytes.specs.Pieces as bytes
 use Rattle.html_bytes.specs.GfmTable as old
-use Rattle.html_bytes.specs.InlineHtml as bytes_inline
 use Rattle.html_bytes.proofs.SameLayout.{Same, add, fresh, none_same, joined, after_fresh, element_same, element_with}
-use Rattle.html_bytes.proofs.SameText.{piece_meaning, all_counts_same, text_same}
+use Rattle.html_bytes.proofs.SameText.{pieces_same}
 
 -- ---- endings
 
@@ -49,18 +48,14 @@ module _ (default : List ℕ) (options : Options) (tables : TextTables) (ds : Ta
   d = document options tables ds
 
   abbrev r : Reading
-  r = reading tables options.parse ds
+  r = reading_of d
 
   abbrev m : Meaning
-  m = piece_meaning options.parse.constructs options.compile tables.names (linked_by ds.definitions) ds.footnotes
+  m = document_meaning d
 
   -- pieces that lay out the same
   abbrev AreSame : List Piece → List bytes.Piece → Type 0
   AreSame ps bs = Same options.compile default ps bs
-
-  -- the text of a cell
-  structure_same : (is : inline.Inlines) → AreSame (inline_pieces m is) (bytes_inline.inline_pieces (meaning_of d) is)
-  structure_same is = text_same options.parse.constructs options.compile tables.names (linked_by ds.definitions) ds.footnotes default is
 
   cell_same : (name : List ℕ) (a : AlignKind) (c : Cell) → AreSame (cell_pieces m name a (read_cell r c)) (old.cell_pieces d name a c)
   cell_same name a c =
@@ -68,7 +63,7 @@ module _ (default : List ℕ) (options : Options) (tables : TextTables) (ds : Ta
       (bytes.Bytes (old.cell_tag name a) ∷ cell_of d c ++ bytes.Bytes (old.cell_end name) ∷ [])
       (element_same options.compile default (tag name (align_attributes a)) (old.cell_tag name a) (old.cell_end name) (inline_pieces m (read_cell r c))
       (cell_of d c)
-      (tag_same name a) refl (structure_same (read_cell r c)))
+      (tag_same name a) refl (pieces_same options.compile default (inline_pieces m (read_cell r c))))
 
   missing_same : (name : List ℕ) (a : AlignKind) → AreSame (cell_pieces m name a inline.Nil) (old.missing_pieces name a)
   missing_same name a =
@@ -83,7 +78,7 @@ module _ (default : List ℕ) (options : Options) (tables : TextTables) (ds : Ta
   more_same (c ∷ cs) =
       joined options.compile default (inline_counts m (read_cell r c)) (flat_map (inline_counts m) (map (read_cell r) cs)) (cell_counts d c)
       (flat_map (cell_counts d) cs)
-      (all_counts_same options.parse.constructs options.compile tables.names (linked_by ds.definitions) ds.footnotes default (read_cell r c)) (more_same cs)
+      (pieces_same options.compile default (inline_counts m (read_cell r c))) (more_same cs)
 
   cells_same : (name : List ℕ) (aligns : List AlignKind) (cs : List Cell)
       → AreSame (cells_pieces m name aligns (map (read_cell r) cs)) (old.cells_pieces d name aligns cs)

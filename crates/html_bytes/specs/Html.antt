@@ -11,7 +11,7 @@ use Rattle.markdown_options.specs.declared.beside.Kind.{Kind}
 use Rattle.definition_text.specs.Lines.{ending_text, first_line}
 use Rattle.definition_text.specs.Columns.{code_byte, bytes_of}
 use Rattle.definition_text.specs.Encode.{encode}
-use Rattle.html_bytes.specs.RawHtml.{raw_html}
+use Rattle.html_bytes.specs.RawHtml.{raw_bytes}
 use Rattle.definition_text.specs.BlockLines.{BlockLine, own_lines}
 use Rattle.definition_block.specs.Tree.{Block, Paragraph, Heading, Break, IndentedCode, FencedCode, Html, Table, Definition, Holds, Items, Ending, Blank}
 use Rattle.definition_block.specs.Tree.{Blocks, Nil, Cons, is_ending, blocks}
@@ -35,7 +35,7 @@ code_of ls = flat_map code_line ls
 
 -- lines of HTML with their endings; the columns that are left of a tab aren't printed
 abbrev pub html_line : CompileOptions → BlockLine → List ℕ
-html_line options line = raw_html options (bytes_of line.codes) ++ ending_text line.ending
+html_line options line = raw_bytes options (bytes_of line.codes) ++ ending_text line.ending
 
 abbrev pub html_of : CompileOptions → List BlockLine → List ℕ
 html_of options ls = flat_map (html_line options) ls

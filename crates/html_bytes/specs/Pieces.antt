@@ -1,5 +1,7 @@
 -- What is printed.
-use Rattle.std.specs.Prelude.{ℕ, if◌then◌else◌, List, ◌++◌}
+use Rattle.std.specs.Prelude.{ℕ, if◌then◌else◌, List, [], ◌++◌, map}
+use Rattle.definition_page.specs.Tags.{said_bytes, start_tag, end_tag, void_tag}
+use Rattle.definition_page.specs.Pieces as page
 use Rattle.definition_page.specs.Pieces.{is_fresh}
 
 -- bytes, the default ending, or that ending unless nothing, CR or LF stands before; and what footnotes need: a call, and one that isn't printed but counts,
@@ -23,3 +25,30 @@ print default out (CallOf place label) = out
 print default out (CountOf place label) = out
 print default out NoteStart = out
 print default out NoteEnd = out
+
+-- ---- pieces of the definition
+
+-- a piece in bytes
+abbrev pub piece_bytes : page.Piece → Piece
+piece_bytes (page.Open t) = Bytes (start_tag t)
+piece_bytes (page.Close name) = Bytes (end_tag name)
+piece_bytes (page.Void t) = Bytes (void_tag t)
+piece_bytes (page.Says said) = Bytes (said_bytes said)
+piece_bytes page.Eol = Eol
+piece_bytes page.Fresh = Fresh
+piece_bytes (page.CallOf place label) = CallOf place label
+piece_bytes (page.CountOf place label) = CountOf place label
+piece_bytes page.NoteStart = NoteStart
+piece_bytes page.NoteEnd = NoteEnd
+
+-- pieces in bytes
+abbrev pub in_bytes : List page.Piece → List Piece
+in_bytes pieces = map piece_bytes pieces
+
+-- what a piece prints wherever it stands: endings and calls aren't told
+abbrev pub piece_html : page.Piece → List ℕ
+piece_html (page.Open t) = start_tag t
+piece_html (page.Close name) = end_tag name
+piece_html (page.Void t) = void_tag t
+piece_html (page.Says said) = said_bytes said
+piece_html piece = []

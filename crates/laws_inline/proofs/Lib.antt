@@ -1,7 +1,6 @@
 mod Each
-mod Literals
+mod Lacks
 mod NestedLiterals
-mod MayStand
 pub mod Occurs
 pub mod Strings
 pub mod Pairs

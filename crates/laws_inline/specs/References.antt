@@ -1,7 +1,7 @@
 -- Labels of references and of calls of footnotes (CommonMark 6.3 and 6.4).
 use Rattle.std.specs.Prelude.{◌≡◌, ℕ, Bool, false, not, List}
 use Rattle.definition_text.specs.InlineCode.{InlineCode}
-use Rattle.definition_inline.specs.Inline.{Target, Resource, Reference, Inline, Link, Image, Call}
+use Rattle.definition_inline.specs.Inline.{Target, Resource, Reference, Inline, Linked, Call}
 use Rattle.definition_inline.specs.Scan.{InlineContext, inlines}
 use Rattle.laws_inline.specs.Occurs.{has}
 
@@ -12,8 +12,7 @@ is_undefined is_defined (Reference label) = not (is_defined label)
 
 -- a link or an image that leads to the label of no definition, or a call of the label of no footnote
 abbrev pub leads_nowhere : (List ℕ → Bool) → (List ℕ → Bool) → Inline → Bool
-leads_nowhere is_defined is_footnote (Link target kids) = is_undefined is_defined target
-leads_nowhere is_defined is_footnote (Image target kids) = is_undefined is_defined target
+leads_nowhere is_defined is_footnote (Linked kind target kids) = is_undefined is_defined target
 leads_nowhere is_defined is_footnote (Call label) = not (is_footnote label)
 leads_nowhere is_defined is_footnote i = false
 
