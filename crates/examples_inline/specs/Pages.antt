@@ -1,5 +1,6 @@
 -- The HTML of texts, by the definition and small tables.
 use Rattle.std.specs.Prelude.{ℕ, Bool, true, if◌then◌else◌, ◌==◌, ◌&&◌, ◌||◌, nat_le, List, [], ◌∷◌, Option, None, Some, codes}
+use Rattle.std.specs.List.{fold}
 use Rattle.std.specs.Str.{bytes_eq}
 use Rattle.std.specs.Char.{is_ascii_punctuation}
 use Rattle.markdown_options.specs.declared.line_ending.LineEnding.TheVariants.{LineFeed}
@@ -10,10 +11,12 @@ use Rattle.markdown_options.specs.declared.beside.Kind.TheVariants.{Whitespace}
 use Rattle.definition_text.specs.BlockLines.{BlockLine, block_line}
 use Rattle.definition_text.specs.InlineCode.{inline_content}
 use Rattle.definition_inline.specs.Scan.{inlines}
-use Rattle.html_bytes.specs.InlineHtml.{inline_html}
 use Rattle.definition_inline.specs.Targets.{no_targets}
 use Rattle.definition_page.specs.TextTables.{TextTables}
-use Rattle.html_bytes.specs.Document.{document, context_of, meaning_of}
+use Rattle.definition_page.specs.Pieces.{print}
+use Rattle.definition_page.specs.InlinePieces.{inline_pieces}
+use Rattle.definition_page.specs.Read.{reading, context_of, read}
+use Rattle.definition_page.specs.DocumentPieces.{meaning_of}
 use Rattle.definition_page.specs.Html.{html}
 
 -- ---- tables
@@ -113,11 +116,12 @@ with_tasks checkable = record default_options {
 
 -- ---- contents
 
--- the HTML of the content of these lines, before a character of this kind in the text
+-- the HTML of the content of these lines, before a character of this kind in the text, without definitions
 abbrev pub lines_html : Kind → List BlockLine → List ℕ
 lines_html after ls =
-    let d = document default_options tables no_targets in
-    inline_html (meaning_of d) (inlines (context_of d) (inline_content is_punctuation after ls))
+    let context = context_of (reading tables default_parse_options no_targets) in
+    let meaning = meaning_of tables default_options (read tables default_parse_options []) in
+    fold (print []) [] (inline_pieces meaning (inlines context (inline_content is_punctuation after ls)))
 
 -- the content of one line between characters of these kinds in the text
 abbrev pub line_between : Kind → Kind → List ℕ → List ℕ

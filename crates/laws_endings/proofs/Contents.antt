@@ -13,7 +13,7 @@ use Rattle.definition_text.specs.Bytes.{begins_with}
 use Rattle.definition_text.specs.Columns.{is_white}
 use Rattle.definition_text.specs.Content.{is_eol, text_before}
 use Rattle.definition_text.specs.InlineCode.{InlineCode, codes_of}
-use Rattle.definition_inline.specs.Inline.{Target, Inline, Data, Inlines, Found, or_else}
+use Rattle.definition_inline.specs.Inline.{InlineLeaf, Leaf, Data, Found, or_else}
 use Rattle.definition_inline.specs.CharacterEscape.{escape_at}
 use Rattle.definition_inline.specs.CharacterReference.{reference_at}
 use Rattle.definition_inline.specs.CodeText.{code_text_at}
@@ -27,11 +27,11 @@ use Rattle.definition_inline.specs.GfmLabelStartFootnote.{called_label, call_or_
 use Rattle.definition_inline.specs.Attention.{Run, is_marker, run_between, run_size, run_at}
 use Rattle.definition_inline.specs.Spans.{Token, Item, Delimiters, with_spans}
 use Rattle.definition_inline.specs.Scan.{InlineContext, leaf_at, leaf_here, LabelStart, LinkStart, ImageStart, starts_image, starts_link, label_start_at}
-use Rattle.definition_inline.specs.Scan.{start_more, start_tokens, may_form, label_part, formed_part, formed_at, makes_link, Text, text, OpenLabel, Reading}
+use Rattle.definition_inline.specs.Scan.{start_more, leaf_tokens, start_tokens, may_form, label_part, formed_part, formed_at, makes_link, Text, text, OpenLabel, Reading}
 use Rattle.definition_inline.specs.Scan.{reading, read_tokens, with_plain_start, with_link_or_call, Step, Next, data_step, ended_step, ended_by, label_end_step}
 use Rattle.definition_inline.specs.Scan.{last_step, label_step, run_step, leaf_step, step, and_then, scan, whole_text, inlines, inlines_from, without_indent}
 use Rattle.laws_endings.specs.Endings.{code_with, codes_with}
-use Rattle.laws_endings.specs.Inlines.{inline_code_with, content_with, target_with, inline_with, inlines_with}
+use Rattle.laws_endings.specs.Inlines.{inline_code_with, content_with, target_with, leaf_with, inline_with, inlines_with}
 use Rattle.laws_endings.specs.Laws.{InlinesLaw}
 use Rattle.laws_endings.proofs.Codes.{cond-under, same_code, before-with}
 use Rattle.laws_endings.proofs.Leaves.{if_found, or_else-with, same_byte, leaf_at-with}
@@ -116,15 +116,10 @@ module _ (e : LineEnding) where
       ∙ ap (λ tokens. text (tokens_with e outer ++ tokens) links) (sym (map-append (token_with e) starts inner.tokens))
       ∙ ap (λ tokens. text tokens links) (sym (map-append (token_with e) outer (starts ++ inner.tokens)))
 
-  label_part-with : (start : LabelStart) (target : Target) (kids : Inlines)
-      → label_part start (target_with e target) (inlines_with e kids) ≡ inline_with e (label_part start target kids)
-  label_part-with LinkStart target kids = refl
-  label_part-with ImageStart target kids = refl
-
   formed_part-with : (start : LabelStart) (found : LinkOrCall) (tokens : List Token)
       → formed_part start (formed_with e found) (tokens_with e tokens) ≡ inline_with e (formed_part start found tokens)
   formed_part-with start (Leads end) tokens =
-      ap (label_part start (target_with e end.target)) (emphasized-with e tokens) ∙ label_part-with start end.target (with_spans tokens)
+      ap (label_part start (target_with e end.target)) (emphasized-with e tokens)
   formed_part-with start (Calls label) tokens = refl
 
   formed-with : (label : OpenLabel) (found : LinkOrCall) (inner : Text)
@@ -139,13 +134,13 @@ module _ (e : LineEnding) where
   -- ---- one place
 
   data_step-with : (code : ℕ) (r : Reading) → data_step code (reading_with r) ≡ step_with (data_step code r)
-  data_step-with code r = ap (Next 0) (read_tokens-with (Item (Data code) ∷ []) r)
+  data_step-with code r = ap (Next 0) (read_tokens-with (Item (Leaf (Data code)) ∷ []) r)
 
   ended_step-with : (label : OpenLabel) (others : List OpenLabel) (inner : Text) (found : Option LinkOrCall)
       → ended_step (open_with label) (map open_with others) (text_with inner) (if_formed e found) ≡ step_with (ended_step label others inner found)
   ended_step-with label others inner None =
-      ap (λ now. Next 0 (read_tokens (Item (Data 93) ∷ []) (reading now (map open_with others)))) (unformed-with label inner)
-      ∙ ap (Next 0) (read_tokens-with (Item (Data 93) ∷ []) (reading (with_plain_start label inner) others))
+      ap (λ now. Next 0 (read_tokens (Item (Leaf (Data 93)) ∷ []) (reading now (map open_with others)))) (unformed-with label inner)
+      ∙ ap (Next 0) (read_tokens-with (Item (Leaf (Data 93)) ∷ []) (reading (with_plain_start label inner) others))
   ended_step-with label others inner (Some (Leads end)) =
       ap (λ now. Next end.size (reading now (map open_with others))) (formed-with label (Leads end) inner)
   ended_step-with label others inner (Some (Calls called_label)) =
@@ -196,9 +191,12 @@ module _ (e : LineEnding) where
       (prefix-with (λ code. eqb code c.code) (other_byte c.code 13 not.1.0 ∙ sym feed) (other_byte c.code 257 not.1.1 ∙ sym feed) (c ∷ cs))
       ∙ ap (made c.code size) (get_or-map (inline_code_with e) (c ∷ cs) (size - 1) c)
 
-  all_items : (is : List Inline) → map Item (map (inline_with e) is) ≡ tokens_with e (map Item is)
+  abbrev leaf_item : InlineLeaf → Token
+  leaf_item part = Item (Leaf part)
+
+  all_items : (parts : List InlineLeaf) → map leaf_item (map (leaf_with e) parts) ≡ tokens_with e (map leaf_item parts)
   all_items [] = refl
-  all_items (i ∷ is) = ap (λ tokens. Item (inline_with e i) ∷ tokens) (all_items is)
+  all_items (part ∷ parts) = ap (λ tokens. leaf_item (leaf_with e part) ∷ tokens) (all_items parts)
 
   module _ (context : InlineContext) (same : (label : List ℕ) → context.is_defined (codes_with e label) ≡ context.is_defined label)
       (same_call : (label : List ℕ) → context.is_footnote (codes_with e label) ≡ context.is_footnote label) where
@@ -260,7 +258,7 @@ module _ (e : LineEnding) where
         ∙ run_step-with c.code (codes_of (c ∷ cs)) r (run_at context.options (c ∷ cs))
     leaf_step-with c cs r (Some found) h =
         ap (λ tokens. Next (found.size - 1) (read_tokens tokens (reading_with r))) (all_items found.parts)
-        ∙ ap (Next (found.size - 1)) (read_tokens-with (map Item found.parts) r)
+        ∙ ap (Next (found.size - 1)) (read_tokens-with (leaf_tokens found) r)
 
     leaf_here-with : (content : List InlineCode) → leaf_here context (content_with e content) ≡ if_found e (leaf_here context content)
     leaf_here-with content =

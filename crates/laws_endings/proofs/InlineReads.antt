@@ -1,5 +1,5 @@
 -- The inline structure of a content of codes that stand for themselves: its parts are such codes, and no character reference is among them.
-use Rattle.std.proofs.Common.{◌≡◌, ℕ, suc, zero, ◌+◌, Bool, true, false, cond, eqb, ◌&&◌, ◌==◌, List, [], ◌∷◌, ◌++◌, map, Option, None, Some, take, drop, refl}
+use Rattle.std.proofs.Common.{◌≡◌, ℕ, suc, zero, Bool, true, false, cond, eqb, ◌&&◌, ◌==◌, List, [], ◌∷◌, map, Option, None, Some, take, drop, refl}
 use Rattle.std.proofs.Common.{sym, subst}
 use Rattle.std.specs.Prelude.{codes}
 use Rattle.std.specs.Char.{is_ascii_punctuation}
@@ -7,12 +7,12 @@ use Rattle.std.specs.List.{prefix_len}
 use Rattle.std.specs.Option.{option_map}
 use Rattle.std.proofs.lemmas.Bool.{cond_both, cond-false, and_parts}
 use Rattle.markdown_options.specs.declared.configuration.Constructs.{Constructs}
-use Rattle.definition_text.specs.Columns.{is_white, indent}
+use Rattle.definition_text.specs.Columns.{is_white}
 use Rattle.definition_text.specs.Bytes.{begins_with, after_all}
 use Rattle.definition_text.specs.Content.{Part, text_before, up_to, is_eol}
 use Rattle.definition_text.specs.Runs.{run, after_run}
 use Rattle.definition_text.specs.InlineCode.{InlineCode, codes_of}
-use Rattle.definition_inline.specs.Inline.{Data, Escape, Autolink, Literal, EscapedBreak, TrailingBreak, LineEnd, Found, leaf, or_else}
+use Rattle.definition_inline.specs.Inline.{InlineLeaf, Data, Found, leaf, or_else}
 use Rattle.definition_inline.specs.CharacterEscape.{escape_at}
 use Rattle.definition_inline.specs.CharacterReference.{reference_form, reference_after, reference_of, reference_at}
 use Rattle.definition_inline.specs.CodeText.{run_of, raw_part, raw_leaf, raw_at, code_text_at}
@@ -37,11 +37,11 @@ use Rattle.laws_endings.proofs.Contents.{no_ending_here}
 use Rattle.laws_endings.specs.Kinds.{may_mark}
 use Rattle.definition_inline.proofs.PartSteps.{resource_with_title, resource_with_destination}
 use Rattle.definition_inline.proofs.InlineReads.{LeafGood, BeginsGood, either_begins, Nests, FormedGood, Reads, spans_good}
+use Rattle.definition_inline.proofs.LiteralsKept.{Carries, literals_good, linked_good}
 use Rattle.laws_endings.proofs.Each.{Each, each-append, each-take, each-drop, each_map, WhereSome, where_passed}
 use Rattle.laws_endings.proofs.Neighbours.{marker_marks}
 use Rattle.laws_endings.proofs.LiteralTexts.{name_plain, StartPlain, start_plain}
-use Rattle.laws_endings.proofs.Parts.{TargetFits, IsFit, AreFit}
-use Rattle.laws_endings.proofs.AddressReads.{linked_fits}
+use Rattle.laws_endings.proofs.Parts.{TargetFits, IsFitLeaf, IsFit, AreFit}
 use Rattle.laws_endings.proofs.Fits.{Single, Plain, each_plain, no_ending_by, plain_byte, all_passed, Apart, before_apart, after_all_apart}
 use Rattle.laws_endings.proofs.Fits.{after_byte_apart, apart_from, white_fits, PartFits, title_fits, DestinationFits, destination_fits, TitleFits}
 use Rattle.laws_endings.proofs.Fits.{code_text_fits}
@@ -117,14 +117,18 @@ module _ (is_defined : List ℕ → Bool) where
 
 -- ---- constructs that hold no other
 
-abbrev pub LeafFits : Found → Type 0
-LeafFits l = LeafGood IsFit l
+abbrev pub FoundFits : Found → Type 0
+FoundFits found = LeafGood IsFit found
 
 abbrev pub BeginsFit : Option Found → Type 0
 BeginsFit o = BeginsGood IsFit o
 
 pub begin_or : (a b : Option Found) → BeginsFit a → BeginsFit b → BeginsFit (or_else a b)
 begin_or a b p q = either_begins IsFit a b p q
+
+-- one leaf, where a test passes
+one_fits : (test : Bool) (part : InlineLeaf) (size : ℕ) → IsFitLeaf part → BeginsFit (cond test (Some (leaf (part ∷ []) size)) None)
+one_fits test part size p = where_passed FoundFits test (leaf (part ∷ []) size) (p, tt)
 
 -- a literal
 literal_fits : (on : Constructs) (content : List InlineCode) → Each Single (codes_of content) → BeginsFit (literal_at on content)
@@ -138,19 +142,18 @@ literal_fits on (c ∷ cs) p =
     after (Some start) h =
         let front = codes_of (c ∷ cs) in
         let name = literal_name (drop start.size front) in
-        cond_both _ (Some (leaf (Literal start.kind (take start.size front ++ name) ∷ []) _)) None BeginsFit
-        (λ _. (each-append Plain (take start.size front) name h (name_plain (drop start.size front) (each-drop Single start.size front p)), tt)) (λ _. tt)
+        one_fits _ _ _ (each-append Plain (take start.size front) name h (name_plain (drop start.size front) (each-drop Single start.size front p)))
 
-part_fits : (marker : ℕ) (text : List ℕ) → Each Single text → IsFit (raw_part marker text)
-part_fits marker text p = cond_both (marker == 36) _ _ IsFit (λ _. code_text_fits text p) (λ _. code_text_fits text p)
+part_fits : (marker : ℕ) (text : List ℕ) → Each Single text → IsFitLeaf (raw_part marker text)
+part_fits marker text p = cond_both (marker == 36) _ _ IsFitLeaf (λ _. code_text_fits text p) (λ _. code_text_fits text p)
 
-raw_none_fits : (marker : ℕ) (content : List ℕ) → Plain marker → Each IsFit (map Data (take (run marker content) content))
+raw_none_fits : (marker : ℕ) (content : List ℕ) → Plain marker → Each IsFitLeaf (map Data (take (run marker content) content))
 raw_none_fits marker content h =
-    each_map Plain IsFit Data (take (run marker content) content) (λ b p. p)
+    each_map Plain IsFitLeaf Data (take (run marker content) content) (λ b p. p)
     (all_passed (λ b. eqb b marker) Plain content (λ b is. plain_byte b marker h is))
 
 raw_fits : (marker : ℕ) (content rest : List ℕ) (o : Option (List ℕ)) → Plain marker → Each Single rest
-    → LeafFits (raw_leaf marker (run marker content) content (up_to rest o))
+    → FoundFits (raw_leaf marker (run marker content) content (up_to rest o))
 raw_fits marker content rest None h p = raw_none_fits marker content h
 raw_fits marker content rest (Some end) h p = (part_fits marker (text_before rest end) (each-take Single _ rest p), tt)
 
@@ -158,7 +161,7 @@ raw_at_fits : (marker : ℕ) (may_open : Bool) (content : List ℕ) → Plain ma
 raw_at_fits marker may_open content h p =
     let n = run marker content in
     let rest = after_run marker content in
-    where_passed LeafFits _ (raw_leaf marker n content (up_to rest (run_of marker n false rest)))
+    where_passed FoundFits _ (raw_leaf marker n content (up_to rest (run_of marker n false rest)))
     (raw_fits marker content rest (run_of marker n false rest) h (each-drop Single n content p))
 
 -- ---- autolinks
@@ -192,8 +195,7 @@ autolink_fits : (is_email : Bool) (content : List ℕ) (o : Option (List ℕ)) �
     → BeginsFit (closed_autolink is_email content o)
 autolink_fits is_email content None p q = tt
 autolink_fits is_email content (Some rest) p q =
-    where_passed LeafFits _ (leaf (Autolink is_email (text_before content rest) ∷ []) _)
-    (each_plain (text_before content rest) (each-take Single _ content p) (before_apart content rest q), tt)
+    one_fits _ _ _ (each_plain (text_before content rest) (each-take Single _ content p) (before_apart content rest q))
 
 html_fits : (content : List ℕ) (o : Option (List ℕ)) → Each Single content → BeginsFit (html_leaf content o)
 html_fits content None p = tt
@@ -204,7 +206,7 @@ module _ (on : Constructs) where
   escape_fits [] p = tt
   escape_fits (c ∷ []) p = tt
   escape_fits (c ∷ next ∷ cs) p =
-      cond_both (on.character_escape && (eqb c 92 && is_ascii_punctuation next)) (Some (leaf (Escape next ∷ []) 2)) None BeginsFit
+      cond_both (on.character_escape && (eqb c 92 && is_ascii_punctuation next)) _ None BeginsFit
       (λ h. (
         (
           p.1.0,
@@ -217,7 +219,7 @@ module _ (on : Constructs) where
 
   escaped_break_fits : (content : List ℕ) → BeginsFit (escaped_break_at on content)
   escaped_break_fits [] = tt
-  escaped_break_fits (c ∷ cs) = where_passed LeafFits _ (leaf (EscapedBreak ∷ []) 1) (tt, tt)
+  escaped_break_fits (c ∷ cs) = one_fits _ _ _ tt
 
   -- no reference begins without its `&`
   no_reference : (names : List ℕ → Option (List ℕ)) (content : List ℕ) → Each Single content → reference_form content ≡ None
@@ -245,13 +247,12 @@ module _ (on : Constructs) where
 
   spaces_fits : (content : List ℕ) → BeginsFit (line_spaces_at on content)
   spaces_fits content =
-      let test = on.hard_break_trailing && is_trailing_break content in
-      where_passed LeafFits _ (leaf (cond test (TrailingBreak ∷ []) []) (indent content))
-      (cond_both test (TrailingBreak ∷ []) [] (Each IsFit) (λ _. (tt, tt)) (λ _. tt))
+      where_passed FoundFits _ _
+      (cond_both (on.hard_break_trailing && is_trailing_break content) _ [] (Each IsFitLeaf) (λ _. (tt, tt)) (λ _. tt))
 
 pub line_end_fits : (content : List ℕ) → Each Single content → BeginsFit (line_end_at content)
 line_end_fits [] p = tt
-line_end_fits (c ∷ cs) p = where_passed LeafFits (is_eol c) (leaf (LineEnd c ∷ []) (1 + indent cs)) (p.0, tt)
+line_end_fits (c ∷ cs) p = one_fits (is_eol c) _ _ p.0
 
 -- ---- places
 
@@ -261,9 +262,22 @@ nests = record {
   more = λ i is p q. (p, q);
   first = λ i is p. p.0;
   rest = λ i is p. p.1;
-  emphasis = λ kids p. p;
-  strong = λ kids p. p;
-  strikethrough = λ kids p. p;
+  span = λ kind kids p. p;
+}
+
+-- email addresses and the text of links
+literals : Carries IsFit AreFit (λ kids others. Unit {0})
+literals = record {
+  none = tt;
+  more = λ i is p q. (p, q);
+  first = λ i is p. p.0;
+  rest = λ i is p. p.1;
+  literal = λ kind text p. p;
+  bytes = λ kind text p. p;
+  span = λ kind. record { opens = λ kids p. p; closes = λ kids others p kept q. q };
+  linked = λ kind target. record { opens = λ kids p. p.1; closes = λ kids others p kept q. (p.0, q) };
+  keeps_without = λ kids. tt;
+  keeps_with = λ kids. tt;
 }
 
 abbrev SinglesOf : List ℕ → Type 0
@@ -305,8 +319,7 @@ module _ (context : InlineContext) where
   reads : Reads IsFit AreFit TargetFits SinglesOf context
   reads = record {
     nests = nests;
-    link = λ target kids h p. (h, p);
-    image = λ target kids h p. (h, p);
+    linked = λ kind target kids h p. (h, p);
     call = λ label. tt;
     close = ((refl, refl), refl);
     open_link = ((refl, refl), refl);
@@ -326,8 +339,9 @@ module _ (context : InlineContext) where
   -- from a place of a content on
   pub from_fits : (content : List InlineCode) → Each Single (codes_of content) → AreFit (inlines_from context content)
   from_fits content p =
-      linked_fits context.options.constructs (spans_from context content)
-      (spans_good IsFit AreFit TargetFits SinglesOf context reads content p)
+      let spans = spans_from context content in
+      let fit = spans_good IsFit AreFit TargetFits SinglesOf context reads content p in
+      linked_good context.options.constructs AreFit spans (λ _. literals_good IsFit AreFit (λ kids others. Unit {0}) literals spans fit) fit
 
   pub inlines_fit : (content : List InlineCode) → Each Single (codes_of content) → AreFit (inlines context content)
   inlines_fit content p =

@@ -15,7 +15,7 @@ use Rattle.definition_text.specs.Columns.{is_white, indent, bare}
 use Rattle.definition_text.specs.Bytes.{begins_with, begins_with_letter, is_letter, after_all}
 use Rattle.definition_text.specs.Content.{line_ending_code, is_eol, Part, part, text_before, up_to}
 use Rattle.definition_text.specs.Runs.{run, after_run}
-use Rattle.definition_inline.specs.Inline.{Data, Escape, Code, Math, Autolink, Html, EscapedBreak, TrailingBreak, LineEnd, Found, leaf, or_else}
+use Rattle.definition_inline.specs.Inline.{InlineLeaf, Data, Escape, Code, Math, Autolink, Html, TrailingBreak, Found, leaf, or_else}
 use Rattle.definition_inline.specs.CharacterEscape.{escape_at}
 use Rattle.definition_inline.specs.CharacterReference.{CharacterReference, character_reference, before_semicolon, part_to_semicolon, reference_by_number}
 use Rattle.definition_inline.specs.CharacterReference.{reference_by_name, number_reference, reference_after, reference_form, reference_text, reference_leaf}
@@ -28,7 +28,7 @@ use Rattle.definition_inline.specs.HtmlText.{html_byte, html_end, html_leaf, htm
 use Rattle.definition_inline.specs.HardBreak.{ends_inner_line, ends_here, line_end_at, escaped_break_at, is_trailing_break, line_spaces_at}
 use Rattle.definition_inline.specs.Scan.{InlineContext, leaf_at}
 use Rattle.laws_endings.specs.Endings.{code_with, codes_with}
-use Rattle.laws_endings.specs.Inlines.{inline_with}
+use Rattle.laws_endings.specs.Inlines.{leaf_with}
 use Rattle.laws_endings.proofs.Codes.{cond-under, same_code, prefix_len-with, after_all-with, part_with, before-with, up_to-with}
 
 one-more : (n : ℕ) → 1 + n ≡ suc n
@@ -41,9 +41,9 @@ module _ (e : LineEnding) where
   abbrev if_codes : Option (List ℕ) → Option (List ℕ)
   if_codes end = option_map (codes_with e) end
 
-  -- a construct with its parts
+  -- a construct with its leaves
   abbrev pub found_with : Found → Found
-  found_with l = leaf (map (inline_with e) l.parts) l.size
+  found_with l = leaf (map (leaf_with e) l.parts) l.size
 
   abbrev pub if_found : Option Found → Option Found
   if_found l = option_map found_with l
@@ -51,6 +51,13 @@ module _ (e : LineEnding) where
   pub or_else-with : (one other : Option Found) → or_else (if_found one) (if_found other) ≡ if_found (or_else one other)
   or_else-with None other = refl
   or_else-with (Some l) other = refl
+
+  -- one leaf, where a test passes
+  one-with : {test' test : Bool} {part' : InlineLeaf} (part : InlineLeaf) {size' size : ℕ} → test' ≡ test → part' ≡ leaf_with e part → size' ≡ size
+      → cond test' (Some (leaf (part' ∷ []) size')) None ≡ if_found (cond test (Some (leaf (part ∷ []) size)) None)
+  one-with {test = test} {part' = part'} part {size' = size'} p q r =
+      ap (λ passes. cond passes (Some (leaf (part' ∷ []) size')) None) p
+      ∙ cond-under if_found test (ap (λ it. Some (leaf (it ∷ []) size')) q ∙ ap (λ n. Some (leaf (leaf_with e part ∷ []) n)) r) refl
 
   -- ---- codes that pass a test that LF doesn't pass
 
@@ -118,18 +125,13 @@ module _ (e : LineEnding) where
   escaped_break_at-with : (on : Constructs) (cs : List ℕ) → escaped_break_at on (codes_with e cs) ≡ if_found (escaped_break_at on cs)
   escaped_break_at-with on [] = refl
   escaped_break_at-with on (c ∷ cs) =
-      let found : Option Found = Some (leaf (EscapedBreak ∷ []) 1) in
-      same_code e (λ x. cond (on.hard_break_escape && (eqb x 92 && ends_inner_line (codes_with e cs))) found None) c refl refl
-      ∙ ap (λ ends. cond (on.hard_break_escape && (eqb c 92 && ends)) found None) (ends_inner_line-with cs)
-      ∙ cond-under if_found (on.hard_break_escape && (eqb c 92 && ends_inner_line cs)) refl refl
+      let test : ℕ → Bool → Bool = λ code ends. on.hard_break_escape && (eqb code 92 && ends) in
+      one-with _ (same_code e (λ x. test x (ends_inner_line (codes_with e cs))) c refl refl ∙ ap (test c) (ends_inner_line-with cs)) refl refl
 
   pub line_end_at-with : (cs : List ℕ) → line_end_at (codes_with e cs) ≡ if_found (line_end_at cs)
   line_end_at-with [] = refl
   line_end_at-with (c ∷ cs) =
-      let found : ℕ → Option Found = λ n. Some (leaf (LineEnd (code_with e c) ∷ []) (1 + n)) in
-      same_code e (λ x. cond (is_eol x) (found (indent (codes_with e cs))) None) c refl refl
-      ∙ ap (λ n. cond (is_eol c) (found n) None) (prefix_len-with e is_white refl refl cs)
-      ∙ cond-under if_found (is_eol c) refl refl
+      one-with _ (same_code e is_eol c refl refl) refl (ap (λ n. 1 + n) (prefix_len-with e is_white refl refl cs))
 
   pub bare-with : (cs : List ℕ) → bare (codes_with e cs) ≡ codes_with e (bare cs)
   bare-with cs = after_all-with e is_white refl refl cs
@@ -247,14 +249,14 @@ module _ (e : LineEnding) where
   spaces_same f p q [] = refl
   spaces_same f p q (c ∷ cs) = ap (λ code. code ∷ map f (codes_with e cs)) (same_code e f c p q) ∙ ap (λ more. f c ∷ more) (spaces_same f p q cs)
 
-  raw_part-with : (marker : ℕ) (text : List ℕ) → raw_part marker (codes_with e text) ≡ inline_with e (raw_part marker text)
+  raw_part-with : (marker : ℕ) (text : List ℕ) → raw_part marker (codes_with e text) ≡ leaf_with e (raw_part marker text)
   raw_part-with marker text =
       ap (λ spaced. cond (eqb marker 36) (Math (without_padding spaced)) (Code (without_padding spaced))) (spaces_same code_space refl refl text)
-      ∙ cond-under (inline_with e) (eqb marker 36) refl refl
+      ∙ cond-under (leaf_with e) (eqb marker 36) refl refl
 
-  all_data : (cs : List ℕ) → map Data cs ≡ map (inline_with e) (map Data cs)
-  all_data [] = refl
-  all_data (c ∷ cs) = ap (λ more. Data c ∷ more) (all_data cs)
+  pub data_kept : (cs : List ℕ) → map (leaf_with e) (map Data cs) ≡ map Data cs
+  data_kept [] = refl
+  data_kept (c ∷ cs) = ap (λ more. Data c ∷ more) (data_kept cs)
 
   -- a run of a marker that is no ending
   module _ (marker : ℕ) (return : eqb 13 marker ≡ eqb 10 marker) (both : eqb 257 marker ≡ eqb 10 marker) (no_feed : eqb 10 marker ≡ false) where
@@ -274,11 +276,11 @@ module _ (e : LineEnding) where
         → raw_leaf marker (run marker cs) (codes_with e cs) (option_map (part_with e) found) ≡ found_with (raw_leaf marker (run marker cs) cs found)
     raw_leaf-with cs None =
         let n = run marker cs in
-        ap (λ text. leaf (map Data text) n) (taken-kept (λ b. eqb b marker) cs no_feed) ∙ ap (λ parts. leaf parts n) (all_data (take n cs))
+        ap (λ text. leaf (map Data text) n) (taken-kept (λ b. eqb b marker) cs no_feed) ∙ ap (λ parts. leaf parts n) (sym (data_kept (take n cs)))
     raw_leaf-with cs (Some found) =
         let n = run marker cs in
-        ap (λ inline. leaf (inline ∷ []) (n + length (codes_with e found.text) + n)) (raw_part-with marker found.text)
-        ∙ ap (λ size. leaf (inline_with e (raw_part marker found.text) ∷ []) (n + size + n)) (length-map found.text (code_with e))
+        ap (λ raw. leaf (raw ∷ []) (n + length (codes_with e found.text) + n)) (raw_part-with marker found.text)
+        ∙ ap (λ size. leaf (leaf_with e (raw_part marker found.text) ∷ []) (n + size + n)) (length-map found.text (code_with e))
 
     raw_at-with : (may_open : Bool) (cs : List ℕ) → raw_at marker may_open (codes_with e cs) ≡ if_found (raw_at marker may_open cs)
     raw_at-with may_open cs =
@@ -363,12 +365,9 @@ module _ (e : LineEnding) where
       → closed_autolink is_email (codes_with e cs) (if_codes end) ≡ if_found (closed_autolink is_email cs end)
   closed_autolink-with is_email cs None = refl
   closed_autolink-with is_email cs (Some rest) =
-      let text = text_before cs rest in
-      let found : List ℕ → ℕ → Option Found = λ inner n. Some (leaf (Autolink is_email inner ∷ []) (n + 2)) in
-      ap (λ closes. let inner = text_before (codes_with e cs) (codes_with e rest) in cond closes (found inner (length inner)) None)
-      (begins-byte 62 refl refl rest)
-      ∙ cond-under if_found (begins_with (codes ">") rest)
-      (ap (λ inner. found inner (length inner)) (before-with e cs rest) ∙ ap (found (codes_with e text)) (length-map text (code_with e))) refl
+      let same = before-with e cs rest in
+      one-with _ (begins-byte 62 refl refl rest) (ap (Autolink is_email) same)
+      (ap (λ inner. length inner + 2) same ∙ ap (λ n. n + 2) (length-map (text_before cs rest) (code_with e)))
 
   autolink_after-with : (cs : List ℕ) → autolink_after (codes_with e cs) ≡ if_found (autolink_after cs)
   autolink_after-with cs =

@@ -25,7 +25,6 @@ pub mod Neighbours
 mod Fits
 mod LiteralTexts
 mod Parts
-mod AddressReads
 mod InlineReads
 mod BlockReads
 mod TextLines
@@ -35,6 +34,7 @@ mod Pieces
 mod ParagraphEnds
 mod GfmLabelStartFootnote
 mod GfmFootnoteDefinition
+mod PrintedLeaves
 mod Printed
 mod PrintedTable
 mod Pages

@@ -23,11 +23,11 @@ use Rattle.definition_block.specs.Tree.{is_ending, join, one}
 use Rattle.definition_block.specs.Lists.{endings_at_front, endings_of, after_endings, is_some_block, has_gap, has_gap_inside, is_loose, item_marker}
 use Rattle.definition_block.specs.Lists.{list_marker, list_items, rest_of, before_list, put_before, grouped_block, group_items}
 use Rattle.definition_block.specs.GfmTable.{Cell, cells, line_cells, delimiters as delimiters_of}
-use Rattle.definition_inline.specs.Inline.{Inlines}
+use Rattle.definition_inline.specs.Inline.{Leaf, TaskCheck, Inlines, Cons}
 use Rattle.definition_page.specs.GfmTable.{TableRow, Table, head_line, delimiter_line, body_lines, line_aligns, in_cell}
 use Rattle.definition_page.specs.Page as page
 use Rattle.definition_page.specs.Page.{cons_ending, cons_blank}
-use Rattle.definition_page.specs.Read.{Reading, Standing, context_of, in_container, in_item, next_standing, checked_paragraph, read_paragraph, read_cell}
+use Rattle.definition_page.specs.Read.{Reading, Standing, context_of, in_container, in_item, next_standing, checked_text, read_paragraph, read_cell}
 use Rattle.definition_page.specs.Read.{read_row, read_table, read_text, info_text, code_lines, without_ending, after_code, list_number, read_block, read_blocks}
 use Rattle.definition_page.specs.Read.{is_blank_ending, ends_blank}
 use Rattle.laws_endings.specs.Endings.{with_ending, ending_with, if_ending_with, codes_with, line_with, lines_with, block_with, blocks_with}
@@ -286,7 +286,7 @@ module _ (e : LineEnding) where
 
   abbrev mutual
     pub page_block_with : page.Block → page.Block
-    page_block_with (page.Paragraph check is) = page.Paragraph check (inlines_with e is)
+    page_block_with (page.Paragraph is) = page.Paragraph (inlines_with e is)
     page_block_with (page.Heading rank is) = page.Heading rank (inlines_with e is)
     page_block_with page.Break = page.Break
     page_block_with (page.IndentedCode ls) = page.IndentedCode (lines_with e ls)
@@ -312,7 +312,7 @@ module _ (e : LineEnding) where
 
   abbrev mutual
     pub PageBlockFits : page.Block → Type 0
-    PageBlockFits (page.Paragraph check is) = AreFit is
+    PageBlockFits (page.Paragraph is) = AreFit is
     PageBlockFits (page.Heading rank is) = AreFit is
     PageBlockFits page.Break = Unit {0}
     PageBlockFits (page.IndentedCode ls) = LinesFit ls
@@ -398,13 +398,13 @@ module _ (e : LineEnding) where
         subst (AreAlike (drop n other)) (drop-map (inline_code_with e) n content) (alike_drop n other (content_with e content) h)
 
     checked-same : (other content : List InlineCode) → AreAlike other (content_with e content) → (found : Option Bool)
-        → checked_paragraph r other found ≡ page_block_with (checked_paragraph r content found)
-    checked-same other content h None = ap (page.Paragraph None) (from-same other content h)
+        → checked_text r other found ≡ inlines_with e (checked_text r content found)
+    checked-same other content h None = from-same other content h
     checked-same other content h (Some done) =
-        ap (page.Paragraph (Some done)) (from-same (drop check_size other) (drop check_size content) (drop-same check_size other content h))
+        ap (Cons (Leaf (TaskCheck done))) (from-same (drop check_size other) (drop check_size content) (drop-same check_size other content h))
 
     paragraph-with : (first : Bool) (ls : List BlockLine) → LinesFit ls
-        → read_paragraph r first (lines_with e ls) ≡ page_block_with (read_paragraph r first ls)
+        → read_paragraph r first (lines_with e ls) ≡ inlines_with e (read_paragraph r first ls)
     paragraph-with first ls h =
         let p = r.tables.is_punctuation in
         let on = r.options.constructs in
@@ -412,15 +412,15 @@ module _ (e : LineEnding) where
         let content = inline_content p Whitespace ls in
         let alike : AreAlike (without_indent other) (content_with e (without_indent content)) =
         subst (AreAlike (without_indent other)) (unindented-with e content) (alike_unindented other (content_with e content) (content-with p ls h)) in
-        ap (λ codes. checked_paragraph r (without_indent other) (check_at on first codes)) (codes-same (without_indent other) (without_indent content) alike)
-        ∙ ap (checked_paragraph r (without_indent other)) (check_at-with e on first (codes_of (without_indent content)))
+        ap (λ codes. checked_text r (without_indent other) (check_at on first codes)) (codes-same (without_indent other) (without_indent content) alike)
+        ∙ ap (checked_text r (without_indent other)) (check_at-with e on first (codes_of (without_indent content)))
         ∙ checked-same (without_indent other) (without_indent content) alike (check_at on first (codes_of (without_indent content)))
 
-    checked_fits : (content : List InlineCode) → Each Single (codes_of content) → (found : Option Bool) → PageBlockFits (checked_paragraph r content found)
+    checked_fits : (content : List InlineCode) → Each Single (codes_of content) → (found : Option Bool) → AreFit (checked_text r content found)
     checked_fits content p None = from_fits context content p
-    checked_fits content p (Some done) = from_fits context (drop check_size content) (dropped_codes context check_size content p)
+    checked_fits content p (Some done) = (tt, from_fits context (drop check_size content) (dropped_codes context check_size content p))
 
-    paragraph_fits : (first : Bool) (ls : List BlockLine) → LinesFit ls → PageBlockFits (read_paragraph r first ls)
+    paragraph_fits : (first : Bool) (ls : List BlockLine) → LinesFit ls → AreFit (read_paragraph r first ls)
     paragraph_fits first ls h =
         let content = inline_content r.tables.is_punctuation Whitespace ls in
         checked_fits (without_indent content)
@@ -510,7 +510,8 @@ module _ (e : LineEnding) where
       read_block-with : (s : Standing) (b : tree.Block) (others' others : page.Blocks) → BlockFits b → others' ≡ page_blocks_with others
           → read_block r s (block_with e b) others' ≡ page_blocks_with (read_block r s b others)
       read_block-with s (tree.Paragraph ls) others' others p q =
-          ap (λ b. page.Cons b others') (paragraph-with s.first ls p) ∙ ap (page.Cons (page_block_with (read_paragraph r s.first ls))) q
+          ap (λ is. page.Cons (page.Paragraph is) others') (paragraph-with s.first ls p)
+          ∙ ap (page.Cons (page.Paragraph (inlines_with e (read_paragraph r s.first ls)))) q
       read_block-with s (tree.Heading rank ls) others' others p q =
           ap (λ is. page.Cons (page.Heading rank is) others') (text-with ls p) ∙ ap (page.Cons (page.Heading rank (inlines_with e (read_text r ls)))) q
       read_block-with s tree.Break others' others p q = ap (page.Cons page.Break) q

@@ -1,7 +1,7 @@
 -- Inline structure of codes that stand for themselves.
 use Rattle.std.proofs.Common.{◌≡◌, true, false}
-use Rattle.definition_inline.specs.Inline.{Target, Resource, Reference, Inline, Data, Escape, Character, Code, Math, Autolink, Literal, Html, EscapedBreak}
-use Rattle.definition_inline.specs.Inline.{TrailingBreak, LineEnd, Emphasis, Strong, Strikethrough, Link, Image, Call, Inlines, Nil, Cons}
+use Rattle.definition_inline.specs.Inline.{Target, Resource, Reference, InlineLeaf, Data, Escape, Character, Code, Math, Autolink, Literal, Html, LineEnd}
+use Rattle.definition_inline.specs.Inline.{Inline, Leaf, Span, Linked, Call, Inlines, Nil, Cons}
 use Rattle.laws_endings.proofs.Each.{Each}
 use Rattle.laws_endings.proofs.Fits.{Single, Plain, TitleFits}
 
@@ -10,25 +10,25 @@ abbrev pub TargetFits : Target → Type 0
 TargetFits (Resource destination title) = Each Plain destination × TitleFits title
 TargetFits (Reference label) = Unit {0}
 
--- parts of such codes, and no character reference
+-- a leaf of such codes, and no character reference
+abbrev pub IsFitLeaf : InlineLeaf → Type 0
+IsFitLeaf (Data b) = Plain b
+IsFitLeaf (Escape b) = Plain b
+IsFitLeaf (Character bytes) = true ≡ false
+IsFitLeaf (Code text) = Each Plain text
+IsFitLeaf (Math text) = Each Plain text
+IsFitLeaf (Autolink is_email text) = Each Plain text
+IsFitLeaf (Literal kind text) = Each Plain text
+IsFitLeaf (Html html) = Each Single html
+IsFitLeaf (LineEnd code) = Single code
+IsFitLeaf other = Unit {0}
+
+-- parts whose leaves and targets fit
 abbrev mutual
   pub IsFit : Inline → Type 0
-  IsFit (Data b) = Plain b
-  IsFit (Escape b) = Plain b
-  IsFit (Character bytes) = true ≡ false
-  IsFit (Code text) = Each Plain text
-  IsFit (Math text) = Each Plain text
-  IsFit (Autolink is_email text) = Each Plain text
-  IsFit (Literal kind text) = Each Plain text
-  IsFit (Html html) = Each Single html
-  IsFit EscapedBreak = Unit {0}
-  IsFit TrailingBreak = Unit {0}
-  IsFit (LineEnd code) = Single code
-  IsFit (Emphasis kids) = AreFit kids
-  IsFit (Strong kids) = AreFit kids
-  IsFit (Strikethrough kids) = AreFit kids
-  IsFit (Link target kids) = TargetFits target × AreFit kids
-  IsFit (Image target kids) = TargetFits target × AreFit kids
+  IsFit (Leaf part) = IsFitLeaf part
+  IsFit (Span kind kids) = AreFit kids
+  IsFit (Linked kind target kids) = TargetFits target × AreFit kids
   IsFit (Call label) = Unit {0}
 
   pub AreFit : Inlines → Type 0

@@ -3,36 +3,33 @@ use Rattle.std.proofs.Common.{◌≡◌, ℕ, Bool, true, false, cond, eqb, ◌|
 use Rattle.std.proofs.Common.{true≢false, subst, inl, inr, ◌⊎◌}
 use Rattle.std.specs.Prelude.{codes, unwrap_or, is_some}
 use Rattle.std.specs.Option.{option_map}
-use Rattle.std.proofs.lemmas.Bool.{cond_both}
 use Rattle.markdown_options.specs.declared.line_ending.LineEnding.{LineEnding}
 use Rattle.markdown_options.specs.declared.line_ending.LineEnding.TheVariants.{CarriageReturnLineFeed, CarriageReturn, LineFeed}
+use Rattle.markdown_options.specs.declared.configuration.CompileOptions.{CompileOptions}
 use Rattle.markdown_options.specs.LineEndings.{ending_bytes}
 use Rattle.definition_text.specs.Encode.{plain}
-use Rattle.definition_inline.specs.Inline.{Target, Resource, Reference, LinkTexts, link_texts, LiteralKind, Inline, Data, Escape, Character, Code, Math}
-use Rattle.definition_inline.specs.Inline.{Autolink}
-use Rattle.definition_inline.specs.Inline.{Literal, Html, EscapedBreak, TrailingBreak, LineEnd, Emphasis, Strong, Strikethrough, Link, Image, Call, Inlines}
-use Rattle.definition_inline.specs.Inline.{Nil, Cons}
+use Rattle.definition_inline.specs.Inline.{Target, Resource, Reference, LinkTexts, link_texts, SpanKind, Emphasis, Link, Image, Inline, Leaf, Span, Linked, Call}
+use Rattle.definition_inline.specs.Inline.{Inlines, Nil, Cons}
 use Rattle.definition_inline.specs.LabelMatch.{normal_label, place_of, first_match}
 use Rattle.definition_inline.specs.Strings.{string_text}
-use Rattle.definition_page.specs.Urls.{percent, permits, sanitize, href_protocols, src_protocols}
-use Rattle.definition_page.specs.Tags.{PrintedPart, Words, EndOfLine, Attribute, attribute, attribute_bytes}
-use Rattle.definition_page.specs.Pieces.{Piece, Void, Says}
-use Rattle.definition_page.specs.InlinePieces.{Meaning, permitted_url, link_url, image_url, url_of, title_attributes, title_attribute, link_tag}
+use Rattle.definition_page.specs.Urls.{href_protocols, src_protocols}
+use Rattle.definition_page.specs.Tags.{PrintedPart, Words, Attribute, attribute, attribute_bytes}
+use Rattle.definition_page.specs.Pieces.{Piece, Void}
+use Rattle.definition_page.specs.InlinePieces.{Meaning, link_url, image_url, url_of, title_attributes, title_attribute, link_tag, image_tag, span_name, part_says}
 use Rattle.definition_inline.specs.Targets.{leads_to}
-use Rattle.definition_page.specs.InlinePieces.{image_tag, address, literal_address, math_tag, html_says, description, call_at, count_at, part_counts}
-use Rattle.definition_page.specs.InlinePieces.{inline_counts, element, part_pieces, inline_pieces}
-use Rattle.laws_endings.specs.Endings.{with_ending, code_with, codes_with}
+use Rattle.definition_page.specs.InlinePieces.{description, call_at, count_at, part_counts, inline_counts, element, part_pieces, inline_pieces}
+use Rattle.laws_endings.specs.Endings.{with_ending, codes_with}
 use Rattle.laws_endings.specs.Inlines.{target_with, inline_with, inlines_with}
 use Rattle.laws_endings.proofs.Matching.{normal_label-with}
 use Rattle.laws_endings.proofs.Each.{Each, WhereSome}
 use Rattle.laws_endings.proofs.Fits.{Plain, TitleFits}
 use Rattle.laws_endings.proofs.Parts.{TargetFits, IsFit, AreFit}
 use Rattle.laws_endings.specs.PageLaws.{HaveNoFeeds}
-use Rattle.laws_endings.proofs.Bytes.{IsNoFeed, percent_no_feed, encode-with, eol-with}
-use Rattle.laws_endings.proofs.Saids.{plain_no_feed, plains_no_feed, codes-kept, string_text-with, SaidWith, SaidsWith, says_one, words-kept}
-use Rattle.laws_endings.proofs.Saids.{html_says-with, description-with}
-use Rattle.laws_endings.proofs.Pieces.{BytesWith, AttributesWith, attribute-with, more_attributes, PiecesWith, no_pieces, append-with, said-with}
-use Rattle.laws_endings.proofs.Pieces.{void_piece-with, element-with, saids-with}
+use Rattle.laws_endings.proofs.Bytes.{encode-with}
+use Rattle.laws_endings.proofs.Saids.{plains_no_feed, codes-kept, string_text-with, SaidWith, SaidsWith, says_one, says_append}
+use Rattle.laws_endings.proofs.Pieces.{BytesWith, AttributesWith, attribute-with, more_attributes, PiecesWith, no_pieces, append-with, void_piece-with}
+use Rattle.laws_endings.proofs.Pieces.{element-with}
+use Rattle.laws_endings.proofs.PrintedLeaves.{url_attribute-with, leaf_says-with, leaf_pieces-with}
 use Rattle.laws_endings.proofs.GfmLabelStartFootnote.{call_piece-with, count_piece-with}
 
 -- where a link leads fits
@@ -40,6 +37,25 @@ abbrev pub LinkedFits : LinkTexts → Type 0
 LinkedFits l = Each Plain l.destination × TitleFits l.title
 
 module _ (e : LineEnding) where
+  -- ---- spans and descriptions
+
+  span_name-kept : (kind : SpanKind) → BytesWith e (span_name kind) (span_name kind)
+  span_name-kept Emphasis = refl
+  span_name-kept other = refl
+
+  mutual
+    part_says-with : (options : CompileOptions) (i : Inline) → IsFit i → SaidsWith e (part_says options (inline_with e i)) (part_says options i)
+    part_says-with options (Leaf part) p = leaf_says-with e options part p
+    part_says-with options (Span kind kids) p = description-with options kids p
+    part_says-with options (Linked kind target kids) p = description-with options kids p.1
+    part_says-with options (Call label) p = refl
+
+    description-with : (options : CompileOptions) (is : Inlines) → AreFit is → SaidsWith e (description options (inlines_with e is)) (description options is)
+    description-with options Nil p = refl
+    description-with options (Cons i is) p =
+        says_append e (part_says options (inline_with e i)) (part_says options i) (description options (inlines_with e is)) (description options is)
+        (part_says-with options i p.0) (description-with options is p.1)
+
   -- ---- where links lead
 
   abbrev pub linked_with : LinkTexts → LinkTexts
@@ -69,29 +85,6 @@ module _ (e : LineEnding) where
 
     url-with : (l : LinkTexts) → LinkedFits l → url_of meaning_with (linked_with l) ≡ url_of m l
     url-with l p = ap (λ cs. plain (string_text m.on m.names cs)) (codes-kept e l.destination (plains_no_feed l.destination p.0))
-
-    permitted_no_feed : (all : Bool) (protocols : List (List ℕ)) (url : List ℕ) → Each IsNoFeed (permitted_url all protocols url)
-    permitted_no_feed all protocols url =
-        cond_both (all || permits protocols (sanitize url)) (percent url) [] (Each IsNoFeed) (λ _. percent_no_feed url) (λ _. tt)
-
-    words_one : (text : List ℕ) → Each IsNoFeed text → SaidsWith e (Words text ∷ []) (Words text ∷ [])
-    words_one text p = says_one e (Words text) (Words text) (words-kept e text p)
-
-    link_url-with : (url : List ℕ)
-        → BytesWith e (attribute_bytes (attribute (codes "href") (link_url m.compile url)))
-        (attribute_bytes (attribute (codes "href") (link_url m.compile url)))
-    link_url-with url =
-        let to = link_url m.compile url in
-        attribute-with e (codes "href") (Words to ∷ []) (Words to ∷ []) refl
-        (words_one to (permitted_no_feed m.compile.allow_dangerous_protocol href_protocols url))
-
-    image_url-with : (url : List ℕ)
-        → BytesWith e (attribute_bytes (attribute (codes "src") (image_url m.compile url)))
-        (attribute_bytes (attribute (codes "src") (image_url m.compile url)))
-    image_url-with url =
-        let to = image_url m.compile url in
-        attribute-with e (codes "src") (Words to ∷ []) (Words to ∷ []) refl
-        (words_one to (permitted_no_feed (m.compile.allow_any_img_src || m.compile.allow_dangerous_protocol) src_protocols url))
 
     -- ---- titles
 
@@ -143,7 +136,8 @@ module _ (e : LineEnding) where
         let title' = title_attribute meaning_with (option_map (codes_with e) l.title) in
         let href = attribute (codes "href") (link_url m.compile (url_of m l)) in
         ap (λ url. flat_map attribute_bytes (attribute (codes "href") (link_url m.compile url) ∷ title')) (url-with l p)
-        ∙ more_attributes e href href title' (title_attribute m l.title) (link_url-with (url_of m l)) (title-with l.title p.1)
+        ∙ more_attributes e href href title' (title_attribute m l.title)
+        (url_attribute-with e (codes "href") refl m.compile.allow_dangerous_protocol href_protocols (url_of m l)) (title-with l.title p.1)
 
     abbrev image_attributes : Meaning → LinkTexts → List PrintedPart → List Attribute
     image_attributes n l said =
@@ -158,33 +152,9 @@ module _ (e : LineEnding) where
         let alt : Attribute = record { name = codes "alt"; value = said } in
         let src = attribute (codes "src") (image_url m.compile (url_of m l)) in
         ap (λ url. flat_map attribute_bytes (attribute (codes "src") (image_url m.compile url) ∷ alt' ∷ title')) (url-with l p)
-        ∙ more_attributes e src src (alt' ∷ title') (alt ∷ title) (image_url-with (url_of m l))
+        ∙ more_attributes e src src (alt' ∷ title') (alt ∷ title)
+        (url_attribute-with e (codes "src") refl (m.compile.allow_any_img_src || m.compile.allow_dangerous_protocol) src_protocols (url_of m l))
         (more_attributes e alt' alt title' title (attribute-with e (codes "alt") said' said refl q) (title-with l.title p.1))
-
-    -- ---- parts
-
-    byte_piece : (b : ℕ) → Plain b → PiecesWith e m.compile (Says (Words (b ∷ [])) ∷ []) (Says (Words (b ∷ [])) ∷ [])
-    byte_piece b p = said-with e m.compile (Words (b ∷ [])) (Words (b ∷ [])) (words-kept e (b ∷ []) (plain_no_feed b p, tt))
-
-    text_piece : (text : List ℕ) → Each Plain text → PiecesWith e m.compile (Says (Words text) ∷ []) (Says (Words text) ∷ [])
-    text_piece text p = said-with e m.compile (Words text) (Words text) (words-kept e text (plains_no_feed text p))
-
-    same_attributes : AttributesWith e (math_tag.attributes) (math_tag.attributes)
-    same_attributes = refl
-
-    autolink_piece : (is_email : Bool) (text : List ℕ) → Each Plain text
-        → PiecesWith e m.compile (part_pieces meaning_with (Autolink is_email text)) (part_pieces m (Autolink is_email text))
-    autolink_piece is_email text p =
-        let href = attribute (codes "href") (link_url m.compile (address is_email text)) in
-        element-with e m.compile (codes "a") (href ∷ []) (href ∷ []) (Says (Words text) ∷ []) (Says (Words text) ∷ []) refl
-        (more_attributes e href href [] [] (link_url-with (address is_email text)) refl) (text_piece text p)
-
-    literal_piece : (kind : LiteralKind) (text : List ℕ) → Each Plain text
-        → PiecesWith e m.compile (part_pieces meaning_with (Literal kind text)) (part_pieces m (Literal kind text))
-    literal_piece kind text p =
-        let href = attribute (codes "href") (link_url m.compile (literal_address kind text)) in
-        element-with e m.compile (codes "a") (href ∷ []) (href ∷ []) (Says (Words text) ∷ []) (Says (Words text) ∷ []) refl
-        (more_attributes e href href [] [] (link_url-with (literal_address kind text)) refl) (text_piece text p)
 
     -- ---- calls of footnotes
 
@@ -213,15 +183,12 @@ module _ (e : LineEnding) where
 
     mutual
       part_counts-with : (i : Inline) → PiecesWith e m.compile (part_counts meaning_with (inline_with e i)) (part_counts m i)
-      part_counts-with (Emphasis kids) = counts-with kids
-      part_counts-with (Strong kids) = counts-with kids
-      part_counts-with (Strikethrough kids) = counts-with kids
-      part_counts-with (Link target kids) = counts-with kids
-      part_counts-with (Image target kids) = counts-with kids
+      part_counts-with (Leaf part) = no_pieces e m.compile
+      part_counts-with (Span kind kids) = counts-with kids
+      part_counts-with (Linked kind target kids) = counts-with kids
       part_counts-with (Call label) =
           subst (λ ps. PiecesWith e m.compile ps (count_at (first_match label m.footnotes) (normal_label label))) (sym (call_same count_at label))
           (count_piece label (first_match label m.footnotes) refl)
-      part_counts-with i = no_pieces e m.compile
 
       pub counts-with : (is : Inlines) → PiecesWith e m.compile (inline_counts meaning_with (inlines_with e is)) (inline_counts m is)
       counts-with Nil = no_pieces e m.compile
@@ -233,36 +200,18 @@ module _ (e : LineEnding) where
 
     mutual
       part-with : (i : Inline) → IsFit i → PiecesWith e m.compile (part_pieces meaning_with (inline_with e i)) (part_pieces m i)
-      part-with (Data b) p = byte_piece b p
-      part-with (Escape b) p = byte_piece b p
-      part-with (Character bytes) p = absurd (true≢false p)
-      part-with (Code text) p = element-with e m.compile (codes "code") [] [] (Says (Words text) ∷ []) (Says (Words text) ∷ []) refl refl (text_piece text p)
-      part-with (Math text) p =
-          element-with e m.compile (codes "code") math_tag.attributes math_tag.attributes (Says (Words text) ∷ []) (Says (Words text) ∷ []) refl same_attributes
-          (text_piece text p)
-      part-with (Autolink is_email text) p =
-          subst (λ t. PiecesWith e m.compile (part_pieces meaning_with (Autolink is_email t)) (part_pieces m (Autolink is_email text)))
-          (sym (codes-kept e text (plains_no_feed text p))) (autolink_piece is_email text p)
-      part-with (Literal kind text) p = literal_piece kind text p
-      part-with (Html html) p = saids-with e m.compile (html_says m.compile (codes_with e html)) (html_says m.compile html) (html_says-with e m.compile html p)
-      part-with EscapedBreak p = void_piece-with e m.compile (codes "br") [] [] refl refl
-      part-with TrailingBreak p = void_piece-with e m.compile (codes "br") [] [] refl refl
-      part-with (LineEnd code) p = said-with e m.compile (EndOfLine (code_with e code)) (EndOfLine code) (eol-with e code p.1)
-      part-with (Emphasis kids) p =
-          element-with e m.compile (codes "em") [] [] (inline_pieces meaning_with (inlines_with e kids)) (inline_pieces m kids) refl refl (inlines-with kids p)
-      part-with (Strong kids) p =
-          element-with e m.compile (codes "strong") [] [] (inline_pieces meaning_with (inlines_with e kids)) (inline_pieces m kids) refl refl
+      part-with (Leaf part) p = leaf_pieces-with e m.compile part p
+      part-with (Span kind kids) p =
+          element-with e m.compile (span_name kind) [] [] (inline_pieces meaning_with (inlines_with e kids)) (inline_pieces m kids) (span_name-kept kind) refl
           (inlines-with kids p)
-      part-with (Strikethrough kids) p =
-          element-with e m.compile (codes "del") [] [] (inline_pieces meaning_with (inlines_with e kids)) (inline_pieces m kids) refl refl (inlines-with kids p)
-      part-with (Link target kids) p =
+      part-with (Linked Link target kids) p =
           let to = leads_to m.definition target in
           let kids' = inline_pieces meaning_with (inlines_with e kids) in
           subst (λ l. PiecesWith e m.compile (element (link_tag meaning_with l) kids') (element (link_tag m to) (inline_pieces m kids)))
           (sym (leads_to-with target))
           (element-with e m.compile (codes "a") (link_attributes meaning_with (linked_with to)) (link_attributes m to) kids' (inline_pieces m kids) refl
           (link-with to (leads_to_fits target p.0)) (inlines-with kids p.1))
-      part-with (Image target kids) p =
+      part-with (Linked Image target kids) p =
           let to = leads_to m.definition target in
           let said' = description m.compile (inlines_with e kids) in
           let said = description m.compile kids in
@@ -271,7 +220,7 @@ module _ (e : LineEnding) where
           (inline_counts meaning_with (inlines_with e kids)) (inline_counts m kids)
           (subst (λ l. PiecesWith e m.compile (void l meaning_with said' ∷ []) (void to m said ∷ [])) (sym (leads_to-with target))
           (void_piece-with e m.compile (codes "img") (image_attributes meaning_with (linked_with to) said') (image_attributes m to said) refl
-          (image-with to said' said (leads_to_fits target p.0) (description-with e m.compile kids p.1))))
+          (image-with to said' said (leads_to_fits target p.0) (description-with m.compile kids p.1))))
           (counts-with kids)
       part-with (Call label) p =
           subst (λ ps. PiecesWith e m.compile ps (call_at (first_match label m.footnotes) (normal_label label))) (sym (call_same call_at label))

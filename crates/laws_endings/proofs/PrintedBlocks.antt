@@ -21,7 +21,7 @@ use Rattle.definition_page.specs.Pieces.{Piece, Void, Says, Eol, Fresh, NoteStar
 use Rattle.definition_page.specs.InlinePieces.{Meaning, raw_html, element, inline_counts, inline_pieces}
 use Rattle.definition_page.specs.Page.{Block, Paragraph, Heading, Break, IndentedCode, FencedCode, Html, Table, Definition, Quote, ItemList, Item, Footnote}
 use Rattle.definition_page.specs.Page.{Ending, Blank, Blocks, Nil, Cons}
-use Rattle.definition_page.specs.BlockPieces.{checkable_attributes, done_attributes, check_pieces, Place, inside, code_line, html_line, says, heading_name}
+use Rattle.definition_page.specs.BlockPieces.{Place, inside, code_line, html_line, says, heading_name}
 use Rattle.definition_page.specs.BlockPieces.{info_attributes, start_attributes, list_tag, is_silent, last_visible, ends_plainly, fresh_unless, fenced_pieces}
 use Rattle.definition_page.specs.BlockPieces.{block_pieces, children_pieces}
 use Rattle.laws_endings.specs.Endings.{with_ending, ending_with, if_ending_with, codes_with, line_with, lines_with}
@@ -131,7 +131,7 @@ module _ (e : LineEnding) where
 
     is_silent-with : (place : Place) (b : Option Block) → is_silent place (sibling_with b) ≡ is_silent place b
     is_silent-with place None = refl
-    is_silent-with place (Some (Paragraph check is)) = refl
+    is_silent-with place (Some (Paragraph is)) = refl
     is_silent-with place (Some Definition) = refl
     is_silent-with place (Some (Footnote label kids)) = refl
     is_silent-with place (Some b) = refl
@@ -146,7 +146,7 @@ module _ (e : LineEnding) where
 
     ends_plainly-with : (tight : Bool) (b : Option Block) → ends_plainly tight (sibling_with b) ≡ ends_plainly tight b
     ends_plainly-with tight None = refl
-    ends_plainly-with tight (Some (Paragraph check is)) = refl
+    ends_plainly-with tight (Some (Paragraph is)) = refl
     ends_plainly-with tight (Some b) = refl
 
     pub fresh_unless-with : (said : Bool) → PiecesWith e m.compile (fresh_unless said) (fresh_unless said)
@@ -186,27 +186,6 @@ module _ (e : LineEnding) where
 
     text-with : (is : Inlines) → AreFit is → PiecesWith e m.compile (inline_pieces m' (inlines_with e is)) (inline_pieces m is)
     text-with is p = inlines-with e m other leads fits notes is p
-
-    abbrev box_attributes : Bool → Bool → List Attribute
-    box_attributes checkable done = attribute (codes "type") (codes "checkbox") ∷ checkable_attributes checkable ++ done_attributes done
-
-    box-with : (checkable done : Bool)
-        → PiecesWith e m.compile (Void (tag (codes "input") (box_attributes checkable done)) ∷ [])
-        (Void (tag (codes "input") (box_attributes checkable done)) ∷ [])
-    box-with true true = void_piece-with e m.compile (codes "input") (box_attributes true true) (box_attributes true true) refl refl
-    box-with true false = void_piece-with e m.compile (codes "input") (box_attributes true false) (box_attributes true false) refl refl
-    box-with false true = void_piece-with e m.compile (codes "input") (box_attributes false true) (box_attributes false true) refl refl
-    box-with false false = void_piece-with e m.compile (codes "input") (box_attributes false false) (box_attributes false false) refl refl
-
-    check-with : (check : Option Bool) → PiecesWith e m.compile (check_pieces m.compile check) (check_pieces m.compile check)
-    check-with None = no_pieces e m.compile
-    check-with (Some done) = box-with m.compile.gfm_task_list_item_checkable done
-
-    checked-with : (check : Option Bool) (is : Inlines) → AreFit is
-        → PiecesWith e m.compile (check_pieces m.compile check ++ inline_pieces m' (inlines_with e is)) (check_pieces m.compile check ++ inline_pieces m is)
-    checked-with check is p =
-        append-with e m.compile (check_pieces m.compile check) (check_pieces m.compile check) (inline_pieces m' (inlines_with e is)) (inline_pieces m is)
-        (check-with check) (text-with is p)
 
     paragraph-with : (tight : Bool) (ps' ps : List Piece) → PiecesWith e m.compile ps' ps
         → PiecesWith e m.compile (cond tight ps' (Fresh ∷ element (bare_tag (codes "p")) ps')) (cond tight ps (Fresh ∷ element (bare_tag (codes "p")) ps))
@@ -311,9 +290,8 @@ module _ (e : LineEnding) where
     mutual
       block-with : (place : Place) (before : Option Block) (b : Block) → PageBlockFits e b
           → PiecesWith e m.compile (block_pieces m' place (sibling_with before) (page_block_with e b)) (block_pieces m place before b)
-      block-with place before (Paragraph check is) p =
-          paragraph-with place.tight (check_pieces m.compile check ++ inline_pieces m' (inlines_with e is)) (check_pieces m.compile check ++ inline_pieces m is)
-          (checked-with check is p)
+      block-with place before (Paragraph is) p =
+          paragraph-with place.tight (inline_pieces m' (inlines_with e is)) (inline_pieces m is) (text-with is p)
       block-with place before (Heading rank is) p =
           let ps' = inline_pieces m' (inlines_with e is) in
           let ps = inline_pieces m is in

@@ -7,16 +7,16 @@ use Rattle.definition_text.specs.Columns.{is_blank}
 use Rattle.definition_text.specs.Content.{may_escape}
 use Rattle.markdown_options.specs.declared.beside.Kind.{Kind}
 use Rattle.markdown_options.specs.declared.beside.Kind.TheVariants.{Punctuation}
-use Rattle.definition_inline.specs.Inline.{Inline, Data, Escape, Character, Code, Math, Autolink, Literal, Html, EscapedBreak, TrailingBreak, LineEnd, Emphasis}
-use Rattle.definition_inline.specs.Inline.{Strong, Strikethrough, Link, Image, Call, Inlines, Nil, Cons}
+use Rattle.definition_inline.specs.Inline.{Inline, Leaf, Span, Linked, Call, Inlines, Nil, Cons}
 use Rattle.definition_block.specs.GfmTable.{Cell, in_first_cell, is_bar, parts, without_blank_first, without_blank_last, line_cells}
-use Rattle.definition_page.specs.GfmTable.{TableRow, Table, escapes_bar, cell_code, part_in_cell, in_cell, head_line, delimiter_line}
+use Rattle.definition_page.specs.GfmTable.{TableRow, Table, part_in_cell, in_cell, head_line, delimiter_line}
 use Rattle.laws_endings.specs.Endings.{if_ending_with, line_with, lines_with}
 use Rattle.laws_endings.specs.Inlines.{target_with, inline_with, inlines_with}
 use Rattle.laws_endings.proofs.Each.{Each}
 use Rattle.laws_endings.proofs.Fits.{Plain}
 use Rattle.laws_endings.proofs.Parts.{IsFit, AreFit}
 use Rattle.laws_endings.proofs.BlockReads.{IsFed, LineFits, LinesFit}
+use Rattle.laws_endings.proofs.PrintedLeaves.{cell_leaf_fits, cell_leaf-with}
 
 -- ---- what is fit
 
@@ -26,29 +26,11 @@ RowFits row = Each AreFit row.cells × IsFed row.ending
 abbrev pub TableFits : Table → Type 0
 TableFits t = RowFits t.head × IsFed t.ending × Each RowFits t.rows
 
-code_fits : (text : List ℕ) → Each Plain text → Each Plain (cell_code text)
-code_fits [] p = tt
-code_fits (c ∷ cs) p =
-    cond_both (escapes_bar c cs) (cell_code cs) (c ∷ cell_code cs) (Each Plain) (λ _. code_fits cs p.1) (λ _. (p.0, code_fits cs p.1))
-
 mutual
   part_fits : (i : Inline) → IsFit i → IsFit (part_in_cell i)
-  part_fits (Data b) p = p
-  part_fits (Escape b) p = p
-  part_fits (Character text) p = p
-  part_fits (Code text) p = code_fits text p
-  part_fits (Math text) p = code_fits text p
-  part_fits (Autolink is_email text) p = p
-  part_fits (Literal kind text) p = p
-  part_fits (Html html) p = p
-  part_fits EscapedBreak p = tt
-  part_fits TrailingBreak p = tt
-  part_fits (LineEnd code) p = p
-  part_fits (Emphasis kids) p = in_cell_fits kids p
-  part_fits (Strong kids) p = in_cell_fits kids p
-  part_fits (Strikethrough kids) p = in_cell_fits kids p
-  part_fits (Link target kids) p = (p.0, in_cell_fits kids p.1)
-  part_fits (Image target kids) p = (p.0, in_cell_fits kids p.1)
+  part_fits (Leaf part) p = cell_leaf_fits part p
+  part_fits (Span kind kids) p = in_cell_fits kids p
+  part_fits (Linked kind target kids) p = (p.0, in_cell_fits kids p.1)
   part_fits (Call label) p = tt
 
   pub in_cell_fits : (is : Inlines) → AreFit is → AreFit (in_cell is)
@@ -116,22 +98,9 @@ module _ (e : LineEnding) where
 
   mutual
     part-with : (i : Inline) → part_in_cell (inline_with e i) ≡ inline_with e (part_in_cell i)
-    part-with (Data b) = refl
-    part-with (Escape b) = refl
-    part-with (Character text) = refl
-    part-with (Code text) = refl
-    part-with (Math text) = refl
-    part-with (Autolink is_email text) = refl
-    part-with (Literal kind text) = refl
-    part-with (Html html) = refl
-    part-with EscapedBreak = refl
-    part-with TrailingBreak = refl
-    part-with (LineEnd code) = refl
-    part-with (Emphasis kids) = ap Emphasis (in_cell-with kids)
-    part-with (Strong kids) = ap Strong (in_cell-with kids)
-    part-with (Strikethrough kids) = ap Strikethrough (in_cell-with kids)
-    part-with (Link target kids) = ap (Link (target_with e target)) (in_cell-with kids)
-    part-with (Image target kids) = ap (Image (target_with e target)) (in_cell-with kids)
+    part-with (Leaf part) = ap Leaf (cell_leaf-with e part)
+    part-with (Span kind kids) = ap (Span kind) (in_cell-with kids)
+    part-with (Linked kind target kids) = ap (Linked kind (target_with e target)) (in_cell-with kids)
     part-with (Call label) = refl
 
     pub in_cell-with : (is : Inlines) → in_cell (inlines_with e is) ≡ inlines_with e (in_cell is)

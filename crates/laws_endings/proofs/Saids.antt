@@ -1,4 +1,4 @@
--- What the parts of a page say, with another line ending in place of each LF.
+-- What strings and raw HTML say, with another line ending in place of each LF.
 use Rattle.std.proofs.Common.{◌≡◌, ℕ, zero, suc, ◌-◌, Bool, true, false, cond, eqb, ◌&&◌, List, [], ◌∷◌, ◌++◌, Option, None, Some, refl, sym, ap, ◌∙◌, map}
 use Rattle.std.proofs.Common.{flat_map, true≢false}
 use Rattle.std.specs.Prelude.{nat_le}
@@ -11,8 +11,7 @@ use Rattle.markdown_options.specs.declared.configuration.CompileOptions.{Compile
 use Rattle.definition_text.specs.Columns.{is_white, indent, bare, is_byte, bytes_of}
 use Rattle.definition_text.specs.Content.{is_eol}
 use Rattle.definition_text.specs.Encode.{plain, encode}
-use Rattle.definition_inline.specs.Inline.{Inline, Data, Escape, Character, Code, Math, Autolink, Literal, Html, EscapedBreak, TrailingBreak, LineEnd, Emphasis}
-use Rattle.definition_inline.specs.Inline.{Strong, Strikethrough, Link, Image, Call, Inlines, Nil, Cons, Found, leaf, or_else}
+use Rattle.definition_inline.specs.Inline.{InlineLeaf, Data, Escape, Character, LineEnd, Found, leaf, or_else}
 use Rattle.definition_inline.specs.CharacterEscape.{escape_at}
 use Rattle.definition_inline.specs.CharacterReference.{reference_at}
 use Rattle.definition_inline.specs.HardBreak.{line_end_at}
@@ -20,16 +19,16 @@ use Rattle.definition_inline.specs.Strings.{begins_with_eol, spaces_at, string_l
 use Rattle.definition_page.specs.GfmTagfilter.{filter_if}
 use Rattle.definition_page.specs.Tags.{PrintedPart, Words, AsItIs, EndOfLine, said_bytes}
 use Rattle.definition_page.specs.InlinePieces.{raw_html, HtmlLine, html_text_line, in_first_line, html_lines, html_line_says, later_line_says, html_lines_say}
-use Rattle.definition_page.specs.InlinePieces.{html_says, part_says, description}
+use Rattle.definition_page.specs.InlinePieces.{html_says}
 use Rattle.laws_endings.specs.Endings.{with_ending, code_with, codes_with}
-use Rattle.laws_endings.specs.Inlines.{inline_with, inlines_with}
+use Rattle.laws_endings.specs.Inlines.{leaf_with}
 use Rattle.laws_endings.proofs.Codes.{cond-under, same_code, prefix_len-with}
 use Rattle.laws_endings.proofs.Leaves.{found_with, if_found, or_else-with, same_byte, escape_at-with, line_end_at-with, bare-with, reference_at-with}
 use Rattle.laws_endings.proofs.Contents.{or_none, end_none}
 use Rattle.laws_endings.proofs.Each.{Each, each-append, each-drop, each_filter}
 use Rattle.laws_endings.proofs.Fits.{Single, Plain}
-use Rattle.laws_endings.proofs.Parts.{IsFit, AreFit}
-use Rattle.laws_endings.proofs.InlineReads.{LeafFits, BeginsFit, begin_or, escape_fits, reference_fits, line_end_fits}
+use Rattle.laws_endings.proofs.Parts.{IsFitLeaf}
+use Rattle.laws_endings.proofs.InlineReads.{FoundFits, BeginsFit, begin_or, escape_fits, reference_fits, line_end_fits}
 use Rattle.laws_endings.proofs.Bytes.{IsNoFeed, filtered_no_feed, with-append, kept, plain-with, encode-with, eol-with}
 
 pub plain_no_feed : (c : ℕ) → Plain c → IsNoFeed c
@@ -84,15 +83,15 @@ module _ (e : LineEnding) where
     or_byte-with c cs None h = ap (λ code. leaf (Data code ∷ []) 1) (same_byte e c (ending_no_feed c (string_none c cs h)))
     or_byte-with c cs (Some found) h = refl
 
-    parts-with : (k : ℕ) (cs : List ℕ) → string_parts on names k (codes_with e cs) ≡ map (inline_with e) (string_parts on names k cs)
+    parts-with : (k : ℕ) (cs : List ℕ) → string_parts on names k (codes_with e cs) ≡ map (leaf_with e) (string_parts on names k cs)
     parts-with k [] = refl
     parts-with zero (c ∷ cs) =
         let found = or_byte c (string_leaf_at on names (c ∷ cs)) in
-        let with : Found → List Inline = λ l. l.parts ++ string_parts on names (l.size - 1) (codes_with e cs) in
+        let with : Found → List InlineLeaf = λ l. l.parts ++ string_parts on names (l.size - 1) (codes_with e cs) in
         ap (λ o. with (or_byte (code_with e c) o)) (string_leaf-with (c ∷ cs))
         ∙ ap with (or_byte-with c cs (string_leaf_at on names (c ∷ cs)) refl)
-        ∙ ap (λ more. map (inline_with e) found.parts ++ more) (parts-with (found.size - 1) cs)
-        ∙ sym (map-append (inline_with e) found.parts (string_parts on names (found.size - 1) cs))
+        ∙ ap (λ more. map (leaf_with e) found.parts ++ more) (parts-with (found.size - 1) cs)
+        ∙ sym (map-append (leaf_with e) found.parts (string_parts on names (found.size - 1) cs))
     parts-with (suc k) (c ∷ cs) = parts-with k cs
 
     string_leaf_fits : (cs : List ℕ) → Each Single cs → BeginsFit (string_leaf_at on names cs)
@@ -102,33 +101,34 @@ module _ (e : LineEnding) where
         (begin_or (line_end_at cs) (spaces_at cs) (line_end_fits cs p)
         (cond_both (nat_le 1 (indent cs) && begins_with_eol (bare cs)) (Some (leaf [] (indent cs))) None BeginsFit (λ _. tt) (λ _. tt))))
 
-    or_byte_fits : (c : ℕ) (found : Option Found) → (found ≡ None → Plain c) → BeginsFit found → LeafFits (or_byte c found)
+    or_byte_fits : (c : ℕ) (found : Option Found) → (found ≡ None → Plain c) → BeginsFit found → FoundFits (or_byte c found)
     or_byte_fits c None h p = (h refl, tt)
     or_byte_fits c (Some found) h p = p
 
-    parts_fit : (k : ℕ) (cs : List ℕ) → Each Single cs → Each IsFit (string_parts on names k cs)
+    parts_fit : (k : ℕ) (cs : List ℕ) → Each Single cs → Each IsFitLeaf (string_parts on names k cs)
     parts_fit k [] p = tt
     parts_fit zero (c ∷ cs) p =
         let found = string_leaf_at on names (c ∷ cs) in
         let first = or_byte c found in
-        each-append IsFit first.parts (string_parts on names (first.size - 1) cs)
+        each-append IsFitLeaf first.parts (string_parts on names (first.size - 1) cs)
         (or_byte_fits c found (λ none. (p.0, string_none c cs none)) (string_leaf_fits (c ∷ cs) p))
         (parts_fit (first.size - 1) cs p.1)
     parts_fit (suc k) (c ∷ cs) p = parts_fit k cs p.1
 
-    bytes-with : (i : Inline) → IsFit i → string_bytes (inline_with e i) ≡ with_ending e (string_bytes i)
+    bytes-with : (part : InlineLeaf) → IsFitLeaf part → string_bytes (leaf_with e part) ≡ with_ending e (string_bytes part)
     bytes-with (Data b) p = sym (kept e (b ∷ []) (plain_no_feed b p, tt))
     bytes-with (Escape b) p = sym (kept e (b ∷ []) (plain_no_feed b p, tt))
     bytes-with (Character bytes) p = absurd (true≢false p)
     bytes-with (LineEnd code) p = eol-with e code p.1
-    bytes-with i p = refl
+    bytes-with other p = refl
 
-    all_bytes-with : (is : List Inline) → Each IsFit is → flat_map string_bytes (map (inline_with e) is) ≡ with_ending e (flat_map string_bytes is)
+    all_bytes-with : (parts : List InlineLeaf) → Each IsFitLeaf parts
+        → flat_map string_bytes (map (leaf_with e) parts) ≡ with_ending e (flat_map string_bytes parts)
     all_bytes-with [] p = refl
-    all_bytes-with (i ∷ is) p =
-        ap (λ first. first ++ flat_map string_bytes (map (inline_with e) is)) (bytes-with i p.0)
-        ∙ ap (λ more. with_ending e (string_bytes i) ++ more) (all_bytes-with is p.1)
-        ∙ sym (with-append e (string_bytes i) (flat_map string_bytes is))
+    all_bytes-with (part ∷ parts) p =
+        ap (λ first. first ++ flat_map string_bytes (map (leaf_with e) parts)) (bytes-with part p.0)
+        ∙ ap (λ more. with_ending e (string_bytes part) ++ more) (all_bytes-with parts p.1)
+        ∙ sym (with-append e (string_bytes part) (flat_map string_bytes parts))
 
     -- the text of a string has its line endings
     pub string_text-with : (cs : List ℕ) → Each Single cs → string_text on names (codes_with e cs) ≡ with_ending e (string_text on names cs)
@@ -239,37 +239,3 @@ module _ (e : LineEnding) where
     pub html_says-with : (html : List ℕ) → Each Single html → SaidsWith (html_says options (codes_with e html)) (html_says options html)
     html_says-with html p =
         ap (λ ls. flat_map said_bytes (html_lines_say options ls)) (html_lines-with html) ∙ lines_say-with (html_lines html) (html_lines_fit html p)
-
-    -- ---- descriptions
-
-    one_byte : (b : ℕ) → Plain b → SaidsWith (Words (b ∷ []) ∷ []) (Words (b ∷ []) ∷ [])
-    one_byte b p = says_one (Words (b ∷ [])) (Words (b ∷ [])) (words-kept (b ∷ []) (plain_no_feed b p, tt))
-
-    text_says : (text : List ℕ) → Each Plain text → SaidsWith (Words text ∷ []) (Words text ∷ [])
-    text_says text p = says_one (Words text) (Words text) (words-kept text (plains_no_feed text p))
-
-    mutual
-      part_says-with : (i : Inline) → IsFit i → SaidsWith (part_says options (inline_with e i)) (part_says options i)
-      part_says-with (Data b) p = one_byte b p
-      part_says-with (Escape b) p = one_byte b p
-      part_says-with (Character bytes) p = absurd (true≢false p)
-      part_says-with (Code text) p = text_says text p
-      part_says-with (Math text) p = text_says text p
-      part_says-with (Autolink is_email text) p = says_one (Words (codes_with e text)) (Words text) (words-codes text (plains_no_feed text p))
-      part_says-with (Literal kind text) p = text_says text p
-      part_says-with (Html html) p = html_says-with html p
-      part_says-with EscapedBreak p = refl
-      part_says-with TrailingBreak p = refl
-      part_says-with (LineEnd code) p = says_one (EndOfLine (code_with e code)) (EndOfLine code) (eol-with e code p.1)
-      part_says-with (Emphasis kids) p = description-with kids p
-      part_says-with (Strong kids) p = description-with kids p
-      part_says-with (Strikethrough kids) p = description-with kids p
-      part_says-with (Link target kids) p = description-with kids p.1
-      part_says-with (Image target kids) p = description-with kids p.1
-      part_says-with (Call label) p = refl
-
-      pub description-with : (is : Inlines) → AreFit is → SaidsWith (description options (inlines_with e is)) (description options is)
-      description-with Nil p = refl
-      description-with (Cons i is) p =
-          says_append (part_says options (inline_with e i)) (part_says options i) (description options (inlines_with e is)) (description options is)
-          (part_says-with i p.0) (description-with is p.1)

@@ -4,11 +4,11 @@ use Rattle.std.specs.Prelude.{replicate, reverse}
 use Rattle.std.specs.List.{fold, filter}
 use Rattle.std.proofs.lemmas.List.{map-append}
 use Rattle.markdown_options.specs.declared.line_ending.LineEnding.{LineEnding}
-use Rattle.definition_inline.specs.Inline.{Inline, Data, Inlines, Nil, Cons, followed_by}
+use Rattle.definition_inline.specs.Inline.{Inline, Leaf, Data, Span, Inlines, Nil, Cons, followed_by}
 use Rattle.definition_inline.specs.Attention.{Run}
 use Rattle.definition_inline.specs.Pairing.{Pair, pairs}
-use Rattle.definition_inline.specs.Spans.{Token, Item, Delimiters, runs_of, Span, IsEmphasis, IsStrong, IsStrikethrough, span_of, SpanRow, Holds, Opens, Closes}
-use Rattle.definition_inline.specs.Spans.{bytes_taken, run_rows, rows_from, OpenSpan, Nest, nest, span_part, leave, nest_row, nest_spans, with_spans}
+use Rattle.definition_inline.specs.Spans.{Token, Item, Delimiters, runs_of, span_of, SpanRow, Holds, Opens, Closes, bytes_taken, run_rows, rows_from}
+use Rattle.definition_inline.specs.Spans.{OpenSpan, Nest, nest, leave, nest_row, nest_spans, with_spans}
 use Rattle.laws_endings.specs.Inlines.{inline_with, inlines_with}
 
 module _ (e : LineEnding) where
@@ -21,7 +21,7 @@ module _ (e : LineEnding) where
 
   abbrev row_with : SpanRow → SpanRow
   row_with (Holds i) = Holds (inline_with e i)
-  row_with (Opens span) = Opens span
+  row_with (Opens kind) = Opens kind
   row_with Closes = Closes
 
   -- ---- rows
@@ -39,9 +39,9 @@ module _ (e : LineEnding) where
   opens_same marker [] = refl
   opens_same marker (p ∷ ps) = ap (λ rows. Opens (span_of marker p) ∷ rows) (opens_same marker ps)
 
-  left_same : (n marker : ℕ) → map row_with (replicate n (Holds (Data marker))) ≡ replicate n (Holds (Data marker))
+  left_same : (n marker : ℕ) → map row_with (replicate n (Holds (Leaf (Data marker)))) ≡ replicate n (Holds (Leaf (Data marker)))
   left_same zero marker = refl
-  left_same (suc n) marker = ap (λ rows. Holds (Data marker) ∷ rows) (left_same n marker)
+  left_same (suc n) marker = ap (λ rows. Holds (Leaf (Data marker)) ∷ rows) (left_same n marker)
 
   three_same : (xs ys zs : List SpanRow) → map row_with xs ≡ xs → map row_with ys ≡ ys → map row_with zs ≡ zs → map row_with (xs ++ ys ++ zs) ≡ xs ++ ys ++ zs
   three_same xs ys zs p q r =
@@ -56,7 +56,7 @@ module _ (e : LineEnding) where
       let closed = filter (λ (p : Pair). eqb p.closer place) ps in
       let started = filter (λ (p : Pair). eqb p.opener place) ps in
       let left = run.left - (bytes_taken closed + bytes_taken started) in
-      three_same (map (λ (p : Pair). Closes) closed) (replicate left (Holds (Data run.marker)))
+      three_same (map (λ (p : Pair). Closes) closed) (replicate left (Holds (Leaf (Data run.marker))))
       (map (λ (p : Pair). Opens (span_of run.marker p)) (reverse started))
       (closes_same closed) (left_same left run.marker) (opens_same run.marker (reverse started))
 
@@ -76,13 +76,8 @@ module _ (e : LineEnding) where
   followed_by-with Nil i = refl
   followed_by-with (Cons first is) i = ap (Cons (inline_with e first)) (followed_by-with is i)
 
-  spanned-with : (span : Span) (kids : Inlines) → span_part span (inlines_with e kids) ≡ inline_with e (span_part span kids)
-  spanned-with IsEmphasis kids = refl
-  spanned-with IsStrong kids = refl
-  spanned-with IsStrikethrough kids = refl
-
   abbrev span_with : OpenSpan → OpenSpan
-  span_with s = record { span = s.span; before = inlines_with e s.before }
+  span_with s = record { kind = s.kind; before = inlines_with e s.before }
 
   abbrev nest_with : Nest → Nest
   nest_with n = nest (inlines_with e n.now) (map span_with n.around)
@@ -90,12 +85,11 @@ module _ (e : LineEnding) where
   leave-with : (now : Inlines) (around : List OpenSpan) → leave (inlines_with e now) (map span_with around) ≡ nest_with (leave now around)
   leave-with now [] = refl
   leave-with now (innermost ∷ others) =
-      ap (λ i. nest (followed_by (inlines_with e innermost.before) i) (map span_with others)) (spanned-with innermost.span now)
-      ∙ ap (λ is. nest is (map span_with others)) (followed_by-with innermost.before (span_part innermost.span now))
+      ap (λ is. nest is (map span_with others)) (followed_by-with innermost.before (Span innermost.kind now))
 
   nest_row-with : (n : Nest) (row : SpanRow) → nest_row (nest_with n) (row_with row) ≡ nest_with (nest_row n row)
   nest_row-with n (Holds i) = ap (λ is. nest is (map span_with n.around)) (followed_by-with n.now i)
-  nest_row-with n (Opens span) = refl
+  nest_row-with n (Opens kind) = refl
   nest_row-with n Closes = leave-with n.now n.around
 
   nest_rows-with : (n : Nest) (rows : List SpanRow) → fold nest_row (nest_with n) (map row_with rows) ≡ nest_with (fold nest_row n rows)

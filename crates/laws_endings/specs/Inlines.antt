@@ -3,8 +3,8 @@ use Rattle.std.specs.Prelude.{List, map}
 use Rattle.std.specs.Option.{option_map}
 use Rattle.markdown_options.specs.declared.line_ending.LineEnding.{LineEnding}
 use Rattle.definition_text.specs.InlineCode.{InlineCode, inline_code}
-use Rattle.definition_inline.specs.Inline.{Target, Resource, Reference, Inline, Data, Escape, Character, Code, Math, Autolink, Literal, Html, EscapedBreak}
-use Rattle.definition_inline.specs.Inline.{TrailingBreak, LineEnd, Emphasis, Strong, Strikethrough, Link, Image, Call, Inlines, Nil, Cons}
+use Rattle.definition_inline.specs.Inline.{Target, Resource, Reference, InlineLeaf, Autolink, Html, LineEnd, Inline, Leaf, Span, Linked, Call, Inlines, Nil}
+use Rattle.definition_inline.specs.Inline.{Cons}
 use Rattle.laws_endings.specs.Endings.{code_with, codes_with}
 
 -- a code of a content, between the same kinds
@@ -19,25 +19,19 @@ abbrev pub target_with : LineEnding → Target → Target
 target_with e (Resource destination title) = Resource (codes_with e destination) (option_map (codes_with e) title)
 target_with e (Reference label) = Reference (codes_with e label)
 
+-- a leaf with this ending in place of each LF of it that isn't turned into a space
+abbrev pub leaf_with : LineEnding → InlineLeaf → InlineLeaf
+leaf_with e (Autolink is_email text) = Autolink is_email (codes_with e text)
+leaf_with e (Html html) = Html (codes_with e html)
+leaf_with e (LineEnd code) = LineEnd (code_with e code)
+leaf_with e other = other
+
 abbrev mutual
-  -- a part of a text with this ending in place of each LF of it that isn't turned into a space
+  -- a part of a text with this ending in place of each LF of its leaves, targets and labels
   pub inline_with : LineEnding → Inline → Inline
-  inline_with e (Data b) = Data b
-  inline_with e (Escape b) = Escape b
-  inline_with e (Character bytes) = Character bytes
-  inline_with e (Code text) = Code text
-  inline_with e (Math text) = Math text
-  inline_with e (Autolink is_email text) = Autolink is_email (codes_with e text)
-  inline_with e (Literal kind text) = Literal kind text
-  inline_with e (Html html) = Html (codes_with e html)
-  inline_with e EscapedBreak = EscapedBreak
-  inline_with e TrailingBreak = TrailingBreak
-  inline_with e (LineEnd code) = LineEnd (code_with e code)
-  inline_with e (Emphasis kids) = Emphasis (inlines_with e kids)
-  inline_with e (Strong kids) = Strong (inlines_with e kids)
-  inline_with e (Strikethrough kids) = Strikethrough (inlines_with e kids)
-  inline_with e (Link target kids) = Link (target_with e target) (inlines_with e kids)
-  inline_with e (Image target kids) = Image (target_with e target) (inlines_with e kids)
+  inline_with e (Leaf part) = Leaf (leaf_with e part)
+  inline_with e (Span kind kids) = Span kind (inlines_with e kids)
+  inline_with e (Linked kind target kids) = Linked kind (target_with e target) (inlines_with e kids)
   inline_with e (Call label) = Call (codes_with e label)
 
   pub inlines_with : LineEnding → Inlines → Inlines
