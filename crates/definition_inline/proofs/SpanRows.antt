@@ -3,7 +3,7 @@ use Rattle.std.proofs.Common.{◌⊎◌, inl, inr, ◌≡◌, ℕ, zero, suc, �
 use Rattle.std.proofs.Common.{length, reverse, replicate, arith, subst, append_assoc}
 use Rattle.std.specs.Prelude.{◌==◌, nat_lt}
 use Rattle.std.specs.List.{filter, fold}
-use Rattle.std.proofs.lemmas.Bool.{cases_lt, cases_Bool, cond-true, cond-false, both_ways, eqb-true, eqb-false, eq-eqb, ne_eqb, lt-ltb}
+use Rattle.std.proofs.lemmas.Bool.{cases_lt, cases_Bool, cond-true, cond-false, both_ways, eqb-true, eq-eqb, ne_eqb, lt-ltb}
 use Rattle.std.proofs.lemmas.List.{append-nil, map-append, reverse-append}
 use Rattle.std.proofs.lemmas.List.Sums.{fold-append, sum_by-cons}
 use Rattle.definition_inline.specs.Inline.{Inline, Leaf, Data, Span, SpanKind, Inlines, Nil, followed_by}
@@ -160,9 +160,10 @@ none_inside : (p : Pair) (qs : List Pair) (place : ℕ) → Apart p qs → p.ope
     → (closed_at place qs ≡ []) × (started_at place qs ≡ [])
 none_inside p [] place h after before = (refl, refl)
 none_inside p (q ∷ qs) place h after before =
-    let more = none_inside p qs place h.1 after before in
-    (closed_other place q qs (λ e. not_inside p q.closer place h.0.1 after before e) ∙ more.0,
-    started_other place q qs (λ e. not_inside p q.opener place h.0.0 after before e) ∙ more.1)
+    let more = none_inside p qs place h.1 after before in (
+      closed_other place q qs (λ e. not_inside p q.closer place h.0.1 after before e) ∙ more.0,
+      started_other place q qs (λ e. not_inside p q.opener place h.0.0 after before e) ∙ more.1,
+    )
 
 -- ---- one pair
 
@@ -198,7 +199,7 @@ closing p qs kind a inside before around (Left r ∷ xs) s o has apart =
           ∙ sym (ap (λ ys. fold nest_row (nest before around) (rows_of qs ys)) (cond-true (r.place == p.closer) whole further here))
       | inr other ↦
           let isnt : r.place ≡ p.closer → ⊥ = λ e. both_ways (r.place == p.closer) other (eq-eqb r.place p.closer e) in
-          let has_later : Has p.closer xs = elim has [ | inl e ↦ absurd (isnt e) | inr h ↦ h ] in
+          let has_later : Has p.closer xs = elim has [ inl e ↦ absurd (isnt e) | inr h ↦ h ] in
           let later = has_from p.closer (r.place + 1) xs s.1 has_later in
           let none = none_inside p qs r.place apart (omega arith) (omega arith) in
           plain_rows (p ∷ qs) r xs inside (record { kind = kind; before = before } ∷ around)
@@ -224,7 +225,7 @@ one_pair p qs a n (Left r ∷ xs) s has has_closer order apart =
           let started = started_at r.place qs in
           let rows = shape closed started (without p.taken r).run in
           let now = fold nest_row n rows in
-          let closer_later : Has p.closer xs = elim has_closer [ | inl e ↦ absurd (omega arith) | inr h ↦ h ] in
+          let closer_later : Has p.closer xs = elim has_closer [ inl e ↦ absurd (omega arith) | inr h ↦ h ] in
           ap (λ first. fold nest_row n (first ++ rows_of (p ∷ qs) xs))
           (ap₂ (λ cs ss. shape cs ss r.run) (closed_other r.place p qs (λ e. omega arith)) (started_here r.place p qs (sym is)) ∙ open_shape p closed started r)
           ∙ ap (fold nest_row n) (append_assoc rows (Opens kind ∷ []) (rows_of (p ∷ qs) xs))
@@ -234,9 +235,9 @@ one_pair p qs a n (Left r ∷ xs) s has has_closer order apart =
           ∙ sym (ap (λ ys. fold nest_row n (rows_of qs ys)) (cond-true (r.place == p.opener) here_rows later_rows here))
       | inr other ↦
           let isnt : r.place ≡ p.opener → ⊥ = λ e. both_ways (r.place == p.opener) other (eq-eqb r.place p.opener e) in
-          let opener_later : Has p.opener xs = elim has [ | inl e ↦ absurd (isnt e) | inr h ↦ h ] in
+          let opener_later : Has p.opener xs = elim has [ inl e ↦ absurd (isnt e) | inr h ↦ h ] in
           let later = has_from p.opener (r.place + 1) xs s.1 opener_later in
-          let closer_later : Has p.closer xs = elim has_closer [ | inl e ↦ absurd (omega arith) | inr h ↦ h ] in
+          let closer_later : Has p.closer xs = elim has_closer [ inl e ↦ absurd (omega arith) | inr h ↦ h ] in
           let rows = run_rows qs r.place r.run in
           ap (λ first. fold nest_row n (first ++ rows_of (p ∷ qs) xs)) (same_run p qs r (λ e. isnt (sym e)) (λ e. omega arith))
           ∙ fold-append nest_row n rows (rows_of (p ∷ qs) xs)
@@ -287,9 +288,9 @@ has_to_closer kind p m a inside (Left r ∷ xs) s le closer h =
       | inl here ↦ subst (Has m) (sym (cond-true (r.place == p.closer) whole further here)) h
       | inr other ↦
           let isnt : r.place ≡ p.closer → ⊥ = λ e. both_ways (r.place == p.closer) other (eq-eqb r.place p.closer e) in
-          let closer_later : Has p.closer xs = elim closer [ | inl e ↦ absurd (isnt e) | inr k ↦ k ] in
+          let closer_later : Has p.closer xs = elim closer [ inl e ↦ absurd (isnt e) | inr k ↦ k ] in
           let past_it = has_from p.closer (r.place + 1) xs s.1 closer_later in
-          let later : Has m xs = elim h [ | inl e ↦ absurd (omega arith) | inr k ↦ k ] in
+          let later : Has m xs = elim h [ inl e ↦ absurd (omega arith) | inr k ↦ k ] in
           subst (Has m) (sym (cond-false (r.place == p.closer) whole further other))
           (has_to_closer kind p m (r.place + 1) (with_piece inside (Left r)) xs s.1 le closer_later later)
     ]
@@ -310,7 +311,7 @@ has_after p m a (Left r ∷ xs) s order beside opener closer h =
     elim (cases_Bool (r.place == p.opener)) [
       | inl here ↦
           let is : r.place ≡ p.opener = eqb-true r.place p.opener here in
-          let closer_later : Has p.closer xs = elim closer [ | inl e ↦ absurd (omega arith) | inr k ↦ k ] in
+          let closer_later : Has p.closer xs = elim closer [ inl e ↦ absurd (omega arith) | inr k ↦ k ] in
           subst (Has m) (sym (cond-true (r.place == p.opener) here_rows later_rows here))
           (elim h [
             | inl e ↦ inl e
@@ -320,11 +321,11 @@ has_after p m a (Left r ∷ xs) s order beside opener closer h =
           ])
       | inr other ↦
           let isnt : r.place ≡ p.opener → ⊥ = λ e. both_ways (r.place == p.opener) other (eq-eqb r.place p.opener e) in
-          let opener_later : Has p.opener xs = elim opener [ | inl e ↦ absurd (isnt e) | inr k ↦ k ] in
+          let opener_later : Has p.opener xs = elim opener [ inl e ↦ absurd (isnt e) | inr k ↦ k ] in
           let later = has_from p.opener (r.place + 1) xs s.1 opener_later in
-          let closer_later : Has p.closer xs = elim closer [ | inl e ↦ absurd (omega arith) | inr k ↦ k ] in
+          let closer_later : Has p.closer xs = elim closer [ inl e ↦ absurd (omega arith) | inr k ↦ k ] in
           subst (Has m) (sym (cond-false (r.place == p.opener) here_rows later_rows other))
-          (elim h [ | inl e ↦ inl e | inr k ↦ inr (has_after p m (r.place + 1) xs s.1 order beside opener_later closer_later k) ])
+          (elim h [ inl e ↦ inl e | inr k ↦ inr (has_after p m (r.place + 1) xs s.1 order beside opener_later closer_later k) ])
     ]
 
 -- ---- all pairs
@@ -342,9 +343,10 @@ AreNested (p ∷ ps) = (p.opener < p.closer) × Apart p ps × AreNested ps
 all_have : (p : Pair) (qs : List Pair) (a : ℕ) (xs : List Piece) → SortedFrom a xs → p.opener < p.closer → Has p.opener xs → Has p.closer xs → Apart p qs
     → AllHas qs xs → AllHas qs (with_span xs p)
 all_have p [] a xs s order opener closer apart h = tt
-all_have p (q ∷ qs) a xs s order opener closer apart h =
-    ((has_after p q.opener a xs s order apart.0.0 opener closer h.0.0, has_after p q.closer a xs s order apart.0.1 opener closer h.0.1),
-    all_have p qs a xs s order opener closer apart.1 h.1)
+all_have p (q ∷ qs) a xs s order opener closer apart h = (
+  (has_after p q.opener a xs s order apart.0.0 opener closer h.0.0, has_after p q.closer a xs s order apart.0.1 opener closer h.0.1),
+  all_have p qs a xs s order opener closer apart.1 h.1,
+)
 
 all_pairs : (ps : List Pair) (a : ℕ) (n : Nest) (xs : List Piece) → SortedFrom a xs → AllHas ps xs → AreNested ps
     → fold nest_row n (rows_of ps xs) ≡ fold nest_row n (rows_of [] (fold with_span xs ps))
@@ -381,16 +383,18 @@ apart_later : (runs : List Run) (so_far qs : List Pair) (p : Pair) → AreNext r
     → ((m : ℕ) → is_inside so_far m ≡ false → is_within m p ≡ false) → Apart p qs
 apart_later runs _ _ p (NoMore so_far none) le out = tt
 apart_later runs _ _ p (NextIs so_far q others next rest) le out =
-    let on : last_closer so_far ≤ q.closer = next.goes_on in
-    ((beside p q.opener (out q.opener next.eligible.uncrossed), inr (omega arith)),
-    apart_later runs (q ∷ so_far) others p rest (omega arith) (λ m h. out m (either_second (is_within m q) (is_inside so_far m) h)))
+    let on : last_closer so_far ≤ q.closer = next.goes_on in (
+      (beside p q.opener (out q.opener next.eligible.uncrossed), inr (omega arith)),
+      apart_later runs (q ∷ so_far) others p rest (omega arith) (λ m h. out m (either_second (is_within m q) (is_inside so_far m) h)),
+    )
 
 nested : (runs : List Run) (so_far qs : List Pair) → AreNext runs so_far qs → AreNested qs
 nested runs _ _ (NoMore so_far none) = tt
-nested runs _ _ (NextIs so_far p others next rest) =
-    (next.eligible.ordered,
-    apart_later runs (p ∷ so_far) others p rest (omega arith) (λ m h. either_first (is_within m p) (is_inside so_far m) h),
-    nested runs (p ∷ so_far) others rest)
+nested runs _ _ (NextIs so_far p others next rest) = (
+  next.eligible.ordered,
+  apart_later runs (p ∷ so_far) others p rest (omega arith) (λ m h. either_first (is_within m p) (is_inside so_far m) h),
+  nested runs (p ∷ so_far) others rest,
+)
 
 has_all : (runs : List Run) (so_far qs : List Pair) (xs : List Piece) → AreNext runs so_far qs → ((m : ℕ) → m < length runs → Has m xs) → AllHas qs xs
 has_all runs _ _ xs (NoMore so_far none) has = tt
