@@ -1,5 +1,6 @@
 pub mod RunPairs
 pub mod NextPair
+pub mod SpanRows
 pub mod Scanning
 pub mod PartSteps
 pub mod LinkRenaming

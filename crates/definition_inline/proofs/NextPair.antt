@@ -389,7 +389,7 @@ eligible_may_close : (o c : OpenRun) → is_eligible o c ≡ true → c.run.may_
 eligible_may_close o c h = grind (arith, common_steps)
 
 -- past the runs nothing closes
-none_past : (runs : List Run) (ps : List Pair) (i j : ℕ) → length runs ≤ j → IsEligiblePair runs ps i j → ⊥
+pub none_past : (runs : List Run) (ps : List Pair) (i j : ℕ) → length runs ≤ j → IsEligiblePair runs ps i j → ⊥
 none_past runs ps i j past pair =
     let there : run_by_place runs j ≡ no_run = get_or_past runs j no_run past in
     let shut : (left_at runs ps j).run.may_close ≡ false = ap (λ (r : Run). r.may_close) there in

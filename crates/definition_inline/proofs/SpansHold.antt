@@ -1,10 +1,11 @@
 -- If each part of a container is good, and so are the spans that its runs may form, it is good with its spans.
-use Rattle.std.proofs.Common.{ℕ, ◌+◌, ◌-◌, ◌==◌, List, [], ◌∷◌, ◌++◌, map, reverse, replicate, filter, fold}
+use Rattle.std.proofs.Common.{ℕ, ◌+◌, ◌-◌, ◌==◌, List, [], ◌∷◌, ◌++◌, map, reverse, replicate, filter, fold, sym, subst}
 use Rattle.definition_inline.specs.Inline.{Data, SpanKind, Inline, Leaf, Span, Inlines, Nil, Cons, followed_by}
 use Rattle.definition_inline.specs.Attention.{Run}
 use Rattle.definition_inline.specs.Pairing.{Pair, pairs}
-use Rattle.definition_inline.specs.Spans.{Token, Item, Delimiters, runs_of, span_of, SpanRow, Holds, Opens, Closes}
-use Rattle.definition_inline.specs.Spans.{bytes_taken, run_rows, rows_from, OpenSpan, Nest, nest, leave, nest_row, with_spans}
+use Rattle.definition_inline.specs.Spans.{Token, Item, Delimiters, runs_of, span_of, with_spans}
+use Rattle.definition_inline.specs.SpanRows.{SpanRow, Holds, Opens, Closes, bytes_taken, run_rows, rows_from, OpenSpan, Nest, nest, leave, nest_row}
+use Rattle.definition_inline.proofs.SpanRows.{spans_by_rows}
 use Rattle.definition_text.proofs.Each.{Each, each-append, each_map, each_same}
 
 module _ (Good : Inline → Type 0) (AllGood : Inlines → Type 0) where
@@ -76,4 +77,5 @@ module _ (Good : Inline → Type 0) (AllGood : Inlines → Type 0) where
 
     pub spans_hold : (tokens : List Token) → Each TokenGood tokens → AllGood (with_spans tokens)
     spans_hold tokens h =
-        let ps = pairs (runs_of tokens) in (nest_good (nest Nil []) (rows_from ps 0 tokens) (n.none, tt) (rows_good ps 0 tokens h)).0
+        let ps = pairs (runs_of tokens) in
+        subst AllGood (sym (spans_by_rows tokens)) (nest_good (nest Nil []) (rows_from ps 0 tokens) (n.none, tt) (rows_good ps 0 tokens h)).0

@@ -27,6 +27,7 @@ pub mod Pairing
 pub mod RunPairs
 pub mod NextPair
 pub mod Spans
+pub mod SpanRows
 pub mod Scan
 pub mod LabelPairs
 pub mod MayStand

@@ -1,10 +1,10 @@
 -- Emphasis, strong emphasis and strikethrough: what stands between the runs that go together (CommonMark 6.2 and GFM 6.5).
-use Rattle.std.specs.Prelude.{ℕ, ◌+◌, ◌-◌, if◌then◌else◌, ◌==◌, List, [], ◌∷◌, ◌++◌, map, reverse, replicate}
-use Rattle.std.specs.List.{filter, fold, sum_by}
+use Rattle.std.specs.Prelude.{ℕ, ◌+◌, if◌then◌else◌, ◌==◌, List, [], ◌∷◌, ◌++◌, replicate}
+use Rattle.std.specs.List.{fold}
 use Rattle.definition_inline.specs.Inline.{Inline, Leaf, Data, Span, SpanKind, Emphasis, Strong, Strikethrough, Inlines, Nil, followed_by}
 use Rattle.definition_inline.specs.Attention.{Run}
 use Rattle.definition_inline.specs.GfmStrikethrough.{is_tilde}
-use Rattle.definition_inline.specs.Pairing.{Pair, pairs}
+use Rattle.definition_inline.specs.Pairing.{Pair, OpenRun, open_run, without, pairs}
 
 -- a part of a container: one that is read whole, or a run
 pub data Token : Type 0 where
@@ -25,59 +25,38 @@ runs_of (t ∷ ts) = token_run t ++ runs_of ts
 abbrev pub span_of : ℕ → Pair → SpanKind
 span_of marker pair = if is_tilde marker then Strikethrough else (if pair.taken == 2 then Strong else Emphasis)
 
--- tokens where each run is told apart: a part, the start of a span, or the end of the innermost one
-pub data SpanRow : Type 0 where
-  Holds : Inline → SpanRow
-  Opens : SpanKind → SpanRow
-  Closes : SpanRow
+-- a token of a container while its pairs are worked in: a part, or what is left of a run at its place among the runs
+pub data Piece : Type 0 where
+  Whole : Inline → Piece
+  Left : OpenRun → Piece
 
--- the bytes of these pairs at one of their runs
-abbrev pub bytes_taken : List Pair → ℕ
-bytes_taken ps = sum_by (λ (p : Pair). p.taken) ps
+-- tokens as pieces, of which the next run has this place
+abbrev pub pieces_from : ℕ → List Token → List Piece
+pieces_from place [] = []
+pieces_from place (Item i ∷ ts) = Whole i ∷ pieces_from place ts
+pieces_from place (Delimiters run ∷ ts) = Left (open_run run place) ∷ pieces_from (place + 1) ts
 
--- a run at its place: its first bytes close spans, the innermost first, its last open spans, and what is left is text (CommonMark 6.2)
-abbrev pub run_rows : List Pair → ℕ → Run → List SpanRow
-run_rows ps place run =
-    let closed = filter (λ (p : Pair). p.closer == place) ps in
-    let started = filter (λ (p : Pair). p.opener == place) ps in
-    map (λ (p : Pair). Closes) closed
-    ++ replicate (run.left - (bytes_taken closed + bytes_taken started)) (Holds (Leaf (Data run.marker)))
-    ++ map (λ (p : Pair). Opens (span_of run.marker p)) (reverse started)
+-- parts and a piece after them: what is left of a run is text (CommonMark 6.2)
+abbrev pub with_piece : Inlines → Piece → Inlines
+with_piece before (Whole i) = followed_by before i
+with_piece before (Left p) = fold followed_by before (replicate p.run.left (Leaf (Data p.run.marker)))
 
--- the rows of tokens, of which the next run has this place
-abbrev pub rows_from : List Pair → ℕ → List Token → List SpanRow
-rows_from ps place [] = []
-rows_from ps place (Item i ∷ ts) = Holds i ∷ rows_from ps place ts
-rows_from ps place (Delimiters run ∷ ts) = run_rows ps place run ++ rows_from ps (place + 1) ts
+-- a span up to the closer of its pair, before which these parts stand (CommonMark 6.2)
+abbrev pub span_to_closer : SpanKind → Pair → Inlines → List Piece → List Piece
+span_to_closer kind pair inside [] = []
+span_to_closer kind pair inside (Whole i ∷ others) = span_to_closer kind pair (followed_by inside i) others
+span_to_closer kind pair inside (Left run ∷ others) =
+    if run.place == pair.closer then Whole (Span kind inside) ∷ Left (without pair.taken run) ∷ others
+    else span_to_closer kind pair (with_piece inside (Left run)) others
 
--- a span that is open, and the parts before it
-pub record OpenSpan : Type 0 where
-  pub kind : SpanKind
-  pub before : Inlines
+-- the span of a pair in place of what stands between its runs, which lose their bytes to it (CommonMark 6.2)
+abbrev pub with_span : List Piece → Pair → List Piece
+with_span [] pair = []
+with_span (Whole i ∷ others) pair = Whole i ∷ with_span others pair
+with_span (Left run ∷ others) pair =
+    if run.place == pair.opener then Left (without pair.taken run) ∷ span_to_closer (span_of run.run.marker pair) pair Nil others
+    else Left run ∷ with_span others pair
 
--- the parts of the innermost span that is open, and the open spans, the innermost first
-pub record Nest : Type 0 where
-  pub now : Inlines
-  pub around : List OpenSpan
-
-abbrev pub nest : Inlines → List OpenSpan → Nest
-nest now around = record { now = now; around = around }
-
--- the innermost span ends
-abbrev pub leave : Inlines → List OpenSpan → Nest
-leave now [] = nest now []
-leave now (innermost ∷ others) = nest (followed_by innermost.before (Span innermost.kind now)) others
-
--- one more row
-abbrev pub nest_row : Nest → SpanRow → Nest
-nest_row n (Holds i) = nest (followed_by n.now i) n.around
-nest_row n (Opens kind) = nest Nil (record { kind = kind; before = n.now } ∷ n.around)
-nest_row n Closes = leave n.now n.around
-
--- the parts that rows stand for
-abbrev pub nest_spans : List SpanRow → Inlines
-nest_spans rows = (fold nest_row (nest Nil []) rows).now
-
--- the inline structure of one container: its tokens, with the spans that its runs form (CommonMark 6.2)
+-- the inline structure of one container: its tokens, with a span for each pair of its runs, one pair after another (CommonMark 6.2)
 abbrev pub with_spans : List Token → Inlines
-with_spans tokens = nest_spans (rows_from (pairs (runs_of tokens)) 0 tokens)
+with_spans tokens = fold with_piece Nil (fold with_span (pieces_from 0 tokens) (pairs (runs_of tokens)))

@@ -5,7 +5,7 @@ use Rattle.std.proofs.lemmas.List.{append-nil, nil_from_length}
 use Rattle.definition_inline.specs.Inline.{Target, LinkTexts, Inline, Span, Inlines, Nil, Cons, followed_by}
 use Rattle.inline_rows.specs.InlineRows as rows
 use Rattle.inline_rows.specs.InlineRows.{part_rows, inline_rows}
-use Rattle.definition_inline.specs.Spans.{SpanRow, Holds, Opens, Closes, OpenSpan, nest, nest_row, nest_spans}
+use Rattle.definition_inline.specs.SpanRows.{SpanRow, Holds, Opens, Closes, OpenSpan, nest, nest_row, nest_spans}
 use Rattle.inline_rows.specs.Told.{told_rows}
 
 -- from so many open spans rows lead to so many, and none of them ends a span where none is open

@@ -10,8 +10,9 @@ use Rattle.definition_inline.specs.Attention.{Run}
 use Rattle.definition_inline.specs.Inline.{Target, LinkTexts, Inline, Leaf, Data}
 use Rattle.inline_rows.specs.InlineRows.{inline_rows}
 use Rattle.definition_inline.specs.Pairing.{Pair, pairs}
-use Rattle.definition_inline.specs.Spans.{Token, Item, Delimiters, SpanRow, Holds, Opens, Closes, span_of, bytes_taken, run_rows, rows_from, runs_of}
-use Rattle.definition_inline.specs.Spans.{with_spans}
+use Rattle.definition_inline.specs.Spans.{Token, Item, Delimiters, span_of, runs_of, with_spans}
+use Rattle.definition_inline.specs.SpanRows.{SpanRow, Holds, Opens, Closes, bytes_taken, run_rows, rows_from}
+use Rattle.definition_inline.proofs.SpanRows.{spans_by_rows}
 use Rattle.inline_rows.specs.Told.{told_rows}
 use Rattle.inline_rows.proofs.Balanced.{Nests, nested_rows}
 use Rattle.inline_rows.proofs.Taken.{AreOrdered, pairs_ordered}
@@ -135,5 +136,6 @@ emphasized_rows leads ts =
     let ordered : AreOrdered n ps = pairs_ordered (runs_of ts) in
     let rs = rows_from ps 0 ts in
     let end : count (is_open (0 + n)) ps ≡ 0 = ap (λ m. count (is_open m) ps) (let same : 0 + n ≡ n = omega arith in same) ∙ none_last n ps ordered in
-    nested_rows leads rs
+    ap (inline_rows leads) (spans_by_rows ts)
+    ∙ nested_rows leads rs
     (subst (λ m. Nests m rs 0) (none_first ps) (subst (Nests (count (is_open 0) ps) rs) end (rows_nest n ps 0 ts ordered)))

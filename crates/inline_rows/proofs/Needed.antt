@@ -8,7 +8,8 @@ use Rattle.std.proofs.lemmas.List.Sums.{sum_by_push, sum_by-cons}
 use Rattle.definition_inline.specs.Attention.{Run as RunOf}
 use Rattle.definition_inline.specs.Inline.{Leaf, Data}
 use Rattle.definition_inline.specs.Pairing.{Pair as PairOf, pairs}
-use Rattle.definition_inline.specs.Spans.{SpanRow, Holds, Opens, Closes, span_of, bytes_taken, run_rows}
+use Rattle.definition_inline.specs.Spans.{span_of}
+use Rattle.definition_inline.specs.SpanRows.{SpanRow, Holds, Opens, Closes, bytes_taken, run_rows}
 use Rattle.inline_runs.specs.View.{run_view, runs_view, pairs_view, pair_view, bytes_by}
 use Rattle.inline_runs.specs.Paired.{rows_of}
 use Rattle.inline_runs.specs.declared.pair.Pair.{Pair}

@@ -9,7 +9,8 @@ use Rattle.definition_inline.specs.Inline.{Target, LinkTexts, Inline}
 use Rattle.inline_rows.specs.InlineRows as rows
 use Rattle.inline_rows.specs.InlineRows.{part_rows}
 use Rattle.definition_inline.specs.Pairing.{Pair, pairs}
-use Rattle.definition_inline.specs.Spans.{Token, Item, run_rows, rows_from, runs_of}
+use Rattle.definition_inline.specs.Spans.{Token, Item, runs_of}
+use Rattle.definition_inline.specs.SpanRows.{run_rows, rows_from}
 use Rattle.inline_runs.specs.View.{run_view, runs_view}
 use Rattle.inline_runs.specs.declared.run.Run.{Run}
 use Rattle.inline_rows.specs.View.{row_view, rows_view}

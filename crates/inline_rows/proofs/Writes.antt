@@ -9,7 +9,8 @@ use borrow.Rule.Slice.PartMut.{put_mid}
 use Rattle.definition_inline.specs.Inline as inline
 use Rattle.definition_inline.specs.Inline.{Target, LinkTexts}
 use Rattle.inline_rows.specs.InlineRows as rows
-use Rattle.definition_inline.specs.Spans.{Holds, Opens, Closes, span_of}
+use Rattle.definition_inline.specs.Spans.{span_of}
+use Rattle.definition_inline.specs.SpanRows.{Holds, Opens, Closes}
 use Rattle.definition_inline.proofs.DefinitionParts.{cons_nil}
 use Rattle.inline_runs.specs.View.{bytes_by, pair_view, span_by, span_view}
 use Rattle.inline_runs.specs.Paired.{rows_of}

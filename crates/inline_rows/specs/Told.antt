@@ -4,7 +4,7 @@ use Rattle.std.specs.List.{flat_map}
 use Rattle.definition_inline.specs.Inline.{Target, LinkTexts}
 use Rattle.inline_rows.specs.InlineRows as rows
 use Rattle.inline_rows.specs.InlineRows.{part_rows}
-use Rattle.definition_inline.specs.Spans.{SpanRow, Holds, Opens, Closes}
+use Rattle.definition_inline.specs.SpanRows.{SpanRow, Holds, Opens, Closes}
 use Rattle.inline_runs.specs.View.{span_by}
 use Rattle.inline_runs.specs.declared.pair.Pair.{Pair}
 use Rattle.inline_runs.specs.declared.spans.RunSpans.{RunSpans}

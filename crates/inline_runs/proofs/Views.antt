@@ -9,7 +9,8 @@ use Rattle.std.proofs.lemmas.List.Sums.{sum_by-cons}
 use Rattle.definition_inline.specs.Attention.{Run as RunOf}
 use Rattle.definition_inline.specs.Pairing.{Pair as PairOf, pairs}
 use Rattle.definition_inline.specs.Inline.{Leaf, Data}
-use Rattle.definition_inline.specs.Spans.{Holds, Opens, Closes, span_of, bytes_taken, run_rows}
+use Rattle.definition_inline.specs.Spans.{span_of}
+use Rattle.definition_inline.specs.SpanRows.{Holds, Opens, Closes, bytes_taken, run_rows}
 use Rattle.inline_runs.specs.View.{pair_view, pairs_view, run_view, runs_view}
 use Rattle.inline_runs.specs.Threads.{closed_by, opened_by, IsEnds}
 use Rattle.inline_runs.specs.Laid.{pair_bytes, bytes, IsLaid, text_at}

@@ -7,8 +7,10 @@ use Rattle.markdown_options.specs.declared.line_ending.LineEnding.{LineEnding}
 use Rattle.definition_inline.specs.Inline.{Inline, Leaf, Data, Span, Inlines, Nil, Cons, followed_by}
 use Rattle.definition_inline.specs.Attention.{Run}
 use Rattle.definition_inline.specs.Pairing.{Pair, pairs}
-use Rattle.definition_inline.specs.Spans.{Token, Item, Delimiters, runs_of, span_of, SpanRow, Holds, Opens, Closes, bytes_taken, run_rows, rows_from}
-use Rattle.definition_inline.specs.Spans.{OpenSpan, Nest, nest, leave, nest_row, nest_spans, with_spans}
+use Rattle.definition_inline.specs.Spans.{Token, Item, Delimiters, runs_of, span_of, with_spans}
+use Rattle.definition_inline.specs.SpanRows.{SpanRow, Holds, Opens, Closes, bytes_taken, run_rows, rows_from}
+use Rattle.definition_inline.specs.SpanRows.{OpenSpan, Nest, nest, leave, nest_row, nest_spans}
+use Rattle.definition_inline.proofs.SpanRows.{spans_by_rows}
 use Rattle.laws_endings.specs.Inlines.{inline_with, inlines_with}
 
 module _ (e : LineEnding) where
@@ -99,6 +101,8 @@ module _ (e : LineEnding) where
   pub emphasized-with : (ts : List Token) → with_spans (tokens_with ts) ≡ inlines_with e (with_spans ts)
   emphasized-with ts =
       let rows = rows_from (pairs (runs_of ts)) 0 ts in
-      ap (λ runs. nest_spans (rows_from (pairs runs) 0 (tokens_with ts))) (runs_of-with ts)
+      spans_by_rows (tokens_with ts)
+      ∙ ap (λ runs. nest_spans (rows_from (pairs runs) 0 (tokens_with ts))) (runs_of-with ts)
       ∙ ap nest_spans (rows_from-with (pairs (runs_of ts)) 0 ts)
       ∙ ap (λ (n : Nest). n.now) (nest_rows-with (nest Nil []) rows)
+      ∙ ap (inlines_with e) (sym (spans_by_rows ts))

@@ -9,9 +9,11 @@ use Rattle.definition_text.specs.Encode.{encoded_byte}
 use Rattle.definition_text.specs.InlineCode.{InlineCode, codes_of}
 use Rattle.definition_inline.specs.Inline.{InlineLeaf, Data, Inline, Leaf, Inlines, Nil, Cons, followed_by}
 use Rattle.definition_inline.specs.Pairing.{Pair, pairs}
-use Rattle.definition_inline.specs.Spans.{Token, Item, runs_of, Holds, rows_from, Nest, nest, nest_row, nest_spans, with_spans}
+use Rattle.definition_inline.specs.Spans.{Token, Item, runs_of, with_spans}
+use Rattle.definition_inline.specs.SpanRows.{Holds, rows_from, Nest, nest, nest_row, nest_spans}
 use Rattle.definition_inline.specs.Scan.{text, Reading, reading, read_tokens}
 use Rattle.definition_inline.specs.GfmAutolinkLiteral.{parts_before}
+use Rattle.definition_inline.proofs.SpanRows.{spans_by_rows}
 use Rattle.definition_page.specs.InlinePieces.{Meaning, leaf_pieces, inline_pieces}
 use Rattle.html_bytes.specs.InlineHtml.{leaf_html, inline_html}
 use Rattle.html_bytes.specs.Pieces.{piece_html}
@@ -53,7 +55,8 @@ nest_held before (i ∷ is) =
 
 -- where no runs stand among leaves, they are the inline structure
 pub leaves_alone : (parts : List InlineLeaf) → with_spans (items parts) ≡ leaves parts
-leaves_alone parts = ap nest_spans (held (pairs (runs_of (items parts))) parts) ∙ ap (λ (n : Nest). n.now) (nest_held [] (map Leaf parts))
+leaves_alone parts =
+    spans_by_rows (items parts) ∙ ap nest_spans (held (pairs (runs_of (items parts))) parts) ∙ ap (λ (n : Nest). n.now) (nest_held [] (map Leaf parts))
 
 -- what leaves print
 pub html_of_leaves : (m : Meaning) (parts : List InlineLeaf) → inline_html m (leaves parts) ≡ flat_map (leaf_html m.compile) parts

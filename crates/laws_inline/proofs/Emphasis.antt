@@ -8,9 +8,11 @@ use Rattle.definition_text.specs.InlineCode.{InlineCode, codes_of}
 use Rattle.definition_inline.specs.Inline.{Data, Leaf}
 use Rattle.definition_inline.specs.Attention.{Run, is_marker, run_between, run_at}
 use Rattle.definition_inline.specs.Pairing.{Pair, pairs}
-use Rattle.definition_inline.specs.Spans.{Token, Item, Delimiters, runs_of, Holds, run_rows, rows_from, nest_spans}
+use Rattle.definition_inline.specs.Spans.{Token, Item, Delimiters, runs_of}
+use Rattle.definition_inline.specs.SpanRows.{Holds, run_rows, rows_from, nest_spans}
 use Rattle.definition_inline.specs.Scan.{InlineContext, leaf_here, leaf_tokens, LabelStart, label_start_at, start_bytes, start_tokens, formed_part, formed_at}
 use Rattle.definition_inline.specs.Scan.{Text, with_tokens}
+use Rattle.definition_inline.proofs.SpanRows.{spans_by_rows}
 use Rattle.definition_inline.proofs.ScanHolds.{where_always, Keeps, text_holds}
 use Rattle.laws_inline.specs.Emphasis.{Front, front_of, RunOfItsNeighbours, StandsIn, RunsOfTheContent, tokens_of, rows_by, with_runs, SpansOfRuns}
 use Rattle.laws_inline.proofs.Each.{Each, WhereSome, each-append, each_map}
@@ -36,7 +38,7 @@ with_runs-rows ps place (Item i ∷ ts) = ap (λ rows. Holds i ∷ rows) (with_r
 with_runs-rows ps place (Delimiters run ∷ ts) = ap (λ rows. run_rows ps place run ++ rows) (with_runs-rows ps (place + 1) ts)
 
 pub spans_of_runs : SpansOfRuns
-spans_of_runs tokens = ap nest_spans (with_runs-rows (pairs (runs_of tokens)) 0 tokens)
+spans_of_runs tokens = spans_by_rows tokens ∙ ap nest_spans (with_runs-rows (pairs (runs_of tokens)) 0 tokens)
 
 -- ---- the runs of a content
 

@@ -6,7 +6,8 @@ use Rattle.markdown_options.specs.declared.beside.Kind.{Kind}
 use Rattle.definition_text.specs.InlineCode.{InlineCode}
 use Rattle.definition_inline.specs.Attention.{Run, run_size, run_at}
 use Rattle.definition_inline.specs.Pairing.{Pair, pairs}
-use Rattle.definition_inline.specs.Spans.{Token, Item, Delimiters, runs_of, SpanRow, Holds, run_rows, nest_spans, with_spans}
+use Rattle.definition_inline.specs.Spans.{Token, Item, Delimiters, runs_of, with_spans}
+use Rattle.definition_inline.specs.SpanRows.{SpanRow, Holds, run_rows, nest_spans}
 use Rattle.definition_inline.specs.Scan.{InlineContext, text, reading, scan, whole_text}
 
 -- ---- a run

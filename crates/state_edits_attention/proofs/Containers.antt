@@ -4,7 +4,8 @@ use Rattle.std.proofs.lemmas.List.{drop-map, get_or-map, length-map}
 use Rattle.definition_inline.specs.Attention.{Run as RunOf}
 use Rattle.definition_inline.specs.Inline.{Inline, Leaf, Data}
 use Rattle.definition_inline.specs.Pairing.{Pair as PairOf}
-use Rattle.definition_inline.specs.Spans.{Closes, Holds, Opens, SpanRow, span_of}
+use Rattle.definition_inline.specs.Spans.{span_of}
+use Rattle.definition_inline.specs.SpanRows.{Closes, Holds, Opens, SpanRow}
 use Rattle.inline_runs.specs.declared.pair.Pair.{Pair}
 use Rattle.inline_runs.specs.declared.run.Run.{Run}
 use Rattle.inline_runs.specs.declared.spans.RunSpans.{RunSpans}

@@ -6,7 +6,8 @@ use Rattle.markdown_options.specs.declared.configuration.ParseOptions.{ParseOpti
 use Rattle.definition_inline.specs.Attention.{Run, run_between}
 use Rattle.definition_inline.specs.Pairing.{Pair, pairs}
 use Rattle.definition_inline.specs.Inline.{SpanKind, Emphasis, Strong, Strikethrough}
-use Rattle.definition_inline.specs.Spans.{Closes, Holds, Opens, SpanRow, run_rows, span_of}
+use Rattle.definition_inline.specs.Spans.{span_of}
+use Rattle.definition_inline.specs.SpanRows.{Closes, Holds, Opens, SpanRow, run_rows}
 use Rattle.inline_runs.specs.Paired.{closed_at, opened_at}
 use Rattle.engine_text.specs.Bytes.{code_after, code_before}
 use Rattle.engine_text.specs.Characters.{kind_of_any}

@@ -2,7 +2,7 @@ use Rattle.std.proofs.Common.{◌≡◌, ◌≤◌, ◌+◌, ◌-◌, refl, ap, 
 use Rattle.std.proofs.lemmas.Bool.{eqb-true}
 use borrow.Rule.Slice.PartMut.{put_mid}
 use Rattle.definition_inline.specs.Pairing.{pairs}
-use Rattle.definition_inline.specs.Spans.{run_rows}
+use Rattle.definition_inline.specs.SpanRows.{run_rows}
 use Rattle.inline_runs.specs.View.{run_view, runs_view}
 use Rattle.inline_rows.specs.View.{rows_view}
 use Rattle.inline_rows.specs.Container.{AreBytes}
