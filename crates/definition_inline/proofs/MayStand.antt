@@ -17,7 +17,7 @@ use Rattle.definition_inline.specs.Scan.{start_bytes, start_tokens, formed_part,
 use Rattle.definition_inline.specs.Scan.{inlines_from}
 use Rattle.definition_inline.specs.MayStand.{span_may_stand, part_may_stand}
 use Rattle.definition_inline.proofs.Markers.{of_marker}
-use Rattle.definition_inline.proofs.EachPart.{EachPart, EachOf}
+use Rattle.definition_inline.specs.EachPart.{EachPart, EachOf}
 use Rattle.definition_inline.proofs.LeavesFound.{LeafStands, leaf_stands}
 use Rattle.definition_inline.proofs.SpansHold.{Siblings, RunGood, TokenGood, spans_hold}
 use Rattle.definition_inline.proofs.ScanHolds.{where_gives, Keeps, text_holds}

@@ -6,6 +6,7 @@ pub mod Title
 pub mod Definition
 pub mod LabelMatch
 pub mod Inline
+pub mod EachPart
 pub mod Targets
 pub mod CharacterEscape
 pub mod CharacterReference
