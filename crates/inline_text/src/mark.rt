@@ -3,7 +3,7 @@ ghost use Rattle.std.specs.Prelude.{◌<◌, ◌≡◌, length, true};
 ghost use Rattle.inline_text.specs.Letters.{stops_at, IsStop};
 
 use crate::letters::are_letters;
-use text_search::ByteSet;
+use text_search::{ByteSet, ByteTest};
 
 /// How many bytes come before the first that a set holds, or before the first `=`, or before the
 /// first two letters where literals are on: all of them, where none does.
