@@ -1,5 +1,5 @@
 -- What the blocks of a page print adds a safe page.
-use Rattle.std.proofs.Common.{◌≡◌, ℕ, zero, suc, map, Bool, true, false, eqb, ◌||◌, not, List, [], ◌∷◌, ◌++◌, Option, None, Some, codes, sym, refl, subst, inl}
+use Rattle.std.proofs.Common.{◌∙◌, ◌≡◌, ℕ, zero, suc, map, Bool, true, false, eqb, ◌||◌, not, List, [], ◌∷◌, ◌++◌, Option, None, Some, codes, sym, refl, subst, inl}
 use Rattle.std.proofs.Common.{inr}
 use Rattle.std.specs.Prelude.{slice_index_or}
 use Rattle.std.specs.List.{fold, flat_map}
@@ -15,14 +15,16 @@ use Rattle.markdown_options.specs.declared.align_kind.AlignKind.{AlignKind}
 use Rattle.markdown_options.specs.declared.align_kind.AlignKind.TheVariants as kind
 use Rattle.definition_page.specs.GfmTable.{TableRow, Table as TableOf, align_attributes, cell_pieces, cells_pieces, row_pieces, ending_piece, body_row_pieces}
 use Rattle.definition_page.specs.GfmTable.{head_pieces, body_pieces, table_pieces}
-use Rattle.definition_page.specs.Tags.{Words, Number, Tag, tag, bare_tag, attribute}
+use Rattle.definition_page.specs.Tags.{Words, Number, Tag, tag, bare_tag}
 use Rattle.definition_page.specs.Pieces.{Piece, Void, Says, Eol, Fresh}
 use Rattle.definition_page.specs.Page.{Page, Block, Paragraph, Heading, Break, IndentedCode, FencedCode, Html, Table, Definition, Quote, ItemList, Item}
 use Rattle.definition_page.specs.Page.{Footnote, Ending, Blank, Blocks, Nil as NoBlocks, Cons}
 use Rattle.definition_page.specs.InlinePieces.{Meaning, inline_counts, element, inline_pieces}
 use Rattle.definition_page.specs.GfmFootnoteDefinition.{Footnote as NoteWithCalls}
-use Rattle.definition_page.specs.Layout.{layout_state, lay, note_of, page_layout}
-use Rattle.definition_page.specs.BlockPieces.{Place, at_top, inside, code_line, html_line, says}
+use Rattle.definition_page.specs.Layout.{page_layout}
+use Rattle.html_bytes.specs.Layout.{nothing_laid, note_of}
+use Rattle.html_bytes.proofs.LayoutSteps.{lay, steps_same}
+use Rattle.definition_page.specs.BlockPieces.{checkable_attributes, done_attributes, check_tag, check_pieces, Place, at_top, inside, code_line, html_line, says}
 use Rattle.definition_page.specs.BlockPieces.{heading_name, info_attributes, list_tag, is_silent, last_visible, ends_plainly, fresh_unless, fenced_pieces}
 use Rattle.definition_page.specs.BlockPieces.{block_pieces, children_pieces, document_pieces}
 use Rattle.html_safe_page.specs.Table.{start_rows, void_rows}
@@ -286,12 +288,12 @@ module _ (default : List ℕ) (ending : IsText default) (m : Meaning) (safe : Ar
 
   pub page_is_safe : (page : Page) → AreReadable page.blocks → IsSafePage (page_layout m.compile default (document_pieces m page))
   page_is_safe page h =
-      let l = fold (lay m.compile default) (layout_state [] [] [] []) (document_pieces m page) in
-      let lines = document_adds page h (layout_state [] [] [] []) in
+      let l = fold (lay m.compile default) nothing_laid (document_pieces m page) in
+      let lines = document_adds page h nothing_laid in
       let notes = map (note_of l.notes) l.called in
       let printed : Each IsPrinted l.notes = subst (Each IsPrinted) (sym lines.notes_after) lines.notes_safe in
       let section =
       section_adds default ending m.compile safe notes
       (each_map (λ (note : NoteWithCalls). IsPrinted note.html) (note_of l.notes) l.called (λ c. note_printed l.notes c.place printed)) in
       let whole = both_after [] l.text _ lines.within (section l.text) in
-      subst IsSafePage (sym whole.is_after) whole.is_safe
+      subst IsSafePage (sym (steps_same m.compile default (document_pieces m page) ∙ whole.is_after)) whole.is_safe

@@ -7,7 +7,8 @@ use Rattle.definition_page.specs.Tags.{PrintedPart, Tag, start_tag}
 use Rattle.definition_page.specs.Pieces.{Piece, Close, Void, Says, Eol, Fresh, CallOf, CountOf, NoteStart, NoteEnd}
 use Rattle.definition_page.specs.InlinePieces.{element}
 use Rattle.definition_page.specs.GfmLabelStartFootnote.{Call, call_pieces}
-use Rattle.definition_page.specs.Layout.{NoteCalls, once_more, latest_call, LayoutState, layout_state, note_end, lay}
+use Rattle.html_bytes.specs.Layout.{NoteCalls, once_more, latest_call, LayoutState, layout_state, note_end}
+use Rattle.html_bytes.proofs.LayoutSteps.{lay}
 use Rattle.html_safe_page.specs.Table.{start_rows, void_rows}
 use Rattle.html_safe_page.specs.SafePage.{IsSafePage}
 use Rattle.laws_safe_page.proofs.Each.{Each, each-append}
