@@ -5,6 +5,7 @@ use Rattle.markdown_options.specs.declared.configuration.CompileOptions.{Compile
 use Rattle.definition_page.specs.Pieces.{Piece, CallOf, CountOf}
 use Rattle.definition_page.specs.Layout.{NamedCall, named_call, named_calls, first_calls, times, call_of, with_calls}
 use Rattle.definition_page.specs.GfmLabelStartFootnote.{Call, call_pieces}
+use Rattle.definition_page.proofs.Cuts.{shown_append}
 use Rattle.laws_footnotes.specs.Section.{number_by, label_by, PrintedCallLaw}
 use Rattle.laws_footnotes.proofs.Defined.{calls_append}
 
@@ -23,26 +24,6 @@ call_is place count n (c ∷ cs) =
       | true ↦ ap (λ m. call_by c.label m count) here
       | false ↦ call_is place count (suc n) cs ∙ ap (λ m. call_by (label_by cs place) m count) moved
     ]
-
--- pieces after one another
-shown_append : (options : CompileOptions) (firsts earlier : List NamedCall) (ps qs : List Piece)
-    → with_calls options firsts earlier (ps ++ qs)
-    ≡ with_calls options firsts earlier ps ++ with_calls options firsts (earlier ++ named_calls ps) qs
-shown_append options firsts earlier [] qs = ap (λ cs. with_calls options firsts cs qs) (sym (append-nil earlier))
-shown_append options firsts earlier (CallOf place label ∷ ps) qs =
-    let c = named_call place label in
-    let call = call_pieces options (call_of place (suc (times place earlier)) 1 firsts) in
-    let inner = with_calls options firsts (earlier ++ c ∷ []) ps in
-    ap (λ rest. call ++ rest)
-    (shown_append options firsts (earlier ++ c ∷ []) ps qs
-    ∙ ap (λ cs. inner ++ with_calls options firsts cs qs) (append_assoc earlier (c ∷ []) (named_calls ps)))
-    ∙ sym (append_assoc call inner (with_calls options firsts (earlier ++ c ∷ named_calls ps) qs))
-shown_append options firsts earlier (CountOf place label ∷ ps) qs =
-    let c = named_call place label in
-    let inner = with_calls options firsts (earlier ++ c ∷ []) ps in
-    shown_append options firsts (earlier ++ c ∷ []) ps qs
-    ∙ ap (λ cs. inner ++ with_calls options firsts cs qs) (append_assoc earlier (c ∷ []) (named_calls ps))
-shown_append options firsts earlier (p ∷ ps) qs = ap (λ rest. p ∷ rest) (shown_append options firsts earlier ps qs)
 
 pub printed_call_law : PrintedCallLaw
 printed_call_law options earlier later place label =

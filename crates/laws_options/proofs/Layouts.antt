@@ -4,8 +4,8 @@ use Rattle.markdown_options.specs.declared.configuration.CompileOptions.{Compile
 use Rattle.definition_page.specs.Pieces.{Piece, CallOf, CountOf}
 use Rattle.definition_page.specs.GfmLabelStartFootnote.{Call, call_pieces}
 use Rattle.definition_page.specs.GfmFootnoteDefinition.{Footnote, section_pieces}
-use Rattle.definition_page.specs.Layout.{NamedCall, named_call, named_calls, first_calls, times, call_of, with_calls, content, contents, layout, called_footnotes}
-use Rattle.definition_page.specs.Layout.{page_layout}
+use Rattle.definition_page.specs.Layout.{NamedCall, named_call, named_calls, first_calls, times, call_of, with_calls, content, contents, layout}
+use Rattle.definition_page.specs.Layout.{called_footnotes, page_layout}
 use Rattle.definition_page.proofs.PlainLayout.{uncalled_page}
 
 -- options that print calls and the section of footnotes alike
