@@ -9,6 +9,8 @@ use borrow.Rule.Slice.PartMut.{put_mid}
 use Rattle.definition_inline.specs.Inline as inline
 use Rattle.definition_inline.specs.Inline.{Target, LinkTexts}
 use Rattle.inline_rows.specs.InlineRows as rows
+use Rattle.definition_inline.specs.GfmStrikethrough.{is_tilde}
+use Rattle.definition_inline.specs.Mark.{is_equals}
 use Rattle.definition_inline.specs.Spans.{Holds, Opens, Closes, span_of}
 use Rattle.definition_inline.proofs.DefinitionParts.{cons_nil}
 use Rattle.inline_runs.specs.View.{bytes_by, pair_view, span_by, span_view}
@@ -101,7 +103,7 @@ either_view view x y z w false false true = refl
 either_view view x y z w false false false = refl
 
 span_is : (marker : ℕ) (p : Pair) → span_view (span_by marker p.double) ≡ span_of marker (pair_view p)
-span_is marker p = either_view span_view _ _ _ _ _ _ p.double
+span_is marker p = either_view span_view _ _ _ _ (is_tilde marker) (is_equals marker) p.double
 
 module _ (leads : Target → LinkTexts) (at : ℕ → LinkTexts) where
   ends_view : (closed : List Pair) → rows_view at (replicate (length closed) Exit) ≡ told_rows leads (map (λ (p : Pair). Closes) closed)

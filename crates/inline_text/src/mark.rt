@@ -25,6 +25,10 @@ fn stops_at(has_literals: bool, bytes: &[u8], at: usize, set: ByteSet) -> bool
     requires { at < length bytes.now }
     ensures { result ≡ stops_with has_literals true set bytes.now at }
 {
-    let next = if bytes.len() - at > 1 { bytes[at + 1] } else { 0 };
+    let next = if bytes.len() - at > 1 {
+        bytes[at + 1]
+    } else {
+        0
+    };
     set.passes(bytes[at]) || bytes[at] == b'=' || (has_literals && are_letters(bytes[at], next))
 }
