@@ -23,7 +23,7 @@ use Rattle.definition_page.specs.InlinePieces.{Meaning, inline_counts, element, 
 use Rattle.definition_page.specs.GfmFootnoteDefinition.{Footnote as NoteWithCalls, section_pieces}
 use Rattle.definition_page.specs.Layout.{named_calls, first_calls, with_calls, content, contents, layout, footnote_of, called_footnotes, page_layout}
 use Rattle.definition_page.proofs.Cuts.{outside_is, insides_are}
-use Rattle.definition_page.specs.BlockPieces.{checkable_attributes, done_attributes, check_tag, check_pieces, Place, at_top, inside, code_line, html_line, says}
+use Rattle.definition_page.specs.BlockPieces.{Place, at_top, inside, code_line, html_line, says}
 use Rattle.definition_page.specs.BlockPieces.{heading_name, info_attributes, list_tag, is_silent, last_visible, ends_plainly, fresh_unless, fenced_pieces}
 use Rattle.definition_page.specs.BlockPieces.{block_pieces, children_pieces, document_pieces}
 use Rattle.html_safe_page.specs.Table.{start_rows, void_rows}
