@@ -22,6 +22,7 @@ pub mod LabelEnd
 pub mod GfmLabelStartFootnote
 pub mod GfmAutolinkLiteral
 pub mod GfmStrikethrough
+pub mod Mark
 pub mod Attention
 pub mod Pairing
 pub mod RunPairs

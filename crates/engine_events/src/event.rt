@@ -153,6 +153,9 @@ pub enum Name {
     ListItemValue,
     ListOrdered,
     ListUnordered,
+    Mark,
+    MarkSequence,
+    MarkText,
     MathFlow,
     MathFlowChunk,
     MathFlowFence,
@@ -189,7 +192,7 @@ pub enum Name {
 }
 
 /// What holds no other event: its enter is directly followed by its exit.
-pub const VOID_EVENTS: [Name; 64] = [
+pub const VOID_EVENTS: [Name; 65] = [
     Name::AttentionSequence,
     Name::AutolinkEmail,
     Name::AutolinkMarker,
@@ -243,6 +246,7 @@ pub const VOID_EVENTS: [Name; 64] = [
     Name::LineEnding,
     Name::ListItemMarker,
     Name::ListItemValue,
+    Name::MarkSequence,
     Name::MathFlowChunk,
     Name::MathFlowFenceSequence,
     Name::MathTextData,

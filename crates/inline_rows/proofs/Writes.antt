@@ -9,6 +9,8 @@ use borrow.Rule.Slice.PartMut.{put_mid}
 use Rattle.definition_inline.specs.Inline as inline
 use Rattle.definition_inline.specs.Inline.{Target, LinkTexts}
 use Rattle.inline_rows.specs.InlineRows as rows
+use Rattle.definition_inline.specs.GfmStrikethrough.{is_tilde}
+use Rattle.definition_inline.specs.Mark.{is_equals}
 use Rattle.definition_inline.specs.Spans.{span_of}
 use Rattle.definition_inline.specs.SpanRows.{Holds, Opens, Closes}
 use Rattle.definition_inline.proofs.DefinitionParts.{cons_nil}
@@ -94,14 +96,15 @@ parts_are old first between last closed text opened is_closed is_opened fits is_
     ∙ over_rest (front ++ between) (drop n rest) last (length old - opened) (length ((front ++ between) ++ drop n rest) - (length old - opened)) place refl
 
 -- what a pair stands for, as the definition has it
-either_view : {A B : Type 0} (view : A → B) (x y z : A) (tilde double : Bool)
-    → view (cond tilde x (cond double y z)) ≡ cond tilde (view x) (cond (bytes_by double == 2) (view y) (view z))
-either_view view x y z true double = refl
-either_view view x y z false true = refl
-either_view view x y z false false = refl
+either_view : {A B : Type 0} (view : A → B) (x y z w : A) (tilde equals double : Bool) → view (cond tilde x (cond equals y (cond double z w)))
+    ≡ cond tilde (view x) (cond equals (view y) (cond (bytes_by double == 2) (view z) (view w)))
+either_view view x y z w true equals double = refl
+either_view view x y z w false true double = refl
+either_view view x y z w false false true = refl
+either_view view x y z w false false false = refl
 
 span_is : (marker : ℕ) (p : Pair) → span_view (span_by marker p.double) ≡ span_of marker (pair_view p)
-span_is marker p = either_view span_view _ _ _ _ p.double
+span_is marker p = either_view span_view _ _ _ _ (is_tilde marker) (is_equals marker) p.double
 
 module _ (leads : Target → LinkTexts) (at : ℕ → LinkTexts) where
   ends_view : (closed : List Pair) → rows_view at (replicate (length closed) Exit) ≡ told_rows leads (map (λ (p : Pair). Closes) closed)

@@ -5,7 +5,8 @@ use Rattle.definition_inline.specs.Attention.{Run as RunOf}
 use Rattle.definition_inline.specs.Pairing.{Pair as PairOf, OpenRun as PlacedOf, pairs, taken_by, without}
 use Rattle.inline_runs.specs.FoundPairs.{Pairing as PairingOf, pairing, nearest}
 use Rattle.definition_inline.specs.Inline.{Leaf, Data}
-use Rattle.definition_inline.specs.Spans.{SpanRow, Holds, Opens, Closes, span_of, run_rows}
+use Rattle.definition_inline.specs.Spans.{span_of}
+use Rattle.definition_inline.specs.SpanRows.{SpanRow, Holds, Opens, Closes, run_rows}
 use Rattle.inline_runs.specs.View.{pair_view, pairs_view}
 use Rattle.inline_runs.specs.Floors.{AreOpenersAt, openers_view, placed_view}
 use Rattle.inline_runs.specs.Threads.{HasThreads}

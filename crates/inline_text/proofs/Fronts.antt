@@ -1,17 +1,15 @@
 -- Text before the first byte at which a construct may start.
 use Rattle.std.proofs.Common.{◌≡◌, ℕ, zero, suc, ◌+◌, ◌-◌, ◌<◌, ◌≤◌, List, [], ◌∷◌, Bool, true, false, not, ◌||◌, ◌&&◌, eqb, leb, refl, sym, ap, ◌∙◌, get_or}
 use Rattle.std.proofs.Common.{length, drop, arith, subst, Fits, w8, ◌⊎◌, inl, inr}
-use Rattle.std.proofs.lemmas.Bool.{and_parts, cases_Bool, cases_lt, cond-false, cond-true, eqb-true, false≢true, or_right, or_cases, or_from, ne_eqb, leb-false}
+use Rattle.std.proofs.lemmas.Bool.{cases_Bool, cases_lt, cond-false, cond-true, eqb-true, false≢true, or_right, or_cases, or_from, ne_eqb, leb-false}
 use Rattle.std.proofs.lemmas.Bool.{agree_below_at}
 use Rattle.std.proofs.lemmas.List.{drop_more, get_or-drop, length-drop}
 use Rattle.definition_text.specs.Columns.{is_white, indent, bare}
 use Rattle.definition_text.specs.Content.{content_codes, is_eol}
 use Rattle.definition_inline.specs.HardBreak.{ends_here}
 use Rattle.inline_leaves.proofs.Codes.{plain_code, at_return}
-use Rattle.inline_literals.specs.Literals.{may_begin}
-use Rattle.inline_literals.proofs.Found.{may_letter}
-use Rattle.inline_text.specs.Plain.{starts, starts_here, is_special, is_text_at, IsStart}
-use Rattle.inline_text.proofs.Texts.{IsText, is_other, no_text, more_text, byte_text, special_stop, white_starts_not}
+use Rattle.inline_text.specs.Plain.{starts, begins_more, is_special, is_text_at, IsStart}
+use Rattle.inline_text.proofs.Texts.{IsText, is_other, no_text, more_text, byte_text, special_stop, white_starts_not, more_byte}
 
 -- no construct starts at so many bytes at the front
 abbrev pub AreFree : List ℕ → ℕ → Type 0
@@ -169,13 +167,9 @@ pub stop_ascii : (b : ℕ) → Fits w8 b → (is_white b || starts b) ≡ true �
 stop_ascii b fits stop =
     leb-false 128 b (ap (λ s. s && leb 128 b) (sym stop) ∙ agree_below_at (λ x. (is_white x || starts x) && leb 128 x) (λ _. false) 256 b refl fits.fits)
 
--- where a construct starts, its byte does, or it is a letter
-started : (on : Bool) (bytes : List ℕ) → starts_here on bytes ≡ true → (starts (get_or bytes 0 0) ≡ true) ⊎ ((on && may_begin bytes) ≡ true)
-started on bytes h = or_cases (starts (get_or bytes 0 0)) (on && may_begin bytes) h
-
--- a letter is ASCII, no white space and no line ending
-pub letter_dark : (b : ℕ) → 64 < b → b < 128 → (is_white b ≡ false) × (is_eol b ≡ false)
-letter_dark b low high = (
+-- an ASCII byte after the space is no white space and no line ending
+pub dark_byte : (b : ℕ) → 32 < b → b < 128 → (is_white b ≡ false) × (is_eol b ≡ false)
+dark_byte b low high = (
   or_from (eqb b 32 || eqb b 9) (eqb b 256) (or_from (eqb b 32) (eqb b 9) (ne_eqb b 32 (λ e. omega (arith, e, low))) (ne_eqb b 9 (λ e. omega (arith, e, low))))
       (ne_eqb b 256 (λ e. omega (arith, e, high))),
   or_from (eqb b 10 || eqb b 13) (eqb b 257) (or_from (eqb b 10) (eqb b 13) (ne_eqb b 10 (λ e. omega (arith, e, low)))
@@ -184,36 +178,36 @@ letter_dark b low high = (
 )
 
 -- the first place at which something starts
-module _ (literals : Bool) (bytes : List ℕ) (stop : ℕ) (first : IsStart literals bytes stop) where
+module _ (literals m : Bool) (bytes : List ℕ) (stop : ℕ) (first : IsStart literals m bytes stop) where
   here : get_or (drop stop bytes) 0 0 ≡ get_or bytes stop 0
   here = get_or-drop stop bytes 0 0 ∙ ap (λ k. get_or bytes k 0) (omega arith)
 
-  pub start_cases : stop < length bytes → (starts (get_or bytes stop 0) ≡ true) ⊎ ((literals && may_begin (drop stop bytes)) ≡ true)
-  start_cases lt = elim (started literals (drop stop bytes) (first.stops lt)) [
+  pub start_cases : stop < length bytes → (starts (get_or bytes stop 0) ≡ true) ⊎ (begins_more literals m (drop stop bytes) ≡ true)
+  start_cases lt = elim (or_cases (starts (get_or (drop stop bytes) 0 0)) (begins_more literals m (drop stop bytes)) (first.stops lt)) [
     | inl h ↦ inl (ap starts (sym here) ∙ h)
     | inr h ↦ inr h
   ]
 
-  letter_here : (literals && may_begin (drop stop bytes)) ≡ true → (64 < get_or bytes stop 0) × (get_or bytes stop 0 < 128)
-  letter_here may = subst (λ b. (64 < b) × (b < 128)) here (may_letter (drop stop bytes) (and_parts literals _ may).1).1
+  more_here : begins_more literals m (drop stop bytes) ≡ true → (32 < get_or bytes stop 0) × (get_or bytes stop 0 < 128)
+  more_here more = subst (λ b. (32 < b) × (b < 128)) here (more_byte literals m (drop stop bytes) more)
 
   stop_dark : stop < length bytes → is_white (get_or bytes stop 0) ≡ false
   stop_dark lt = elim (start_cases lt) [
     | inl h ↦ started_dark (get_or bytes stop 0) h
-    | inr may ↦ let l = letter_here may in (letter_dark (get_or bytes stop 0) l.0 l.1).0
+    | inr more ↦ let byte = more_here more in (dark_byte (get_or bytes stop 0) byte.0 byte.1).0
   ]
 
   pub first_ascii : Fits w8 (get_or bytes stop 0) → stop < length bytes → get_or bytes stop 0 < 128
   first_ascii fits lt = elim (start_cases lt) [
     | inl h ↦ stop_ascii (get_or bytes stop 0) fits (or_right (is_white (get_or bytes stop 0)) _ h)
-    | inr may ↦ (letter_here may).1
+    | inr more ↦ (more_here more).1
   ]
 
   -- text ends there
-  pub first_stops : stop < length bytes → (is_text_at (content_codes (drop stop bytes)) ≡ false) ⊎ ((literals && may_begin (drop stop bytes)) ≡ true)
+  pub first_stops : stop < length bytes → (is_text_at (content_codes (drop stop bytes)) ≡ false) ⊎ (begins_more literals m (drop stop bytes) ≡ true)
   first_stops lt = elim (start_cases lt) [
     | inl h ↦ inl (start_stops bytes stop lt h)
-    | inr may ↦ inr may
+    | inr more ↦ inr more
   ]
 
   -- it is no line ending

@@ -25,6 +25,7 @@ use Rattle.inline_literals.specs.Literals.{may_begin}
 use Rattle.inline_literals.proofs.Found.{may_letter}
 use Rattle.definition_text.specs.InlineCode.{InlineCode, codes_of}
 use Rattle.definition_inline.specs.Inline.{Found, or_else}
+use Rattle.definition_inline.specs.Mark.{is_equals}
 use Rattle.definition_inline.specs.Attention.{run_at}
 use Rattle.definition_inline.specs.Spans.{Token}
 use Rattle.definition_inline.specs.Scan.{InlineContext, leaf_at, leaf_here, label_start_at, text, Reading, reading, read_tokens, Next, step, scan}
@@ -32,8 +33,7 @@ use Rattle.definition_inline.proofs.Scanning.{scan_step, step_last}
 use Rattle.inline_leaves.specs.Leaves.{text_items, IsAfter, IsWhite}
 use Rattle.inline_leaves.specs.Scanned.{leaf_in, without_labels}
 use Rattle.inline_leaves.proofs.Codes.{plain_code, plain_drop, at_return, is_after, cut_plain, cut_after_byte}
-use Rattle.inline_content.proofs.Runs.{no_marker}
-use Rattle.inline_text.specs.Plain.{is_special, starts, is_text_at}
+use Rattle.inline_text.specs.Plain.{is_special, starts, begins_more, is_text_at}
 
 -- ---- a code at which nothing starts
 
@@ -162,11 +162,17 @@ text_leaf context c cs h =
     ∙ or_none (line_end_at (c ∷ cs)) _ (cond-false (is_eol c) _ _ o.ending)
     ∙ cond-false _ _ _ is.1
 
-pub text_run : (options : ParseOptions) (c : InlineCode) (cs : List InlineCode) → starts c.code ≡ false → run_at options (c ∷ cs) ≡ None
-text_run options c cs h =
+pub text_run : (options : ParseOptions) (c : InlineCode) (cs : List InlineCode) → starts c.code ≡ false
+    → (options.constructs.mark && is_equals c.code) ≡ false → run_at options (c ∷ cs) ≡ None
+text_run options c cs h unmarked =
+    let on = options.constructs in
     let o = is_other c.code h in
-    cond-false _ _ _ (no_marker options c.code (or_from (eqb c.code 42 || eqb c.code 95) (eqb c.code 126)
-    (or_from (eqb c.code 42) (eqb c.code 95) o.star o.underscore) o.tilde))
+    let emphasis = on.attention && (eqb c.code 42 || eqb c.code 95) in
+    let strikes = on.gfm_strikethrough && eqb c.code 126 in
+    let marks = on.mark && is_equals c.code in
+    cond-false _ _ _
+    (or_from emphasis (strikes || marks) (and_right on.attention _ (or_from (eqb c.code 42) (eqb c.code 95) o.star o.underscore))
+    (or_from strikes marks (and_right on.gfm_strikethrough _ o.tilde) unmarked))
 
 pub text_start : (on : Constructs) (c : ℕ) (cs : List ℕ) → starts c ≡ false → label_start_at on (c ∷ cs) ≡ None
 text_start on c cs h =
@@ -187,10 +193,10 @@ none_here context content none no_literal = ap (λ o. or_else o (literal_at cont
 
 -- one code of text
 pub text_step : (context : InlineContext) (r : Reading) (c : InlineCode) (cs : List InlineCode) → is_text_at (codes_of (c ∷ cs)) ≡ true
-    → literal_at context.options.constructs (c ∷ cs) ≡ None → step context r c cs ≡ Next 0 (read_tokens (text_items (c.code ∷ [])) r)
-text_step context r c cs h no_literal =
+    → literal_at context.options.constructs (c ∷ cs) ≡ None → (context.options.constructs.mark && is_equals c.code) ≡ false → step context r c cs ≡ Next 0 (read_tokens (text_items (c.code ∷ [])) r)
+text_step context r c cs h no_literal unmarked =
     let free = (text_is c.code (codes_of cs) h).0 in
-    step_last context r c cs (none_here context (c ∷ cs) (text_leaf context c.code (codes_of cs) h) no_literal) (text_run context.options c cs free)
+    step_last context r c cs (none_here context (c ∷ cs) (text_leaf context c.code (codes_of cs) h) no_literal) (text_run context.options c cs free unmarked)
     (text_start context.options.constructs c.code (codes_of cs) free)
     ∙ cond-false _ _ _ (and_right context.options.constructs.label_end _ (is_other c.code free).closing)
 
@@ -205,13 +211,14 @@ read_more first more r = ap (λ tokens. reading (text tokens r.now.holds_link) r
 pub text_steps : (context : InlineContext) (n : ℕ) (r : Reading) (content : List InlineCode)
     → ((k : ℕ) → k < n → is_text_at (drop k (codes_of content)) ≡ true)
     → ((k : ℕ) → k < n → literal_at context.options.constructs (drop k content) ≡ None)
+    → ((k : ℕ) → k < n → (context.options.constructs.mark && is_equals (get_or (codes_of content) k 0)) ≡ false)
     → scan context 0 r content ≡ scan context 0 (read_tokens (text_items (take n (codes_of content))) r) (drop n content)
-text_steps context zero r content h no_literal = ap (λ x. scan context 0 x content) (sym (read_none r))
-text_steps context (suc n) r [] h no_literal = ap (λ x. scan context 0 x []) (sym (read_none r))
-text_steps context (suc n) r (c ∷ cs) h no_literal =
+text_steps context zero r content h no_literal unmarked = ap (λ x. scan context 0 x content) (sym (read_none r))
+text_steps context (suc n) r [] h no_literal unmarked = ap (λ x. scan context 0 x []) (sym (read_none r))
+text_steps context (suc n) r (c ∷ cs) h no_literal unmarked =
     let next = read_tokens (text_items (c.code ∷ [])) r in
-    scan_step context r next c cs 0 (text_step context r c cs (h 0 (omega arith)) (no_literal 0 (omega arith)))
-    ∙ text_steps context n next cs (λ k lt. h (suc k) (omega arith)) (λ k lt. no_literal (suc k) (omega arith))
+    scan_step context r next c cs 0 (text_step context r c cs (h 0 (omega arith)) (no_literal 0 (omega arith)) (unmarked 0 (omega arith)))
+    ∙ text_steps context n next cs (λ k lt. h (suc k) (omega arith)) (λ k lt. no_literal (suc k) (omega arith)) (λ k lt. unmarked (suc k) (omega arith))
     ∙ ap (λ x. scan context 0 x (drop n cs)) (read_more (text_items (c.code ∷ [])) (text_items (take n (codes_of cs))) r)
 
 -- a code at which a construct may start, but none does
@@ -422,16 +429,26 @@ special_byte options names (b ∷ bs) some stop none = elim (cases_Bool (eqb b 1
           place = is_after (b ∷ bs) bs 1 refl (omega arith) (omega arith) (cut_after_byte (b ∷ bs) 1 (omega arith) apart);
         }
 
--- a letter of a literal
-pub letter_byte : (bytes : List ℕ) → may_begin bytes ≡ true → IsSpecial bytes
-letter_byte bytes may =
-    let letter = may_letter bytes may in
-    let apart : get_or bytes 0 0 ≡ 13 → ⊥ = λ e. omega (arith, e, letter.1.0) in
+-- where marked text or a literal begins: an ASCII byte after the space
+pub more_byte : (on m : Bool) (bytes : List ℕ) → begins_more on m bytes ≡ true → (32 < get_or bytes 0 0) × (get_or bytes 0 0 < 128)
+more_byte on m bytes more = elim (or_cases (m && is_equals (get_or bytes 0 0)) (on && may_begin bytes) more) [
+  | inl equals ↦
+      let is : get_or bytes 0 0 ≡ 61 = eqb-true (get_or bytes 0 0) 61 (and_parts m _ equals).1 in
+      (omega (arith, is), omega (arith, is))
+  | inr letters ↦
+      let letter = (may_letter bytes (and_parts on _ letters).1).1 in
+      (omega (arith, letter.0), letter.1)
+]
+
+started_byte : (on m : Bool) (bytes : List ℕ) → 0 < length bytes → begins_more on m bytes ≡ true → IsSpecial bytes
+started_byte on m bytes some more =
+    let byte = more_byte on m bytes more in
+    let apart : get_or bytes 0 0 ≡ 13 → ⊥ = λ e. omega (arith, e, byte.0) in
     record {
-      ascii = letter.1.1;
+      ascii = byte.1;
       apart_return = apart;
-      apart_feed = λ e. omega (arith, e, letter.1.0);
-      place = is_after bytes (drop 1 bytes) 1 refl (omega arith) (omega (arith, letter.0)) (cut_after_byte bytes 1 (omega (arith, letter.0)) apart);
+      apart_feed = λ e. omega (arith, e, byte.0);
+      place = is_after bytes (drop 1 bytes) 1 refl (omega arith) (omega (arith, some)) (cut_after_byte bytes 1 (omega (arith, some)) apart);
     }
 
 -- a place at which text ends
@@ -439,19 +456,19 @@ pub text_stops : (bytes : List ℕ) (size : ℕ) → IsText bytes size → is_te
     → is_text_at (drop size (content_codes bytes)) ≡ false
 text_stops bytes size is stop = ap is_text_at (plain_drop size bytes is.within is.plain) ∙ stop
 
--- no text at the front: a construct or a literal may start there
-pub nothing_is_text : (on : Bool) (bytes : List ℕ) (size : ℕ) → size ≡ 0 → 0 < length bytes
-    → (size < length bytes → (is_text_at (drop size (content_codes bytes)) ≡ false) ⊎ ((on && may_begin (drop size bytes)) ≡ true))
-    → (is_text_at (content_codes bytes) ≡ false) ⊎ (may_begin bytes ≡ true)
-nothing_is_text on bytes size e some stops = elim (stops (omega (arith, e, some))) [
+-- no text at the front: a construct may start there
+pub nothing_is_text : (on m : Bool) (bytes : List ℕ) (size : ℕ) → size ≡ 0 → 0 < length bytes
+    → (size < length bytes → (is_text_at (drop size (content_codes bytes)) ≡ false) ⊎ (begins_more on m (drop size bytes) ≡ true))
+    → (is_text_at (content_codes bytes) ≡ false) ⊎ (begins_more on m bytes ≡ true)
+nothing_is_text on m bytes size e some stops = elim (stops (omega (arith, e, some))) [
   | inl stop ↦ inl (subst (λ n. is_text_at (drop n (content_codes bytes)) ≡ false) e stop)
-  | inr may ↦ inr (subst (λ n. may_begin (drop n bytes) ≡ true) e (and_parts on _ may).1)
+  | inr more ↦ inr (subst (λ n. begins_more on m (drop n bytes) ≡ true) e more)
 ]
 
 -- a place at which nothing is text and no leaf begins
-pub stopped : (options : ParseOptions) (names : List ℕ → Option (List ℕ)) (bytes : List ℕ) → 0 < length bytes
-    → (is_text_at (content_codes bytes) ≡ false) ⊎ (may_begin bytes ≡ true) → leaf_in options names (content_codes bytes) ≡ None → IsSpecial bytes
-stopped options names bytes some stops none = elim stops [
+pub stopped : (on m : Bool) (options : ParseOptions) (names : List ℕ → Option (List ℕ)) (bytes : List ℕ) → 0 < length bytes
+    → (is_text_at (content_codes bytes) ≡ false) ⊎ (begins_more on m bytes ≡ true) → leaf_in options names (content_codes bytes) ≡ None → IsSpecial bytes
+stopped on m options names bytes some stops none = elim stops [
   | inl stop ↦ special_byte options names bytes some stop none
-  | inr may ↦ letter_byte bytes may
+  | inr more ↦ started_byte on m bytes some more
 ]

@@ -5,6 +5,7 @@ use Rattle.definition_text.specs.Ascii.{tilde, double_quote, greater_than}
 use Rattle.definition_text.specs.Columns.{is_white, bare}
 use Rattle.definition_text.specs.Content.{is_eol}
 use Rattle.definition_inline.specs.HardBreak.{ends_here}
+use Rattle.definition_inline.specs.Mark.{is_equals}
 use Rattle.inline_literals.specs.Literals.{may_begin}
 
 -- a byte that constructs begin with, or that ends one: `\`, `&`, a backtick, `$`, `<`, `*`, `_`, `~`, `!`, `[` or `]`
@@ -18,16 +19,20 @@ is_special code =
 abbrev pub starts : ℕ → Bool
 starts code = is_special code || is_eol code
 
--- a construct may start here, a literal among them where they are on
-abbrev pub starts_here : Bool → List ℕ → Bool
-starts_here has_literals bytes = starts (slice_index bytes 0) || (has_literals && may_begin bytes)
+-- marked text or a literal may begin here, where they are on
+abbrev pub begins_more : Bool → Bool → List ℕ → Bool
+begins_more has_literals has_marks bytes = (has_marks && is_equals (slice_index bytes 0)) || (has_literals && may_begin bytes)
 
--- so many bytes come before the first at which a construct may start, a literal where they are on
-pub record IsStart (has_literals : Bool) (bytes : List ℕ) (stop : ℕ) : Type 0 where
+-- a construct may start here, one of these among them
+abbrev pub starts_here : Bool → Bool → List ℕ → Bool
+starts_here has_literals has_marks bytes = starts (slice_index bytes 0) || begins_more has_literals has_marks bytes
+
+-- so many bytes come before the first at which a construct may start
+pub record IsStart (has_literals has_marks : Bool) (bytes : List ℕ) (stop : ℕ) : Type 0 where
   pub within : stop ≤ length bytes
   pub free : (k : ℕ) → k < stop → starts (slice_index bytes k) ≡ false
-  pub bare : has_literals ≡ true → (k : ℕ) → k < stop → may_begin (drop k bytes) ≡ false
-  pub stops : stop < length bytes → starts_here has_literals (drop stop bytes) ≡ true
+  pub bare : (k : ℕ) → k < stop → begins_more has_literals has_marks (drop k bytes) ≡ false
+  pub stops : stop < length bytes → starts_here has_literals has_marks (drop stop bytes) ≡ true
 
 -- a byte at which nothing starts and that is printed as something else: NUL, `"` or `>`
 abbrev pub is_replaced : ℕ → Bool

@@ -139,7 +139,7 @@ fn first_lane(mask: u64) -> usize
 }
 
 /// Whether a literal may begin with two bytes.
-fn are_letters(first: u8, second: u8) -> bool
+pub(crate) fn are_letters(first: u8, second: u8) -> bool
     ensures { result ≡ are_letters first second }
 {
     match first.to_ascii_lowercase() {

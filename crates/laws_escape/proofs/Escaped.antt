@@ -20,6 +20,7 @@ use Rattle.definition_inline.specs.CharacterReference.{reference_after, referenc
 use Rattle.definition_inline.specs.CodeText.{raw_at, code_text_at}
 use Rattle.definition_inline.specs.MathText.{may_open_math, math_text_at}
 use Rattle.definition_inline.specs.GfmStrikethrough.{is_tilde}
+use Rattle.definition_inline.specs.Mark.{is_equals}
 use Rattle.definition_inline.specs.Autolink.{autolink_at}
 use Rattle.definition_inline.specs.HtmlText.{html_text_at}
 use Rattle.definition_inline.specs.HardBreak.{ends_inner_line, ends_here, line_end_at, escaped_break_at, line_spaces_at}
@@ -137,8 +138,9 @@ module _ (context : InlineContext) (b : ℕ) (off : is_ascii_punctuation b ≡ f
   no_marker : is_marker context.options b ≡ false
   no_marker =
       let none : ((b == 42) || (b == 95)) ≡ false = or_from (b == 42) (b == 95) (other b 42 off refl) (other b 95 off refl) in
-      or_from (constructs.attention && ((b == 42) || (b == 95))) (constructs.gfm_strikethrough && is_tilde b) (and_no constructs.attention _ none)
-      (and_no constructs.gfm_strikethrough (is_tilde b) (other b 126 off refl))
+      or_from (constructs.attention && ((b == 42) || (b == 95))) _ (and_no constructs.attention _ none)
+      (or_from (constructs.gfm_strikethrough && is_tilde b) (constructs.mark && is_equals b)
+      (and_no constructs.gfm_strikethrough (is_tilde b) (other b 126 off refl)) (and_no constructs.mark (is_equals b) (other b 61 off refl)))
 
   no_run : (c : InlineCode) (cs : List InlineCode) → c.code ≡ b → run_at context.options (c ∷ cs) ≡ None
   no_run c cs is = cond-false _ _ _ (ap (is_marker context.options) is ∙ no_marker)

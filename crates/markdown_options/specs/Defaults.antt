@@ -35,6 +35,7 @@ no_constructs = record {
   label_start_link = false;
   label_end = false;
   list_item = false;
+  mark = false;
   math_flow = false;
   math_text = false;
   mdx_esm = false;

@@ -62,6 +62,8 @@ pub struct Constructs {
     pub label_end: bool,
     /// List items (CommonMark 5.2).
     pub list_item: bool,
+    /// Marked text by `==`; in neither standard.
+    pub mark: bool,
     /// Blocks of math between fences of dollars; in neither standard.
     pub math_flow: bool,
     /// Math within text, between dollars; in neither standard.
@@ -112,6 +114,7 @@ impl Constructs {
             label_start_link: false,
             label_end: false,
             list_item: false,
+            mark: false,
             math_flow: false,
             math_text: false,
             mdx_esm: false,
@@ -201,6 +204,7 @@ impl Default for Constructs {
             label_start_link: true,
             label_end: true,
             list_item: true,
+            mark: false,
             math_flow: false,
             math_text: false,
             mdx_esm: false,
