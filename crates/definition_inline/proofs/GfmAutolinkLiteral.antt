@@ -4,8 +4,8 @@ use Rattle.std.specs.Prelude.{codes, slice_index_or}
 use Rattle.std.proofs.lemmas.Bool.{cond_both, cond-false}
 use Rattle.markdown_options.specs.declared.configuration.Constructs.{Constructs}
 use Rattle.definition_text.specs.InlineCode.{InlineCode, codes_of}
-use Rattle.definition_inline.specs.Inline.{LiteralKind, Www, Protocol, InlineLeaf, Data, Escape, Character, Code, Math, Autolink, Literal, Html, EscapedBreak}
-use Rattle.definition_inline.specs.Inline.{TrailingBreak, LineEnd, TaskCheck, Leaf, Inlines, Cons, Found, leaf}
+use Rattle.definition_inline.specs.Inline.{LiteralKind, Www, Protocol, InlineLeaf, Data, Literal}
+use Rattle.definition_inline.specs.Inline.{Leaf, Inlines, Cons, Found, leaf}
 use Rattle.definition_inline.specs.GfmAutolinkLiteral.{LiteralStart, literal_start, or_start, begins_caselessly, may_precede_www, may_precede_protocol}
 use Rattle.definition_inline.specs.GfmAutolinkLiteral.{literal_start_at, literal_name, literal_after, literal_at, leaf_without, addresses_before, with_literals}
 
@@ -71,32 +71,12 @@ no_literal on (c ∷ cs) h =
 module _ (P : InlineLeaf → List InlineLeaf → Type 0) (literal : (kind : LiteralKind) (text : List ℕ) → P (Literal kind text) (map Data text))
     (other : (part : InlineLeaf) → P part (part ∷ [])) where
   pub any_without : (part : InlineLeaf) → P part (leaf_without part)
-  any_without (Data b) = other (Data b)
-  any_without (Escape b) = other (Escape b)
-  any_without (Character text) = other (Character text)
-  any_without (Code text) = other (Code text)
-  any_without (Math text) = other (Math text)
-  any_without (Autolink is_email text) = other (Autolink is_email text)
   any_without (Literal kind text) = literal kind text
-  any_without (Html html) = other (Html html)
-  any_without EscapedBreak = other EscapedBreak
-  any_without TrailingBreak = other TrailingBreak
-  any_without (LineEnd code) = other (LineEnd code)
-  any_without (TaskCheck done) = other (TaskCheck done)
+  any_without part = other part
 
 -- a leaf before others, outside links: a byte belongs to the run of text
 module _ (run : List ℕ) (is : Inlines) (P : InlineLeaf → Inlines → Type 0) (byte : (b : ℕ) → P (Data b) (with_literals (run ++ b ∷ []) is))
     (other : (part : InlineLeaf) → P part (addresses_before run (Cons (Leaf part) (with_literals [] is)))) where
   pub any_with : (part : InlineLeaf) → P part (with_literals run (Cons (Leaf part) is))
   any_with (Data b) = byte b
-  any_with (Escape b) = other (Escape b)
-  any_with (Character text) = other (Character text)
-  any_with (Code text) = other (Code text)
-  any_with (Math text) = other (Math text)
-  any_with (Autolink is_email text) = other (Autolink is_email text)
-  any_with (Literal kind text) = other (Literal kind text)
-  any_with (Html html) = other (Html html)
-  any_with EscapedBreak = other EscapedBreak
-  any_with TrailingBreak = other TrailingBreak
-  any_with (LineEnd code) = other (LineEnd code)
-  any_with (TaskCheck done) = other (TaskCheck done)
+  any_with part = other part

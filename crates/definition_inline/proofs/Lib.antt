@@ -15,4 +15,5 @@ pub mod EachPart
 pub mod LeavesFound
 pub mod SpansHold
 pub mod ScanHolds
+pub mod Markers
 pub mod MayStand

@@ -1,13 +1,12 @@
 -- Each part of a content is one that the content can have: its construct is on.
 use Rattle.std.proofs.Common.{inl, inr, ◌≡◌, ℕ, Bool, true, false, cond, not, ◌&&◌, ◌||◌, ◌==◌, List, [], ◌∷◌, ◌++◌, Option, None, Some, drop, ap, refl, codes}
 use Rattle.std.specs.Option.{option_map}
-use Rattle.std.proofs.lemmas.Bool.{cond_both, and_parts, and_from, or_cases, both_ways, eqb-true}
+use Rattle.std.proofs.lemmas.Bool.{cond_both, and_parts, and_from}
 use Rattle.markdown_options.specs.declared.configuration.Constructs.{Constructs}
 use Rattle.definition_text.specs.Bytes.{begins_with}
 use Rattle.definition_text.specs.Content.{text_before}
 use Rattle.definition_text.specs.InlineCode.{InlineCode, codes_of}
-use Rattle.definition_inline.specs.Inline.{InlineLeaf, Data, SpanKind, Emphasis, Strong, Strikethrough, Inline, Leaf, Inlines, Found}
-use Rattle.definition_inline.specs.GfmStrikethrough.{is_tilde}
+use Rattle.definition_inline.specs.Inline.{InlineLeaf, Data, Emphasis, Strong, Inline, Leaf, Inlines, Found}
 use Rattle.definition_inline.specs.LabelEnd.{LinkTail, is_label_text, label_end_at, LinkOrCall, Leads, Calls, link_or_image}
 use Rattle.definition_inline.specs.GfmLabelStartFootnote.{starts_marked_call, called_label, call_or_link}
 use Rattle.definition_inline.specs.Attention.{Run, run_at, is_marker}
@@ -17,7 +16,8 @@ use Rattle.definition_inline.specs.Scan.{InlineContext, leaf_here, leaf_tokens, 
 use Rattle.definition_inline.specs.Scan.{start_bytes, start_tokens, formed_part, formed_at, Text, text, OpenLabel, reading, scan, whole_text, spans_from}
 use Rattle.definition_inline.specs.Scan.{inlines_from}
 use Rattle.definition_inline.specs.MayStand.{span_may_stand, part_may_stand}
-use Rattle.definition_inline.proofs.EachPart.{EachPart, EachOf}
+use Rattle.definition_inline.proofs.Markers.{of_marker}
+use Rattle.definition_inline.specs.EachPart.{EachPart, EachOf}
 use Rattle.definition_inline.proofs.LeavesFound.{LeafStands, leaf_stands}
 use Rattle.definition_inline.proofs.SpansHold.{Siblings, RunGood, TokenGood, spans_hold}
 use Rattle.definition_inline.proofs.ScanHolds.{where_gives, Keeps, text_holds}
@@ -143,20 +143,9 @@ module _ (context : InlineContext) where
   -- a byte whose runs may form spans forms those that are on
   mark_stands : (code : ℕ) → is_marker context.options code ≡ true → (p : Pair) → span_may_stand constructs (span_of code p) ≡ true
   mark_stands code e p =
-      let asked = (code == 42) || (code == 95) in
-      let either = or_cases (constructs.attention && asked) (constructs.gfm_strikethrough && is_tilde code) e in
-      let KindStands : SpanKind → Type 0 = λ kind. span_may_stand constructs kind ≡ true in
-      cond_both (is_tilde code) Strikethrough (cond (p.taken == 2) Strong Emphasis) KindStands
-      (λ tilde. elim either [
-        | inl h ↦ absurd (both_ways asked (ap (λ x. (x == 42) || (x == 95)) (eqb-true code 126 tilde)) (and_parts constructs.attention asked h).1)
-        | inr h ↦ (and_parts constructs.gfm_strikethrough (is_tilde code) h).0
-      ])
-      (λ none. elim either [
-        | inl h ↦
-            let attention = (and_parts constructs.attention asked h).0 in
-            cond_both (p.taken == 2) Strong Emphasis KindStands (λ _. attention) (λ _. attention)
-        | inr h ↦ absurd (both_ways (is_tilde code) none (and_parts constructs.gfm_strikethrough (is_tilde code) h).1)
-      ])
+      let emphasis : constructs.attention ≡ true → span_may_stand constructs (cond (p.taken == 2) Strong Emphasis) ≡ true =
+          λ on. cond_both (p.taken == 2) Strong Emphasis (λ kind. span_may_stand constructs kind ≡ true) (λ _. on) (λ _. on) in
+      of_marker context.options (λ b. span_may_stand constructs (span_of b p) ≡ true) emphasis emphasis (λ h. h) (λ h. h) code e
 
   run_stands : (content : List InlineCode) → WhereSome (RunStands constructs) (run_at context.options content)
   run_stands [] = tt

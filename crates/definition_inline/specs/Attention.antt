@@ -1,4 +1,4 @@
--- Runs of `*`, `_` and `~`, which may open and close spans (CommonMark 6.2 and GFM 6.5).
+-- Runs of `*`, `_`, `~` and `=`, which may open and close spans (CommonMark 6.2, GFM 6.5, and marked text).
 use Rattle.std.specs.Prelude.{ℕ, ◌-◌, Bool, true, false, not, if◌then◌else◌, ◌==◌, ◌&&◌, ◌||◌, List, [], ◌∷◌, Option, None, Some, slice_index_or}
 use Rattle.std.specs.List.{prefix_len}
 use Rattle.markdown_options.specs.declared.configuration.ParseOptions.{ParseOptions}
@@ -7,7 +7,8 @@ use Rattle.definition_text.specs.Columns.{Code}
 use Rattle.markdown_options.specs.declared.beside.Kind.{Kind}
 use Rattle.markdown_options.specs.declared.beside.Kind.TheVariants.{Whitespace, Punctuation, Other}
 use Rattle.definition_text.specs.InlineCode.{InlineCode}
-use Rattle.definition_inline.specs.GfmStrikethrough.{is_tilde, has_span_size}
+use Rattle.definition_inline.specs.GfmStrikethrough.{is_tilde, is_strikethrough_size}
+use Rattle.definition_inline.specs.Mark.{is_equals, is_mark_size}
 
 -- a run of one byte: the byte, how many of it are left, and whether it may open and close (CommonMark 6.2)
 pub record Run : Type 0 where
@@ -45,10 +46,24 @@ opens marker before after =
 abbrev pub closes : ℕ → Kind → Kind → Bool
 closes marker before after = opens marker after before
 
--- a byte whose runs may form spans: `*` or `_` (CommonMark 6.2), or `~` (GFM 6.5)
+-- a byte whose runs may form spans: `*` or `_` (CommonMark 6.2), `~` (GFM 6.5), or `=`
 abbrev pub is_marker : ParseOptions → Code → Bool
 is_marker options code =
-    (options.constructs.attention && ((code == asterisk) || (code == underscore))) || (options.constructs.gfm_strikethrough && is_tilde code)
+    (options.constructs.attention && ((code == asterisk) || (code == underscore)))
+    || ((options.constructs.gfm_strikethrough && is_tilde code) || (options.constructs.mark && is_equals code))
+
+-- a byte whose runs go with runs of as many alone: `~` (GFM 6.5) or `=`; those of the others are taken apart (CommonMark 6.2)
+abbrev pub is_whole : ℕ → Bool
+is_whole marker = is_tilde marker || is_equals marker
+
+-- runs of these sizes may go together
+abbrev pub are_fitting : ℕ → ℕ → ℕ → Bool
+are_fitting marker one other = not (is_whole marker) || (one == other)
+
+-- a run of so many of a byte may form a span
+abbrev pub has_span_size : ParseOptions → ℕ → ℕ → Bool
+has_span_size options marker size =
+    if is_tilde marker then is_strikethrough_size options size else (if is_equals marker then is_mark_size size else true)
 
 -- a run of so many of this byte between these kinds
 abbrev pub run_between : ParseOptions → ℕ → ℕ → Kind → Kind → Run

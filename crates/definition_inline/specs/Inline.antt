@@ -43,6 +43,7 @@ pub data SpanKind : Type 0 where
   Emphasis : SpanKind
   Strong : SpanKind
   Strikethrough : SpanKind
+  Mark : SpanKind
 
 -- what leads to a target: a link around its text, or an image with its description
 pub data LinkedKind : Type 0 where

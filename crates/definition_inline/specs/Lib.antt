@@ -6,6 +6,7 @@ pub mod Title
 pub mod Definition
 pub mod LabelMatch
 pub mod Inline
+pub mod EachPart
 pub mod Targets
 pub mod CharacterEscape
 pub mod CharacterReference
@@ -20,6 +21,7 @@ pub mod LabelEnd
 pub mod GfmLabelStartFootnote
 pub mod GfmAutolinkLiteral
 pub mod GfmStrikethrough
+pub mod Mark
 pub mod Attention
 pub mod Pairing
 pub mod RunPairs

@@ -3,7 +3,7 @@ use Rattle.std.specs.Prelude.{Bool, true, false, ◌&&◌}
 use Rattle.markdown_options.specs.declared.configuration.Constructs.{Constructs}
 use Rattle.definition_text.specs.Content.{is_eol}
 use Rattle.definition_inline.specs.Inline.{InlineLeaf, Data, Escape, Character, Code, Math, Autolink, Literal, Html, EscapedBreak, TrailingBreak, LineEnd}
-use Rattle.definition_inline.specs.Inline.{TaskCheck, SpanKind, Emphasis, Strong, Strikethrough, LinkedKind, Link, Image, Inline, Leaf, Span, Linked, Call}
+use Rattle.definition_inline.specs.Inline.{TaskCheck, SpanKind, Emphasis, Strong, Strikethrough, Mark, LinkedKind, Link, Image, Inline, Leaf, Span, Linked, Call}
 
 -- a leaf: a byte, what a construct that is on makes, or the code of a line ending; the check of a task list item stands before a content
 abbrev pub leaf_may_stand : Constructs → InlineLeaf → Bool
@@ -25,6 +25,7 @@ abbrev pub span_may_stand : Constructs → SpanKind → Bool
 span_may_stand on Emphasis = on.attention
 span_may_stand on Strong = on.attention
 span_may_stand on Strikethrough = on.gfm_strikethrough
+span_may_stand on Mark = on.mark
 
 -- a link or an image (CommonMark 6.3 and 6.4)
 abbrev pub linked_may_stand : Constructs → LinkedKind → Bool

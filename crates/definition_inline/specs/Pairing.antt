@@ -3,8 +3,7 @@
 use Rattle.std.specs.Prelude.{ℕ, zero, suc, ◌+◌, ◌-◌, ◌%◌, Bool, true, false, not, if◌then◌else◌, ◌==◌, ◌&&◌, ◌||◌, nat_le, List, [], ◌∷◌, ◌++◌, length, take}
 use Rattle.std.specs.Prelude.{slice_index_or}
 use Rattle.std.specs.List.{suffix_len, fold}
-use Rattle.definition_inline.specs.Attention.{Run}
-use Rattle.definition_inline.specs.GfmStrikethrough.{are_fitting}
+use Rattle.definition_inline.specs.Attention.{Run, are_fitting}
 
 -- a run that is open, with its place among the runs of its container
 pub record OpenRun : Type 0 where
@@ -25,7 +24,7 @@ abbrev pub is_ruled_out_by_three : Run → Run → Bool
 is_ruled_out_by_three opener closer =
     (opener.may_close || closer.may_open) && (not (closer.left % 3 == 0) && ((opener.left + closer.left) % 3 == 0))
 
--- two runs that may form a pair: of one byte, something left of both, and not ruled out (CommonMark 6.2); tildes of equal sizes (GFM 6.5)
+-- two runs that may form a pair: of one byte, something left of both, of sizes that fit, and not ruled out (CommonMark 6.2)
 abbrev pub may_pair : Run → Run → Bool
 may_pair opener closer =
     ((opener.marker == closer.marker) && are_fitting opener.marker opener.left closer.left)

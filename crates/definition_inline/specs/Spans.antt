@@ -1,9 +1,10 @@
--- Emphasis, strong emphasis and strikethrough: what stands between the runs that go together (CommonMark 6.2 and GFM 6.5).
+-- Emphasis, strong emphasis, strikethrough and marked text: what stands between the runs that go together (CommonMark 6.2 and GFM 6.5).
 use Rattle.std.specs.Prelude.{ℕ, ◌+◌, ◌-◌, if◌then◌else◌, ◌==◌, List, [], ◌∷◌, ◌++◌, map, reverse, replicate}
 use Rattle.std.specs.List.{filter, fold, sum_by}
-use Rattle.definition_inline.specs.Inline.{Inline, Leaf, Data, Span, SpanKind, Emphasis, Strong, Strikethrough, Inlines, Nil, followed_by}
+use Rattle.definition_inline.specs.Inline.{Inline, Leaf, Data, Span, SpanKind, Emphasis, Strong, Strikethrough, Mark, Inlines, Nil, followed_by}
 use Rattle.definition_inline.specs.Attention.{Run}
 use Rattle.definition_inline.specs.GfmStrikethrough.{is_tilde}
+use Rattle.definition_inline.specs.Mark.{is_equals}
 use Rattle.definition_inline.specs.Pairing.{Pair, pairs}
 
 -- a part of a container: one that is read whole, or a run
@@ -21,9 +22,10 @@ abbrev pub runs_of : List Token → List Run
 runs_of [] = []
 runs_of (t ∷ ts) = token_run t ++ runs_of ts
 
--- what a pair of runs of this byte stands for: strikethrough (GFM 6.5), emphasis, or strong emphasis where two bytes are taken (CommonMark 6.2)
+-- what a pair of runs of this byte stands for: strikethrough (GFM 6.5), marked text, emphasis, or strong emphasis where two bytes are taken (CommonMark 6.2)
 abbrev pub span_of : ℕ → Pair → SpanKind
-span_of marker pair = if is_tilde marker then Strikethrough else (if pair.taken == 2 then Strong else Emphasis)
+span_of marker pair =
+    if is_tilde marker then Strikethrough else (if is_equals marker then Mark else (if pair.taken == 2 then Strong else Emphasis))
 
 -- tokens where each run is told apart: a part, the start of a span, or the end of the innermost one
 pub data SpanRow : Type 0 where

@@ -7,7 +7,7 @@ use Rattle.definition_text.specs.Columns.{Code as ContentCode, bytes_of, bare}
 use Rattle.definition_text.specs.Content.{is_eol}
 use Rattle.definition_text.specs.Encode.{plain}
 use Rattle.definition_inline.specs.Inline.{LinkTexts, LiteralKind, Www, Protocol, Email, InlineLeaf, Data, Escape, Character, Code, Math, Autolink, Literal}
-use Rattle.definition_inline.specs.Inline.{Html, EscapedBreak, TrailingBreak, LineEnd, TaskCheck, SpanKind, Emphasis, Strong, Strikethrough}
+use Rattle.definition_inline.specs.Inline.{Html, EscapedBreak, TrailingBreak, LineEnd, TaskCheck, SpanKind, Emphasis, Strong, Strikethrough, Mark}
 use Rattle.definition_inline.specs.Inline.{Link, Image, Inline, Leaf, Span, Linked, Call, Inlines, Nil, Cons}
 use Rattle.definition_inline.specs.LabelMatch.{normal_label, first_match}
 use Rattle.definition_inline.specs.Targets.{leads_to}
@@ -159,6 +159,7 @@ abbrev pub span_name : SpanKind → List ℕ
 span_name Emphasis = codes "em"
 span_name Strong = codes "strong"
 span_name Strikethrough = codes "del"
+span_name Mark = codes "mark"
 
 -- the description of an image: what its parts say, without tags (CommonMark 6.4)
 abbrev mutual

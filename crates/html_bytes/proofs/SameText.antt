@@ -1,6 +1,8 @@
 -- Pieces of the definition lay out what they lay out in bytes.
-use Rattle.std.proofs.Common.{◌≡◌, ℕ, List, [], ◌∷◌, refl, ap, ◌∙◌}
+use Rattle.std.proofs.Common.{◌≡◌, ℕ, List, [], ◌∷◌, ◌++◌, refl, ap, ◌∙◌}
 use Rattle.std.specs.List.{fold}
+use Rattle.std.proofs.lemmas.List.{map-append}
+use Rattle.std.proofs.lemmas.List.Sums.{fold-append}
 use Rattle.markdown_options.specs.declared.configuration.CompileOptions.{CompileOptions}
 use Rattle.html_bytes.specs.Layout.{LayoutState, layout_state, once_more, latest_call}
 use Rattle.html_bytes.proofs.LayoutSteps.{lay}
@@ -29,3 +31,10 @@ module _ (options : CompileOptions) (default : List ℕ) where
   pieces_same [] l = refl
   pieces_same (p ∷ ps) l =
       ap (λ x. fold (lay options default) x ps) (piece_same l p) ∙ pieces_same ps (bytes_layout.lay options default l (piece_bytes p))
+
+  -- pieces in bytes after others
+  pub laid_both : (l : LayoutState) (ps qs : List Piece)
+      → fold (bytes_layout.lay options default) l (in_bytes (ps ++ qs))
+      ≡ fold (bytes_layout.lay options default) (fold (bytes_layout.lay options default) l (in_bytes ps)) (in_bytes qs)
+  laid_both l ps qs =
+      ap (fold (bytes_layout.lay options default) l) (map-append piece_bytes ps qs) ∙ fold-append (bytes_layout.lay options default) l (in_bytes ps) (in_bytes qs)

@@ -1,6 +1,6 @@
 //! Raw HTML: as it is, or as text (CommonMark 4.6 and 6.6).
 ghost use Rattle.std.specs.Prelude.{◌≡◌, ◌++◌, OnOk, string_bytes};
-ghost use Rattle.html_bytes.specs.RawHtml.{raw_html};
+ghost use Rattle.html_bytes.specs.RawHtml.{raw_bytes};
 
 use crate::encode::push_encoded;
 use crate::filter::push_raw;
@@ -14,7 +14,7 @@ pub fn push_html<A: Allocator>(
     compile: &CompileOptions,
     html: &str,
 ) -> Result<(), AllocError>
-    ensures { OnOk result (string_bytes out.new ≡ string_bytes out.old ++ raw_html compile.now html.now) }
+    ensures { OnOk result (string_bytes out.new ≡ string_bytes out.old ++ raw_bytes compile.now html.now) }
 {
     if compile.allow_dangerous_html {
         push_raw(out, html, compile.gfm_tagfilter)

@@ -3,39 +3,48 @@ use Rattle.std.proofs.Common.{◌≡◌, Bool, true, false, List, [], ◌∷◌,
 use Rattle.std.specs.Prelude.{map}
 use Rattle.std.specs.List.{fold}
 use Rattle.std.proofs.lemmas.List.{map-append}
-use Rattle.definition_inline.specs.Inline.{Target, LinkTexts, Inline, Data, Escape, Character, Code, Math, Autolink, Literal, Html, EscapedBreak, TrailingBreak}
-use Rattle.definition_inline.specs.Inline.{LineEnd, Emphasis, Strong, Strikethrough, Link, Image, Call, Inlines, Nil, Cons}
-use Rattle.definition_page.specs.GfmTable.{part_in_cell, in_cell}
-use Rattle.html_bytes.specs.InlineHtml.{InlineMeaning}
-use Rattle.inline_rows.specs.InlineRows.{InlineRow, Part, EnterSpan, EnterLink, EnterImage, Leave, part_rows, inline_rows}
+use Rattle.definition_inline.specs.Inline as inline
+use Rattle.definition_inline.specs.Inline.{Target, LinkTexts, InlineLeaf, Inline, Leaf, Span, Linked, Call, Inlines, Nil, Cons}
+use Rattle.definition_page.specs.GfmTable.{leaf_in_cell, part_in_cell, in_cell}
+use Rattle.definition_page.specs.InlinePieces.{Meaning}
+use Rattle.inline_rows.specs.InlineRows.{InlineRow, Part, EnterSpan, EnterLinked, Leave, CallRow, part_rows, inline_rows}
 use Rattle.html_inline.specs.Printed.{PrintState, with_row}
-use Rattle.html_inline.specs.GfmTable.{parts_in_cell, inline_in_cell, row_in_cell, row_printed_in}
+use Rattle.html_inline.specs.GfmTable.{parts_in_cell, leaf_in, row_in_cell, row_printed_in}
 
-part_unshown : (i : Inline) → inline_in_cell false i ≡ i
-part_unshown (Data b) = refl
-part_unshown (Escape b) = refl
-part_unshown (Character text) = refl
-part_unshown (Code text) = refl
-part_unshown (Math text) = refl
-part_unshown (Autolink is_email text) = refl
-part_unshown (Literal kind text) = refl
-part_unshown (Html html) = refl
-part_unshown EscapedBreak = refl
-part_unshown TrailingBreak = refl
-part_unshown (LineEnd code) = refl
-part_unshown (Emphasis kids) = refl
-part_unshown (Strong kids) = refl
-part_unshown (Strikethrough kids) = refl
-part_unshown (Link target kids) = refl
-part_unshown (Image target kids) = refl
-part_unshown (Call label) = refl
+leaf_unshown : (part : InlineLeaf) → leaf_in false part ≡ part
+leaf_unshown (inline.Data b) = refl
+leaf_unshown (inline.Escape b) = refl
+leaf_unshown (inline.Character text) = refl
+leaf_unshown (inline.Code text) = refl
+leaf_unshown (inline.Math text) = refl
+leaf_unshown (inline.Autolink is_email text) = refl
+leaf_unshown (inline.Literal kind text) = refl
+leaf_unshown (inline.Html html) = refl
+leaf_unshown inline.EscapedBreak = refl
+leaf_unshown inline.TrailingBreak = refl
+leaf_unshown (inline.LineEnd code) = refl
+leaf_unshown (inline.TaskCheck done) = refl
+
+leaf_shown : (part : InlineLeaf) → leaf_in true part ≡ leaf_in_cell part
+leaf_shown (inline.Data b) = refl
+leaf_shown (inline.Escape b) = refl
+leaf_shown (inline.Character text) = refl
+leaf_shown (inline.Code text) = refl
+leaf_shown (inline.Math text) = refl
+leaf_shown (inline.Autolink is_email text) = refl
+leaf_shown (inline.Literal kind text) = refl
+leaf_shown (inline.Html html) = refl
+leaf_shown inline.EscapedBreak = refl
+leaf_shown inline.TrailingBreak = refl
+leaf_shown (inline.LineEnd code) = refl
+leaf_shown (inline.TaskCheck done) = refl
 
 row_unshown : (r : InlineRow) → row_in_cell false r ≡ r
-row_unshown (Part i) = ap Part (part_unshown i)
-row_unshown (EnterSpan span) = refl
-row_unshown (EnterLink target) = refl
-row_unshown (EnterImage target) = refl
+row_unshown (Part part) = ap Part (leaf_unshown part)
+row_unshown (EnterSpan kind) = refl
+row_unshown (EnterLinked kind target) = refl
 row_unshown Leave = refl
+row_unshown (CallRow label) = refl
 
 rows_unshown : (rows : List InlineRow) → map (row_in_cell false) rows ≡ rows
 rows_unshown [] = refl
@@ -49,22 +58,9 @@ module _ (leads : Target → LinkTexts) where
 
   mutual
     part_cell_rows : (i : Inline) → map (row_in_cell true) (part_rows leads i) ≡ part_rows leads (part_in_cell i)
-    part_cell_rows (Data b) = refl
-    part_cell_rows (Escape b) = refl
-    part_cell_rows (Character text) = refl
-    part_cell_rows (Code text) = refl
-    part_cell_rows (Math text) = refl
-    part_cell_rows (Autolink is_email text) = refl
-    part_cell_rows (Literal kind text) = refl
-    part_cell_rows (Html html) = refl
-    part_cell_rows EscapedBreak = refl
-    part_cell_rows TrailingBreak = refl
-    part_cell_rows (LineEnd code) = refl
-    part_cell_rows (Emphasis kids) = around _ kids (cell_rows kids)
-    part_cell_rows (Strong kids) = around _ kids (cell_rows kids)
-    part_cell_rows (Strikethrough kids) = around _ kids (cell_rows kids)
-    part_cell_rows (Link target kids) = around _ kids (cell_rows kids)
-    part_cell_rows (Image target kids) = around _ kids (cell_rows kids)
+    part_cell_rows (Leaf part) = ap (λ p. Part p ∷ []) (leaf_shown part)
+    part_cell_rows (Span kind kids) = around (EnterSpan kind) kids (cell_rows kids)
+    part_cell_rows (Linked kind target kids) = around (EnterLinked kind (leads target)) kids (cell_rows kids)
     part_cell_rows (Call label) = refl
 
     cell_rows : (is : Inlines) → map (row_in_cell true) (inline_rows leads is) ≡ inline_rows leads (in_cell is)
@@ -79,7 +75,7 @@ module _ (leads : Target → LinkTexts) where
   rows_shown false is = rows_unshown (inline_rows leads is)
 
 -- rows that are shown one by one
-pub fold_shown : (cell : Bool) (meaning : InlineMeaning) (p : PrintState) (rows : List InlineRow)
+pub fold_shown : (cell : Bool) (meaning : Meaning) (p : PrintState) (rows : List InlineRow)
     → fold (row_printed_in cell meaning) p rows ≡ fold (with_row meaning) p (map (row_in_cell cell) rows)
 fold_shown cell meaning p [] = refl
 fold_shown cell meaning p (r ∷ rs) = fold_shown cell meaning (row_printed_in cell meaning p r) rs

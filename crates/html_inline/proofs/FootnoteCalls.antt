@@ -1,13 +1,14 @@
 -- Calls of footnotes among rows.
 use Rattle.std.proofs.Common.{◌≡◌, ℕ, Bool, true, false, List, [], Option, None, Some, sym, ap, ◌∙◌}
 use Rattle.definition_inline.specs.LabelMatch.{first_match, normal_label}
-use Rattle.html_bytes.specs.InlineHtml.{InlineMeaning, call_at, count_at}
-use Rattle.html_bytes.specs.Layout.{LayoutState, lay}
+use Rattle.definition_page.specs.Layout.{LayoutState}
+use Rattle.definition_page.specs.InlinePieces.{Meaning, call_at, count_at}
+use Rattle.html_bytes.specs.Layout.{lay}
 use Rattle.html_bytes.specs.Pieces.{CallOf, CountOf}
 use Rattle.html_inline.specs.Printed.{call_row, laid_out}
 
 -- a label of no footnote lays nothing
-pub uncalled : (meaning : InlineMeaning) (described : Bool) (label : List ℕ) (l : LayoutState) → first_match label meaning.footnotes ≡ None
+pub uncalled : (meaning : Meaning) (described : Bool) (label : List ℕ) (l : LayoutState) → first_match label meaning.footnotes ≡ None
     → l ≡ laid_out meaning l (call_row meaning described label)
 uncalled meaning described label l none = by_case described
   where
@@ -16,7 +17,7 @@ uncalled meaning described label l none = by_case described
     by_case false = sym (ap (λ (o : Option ℕ). laid_out meaning l (call_at o (normal_label label))) none)
 
 -- a call in a description counts
-pub counted : (meaning : InlineMeaning) (described : Bool) (label : List ℕ) (l : LayoutState) (place : ℕ) (normal : List ℕ) → described ≡ true
+pub counted : (meaning : Meaning) (described : Bool) (label : List ℕ) (l : LayoutState) (place : ℕ) (normal : List ℕ) → described ≡ true
     → normal ≡ normal_label label
     → first_match label meaning.footnotes ≡ Some place → lay meaning.compile [] l (CountOf place normal) ≡ laid_out meaning l (call_row meaning described label)
 counted meaning described label l place normal is normalized found =
@@ -25,7 +26,7 @@ counted meaning described label l place normal is normalized found =
     ∙ sym (ap (λ d. laid_out meaning l (call_row meaning d label)) is)
 
 -- any other prints its number
-pub called : (meaning : InlineMeaning) (described : Bool) (label : List ℕ) (l : LayoutState) (place : ℕ) (normal : List ℕ) → described ≡ false
+pub called : (meaning : Meaning) (described : Bool) (label : List ℕ) (l : LayoutState) (place : ℕ) (normal : List ℕ) → described ≡ false
     → normal ≡ normal_label label
     → first_match label meaning.footnotes ≡ Some place → lay meaning.compile [] l (CallOf place normal) ≡ laid_out meaning l (call_row meaning described label)
 called meaning described label l place normal is normalized found =

@@ -4,21 +4,22 @@ use Rattle.std.proofs.Common.{drop, take, arith, inl, inr, append_assoc}
 use Rattle.std.specs.List.{flat_map, prefix_len}
 use Rattle.std.proofs.lemmas.Bool.{cases_Bool, cond-false, cond-true, eqb-true, ne_eqb, not_from_false, or_cases, true≢false}
 use Rattle.std.proofs.lemmas.List.{append-nil, length-drop}
+use Rattle.std.proofs.lemmas.List.Concat.{flat_map-append}
 use Rattle.markdown_options.specs.declared.configuration.CompileOptions.{CompileOptions}
 use Rattle.markdown_options.specs.declared.line_ending.LineEnding.{LineEnding}
 use Rattle.markdown_options.specs.declared.line_ending.LineEnding.TheVariants.{CarriageReturnLineFeed, CarriageReturn, LineFeed}
 use Rattle.markdown_options.specs.LineEndings.{ending_bytes}
 use Rattle.definition_text.specs.Columns.{bare, bytes_of, indent, is_byte, is_white}
 use Rattle.definition_text.specs.Content.{content_codes, is_eol, line_ending_code}
-use Rattle.definition_text.specs.Encode.{encode, plain}
-use Rattle.html_bytes.specs.RawHtml.{raw_html}
-use Rattle.definition_page.specs.InlinePieces.{HtmlLine, html_text_line, in_first_line, html_lines}
-use Rattle.html_bytes.specs.InlineHtml.{html_line_bytes, html_lines_bytes, later_line_bytes}
+use Rattle.html_bytes.specs.RawHtml.{raw_bytes}
+use Rattle.definition_page.specs.InlinePieces.{HtmlLine, html_text_line, in_first_line, html_lines, later_line_says, html_line_says, html_lines_say}
+use Rattle.html_bytes.specs.InlineHtml.{say_bytes}
 use Rattle.definition_inline.specs.Strings.{begins_with_eol, eol_bytes}
 use Rattle.definition_page.specs.GfmTagfilter.{filter_tags}
+use Rattle.definition_page.specs.Tags.{said_bytes, AsItIs, Words}
 use Rattle.inline_leaves.proofs.Endings.{ending_is_eol}
 use Rattle.html_inline.specs.CodeBytes.{is_in_line}
-use Rattle.html_inline.specs.HtmlBytes.{PrintsEnding, ends, goes_on, first_bytes}
+use Rattle.html_inline.specs.HtmlBytes.{PrintsEnding, ends, goes_on, first_bytes, later_bytes}
 use Rattle.html_inline.proofs.InLine.{in_line_eol, line_codes, line_left}
 use Rattle.html_inline.proofs.KeptText.{AreBytes, bare_white}
 
@@ -71,18 +72,18 @@ lines_alone (suc n) (x ∷ xs) bytes le = elim (cases_Bool (is_in_line x)) [
     joined x [] = refl
     joined x (y ∷ ys) = refl
 
-raw_nothing : (options : CompileOptions) → raw_html options [] ≡ []
+raw_nothing : (options : CompileOptions) → raw_bytes options [] ≡ []
 raw_nothing options = by_case options.allow_dangerous_html options.gfm_tagfilter
   where
-    by_case : (t u : Bool) → cond t (plain (cond u (filter_tags []) [])) (encode []) ≡ []
+    by_case : (t u : Bool) → said_bytes (cond t (AsItIs (cond u (filter_tags []) [])) (Words [])) ≡ []
     by_case true true = refl
     by_case true false = refl
     by_case false u = refl
 
-alone_bytes : (options : CompileOptions) (ys : List ℕ) → bytes_of ys ≡ ys → first_bytes options (alone ys) ≡ raw_html options ys
+alone_bytes : (options : CompileOptions) (ys : List ℕ) → bytes_of ys ≡ ys → first_bytes options (alone ys) ≡ raw_bytes options ys
 unfolding alone
 alone_bytes options [] e = sym (raw_nothing options)
-alone_bytes options (y ∷ ys) e = append-nil (raw_html options (bytes_of (y ∷ ys))) ∙ ap (raw_html options) e
+alone_bytes options (y ∷ ys) e = append-nil (raw_bytes options (bytes_of (y ∷ ys))) ∙ ap (raw_bytes options) e
 
 alone_left : (ys : List ℕ) → drop 1 (alone ys) ≡ []
 unfolding alone
@@ -103,7 +104,7 @@ taken_bytes (suc n) (x ∷ xs) bytes = bytes_more x (take n xs) (bytes zero) (ta
 
 -- what is printed for the first line of a text, and the lines that are left
 pub line_printed : (options : CompileOptions) (xs rest before middle after : List ℕ) (n : ℕ) → AreBytes xs → n ≡ prefix_len is_in_line xs
-    → middle ≡ before ++ raw_html options (take n xs) → PrintsEnding (drop n xs) rest middle after
+    → middle ≡ before ++ raw_bytes options (take n xs) → PrintsEnding (drop n xs) rest middle after
     → (after ≡ before ++ first_bytes options (html_lines (content_codes xs))) × (html_lines (content_codes rest) ≡ drop 1 (html_lines (content_codes xs)))
 line_printed options xs rest before middle after n bytes size front (ends e printed) =
     let line = take n xs in
@@ -112,9 +113,9 @@ line_printed options xs rest before middle after n bytes size front (ends e prin
     let codes : content_codes xs ≡ line ++ code ∷ content_codes rest = line_codes n xs (omega arith) ∙ ap (λ c. line ++ c) e.codes in
     let lines : html_lines (content_codes xs) ≡ html_text_line line (code ∷ []) ∷ html_lines (content_codes rest) =
     ap html_lines codes ∙ lines_front n xs code (content_codes rest) bytes (omega arith) (ending_is_eol e.ending) in (
-      printed ∙ ap (λ s. s ++ ending_bytes e.ending) front ∙ append_assoc before (raw_html options line) (ending_bytes e.ending)
-          ∙ ap (λ s. before ++ (raw_html options s ++ ending_bytes e.ending)) (sym own)
-          ∙ ap (λ s. before ++ (raw_html options (bytes_of line) ++ s)) (sym (append-nil (eol_bytes code) ∙ ending_text e.ending))
+      printed ∙ ap (λ s. s ++ ending_bytes e.ending) front ∙ append_assoc before (raw_bytes options line) (ending_bytes e.ending)
+          ∙ ap (λ s. before ++ (raw_bytes options s ++ ending_bytes e.ending)) (sym own)
+          ∙ ap (λ s. before ++ (raw_bytes options (bytes_of line) ++ s)) (sym (append-nil (eol_bytes code) ∙ ending_text e.ending))
           ∙ ap (λ ls. before ++ first_bytes options ls) (sym lines),
       ap (drop 1) (sym lines),
     )
@@ -141,24 +142,32 @@ line_shorter xs rest before after n size (goes_on none same kept) =
 -- ---- later lines
 
 abbrev later : CompileOptions → List HtmlLine → List ℕ
-later options ls = flat_map (later_line_bytes options) ls
+later options ls = flat_map (later_bytes options) ls
 
-pub lines_printed : (options : CompileOptions) (ls : List HtmlLine) → html_lines_bytes options ls ≡ first_bytes options ls ++ later options (drop 1 ls)
+later_said : (options : CompileOptions) (ls : List HtmlLine) → say_bytes (flat_map (later_line_says options) ls) ≡ later options ls
+later_said options [] = refl
+later_said options (l ∷ ls) =
+    flat_map-append said_bytes (later_line_says options l) (flat_map (later_line_says options) ls)
+    ∙ ap (λ x. later_bytes options l ++ x) (later_said options ls)
+
+pub lines_printed : (options : CompileOptions) (ls : List HtmlLine) → say_bytes (html_lines_say options ls) ≡ first_bytes options ls ++ later options (drop 1 ls)
 lines_printed options [] = refl
-lines_printed options (l ∷ others) = refl
+lines_printed options (l ∷ others) =
+    flat_map-append said_bytes (html_line_says options l.line l.ending) (flat_map (later_line_says options) others)
+    ∙ ap (λ x. say_bytes (html_line_says options l.line l.ending) ++ x) (later_said options others)
 
 other_bare : (c : ℕ) (cs : List ℕ) → is_white c ≡ false → bare (c ∷ cs) ≡ c ∷ cs
 other_bare c cs h = ap (λ n. drop n (c ∷ cs)) (cond-false (is_white c) (1 + indent cs) 0 h)
 
 white_later : (options : CompileOptions) (c : ℕ) (ls : List HtmlLine) → is_white c ≡ true → later options (in_first_line c ls) ≡ later options ls
 white_later options c [] h =
-    append-nil _ ∙ append-nil _ ∙ ap (λ s. raw_html options (bytes_of s)) (bare_white c [] h) ∙ raw_nothing options
-white_later options c (l ∷ others) h = ap (λ s. html_line_bytes options s l.ending ++ later options others) (bare_white c l.line h)
+    append-nil _ ∙ append-nil _ ∙ ap (λ s. raw_bytes options (bytes_of s)) (bare_white c [] h) ∙ raw_nothing options
+white_later options c (l ∷ others) h = ap (λ s. say_bytes (html_line_says options s l.ending) ++ later options others) (bare_white c l.line h)
 
 other_later : (options : CompileOptions) (c : ℕ) (ls : List HtmlLine) → is_white c ≡ false
     → later options (in_first_line c ls) ≡ first_bytes options (in_first_line c ls) ++ later options (drop 1 (in_first_line c ls))
-other_later options c [] h = ap (λ s. html_line_bytes options s [] ++ []) (other_bare c [] h)
-other_later options c (l ∷ others) h = ap (λ s. html_line_bytes options s l.ending ++ later options others) (other_bare c l.line h)
+other_later options c [] h = ap (λ s. say_bytes (html_line_says options s []) ++ []) (other_bare c [] h)
+other_later options c (l ∷ others) h = ap (λ s. say_bytes (html_line_says options s l.ending) ++ later options others) (other_bare c l.line h)
 
 white_eol : (c : ℕ) → is_eol c ≡ true → is_white c ≡ false
 white_eol c h = elim (or_cases (eqb c 10 || eqb c 13) (eqb c 257) h) [

@@ -17,7 +17,7 @@ use Rattle.definition_text.specs.Content.{content_codes, is_eol}
 use Rattle.definition_inline.specs.CharacterEscape.{escape_at}
 use Rattle.definition_inline.specs.CharacterReference.{reference_at, reference_of}
 use Rattle.definition_inline.specs.HardBreak.{line_end_at}
-use Rattle.definition_inline.specs.Inline.{Inline, Found, leaf, or_else}
+use Rattle.definition_inline.specs.Inline.{InlineLeaf, Found, leaf, or_else}
 use Rattle.definition_inline.specs.Strings.{begins_with_eol, spaces_at, string_bytes, string_leaf_at, string_parts, string_text}
 use Rattle.definition_inline.proofs.Scanning.{string_step, string_byte}
 use Rattle.inline_leaves.specs.Leaves.{IsAfter, size_before}
@@ -46,7 +46,7 @@ leaf_text on names (c ∷ cs) found is some filled =
     ap (flat_map string_bytes) (string_step on names c cs found is some)
     ∙ flat_map-append string_bytes found.parts (string_parts on names 0 (drop found.size (c ∷ cs)))
 
-pub found_text : (on : Constructs) (names : List ℕ → Option (List ℕ)) (content rest : List ℕ) (parts : List Inline)
+pub found_text : (on : Constructs) (names : List ℕ → Option (List ℕ)) (content rest : List ℕ) (parts : List InlineLeaf)
     → Some (leaf parts (size_before content rest)) ≡ string_leaf_at on names (content_codes content) → IsAfter content rest
     → text_of on names content ≡ flat_map string_bytes parts ++ text_of on names rest
 found_text on names content rest parts is after =

@@ -1,28 +1,45 @@
--- Bytes as parts, and what these print.
-use Rattle.std.proofs.Common.{◌≡◌, Bool, ℕ, List, [], ◌∷◌, ◌++◌, refl, ap}
+-- Bytes as leaves, and what these print.
+use Rattle.std.proofs.Common.{◌≡◌, Bool, true, false, ℕ, List, [], ◌∷◌, ◌++◌, refl, ap, ◌∙◌}
 use Rattle.std.specs.Prelude.{map}
 use Rattle.std.specs.List.{flat_map}
+use Rattle.std.proofs.lemmas.List.{append-nil}
 use Rattle.markdown_options.specs.declared.configuration.CompileOptions.{CompileOptions}
 use Rattle.definition_text.specs.Encode.{encode, encoded_byte}
-use Rattle.definition_inline.specs.Inline.{Data, Escape}
-use Rattle.html_inline.specs.GfmTable.{inline_in_cell}
-use Rattle.html_bytes.specs.InlineHtml.{InlineMeaning, part_description, part_html}
+use Rattle.definition_inline.specs.Inline.{InlineLeaf, Data, Escape}
+use Rattle.definition_page.specs.Tags.{PrintedPart, said_bytes}
+use Rattle.definition_page.specs.Pieces.{Says}
+use Rattle.html_bytes.specs.InlineHtml.{say_bytes, leaf_description, leaf_html}
+use Rattle.html_bytes.specs.Pieces.{piece_html}
+use Rattle.html_inline.specs.GfmTable.{leaf_in}
+use Rattle.html_inline.specs.Printed.{leaves_bytes}
 
-pub escapes_described : (cell : Bool) (options : CompileOptions) (text : List ℕ)
-    → flat_map (part_description options) (map (inline_in_cell cell) (map Escape text)) ≡ encode text
-escapes_described cell options [] = refl
-escapes_described cell options (b ∷ bs) = ap (λ s. encoded_byte b ++ s) (escapes_described cell options bs)
+-- leaves of a byte each that print this byte
+bytes_shown : (cell : Bool) (shown : InlineLeaf → List ℕ) (leaf : ℕ → InlineLeaf) → ((b : ℕ) → shown (leaf_in cell (leaf b)) ≡ encode (b ∷ []) ++ [])
+    → (text : List ℕ) → flat_map shown (map (leaf_in cell) (map leaf text)) ≡ encode text
+bytes_shown cell shown leaf same [] = refl
+bytes_shown cell shown leaf same (b ∷ bs) =
+    ap (λ s. s ++ flat_map shown (map (leaf_in cell) (map leaf bs))) (same b ∙ append-nil (encode (b ∷ [])) ∙ append-nil (encoded_byte b))
+    ∙ ap (λ s. encoded_byte b ++ s) (bytes_shown cell shown leaf same bs)
 
-pub data_described : (cell : Bool) (options : CompileOptions) (text : List ℕ)
-    → flat_map (part_description options) (map (inline_in_cell cell) (map Data text)) ≡ encode text
-data_described cell options [] = refl
-data_described cell options (b ∷ bs) = ap (λ s. encoded_byte b ++ s) (data_described cell options bs)
+module _ (cell : Bool) (options : CompileOptions) where
+  pub escapes_described : (text : List ℕ) → flat_map (leaf_description options) (map (leaf_in cell) (map Escape text)) ≡ encode text
+  escapes_described text = bytes_shown cell (leaf_description options) Escape (λ b. refl) text
 
-pub escapes_html : (cell : Bool) (meaning : InlineMeaning) (text : List ℕ)
-    → flat_map (part_html meaning) (map (inline_in_cell cell) (map Escape text)) ≡ encode text
-escapes_html cell meaning [] = refl
-escapes_html cell meaning (b ∷ bs) = ap (λ s. encoded_byte b ++ s) (escapes_html cell meaning bs)
+  pub data_described : (text : List ℕ) → flat_map (leaf_description options) (map (leaf_in cell) (map Data text)) ≡ encode text
+  data_described text = bytes_shown cell (leaf_description options) Data (λ b. refl) text
 
-pub data_html : (cell : Bool) (meaning : InlineMeaning) (text : List ℕ) → flat_map (part_html meaning) (map (inline_in_cell cell) (map Data text)) ≡ encode text
-data_html cell meaning [] = refl
-data_html cell meaning (b ∷ bs) = ap (λ s. encoded_byte b ++ s) (data_html cell meaning bs)
+  pub escapes_html : (text : List ℕ) → flat_map (leaf_html options) (map (leaf_in cell) (map Escape text)) ≡ encode text
+  escapes_html text = bytes_shown cell (leaf_html options) Escape (λ b. refl) text
+
+  pub data_html : (text : List ℕ) → flat_map (leaf_html options) (map (leaf_in cell) (map Data text)) ≡ encode text
+  data_html text = bytes_shown cell (leaf_html options) Data (λ b. refl) text
+
+  -- wherever they stand
+  pub data_shown : (described : Bool) (text : List ℕ) → leaves_bytes options described (map (leaf_in cell) (map Data text)) ≡ encode text
+  data_shown true text = data_described text
+  data_shown false text = data_html text
+
+-- what a text says
+pub says_html : (parts : List PrintedPart) → flat_map piece_html (map Says parts) ≡ say_bytes parts
+says_html [] = refl
+says_html (part ∷ parts) = ap (λ s. said_bytes part ++ s) (says_html parts)

@@ -3,6 +3,7 @@ pub mod HtmlLines
 pub mod InLine
 pub mod KeptText
 pub mod LeafTexts
+pub mod TagTexts
 pub mod Numbers
 pub mod OpenStack
 pub mod PartTexts

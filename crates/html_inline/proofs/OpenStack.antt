@@ -1,28 +1,25 @@
 -- What is open, and rows that are printed.
-use Rattle.std.proofs.Common.{◌≡◌, ℕ, Bool, true, false, List, [], ◌∷◌, ◌++◌, refl, sym, ap, ◌∙◌, append_assoc, take, get_or, length, ◌+◌, ◌<◌}
+use Rattle.std.proofs.Common.{◌≡◌, ℕ, Bool, true, false, List, [], ◌∷◌, ◌++◌, sym, ap, ◌∙◌, append_assoc, take, get_or, length, ◌+◌, ◌<◌}
 use Rattle.std.specs.Prelude.{map, reverse}
 use Rattle.std.specs.List.{fold}
 use Rattle.std.proofs.lemmas.Bool.{cond-true, cond-false}
 use Rattle.std.proofs.lemmas.List.{append-nil, reverse-append, take_more}
 use Rattle.std.proofs.lemmas.List.Concat.{flat_map-append}
 use Rattle.std.proofs.lemmas.List.Sums.{fold-append}
-use Rattle.definition_text.specs.Content.{content_codes, line_ending_code}
-use Rattle.definition_text.specs.Encode.{encode, encoded_byte}
-use Rattle.definition_inline.specs.CharacterReference.{number_of, numbered_text}
-use Rattle.definition_inline.specs.CodeText.{code_text}
+use Rattle.definition_text.specs.Encode.{encode}
 use Rattle.definition_inline.specs.Inline as inline
-use Rattle.html_bytes.specs.InlineHtml.{InlineMeaning}
-use Rattle.html_bytes.specs.Layout.{LayoutState, with_text}
-use Rattle.inline_leaves.specs.Leaves.{kind_view, parts_of}
-use Rattle.inline_leaves.specs.declared.leaf.LeafPart.{LeafPart}
-use Rattle.inline_leaves.specs.declared.leaf.LeafPart.TheVariants as leaf
+use Rattle.definition_inline.specs.Inline.{InlineLeaf, Data}
+use Rattle.definition_page.specs.InlinePieces.{Meaning}
+use Rattle.definition_page.specs.Layout.{LayoutState}
+use Rattle.html_bytes.specs.Layout.{with_text}
 use Rattle.inline_rows.specs.InlineRows as rows_of
 use Rattle.inline_rows.specs.declared.row.InlineRow.{InlineRow}
 use Rattle.inline_rows.specs.View.{data_rows, row_view, rows_view}
 use Rattle.html_inline.specs.declared.stack.OpenPart.{OpenPart}
 use Rattle.html_inline.specs.declared.stack.OpenPart.TheVariants.{Silent}
-use Rattle.html_inline.specs.GfmTable.{inline_in_cell, row_printed_in}
-use Rattle.html_inline.specs.Printed.{OpenElement, new_part, PrintState, printed_at, is_described, html_of_part, parts_html, enter, leave, with_more}
+use Rattle.html_inline.specs.GfmTable.{leaf_in, row_printed_in}
+use Rattle.html_inline.specs.Printed.{OpenElement, new_part, PrintState, printed_at, is_described, leaf_bytes, leaves_bytes, enter, leave, with_more}
+use Rattle.html_inline.proofs.LeafTexts.{data_shown}
 
 -- one more stands on the stack
 pub stack_more : (view : OpenPart → OpenElement) (items : List OpenPart) (part : OpenPart)
@@ -65,68 +62,25 @@ no_more l = ap (with_text l) (sym (append-nil l.text))
 pub more_after : (l : LayoutState) (a b : List ℕ) → with_more (with_more l a) b ≡ with_more l (a ++ b)
 more_after l a b = ap (with_text l) (append_assoc l.text a b)
 
-module _ (cell : Bool) (meaning : InlineMeaning) (stack : List OpenElement) where
-  data_either : (described : Bool) (b : ℕ) → html_of_part meaning described (inline.Data b) ≡ encoded_byte b
-  data_either true b = refl
-  data_either false b = refl
+module _ (cell : Bool) (meaning : Meaning) (stack : List OpenElement) where
+  -- leaves are printed one after another
+  pub leaves_printed : (parts : List InlineLeaf) (l : LayoutState)
+      → fold (row_printed_in cell meaning) (printed_at l stack) (map rows_of.Part parts)
+      ≡ printed_at (with_more l (leaves_bytes meaning.compile (is_described stack) (map (leaf_in cell) parts))) stack
+  leaves_printed [] l = ap (λ x. printed_at x stack) (no_more l)
+  leaves_printed (part ∷ parts) l =
+      let text = leaf_bytes meaning.compile (is_described stack) (leaf_in cell part) in
+      leaves_printed parts (with_more l text)
+      ∙ ap (λ x. printed_at x stack) (more_after l text (leaves_bytes meaning.compile (is_described stack) (map (leaf_in cell) parts)))
 
-  pub text_printed : (l : LayoutState) (text : List ℕ) → fold (row_printed_in cell meaning) (printed_at l stack) (data_rows text)
-      ≡ printed_at (with_more l (encode text)) stack
-  text_printed l [] = ap (λ x. printed_at x stack) (no_more l)
-  text_printed l (b ∷ bs) =
-      ap (λ s. fold (row_printed_in cell meaning) (printed_at (with_more l s) stack) (data_rows bs)) (data_either (is_described stack) b)
-      ∙ text_printed (with_more l (encoded_byte b)) bs
-      ∙ ap (λ x. printed_at x stack) (more_after l (encoded_byte b) (encode bs))
-
-  -- what parts print in a cell or elsewhere
-  abbrev shown_parts : List inline.Inline → List ℕ
-  shown_parts parts = parts_html meaning (is_described stack) (map (inline_in_cell cell) parts)
-
-  -- parts that are printed as they should be
-  abbrev ArePrinted : List inline.Inline → Type 0
-  ArePrinted parts = (l : LayoutState) → fold (row_printed_in cell meaning) (printed_at l stack) (map rows_of.Part parts)
-      ≡ printed_at (with_more l (shown_parts parts)) stack
-
-  none_printed : ArePrinted []
-  none_printed l = ap (λ x. printed_at x stack) (no_more l)
-
-  more_parts : (i : inline.Inline) (is : List inline.Inline)
-      → ((l : LayoutState) → row_printed_in cell meaning (printed_at l stack) (rows_of.Part i)
-      ≡ printed_at (with_more l (html_of_part meaning (is_described stack) (inline_in_cell cell i))) stack)
-      → ArePrinted is → ArePrinted (i ∷ is)
-  more_parts i is first are l =
-      let text = html_of_part meaning (is_described stack) (inline_in_cell cell i) in
-      ap (λ p. fold (row_printed_in cell meaning) p (map rows_of.Part is)) (first l)
-      ∙ are (with_more l text)
-      ∙ ap (λ x. printed_at x stack) (more_after l text (shown_parts is))
-
-  escapes_printed : (text : List ℕ) → ArePrinted (map inline.Escape text)
-  escapes_printed [] = none_printed
-  escapes_printed (b ∷ bs) = more_parts (inline.Escape b) (map inline.Escape bs) (λ l. refl) (escapes_printed bs)
-
-  bytes_printed : (text : List ℕ) → ArePrinted (map inline.Data text)
-  bytes_printed [] = none_printed
-  bytes_printed (b ∷ bs) = more_parts (inline.Data b) (map inline.Data bs) (λ l. refl) (bytes_printed bs)
-
-  pub leaf_printed : (part : LeafPart) (l : LayoutState)
-      → fold (row_printed_in cell meaning) (printed_at l stack) (map rows_of.Part (parts_of part))
-      ≡ printed_at (with_more l (parts_html meaning (is_described stack) (map (inline_in_cell cell) (parts_of part)))) stack
-  leaf_printed (leaf.Escape text) = escapes_printed text.now
-  leaf_printed (leaf.Character text) = more_parts (inline.Character text.now) [] (λ l. refl) none_printed
-  leaf_printed (leaf.Number radix digits) = more_parts (inline.Character (numbered_text (number_of radix digits.now))) [] (λ l. refl) none_printed
-  leaf_printed (leaf.Code text) = more_parts (inline.Code (code_text (content_codes text.now))) [] (λ l. refl) none_printed
-  leaf_printed (leaf.Math text) = more_parts (inline.Math (code_text (content_codes text.now))) [] (λ l. refl) none_printed
-  leaf_printed (leaf.Unclosed text) = bytes_printed text.now
-  leaf_printed (leaf.Autolink email text) = more_parts (inline.Autolink email text.now) [] (λ l. refl) none_printed
-  leaf_printed (leaf.Literal kind text) = more_parts (inline.Literal (kind_view kind) text.now) [] (λ l. refl) none_printed
-  leaf_printed (leaf.Html text) = more_parts (inline.Html (content_codes text.now)) [] (λ l. refl) none_printed
-  leaf_printed leaf.EscapedBreak = more_parts inline.EscapedBreak [] (λ l. refl) none_printed
-  leaf_printed leaf.TrailingBreak = more_parts inline.TrailingBreak [] (λ l. refl) none_printed
-  leaf_printed (leaf.LineEnd ending) = more_parts (inline.LineEnd (line_ending_code ending)) [] (λ l. refl) none_printed
-  leaf_printed leaf.Spaces = none_printed
+  pub text_printed : (l : LayoutState) (text : List ℕ)
+      → fold (row_printed_in cell meaning) (printed_at l stack) (data_rows text) ≡ printed_at (with_more l (encode text)) stack
+  text_printed l text =
+      leaves_printed (map Data text) l
+      ∙ ap (λ s. printed_at (with_more l s) stack) (data_shown cell meaning.compile (is_described stack) text)
 
 -- one more row
-pub rows_more : (cell : Bool) (meaning : InlineMeaning) (at : ℕ → inline.LinkTexts) (start : PrintState) (rows : List InlineRow) (i : ℕ) (d : InlineRow)
+pub rows_more : (cell : Bool) (meaning : Meaning) (at : ℕ → inline.LinkTexts) (start : PrintState) (rows : List InlineRow) (i : ℕ) (d : InlineRow)
     → i < length rows
     → fold (row_printed_in cell meaning) start (rows_view at (take (i + 1) rows))
     ≡ fold (row_printed_in cell meaning) (fold (row_printed_in cell meaning) start (rows_view at (take i rows))) (row_view at (get_or rows i d))
@@ -136,7 +90,7 @@ rows_more cell meaning at start rows i d lt =
     ∙ ap (λ s. rows_view at (take i rows) ++ s) (append-nil (row_view at (get_or rows i d))))
     ∙ fold-append (row_printed_in cell meaning) start (rows_view at (take i rows)) (row_view at (get_or rows i d))
 
-pub rows_step : (cell : Bool) (meaning : InlineMeaning) (at : ℕ → inline.LinkTexts) (start before after : PrintState) (rows : List InlineRow) (i : ℕ)
+pub rows_step : (cell : Bool) (meaning : Meaning) (at : ℕ → inline.LinkTexts) (start before after : PrintState) (rows : List InlineRow) (i : ℕ)
     (d : InlineRow)
     → i < length rows
     → before ≡ fold (row_printed_in cell meaning) start (rows_view at (take i rows))

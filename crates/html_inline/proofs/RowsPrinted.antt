@@ -1,35 +1,34 @@
 -- Inline structure laid out row by row is its pieces, or what it says in a description and the calls there.
-use Rattle.std.proofs.Common.{◌≡◌, ℕ, Bool, true, false, cond, List, [], ◌∷◌, ◌++◌, Option, None, Some, refl, sym, ap, ◌∙◌, append_assoc, codes}
+use Rattle.std.proofs.Common.{◌≡◌, ℕ, Bool, true, false, cond, List, [], ◌∷◌, ◌++◌, Option, None, Some, refl, sym, ap, ◌∙◌, append_assoc}
 use Rattle.std.specs.List.{fold}
 use Rattle.std.proofs.lemmas.List.{append-nil}
+use Rattle.std.proofs.lemmas.List.Concat.{flat_map-append}
 use Rattle.std.proofs.lemmas.List.Sums.{fold-append}
 use Rattle.definition_inline.specs.LabelMatch.{first_match, normal_label}
-use Rattle.definition_inline.specs.Inline.{LinkTexts, Inline, Data, Escape, Character, Code, Math, Autolink, Literal, Html, EscapedBreak, TrailingBreak}
-use Rattle.definition_inline.specs.Inline.{LineEnd}
-use Rattle.definition_inline.specs.Inline.{Emphasis, Strong, Strikethrough, Link, Image, Call, Inlines, Nil, Cons}
+use Rattle.definition_inline.specs.Inline.{LinkTexts, Link, Image, InlineLeaf, Inline, Leaf, Span, Linked, Call, Inlines, Nil, Cons}
 use Rattle.definition_inline.specs.Targets.{leads_to}
-use Rattle.html_bytes.specs.InlineHtml.{InlineMeaning, title_attribute, link_tag, image_tag, description, part_description, part_html, call_at, count_at}
-use Rattle.html_bytes.specs.InlineHtml.{part_counts, inline_counts, part_pieces, inline_pieces}
-use Rattle.html_bytes.specs.Layout.{LayoutState, lay, with_text}
-use Rattle.html_bytes.specs.Pieces.{Piece, Bytes}
+use Rattle.definition_page.specs.Layout.{LayoutState}
+use Rattle.definition_page.specs.Tags.{said_bytes, Tag, bare_tag, start_tag, end_tag, void_tag}
+use Rattle.definition_page.specs.Pieces.{Piece, Close}
+use Rattle.definition_page.specs.InlinePieces.{Meaning, span_name, element, link_tag, image_tag, part_says, description, call_at, count_at}
+use Rattle.definition_page.specs.InlinePieces.{part_counts, inline_counts, part_pieces, inline_pieces}
+use Rattle.html_bytes.specs.InlineHtml.{say_bytes, leaf_description, leaf_html}
+use Rattle.html_bytes.specs.Layout.{lay, with_text}
+use Rattle.html_bytes.specs.Pieces.{in_bytes}
+use Rattle.html_bytes.proofs.SameText.{laid_both}
+use Rattle.html_bytes.proofs.WithoutCalls.{leaf_added}
 use Rattle.inline_rows.specs.InlineRows.{InlineRow, Leave, part_rows, inline_rows}
 use Rattle.html_inline.specs.Printed.{OpenElement, new_part, printed_at, is_described, image_start, image_end, with_more, call_row, laid_out, enter, with_row}
 use Rattle.html_inline.proofs.OpenStack.{no_more}
+use Rattle.html_inline.proofs.TagTexts as tag_texts
 
--- what the description of an image stands between
-image_parts : (meaning : InlineMeaning) (target : LinkTexts) (text : List ℕ)
-    → image_tag meaning target text ≡ image_start meaning target ++ (text ++ image_end meaning target)
-image_parts meaning target text =
-    let start = image_start meaning target in
-    let title = title_attribute meaning target.title in
-    append_assoc (start ++ text ++ codes "\"") title (codes " />")
-    ∙ append_assoc (start ++ text) (codes "\"") (title ++ codes " />")
-    ∙ append_assoc start text (codes "\"" ++ (title ++ codes " />"))
-
-module _ (meaning : InlineMeaning) (default : List ℕ) where
+module _ (meaning : Meaning) (default : List ℕ) where
   -- pieces laid out
   abbrev laid_by : LayoutState → List Piece → LayoutState
-  laid_by l pieces = fold (lay meaning.compile default) l pieces
+  laid_by l pieces = fold (lay meaning.compile default) l (in_bytes pieces)
+
+  laid_then : (l : LayoutState) (ps qs : List Piece) → laid_by l (ps ++ qs) ≡ laid_by (laid_by l ps) qs
+  laid_then l ps qs = laid_both meaning.compile default l ps qs
 
   abbrev rows_of : Inlines → List InlineRow
   rows_of is = inline_rows (leads_to meaning.definition) is
@@ -37,11 +36,12 @@ module _ (meaning : InlineMeaning) (default : List ℕ) where
   -- what is laid out after a part, and after parts: in a description what they say, and the calls there
   abbrev part_after : Bool → Inline → LayoutState → LayoutState
   part_after described i l =
-      cond described (with_text (laid_by l (part_counts meaning i)) (l.text ++ part_description meaning.compile i)) (laid_by l (part_pieces meaning i))
+      cond described (with_text (laid_by l (part_counts meaning i)) (l.text ++ say_bytes (part_says meaning.compile i))) (laid_by l (part_pieces meaning i))
 
   abbrev all_after : Bool → Inlines → LayoutState → LayoutState
   all_after described is l =
-      cond described (with_text (laid_by l (inline_counts meaning is)) (l.text ++ description meaning.compile is)) (laid_by l (inline_pieces meaning is))
+      cond described (with_text (laid_by l (inline_counts meaning is)) (l.text ++ say_bytes (description meaning.compile is)))
+      (laid_by l (inline_pieces meaning is))
 
   -- parts that are printed as they should be, wherever they stand
   abbrev ArePrinted : Inlines → Type 0
@@ -58,32 +58,19 @@ module _ (meaning : InlineMeaning) (default : List ℕ) where
   mutual
     part_counts_beside : (i : Inline) (l : LayoutState) (text : List ℕ) → laid_by (with_text l text) (part_counts meaning i)
         ≡ with_text (laid_by l (part_counts meaning i)) text
-    part_counts_beside (Data b) l text = refl
-    part_counts_beside (Escape b) l text = refl
-    part_counts_beside (Character bytes) l text = refl
-    part_counts_beside (Code bytes) l text = refl
-    part_counts_beside (Math bytes) l text = refl
-    part_counts_beside (Autolink is_email bytes) l text = refl
-    part_counts_beside (Literal kind bytes) l text = refl
-    part_counts_beside (Html html) l text = refl
-    part_counts_beside EscapedBreak l text = refl
-    part_counts_beside TrailingBreak l text = refl
-    part_counts_beside (LineEnd code) l text = refl
-    part_counts_beside (Emphasis kids) l text = counts_beside kids l text
-    part_counts_beside (Strong kids) l text = counts_beside kids l text
-    part_counts_beside (Strikethrough kids) l text = counts_beside kids l text
-    part_counts_beside (Link target kids) l text = counts_beside kids l text
-    part_counts_beside (Image target kids) l text = counts_beside kids l text
+    part_counts_beside (Leaf part) l text = refl
+    part_counts_beside (Span kind kids) l text = counts_beside kids l text
+    part_counts_beside (Linked kind target kids) l text = counts_beside kids l text
     part_counts_beside (Call label) l text = count_beside (normal_label label) (first_match label meaning.footnotes) l text
 
     counts_beside : (is : Inlines) (l : LayoutState) (text : List ℕ) → laid_by (with_text l text) (inline_counts meaning is)
         ≡ with_text (laid_by l (inline_counts meaning is)) text
     counts_beside Nil l text = refl
     counts_beside (Cons i is) l text =
-        fold-append (lay meaning.compile default) (with_text l text) (part_counts meaning i) (inline_counts meaning is)
+        laid_then (with_text l text) (part_counts meaning i) (inline_counts meaning is)
         ∙ ap (λ x. laid_by x (inline_counts meaning is)) (part_counts_beside i l text)
         ∙ counts_beside is (laid_by l (part_counts meaning i)) text
-        ∙ ap (λ x. with_text x text) (sym (fold-append (lay meaning.compile default) l (part_counts meaning i) (inline_counts meaning is)))
+        ∙ ap (λ x. with_text x text) (sym (laid_then l (part_counts meaning i) (inline_counts meaning is)))
 
   -- ---- parts that hold others
 
@@ -105,43 +92,44 @@ module _ (meaning : InlineMeaning) (default : List ℕ) where
           ∙ ap (λ p. with_row meaning p Leave) (are (with_more l start) (o ∷ stack))
 
   -- a span or a link, which prints its content between two tags
-  between : (start ending : List ℕ) (kids : Inlines) → ArePrinted kids → (l : LayoutState) (stack : List OpenElement)
-      → fold (with_row meaning) (enter start (new_part false ending) (printed_at l stack)) (rows_of kids ++ Leave ∷ [])
-      ≡ printed_at (cond (is_described stack) (all_after true kids l) (laid_by l (Bytes start ∷ inline_pieces meaning kids ++ Bytes ending ∷ []))) stack
-  between start ending kids are l stack =
-      nested start (new_part false ending) kids are l stack
+  between : (t : Tag) (kids : Inlines) → ArePrinted kids → (l : LayoutState) (stack : List OpenElement)
+      → fold (with_row meaning) (enter (start_tag t) (new_part false (end_tag t.name)) (printed_at l stack)) (rows_of kids ++ Leave ∷ [])
+      ≡ printed_at (cond (is_described stack) (all_after true kids l) (laid_by l (element t (inline_pieces meaning kids)))) stack
+  between t kids are l stack =
+      nested (start_tag t) (new_part false (end_tag t.name)) kids are l stack
       ∙ ap (λ x. printed_at (cond (is_described stack) (all_after true kids l) x) stack)
-      (sym (fold-append (lay meaning.compile default) (with_more l start) (inline_pieces meaning kids) (Bytes ending ∷ [])))
+      (sym (laid_then (with_more l (start_tag t)) (inline_pieces meaning kids) (Close t.name ∷ [])))
 
   -- an image, which prints its description inside its tag and counts the calls there
   described_between : (target : LinkTexts) (kids : Inlines) (l : LayoutState)
       → with_more (all_after true kids (with_more l (image_start meaning target))) (image_end meaning target)
-      ≡ laid_by (with_more l (image_tag meaning target (description meaning.compile kids))) (inline_counts meaning kids)
+      ≡ laid_by (with_more l (void_tag (image_tag meaning target (description meaning.compile kids)))) (inline_counts meaning kids)
   described_between target kids l =
       let start = image_start meaning target in
       let ending = image_end meaning target in
-      let says = description meaning.compile kids in
+      let says = say_bytes (description meaning.compile kids) in
       ap (λ x. with_text x (((l.text ++ start) ++ says) ++ ending)) (counts_beside kids l (l.text ++ start))
       ∙ ap (with_text (laid_by l (inline_counts meaning kids)))
-      (append_assoc (l.text ++ start) says ending ∙ append_assoc l.text start (says ++ ending) ∙ ap (λ s. l.text ++ s) (sym (image_parts meaning target says)))
-      ∙ sym (counts_beside kids l (l.text ++ image_tag meaning target says))
+      (append_assoc (l.text ++ start) says ending ∙ append_assoc l.text start (says ++ ending)
+      ∙ ap (λ s. l.text ++ s) (sym (tag_texts.image_printed meaning target (description meaning.compile kids))))
+      ∙ sym (counts_beside kids l (l.text ++ void_tag (image_tag meaning target (description meaning.compile kids))))
 
   image_printed : (target : LinkTexts) (kids : Inlines) → ArePrinted kids → (l : LayoutState) (stack : List OpenElement)
       → fold (with_row meaning) (enter (image_start meaning target) (new_part true (image_end meaning target)) (printed_at l stack))
       (rows_of kids ++ Leave ∷ [])
-      ≡ printed_at (cond (is_described stack) (all_after true kids l) (laid_by (with_more l (image_tag meaning target (description meaning.compile kids)))
-      (inline_counts meaning kids))) stack
+      ≡ printed_at (cond (is_described stack) (all_after true kids l)
+      (laid_by (with_more l (void_tag (image_tag meaning target (description meaning.compile kids)))) (inline_counts meaning kids))) stack
   image_printed target kids are l stack =
       nested (image_start meaning target) (new_part true (image_end meaning target)) kids are l stack
       ∙ ap (λ x. printed_at (cond (is_described stack) (all_after true kids l) x) stack) (described_between target kids l)
 
   -- ---- all parts
 
-  -- text that is printed, or said
-  either : (described : Bool) (l : LayoutState) (says html : List ℕ)
-      → with_more l (cond described says html) ≡ cond described (with_more l says) (with_more l html)
-  either true l says html = refl
-  either false l says html = refl
+  -- a leaf that is printed, or said
+  leaf_either : (described : Bool) (part : InlineLeaf) (l : LayoutState)
+      → with_more l (cond described (leaf_description meaning.compile part) (leaf_html meaning.compile part)) ≡ part_after described (Leaf part) l
+  leaf_either true part l = refl
+  leaf_either false part l = sym (leaf_added meaning.compile default meaning.compile part l)
 
   counted_either : (label : List ℕ) (place : Option ℕ) (l : LayoutState) → laid_out meaning l (count_at place label)
       ≡ with_text (laid_by l (count_at place label)) (l.text ++ [])
@@ -161,47 +149,27 @@ module _ (meaning : InlineMeaning) (default : List ℕ) where
   more_printed : (described : Bool) (i : Inline) (is : Inlines) (l : LayoutState)
       → all_after described is (part_after described i l) ≡ all_after described (Cons i is) l
   more_printed true i is l =
-      let says = part_description meaning.compile i in
-      let others = description meaning.compile is in
+      let says = say_bytes (part_says meaning.compile i) in
+      let others = say_bytes (description meaning.compile is) in
       ap (λ x. with_text x ((l.text ++ says) ++ others)) (counts_beside is (laid_by l (part_counts meaning i)) (l.text ++ says))
-      ∙ ap (λ x. with_text x ((l.text ++ says) ++ others))
-      (sym (fold-append (lay meaning.compile default) l (part_counts meaning i) (inline_counts meaning is)))
-      ∙ ap (with_text (laid_by l (part_counts meaning i ++ inline_counts meaning is))) (append_assoc l.text says others)
-  more_printed false i is l = sym (fold-append (lay meaning.compile default) l (part_pieces meaning i) (inline_pieces meaning is))
+      ∙ ap (λ x. with_text x ((l.text ++ says) ++ others)) (sym (laid_then l (part_counts meaning i) (inline_counts meaning is)))
+      ∙ ap (with_text (laid_by l (part_counts meaning i ++ inline_counts meaning is)))
+      (append_assoc l.text says others
+      ∙ ap (λ s. l.text ++ s) (sym (flat_map-append said_bytes (part_says meaning.compile i) (description meaning.compile is))))
+  more_printed false i is l = sym (laid_then l (part_pieces meaning i) (inline_pieces meaning is))
 
   nothing_printed : (described : Bool) (l : LayoutState) → l ≡ all_after described Nil l
   nothing_printed true l = no_more l
   nothing_printed false l = refl
 
-  -- a part that holds no other
-  said_or_printed : (says html : List ℕ) (l : LayoutState) (stack : List OpenElement)
-      → printed_at (with_more l (cond (is_described stack) says html)) stack
-      ≡ printed_at (cond (is_described stack) (with_more l says) (with_more l html)) stack
-  said_or_printed says html l stack = ap (λ x. printed_at x stack) (either (is_described stack) l says html)
-
   mutual
     part_rows_printed : (i : Inline) (l : LayoutState) (stack : List OpenElement)
         → fold (with_row meaning) (printed_at l stack) (part_rows (leads_to meaning.definition) i) ≡ printed_at (part_after (is_described stack) i l) stack
-    part_rows_printed (Data b) l stack = said_or_printed (part_description meaning.compile (Data b)) (part_html meaning (Data b)) l stack
-    part_rows_printed (Escape b) l stack = said_or_printed (part_description meaning.compile (Escape b)) (part_html meaning (Escape b)) l stack
-    part_rows_printed (Character bytes) l stack =
-        said_or_printed (part_description meaning.compile (Character bytes)) (part_html meaning (Character bytes)) l stack
-    part_rows_printed (Code bytes) l stack = said_or_printed (part_description meaning.compile (Code bytes)) (part_html meaning (Code bytes)) l stack
-    part_rows_printed (Math bytes) l stack = said_or_printed (part_description meaning.compile (Math bytes)) (part_html meaning (Math bytes)) l stack
-    part_rows_printed (Autolink is_email bytes) l stack =
-        said_or_printed (part_description meaning.compile (Autolink is_email bytes)) (part_html meaning (Autolink is_email bytes)) l stack
-    part_rows_printed (Literal kind bytes) l stack =
-        said_or_printed (part_description meaning.compile (Literal kind bytes)) (part_html meaning (Literal kind bytes)) l stack
-    part_rows_printed (Html text) l stack = said_or_printed (part_description meaning.compile (Html text)) (part_html meaning (Html text)) l stack
-    part_rows_printed EscapedBreak l stack = said_or_printed (part_description meaning.compile EscapedBreak) (part_html meaning EscapedBreak) l stack
-    part_rows_printed TrailingBreak l stack = said_or_printed (part_description meaning.compile TrailingBreak) (part_html meaning TrailingBreak) l stack
-    part_rows_printed (LineEnd code) l stack = said_or_printed (part_description meaning.compile (LineEnd code)) (part_html meaning (LineEnd code)) l stack
-    part_rows_printed (Emphasis kids) l stack = between (codes "<em>") (codes "</em>") kids (rows_printed kids) l stack
-    part_rows_printed (Strong kids) l stack = between (codes "<strong>") (codes "</strong>") kids (rows_printed kids) l stack
-    part_rows_printed (Strikethrough kids) l stack = between (codes "<del>") (codes "</del>") kids (rows_printed kids) l stack
-    part_rows_printed (Link target kids) l stack =
-        between (link_tag meaning (leads_to meaning.definition target)) (codes "</a>") kids (rows_printed kids) l stack
-    part_rows_printed (Image target kids) l stack = image_printed (leads_to meaning.definition target) kids (rows_printed kids) l stack
+    part_rows_printed (Leaf part) l stack = ap (λ x. printed_at x stack) (leaf_either (is_described stack) part l)
+    part_rows_printed (Span kind kids) l stack = between (bare_tag (span_name kind)) kids (rows_printed kids) l stack
+    part_rows_printed (Linked Link target kids) l stack =
+        between (link_tag meaning (leads_to meaning.definition target)) kids (rows_printed kids) l stack
+    part_rows_printed (Linked Image target kids) l stack = image_printed (leads_to meaning.definition target) kids (rows_printed kids) l stack
     part_rows_printed (Call label) l stack = ap (λ x. printed_at x stack) (call_either label (is_described stack) l)
 
     rows_printed : (is : Inlines) (l : LayoutState) (stack : List OpenElement)
@@ -216,5 +184,5 @@ module _ (meaning : InlineMeaning) (default : List ℕ) where
   -- a whole content
   pub content_printed : (is : Inlines) (l : LayoutState)
       → fold (with_row meaning) (printed_at l []) (inline_rows (leads_to meaning.definition) is)
-      ≡ printed_at (fold (lay meaning.compile default) l (inline_pieces meaning is)) []
+      ≡ printed_at (fold (lay meaning.compile default) l (in_bytes (inline_pieces meaning is))) []
   content_printed is l = rows_printed is l []

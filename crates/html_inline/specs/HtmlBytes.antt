@@ -4,14 +4,18 @@ use Rattle.markdown_options.specs.declared.configuration.CompileOptions.{Compile
 use Rattle.markdown_options.specs.declared.line_ending.LineEnding.{LineEnding}
 use Rattle.markdown_options.specs.LineEndings.{ending_bytes}
 use Rattle.definition_text.specs.Content.{content_codes, line_ending_code}
-use Rattle.definition_page.specs.InlinePieces.{HtmlLine}
-use Rattle.html_bytes.specs.InlineHtml.{html_line_bytes}
+use Rattle.definition_page.specs.InlinePieces.{HtmlLine, html_line_says, later_line_says}
+use Rattle.html_bytes.specs.InlineHtml.{say_bytes}
 use Rattle.definition_inline.specs.Strings.{begins_with_eol}
 
 -- what the first of these lines prints
 abbrev pub first_bytes : CompileOptions → List HtmlLine → List ℕ
 first_bytes options [] = []
-first_bytes options (first ∷ others) = html_line_bytes options first.line first.ending
+first_bytes options (first ∷ others) = say_bytes (html_line_says options first.line first.ending)
+
+-- what a later one prints
+abbrev pub later_bytes : CompileOptions → HtmlLine → List ℕ
+later_bytes options line = say_bytes (later_line_says options line)
 
 -- a line ending that a text begins with
 pub record Ends (text rest : List ℕ) : Type 0 where

@@ -1,8 +1,9 @@
 -- What is open, as the definition has it.
 use Rattle.std.specs.Prelude.{ℕ, Bool, true, false, List, [], None, codes, map, reverse, slice_index_or}
 use Rattle.definition_inline.specs.Inline as inline
-use Rattle.html_bytes.specs.Layout.{LayoutState}
-use Rattle.html_bytes.specs.InlineHtml.{InlineMeaning}
+use Rattle.definition_page.specs.Layout.{LayoutState}
+use Rattle.definition_page.specs.Tags.{end_tag}
+use Rattle.definition_page.specs.InlinePieces.{Meaning}
 use Rattle.inline_runs.specs.View.{span_view}
 use Rattle.inline_links.specs.declared.text.LinkTexts.{LinkTexts}
 use Rattle.inline_rows.specs.declared.row.InlineRow.{InlineRow}
@@ -31,10 +32,10 @@ image_target at (EnterImage target) = target_texts at target
 image_target at (Call label) = nowhere
 image_target at Exit = nowhere
 
-module _ (meaning : InlineMeaning) (at : ℕ → inline.LinkTexts) (rows : List InlineRow) where
+module _ (meaning : Meaning) (at : ℕ → inline.LinkTexts) (rows : List InlineRow) where
   abbrev pub opened_view : OpenPart → OpenElement
   opened_view (open_part.Span span) = new_part false (span_end (span_view span))
-  opened_view open_part.Link = new_part false (codes "</a>")
+  opened_view open_part.Link = new_part false (end_tag (codes "a"))
   opened_view (open_part.Image place) = new_part true (image_end meaning (image_target at (slice_index_or rows place Exit)))
   opened_view open_part.Silent = new_part true []
 

@@ -1,8 +1,7 @@
 -- What a printer adds to a text, and what it prints by.
 use Rattle.std.specs.Prelude.{ℕ, List, Option}
 use Rattle.definition_inline.specs.Inline.{LinkTexts}
-use Rattle.html_bytes.specs.InlineHtml.{InlineMeaning}
-use Rattle.html_bytes.specs.Meaning.{inline_meaning}
+use Rattle.definition_page.specs.InlinePieces.{Meaning}
 pub use Rattle.html_escape.specs.Prints.{Prints}
 use Rattle.html_inline.specs.declared.printing.Printing.{Printing}
 
@@ -11,5 +10,6 @@ abbrev pub Definitions : Type 0
 Definitions = List ℕ → Option LinkTexts
 
 -- what inline structure means by what names stand for, and by the labels of the document's footnotes
-abbrev pub meaning_by : {A T : Type 0} → (List ℕ → Option (List ℕ)) → Printing A T → Definitions → List (List ℕ) → InlineMeaning
-meaning_by names printing definition footnotes = inline_meaning printing.on.now printing.compile.now names definition footnotes
+abbrev pub meaning_by : {A T : Type 0} → (List ℕ → Option (List ℕ)) → Printing A T → Definitions → List (List ℕ) → Meaning
+meaning_by names printing definition footnotes =
+    record { on = printing.on.now; compile = printing.compile.now; names = names; definition = definition; footnotes = footnotes }

@@ -1,8 +1,8 @@
 //! Autolinks (CommonMark 6.5).
 ghost use Rattle.std.specs.Prelude.{◌≡◌, ◌++◌, OnOk, codes, string_bytes};
 ghost use Rattle.definition_text.specs.Encode.{encode};
-ghost use Rattle.definition_page.specs.InlinePieces.{address};
-ghost use Rattle.html_bytes.specs.Meaning.{link_url};
+ghost use Rattle.definition_page.specs.InlinePieces.{address, address_tag};
+ghost use Rattle.definition_page.specs.Tags.{start_tag, end_tag};
 ghost use Rattle.html_inline.specs.Prints.{Prints};
 
 use crate::url::push_link_url;
@@ -18,8 +18,7 @@ pub(crate) fn push_autolink<A: Allocator>(
     email: bool,
     text: &str,
 ) -> Result<(), AllocError>
-    ensures { Prints result out.old out.new (codes "<a href=\"" ++ link_url compile.now (address email text.now) ++ codes "\">"
-        ++ encode text.now ++ codes "</a>") }
+    ensures { Prints result out.old out.new (start_tag (address_tag compile.now (address email text.now)) ++ encode text.now ++ end_tag (codes "a")) }
 {
     read_address(room, email, text)?;
     push_linked_text(out, compile, room.as_str(), text)
@@ -32,8 +31,7 @@ pub(crate) fn push_linked_text<A: Allocator>(
     address: &str,
     text: &str,
 ) -> Result<(), AllocError>
-    ensures { Prints result out.old out.new (codes "<a href=\"" ++ link_url compile.now address.now ++ codes "\">"
-        ++ encode text.now ++ codes "</a>") }
+    ensures { Prints result out.old out.new (start_tag (address_tag compile.now address.now) ++ encode text.now ++ end_tag (codes "a")) }
 {
     out.push_str("<a href=\"")?;
     push_link_url(out, compile, address)?;

@@ -6,8 +6,9 @@ ghost use Rattle.definition_text.specs.Content.{content_codes};
 ghost use Rattle.definition_inline.specs.Inline as inline;
 ghost use Rattle.definition_inline.specs.LabelMatch.{first_match, normal_label};
 ghost use Rattle.definition_inline.specs.Targets.{leads_to};
-ghost use Rattle.html_bytes.specs.InlineHtml.{InlineMeaning, count_at, inline_counts};
+ghost use Rattle.definition_page.specs.InlinePieces.{Meaning, count_at, inline_counts};
 ghost use Rattle.html_bytes.specs.Layout.{lay};
+ghost use Rattle.html_bytes.specs.Pieces.{in_bytes};
 ghost use Rattle.html_footnotes.specs.Output.{output_view};
 ghost use Rattle.inline_labels.specs.Table.{HasLabels};
 ghost use Rattle.inline_rows.specs.InlineRows as rows_of;
@@ -36,7 +37,7 @@ pub fn count_rows<A: Allocator + Clone, T: Tables>(
         HasLabels printing.now.footnotes.now footnotes →
         rows_view (place_target printing.now.definitions.now) rows.now ≡ rows_of.inline_rows (leads_to definition) is →
         OnOk result (output_view out.new
-        ≡ fold (lay printing.now.compile.now default) (output_view out.old) (inline_counts meaning (parts_in_cell printing.now.cell is))) }
+        ≡ fold (lay printing.now.compile.now default) (output_view out.old) (in_bytes (inline_counts meaning (parts_in_cell printing.now.cell is)))) }
 {
     for row in rows {
         count_row(out, &mut scratch.text, printing.footnotes, *row)?;
@@ -51,9 +52,9 @@ fn count_row<A: Allocator + Clone>(
     footnotes: &LabelTable<A>,
     row: InlineRow<'_>,
 ) -> Result<(), AllocError>
-    ensures { (meaning : InlineMeaning) (at : ℕ → inline.LinkTexts) (default : List ℕ) →
+    ensures { (meaning : Meaning) (at : ℕ → inline.LinkTexts) (default : List ℕ) →
         HasLabels footnotes.now meaning.footnotes →
-        OnOk result (output_view out.new ≡ fold (lay meaning.compile default) (output_view out.old) (rows_counts meaning (row_view at row.entry))) }
+        OnOk result (output_view out.new ≡ fold (lay meaning.compile default) (output_view out.old) (in_bytes (rows_counts meaning (row_view at row.entry)))) }
 {
     match row {
         InlineRow::Call(label) => count_call(out, text, footnotes, label),
@@ -76,7 +77,7 @@ fn count_call<A: Allocator + Clone>(
 ) -> Result<(), AllocError>
     ensures { (options : compile_options.CompileOptions) (default : List ℕ) (labels : List (List ℕ)) → HasLabels footnotes.now labels →
         let codes = content_codes label.now in
-        OnOk result (output_view out.new ≡ fold (lay options default) (output_view out.old) (count_at (first_match codes labels) (normal_label codes))) }
+        OnOk result (output_view out.new ≡ fold (lay options default) (output_view out.old) (in_bytes (count_at (first_match codes labels) (normal_label codes)))) }
 {
     normalize_label(text, label.as_bytes())?;
     let label = text.as_str();

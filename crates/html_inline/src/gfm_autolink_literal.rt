@@ -1,8 +1,8 @@
 //! Links with no brackets (GFM 6.9).
 ghost use Rattle.std.specs.Prelude.{◌≡◌, ◌++◌, OnOk, codes, string_bytes};
 ghost use Rattle.definition_text.specs.Encode.{encode};
-ghost use Rattle.definition_page.specs.InlinePieces.{literal_address};
-ghost use Rattle.html_bytes.specs.Meaning.{link_url};
+ghost use Rattle.definition_page.specs.InlinePieces.{literal_address, address_tag};
+ghost use Rattle.definition_page.specs.Tags.{start_tag, end_tag};
 ghost use Rattle.html_inline.specs.Prints.{Prints};
 ghost use Rattle.inline_leaves.specs.Leaves.{kind_view};
 
@@ -19,8 +19,7 @@ pub(crate) fn push_literal<A: Allocator>(
     kind: LiteralKind,
     text: &str,
 ) -> Result<(), AllocError>
-    ensures { Prints result out.old out.new (codes "<a href=\"" ++ link_url compile.now (literal_address (kind_view kind) text.now) ++ codes "\">"
-        ++ encode text.now ++ codes "</a>") }
+    ensures { Prints result out.old out.new (start_tag (address_tag compile.now (literal_address (kind_view kind) text.now)) ++ encode text.now ++ end_tag (codes "a")) }
 {
     read_literal_address(room, kind, text)?;
     push_linked_text(out, compile, room.as_str(), text)

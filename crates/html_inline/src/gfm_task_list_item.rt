@@ -1,6 +1,8 @@
 //! Check boxes of task list items (GFM 5.3).
-ghost use Rattle.std.specs.Prelude.{◌≡◌};
-ghost use Rattle.html_bytes.specs.InlineHtml.{check_attributes, check_html, checked_attribute, disabled_attribute};
+ghost use Rattle.std.specs.Prelude.{◌≡◌, ◌++◌};
+ghost use Rattle.std.specs.List.{flat_map};
+ghost use Rattle.definition_page.specs.GfmTaskListItem.{check_tag, checkable_attributes, done_attributes};
+ghost use Rattle.definition_page.specs.Tags.{attribute_bytes, void_tag};
 ghost use Rattle.html_inline.specs.Prints.{Prints};
 
 use markdown_options::CompileOptions;
@@ -12,7 +14,7 @@ pub fn push_check<A: Allocator>(
     compile: &CompileOptions,
     done: bool,
 ) -> Result<(), AllocError>
-    ensures { Prints result out.old out.new (check_html compile.now done) }
+    ensures { Prints result out.old out.new (void_tag (check_tag compile.now done)) }
 {
     out.push_str("<input type=\"checkbox\"")?;
     push_attributes(out, compile, done)?;
@@ -26,7 +28,8 @@ fn push_attributes<A: Allocator>(
     compile: &CompileOptions,
     done: bool,
 ) -> Result<(), AllocError>
-    ensures { Prints result out.old out.new (check_attributes compile.now done) }
+    ensures { Prints result out.old out.new (flat_map attribute_bytes (checkable_attributes compile.now.gfm_task_list_item_checkable)
+        ++ flat_map attribute_bytes (done_attributes done)) }
 {
     out.push_str(disabled_attribute(compile))?;
     out.push_str(checked_attribute(done))
@@ -34,7 +37,7 @@ fn push_attributes<A: Allocator>(
 
 /// What a check box has that can't be changed.
 fn disabled_attribute(compile: &CompileOptions) -> &'static str
-    ensures { result.now ≡ disabled_attribute compile.now }
+    ensures { result.now ≡ flat_map attribute_bytes (checkable_attributes compile.now.gfm_task_list_item_checkable) }
 {
     if compile.gfm_task_list_item_checkable {
         ""
@@ -45,7 +48,7 @@ fn disabled_attribute(compile: &CompileOptions) -> &'static str
 
 /// What the check box of an item has that is done.
 fn checked_attribute(done: bool) -> &'static str
-    ensures { result.now ≡ checked_attribute done }
+    ensures { result.now ≡ flat_map attribute_bytes (done_attributes done) }
 {
     if done { " checked=\"\"" } else { "" }
 }

@@ -4,8 +4,8 @@
 ghost use Rattle.std.specs.Prelude.{◌≡◌, ◌<◌, ◌≤◌, IfOk, drop, length, string_bytes};
 ghost use Rattle.definition_text.specs.Content.{content_codes};
 ghost use Rattle.definition_text.specs.Columns.{bare};
-ghost use Rattle.definition_page.specs.InlinePieces.{html_lines};
-ghost use Rattle.html_bytes.specs.InlineHtml.{html_text_bytes};
+ghost use Rattle.definition_page.specs.InlinePieces.{html_lines, html_says};
+ghost use Rattle.html_bytes.specs.InlineHtml.{say_bytes};
 ghost use Rattle.html_inline.specs.HtmlBytes.{first_bytes, PrintsEnding};
 ghost use Rattle.html_inline.specs.Prints.{Prints};
 
@@ -23,7 +23,7 @@ pub(crate) fn push_html_text<A: Allocator>(
     compile: &CompileOptions,
     html: &str,
 ) -> Result<(), AllocError>
-    ensures { Prints result out.old out.new (html_text_bytes compile.now (content_codes html.now)) }
+    ensures { Prints result out.old out.new (say_bytes (html_says compile.now (content_codes html.now))) }
 {
     let mut rest = push_line(out, compile, html)?;
     while !rest.is_empty() {

@@ -1,11 +1,13 @@
 //! The tags of links and images (CommonMark 6.3 and 6.4).
 ghost use Rattle.std.specs.Prelude.{◌≡◌, ℕ, List, OnOk, string_bytes};
+ghost use Rattle.std.specs.List.{flat_map};
 ghost use Rattle.definition_text.specs.Encode.{plain};
-ghost use Rattle.html_bytes.specs.InlineHtml.{link_tag, title_attribute, title_html};
+ghost use Rattle.definition_page.specs.InlinePieces.{link_tag, title_attributes};
+ghost use Rattle.definition_page.specs.Tags.{attribute_bytes, start_tag};
 ghost use Rattle.inline_links.specs.View.{link_texts_view};
 ghost use Rattle.inline_rows.specs.View.{target_texts};
 ghost use Rattle.html_inline.specs.Kept.{text_of};
-ghost use Rattle.html_inline.specs.Printed.{image_end, image_start};
+ghost use Rattle.html_inline.specs.Printed.{image_end, image_start, title_bytes};
 ghost use Rattle.html_inline.specs.Opens.{place_target};
 ghost use Rattle.html_inline.specs.Prints.{meaning_by, Definitions, Prints};
 
@@ -53,7 +55,7 @@ pub(crate) fn push_link_start<A: Allocator + Clone, T: Tables>(
 ) -> Result<(), AllocError>
     ensures { (definition : Definitions) (footnotes : List (List ℕ)) →
         let meaning = meaning_by (T.reference_of printing.now.tables.now) printing.now definition footnotes in
-        Prints result out.old out.new (link_tag meaning (link_texts_view linked.entry)) }
+        Prints result out.old out.new (start_tag (link_tag meaning (link_texts_view linked.entry))) }
 {
     read_url(text, printing, linked.destination)?;
     out.push_str("<a href=\"")?;
@@ -116,8 +118,8 @@ fn push_title<A: Allocator + Clone, T: Tables>(
     linked: LinkTexts<'_>,
 ) -> Result<(), AllocError>
     ensures { (definition : Definitions) (footnotes : List (List ℕ)) →
-        Prints result out.old out.new (title_attribute (meaning_by (T.reference_of printing.now.tables.now) printing.now definition footnotes)
-        (link_texts_view linked.entry).title) }
+        Prints result out.old out.new (title_bytes (meaning_by (T.reference_of printing.now.tables.now) printing.now definition footnotes)
+        (link_texts_view linked.entry)) }
 {
     match linked.title {
         None => Ok(()),
@@ -131,7 +133,7 @@ fn push_title<A: Allocator + Clone, T: Tables>(
 
 /// Prints the attribute of a title's text that isn't empty.
 fn push_titled<A: Allocator>(out: &mut String<A>, title: &str) -> Result<(), AllocError>
-    ensures { Prints result out.old out.new (title_html title.now) }
+    ensures { Prints result out.old out.new (flat_map attribute_bytes (title_attributes title.now)) }
 {
     if title.is_empty() {
         return Ok(());

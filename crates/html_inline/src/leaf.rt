@@ -1,10 +1,10 @@
 //! The constructs that hold no other.
 ghost use Rattle.std.specs.List.{flat_map};
-ghost use Rattle.html_bytes.specs.InlineHtml.{part_description, part_html};
+ghost use Rattle.html_bytes.specs.InlineHtml.{leaf_description, leaf_html};
 ghost use Rattle.inline_leaves.specs.Leaves.{parts_of};
-ghost use Rattle.std.specs.Prelude.{ℕ, List, map};
-ghost use Rattle.html_inline.specs.GfmTable.{inline_in_cell};
-ghost use Rattle.html_inline.specs.Prints.{meaning_by, Definitions, Prints};
+ghost use Rattle.std.specs.Prelude.{map};
+ghost use Rattle.html_inline.specs.GfmTable.{leaf_in};
+ghost use Rattle.html_inline.specs.Prints.{Prints};
 
 use crate::autolink::push_autolink;
 use crate::character_reference::push_number;
@@ -28,7 +28,7 @@ pub(crate) fn push_description<A: Allocator>(
     cell: bool,
     part: LeafPart<'_>,
 ) -> Result<(), AllocError>
-    ensures { Prints result out.old out.new (flat_map (part_description compile.now) (map (inline_in_cell cell) (parts_of part.entry))) }
+    ensures { Prints result out.old out.new (flat_map (leaf_description compile.now) (map (leaf_in cell) (parts_of part.entry))) }
 {
     match part {
         LeafPart::Escape(text) => push_encoded(out, text),
@@ -54,9 +54,7 @@ pub(crate) fn push_leaf<A: Allocator + Clone, T: Tables>(
     printing: &Printing<'_, A, T>,
     part: LeafPart<'_>,
 ) -> Result<(), AllocError>
-    ensures { (definition : Definitions) (footnotes : List (List ℕ)) →
-        Prints result out.old out.new (flat_map (part_html (meaning_by (T.reference_of printing.now.tables.now) printing.now definition footnotes))
-        (map (inline_in_cell printing.now.cell) (parts_of part.entry))) }
+    ensures { Prints result out.old out.new (flat_map (leaf_html printing.now.compile.now) (map (leaf_in printing.now.cell) (parts_of part.entry))) }
 {
     match part {
         LeafPart::Escape(text) => push_encoded(out, text),

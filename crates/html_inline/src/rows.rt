@@ -6,8 +6,9 @@ ghost use Rattle.std.specs.Prelude.{◌≡◌, ◌∷◌, [], ℕ, Bool, List, O
 ghost use Rattle.std.specs.List.{fold};
 ghost use Rattle.definition_inline.specs.Inline as inline;
 ghost use Rattle.definition_inline.specs.Targets.{leads_to};
-ghost use Rattle.html_bytes.specs.InlineHtml.{InlineMeaning, inline_pieces};
+ghost use Rattle.definition_page.specs.InlinePieces.{Meaning, inline_pieces};
 ghost use Rattle.html_bytes.specs.Layout.{lay};
+ghost use Rattle.html_bytes.specs.Pieces.{in_bytes};
 ghost use Rattle.html_footnotes.specs.Output.{output_view};
 ghost use Rattle.inline_labels.specs.Table.{HasLabels};
 ghost use Rattle.inline_rows.specs.InlineRows as rows_of;
@@ -17,9 +18,9 @@ ghost use Rattle.inline_links.specs.View.{link_texts_view};
 ghost use Rattle.inline_rows.specs.View.{data_rows, row_view, rows_view, target_texts};
 ghost use Rattle.inline_rows.specs.declared.row.InlineRow.{InlineRow};
 ghost use Rattle.inline_rows.specs.declared.row.InlineRow.TheVariants.{Exit};
-ghost use Rattle.html_inline.specs.GfmTable.{parts_in_cell, inline_in_cell, row_printed_in};
+ghost use Rattle.html_inline.specs.GfmTable.{parts_in_cell, leaf_in, row_printed_in};
 ghost use Rattle.html_inline.specs.Opens.{image_target, opened_view, place_target, printed_of};
-ghost use Rattle.html_inline.specs.Printed.{is_described, parts_html, with_row, span_end, span_start};
+ghost use Rattle.html_inline.specs.Printed.{is_described, leaves_bytes, with_row, span_end, span_start};
 ghost use Rattle.html_inline.specs.Prints.{meaning_by, Definitions, Prints};
 
 use crate::gfm_label_start_footnote::push_call;
@@ -49,7 +50,7 @@ pub fn push_rows<A: Allocator + Clone, T: Tables>(
         HasLabels printing.now.footnotes.now footnotes →
         rows_view (place_target printing.now.definitions.now) rows.now ≡ rows_of.inline_rows (leads_to definition) is →
         OnOk result (output_view out.new
-        ≡ fold (lay printing.now.compile.now default) (output_view out.old) (inline_pieces meaning (parts_in_cell printing.now.cell is))) }
+        ≡ fold (lay printing.now.compile.now default) (output_view out.old) (in_bytes (inline_pieces meaning (parts_in_cell printing.now.cell is)))) }
 {
     scratch.stack.clear();
     for (place, row) in rows.iter().enumerate() {
@@ -71,7 +72,7 @@ pub fn push_alone<A: Allocator + Clone, T: Tables>(
         HasLabels printing.now.footnotes.now footnotes →
         rows_view (place_target printing.now.definitions.now) (row.entry ∷ []) ≡ rows_of.inline_rows (leads_to definition) is →
         OnOk result (output_view out.new
-        ≡ fold (lay printing.now.compile.now default) (output_view out.old) (inline_pieces meaning (parts_in_cell printing.now.cell is))) }
+        ≡ fold (lay printing.now.compile.now default) (output_view out.old) (in_bytes (inline_pieces meaning (parts_in_cell printing.now.cell is)))) }
 {
     match row {
         InlineRow::Text(text) => push_plain(out, text),
@@ -88,10 +89,10 @@ pub fn push_alone<A: Allocator + Clone, T: Tables>(
 /// Prints a content that is text alone: where its bytes are the rows of some inline structure, what
 /// that prints, in a cell of a table or not.
 fn push_plain<A: Allocator + Clone>(out: &mut Output<A>, text: &str) -> Result<(), AllocError>
-    ensures { (meaning : InlineMeaning) (default : List ℕ) (cell : Bool) (is : inline.Inlines) →
+    ensures { (meaning : Meaning) (default : List ℕ) (cell : Bool) (is : inline.Inlines) →
         data_rows text.now ≡ rows_of.inline_rows (leads_to meaning.definition) is →
         OnOk result (output_view out.new
-        ≡ fold (lay meaning.compile default) (output_view out.old) (inline_pieces meaning (parts_in_cell cell is))) }
+        ≡ fold (lay meaning.compile default) (output_view out.old) (in_bytes (inline_pieces meaning (parts_in_cell cell is)))) }
 {
     push_encoded(&mut out.html, text)
 }
@@ -101,10 +102,10 @@ fn push_verbatim<A: Allocator + Clone>(
     out: &mut Output<A>,
     verbatim: VerbatimText<'_>,
 ) -> Result<(), AllocError>
-    ensures { (meaning : InlineMeaning) (default : List ℕ) (cell : Bool) (is : inline.Inlines) →
+    ensures { (meaning : Meaning) (default : List ℕ) (cell : Bool) (is : inline.Inlines) →
         data_rows verbatim.entry.text.now ≡ rows_of.inline_rows (leads_to meaning.definition) is →
         OnOk result (output_view out.new
-        ≡ fold (lay meaning.compile default) (output_view out.old) (inline_pieces meaning (parts_in_cell cell is))) }
+        ≡ fold (lay meaning.compile default) (output_view out.old) (in_bytes (inline_pieces meaning (parts_in_cell cell is)))) }
 {
     out.html.push_str(verbatim.text)
 }
@@ -150,8 +151,8 @@ fn push_part<A: Allocator + Clone, T: Tables>(
     ensures printed { (definition : Definitions) (footnotes : List (List ℕ)) (rows : List InlineRow) →
         let meaning = meaning_by (T.reference_of printing.now.tables.now) printing.now definition footnotes in
         let at = place_target printing.now.definitions.now in
-        Prints result out.old out.new (parts_html meaning (is_described (map (opened_view meaning at rows) (reverse scratch.old.stack.items)))
-        (map (inline_in_cell printing.now.cell) (parts_of part.entry))) }
+        Prints result out.old out.new (leaves_bytes printing.now.compile.now (is_described (map (opened_view meaning at rows) (reverse scratch.old.stack.items)))
+        (map (leaf_in printing.now.cell) (parts_of part.entry))) }
 {
     if is_described(scratch.stack.as_slice()) {
         push_description(
@@ -172,7 +173,7 @@ fn enter_span<A: Allocator + Clone>(
     scratch: &mut Scratch<A>,
     span: Span,
 ) -> Result<(), AllocError>
-    ensures { (meaning : InlineMeaning) (at : ℕ → inline.LinkTexts) (rows : List InlineRow) →
+    ensures { (meaning : Meaning) (at : ℕ → inline.LinkTexts) (rows : List InlineRow) →
         OnOk result (printed_of meaning at rows (output_view out.new) scratch.new.stack.items
         ≡ with_row meaning (printed_of meaning at rows (output_view out.old) scratch.old.stack.items) (rows_of.EnterSpan (span_view span))) }
 {
@@ -196,7 +197,7 @@ fn enter_link<A: Allocator + Clone, T: Tables>(
         let meaning = meaning_by (T.reference_of printing.now.tables.now) printing.now definition footnotes in
         let at = place_target printing.now.definitions.now in
         OnOk result (printed_of meaning at rows (output_view out.new) scratch.new.stack.items
-        ≡ with_row meaning (printed_of meaning at rows (output_view out.old) scratch.old.stack.items) (rows_of.EnterLink (target_texts at target.entry))) }
+        ≡ with_row meaning (printed_of meaning at rows (output_view out.old) scratch.old.stack.items) (rows_of.EnterLinked inline.Link (target_texts at target.entry))) }
 {
     if is_described(scratch.stack.as_slice()) {
         scratch.stack.push(OpenPart::Silent)?;
@@ -222,7 +223,7 @@ fn enter_image<A: Allocator + Clone, T: Tables>(
         image_target at (slice_index_or rows place Exit) ≡ target_texts at target.entry →
         OnOk result (printed_of meaning at rows (output_view out.new) scratch.new.stack.items
         ≡ with_row meaning (printed_of meaning at rows (output_view out.old) scratch.old.stack.items)
-        (rows_of.EnterImage (target_texts at target.entry))) }
+        (rows_of.EnterLinked inline.Image (target_texts at target.entry))) }
 {
     if is_described(scratch.stack.as_slice()) {
         scratch.stack.push(OpenPart::Silent)?;

@@ -1,7 +1,7 @@
 //! What is open where a row is printed.
 ghost use Rattle.std.specs.Prelude.{◌≡◌, ℕ, List, map, reverse};
 ghost use Rattle.definition_inline.specs.Inline as inline;
-ghost use Rattle.html_bytes.specs.InlineHtml.{InlineMeaning};
+ghost use Rattle.definition_page.specs.InlinePieces.{Meaning};
 ghost use Rattle.inline_rows.specs.declared.row.InlineRow.{InlineRow};
 ghost use Rattle.html_inline.specs.Opens.{is_silent, opened_view};
 ghost use Rattle.html_inline.specs.Printed.{is_described};
@@ -23,7 +23,7 @@ pub(crate) enum OpenPart {
 
 /// Whether only descriptions are printed.
 pub(crate) fn is_described(stack: &[OpenPart]) -> bool
-    ensures { (meaning : InlineMeaning) (at : ℕ → inline.LinkTexts) (rows : List InlineRow) →
+    ensures { (meaning : Meaning) (at : ℕ → inline.LinkTexts) (rows : List InlineRow) →
         result ≡ is_described (map (opened_view meaning at rows) (reverse stack.now)) }
 {
     match stack.last() {

@@ -1,5 +1,6 @@
 //! URLs of links and images (CommonMark 6.3 and 6.4).
-ghost use Rattle.html_bytes.specs.Meaning.{image_url, link_url};
+ghost use Rattle.definition_text.specs.Encode.{encode};
+ghost use Rattle.definition_page.specs.InlinePieces.{image_url, link_url};
 ghost use Rattle.html_inline.specs.Prints.{Prints};
 
 use html_escape::{push_sanitized, push_sanitized_with_protocols};
@@ -13,7 +14,7 @@ pub(crate) fn push_link_url<A: Allocator>(
     compile: &CompileOptions,
     url: &str,
 ) -> Result<(), AllocError>
-    ensures { Prints result out.old out.new (link_url compile.now url.now) }
+    ensures { Prints result out.old out.new (encode (link_url compile.now url.now)) }
 {
     if compile.allow_dangerous_protocol {
         push_sanitized(out, url)
@@ -28,7 +29,7 @@ pub(crate) fn push_image_url<A: Allocator>(
     compile: &CompileOptions,
     url: &str,
 ) -> Result<(), AllocError>
-    ensures { Prints result out.old out.new (image_url compile.now url.now) }
+    ensures { Prints result out.old out.new (encode (image_url compile.now url.now)) }
 {
     if compile.allow_any_img_src || compile.allow_dangerous_protocol {
         push_sanitized(out, url)

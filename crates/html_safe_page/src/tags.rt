@@ -14,7 +14,7 @@ use markdown_options::constants::{SAFE_PROTOCOL_HREF, SAFE_PROTOCOL_SRC};
 pub struct Row(&'static str, &'static [&'static str]);
 
 /// Tags that have an end tag.
-pub const START_ROWS: [Row; 34] = [
+pub const START_ROWS: [Row; 35] = [
     Row("blockquote", &[]),
     Row("pre", &[]),
     Row("p", &[]),
@@ -28,6 +28,7 @@ pub const START_ROWS: [Row; 34] = [
     Row("em", &[]),
     Row("strong", &[]),
     Row("del", &[]),
+    Row("mark", &[]),
     Row("table", &[]),
     Row("thead", &[]),
     Row("tbody", &[]),

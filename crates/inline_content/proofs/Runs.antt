@@ -12,6 +12,7 @@ use Rattle.markdown_options.specs.declared.beside.Kind.{Kind}
 use Rattle.definition_text.specs.Content.{is_eol, content_codes}
 use Rattle.definition_text.specs.InlineCode.{InlineCode, codes_of, first_kind, inline_code}
 use Rattle.definition_inline.specs.Attention.{is_marker, run_between, run_size, run_at}
+use Rattle.definition_inline.proofs.Markers.{of_marker}
 use Rattle.inline_links.specs.Codes.{IsRest}
 use Rattle.inline_content.specs.declared.mark.Mark.{Mark}
 use Rattle.inline_content.specs.Marks.{kind_at}
@@ -23,45 +24,26 @@ use Rattle.inline_content.proofs.Places.{codes_append, split_codes}
 
 -- a byte whose runs may form spans with some options
 abbrev pub may_mark : ℕ → Bool
-may_mark b = (eqb b 42 || eqb b 95) || eqb b 126
+may_mark b = (eqb b 42 || eqb b 95) || (eqb b 126 || eqb b 61)
 
-marker_is : (options : ParseOptions) (b : ℕ) → is_marker options b ≡ true → (b ≡ 42) ⊎ ((b ≡ 95) ⊎ (b ≡ 126))
-marker_is options b h = elim (or_cases (options.constructs.attention && (eqb b 42 || eqb b 95)) _ h) [
-  | inl p ↦ elim (or_cases (eqb b 42) (eqb b 95) (and_parts options.constructs.attention _ p).1) [
-    | inl s ↦ inl (eqb-true b 42 s)
-    | inr u ↦ inr (inl (eqb-true b 95 u))
-  ]
-  | inr p ↦ inr (inr (eqb-true b 126 (and_parts options.constructs.gfm_strikethrough _ p).1))
-]
+marker_may : (options : ParseOptions) (b : ℕ) → is_marker options b ≡ true → may_mark b ≡ true
+marker_may options = of_marker options (λ b. may_mark b ≡ true) (λ on. refl) (λ on. refl) (λ on. refl) (λ on. refl)
 
 -- it is no other byte
 pub marker_at : (options : ParseOptions) (b n : ℕ) → is_marker options b ≡ true → may_mark n ≡ false → b ≡ n → ⊥
-marker_at options b n h other e = elim (marker_is options b h) [
-  | inl s ↦ true≢false (sym (ap may_mark (sym e ∙ s)) ∙ other)
-  | inr p ↦ elim p [
-    | inl u ↦ true≢false (sym (ap may_mark (sym e ∙ u)) ∙ other)
-    | inr t ↦ true≢false (sym (ap may_mark (sym e ∙ t)) ∙ other)
-  ]
-]
+marker_at options b n h other e = true≢false (sym (marker_may options b h) ∙ ap may_mark e ∙ other)
 
 pub marker_ascii : (options : ParseOptions) (b : ℕ) → is_marker options b ≡ true → b < 128
-marker_ascii options b h = elim (marker_is options b h) [
-  | inl s ↦ omega (arith, s)
-  | inr p ↦ elim p [
-    | inl u ↦ omega (arith, u)
-    | inr t ↦ omega (arith, t)
-  ]
-]
+marker_ascii options = of_marker options (λ b. b < 128) (λ on. omega arith) (λ on. omega arith) (λ on. omega arith) (λ on. omega arith)
 
 pub no_marker : (options : ParseOptions) (c : ℕ) → may_mark c ≡ false → is_marker options c ≡ false
-no_marker options c h =
-    let p = or_parts (eqb c 42 || eqb c 95) (eqb c 126) h in
-    or_from _ _ (and_right options.constructs.attention _ p.0) (and_right options.constructs.gfm_strikethrough _ p.1)
+no_marker options c h = elim (cases_Bool (is_marker options c)) [
+  | inl is ↦ absurd (true≢false (sym (marker_may options c is) ∙ h))
+  | inr isnt ↦ isnt
+]
 
 within_line : (options : ParseOptions) (b : ℕ) → is_marker options b ≡ true → is_eol b ≡ false
-within_line options b h =
-    let apart : (n : ℕ) → may_mark n ≡ false → eqb b n ≡ false = λ n other. ne_eqb b n (marker_at options b n h other) in
-    or_from (eqb b 10 || eqb b 13) (eqb b 257) (or_from (eqb b 10) (eqb b 13) (apart 10 refl) (apart 13 refl)) (apart 257 refl)
+within_line options = of_marker options (λ b. is_eol b ≡ false) (λ on. refl) (λ on. refl) (λ on. refl) (λ on. refl)
 
 -- ---- no run
 

@@ -1,6 +1,6 @@
 //! The runs of a content, by what stands beside them (CommonMark 6.2 and GFM 6.5).
 //!
-//!     run ::= '*'+ | '_'+ | '~'+, as long as it gets
+//!     run ::= '*'+ | '_'+ | '~'+ | '='+, as long as it gets
 ghost use Rattle.std.specs.Prelude.{◌≡◌, ◌<◌, ℕ, List, IfSome, MatchOption, length, slice_index};
 ghost use Rattle.definition_inline.specs.Attention.{is_marker};
 ghost use Rattle.definition_text.specs.Content.{content_codes};
@@ -59,6 +59,7 @@ pub(crate) fn is_marker(options: &ParseOptions, byte: u8) -> bool
 {
     (options.constructs.attention && (byte == b'*' || byte == b'_'))
         || (options.constructs.gfm_strikethrough && byte == b'~')
+        || (options.constructs.mark && byte == b'=')
 }
 
 /// The kind of a character.

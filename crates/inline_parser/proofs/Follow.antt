@@ -226,7 +226,7 @@ module _ (options : ParseOptions) (names : List ℕ → Option (List ℕ)) (p : 
 
   -- bytes of text
   pub text_follows : (rest : List ℕ) (n : ℕ) (now final : scan.Reading) → IsPlace content.text.now rest → n ≤ length rest
-      → ((k : ℕ) → k < n → is_text_at (drop k (content_codes rest)) ≡ true) → ((k : ℕ) → k < n → get_or rest k 0 ≡ 13 → ⊥)
+      → ((k : ℕ) → k < n → is_text_at options.constructs.mark (drop k (content_codes rest)) ≡ true) → ((k : ℕ) → k < n → get_or rest k 0 ≡ 13 → ⊥)
       → (options.constructs.gfm_autolink_literal ≡ true → (k : ℕ) → k < n → may_begin (drop k rest) ≡ false) → IsAfter rest (drop n rest)
       → scan.scan (context_by options names ds) 0 now (view_at p content rest) ≡ final
       → scan.scan (context_by options names ds) 0 (read_tokens (text_items (take n rest)) now) (view_at p content (drop n rest)) ≡ final
@@ -235,7 +235,8 @@ module _ (options : ParseOptions) (names : List ℕ → Option (List ℕ)) (p : 
       let bytes : take n (codes_of (view_at p content rest)) ≡ take n rest = ap (take n) codes ∙ plain_take n rest le plain in
       moved rest (drop n rest) now (read_tokens (text_items (take n rest)) now) final n place (after_next rest (drop n rest) after)
       (sym (size_plain n rest (drop n rest) refl le plain)) same
-      (texts.text_steps (context_by options names ds) n now (view_at p content rest) (λ k lt. ap (λ cs. is_text_at (drop k cs)) codes ∙ text k lt)
+      (texts.text_steps (context_by options names ds) n now (view_at p content rest)
+      (λ k lt. ap (λ cs. is_text_at options.constructs.mark (drop k cs)) codes ∙ text k lt)
       (λ k lt. no_literal options.constructs rest (view_at p content rest) n k le lt plain codes bare)
       ∙ ap (λ bs. scan.scan (context_by options names ds) 0 (read_tokens (text_items bs) now) (drop n (view_at p content rest))) bytes)
 

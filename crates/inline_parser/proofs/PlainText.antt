@@ -28,7 +28,7 @@ use Rattle.inline_rows.specs.Container.{Parts}
 use Rattle.inline_rows.proofs.Container as container
 use Rattle.inline_rows.proofs.Runs.{all_told, none_told}
 use Rattle.inline_text.specs.declared.plain.Front.{Front}
-use Rattle.inline_text.specs.Fronts.{IsTextFront}
+use Rattle.inline_text.specs.Fronts.{IsTextOf}
 use Rattle.inline_parser.specs.Scanned.{IsPlace, context_by}
 use Rattle.inline_parser.proofs.Follow as follow
 use Rattle.inline_parser.proofs.Placed.{place_after}
@@ -128,7 +128,7 @@ module _ (options : ParseOptions) (names : List ℕ → Option (List ℕ)) (p : 
     no_bytes [] h = refl
     no_bytes (x ∷ xs) h = absurd (omega (arith, h))
 
-  module _ (rest : List ℕ) (front : Front) (is : IsTextFront options.constructs.gfm_autolink_literal rest front) (some : 0 < front.size)
+  module _ (rest : List ℕ) (front : Front) (is : IsTextOf options.constructs rest front) (some : 0 < front.size)
       (blank : is_blank (drop front.size rest) ≡ true) (bytes : (k : ℕ) → get_or rest k 0 < 256) where
     -- all that is read of a text with spaces and tabs at its end
     read : IsPlace content.text.now rest

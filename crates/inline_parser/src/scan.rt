@@ -31,7 +31,7 @@ ghost use Rattle.inline_parser.specs.Scanned.{GoesOnBy, HasNoLeaf, HasNoLeafHere
 ghost use Rattle.inline_addresses.specs.Addresses.{has_at_sign, row_text};
 ghost use Rattle.inline_parser.specs.Found.{found_rows, is_alone};
 ghost use Rattle.inline_text.specs.Verbatim.{AreVerbatim, TellsVerbatim};
-ghost use Rattle.inline_text.specs.Fronts.{IsTextFront};
+ghost use Rattle.inline_text.specs.Fronts.{IsTextOf};
 ghost use Rattle.inline_parser.specs.Shows.{with_open_label, start_view, IsSound, Shows, ShowsThen, StartsBefore};
 
 use crate::gfm_autolink_literal::rows_with_literals;
@@ -98,7 +98,7 @@ pub fn inline_rows<'a, 'd, 'r, T: Tables, A: Allocator + Clone>(
         ≡ inline_rows (leads_to (linked_by ds.definitions))
         (inlines_from (context_by options.now (T.reference_of tables.now) ds) (view_at (T.punctuation_of tables.now) content.entry start.now))) }
 {
-    let front = front_of(options.constructs.gfm_autolink_literal, start);
+    let front = front_of(&options.constructs, start);
     if let Some(row) = text_alone(options, start, front) {
         return Ok(FoundRows::Alone(row));
     }
@@ -126,7 +126,7 @@ fn span_rows<'a, 'd, T: Tables, A: Allocator + Clone>(
     front: Front,
 ) -> Result<(), AllocError>
     requires place { IsPlace content.text.now start.now }
-    requires front { IsTextFront options.now.constructs.gfm_autolink_literal start.now front }
+    requires front { IsTextOf options.now.constructs start.now front }
     ensures { (ds : Targets) → HasTargets labels.now footnotes.now ds →
         OnOk result (rows_view (linked_at ds.definitions) row_room.new.rows.items
         ≡ inline_rows (leads_to (linked_by ds.definitions))
@@ -165,7 +165,7 @@ pub fn content_start<'a>(content: Content<'a>) -> &'a str
 /// The row of what is left of a content with this text at its front, if it is text alone but for the
 /// spaces and tabs at its end: nothing starts in it, and no address may be in it (GFM 6.9).
 fn text_alone<'a>(options: &ParseOptions, start: &'a str, front: Front) -> Option<InlineRow<'a>>
-    requires { IsTextFront options.now.constructs.gfm_autolink_literal start.now front }
+    requires { IsTextOf options.now.constructs start.now front }
     ensures alone { is_some result
         ≡ (is_alone front start.now && not (options.now.constructs.gfm_autolink_literal && has_at_sign (Some (take front.size start.now)))) }
     ensures rows { (names : List ℕ → Option (List ℕ)) (is_punctuation : ℕ → Bool) (ds : Targets) (leads : Target → LinkTexts) (at : ℕ → LinkTexts)
@@ -181,7 +181,7 @@ fn text_alone<'a>(options: &ParseOptions, start: &'a str, front: Front) -> Optio
 
 /// The same while addresses are text.
 fn span_alone<'a>(options: &ParseOptions, start: &'a str, front: Front) -> Option<InlineRow<'a>>
-    requires { IsTextFront options.now.constructs.gfm_autolink_literal start.now front }
+    requires { IsTextOf options.now.constructs start.now front }
     ensures alone { is_some result ≡ is_alone front start.now }
     ensures text { IfSome result (λ row. row_text row ≡ Some (take front.size start.now)) }
     ensures rows { (names : List ℕ → Option (List ℕ)) (is_punctuation : ℕ → Bool) (ds : Targets) (leads : Target → LinkTexts) (at : ℕ → LinkTexts)
@@ -251,7 +251,7 @@ impl<'a, A: Allocator + Clone> Scanner<'a, A> {
         ensures shorter { Shortens self.old result self.new }
         ensures read { GoesOnBy T.Tables source.now self.old result self.new }
     {
-        let front = front_of(source.options.constructs.gfm_autolink_literal, self.rest);
+        let front = front_of(&source.options.constructs, self.rest);
         if front.size > 0 {
             return self.read_front(source, front);
         }
@@ -268,7 +268,7 @@ impl<'a, A: Allocator + Clone> Scanner<'a, A> {
         front: Front,
     ) -> Result<(), AllocError>
         requires placed { IsPlacedBy T.Tables source.now self.old }
-        requires front { IsTextFront source.now.options.now.constructs.gfm_autolink_literal self.old.rest.now front }
+        requires front { IsTextOf source.now.options.now.constructs self.old.rest.now front }
         ensures placed { OnOk result (IsPlacedBy T.Tables source.now self.new) }
         ensures shorter { 0 < front.size → Shortens self.old result self.new }
         ensures read { GoesOnBy T.Tables source.now self.old result self.new }

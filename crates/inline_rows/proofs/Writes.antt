@@ -10,12 +10,13 @@ use Rattle.definition_inline.specs.Inline as inline
 use Rattle.definition_inline.specs.Inline.{Target, LinkTexts}
 use Rattle.inline_rows.specs.InlineRows as rows
 use Rattle.definition_inline.specs.GfmStrikethrough.{is_tilde}
+use Rattle.definition_inline.specs.Mark.{is_equals}
 use Rattle.definition_inline.specs.Spans.{Holds, Opens, Closes, span_of}
 use Rattle.definition_inline.proofs.DefinitionParts.{cons_nil}
 use Rattle.inline_runs.specs.View.{bytes_by, pair_view, span_by, span_view}
 use Rattle.inline_runs.specs.Paired.{rows_of}
 use Rattle.inline_runs.specs.declared.pair.Pair.{Pair}
-use Rattle.inline_runs.specs.declared.pair.Span.TheVariants.{Emphasis, Strong, Strikethrough}
+use Rattle.inline_runs.specs.declared.pair.Span.TheVariants.{Emphasis, Strong, Strikethrough, Mark}
 use Rattle.inline_runs.specs.declared.spans.RunSpans.{RunSpans}
 use Rattle.inline_rows.specs.View.{row_view, rows_view, data_rows}
 use Rattle.inline_rows.specs.declared.row.InlineRow.{InlineRow}
@@ -96,13 +97,14 @@ parts_are old first between last closed text opened is_closed is_opened fits is_
 
 -- what a pair stands for, as the definition has it
 span_is : (marker : ℕ) (p : Pair) → span_view (span_by marker p.double) ≡ span_of marker (pair_view p)
-span_is marker p = by_case (is_tilde marker) p.double
+span_is marker p = by_case (is_tilde marker) (is_equals marker) p.double
   where
-    by_case : (tilde double : Bool)
-        → span_view (cond tilde Strikethrough (cond double Strong Emphasis)) ≡ cond tilde inline.Strikethrough (cond (bytes_by double == 2) inline.Strong inline.Emphasis)
-    by_case true double = refl
-    by_case false true = refl
-    by_case false false = refl
+    by_case : (tilde equals double : Bool) → span_view (cond tilde Strikethrough (cond equals Mark (cond double Strong Emphasis)))
+        ≡ cond tilde inline.Strikethrough (cond equals inline.Mark (cond (bytes_by double == 2) inline.Strong inline.Emphasis))
+    by_case true equals double = refl
+    by_case false true double = refl
+    by_case false false true = refl
+    by_case false false false = refl
 
 module _ (leads : Target → LinkTexts) (at : ℕ → LinkTexts) where
   ends_view : (closed : List Pair) → rows_view at (replicate (length closed) Exit) ≡ told_rows leads (map (λ (p : Pair). Closes) closed)

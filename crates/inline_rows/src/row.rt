@@ -32,7 +32,7 @@ pub enum InlineRow<'a> {
     Verbatim(VerbatimText<'a>),
     /// A construct that holds no other.
     Leaf(LeafPart<'a>),
-    /// The start of emphasis, strong emphasis or strikethrough (CommonMark 6.2 and GFM 6.5).
+    /// The start of a span (CommonMark 6.2).
     EnterSpan(Span),
     /// The start of a link (CommonMark 6.3).
     EnterLink(LinkTarget<'a>),

@@ -1,18 +1,16 @@
 -- What an opener has to know of a closer.
-use Rattle.std.proofs.Common.{◌≡◌, ℕ, ◌+◌, ◌-◌, ◌%◌, ◌<◌, ◌≤◌, List, Bool, true, false, not, ◌&&◌, ◌||◌, map, refl, sym, ap, ◌∙◌, length, get_or, arith}
+use Rattle.std.proofs.Common.{◌≡◌, ℕ, ◌+◌, ◌-◌, ◌%◌, ◌<◌, ◌≤◌, List, Bool, true, false, cond, not, ◌&&◌, ◌||◌, map, refl, sym, ap, ◌∙◌, length, get_or, arith}
 use Rattle.std.proofs.Common.{subst}
 use Rattle.std.specs.Prelude.{◌==◌, nat_le}
-use Rattle.std.proofs.lemmas.Grind.{common_steps}
-use Rattle.std.proofs.lemmas.Bool.{and_left, and_right, and_from}
+use Rattle.std.proofs.lemmas.Bool.{and_left, and_right, and_from, eqb-true}
 use Rattle.std.proofs.lemmas.List.{get_or-map, length-map}
-use Rattle.definition_inline.specs.Attention.{Run as RunOf}
-use Rattle.definition_inline.specs.GfmStrikethrough.{are_fitting}
+use Rattle.definition_inline.specs.Attention.{Run as RunOf, is_whole, are_fitting}
 use Rattle.definition_inline.specs.Pairing.{OpenRun as PlacedOf, is_eligible, up_to_nearest, is_ruled_out_by_three}
 use Rattle.definition_inline.proofs.NearestOpener.{up_to_nearest_is}
 use Rattle.inline_runs.specs.View.{run_view}
 use Rattle.inline_runs.specs.declared.openers.Opener.{Opener}
 use Rattle.inline_runs.specs.declared.openers.Want.{Want}
-use Rattle.inline_runs.specs.Floors.{opener_view, tilde_count, want_of, can_close, fits, FitsAt, is_ruled_out}
+use Rattle.inline_runs.specs.Floors.{opener_view, whole_size, want_of, can_close, fits, FitsAt, is_ruled_out}
 
 rest_of_sum : (a b : ℕ) → (a + b) % 3 ≡ (a + b % 3) % 3
 rest_of_sum a b = omega arith
@@ -28,10 +26,20 @@ in_other_order true false false d = refl
 in_other_order false b true d = refl
 in_other_order false b false d = refl
 
--- tildes are counted of tildes alone
+under : (a b c : Bool) → (a ≡ true → b ≡ c) → (a && b) ≡ (a && c)
+under true b c h = h refl
+under false b c h = refl
+
+-- a size is kept of runs of which it matters
 fitting_is : (o c : RunOf) → ((o.marker == c.marker) && are_fitting o.marker o.left c.left)
-    ≡ ((o.marker == c.marker) && are_fitting o.marker o.left (tilde_count c))
-fitting_is o c = grind (arith, common_steps)
+    ≡ ((o.marker == c.marker) && are_fitting o.marker o.left (whole_size c))
+fitting_is o c =
+    under (o.marker == c.marker) (are_fitting o.marker o.left c.left) (are_fitting o.marker o.left (whole_size c))
+    (λ same. subst (λ m. are_fitting m o.left c.left ≡ are_fitting m o.left (whole_size c)) (sym (eqb-true o.marker c.marker same)) (by_case (is_whole c.marker)))
+  where
+    by_case : (whole : Bool) → (not whole || (o.left == c.left)) ≡ (not whole || (o.left == cond whole c.left 0))
+    by_case true = refl
+    by_case false = refl
 
 pub eligible_is : (o : Opener) (c : PlacedOf) → is_eligible (opener_view o) c ≡ (can_close c.run && fits (run_view o.placed.run) (want_of c.run))
 eligible_is o c =
@@ -40,7 +48,7 @@ eligible_is o c =
     ap (λ b. same && ((r.may_open && nat_le 1 r.left) && ((c.run.may_close && nat_le 1 c.run.left) && not b))) (ruled_out r c.run)
     ∙ ap (λ b. b && ((r.may_open && nat_le 1 r.left) && ((c.run.may_close && nat_le 1 c.run.left) && not (is_ruled_out r (want_of c.run)))))
     (fitting_is r c.run)
-    ∙ in_other_order ((r.marker == c.run.marker) && are_fitting r.marker r.left (tilde_count c.run)) (r.may_open && nat_le 1 r.left) (can_close c.run)
+    ∙ in_other_order ((r.marker == c.run.marker) && are_fitting r.marker r.left (whole_size c.run)) (r.may_open && nat_le 1 r.left) (can_close c.run)
     (not (is_ruled_out r (want_of c.run)))
 
 any_opener : PlacedOf → Opener

@@ -1,7 +1,6 @@
 -- Openers as the definition has them, and below which of them no search has to look.
 use Rattle.std.specs.Prelude.{◌≡◌, ◌<◌, ◌≤◌, ◌+◌, ◌%◌, ℕ, Bool, false, not, if◌then◌else◌, ◌==◌, ◌&&◌, ◌||◌, nat_le, List, map, length, slice_index_or, All}
-use Rattle.definition_inline.specs.Attention.{Run as RunOf}
-use Rattle.definition_inline.specs.GfmStrikethrough.{is_tilde, are_fitting}
+use Rattle.definition_inline.specs.Attention.{Run as RunOf, is_whole, are_fitting}
 use Rattle.definition_inline.specs.Pairing.{OpenRun as PlacedOf, open_run}
 use Rattle.inline_runs.specs.View.{run_view}
 use Rattle.inline_runs.specs.declared.openers.PlacedRun.{PlacedRun}
@@ -19,13 +18,13 @@ opener_view o = placed_view o.placed
 abbrev pub openers_view : {A : Type 0} → Openers A → List PlacedOf
 openers_view o = map opener_view o.openers.items
 
--- the size of a run of tildes, which goes with as many, and otherwise 0
-abbrev pub tilde_count : RunOf → ℕ
-tilde_count c = if is_tilde c.marker then c.left else 0
+-- the size of a run that goes with as many alone, and otherwise 0
+abbrev pub whole_size : RunOf → ℕ
+whole_size c = if is_whole c.marker then c.left else 0
 
 -- what matters of a closer
 abbrev pub want_of : RunOf → Want
-want_of c = record { marker = c.marker; may_open = c.may_open; rest = c.left % 3; tildes = tilde_count c }
+want_of c = record { marker = c.marker; may_open = c.may_open; rest = c.left % 3; whole = whole_size c }
 
 -- whether a run may close a span, and has a byte left
 abbrev pub can_close : RunOf → Bool
@@ -37,7 +36,7 @@ is_ruled_out o w = (o.may_close || w.may_open) && (not (w.rest == 0) && ((o.left
 
 -- whether an opener may pair with such a closer
 abbrev pub fits : RunOf → Want → Bool
-fits o w = ((o.marker == w.marker) && are_fitting o.marker o.left w.tildes) && ((o.may_open && nat_le 1 o.left) && not (is_ruled_out o w))
+fits o w = ((o.marker == w.marker) && are_fitting o.marker o.left w.whole) && ((o.may_open && nat_le 1 o.left) && not (is_ruled_out o w))
 
 -- whether the opener at a place may pair with such a closer
 abbrev pub FitsAt : List Opener → ℕ → Want → Bool → Type 0

@@ -1,7 +1,8 @@
-//! Runs of `*`, `_` and `~`: which of them go together, and what each becomes.
+//! Runs of `*`, `_`, `~` and `=`: which of them go together, and what each becomes.
 #![tactic(auto)]
 
 mod gfm_strikethrough;
+mod mark;
 mod openers;
 mod pair;
 mod pairing;

@@ -5,11 +5,10 @@
 ghost use Rattle.std.specs.Prelude.{◌≡◌, ◌++◌, ◌-◌, ◌<◌, ◌≤◌, ℕ, true, false, length, take, slice_index_or, OnOk, IfOk, []};
 ghost use Rattle.definition_inline.specs.Pairing.{OpenRun as PlacedOf, up_to_nearest, openers_of, without};
 ghost use Rattle.inline_runs.specs.View.{run_view, bytes_by};
-ghost use Rattle.inline_runs.specs.Floors.{placed_view, tilde_count, want_of, can_close, fits, FitsAt, IsFloor};
+ghost use Rattle.inline_runs.specs.Floors.{placed_view, whole_size, want_of, can_close, fits, FitsAt, IsFloor};
 
-use crate::gfm_strikethrough::{are_fitting, is_tilde};
 use crate::pair::bytes_by;
-use crate::run::Run;
+use crate::run::{Run, are_fitting, is_whole};
 use std::alloc::{AllocError, Allocator};
 
 /// A run with its place among the runs of its container.
@@ -50,8 +49,8 @@ pub(crate) struct Want {
     may_open: bool,
     /// What is left of the size where it is divided by three.
     rest: usize,
-    /// The size of a run of tildes, and otherwise 0.
-    tildes: usize,
+    /// The size of a run that goes with as many alone, and otherwise 0.
+    whole: usize,
 }
 
 /// The place of a run: no opener that is as it is since an earlier run fits.
@@ -69,15 +68,15 @@ fn want_of(closer: &Run) -> Want
         marker: closer.marker,
         may_open: closer.may_open,
         rest: closer.size % 3,
-        tildes: tilde_count(closer),
+        whole: whole_size(closer),
     }
 }
 
-/// The size of a run of tildes, which goes with as many.
-fn tilde_count(closer: &Run) -> usize
-    ensures { result ≡ tilde_count (run_view closer.now) }
+/// The size of a run that goes with as many alone (GFM 6.5), and otherwise 0.
+fn whole_size(closer: &Run) -> usize
+    ensures { result ≡ whole_size (run_view closer.now) }
 {
-    if is_tilde(closer.marker) {
+    if is_whole(closer.marker) {
         closer.size
     } else {
         0
@@ -97,19 +96,19 @@ fn is_same(want: &Want, other: &Want) -> bool
     want.marker == other.marker
         && want.may_open == other.may_open
         && want.rest == other.rest
-        && want.tildes == other.tildes
+        && want.whole == other.whole
 }
 
 /// Whether an opener may pair with such a closer (CommonMark 6.2): of one byte, something left of it,
 /// and where one of the two may both open and close, what is left of them makes a multiple of three
-/// together only if it does so of each alone. Tildes go with as many (GFM 6.5).
+/// together only if it does so of each alone. Of some bytes both have one size.
 fn fits(opener: &Run, want: &Want) -> bool
     ensures { result ≡ fits (run_view opener.now) want.now }
 {
     if opener.marker != want.marker || !opener.may_open || opener.size == 0 {
         return false;
     }
-    if !are_fitting(opener.marker, opener.size, want.tildes) {
+    if !are_fitting(opener.marker, opener.size, want.whole) {
         return false;
     }
     let both = opener.may_close || want.may_open;

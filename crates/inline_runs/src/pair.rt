@@ -4,6 +4,7 @@ ghost use Rattle.definition_inline.specs.Pairing.{bytes_of_pair};
 ghost use Rattle.inline_runs.specs.View.{run_view, bytes_by, span_by};
 
 use crate::gfm_strikethrough::is_tilde;
+use crate::mark::is_equals;
 use crate::run::Run;
 
 /// What a pair of runs stands for (CommonMark 6.2 and GFM 6.5).
@@ -15,6 +16,8 @@ pub enum Span {
     Strong,
     /// Strikethrough, of one or two `~`.
     Strikethrough,
+    /// Marked text, of two `=`.
+    Mark,
 }
 
 /// Two runs that go together, by their places among the runs of their container.
@@ -38,6 +41,8 @@ impl Pair {
     {
         if is_tilde(marker) {
             Span::Strikethrough
+        } else if is_equals(marker) {
+            Span::Mark
         } else if self.double {
             Span::Strong
         } else {

@@ -2,6 +2,7 @@
 #![tactic(auto)]
 
 mod letters;
+mod mark;
 pub mod plain;
 
 pub use plain::{Front, front_of};

@@ -2,23 +2,25 @@
 //!
 //!     text ::= (byte at which nothing starts | (space | tab)+ before something else on its line)*
 //!
-//! Where literals are on (GFM 6.9), text ends also before `ww` and `ht`, in either case.
+//! Where literals are on (GFM 6.9), text ends also before `ww` and `ht`, in either case; where marked
+//! text is on, before `=`.
 ghost use Rattle.std.specs.Prelude.{◌≡◌, ◌<◌, ◌≤◌, ◌-◌, ℕ, true, false, length, slice_index};
 ghost use Rattle.definition_text.specs.Columns.{is_white};
 ghost use Rattle.definition_text.specs.Content.{is_eol};
-ghost use Rattle.inline_text.specs.declared.plain.TheConstants.{STOPS};
 ghost use Rattle.inline_text.specs.Letters.{IsStop};
 ghost use Rattle.inline_text.specs.Plain.{is_replaced, IsStart};
-ghost use Rattle.inline_text.specs.Fronts.{IsTextFront};
+ghost use Rattle.inline_text.specs.Fronts.{IsTextFront, IsTextOf};
 ghost use Rattle.inline_text.specs.Verbatim.{TellsVerbatim};
 ghost use Rattle.std.specs.Str.{IsUtf8};
 
 use crate::letters::next_of_or_letters;
+use crate::mark::next_of_or_equals;
 use inline_links::part::from;
+use markdown_options::Constructs;
 use text_bytes::is_space_or_tab;
 use text_search::{ByteSet, next_of};
 
-/// The bytes that are no space or tab at which a construct may start (CommonMark 6).
+/// The bytes that are no space or tab at which a construct may start (CommonMark 6); but for `=`.
 const STARTS: ByteSet = ByteSet {
     first: [
         b'`', b'!', 3, 4, b'$', 6, b'&', 8, 9, 10, b'*', b'[', b'\\', b']', b'~', b'_',
@@ -46,14 +48,17 @@ pub struct Front {
 }
 
 /// The text at the front of a content.
-pub fn front_of(has_literals: bool, rest: &str) -> Front
-    ensures front { IsTextFront has_literals rest.now result }
+pub fn front_of(on: &Constructs, rest: &str) -> Front
+    ensures front { IsTextOf on.now rest.now result }
     ensures utf8 { IsUtf8 rest.now }
 {
-    if has_literals {
+    if on.mark {
+        return front_with_marks(on.gfm_autolink_literal, rest.as_bytes());
+    }
+    if on.gfm_autolink_literal {
         front_with_literals(rest.as_bytes())
     } else {
-        text_front(false, rest.as_bytes())
+        text_front(false, false, rest.as_bytes())
     }
 }
 
@@ -61,18 +66,26 @@ pub fn front_of(has_literals: bool, rest: &str) -> Front
 /// less to save.
 #[inline(never)]
 fn front_with_literals(bytes: &[u8]) -> Front
-    ensures { IsTextFront true bytes.now result }
+    ensures { IsTextFront true false bytes.now result }
 {
-    text_front(true, bytes)
+    text_front(true, false, bytes)
+}
+
+/// The same where marked text is on.
+#[inline(never)]
+fn front_with_marks(has_literals: bool, bytes: &[u8]) -> Front
+    ensures { IsTextFront has_literals true bytes.now result }
+{
+    text_front(has_literals, true, bytes)
 }
 
 /// The text at the front: a construct starts at none of its bytes, and the byte after them is one at
 /// which a construct may start (CommonMark 6 and 6.9).
 #[inline(always)]
-fn text_front(has_literals: bool, bytes: &[u8]) -> Front
-    ensures { IsTextFront has_literals bytes.now result }
+fn text_front(has_literals: bool, has_marks: bool, bytes: &[u8]) -> Front
+    ensures { IsTextFront has_literals has_marks bytes.now result }
 {
-    let stop = next_start(has_literals, bytes);
+    let stop = next_start(has_literals, has_marks, bytes);
     if stop.size < bytes.len() && !is_ending(bytes[stop.size]) {
         return stop;
     }
@@ -82,17 +95,18 @@ fn text_front(has_literals: bool, bytes: &[u8]) -> Front
     }
 }
 
-/// What comes before the first byte at which a construct may start, a literal among them where they
-/// are on. A byte that is printed as something else is looked for until there is one.
+/// What comes before the first byte at which a construct may start, a literal and marked text among
+/// them where they are on. A byte that is printed as something else is looked for until there is
+/// one.
 #[inline(always)]
-fn next_start(has_literals: bool, bytes: &[u8]) -> Front
-    ensures start { IsStart has_literals bytes.now result.size }
+fn next_start(has_literals: bool, has_marks: bool, bytes: &[u8]) -> Front
+    ensures start { IsStart has_literals has_marks bytes.now result.size }
     ensures verbatim { TellsVerbatim bytes.now result }
 {
-    let stop = first_stop(has_literals, bytes);
+    let stop = first_stop(has_literals, has_marks, bytes, STOPS);
     if stop < bytes.len() && is_replaced(bytes[stop]) {
         return Front {
-            size: stop + first_start(has_literals, from(bytes, stop)),
+            size: stop + first_start(has_literals, has_marks, from(bytes, stop)),
             is_verbatim: false,
         };
     }
@@ -102,28 +116,28 @@ fn next_start(has_literals: bool, bytes: &[u8]) -> Front
     }
 }
 
-/// The first byte at which something may start, or that is printed as something else.
+/// The first byte that a set holds, or at which a literal or marked text may start, where they are
+/// on.
 #[inline(always)]
-fn first_stop(has_literals: bool, bytes: &[u8]) -> usize
-    ensures { IsStop has_literals STOPS bytes.now result }
+fn first_stop(has_literals: bool, has_marks: bool, bytes: &[u8], set: ByteSet) -> usize
+    ensures { IsStop has_literals has_marks set bytes.now result }
 {
+    if has_marks {
+        return next_of_or_equals(has_literals, bytes, set);
+    }
     if has_literals {
-        next_of_or_letters(bytes, STOPS)
+        next_of_or_letters(bytes, set)
     } else {
-        next_of(bytes, STOPS)
+        next_of(bytes, set)
     }
 }
 
 /// The first byte at which something may start.
 #[inline(always)]
-fn first_start(has_literals: bool, bytes: &[u8]) -> usize
-    ensures { IsStart has_literals bytes.now result }
+fn first_start(has_literals: bool, has_marks: bool, bytes: &[u8]) -> usize
+    ensures { IsStart has_literals has_marks bytes.now result }
 {
-    if has_literals {
-        next_of_or_letters(bytes, STARTS)
-    } else {
-        next_of(bytes, STARTS)
-    }
+    first_stop(has_literals, has_marks, bytes, STARTS)
 }
 
 /// Whether nothing starts at a byte and it is printed as something else.

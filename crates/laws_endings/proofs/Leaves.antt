@@ -15,7 +15,7 @@ use Rattle.definition_text.specs.Columns.{is_white, indent, bare}
 use Rattle.definition_text.specs.Bytes.{begins_with, begins_with_letter, is_letter, after_all}
 use Rattle.definition_text.specs.Content.{line_ending_code, is_eol, Part, part, text_before, up_to}
 use Rattle.definition_text.specs.Runs.{run, after_run}
-use Rattle.definition_inline.specs.Inline.{Data, Escape, Code, Math, Autolink, Html, EscapedBreak, TrailingBreak, LineEnd, Found, leaf, or_else}
+use Rattle.definition_inline.specs.Inline.{InlineLeaf, Data, Escape, Code, Math, Autolink, Html, TrailingBreak, Found, leaf, or_else}
 use Rattle.definition_inline.specs.CharacterEscape.{escape_at}
 use Rattle.definition_inline.specs.CharacterReference.{CharacterReference, character_reference, before_semicolon, part_to_semicolon, reference_by_number}
 use Rattle.definition_inline.specs.CharacterReference.{reference_by_name, number_reference, reference_after, reference_form, reference_text, reference_leaf}
@@ -51,6 +51,13 @@ module _ (e : LineEnding) where
   pub or_else-with : (one other : Option Found) → or_else (if_found one) (if_found other) ≡ if_found (or_else one other)
   or_else-with None other = refl
   or_else-with (Some l) other = refl
+
+  -- one leaf, where a test passes
+  one-with : {test' test : Bool} {part' : InlineLeaf} (part : InlineLeaf) {size' size : ℕ} → test' ≡ test → part' ≡ leaf_with e part → size' ≡ size
+      → cond test' (Some (leaf (part' ∷ []) size')) None ≡ if_found (cond test (Some (leaf (part ∷ []) size)) None)
+  one-with {test = test} {part' = part'} part {size' = size'} p q r =
+      ap (λ passes. cond passes (Some (leaf (part' ∷ []) size')) None) p
+      ∙ cond-under if_found test (ap (λ it. Some (leaf (it ∷ []) size')) q ∙ ap (λ n. Some (leaf (leaf_with e part ∷ []) n)) r) refl
 
   -- ---- codes that pass a test that LF doesn't pass
 
@@ -118,18 +125,13 @@ module _ (e : LineEnding) where
   escaped_break_at-with : (on : Constructs) (cs : List ℕ) → escaped_break_at on (codes_with e cs) ≡ if_found (escaped_break_at on cs)
   escaped_break_at-with on [] = refl
   escaped_break_at-with on (c ∷ cs) =
-      let found : Option Found = Some (leaf (EscapedBreak ∷ []) 1) in
-      same_code e (λ x. cond (on.hard_break_escape && (eqb x 92 && ends_inner_line (codes_with e cs))) found None) c refl refl
-      ∙ ap (λ ends. cond (on.hard_break_escape && (eqb c 92 && ends)) found None) (ends_inner_line-with cs)
-      ∙ cond-under if_found (on.hard_break_escape && (eqb c 92 && ends_inner_line cs)) refl refl
+      let test : ℕ → Bool → Bool = λ code ends. on.hard_break_escape && (eqb code 92 && ends) in
+      one-with _ (same_code e (λ x. test x (ends_inner_line (codes_with e cs))) c refl refl ∙ ap (test c) (ends_inner_line-with cs)) refl refl
 
   pub line_end_at-with : (cs : List ℕ) → line_end_at (codes_with e cs) ≡ if_found (line_end_at cs)
   line_end_at-with [] = refl
   line_end_at-with (c ∷ cs) =
-      let found : ℕ → Option Found = λ n. Some (leaf (LineEnd (code_with e c) ∷ []) (1 + n)) in
-      same_code e (λ x. cond (is_eol x) (found (indent (codes_with e cs))) None) c refl refl
-      ∙ ap (λ n. cond (is_eol c) (found n) None) (prefix_len-with e is_white refl refl cs)
-      ∙ cond-under if_found (is_eol c) refl refl
+      one-with _ (same_code e is_eol c refl refl) refl (ap (λ n. 1 + n) (prefix_len-with e is_white refl refl cs))
 
   pub bare-with : (cs : List ℕ) → bare (codes_with e cs) ≡ codes_with e (bare cs)
   bare-with cs = after_all-with e is_white refl refl cs
@@ -363,12 +365,9 @@ module _ (e : LineEnding) where
       → closed_autolink is_email (codes_with e cs) (if_codes end) ≡ if_found (closed_autolink is_email cs end)
   closed_autolink-with is_email cs None = refl
   closed_autolink-with is_email cs (Some rest) =
-      let text = text_before cs rest in
-      let found : List ℕ → ℕ → Option Found = λ inner n. Some (leaf (Autolink is_email inner ∷ []) (n + 2)) in
-      ap (λ closes. let inner = text_before (codes_with e cs) (codes_with e rest) in cond closes (found inner (length inner)) None)
-      (begins-byte 62 refl refl rest)
-      ∙ cond-under if_found (begins_with (codes ">") rest)
-      (ap (λ inner. found inner (length inner)) (before-with e cs rest) ∙ ap (found (codes_with e text)) (length-map text (code_with e))) refl
+      let same = before-with e cs rest in
+      one-with _ (begins-byte 62 refl refl rest) (ap (Autolink is_email) same)
+      (ap (λ inner. length inner + 2) same ∙ ap (λ n. n + 2) (length-map (text_before cs rest) (code_with e)))
 
   autolink_after-with : (cs : List ℕ) → autolink_after (codes_with e cs) ≡ if_found (autolink_after cs)
   autolink_after-with cs =

@@ -13,7 +13,6 @@ use Rattle.definition_text.specs.Columns.{is_white}
 use Rattle.definition_text.specs.Content.{is_eol}
 use Rattle.definition_text.specs.InlineCode.{InlineCode, inline_code, codes_of, first_character, is_continuation, character_kind, first_kind, next_kind}
 use Rattle.definition_text.specs.InlineCode.{with_kinds}
-use Rattle.definition_inline.specs.GfmStrikethrough.{is_tilde}
 use Rattle.definition_inline.specs.Attention.{Run, is_marker, run_between, run_size, run_at}
 use Rattle.definition_inline.specs.Inline.{or_else}
 use Rattle.definition_inline.specs.GfmAutolinkLiteral.{linked_literals}
@@ -22,6 +21,7 @@ use Rattle.definition_inline.specs.Scan.{inlines, inlines_from, without_indent}
 use Rattle.definition_inline.specs.Spans.{with_spans}
 use Rattle.laws_endings.specs.Endings.{code_with, codes_with}
 use Rattle.laws_endings.specs.Inlines.{inline_code_with, content_with}
+use Rattle.definition_inline.proofs.Markers.{of_marker}
 use Rattle.laws_endings.proofs.Codes.{same_code}
 use Rattle.laws_endings.proofs.Leaves.{same_byte}
 use Rattle.laws_endings.specs.Kinds.{may_mark, counts_after, goes_on, IsAlike, AreAlike, KindsLaw}
@@ -64,14 +64,7 @@ last_passes test c [] d h = h
 last_passes test c (x ∷ xs) d h = last_by test c x xs d (prefix_len test xs) h (test x) refl (λ passes. last_passes test x xs d passes)
 
 pub marker_marks : (options : ParseOptions) (code : ℕ) → is_marker options code ≡ true → may_mark code ≡ true
-marker_marks options code h =
-    ⊎_elim
-    (λ l. ⊎_elim (λ star. or_left (eqb code 42) (eqb code 95 || eqb code 126) star)
-    (λ line. or_right (eqb code 42) (eqb code 95 || eqb code 126) (or_left (eqb code 95) (eqb code 126) line))
-    (or_cases (eqb code 42) (eqb code 95) (and_parts options.constructs.attention (eqb code 42 || eqb code 95) l).1))
-    (λ r. or_right (eqb code 42) (eqb code 95 || eqb code 126)
-    (or_right (eqb code 95) (eqb code 126) (and_parts options.constructs.gfm_strikethrough (is_tilde code) r).1))
-    (or_cases (options.constructs.attention && (eqb code 42 || eqb code 95)) (options.constructs.gfm_strikethrough && is_tilde code) h)
+marker_marks options = of_marker options (λ code. may_mark code ≡ true) (λ on. refl) (λ on. refl) (λ on. refl) (λ on. refl)
 
 module _ (options : ParseOptions) where
   -- the run of a marker

@@ -1,12 +1,12 @@
 -- Which kinds of characters the inline structure of a content asks for (CommonMark 6.2 and GFM 6.9).
 use Rattle.std.specs.Prelude.{◌≡◌, ℕ, Bool, true, false, ◌==◌, ◌||◌, ◌⊎◌, List, [], ◌∷◌}
-use Rattle.definition_text.specs.Ascii.{asterisk, dot, slash, underscore, tilde}
+use Rattle.definition_text.specs.Ascii.{asterisk, dot, equals, slash, underscore, tilde}
 use Rattle.definition_text.specs.InlineCode.{InlineCode, is_continuation}
 use Rattle.definition_inline.specs.Scan.{InlineContext, inlines}
 
--- a byte whose runs may form spans: `*`, `_` or `~`
+-- a byte whose runs may form spans: `*`, `_`, `~` or `=`
 abbrev pub may_mark : ℕ → Bool
-may_mark c = (c == asterisk) || ((c == underscore) || (c == tilde))
+may_mark c = (c == asterisk) || ((c == underscore) || ((c == tilde) || (c == equals)))
 
 -- a byte after which the kind of the next character counts: one of those, or the last one that a literal begins with
 abbrev pub counts_after : ℕ → Bool

@@ -14,12 +14,13 @@ use Rattle.definition_text.specs.Runs.{run}
 use Rattle.definition_text.specs.Content.{is_eol}
 use Rattle.definition_text.specs.Encode.{encoded_byte, encode}
 use Rattle.definition_text.specs.InlineCode.{InlineCode, codes_of}
-use Rattle.definition_inline.specs.Inline.{Inline, Data, Escape, Nil, Cons, Found, leaf, or_else}
+use Rattle.definition_inline.specs.Inline.{InlineLeaf, Data, Escape, Inline, Leaf, Nil, Cons, Found, leaf, or_else}
 use Rattle.definition_inline.specs.CharacterEscape.{escape_at}
 use Rattle.definition_inline.specs.CharacterReference.{reference_after, reference_form, reference_of, reference_at}
 use Rattle.definition_inline.specs.CodeText.{raw_at, code_text_at}
 use Rattle.definition_inline.specs.MathText.{may_open_math, math_text_at}
 use Rattle.definition_inline.specs.GfmStrikethrough.{is_tilde}
+use Rattle.definition_inline.specs.Mark.{is_equals}
 use Rattle.definition_inline.specs.Autolink.{autolink_at}
 use Rattle.definition_inline.specs.HtmlText.{html_text_at}
 use Rattle.definition_inline.specs.HardBreak.{ends_inner_line, ends_here, line_end_at, escaped_break_at, line_spaces_at}
@@ -30,10 +31,11 @@ use Rattle.definition_inline.specs.GfmLabelStartFootnote.{starts_call}
 use Rattle.definition_inline.proofs.GfmAutolinkLiteral.{HasNoStart, no_literal}
 use Rattle.definition_inline.specs.Scan.{InlineContext, leaf_at, leaf_here, starts_image, starts_link, label_start_at, text, Reading, reading, read_tokens}
 use Rattle.definition_inline.specs.Scan.{Next, data_step, label_end_step, step, scan, whole_text, inlines}
-use Rattle.html_bytes.specs.InlineHtml.{InlineMeaning, part_html, inline_html}
+use Rattle.markdown_options.specs.declared.configuration.CompileOptions.{CompileOptions}
+use Rattle.html_bytes.specs.InlineHtml.{leaf_html, inline_html}
 use Rattle.definition_inline.proofs.Scanning.{scan_step, step_leaf, step_last}
-use Rattle.html_bytes.proofs.WithoutCalls.{part_calls, has_calls}
-use Rattle.laws_escape.proofs.InlineParts.{read_nothing, white_codes, parts_alone, html_followed, calls_followed}
+use Rattle.html_bytes.proofs.WithoutCalls.{has_calls}
+use Rattle.laws_escape.proofs.InlineParts.{read_nothing, white_codes, items, leaves, leaves_alone, html_of_leaves, html_of_data, leaves_call_nothing}
 use Rattle.laws_escape.proofs.PlainText.{and_no, bare_white, bare_other}
 use Rattle.laws_escape.specs.Escaped.{with_backslashes, is_line_byte, begins_with_space, ends_with_space, IsTrimmedLine, EscapeLaw}
 use Rattle.definition_text.proofs.Each.{Each, each-append}
@@ -136,8 +138,9 @@ module _ (context : InlineContext) (b : ℕ) (off : is_ascii_punctuation b ≡ f
   no_marker : is_marker context.options b ≡ false
   no_marker =
       let none : ((b == 42) || (b == 95)) ≡ false = or_from (b == 42) (b == 95) (other b 42 off refl) (other b 95 off refl) in
-      or_from (constructs.attention && ((b == 42) || (b == 95))) (constructs.gfm_strikethrough && is_tilde b) (and_no constructs.attention _ none)
-      (and_no constructs.gfm_strikethrough (is_tilde b) (other b 126 off refl))
+      or_from (constructs.attention && ((b == 42) || (b == 95))) _ (and_no constructs.attention _ none)
+      (or_from (constructs.gfm_strikethrough && is_tilde b) (constructs.mark && is_equals b)
+      (and_no constructs.gfm_strikethrough (is_tilde b) (other b 126 off refl)) (and_no constructs.mark (is_equals b) (other b 61 off refl)))
 
   no_run : (c : InlineCode) (cs : List InlineCode) → c.code ≡ b → run_at context.options (c ∷ cs) ≡ None
   no_run c cs is = cond-false _ _ _ (ap (is_marker context.options) is ∙ no_marker)
@@ -238,7 +241,7 @@ no_start_escaped bs = record {
 
 -- ---- the scan
 
-part_of : ℕ → Inline
+part_of : ℕ → InlineLeaf
 part_of b = cond (is_ascii_punctuation b) (Escape b) (Data b)
 
 escape_part : (b : ℕ) → is_ascii_punctuation b ≡ true → part_of b ≡ Escape b
@@ -250,7 +253,7 @@ unfolding part_of
 data_part b off = cond-false _ _ _ off
 
 abbrev tokens_of : List ℕ → List Token
-tokens_of bytes = map Item (map part_of bytes)
+tokens_of bytes = items (map part_of bytes)
 
 read_more : (t : Token) (ts : List Token) (r : Reading) → read_tokens ts (read_tokens (t ∷ []) r) ≡ read_tokens (t ∷ ts) r
 read_more t ts r = ap (λ us. reading (text us r.now.holds_link) r.open_labels) (append_assoc r.now.tokens (t ∷ []) ts)
@@ -265,7 +268,7 @@ module _ (context : InlineContext) (on : context.options.constructs.character_es
 
   data_place : (b : ℕ) (rest : List ℕ) (r : Reading) (c : InlineCode) (cs : List InlineCode) → is_ascii_punctuation b ≡ false → is_line_byte b ≡ true
       → (is_white b ≡ true → ends_here (bare (b ∷ rest)) ≡ false) → HasNoStart (b ∷ rest) → codes_of (c ∷ cs) ≡ b ∷ rest
-      → step context r c cs ≡ Next 0 (read_tokens (Item (Data b) ∷ []) r)
+      → step context r c cs ≡ Next 0 (read_tokens (Item (Leaf (Data b)) ∷ []) r)
   data_place b rest r c cs off line spaces start e =
       let is : c.code ≡ b = ap (λ xs. get_or xs 0 0) e in
       let no_label : (c.code == 93) ≡ false = ap (λ x. x == 93) is ∙ other b 93 off refl in
@@ -277,7 +280,7 @@ module _ (context : InlineContext) (on : context.options.constructs.character_es
       ∙ cond-false (context.options.constructs.label_end && (c.code == 93))
       (label_end_step context (codes_of (c ∷ cs)) r.now r.open_labels) (data_step c.code r)
       (and_no context.options.constructs.label_end (c.code == 93) no_label)
-      ∙ ap (λ x. Next 0 (read_tokens (Item (Data x) ∷ []) r)) is
+      ∙ ap (λ x. Next 0 (read_tokens (Item (Leaf (Data x)) ∷ []) r)) is
 
   scan_escaped : (bytes : List ℕ) (content : List InlineCode) (r : Reading) → list_all is_line_byte bytes ≡ true → ends_with_space bytes ≡ false
       → codes_of content ≡ with_backslashes bytes → scan context 0 r content ≡ read_tokens (tokens_of bytes) r
@@ -288,10 +291,10 @@ module _ (context : InlineContext) (on : context.options.constructs.character_es
       elim (cases_Bool (is_ascii_punctuation b)) [
         | inl punctuation ↦
             escape_step b bs content r punctuation (e ∙ escaped_punctuation b bs punctuation)
-            (λ rest same. scan_escaped bs rest (read_tokens (Item (Escape b) ∷ []) r) parts.1 (later_trimmed b bs trimmed) same)
+            (λ rest same. scan_escaped bs rest (read_tokens (Item (Leaf (Escape b)) ∷ []) r) parts.1 (later_trimmed b bs trimmed) same)
         | inr off ↦
             other_step b bs content r off parts.0 (λ white. after_white b bs lines trimmed white) (e ∙ escaped_other b bs off)
-            (λ rest same. scan_escaped bs rest (read_tokens (Item (Data b) ∷ []) r) parts.1 (later_trimmed b bs trimmed) same)
+            (λ rest same. scan_escaped bs rest (read_tokens (Item (Leaf (Data b)) ∷ []) r) parts.1 (later_trimmed b bs trimmed) same)
       ]
     where
       later_trimmed : (b : ℕ) (bs : List ℕ) → ends_with_space (b ∷ bs) ≡ false → ends_with_space bs ≡ false
@@ -309,38 +312,38 @@ module _ (context : InlineContext) (on : context.options.constructs.character_es
       escape_step : (b : ℕ) (bs : List ℕ) (content : List InlineCode) (r : Reading) → is_ascii_punctuation b ≡ true
           → codes_of content ≡ 92 ∷ b ∷ with_backslashes bs
           → ((rest : List InlineCode) → codes_of rest ≡ with_backslashes bs
-          → scan context 0 (read_tokens (Item (Escape b) ∷ []) r) rest ≡ read_tokens (tokens_of bs) (read_tokens (Item (Escape b) ∷ []) r))
+          → scan context 0 (read_tokens (Item (Leaf (Escape b)) ∷ []) r) rest ≡ read_tokens (tokens_of bs) (read_tokens (Item (Leaf (Escape b)) ∷ []) r))
           → scan context 0 r content ≡ read_tokens (tokens_of (b ∷ bs)) r
       escape_step b bs [] r punctuation e more = let n : 0 ≡ length (92 ∷ b ∷ with_backslashes bs) = ap length e in absurd (omega arith)
       escape_step b bs (c ∷ []) r punctuation e more = let n : 1 ≡ length (92 ∷ b ∷ with_backslashes bs) = ap length e in absurd (omega arith)
       escape_step b bs (c ∷ d ∷ cs) r punctuation e more =
-          let next = read_tokens (Item (Escape b) ∷ []) r in
+          let next = read_tokens (Item (Leaf (Escape b)) ∷ []) r in
           let found : leaf_at context (codes_of (c ∷ d ∷ cs)) ≡ Some (leaf (Escape b ∷ []) 2) =
           ap (leaf_at context) e ∙ escape_leaf b (with_backslashes bs) punctuation in
           scan_step context r next c (d ∷ cs) 1 (step_leaf context r c (d ∷ cs) (leaf (Escape b ∷ []) 2)
           (or_first (leaf_at context (codes_of (c ∷ d ∷ cs))) _ (leaf (Escape b ∷ []) 2) found))
-          ∙ more cs (ap (drop 2) e) ∙ read_more (Item (Escape b)) (tokens_of bs) r
-          ∙ ap (λ i. read_tokens (Item i ∷ tokens_of bs) r) (sym (escape_part b punctuation))
+          ∙ more cs (ap (drop 2) e) ∙ read_more (Item (Leaf (Escape b))) (tokens_of bs) r
+          ∙ ap (λ part. read_tokens (Item (Leaf part) ∷ tokens_of bs) r) (sym (escape_part b punctuation))
 
       other_step : (b : ℕ) (bs : List ℕ) (content : List InlineCode) (r : Reading) → is_ascii_punctuation b ≡ false → is_line_byte b ≡ true
           → (is_white b ≡ true → ends_here (bare (b ∷ with_backslashes bs)) ≡ false) → codes_of content ≡ b ∷ with_backslashes bs
           → ((rest : List InlineCode) → codes_of rest ≡ with_backslashes bs
-          → scan context 0 (read_tokens (Item (Data b) ∷ []) r) rest ≡ read_tokens (tokens_of bs) (read_tokens (Item (Data b) ∷ []) r))
+          → scan context 0 (read_tokens (Item (Leaf (Data b)) ∷ []) r) rest ≡ read_tokens (tokens_of bs) (read_tokens (Item (Leaf (Data b)) ∷ []) r))
           → scan context 0 r content ≡ read_tokens (tokens_of (b ∷ bs)) r
       other_step b bs [] r off line spaces e more = let n : 0 ≡ length (b ∷ with_backslashes bs) = ap length e in absurd (omega arith)
       other_step b bs (c ∷ cs) r off line spaces e more =
-          let next = read_tokens (Item (Data b) ∷ []) r in
+          let next = read_tokens (Item (Leaf (Data b)) ∷ []) r in
           scan_step context r next c cs 0 (data_place b (with_backslashes bs) r c cs off line spaces
           (subst HasNoStart (escaped_other b bs off) (no_start_escaped (b ∷ bs))) e)
-          ∙ more cs (ap (drop 1) e) ∙ read_more (Item (Data b)) (tokens_of bs) r
-          ∙ ap (λ i. read_tokens (Item i ∷ tokens_of bs) r) (sym (data_part b off))
+          ∙ more cs (ap (drop 1) e) ∙ read_more (Item (Leaf (Data b))) (tokens_of bs) r
+          ∙ ap (λ part. read_tokens (Item (Leaf part) ∷ tokens_of bs) r) (sym (data_part b off))
 
 -- ---- addresses: an escaped line has no `@` of its own
 
--- parts after others
-followed-append : (is js : List Inline) → parts_before is (parts_before js Nil) ≡ parts_before (is ++ js) Nil
-followed-append [] js = refl
-followed-append (i ∷ is) js = ap (Cons i) (followed-append is js)
+-- leaves after others
+followed-append : (parts others : List InlineLeaf) → parts_before (map Leaf parts) (leaves others) ≡ leaves (parts ++ others)
+followed-append [] others = refl
+followed-append (part ∷ parts) others = ap (Cons (Leaf part)) (followed-append parts others)
 
 abbrev HasNoAt : List ℕ → Type 0
 HasNoAt bytes = Each (λ b. (b == 64) ≡ false) bytes
@@ -350,30 +353,29 @@ no_addresses before [] h = ap (map Data) (sym (append-nil before))
 no_addresses before (b ∷ bs) h =
     cond-false (b == 64) _ _ h.0 ∙ no_addresses (before ++ b ∷ []) bs h.1 ∙ ap (map Data) (append_assoc before (b ∷ []) bs)
 
--- a run of text, and the parts after it
-literals_escaped : (run bytes : List ℕ) → HasNoAt run → with_literals run (parts_before (map part_of bytes) Nil)
-    ≡ parts_before (map Data run ++ map part_of bytes) Nil
-literals_escaped run [] h = ap (λ is. parts_before is Nil) (no_addresses [] run h ∙ sym (append-nil (map Data run)))
+-- a run of text, and the leaves after it
+literals_escaped : (run bytes : List ℕ) → HasNoAt run → with_literals run (leaves (map part_of bytes)) ≡ leaves (map Data run ++ map part_of bytes)
+literals_escaped run [] h = ap leaves (no_addresses [] run h ∙ sym (append-nil (map Data run)))
 literals_escaped run (b ∷ bs) h =
     let others = map part_of bs in
     elim (cases_Bool (is_ascii_punctuation b)) [
       | inl on ↦
-          ap (λ i. with_literals run (Cons i (parts_before others Nil))) (escape_part b on)
-          ∙ ap (λ is. parts_before is (Cons (Escape b) (with_literals [] (parts_before others Nil)))) (no_addresses [] run h)
-          ∙ ap (λ is. parts_before (map Data run) (Cons (Escape b) is)) (literals_escaped [] bs tt)
+          ap (λ part. with_literals run (Cons (Leaf part) (leaves others))) (escape_part b on)
+          ∙ ap (λ parts. parts_before (map Leaf parts) (Cons (Leaf (Escape b)) (with_literals [] (leaves others)))) (no_addresses [] run h)
+          ∙ ap (λ is. parts_before (map Leaf (map Data run)) (Cons (Leaf (Escape b)) is)) (literals_escaped [] bs tt)
           ∙ followed-append (map Data run) (Escape b ∷ others)
-          ∙ ap (λ i. parts_before (map Data run ++ i ∷ others) Nil) (sym (escape_part b on))
+          ∙ ap (λ part. leaves (map Data run ++ part ∷ others)) (sym (escape_part b on))
       | inr off ↦
-          ap (λ i. with_literals run (Cons i (parts_before others Nil))) (data_part b off)
+          ap (λ part. with_literals run (Cons (Leaf part) (leaves others))) (data_part b off)
           ∙ literals_escaped (run ++ b ∷ []) bs (each-append (λ b. (b == 64) ≡ false) run (b ∷ []) h (other b 64 off refl, tt))
-          ∙ ap (λ is. parts_before (is ++ others) Nil) (map-append Data run (b ∷ []))
-          ∙ ap (λ is. parts_before is Nil) (append_assoc (map Data run) (Data b ∷ []) others)
-          ∙ ap (λ i. parts_before (map Data run ++ i ∷ others) Nil) (sym (data_part b off))
+          ∙ ap (λ parts. leaves (parts ++ others)) (map-append Data run (b ∷ []))
+          ∙ ap leaves (append_assoc (map Data run) (Data b ∷ []) others)
+          ∙ ap (λ part. leaves (map Data run ++ part ∷ others)) (sym (data_part b off))
     ]
 
-linked_escaped : (on : Constructs) (bytes : List ℕ) → linked_literals on (parts_before (map part_of bytes) Nil) ≡ parts_before (map part_of bytes) Nil
+linked_escaped : (on : Constructs) (bytes : List ℕ) → linked_literals on (leaves (map part_of bytes)) ≡ leaves (map part_of bytes)
 linked_escaped on bytes =
-    let is = parts_before (map part_of bytes) Nil in
+    let is = leaves (map part_of bytes) in
     cond_both on.gfm_autolink_literal (with_literals [] is) is (λ x. x ≡ is) (λ _. literals_escaped [] bytes tt) (λ _. refl)
 
 -- ---- what it prints
@@ -388,20 +390,22 @@ no_white_first (b ∷ bs) lines first =
           ap (prefix_len is_white) (escaped_other b bs off) ∙ cond-false (is_white b) _ 0 (not_white b line first)
     ]
 
-module _ (meaning : InlineMeaning) where
-  html_of_byte : (b : ℕ) → part_html meaning (part_of b) ≡ encoded_byte b
+module _ (options : CompileOptions) where
+  html_of_byte : (b : ℕ) → leaf_html options (part_of b) ≡ encoded_byte b
   unfolding part_of
-  html_of_byte b = cond_both (is_ascii_punctuation b) (Escape b) (Data b) (λ i. part_html meaning i ≡ encoded_byte b) (λ _. refl) (λ _. refl)
+  html_of_byte b =
+      cond_both (is_ascii_punctuation b) (Escape b) (Data b) (λ part. leaf_html options part ≡ encoded_byte b) (λ _. html_of_data options b)
+      (λ _. html_of_data options b)
 
-  html_of_bytes : (bytes : List ℕ) → flat_map (part_html meaning) (map part_of bytes) ≡ encode bytes
+  html_of_bytes : (bytes : List ℕ) → flat_map (leaf_html options) (map part_of bytes) ≡ encode bytes
   html_of_bytes [] = refl
   html_of_bytes (b ∷ bs) =
-      ap (λ x. x ++ flat_map (part_html meaning) (map part_of bs)) (html_of_byte b) ∙ ap (λ x. encoded_byte b ++ x) (html_of_bytes bs)
+      ap (λ x. x ++ flat_map (leaf_html options) (map part_of bs)) (html_of_byte b) ∙ ap (λ x. encoded_byte b ++ x) (html_of_bytes bs)
 
 -- the inline structure of an escaped line
 escaped_structure : (context : InlineContext) (content : List InlineCode) (bytes : List ℕ) → context.options.constructs.character_escape ≡ true
     → IsTrimmedLine bytes
-    → codes_of content ≡ with_backslashes bytes → inlines context content ≡ parts_before (map part_of bytes) Nil
+    → codes_of content ≡ with_backslashes bytes → inlines context content ≡ leaves (map part_of bytes)
 escaped_structure context content bytes on line e =
     let constructs = context.options.constructs in
     let start = prefix_len (λ (c : InlineCode). is_white c.code) content in
@@ -410,24 +414,17 @@ escaped_structure context content bytes on line e =
     let read : scan context 0 r content ≡ read_tokens (tokens_of bytes) r = scan_escaped context on bytes content r line.0 line.2 e in
     ap (λ n. linked_literals constructs (with_spans (whole_text (scan context 0 r (drop n content))).tokens)) none
     ∙ ap (λ x. linked_literals constructs (with_spans (whole_text x).tokens)) read
-    ∙ ap (linked_literals constructs) (parts_alone (map part_of bytes))
+    ∙ ap (linked_literals constructs) (leaves_alone (map part_of bytes))
     ∙ linked_escaped constructs bytes
 
 pub escape_law : EscapeLaw
 escape_law context meaning content bytes on line e =
-    ap (inline_html meaning) (escaped_structure context content bytes on line e) ∙ html_followed meaning (map part_of bytes) ∙ html_of_bytes meaning bytes
-
--- no byte of it is a call
-byte_calls_nothing : (b : ℕ) → part_calls (part_of b) ≡ false
-unfolding part_of
-byte_calls_nothing b = cond_both (is_ascii_punctuation b) (Escape b) (Data b) (λ i. part_calls i ≡ false) (λ _. refl) (λ _. refl)
-
-bytes_call_nothing : (bytes : List ℕ) → list_any part_calls (map part_of bytes) ≡ false
-bytes_call_nothing [] = refl
-bytes_call_nothing (b ∷ bs) = or_from (part_calls (part_of b)) (list_any part_calls (map part_of bs)) (byte_calls_nothing b) (bytes_call_nothing bs)
+    ap (inline_html meaning) (escaped_structure context content bytes on line e)
+    ∙ html_of_leaves meaning (map part_of bytes)
+    ∙ html_of_bytes meaning.compile bytes
 
 -- an escaped line calls no footnote
 pub escaped_calls_nothing : (context : InlineContext) (content : List InlineCode) (bytes : List ℕ) → context.options.constructs.character_escape ≡ true
     → IsTrimmedLine bytes → codes_of content ≡ with_backslashes bytes → has_calls (inlines context content) ≡ false
 escaped_calls_nothing context content bytes on line e =
-    ap has_calls (escaped_structure context content bytes on line e) ∙ calls_followed (map part_of bytes) ∙ bytes_call_nothing bytes
+    ap has_calls (escaped_structure context content bytes on line e) ∙ leaves_call_nothing (map part_of bytes)

@@ -18,7 +18,8 @@ use Rattle.definition_inline.specs.Scan.{inlines}
 use Rattle.definition_page.specs.Layout.{layout_state}
 use Rattle.definition_inline.specs.Targets.{no_targets}
 use Rattle.definition_page.specs.TextTables.{TextTables}
-use Rattle.html_bytes.specs.Document.{Document, document, context_of, meaning_of, text_of}
+use Rattle.html_bytes.specs.Document.{Document, document, reading_of, document_meaning, text_of}
+use Rattle.definition_page.specs.Read.{context_of}
 use Rattle.html_bytes.specs.Html.{default_ending, blocks_html, marked_html}
 use Rattle.html_bytes.specs.Layout.{with_footnotes}
 use Rattle.html_bytes.specs.Pieces.{Piece, Bytes}
@@ -58,11 +59,12 @@ line_says : (d : Document) (options : CompileOptions) (default line : List ℕ) 
     → IsTrimmedLine line → AddsBytes options default (text_of d (block_line (with_backslashes line) None before ∷ [])) (encode line)
 line_says d options default line before on h l =
     let ls = block_line (with_backslashes line) None before ∷ [] in
+    let context = context_of (reading_of d) in
     let content = inline_content d.tables.is_punctuation Whitespace ls in
     let same = content_codes d.tables.is_punctuation Whitespace ls (escaped_in_line line h.0) ∙ append-nil (with_backslashes line ++ [])
     ∙ append-nil (with_backslashes line) in
-    without_calls options default (meaning_of d) (inlines (context_of d) content) (escaped_calls_nothing (context_of d) content line on h same) l
-    ∙ ap (add l) (escape_law (context_of d) (meaning_of d) content line on h same)
+    without_calls options default (document_meaning d) (inlines context content) (escaped_calls_nothing context content line on h same) l
+    ∙ ap (add l) (escape_law context (document_meaning d) content line on h same)
 
 -- the blocks of an escaped line
 its_blocks : (options : Options) (before : Kind) (line : List ℕ) → Begins (with_backslashes line)

@@ -1,16 +1,21 @@
--- What parts are read as, and what they print where no runs stand among them.
-use Rattle.std.proofs.Common.{◌≡◌, ◌+◌, ◌||◌, List, [], ◌∷◌, ◌++◌, cond, refl, sym, ap, ◌∙◌, append_assoc, map}
-use Rattle.std.specs.List.{fold, flat_map, list_any, prefix_len}
+-- What leaves are read as, and what they print where no runs stand among them.
+use Rattle.std.proofs.Common.{◌≡◌, ℕ, ◌+◌, false, List, [], ◌∷◌, ◌++◌, cond, refl, sym, ap, ◌∙◌, append_assoc, map}
+use Rattle.std.specs.List.{fold, flat_map, prefix_len}
 use Rattle.std.proofs.lemmas.List.{append-nil}
+use Rattle.std.proofs.lemmas.List.Concat.{flat_map-append}
+use Rattle.markdown_options.specs.declared.configuration.CompileOptions.{CompileOptions}
 use Rattle.definition_text.specs.Columns.{is_white, indent}
+use Rattle.definition_text.specs.Encode.{encoded_byte}
 use Rattle.definition_text.specs.InlineCode.{InlineCode, codes_of}
-use Rattle.definition_inline.specs.Inline.{Inline, Nil, Cons, followed_by}
+use Rattle.definition_inline.specs.Inline.{InlineLeaf, Data, Inline, Leaf, Inlines, Nil, Cons, followed_by}
 use Rattle.definition_inline.specs.Pairing.{Pair, pairs}
-use Rattle.definition_inline.specs.Spans.{Item, runs_of, Holds, rows_from, Nest, nest, nest_row, nest_spans, with_spans}
+use Rattle.definition_inline.specs.Spans.{Token, Item, runs_of, Holds, rows_from, Nest, nest, nest_row, nest_spans, with_spans}
 use Rattle.definition_inline.specs.Scan.{text, Reading, reading, read_tokens}
 use Rattle.definition_inline.specs.GfmAutolinkLiteral.{parts_before}
-use Rattle.html_bytes.specs.InlineHtml.{InlineMeaning, part_html, inline_html}
-use Rattle.html_bytes.proofs.WithoutCalls.{part_calls, has_calls}
+use Rattle.definition_page.specs.InlinePieces.{Meaning, leaf_pieces, inline_pieces}
+use Rattle.html_bytes.specs.InlineHtml.{leaf_html, inline_html}
+use Rattle.html_bytes.specs.Pieces.{piece_html}
+use Rattle.html_bytes.proofs.WithoutCalls.{has_calls}
 
 -- no more tokens
 pub read_nothing : (r : Reading) → r ≡ read_tokens [] r
@@ -21,10 +26,18 @@ pub white_codes : (content : List InlineCode) → prefix_len (λ (c : InlineCode
 white_codes [] = refl
 white_codes (c ∷ cs) = ap (λ n. cond (is_white c.code) (1 + n) 0) (white_codes cs)
 
--- parts as rows
-held : (ps : List Pair) (is : List Inline) → rows_from ps 0 (map Item is) ≡ map Holds is
+-- leaves as tokens
+abbrev pub items : List InlineLeaf → List Token
+items parts = map (λ part. Item (Leaf part)) parts
+
+-- leaves as inline structure
+abbrev pub leaves : List InlineLeaf → Inlines
+leaves parts = parts_before (map Leaf parts) Nil
+
+-- leaves as rows
+held : (ps : List Pair) (parts : List InlineLeaf) → rows_from ps 0 (items parts) ≡ map Holds (map Leaf parts)
 held ps [] = refl
-held ps (i ∷ is) = ap (λ rows. Holds i ∷ rows) (held ps is)
+held ps (part ∷ parts) = ap (λ rows. Holds (Leaf part) ∷ rows) (held ps parts)
 
 -- one more part after others
 followed_last : (is : List Inline) (last : Inline) → followed_by (parts_before is Nil) last ≡ parts_before (is ++ last ∷ []) Nil
@@ -38,21 +51,22 @@ nest_held before (i ∷ is) =
     ∙ nest_held (before ++ i ∷ []) is
     ∙ ap (λ x. nest (parts_before x Nil) []) (append_assoc before (i ∷ []) is)
 
--- where no runs stand among parts, they are the inline structure
-pub parts_alone : (is : List Inline) → with_spans (map Item is) ≡ parts_before is Nil
-parts_alone is = ap nest_spans (held (pairs (runs_of (map Item is))) is) ∙ ap (λ (n : Nest). n.now) (nest_held [] is)
+-- where no runs stand among leaves, they are the inline structure
+pub leaves_alone : (parts : List InlineLeaf) → with_spans (items parts) ≡ leaves parts
+leaves_alone parts = ap nest_spans (held (pairs (runs_of (items parts))) parts) ∙ ap (λ (n : Nest). n.now) (nest_held [] (map Leaf parts))
 
--- what they print, and whether they call footnotes
-pub html_followed : (meaning : InlineMeaning) (is : List Inline) → inline_html meaning (parts_before is Nil) ≡ flat_map (part_html meaning) is
-html_followed meaning [] = refl
-html_followed meaning (i ∷ is) = ap (λ x. part_html meaning i ++ x) (html_followed meaning is)
+-- what leaves print
+pub html_of_leaves : (m : Meaning) (parts : List InlineLeaf) → inline_html m (leaves parts) ≡ flat_map (leaf_html m.compile) parts
+html_of_leaves m [] = refl
+html_of_leaves m (part ∷ parts) =
+    flat_map-append piece_html (leaf_pieces m.compile part) (inline_pieces m (leaves parts))
+    ∙ ap (λ x. leaf_html m.compile part ++ x) (html_of_leaves m parts)
 
-pub html_of_parts : (meaning : InlineMeaning) (is : List Inline) → inline_html meaning (with_spans (map Item is)) ≡ flat_map (part_html meaning) is
-html_of_parts meaning is = ap (inline_html meaning) (parts_alone is) ∙ html_followed meaning is
+-- what a byte prints
+pub html_of_data : (options : CompileOptions) (b : ℕ) → leaf_html options (Data b) ≡ encoded_byte b
+html_of_data options b = append-nil (encoded_byte b ++ []) ∙ append-nil (encoded_byte b)
 
-pub calls_followed : (is : List Inline) → has_calls (parts_before is Nil) ≡ list_any part_calls is
-calls_followed [] = refl
-calls_followed (i ∷ is) = ap (λ b. part_calls i || b) (calls_followed is)
-
-pub calls_of_parts : (is : List Inline) → has_calls (with_spans (map Item is)) ≡ list_any part_calls is
-calls_of_parts is = ap has_calls (parts_alone is) ∙ calls_followed is
+-- leaves call no footnote
+pub leaves_call_nothing : (parts : List InlineLeaf) → has_calls (leaves parts) ≡ false
+leaves_call_nothing [] = refl
+leaves_call_nothing (part ∷ parts) = leaves_call_nothing parts

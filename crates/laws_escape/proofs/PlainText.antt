@@ -22,20 +22,22 @@ use Rattle.definition_text.specs.Encode.{encode}
 use Rattle.definition_text.specs.BlockLines.{BlockLine}
 use Rattle.definition_text.specs.Content.{is_eol, ending_code, line_codes, content_of}
 use Rattle.definition_text.specs.InlineCode.{InlineCode, codes_of, next_kind, with_kinds, line_content, inline_content}
-use Rattle.definition_inline.specs.Inline.{Inline, Data, LineEnd, Inlines, Found, leaf, or_else}
+use Rattle.definition_inline.specs.Inline.{InlineLeaf, Data, LineEnd, Leaf, Inlines, Found, leaf, or_else}
 use Rattle.definition_inline.specs.HardBreak.{ends_here, line_end_at, line_spaces_at}
 use Rattle.definition_inline.specs.Spans.{Item, with_spans}
 use Rattle.definition_inline.specs.Scan.{InlineContext, leaf_at, leaf_here, text, Reading, reading, read_tokens, Next, leaf_step, step, and_then, scan}
 use Rattle.definition_inline.specs.Scan.{whole_text, inlines}
 use Rattle.definition_inline.specs.Strings.{or_byte}
-use Rattle.html_bytes.specs.InlineHtml.{InlineMeaning, part_html, inline_html, inline_pieces}
+use Rattle.definition_page.specs.InlinePieces.{Meaning, inline_pieces}
+use Rattle.html_bytes.specs.InlineHtml.{leaf_html, inline_html}
+use Rattle.html_bytes.specs.Pieces.{in_bytes}
 use Rattle.html_bytes.specs.Layout.{lay}
-use Rattle.html_bytes.specs.Document.{Document, meaning_of, text_of}
+use Rattle.html_bytes.specs.Document.{Document, document_meaning, text_of}
 use Rattle.definition_inline.specs.Targets.{is_label_of, is_footnote_of}
 use Rattle.html_bytes.proofs.SameLayout.{add}
-use Rattle.html_bytes.proofs.WithoutCalls.{part_calls, has_calls, AddsBytes, without_calls}
+use Rattle.html_bytes.proofs.WithoutCalls.{has_calls, AddsBytes, without_calls}
 use Rattle.definition_inline.proofs.Scanning.{drop-codes_of}
-use Rattle.laws_escape.proofs.InlineParts.{read_nothing, white_codes, html_of_parts, calls_of_parts}
+use Rattle.laws_escape.proofs.InlineParts.{read_nothing, white_codes, items, leaves, leaves_alone, html_of_leaves, html_of_data, leaves_call_nothing}
 
 -- a line of text: the spaces and tabs at its ends are dropped
 abbrev pub line_text : BlockLine → List ℕ
@@ -65,8 +67,8 @@ and_no false y e = refl
 abbrev found_at : List ℕ → Option Found
 found_at content = or_else (line_end_at content) (line_spaces_at no_constructs content)
 
--- the parts of a content, of which so many codes are taken already
-abbrev parts : ℕ → List ℕ → List Inline
+-- the leaves of a content, of which so many codes are taken already
+abbrev parts : ℕ → List ℕ → List InlineLeaf
 parts k [] = []
 parts zero (c ∷ cs) = let found = or_byte c (found_at (c ∷ cs)) in found.parts ++ parts (found.size - 1) cs
 parts (suc k) (c ∷ cs) = parts k cs
@@ -101,28 +103,28 @@ module _ (options : ParseOptions) (names : List ℕ → Option (List ℕ)) (is_d
   plain_here c cs = or_nothing (leaf_at all_off (codes_of (c ∷ cs))) ∙ plain_leaf c.code (codes_of cs)
 
   found_step : (c : InlineCode) (cs : List InlineCode) (r : Reading) (o : Option Found)
-      → leaf_step all_off c.code (codes_of (c ∷ cs)) r None o ≡ Next ((or_byte c.code o).size - 1) (read_tokens (map Item (or_byte c.code o).parts) r)
+      → leaf_step all_off c.code (codes_of (c ∷ cs)) r None o ≡ Next ((or_byte c.code o).size - 1) (read_tokens (items (or_byte c.code o).parts) r)
   found_step c cs r None = refl
   found_step c cs r (Some found) = refl
 
   plain_step : (c : InlineCode) (cs : List InlineCode) (r : Reading)
       → step all_off r c cs
-      ≡ Next ((or_byte c.code (found_at (codes_of (c ∷ cs)))).size - 1) (read_tokens (map Item (or_byte c.code (found_at (codes_of (c ∷ cs)))).parts) r)
+      ≡ Next ((or_byte c.code (found_at (codes_of (c ∷ cs)))).size - 1) (read_tokens (items (or_byte c.code (found_at (codes_of (c ∷ cs)))).parts) r)
   plain_step c cs r =
       let content = codes_of (c ∷ cs) in
       ap (leaf_step all_off c.code content r None) (plain_here c cs) ∙ found_step c cs r (found_at content)
 
-  read_more : (is js : List Inline) (r : Reading) → read_tokens (map Item js) (read_tokens (map Item is) r) ≡ read_tokens (map Item (is ++ js)) r
+  read_more : (is js : List InlineLeaf) (r : Reading) → read_tokens (items js) (read_tokens (items is) r) ≡ read_tokens (items (is ++ js)) r
   read_more is js r =
       ap (λ ts. reading (text ts r.now.holds_link) r.open_labels)
-      (append_assoc r.now.tokens (map Item is) (map Item js) ∙ ap (λ ts. r.now.tokens ++ ts) (sym (map-append Item is js)))
+      (append_assoc r.now.tokens (items is) (items js) ∙ ap (λ ts. r.now.tokens ++ ts) (sym (map-append (λ (part : InlineLeaf). Item (Leaf part)) is js)))
 
-  plain_scan : (k : ℕ) (r : Reading) (content : List InlineCode) → scan all_off k r content ≡ read_tokens (map Item (parts k (codes_of content))) r
+  plain_scan : (k : ℕ) (r : Reading) (content : List InlineCode) → scan all_off k r content ≡ read_tokens (items (parts k (codes_of content))) r
   plain_scan zero r [] = read_nothing r
   plain_scan (suc k) r [] = read_nothing r
   plain_scan zero r (c ∷ cs) =
       let found = or_byte c.code (found_at (codes_of (c ∷ cs))) in
-      let next = read_tokens (map Item found.parts) r in
+      let next = read_tokens (items found.parts) r in
       ap (λ s. and_then s (λ k r2. scan all_off k r2 cs)) (plain_step c cs r)
       ∙ plain_scan (found.size - 1) next cs
       ∙ read_more found.parts (parts (found.size - 1) (codes_of cs)) r
@@ -130,52 +132,23 @@ module _ (options : ParseOptions) (names : List ℕ → Option (List ℕ)) (is_d
 
 -- the inline structure of a content
 structure_of_codes : (options : ParseOptions) (names : List ℕ → Option (List ℕ)) (is_defined is_footnote : List ℕ → Bool) (content : List InlineCode)
-    → inlines (all_off options names is_defined is_footnote) content ≡ with_spans (map Item (parts 0 (bare (codes_of content))))
+    → inlines (all_off options names is_defined is_footnote) content ≡ leaves (parts 0 (bare (codes_of content)))
 structure_of_codes options names is_defined is_footnote content =
     let start = prefix_len (λ (c : InlineCode). is_white c.code) content in
     let nothing : Reading = reading (text [] false) [] in
     ap (λ r. with_spans (whole_text r).tokens) (plain_scan options names is_defined is_footnote 0 nothing (drop start content))
-    ∙ ap (λ cs. with_spans (map Item (parts 0 cs))) (drop-codes_of start content ∙ ap (λ n. drop n (codes_of content)) (white_codes content))
-
--- ---- calls of footnotes
-
--- whether what is found here calls one
-abbrev calls_in : ℕ → Option Found → Bool
-calls_in c found = list_any part_calls (or_byte c found).parts
-
-no_call_or : (c : ℕ) (a b : Option Found) → calls_in c a ≡ false → calls_in c b ≡ false → calls_in c (or_else a b) ≡ false
-no_call_or c None b p q = q
-no_call_or c (Some found) b p q = p
-
-no_call_at : (c : ℕ) (cs : List ℕ) → calls_in c (found_at (c ∷ cs)) ≡ false
-no_call_at c cs =
-    no_call_or c (line_end_at (c ∷ cs)) (line_spaces_at no_constructs (c ∷ cs))
-    (cond_both (is_eol c) (Some (leaf (LineEnd c ∷ []) (1 + indent cs))) None (λ o. calls_in c o ≡ false) (λ _. refl) (λ _. refl))
-    (cond_both (leb 1 (indent (c ∷ cs)) && ends_here (bare (c ∷ cs))) (Some (leaf [] (indent (c ∷ cs)))) None (λ o. calls_in c o ≡ false) (λ _. refl)
-    (λ _. refl))
-
--- the parts of a content call none
-no_calls : (k : ℕ) (content : List ℕ) → list_any part_calls (parts k content) ≡ false
-no_calls k [] = refl
-no_calls zero (c ∷ cs) =
-    let found = or_byte c (found_at (c ∷ cs)) in
-    let more = parts (found.size - 1) cs in
-    list_any-append part_calls found.parts more
-    ∙ or_from (list_any part_calls found.parts) (list_any part_calls more) (no_call_at c cs) (no_calls (found.size - 1) cs)
-no_calls (suc k) (c ∷ cs) = no_calls k cs
+    ∙ leaves_alone (parts 0 (codes_of (drop start content)))
+    ∙ ap (λ cs. leaves (parts 0 cs)) (drop-codes_of start content ∙ ap (λ n. drop n (codes_of content)) (white_codes content))
 
 -- ---- what a content prints
 
-module _ (meaning : InlineMeaning) where
-  -- what a content prints
-  abbrev printed : List ℕ → List ℕ
-  printed content = flat_map (part_html meaning) (parts 0 content)
+abbrev printed : CompileOptions → List ℕ → List ℕ
+printed compile content = flat_map (leaf_html compile) (parts 0 content)
 
-  html_of_codes : (options : ParseOptions) (names : List ℕ → Option (List ℕ)) (is_defined is_footnote : List ℕ → Bool) (content : List InlineCode)
-      → inline_html meaning (inlines (all_off options names is_defined is_footnote) content) ≡ printed (bare (codes_of content))
-  html_of_codes options names is_defined is_footnote content =
-      ap (inline_html meaning) (structure_of_codes options names is_defined is_footnote content)
-      ∙ html_of_parts meaning (parts 0 (bare (codes_of content)))
+html_of_codes : (m : Meaning) (options : ParseOptions) (names : List ℕ → Option (List ℕ)) (is_defined is_footnote : List ℕ → Bool)
+    (content : List InlineCode) → inline_html m (inlines (all_off options names is_defined is_footnote) content) ≡ printed m.compile (bare (codes_of content))
+html_of_codes m options names is_defined is_footnote content =
+    ap (inline_html m) (structure_of_codes options names is_defined is_footnote content) ∙ html_of_leaves m (parts 0 (bare (codes_of content)))
 
 -- ---- spaces and tabs
 
@@ -308,7 +281,7 @@ pub other_lines : (line : BlockLine) (others : List BlockLine) → AreText (line
 other_lines line [] h = tt
 other_lines line (next ∷ others) h = h.2
 
-module _ (meaning : InlineMeaning) where
+module _ (compile : CompileOptions) where
   -- a line, whatever follows it
   blank_printed : (b : ℕ) (bs rest : List ℕ) → AreInLine (b ∷ bs) → is_blank (b ∷ bs) ≡ true → ends_here rest ≡ true
       → parts 0 (b ∷ (bs ++ rest)) ≡ parts 0 rest
@@ -334,24 +307,25 @@ module _ (meaning : InlineMeaning) where
       (ap (λ o. or_else o (line_spaces_at no_constructs content)) (cond-false (is_eol b) _ None (no_eol b line.0 line.1))
       ∙ cond-false (leb 1 (indent content) && ends_here (bare content)) _ None neither)
 
-  line_printed : (bs rest : List ℕ) → AreInLine bs → ends_here rest ≡ true → printed meaning (bs ++ rest) ≡ encode (kept bs) ++ printed meaning rest
+  line_printed : (bs rest : List ℕ) → AreInLine bs → ends_here rest ≡ true → printed compile (bs ++ rest) ≡ encode (kept bs) ++ printed compile rest
   line_printed [] rest line e = refl
   line_printed (b ∷ bs) rest line e = elim (cases_Bool (is_blank (b ∷ bs))) [
     | inl blank ↦
-        ap (flat_map (part_html meaning)) (blank_printed b bs rest line blank e)
-        ∙ ap (λ x. encode x ++ printed meaning rest) (sym (cond-true (is_blank (b ∷ bs)) [] (b ∷ kept bs) blank))
+        ap (flat_map (leaf_html compile)) (blank_printed b bs rest line blank e)
+        ∙ ap (λ x. encode x ++ printed compile rest) (sym (cond-true (is_blank (b ∷ bs)) [] (b ∷ kept bs) blank))
     | inr some ↦
-        ap (flat_map (part_html meaning)) (byte_printed b bs rest line some)
-        ∙ ap (λ x. part_html meaning (Data b) ++ x) (line_printed bs rest line.2 e)
-        ∙ sym (append_assoc (part_html meaning (Data b)) (encode (kept bs)) (printed meaning rest))
-        ∙ ap (λ x. encode x ++ printed meaning rest) (sym (cond-false (is_blank (b ∷ bs)) [] (b ∷ kept bs) some))
+        ap (flat_map (leaf_html compile)) (byte_printed b bs rest line some)
+        ∙ ap (λ x. leaf_html compile (Data b) ++ x) (line_printed bs rest line.2 e)
+        ∙ sym (append_assoc (leaf_html compile (Data b)) (encode (kept bs)) (printed compile rest))
+        ∙ ap (λ x. (x ++ encode (kept bs)) ++ printed compile rest) (html_of_data compile b)
+        ∙ ap (λ x. encode x ++ printed compile rest) (sym (cond-false (is_blank (b ∷ bs)) [] (b ∷ kept bs) some))
   ]
 
   trimmed_printed : (bs rest : List ℕ) → AreInLine bs → ends_here rest ≡ true
-      → printed meaning (bare (bs ++ rest)) ≡ encode (trim bs) ++ printed meaning rest
+      → printed compile (bare (bs ++ rest)) ≡ encode (trim bs) ++ printed compile rest
   trimmed_printed bs rest line e =
-      ap (printed meaning) (bare_before bs rest e) ∙ line_printed (bare bs) rest (line_drop (indent bs) bs line) e
-      ∙ ap (λ x. encode x ++ printed meaning rest) (sym (without_end (bare bs)))
+      ap (printed compile) (bare_before bs rest e) ∙ line_printed (bare bs) rest (line_drop (indent bs) bs line) e
+      ∙ ap (λ x. encode x ++ printed compile rest) (sym (without_end (bare bs)))
 
   -- a line ending, and the spaces and tabs after it
   eol_parts : (c : ℕ) (cs : List ℕ) → is_eol c ≡ true → parts 0 (c ∷ cs) ≡ LineEnd c ∷ parts 0 (bare cs)
@@ -369,16 +343,16 @@ module _ (meaning : InlineMeaning) where
   ending_starts CarriageReturnLineFeed cs = refl
 
   ending_printed : (e : LineEnding) (cs : List ℕ)
-      → printed meaning (ending_code (Some e) ++ cs) ≡ ending_text (Some e) ++ printed meaning (bare cs)
-  ending_printed LineFeed cs = ap (flat_map (part_html meaning)) (eol_parts 10 cs refl)
-  ending_printed CarriageReturn cs = ap (flat_map (part_html meaning)) (eol_parts 13 cs refl)
-  ending_printed CarriageReturnLineFeed cs = ap (flat_map (part_html meaning)) (eol_parts 257 cs refl)
+      → printed compile (ending_code (Some e) ++ cs) ≡ ending_text (Some e) ++ printed compile (bare cs)
+  ending_printed LineFeed cs = ap (flat_map (leaf_html compile)) (eol_parts 10 cs refl)
+  ending_printed CarriageReturn cs = ap (flat_map (leaf_html compile)) (eol_parts 13 cs refl)
+  ending_printed CarriageReturnLineFeed cs = ap (flat_map (leaf_html compile)) (eol_parts 257 cs refl)
 
   last_starts : (ending : Option LineEnding) → ends_here (ending_code ending ++ []) ≡ true
   last_starts None = refl
   last_starts (Some e) = ending_starts e []
 
-  last_printed : (ending : Option LineEnding) → printed meaning (ending_code ending ++ []) ≡ ending_text ending ++ printed meaning []
+  last_printed : (ending : Option LineEnding) → printed compile (ending_code ending ++ []) ≡ ending_text ending ++ printed compile []
   last_printed None = refl
   last_printed (Some e) = ending_printed e []
 
@@ -388,18 +362,18 @@ module _ (meaning : InlineMeaning) where
       subst (λ o. ends_here (ending_code o ++ content_of (next ∷ others)) ≡ true) (sym h.1.1) (ending_starts h.1.0 (content_of (next ∷ others)))
 
   after_printed : (line : BlockLine) (others : List BlockLine) → AreText (line ∷ others)
-      → printed meaning (ending_code line.ending ++ content_of others) ≡ ending_text line.ending ++ printed meaning (bare (content_of others))
+      → printed compile (ending_code line.ending ++ content_of others) ≡ ending_text line.ending ++ printed compile (bare (content_of others))
   after_printed line [] h = last_printed line.ending
   after_printed line (next ∷ others) h =
       let cs = content_of (next ∷ others) in
-      subst (λ o. printed meaning (ending_code o ++ cs) ≡ ending_text o ++ printed meaning (bare cs)) (sym h.1.1) (ending_printed h.1.0 cs)
+      subst (λ o. printed compile (ending_code o ++ cs) ≡ ending_text o ++ printed compile (bare cs)) (sym h.1.1) (ending_printed h.1.0 cs)
 
-  lines_printed : (ls : List BlockLine) → AreText ls → printed meaning (bare (content_of ls)) ≡ plain_text ls
+  lines_printed : (ls : List BlockLine) → AreText ls → printed compile (bare (content_of ls)) ≡ plain_text ls
   lines_printed [] h = refl
   lines_printed (line ∷ others) h =
       let after = ending_code line.ending ++ content_of others in
       let said = encode (trim line.codes) in
-      ap (λ x. printed meaning (bare x)) (append_assoc line.codes (ending_code line.ending) (content_of others))
+      ap (λ x. printed compile (bare x)) (append_assoc line.codes (ending_code line.ending) (content_of others))
       ∙ trimmed_printed line.codes after (first_line line others h) (after_starts line others h)
       ∙ ap (λ x. said ++ x)
       (after_printed line others h ∙ ap (λ x. ending_text line.ending ++ x) (lines_printed others (other_lines line others h)))
@@ -457,24 +431,25 @@ abbrev plain_structure : Document → List BlockLine → Inlines
 plain_structure d ls = inlines (read_by d no_constructs) (inline_content d.tables.is_punctuation Whitespace ls)
 
 -- what it prints, and that it calls no footnote
-plain_html : (d : Document) (ls : List BlockLine) → AreText ls → inline_html (meaning_of d) (plain_structure d ls) ≡ plain_text ls
+plain_html : (d : Document) (ls : List BlockLine) → AreText ls → inline_html (document_meaning d) (plain_structure d ls) ≡ plain_text ls
 plain_html d ls h =
-    html_of_codes (meaning_of d) d.options.parse d.tables.names (is_label_of d.targets.definitions) (is_footnote_of d.targets.footnotes)
+    html_of_codes (document_meaning d) d.options.parse d.tables.names (is_label_of d.targets.definitions) (is_footnote_of d.targets.footnotes)
     (inline_content d.tables.is_punctuation Whitespace ls)
-    ∙ ap (λ x. printed (meaning_of d) (bare x)) (content_codes d.tables.is_punctuation Whitespace ls h)
-    ∙ lines_printed (meaning_of d) ls h
+    ∙ ap (λ x. printed d.options.compile (bare x)) (content_codes d.tables.is_punctuation Whitespace ls h)
+    ∙ lines_printed d.options.compile ls h
 
 plain_calls : (d : Document) (ls : List BlockLine) → has_calls (plain_structure d ls) ≡ false
 plain_calls d ls =
     let content = inline_content d.tables.is_punctuation Whitespace ls in
     ap has_calls (structure_of_codes d.options.parse d.tables.names (is_label_of d.targets.definitions) (is_footnote_of d.targets.footnotes) content)
-    ∙ calls_of_parts (parts 0 (bare (codes_of content))) ∙ no_calls 0 (bare (codes_of content))
+    ∙ leaves_call_nothing (parts 0 (bare (codes_of content)))
 
 -- where every construct is off, lines print what they hold, trimmed and encoded, with their endings
 pub text_is_plain : (d : Document) (options : CompileOptions) (default : List ℕ) → d.options.parse.constructs ≡ no_constructs → (ls : List BlockLine)
     → AreText ls
     → AddsBytes options default (text_of d ls) (plain_text ls)
 text_is_plain d options default off ls h l =
-    ap (λ on. fold (lay options default) l (inline_pieces (meaning_of d) (inlines (read_by d on) (inline_content d.tables.is_punctuation Whitespace ls)))) off
-    ∙ without_calls options default (meaning_of d) (plain_structure d ls) (plain_calls d ls) l
+    ap (λ on. fold (lay options default) l
+    (in_bytes (inline_pieces (document_meaning d) (inlines (read_by d on) (inline_content d.tables.is_punctuation Whitespace ls))))) off
+    ∙ without_calls options default (document_meaning d) (plain_structure d ls) (plain_calls d ls) l
     ∙ ap (add l) (plain_html d ls h)

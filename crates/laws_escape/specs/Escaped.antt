@@ -9,7 +9,8 @@ use Rattle.definition_text.specs.Content.{content_codes, is_eol}
 use Rattle.definition_text.specs.Encode.{encode}
 use Rattle.definition_text.specs.InlineCode.{InlineCode, codes_of}
 use Rattle.definition_inline.specs.Scan.{InlineContext, inlines}
-use Rattle.html_bytes.specs.InlineHtml.{InlineMeaning, inline_html}
+use Rattle.definition_page.specs.InlinePieces.{Meaning}
+use Rattle.html_bytes.specs.InlineHtml.{inline_html}
 use Rattle.definition_inline.specs.Strings.{begins_with_eol, string_text}
 use Rattle.definition_block.specs.ContainerLine.{begins_with_white}
 
@@ -43,7 +44,7 @@ IsTrimmedLine text = (list_all is_line_byte text ≡ true) × (begins_with_space
 -- a line without tabs and without a space at either end, escaped, prints itself as text, whatever stands beside it and whatever is on besides escapes
 abbrev pub EscapeLaw : Type 0
 EscapeLaw =
-    (context : InlineContext) (meaning : InlineMeaning) (content : List InlineCode) (text : List ℕ)
+    (context : InlineContext) (meaning : Meaning) (content : List InlineCode) (text : List ℕ)
     → context.options.constructs.character_escape ≡ true → IsTrimmedLine text → codes_of content ≡ with_backslashes text
     → inline_html meaning (inlines context content) ≡ encode text
 

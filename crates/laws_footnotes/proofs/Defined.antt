@@ -11,15 +11,16 @@ use Rattle.markdown_options.specs.declared.line_ending.LineEnding.{LineEnding}
 use Rattle.markdown_options.specs.LineEndings.{ending_bytes}
 use Rattle.definition_text.specs.BlockLines.{BlockLine}
 use Rattle.markdown_options.specs.declared.align_kind.AlignKind.{AlignKind}
-use Rattle.definition_inline.specs.Inline.{Inline, Html as RawHtml, Emphasis, Strong, Strikethrough, Link, Image, Call, Inlines, Nil as NoText, Cons as Text}
+use Rattle.definition_inline.specs.Inline.{InlineLeaf, Html as RawHtml, Link, Image, Inline, Leaf, Span, Linked, Call, Inlines, Nil as NoText, Cons as Text}
 use Rattle.definition_inline.specs.LabelMatch.{normal_label, first_match}
 use Rattle.definition_page.specs.Tags.{PrintedPart, Words, Tag, tag, bare_tag}
 use Rattle.definition_page.specs.Pieces.{Piece, Open, Close, Void, Says, Eol, Fresh, CallOf, CountOf, NoteStart, NoteEnd}
-use Rattle.definition_page.specs.InlinePieces.{Meaning, element, html_says, call_at, count_at, part_counts, inline_counts, part_pieces, inline_pieces, link_tag}
+use Rattle.definition_page.specs.InlinePieces.{Meaning, element, html_says, call_at, count_at, part_counts, inline_counts, leaf_pieces, span_name}
+use Rattle.definition_page.specs.InlinePieces.{part_pieces, inline_pieces, link_tag}
 use Rattle.definition_inline.specs.Targets.{leads_to}
 use Rattle.definition_page.specs.GfmTable.{TableRow, Table as TableOf, cell_pieces, cells_pieces, row_pieces, align_attributes, ending_piece, body_row_pieces}
 use Rattle.definition_page.specs.GfmTable.{head_pieces, body_pieces, table_pieces}
-use Rattle.definition_page.specs.BlockPieces.{Place, at_top, inside, fresh_unless, says, code_line, html_line, check_pieces, fenced_pieces, is_silent}
+use Rattle.definition_page.specs.BlockPieces.{Place, at_top, inside, fresh_unless, says, code_line, html_line, fenced_pieces, is_silent}
 use Rattle.definition_page.specs.BlockPieces.{last_visible, ends_plainly, block_pieces, children_pieces, heading_name, info_attributes, list_tag}
 use Rattle.definition_page.specs.DocumentPieces.{meaning_of}
 use Rattle.definition_page.specs.Page.{Page, Block, Paragraph, Heading, IndentedCode, FencedCode, Html, Table, Quote, ItemList, Item, Footnote, Ending, Blocks}
@@ -92,28 +93,26 @@ module _ (m : Meaning) where
 
   mutual
     part_counts_lead : (i : Inline) → Lead (part_counts m i)
-    part_counts_lead (Emphasis kids) = counts_lead kids
-    part_counts_lead (Strong kids) = counts_lead kids
-    part_counts_lead (Strikethrough kids) = counts_lead kids
-    part_counts_lead (Link target kids) = counts_lead kids
-    part_counts_lead (Image target kids) = counts_lead kids
+    part_counts_lead (Leaf part) = no_calls
+    part_counts_lead (Span kind kids) = counts_lead kids
+    part_counts_lead (Linked kind target kids) = counts_lead kids
     part_counts_lead (Call label) = count_leads label (first_match label m.footnotes) refl
-    part_counts_lead i = no_calls
 
     counts_lead : (is : Inlines) → Lead (inline_counts m is)
     counts_lead NoText = no_calls
     counts_lead (Text i is) = both_lead (part_counts m i) (inline_counts m is) (part_counts_lead i) (counts_lead is)
 
+  leaf_leads : (part : InlineLeaf) → Lead (leaf_pieces m.compile part)
+  leaf_leads (RawHtml html) = says_lead (html_says m.compile html)
+  leaf_leads part = no_calls
+
   mutual
     part_leads : (i : Inline) → Lead (part_pieces m i)
-    part_leads (RawHtml html) = says_lead (html_says m.compile html)
-    part_leads (Emphasis kids) = element_leads (bare_tag (codes "em")) (inline_pieces m kids) (inlines_lead kids)
-    part_leads (Strong kids) = element_leads (bare_tag (codes "strong")) (inline_pieces m kids) (inlines_lead kids)
-    part_leads (Strikethrough kids) = element_leads (bare_tag (codes "del")) (inline_pieces m kids) (inlines_lead kids)
-    part_leads (Link target kids) = element_leads (link_tag m (leads_to m.definition target)) (inline_pieces m kids) (inlines_lead kids)
-    part_leads (Image target kids) = counts_lead kids
+    part_leads (Leaf part) = leaf_leads part
+    part_leads (Span kind kids) = element_leads (bare_tag (span_name kind)) (inline_pieces m kids) (inlines_lead kids)
+    part_leads (Linked Link target kids) = element_leads (link_tag m (leads_to m.definition target)) (inline_pieces m kids) (inlines_lead kids)
+    part_leads (Linked Image target kids) = counts_lead kids
     part_leads (Call label) = call_leads label (first_match label m.footnotes) refl
-    part_leads i = no_calls
 
     inlines_lead : (is : Inlines) → Lead (inline_pieces m is)
     inlines_lead NoText = no_calls
@@ -167,10 +166,6 @@ module _ (m : Meaning) where
 
   -- ---- blocks
 
-  check_leads : (check : Option Bool) → Lead (check_pieces m.compile check)
-  check_leads None = no_calls
-  check_leads (Some done) = no_calls
-
   fresh_leads : (said : Bool) → Lead (fresh_unless said)
   fresh_leads true = no_calls
   fresh_leads false = no_calls
@@ -188,10 +183,10 @@ module _ (m : Meaning) where
 
   mutual
     block_leads : (place : Place) (before : Option Block) (b : Block) → Lead (block_pieces m place before b)
-    block_leads place before (Paragraph check is) =
-        let text = check_pieces m.compile check ++ inline_pieces m is in
-        let leads : Lead text = both_lead (check_pieces m.compile check) (inline_pieces m is) (check_leads check) (inlines_lead is) in
-        either_leads place.tight text (Fresh ∷ element (bare_tag (codes "p")) text) leads (element_leads (bare_tag (codes "p")) text leads)
+    block_leads place before (Paragraph is) =
+        let text = inline_pieces m is in
+        either_leads place.tight text (Fresh ∷ element (bare_tag (codes "p")) text) (inlines_lead is)
+        (element_leads (bare_tag (codes "p")) text (inlines_lead is))
     block_leads place before (Heading rank is) = element_leads (bare_tag (heading_name rank)) (inline_pieces m is) (inlines_lead is)
     block_leads place before (IndentedCode ls) =
         let code = says (flat_map code_line ls) ++ Fresh ∷ [] in

@@ -5,7 +5,7 @@ use Rattle.definition_text.specs.InlineCode.{InlineCode}
 use Rattle.definition_inline.specs.Inline.{Inline, Leaf, Span, Linked, Call, Inlines, Nil, Cons}
 use Rattle.definition_inline.specs.Scan.{InlineContext, inlines, without_indent}
 use Rattle.definition_inline.specs.MayStand.{part_may_stand}
-use Rattle.definition_inline.proofs.EachPart.{EachPart, EachOf}
+use Rattle.definition_inline.specs.EachPart.{EachPart, EachOf}
 use Rattle.definition_inline.proofs.MayStand.{Stands, may_stand}
 use Rattle.laws_inline.specs.Occurs.{part_has, has, is_off, NothingIsOff}
 

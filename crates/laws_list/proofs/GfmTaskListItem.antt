@@ -7,7 +7,7 @@ use Rattle.definition_block.specs.Container.{Quote, Item, Footnote}
 use Rattle.definition_block.specs.Blocks as tree
 use Rattle.definition_block.specs.Tree.{is_ending}
 use Rattle.definition_page.specs.Page as page
-use Rattle.definition_page.specs.Read.{Reading, Standing, in_container, text_content, checked_paragraph, read_paragraph, read_block, read_blocks}
+use Rattle.definition_page.specs.Read.{Reading, Standing, in_container, text_content, checked_text, read_paragraph, read_block, read_blocks}
 use Rattle.laws_options.proofs.GfmTaskListItem.{no_check}
 
 -- in a container, as the first block of an item or not
@@ -17,10 +17,10 @@ standing_by first = record { top = false; first = first }
 module _ (r : Reading) (off : r.options.constructs.gfm_task_list_item ≡ false) where
   same_paragraph : (first : Bool) (ls : List BlockLine) → read_paragraph r first ls ≡ read_paragraph r false ls
   same_paragraph first ls =
-      let content = without_indent (text_content r ls) in ap (checked_paragraph r content) (no_check r off first (codes_of content))
+      let content = without_indent (text_content r ls) in ap (checked_text r content) (no_check r off first (codes_of content))
 
   same_block : (first : Bool) (b : tree.Block) (others : page.Blocks) → read_block r (standing_by first) b others ≡ read_block r in_container b others
-  same_block first (tree.Paragraph ls) others = ap (λ b. page.Cons b others) (same_paragraph first ls)
+  same_block first (tree.Paragraph ls) others = ap (λ is. page.Cons (page.Paragraph is) others) (same_paragraph first ls)
   same_block first (tree.Heading rank ls) others = refl
   same_block first tree.Break others = refl
   same_block first (tree.IndentedCode ls) others = refl

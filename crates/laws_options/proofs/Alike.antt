@@ -1,5 +1,5 @@
 -- Pages are the same by options that print raw HTML and URLs alike.
-use Rattle.std.proofs.Common.{◌≡◌, ℕ, Bool, false, not, cond, List, [], ◌∷◌, ◌++◌, Option, None, Some, refl, ap, ◌∙◌, map}
+use Rattle.std.proofs.Common.{◌≡◌, ℕ, false, not, cond, List, [], ◌∷◌, ◌++◌, Option, None, Some, refl, ap, ◌∙◌, map}
 use Rattle.std.specs.Prelude.{codes}
 use Rattle.std.specs.List.{flat_map}
 use Rattle.markdown_options.specs.declared.configuration.CompileOptions.{CompileOptions}
@@ -7,19 +7,21 @@ use Rattle.markdown_options.specs.declared.line_ending.LineEnding.{LineEnding}
 use Rattle.definition_text.specs.BlockLines.{BlockLine}
 use Rattle.definition_text.specs.Columns.{bytes_of, bare}
 use Rattle.definition_text.specs.Lines.{ending_text}
-use Rattle.definition_inline.specs.Inline.{LinkTexts, Inline, Autolink, Literal, Html, Emphasis, Strong, Strikethrough, Link, Image, Inlines, Nil, Cons}
+use Rattle.definition_inline.specs.Inline.{LinkTexts, InlineLeaf, Autolink, Literal, Html, TaskCheck, Link, Image, Inline, Leaf, Span, Linked, Call}
+use Rattle.definition_inline.specs.Inline.{Inlines, Nil, Cons}
 use Rattle.definition_page.specs.Tags.{PrintedPart, Words, EndOfLine, Attribute, attribute, Tag, tag, bare_tag}
 use Rattle.definition_page.specs.Pieces.{Piece, Void, Says, Eol, Fresh, NoteStart, NoteEnd}
 use Rattle.definition_page.specs.InlinePieces.{Meaning, link_url, image_url, url_of, title_attribute, address, literal_address, raw_html, HtmlLine, html_lines}
-use Rattle.definition_page.specs.InlinePieces.{html_line_says, later_line_says, html_lines_say, link_tag, image_tag, part_says, description}
+use Rattle.definition_page.specs.InlinePieces.{html_line_says, later_line_says, html_lines_say, link_tag, image_tag, leaf_says, part_says, description}
 use Rattle.definition_inline.specs.Targets.{leads_to}
-use Rattle.definition_page.specs.InlinePieces.{part_counts, inline_counts, element, part_pieces, inline_pieces}
+use Rattle.definition_page.specs.InlinePieces.{part_counts, inline_counts, element, address_tag, leaf_pieces, span_name, part_pieces, inline_pieces}
+use Rattle.definition_page.specs.GfmTaskListItem.{checkable_attributes, done_attributes}
 use Rattle.markdown_options.specs.declared.align_kind.AlignKind.{AlignKind}
 use Rattle.definition_page.specs.GfmTable.{Table, TableRow, align_attributes, cell_pieces, cells_pieces, row_pieces, ending_piece, body_row_pieces, head_pieces}
 use Rattle.definition_page.specs.GfmTable.{body_pieces, table_pieces}
 use Rattle.definition_page.specs.Page as page
 use Rattle.definition_page.specs.Page.{Page}
-use Rattle.definition_page.specs.BlockPieces.{checkable_attributes, done_attributes, check_pieces, Place, at_top, inside, html_line, says, heading_name}
+use Rattle.definition_page.specs.BlockPieces.{Place, at_top, inside, html_line, says, heading_name}
 use Rattle.definition_page.specs.BlockPieces.{list_tag, last_visible, ends_plainly, fresh_unless, block_pieces, children_pieces, document_pieces}
 
 -- options that print raw HTML and URLs alike
@@ -52,15 +54,16 @@ module _ (m : Meaning) (compile : CompileOptions) (alike : Alike compile m.compi
 
   -- ---- inline structure
 
+  same_leaf_says : (part : InlineLeaf) → leaf_says compile part ≡ leaf_says m.compile part
+  same_leaf_says (Html html) = same_lines (html_lines html)
+  same_leaf_says part = refl
+
   mutual
     same_part_says : (i : Inline) → part_says compile i ≡ part_says m.compile i
-    same_part_says (Html html) = same_lines (html_lines html)
-    same_part_says (Emphasis kids) = same_description kids
-    same_part_says (Strong kids) = same_description kids
-    same_part_says (Strikethrough kids) = same_description kids
-    same_part_says (Link target kids) = same_description kids
-    same_part_says (Image target kids) = same_description kids
-    same_part_says i = refl
+    same_part_says (Leaf part) = same_leaf_says part
+    same_part_says (Span kind kids) = same_description kids
+    same_part_says (Linked kind target kids) = same_description kids
+    same_part_says (Call label) = refl
 
     same_description : (is : Inlines) → description compile is ≡ description m.compile is
     same_description Nil = refl
@@ -78,36 +81,41 @@ module _ (m : Meaning) (compile : CompileOptions) (alike : Alike compile m.compi
 
   mutual
     same_part_counts : (i : Inline) → part_counts other i ≡ part_counts m i
-    same_part_counts (Emphasis kids) = same_counts kids
-    same_part_counts (Strong kids) = same_counts kids
-    same_part_counts (Strikethrough kids) = same_counts kids
-    same_part_counts (Link target kids) = same_counts kids
-    same_part_counts (Image target kids) = same_counts kids
-    same_part_counts i = refl
+    same_part_counts (Leaf part) = refl
+    same_part_counts (Span kind kids) = same_counts kids
+    same_part_counts (Linked kind target kids) = same_counts kids
+    same_part_counts (Call label) = refl
 
     same_counts : (is : Inlines) → inline_counts other is ≡ inline_counts m is
     same_counts Nil = refl
     same_counts (Cons i is) = ap (λ ps. ps ++ inline_counts other is) (same_part_counts i) ∙ ap (λ ps. part_counts m i ++ ps) (same_counts is)
 
+  same_address : (url text : List ℕ)
+      → element (address_tag compile url) (Says (Words text) ∷ []) ≡ element (address_tag m.compile url) (Says (Words text) ∷ [])
+  same_address url text = ap (λ printed. element (tag (codes "a") (attribute (codes "href") printed ∷ [])) (Says (Words text) ∷ [])) (alike.link url)
+
+  same_leaf : (part : InlineLeaf) → leaf_pieces compile part ≡ leaf_pieces m.compile part
+  same_leaf (Autolink is_email text) = same_address (address is_email text) text
+  same_leaf (Literal kind text) = same_address (literal_address kind text) text
+  same_leaf (Html html) = ap (map Says) (same_lines (html_lines html))
+  same_leaf (TaskCheck done) =
+      ap (λ checkable. Void (tag (codes "input") (attribute (codes "type") (codes "checkbox") ∷ checkable_attributes checkable ++ done_attributes done)) ∷ [])
+      alike.checkable
+  same_leaf part = refl
+
   mutual
     same_part : (i : Inline) → part_pieces other i ≡ part_pieces m i
-    same_part (Autolink is_email text) =
-        ap (λ url. element (tag (codes "a") (attribute (codes "href") url ∷ [])) (Says (Words text) ∷ [])) (alike.link (address is_email text))
-    same_part (Literal kind text) =
-        ap (λ url. element (tag (codes "a") (attribute (codes "href") url ∷ [])) (Says (Words text) ∷ [])) (alike.link (literal_address kind text))
-    same_part (Html html) = ap (map Says) (same_lines (html_lines html))
-    same_part (Emphasis kids) = ap (element (bare_tag (codes "em"))) (same_inlines kids)
-    same_part (Strong kids) = ap (element (bare_tag (codes "strong"))) (same_inlines kids)
-    same_part (Strikethrough kids) = ap (element (bare_tag (codes "del"))) (same_inlines kids)
-    same_part (Link target kids) =
+    same_part (Leaf part) = same_leaf part
+    same_part (Span kind kids) = ap (element (bare_tag (span_name kind))) (same_inlines kids)
+    same_part (Linked Link target kids) =
         ap (λ t. element t (inline_pieces other kids)) (same_link_tag (leads_to m.definition target))
         ∙ ap (element (link_tag m (leads_to m.definition target))) (same_inlines kids)
-    same_part (Image target kids) =
+    same_part (Linked Image target kids) =
         let image : List PrintedPart → Tag = image_tag m (leads_to m.definition target) in
         ap (λ t. Void t ∷ inline_counts other kids) (same_image_tag (leads_to m.definition target) (description compile kids))
         ∙ ap (λ said. Void (image said) ∷ inline_counts other kids) (same_description kids)
         ∙ ap (λ counts. Void (image (description m.compile kids)) ∷ counts) (same_counts kids)
-    same_part i = refl
+    same_part (Call label) = refl
 
     same_inlines : (is : Inlines) → inline_pieces other is ≡ inline_pieces m is
     same_inlines Nil = refl
@@ -161,21 +169,9 @@ module _ (m : Meaning) (compile : CompileOptions) (alike : Alike compile m.compi
       ap (λ head. whole head (body_pieces other t.aligns t.ending t.rows)) (same_head t.aligns t.head)
       ∙ ap (whole (head_pieces m t.aligns t.head)) (same_body t.aligns t.ending t.rows)
 
-  same_check : (check : Option Bool) → check_pieces compile check ≡ check_pieces m.compile check
-  same_check None = refl
-  same_check (Some done) =
-      ap (λ checkable. Void (tag (codes "input") (attribute (codes "type") (codes "checkbox") ∷ checkable_attributes checkable ++ done_attributes done)) ∷ [])
-      alike.checkable
-
-  same_paragraph : (place : Place) (before : Option page.Block) (check : Option Bool) (is : Inlines)
-      → block_pieces other place before (page.Paragraph check is) ≡ block_pieces m place before (page.Paragraph check is)
-  same_paragraph place before check is =
-      ap (λ ps. cond place.tight ps (Fresh ∷ element (bare_tag (codes "p")) ps))
-      (ap (λ ps. ps ++ inline_pieces other is) (same_check check) ∙ ap (λ ps. check_pieces m.compile check ++ ps) (same_inlines is))
-
   mutual
     same_block : (place : Place) (before : Option page.Block) (b : page.Block) → block_pieces other place before b ≡ block_pieces m place before b
-    same_block place before (page.Paragraph check is) = same_paragraph place before check is
+    same_block place before (page.Paragraph is) = ap (λ ps. cond place.tight ps (Fresh ∷ element (bare_tag (codes "p")) ps)) (same_inlines is)
     same_block place before (page.Heading rank is) = ap (λ ps. Fresh ∷ element (bare_tag (heading_name rank)) ps) (same_inlines is)
     same_block place before (page.Html ls) = ap (λ said. Fresh ∷ says said) (same_html ls)
     same_block place before (page.Table t) = same_table t

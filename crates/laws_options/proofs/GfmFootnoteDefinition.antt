@@ -6,7 +6,7 @@ use Rattle.markdown_options.specs.declared.line_ending.LineEnding.{LineEnding}
 use Rattle.markdown_options.specs.declared.configuration.CompileOptions.{CompileOptions}
 use Rattle.definition_text.specs.BlockLines.{BlockLine}
 use Rattle.definition_text.specs.Lines.{without_mark, kind_before_text}
-use Rattle.definition_inline.specs.Inline.{Inline, Emphasis, Strong, Strikethrough, Link, Image, Call, Html, Inlines, Nil, Cons}
+use Rattle.definition_inline.specs.Inline.{InlineLeaf, Html, Link, Image, Inline, Leaf, Span, Linked, Call, Inlines, Nil, Cons}
 use Rattle.definition_inline.specs.LabelMatch.{normal_label, first_match}
 use Rattle.definition_block.specs.Container.{Quote, Item, Footnote}
 use Rattle.definition_block.specs.Tree as tree
@@ -15,14 +15,14 @@ use Rattle.definition_block.specs.Definitions.{block_footnotes, footnotes}
 use Rattle.markdown_options.specs.declared.align_kind.AlignKind.{AlignKind}
 use Rattle.definition_page.specs.Tags.{PrintedPart, Tag, tag, bare_tag}
 use Rattle.definition_page.specs.Pieces.{Piece, Close, Says, Eol, Fresh, NoteEnd}
-use Rattle.definition_page.specs.InlinePieces.{Meaning, html_says, link_tag, call_at, count_at, part_counts, inline_counts, element, part_pieces}
+use Rattle.definition_page.specs.InlinePieces.{Meaning, html_says, link_tag, call_at, count_at, part_counts, inline_counts, element, leaf_pieces, span_name, part_pieces}
 use Rattle.definition_inline.specs.Targets.{leads_to}
 use Rattle.definition_page.specs.InlinePieces.{inline_pieces}
 use Rattle.definition_page.specs.GfmTable.{Table, TableRow, align_attributes, cell_pieces, cells_pieces, row_pieces, ending_piece, body_row_pieces, head_pieces}
 use Rattle.definition_page.specs.GfmTable.{body_pieces, table_pieces}
 use Rattle.definition_page.specs.Page as page
 use Rattle.definition_page.specs.Page.{Page}
-use Rattle.definition_page.specs.BlockPieces.{check_pieces, Place, at_top, inside, code_line, html_line, says, heading_name, info_attributes, list_tag}
+use Rattle.definition_page.specs.BlockPieces.{Place, at_top, inside, code_line, html_line, says, heading_name, info_attributes, list_tag}
 use Rattle.definition_page.specs.BlockPieces.{last_visible, ends_plainly, is_silent, fresh_unless, fenced_pieces, block_pieces, children_pieces}
 use Rattle.definition_page.specs.BlockPieces.{document_pieces}
 use Rattle.definition_page.specs.DocumentPieces.{meaning_of, default_ending}
@@ -75,28 +75,26 @@ module _ (m : Meaning) (none : m.footnotes ≡ []) where
 
   mutual
     uncalled_part_counts : (i : Inline) → AreUncalled (part_counts m i)
-    uncalled_part_counts (Emphasis kids) = uncalled_counts kids
-    uncalled_part_counts (Strong kids) = uncalled_counts kids
-    uncalled_part_counts (Strikethrough kids) = uncalled_counts kids
-    uncalled_part_counts (Link target kids) = uncalled_counts kids
-    uncalled_part_counts (Image target kids) = uncalled_counts kids
+    uncalled_part_counts (Leaf part) = tt
+    uncalled_part_counts (Span kind kids) = uncalled_counts kids
+    uncalled_part_counts (Linked kind target kids) = uncalled_counts kids
     uncalled_part_counts (Call label) = uncalled_count label
-    uncalled_part_counts i = tt
 
     uncalled_counts : (is : Inlines) → AreUncalled (inline_counts m is)
     uncalled_counts Nil = tt
     uncalled_counts (Cons i is) = uncalled_append (part_counts m i) (inline_counts m is) (uncalled_part_counts i) (uncalled_counts is)
 
+  uncalled_leaf : (part : InlineLeaf) → AreUncalled (leaf_pieces m.compile part)
+  uncalled_leaf (Html html) = uncalled_says (html_says m.compile html)
+  uncalled_leaf part = search
+
   mutual
     uncalled_part : (i : Inline) → AreUncalled (part_pieces m i)
-    uncalled_part (Html html) = uncalled_says (html_says m.compile html)
-    uncalled_part (Emphasis kids) = uncalled_element (bare_tag (codes "em")) (inline_pieces m kids) (uncalled_inlines kids)
-    uncalled_part (Strong kids) = uncalled_element (bare_tag (codes "strong")) (inline_pieces m kids) (uncalled_inlines kids)
-    uncalled_part (Strikethrough kids) = uncalled_element (bare_tag (codes "del")) (inline_pieces m kids) (uncalled_inlines kids)
-    uncalled_part (Link target kids) = uncalled_element (link_tag m (leads_to m.definition target)) (inline_pieces m kids) (uncalled_inlines kids)
-    uncalled_part (Image target kids) = (tt, uncalled_counts kids)
+    uncalled_part (Leaf part) = uncalled_leaf part
+    uncalled_part (Span kind kids) = uncalled_element (bare_tag (span_name kind)) (inline_pieces m kids) (uncalled_inlines kids)
+    uncalled_part (Linked Link target kids) = uncalled_element (link_tag m (leads_to m.definition target)) (inline_pieces m kids) (uncalled_inlines kids)
+    uncalled_part (Linked Image target kids) = (tt, uncalled_counts kids)
     uncalled_part (Call label) = uncalled_call label
-    uncalled_part i = search
 
     uncalled_inlines : (is : Inlines) → AreUncalled (inline_pieces m is)
     uncalled_inlines Nil = tt
@@ -161,20 +159,11 @@ module _ (m : Meaning) (none : m.footnotes ≡ []) where
       let p = cond_both (place.top || is_closed) [] (Eol ∷ []) AreUncalled (λ _. tt) (λ _. (tt, tt)) in
       uncalled_append (lines ++ last) (Fresh ∷ []) (uncalled_append lines last (uncalled_says (flat_map code_line (line ∷ others))) p) (tt, tt)
 
-  uncalled_check : (check : Option Bool) → AreUncalled (check_pieces m.compile check)
-  uncalled_check None = tt
-  uncalled_check (Some done) = (tt, tt)
-
-  uncalled_paragraph : (place : Place) (before : Option page.Block) (check : Option Bool) (is : Inlines)
-      → AreUncalled (block_pieces m place before (page.Paragraph check is))
-  uncalled_paragraph place before check is =
-      let text = check_pieces m.compile check ++ inline_pieces m is in
-      let p = uncalled_append (check_pieces m.compile check) (inline_pieces m is) (uncalled_check check) (uncalled_inlines is) in
-      cond_both place.tight text _ AreUncalled (λ _. p) (λ _. (tt, uncalled_element (bare_tag (codes "p")) text p))
-
   mutual
     uncalled_block : (place : Place) (before : Option page.Block) (b : page.Block) → AreUncalled (block_pieces m place before b)
-    uncalled_block place before (page.Paragraph check is) = uncalled_paragraph place before check is
+    uncalled_block place before (page.Paragraph is) =
+        cond_both place.tight (inline_pieces m is) _ AreUncalled (λ _. uncalled_inlines is)
+        (λ _. (tt, uncalled_element (bare_tag (codes "p")) (inline_pieces m is) (uncalled_inlines is)))
     uncalled_block place before (page.Heading rank is) = (tt, uncalled_element (bare_tag (heading_name rank)) (inline_pieces m is) (uncalled_inlines is))
     uncalled_block place before page.Break = (tt, (tt, tt))
     uncalled_block place before (page.IndentedCode ls) =

@@ -1,18 +1,21 @@
 -- Pages without checks.
-use Rattle.std.specs.Prelude.{◌≡◌, ℕ, Bool, false, List, Option, None, Some}
+use Rattle.std.specs.Prelude.{◌≡◌, ℕ, false, List}
 use Rattle.markdown_options.specs.declared.configuration.ParseOptions.{ParseOptions}
+use Rattle.definition_inline.specs.Inline.{TaskCheck, Inline, Leaf}
+use Rattle.definition_inline.specs.EachPart.{EachOf}
 use Rattle.definition_page.specs.TextTables.{TextTables}
 use Rattle.definition_page.specs.Page.{Block, Paragraph, Quote, ItemList, Item, Footnote, Blocks, Nil, Cons}
 use Rattle.definition_page.specs.Read.{read}
 
-abbrev pub IsUnchecked : Option Bool → Type 0
-IsUnchecked None = Unit {0}
-IsUnchecked (Some done) = ⊥
+-- a part that is no check
+abbrev pub IsNoCheck : Inline → Type 0
+IsNoCheck (Leaf (TaskCheck done)) = ⊥
+IsNoCheck i = Unit {0}
 
 -- no paragraph has a check, at any depth
 abbrev mutual
   pub HasNoCheck : Block → Type 0
-  HasNoCheck (Paragraph check is) = IsUnchecked check
+  HasNoCheck (Paragraph is) = EachOf IsNoCheck is
   HasNoCheck (Quote kids) = HaveNoChecks kids
   HasNoCheck (ItemList number loose items) = HaveNoChecks items
   HasNoCheck (Item kids) = HaveNoChecks kids

@@ -7,11 +7,7 @@ use Rattle.markdown_options.specs.declared.configuration.Constructs.{Constructs}
 use Rattle.markdown_options.specs.declared.line_ending.LineEnding.{LineEnding}
 use Rattle.definition_text.specs.BlockLines.{BlockLine}
 use Rattle.markdown_options.specs.declared.beside.Kind.{Kind}
-use Rattle.definition_inline.specs.Inline.{Inline, Data, Escape, Character, Code, Math, Autolink, Literal, Html, EscapedBreak, TrailingBreak, LineEnd, Emphasis}
-use Rattle.definition_inline.specs.Inline.{Strong, Strikethrough, Link, Image, Call, Inlines, Nil, Cons}
-use Rattle.definition_text.specs.InlineCode.{InlineCode, codes_of}
-use Rattle.definition_inline.specs.GfmTaskListItem.{check_at}
-use Rattle.definition_inline.specs.Scan.{without_indent}
+use Rattle.definition_inline.specs.Inline.{InlineLeaf, Html, Link, Image, Inline, Leaf, Span, Linked, Call, Inlines, Nil, Cons}
 use Rattle.definition_inline.specs.LabelMatch.{normal_label, first_match}
 use Rattle.definition_block.specs.Container.{Quote, Item, Footnote}
 use Rattle.definition_block.specs.Blocks as tree
@@ -22,13 +18,14 @@ use Rattle.definition_block.specs.Lists.{group_items}
 use Rattle.markdown_options.specs.declared.align_kind.AlignKind.{AlignKind}
 use Rattle.definition_page.specs.Tags.{PrintedPart, tag, bare_tag}
 use Rattle.definition_page.specs.Pieces.{Piece, Close, Eol, Fresh}
-use Rattle.definition_page.specs.InlinePieces.{Meaning, html_says, call_at, count_at, part_counts, inline_counts, element, part_pieces, inline_pieces}
+use Rattle.definition_page.specs.InlinePieces.{Meaning, html_says, call_at, count_at, part_counts, inline_counts, element, leaf_pieces, part_pieces}
+use Rattle.definition_page.specs.InlinePieces.{inline_pieces}
 use Rattle.definition_page.specs.GfmTable.{Table, TableRow, cell_pieces, cells_pieces, row_pieces, ending_piece, body_row_pieces, head_pieces, body_pieces}
 use Rattle.definition_page.specs.GfmTable.{table_pieces}
 use Rattle.definition_page.specs.Page as page
-use Rattle.definition_page.specs.BlockPieces.{Place, at_top, inside, check_pieces, code_line, html_line, says, info_attributes, is_silent, last_visible}
+use Rattle.definition_page.specs.BlockPieces.{Place, at_top, inside, code_line, html_line, says, info_attributes, is_silent, last_visible}
 use Rattle.definition_page.specs.BlockPieces.{ends_plainly, fresh_unless, fenced_pieces, block_pieces, children_pieces}
-use Rattle.definition_page.specs.Read.{Reading, text_content, checked_paragraph, read_paragraph, Standing, on_page, in_container, in_item, next_standing}
+use Rattle.definition_page.specs.Read.{Reading, Standing, on_page, in_container, in_item, next_standing}
 use Rattle.definition_page.specs.Read.{without_ending, read_block, read_blocks}
 use Rattle.definition_page.proofs.PlainLayout.{ArePlain}
 use Rattle.laws_block.proofs.Occurs.{BlockMayStand, MayStand, may_stand}
@@ -168,18 +165,9 @@ notes_without_ending (page.Cons (page.Ending ending) bs) p = p.1
 notes_without_ending bs p = p
 
 module _ (r : Reading) where
-  checked_note : (content : List InlineCode) (check : Option Bool) → ReadsNoNote (checked_paragraph r content check)
-  checked_note content None = tt
-  checked_note content (Some done) = tt
-
-  paragraph_note : (standing : Standing) (ls : List BlockLine) → ReadsNoNote (read_paragraph r standing.first ls)
-  paragraph_note standing ls =
-      let content = without_indent (text_content r ls) in
-      checked_note content (check_at r.options.constructs standing.first (codes_of content))
-
   mutual
     note_read : (standing : Standing) (b : tree.Block) (others : page.Blocks) → HasNoNote b → ReadNoNotes others → ReadNoNotes (read_block r standing b others)
-    note_read standing (tree.Paragraph ls) others p q = (paragraph_note standing ls, q)
+    note_read standing (tree.Paragraph ls) others p q = (tt, q)
     note_read standing (tree.Heading rank ls) others p q = (tt, q)
     note_read standing tree.Break others p q = (tt, q)
     note_read standing (tree.IndentedCode ls) others p q = (tt, q)
@@ -210,36 +198,25 @@ module _ (m : Meaning) (none : m.footnotes ≡ []) where
 
   mutual
     no_count : (i : Inline) → part_counts m i ≡ []
-    no_count (Emphasis kids) = no_counts kids
-    no_count (Strong kids) = no_counts kids
-    no_count (Strikethrough kids) = no_counts kids
-    no_count (Link target kids) = no_counts kids
-    no_count (Image target kids) = no_counts kids
+    no_count (Leaf part) = refl
+    no_count (Span kind kids) = no_counts kids
+    no_count (Linked kind target kids) = no_counts kids
     no_count (Call label) = ap (λ labels. count_at (first_match label labels) (normal_label label)) none
-    no_count i = refl
 
     no_counts : (is : Inlines) → inline_counts m is ≡ []
     no_counts Nil = refl
     no_counts (Cons i is) = ap (λ ps. ps ++ inline_counts m is) (no_count i) ∙ no_counts is
 
+  leaf_plain : (part : InlineLeaf) → ArePlain (leaf_pieces m.compile part)
+  leaf_plain (Html html) = plain-says (html_says m.compile html)
+  leaf_plain part = search
+
   mutual
     part_plain : (i : Inline) → ArePlain (part_pieces m i)
-    part_plain (Data b) = (tt, tt)
-    part_plain (Escape b) = (tt, tt)
-    part_plain (Character text) = (tt, tt)
-    part_plain (Code text) = (tt, (tt, (tt, tt)))
-    part_plain (Math text) = (tt, (tt, (tt, tt)))
-    part_plain (Autolink is_email text) = (tt, (tt, (tt, tt)))
-    part_plain (Literal kind text) = (tt, (tt, (tt, tt)))
-    part_plain (Html html) = plain-says (html_says m.compile html)
-    part_plain EscapedBreak = (tt, tt)
-    part_plain TrailingBreak = (tt, tt)
-    part_plain (LineEnd code) = (tt, tt)
-    part_plain (Emphasis kids) = plain-element _ (inline_pieces m kids) (inline_plain kids)
-    part_plain (Strong kids) = plain-element _ (inline_pieces m kids) (inline_plain kids)
-    part_plain (Strikethrough kids) = plain-element _ (inline_pieces m kids) (inline_plain kids)
-    part_plain (Link target kids) = plain-element _ (inline_pieces m kids) (inline_plain kids)
-    part_plain (Image target kids) = (tt, subst ArePlain (sym (no_counts kids)) tt)
+    part_plain (Leaf part) = leaf_plain part
+    part_plain (Span kind kids) = plain-element _ (inline_pieces m kids) (inline_plain kids)
+    part_plain (Linked Link target kids) = plain-element _ (inline_pieces m kids) (inline_plain kids)
+    part_plain (Linked Image target kids) = (tt, subst ArePlain (sym (no_counts kids)) tt)
     part_plain (Call label) = subst ArePlain (sym (no_call label)) tt
 
     inline_plain : (is : Inlines) → ArePlain (inline_pieces m is)
@@ -294,10 +271,6 @@ module _ (m : Meaning) (none : m.footnotes ≡ []) where
 
   -- ---- blocks
 
-  check_plain : (check : Option Bool) → ArePlain (check_pieces m.compile check)
-  check_plain None = tt
-  check_plain (Some done) = (tt, tt)
-
   fenced_plain : (place : Place) (closed : Bool) (ls : List BlockLine) → ArePlain (fenced_pieces place closed ls)
   fenced_plain place closed [] = tt
   fenced_plain place closed (line ∷ others) =
@@ -310,10 +283,10 @@ module _ (m : Meaning) (none : m.footnotes ≡ []) where
 
   mutual
     block_plain : (place : Place) (before : Option page.Block) (b : page.Block) → ReadsNoNote b → ArePlain (block_pieces m place before b)
-    block_plain place before (page.Paragraph check is) p =
-        let text = check_pieces m.compile check ++ inline_pieces m is in
-        let plain = plain-append (check_pieces m.compile check) (inline_pieces m is) (check_plain check) (inline_plain is) in
-        cond_both place.tight text (Fresh ∷ element (bare_tag (codes "p")) text) ArePlain (λ _. plain) (λ _. (tt, plain-element _ text plain))
+    block_plain place before (page.Paragraph is) p =
+        let text = inline_pieces m is in
+        cond_both place.tight text (Fresh ∷ element (bare_tag (codes "p")) text) ArePlain (λ _. inline_plain is)
+        (λ _. (tt, plain-element _ text (inline_plain is)))
     block_plain place before (page.Heading rank is) p = (tt, plain-element _ (inline_pieces m is) (inline_plain is))
     block_plain place before page.Break p = (tt, (tt, tt))
     block_plain place before (page.IndentedCode ls) p =

@@ -28,7 +28,7 @@ use Rattle.laws_quote.proofs.Printed.{with_piece, with_pieces, kept_at_fresh, ke
 ending_alike : (m : Meaning) (before : Option page.Block) (ending : LineEnding)
     → block_pieces m at_top before (page.Ending ending) ≡ block_pieces m (inside false) before (page.Ending ending)
 ending_alike m None ending = refl
-ending_alike m (Some (page.Paragraph check is)) ending = refl
+ending_alike m (Some (page.Paragraph is)) ending = refl
 ending_alike m (Some page.Definition) ending = refl
 ending_alike m (Some (page.Footnote label kids)) ending = refl
 ending_alike m (Some b) ending = refl
@@ -63,7 +63,7 @@ closed_read r info ls true others = refl
 closed_read r info ls false others = refl
 
 read_both : (m : Meaning) (r : Reading) (b : tree.Block) → ReadBoth m r b
-read_both m r (tree.Paragraph ls) = Alike (page.Paragraph None (read_text r ls)) (λ top others. refl) (λ before. refl)
+read_both m r (tree.Paragraph ls) = Alike (page.Paragraph (read_text r ls)) (λ top others. refl) (λ before. refl)
 read_both m r (tree.Heading rank ls) = Alike (page.Heading rank (read_text r ls)) (λ top others. refl) (λ before. refl)
 read_both m r tree.Break = Alike page.Break (λ top others. refl) (λ before. refl)
 read_both m r (tree.IndentedCode ls) = Alike (page.IndentedCode ls) (λ top others. refl) (λ before. refl)

@@ -22,7 +22,7 @@ use Rattle.definition_page.specs.Page.{Footnote, Ending, Blank, Blocks, Nil as N
 use Rattle.definition_page.specs.InlinePieces.{Meaning, inline_counts, element, inline_pieces}
 use Rattle.definition_page.specs.GfmFootnoteDefinition.{Footnote as NoteWithCalls}
 use Rattle.definition_page.specs.Layout.{layout_state, lay, note_of, page_layout}
-use Rattle.definition_page.specs.BlockPieces.{checkable_attributes, done_attributes, check_tag, check_pieces, Place, at_top, inside, code_line, html_line, says}
+use Rattle.definition_page.specs.BlockPieces.{Place, at_top, inside, code_line, html_line, says}
 use Rattle.definition_page.specs.BlockPieces.{heading_name, info_attributes, list_tag, is_silent, last_visible, ends_plainly, fresh_unless, fenced_pieces}
 use Rattle.definition_page.specs.BlockPieces.{block_pieces, children_pieces, document_pieces}
 use Rattle.html_safe_page.specs.Table.{start_rows, void_rows}
@@ -55,7 +55,7 @@ RowsEndLines rows = Each (λ (row : TableRow). CellsEndLines row.cells) rows
 -- headings have such ranks, and the codes of line endings are those, at any depth
 abbrev mutual
   pub IsReadable : Block → Type 0
-  IsReadable (Paragraph check is) = AllEndLines is
+  IsReadable (Paragraph is) = AllEndLines is
   IsReadable (Heading rank is) = (is_rank rank ≡ true) × AllEndLines is
   IsReadable (Table t) = CellsEndLines t.head.cells × RowsEndLines t.rows
   IsReadable (Quote kids) = AreReadable kids
@@ -97,14 +97,6 @@ list_is_tag None = (tt, refl)
 list_is_tag (Some number) =
     cond_both (eqb number 1) [] _ (λ attributes. IsTag start_rows (tag (codes "ol") attributes)) (λ _. (tt, refl))
     (λ _. ((value_spelled (Number number ∷ []) (tt, tt), tt), refl))
-
-check_is_tag : (checkable done : Bool)
-    → IsTag void_rows (tag (codes "input") (attribute (codes "type") (codes "checkbox") ∷ checkable_attributes checkable ++ done_attributes done))
-unfolding void_rows
-check_is_tag true true = ((words_text (codes "checkbox"), (words_text [], tt)), refl)
-check_is_tag true false = ((words_text (codes "checkbox"), tt), refl)
-check_is_tag false true = ((words_text (codes "checkbox"), (words_text [], (words_text [], tt))), refl)
-check_is_tag false false = ((words_text (codes "checkbox"), (words_text [], tt)), refl)
 
 -- the parts of a table
 table_is_tag : IsTag start_rows (bare_tag (codes "table"))
@@ -171,10 +163,6 @@ module _ (default : List ℕ) (ending : IsText default) (m : Meaning) (safe : Ar
       (cond_both (place.top || is_closed) [] (Eol ∷ []) (Lays m.compile default) (λ _. lays_nothing m.compile default)
       (λ _. lays_eol m.compile default ending)))
 
-  check_adds : (check : Option Bool) → Lays m.compile default (check_pieces m.compile check)
-  check_adds None = lays_nothing m.compile default
-  check_adds (Some done) = lays_void m.compile default (check_tag m.compile done) (check_is_tag m.compile.gfm_task_list_item_checkable done)
-
   -- the cells of a row
   module _ (name : List ℕ) (is_tag : (align : AlignKind) → IsTag start_rows (tag name (align_attributes align))) where
     cell_adds : (align : AlignKind) (c : Inlines) → AllEndLines c → Lays m.compile default (cell_pieces m name align c)
@@ -236,9 +224,9 @@ module _ (default : List ℕ) (ending : IsText default) (m : Meaning) (safe : Ar
     unfolding start_rows void_rows
 
     block_adds : (place : Place) (before : Option Block) (b : Block) → IsReadable b → Lays m.compile default (block_pieces m place before b)
-    block_adds place before (Paragraph check is) h =
-        let text = check_pieces m.compile check ++ inline_pieces m is in
-        let p = lays_append m.compile default (check_pieces m.compile check) (inline_pieces m is) (check_adds check) (inline_adds default m safe is h) in
+    block_adds place before (Paragraph is) h =
+        let text = inline_pieces m is in
+        let p = inline_adds default m safe is h in
         cond_both place.tight text _ (Lays m.compile default) (λ _. p) (λ _. block_element (bare_tag (codes "p")) text (tt, refl) p)
     block_adds place before (Heading rank is) h =
         block_element (bare_tag (heading_name rank)) (inline_pieces m is) (heading_is_tag rank h.0) (inline_adds default m safe is h.1)

@@ -1,20 +1,23 @@
 -- What the inline structure of a content prints adds a safe page.
-use Rattle.std.proofs.Common.{◌≡◌, ℕ, true, cond, Option, None, Some, List, [], ◌∷◌, codes, sym, refl, subst}
+use Rattle.std.proofs.Common.{◌≡◌, ℕ, Bool, true, false, cond, Option, None, Some, List, [], ◌∷◌, ◌++◌, map, codes, sym, refl, subst}
 use Rattle.std.specs.List.{flat_map}
 use Rattle.std.proofs.lemmas.Bool.{cond_both}
 use Rattle.markdown_options.specs.declared.configuration.CompileOptions.{CompileOptions}
 use Rattle.definition_text.specs.Columns.{bytes_of, bare}
 use Rattle.definition_text.specs.Content.{is_eol}
-use Rattle.definition_inline.specs.Inline.{Inline, Data, Escape, Character, Code, Math, Autolink, Literal, Html, EscapedBreak, TrailingBreak, LineEnd, Emphasis}
-use Rattle.definition_inline.specs.Inline.{Strong, Strikethrough, Link, Image, Call, Inlines, Nil, Cons}
+use Rattle.definition_inline.specs.Inline.{InlineLeaf, Code, Math, Autolink, Literal, Html, EscapedBreak, TrailingBreak, LineEnd, TaskCheck, SpanKind}
+use Rattle.definition_inline.specs.Inline.{Emphasis, Strong, Link, Image, Inline, Leaf, Span, Linked, Call, Inlines, Nil, Cons}
+use Rattle.definition_inline.specs.EachPart.{EachPart, EachOf}
 use Rattle.definition_inline.specs.LabelMatch.{normal_label, first_match}
 use Rattle.definition_page.specs.GfmTagfilter.{filter_if}
-use Rattle.definition_page.specs.Tags.{Words, AsItIs, EndOfLine, attribute, tag, bare_tag}
+use Rattle.definition_page.specs.Tags.{Words, AsItIs, EndOfLine, attribute, Tag, tag, bare_tag}
 use Rattle.definition_page.specs.Pieces.{Void, Says}
+use Rattle.definition_page.specs.GfmTaskListItem.{checkable_attributes, done_attributes, check_tag}
 use Rattle.definition_page.specs.InlinePieces.{Meaning, raw_html, HtmlLine, html_text_line, in_first_line, html_lines, html_line_says, later_line_says}
 use Rattle.definition_page.specs.InlinePieces.{html_lines_say, html_says, url_of, link_url, link_tag, image_tag, math_tag, address, literal_address}
 use Rattle.definition_inline.specs.Targets.{leads_to}
-use Rattle.definition_page.specs.InlinePieces.{part_says, description, call_at, count_at, part_counts, inline_counts, part_pieces, inline_pieces}
+use Rattle.definition_page.specs.InlinePieces.{leaf_says, part_says, description, call_at, count_at, part_counts, inline_counts, element}
+use Rattle.definition_page.specs.InlinePieces.{address_tag, leaf_pieces, span_name, part_pieces, inline_pieces}
 use Rattle.html_safe_page.specs.Table.{start_rows, void_rows}
 use Rattle.laws_safe_page.specs.SafeHtml.{AreSafe}
 use Rattle.laws_safe_page.proofs.Values.{IsTextPart, AreTextParts}
@@ -24,20 +27,21 @@ use Rattle.laws_safe_page.proofs.Tags.{IsTag}
 use Rattle.laws_safe_page.proofs.Links.{link_is_tag, image_is_tag, words_text}
 use Rattle.laws_safe_page.proofs.Footnotes.{call_adds}
 
--- the code of each line ending is one, at any depth
-abbrev mutual
-  pub EndsLines : Inline → Type 0
-  EndsLines (LineEnd code) = is_eol code ≡ true
-  EndsLines (Emphasis kids) = AllEndLines kids
-  EndsLines (Strong kids) = AllEndLines kids
-  EndsLines (Strikethrough kids) = AllEndLines kids
-  EndsLines (Link target kids) = AllEndLines kids
-  EndsLines (Image target kids) = AllEndLines kids
-  EndsLines i = Unit {0}
+-- the code of a line ending is one
+abbrev pub LeafEndsLine : InlineLeaf → Type 0
+LeafEndsLine (LineEnd code) = is_eol code ≡ true
+LeafEndsLine part = Unit {0}
 
-  pub AllEndLines : Inlines → Type 0
-  AllEndLines Nil = Unit {0}
-  AllEndLines (Cons i is) = EndsLines i × AllEndLines is
+abbrev pub EndsLine : Inline → Type 0
+EndsLine (Leaf part) = LeafEndsLine part
+EndsLine i = Unit {0}
+
+-- the same at any depth
+abbrev pub EndsLines : Inline → Type 0
+EndsLines i = EachPart EndsLine i
+
+abbrev pub AllEndLines : Inlines → Type 0
+AllEndLines is = EachOf EndsLine is
 
 -- ---- raw HTML, which is printed as text
 
@@ -81,24 +85,19 @@ module _ (options : CompileOptions) (safe : AreSafe options) where
 
   -- ---- descriptions
 
+  leaf_is_text : (part : InlineLeaf) → LeafEndsLine part → AreTextParts (leaf_says options part)
+  leaf_is_text (Html html) h = tags_are_text html
+  leaf_is_text EscapedBreak h = tt
+  leaf_is_text TrailingBreak h = tt
+  leaf_is_text (TaskCheck done) h = tt
+  leaf_is_text (LineEnd code) h = (h, tt)
+  leaf_is_text part h = (tt, tt)
+
   mutual
     part_is_text : (i : Inline) → EndsLines i → AreTextParts (part_says options i)
-    part_is_text (Data b) h = (tt, tt)
-    part_is_text (Escape b) h = (tt, tt)
-    part_is_text (Character text) h = (tt, tt)
-    part_is_text (Code text) h = (tt, tt)
-    part_is_text (Math text) h = (tt, tt)
-    part_is_text (Autolink is_email text) h = (tt, tt)
-    part_is_text (Literal kind text) h = (tt, tt)
-    part_is_text (Html html) h = tags_are_text html
-    part_is_text EscapedBreak h = tt
-    part_is_text TrailingBreak h = tt
-    part_is_text (LineEnd code) h = (h, tt)
-    part_is_text (Emphasis kids) h = description_is_text kids h
-    part_is_text (Strong kids) h = description_is_text kids h
-    part_is_text (Strikethrough kids) h = description_is_text kids h
-    part_is_text (Link target kids) h = description_is_text kids h
-    part_is_text (Image target kids) h = description_is_text kids h
+    part_is_text (Leaf part) h = leaf_is_text part h
+    part_is_text (Span kind kids) h = description_is_text kids h.1
+    part_is_text (Linked kind target kids) h = description_is_text kids h.1
     part_is_text (Call label) h = tt
 
     description_is_text : (is : Inlines) → AllEndLines is → AreTextParts (description options is)
@@ -112,6 +111,20 @@ math_is_tag : IsTag start_rows math_tag
 unfolding start_rows
 math_is_tag = ((words_text (codes "language-math math-inline"), tt), refl)
 
+span_is_tag : (kind : SpanKind) → IsTag start_rows (bare_tag (span_name kind))
+unfolding start_rows
+span_is_tag Emphasis = (tt, refl)
+span_is_tag Strong = (tt, refl)
+span_is_tag kind = (tt, refl)
+
+check_is_tag : (checkable done : Bool)
+    → IsTag void_rows (tag (codes "input") (attribute (codes "type") (codes "checkbox") ∷ checkable_attributes checkable ++ done_attributes done))
+unfolding void_rows
+check_is_tag true true = ((words_text (codes "checkbox"), (words_text [], tt)), refl)
+check_is_tag true false = ((words_text (codes "checkbox"), tt), refl)
+check_is_tag false true = ((words_text (codes "checkbox"), (words_text [], (words_text [], tt))), refl)
+check_is_tag false false = ((words_text (codes "checkbox"), (words_text [], tt)), refl)
+
 module _ (default : List ℕ) (m : Meaning) where
   counts_at : (place : Option ℕ) (label : List ℕ) → Lays m.compile default (count_at place label)
   counts_at None label = lays_nothing m.compile default
@@ -123,52 +136,46 @@ module _ (default : List ℕ) (m : Meaning) where
 
   mutual
     part_counts_lay : (i : Inline) → Lays m.compile default (part_counts m i)
-    part_counts_lay (Emphasis kids) = counts_lay kids
-    part_counts_lay (Strong kids) = counts_lay kids
-    part_counts_lay (Strikethrough kids) = counts_lay kids
-    part_counts_lay (Link target kids) = counts_lay kids
-    part_counts_lay (Image target kids) = counts_lay kids
+    part_counts_lay (Leaf part) = lays_nothing m.compile default
+    part_counts_lay (Span kind kids) = counts_lay kids
+    part_counts_lay (Linked kind target kids) = counts_lay kids
     part_counts_lay (Call label) = counts_at (first_match label m.footnotes) (normal_label label)
-    part_counts_lay i = lays_nothing m.compile default
 
     pub counts_lay : (is : Inlines) → Lays m.compile default (inline_counts m is)
     counts_lay Nil = lays_nothing m.compile default
     counts_lay (Cons i is) = lays_append m.compile default (part_counts m i) (inline_counts m is) (part_counts_lay i) (counts_lay is)
 
 module _ (default : List ℕ) (m : Meaning) (safe : AreSafe m.compile) where
-  mutual
-    unfolding start_rows void_rows
+  -- an element around a text
+  said_adds : (t : Tag) (text : List ℕ) → IsTag start_rows t → Lays m.compile default (element t (Says (Words text) ∷ []))
+  said_adds t text is = lays_element m.compile default t (Says (Words text) ∷ []) is (lays_says m.compile default (Words text) tt)
 
+  leaf_adds : (part : InlineLeaf) → LeafEndsLine part → Lays m.compile default (leaf_pieces m.compile part)
+  unfolding start_rows void_rows
+  leaf_adds (Code text) h = said_adds (bare_tag (codes "code")) text (tt, refl)
+  leaf_adds (Math text) h = said_adds math_tag text math_is_tag
+  leaf_adds (Autolink is_email text) h = said_adds (address_tag m.compile (address is_email text)) text (link_is_tag m safe (address is_email text) None)
+  leaf_adds (Literal kind text) h =
+      said_adds (address_tag m.compile (literal_address kind text)) text (link_is_tag m safe (literal_address kind text) None)
+  leaf_adds EscapedBreak h = lays_void m.compile default (bare_tag (codes "br")) (tt, refl)
+  leaf_adds TrailingBreak h = lays_void m.compile default (bare_tag (codes "br")) (tt, refl)
+  leaf_adds (TaskCheck done) h = lays_void m.compile default (check_tag m.compile done) (check_is_tag m.compile.gfm_task_list_item_checkable done)
+  leaf_adds part h = lays_parts m.compile default (leaf_says m.compile part) (leaf_is_text m.compile safe part h)
+
+  mutual
     part_adds : (i : Inline) → EndsLines i → Lays m.compile default (part_pieces m i)
-    part_adds (Data b) h = lays_says m.compile default (Words (b ∷ [])) tt
-    part_adds (Escape b) h = lays_says m.compile default (Words (b ∷ [])) tt
-    part_adds (Character text) h = lays_says m.compile default (Words text) tt
-    part_adds (Code text) h =
-        lays_element m.compile default (bare_tag (codes "code")) (Says (Words text) ∷ []) (tt, refl) (lays_says m.compile default (Words text) tt)
-    part_adds (Math text) h = lays_element m.compile default math_tag (Says (Words text) ∷ []) math_is_tag (lays_says m.compile default (Words text) tt)
-    part_adds (Autolink is_email text) h =
-        lays_element m.compile default (tag (codes "a") (attribute (codes "href") (link_url m.compile (address is_email text)) ∷ [])) (Says (Words text) ∷ [])
-        (link_is_tag m safe (address is_email text) None) (lays_says m.compile default (Words text) tt)
-    part_adds (Literal kind text) h =
-        lays_element m.compile default (tag (codes "a") (attribute (codes "href") (link_url m.compile (literal_address kind text)) ∷ []))
-        (Says (Words text) ∷ [])
-        (link_is_tag m safe (literal_address kind text) None) (lays_says m.compile default (Words text) tt)
-    part_adds (Html html) h = lays_parts m.compile default (html_says m.compile html) (tags_are_text m.compile safe html)
-    part_adds EscapedBreak h = lays_void m.compile default (bare_tag (codes "br")) (tt, refl)
-    part_adds TrailingBreak h = lays_void m.compile default (bare_tag (codes "br")) (tt, refl)
-    part_adds (LineEnd code) h = lays_says m.compile default (EndOfLine code) h
-    part_adds (Emphasis kids) h = lays_element m.compile default (bare_tag (codes "em")) (inline_pieces m kids) (tt, refl) (inline_adds kids h)
-    part_adds (Strong kids) h = lays_element m.compile default (bare_tag (codes "strong")) (inline_pieces m kids) (tt, refl) (inline_adds kids h)
-    part_adds (Strikethrough kids) h = lays_element m.compile default (bare_tag (codes "del")) (inline_pieces m kids) (tt, refl) (inline_adds kids h)
-    part_adds (Link target kids) h =
+    part_adds (Leaf part) h = leaf_adds part h
+    part_adds (Span kind kids) h =
+        lays_element m.compile default (bare_tag (span_name kind)) (inline_pieces m kids) (span_is_tag kind) (inline_adds kids h.1)
+    part_adds (Linked Link target kids) h =
         let to = leads_to m.definition target in
-        lays_element m.compile default (link_tag m to) (inline_pieces m kids) (link_is_tag m safe (url_of m to) to.title) (inline_adds kids h)
-    part_adds (Image target kids) h =
+        lays_element m.compile default (link_tag m to) (inline_pieces m kids) (link_is_tag m safe (url_of m to) to.title) (inline_adds kids h.1)
+    part_adds (Linked Image target kids) h =
         let to = leads_to m.definition target in
         let image = image_tag m to (description m.compile kids) in
         lays_append m.compile default (Void image ∷ []) (inline_counts m kids)
         (lays_void m.compile default image
-        (image_is_tag m safe (url_of m to) to.title (description m.compile kids) (description_is_text m.compile safe kids h)))
+        (image_is_tag m safe (url_of m to) to.title (description m.compile kids) (description_is_text m.compile safe kids h.1)))
         (counts_lay default m kids)
     part_adds (Call label) h = calls_at default m (first_match label m.footnotes) (normal_label label)
 

@@ -7,8 +7,7 @@ use Rattle.definition_text.specs.BlockLines.{BlockLine}
 use Rattle.definition_text.specs.Columns.{code_byte}
 use Rattle.definition_text.specs.InlineCode.{InlineCode, codes_of, with_kinds}
 use Rattle.definition_text.specs.Lines.{without_mark, kind_before_text}
-use Rattle.definition_inline.specs.Inline.{Inline, Data, Escape, Character, Code, Math, Autolink, Literal, Html, EscapedBreak, TrailingBreak, LineEnd, Emphasis}
-use Rattle.definition_inline.specs.Inline.{Strong, Strikethrough, Link, Image, Call, Inlines, Nil, Cons}
+use Rattle.definition_inline.specs.Inline.{InlineLeaf, LineEnd, Inline, Leaf, Span, Linked, Call, Inlines, Nil, Cons}
 use Rattle.definition_inline.specs.GfmTaskListItem.{check_at, check_size}
 use Rattle.definition_inline.specs.Scan.{without_indent}
 use Rattle.definition_block.specs.Container.{Quote, Item, Footnote}
@@ -17,15 +16,15 @@ use Rattle.definition_block.specs.Tree.{is_ending, blocks}
 use Rattle.definition_block.specs.Lists.{endings_of, after_endings, item_marker, list_marker, list_items, rest_of, before_list, put_before, grouped_block}
 use Rattle.definition_block.specs.Lists.{group_items}
 use Rattle.definition_block.specs.GfmTable.{Cell, line_cells}
-use Rattle.definition_page.specs.GfmTable.{head_line, body_lines, part_in_cell, in_cell}
+use Rattle.definition_page.specs.GfmTable.{head_line, body_lines, leaf_in_cell, part_in_cell, in_cell}
 use Rattle.definition_page.specs.Page as page
 use Rattle.definition_page.specs.Page.{cons_ending, cons_blank}
-use Rattle.definition_page.specs.Read.{Reading, Standing, on_page, in_container, in_item, next_standing, context_of, text_content, read_text, checked_paragraph}
+use Rattle.definition_page.specs.Read.{Reading, Standing, on_page, in_container, in_item, next_standing, context_of, text_content, read_text, checked_text}
 use Rattle.definition_page.specs.Read.{read_paragraph, read_cell, read_row, without_ending, after_code, read_block, read_blocks, read}
 use Rattle.definition_page.specs.TextTables.{TextTables}
 use Rattle.laws_safe_page.proofs.BlockAdds.{CellsEndLines, RowsEndLines, IsReadable, AreReadable}
 use Rattle.laws_safe_page.proofs.BlockReads.{IsRanked, AreRanked, ranked_join, blocks_are_ranked}
-use Rattle.laws_safe_page.proofs.InlineAdds.{EndsLines, AllEndLines}
+use Rattle.laws_safe_page.proofs.InlineAdds.{LeafEndsLine, EndsLines, AllEndLines}
 use Rattle.laws_safe_page.proofs.InlineReads.{from_ends, inlines_end}
 
 -- ---- lists
@@ -84,24 +83,15 @@ readable_blank None bs p = p
 readable_blank (Some ending) bs p = (tt, p)
 
 -- inline structure as it stands in a cell
+leaf_in_cell_ends : (part : InlineLeaf) → LeafEndsLine part → LeafEndsLine (leaf_in_cell part)
+leaf_in_cell_ends (LineEnd code) h = h
+leaf_in_cell_ends part h = tt
+
 mutual
   part_in_cell_ends : (i : Inline) → EndsLines i → EndsLines (part_in_cell i)
-  part_in_cell_ends (Data b) h = tt
-  part_in_cell_ends (Escape b) h = tt
-  part_in_cell_ends (Character text) h = tt
-  part_in_cell_ends (Code text) h = tt
-  part_in_cell_ends (Math text) h = tt
-  part_in_cell_ends (Autolink is_email text) h = tt
-  part_in_cell_ends (Literal kind text) h = tt
-  part_in_cell_ends (Html html) h = tt
-  part_in_cell_ends EscapedBreak h = tt
-  part_in_cell_ends TrailingBreak h = tt
-  part_in_cell_ends (LineEnd code) h = h
-  part_in_cell_ends (Emphasis kids) h = in_cell_ends kids h
-  part_in_cell_ends (Strong kids) h = in_cell_ends kids h
-  part_in_cell_ends (Strikethrough kids) h = in_cell_ends kids h
-  part_in_cell_ends (Link target kids) h = in_cell_ends kids h
-  part_in_cell_ends (Image target kids) h = in_cell_ends kids h
+  part_in_cell_ends (Leaf part) h = leaf_in_cell_ends part h
+  part_in_cell_ends (Span kind kids) h = (tt, in_cell_ends kids h.1)
+  part_in_cell_ends (Linked kind target kids) h = (tt, in_cell_ends kids h.1)
   part_in_cell_ends (Call label) h = tt
 
   in_cell_ends : (is : Inlines) → AllEndLines is → AllEndLines (in_cell is)
@@ -112,13 +102,13 @@ module _ (r : Reading) where
   text_ends : (ls : List BlockLine) → AllEndLines (read_text r ls)
   text_ends ls = inlines_end (context_of r) (text_content r ls)
 
-  checked_readable : (content : List InlineCode) (found : Option Bool) → IsReadable (checked_paragraph r content found)
-  checked_readable content None = from_ends (context_of r) content
-  checked_readable content (Some done) = from_ends (context_of r) (drop check_size content)
+  checked_ends : (content : List InlineCode) (found : Option Bool) → AllEndLines (checked_text r content found)
+  checked_ends content None = from_ends (context_of r) content
+  checked_ends content (Some done) = (tt, from_ends (context_of r) (drop check_size content))
 
-  paragraph_readable : (first : Bool) (ls : List BlockLine) → IsReadable (read_paragraph r first ls)
-  paragraph_readable first ls =
-      let content = without_indent (text_content r ls) in checked_readable content (check_at r.options.constructs first (codes_of content))
+  paragraph_ends : (first : Bool) (ls : List BlockLine) → AllEndLines (read_paragraph r first ls)
+  paragraph_ends first ls =
+      let content = without_indent (text_content r ls) in checked_ends content (check_at r.options.constructs first (codes_of content))
 
   row_readable : (cells : List Cell) → CellsEndLines (map (read_cell r) cells)
   row_readable [] = tt
@@ -131,7 +121,7 @@ module _ (r : Reading) where
 
   mutual
     readable_block : (s : Standing) (b : tree.Block) (others : page.Blocks) → IsRanked b → AreReadable others → AreReadable (read_block r s b others)
-    readable_block s (tree.Paragraph ls) others h p = (paragraph_readable s.first ls, p)
+    readable_block s (tree.Paragraph ls) others h p = (paragraph_ends s.first ls, p)
     readable_block s (tree.Heading rank ls) others h p = ((h, text_ends ls), p)
     readable_block s tree.Break others h p = (tt, p)
     readable_block s (tree.IndentedCode ls) others h p = (tt, p)

@@ -2,7 +2,7 @@
 use Rattle.std.proofs.Common.{◌≡◌, ◌∙◌, ℕ, zero, suc, ◌+◌, ◌<◌, false, List, [], ◌∷◌, ◌++◌, length, get_or, drop, map, replicate, reverse, refl, sym, ap, arith}
 use Rattle.std.proofs.lemmas.List.{drop-map, get_or-map, length-map}
 use Rattle.definition_inline.specs.Attention.{Run as RunOf}
-use Rattle.definition_inline.specs.Inline.{Data}
+use Rattle.definition_inline.specs.Inline.{Inline, Leaf, Data}
 use Rattle.definition_inline.specs.Pairing.{Pair as PairOf}
 use Rattle.definition_inline.specs.Spans.{Closes, Holds, Opens, SpanRow, span_of}
 use Rattle.inline_runs.specs.declared.pair.Pair.{Pair}
@@ -31,21 +31,21 @@ held_ends : (ps : List Pair) → held_size (map (λ (p : Pair). Closes) ps) ≡ 
 held_ends [] = refl
 held_ends (p ∷ ps) = held_ends ps
 
-held_data : (n marker : ℕ) → held_size (replicate n (Holds (Data marker))) ≡ n
-held_data zero marker = refl
-held_data (suc n) marker = omega (arith, held_data n marker)
+held_data : (n : ℕ) (i : Inline) → held_size (replicate n (Holds i)) ≡ n
+held_data zero i = refl
+held_data (suc n) i = omega (arith, held_data n i)
 
 held_text : (marker : ℕ) (s : RunSpans) → held_size (rows_of marker s) ≡ s.text
 held_text marker s =
     let ends = map (λ (p : Pair). Closes) s.closed.now in
-    let data_rows = replicate s.text (Holds (Data marker)) in
+    let data_rows = replicate s.text (Holds (Leaf (Data marker))) in
     let starts = map (λ (p : Pair). Opens (span_of marker (pair_view p))) s.opened.now in
     omega (
       arith,
       held_both (ends ++ data_rows) starts,
       held_both ends data_rows,
       held_ends s.closed.now,
-      held_data s.text marker,
+      held_data s.text (Leaf (Data marker)),
       held_starts marker s.opened.now,
     )
 

@@ -5,7 +5,8 @@ use Rattle.std.specs.List.{fold}
 use Rattle.markdown_options.specs.declared.configuration.ParseOptions.{ParseOptions}
 use Rattle.definition_inline.specs.Attention.{Run, run_between}
 use Rattle.definition_inline.specs.Pairing.{Pair, pairs}
-use Rattle.definition_inline.specs.Spans.{IsEmphasis, IsStrikethrough, IsStrong, Closes, Holds, Opens, Span, SpanRow, run_rows, span_of}
+use Rattle.definition_inline.specs.Inline.{SpanKind, Emphasis, Strong, Strikethrough}
+use Rattle.definition_inline.specs.Spans.{Closes, Holds, Opens, SpanRow, run_rows, span_of}
 use Rattle.inline_runs.specs.Paired.{closed_at, opened_at}
 use Rattle.engine_text.specs.Bytes.{code_after, code_before}
 use Rattle.engine_text.specs.Characters.{kind_of_any}
@@ -29,10 +30,10 @@ run_from options is_punctuation bytes from to =
 -- ---- what a run becomes
 
 -- the names of the events of a span
-abbrev pub names_of : Span → SpanNames
-names_of IsEmphasis = record { group = names.Emphasis; sequence = names.EmphasisSequence; text = names.EmphasisText }
-names_of IsStrong = record { group = names.Strong; sequence = names.StrongSequence; text = names.StrongText }
-names_of IsStrikethrough = record { group = names.GfmStrikethrough; sequence = names.GfmStrikethroughSequence; text = names.GfmStrikethroughText }
+abbrev pub names_of : SpanKind → SpanNames
+names_of Emphasis = record { group = names.Emphasis; sequence = names.EmphasisSequence; text = names.EmphasisText }
+names_of Strong = record { group = names.Strong; sequence = names.StrongSequence; text = names.StrongText }
+names_of Strikethrough = record { group = names.GfmStrikethrough; sequence = names.GfmStrikethroughSequence; text = names.GfmStrikethroughText }
 
 -- the place so many bytes later
 abbrev pub place_later : ℕ → Point → Point

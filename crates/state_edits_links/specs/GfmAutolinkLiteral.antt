@@ -5,7 +5,7 @@ use Rattle.std.specs.List.{fold, list_any}
 use denote.Enum.Bare.{sameb}
 use Rattle.definition_text.specs.Ascii.{at_sign}
 use Rattle.definition_text.specs.Bytes.{begins_with}
-use Rattle.definition_inline.specs.Inline.{Inline, Data, Email, Literal, LiteralKind}
+use Rattle.definition_inline.specs.Inline.{InlineLeaf, Data, Email, Literal, LiteralKind}
 use Rattle.definition_inline.specs.GfmAutolinkLiteral.{with_addresses}
 use Rattle.engine_events.specs.contracts.event.Kind.{the_type}
 use Rattle.engine_events.specs.declared.event.Event.{Event}
@@ -45,7 +45,7 @@ with_address kind text l =
     let end = place_past l.point text in
     linking (l.events ++ around (address_name kind text) l.point end) end []
 
-abbrev pub with_part : Linking → Inline → Linking
+abbrev pub with_part : Linking → InlineLeaf → Linking
 with_part l (Data b) = linking l.events l.point (l.run ++ b ∷ [])
 with_part l (Literal kind text) = with_address kind text (with_data l)
 with_part l i = l

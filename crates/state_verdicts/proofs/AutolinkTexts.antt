@@ -13,7 +13,7 @@ use Rattle.definition_text.specs.Bytes.{after_all, begins_with, is_letter}
 use Rattle.definition_text.specs.Content.{text_before}
 use Rattle.definition_inline.specs.Autolink.{after_uri, autolink_after, begins_with_scheme, closed_autolink, domain_end, email_end, is_domain, is_domain_byte}
 use Rattle.definition_inline.specs.Autolink.{is_email_byte, is_scheme_byte, is_uri_byte, uri_end}
-use Rattle.definition_inline.specs.Inline.{Autolink, Inline, Found, leaf, or_else}
+use Rattle.definition_inline.specs.Inline.{Autolink, InlineLeaf, Found, leaf, or_else}
 use Rattle.state_verdicts.proofs.AutolinkDomains.{closed, domain_found, domain_read, past_greater, starting}
 use Rattle.state_verdicts.proofs.ReferenceValues.{apart}
 use Rattle.state_verdicts.proofs.Runs.{IsRest}
@@ -306,7 +306,7 @@ abbrev pub left : List ℕ → Option Found → Option (List ℕ)
 left cs None = None
 left cs (Some leaf) = Some (drop leaf.size (60 ∷ cs))
 
-left_by : (cs : List ℕ) (parts : List Inline) (c : ℕ) (rest : List ℕ) → IsRest cs (c ∷ rest) → drop (length (text_before cs (c ∷ rest)) + 2) (60 ∷ cs) ≡ rest
+left_by : (cs : List ℕ) (parts : List InlineLeaf) (c : ℕ) (rest : List ℕ) → IsRest cs (c ∷ rest) → drop (length (text_before cs (c ∷ rest)) + 2) (60 ∷ cs) ≡ rest
 left_by cs parts c rest r =
     let k = r.count in
     let size : length cs - length (c ∷ rest) ≡ k = (let f = r.few in let e = ap length r.is in let g = length-drop k cs in omega (arith, e, f, g)) in

@@ -7,7 +7,7 @@ use Rattle.std.specs.List.{prefix_len}
 use Rattle.definition_text.specs.Content.{Part}
 use Rattle.definition_inline.specs.CharacterReference.{before_semicolon, reference_by_name, reference_by_number, numbered_text, number_of, number_reference}
 use Rattle.definition_inline.specs.CharacterReference.{reference_after, reference_leaf, reference_of, part_to_semicolon}
-use Rattle.definition_inline.specs.Inline.{Inline as InlinePart, Character, Found, leaf}
+use Rattle.definition_inline.specs.Inline.{InlineLeaf, Character, Found, leaf}
 use Rattle.engine_events.specs.Events.{event}
 use Rattle.engine_events.specs.declared.event.Event.{Event}
 use Rattle.engine_events.specs.declared.event.Kind.TheVariants.{Enter, Exit}
@@ -137,7 +137,7 @@ module _ {T : Type 0} (texts : List ℕ → Option (List ℕ)) (is_punctuation :
           → text.byte (text.start to) ≡ Some (as_byte 59 end)
           → (added : List Event) × IsReference text p q kind.marker (j + count) added end × (closing es (text.start to) end ≡ c.events ++ added)
 
-      goes_well : Shapes → (parts : List InlinePart) (rest : List ℕ) → Value_good rest → Verdict_by (Some (leaf parts (length all - length rest)))
+      goes_well : Shapes → (parts : List InlineLeaf) (rest : List ℕ) → Value_good rest → Verdict_by (Some (leaf parts (length all - length rest)))
       goes_well shapes parts rest g =
           let f = shapes g.count g.to g.end g.value g.some g.few g.semicolon in (
             g.config,

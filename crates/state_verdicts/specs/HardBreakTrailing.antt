@@ -6,7 +6,7 @@ use Rattle.markdown_options.specs.declared.configuration.Constructs.{Constructs}
 use Rattle.definition_text.specs.Columns.{indent, is_white}
 use Rattle.definition_text.specs.Content.{is_eol}
 use Rattle.definition_inline.specs.HardBreak.{ends_here, ends_inner_line, line_spaces_at}
-use Rattle.definition_inline.specs.Inline.{Inline, Found, TrailingBreak}
+use Rattle.definition_inline.specs.Inline.{InlineLeaf, Found, TrailingBreak}
 use Rattle.engine_edits.specs.Edits.{EditAt, with_edit}
 use Rattle.engine_events.specs.declared.event.Event.{Event}
 use Rattle.engine_events.specs.declared.event.Kind.TheVariants.{Enter, Exit}
@@ -23,7 +23,7 @@ pub record Follows (events : List Event) (i : ℕ) (rest : List ℕ) : Type 0 wh
   pub inner : (is_line Enter (slice_get events (i + 2)) && is_some (slice_get events (i + 4))) ≡ ends_inner_line rest
   pub apart : indent rest ≡ 0
 
-abbrev pub is_break : List Inline → Bool
+abbrev pub is_break : List InlineLeaf → Bool
 is_break (TrailingBreak ∷ parts) = true
 is_break parts = false
 

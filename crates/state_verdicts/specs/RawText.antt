@@ -1,7 +1,7 @@
 -- What the states of code and math come to (CommonMark 6.1).
 use Rattle.std.specs.Prelude.{◌≡◌, ℕ, ◌+◌, ◌<◌, Bool, true, false, not, if◌then◌else◌, ◌==◌, ◌||◌, List, [], ◌∷◌, ◌++◌, drop, Option, None, Some}
 use Rattle.definition_text.specs.Ascii.{line_feed}
-use Rattle.definition_inline.specs.Inline.{Inline, Found, Data}
+use Rattle.definition_inline.specs.Inline.{InlineLeaf, Found, Data}
 use Rattle.engine_events.specs.Events.{event}
 use Rattle.engine_events.specs.declared.event.Event.{Event}
 use Rattle.engine_events.specs.declared.event.Kind.TheVariants.{Enter, Exit}
@@ -58,7 +58,7 @@ abbrev pub spanning : SpanNames → ℕ → ℕ → ℕ → KeptState → KeptSt
 spanning given marker size size_b k =
     record k { marker = marker; size = size; size_b = size_b; token_1 = given.whole; token_2 = given.sequence; token_3 = given.content }
 
-abbrev pub is_text : List Inline → Bool
+abbrev pub is_text : List InlineLeaf → Bool
 is_text (Data code ∷ parts) = true
 is_text parts = false
 

@@ -4,9 +4,9 @@ use Rattle.std.specs.List.{fold}
 use Rattle.std.specs.Result.{OnOk}
 use Rattle.definition_text.specs.Content.{content_codes}
 use Rattle.definition_inline.specs.LabelMatch.{first_match, normal_label, place_of}
-use Rattle.html_bytes.specs.InlineHtml.{count_at}
+use Rattle.definition_page.specs.InlinePieces.{count_at}
 use Rattle.html_bytes.specs.Layout.{lay}
-use Rattle.html_bytes.specs.Pieces.{CountOf}
+use Rattle.html_bytes.specs.Pieces.{CountOf, in_bytes}
 use Rattle.html_footnotes.specs.Output.{output_view}
 use Rattle.html_inline.proofs.count.count_call.Goals as goal
 
@@ -17,7 +17,7 @@ returns-in-None g c = λ options default labels held.
     c.as_str-label.ensures.value ∙ c.in_ok-normalize_label.ensures ∙ ap (λ (s : List ℕ). normal_label (content_codes s)) c.as_bytes.ensures.value in
     let found : first_match label labels ≡ c.find_normal.result =
     ap (λ (n : List ℕ). place_of n (map normal_label labels)) (sym normalized) ∙ sym (c.find_normal.ensures labels held) in
-    sym (ap (λ (place : Option ℕ). fold (lay options default) (output_view c.args.out.now) (count_at place (normal_label label))) (found ∙ c.in-None.is))
+    sym (ap (λ (place : Option ℕ). fold (lay options default) (output_view c.args.out.now) (in_bytes (count_at place (normal_label label)))) (found ∙ c.in-None.is))
 
 pub returns-in-Some : goal.returns-in-Some
 returns-in-Some g c = λ options default labels held.
@@ -29,5 +29,5 @@ returns-in-Some g c = λ options default labels held.
     ap (λ (n : List ℕ). place_of n (map normal_label labels)) (sym normalized) ∙ sym (c.find_normal.ensures labels held) in
     subst (λ x. OnOk c.count.result (output_view c.count.new.self ≡ x))
     (ap (λ n. lay options default out (CountOf c.in-Some.place n)) normalized
-    ∙ sym (ap (λ (place : Option ℕ). fold (lay options default) out (count_at place (normal_label label))) (found ∙ c.in-Some.is)))
+    ∙ sym (ap (λ (place : Option ℕ). fold (lay options default) out (in_bytes (count_at place (normal_label label)))) (found ∙ c.in-Some.is)))
     (c.count.ensures options default)

@@ -2,7 +2,9 @@ use Rattle.std.proofs.Common.{◌≡◌, List, sym, ap, ◌∙◌, take}
 use Rattle.std.specs.List.{fold}
 use Rattle.std.proofs.lemmas.List.{take_all}
 use Rattle.definition_inline.specs.Targets.{leads_to}
+use Rattle.definition_page.specs.Pieces.{Piece}
 use Rattle.html_bytes.specs.Layout.{lay}
+use Rattle.html_bytes.specs.Pieces.{in_bytes}
 use Rattle.html_footnotes.specs.Output.{output_view}
 use Rattle.inline_rows.specs.InlineRows as rows_of
 use Rattle.inline_rows.specs.declared.row.InlineRow.{InlineRow}
@@ -18,7 +20,7 @@ loop-row-preserved g c = λ definition footnotes default held.
     let p = c.args.printing.now in
     let meaning = meaning_by (g.T.Tables.reference_of p.tables.now) p definition footnotes in
     let at = place_target p.definitions.now in
-    let laid = λ (r : InlineRow). fold (lay meaning.compile default) (output_view c.loop-row.out) (rows_counts meaning (row_view at r)) in
+    let laid = λ (r : InlineRow). fold (lay meaning.compile default) (output_view c.loop-row.out) (in_bytes (rows_counts meaning (row_view at r))) in
     counts_more meaning at default c.args.rows.now c.loop-row.row-index c.row-item.result (output_view c.args.out.now) (output_view c.loop-row.out)
     (output_view c.count_row.new.out) c.loop-row-test.true
     (c.loop-row.invariant definition footnotes default held) (c.in_ok-count_row.ensures meaning at default held ∙ ap laid c.row-item.is)
@@ -29,7 +31,7 @@ returns g c = λ definition footnotes default is held rows_are.
     let meaning = meaning_by (g.T.Tables.reference_of p.tables.now) p definition footnotes in
     let at = place_target p.definitions.now in
     let rows = c.args.rows.now in
-    let laid = fold (lay meaning.compile default) (output_view c.args.out.now) in
+    let laid = λ (ps : List Piece). fold (lay meaning.compile default) (output_view c.args.out.now) (in_bytes ps) in
     let whole : take c.loop-row.row-index rows ≡ rows = take_all c.loop-row.row-index rows c.loop-row-test.false in
     c.loop-row.invariant definition footnotes default held
     ∙ ap (λ (rs : List InlineRow). laid (rows_counts meaning (rows_view at rs))) whole

@@ -3,14 +3,15 @@ use Rattle.std.specs.List.{flat_map}
 use denote.Text.{Utf8}
 use denote.Shadow.{shadow}
 use Rattle.definition_text.specs.Content.{content_codes}
-use Rattle.definition_page.specs.InlinePieces.{html_lines}
-use Rattle.html_bytes.specs.InlineHtml.{html_text_bytes, later_line_bytes}
+use Rattle.definition_page.specs.InlinePieces.{html_lines, html_says}
+use Rattle.html_bytes.specs.InlineHtml.{say_bytes}
+use Rattle.html_inline.specs.HtmlBytes.{later_bytes}
 use Rattle.html_inline.proofs.html_text.push_html_text.Given as goal
 
 -- what was printed, and what is printed for the later lines, is what is printed for all
 abbrev pub invariant-loop-rest : goal.invariant-loop-rest
-invariant-loop-rest g l = shadow (Utf8 l.rest) × (string_bytes l.out ++ flat_map (later_line_bytes l.compile) (html_lines (content_codes l.rest))
-    ≡ string_bytes l.fn.out ++ html_text_bytes l.compile (content_codes l.html))
+invariant-loop-rest g l = shadow (Utf8 l.rest) × (string_bytes l.out ++ flat_map (later_bytes l.compile) (html_lines (content_codes l.rest))
+    ≡ string_bytes l.fn.out ++ say_bytes (html_says l.compile (content_codes l.html)))
 
 abbrev pub decreases-loop-rest : goal.decreases-loop-rest
 decreases-loop-rest g l = length l.rest

@@ -1,6 +1,6 @@
 use Rattle.std.proofs.Common.{◌++◌, string_bytes, ap, ◌∙◌, arith, subst}
 use Rattle.std.specs.List.{prefix_len}
-use Rattle.html_bytes.specs.RawHtml.{raw_html}
+use Rattle.html_bytes.specs.RawHtml.{raw_bytes}
 use Rattle.html_inline.specs.CodeBytes.{is_in_line}
 use Rattle.html_inline.specs.HtmlBytes.{PrintsEnding}
 use Rattle.html_inline.proofs.InLine.{line_boundary}
@@ -22,7 +22,7 @@ returns-clause-printed g c =
     c.range_from.ensures.value c.in_ok-rest.ensures in
     (line_printed c.args.compile.now c.args.html.now c.in_ok-rest.rest.now out (string_bytes c.push_html.new.out) (string_bytes c.push_ending.new.out)
     c.line_size-size.result (λ k. omega (arith, c.type_inv.html k)) (c.line_size-size.ensures ∙ ap (prefix_len is_in_line) c.as_bytes.ensures.value)
-    (c.in_ok-push_html.ensures ∙ ap (λ s. out ++ raw_html c.args.compile.now s) c.text_before.ensures) printed).0
+    (c.in_ok-push_html.ensures ∙ ap (λ s. out ++ raw_bytes c.args.compile.now s) c.text_before.ensures) printed).0
 
 pub returns-clause-rest : goal.returns-clause-rest
 returns-clause-rest g c =
@@ -31,7 +31,7 @@ returns-clause-rest g c =
     c.range_from.ensures.value c.in_ok-rest.ensures in
     (line_printed c.args.compile.now c.args.html.now c.in_ok-rest.rest.now out (string_bytes c.push_html.new.out) (string_bytes c.push_ending.new.out)
     c.line_size-size.result (λ k. omega (arith, c.type_inv.html k)) (c.line_size-size.ensures ∙ ap (prefix_len is_in_line) c.as_bytes.ensures.value)
-    (c.in_ok-push_html.ensures ∙ ap (λ s. out ++ raw_html c.args.compile.now s) c.text_before.ensures) printed).1
+    (c.in_ok-push_html.ensures ∙ ap (λ s. out ++ raw_bytes c.args.compile.now s) c.text_before.ensures) printed).1
 
 pub returns-clause-within : goal.returns-clause-within
 returns-clause-within g c =

@@ -5,7 +5,8 @@ use Rattle.html_inline.specs.declared.stack.OpenPart.{OpenPart}
 use Rattle.html_inline.specs.declared.stack.OpenPart.TheVariants as open_part
 use Rattle.html_inline.specs.Opens.{opened_view, place_target}
 use Rattle.html_inline.specs.Printed.{new_part, is_described}
-use Rattle.html_bytes.specs.InlineHtml.{link_tag}
+use Rattle.definition_page.specs.InlinePieces.{link_tag}
+use Rattle.definition_page.specs.Tags.{start_tag, end_tag}
 use Rattle.inline_rows.specs.View.{target_texts}
 use Rattle.html_inline.proofs.OpenStack.{entered, entered_silent}
 use Rattle.html_inline.proofs.rows.enter_link.Goals as goal
@@ -22,7 +23,7 @@ returns-then-is_described g c = λ definition footnotes rows.
     let h : is_described (map view (reverse items)) ≡ true =
     ap (λ (s : List OpenPart). is_described (map view (reverse s))) (sym c.as_slice.ensures.value) ∙ sym (c.is_described.ensures meaning at rows)
     ∙ c.if-is_described.true in
-    entered_silent view (link_tag meaning linked) (new_part false (codes "</a>"))
+    entered_silent view (start_tag (link_tag meaning linked)) (new_part false (end_tag (codes "a")))
     (output_view c.args.out.now) items c.push.new.self.items refl c.in_ok-push.ensures.items h
 
 pub returns : goal.returns
@@ -37,6 +38,6 @@ returns g c = λ definition footnotes rows.
     let h : is_described (map view (reverse items)) ≡ false =
     ap (λ (s : List OpenPart). is_described (map view (reverse s))) (sym c.as_slice.ensures.value) ∙ sym (c.is_described.ensures meaning at rows)
     ∙ c.if-is_described.false in
-    entered view (link_tag meaning linked) (new_part false (codes "</a>")) out (string_bytes c.push_link_start.new.out) items c.push-2.new.self.items
+    entered view (start_tag (link_tag meaning linked)) (new_part false (end_tag (codes "a"))) out (string_bytes c.push_link_start.new.out) items c.push-2.new.self.items
     (open_part.Link) refl c.in_ok-push-2.ensures.items h (c.in_ok-push_link_start.ensures definition footnotes
-    ∙ ap (λ linked. out.text ++ link_tag meaning linked) c.linked_at-linked.ensures)
+    ∙ ap (λ linked. out.text ++ start_tag (link_tag meaning linked)) c.linked_at-linked.ensures)

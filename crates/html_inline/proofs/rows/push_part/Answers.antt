@@ -3,8 +3,8 @@ use Rattle.std.specs.Prelude.{OnOk, map, reverse}
 use Rattle.inline_leaves.specs.Leaves.{parts_of}
 use Rattle.html_inline.specs.declared.stack.OpenPart.{OpenPart}
 use Rattle.html_inline.specs.Opens.{opened_view, place_target}
-use Rattle.html_inline.specs.GfmTable.{inline_in_cell}
-use Rattle.html_inline.specs.Printed.{is_described, parts_html}
+use Rattle.html_inline.specs.GfmTable.{leaf_in}
+use Rattle.html_inline.specs.Printed.{is_described, leaves_bytes}
 use Rattle.html_inline.proofs.rows.push_part.Goals as goal
 use Rattle.html_inline.specs.Prints.{meaning_by}
 
@@ -18,7 +18,7 @@ returns-then-is_described-clause-printed g c = λ definition footnotes rows.
     ap (λ (s : List OpenPart). is_described (map view (reverse s))) (sym c.as_slice.ensures.value) ∙ sym (c.is_described.ensures meaning at rows)
     ∙ c.if-is_described.true in
     subst (λ (t : Bool). OnOk c.push_description.result (string_bytes c.push_description.new.out
-    ≡ string_bytes c.args.out.now ++ parts_html meaning t (map (inline_in_cell p.cell) (parts_of c.args.part))))
+    ≡ string_bytes c.args.out.now ++ leaves_bytes p.compile.now t (map (leaf_in p.cell) (parts_of c.args.part))))
     (sym h) c.push_description.ensures
 
 pub returns-else-is_described-clause-printed : goal.returns-else-is_described-clause-printed
@@ -31,5 +31,5 @@ returns-else-is_described-clause-printed g c = λ definition footnotes rows.
     ap (λ (s : List OpenPart). is_described (map view (reverse s))) (sym c.as_slice.ensures.value) ∙ sym (c.is_described.ensures meaning at rows)
     ∙ c.if-is_described.false in
     subst (λ (t : Bool). OnOk c.push_leaf.result (string_bytes c.push_leaf.new.out
-    ≡ string_bytes c.args.out.now ++ parts_html meaning t (map (inline_in_cell p.cell) (parts_of c.args.part))))
-    (sym h) (c.push_leaf.ensures definition footnotes)
+    ≡ string_bytes c.args.out.now ++ leaves_bytes p.compile.now t (map (leaf_in p.cell) (parts_of c.args.part))))
+    (sym h) c.push_leaf.ensures

@@ -8,11 +8,11 @@ use Rattle.inline_rows.specs.declared.row.InlineRow.{InlineRow}
 use Rattle.inline_rows.specs.View.{row_view}
 use Rattle.html_footnotes.specs.Output.{output_view}
 use Rattle.html_inline.specs.Opens.{image_target, opened_view, place_target}
-use Rattle.html_inline.specs.GfmTable.{inline_in_cell, row_printed_in}
-use Rattle.html_inline.specs.Printed.{call_row, is_described, laid_out, parts_html, printed_at}
+use Rattle.html_inline.specs.GfmTable.{leaf_in, row_printed_in}
+use Rattle.html_inline.specs.Printed.{call_row, is_described, laid_out, leaves_bytes, printed_at}
 use Rattle.definition_text.specs.Content.{content_codes}
 use Rattle.definition_text.specs.Encode.{encode}
-use Rattle.html_inline.proofs.OpenStack.{leaf_printed, text_printed}
+use Rattle.html_inline.proofs.OpenStack.{leaves_printed, text_printed}
 use Rattle.html_inline.proofs.rows.push_row.Goals as goal
 use Rattle.html_inline.specs.Prints.{meaning_by}
 
@@ -60,9 +60,9 @@ returns-in-Leaf g c = λ definition footnotes held.
     let old = printed_at out stack in
     let row_is = λ (r : InlineRow). fold (row_printed_in p.cell meaning) old (row_view at r) in
     on_ok_weaker c.push_part.result
-    (λ (e : string_bytes c.push_part.new.out ≡ out.text ++ parts_html meaning (is_described stack) (map (inline_in_cell p.cell) (parts_of c.in-Leaf.part))).
+    (λ (e : string_bytes c.push_part.new.out ≡ out.text ++ leaves_bytes p.compile.now (is_described stack) (map (leaf_in p.cell) (parts_of c.in-Leaf.part))).
     ap (λ s. printed_at (with_text out (string_bytes c.push_part.new.out)) (map view (reverse s.items))) c.push_part.ensures.stack
-    ∙ ap (λ x. printed_at (with_text out x) stack) e ∙ sym (leaf_printed p.cell meaning stack c.in-Leaf.part out) ∙ ap row_is (sym c.in-Leaf.is))
+    ∙ ap (λ x. printed_at (with_text out x) stack) e ∙ sym (leaves_printed p.cell meaning stack (parts_of c.in-Leaf.part) out) ∙ ap row_is (sym c.in-Leaf.is))
     (c.push_part.ensures.printed definition footnotes c.args.rows.now)
 
 pub returns-in-EnterSpan : goal.returns-in-EnterSpan

@@ -6,12 +6,12 @@ use Rattle.inline_text.proofs.plain.next_start.Goals.{else-stop-bytes-via-then-s
 
 pub returns-then-is_replaced-clause-start : goal.returns-then-is_replaced-clause-start
 returns-then-is_replaced-clause-start c =
-    fronts.later_start c.args.has_literals c.args.bytes.now c.type_inv.bytes c.first_stop-stop.result c.first_stop-stop.ensures c.first_start.result _ refl
-    (subst (λ rest. IsStart c.args.has_literals rest c.first_start.result) c.from.ensures c.first_start.ensures)
+    fronts.later_start c.args.has_literals c.args.has_marks c.args.bytes.now c.type_inv.bytes c.first_stop-stop.result c.first_stop-stop.ensures c.first_start.result _ refl
+    (subst (λ rest. IsStart c.args.has_literals c.args.has_marks rest c.first_start.result) c.from.ensures c.first_start.ensures)
 
 pub returns-clause-start : goal.returns-clause-start
 returns-clause-start c =
-    fronts.next_start c.args.has_literals c.args.bytes.now c.type_inv.bytes c.first_stop-stop.result c.first_stop-stop.ensures
+    fronts.next_start c.args.has_literals c.args.has_marks c.args.bytes.now c.type_inv.bytes c.first_stop-stop.result c.first_stop-stop.ensures
     (λ lt. elim c.else-stop-bytes.branch [
       | else-stop-bytes-via-then-stop-bytes+else-is_replaced w ↦ sym w.is_replaced.ensures ∙ w.if-is_replaced.false
       | else-stop-bytes-via-else-stop-bytes w ↦ absurd (omega (arith, w.if-stop-bytes.false, lt))
@@ -19,4 +19,4 @@ returns-clause-start c =
 
 pub returns-clause-verbatim : goal.returns-clause-verbatim
 returns-clause-verbatim c is =
-    fronts.next_verbatim c.args.has_literals c.args.bytes.now c.type_inv.bytes c.first_stop-stop.result c.first_stop-stop.ensures
+    fronts.next_verbatim c.args.has_literals c.args.has_marks c.args.bytes.now c.type_inv.bytes c.first_stop-stop.result c.first_stop-stop.ensures

@@ -1,0 +1,30 @@
+//! The next byte of a set, or `=`, where marked text is on.
+ghost use Rattle.std.specs.Prelude.{◌<◌, ◌≡◌, length, true};
+ghost use Rattle.inline_text.specs.Letters.{stops_at, IsStop};
+
+use crate::letters::are_letters;
+use text_search::ByteSet;
+
+/// How many bytes come before the first that a set holds, or before the first `=`, or before the
+/// first two letters where literals are on: all of them, where none does.
+pub(crate) fn next_of_or_equals(has_literals: bool, bytes: &[u8], set: ByteSet) -> usize
+    ensures { IsStop has_literals true set bytes.now result }
+{
+    let mut at = 0;
+    while at < bytes.len() {
+        if stops_at(has_literals, bytes, at, set) {
+            return at;
+        }
+        at += 1;
+    }
+    at
+}
+
+/// Whether one of these begins at a place.
+fn stops_at(has_literals: bool, bytes: &[u8], at: usize, set: ByteSet) -> bool
+    requires { at < length bytes.now }
+    ensures { result ≡ stops_at has_literals true set bytes.now at }
+{
+    let next = if bytes.len() - at > 1 { bytes[at + 1] } else { 0 };
+    bytes[at] == b'=' || set.passes(bytes[at]) || (has_literals && are_letters(bytes[at], next))
+}
