@@ -104,7 +104,12 @@ fn prints_pages(rt: HostRuntime) -> io::Result<()> {
     prints(&rt, &["--plain", "--gfm"], text, plain)?;
     prints(&rt, &["--gfm"], b"~a~", "<p><del>a</del></p>")?;
     prints(&rt, &["--mark"], b"==a== ~b~", "<p><mark>a</mark> ~b~</p>")?;
-    prints(&rt, &["--gfm", "--mark"], b"==a== ~b~", "<p><mark>a</mark> <del>b</del></p>")?;
+    prints(
+        &rt,
+        &["--gfm", "--mark"],
+        b"==a== ~b~",
+        "<p><mark>a</mark> <del>b</del></p>",
+    )?;
     prints(&rt, &["--mark", "--plain"], b"==a==", "<p>==a==</p>")?;
     prints(&rt, &[], b"==a==", "<p>==a==</p>")?;
     let filtered = "<p>a <b>&lt;title></b></p>";
