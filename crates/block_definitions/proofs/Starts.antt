@@ -13,9 +13,10 @@ use Rattle.definition_text.specs.BlockLines.{BlockLine, own_lines}
 use Rattle.definition_text.specs.Content.{line_ending_code, ending_code, content_codes, content_of}
 use Rattle.definition_inline.specs.Space.{after_spaces}
 use Rattle.definition_inline.specs.Label.{label_at}
-use Rattle.definition_inline.specs.Definition.{with_label, definition_at}
+use Rattle.definition_inline.specs.Definition.{definition_at}
 use Rattle.text_pieces.specs.ParagraphLines.{HaveNoEnding, AreLines}
 use Rattle.text_pieces.proofs.InLine.{plain_codes}
+use Rattle.definition_inline.proofs.PartSteps.{with_label}
 use Rattle.definition_inline.proofs.DefinitionParts.{the_same, spaces_pass, spaces_stop}
 use Rattle.block_definitions.specs.Contents.{begins_label, begins_with_bracket}
 

@@ -9,8 +9,9 @@ use Rattle.definition_inline.specs.Space.{after_spaces, after_ending, after_whit
 use Rattle.definition_inline.specs.Label.{label_at}
 use Rattle.definition_inline.specs.Destination.{destination_at}
 use Rattle.definition_inline.specs.Title.{title_at}
-use Rattle.definition_inline.specs.Definition.{Definition, definition, next_line_after, next_line, definition_before, with_title, definition_with_title}
-use Rattle.definition_inline.specs.Definition.{definition_without_title, or_definition_without_title, with_destination, with_colon, with_label, definition_at}
+use Rattle.definition_inline.specs.Definition.{Definition, definition, next_line_after, next_line, definition_with_title}
+use Rattle.definition_inline.specs.Definition.{definition_without_title, definition_at}
+use Rattle.definition_inline.proofs.PartSteps.{definition_before, with_title, or_definition_without_title, with_destination, with_colon, with_label}
 use Rattle.definition_inline.proofs.DefinitionParts.{the_same, EndsHere, Whatever, label_reads, title_reads, destination_reads, cons_nil, spaces_pass}
 use Rattle.definition_inline.proofs.DefinitionParts.{spaces_stop, spaces_leave, white_leaves}
 

@@ -4,8 +4,7 @@ use Rattle.std.specs.Prelude.{codes, slice_index_or}
 use Rattle.std.proofs.lemmas.Bool.{cond_both, cond-false}
 use Rattle.markdown_options.specs.declared.configuration.Constructs.{Constructs}
 use Rattle.definition_text.specs.InlineCode.{InlineCode, codes_of}
-use Rattle.definition_inline.specs.Inline.{LiteralKind, Www, Protocol, InlineLeaf, Data, Literal}
-use Rattle.definition_inline.specs.Inline.{Leaf, Inlines, Cons, Found, leaf}
+use Rattle.definition_inline.specs.Inline.{LiteralKind, Www, Protocol, InlineLeaf, Data, Literal, Leaf, Inlines, Cons, Found, leaf}
 use Rattle.definition_inline.specs.GfmAutolinkLiteral.{LiteralStart, literal_start, or_start, begins_caselessly, may_precede_www, may_precede_protocol}
 use Rattle.definition_inline.specs.GfmAutolinkLiteral.{literal_start_at, literal_name, literal_after, literal_at, leaf_without, addresses_before, with_literals}
 

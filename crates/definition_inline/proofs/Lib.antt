@@ -1,11 +1,12 @@
 pub mod RunPairs
 pub mod NextPair
 pub mod Scanning
+pub mod PartSteps
 pub mod LinkRenaming
 pub mod DefinitionParts
 pub mod DefinitionAlone
 pub mod NearestOpener
-pub mod ClosingRuns
+pub mod PairBytes
 pub mod InlineSizes
 pub mod GfmAutolinkLiteral
 pub mod LabelPairs

@@ -13,8 +13,9 @@ use Rattle.definition_inline.specs.Label.{ends_label, label_end, has_text, label
 use Rattle.definition_inline.specs.Destination.{ends_angle, angle_end, is_control, open_after, is_too_deep, ends_bare, bare_end, unless_empty, if_any}
 use Rattle.definition_inline.specs.Destination.{destination_at}
 use Rattle.definition_inline.specs.Title.{ends_title, ends_blank_line, title_end, title_close, title_until, title_at}
-use Rattle.definition_inline.specs.Definition.{Definition, definition, next_line_after, next_line, definition_before, with_title, definition_with_title}
-use Rattle.definition_inline.specs.Definition.{definition_without_title, or_definition_without_title, with_destination, with_colon, with_label, definition_at}
+use Rattle.definition_inline.specs.Definition.{Definition, definition, next_line_after, next_line, definition_with_title}
+use Rattle.definition_inline.specs.Definition.{definition_without_title, definition_at}
+use Rattle.definition_inline.proofs.PartSteps.{definition_before, with_title, or_definition_without_title, with_destination, with_colon, with_label}
 
 -- a function that puts spaces, tabs and line endings for others of their kind, and keeps all else
 pub record Renames (f : ℕ → ℕ) : Type 0 where

@@ -1,20 +1,17 @@
 -- The pairs that the definition computes: each is the next one.
-use Rattle.std.proofs.Common.{inl, inr, ◌≡◌, ℕ, zero, suc, ◌+◌, ◌-◌, ◌<◌, ◌≤◌, List, [], ◌∷◌, ◌++◌, Bool, true, false, not, ◌&&◌, ◌||◌, refl, sym, ap, ◌∙◌}
-use Rattle.std.proofs.Common.{length, get_or, take, arith, subst, append_assoc}
-use Rattle.std.specs.List.{fold}
+use Rattle.std.proofs.Common.{inl, inr, ◌≡◌, ℕ, ◌+◌, ◌-◌, ◌<◌, ◌≤◌, List, [], ◌∷◌, ◌++◌, Bool, true, false, not, ◌&&◌, ◌||◌, refl, sym, ap, ap₂, ◌∙◌}
+use Rattle.std.proofs.Common.{length, get_or, take, drop, arith, subst, append_assoc}
 use Rattle.std.specs.Prelude.{nat_lt, ◌==◌}
 use Rattle.std.proofs.lemmas.Bool.{cases_lt, cases_Bool, cond-true, cond-false, both_ways, or_from, ne_eqb, lt-ltb, le-ltb}
 use Rattle.std.proofs.lemmas.Grind.{common_steps}
 use Rattle.std.proofs.Math.Seq.{get_or-append_seam}
 use Rattle.std.proofs.lemmas.List.{append-nil, get_or-take, get_or_append_left, get_or-append-add, length-take, length-append, get_or_default, get_or_past}
 use Rattle.definition_inline.specs.Attention.{Run}
-use Rattle.definition_inline.specs.Pairing.{Pair, OpenRun, open_run, Pairing, pairing, is_eligible, taken_by, without, openers_of, pair_of, with_opener}
-use Rattle.definition_inline.specs.Pairing.{with_pair, up_to_nearest, nearest, close, next_run, placed_from, pairs}
+use Rattle.definition_inline.specs.Pairing.{Pair, OpenRun, open_run, is_eligible, taken_by, without, openers_of, pair_of, placed_from, pairs}
 use Rattle.definition_inline.specs.NextPair.{no_run, run_by_place, taken_at, total_taken, left_at, is_inside, last_closer, IsEligiblePair, IsNextPair}
-use Rattle.definition_inline.specs.NextPair.{AreNext, NoMore}
-use Rattle.definition_inline.specs.NextPair.{NextIs}
-use Rattle.definition_inline.proofs.NearestOpener.{nearest_eligible, none_after}
-use Rattle.definition_inline.proofs.ClosingRuns.{takes_some, some_left, stops, goes_on}
+use Rattle.definition_inline.specs.NextPair.{AreNext, NoMore, NextIs}
+use Rattle.definition_inline.specs.RunPairs.{ArePairs, NoRuns, Opens, Closes}
+use Rattle.definition_inline.proofs.RunPairs.{are_pairs}
 
 -- a run that has something left and may open
 abbrev is_open : OpenRun → Bool
@@ -247,28 +244,25 @@ found_at : (runs : List Run) (ps : List Pair) (place : ℕ) (xs : List OpenRun) 
 found_at runs ps place xs h i pair =
     h.covers.complete i pair.ordered pair.uncrossed (eligible_is_open (left_at runs ps i) (left_at runs ps place) pair.eligible)
 
--- and no later than the nearest
-found_early : (runs : List Run) (ps : List Pair) (place : ℕ) (xs : List OpenRun) → Knows runs ps place xs → (i : ℕ) → IsEligiblePair runs ps i place
-    → (k : ℕ) → k < length xs → ((d : OpenRun) → get_or xs k d ≡ left_at runs ps i) → k < up_to_nearest xs (left_at runs ps place)
-found_early runs ps place xs h i pair k lt there =
-    let c = left_at runs ps place in
-    elim (cases_lt k (up_to_nearest xs c)) [
-      | inl below ↦ below
-      | inr above ↦
-          let no = none_after xs c k above lt in
-          let yes : is_eligible (get_or xs k c) c ≡ true = ap (λ o. is_eligible o c) (there c) ∙ pair.eligible in
-          absurd (both_ways (is_eligible (get_or xs k c) c) no yes)
-    ]
+-- no opener of the run at this place is eligible
+abbrev NoneEligible : List OpenRun → OpenRun → Type 0
+NoneEligible xs c = (j : ℕ) → j < length xs → is_eligible (get_or xs j c) c ≡ false
 
-none_here : (runs : List Run) (ps : List Pair) (place : ℕ) (xs : List OpenRun) → Knows runs ps place xs → up_to_nearest xs (left_at runs ps place) ≤ 0
+-- an eligible opener isn't where no opener is eligible
+not_there : (runs : List Run) (ps : List Pair) (place : ℕ) (xs : List OpenRun) (i : ℕ) → IsEligiblePair runs ps i place → (k : ℕ)
+    → ((d : OpenRun) → get_or xs k d ≡ left_at runs ps i) → is_eligible (get_or xs k (left_at runs ps place)) (left_at runs ps place) ≡ false → ⊥
+not_there runs ps place xs i pair k there isnt =
+    let c = left_at runs ps place in
+    let yes : is_eligible (get_or xs k c) c ≡ true = ap (λ o. is_eligible o c) (there c) ∙ pair.eligible in
+    both_ways (is_eligible (get_or xs k c) c) isnt yes
+
+none_here : (runs : List Run) (ps : List Pair) (place : ℕ) (xs : List OpenRun) → Knows runs ps place xs → NoneEligible xs (left_at runs ps place)
     → (i : ℕ) → IsEligiblePair runs ps i place → ⊥
 none_here runs ps place xs h none i pair =
-    let found = found_at runs ps place xs h i pair in
-    let early = found_early runs ps place xs h i pair found.0 found.1 found.2 in
-    absurd (omega arith)
+    let found = found_at runs ps place xs h i pair in not_there runs ps place xs i pair found.0 found.2 (none found.0 found.1)
 
 -- a run that closes nothing more
-knows_after : (runs : List Run) (ps : List Pair) (place : ℕ) (xs : List OpenRun) → Knows runs ps place xs → up_to_nearest xs (left_at runs ps place) ≤ 0
+knows_after : (runs : List Run) (ps : List Pair) (place : ℕ) (xs : List OpenRun) → Knows runs ps place xs → NoneEligible xs (left_at runs ps place)
     → Knows runs ps (place + 1) (xs ++ openers_of (left_at runs ps place))
 knows_after runs ps place xs h none =
     record {
@@ -285,51 +279,50 @@ knows_after runs ps place xs h none =
     }
 
 -- a pair of the run at this place and the nearest opener
-module _ (runs : List Run) (ps : List Pair) (place : ℕ) (xs : List OpenRun) (h : Knows runs ps place xs)
-    (some : 0 < up_to_nearest xs (left_at runs ps place)) where
+module _ (runs : List Run) (ps : List Pair) (place : ℕ) (xs : List OpenRun) (h : Knows runs ps place xs) (k : ℕ) (within : k < length xs)
+    (o : OpenRun) (is : o ≡ get_or xs k (left_at runs ps place)) (may : is_eligible o (left_at runs ps place) ≡ true)
+    (later : (j : ℕ) → k < j → j < length xs → is_eligible (get_or xs j (left_at runs ps place)) (left_at runs ps place) ≡ false) where
   abbrev c : OpenRun
   c = left_at runs ps place
-
-  abbrev k : ℕ
-  k = up_to_nearest xs c - 1
-
-  abbrev o : OpenRun
-  o = nearest xs c
 
   abbrev p : Pair
   p = pair_of o c
 
-  within : k < length xs
-  within = let tail : up_to_nearest xs c ≤ length xs = omega arith in omega arith
-
   there : (d : OpenRun) → get_or xs k d ≡ o
-  there d = get_or_default xs k d c within
+  there d = get_or_default xs k d c within ∙ sym is
 
   before_place : o.place < place
-  before_place = h.covers.early k c within
+  before_place = subst (λ (x : OpenRun). x.place < place) (sym is) (h.covers.early k c within)
 
   is_left : o ≡ left_at runs ps o.place
-  is_left = h.covers.shown k c within
+  is_left = subst (λ (x : OpenRun). x ≡ left_at runs ps x.place) (sym is) (h.covers.shown k c within)
+
+  uncrossed : is_inside ps o.place ≡ false
+  uncrossed = subst (λ (x : OpenRun). is_inside ps x.place ≡ false) (sym is) (h.covers.uncrossed k c within)
 
   eligible : IsEligiblePair runs ps o.place place
   eligible =
       record {
         ordered = before_place;
-        eligible = ap (λ x. is_eligible x c) (sym is_left) ∙ nearest_eligible xs c some;
-        uncrossed = h.covers.uncrossed k c within;
+        eligible = ap (λ x. is_eligible x c) (sym is_left) ∙ may;
+        uncrossed = uncrossed;
       }
 
   no_nearer : (i : ℕ) → o.place < i → IsEligiblePair runs ps i place → ⊥
   no_nearer i past pair =
       let found = found_at runs ps place xs h i pair in
-      let early = found_early runs ps place xs h i pair found.0 found.1 found.2 in
       let at_i : (get_or xs found.0 c).place ≡ i = ap (λ (x : OpenRun). x.place) (found.2 c) in
-      elim (cases_lt found.0 k) [
-        | inl below ↦ let order = h.covers.sorted found.0 k c below within in absurd (omega arith)
-        | inr above ↦
-            let same : found.0 ≡ k = omega arith in
-            let e : (get_or xs k c).place ≡ i = ap (λ n. (get_or xs n c).place) (sym same) ∙ at_i in
-            absurd (omega arith)
+      let at_k : (get_or xs k c).place ≡ o.place = ap (λ (x : OpenRun). x.place) (there c) in
+      elim (cases_lt k found.0) [
+        | inl above ↦ not_there runs ps place xs i pair found.0 found.2 (later found.0 above found.1)
+        | inr below ↦
+            elim (cases_lt found.0 k) [
+              | inl before ↦ let order = h.covers.sorted found.0 k c before within in absurd (omega arith)
+              | inr past_it ↦
+                  let same : found.0 ≡ k = omega arith in
+                  let e : (get_or xs k c).place ≡ i = ap (λ n. (get_or xs n c).place) (sym same) ∙ at_i in
+                  absurd (omega arith)
+            ]
       ]
 
   is_next : IsNextPair runs ps p
@@ -361,7 +354,7 @@ module _ (runs : List Run) (ps : List Pair) (place : ℕ) (xs : List OpenRun) (h
       let kept : Covers runs (p ∷ ps) o.place (take k xs) = same_before runs ps (p ∷ ps) o.place (take k xs) front same_left same_inside in
       let not_itself : nat_lt o.place o.place ≡ false = le-ltb o.place o.place (omega arith) in
       let outside_o : is_inside (p ∷ ps) o.place ≡ false =
-      ap (λ b. (b && nat_lt o.place place) || is_inside ps o.place) not_itself ∙ h.covers.uncrossed k c within in
+      ap (λ b. (b && nat_lt o.place place) || is_inside ps o.place) not_itself ∙ uncrossed in
       let more : Covers runs (p ∷ ps) (o.place + 1) (take k xs ++ openers_of (left_at runs (p ∷ ps) o.place)) =
       push runs (p ∷ ps) o.place (take k xs) kept outside_o in
       let left : Covers runs (p ∷ ps) (o.place + 1) (take k xs ++ openers_of (without (taken_by o c) o)) =
@@ -385,62 +378,6 @@ module _ (runs : List Run) (ps : List Pair) (place : ℕ) (xs : List OpenRun) (h
 
 -- ---- runs from left to right
 
--- the pairs of the run at a place, and what is known then
-record After (runs : List Run) (ps : List Pair) (place : ℕ) (s t : Pairing) : Type 0 where
-  added : List Pair
-  same : t.pairs ≡ s.pairs ++ added
-  so_far : List Pair
-  knows : Knows runs so_far (place + 1) t.openers
-  fresh : total_taken so_far (place + 1) ≡ 0
-  chain : (others : List Pair) → AreNext runs so_far others → AreNext runs ps (added ++ others)
-
-passes : (n : ℕ) (runs : List Run) (ps : List Pair) (place : ℕ) (s : Pairing) → Knows runs ps place s.openers
-    → up_to_nearest s.openers (left_at runs ps place) ≤ 0 → After runs ps place s (close n s (left_at runs ps place))
-passes n runs ps place s h none =
-    let c = left_at runs ps place in
-    let is : close n s c ≡ with_opener s c = stops n s c none in
-    record {
-      added = [];
-      same = ap (λ (t : Pairing). t.pairs) is ∙ sym (append-nil s.pairs);
-      so_far = ps;
-      knows = subst (λ (t : Pairing). Knows runs ps (place + 1) t.openers) (sym is) (knows_after runs ps place s.openers h none);
-      fresh = h.untouched (place + 1) (omega arith);
-      chain = λ others next. next;
-    }
-
-closes : (n : ℕ) (runs : List Run) (ps : List Pair) (place : ℕ) (s : Pairing) → Knows runs ps place s.openers
-    → (left_at runs ps place).run.left ≤ n → After runs ps place s (close n s (left_at runs ps place))
-closes zero runs ps place s h fuel =
-    let c = left_at runs ps place in
-    elim (cases_lt 0 (up_to_nearest s.openers c)) [
-      | inl some ↦ absurd (some_left s c some fuel)
-      | inr none ↦ passes zero runs ps place s h none
-    ]
-closes (suc n) runs ps place s h fuel =
-    let c : OpenRun = left_at runs ps place in
-    elim (cases_lt 0 (up_to_nearest s.openers c)) [
-      | inl some ↦
-          let o : OpenRun = nearest s.openers c in
-          let p : Pair = pair_of o c in
-          let e = nearest_eligible s.openers c some in
-          let a = takes_some o c e in
-          let left : left_at runs (p ∷ ps) place ≡ without (taken_by o c) c = closer_left runs ps place s.openers h some in
-          let less : (left_at runs (p ∷ ps) place).run.left ≡ c.run.left - taken_by o c = ap (λ (x : OpenRun). x.run.left) left in
-          let is : close (suc n) s c ≡ close n (with_pair s o c) (left_at runs (p ∷ ps) place) =
-          goes_on n s c some ∙ ap (close n (with_pair s o c)) (sym left) in
-          let more : After runs (p ∷ ps) place (with_pair s o c) (close n (with_pair s o c) (left_at runs (p ∷ ps) place)) =
-          closes n runs (p ∷ ps) place (with_pair s o c) (knows_more runs ps place s.openers h some) (omega arith) in
-          record {
-            added = p ∷ more.added;
-            same = ap (λ (t : Pairing). t.pairs) is ∙ more.same ∙ append_assoc s.pairs (p ∷ []) more.added;
-            so_far = more.so_far;
-            knows = subst (λ (t : Pairing). Knows runs more.so_far (place + 1) t.openers) (sym is) more.knows;
-            fresh = more.fresh;
-            chain = λ others next. NextIs ps p (more.added ++ others) (is_next runs ps place s.openers h some) (more.chain others next);
-          }
-      | inr none ↦ passes (suc n) runs ps place s h none
-    ]
-
 -- a run of which nothing was taken
 left_fresh : (runs : List Run) (ps : List Pair) (place : ℕ) (r : Run) → total_taken ps place ≡ 0 → run_by_place runs place ≡ r
     → left_at runs ps place ≡ open_run r place
@@ -458,44 +395,6 @@ none_past runs ps i j past pair =
     let shut : (left_at runs ps j).run.may_close ≡ false = ap (λ (r : Run). r.may_close) there in
     both_ways (left_at runs ps j).run.may_close shut (eligible_may_close (left_at runs ps i) (left_at runs ps j) pair.eligible)
 
--- the pairs of the runs from a place on
-record Rest (runs : List Run) (ps : List Pair) (s t : Pairing) : Type 0 where
-  added : List Pair
-  same : t.pairs ≡ s.pairs ++ added
-  next : AreNext runs ps added
-
-rest : (done others runs : List Run) (place : ℕ) (ps : List Pair) (s : Pairing) → runs ≡ done ++ others → length done ≡ place
-    → Knows runs ps place s.openers → total_taken ps place ≡ 0 → Rest runs ps s (fold next_run s (placed_from place others))
-rest done [] runs place ps s e size h fresh =
-    let all : length runs ≡ place = ap length e ∙ ap length (append-nil done) ∙ size in
-    record {
-      added = [];
-      same = sym (append-nil s.pairs);
-      next = NoMore ps (λ i j after pair. elim (cases_lt j place) [
-        | inl below ↦ h.none i j after below pair
-        | inr past ↦ none_past runs ps i j
-            (omega arith) pair
-      ]);
-    }
-rest done (r ∷ others) runs place ps s e size h fresh =
-    let there : run_by_place runs place ≡ r =
-    ap (λ n. get_or runs n no_run) (sym size) ∙ ap (λ xs. get_or xs (length done) no_run) e ∙ get_or-append_seam done r others no_run in
-    let left : left_at runs ps place ≡ open_run r place = left_fresh runs ps place r fresh there in
-    let bound : (left_at runs ps place).run.left ≡ r.left = ap (λ (x : OpenRun). x.run.left) left in
-    let t = next_run s (open_run r place) in
-    let here : After runs ps place s (close r.left s (left_at runs ps place)) = closes r.left runs ps place s h (omega arith) in
-    let is : close r.left s (left_at runs ps place) ≡ t = ap (close r.left s) left in
-    let now : After runs ps place s t = subst (After runs ps place s) is here in
-    let split : runs ≡ (done ++ r ∷ []) ++ others = e ∙ sym (append_assoc done (r ∷ []) others) in
-    let longer : length (done ++ r ∷ []) ≡ place + 1 = length-append done (r ∷ []) ∙ ap (λ n. n + 1) size in
-    let more : Rest runs now.so_far t (fold next_run t (placed_from (place + 1) others)) =
-    rest (done ++ r ∷ []) others runs (place + 1) now.so_far t split longer now.knows now.fresh in
-    record {
-      added = now.added ++ more.added;
-      same = more.same ∙ ap (λ x. x ++ more.added) now.same ∙ append_assoc s.pairs now.added more.added;
-      next = now.chain more.added more.next;
-    }
-
 knows_at_first : (runs : List Run) → Knows runs [] 0 []
 knows_at_first runs =
     record {
@@ -506,7 +405,88 @@ knows_at_first runs =
       none = λ i j after lt pair. absurd (omega arith);
     }
 
+-- the run at a place, of which the pairs so far took some, and those after it
+abbrev ahead : List Run → List Pair → ℕ → List Run → List OpenRun
+ahead runs ps place [] = []
+ahead runs ps place (r ∷ others) = left_at runs ps place ∷ placed_from (place + 1) others
+
+-- before a pair took any of it
+ahead_fresh : (done others runs : List Run) (ps : List Pair) (place : ℕ) → runs ≡ done ++ others → length done ≡ place → total_taken ps place ≡ 0
+    → placed_from place others ≡ ahead runs ps place others
+ahead_fresh done [] runs ps place e size fresh = refl
+ahead_fresh done (r ∷ others) runs ps place e size fresh =
+    let there : run_by_place runs place ≡ r =
+    ap (λ n. get_or runs n no_run) (sym size) ∙ ap (λ xs. get_or xs (length done) no_run) e ∙ get_or-append_seam done r others no_run in
+    ap (λ x. x ∷ placed_from (place + 1) others) (sym (left_fresh runs ps place r fresh there))
+
+-- what is known before the runs from a place on
+record Place (runs : List Run) (ps : List Pair) (xs : List OpenRun) (place : ℕ) (others : List Run) : Type 0 where
+  done : List Run
+  split : runs ≡ done ++ others
+  size : length done ≡ place
+  knows : Knows runs ps place xs
+
+-- the place after the run at this one
+next_place : (runs : List Run) (ps : List Pair) (xs ys : List OpenRun) (place : ℕ) (r : Run) (others : List Run) → Place runs ps xs place (r ∷ others)
+    → Knows runs ps (place + 1) ys → Place runs ps ys (place + 1) others
+next_place runs ps xs ys place r others at knows =
+    record {
+      done = at.done ++ r ∷ [];
+      split = at.split ∙ sym (append_assoc at.done (r ∷ []) others);
+      size = length-append at.done (r ∷ []) ∙ ap (λ n. n + 1) at.size;
+      knows = knows;
+    }
+
+-- no run is left
+none_left : (runs : List Run) (ps : List Pair) (xs : List OpenRun) (place : ℕ) → Place runs ps xs place [] → AreNext runs ps []
+none_left runs ps xs place at =
+    let all : length runs ≡ place = ap length at.split ∙ ap length (append-nil at.done) ∙ at.size in
+    NoMore ps (λ i j after pair. elim (cases_lt j place) [
+      | inl below ↦ at.knows.none i j after below pair
+      | inr past ↦ none_past runs ps i j (omega arith) pair
+    ])
+
+no_first : (p : OpenRun) (ps : List OpenRun) → ◌≡◌ {A = List OpenRun} [] (p ∷ ps) → ⊥
+no_first p ps e = let size : 0 ≡ length (p ∷ ps) = ap length e in absurd (omega arith)
+
+-- pairs of the runs from a place on are the next ones
+follow : (runs : List Run) (ps : List Pair) (place : ℕ) (others : List Run) (xs rs : List OpenRun) (qs : List Pair) → ArePairs xs rs qs
+    → rs ≡ ahead runs ps place others → Place runs ps xs place others → AreNext runs ps qs
+follow runs ps place [] _ _ _ (NoRuns xs) e at = none_left runs ps xs place at
+follow runs ps place (r ∷ others) _ _ _ (NoRuns xs) e at = absurd (no_first _ _ e)
+follow runs ps place [] _ _ _ (Opens xs run behind qs none more) e at = absurd (no_first _ _ (sym e))
+follow runs ps place (r ∷ others) _ _ _ (Opens xs run behind qs none more) e at =
+    let c = left_at runs ps place in
+    let first : run ≡ c = ap (λ ys. get_or ys 0 run) e in
+    let none_for : NoneEligible xs c = λ j lt. subst (λ x. is_eligible (get_or xs j x) x ≡ false) first (none j lt) in
+    let knows : Knows runs ps (place + 1) (xs ++ openers_of run) =
+    subst (λ x. Knows runs ps (place + 1) (xs ++ openers_of x)) (sym first) (knows_after runs ps place xs at.knows none_for) in
+    let next : Place runs ps (xs ++ openers_of run) (place + 1) others = next_place runs ps xs (xs ++ openers_of run) place r others at knows in
+    follow runs ps (place + 1) others (xs ++ openers_of run) behind qs more
+    (ap (drop 1) e ∙ ahead_fresh next.done others runs ps (place + 1) next.split next.size (at.knows.untouched (place + 1) (omega arith))) next
+follow runs ps place [] _ _ _ (Closes xs run behind qs k o within is may later more) e at = absurd (no_first _ _ (sym e))
+follow runs ps place (r ∷ others) _ _ _ (Closes xs run behind qs k o within is may later more) e at =
+    let c = left_at runs ps place in
+    let first : run ≡ c = ap (λ ys. get_or ys 0 run) e in
+    let is_now : o ≡ get_or xs k c = subst (λ x. o ≡ get_or xs k x) first is in
+    let may_now : is_eligible o c ≡ true = subst (λ x. is_eligible o x ≡ true) first may in
+    let later_now : (j : ℕ) → k < j → j < length xs → is_eligible (get_or xs j c) c ≡ false =
+    λ j past lt. subst (λ x. is_eligible (get_or xs j x) x ≡ false) first (later j past lt) in
+    let p : Pair = pair_of o c in
+    let left = take k xs ++ openers_of (without (taken_by o run) o) in
+    let knows : Knows runs (p ∷ ps) place left =
+    subst (λ x. Knows runs (p ∷ ps) place (take k xs ++ openers_of (without (taken_by o x) o))) (sym first)
+    (knows_more runs ps place xs at.knows k within o is_now may_now later_now) in
+    let rest : without (taken_by o run) run ≡ left_at runs (p ∷ ps) place =
+    ap (λ x. without (taken_by o x) x) first ∙ sym (closer_left runs ps place xs at.knows k within o is_now may_now later_now) in
+    let more_next : AreNext runs (p ∷ ps) qs =
+    follow runs (p ∷ ps) place (r ∷ others) left (without (taken_by o run) run ∷ behind) qs more (ap₂ (λ x ys. x ∷ ys) rest (ap (drop 1) e))
+    (record { done = at.done; split = at.split; size = at.size; knows = knows }) in
+    subst (λ x. AreNext runs ps (pair_of o x ∷ qs)) (sym first)
+    (NextIs ps p qs (is_next runs ps place xs at.knows k within o is_now may_now later_now) more_next)
+
 -- each of the pairs of runs is the next one, and none is missing
 pub are_next : (runs : List Run) → AreNext runs [] (pairs runs)
 are_next runs =
-    let all = rest [] runs runs 0 [] (pairing [] []) refl refl (knows_at_first runs) refl in subst (AreNext runs []) (sym all.same) all.next
+    follow runs [] 0 runs [] (placed_from 0 runs) (pairs runs) (are_pairs runs) (ahead_fresh [] runs runs [] 0 refl refl refl)
+    (record { done = []; split = refl; size = refl; knows = knows_at_first runs })

@@ -1,4 +1,5 @@
 pub mod HtmlTags
+pub mod Parts
 pub mod Space
 pub mod Label
 pub mod Destination

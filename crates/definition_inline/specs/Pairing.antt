@@ -1,8 +1,6 @@
--- Which runs of a container go together (CommonMark 6.2). This is an algorithm: which pair comes next is said as a relation in NextPair.antt, and
--- proved of it.
-use Rattle.std.specs.Prelude.{ℕ, zero, suc, ◌+◌, ◌-◌, ◌%◌, Bool, true, false, not, if◌then◌else◌, ◌==◌, ◌&&◌, ◌||◌, nat_le, List, [], ◌∷◌, ◌++◌, length, take}
-use Rattle.std.specs.Prelude.{slice_index_or}
-use Rattle.std.specs.List.{suffix_len, fold}
+-- Which runs of a container go together (CommonMark 6.2). RunPairs.antt and NextPair.antt say it again as relations.
+use Rattle.std.specs.Prelude.{ℕ, zero, suc, ◌+◌, ◌-◌, ◌%◌, Bool, not, if◌then◌else◌, ◌==◌, ◌&&◌, ◌||◌, nat_le, List, [], ◌∷◌, ◌++◌, drop}
+use Rattle.std.specs.List.{prefix_len, sum_by}
 use Rattle.definition_inline.specs.Attention.{Run, are_fitting}
 
 -- a run that is open, with its place among the runs of its container
@@ -53,52 +51,33 @@ openers_of p = if p.run.may_open && not (p.run.left == 0) then p ∷ [] else []
 abbrev pub pair_of : OpenRun → OpenRun → Pair
 pair_of opener closer = record { opener = opener.place; closer = closer.place; taken = taken_by opener closer }
 
--- the openers that no pair crosses, the nearest last, and the pairs so far
-pub record Pairing : Type 0 where
-  pub openers : List OpenRun
-  pub pairs : List Pair
+-- the openers from the nearest eligible one on; openers are given with the nearest first (CommonMark 6.2)
+abbrev pub from_nearest : List OpenRun → OpenRun → List OpenRun
+from_nearest openers closer = drop (prefix_len (λ o. not (is_eligible o closer)) openers) openers
 
-abbrev pub pairing : List OpenRun → List Pair → Pairing
-pairing openers pairs = record { openers = openers; pairs = pairs }
+-- A run pairs with the nearest eligible opener, what is left of both goes on, and the openers between go, so that nothing crosses the pair; with no eligible
+-- opener what is left of the run may open (CommonMark 6.2).
+abbrev pub pair_or_open : List OpenRun → List OpenRun → OpenRun → List OpenRun → (List OpenRun → List OpenRun → List Pair) → List Pair
+pair_or_open [] openers run others more = more (openers_of run ++ openers) others
+pair_or_open (opener ∷ before) openers run others more =
+    let taken = taken_by opener run in
+    pair_of opener run ∷ more (openers_of (without taken opener) ++ before) (without taken run ∷ others)
 
--- how many openers stand up to the nearest eligible one, none where there is no such
-abbrev pub up_to_nearest : List OpenRun → OpenRun → ℕ
-up_to_nearest openers closer = length openers - suffix_len (λ o. not (is_eligible o closer)) openers
+-- the pairs of runs from left to right after these openers, in at most so many steps (CommonMark 6.2)
+abbrev pub pairs_after : ℕ → List OpenRun → List OpenRun → List Pair
+pairs_after zero openers runs = []
+pairs_after (suc most) openers [] = []
+pairs_after (suc most) openers (run ∷ others) = pair_or_open (from_nearest openers run) openers run others (pairs_after most)
 
--- the nearest eligible opener
-abbrev pub nearest : List OpenRun → OpenRun → OpenRun
-nearest openers closer = slice_index_or openers (up_to_nearest openers closer - 1) closer
-
--- an eligible opener and the closer make a pair; the openers between go, so that nothing crosses it (CommonMark 6.2)
-abbrev pub with_pair : Pairing → OpenRun → OpenRun → Pairing
-with_pair so_far opener closer =
-    pairing (take (up_to_nearest so_far.openers closer - 1) so_far.openers ++ openers_of (without (taken_by opener closer) opener))
-    (so_far.pairs ++ pair_of opener closer ∷ [])
-
--- what is left of a run may open
-abbrev pub with_opener : Pairing → OpenRun → Pairing
-with_opener so_far p = pairing (so_far.openers ++ openers_of p) so_far.pairs
-
--- the closer pairs with this opener, and what is left of it goes on; or it may open, where no opener was found
-abbrev pub pair_or_open : Bool → Pairing → OpenRun → OpenRun → (Pairing → OpenRun → Pairing) → Pairing
-pair_or_open true so_far opener closer more = with_opener so_far closer
-pair_or_open false so_far opener closer more = more (with_pair so_far opener closer) (without (taken_by opener closer) closer)
-
--- a run closes what it can, at most so many times, and what is left of it may open (CommonMark 6.2)
-abbrev pub close : ℕ → Pairing → OpenRun → Pairing
-close zero so_far closer = with_opener so_far closer
-close (suc most) so_far closer =
-    pair_or_open (up_to_nearest so_far.openers closer == 0) so_far (nearest so_far.openers closer) closer (close most)
-
--- one more run
-abbrev pub next_run : Pairing → OpenRun → Pairing
-next_run so_far p = close p.run.left so_far p
+-- how many steps runs need at most: each takes a byte or more of a run, or goes on to the next one
+abbrev pub steps : List OpenRun → ℕ
+steps runs = sum_by (λ (p : OpenRun). 1 + p.run.left) runs
 
 -- runs with their places from this one on
 abbrev pub placed_from : ℕ → List Run → List OpenRun
 placed_from place [] = []
 placed_from place (run ∷ others) = open_run run place ∷ placed_from (place + 1) others
 
--- the pairs of the runs of one container, from left to right (CommonMark 6.2)
+-- the pairs of the runs of one container (CommonMark 6.2)
 abbrev pub pairs : List Run → List Pair
-pairs runs = (fold next_run (pairing [] []) (placed_from 0 runs)).pairs
+pairs runs = let placed = placed_from 0 runs in pairs_after (steps placed) [] placed

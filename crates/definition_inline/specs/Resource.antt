@@ -3,6 +3,7 @@ use Rattle.std.specs.Prelude.{Bool, false, if◌then◌else◌, ◌==◌, ◌&&�
 use Rattle.definition_text.specs.Ascii.{double_quote, single_quote, left_parenthesis, right_parenthesis}
 use Rattle.definition_text.specs.Columns.{Code}
 use Rattle.definition_text.specs.Content.{Part}
+use Rattle.definition_inline.specs.Parts.{after_part, after_code}
 use Rattle.definition_inline.specs.Space.{after_white, begins_with_space}
 use Rattle.definition_inline.specs.Destination.{destination_at}
 use Rattle.definition_inline.specs.Title.{title_at}
@@ -13,41 +14,30 @@ pub record LinkResource : Type 0 where
   pub title : Option (List Code)
   pub rest : List Code
 
--- a resource ends here: white space, and a `)` (CommonMark 6.3)
+-- a resource ends here with a `)` (CommonMark 6.3)
 abbrev pub resource_end : List Code → Option (List Code) → List Code → Option LinkResource
-resource_end destination title [] = None
-resource_end destination title (c ∷ cs) =
-    if c == right_parenthesis then Some (record { destination = destination; title = title; rest = cs }) else None
-
--- a resource with this title, if there is one
-abbrev pub resource_with_title : List Code → Option Part → Option LinkResource
-resource_with_title destination None = None
-resource_with_title destination (Some title) = resource_end destination (Some title.text) (after_white title.rest)
+resource_end destination title content =
+    after_code right_parenthesis content (λ rest. Some (record { destination = destination; title = title; rest = rest }))
 
 -- whether a title is opened here
 abbrev pub opens_title : List Code → Bool
 opens_title [] = false
 opens_title (c ∷ cs) = (c == double_quote) || ((c == single_quote) || (c == left_parenthesis))
 
--- a title is set off from the destination by white space (CommonMark 6.3)
+-- a title, where there is one, and the end; the title is set off from the destination by white space (CommonMark 6.3)
 abbrev pub after_destination : Part → Option LinkResource
 after_destination destination =
     let next = after_white destination.rest in
-    if begins_with_space destination.rest && opens_title next then resource_with_title destination.text (title_at next)
+    if begins_with_space destination.rest && opens_title next then
+    after_part (title_at next) (λ (title : Part). resource_end destination.text (Some title.text) (after_white title.rest))
     else resource_end destination.text None next
 
--- a resource with this destination, if there is one
-abbrev pub resource_with_destination : Option Part → Option LinkResource
-resource_with_destination None = None
-resource_with_destination (Some destination) = after_destination destination
-
--- a resource after its `(` and white space (CommonMark 6.3)
+-- what a resource holds: nothing, or a destination, whose parentheses are at most 32 deep, and what follows it (CommonMark 6.3)
 abbrev pub resource_inside : List Code → Option LinkResource
 resource_inside [] = None
 resource_inside (c ∷ cs) =
-    if c == right_parenthesis then resource_end [] None (c ∷ cs) else resource_with_destination (destination_at (Some 32) (c ∷ cs))
+    if c == right_parenthesis then resource_end [] None (c ∷ cs) else after_part (destination_at (Some 32) (c ∷ cs)) after_destination
 
--- a resource, whose destination has parentheses at most 32 deep (CommonMark 6.3)
+-- a resource: `(`, and what it holds after optional white space (CommonMark 6.3)
 abbrev pub resource_at : List Code → Option LinkResource
-resource_at [] = None
-resource_at (c ∷ cs) = if c == left_parenthesis then resource_inside (after_white cs) else None
+resource_at content = after_code left_parenthesis content (λ rest. resource_inside (after_white rest))

@@ -1,1 +1,2 @@
 pub mod PlainLayout
+pub mod Cuts

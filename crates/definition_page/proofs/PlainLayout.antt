@@ -1,5 +1,5 @@
 -- Pages without calls, and without footnotes.
-use Rattle.std.proofs.Common.{◌≡◌, ℕ, zero, List, [], ◌∷◌, ◌++◌, map, reverse, refl, sym, ap, ◌∙◌, append_assoc}
+use Rattle.std.proofs.Common.{◌≡◌, ℕ, zero, suc, List, [], ◌∷◌, ◌++◌, map, reverse, refl, sym, ap, ◌∙◌, append_assoc}
 use Rattle.std.proofs.lemmas.List.{append-nil, reverse-append}
 use Rattle.markdown_options.specs.declared.configuration.CompileOptions.{CompileOptions}
 use Rattle.definition_page.specs.Pieces.{Piece, CallOf, CountOf, NoteStart, NoteEnd}
@@ -66,6 +66,25 @@ plain_content (p ∷ ps) before are =
     ∙ plain_content ps (p ∷ before) are.1
     ∙ ap (λ qs. qs ++ ps) (content_more before p are.0)
     ∙ append_assoc (content zero before) (p ∷ []) ps
+
+-- they end no footnote
+pub plain_contents : (ps before others : List Piece) → ArePlain ps → contents before (ps ++ others) ≡ contents (reverse ps ++ before) others
+plain_contents [] before others are = refl
+plain_contents (CallOf place label ∷ ps) before others are = absurd are.0
+plain_contents (CountOf place label ∷ ps) before others are = absurd are.0
+plain_contents (NoteStart ∷ ps) before others are = absurd are.0
+plain_contents (NoteEnd ∷ ps) before others are = absurd are.0
+plain_contents (p ∷ ps) before others are =
+    plain_contents ps (p ∷ before) others are.1 ∙ ap (λ all. contents all others) (sym (turned (p ∷ []) ps before))
+
+-- nor do they change what stands further out
+pub plain_outer : (k : ℕ) (ps before : List Piece) → ArePlain ps → content (suc k) (reverse ps ++ before) ≡ content (suc k) before
+plain_outer k [] before are = refl
+plain_outer k (CallOf place label ∷ ps) before are = absurd are.0
+plain_outer k (CountOf place label ∷ ps) before are = absurd are.0
+plain_outer k (NoteStart ∷ ps) before are = absurd are.0
+plain_outer k (NoteEnd ∷ ps) before are = absurd are.0
+plain_outer k (p ∷ ps) before are = ap (content (suc k)) (turned (p ∷ []) ps before) ∙ plain_outer k ps (p ∷ before) are.1
 
 -- a page of them has no section of footnotes
 pub plain_page : (options : CompileOptions) (default : List ℕ) (ps : List Piece) → ArePlain ps → page_layout options default ps ≡ layout default ps

@@ -10,7 +10,7 @@ use Rattle.definition_page.specs.GfmLabelStartFootnote.{call_pieces}
 use Rattle.definition_page.specs.GfmFootnoteDefinition.{section_pieces}
 use Rattle.definition_page.specs.Layout.{NamedCall, named_call, named_calls, first_calls, with_calls, content, contents, layout, times, call_of}
 use Rattle.definition_page.specs.Layout.{called_footnotes, page_layout}
-use Rattle.definition_page.proofs.PlainLayout.{ArePlain, turned, plain_content}
+use Rattle.definition_page.proofs.PlainLayout.{ArePlain, turned, plain_content, plain_outer, plain_contents}
 use Rattle.html_bytes.specs.Layout.{NoteCalls, once_more, latest_call, LayoutState, layout_state, note_end, note_of, nothing_laid}
 use Rattle.html_bytes.proofs.CalledFootnotes.{once, latest_same, footnotes_same}
 
@@ -30,7 +30,7 @@ lay options default l piece = layout_state (print default l.text piece) l.outer 
 abbrev pub with_section : CompileOptions → List ℕ → LayoutState → List ℕ
 with_section options default l = fold (print default) l.text (section_pieces options (map (note_of l.notes) l.called))
 
--- ---- pieces that footnotes don't need go on with the innermost text, and change nothing else
+-- pieces that footnotes don't need go on with the innermost text, and change nothing else
 pub plain_laid : (options : CompileOptions) (default : List ℕ) (ps : List Piece) → ArePlain ps → (l : LayoutState)
     → fold (lay options default) l ps ≡ layout_state (fold (print default) l.text ps) l.outer l.notes l.called
 plain_laid options default [] are l = refl
@@ -41,25 +41,6 @@ plain_laid options default (NoteEnd ∷ ps) are l = absurd are.0
 plain_laid options default (p ∷ ps) are l = plain_laid options default ps are.1 (lay options default l p)
 
 -- ---- the rule
-
--- they end no footnote
-plain_contents : (ps before others : List Piece) → ArePlain ps → contents before (ps ++ others) ≡ contents (reverse ps ++ before) others
-plain_contents [] before others are = refl
-plain_contents (CallOf place label ∷ ps) before others are = absurd are.0
-plain_contents (CountOf place label ∷ ps) before others are = absurd are.0
-plain_contents (NoteStart ∷ ps) before others are = absurd are.0
-plain_contents (NoteEnd ∷ ps) before others are = absurd are.0
-plain_contents (p ∷ ps) before others are =
-    plain_contents ps (p ∷ before) others are.1 ∙ ap (λ all. contents all others) (sym (turned (p ∷ []) ps before))
-
--- nor do they change what stands further out
-plain_outer : (k : ℕ) (ps before : List Piece) → ArePlain ps → content (suc k) (reverse ps ++ before) ≡ content (suc k) before
-plain_outer k [] before are = refl
-plain_outer k (CallOf place label ∷ ps) before are = absurd are.0
-plain_outer k (CountOf place label ∷ ps) before are = absurd are.0
-plain_outer k (NoteStart ∷ ps) before are = absurd are.0
-plain_outer k (NoteEnd ∷ ps) before are = absurd are.0
-plain_outer k (p ∷ ps) before are = ap (content (suc k)) (turned (p ∷ []) ps before) ∙ plain_outer k ps (p ∷ before) are.1
 
 module _ (options : CompileOptions) (default : List ℕ) where
   -- ---- after some pieces
@@ -194,7 +175,8 @@ module _ (options : CompileOptions) (default : List ℕ) where
           called = k.called;
         }
     laid (p ∷ ps) l before earlier h e =
-        laid_plain l (fold (lay options default) (lay options default l p) ps) (print default l.text p) l.called before (p ∷ []) (shown_of earlier ps) all (tt, tt)
+        laid_plain l (fold (lay options default) (lay options default l p) ps) (print default l.text p) l.called before (p ∷ []) (shown_of earlier ps) all
+        (tt, tt)
         (laid ps (lay options default l p) (p ∷ before) earlier (reach_plain l before (p ∷ []) earlier (tt, tt) h) e)
 
   -- ---- the page

@@ -32,8 +32,8 @@ module _ (at beside : ℕ → inline.LinkTexts) (same : (place : ℕ) → at pla
   same_row (Verbatim verbatim) = refl
   same_row (Leaf part) = refl
   same_row (EnterSpan span) = refl
-  same_row (EnterLink target) = ap (λ l. rows.EnterLink l ∷ []) (same_target target)
-  same_row (EnterImage target) = ap (λ l. rows.EnterImage l ∷ []) (same_target target)
+  same_row (EnterLink target) = ap (λ l. rows.EnterLinked inline.Link l ∷ []) (same_target target)
+  same_row (EnterImage target) = ap (λ l. rows.EnterLinked inline.Image l ∷ []) (same_target target)
   same_row (Call label) = refl
   same_row Exit = refl
 

@@ -3,7 +3,8 @@ ghost use Rattle.definition_inline.specs.Targets.{Targets};
 ghost use Rattle.definition_inline.specs.GfmTaskListItem.{check_at};
 ghost use Rattle.definition_inline.specs.Scan.{without_indent};
 ghost use Rattle.definition_text.specs.InlineCode.{codes_of};
-ghost use Rattle.html_bytes.specs.Document.{checked_text};
+ghost use Rattle.definition_page.specs.Read.{checked_text};
+ghost use Rattle.html_bytes.specs.Document.{reading_of, structure_pieces};
 ghost use Rattle.inline_content.specs.View.{content_view};
 
 use crate::texts::Texts;
@@ -32,8 +33,8 @@ impl<'a, T: Tables, A: Allocator + Clone> Texts<'a, '_, T, A> {
         ensures { (ds : Targets) → KnowsTargets self.now ds →
             let d = document_by T.Tables self.now ds in
             let codes = without_indent (content_view (T.punctuation_of self.now.tables.now) content.entry) in
-            let text = checked_text d codes (check_at self.now.options.now.parse.constructs first (codes_of codes)) in
-            LaysOut d result out.old out.new text }
+            let text = checked_text (reading_of d) codes (check_at self.now.options.now.parse.constructs first (codes_of codes)) in
+            LaysOut d result out.old out.new (structure_pieces d text) }
     {
         let start = content_start(content);
         match check_at(&self.options.parse.constructs, first, start) {

@@ -1,8 +1,10 @@
 //! The texts of paragraphs, headings and info strings (CommonMark 4.2, 4.3, 4.5 and 4.8).
 ghost use Rattle.std.specs.Prelude.{◌≡◌, ◌++◌, ◌∷◌, [], OnOk, string_bytes, true};
-ghost use Rattle.html_bytes.specs.Document.{context_of, meaning_of, text_of, paragraph_of, info_of};
+ghost use Rattle.definition_page.specs.InlinePieces.{inline_counts};
+ghost use Rattle.definition_page.specs.Read.{context_of};
+ghost use Rattle.html_bytes.specs.Document.{reading_of, document_meaning, structure_pieces, text_of, paragraph_of, info_of};
 ghost use Rattle.definition_text.specs.Encode.{encode};
-ghost use Rattle.html_bytes.specs.InlineHtml.{inline_counts, inline_pieces};
+ghost use Rattle.html_bytes.specs.Pieces.{in_bytes};
 ghost use Rattle.definition_inline.specs.Targets.{Targets};
 ghost use Rattle.text_pieces.specs.ParagraphLines.{HaveNoEnding, AreLines};
 ghost use Rattle.text_pieces.specs.Pieces.{piece_line, piece_lines, whole_lines};
@@ -80,7 +82,7 @@ impl<'a, T: Tables, A: Allocator + Clone> Texts<'a, '_, T, A> {
         ensures { (ds : Targets) → KnowsTargets self.now ds → AreContentLines (piece_lines lines.now) →
             let d = document_by T.Tables self.now ds in
             let content = inline_content (T.punctuation_of self.now.tables.now) after (own_lines (piece_lines lines.now)) in
-            LaysOut d result out.old out.new (inline_pieces (meaning_of d) (parts_in_cell cell (inlines (context_of d) content))) }
+            LaysOut d result out.old out.new (structure_pieces d (parts_in_cell cell (inlines (context_of (reading_of d)) content))) }
     {
         let scratch = &mut buffers.scratch;
         let room = &mut buffers.room;
@@ -175,8 +177,8 @@ impl<'a, T: Tables, A: Allocator + Clone> Texts<'a, '_, T, A> {
     ) -> Result<(), AllocError>
         ensures { (ds : Targets) → KnowsTargets self.now ds →
             let d = document_by T.Tables self.now ds in
-            let structure = inlines (context_of d) (content_view (T.punctuation_of self.now.tables.now) content.entry) in
-            LaysOut d result out.old out.new (inline_pieces (meaning_of d) (parts_in_cell cell structure)) }
+            let structure = inlines (context_of (reading_of d)) (content_view (T.punctuation_of self.now.tables.now) content.entry) in
+            LaysOut d result out.old out.new (structure_pieces d (parts_in_cell cell structure)) }
     {
         self.push_from(
             out,
@@ -204,8 +206,8 @@ impl<'a, T: Tables, A: Allocator + Clone> Texts<'a, '_, T, A> {
         requires { IsPlace content.text.now start.now }
         ensures { (ds : Targets) → KnowsTargets self.now ds →
             let d = document_by T.Tables self.now ds in
-            let structure = inlines_from (context_of d) (view_at (T.punctuation_of self.now.tables.now) content.entry start.now) in
-            LaysOut d result out.old out.new (inline_pieces (meaning_of d) (parts_in_cell cell structure)) }
+            let structure = inlines_from (context_of (reading_of d)) (view_at (T.punctuation_of self.now.tables.now) content.entry start.now) in
+            LaysOut d result out.old out.new (structure_pieces d (parts_in_cell cell structure)) }
     {
         let parse = &self.options.parse;
         let found = inline_rows(
@@ -243,8 +245,8 @@ impl<'a, T: Tables, A: Allocator + Clone> Texts<'a, '_, T, A> {
     ) -> Result<(), AllocError>
         ensures { (ds : Targets) → KnowsTargets self.now ds →
             let d = document_by T.Tables self.now ds in
-            let structure = inlines (context_of d) (content_view (T.punctuation_of self.now.tables.now) content.entry) in
-            LaysOut d result out.old out.new (inline_counts (meaning_of d) (parts_in_cell true structure)) }
+            let structure = inlines (context_of (reading_of d)) (content_view (T.punctuation_of self.now.tables.now) content.entry) in
+            LaysOut d result out.old out.new (in_bytes (inline_counts (document_meaning d) (parts_in_cell true structure))) }
     {
         let parse = &self.options.parse;
         let definitions = self.links;

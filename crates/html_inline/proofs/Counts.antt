@@ -7,7 +7,7 @@ use Rattle.std.proofs.lemmas.List.Concat.{flat_map-append}
 use Rattle.definition_inline.specs.Inline.{Target, LinkTexts, InlineLeaf, Data, Inline, Leaf, Span, Linked, Call, Inlines, Nil, Cons}
 use Rattle.definition_page.specs.GfmTable.{part_in_cell, in_cell}
 use Rattle.definition_page.specs.InlinePieces.{Meaning, part_counts, inline_counts}
-use Rattle.definition_page.specs.Layout.{LayoutState}
+use Rattle.html_bytes.specs.Layout.{LayoutState}
 use Rattle.html_bytes.specs.Layout.{lay}
 use Rattle.html_bytes.specs.Pieces.{in_bytes}
 use Rattle.html_bytes.proofs.SameText.{laid_both}

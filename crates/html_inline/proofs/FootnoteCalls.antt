@@ -1,7 +1,7 @@
 -- Calls of footnotes among rows.
 use Rattle.std.proofs.Common.{◌≡◌, ℕ, Bool, true, false, List, [], Option, None, Some, sym, ap, ◌∙◌}
 use Rattle.definition_inline.specs.LabelMatch.{first_match, normal_label}
-use Rattle.definition_page.specs.Layout.{LayoutState}
+use Rattle.html_bytes.specs.Layout.{LayoutState}
 use Rattle.definition_page.specs.InlinePieces.{Meaning, call_at, count_at}
 use Rattle.html_bytes.specs.Layout.{lay}
 use Rattle.html_bytes.specs.Pieces.{CallOf, CountOf}

@@ -10,7 +10,7 @@ use Rattle.definition_text.specs.Encode.{encode}
 use Rattle.definition_inline.specs.Inline as inline
 use Rattle.definition_inline.specs.Inline.{InlineLeaf, Data}
 use Rattle.definition_page.specs.InlinePieces.{Meaning}
-use Rattle.definition_page.specs.Layout.{LayoutState}
+use Rattle.html_bytes.specs.Layout.{LayoutState}
 use Rattle.html_bytes.specs.Layout.{with_text}
 use Rattle.inline_rows.specs.InlineRows as rows_of
 use Rattle.inline_rows.specs.declared.row.InlineRow.{InlineRow}

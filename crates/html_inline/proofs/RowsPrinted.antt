@@ -7,7 +7,7 @@ use Rattle.std.proofs.lemmas.List.Sums.{fold-append}
 use Rattle.definition_inline.specs.LabelMatch.{first_match, normal_label}
 use Rattle.definition_inline.specs.Inline.{LinkTexts, Link, Image, InlineLeaf, Inline, Leaf, Span, Linked, Call, Inlines, Nil, Cons}
 use Rattle.definition_inline.specs.Targets.{leads_to}
-use Rattle.definition_page.specs.Layout.{LayoutState}
+use Rattle.html_bytes.specs.Layout.{LayoutState}
 use Rattle.definition_page.specs.Tags.{said_bytes, Tag, bare_tag, start_tag, end_tag, void_tag}
 use Rattle.definition_page.specs.Pieces.{Piece, Close}
 use Rattle.definition_page.specs.InlinePieces.{Meaning, span_name, element, link_tag, image_tag, part_says, description, call_at, count_at}

@@ -1,7 +1,7 @@
 -- What is open, as the definition has it.
 use Rattle.std.specs.Prelude.{ℕ, Bool, true, false, List, [], None, codes, map, reverse, slice_index_or}
 use Rattle.definition_inline.specs.Inline as inline
-use Rattle.definition_page.specs.Layout.{LayoutState}
+use Rattle.html_bytes.specs.Layout.{LayoutState}
 use Rattle.definition_page.specs.Tags.{end_tag}
 use Rattle.definition_page.specs.InlinePieces.{Meaning}
 use Rattle.inline_runs.specs.View.{span_view}

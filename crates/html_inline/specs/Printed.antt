@@ -5,7 +5,7 @@ use Rattle.markdown_options.specs.declared.configuration.CompileOptions.{Compile
 use Rattle.definition_text.specs.Encode.{encode}
 use Rattle.definition_inline.specs.Inline.{InlineLeaf, SpanKind, Link, Image, LinkTexts}
 use Rattle.definition_inline.specs.LabelMatch.{first_match, normal_label}
-use Rattle.definition_page.specs.Layout.{LayoutState}
+use Rattle.html_bytes.specs.Layout.{LayoutState}
 use Rattle.definition_page.specs.Tags.{attribute_bytes, bare_tag, start_tag, end_tag}
 use Rattle.definition_page.specs.Pieces.{Piece}
 use Rattle.definition_page.specs.InlinePieces.{Meaning, span_name, url_of, image_url, title_attribute, link_tag, call_at, count_at}

@@ -167,7 +167,7 @@ fn push_part<A: Allocator + Clone, T: Tables>(
     }
 }
 
-/// Emphasis, strong emphasis or strikethrough starts (CommonMark 6.2 and GFM 6.5).
+/// A span starts (CommonMark 6.2).
 fn enter_span<A: Allocator + Clone>(
     out: &mut Output<A>,
     scratch: &mut Scratch<A>,
@@ -302,6 +302,7 @@ fn span_start(span: Span) -> &'static str
         Span::Emphasis => "<em>",
         Span::Strong => "<strong>",
         Span::Strikethrough => "<del>",
+        Span::Mark => "<mark>",
     }
 }
 
@@ -313,5 +314,6 @@ fn span_end(span: Span) -> &'static str
         Span::Emphasis => "</em>",
         Span::Strong => "</strong>",
         Span::Strikethrough => "</del>",
+        Span::Mark => "</mark>",
     }
 }

@@ -11,7 +11,7 @@ use inline_runs::Span;
 /// What is open.
 #[derive(Clone, Copy)]
 pub(crate) enum OpenPart {
-    /// Emphasis, strong emphasis or strikethrough (CommonMark 6.2 and GFM 6.5).
+    /// A span (CommonMark 6.2).
     Span(Span),
     /// A link (CommonMark 6.3).
     Link,

@@ -8,8 +8,9 @@ use Rattle.definition_inline.specs.Space.{after_spaces, after_white, begins_with
 use Rattle.definition_inline.specs.Label.{label_at}
 use Rattle.definition_inline.specs.Destination.{destination_at}
 use Rattle.definition_inline.specs.Title.{title_at}
-use Rattle.definition_inline.specs.Definition.{Definition, definition, definition_before, next_line, with_title, definition_with_title}
-use Rattle.definition_inline.specs.Definition.{or_definition_without_title, with_destination, with_colon, with_label, definition_at}
+use Rattle.definition_inline.specs.Definition.{Definition, definition, next_line, definition_with_title}
+use Rattle.definition_inline.specs.Definition.{definition_at}
+use Rattle.definition_inline.proofs.PartSteps.{definition_before, with_title, or_definition_without_title, with_destination, with_colon, with_label}
 use Rattle.inline_links.specs.Texts.{IsText}
 use Rattle.inline_links.proofs.Splits.{from_some, is_ascii_code}
 use Rattle.inline_links.proofs.Texts.{around, destination_text, label_text, spaces_text, title_text, white_text}

@@ -15,9 +15,10 @@ use Rattle.definition_inline.specs.Space.{after_spaces, after_ending, after_whit
 use Rattle.definition_inline.specs.Label.{label_at}
 use Rattle.definition_inline.specs.Destination.{destination_at}
 use Rattle.definition_inline.specs.Title.{title_at}
-use Rattle.definition_inline.specs.Resource.{LinkResource, resource_at, resource_inside, resource_end, resource_with_title, resource_with_destination}
+use Rattle.definition_inline.specs.Resource.{LinkResource, resource_at, resource_inside, resource_end}
 use Rattle.definition_inline.specs.Resource.{after_destination}
 use Rattle.definition_inline.specs.Resource.{opens_title}
+use Rattle.definition_inline.proofs.PartSteps.{resource_with_title, resource_with_destination}
 use Rattle.inline_links.specs.Texts.{IsText, code_text}
 use Rattle.inline_links.proofs.Splits.{is_ascii_code, begins_ascii, white_ascii, eol_ascii, label_whole, title_whole, destination_whole}
 

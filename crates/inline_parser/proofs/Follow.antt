@@ -8,7 +8,7 @@ use Rattle.std.specs.Prelude.{IfSome}
 use Rattle.std.specs.Result.{OnOk}
 use Rattle.std.specs.declared.result.Result.{Result}
 use Rattle.std.specs.declared.result.Result.TheVariants.{Ok, Err}
-use Rattle.std.proofs.lemmas.Bool.{eqb-true, eqb-false, cases_Bool, cond-true}
+use Rattle.std.proofs.lemmas.Bool.{eqb-true, eqb-false, cases_Bool, cond-true, or_parts}
 use Rattle.std.proofs.lemmas.List.{length-drop, length-map, get_or-take}
 use Rattle.std.proofs.lemmas.List.Sums.{prefix_len_passes, prefix_len-le-length}
 use Rattle.markdown_options.specs.declared.configuration.Constructs.{Constructs}
@@ -36,6 +36,7 @@ use Rattle.inline_leaves.specs.Leaves.{leaf_items, size_before, text_items, IsAf
 use Rattle.inline_leaves.specs.Leaves.{IsEnd as IsByteEnd}
 use Rattle.inline_leaves.specs.Scanned.{leaf_in, without_labels}
 use Rattle.inline_leaves.proofs.Codes.{end_after, plain_code, plain_take, plain_drop, size_plain, cut_plain, is_after}
+use Rattle.definition_inline.specs.Mark.{is_equals}
 use Rattle.inline_literals.specs.Literals.{may_begin}
 use Rattle.inline_literals.proofs.Found.{none_first}
 use Rattle.inline_label_ends.specs.declared.forms.LabelEnd.{LabelEnd}
@@ -45,12 +46,13 @@ use Rattle.inline_label_ends.specs.Ends.{IsAfterEnd, IsAfterFormed, IsEnd, IsFor
 use Rattle.inline_label_ends.proofs.Rests.{after_same}
 use Rattle.inline_parser.specs.declared.label.LabelStart.{LabelStart}
 use Rattle.inline_parser.specs.declared.label.LabelStart.TheVariants as start
-use Rattle.inline_text.specs.Plain.{is_text_at}
+use Rattle.inline_text.specs.Plain.{begins_more, is_text_at}
 use Rattle.inline_parser.specs.Scanned.{context_by, ended_here, IsPlace, IsRunFront, IsSingle, StartsLabel}
 use Rattle.inline_parser.specs.Shows.{start_view, with_open_label, unformed_in, formed_in}
 use Rattle.inline_parser.proofs.Views.{IsNext, after_next, next_place, codes_left, view_next}
 use Rattle.inline_parser.proofs.Goes as goes
 use Rattle.inline_text.proofs.Texts as texts
+use Rattle.inline_text.proofs.LiteralFronts.{first_of}
 
 -- what holds where a call answers Ok
 pub on_ok : {T E P Q R : Type 0} → (r : Result T E) → OnOk r P → OnOk r Q → (P → Q → R) → OnOk r R
@@ -226,18 +228,26 @@ module _ (options : ParseOptions) (names : List ℕ → Option (List ℕ)) (p : 
 
   -- bytes of text
   pub text_follows : (rest : List ℕ) (n : ℕ) (now final : scan.Reading) → IsPlace content.text.now rest → n ≤ length rest
-      → ((k : ℕ) → k < n → is_text_at options.constructs.mark (drop k (content_codes rest)) ≡ true) → ((k : ℕ) → k < n → get_or rest k 0 ≡ 13 → ⊥)
-      → (options.constructs.gfm_autolink_literal ≡ true → (k : ℕ) → k < n → may_begin (drop k rest) ≡ false) → IsAfter rest (drop n rest)
+      → ((k : ℕ) → k < n → is_text_at (drop k (content_codes rest)) ≡ true) → ((k : ℕ) → k < n → get_or rest k 0 ≡ 13 → ⊥)
+      → ((k : ℕ) → k < n → begins_more options.constructs.gfm_autolink_literal options.constructs.mark (drop k rest) ≡ false) → IsAfter rest (drop n rest)
       → scan.scan (context_by options names ds) 0 now (view_at p content rest) ≡ final
       → scan.scan (context_by options names ds) 0 (read_tokens (text_items (take n rest)) now) (view_at p content (drop n rest)) ≡ final
   text_follows rest n now final place le text plain bare after same =
       let codes = codes_left p content rest place in
+      let on = options.constructs in
       let bytes : take n (codes_of (view_at p content rest)) ≡ take n rest = ap (take n) codes ∙ plain_take n rest le plain in
+      let none : (k : ℕ) → k < n → ((on.mark && is_equals (get_or rest k 0)) ≡ false) × ((on.gfm_autolink_literal && may_begin (drop k rest)) ≡ false) =
+      λ k lt.
+      or_parts (on.mark && is_equals (get_or rest k 0)) (on.gfm_autolink_literal && may_begin (drop k rest))
+      (ap (λ b. (on.mark && is_equals b) || (on.gfm_autolink_literal && may_begin (drop k rest))) (sym (first_of rest k)) ∙ bare k lt) in
+      let byte : (k : ℕ) → k < n → get_or (codes_of (view_at p content rest)) k 0 ≡ get_or rest k 0 = λ k lt.
+      sym (get_or-take n (codes_of (view_at p content rest)) k 0 lt) ∙ ap (λ bs. get_or bs k 0) bytes ∙ get_or-take n rest k 0 lt in
       moved rest (drop n rest) now (read_tokens (text_items (take n rest)) now) final n place (after_next rest (drop n rest) after)
       (sym (size_plain n rest (drop n rest) refl le plain)) same
-      (texts.text_steps (context_by options names ds) n now (view_at p content rest)
-      (λ k lt. ap (λ cs. is_text_at options.constructs.mark (drop k cs)) codes ∙ text k lt)
-      (λ k lt. no_literal options.constructs rest (view_at p content rest) n k le lt plain codes bare)
+      (texts.text_steps (context_by options names ds) n now (view_at p content rest) (λ k lt. ap (λ cs. is_text_at (drop k cs)) codes ∙ text k lt)
+      (λ k lt. no_literal on rest (view_at p content rest) n k le lt plain codes
+      (λ is j before. ap (λ b. b && may_begin (drop j rest)) (sym is) ∙ (none j before).1))
+      (λ k lt. ap (λ b. on.mark && is_equals b) (byte k lt) ∙ (none k lt).0)
       ∙ ap (λ bs. scan.scan (context_by options names ds) 0 (read_tokens (text_items bs) now) (drop n (view_at p content rest))) bytes)
 
   -- a construct that holds no other

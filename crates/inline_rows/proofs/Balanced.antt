@@ -1,5 +1,5 @@
 -- Where no end of a span comes too early and none is missing, rows stand for the rows of the inline structure.
-use Rattle.std.proofs.Common.{◌≡◌, ℕ, suc, ◌+◌, ◌-◌, ◌<◌, List, [], ◌∷◌, ◌++◌, refl, sym, ap, ◌∙◌, length, arith, subst, append_assoc}
+use Rattle.std.proofs.Common.{◌≡◌, ℕ, suc, ◌+◌, ◌-◌, ◌<◌, List, [], ◌∷◌, ◌++◌, sym, ap, ◌∙◌, length, arith, subst, append_assoc}
 use Rattle.std.specs.List.{fold}
 use Rattle.std.proofs.lemmas.List.{append-nil, nil_from_length}
 use Rattle.definition_inline.specs.Inline.{Target, LinkTexts, Inline, Span, Inlines, Nil, Cons, followed_by}

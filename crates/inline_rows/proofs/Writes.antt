@@ -9,14 +9,11 @@ use borrow.Rule.Slice.PartMut.{put_mid}
 use Rattle.definition_inline.specs.Inline as inline
 use Rattle.definition_inline.specs.Inline.{Target, LinkTexts}
 use Rattle.inline_rows.specs.InlineRows as rows
-use Rattle.definition_inline.specs.GfmStrikethrough.{is_tilde}
-use Rattle.definition_inline.specs.Mark.{is_equals}
 use Rattle.definition_inline.specs.Spans.{Holds, Opens, Closes, span_of}
 use Rattle.definition_inline.proofs.DefinitionParts.{cons_nil}
 use Rattle.inline_runs.specs.View.{bytes_by, pair_view, span_by, span_view}
 use Rattle.inline_runs.specs.Paired.{rows_of}
 use Rattle.inline_runs.specs.declared.pair.Pair.{Pair}
-use Rattle.inline_runs.specs.declared.pair.Span.TheVariants.{Emphasis, Strong, Strikethrough, Mark}
 use Rattle.inline_runs.specs.declared.spans.RunSpans.{RunSpans}
 use Rattle.inline_rows.specs.View.{row_view, rows_view, data_rows}
 use Rattle.inline_rows.specs.declared.row.InlineRow.{InlineRow}
@@ -96,15 +93,15 @@ parts_are old first between last closed text opened is_closed is_opened fits is_
     ∙ over_rest (front ++ between) (drop n rest) last (length old - opened) (length ((front ++ between) ++ drop n rest) - (length old - opened)) place refl
 
 -- what a pair stands for, as the definition has it
+either_view : {A B : Type 0} (view : A → B) (x y z w : A) (tilde equals double : Bool) → view (cond tilde x (cond equals y (cond double z w)))
+    ≡ cond tilde (view x) (cond equals (view y) (cond (bytes_by double == 2) (view z) (view w)))
+either_view view x y z w true equals double = refl
+either_view view x y z w false true double = refl
+either_view view x y z w false false true = refl
+either_view view x y z w false false false = refl
+
 span_is : (marker : ℕ) (p : Pair) → span_view (span_by marker p.double) ≡ span_of marker (pair_view p)
-span_is marker p = by_case (is_tilde marker) (is_equals marker) p.double
-  where
-    by_case : (tilde equals double : Bool) → span_view (cond tilde Strikethrough (cond equals Mark (cond double Strong Emphasis)))
-        ≡ cond tilde inline.Strikethrough (cond equals inline.Mark (cond (bytes_by double == 2) inline.Strong inline.Emphasis))
-    by_case true equals double = refl
-    by_case false true double = refl
-    by_case false false true = refl
-    by_case false false false = refl
+span_is marker p = either_view span_view _ _ _ _ _ _ p.double
 
 module _ (leads : Target → LinkTexts) (at : ℕ → LinkTexts) where
   ends_view : (closed : List Pair) → rows_view at (replicate (length closed) Exit) ≡ told_rows leads (map (λ (p : Pair). Closes) closed)

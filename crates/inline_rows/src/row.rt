@@ -32,7 +32,7 @@ pub enum InlineRow<'a> {
     Verbatim(VerbatimText<'a>),
     /// A construct that holds no other.
     Leaf(LeafPart<'a>),
-    /// The start of a span (CommonMark 6.2).
+    /// The start of what stands between two runs (CommonMark 6.2 and GFM 6.5).
     EnterSpan(Span),
     /// The start of a link (CommonMark 6.3).
     EnterLink(LinkTarget<'a>),

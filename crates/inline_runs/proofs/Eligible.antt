@@ -5,8 +5,9 @@ use Rattle.std.specs.Prelude.{◌==◌, nat_le}
 use Rattle.std.proofs.lemmas.Bool.{and_left, and_right, and_from, eqb-true}
 use Rattle.std.proofs.lemmas.List.{get_or-map, length-map}
 use Rattle.definition_inline.specs.Attention.{Run as RunOf, is_whole, are_fitting}
-use Rattle.definition_inline.specs.Pairing.{OpenRun as PlacedOf, is_eligible, up_to_nearest, is_ruled_out_by_three}
-use Rattle.definition_inline.proofs.NearestOpener.{up_to_nearest_is}
+use Rattle.definition_inline.specs.Pairing.{OpenRun as PlacedOf, is_eligible, is_ruled_out_by_three}
+use Rattle.inline_runs.specs.FoundPairs.{up_to_nearest}
+use Rattle.inline_runs.proofs.NearestOpener.{up_to_nearest_is}
 use Rattle.inline_runs.specs.View.{run_view}
 use Rattle.inline_runs.specs.declared.openers.Opener.{Opener}
 use Rattle.inline_runs.specs.declared.openers.Want.{Want}

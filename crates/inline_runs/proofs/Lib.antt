@@ -1,5 +1,8 @@
+pub mod ClosingRuns
 pub mod Eligible
 pub mod Floors
+pub mod FoundPairs
+pub mod NearestOpener
 pub mod Opened
 pub mod Texts
 pub mod Threads

@@ -1,4 +1,5 @@
 pub mod Floors
+pub mod FoundPairs
 pub mod Laid
 pub mod Paired
 pub mod Threads

@@ -2,7 +2,8 @@
 use Rattle.std.specs.Prelude.{◌≡◌, ℕ, ◌==◌, List, ◌++◌, map, replicate, length, slice_index_or}
 use Rattle.std.specs.List.{filter}
 use Rattle.definition_inline.specs.Attention.{Run as RunOf}
-use Rattle.definition_inline.specs.Pairing.{Pair as PairOf, OpenRun as PlacedOf, Pairing as PairingOf, pairing, pairs, nearest, taken_by, without}
+use Rattle.definition_inline.specs.Pairing.{Pair as PairOf, OpenRun as PlacedOf, pairs, taken_by, without}
+use Rattle.inline_runs.specs.FoundPairs.{Pairing as PairingOf, pairing, nearest}
 use Rattle.definition_inline.specs.Inline.{Leaf, Data}
 use Rattle.definition_inline.specs.Spans.{SpanRow, Holds, Opens, Closes, span_of, run_rows}
 use Rattle.inline_runs.specs.View.{pair_view, pairs_view}

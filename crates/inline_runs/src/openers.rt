@@ -3,7 +3,8 @@
 //! A search goes from the nearest opener back. Where one finds nothing, a floor is kept: no opener
 //! that stood before it fits such a closer. So each opener is passed over only a few times.
 ghost use Rattle.std.specs.Prelude.{◌≡◌, ◌++◌, ◌-◌, ◌<◌, ◌≤◌, ℕ, true, false, length, take, slice_index_or, OnOk, IfOk, []};
-ghost use Rattle.definition_inline.specs.Pairing.{OpenRun as PlacedOf, up_to_nearest, openers_of, without};
+ghost use Rattle.definition_inline.specs.Pairing.{OpenRun as PlacedOf, openers_of, without};
+ghost use Rattle.inline_runs.specs.FoundPairs.{up_to_nearest};
 ghost use Rattle.inline_runs.specs.View.{run_view, bytes_by};
 ghost use Rattle.inline_runs.specs.Floors.{placed_view, whole_size, want_of, can_close, fits, FitsAt, IsFloor};
 

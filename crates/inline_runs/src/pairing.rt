@@ -5,7 +5,7 @@
 //! linear in the number of runs and their bytes.
 ghost use Rattle.std.specs.Prelude.{◌≡◌, ◌<◌, ◌+◌, List, [], length, reverse, OnOk, IfOk};
 ghost use Rattle.definition_inline.specs.Attention.{Run as RunOf};
-ghost use Rattle.definition_inline.specs.Pairing.{next_run, up_to_nearest, with_pair};
+ghost use Rattle.inline_runs.specs.FoundPairs.{next_run, up_to_nearest, with_pair};
 ghost use Rattle.inline_runs.specs.View.{runs_view, pairs_view};
 ghost use Rattle.inline_runs.specs.Floors.{placed_view, openers_view};
 ghost use Rattle.inline_runs.specs.Paired.{IsPaired, BecomesRows, closed_at, opened_at};

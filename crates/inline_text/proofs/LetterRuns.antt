@@ -133,10 +133,10 @@ run_of set here next stop letters long counted is r which =
           (is.free k (elim which [ inl h ↦ omega (arith, h.1, lt) | inr h ↦ omega (arith, h.0, h.1, lt) ]));
       hit = λ lt. elim which [
         | inl h ↦
-            subst (λ j. stops_here true false set (get_or here j 0) (get_or next j 0) ≡ true) (sym h.1)
+            subst (λ j. stops_here true set (get_or here j 0) (get_or next j 0) ≡ true) (sym h.1)
             (or_right (holds set (get_or here letters 0)) _ (is.hit (omega (arith, h.1, lt))))
         | inr h ↦
-            subst (λ j. stops_here true false set (get_or here j 0) (get_or next j 0) ≡ true) (sym h.1)
+            subst (λ j. stops_here true set (get_or here j 0) (get_or next j 0) ≡ true) (sym h.1)
             (or_left (holds set (get_or here stop 0)) _ (at_stop (omega (arith, h.1, lt))))
       ];
     }
@@ -163,19 +163,19 @@ run_from set bytes i r is =
       hit = λ lt. sym (there r lt) ∙ is.hit lt;
     }
   where
-    there : (k : ℕ) → k < 16 → stops_here true false set (get_or (chunk i 16 bytes) k 0) (get_or (chunk (i + 1) 16 bytes) k 0) ≡ stops_at true false set bytes (i + k)
+    there : (k : ℕ) → k < 16 → stops_here true set (get_or (chunk i 16 bytes) k 0) (get_or (chunk (i + 1) 16 bytes) k 0) ≡ stops_at true set bytes (i + k)
     there k lt =
         let next : i + 1 + k ≡ i + k + 1 = omega arith in
-        ap₂ (stops_here true false set) (get_or-chunk i 16 bytes k 0 lt) (get_or-chunk (i + 1) 16 bytes k 0 lt ∙ ap (λ j. get_or bytes j 0) next)
+        ap₂ (stops_here true set) (get_or-chunk i 16 bytes k 0 lt) (get_or-chunk (i + 1) 16 bytes k 0 lt ∙ ap (λ j. get_or bytes j 0) next)
 
 -- up to its end nothing stops
-pub free_to : (set : ByteSet) (bytes : List ℕ) (at run k : ℕ) → IsRunFrom set bytes at run → at ≤ k → k < at + run → stops_at true false set bytes k ≡ false
+pub free_to : (set : ByteSet) (bytes : List ℕ) (at run k : ℕ) → IsRunFrom set bytes at run → at ≤ k → k < at + run → stops_at true set bytes k ≡ false
 free_to set bytes at run k is ge lt =
-    let place : at + (k - at) ≡ k = omega (arith, ge) in ap (stops_at true false set bytes) (sym place) ∙ is.free (k - at) (omega (arith, ge, lt))
+    let place : at + (k - at) ≡ k = omega (arith, ge) in ap (stops_at true set bytes) (sym place) ∙ is.free (k - at) (omega (arith, ge, lt))
 
 -- a stop in it is the first, where none comes before it
-pub stop_after : (set : ByteSet) (bytes : List ℕ) (at run : ℕ) → at + 16 < length bytes → ((k : ℕ) → k < at → stops_at true false set bytes k ≡ false)
-    → IsRunFrom set bytes at run → run < 16 → IsStop true false set bytes (at + run)
+pub stop_after : (set : ByteSet) (bytes : List ℕ) (at run : ℕ) → at + 16 < length bytes → ((k : ℕ) → k < at → stops_at true set bytes k ≡ false)
+    → IsRunFrom set bytes at run → run < 16 → IsStop true set bytes (at + run)
 stop_after set bytes at run inside free is some = record {
   within = omega (arith, inside, some);
   free = λ k lt. elim (cases_lt k at) [ inl before ↦ free k before | inr after ↦ free_to set bytes at run k is after lt ];
@@ -183,23 +183,23 @@ stop_after set bytes at run inside free is some = record {
 }
 
 -- nothing so far, so the last byte is left
-pub at_end : (set : ByteSet) (bytes : List ℕ) → ((k : ℕ) → k < length bytes - 1 → stops_at true false set bytes k ≡ false)
-    → IsStop true false set bytes (end_before set bytes)
+pub at_end : (set : ByteSet) (bytes : List ℕ) → ((k : ℕ) → k < length bytes - 1 → stops_at true set bytes k ≡ false)
+    → IsStop true set bytes (end_before set bytes)
 at_end set bytes free = elim (cases_Bool (holds set last)) [
   | inl is ↦
       let e : end_before set bytes ≡ length bytes - 1 = cond-true (holds set last) _ _ is in
-      subst (IsStop true false set bytes) (sym e)
+      subst (IsStop true set bytes) (sym e)
       (record { within = omega arith; free = free; hit = λ lt. or_left (holds set last) (are_letters last (get_or bytes (length bytes - 1 + 1) 0)) is })
   | inr other ↦
       let e : end_before set bytes ≡ length bytes = cond-false (holds set last) _ _ other in
-      subst (IsStop true false set bytes) (sym e)
+      subst (IsStop true set bytes) (sym e)
       (record {
         within = omega arith;
         free = λ k lt. elim (cases_lt k (length bytes - 1)) [
           | inl before ↦ free k before
           | inr after ↦
               let k_is : k ≡ length bytes - 1 = omega (arith, lt, after) in
-              ap (stops_at true false set bytes) k_is ∙ or_from (holds set last) _ other (no_letters other)
+              ap (stops_at true set bytes) k_is ∙ or_from (holds set last) _ other (no_letters other)
         ];
         hit = λ lt. absurd (omega (arith, lt));
       })
@@ -264,29 +264,29 @@ module _ (set : ByteSet) (bytes first second : List ℕ) (r : ℕ) (some : 8 < l
   next_at : (k : ℕ) → get_or next k 0 ≡ get_or bytes (k + 1) 0
   next_at k = let e : 1 + k ≡ k + 1 = omega arith in ap (λ l. get_or l k 0) next_all ∙ get_or-drop 1 bytes k 0 ∙ ap (λ j. get_or bytes j 0) e
 
-  early : (k : ℕ) → k < 8 → stops_here true false set (get_or (ends here) k 0) (get_or (ends next) k 0) ≡ stops_at true false set bytes k
+  early : (k : ℕ) → k < 8 → stops_here true set (get_or (ends here) k 0) (get_or (ends next) k 0) ≡ stops_at true set bytes k
   early k lt =
-      ap₂ (stops_here true false set) (ends_first here k (omega (arith, here_long, some)) lt ∙ here_at k (omega (arith, lt, some)))
+      ap₂ (stops_here true set) (ends_first here k (omega (arith, here_long, some)) lt ∙ here_at k (omega (arith, lt, some)))
       (ends_first next k (omega (arith, next_long, some)) lt ∙ next_at k)
 
-  late : (k : ℕ) → k < 8 → stops_here true false set (get_or (ends here) (8 + k) 0) (get_or (ends next) (8 + k) 0) ≡ stops_at true false set bytes (length bytes - 9 + k)
+  late : (k : ℕ) → k < 8 → stops_here true set (get_or (ends here) (8 + k) 0) (get_or (ends next) (8 + k) 0) ≡ stops_at true set bytes (length bytes - 9 + k)
   late k lt =
       let a : length here - 8 + k ≡ length bytes - 9 + k = omega (arith, here_long) in
       let b : length next - 8 + k ≡ length bytes - 9 + k = omega (arith, next_long) in
-      ap₂ (stops_here true false set)
+      ap₂ (stops_here true set)
       (ends_last here k (omega (arith, here_long, some)) lt ∙ ap (λ j. get_or here j 0) a ∙ here_at (length bytes - 9 + k) (omega (arith, lt, some)))
       (ends_last next k (omega (arith, next_long, some)) lt ∙ ap (λ j. get_or next j 0) b ∙ next_at (length bytes - 9 + k))
 
   -- the same of a lane that isn't one of the first eight
   late_lane : (j k : ℕ) → 8 ≤ j → j < 16 → k + 17 ≡ length bytes + j
-      → stops_here true false set (get_or (ends here) j 0) (get_or (ends next) j 0) ≡ stops_at true false set bytes k
+      → stops_here true set (get_or (ends here) j 0) (get_or (ends next) j 0) ≡ stops_at true set bytes k
   late_lane j k ge lt e =
       let lane : 8 + (j - 8) ≡ j = omega (arith, ge) in
       let place : length bytes - 9 + (j - 8) ≡ k = omega (arith, e, ge, some) in
-      ap (λ (i : ℕ). stops_here true false set (get_or (ends here) i 0) (get_or (ends next) i 0)) (sym lane)
-      ∙ late (j - 8) (omega (arith, lt, ge)) ∙ ap (stops_at true false set bytes) place
+      ap (λ (i : ℕ). stops_here true set (get_or (ends here) i 0) (get_or (ends next) i 0)) (sym lane)
+      ∙ late (j - 8) (omega (arith, lt, ge)) ∙ ap (stops_at true set bytes) place
 
-  free_below : 8 ≤ r → (k : ℕ) → k + 17 < length bytes + r → stops_at true false set bytes k ≡ false
+  free_below : 8 ≤ r → (k : ℕ) → k + 17 < length bytes + r → stops_at true set bytes k ≡ false
   free_below eight k lt = elim (cases_lt k 8) [
     | inl before ↦ sym (early k before) ∙ is.free k (omega (arith, before, eight))
     | inr after ↦
@@ -295,19 +295,19 @@ module _ (set : ByteSet) (bytes first second : List ℕ) (r : ℕ) (some : 8 < l
         ∙ is.free j (omega (arith, lt, after, few))
   ]
 
-  pub few_early : r < 8 → IsStop true false set bytes r
+  pub few_early : r < 8 → IsStop true set bytes r
   few_early lt = record {
     within = omega (arith, lt, some);
     free = λ k less. sym (early k (omega (arith, less, lt))) ∙ is.free k less;
     hit = λ inside. sym (early r lt) ∙ is.hit (omega (arith, lt));
   }
 
-  pub few_late : 8 ≤ r → r < 16 → (stop : ℕ) → stop ≡ length bytes - 1 + r - 16 → IsStop true false set bytes stop
+  pub few_late : 8 ≤ r → r < 16 → (stop : ℕ) → stop ≡ length bytes - 1 + r - 16 → IsStop true set bytes stop
   few_late eight lt stop e = record {
     within = omega (arith, e, lt);
     free = λ k less. free_below eight k (omega (arith, less, e, some, eight));
     hit = λ inside. sym (late_lane r stop eight lt (omega (arith, e, some, eight))) ∙ is.hit lt;
   }
 
-  pub few_end : 16 ≤ r → IsStop true false set bytes (end_before set bytes)
+  pub few_end : 16 ≤ r → IsStop true set bytes (end_before set bytes)
   few_end ge = at_end set bytes (λ k lt. free_below (omega (arith, ge)) k (omega (arith, lt, ge, some)))

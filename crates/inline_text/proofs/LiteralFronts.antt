@@ -9,10 +9,12 @@ use Rattle.std.proofs.lemmas.List.Sums.{fails_before_first, passes_at_first, pre
 use Rattle.std.specs.List.{position_or_len}
 use Rattle.text_search.specs.declared.set.ByteSet.{ByteSet}
 use Rattle.text_search.specs.Sets.{holds}
+use Rattle.definition_inline.specs.Mark.{is_equals}
 use Rattle.inline_literals.specs.Literals.{may_begin}
 use Rattle.inline_text.specs.declared.plain.TheConstants.{STARTS, STOPS}
-use Rattle.inline_text.specs.Letters.{are_letters, holds_with, IsStop}
-use Rattle.inline_text.specs.Plain.{starts, starts_here, stops, is_replaced, IsStart}
+use Rattle.inline_text.specs.Letters.{are_letters}
+use Rattle.inline_text.specs.Mark.{is_more, IsStopWith}
+use Rattle.inline_text.specs.Plain.{starts, begins_more, starts_here, stops, is_replaced, IsStart}
 use Rattle.inline_text.specs.Verbatim.{AreVerbatim}
 use Rattle.inline_text.proofs.Verbatim.{verbatim_byte}
 
@@ -47,16 +49,14 @@ letters_at bytes k =
     may_letters (drop k bytes)
     ∙ ap₂ are_letters (get_or-drop k bytes 0 0 ∙ ap (λ n. get_or bytes n 0) (omega arith)) (get_or-drop k bytes 1 0)
 
-stop_byte : (m : Bool) (b : ℕ) → Fits w8 b → holds_with m STOPS b ≡ stops m b
-stop_byte true b fits = agree_below_at (holds_with true STOPS) (stops true) 256 b refl fits.fits
-stop_byte false b fits = agree_below_at (holds_with false STOPS) (stops false) 256 b refl fits.fits
+stop_byte : (b : ℕ) → Fits w8 b → holds STOPS b ≡ stops b
+stop_byte b fits = agree_below_at (holds STOPS) stops 256 b refl fits.fits
 
-start_byte : (m : Bool) (b : ℕ) → Fits w8 b → holds_with m STARTS b ≡ starts m b
-start_byte true b fits = agree_below_at (holds_with true STARTS) (starts true) 256 b refl fits.fits
-start_byte false b fits = agree_below_at (holds_with false STARTS) (starts false) 256 b refl fits.fits
+start_byte : (b : ℕ) → Fits w8 b → holds STARTS b ≡ starts b
+start_byte b fits = agree_below_at (holds STARTS) starts 256 b refl fits.fits
 
 -- a byte of a set alone, where literals are off
-pub next_alone : (set : ByteSet) (bytes : List ℕ) (stop : ℕ) → stop ≡ position_or_len (holds set) bytes → IsStop false false set bytes stop
+pub next_alone : (set : ByteSet) (bytes : List ℕ) (stop : ℕ) → stop ≡ position_or_len (holds set) bytes → IsStopWith false false set bytes stop
 next_alone set bytes stop first = record {
   within = omega (arith, first, prefix_len-le-length (λ b. not (holds set b)) bytes);
   free = λ k lt. or_from (holds set (get_or bytes k 0)) false (fails_before_first (holds set) bytes k 0 (omega (arith, first, lt))) refl;
@@ -65,43 +65,38 @@ next_alone set bytes stop first = record {
       (ap (λ k. holds set (get_or bytes k 0)) first ∙ passes_at_first (holds set) bytes 0 (omega (arith, first, lt)));
 }
 
--- what a place at which nothing stops says
-bare_at : (on : Bool) (bytes : List ℕ) (k : ℕ) → (on && are_letters (get_or bytes k 0) (get_or bytes (k + 1) 0)) ≡ false → on ≡ true
-    → may_begin (drop k bytes) ≡ false
-bare_at true bytes k none on = letters_at bytes k ∙ none
-bare_at false bytes k none on = absurd (false≢true on)
+pub first_of : (bytes : List ℕ) (k : ℕ) → get_or (drop k bytes) 0 0 ≡ get_or bytes k 0
+first_of bytes k = get_or-drop k bytes 0 0 ∙ ap (λ n. get_or bytes n 0) (omega arith)
 
-begins_at : (on : Bool) (bytes : List ℕ) (k : ℕ) → (on && are_letters (get_or bytes k 0) (get_or bytes (k + 1) 0)) ≡ true
-    → (on && may_begin (drop k bytes)) ≡ true
-begins_at true bytes k some = letters_at bytes k ∙ some
-begins_at false bytes k some = absurd (false≢true some)
+-- what may begin at a place
+more_at : (on m : Bool) (bytes : List ℕ) (k : ℕ) → begins_more on m (drop k bytes) ≡ is_more on m (get_or bytes k 0) (get_or bytes (k + 1) 0)
+more_at on m bytes k = ap₂ (λ b letters. (m && is_equals b) || (on && letters)) (first_of bytes k) (letters_at bytes k)
 
-module _ (on m : Bool) (bytes : List ℕ) (fits : (k : ℕ) → Fits w8 (get_or bytes k 0)) (stop : ℕ) (next : IsStop on m STOPS bytes stop) where
-  passed : (k : ℕ) → k < stop → (stops m (get_or bytes k 0) ≡ false) × (on ≡ true → may_begin (drop k bytes) ≡ false)
+module _ (on m : Bool) (bytes : List ℕ) (fits : (k : ℕ) → Fits w8 (get_or bytes k 0)) (stop : ℕ) (next : IsStopWith on m STOPS bytes stop) where
+  passed : (k : ℕ) → k < stop → (stops (get_or bytes k 0) ≡ false) × (begins_more on m (drop k bytes) ≡ false)
   passed k lt =
-      let parts = or_parts (holds_with m STOPS (get_or bytes k 0)) _ (next.free k lt) in
-      (sym (stop_byte m (get_or bytes k 0) (fits k)) ∙ parts.0, bare_at on bytes k parts.1)
+      let parts = or_parts (holds STOPS (get_or bytes k 0)) _ (next.free k lt) in
+      (sym (stop_byte (get_or bytes k 0) (fits k)) ∙ parts.0, more_at on m bytes k ∙ parts.1)
 
-  free_byte : (k : ℕ) → k < stop → starts m (get_or bytes k 0) ≡ false
-  free_byte k lt = (or_parts (starts m (get_or bytes k 0)) (is_replaced (get_or bytes k 0)) (passed k lt).0).0
+  free_byte : (k : ℕ) → k < stop → starts (get_or bytes k 0) ≡ false
+  free_byte k lt = (or_parts (starts (get_or bytes k 0)) (is_replaced (get_or bytes k 0)) (passed k lt).0).0
 
   pub next_verbatim : AreVerbatim bytes stop
-  next_verbatim k lt = verbatim_byte m (get_or bytes k 0) (passed k lt).0
+  next_verbatim k lt = verbatim_byte (get_or bytes k 0) (passed k lt).0
 
   -- something starts there, where the byte isn't printed as something else
   pub next_start : (stop < length bytes → is_replaced (get_or bytes stop 0) ≡ false) → IsStart on m bytes stop
   next_start kept = record {
     within = next.within;
     free = free_byte;
-    bare = λ is k lt. (passed k lt).1 is;
+    bare = λ k lt. (passed k lt).1;
     stops = λ lt.
         let b = get_or bytes stop 0 in
-        let here : get_or (drop stop bytes) 0 0 ≡ b = get_or-drop stop bytes 0 0 ∙ ap (λ n. get_or bytes n 0) (omega arith) in
-        ap (λ x. starts m x || (on && may_begin (drop stop bytes))) here
-        ∙ elim (or_cases (holds_with m STOPS b) _ (next.hit lt)) [
-          | inr letters ↦ or_right (starts m b) (on && may_begin (drop stop bytes)) (begins_at on bytes stop letters)
-          | inl held ↦ elim (or_cases (starts m b) (is_replaced b) (sym (stop_byte m b (fits stop)) ∙ held)) [
-            | inl start ↦ or_left (starts m b) (on && may_begin (drop stop bytes)) start
+        ap (λ x. starts x || begins_more on m (drop stop bytes)) (first_of bytes stop)
+        ∙ elim (or_cases (holds STOPS b) _ (next.hit lt)) [
+          | inr more ↦ or_right (starts b) (begins_more on m (drop stop bytes)) (more_at on m bytes stop ∙ more)
+          | inl held ↦ elim (or_cases (starts b) (is_replaced b) (sym (stop_byte b (fits stop)) ∙ held)) [
+            | inl start ↦ or_left (starts b) (begins_more on m (drop stop bytes)) start
             | inr replaced ↦ absurd (false≢true (sym (kept lt) ∙ replaced))
           ]
         ];
@@ -114,14 +109,14 @@ module _ (on m : Bool) (bytes : List ℕ) (fits : (k : ℕ) → Fits w8 (get_or 
     free = λ k lt. elim (cases_lt k stop) [
       | inl before ↦ free_byte k before
       | inr after ↦
-          ap (λ j. starts m (get_or bytes j 0)) (sym (place k after)) ∙ ap (starts m) (sym (get_or-drop stop bytes (k - stop) 0))
+          ap (λ j. starts (get_or bytes j 0)) (sym (place k after)) ∙ ap starts (sym (get_or-drop stop bytes (k - stop) 0))
           ∙ from.free (k - stop) (omega (arith, lt, after, is))
     ];
-    bare = λ lit k lt. elim (cases_lt k stop) [
-      | inl before ↦ (passed k before).1 lit
+    bare = λ k lt. elim (cases_lt k stop) [
+      | inl before ↦ (passed k before).1
       | inr after ↦
-          ap (λ j. may_begin (drop j bytes)) (sym (place k after)) ∙ ap may_begin (sym (drop-drop (k - stop) stop bytes))
-          ∙ from.bare lit (k - stop) (omega (arith, lt, after, is))
+          ap (λ j. begins_more on m (drop j bytes)) (sym (place k after)) ∙ ap (begins_more on m) (sym (drop-drop (k - stop) stop bytes))
+          ∙ from.bare (k - stop) (omega (arith, lt, after, is))
     ];
     stops = λ lt.
         ap (λ j. starts_here on m (drop j bytes)) is ∙ ap (starts_here on m) (sym (drop-drop n stop bytes))
@@ -132,22 +127,21 @@ module _ (on m : Bool) (bytes : List ℕ) (fits : (k : ℕ) → Fits w8 (get_or 
       place k ge = omega (arith, ge)
 
 -- the first byte at which something may start
-pub start_at : (on m : Bool) (bytes : List ℕ) → ((k : ℕ) → Fits w8 (get_or bytes k 0)) → (stop : ℕ) → IsStop on m STARTS bytes stop → IsStart on m bytes stop
+pub start_at : (on m : Bool) (bytes : List ℕ) → ((k : ℕ) → Fits w8 (get_or bytes k 0)) → (stop : ℕ) → IsStopWith on m STARTS bytes stop → IsStart on m bytes stop
 start_at on m bytes fits stop next = record {
   within = next.within;
   free = λ k lt. (passed k lt).0;
-  bare = λ lit k lt. (passed k lt).1 lit;
+  bare = λ k lt. (passed k lt).1;
   stops = λ lt.
       let b = get_or bytes stop 0 in
-      let here : get_or (drop stop bytes) 0 0 ≡ b = get_or-drop stop bytes 0 0 ∙ ap (λ j. get_or bytes j 0) (omega arith) in
-      ap (λ x. starts m x || (on && may_begin (drop stop bytes))) here
-      ∙ elim (or_cases (holds_with m STARTS b) _ (next.hit lt)) [
-        | inl held ↦ or_left (starts m b) (on && may_begin (drop stop bytes)) (sym (start_byte m b (fits stop)) ∙ held)
-        | inr letters ↦ or_right (starts m b) (on && may_begin (drop stop bytes)) (begins_at on bytes stop letters)
+      ap (λ x. starts x || begins_more on m (drop stop bytes)) (first_of bytes stop)
+      ∙ elim (or_cases (holds STARTS b) _ (next.hit lt)) [
+        | inl held ↦ or_left (starts b) (begins_more on m (drop stop bytes)) (sym (start_byte b (fits stop)) ∙ held)
+        | inr more ↦ or_right (starts b) (begins_more on m (drop stop bytes)) (more_at on m bytes stop ∙ more)
       ];
 }
   where
-    passed : (k : ℕ) → k < stop → (starts m (get_or bytes k 0) ≡ false) × (on ≡ true → may_begin (drop k bytes) ≡ false)
+    passed : (k : ℕ) → k < stop → (starts (get_or bytes k 0) ≡ false) × (begins_more on m (drop k bytes) ≡ false)
     passed k lt =
-        let parts = or_parts (holds_with m STARTS (get_or bytes k 0)) _ (next.free k lt) in
-        (sym (start_byte m (get_or bytes k 0) (fits k)) ∙ parts.0, bare_at on bytes k parts.1)
+        let parts = or_parts (holds STARTS (get_or bytes k 0)) _ (next.free k lt) in
+        (sym (start_byte (get_or bytes k 0) (fits k)) ∙ parts.0, more_at on m bytes k ∙ parts.1)

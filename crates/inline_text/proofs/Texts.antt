@@ -1,6 +1,6 @@
 -- Text in a content: what the scan makes of it, and what stands after it.
 use Rattle.std.proofs.Common.{◌≡◌, ℕ, zero, suc, ◌+◌, ◌-◌, ◌<◌, ◌≤◌, List, [], ◌∷◌, ◌++◌, Bool, true, false, not, eqb, leb, ◌||◌, ◌&&◌, Option, None, Some}
-use Rattle.std.proofs.Common.{refl, sym, ap, ◌∙◌, get_or, length, drop, take, map, arith, subst, ◌⊎◌, inl, inr}
+use Rattle.std.proofs.Common.{refl, sym, ap, ◌∙◌, get_or, length, drop, take, arith, subst, ◌⊎◌, inl, inr}
 use Rattle.std.proofs.lemmas.Bool.{cases_Bool, cond-false, cond-true, eqb-true, eq-eqb, ne_eqb, le-leb, false≢true, true≢false, not-true, not-false, or_parts}
 use Rattle.std.proofs.lemmas.Bool.{or_cases, or_from, and_left, and_right, and_from, and_parts}
 use Rattle.std.proofs.lemmas.List.{append-nil, append_assoc, get_or-drop, length-drop, drop-drop}
@@ -33,12 +33,12 @@ use Rattle.definition_inline.proofs.Scanning.{scan_step, step_last}
 use Rattle.inline_leaves.specs.Leaves.{text_items, IsAfter, IsWhite}
 use Rattle.inline_leaves.specs.Scanned.{leaf_in, without_labels}
 use Rattle.inline_leaves.proofs.Codes.{plain_code, plain_drop, at_return, is_after, cut_plain, cut_after_byte}
-use Rattle.inline_text.specs.Plain.{is_special, starts, is_text_at}
+use Rattle.inline_text.specs.Plain.{is_special, starts, begins_more, is_text_at}
 
 -- ---- a code at which nothing starts
 
 -- a code that isn't one of these
-pub record IsOther (m : Bool) (c : ℕ) : Type 0 where
+pub record IsOther (c : ℕ) : Type 0 where
   pub backslash : eqb c 92 ≡ false
   pub ampersand : eqb c 38 ≡ false
   pub backtick : eqb c 96 ≡ false
@@ -51,12 +51,10 @@ pub record IsOther (m : Bool) (c : ℕ) : Type 0 where
   pub opening : eqb c 91 ≡ false
   pub closing : eqb c 93 ≡ false
   pub ending : is_eol c ≡ false
-  pub equals : (is_equals c && m) ≡ false
 
-pub is_other : (m : Bool) (c : ℕ) → starts m c ≡ false → IsOther m c
-is_other m c h =
-    let p = or_parts (is_special c) (is_eol c || (is_equals c && m)) h in
-    let last = or_parts (is_eol c) (is_equals c && m) p.1 in
+pub is_other : (c : ℕ) → starts c ≡ false → IsOther c
+is_other c h =
+    let p = or_parts (is_special c) (is_eol c) h in
     let a = or_parts (eqb c 92) _ p.0 in
     let b = or_parts (eqb c 38) _ a.1 in
     let d = or_parts (eqb c 96) _ b.1 in
@@ -79,8 +77,7 @@ is_other m c h =
       exclamation = i.0;
       opening = j.0;
       closing = j.1;
-      ending = last.0;
-      equals = last.1;
+      ending = p.1;
     }
 
 -- a space, a tab or a column of a tab
@@ -95,21 +92,20 @@ white_cases c h =
       | inr p ↦ inr (inr (eqb-true c 256 p))
     ]
 
-pub white_starts_not : (m : Bool) (c : ℕ) → is_white c ≡ true → starts m c ≡ false
-white_starts_not m c h = elim (white_cases c h) [
-  | inl e ↦ ap (starts m) e
+pub white_starts_not : (c : ℕ) → is_white c ≡ true → starts c ≡ false
+white_starts_not c h = elim (white_cases c h) [
+  | inl e ↦ ap starts e
   | inr p ↦ elim p [
-    | inl e ↦ ap (starts m) e
-    | inr e ↦ ap (starts m) e
+    | inl e ↦ ap starts e
+    | inr e ↦ ap starts e
   ]
 ]
 
 -- what text is: nothing starts at it, and it isn't white space at the end of its line
-pub text_is : (m : Bool) (c : ℕ) (cs : List ℕ) → is_text_at m (c ∷ cs) ≡ true → (starts m c ≡ false)
-    × ((leb 1 (indent (c ∷ cs)) && ends_here (bare (c ∷ cs))) ≡ false)
-text_is m c cs h = elim (cases_Bool (is_white c)) [
+pub text_is : (c : ℕ) (cs : List ℕ) → is_text_at (c ∷ cs) ≡ true → (starts c ≡ false) × ((leb 1 (indent (c ∷ cs)) && ends_here (bare (c ∷ cs))) ≡ false)
+text_is c cs h = elim (cases_Bool (is_white c)) [
   | inl white ↦ (
-    white_starts_not m c white,
+    white_starts_not c white,
     and_right (leb 1 (indent (c ∷ cs))) _ (not-true _ (sym (cond-true (is_white c) _ _ white) ∙ h)),
   )
   | inr dark ↦ (
@@ -151,10 +147,10 @@ no_html on c cs h = cond-false _ _ _ (and_right on.html_text _ (and_left (eqb 60
 or_none : (one other : Option Found) → one ≡ None → or_else one other ≡ other
 or_none one other h = ap (λ o. or_else o other) h
 
-pub text_leaf : (m : Bool) (context : InlineContext) (c : ℕ) (cs : List ℕ) → is_text_at m (c ∷ cs) ≡ true → leaf_at context (c ∷ cs) ≡ None
-text_leaf m context c cs h =
-    let is = text_is m c cs h in
-    let o = is_other m c is.0 in
+pub text_leaf : (context : InlineContext) (c : ℕ) (cs : List ℕ) → is_text_at (c ∷ cs) ≡ true → leaf_at context (c ∷ cs) ≡ None
+text_leaf context c cs h =
+    let is = text_is c cs h in
+    let o = is_other c is.0 in
     let on = context.options.constructs in
     or_none (escape_at on (c ∷ cs)) _ (no_escape on c cs o.backslash)
     ∙ or_none (escaped_break_at on (c ∷ cs)) _ (no_escaped_break on c cs o.backslash)
@@ -166,25 +162,21 @@ text_leaf m context c cs h =
     ∙ or_none (line_end_at (c ∷ cs)) _ (cond-false (is_eol c) _ _ o.ending)
     ∙ cond-false _ _ _ is.1
 
-and_flip : (a b : Bool) → (a && b) ≡ false → (b && a) ≡ false
-and_flip true true e = e
-and_flip true false e = refl
-and_flip false true e = refl
-and_flip false false e = refl
-
-pub text_run : (options : ParseOptions) (c : InlineCode) (cs : List InlineCode) → starts options.constructs.mark c.code ≡ false → run_at options (c ∷ cs) ≡ None
-text_run options c cs h =
+pub text_run : (options : ParseOptions) (c : InlineCode) (cs : List InlineCode) → starts c.code ≡ false
+    → (options.constructs.mark && is_equals c.code) ≡ false → run_at options (c ∷ cs) ≡ None
+text_run options c cs h unmarked =
     let on = options.constructs in
-    let o = is_other on.mark c.code h in
+    let o = is_other c.code h in
+    let emphasis = on.attention && (eqb c.code 42 || eqb c.code 95) in
+    let strikes = on.gfm_strikethrough && eqb c.code 126 in
+    let marks = on.mark && is_equals c.code in
     cond-false _ _ _
-    (or_from (on.attention && (eqb c.code 42 || eqb c.code 95)) ((on.gfm_strikethrough && eqb c.code 126) || (on.mark && eqb c.code 61))
-    (and_right on.attention _ (or_from (eqb c.code 42) (eqb c.code 95) o.star o.underscore))
-    (or_from (on.gfm_strikethrough && eqb c.code 126) (on.mark && eqb c.code 61) (and_right on.gfm_strikethrough _ o.tilde)
-    (and_flip (eqb c.code 61) on.mark o.equals)))
+    (or_from emphasis (strikes || marks) (and_right on.attention _ (or_from (eqb c.code 42) (eqb c.code 95) o.star o.underscore))
+    (or_from strikes marks (and_right on.gfm_strikethrough _ o.tilde) unmarked))
 
-pub text_start : (m : Bool) (on : Constructs) (c : ℕ) (cs : List ℕ) → starts m c ≡ false → label_start_at on (c ∷ cs) ≡ None
-text_start m on c cs h =
-    let o = is_other m c h in
+pub text_start : (on : Constructs) (c : ℕ) (cs : List ℕ) → starts c ≡ false → label_start_at on (c ∷ cs) ≡ None
+text_start on c cs h =
+    let o = is_other c h in
     let opening = flip c 91 o.opening in
     let image = and_right on.label_start_image (begins_with (codes "![") (c ∷ cs)) (and_left (eqb 33 c) _ (flip c 33 o.exclamation)) in
     cond-false _ _ _ (and_left (on.label_start_image && begins_with (codes "![") (c ∷ cs)) _ image)
@@ -200,15 +192,13 @@ pub none_here : (context : InlineContext) (content : List InlineCode) → leaf_a
 none_here context content none no_literal = ap (λ o. or_else o (literal_at context.options.constructs content)) none ∙ no_literal
 
 -- one code of text
-pub text_step : (context : InlineContext) (r : Reading) (c : InlineCode) (cs : List InlineCode)
-    → is_text_at context.options.constructs.mark (codes_of (c ∷ cs)) ≡ true → literal_at context.options.constructs (c ∷ cs) ≡ None
-    → step context r c cs ≡ Next 0 (read_tokens (text_items (c.code ∷ [])) r)
-text_step context r c cs h no_literal =
-    let on = context.options.constructs in
-    let free = (text_is on.mark c.code (codes_of cs) h).0 in
-    step_last context r c cs (none_here context (c ∷ cs) (text_leaf on.mark context c.code (codes_of cs) h) no_literal) (text_run context.options c cs free)
-    (text_start on.mark on c.code (codes_of cs) free)
-    ∙ cond-false _ _ _ (and_right on.label_end _ (is_other on.mark c.code free).closing)
+pub text_step : (context : InlineContext) (r : Reading) (c : InlineCode) (cs : List InlineCode) → is_text_at (codes_of (c ∷ cs)) ≡ true
+    → literal_at context.options.constructs (c ∷ cs) ≡ None → (context.options.constructs.mark && is_equals c.code) ≡ false → step context r c cs ≡ Next 0 (read_tokens (text_items (c.code ∷ [])) r)
+text_step context r c cs h no_literal unmarked =
+    let free = (text_is c.code (codes_of cs) h).0 in
+    step_last context r c cs (none_here context (c ∷ cs) (text_leaf context c.code (codes_of cs) h) no_literal) (text_run context.options c cs free unmarked)
+    (text_start context.options.constructs c.code (codes_of cs) free)
+    ∙ cond-false _ _ _ (and_right context.options.constructs.label_end _ (is_other c.code free).closing)
 
 -- tokens that are read one after another
 pub read_none : (r : Reading) → read_tokens [] r ≡ r
@@ -219,15 +209,16 @@ read_more first more r = ap (λ tokens. reading (text tokens r.now.holds_link) r
 
 -- codes of text
 pub text_steps : (context : InlineContext) (n : ℕ) (r : Reading) (content : List InlineCode)
-    → ((k : ℕ) → k < n → is_text_at context.options.constructs.mark (drop k (codes_of content)) ≡ true)
+    → ((k : ℕ) → k < n → is_text_at (drop k (codes_of content)) ≡ true)
     → ((k : ℕ) → k < n → literal_at context.options.constructs (drop k content) ≡ None)
+    → ((k : ℕ) → k < n → (context.options.constructs.mark && is_equals (get_or (codes_of content) k 0)) ≡ false)
     → scan context 0 r content ≡ scan context 0 (read_tokens (text_items (take n (codes_of content))) r) (drop n content)
-text_steps context zero r content h no_literal = ap (λ x. scan context 0 x content) (sym (read_none r))
-text_steps context (suc n) r [] h no_literal = ap (λ x. scan context 0 x []) (sym (read_none r))
-text_steps context (suc n) r (c ∷ cs) h no_literal =
+text_steps context zero r content h no_literal unmarked = ap (λ x. scan context 0 x content) (sym (read_none r))
+text_steps context (suc n) r [] h no_literal unmarked = ap (λ x. scan context 0 x []) (sym (read_none r))
+text_steps context (suc n) r (c ∷ cs) h no_literal unmarked =
     let next = read_tokens (text_items (c.code ∷ [])) r in
-    scan_step context r next c cs 0 (text_step context r c cs (h 0 (omega arith)) (no_literal 0 (omega arith)))
-    ∙ text_steps context n next cs (λ k lt. h (suc k) (omega arith)) (λ k lt. no_literal (suc k) (omega arith))
+    scan_step context r next c cs 0 (text_step context r c cs (h 0 (omega arith)) (no_literal 0 (omega arith)) (unmarked 0 (omega arith)))
+    ∙ text_steps context n next cs (λ k lt. h (suc k) (omega arith)) (λ k lt. no_literal (suc k) (omega arith)) (λ k lt. unmarked (suc k) (omega arith))
     ∙ ap (λ x. scan context 0 x (drop n cs)) (read_more (text_items (c.code ∷ [])) (text_items (take n (codes_of cs))) r)
 
 -- a code at which a construct may start, but none does
@@ -267,9 +258,9 @@ no_leaf_no_eol context c cs h = elim (cases_Bool (is_eol c)) [
   | inr isnt ↦ isnt
 ]
 
-pub special_first : (m : Bool) (context : InlineContext) (c : ℕ) (cs : List ℕ) → is_text_at m (c ∷ cs) ≡ false → leaf_at context (c ∷ cs) ≡ None
-    → (starts m c ≡ true) × (is_eol c ≡ false)
-special_first m context c cs h none = elim (cases_Bool (is_white c)) [
+pub special_first : (context : InlineContext) (c : ℕ) (cs : List ℕ) → is_text_at (c ∷ cs) ≡ false → leaf_at context (c ∷ cs) ≡ None
+    → (starts c ≡ true) × (is_eol c ≡ false)
+special_first context c cs h none = elim (cases_Bool (is_white c)) [
   | inl white ↦
       let ends : ends_here (bare (c ∷ cs)) ≡ true = not-false _ (sym (cond-true (is_white c) _ _ white) ∙ h) in
       let size : indent (c ∷ cs) ≡ 1 + indent cs = cond-true (is_white c) _ _ white in
@@ -305,23 +296,23 @@ special_ascii c h = elim (cases_Bool (leb 128 c)) [
         (or_from (eqb c 91) (eqb c 93) (ne_eqb c 91 (λ e. omega arith)) (ne_eqb c 93 (λ e. omega arith)))))))))))
 
 -- so many bytes at the front are text
-pub record IsText (m : Bool) (bytes : List ℕ) (size : ℕ) : Type 0 where
+pub record IsText (bytes : List ℕ) (size : ℕ) : Type 0 where
   pub within : size ≤ length bytes
-  pub text : (k : ℕ) → k < size → is_text_at m (drop k (content_codes bytes)) ≡ true
+  pub text : (k : ℕ) → k < size → is_text_at (drop k (content_codes bytes)) ≡ true
   pub plain : (k : ℕ) → k < size → get_or bytes k 0 ≡ 13 → ⊥
 
-pub no_text : (m : Bool) (bytes : List ℕ) → IsText m bytes 0
-no_text m bytes = record { within = omega arith; text = λ k lt. absurd (omega arith); plain = λ k lt. absurd (omega arith) }
+pub no_text : (bytes : List ℕ) → IsText bytes 0
+no_text bytes = record { within = omega arith; text = λ k lt. absurd (omega arith); plain = λ k lt. absurd (omega arith) }
 
 -- text, and more of it
-pub more_text : (m : Bool) (bytes : List ℕ) (at size next : ℕ) → next ≡ at + size → IsText m bytes at → IsText m (drop at bytes) size → IsText m bytes next
-more_text m bytes at size next e first more = record {
+pub more_text : (bytes : List ℕ) (at size next : ℕ) → next ≡ at + size → IsText bytes at → IsText (drop at bytes) size → IsText bytes next
+more_text bytes at size next e first more = record {
   within = omega (arith, e, first.within, more.within, length-drop at bytes);
   text = λ k lt. elim (cases_Bool (leb at k)) [
     | inl after ↦
         let le : at ≤ k = grind arith in
         let there : at + (k - at) ≡ k = omega arith in
-        ap (is_text_at m) (ap (λ n. drop n (content_codes bytes)) (sym there) ∙ sym (drop-drop (k - at) at (content_codes bytes))
+        ap is_text_at (ap (λ n. drop n (content_codes bytes)) (sym there) ∙ sym (drop-drop (k - at) at (content_codes bytes))
         ∙ ap (drop (k - at)) (plain_drop at bytes first.within first.plain))
         ∙ more.text (k - at) (omega (arith, lt, e))
     | inr before ↦ first.text k (grind arith)
@@ -336,66 +327,66 @@ more_text m bytes at size next e first more = record {
 }
 
 -- a byte at which nothing starts
-pub byte_text : (m : Bool) (b : ℕ) (bs : List ℕ) → is_white b ≡ false → starts m b ≡ false → IsText m (b ∷ bs) 1
-byte_text m b bs dark free = record {
+pub byte_text : (b : ℕ) (bs : List ℕ) → is_white b ≡ false → starts b ≡ false → IsText (b ∷ bs) 1
+byte_text b bs dark free = record {
   within = omega arith;
   text = λ k lt. here k (omega arith);
   plain = λ k lt. no_return k (omega arith);
 }
   where
     apart : b ≡ 13 → ⊥
-    apart e = false≢true (sym (is_other m b free).ending ∙ ap is_eol e)
+    apart e = false≢true (sym (is_other b free).ending ∙ ap is_eol e)
 
-    here : (k : ℕ) → k ≡ 0 → is_text_at m (drop k (content_codes (b ∷ bs))) ≡ true
-    here k e = ap (λ n. is_text_at m (drop n (content_codes (b ∷ bs)))) e ∙ ap (is_text_at m) (plain_code b bs apart) ∙ cond-false (is_white b) _ _ dark ∙ ap not free
+    here : (k : ℕ) → k ≡ 0 → is_text_at (drop k (content_codes (b ∷ bs))) ≡ true
+    here k e = ap (λ n. is_text_at (drop n (content_codes (b ∷ bs)))) e ∙ ap is_text_at (plain_code b bs apart) ∙ cond-false (is_white b) _ _ dark ∙ ap not free
 
     no_return : (k : ℕ) → k ≡ 0 → get_or (b ∷ bs) k 0 ≡ 13 → ⊥
     no_return k e return = apart (ap (λ n. get_or (b ∷ bs) n 0) (sym e) ∙ return)
 
 -- white space before something else on its line
-white_at : (m : Bool) (codes : List ℕ) (k : ℕ) → k < indent codes → ends_here (bare codes) ≡ false → is_text_at m (drop k codes) ≡ true
-white_at m [] k lt on = absurd (omega arith)
-white_at m (c ∷ cs) zero lt on = elim (cases_Bool (is_white c)) [
+white_at : (codes : List ℕ) (k : ℕ) → k < indent codes → ends_here (bare codes) ≡ false → is_text_at (drop k codes) ≡ true
+white_at [] k lt on = absurd (omega arith)
+white_at (c ∷ cs) zero lt on = elim (cases_Bool (is_white c)) [
   | inl white ↦ cond-true (is_white c) _ _ white ∙ ap not on
   | inr dark ↦ let e : indent (c ∷ cs) ≡ 0 = cond-false (is_white c) _ _ dark in absurd (omega arith)
 ]
-white_at m (c ∷ cs) (suc k) lt on = elim (cases_Bool (is_white c)) [
+white_at (c ∷ cs) (suc k) lt on = elim (cases_Bool (is_white c)) [
   | inl white ↦
       let e : indent (c ∷ cs) ≡ 1 + indent cs = cond-true (is_white c) _ _ white in
       let f : indent (c ∷ cs) ≡ suc (indent cs) = omega arith in
-      white_at m cs k (omega arith) (sym (ap (λ n. ends_here (drop n (c ∷ cs))) f) ∙ on)
+      white_at cs k (omega arith) (sym (ap (λ n. ends_here (drop n (c ∷ cs))) f) ∙ on)
   | inr dark ↦ let e : indent (c ∷ cs) ≡ 0 = cond-false (is_white c) _ _ dark in absurd (omega arith)
 ]
 
-pub white_text : (m : Bool) (bytes : List ℕ) (size : ℕ) → IsWhite bytes size → ends_here (content_codes (drop size bytes)) ≡ false → IsText m bytes size
-white_text m bytes size white on = record {
+pub white_text : (bytes : List ℕ) (size : ℕ) → IsWhite bytes size → ends_here (content_codes (drop size bytes)) ≡ false → IsText bytes size
+white_text bytes size white on = record {
   within = white.within;
-  text = λ k lt. white_at m (content_codes bytes) k (omega (arith, lt, white.indent)) (ap ends_here (sym white.bare) ∙ on);
+  text = λ k lt. white_at (content_codes bytes) k (omega (arith, lt, white.indent)) (ap ends_here (sym white.bare) ∙ on);
   plain = λ k lt e. false≢true (ap is_white (sym e) ∙ white.passes k lt);
 }
 
 -- ---- where text ends
 
 -- white space at the end of its line
-pub white_stop : (m : Bool) (b : ℕ) (bs : List ℕ) (size : ℕ) → IsWhite (b ∷ bs) size → is_white b ≡ true → ends_here (content_codes (drop size (b ∷ bs))) ≡ true
-    → is_text_at m (content_codes (b ∷ bs)) ≡ false
-white_stop m b bs size is white ends =
+pub white_stop : (b : ℕ) (bs : List ℕ) (size : ℕ) → IsWhite (b ∷ bs) size → is_white b ≡ true → ends_here (content_codes (drop size (b ∷ bs))) ≡ true
+    → is_text_at (content_codes (b ∷ bs)) ≡ false
+white_stop b bs size is white ends =
     let same = plain_code b bs (λ e. false≢true (ap is_white (sym e) ∙ white)) in
-    ap (is_text_at m) same ∙ cond-true (is_white b) _ _ white
+    ap is_text_at same ∙ cond-true (is_white b) _ _ white
     ∙ ap not (ap (λ cs. ends_here (bare cs)) (sym same) ∙ ap ends_here (sym is.bare) ∙ ends)
 
 -- a byte at which something may start
-pub special_stop : (m : Bool) (b : ℕ) (bs : List ℕ) → is_white b ≡ false → starts m b ≡ true → is_text_at m (content_codes (b ∷ bs)) ≡ false
-special_stop m b bs dark special = elim (cases_Bool (eqb b 13)) [
+pub special_stop : (b : ℕ) (bs : List ℕ) → is_white b ≡ false → starts b ≡ true → is_text_at (content_codes (b ∷ bs)) ≡ false
+special_stop b bs dark special = elim (cases_Bool (eqb b 13)) [
   | inl h ↦
-      ap (λ x. is_text_at m (content_codes (x ∷ bs))) (eqb-true b 13 h)
-      ∙ at_return (is_text_at m) false bs (λ cs. refl) (λ cs. refl)
-  | inr h ↦ ap (is_text_at m) (cond-false (eqb b 13) _ _ h) ∙ cond-false (is_white b) _ _ dark ∙ ap not special
+      ap (λ x. is_text_at (content_codes (x ∷ bs))) (eqb-true b 13 h)
+      ∙ at_return is_text_at false bs (λ cs. refl) (λ cs. refl)
+  | inr h ↦ ap is_text_at (cond-false (eqb b 13) _ _ h) ∙ cond-false (is_white b) _ _ dark ∙ ap not special
 ]
 
 -- the end of text that isn't empty
-pub text_end : (m : Bool) (bytes : List ℕ) (size : ℕ) → IsText m bytes size → 0 < size → IsAfter bytes (drop size bytes)
-text_end m bytes size is some = is_after bytes (drop size bytes) size refl some is.within (cut_plain bytes size is.within is.plain)
+pub text_end : (bytes : List ℕ) (size : ℕ) → IsText bytes size → 0 < size → IsAfter bytes (drop size bytes)
+text_end bytes size is some = is_after bytes (drop size bytes) size refl some is.within (cut_plain bytes size is.within is.plain)
 
 -- the first byte where text ends and no leaf begins: ASCII, no line ending, and one code
 pub record IsSpecial (bytes : List ℕ) : Type 0 where
@@ -404,10 +395,10 @@ pub record IsSpecial (bytes : List ℕ) : Type 0 where
   pub apart_feed : get_or bytes 0 0 ≡ 10 → ⊥
   pub place : IsAfter bytes (drop 1 bytes)
 
-pub special_byte : (m : Bool) (options : ParseOptions) (names : List ℕ → Option (List ℕ)) (bytes : List ℕ) → 0 < length bytes
-    → is_text_at m (content_codes bytes) ≡ false → leaf_in options names (content_codes bytes) ≡ None → IsSpecial bytes
-special_byte m options names [] some stop none = absurd (omega arith)
-special_byte m options names (b ∷ bs) some stop none = elim (cases_Bool (eqb b 13)) [
+pub special_byte : (options : ParseOptions) (names : List ℕ → Option (List ℕ)) (bytes : List ℕ) → 0 < length bytes
+    → is_text_at (content_codes bytes) ≡ false → leaf_in options names (content_codes bytes) ≡ None → IsSpecial bytes
+special_byte options names [] some stop none = absurd (omega arith)
+special_byte options names (b ∷ bs) some stop none = elim (cases_Bool (eqb b 13)) [
   | inl h ↦ absurd (returned (eqb-true b 13 h))
   | inr h ↦ other (λ e. true≢false (sym (ap (λ x. eqb x 13) e) ∙ h))
 ]
@@ -415,9 +406,9 @@ special_byte m options names (b ∷ bs) some stop none = elim (cases_Bool (eqb b
     context : InlineContext
     context = without_labels options names
 
-    ends : (codes : List ℕ) → is_text_at m codes ≡ false → leaf_at context codes ≡ None → begins_with_eol codes ≡ true → ⊥
+    ends : (codes : List ℕ) → is_text_at codes ≡ false → leaf_at context codes ≡ None → begins_with_eol codes ≡ true → ⊥
     ends [] stop none eol = false≢true eol
-    ends (c ∷ cs) stop none eol = false≢true (sym (special_first m context c cs stop none).1 ∙ eol)
+    ends (c ∷ cs) stop none eol = false≢true (sym (special_first context c cs stop none).1 ∙ eol)
 
     returned : b ≡ 13 → ⊥
     returned e = ends (content_codes (b ∷ bs)) stop none (ap (λ x. begins_with_eol (content_codes (x ∷ bs))) e
@@ -426,51 +417,58 @@ special_byte m options names (b ∷ bs) some stop none = elim (cases_Bool (eqb b
     other : (b ≡ 13 → ⊥) → IsSpecial (b ∷ bs)
     other apart =
         let same = plain_code b bs apart in
-        let first = special_first m context b (content_codes bs) (ap (is_text_at m) (sym same) ∙ stop) (ap (leaf_at context) (sym same) ∙ none) in
-        let ascii : b < 128 = elim (or_cases (is_special b) (is_eol b || (is_equals b && m)) first.0) [
-          | inl is ↦ special_ascii b is
-          | inr last ↦ elim (or_cases (is_eol b) (is_equals b && m) last) [
-            | inl eol ↦ absurd (false≢true (sym first.1 ∙ eol))
-            | inr equals ↦ omega (arith, eqb-true b 61 (and_parts (is_equals b) m equals).0)
-          ]
+        let first = special_first context b (content_codes bs) (ap is_text_at (sym same) ∙ stop) (ap (leaf_at context) (sym same) ∙ none) in
+        let special : is_special b ≡ true = elim (or_cases (is_special b) (is_eol b) first.0) [
+          | inl is ↦ is
+          | inr eol ↦ absurd (false≢true (sym first.1 ∙ eol))
         ] in
         record {
-          ascii = ascii;
+          ascii = special_ascii b special;
           apart_return = apart;
           apart_feed = λ e. false≢true (sym first.1 ∙ ap is_eol e);
           place = is_after (b ∷ bs) bs 1 refl (omega arith) (omega arith) (cut_after_byte (b ∷ bs) 1 (omega arith) apart);
         }
 
--- a letter of a literal
-pub letter_byte : (bytes : List ℕ) → may_begin bytes ≡ true → IsSpecial bytes
-letter_byte bytes may =
-    let letter = may_letter bytes may in
-    let apart : get_or bytes 0 0 ≡ 13 → ⊥ = λ e. omega (arith, e, letter.1.0) in
+-- where marked text or a literal begins: an ASCII byte after the space
+pub more_byte : (on m : Bool) (bytes : List ℕ) → begins_more on m bytes ≡ true → (32 < get_or bytes 0 0) × (get_or bytes 0 0 < 128)
+more_byte on m bytes more = elim (or_cases (m && is_equals (get_or bytes 0 0)) (on && may_begin bytes) more) [
+  | inl equals ↦
+      let is : get_or bytes 0 0 ≡ 61 = eqb-true (get_or bytes 0 0) 61 (and_parts m _ equals).1 in
+      (omega (arith, is), omega (arith, is))
+  | inr letters ↦
+      let letter = (may_letter bytes (and_parts on _ letters).1).1 in
+      (omega (arith, letter.0), letter.1)
+]
+
+started_byte : (on m : Bool) (bytes : List ℕ) → 0 < length bytes → begins_more on m bytes ≡ true → IsSpecial bytes
+started_byte on m bytes some more =
+    let byte = more_byte on m bytes more in
+    let apart : get_or bytes 0 0 ≡ 13 → ⊥ = λ e. omega (arith, e, byte.0) in
     record {
-      ascii = letter.1.1;
+      ascii = byte.1;
       apart_return = apart;
-      apart_feed = λ e. omega (arith, e, letter.1.0);
-      place = is_after bytes (drop 1 bytes) 1 refl (omega arith) (omega (arith, letter.0)) (cut_after_byte bytes 1 (omega (arith, letter.0)) apart);
+      apart_feed = λ e. omega (arith, e, byte.0);
+      place = is_after bytes (drop 1 bytes) 1 refl (omega arith) (omega (arith, some)) (cut_after_byte bytes 1 (omega (arith, some)) apart);
     }
 
 -- a place at which text ends
-pub text_stops : (m : Bool) (bytes : List ℕ) (size : ℕ) → IsText m bytes size → is_text_at m (content_codes (drop size bytes)) ≡ false
-    → is_text_at m (drop size (content_codes bytes)) ≡ false
-text_stops m bytes size is stop = ap (is_text_at m) (plain_drop size bytes is.within is.plain) ∙ stop
+pub text_stops : (bytes : List ℕ) (size : ℕ) → IsText bytes size → is_text_at (content_codes (drop size bytes)) ≡ false
+    → is_text_at (drop size (content_codes bytes)) ≡ false
+text_stops bytes size is stop = ap is_text_at (plain_drop size bytes is.within is.plain) ∙ stop
 
--- no text at the front: a construct or a literal may start there
-pub nothing_is_text : (m on : Bool) (bytes : List ℕ) (size : ℕ) → size ≡ 0 → 0 < length bytes
-    → (size < length bytes → (is_text_at m (drop size (content_codes bytes)) ≡ false) ⊎ ((on && may_begin (drop size bytes)) ≡ true))
-    → (is_text_at m (content_codes bytes) ≡ false) ⊎ (may_begin bytes ≡ true)
-nothing_is_text m on bytes size e some stops = elim (stops (omega (arith, e, some))) [
-  | inl stop ↦ inl (subst (λ n. is_text_at m (drop n (content_codes bytes)) ≡ false) e stop)
-  | inr may ↦ inr (subst (λ n. may_begin (drop n bytes) ≡ true) e (and_parts on _ may).1)
+-- no text at the front: a construct may start there
+pub nothing_is_text : (on m : Bool) (bytes : List ℕ) (size : ℕ) → size ≡ 0 → 0 < length bytes
+    → (size < length bytes → (is_text_at (drop size (content_codes bytes)) ≡ false) ⊎ (begins_more on m (drop size bytes) ≡ true))
+    → (is_text_at (content_codes bytes) ≡ false) ⊎ (begins_more on m bytes ≡ true)
+nothing_is_text on m bytes size e some stops = elim (stops (omega (arith, e, some))) [
+  | inl stop ↦ inl (subst (λ n. is_text_at (drop n (content_codes bytes)) ≡ false) e stop)
+  | inr more ↦ inr (subst (λ n. begins_more on m (drop n bytes) ≡ true) e more)
 ]
 
 -- a place at which nothing is text and no leaf begins
-pub stopped : (m : Bool) (options : ParseOptions) (names : List ℕ → Option (List ℕ)) (bytes : List ℕ) → 0 < length bytes
-    → (is_text_at m (content_codes bytes) ≡ false) ⊎ (may_begin bytes ≡ true) → leaf_in options names (content_codes bytes) ≡ None → IsSpecial bytes
-stopped m options names bytes some stops none = elim stops [
-  | inl stop ↦ special_byte m options names bytes some stop none
-  | inr may ↦ letter_byte bytes may
+pub stopped : (on m : Bool) (options : ParseOptions) (names : List ℕ → Option (List ℕ)) (bytes : List ℕ) → 0 < length bytes
+    → (is_text_at (content_codes bytes) ≡ false) ⊎ (begins_more on m bytes ≡ true) → leaf_in options names (content_codes bytes) ≡ None → IsSpecial bytes
+stopped on m options names bytes some stops none = elim stops [
+  | inl stop ↦ special_byte options names bytes some stop none
+  | inr more ↦ started_byte on m bytes some more
 ]

@@ -2,17 +2,18 @@
 use Rattle.std.proofs.Common.{◌≡◌, ℕ, zero, suc, List, [], ◌∷◌, ◌++◌, false, ◌||◌, ◌==◌, refl, ap₂, ◌∙◌, length, take, arith, subst}
 use Rattle.std.proofs.lemmas.Bool.{cond-false, or_parts}
 use Rattle.std.proofs.lemmas.List.{take_all}
+use Rattle.definition_text.specs.Content.{is_eol}
 use Rattle.definition_text.specs.Encode.{encode, encoded_byte}
 use Rattle.inline_text.specs.Plain.{is_replaced, is_special, starts, stops}
 use Rattle.inline_text.specs.Verbatim.{AreVerbatim}
 
 -- a byte at which nothing stops
-pub verbatim_byte : (m : Bool) (b : ℕ) → stops m b ≡ false → encoded_byte b ≡ b ∷ []
-verbatim_byte m b h =
-    let parts = or_parts (starts m b) (is_replaced b) h in
+pub verbatim_byte : (b : ℕ) → stops b ≡ false → encoded_byte b ≡ b ∷ []
+verbatim_byte b h =
+    let parts = or_parts (starts b) (is_replaced b) h in
     let nul = or_parts (b == 0) ((b == 34) || (b == 62)) parts.1 in
     let quote = or_parts (b == 34) (b == 62) nul.1 in
-    let special = (or_parts (is_special b) _ parts.0).0 in
+    let special = (or_parts (is_special b) (is_eol b) parts.0).0 in
     let ampersand = or_parts (b == 38) _ (or_parts (b == 92) _ special).1 in
     let less = or_parts (b == 60) _ (or_parts (b == 36) _ (or_parts (b == 96) _ ampersand.1).1).1 in
     cond-false (b == 0) _ _ nul.0 ∙ cond-false (b == 34) _ _ quote.0 ∙ cond-false (b == 38) _ _ ampersand.0

@@ -1,26 +1,25 @@
 -- The text at the front of a content (CommonMark 6.9).
-use Rattle.std.specs.Prelude.{◌≡◌, ◌<◌, ◌≤◌, ◌⊎◌, ◌&&◌, ℕ, Bool, true, false, List, drop, length, slice_index}
+use Rattle.std.specs.Prelude.{◌≡◌, ◌<◌, ◌≤◌, ◌⊎◌, ℕ, Bool, true, false, List, drop, length, slice_index}
 use Rattle.markdown_options.specs.declared.configuration.Constructs.{Constructs}
 use Rattle.definition_text.specs.Ascii.{carriage_return}
 use Rattle.definition_text.specs.Content.{content_codes}
 use Rattle.inline_leaves.specs.Leaves.{IsAfter}
-use Rattle.inline_literals.specs.Literals.{may_begin}
 use Rattle.inline_text.specs.declared.plain.Front.{Front}
-use Rattle.inline_text.specs.Plain.{is_text_at}
+use Rattle.inline_text.specs.Plain.{begins_more, is_text_at}
 use Rattle.inline_text.specs.Verbatim.{TellsVerbatim}
 
--- a construct starts at none of its bytes, nor a literal where they are on, and one may start right after them, if anything is left
+-- a construct starts at none of its bytes, nor marked text or a literal where they are on, and one may start right after them, if anything is left
 pub record IsTextFront (has_literals has_marks : Bool) (bytes : List ℕ) (front : Front) : Type 0 where
   pub within : front.size ≤ length bytes
-  pub text : (k : ℕ) → k < front.size → is_text_at has_marks (drop k (content_codes bytes)) ≡ true
+  pub text : (k : ℕ) → k < front.size → is_text_at (drop k (content_codes bytes)) ≡ true
   pub plain : (k : ℕ) → k < front.size → slice_index bytes k ≡ carriage_return → ⊥
-  pub bare : has_literals ≡ true → (k : ℕ) → k < front.size → may_begin (drop k bytes) ≡ false
+  pub bare : (k : ℕ) → k < front.size → begins_more has_literals has_marks (drop k bytes) ≡ false
   pub stops : front.size < length bytes
-      → (is_text_at has_marks (drop front.size (content_codes bytes)) ≡ false) ⊎ ((has_literals && may_begin (drop front.size bytes)) ≡ true)
+      → (is_text_at (drop front.size (content_codes bytes)) ≡ false) ⊎ (begins_more has_literals has_marks (drop front.size bytes) ≡ true)
   pub ascii : front.size < length bytes → slice_index bytes front.size < 128
   pub ending : 0 < front.size → IsAfter bytes (drop front.size bytes)
   pub verbatim : TellsVerbatim bytes front
 
--- the same with literals and marked text as these constructs have them
+-- the same with these constructs
 abbrev pub IsTextOf : Constructs → List ℕ → Front → Type 0
 IsTextOf on bytes front = IsTextFront on.gfm_autolink_literal on.mark bytes front

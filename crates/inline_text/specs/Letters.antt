@@ -1,7 +1,6 @@
--- The next byte of a set, `=`, or two letters that a literal may begin with (GFM 6.9).
+-- The next byte of a set, or two letters that a literal may begin with (GFM 6.9).
 use Rattle.std.specs.Prelude.{◌≡◌, ◌<◌, ◌≤◌, ◌+◌, ◌-◌, ℕ, Bool, true, false, if◌then◌else◌, ◌==◌, ◌&&◌, ◌||◌, List, length, slice_index}
 use Rattle.std.specs.Char.{to_ascii_lowercase}
-use Rattle.definition_inline.specs.Mark.{is_equals}
 use Rattle.text_search.specs.declared.set.ByteSet.{ByteSet}
 use Rattle.text_search.specs.Sets.{holds}
 
@@ -19,17 +18,13 @@ abbrev pub are_letters : ℕ → ℕ → Bool
 are_letters b next =
     ((to_ascii_lowercase b == small_w) && (to_ascii_lowercase next == small_w)) || ((to_ascii_lowercase b == small_h) && (to_ascii_lowercase next == small_t))
 
--- a byte is one of a set or, where marked text is on, `=`
-abbrev pub holds_with : Bool → ByteSet → ℕ → Bool
-holds_with has_marks set b = (has_marks && is_equals b) || holds set b
-
--- the same or, where literals are on, the first of two letters
-abbrev pub stops_here : Bool → Bool → ByteSet → ℕ → ℕ → Bool
-stops_here has_literals has_marks set b next = holds_with has_marks set b || (has_literals && are_letters b next)
+-- a byte is one of a set or, where literals are on, the first of two letters
+abbrev pub stops_here : Bool → ByteSet → ℕ → ℕ → Bool
+stops_here has_literals set b next = holds set b || (has_literals && are_letters b next)
 
 -- the same at a place of bytes
-abbrev pub stops_at : Bool → Bool → ByteSet → List ℕ → ℕ → Bool
-stops_at has_literals has_marks set bytes k = stops_here has_literals has_marks set (slice_index bytes k) (slice_index bytes (k + 1))
+abbrev pub stops_at : Bool → ByteSet → List ℕ → ℕ → Bool
+stops_at has_literals set bytes k = stops_here has_literals set (slice_index bytes k) (slice_index bytes (k + 1))
 
 -- so many of these places come before the first that stops
 pub record IsFirst (stops : ℕ → Bool) (limit first : ℕ) : Type 0 where
@@ -38,8 +33,8 @@ pub record IsFirst (stops : ℕ → Bool) (limit first : ℕ) : Type 0 where
   pub hit : first < limit → stops first ≡ true
 
 -- so many bytes do
-abbrev pub IsStop : Bool → Bool → ByteSet → List ℕ → ℕ → Type 0
-IsStop has_literals has_marks set bytes stop = IsFirst (stops_at has_literals has_marks set bytes) (length bytes) stop
+abbrev pub IsStop : Bool → ByteSet → List ℕ → ℕ → Type 0
+IsStop has_literals set bytes stop = IsFirst (stops_at has_literals set bytes) (length bytes) stop
 
 -- the end of bytes, or the last of them, if it is of a set
 abbrev pub end_before : ByteSet → List ℕ → ℕ
@@ -47,11 +42,11 @@ end_before set bytes = if holds set (slice_index bytes (length bytes - 1)) then 
 
 -- so many of 16 bytes from a place on do
 abbrev pub IsRunFrom : ByteSet → List ℕ → ℕ → ℕ → Type 0
-IsRunFrom set bytes at run = IsFirst (λ k. stops_at true false set bytes (at + k)) 16 run
+IsRunFrom set bytes at run = IsFirst (λ k. stops_at true set bytes (at + k)) 16 run
 
 -- the same of 16 bytes and of those that follow each of them
 abbrev pub IsRun : ByteSet → List ℕ → List ℕ → ℕ → Type 0
-IsRun set here next run = IsFirst (λ k. stops_here true false set (slice_index here k) (slice_index next k)) 16 run
+IsRun set here next run = IsFirst (λ k. stops_here true set (slice_index here k) (slice_index next k)) 16 run
 
 -- and of letters alone
 abbrev pub IsLetterRun : List ℕ → List ℕ → ℕ → Type 0

@@ -1,4 +1,5 @@
 pub mod Letters
+pub mod Mark
 pub mod Plain
 pub mod Verbatim
 pub mod Fronts

@@ -15,19 +15,23 @@ is_special code =
     || ((code == asterisk) || ((code == underscore)
     || ((code == tilde) || ((code == exclamation_mark) || ((code == left_bracket) || (code == right_bracket))))))))))
 
--- a code at which a construct may start, if it is no space or tab: one of these, a line ending or, where marked text is on, `=`
-abbrev pub starts : Bool → ℕ → Bool
-starts has_marks code = is_special code || (is_eol code || (is_equals code && has_marks))
+-- a code at which a construct may start, if it is no space or tab: one of these, or a line ending
+abbrev pub starts : ℕ → Bool
+starts code = is_special code || is_eol code
 
--- a construct may start here, a literal among them where they are on
+-- marked text or a literal may begin here, where they are on
+abbrev pub begins_more : Bool → Bool → List ℕ → Bool
+begins_more has_literals has_marks bytes = (has_marks && is_equals (slice_index bytes 0)) || (has_literals && may_begin bytes)
+
+-- a construct may start here, one of these among them
 abbrev pub starts_here : Bool → Bool → List ℕ → Bool
-starts_here has_literals has_marks bytes = starts has_marks (slice_index bytes 0) || (has_literals && may_begin bytes)
+starts_here has_literals has_marks bytes = starts (slice_index bytes 0) || begins_more has_literals has_marks bytes
 
--- so many bytes come before the first at which a construct may start, a literal where they are on
+-- so many bytes come before the first at which a construct may start
 pub record IsStart (has_literals has_marks : Bool) (bytes : List ℕ) (stop : ℕ) : Type 0 where
   pub within : stop ≤ length bytes
-  pub free : (k : ℕ) → k < stop → starts has_marks (slice_index bytes k) ≡ false
-  pub bare : has_literals ≡ true → (k : ℕ) → k < stop → may_begin (drop k bytes) ≡ false
+  pub free : (k : ℕ) → k < stop → starts (slice_index bytes k) ≡ false
+  pub bare : (k : ℕ) → k < stop → begins_more has_literals has_marks (drop k bytes) ≡ false
   pub stops : stop < length bytes → starts_here has_literals has_marks (drop stop bytes) ≡ true
 
 -- a byte at which nothing starts and that is printed as something else: NUL, `"` or `>`
@@ -35,10 +39,10 @@ abbrev pub is_replaced : ℕ → Bool
 is_replaced code = (code == 0) || ((code == double_quote) || (code == greater_than))
 
 -- something may start at this byte, or it is printed as something else
-abbrev pub stops : Bool → ℕ → Bool
-stops has_marks code = starts has_marks code || is_replaced code
+abbrev pub stops : ℕ → Bool
+stops code = starts code || is_replaced code
 
 -- the first code is text: white space before something else on its line, or a code at which nothing starts
-abbrev pub is_text_at : Bool → List ℕ → Bool
-is_text_at has_marks [] = false
-is_text_at has_marks (c ∷ cs) = if is_white c then not (ends_here (bare (c ∷ cs))) else not (starts has_marks c)
+abbrev pub is_text_at : List ℕ → Bool
+is_text_at [] = false
+is_text_at (c ∷ cs) = if is_white c then not (ends_here (bare (c ∷ cs))) else not (starts c)

@@ -21,7 +21,7 @@ const CASE_BIT: u8 = 32;
 /// them, where none does.
 #[inline(always)]
 pub(crate) fn next_of_or_letters(bytes: &[u8], set: ByteSet) -> usize
-    ensures { IsStop true false set bytes.now result }
+    ensures { IsStop true set bytes.now result }
 {
     if bytes.len() <= LANES {
         return next_in_few(bytes, set);
@@ -47,7 +47,7 @@ pub(crate) fn next_of_or_letters(bytes: &[u8], set: ByteSet) -> usize
 #[inline(always)]
 fn next_in_few(bytes: &[u8], set: ByteSet) -> usize
     requires { length bytes.now ≤ LANES }
-    ensures { IsStop true false set bytes.now result }
+    ensures { IsStop true set bytes.now result }
 {
     if bytes.len() <= END_SIZE {
         return next_one_by_one(bytes, set);
@@ -64,7 +64,7 @@ fn next_in_few(bytes: &[u8], set: ByteSet) -> usize
 
 /// The same, one byte after another.
 fn next_one_by_one(bytes: &[u8], set: ByteSet) -> usize
-    ensures { IsStop true false set bytes.now result }
+    ensures { IsStop true set bytes.now result }
 {
     if bytes.is_empty() {
         return 0;

@@ -1,14 +1,14 @@
 //! The next byte of a set, or `=`, where marked text is on.
 ghost use Rattle.std.specs.Prelude.{◌<◌, ◌≡◌, length, true};
-ghost use Rattle.inline_text.specs.Letters.{stops_at, IsStop};
+ghost use Rattle.inline_text.specs.Mark.{stops_with, IsStopWith};
 
 use crate::letters::are_letters;
-use text_search::ByteSet;
+use text_search::{ByteSet, ByteTest};
 
-/// How many bytes come before the first that a set holds, or before the first `=`, or before the
-/// first two letters where literals are on: all of them, where none does.
+/// How many bytes come before the first that a set holds, before the first `=`, or before the first
+/// two letters where literals are on: all of them, where none does.
 pub(crate) fn next_of_or_equals(has_literals: bool, bytes: &[u8], set: ByteSet) -> usize
-    ensures { IsStop has_literals true set bytes.now result }
+    ensures { IsStopWith has_literals true set bytes.now result }
 {
     let mut at = 0;
     while at < bytes.len() {
@@ -20,11 +20,11 @@ pub(crate) fn next_of_or_equals(has_literals: bool, bytes: &[u8], set: ByteSet) 
     at
 }
 
-/// Whether one of these begins at a place.
+/// Whether one of these stands at a place.
 fn stops_at(has_literals: bool, bytes: &[u8], at: usize, set: ByteSet) -> bool
     requires { at < length bytes.now }
-    ensures { result ≡ stops_at has_literals true set bytes.now at }
+    ensures { result ≡ stops_with has_literals true set bytes.now at }
 {
     let next = if bytes.len() - at > 1 { bytes[at + 1] } else { 0 };
-    bytes[at] == b'=' || set.passes(bytes[at]) || (has_literals && are_letters(bytes[at], next))
+    set.passes(bytes[at]) || bytes[at] == b'=' || (has_literals && are_letters(bytes[at], next))
 }

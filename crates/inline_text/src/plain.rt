@@ -7,7 +7,7 @@
 ghost use Rattle.std.specs.Prelude.{◌≡◌, ◌<◌, ◌≤◌, ◌-◌, ℕ, true, false, length, slice_index};
 ghost use Rattle.definition_text.specs.Columns.{is_white};
 ghost use Rattle.definition_text.specs.Content.{is_eol};
-ghost use Rattle.inline_text.specs.Letters.{IsStop};
+ghost use Rattle.inline_text.specs.Mark.{IsStopWith};
 ghost use Rattle.inline_text.specs.Plain.{is_replaced, IsStart};
 ghost use Rattle.inline_text.specs.Fronts.{IsTextFront, IsTextOf};
 ghost use Rattle.inline_text.specs.Verbatim.{TellsVerbatim};
@@ -20,7 +20,7 @@ use markdown_options::Constructs;
 use text_bytes::is_space_or_tab;
 use text_search::{ByteSet, next_of};
 
-/// The bytes that are no space or tab at which a construct may start (CommonMark 6); but for `=`.
+/// The bytes that are no space or tab at which a construct may start (CommonMark 6).
 const STARTS: ByteSet = ByteSet {
     first: [
         b'`', b'!', 3, 4, b'$', 6, b'&', 8, 9, 10, b'*', b'[', b'\\', b']', b'~', b'_',
@@ -120,7 +120,7 @@ fn next_start(has_literals: bool, has_marks: bool, bytes: &[u8]) -> Front
 /// on.
 #[inline(always)]
 fn first_stop(has_literals: bool, has_marks: bool, bytes: &[u8], set: ByteSet) -> usize
-    ensures { IsStop has_literals has_marks set bytes.now result }
+    ensures { IsStopWith has_literals has_marks set bytes.now result }
 {
     if has_marks {
         return next_of_or_equals(has_literals, bytes, set);

@@ -7,8 +7,9 @@ use Rattle.definition_inline.specs.Space.{after_spaces, after_white, begins_with
 use Rattle.definition_inline.specs.Label.{label_at}
 use Rattle.definition_inline.specs.Destination.{destination_at}
 use Rattle.definition_inline.specs.Title.{title_at}
-use Rattle.definition_inline.specs.Definition.{Definition, next_line_after, next_line, definition_before, with_title, definition_with_title}
-use Rattle.definition_inline.specs.Definition.{definition_without_title, or_definition_without_title, with_destination, with_colon, with_label, definition_at}
+use Rattle.definition_inline.specs.Definition.{Definition, next_line_after, next_line, definition_with_title}
+use Rattle.definition_inline.specs.Definition.{definition_without_title, definition_at}
+use Rattle.definition_inline.proofs.PartSteps.{definition_before, with_title, or_definition_without_title, with_destination, with_colon, with_label}
 use Rattle.laws_endings.specs.Endings.{codes_with, definition_with}
 use Rattle.laws_endings.proofs.Codes.{cond-under, same_code, part_with}
 use Rattle.laws_endings.proofs.Labels.{after_spaces-with, after_white-with, begins_with_space-with, label_at-with, destination_at-with, title_at-with}

@@ -6,13 +6,13 @@ use Rattle.std.proofs.lemmas.Bool.{cond_both, both_ways, false_from_ne_true, eqb
 use Rattle.definition_text.specs.Columns.{is_tab_column}
 use Rattle.definition_text.specs.Bytes.{begins_with, after_all}
 use Rattle.definition_text.specs.Content.{is_eol, Part, text_before, up_to, closed_by, may_escape, at_line_start}
-use Rattle.definition_inline.specs.Definition.{Definition, definition_at, next_line, definition_before, with_title, definition_with_title}
-use Rattle.definition_inline.specs.Definition.{or_definition_without_title, with_destination, with_colon, with_label}
+use Rattle.definition_inline.specs.Definition.{Definition, definition_at, next_line, definition_with_title}
 use Rattle.definition_inline.specs.Space.{after_spaces, after_ending, after_white, begins_with_space}
 use Rattle.definition_inline.specs.Label.{ends_label, label_end, is_label, if_label, label_at}
 use Rattle.definition_inline.specs.Destination.{ends_angle, angle_end, open_after, is_too_deep, ends_bare, bare_end, unless_empty, if_any, destination_at}
 use Rattle.definition_inline.specs.Title.{ends_title, ends_blank_line, title_end, title_close, title_until, title_at}
 use Rattle.definition_inline.specs.CodeText.{code_space, is_padded, code_text}
+use Rattle.definition_inline.proofs.PartSteps.{definition_before, with_title, or_definition_without_title, with_destination, with_colon, with_label}
 use Rattle.laws_endings.proofs.Each.{Each, each-append, each-take, each-drop, WhereSome}
 
 -- a code that begins no character reference and isn't that of CR LF

@@ -15,7 +15,7 @@ use Rattle.definition_page.specs.GfmFootnoteDefinition.{Footnote, back_tag, arro
 use Rattle.definition_page.specs.GfmFootnoteDefinition.{content_pieces, item_tag, footnote_pieces, footnotes_pieces, section_heading_name, section_heading_tag}
 use Rattle.definition_page.specs.GfmFootnoteDefinition.{heading_pieces}
 use Rattle.definition_page.specs.GfmFootnoteDefinition.{section_tag, section_pieces}
-use Rattle.definition_page.specs.Layout.{NoteCalls, note_of}
+use Rattle.html_bytes.specs.Layout.{NoteCalls, note_of}
 use Rattle.laws_endings.specs.Endings.{with_ending}
 use Rattle.laws_endings.proofs.Each.{Each}
 use Rattle.laws_endings.specs.PageLaws.{HasNoFeed, HaveNoFeeds}

@@ -10,7 +10,7 @@ use Rattle.definition_page.specs.Tags.{PrintedPart, Words, Number, Attribute, at
 use Rattle.definition_page.specs.Pieces.{Says, CallOf, CountOf}
 use Rattle.definition_page.specs.InlinePieces.{element}
 use Rattle.definition_page.specs.GfmLabelStartFootnote.{Call, text_or, id_prefix, footnote_id, count_says, call_id, leads_to_id, call_tag, call_pieces}
-use Rattle.definition_page.specs.Layout.{layout_state, once_more, latest_call}
+use Rattle.html_bytes.specs.Layout.{layout_state, once_more, latest_call}
 use Rattle.laws_endings.specs.Endings.{with_ending}
 use Rattle.laws_endings.proofs.Each.{Each}
 use Rattle.laws_endings.specs.PageLaws.{HasNoFeed, HaveNoFeeds}

@@ -22,7 +22,7 @@ use Rattle.definition_inline.specs.Autolink.{email_end, closed_autolink, autolin
 use Rattle.definition_inline.specs.HtmlText.{html_byte, html_end, html_leaf, html_text_at}
 use Rattle.definition_inline.specs.HardBreak.{line_end_at, escaped_break_at, is_trailing_break, line_spaces_at}
 use Rattle.definition_inline.specs.Space.{after_white, begins_with_space}
-use Rattle.definition_inline.specs.Resource.{LinkResource, resource_end, resource_with_title, opens_title, resource_with_destination, resource_inside}
+use Rattle.definition_inline.specs.Resource.{LinkResource, resource_end, opens_title, resource_inside}
 use Rattle.definition_inline.specs.Resource.{resource_at}
 use Rattle.definition_inline.specs.Label.{label_at}
 use Rattle.definition_inline.specs.Destination.{destination_at}
@@ -35,6 +35,7 @@ use Rattle.definition_inline.specs.Scan.{InlineContext, leaf_at, leaf_here, Labe
 use Rattle.definition_inline.specs.Scan.{inlines_from, without_indent}
 use Rattle.laws_endings.proofs.Contents.{no_ending_here}
 use Rattle.laws_endings.specs.Kinds.{may_mark}
+use Rattle.definition_inline.proofs.PartSteps.{resource_with_title, resource_with_destination}
 use Rattle.definition_inline.proofs.InlineReads.{LeafGood, BeginsGood, either_begins, Nests, FormedGood, Reads, spans_good}
 use Rattle.definition_inline.proofs.LiteralsKept.{Carries, literals_good, linked_good}
 use Rattle.laws_endings.proofs.Each.{Each, each-append, each-take, each-drop, each_map, WhereSome, where_passed}

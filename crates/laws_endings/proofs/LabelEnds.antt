@@ -13,12 +13,13 @@ use Rattle.definition_inline.specs.Space.{after_white, begins_with_space}
 use Rattle.definition_inline.specs.Label.{ends_label, is_label, label_at}
 use Rattle.definition_inline.specs.Destination.{destination_at}
 use Rattle.definition_inline.specs.Title.{title_at}
-use Rattle.definition_inline.specs.Resource.{LinkResource, resource_end, resource_with_title, opens_title, after_destination, resource_with_destination}
+use Rattle.definition_inline.specs.Resource.{LinkResource, resource_end, opens_title, after_destination}
 use Rattle.definition_inline.specs.Resource.{resource_inside}
 use Rattle.definition_inline.specs.Resource.{resource_at}
 use Rattle.definition_inline.specs.LabelEnd.{LinkTail, link_tail, has_no_bracket, is_label_text, by_text, by_label, by_resource, label_end_at, LinkOrCall}
 use Rattle.definition_inline.specs.LabelEnd.{Leads, Calls, link_or_image}
 use Rattle.definition_inline.specs.GfmLabelStartFootnote.{called_label, call_or_link}
+use Rattle.definition_inline.proofs.PartSteps.{resource_with_title, resource_with_destination}
 use Rattle.laws_endings.specs.Endings.{code_with, codes_with}
 use Rattle.laws_endings.specs.Inlines.{target_with}
 use Rattle.laws_endings.proofs.Codes.{cond-under, same_code, part_with}

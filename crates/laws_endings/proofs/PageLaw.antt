@@ -27,8 +27,9 @@ use Rattle.definition_block.specs.Definitions.{document_definitions}
 use Rattle.definition_inline.specs.Targets.{is_footnote_of}
 use Rattle.definition_page.specs.Page.{Page}
 use Rattle.definition_page.specs.Pieces.{Piece}
-use Rattle.definition_page.specs.Layout.{LayoutState, layout_state, note_of, page_layout}
-use Rattle.definition_page.specs.GfmFootnoteDefinition.{section_pieces}
+use Rattle.definition_page.specs.Layout.{page_layout}
+use Rattle.html_bytes.specs.Layout.{nothing_laid}
+use Rattle.html_bytes.proofs.LayoutSteps.{with_section, steps_same}
 use Rattle.definition_page.specs.InlinePieces.{Meaning}
 use Rattle.definition_page.specs.BlockPieces.{at_top, fresh_unless, children_pieces}
 use Rattle.definition_page.specs.DocumentPieces.{pieces, default_ending}
@@ -45,7 +46,7 @@ use Rattle.laws_endings.proofs.Fits.{Single, Plain, TitleFits}
 use Rattle.laws_endings.proofs.BlockReads.{BlockFits, BlocksFit, blocks_fit}
 use Rattle.laws_endings.proofs.TextLines.{ByteFits, text_lines_fit}
 use Rattle.laws_endings.proofs.Marks.{without_mark-with, kind_before-with}
-use Rattle.laws_endings.proofs.Pieces.{PiecesWith, append-with, laid_out, printed_with}
+use Rattle.laws_endings.proofs.Pieces.{PiecesWith, append-with, laid_out}
 use Rattle.laws_endings.proofs.GfmFootnoteDefinition.{section-with}
 use Rattle.laws_endings.proofs.NoFootnotes.{no_footnotes}
 use Rattle.laws_endings.proofs.Printed.{LinkedFits, linked_with}
@@ -135,10 +136,12 @@ module _ (e : LineEnding) (ds : List Definition) where
 page_layout-with : (e : LineEnding) (options : CompileOptions) (others ones : List Piece) → PiecesWith e options others ones
     → page_layout options (ending_bytes e) others ≡ with_ending e (page_layout options (ending_bytes LineFeed) ones)
 page_layout-with e options others ones p =
-    let both = p.1 (layout_state [] [] [] []) (inl refl) in
-    let l = laid_out e options (layout_state [] [] [] []) ones in
-    let end : LayoutState → List ℕ = λ x. printed_with e options x.text (section_pieces options (map (note_of x.notes) x.called)) in
-    ap end both.0 ∙ (section-with e options l.notes l.called both.1).0 l.text
+    let both = p.1 nothing_laid (inl refl) in
+    let l = laid_out e options nothing_laid ones in
+    steps_same options (ending_bytes e) others
+    ∙ ap (with_section options (ending_bytes e)) both.0
+    ∙ (section-with e options l.notes l.called both.1).0 l.text
+    ∙ sym (ap (with_ending e) (steps_same options (ending_bytes LineFeed) ones))
 
 module _ (e : LineEnding) (tables : TextTables) (options : Options) (bs : tree.Blocks) (fit : BlocksFit bs)
     (notes : (footnotes bs ≡ []) ⊎ HaveNoFeeds options.compile) where

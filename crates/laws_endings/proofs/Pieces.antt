@@ -10,9 +10,10 @@ use Rattle.markdown_options.specs.declared.configuration.CompileOptions.{Compile
 use Rattle.markdown_options.specs.LineEndings.{ending_bytes}
 use Rattle.definition_page.specs.Tags.{PrintedPart, said_bytes, Attribute, attribute_bytes, tag, tag_bytes, start_tag, end_tag, void_tag}
 use Rattle.definition_page.specs.Pieces.{Piece, Open, Close, Void, Says, Eol, Fresh, NoteStart, NoteEnd, is_fresh, print}
-use Rattle.definition_page.specs.Layout.{NoteCalls, LayoutState, layout_state, note_end, lay}
+use Rattle.html_bytes.specs.Layout.{NoteCalls, LayoutState, layout_state, note_end}
 use Rattle.definition_page.specs.InlinePieces.{element}
-use Rattle.definition_page.proofs.PlainLayout.{ArePlain, plain_laid}
+use Rattle.definition_page.proofs.PlainLayout.{ArePlain}
+use Rattle.html_bytes.proofs.LayoutSteps.{lay, plain_laid}
 use Rattle.laws_endings.specs.Endings.{with_ending}
 use Rattle.laws_endings.specs.PageLaws.{HaveNoFeeds}
 use Rattle.laws_endings.proofs.Bytes.{fresh-with}
@@ -79,7 +80,7 @@ module _ (e : LineEnding) where
 
   note_ended-with : (text : List ℕ) (outer notes : List (List ℕ)) (called : List NoteCalls)
       → note_end (with_ending e text) (map (with_ending e) outer) (map (with_ending e) notes) called ≡ laid_with (note_end text outer notes called)
-  note_ended-with text [] notes called = refl
+  note_ended-with text [] notes called = ap (λ all. layout_state [] [] all called) (sym (map-append (with_ending e) notes (text ∷ [])))
   note_ended-with text (around ∷ others) notes called =
       ap (λ all. layout_state (with_ending e around) (map (with_ending e) others) all called) (sym (map-append (with_ending e) notes (text ∷ [])))
 

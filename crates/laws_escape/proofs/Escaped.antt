@@ -2,7 +2,7 @@
 use Rattle.std.proofs.Common.{inl, inr, ◌≡◌, ◌+◌, ◌<◌, ℕ, Bool, true, false, cond, not, ◌&&◌, ◌||◌, List, [], ◌∷◌, ◌++◌, map, Option, None, Some, refl, sym, ap}
 use Rattle.std.proofs.Common.{◌∙◌, length, get_or, drop, arith, subst, append_assoc}
 use Rattle.std.specs.Prelude.{◌==◌, nat_lt, nat_le, codes}
-use Rattle.std.specs.List.{list_all, list_any, flat_map, prefix_len}
+use Rattle.std.specs.List.{list_all, flat_map, prefix_len}
 use Rattle.std.specs.Char.{is_ascii_punctuation, to_ascii_lowercase}
 use Rattle.std.proofs.lemmas.Bool.{cases_Bool, cond-true, cond-false, cond_both, both_ways, and_parts, or_parts, or_from, eqb-true, ne_eqb, ltb-false, not-true}
 use Rattle.std.proofs.lemmas.Grind.{common_steps}
@@ -14,7 +14,7 @@ use Rattle.definition_text.specs.Runs.{run}
 use Rattle.definition_text.specs.Content.{is_eol}
 use Rattle.definition_text.specs.Encode.{encoded_byte, encode}
 use Rattle.definition_text.specs.InlineCode.{InlineCode, codes_of}
-use Rattle.definition_inline.specs.Inline.{InlineLeaf, Data, Escape, Inline, Leaf, Nil, Cons, Found, leaf, or_else}
+use Rattle.definition_inline.specs.Inline.{InlineLeaf, Data, Escape, Leaf, Cons, Found, leaf, or_else}
 use Rattle.definition_inline.specs.CharacterEscape.{escape_at}
 use Rattle.definition_inline.specs.CharacterReference.{reference_after, reference_form, reference_of, reference_at}
 use Rattle.definition_inline.specs.CodeText.{raw_at, code_text_at}

@@ -15,13 +15,12 @@ use Rattle.definition_text.specs.BlockLines.{BlockLine, block_line}
 use Rattle.definition_text.specs.InlineCode.{inline_content}
 use Rattle.definition_block.specs.Tree.{Paragraph, block_and_ending, blocks}
 use Rattle.definition_inline.specs.Scan.{inlines}
-use Rattle.definition_page.specs.Layout.{layout_state}
 use Rattle.definition_inline.specs.Targets.{no_targets}
 use Rattle.definition_page.specs.TextTables.{TextTables}
 use Rattle.html_bytes.specs.Document.{Document, document, reading_of, document_meaning, text_of}
 use Rattle.definition_page.specs.Read.{context_of}
 use Rattle.html_bytes.specs.Html.{default_ending, blocks_html, marked_html}
-use Rattle.html_bytes.specs.Layout.{with_footnotes}
+use Rattle.html_bytes.specs.Layout.{layout_state, with_footnotes}
 use Rattle.html_bytes.specs.Pieces.{Piece, Bytes}
 use Rattle.html_bytes.proofs.SameLayout.{add, add_nil}
 use Rattle.html_bytes.proofs.SamePage.{html_is}

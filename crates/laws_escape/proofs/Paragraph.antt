@@ -12,7 +12,8 @@ use Rattle.definition_text.specs.Lines.{text_line, in_first_line, lines}
 use Rattle.definition_text.specs.BlockLines.{BlockLine, block_line}
 use Rattle.definition_text.specs.Runs.{run}
 use Rattle.definition_inline.specs.Label.{label_at}
-use Rattle.definition_inline.specs.Definition.{with_label, definition_at}
+use Rattle.definition_inline.specs.Definition.{definition_at}
+use Rattle.definition_inline.proofs.PartSteps.{with_label}
 use Rattle.definition_block.specs.ContainerStart.{ContainerStart}
 use Rattle.definition_block.specs.Definitions.{DefinitionCut, cut_into, cut_after, cut_most, definition_cut}
 use Rattle.definition_block.specs.Frontmatter.{is_metadata_fence, after_frontmatter}

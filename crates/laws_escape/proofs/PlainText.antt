@@ -2,11 +2,11 @@
 use Rattle.std.proofs.Common.{◌≡◌, ℕ, ◌+◌, ◌-◌, ◌<◌, suc, zero, List, [], ◌∷◌, ◌++◌, Option, None, Some, Bool, true, false, cond, ◌&&◌, eqb, leb, inl, inr}
 use Rattle.std.proofs.Common.{refl, sym, ap, ◌∙◌, subst, append_assoc, arith, take, drop, length, map}
 use Rattle.std.specs.Prelude.{reverse}
-use Rattle.std.specs.List.{flat_map, fold, list_any, prefix_len, suffix_len}
+use Rattle.std.specs.List.{flat_map, fold, prefix_len, suffix_len}
 use Rattle.std.proofs.Math.Seq.{drop-append_seam}
-use Rattle.std.proofs.lemmas.Bool.{true≢false, both_ways, cases_Bool, cond-true, cond-false, cond_both, and_parts, and_cases, or_from, ne_eqb, eqb-true, le-leb}
+use Rattle.std.proofs.lemmas.Bool.{true≢false, both_ways, cases_Bool, cond-true, cond-false, and_parts, and_cases, or_from, ne_eqb, eqb-true, le-leb}
 use Rattle.std.proofs.lemmas.List.{length-reverse, map-append, reverse-append}
-use Rattle.std.proofs.lemmas.List.Folds.{list_any-append, prefix_len-append}
+use Rattle.std.proofs.lemmas.List.Folds.{prefix_len-append}
 use Rattle.std.proofs.lemmas.List.Sums.{suffix_len-le-length}
 use Rattle.markdown_options.specs.declared.line_ending.LineEnding.{LineEnding}
 use Rattle.markdown_options.specs.declared.line_ending.LineEnding.TheVariants.{CarriageReturnLineFeed, CarriageReturn, LineFeed}

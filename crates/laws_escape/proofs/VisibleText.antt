@@ -28,8 +28,7 @@ use Rattle.definition_block.specs.Frontmatter.{after_frontmatter}
 use Rattle.definition_block.specs.Lists.{put_before, grouped_block, group_items}
 use Rattle.definition_page.specs.Pieces.{is_fresh}
 use Rattle.html_bytes.specs.Pieces.{Piece, Bytes, Fresh, print}
-use Rattle.html_bytes.specs.Layout.{with_text, lay, nothing_laid, with_footnotes, page_layout}
-use Rattle.definition_page.specs.Layout.{LayoutState}
+use Rattle.html_bytes.specs.Layout.{LayoutState, with_text, lay, nothing_laid, with_footnotes, page_layout}
 use Rattle.definition_page.specs.Read.{on_page, ends_blank}
 use Rattle.html_bytes.specs.Html.{silences, block_pieces, children_pieces, last_piece, document_pieces, default_ending, blocks_html, marked_html}
 use Rattle.definition_block.specs.Definitions.{document_targets}

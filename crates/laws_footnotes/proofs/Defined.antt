@@ -25,7 +25,7 @@ use Rattle.definition_page.specs.BlockPieces.{last_visible, ends_plainly, block_
 use Rattle.definition_page.specs.DocumentPieces.{meaning_of}
 use Rattle.definition_page.specs.Page.{Page, Block, Paragraph, Heading, IndentedCode, FencedCode, Html, Table, Quote, ItemList, Item, Footnote, Ending, Blocks}
 use Rattle.definition_page.specs.Page.{Nil, Cons}
-use Rattle.laws_footnotes.specs.Section.{NamedCall, named_call, named_calls}
+use Rattle.definition_page.specs.Layout.{NamedCall, named_call, named_calls}
 use Rattle.laws_footnotes.specs.Defined.{HasDefinition, CallHasDefinitionLaw}
 
 -- ---- labels

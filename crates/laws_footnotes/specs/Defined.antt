@@ -6,7 +6,7 @@ use Rattle.definition_inline.specs.LabelMatch.{normal_label}
 use Rattle.definition_page.specs.TextTables.{TextTables}
 use Rattle.definition_page.specs.Page.{Page}
 use Rattle.definition_page.specs.DocumentPieces.{pieces}
-use Rattle.laws_footnotes.specs.Section.{NamedCall, named_calls}
+use Rattle.definition_page.specs.Layout.{NamedCall, named_calls}
 
 -- this call leads to one of the footnotes with these labels, which has its label, as labels are matched
 abbrev pub HasDefinition : List (List ℕ) → NamedCall → Type 0

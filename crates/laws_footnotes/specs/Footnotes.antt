@@ -1,37 +1,23 @@
 -- Footnotes of a page (in no standard; as GitHub prints them).
-use Rattle.std.specs.Prelude.{◌≡◌, ℕ, suc, Bool, true, false, if◌then◌else◌, ◌==◌, List, [], ◌∷◌, ◌++◌, map}
-use Rattle.std.specs.List.{fold}
+use Rattle.std.specs.Prelude.{◌≡◌, ℕ, zero, suc, Bool, true, false, if◌then◌else◌, ◌==◌, List, [], ◌∷◌, ◌++◌, map, reverse}
+use Rattle.std.specs.List.{count_by}
 use Rattle.markdown_options.specs.declared.configuration.CompileOptions.{CompileOptions}
 use Rattle.definition_page.specs.Pieces.{Piece, CallOf, CountOf, NoteEnd, NoteStart}
-use Rattle.definition_page.specs.Layout.{NoteCalls, LayoutState, layout_state, latest_call, lay, page_layout}
+use Rattle.definition_page.specs.Layout.{NamedCall, named_call, named_calls, first_calls, content, contents, layout, called_footnotes, page_layout}
 
--- the places of the footnotes that these pieces call, in the order of the calls
-abbrev pub calls_of : List Piece → List ℕ
-calls_of [] = []
-calls_of (CallOf place label ∷ ps) = place ∷ calls_of ps
-calls_of (CountOf place label ∷ ps) = place ∷ calls_of ps
-calls_of (piece ∷ ps) = calls_of ps
+-- ---- calls
 
--- the pieces of a page laid out, before its section of footnotes
-abbrev pub laid_out : CompileOptions → List ℕ → List Piece → LayoutState
-laid_out options default ps = fold (lay options default) (layout_state [] [] [] []) ps
-
--- a page that calls no footnote has no section of them: its HTML is its text alone
+-- a page that calls no footnote has no section of them: its HTML is what stands outside of footnotes alone
 abbrev pub NoCallLaw : Type 0
 NoCallLaw =
-    (options : CompileOptions) (default : List ℕ) (ps : List Piece) → calls_of ps ≡ []
-    → page_layout options default ps ≡ (laid_out options default ps).text
+    (options : CompileOptions) (default : List ℕ) (ps : List Piece) → named_calls ps ≡ [] → page_layout options default ps ≡ layout default
+    (content zero (reverse ps))
 
--- how many of these calls name the footnote at a place
-abbrev pub calls_at : ℕ → List ℕ → ℕ
-calls_at place [] = 0
-calls_at place (p ∷ ps) = if p == place then suc (calls_at place ps) else calls_at place ps
-
--- a footnote's count is how many calls name it; so the latest call before the end of these pieces prints that it is that one
+-- a footnote's count is how many calls name it, printed or not
 abbrev pub CountLaw : Type 0
 CountLaw =
-    (options : CompileOptions) (default : List ℕ) (ps : List Piece) (place : ℕ)
-    → (latest_call place 1 (laid_out options default ps).called).count ≡ calls_at place (calls_of ps)
+    (calls : List NamedCall) (notes : List (List ℕ))
+    → map (λ n. n.calls) (called_footnotes calls notes) ≡ map (λ c. count_by (λ k. c.place == k.place) calls) (first_calls calls)
 
 -- the pieces that call footnotes
 abbrev pub only_calls : List Piece → List Piece
@@ -43,24 +29,47 @@ only_calls (piece ∷ ps) = only_calls ps
 -- what is counted of the calls depends on the calls alone, in their order
 abbrev pub CountedCallsLaw : Type 0
 CountedCallsLaw =
-    (options : CompileOptions) (default : List ℕ) (ps : List Piece)
-    → (laid_out options default ps).called ≡ (laid_out options default (only_calls ps)).called
+    (ps : List Piece) (notes : List (List ℕ))
+    → called_footnotes (named_calls ps) notes ≡ called_footnotes (named_calls (only_calls ps)) notes
 
--- the places of the footnotes that are called, by their numbers
-abbrev pub places : List NoteCalls → List ℕ
-places cs = map (λ c. c.place) cs
-
--- this place is among these
-abbrev pub is_among : ℕ → List ℕ → Bool
-is_among place [] = false
-is_among place (p ∷ ps) = if p == place then true else is_among place ps
+-- one of these calls is of the footnote at this place
+abbrev pub is_called : ℕ → List NamedCall → Bool
+is_called place [] = false
+is_called place (c ∷ cs) = if c.place == place then true else is_called place cs
 
 -- a first call gives its footnote the next number, and any other call changes no number: so the numbers are 1, 2, 3 and so on in the order of first calls
 abbrev pub NumberLaw : Type 0
 NumberLaw =
-    (options : CompileOptions) (default : List ℕ) (ps : List Piece) (place : ℕ) (label : List ℕ)
-    → places (laid_out options default (ps ++ CallOf place label ∷ [])).called
-    ≡ (if is_among place (calls_of ps) then places (laid_out options default ps).called else places (laid_out options default ps).called ++ place ∷ [])
+    (ps : List Piece) (place : ℕ) (label : List ℕ)
+    → (let firsts = first_calls (named_calls ps) in
+    first_calls (named_calls (ps ++ CallOf place label ∷ []))
+    ≡ (if is_called place (named_calls ps) then firsts else firsts ++ named_call place label ∷ []))
+
+-- ---- contents
+
+-- where so many footnotes are open, these pieces end them, and each that starts among them
+abbrev pub AreWhole : List Piece → ℕ → Type 0
+AreWhole [] zero = Unit {0}
+AreWhole [] (suc open_notes) = ⊥
+AreWhole (NoteStart ∷ ps) open_notes = AreWhole ps (suc open_notes)
+AreWhole (NoteEnd ∷ ps) zero = ⊥
+AreWhole (NoteEnd ∷ ps) (suc open_notes) = AreWhole ps open_notes
+AreWhole (piece ∷ ps) open_notes = AreWhole ps open_notes
+
+-- a footnote around pieces
+abbrev pub note : List Piece → List Piece
+note ps = NoteStart ∷ ps ++ NoteEnd ∷ []
+
+-- what stands around a footnote goes on as if it weren't there
+abbrev pub AroundLaw : Type 0
+AroundLaw = (before ps : List Piece) (out : ℕ) → AreWhole ps 0 → content out (reverse (note ps) ++ before) ≡ content out before
+
+-- the content of a footnote is what stands between its start and its end, outside of footnotes in it; it comes after those of these, and before those that end
+-- later
+abbrev pub ContentLaw : Type 0
+ContentLaw =
+    (before ps later : List Piece) → AreWhole ps 0
+    → contents before (note ps ++ later) ≡ contents [] ps ++ content zero (reverse ps) ∷ contents (reverse (note ps) ++ before) later
 
 -- these pieces neither start nor end a footnote
 abbrev pub HasNoNote : List Piece → Type 0
@@ -69,9 +78,6 @@ HasNoNote (NoteStart ∷ ps) = ⊥
 HasNoNote (NoteEnd ∷ ps) = ⊥
 HasNoNote (piece ∷ ps) = HasNoNote ps
 
--- the content of a footnote is what was laid out between its start and its end, and it comes after those that ended earlier; the text around it goes on
-abbrev pub ContentLaw : Type 0
-ContentLaw =
-    (options : CompileOptions) (default : List ℕ) (ps : List Piece) (l : LayoutState) → HasNoNote ps
-    → (let inner : LayoutState = fold (lay options default) (layout_state [] (l.text ∷ l.outer) l.notes l.called) ps in
-    fold (lay options default) l (NoteStart ∷ (ps ++ NoteEnd ∷ [])) ≡ layout_state l.text l.outer (l.notes ++ inner.text ∷ []) inner.called)
+-- outside of footnotes stands all of such pieces, and no footnote ends in them
+abbrev pub PlainContentLaw : Type 0
+PlainContentLaw = (ps : List Piece) → HasNoNote ps → AreWhole ps 0 × (content zero (reverse ps) ≡ ps) × (contents [] ps ≡ [])

@@ -1,9 +1,9 @@
 //! Footnotes of a page (in no standard; as GitHub prints them).
 ghost use Rattle.laws_footnotes.specs.Defined.{CallHasDefinitionLaw};
-ghost use Rattle.laws_footnotes.specs.Footnotes.{ContentLaw, CountLaw, CountedCallsLaw, NoCallLaw, NumberLaw};
+ghost use Rattle.laws_footnotes.specs.Footnotes.{AroundLaw, ContentLaw, CountLaw, CountedCallsLaw, NoCallLaw, NumberLaw, PlainContentLaw};
 ghost use Rattle.laws_footnotes.specs.Section.{PrintedCallLaw, SectionLaw};
 
-/// A page that calls no footnote has no section of them: its HTML is its text alone.
+/// A page that calls no footnote has no section of them: its HTML is what stands outside of footnotes alone.
 #[tactic(auto, using(crate::proofs::Called::no_call_law))]
 pub fn no_call_law()
     ensures { NoCallLaw }
@@ -27,10 +27,22 @@ pub fn number_law()
     ensures { NumberLaw }
 {}
 
-/// The content of a footnote with no footnote in it is what was laid out between its start and its end.
+/// What stands around a footnote goes on as if it weren't there.
+#[tactic(auto, using(crate::proofs::Contents::around_law))]
+pub fn around_law()
+    ensures { AroundLaw }
+{}
+
+/// The content of a footnote is what stands between its start and its end, outside of footnotes in it.
 #[tactic(auto, using(crate::proofs::Contents::content_law))]
 pub fn content_law()
     ensures { ContentLaw }
+{}
+
+/// Outside of footnotes stands all of pieces that neither start nor end one.
+#[tactic(auto, using(crate::proofs::Contents::plain_content_law))]
+pub fn plain_content_law()
+    ensures { PlainContentLaw }
 {}
 
 /// A page is its text, and then the section of the footnotes that it calls: each once, in the order of first calls.

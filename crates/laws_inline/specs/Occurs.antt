@@ -22,7 +22,7 @@ abbrev mutual
   has test Nil = false
   has test (Cons i is) = part_has test i || has test is
 
--- a part that a construct makes that is off
+-- a part that a construct makes that is off; so is the check of a task list item, which isn't read with a content, and a line ending of another code
 abbrev pub is_off : Constructs → Inline → Bool
 is_off on i = not (part_may_stand on i)
 

@@ -23,8 +23,8 @@ use Rattle.definition_page.specs.DocumentPieces.{pieces, default_ending}
 use Rattle.definition_page.specs.Read as read
 use Rattle.definition_page.specs.Read.{Reading, on_page, in_container, read_blocks, ends_blank, page_with, read_after}
 use Rattle.definition_page.specs.Html.{html}
-use Rattle.definition_page.specs.Layout.{page_layout}
-use Rattle.definition_page.proofs.PlainLayout.{layout, plain_page}
+use Rattle.definition_page.specs.Layout.{layout, page_layout}
+use Rattle.definition_page.proofs.PlainLayout.{plain_page}
 use Rattle.laws_quote.specs.Quoted.{quote_lines}
 use Rattle.laws_quote.specs.Laws.{quoted_line, quote_of}
 use Rattle.laws_quote.proofs.Tabs.{Tabless-from_All, Tabless-to_All, quoted_tabless}

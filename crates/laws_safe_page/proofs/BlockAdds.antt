@@ -1,8 +1,8 @@
 -- What the blocks of a page print adds a safe page.
 use Rattle.std.proofs.Common.{◌≡◌, ℕ, zero, suc, map, Bool, true, false, eqb, ◌||◌, not, List, [], ◌∷◌, ◌++◌, Option, None, Some, codes, sym, refl, subst, inl}
-use Rattle.std.proofs.Common.{inr}
+use Rattle.std.proofs.Common.{inr, reverse}
 use Rattle.std.specs.Prelude.{slice_index_or}
-use Rattle.std.specs.List.{fold, flat_map}
+use Rattle.std.specs.List.{flat_map}
 use Rattle.std.proofs.lemmas.Bool.{cond_both, or_cases, eqb-true}
 use Rattle.markdown_options.specs.declared.line_ending.LineEnding.{LineEnding}
 use Rattle.markdown_options.specs.declared.line_ending.LineEnding.TheVariants.{CarriageReturnLineFeed, CarriageReturn, LineFeed}
@@ -15,14 +15,15 @@ use Rattle.markdown_options.specs.declared.align_kind.AlignKind.{AlignKind}
 use Rattle.markdown_options.specs.declared.align_kind.AlignKind.TheVariants as kind
 use Rattle.definition_page.specs.GfmTable.{TableRow, Table as TableOf, align_attributes, cell_pieces, cells_pieces, row_pieces, ending_piece, body_row_pieces}
 use Rattle.definition_page.specs.GfmTable.{head_pieces, body_pieces, table_pieces}
-use Rattle.definition_page.specs.Tags.{Words, Number, Tag, tag, bare_tag, attribute}
+use Rattle.definition_page.specs.Tags.{Words, Number, Tag, tag, bare_tag}
 use Rattle.definition_page.specs.Pieces.{Piece, Void, Says, Eol, Fresh}
 use Rattle.definition_page.specs.Page.{Page, Block, Paragraph, Heading, Break, IndentedCode, FencedCode, Html, Table, Definition, Quote, ItemList, Item}
 use Rattle.definition_page.specs.Page.{Footnote, Ending, Blank, Blocks, Nil as NoBlocks, Cons}
 use Rattle.definition_page.specs.InlinePieces.{Meaning, inline_counts, element, inline_pieces}
-use Rattle.definition_page.specs.GfmFootnoteDefinition.{Footnote as NoteWithCalls}
-use Rattle.definition_page.specs.Layout.{layout_state, lay, note_of, page_layout}
-use Rattle.definition_page.specs.BlockPieces.{Place, at_top, inside, code_line, html_line, says}
+use Rattle.definition_page.specs.GfmFootnoteDefinition.{Footnote as NoteWithCalls, section_pieces}
+use Rattle.definition_page.specs.Layout.{named_calls, first_calls, with_calls, content, contents, layout, footnote_of, called_footnotes, page_layout}
+use Rattle.definition_page.proofs.Cuts.{outside_is, insides_are}
+use Rattle.definition_page.specs.BlockPieces.{checkable_attributes, done_attributes, check_tag, check_pieces, Place, at_top, inside, code_line, html_line, says}
 use Rattle.definition_page.specs.BlockPieces.{heading_name, info_attributes, list_tag, is_silent, last_visible, ends_plainly, fresh_unless, fenced_pieces}
 use Rattle.definition_page.specs.BlockPieces.{block_pieces, children_pieces, document_pieces}
 use Rattle.html_safe_page.specs.Table.{start_rows, void_rows}
@@ -30,9 +31,9 @@ use Rattle.html_safe_page.specs.SafePage.{IsSafePage}
 use Rattle.html_safe_page.proofs.Closing.{closed}
 use Rattle.laws_safe_page.specs.SafeHtml.{AreSafe}
 use Rattle.laws_safe_page.proofs.Values.{IsText, IsTextPart, value_spelled}
-use Rattle.laws_safe_page.proofs.Each.{Each, each_map, each_flat_map}
+use Rattle.laws_safe_page.proofs.Each.{Each, each_map, each_mapped, each_flat_map}
 use Rattle.laws_safe_page.proofs.Tags.{IsTag}
-use Rattle.laws_safe_page.proofs.Pieces.{both_after}
+use Rattle.laws_safe_page.proofs.Pieces.{Adds, adds_append}
 use Rattle.laws_safe_page.proofs.Lays.{IsPrinted, Lays, lays_nothing, lays_append, lays_says, lays_void, lays_parts, lays_element, lays_eol, lays_fresh}
 use Rattle.laws_safe_page.proofs.Lays.{lays_note}
 use Rattle.laws_safe_page.proofs.Links.{words_text}
@@ -286,12 +287,17 @@ module _ (default : List ℕ) (ending : IsText default) (m : Meaning) (safe : Ar
 
   pub page_is_safe : (page : Page) → AreReadable page.blocks → IsSafePage (page_layout m.compile default (document_pieces m page))
   page_is_safe page h =
-      let l = fold (lay m.compile default) (layout_state [] [] [] []) (document_pieces m page) in
-      let lines = document_adds page h (layout_state [] [] [] []) in
-      let notes = map (note_of l.notes) l.called in
-      let printed : Each IsPrinted l.notes = subst (Each IsPrinted) (sym lines.notes_after) lines.notes_safe in
+      let ps = document_pieces m page in
+      let calls = named_calls ps in
+      let shown = with_calls m.compile (first_calls calls) [] ps in
+      let lines = document_adds page h (first_calls calls) [] in
+      let around : Adds default (content zero (reverse shown)) = subst (Adds default) (sym (outside_is shown lines.outside lines.insides lines.cut)) lines.outside_adds in
+      let notes = map (layout default) (contents [] shown) in
+      let printed : Each IsPrinted notes = subst (λ cs. Each IsPrinted (map (layout default) cs)) (sym (insides_are shown lines.outside lines.insides lines.cut))
+      (each_mapped (λ c. IsPrinted (layout default c)) IsPrinted (layout default) lines.insides (λ c p. p) lines.insides_safe) in
+      let footnotes = called_footnotes calls notes in
       let section =
-      section_adds default ending m.compile safe notes
-      (each_map (λ (note : NoteWithCalls). IsPrinted note.html) (note_of l.notes) l.called (λ c. note_printed l.notes c.place printed)) in
-      let whole = both_after [] l.text _ lines.within (section l.text) in
+      section_adds default ending m.compile safe footnotes
+      (each_map (λ (note : NoteWithCalls). IsPrinted note.html) (footnote_of calls notes) (first_calls calls) (λ c. note_printed notes c.place printed)) in
+      let whole = adds_append default (content zero (reverse shown)) (section_pieces m.compile footnotes) around section [] in
       subst IsSafePage (sym whole.is_after) whole.is_safe

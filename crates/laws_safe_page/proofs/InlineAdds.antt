@@ -1,5 +1,5 @@
 -- What the inline structure of a content prints adds a safe page.
-use Rattle.std.proofs.Common.{◌≡◌, ℕ, Bool, true, false, cond, Option, None, Some, List, [], ◌∷◌, ◌++◌, map, codes, sym, refl, subst}
+use Rattle.std.proofs.Common.{◌≡◌, ℕ, Bool, true, false, cond, Option, None, Some, List, [], ◌∷◌, ◌++◌, codes, sym, refl, subst}
 use Rattle.std.specs.List.{flat_map}
 use Rattle.std.proofs.lemmas.Bool.{cond_both}
 use Rattle.markdown_options.specs.declared.configuration.CompileOptions.{CompileOptions}
@@ -14,7 +14,7 @@ use Rattle.definition_page.specs.Tags.{Words, AsItIs, EndOfLine, attribute, Tag,
 use Rattle.definition_page.specs.Pieces.{Void, Says}
 use Rattle.definition_page.specs.GfmTaskListItem.{checkable_attributes, done_attributes, check_tag}
 use Rattle.definition_page.specs.InlinePieces.{Meaning, raw_html, HtmlLine, html_text_line, in_first_line, html_lines, html_line_says, later_line_says}
-use Rattle.definition_page.specs.InlinePieces.{html_lines_say, html_says, url_of, link_url, link_tag, image_tag, math_tag, address, literal_address}
+use Rattle.definition_page.specs.InlinePieces.{html_lines_say, html_says, url_of, link_tag, image_tag, math_tag, address, literal_address}
 use Rattle.definition_inline.specs.Targets.{leads_to}
 use Rattle.definition_page.specs.InlinePieces.{leaf_says, part_says, description, call_at, count_at, part_counts, inline_counts, element}
 use Rattle.definition_page.specs.InlinePieces.{address_tag, leaf_pieces, span_name, part_pieces, inline_pieces}

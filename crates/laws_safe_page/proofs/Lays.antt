@@ -1,116 +1,118 @@
--- Pieces of a page with footnotes that, laid out, add a safe page to what was printed, and end footnotes whose contents are safe pages.
-use Rattle.std.proofs.Common.{◌≡◌, ℕ, true, List, [], ◌∷◌, ◌++◌, map, sym, refl, ap, ◌∙◌, subst, append_assoc, append-nil}
-use Rattle.std.specs.List.{fold}
-use Rattle.std.proofs.lemmas.List.Sums.{fold-append}
+-- Pieces of a page with footnotes that add a safe page to what stands around them, and footnotes whose contents are safe pages.
+use Rattle.std.proofs.Common.{◌≡◌, ℕ, suc, true, List, [], ◌∷◌, ◌++◌, map, sym, subst, append-nil}
 use Rattle.markdown_options.specs.declared.configuration.CompileOptions.{CompileOptions}
-use Rattle.definition_page.specs.Tags.{PrintedPart, Tag, start_tag}
-use Rattle.definition_page.specs.Pieces.{Piece, Close, Void, Says, Eol, Fresh, CallOf, CountOf, NoteStart, NoteEnd}
+use Rattle.definition_page.specs.Tags.{PrintedPart, Tag}
+use Rattle.definition_page.specs.Pieces.{Piece, Open, Close, Void, Says, Eol, Fresh, CallOf, CountOf, NoteStart, NoteEnd}
 use Rattle.definition_page.specs.InlinePieces.{element}
 use Rattle.definition_page.specs.GfmLabelStartFootnote.{Call, call_pieces}
-use Rattle.definition_page.specs.Layout.{NoteCalls, once_more, latest_call, LayoutState, layout_state, note_end, lay}
+use Rattle.definition_page.specs.Layout.{NamedCall, named_calls, times, call_of, with_calls, layout}
+use Rattle.definition_page.proofs.PlainLayout.{ArePlain}
+use Rattle.definition_page.proofs.Cuts.{shown_append, Cut, cut_plain, cut_append, cut_note}
 use Rattle.html_safe_page.specs.Table.{start_rows, void_rows}
 use Rattle.html_safe_page.specs.SafePage.{IsSafePage}
 use Rattle.laws_safe_page.proofs.Each.{Each, each-append}
 use Rattle.laws_safe_page.proofs.Values.{has_no_nul, IsText, IsTextPart, AreTextParts}
 use Rattle.laws_safe_page.proofs.Tags.{IsTag}
-use Rattle.laws_safe_page.proofs.Pieces.{IsAfter, Adds, nothing_after, both_after, element_after, adds_says, adds_void, adds_eol, adds_fresh}
+use Rattle.laws_safe_page.proofs.Pieces.{Adds, adds_nothing, adds_append, adds_element, adds_says, adds_void, adds_eol, adds_fresh}
 
 -- a safe page without NUL
 abbrev pub IsPrinted : List ℕ → Type 0
 IsPrinted page = IsSafePage page × (has_no_nul page ≡ true)
 
--- a safe page was laid out after this, and footnotes ended whose contents are such pages
-pub record LaidAfter (l k : LayoutState) : Type 0 where
-  pub within : IsAfter l.text k.text
-  pub around : k.outer ≡ l.outer
-  pub ended : List (List ℕ)
-  pub notes_after : k.notes ≡ l.notes ++ ended
-  pub notes_safe : Each IsPrinted ended
+-- pieces, with what their calls print, that add a safe page outside of footnotes, and whose footnotes are safe pages
+pub record SafeShown (default : List ℕ) (shown : List Piece) : Type 0 where
+  pub outside : List Piece
+  pub insides : List (List Piece)
+  pub cut : Cut shown outside insides
+  pub outside_adds : Adds default outside
+  pub insides_safe : Each (λ c. IsPrinted (layout default c)) insides
 
--- so do pieces, whatever was laid out before
+-- such are pieces, whatever calls come first and before them
 abbrev pub Lays : CompileOptions → List ℕ → List Piece → Type 0
-Lays options default pieces = (l : LayoutState) → LaidAfter l (fold (lay options default) l pieces)
-
--- no footnote ended
-text_alone : (l : LayoutState) (text : List ℕ) (called : List NoteCalls) → IsAfter l.text text → LaidAfter l (layout_state text l.outer l.notes called)
-text_alone l text called p = record { within = p; around = refl; ended = []; notes_after = sym (append-nil l.notes); notes_safe = tt }
+Lays options default pieces = (firsts earlier : List NamedCall) → SafeShown default (with_calls options firsts earlier pieces)
 
 module _ (options : CompileOptions) (default : List ℕ) where
+  -- no footnote is among them
+  safe_plain : (pieces : List Piece) → ArePlain pieces → Adds default pieces → SafeShown default pieces
+  safe_plain pieces are p = record { outside = pieces; insides = []; cut = cut_plain pieces are; outside_adds = p; insides_safe = tt }
+
+  safe_append : (pieces others : List Piece) → SafeShown default pieces → SafeShown default others → SafeShown default (pieces ++ others)
+  safe_append pieces others p q = record {
+    outside = p.outside ++ q.outside;
+    insides = p.insides ++ q.insides;
+    cut = cut_append pieces others p.outside q.outside p.insides q.insides p.cut q.cut;
+    outside_adds = adds_append default p.outside q.outside p.outside_adds q.outside_adds;
+    insides_safe = each-append (λ c. IsPrinted (layout default c)) p.insides q.insides p.insides_safe q.insides_safe;
+  }
+
   pub lays_nothing : Lays options default []
-  lays_nothing l = text_alone l l.text l.called (nothing_after l.text)
+  lays_nothing firsts earlier = safe_plain [] tt (adds_nothing default)
 
   pub lays_append : (pieces others : List Piece) → Lays options default pieces → Lays options default others → Lays options default (pieces ++ others)
-  lays_append pieces others p q l =
-      let k = fold (lay options default) l pieces in
-      let first = p l in
-      let second = q k in
-      let last = fold (lay options default) k others in
-      subst (LaidAfter l) (sym (fold-append (lay options default) l pieces others))
-      (record {
-        within = both_after l.text k.text last.text first.within second.within;
-        around = second.around ∙ first.around;
-        ended = first.ended ++ second.ended;
-        notes_after = second.notes_after ∙ ap (λ x. x ++ second.ended) first.notes_after ∙ append_assoc l.notes first.ended second.ended;
-        notes_safe = each-append IsPrinted first.ended second.ended first.notes_safe second.notes_safe;
-      })
+  lays_append pieces others p q firsts earlier =
+      let later = earlier ++ named_calls pieces in
+      subst (SafeShown default) (sym (shown_append options firsts earlier pieces others))
+      (safe_append (with_calls options firsts earlier pieces) (with_calls options firsts later others) (p firsts earlier) (q firsts later))
 
   pub lays_says : (said : PrintedPart) → IsTextPart said → Lays options default (Says said ∷ [])
-  lays_says said h l = text_alone l _ l.called (adds_says default said h l.text)
+  lays_says said h firsts earlier = safe_plain (Says said ∷ []) (tt, tt) (adds_says default said h)
 
   pub lays_void : (t : Tag) → IsTag void_rows t → Lays options default (Void t ∷ [])
-  lays_void t i l = text_alone l _ l.called (adds_void default t i l.text)
+  lays_void t i firsts earlier = safe_plain (Void t ∷ []) (tt, tt) (adds_void default t i)
 
   pub lays_parts : (parts : List PrintedPart) → AreTextParts parts → Lays options default (map Says parts)
   lays_parts [] h = lays_nothing
   lays_parts (said ∷ others) h = lays_append (Says said ∷ []) (map Says others) (lays_says said h.0) (lays_parts others h.1)
 
   pub lays_element : (t : Tag) (inside : List Piece) → IsTag start_rows t → Lays options default inside → Lays options default (element t inside)
-  lays_element t inside i p l =
-      let start = layout_state (l.text ++ start_tag t) l.outer l.notes l.called in
-      let k = fold (lay options default) start inside in
-      let inner = p start in
-      subst (LaidAfter l) (sym (fold-append (lay options default) start inside (Close t.name ∷ [])))
+  lays_element t inside i p firsts earlier =
+      let shown = with_calls options firsts earlier inside in
+      let within = p firsts earlier in
+      let end = Close t.name ∷ [] in
+      let start : Cut (Open t ∷ []) (Open t ∷ []) [] = cut_plain (Open t ∷ []) (tt, tt) in
+      let last : Cut (shown ++ end) (within.outside ++ end) (within.insides ++ []) =
+      cut_append shown end within.outside end within.insides [] within.cut (cut_plain end (tt, tt)) in
+      subst (λ all. SafeShown default (Open t ∷ all)) (sym (shown_append options firsts earlier inside end))
       (record {
-        within = element_after t l.text k.text i inner.within;
-        around = inner.around;
-        ended = inner.ended;
-        notes_after = inner.notes_after;
-        notes_safe = inner.notes_safe;
+        outside = element t within.outside;
+        insides = within.insides ++ [];
+        cut = cut_append (Open t ∷ []) (shown ++ end) (Open t ∷ []) (within.outside ++ end) [] (within.insides ++ []) start last;
+        outside_adds = adds_element default t within.outside i within.outside_adds;
+        insides_safe = each-append (λ c. IsPrinted (layout default c)) within.insides [] within.insides_safe tt;
       })
 
   -- ---- the default ending, where it is one
 
   module _ (ending : IsText default) where
     pub lays_eol : Lays options default (Eol ∷ [])
-    lays_eol l = text_alone l _ l.called (adds_eol default ending l.text)
+    lays_eol firsts earlier = safe_plain (Eol ∷ []) (tt, tt) (adds_eol default ending)
 
     pub lays_fresh : Lays options default (Fresh ∷ [])
-    lays_fresh l = text_alone l _ l.called (adds_fresh default ending l.text)
+    lays_fresh firsts earlier = safe_plain (Fresh ∷ []) (tt, tt) (adds_fresh default ending)
 
   -- ---- footnotes
 
   pub lays_call : ((call : Call) → Adds default (call_pieces options call)) → (place : ℕ) (label : List ℕ) → Lays options default (CallOf place label ∷ [])
-  lays_call p place label l =
-      let called = once_more place label l.called in
-      text_alone l _ called (p (latest_call place 1 called) l.text)
+  lays_call p place label firsts earlier =
+      let call : Call = call_of place (suc (times place earlier)) 1 firsts in
+      subst (SafeShown default) (sym (append-nil (call_pieces options call)))
+      (safe_plain (call_pieces options call) (tt, (tt, (tt, (tt, (tt, tt))))) (p call))
 
   pub lays_count : (place : ℕ) (label : List ℕ) → Lays options default (CountOf place label ∷ [])
-  lays_count place label l = text_alone l l.text (once_more place label l.called) (nothing_after l.text)
+  lays_count place label = lays_nothing
 
   -- the content of a footnote, which is laid out by itself
   pub lays_note : (inside : List Piece) → Lays options default inside → Lays options default (NoteStart ∷ inside ++ NoteEnd ∷ [])
-  lays_note inside p l =
-      let start = layout_state [] (l.text ∷ l.outer) l.notes l.called in
-      let k = fold (lay options default) start inside in
-      let inner = p start in
-      let content : IsPrinted k.text = subst IsPrinted (sym inner.within.is_after) (inner.within.is_safe, inner.within.no_nul) in
-      let ended : LaidAfter l (layout_state l.text l.outer (k.notes ++ k.text ∷ []) k.called) =
-      record {
-        within = nothing_after l.text;
-        around = refl;
-        ended = inner.ended ++ k.text ∷ [];
-        notes_after = ap (λ x. x ++ k.text ∷ []) inner.notes_after ∙ append_assoc l.notes inner.ended (k.text ∷ []);
-        notes_safe = each-append IsPrinted inner.ended (k.text ∷ []) inner.notes_safe (content, tt);
-      } in
-      subst (LaidAfter l) (sym (fold-append (lay options default) start inside (NoteEnd ∷ [])))
-      (subst (λ outer. LaidAfter l (note_end k.text outer k.notes k.called)) (sym inner.around) ended)
+  lays_note inside p firsts earlier =
+      let shown = with_calls options firsts earlier inside in
+      let within = p firsts earlier in
+      let content = within.outside_adds [] in
+      let printed : IsPrinted (layout default within.outside) = subst IsPrinted (sym content.is_after) (content.is_safe, content.no_nul) in
+      subst (λ all. SafeShown default (NoteStart ∷ all)) (sym (shown_append options firsts earlier inside (NoteEnd ∷ [])))
+      (record {
+        outside = [];
+        insides = within.insides ++ within.outside ∷ [];
+        cut = cut_note shown within.outside within.insides within.cut;
+        outside_adds = adds_nothing default;
+        insides_safe = each-append (λ c. IsPrinted (layout default c)) within.insides (within.outside ∷ []) within.insides_safe (printed, tt);
+      })

@@ -22,7 +22,7 @@ use Rattle.definition_page.specs.Page.{cons_ending, cons_blank}
 use Rattle.definition_page.specs.Read.{Reading, Standing, on_page, in_container, in_item, next_standing, context_of, text_content, read_text, checked_text}
 use Rattle.definition_page.specs.Read.{read_paragraph, read_cell, read_row, without_ending, after_code, read_block, read_blocks, read}
 use Rattle.definition_page.specs.TextTables.{TextTables}
-use Rattle.laws_safe_page.proofs.BlockAdds.{CellsEndLines, RowsEndLines, IsReadable, AreReadable}
+use Rattle.laws_safe_page.proofs.BlockAdds.{CellsEndLines, RowsEndLines, AreReadable}
 use Rattle.laws_safe_page.proofs.BlockReads.{IsRanked, AreRanked, ranked_join, blocks_are_ranked}
 use Rattle.laws_safe_page.proofs.InlineAdds.{LeafEndsLine, EndsLines, AllEndLines}
 use Rattle.laws_safe_page.proofs.InlineReads.{from_ends, inlines_end}

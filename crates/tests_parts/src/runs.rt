@@ -1,4 +1,4 @@
-//! Runs of `*`, `_` and `~`: what each becomes.
+//! Runs of `*`, `_`, `~` and `=`: what each becomes.
 use inline_runs::{Pairing, Run, RunSpans, Span, pair_runs};
 use markdown_options::{Kind, ParseOptions};
 use std::alloc::{AllocError, Global};
@@ -28,17 +28,18 @@ fn closing(marker: u8, size: usize) -> Run {
     run_between(marker, size, Kind::Other, Kind::Whitespace)
 }
 
-/// Adds what a run becomes: for each span that ends `)`, of strong emphasis `]` and of strikethrough `}`,
-/// for each byte of text `.`, for each span that starts `(`, `[` or `{`, and a space.
+/// Adds what a run becomes: for each span that ends `)`, of strong emphasis `]`, of strikethrough `}`
+/// and of marked text `>`, for each byte of text `.`, for each span that starts `(`, `[`, `{` or `<`,
+/// and a space.
 fn push_run(shape: &mut String, spans: &RunSpans<'_>, marker: u8) -> Result<(), AllocError> {
     for pair in spans.closed {
-        shape.push_str(mark(pair.span(marker), [")", "]", "}"]))?;
+        shape.push_str(mark(pair.span(marker), [")", "]", "}", ">"]))?;
     }
     for _ in 0..spans.text {
         shape.push_str(".")?;
     }
     for pair in spans.opened {
-        shape.push_str(mark(pair.span(marker), ["(", "[", "{"]))?;
+        shape.push_str(mark(pair.span(marker), ["(", "[", "{", "<"]))?;
     }
     shape.push_str(" ")
 }
@@ -73,11 +74,12 @@ fn first_other<'a>(
     Ok(None)
 }
 
-fn mark(span: Span, marks: [&'static str; 3]) -> &'static str {
+fn mark(span: Span, marks: [&'static str; 4]) -> &'static str {
     match span {
         Span::Emphasis => marks[0],
         Span::Strong => marks[1],
         Span::Strikethrough => marks[2],
+        Span::Mark => marks[3],
     }
 }
 
@@ -95,6 +97,24 @@ fn spans(rt: HostRuntime) -> Result<(), Fail> {
         (&[star, both(b'*', 2), end], "( .. ) "),
         (&[opening(b'*', 2), both(b'*', 1), end], ".. ( ) "),
         (&[both(b'*', 1)], ". "),
+    ];
+    let other = first_other(rt.alloc(), &cases)?;
+    assert!(rt; other.is_none(), "{other:?}");
+    Ok(())
+}
+
+/// `==a==`, `=a=`, `===a===`, `==a=`, `==a~~` and `==a==b==`.
+#[test]
+fn marked_text(rt: HostRuntime) -> Result<(), Fail> {
+    let start = opening(b'=', 2);
+    let end = closing(b'=', 2);
+    let cases: [(&[Run], &str); 6] = [
+        (&[start, end], "< > "),
+        (&[opening(b'=', 1), closing(b'=', 1)], ". . "),
+        (&[opening(b'=', 3), closing(b'=', 3)], "... ... "),
+        (&[start, closing(b'=', 1)], ".. . "),
+        (&[start, closing(b'~', 2)], ".. .. "),
+        (&[start, both(b'=', 2), end], "< > .. "),
     ];
     let other = first_other(rt.alloc(), &cases)?;
     assert!(rt; other.is_none(), "{other:?}");

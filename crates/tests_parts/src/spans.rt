@@ -5,7 +5,7 @@ use markdown_options::{Kind, ParseOptions};
 use std::alloc::{AllocError, Global};
 use std::test::Fail;
 
-/// A row as a mark: the start of a span `(`, `[` or `{`, the end of one `)`, or its text.
+/// A row as a mark: the start of a span `(`, `[`, `{` or `<`, the end of one `)`, or its text.
 fn mark<'a>(row: &InlineRow<'a>) -> &'a str {
     match row {
         InlineRow::Text(text) => text,
@@ -13,6 +13,7 @@ fn mark<'a>(row: &InlineRow<'a>) -> &'a str {
         InlineRow::EnterSpan(Span::Emphasis) => "(",
         InlineRow::EnterSpan(Span::Strong) => "[",
         InlineRow::EnterSpan(Span::Strikethrough) => "{",
+        InlineRow::EnterSpan(Span::Mark) => "<",
         InlineRow::Exit => ")",
         _ => "?",
     }

@@ -1,10 +1,13 @@
-use Rattle.std.proofs.Common.{◌+◌, List, drop, ap, sym, ◌∙◌}
+use Rattle.std.proofs.Common.{◌≡◌, ◌+◌, ◌≤◌, List, drop, ap, sym, ◌∙◌, length, arith}
 use Rattle.std.specs.List.{fold}
-use Rattle.std.proofs.lemmas.List.{at_drop_more}
-use Rattle.definition_inline.specs.Pairing.{next_run, placed_from}
-use Rattle.inline_runs.specs.View.{runs_view}
+use Rattle.std.proofs.lemmas.Grind.{common_steps}
+use Rattle.std.proofs.lemmas.List.{at_drop_more, at_drop_all}
+use Rattle.definition_inline.specs.Pairing.{placed_from, pairs}
+use Rattle.inline_runs.specs.FoundPairs.{Pairing as PairingOf, next_run}
+use Rattle.inline_runs.specs.View.{runs_view, pairs_view}
 use Rattle.inline_runs.specs.Paired.{state}
 use Rattle.inline_runs.specs.declared.run.Run.{Run}
+use Rattle.inline_runs.proofs.FoundPairs.{found_are_pairs}
 use Rattle.inline_runs.proofs.pairing.pair_runs.Goals as goal
 
 pub loop-place-preserved : goal.loop-place-preserved
@@ -19,3 +22,13 @@ loop-place-preserved g c =
           ∙ c.loop-place.invariant.same;
       sound = c.in_ok-next_run.ensures.sound;
     }
+
+pub returns : goal.returns
+returns g c =
+    let runs = c.args.runs.now in
+    let place = c.loop-place.place in
+    let past : length runs ≤ place = omega (arith, c.loop-place-test.false) in
+    let all = at_drop_all (λ (rs : List Run). fold next_run (state c.loop-place.pairing) (placed_from place (runs_view rs))) runs place past in
+    let found : pairs_view c.loop-place.pairing.pairs.pairs.items ≡ pairs (runs_view runs) =
+    ap (λ (s : PairingOf). s.pairs) (sym all ∙ c.loop-place.invariant.same) ∙ found_are_pairs (runs_view runs) in
+    grind (arith, common_steps, found)

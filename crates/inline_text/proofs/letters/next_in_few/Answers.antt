@@ -15,6 +15,6 @@ returns-then-run-lt-LANES c =
 
 pub returns : goal.returns
 returns c =
-    subst (IsStop true false c.args.set c.args.bytes.now) (sym c.end_before.ensures)
+    subst (IsStop true c.args.set c.args.bytes.now) (sym c.end_before.ensures)
     (few_end c.args.set c.args.bytes.now c.ends.result c.ends-2.result c.lanes_before-run.result c.if-bytes-le-END_SIZE.false c.requires
     c.ends.ensures c.ends-2.ensures c.lanes_before-run.ensures c.if-run-lt-LANES.false)

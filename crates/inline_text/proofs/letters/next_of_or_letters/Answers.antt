@@ -27,7 +27,7 @@ returns-then-run-lt-LANES-2 c =
 
 pub returns : goal.returns
 returns c =
-    subst (IsStop true false c.args.set c.args.bytes.now) (sym c.end_before.ensures)
+    subst (IsStop true c.args.set c.args.bytes.now) (sym c.end_before.ensures)
     (at_end c.args.set c.args.bytes.now (λ k lt. elim (cases_lt k c.by_block.at) [
       | inl before ↦ c.by_block.invariant.1 k before
       | inr after ↦

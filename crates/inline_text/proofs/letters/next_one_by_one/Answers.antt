@@ -14,7 +14,7 @@ loop-at-preserved c =
         | inl before ↦ c.loop-at.invariant.1 k before
         | inr after ↦
             let here : k ≡ at = omega (arith, lt, after) in
-            ap (stops_at true false c.args.set bytes) here
+            ap (stops_at true c.args.set bytes) here
             ∙ or_from (holds c.args.set (get_or bytes at 0)) (are_letters (get_or bytes at 0) (get_or bytes (at + 1) 0)) (sym c.if-passes.ensures)
             (sym c.if-are_letters.ensures)
       ],
@@ -22,5 +22,5 @@ loop-at-preserved c =
 
 pub returns : goal.returns
 returns c =
-    subst (IsStop true false c.args.set c.args.bytes.now) (sym c.end_before.ensures)
+    subst (IsStop true c.args.set c.args.bytes.now) (sym c.end_before.ensures)
     (at_end c.args.set c.args.bytes.now (λ k lt. c.loop-at.invariant.1 k (omega (arith, lt, c.loop-at-test.false))))

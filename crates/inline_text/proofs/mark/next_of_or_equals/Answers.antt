@@ -1,6 +1,6 @@
 use Rattle.std.proofs.Common.{true, ◌≡◌, sym, ap, ◌∙◌, arith, inl, inr}
 use Rattle.std.proofs.lemmas.Bool.{cases_lt}
-use Rattle.inline_text.specs.Letters.{stops_at}
+use Rattle.inline_text.specs.Mark.{stops_with}
 use Rattle.inline_text.proofs.mark.next_of_or_equals.Goals as goal
 
 pub loop-at-preserved : goal.loop-at-preserved
@@ -11,6 +11,6 @@ loop-at-preserved c =
         | inl before ↦ c.loop-at.invariant.1 k before
         | inr after ↦
             let here : k ≡ at = omega (arith, lt, after) in
-            ap (stops_at c.args.has_literals true c.args.set c.args.bytes.now) here ∙ sym c.stops_at.ensures ∙ c.if-stops_at.false
+            ap (stops_with c.args.has_literals true c.args.set c.args.bytes.now) here ∙ sym c.stops_at.ensures ∙ c.if-stops_at.false
       ],
     )

@@ -8,21 +8,20 @@ use Rattle.inline_text.proofs.plain.text_front.Goals.{else-stop-bytes-via-then-s
 pub returns-then-not-is_ending : goal.returns-then-not-is_ending
 returns-then-not-is_ending c =
     let bytes = c.args.bytes.now in
-    let m = c.args.has_marks in
     let stop = c.next_start-stop.result.size in
     let first = c.next_start-stop.ensures.start in
-    let is : IsText m bytes stop = stop_text c.args.has_literals m bytes stop first c.if-stop-bytes.true (sym c.if-not-is_ending.ensures) in
+    let is : IsText bytes stop = stop_text c.args.has_literals c.args.has_marks bytes stop first c.if-stop-bytes.true (sym c.if-not-is_ending.ensures) in
     record {
       within = first.within;
       text = is.text;
       plain = is.plain;
       bare = first.bare;
-      stops = λ lt. elim (first_stops c.args.has_literals m bytes stop first lt) [
-        | inl h ↦ inl (text_stops m bytes stop is h)
-        | inr may ↦ inr may
+      stops = λ lt. elim (first_stops c.args.has_literals c.args.has_marks bytes stop first lt) [
+        | inl h ↦ inl (text_stops bytes stop is h)
+        | inr more ↦ inr more
       ];
-      ascii = λ lt. first_ascii c.args.has_literals m bytes stop first (c.type_inv.bytes stop) lt;
-      ending = text_end m bytes stop is;
+      ascii = λ lt. first_ascii c.args.has_literals c.args.has_marks bytes stop first (c.type_inv.bytes stop) lt;
+      ending = text_end bytes stop is;
       verbatim = c.next_start-stop.ensures.verbatim;
     }
 
@@ -32,11 +31,10 @@ without_white-requires c = c.next_start-stop.ensures.start.within
 pub returns : goal.returns
 returns c =
     let bytes = c.args.bytes.now in
-    let m = c.args.has_marks in
     let stop = c.next_start-stop.result.size in
     let first = c.next_start-stop.ensures.start in
     let size = c.without_white.result in
-    let is : IsText m bytes size = dark_text c.args.has_literals m bytes stop first size c.without_white.ensures.within c.without_white.ensures.dark in
+    let is : IsText bytes size = dark_text c.args.has_literals c.args.has_marks bytes stop first size c.without_white.ensures.within c.without_white.ensures.dark in
     let ending : stop < length bytes → is_eol (get_or bytes stop 0) ≡ true = λ inside. elim c.else-stop-bytes.branch [
       | else-stop-bytes-via-then-stop-bytes+else-not-is_ending w ↦ sym w.if-not-is_ending.ensures
       | else-stop-bytes-via-else-stop-bytes w ↦ absurd (omega (arith, w.if-stop-bytes.false, inside))
@@ -46,10 +44,10 @@ returns c =
       within = is.within;
       text = is.text;
       plain = is.plain;
-      bare = λ on k lt. first.bare on k (omega (arith, lt, c.without_white.ensures.within));
+      bare = λ k lt. first.bare k (omega (arith, lt, c.without_white.ensures.within));
       stops = λ lt.
-          inl (text_stops m bytes size is (white_stops m bytes size stop lt c.without_white.ensures.within first.within c.without_white.ensures.white ending));
+          inl (text_stops bytes size is (white_stops bytes size stop lt c.without_white.ensures.within first.within c.without_white.ensures.white ending));
       ascii = ascii;
-      ending = text_end m bytes size is;
+      ending = text_end bytes size is;
       verbatim = λ is k lt. c.next_start-stop.ensures.verbatim is k (omega (arith, lt, c.without_white.ensures.within));
     }

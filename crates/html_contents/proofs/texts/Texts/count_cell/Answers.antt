@@ -4,9 +4,11 @@ use Rattle.std.specs.Prelude.{OnOk}
 use Rattle.definition_inline.specs.Scan.{inlines}
 use Rattle.definition_page.specs.GfmTable.{in_cell}
 use Rattle.text_pieces.specs.Pieces.{piece_line}
-use Rattle.html_bytes.specs.Document.{context_of, meaning_of}
-use Rattle.html_bytes.specs.InlineHtml.{inline_counts}
+use Rattle.definition_page.specs.InlinePieces.{inline_counts}
+use Rattle.definition_page.specs.Read.{context_of}
+use Rattle.html_bytes.specs.Document.{reading_of, document_meaning}
 use Rattle.html_bytes.specs.Layout.{lay}
+use Rattle.html_bytes.specs.Pieces.{in_bytes}
 use Rattle.html_footnotes.specs.Output.{output_view}
 use Rattle.html_contents.specs.Texts.{document_by}
 use Rattle.html_contents.proofs.Contents.{line_alone}
@@ -21,7 +23,7 @@ returns g c = λ ds known plain default.
     subst (λ content. OnOk c.count_content.result
     (output_view c.count_content.new.out
     ≡ fold (lay texts.options.now.compile default) (output_view c.args.out.now)
-    (inline_counts (meaning_of d) (in_cell (inlines (context_of d) content)))))
+    (in_bytes (inline_counts (document_meaning d) (in_cell (inlines (context_of (reading_of d)) content))))))
     (c.content-content.ensures is_punctuation ∙ c.in_ok-join.ensures is_punctuation cell.after plain
     ∙ line_alone is_punctuation cell.after (piece_line cell.line))
     (c.count_content.ensures ds known default)

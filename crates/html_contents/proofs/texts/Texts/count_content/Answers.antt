@@ -1,5 +1,6 @@
 use Rattle.std.proofs.Common.{ap, ◌∙◌}
-use Rattle.html_bytes.specs.Document.{context_of, document}
+use Rattle.definition_page.specs.Read.{context_of}
+use Rattle.html_bytes.specs.Document.{document, reading_of}
 use Rattle.definition_inline.specs.Scan.{inlines, inlines_from}
 use Rattle.definition_inline.specs.Targets.{linked_at, linked_by}
 use Rattle.inline_content.specs.View.{content_view}
@@ -17,10 +18,10 @@ returns g c = λ ds known default.
     let texts = c.args.self.now in
     let is_punctuation = g.T.Tables.punctuation_of texts.tables.now in
     let d = document texts.options.now (text_tables (g.T.Tables.reference_of texts.tables.now) is_punctuation) ds in
-    c.count_rows.ensures (linked_by ds.definitions) ds.footnotes default (inlines (context_of d) (content_view is_punctuation c.args.content))
+    c.count_rows.ensures (linked_by ds.definitions) ds.footnotes default (inlines (context_of (reading_of d)) (content_view is_punctuation c.args.content))
     known.has_labels.noted
     (ap (rows_view (place_target texts.links.now)) c.as_slice.ensures
     ∙ same_rows (place_target texts.links.now) (linked_at ds.definitions) (same_place texts.links.now ds.definitions known.leads)
     (found_rows c.in_ok-found.found)
     ∙ c.in_ok-found.ensures ds known.has_labels
-    ∙ ap (λ v. inline_rows (leads_to (linked_by ds.definitions)) (inlines_from (context_of d) v)) (c.content_start.ensures.view is_punctuation))
+    ∙ ap (λ v. inline_rows (leads_to (linked_by ds.definitions)) (inlines_from (context_of (reading_of d)) v)) (c.content_start.ensures.view is_punctuation))

@@ -4,8 +4,8 @@ use Rattle.std.specs.Prelude.{OnOk}
 use Rattle.definition_inline.specs.Scan.{inlines}
 use Rattle.definition_page.specs.GfmTable.{in_cell}
 use Rattle.text_pieces.specs.Pieces.{piece_line}
-use Rattle.html_bytes.specs.Document.{context_of, meaning_of}
-use Rattle.html_bytes.specs.InlineHtml.{inline_pieces}
+use Rattle.definition_page.specs.Read.{context_of}
+use Rattle.html_bytes.specs.Document.{reading_of, structure_pieces}
 use Rattle.html_bytes.specs.Layout.{lay}
 use Rattle.html_footnotes.specs.Output.{output_view}
 use Rattle.html_contents.specs.Texts.{document_by}
@@ -21,6 +21,6 @@ returns g c = λ ds known plain default.
     subst (λ content. OnOk c.push_lines.result
     (output_view c.push_lines.new.out
     ≡ fold (lay texts.options.now.compile default) (output_view c.args.out.now)
-    (inline_pieces (meaning_of d) (in_cell (inlines (context_of d) content)))))
+    (structure_pieces d (in_cell (inlines (context_of (reading_of d)) content)))))
     (line_alone is_punctuation cell.after (piece_line cell.line))
     (c.push_lines.ensures ds known plain default)

@@ -3,8 +3,8 @@ use Rattle.std.specs.List.{fold}
 use Rattle.definition_text.specs.Content.{content_codes}
 use Rattle.definition_inline.specs.GfmTaskListItem.{check_size}
 use Rattle.definition_inline.specs.Scan.{inlines_from, without_indent}
-use Rattle.html_bytes.specs.Document.{context_of, meaning_of}
-use Rattle.html_bytes.specs.InlineHtml.{inline_pieces}
+use Rattle.definition_page.specs.Read.{context_of}
+use Rattle.html_bytes.specs.Document.{reading_of, structure_pieces}
 use Rattle.html_bytes.specs.Layout.{lay, with_text}
 use Rattle.html_footnotes.specs.Output.{output_view}
 use Rattle.html_contents.specs.Texts.{document_by}
@@ -38,7 +38,7 @@ returns-in_ok-push_check-in-Some g c = λ ds known default.
     let place = c.content_start-start.ensures.place in
     let out = output_view c.args.out.now in
     let after = view_at p content check.after.now in
-    let text = inline_pieces (meaning_of d) (inlines_from (context_of d) after) in
+    let text = structure_pieces d (inlines_from (context_of (reading_of d)) after) in
     let next = after_next start check.after.now c.in-Some.ensures.place.after in
     let rest : drop check_size (view_at p content start) ≡ after =
     sym (ap (λ n. drop n (view_at p content start)) c.in-Some.ensures.place.size) ∙ view_next p content start check.after.now place next in

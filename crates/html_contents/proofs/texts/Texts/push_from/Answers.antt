@@ -1,5 +1,6 @@
 use Rattle.std.proofs.Common.{sym, ap, ◌∙◌}
-use Rattle.html_bytes.specs.Document.{context_of, document}
+use Rattle.definition_page.specs.Read.{context_of}
+use Rattle.html_bytes.specs.Document.{document, reading_of}
 use Rattle.definition_inline.specs.Scan.{inlines_from}
 use Rattle.definition_inline.specs.Targets.{linked_at, linked_by}
 use Rattle.definition_page.specs.TextTables.{text_tables}
@@ -16,7 +17,7 @@ returns-in-Alone g c = λ ds known default.
     let is_punctuation = g.T.Tables.punctuation_of texts.tables.now in
     let d = document texts.options.now (text_tables (g.T.Tables.reference_of texts.tables.now) is_punctuation) ds in
     let at = place_target texts.links.now in
-    c.push_alone.ensures (linked_by ds.definitions) ds.footnotes default (inlines_from (context_of d) (view_at is_punctuation c.args.content c.args.start.now))
+    c.push_alone.ensures (linked_by ds.definitions) ds.footnotes default (inlines_from (context_of (reading_of d)) (view_at is_punctuation c.args.content c.args.start.now))
     known.has_labels.noted
     (ap (rows_view at) (ap found_rows (sym c.in-Alone.is))
     ∙ same_rows at (linked_at ds.definitions) (same_place texts.links.now ds.definitions known.leads) (found_rows c.in_ok-found.found)
@@ -28,7 +29,7 @@ returns g c = λ ds known default.
     let is_punctuation = g.T.Tables.punctuation_of texts.tables.now in
     let d = document texts.options.now (text_tables (g.T.Tables.reference_of texts.tables.now) is_punctuation) ds in
     let at = place_target texts.links.now in
-    c.push_rows.ensures (linked_by ds.definitions) ds.footnotes default (inlines_from (context_of d) (view_at is_punctuation c.args.content c.args.start.now))
+    c.push_rows.ensures (linked_by ds.definitions) ds.footnotes default (inlines_from (context_of (reading_of d)) (view_at is_punctuation c.args.content c.args.start.now))
     known.has_labels.noted
     (ap (rows_view at) c.as_slice.ensures
     ∙ same_rows at (linked_at ds.definitions) (same_place texts.links.now ds.definitions known.leads) (found_rows c.in_ok-found.found)

@@ -16,9 +16,9 @@ literal_or_run-requires-clause-first g c =
     let source = c.args.source.now in
     let rest = c.args.self.now.rest.now in
     let n = c.front_of-front.result.size in
-    let stops = texts.nothing_is_text source.options.now.constructs.mark _ rest n (omega (arith, c.if-front-gt0.false)) c.requires.some c.front_of-front.ensures.front.stops in
+    let stops = texts.nothing_is_text _ _ rest n (omega (arith, c.if-front-gt0.false)) c.requires.some c.front_of-front.ensures.front.stops in
     follow.single_of rest c.front_of-front.ensures.utf8 c.requires.some
-    (texts.stopped source.options.now.constructs.mark source.options.now (g.T.Tables.reference_of source.tables.now) rest c.requires.some stops
+    (texts.stopped _ _ source.options.now (g.T.Tables.reference_of source.tables.now) rest c.requires.some stops
     (sym c.in_ok-leaf.ensures.read ∙ ap (found_leaf rest) c.in-None.is))
 
 pub returns-in-Some-clause-read : goal.returns-in-Some-clause-read

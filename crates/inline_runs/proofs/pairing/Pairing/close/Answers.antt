@@ -1,7 +1,8 @@
 use Rattle.std.proofs.Common.{◌≡◌, ℕ, List, ◌-◌, ◌≤◌, ◌<◌, sym, ap, ◌∙◌, arith, true, subst, slice_index_or}
-use Rattle.definition_inline.specs.Pairing.{OpenRun as PlacedOf, is_eligible, taken_by, up_to_nearest}
-use Rattle.definition_inline.proofs.NearestOpener.{nearest_eligible}
-use Rattle.definition_inline.proofs.ClosingRuns.{takes_some, takes_left, takes_opener}
+use Rattle.definition_inline.specs.Pairing.{OpenRun as PlacedOf, is_eligible, taken_by}
+use Rattle.inline_runs.specs.FoundPairs.{up_to_nearest}
+use Rattle.inline_runs.proofs.NearestOpener.{nearest_eligible}
+use Rattle.definition_inline.proofs.PairBytes.{takes_some, takes_left, takes_opener}
 use Rattle.inline_runs.specs.View.{bytes_by}
 use Rattle.inline_runs.specs.Floors.{placed_view, openers_view}
 use Rattle.inline_runs.proofs.pairing.Pairing.close.Goals as goal

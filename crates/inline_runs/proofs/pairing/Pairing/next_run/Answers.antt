@@ -1,8 +1,10 @@
 use Rattle.std.proofs.Common.{◌≡◌, ◌<◌, ◌++◌, List, sym, ap, ap₂, ◌∙◌, arith, subst}
 use Rattle.std.proofs.lemmas.Result.{on_ok_weaker}
-use Rattle.definition_inline.specs.Pairing.{OpenRun as PlacedOf, Pairing as PairingOf, Pair as PairOf, pairing, next_run, with_pair, nearest, taken_by}
-use Rattle.definition_inline.specs.Pairing.{up_to_nearest, without, openers_of}
-use Rattle.definition_inline.proofs.ClosingRuns.{next_run_pairs, next_run_opens}
+use Rattle.definition_inline.specs.Pairing.{OpenRun as PlacedOf, Pair as PairOf, taken_by}
+use Rattle.inline_runs.specs.FoundPairs.{Pairing as PairingOf, pairing, next_run, with_pair, nearest}
+use Rattle.definition_inline.specs.Pairing.{without, openers_of}
+use Rattle.inline_runs.specs.FoundPairs.{up_to_nearest}
+use Rattle.inline_runs.proofs.ClosingRuns.{next_run_pairs, next_run_opens}
 use Rattle.inline_runs.specs.View.{pairs_view}
 use Rattle.inline_runs.specs.Floors.{placed_view, openers_view}
 use Rattle.inline_runs.specs.Paired.{state, IsSound}

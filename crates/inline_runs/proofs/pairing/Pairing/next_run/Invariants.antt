@@ -1,5 +1,5 @@
 use Rattle.std.proofs.Common.{◌≡◌}
-use Rattle.definition_inline.specs.Pairing.{next_run}
+use Rattle.inline_runs.specs.FoundPairs.{next_run}
 use Rattle.inline_runs.specs.Floors.{placed_view}
 use Rattle.inline_runs.specs.Paired.{state, IsSound}
 use Rattle.inline_runs.proofs.pairing.Pairing.next_run.Given as goal

@@ -1,21 +1,11 @@
 -- What a run closes, pair by pair.
 use Rattle.std.proofs.Common.{inl, inr, ◌≡◌, ℕ, zero, suc, ◌-◌, ◌<◌, ◌≤◌, true, false, refl, sym, ap, ◌∙◌, arith}
 use Rattle.std.specs.Prelude.{◌==◌}
-use Rattle.std.proofs.lemmas.Grind.{common_steps}
 use Rattle.std.proofs.lemmas.Bool.{cases_lt, eq-eqb, ne_eqb}
-use Rattle.definition_inline.specs.Pairing.{OpenRun, Pairing, is_eligible, taken_by, without, with_opener, with_pair, up_to_nearest, nearest, pair_or_open}
-use Rattle.definition_inline.specs.Pairing.{close, next_run}
-use Rattle.definition_inline.proofs.NearestOpener.{nearest_eligible}
-
--- an eligible pair takes something, and no more than is left
-pub takes_some : (o c : OpenRun) → is_eligible o c ≡ true → 0 < taken_by o c
-takes_some o c h = grind (arith, common_steps)
-
-pub takes_left : (o c : OpenRun) → is_eligible o c ≡ true → taken_by o c ≤ c.run.left
-takes_left o c h = grind (arith, common_steps)
-
-pub takes_opener : (o c : OpenRun) → is_eligible o c ≡ true → taken_by o c ≤ o.run.left
-takes_opener o c h = grind (arith, common_steps)
+use Rattle.definition_inline.specs.Pairing.{OpenRun, taken_by, without}
+use Rattle.definition_inline.proofs.PairBytes.{takes_some, takes_left}
+use Rattle.inline_runs.specs.FoundPairs.{Pairing, with_opener, with_pair, up_to_nearest, nearest, pair_or_open, close, next_run}
+use Rattle.inline_runs.proofs.NearestOpener.{nearest_eligible}
 
 -- something is left of a run that closes something
 pub some_left : (s : Pairing) (c : OpenRun) → 0 < up_to_nearest s.openers c → c.run.left ≤ 0 → ⊥
