@@ -23,7 +23,7 @@ PROGRAM = os.path.join(CRATE, "out", "tests_events")
 TEXTS = [
     "", "a", "---\na\n---\n", "> a\n>b", "> *a*\n> b", "1. a\n2. b", "- a\n\n  b\n- c", "[^a]: b\n\n[^a]", "    a\n    b",
     "``` a b\nc\n```", "~~~\na", "$$ a\nb\n$$", "<div>\na", "a <b\nc> d", "***", "[a]: <b> 'c'\n\n[a]", "[a]\n\n[a]: b", "# a #", "a\n===",
-    "| a | b |\n| :- | -: |\n| c |", "\\* &amp; &#35; &#x22;", "<ab:c> <d@e.f>", "`a` $b$", "*a* __b__ ~~c~~", "[a](b 'c') ![d](<e>)",
+    "| a | b |\n| :- | -: |\n| c |", "\\* &amp; &#35; &#x22;", "<ab:c> <d@e.f>", "`a` $b$", "*a* __b__ ~~c~~", "==a *b*== c", "[a](b 'c') ![d](<e>)",
     "![a][b] [b][]\n\n[b]: c", "- [x] a\n- [ ] b", "> [a\n> b]: c\n\n[a b]", "-\ta\n\n\tb", ">\t\ta", "\ufeffa", "a\\\nb  \nc",
     "www.a.b c@d.e http://f.g", "é&ngE;", "a\r\nb\rc", "1.\n\n10) a",
 ]
@@ -32,9 +32,7 @@ MORE_TEXTS = [
     "| a | b | c |\n| :- | -: | :-: |", "|a|\n|-|\n|b|", "- a\n- b\n\n- c", "- a\n  - b\n\n    c\n- d", "1. a\n\n\n2. b", "-\n\n- a", "- > a\n\n- b",
     "> - a\n>\n> - b", "- [a]: b\n\n  c", "- a\n\n- b\n\n\n  c", "- a\r\n\r\n  b", "- a\n  ```\n\n  ```\n- b", "-\n  a\n- b\n\nc", "- [^a]\n\n[^a]: - b\n\n    - c",
 ]
-CONSTRUCTS = ["math_text", "math_flow", "frontmatter"]
-# Names of the model that no event of this repository has.
-UNKNOWN = {"Mark", "MarkText", "MarkSequence"}
+CONSTRUCTS = ["math_text", "math_flow", "frontmatter", "mark"]
 
 
 def model_at(path):
@@ -45,7 +43,6 @@ def model_at(path):
     import md
     import tables
     sys.setrecursionlimit(10000)
-    events.NAMES = [name for name in events.NAMES if name not in UNKNOWN]
     options = md.Options(gfm=True, on=CONSTRUCTS)
     names = tables.Tables(None)
 
@@ -214,8 +211,6 @@ def compare(model, count, seed, program):
     lists = random_lists(model, random.Random(seed))
     while sum(kinds.values()) < count:
         events, data = next(lists)
-        if any(it.name in UNKNOWN for it in events):
-            continue
         asked += [text_line(data) + "\n" + list_line(events)]
         wanted.append(model.answer(events, data))
         kind = wanted[-1].split()[0]

@@ -4,8 +4,8 @@ PATH. They run in turn, and the least processor time counts.
 
     families.py PROGRAM [N] [--gfm | --math]
 
-With --gfm these are families of GitHub's constructs, beside cmark-gfm. With --math they are those of math and frontmatter,
-alone, and the program is the example in C (examples/run.sh says how it is built), since the program has no such flags.
+With --gfm these are families of GitHub's constructs, beside cmark-gfm. With --math they are those of math, frontmatter and
+marked text, alone, and the program is the example in C (examples/run.sh says how it is built), since the program has no such flags.
 
 Growth is the time at 4n by that at n: at most about 4 where time is linear. Of the others the time at 4n is printed, and
 the growth of their own times.
@@ -147,6 +147,12 @@ MATH_FAMILIES = {
     "`$a$ `": lambda n: "$a$ " * n + "\n",
     "dollars of growing lengths": lambda n: growing("$", n) + "\n",
     "dollars and backticks": lambda n: growing("$", n) + growing("`", n) + "\n",
+    "`==a `": lambda n: "==a " * n + "\n",
+    "`==a== `": lambda n: "==a== " * n + "\n",
+    "`a==b`": lambda n: "a==b" * n + "\n",
+    "`a===b`": lambda n: "a===b" * n + "\n",
+    "equals signs of growing lengths": lambda n: growing("=", n) + "\n",
+    "equals signs and asterisks": lambda n: "==a **b " * n + "c== d** " * n + "\n",
     "unclosed math": lambda n: "$$\n" + "x\n" * n,
     "math in blocks": lambda n: "$$\na\n$$\n" * n,
     "unclosed frontmatter": lambda n: "---\n" + "a\n" * n,
@@ -174,7 +180,7 @@ def main():
     if "--gfm" in flags:
         families, peers = GFM_FAMILIES, {"cmark-gfm": GFM}
     elif "--math" in flags:
-        flags, families, peers = ["--math", "--frontmatter"], MATH_FAMILIES, {}
+        flags, families, peers = ["--math", "--frontmatter", "--mark"], MATH_FAMILIES, {}
     else:
         families, peers = FAMILIES, {name: [name] for name in ("md4c", "pulldown-cmark", "cmark")}
     others = [name for name in peers if shutil.which(name)]

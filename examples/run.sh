@@ -21,7 +21,7 @@ check() {
 }
 
 works() { "$@" > /dev/null 2>&1; }
-converts() { "$@" --gfm --math --frontmatter < "$page/stdin" | cmp - "$page/stdout"; }
+converts() { "$@" --gfm --math --frontmatter --mark < "$page/stdin" | cmp - "$page/stdout"; }
 filters() { printf '<b><title>' | "$@" --gfm --dangerous | grep -qx '<p><b>&lt;title></p>'; }
 refuses() { ! printf 'a\377' | "$@" > "$scratch/out" 2>&1 && ! [ "$(head -c 1 "$scratch/out")" = '<' ]; }
 tries() {

@@ -44,6 +44,8 @@ enum {
     /* With MARKDOWN_DANGEROUS: escape < before the names title, textarea, style, xmp, iframe, noembed, noframes, script and
      * plaintext. */
     MARKDOWN_TAGFILTER = 512,
+    /* ==a== is marked text. */
+    MARKDOWN_MARK = 1024,
     /* GitHub Flavored Markdown: the sum of the flags that GitHub turns on. */
     MARKDOWN_GFM = MARKDOWN_STRIKETHROUGH + MARKDOWN_TASK_LIST_ITEMS + MARKDOWN_TABLES + MARKDOWN_AUTOLINK_LITERALS
         + MARKDOWN_FOOTNOTES + MARKDOWN_TAGFILTER

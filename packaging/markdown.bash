@@ -5,7 +5,7 @@ _markdown_proved() {
         compopt -o filenames
         mapfile -t COMPREPLY < <(compgen -f -- "$word")
     else
-        mapfile -t COMPREPLY < <(compgen -W '--gfm --dangerous --plain --references --help --version' -- "$word")
+        mapfile -t COMPREPLY < <(compgen -W '--gfm --mark --dangerous --plain --references --help --version' -- "$word")
     fi
 }
 complete -F _markdown_proved markdown markdown-proved

@@ -2,9 +2,10 @@
 for command in markdown markdown-proved
     complete -c $command -f
     complete -c $command -l gfm -d "Read what GitHub adds to CommonMark"
+    complete -c $command -l mark -d "Read ==text== as marked text"
     complete -c $command -l dangerous -d "Keep HTML and every protocol of the input"
     complete -c $command -l plain -d "Turn every construct off"
-    complete -c $command -l references -r -F -d "Read names of characters from a file"
+    complete -c $command -l references -r -F -d "Read more names of character references from a file"
     complete -c $command -s h -l help -d "Print help"
     complete -c $command -s V -l version -d "Print the version"
 end

@@ -18,6 +18,8 @@ export declare const AUTOLINK_LITERALS: 128;
 export declare const FOOTNOTES: 256;
 /** With `DANGEROUS`: escape `<` before nine names, as `script`. */
 export declare const TAGFILTER: 512;
+/** `==a==` is marked text. */
+export declare const MARK: 1024;
 /** GitHub Flavored Markdown: the sum of the flags that GitHub turns on. */
 export declare const GFM: 996;
 

@@ -6,7 +6,7 @@
 
 // Flags, to be added up. include/markdown.h says what each does.
 export const DANGEROUS = 1, PLAIN = 2, STRIKETHROUGH = 4, MATH = 8, FRONTMATTER = 16, TASK_LIST_ITEMS = 32, TABLES = 64;
-export const AUTOLINK_LITERALS = 128, FOOTNOTES = 256, TAGFILTER = 512;
+export const AUTOLINK_LITERALS = 128, FOOTNOTES = 256, TAGFILTER = 512, MARK = 1024;
 export const GFM = STRIKETHROUGH + TASK_LIST_ITEMS + TABLES + AUTOLINK_LITERALS + FOOTNOTES + TAGFILTER;
 
 const OK = 0, ROOM = 1;

@@ -1,6 +1,6 @@
 /* Reads Markdown from standard input, and writes its HTML to standard output.
  *
- *     convert [--gfm] [--dangerous] [--plain] [--math] [--frontmatter] */
+ *     convert [--gfm] [--dangerous] [--plain] [--math] [--frontmatter] [--mark] */
 #include <stdio.h>
 #include <string.h>
 
@@ -15,6 +15,7 @@ static const struct {
     {"--plain", MARKDOWN_PLAIN},
     {"--math", MARKDOWN_MATH},
     {"--frontmatter", MARKDOWN_FRONTMATTER},
+    {"--mark", MARKDOWN_MARK},
 };
 
 /* The flags of a word, or 0 for one that isn't known. */

@@ -68,7 +68,7 @@ static int check_room(void)
 static int check_refusals(void)
 {
     size_t length = 7;
-    CHECK(convert(1024, sizeof buffer, &length) == MARKDOWN_FLAGS && length == 0 && is_untouched_from(0));
+    CHECK(convert(2048, sizeof buffer, &length) == MARKDOWN_FLAGS && length == 0 && is_untouched_from(0));
     CHECK(convert(UINT32_MAX, sizeof buffer, &length) == MARKDOWN_FLAGS && length == 0 && is_untouched_from(0));
     CHECK(markdown_convert((const unsigned char *)"a\xff", 2, 0, buffer, sizeof buffer, &length) == MARKDOWN_UTF8);
     CHECK(length == 0 && is_untouched_from(0));

@@ -1,6 +1,6 @@
 // Reads Markdown from standard input, and writes its HTML to standard output.
 //
-//     convert [--gfm] [--dangerous] [--plain] [--math] [--frontmatter]
+//     convert [--gfm] [--dangerous] [--plain] [--math] [--frontmatter] [--mark]
 #include <cstddef>
 #include <cstdint>
 #include <exception>
@@ -37,7 +37,7 @@ int main(int count, char **words)
 {
     static const std::map<std::string, std::uint32_t> flags_of = {
         {"--gfm", MARKDOWN_GFM},   {"--dangerous", MARKDOWN_DANGEROUS},     {"--plain", MARKDOWN_PLAIN},
-        {"--math", MARKDOWN_MATH}, {"--frontmatter", MARKDOWN_FRONTMATTER},
+        {"--math", MARKDOWN_MATH}, {"--frontmatter", MARKDOWN_FRONTMATTER}, {"--mark", MARKDOWN_MARK},
     };
     try {
         std::uint32_t flags = 0;

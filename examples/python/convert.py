@@ -2,7 +2,7 @@
 """Reads Markdown from standard input, and writes its HTML to standard output.
 
     convert.py LIBRARY [--gfm] [--dangerous] [--plain] [--math] [--frontmatter] [--strikethrough] [--task-list-items]
-        [--tables] [--autolink-literals] [--footnotes] [--tagfilter]
+        [--tables] [--autolink-literals] [--footnotes] [--tagfilter] [--mark]
 """
 import sys
 
@@ -20,6 +20,7 @@ FLAGS = {
     "--autolink-literals": markdown_c.AUTOLINK_LITERALS,
     "--footnotes": markdown_c.FOOTNOTES,
     "--tagfilter": markdown_c.TAGFILTER,
+    "--mark": markdown_c.MARK,
 }
 
 library = markdown_c.load(sys.argv[1])

@@ -21,6 +21,7 @@ fn main() -> Result<(), Box<dyn Error>> {
             "--autolink-literals" => flags.autolink_literals = true,
             "--footnotes" => flags.footnotes = true,
             "--tagfilter" => flags.tagfilter = true,
+            "--mark" => flags.mark = true,
             _ => return Err(format!("an unknown word: {word}").into()),
         }
     }

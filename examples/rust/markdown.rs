@@ -19,6 +19,7 @@ mod calls {
     pub const AUTOLINK_LITERALS: u32 = 128;
     pub const FOOTNOTES: u32 = 256;
     pub const TAGFILTER: u32 = 512;
+    pub const MARK: u32 = 1024;
 
     #[link(name = "markdown-proved", kind = "static")]
     extern "C" {
@@ -56,6 +57,8 @@ pub struct Flags {
     pub footnotes: bool,
     /// Where HTML is printed as it is, `<` before nine names is printed as text.
     pub tagfilter: bool,
+    /// `==a==` is marked text.
+    pub mark: bool,
 }
 
 impl Flags {
@@ -84,6 +87,7 @@ impl Flags {
             (self.autolink_literals, calls::AUTOLINK_LITERALS),
             (self.footnotes, calls::FOOTNOTES),
             (self.tagfilter, calls::TAGFILTER),
+            (self.mark, calls::MARK),
         ]
         .into_iter()
         .filter_map(|(asked, flag)| asked.then_some(flag))

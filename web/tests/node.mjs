@@ -8,7 +8,7 @@ import { readdirSync, readFileSync } from "node:fs";
 import { pathToFileURL } from "node:url";
 
 const top = new URL("../../", import.meta.url);
-const { load, DANGEROUS, FRONTMATTER, GFM, MATH, PLAIN } = await import(new URL("markdown.mjs", pathToFileURL(`${process.argv[2]}/`)));
+const { load, DANGEROUS, FRONTMATTER, GFM, MARK, MATH, PLAIN } = await import(new URL("markdown.mjs", pathToFileURL(`${process.argv[2]}/`)));
 const markdown = await load();
 let passed = 0, failed = 0;
 
@@ -46,13 +46,13 @@ for (const name of readdirSync(folder)) {
 check(`${examples} examples`, examples === 652);
 
 const read = name => readFileSync(new URL(`crates/examples_library/${name}`, top), "utf8");
-check("a page with each feature", markdown.toHtml(read("stdin"), GFM + MATH + FRONTMATTER) === read("stdout"));
+check("a page with each feature", markdown.toHtml(read("stdin"), GFM + MATH + FRONTMATTER + MARK) === read("stdout"));
 check("the version", readFileSync(new URL("include/markdown.h", top), "utf8").includes(`MARKDOWN_VERSION_TEXT "${markdown.version}"`));
 check("safe", markdown.toHtml("<b>a</b> [b](javascript:c)") === '<p>&lt;b&gt;a&lt;/b&gt; <a href="">b</a></p>');
 check("plain", markdown.toHtml("# a", PLAIN) === "<p># a</p>");
 check("an empty text", markdown.toHtml("") === "");
 check("a page far longer than its text", markdown.toHtml('"'.repeat(1000)) === `<p>${"&quot;".repeat(1000)}</p>`);
-check("wrong flags", fault(() => markdown.toHtml("a", 1024)) === "wrong flags" && fault(() => markdown.toHtml("a", 2 ** 32)) === "wrong flags");
+check("wrong flags", fault(() => markdown.toHtml("a", 2048)) === "wrong flags" && fault(() => markdown.toHtml("a", 2 ** 32)) === "wrong flags");
 check("no UTF-8", fault(() => markdown.convert(new Uint8Array([97, 255]))) === "input is not UTF-8");
 
 // How many bytes of memory the engine has for the module, after a collection.

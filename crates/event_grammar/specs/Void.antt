@@ -27,6 +27,6 @@ void_names =
     ∷ n.GfmFootnoteDefinitionLabelMarker ∷ n.GfmFootnoteDefinitionMarker ∷ n.GfmStrikethroughSequence ∷ n.GfmTableCellDivider
     ∷ n.GfmTableDelimiterFiller ∷ n.GfmTableDelimiterMarker ∷ n.GfmTaskListItemMarker ∷ n.GfmTaskListItemValueChecked
     ∷ n.GfmTaskListItemValueUnchecked ∷ n.HardBreakEscape ∷ n.HardBreakTrailing ∷ n.HeadingAtxSequence ∷ n.HeadingSetextUnderlineSequence
-    ∷ n.HtmlFlowData ∷ n.HtmlTextData ∷ n.LabelImageMarker ∷ n.LabelMarker ∷ n.LineEnding ∷ n.ListItemMarker ∷ n.ListItemValue ∷ n.MathFlowChunk
-    ∷ n.MathFlowFenceSequence ∷ n.MathTextData ∷ n.MathTextSequence ∷ n.ReferenceMarker ∷ n.ResourceDestinationLiteralMarker ∷ n.ResourceMarker
+    ∷ n.HtmlFlowData ∷ n.HtmlTextData ∷ n.LabelImageMarker ∷ n.LabelMarker ∷ n.LineEnding ∷ n.ListItemMarker ∷ n.ListItemValue ∷ n.MarkSequence
+    ∷ n.MathFlowChunk ∷ n.MathFlowFenceSequence ∷ n.MathTextData ∷ n.MathTextSequence ∷ n.ReferenceMarker ∷ n.ResourceDestinationLiteralMarker ∷ n.ResourceMarker
     ∷ n.ResourceTitleMarker ∷ n.SpaceOrTab ∷ n.StrongSequence ∷ n.ThematicBreakSequence ∷ []

@@ -11,6 +11,7 @@ mod GfmStrikethrough
 mod GfmTaskListItem
 mod LabelStartLink
 mod LabelStartImage
+mod Mark
 mod Autolink
 mod HtmlText
 mod HardBreakEscape

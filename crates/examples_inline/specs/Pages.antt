@@ -93,6 +93,12 @@ with_strikethrough single_tilde = record default_options {
   };
 }
 
+-- default options with marked text
+abbrev pub with_mark : Options
+with_mark = record default_options {
+  parse = record default_parse_options { constructs = record default_constructs { mark = true } };
+}
+
 -- default options with literals
 abbrev pub with_literals : Options
 with_literals = record default_options {

@@ -17,6 +17,7 @@ fn options() -> Options
     ensures { HasNoMdx result }
 {
     let mut options = Options::gfm();
+    options.parse.constructs.mark = true;
     options.parse.constructs.math_text = true;
     options.parse.constructs.math_flow = true;
     options.parse.constructs.frontmatter = true;

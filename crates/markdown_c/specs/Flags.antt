@@ -9,7 +9,7 @@ abbrev pub has_flag : ℕ → ℕ → Bool
 has_flag flag flags = flags / flag % 2 == 1
 
 -- the constructs of a sum of flags; 2: none is on; 4: strikethrough; 8: math in a text and in blocks; 16: frontmatter; 32: task list items; 64: tables;
--- 128: links with no brackets; 256: footnotes
+-- 128: links with no brackets; 256: footnotes; 1024: marked text
 abbrev pub flagged_constructs : ℕ → Constructs
 flagged_constructs flags =
     if has_flag 2 flags then no_constructs
@@ -20,6 +20,7 @@ flagged_constructs flags =
       gfm_strikethrough = has_flag 4 flags;
       gfm_table = has_flag 64 flags;
       gfm_task_list_item = has_flag 32 flags;
+      mark = has_flag 1024 flags;
       math_text = has_flag 8 flags;
       math_flow = has_flag 8 flags;
       frontmatter = has_flag 16 flags;
@@ -38,4 +39,4 @@ flagged_options flags = record default_options {
 
 -- none where there are other flags
 abbrev pub options_of : ℕ → Option Options
-options_of flags = if nat_lt flags 1024 then Some (flagged_options flags) else None
+options_of flags = if nat_lt flags 2048 then Some (flagged_options flags) else None

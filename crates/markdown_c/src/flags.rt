@@ -35,6 +35,9 @@ const FOOTNOTES: u32 = 256;
 /// With `DANGEROUS`: the `<` of nine tags is printed as `&lt;` (GFM 6.11).
 const TAGFILTER: u32 = 512;
 
+/// `==a==` is marked text.
+const MARK: u32 = 1024;
+
 /// All flags together.
 pub(crate) const ALL: u32 = DANGEROUS
     + PLAIN
@@ -45,7 +48,8 @@ pub(crate) const ALL: u32 = DANGEROUS
     + TABLES
     + AUTOLINK_LITERALS
     + FOOTNOTES
-    + TAGFILTER;
+    + TAGFILTER
+    + MARK;
 
 /// Whether a flag is in a sum of flags.
 fn has_flag(flag: u32, flags: u32) -> bool
@@ -70,6 +74,7 @@ fn flagged_constructs(flags: u32) -> Constructs
         gfm_strikethrough: has_flag(STRIKETHROUGH, flags),
         gfm_table: has_flag(TABLES, flags),
         gfm_task_list_item: has_flag(TASK_LIST_ITEMS, flags),
+        mark: has_flag(MARK, flags),
         math_text: has_flag(MATH, flags),
         math_flow: has_flag(MATH, flags),
         frontmatter: has_flag(FRONTMATTER, flags),

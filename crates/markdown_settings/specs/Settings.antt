@@ -32,7 +32,7 @@ abbrev pub is_set : Text → List Text → Bool
 is_set name words = is_true_text (first_of name (rows_of_words words))
 
 abbrev pub options_of : List Text → Options
-options_of words = flag_options (is_set (codes "gfm") words) (is_set (codes "dangerous") words) (is_set (codes "plain") words)
+options_of words = flag_options (is_set (codes "gfm") words) (is_set (codes "mark") words) (is_set (codes "dangerous") words) (is_set (codes "plain") words)
 
 -- the value of `--references`
 abbrev pub path_of : List Text → Option Text

@@ -1,9 +1,9 @@
 //! The command line.
 //!
-//!     markdown [--gfm] [--dangerous] [--plain] [--references PATH] [--help] [--version]
+//!     markdown [--gfm] [--mark] [--dangerous] [--plain] [--references PATH] [--help] [--version]
 ghost use Rattle.std.specs.Prelude.{◌≡◌, IfOk, false};
 ghost use Rattle.clap.specs.Words.{app_of, rule_of};
-ghost use Rattle.markdown_settings.specs.Command.{dangerous_rule, gfm_rule, markdown_command, plain_rule, references_rule};
+ghost use Rattle.markdown_settings.specs.Command.{dangerous_rule, gfm_rule, mark_rule, markdown_command, plain_rule, references_rule};
 
 use crate::help::VERSION;
 use clap::{Arg, ArgAction, Command};
@@ -17,6 +17,7 @@ pub(crate) fn command<'a>(alloc: Global) -> Result<Command<'a>, AllocError>
         .no_binary_name(true)
         .version(VERSION)
         .arg(gfm(alloc))?
+        .arg(mark(alloc))?
         .arg(dangerous(alloc))?
         .arg(plain(alloc))?
         .arg(references(alloc))?;
@@ -29,6 +30,15 @@ fn gfm<'a>(alloc: Global) -> Arg<'a>
 {
     Arg::new(alloc, "gfm")
         .long("gfm")
+        .action(ArgAction::SetTrue)
+}
+
+fn mark<'a>(alloc: Global) -> Arg<'a>
+    ensures rule { rule_of result ≡ mark_rule }
+    ensures local { result.global ≡ false }
+{
+    Arg::new(alloc, "mark")
+        .long("mark")
         .action(ArgAction::SetTrue)
 }
 

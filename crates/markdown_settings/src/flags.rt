@@ -1,7 +1,7 @@
 //! The options that flags ask for.
 ghost use Rattle.std.specs.Prelude.{◌≡◌};
 ghost use Rattle.markdown_options.specs.Mdx.{HasNoMdx};
-ghost use Rattle.markdown_settings.specs.Flags.{flag_options, parse_of, printed_as};
+ghost use Rattle.markdown_settings.specs.Flags.{constructs_of, flag_options, parse_of, printed_as};
 
 use markdown_options::{CompileOptions, Constructs, Options, ParseOptions};
 
@@ -15,12 +15,12 @@ pub struct Settings {
 }
 
 /// The options of these flags.
-pub(crate) fn flag_options(gfm: bool, dangerous: bool, plain: bool) -> Options
-    ensures options { result ≡ flag_options gfm dangerous plain }
+pub(crate) fn flag_options(gfm: bool, mark: bool, dangerous: bool, plain: bool) -> Options
+    ensures options { result ≡ flag_options gfm mark dangerous plain }
     ensures without_mdx { HasNoMdx result }
 {
     Options {
-        parse: parse_of(gfm, plain),
+        parse: parse_of(gfm, mark, plain),
         compile: CompileOptions {
             allow_dangerous_html: dangerous,
             allow_dangerous_protocol: dangerous,
@@ -29,21 +29,29 @@ pub(crate) fn flag_options(gfm: bool, dangerous: bool, plain: bool) -> Options
     }
 }
 
-/// No constructs, those of GitHub or those of CommonMark.
-fn parse_of(gfm: bool, plain: bool) -> ParseOptions
-    ensures { result ≡ parse_of gfm plain }
+/// The options of reading.
+fn parse_of(gfm: bool, mark: bool, plain: bool) -> ParseOptions
+    ensures { result ≡ parse_of gfm mark plain }
+{
+    ParseOptions {
+        constructs: constructs_of(gfm, mark, plain),
+        ..ParseOptions::default()
+    }
+}
+
+/// No constructs, or those of GitHub or of CommonMark, with marked text or without.
+fn constructs_of(gfm: bool, mark: bool, plain: bool) -> Constructs
+    ensures { result ≡ constructs_of gfm mark plain }
 {
     if plain {
-        return ParseOptions {
-            constructs: Constructs::none(),
-            ..ParseOptions::default()
-        };
+        return Constructs::none();
     }
-    if gfm {
-        ParseOptions::gfm()
+    let constructs = if gfm {
+        Constructs::gfm()
     } else {
-        ParseOptions::default()
-    }
+        Constructs::default()
+    };
+    Constructs { mark, ..constructs }
 }
 
 /// What GitHub prints, or what is printed by default.

@@ -5,17 +5,27 @@ pub const VERSION: &str = "markdown 0.1.0\n";
 
 /// What `--help` prints.
 pub const HELP: &str = "\
-Converts Markdown on standard input to HTML on standard output.
+Converts Markdown on standard input to safe HTML on standard output.
 
-Usage: markdown [OPTIONS]
+Usage: markdown [OPTIONS] < page.md > page.html
 
 Options:
-      --gfm                Read tables, task lists, strikethrough, footnotes and bare links, as GitHub does
-      --dangerous          Print HTML of the text as it is, and let links and images have any protocol
-      --plain              Read paragraphs alone: every construct is off
-      --references <PATH>  Read names of characters from a file, with a line NAME=HEX or NAME=HEX+HEX for each
+      --gfm                Read GitHub Flavored Markdown: tables, task lists,
+                           strikethrough, footnotes and bare links. With
+                           --dangerous, escape GitHub's filtered tags
+      --mark               Read ==text== as marked text
+      --dangerous          Keep raw HTML and URLs with any protocol. Only for
+                           input from trusted authors
+      --plain              Turn every construct off, also with --gfm or --mark
+      --references <PATH>  Read more names of character references from a file,
+                           NAME=HEX or NAME=HEX+HEX on each line
   -h, --help               Print help
   -V, --version            Print version
+
+Exit status:
+  0  the whole page was written
+  1  it was not; standard error has the reason
+  2  the command line is wrong
 
 Examples:
   markdown < page.md > page.html

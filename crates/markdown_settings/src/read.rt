@@ -15,8 +15,8 @@ use std::alloc::{AllocError, Global};
 
 /// What the words of the command line, without the program's name, ask for.
 ///
-/// `--gfm` reads and prints what GitHub does, `--dangerous` prints HTML of the text and allows every protocol, `--plain` turns all constructs
-/// off, and `--references` is followed by the path of a file.
+/// `--gfm` reads and prints GitHub Flavored Markdown, and `--mark` reads marked text. `--dangerous` keeps raw HTML and every
+/// URL protocol. `--plain` turns all constructs off. `--references` is followed by the path of a file.
 pub fn settings(alloc: Global, words: &[String]) -> Result<Settings, SettingsError>
     // The options and the path are those of the command's matches for the words.
     ensures options { IfOk result (λ s. s.options ≡ options_of (word_texts words.now)) }
@@ -46,6 +46,7 @@ fn settings_of(alloc: Global, matches: &ArgMatches<'_>) -> Result<Settings, Sett
     let references = path(alloc, matches)?;
     let options = flag_options(
         is_set(matches, "gfm"),
+        is_set(matches, "mark"),
         is_set(matches, "dangerous"),
         is_set(matches, "plain"),
     );

@@ -1,7 +1,11 @@
 -- What a run becomes, and the runs of a container, as their definition has them.
-use Rattle.std.proofs.Common.{◌≡◌, ◌∙◌, ℕ, zero, suc, ◌+◌, ◌<◌, false, List, [], ◌∷◌, ◌++◌, length, get_or, drop, map, replicate, reverse, refl, sym, ap, arith}
+use Rattle.std.proofs.Common.{◌≡◌, ◌∙◌, ℕ, zero, suc, ◌+◌, ◌<◌, Bool, true, false, cond, List, [], ◌∷◌, ◌++◌, length, get_or, drop, map, replicate, reverse, refl, sym, ap, arith}
 use Rattle.std.proofs.lemmas.List.{drop-map, get_or-map, length-map}
 use Rattle.definition_inline.specs.Attention.{Run as RunOf}
+use Rattle.std.specs.Prelude.{◌==◌}
+use Rattle.definition_inline.specs.GfmStrikethrough.{is_tilde}
+use Rattle.definition_inline.specs.Mark.{is_equals}
+use Rattle.definition_inline.specs.Inline as inline
 use Rattle.definition_inline.specs.Inline.{Inline, Leaf, Data}
 use Rattle.definition_inline.specs.Pairing.{Pair as PairOf}
 use Rattle.definition_inline.specs.Spans.{span_of}
@@ -10,11 +14,24 @@ use Rattle.inline_runs.specs.declared.pair.Pair.{Pair}
 use Rattle.inline_runs.specs.declared.run.Run.{Run}
 use Rattle.inline_runs.specs.declared.spans.RunSpans.{RunSpans}
 use Rattle.inline_runs.specs.Paired.{BecomesRows, closed_at, opened_at, rows_of}
-use Rattle.inline_runs.specs.View.{pair_view, pairs_view, run_view, runs_view}
+use Rattle.inline_runs.specs.declared.pair.Span.TheVariants.{Emphasis, Strong, Strikethrough, Mark}
+use Rattle.inline_runs.specs.View.{bytes_by, pair_view, pairs_view, run_view, runs_view, span_by, span_view}
 use Rattle.engine_events.specs.declared.event.Event.{Event}
 use Rattle.engine_events.specs.declared.place.Point.{Point}
 use Rattle.engine_edits.specs.Edits.{EditAt, with_edit}
 use Rattle.state_edits_attention.specs.Attention.{SearchState, data_size, held_size, no_run, run_at, run_edits, run_events, replace_run}
+
+-- ---- what a pair stands for
+
+pub span_is : (marker : ℕ) (pair : Pair) → span_view (span_by marker pair.double) ≡ span_of marker (pair_view pair)
+span_is marker pair = by_case (is_tilde marker) (is_equals marker) pair.double
+  where
+    by_case : (tilde equals double : Bool) → span_view (cond tilde Strikethrough (cond equals Mark (cond double Strong Emphasis)))
+        ≡ cond tilde inline.Strikethrough (cond equals inline.Mark (cond (bytes_by double == 2) inline.Strong inline.Emphasis))
+    by_case true equals double = refl
+    by_case false true double = refl
+    by_case false false true = refl
+    by_case false false false = refl
 
 -- ---- how many bytes are data
 

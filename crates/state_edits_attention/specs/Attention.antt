@@ -1,11 +1,11 @@
--- Emphasis, strong emphasis and strikethrough in place of the runs that go together (CommonMark 6.2, GFM 6.5).
+-- Emphasis, strong emphasis, strikethrough and marked text in place of the runs that go together (CommonMark 6.2, GFM 6.5).
 use Rattle.std.specs.Prelude.{ℕ, zero, suc, ◌+◌, ◌-◌, Bool, false, ◌==◌, if◌then◌else◌, List, [], ◌∷◌, ◌++◌, length, take, drop, reverse, slice_get}
 use Rattle.std.specs.Prelude.{slice_index_or, unwrap_or, Option, None, Some}
 use Rattle.std.specs.List.{fold}
 use Rattle.markdown_options.specs.declared.configuration.ParseOptions.{ParseOptions}
 use Rattle.definition_inline.specs.Attention.{Run, run_between}
 use Rattle.definition_inline.specs.Pairing.{Pair, pairs}
-use Rattle.definition_inline.specs.Inline.{SpanKind, Emphasis, Strong, Strikethrough}
+use Rattle.definition_inline.specs.Inline.{SpanKind, Emphasis, Strong, Strikethrough, Mark}
 use Rattle.definition_inline.specs.Spans.{span_of}
 use Rattle.definition_inline.specs.SpanRows.{Closes, Holds, Opens, SpanRow, run_rows}
 use Rattle.inline_runs.specs.Paired.{closed_at, opened_at}
@@ -35,6 +35,7 @@ abbrev pub names_of : SpanKind → SpanNames
 names_of Emphasis = record { group = names.Emphasis; sequence = names.EmphasisSequence; text = names.EmphasisText }
 names_of Strong = record { group = names.Strong; sequence = names.StrongSequence; text = names.StrongText }
 names_of Strikethrough = record { group = names.GfmStrikethrough; sequence = names.GfmStrikethroughSequence; text = names.GfmStrikethroughText }
+names_of Mark = record { group = names.Mark; sequence = names.MarkSequence; text = names.MarkText }
 
 -- the place so many bytes later
 abbrev pub place_later : ℕ → Point → Point

@@ -1,5 +1,5 @@
-//! Emphasis, strong emphasis and strikethrough in place of the runs that go together (CommonMark 6.2,
-//! GFM 6.5).
+//! Emphasis, strong emphasis, strikethrough and marked text in place of the runs that go together
+//! (CommonMark 6.2, GFM 6.5).
 //!
 //! ```text
 //! emphasis ::= emphasis_sequence emphasis_text emphasis_sequence
@@ -8,6 +8,8 @@
 //! strong_sequence ::= 2'*' | 2'_'
 //! gfm_strikethrough ::= gfm_strikethrough_sequence gfm_strikethrough_text gfm_strikethrough_sequence
 //! gfm_strikethrough_sequence ::= '~' | 2'~'
+//! mark ::= mark_sequence mark_text mark_sequence
+//! mark_sequence ::= 2'='
 //! ```
 //!
 //! The text of a label is a container of its own, and so is all that stands in none. The runs of a
@@ -17,7 +19,7 @@ ghost use Rattle.std.specs.List.{fold};
 ghost use Rattle.markdown_options.specs.Messages.{IsOutOfMemory};
 ghost use Rattle.definition_inline.specs.Spans.{span_of};
 ghost use Rattle.inline_runs.specs.Paired.{IsPaired};
-ghost use Rattle.inline_runs.specs.View.{pair_view, pairs_view, run_view, runs_view};
+ghost use Rattle.inline_runs.specs.View.{pair_view, pairs_view, run_view, runs_view, span_view};
 ghost use Rattle.engine_edits.specs.Edits.{edits_of};
 ghost use Rattle.markdown_engine.specs.Context.{context};
 ghost use Rattle.state_edits_attention.specs.Attention.{attention_edits, run_of_enter, place_later, names_of, run_edit};
@@ -29,7 +31,7 @@ ghost use Rattle.state_edits_attention.specs.Views.{search_view, run_events_view
 use engine_edits::EditMap;
 use engine_text::bytes::{code_after, code_before};
 use engine_text::char::classify_opt;
-use inline_runs::{Pair, Pairing, Run, RunSpans, bytes_by, pair_runs, run_between};
+use inline_runs::{Pair, Pairing, Run, RunSpans, Span, bytes_by, pair_runs, run_between};
 use markdown_engine::event::{Event, Kind, Name};
 use markdown_engine::place::Point;
 use markdown_engine::{Message, ParseState};
@@ -92,29 +94,39 @@ pub struct SpanNames {
     pub text: Name,
 }
 
+/// The names of the events of a span.
+fn names_of_span(span: Span) -> SpanNames
+    ensures { result ≡ names_of (span_view span) }
+{
+    match span {
+        Span::Emphasis => SpanNames {
+            group: Name::Emphasis,
+            sequence: Name::EmphasisSequence,
+            text: Name::EmphasisText,
+        },
+        Span::Strong => SpanNames {
+            group: Name::Strong,
+            sequence: Name::StrongSequence,
+            text: Name::StrongText,
+        },
+        Span::Strikethrough => SpanNames {
+            group: Name::GfmStrikethrough,
+            sequence: Name::GfmStrikethroughSequence,
+            text: Name::GfmStrikethroughText,
+        },
+        Span::Mark => SpanNames {
+            group: Name::Mark,
+            sequence: Name::MarkSequence,
+            text: Name::MarkText,
+        },
+    }
+}
+
 /// The names of the events of the span that a pair of runs of this byte stands for.
 fn names_of(marker: u8, pair: &Pair) -> SpanNames
     ensures { result ≡ names_of (span_of marker (pair_view pair.now)) }
 {
-    if marker == b'~' {
-        return SpanNames {
-            group: Name::GfmStrikethrough,
-            sequence: Name::GfmStrikethroughSequence,
-            text: Name::GfmStrikethroughText,
-        };
-    }
-    if pair.double {
-        return SpanNames {
-            group: Name::Strong,
-            sequence: Name::StrongSequence,
-            text: Name::StrongText,
-        };
-    }
-    SpanNames {
-        group: Name::Emphasis,
-        sequence: Name::EmphasisSequence,
-        text: Name::EmphasisText,
-    }
+    names_of_span(pair.span(marker))
 }
 
 /// The place so many bytes later in a line, none of them a tab.

@@ -1,4 +1,4 @@
-//! Edits that put emphasis, strong emphasis and strikethrough in place of runs.
+//! Edits that put emphasis, strong emphasis, strikethrough and marked text in place of runs.
 #![tactic(auto)]
 
 pub mod attention;

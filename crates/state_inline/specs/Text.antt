@@ -7,7 +7,7 @@ use Rattle.engine_events.specs.declared.state.State.TheVariants as states
 use Rattle.engine_programs.specs.Bodies.{Body, Answer, Keep, Register, Tries, Byte, On}
 use Rattle.state_table.specs.Words.{next, retry}
 use Rattle.definition_text.specs.Ascii.{exclamation_mark, dollar, ampersand, asterisk, less_than, left_bracket, backslash, right_bracket, underscore, backtick}
-use Rattle.definition_text.specs.Ascii.{tilde}
+use Rattle.definition_text.specs.Ascii.{equals, tilde}
 
 module _ {M : Type 0} where
   -- an attempt by the second state at a part, after which the next part comes; where there is none, the first state
@@ -25,7 +25,7 @@ module _ {M : Type 0} where
       (On (λ b. b == exclamation_mark) (part_or_data state_inline.LabelStartImageStart)
       (On (λ b. (b == dollar) || (b == backtick)) (part_or_data state_inline.RawTextStart)
       (On (λ b. b == ampersand) (part_or_data state_inline.CharacterReferenceStart)
-      (On (λ b. (b == asterisk) || (b == underscore) || (b == tilde)) (part_or_data state_inline.AttentionStart)
+      (On (λ b. (b == asterisk) || (b == underscore) || (b == tilde) || (b == equals)) (part_or_data state_inline.AttentionStart)
       (On (λ b. b == less_than) (part_or state_inline.TextBeforeHtml state_inline.AutolinkStart)
       (On (λ b. (b == 72) || (b == 104)) (part_or_data state_inline.GfmAutolinkLiteralProtocolStart)
       (On (λ b. (b == 87) || (b == 119)) (part_or_data state_inline.GfmAutolinkLiteralWwwStart)

@@ -49,7 +49,7 @@ pub fn before<M, T, A: Allocator>(tokenizer: &mut Tokenizer<'_, M, T, A>) -> Sta
             next(Inline::TextBeforeData),
             retry(Inline::CharacterReferenceStart),
         ),
-        Some(b'*' | b'_' | b'~') => attempt_to(
+        Some(b'*' | b'_' | b'~' | b'=') => attempt_to(
             tokenizer,
             next(Inline::TextBefore),
             next(Inline::TextBeforeData),

@@ -7,7 +7,7 @@ use Rattle.engine_events.specs.declared.state.Inline.TheVariants as state_inline
 use Rattle.engine_events.specs.declared.state.State.TheVariants as states
 use Rattle.engine_programs.specs.Bodies.{FixedName, Body, Answer, Consume, Enter, Exit, Keep, Register, Byte, On, Test}
 use Rattle.state_table.specs.Words.{next, at_marker}
-use Rattle.definition_text.specs.Ascii.{asterisk, underscore, tilde}
+use Rattle.definition_text.specs.Ascii.{asterisk, equals, underscore, tilde}
 
 -- at the first byte of a run
 abbrev pub attention_open : {M : Type 0} → ℕ → Body M
@@ -21,7 +21,8 @@ module _ {M : Type 0} where
       Byte (Answer states.Nok)
       (On (λ b. b == asterisk) (Test (λ c. constructs.attention) (attention_open 42) (Answer states.Nok))
       (On (λ b. b == underscore) (Test (λ c. constructs.attention) (attention_open 95) (Answer states.Nok))
-      (On (λ b. b == tilde) (Test (λ c. constructs.gfm_strikethrough) (attention_open 126) (Answer states.Nok)) (Answer states.Nok))))
+      (On (λ b. b == tilde) (Test (λ c. constructs.gfm_strikethrough) (attention_open 126) (Answer states.Nok))
+      (On (λ b. b == equals) (Test (λ c. constructs.mark) (attention_open 61) (Answer states.Nok)) (Answer states.Nok)))))
 
   -- in a run
   abbrev pub attention_inside : Body M

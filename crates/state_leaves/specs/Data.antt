@@ -6,14 +6,14 @@ use Rattle.engine_events.specs.declared.state.State.TheVariants as states
 use Rattle.engine_programs.specs.Bodies.{FixedName, Body, Answer, Consume, Enter, Exit, Byte, On, Test, around, has}
 use Rattle.state_table.specs.Words.{next, retry}
 use Rattle.definition_text.specs.Ascii.{line_feed, exclamation_mark, dollar, ampersand, asterisk, less_than, left_bracket, backslash, right_bracket, underscore}
-use Rattle.definition_text.specs.Ascii.{backtick, tilde}
+use Rattle.definition_text.specs.Ascii.{backtick, equals, tilde}
 
 -- a byte that may begin a construct of a string, or of a text
 abbrev pub is_string_marker : ℕ → Bool
 is_string_marker b = (b == ampersand) || (b == backslash)
 
 abbrev pub is_text_marker : ℕ → Bool
-is_text_marker b = (b == exclamation_mark) || (b == dollar) || (b == ampersand) || (b == asterisk) || (b == less_than) || (b == 72) || (b == 87)
+is_text_marker b = (b == exclamation_mark) || (b == dollar) || (b == ampersand) || (b == asterisk) || (b == less_than) || (b == equals) || (b == 72) || (b == 87)
     || (b == left_bracket) || (b == backslash) || (b == right_bracket) || (b == underscore) || (b == backtick) || (b == 104) || (b == 119) || (b == tilde)
 
 abbrev pub is_marker : Bool → ℕ → Bool

@@ -1,7 +1,7 @@
-//! Runs of markers (CommonMark 6.2, GFM 6.5).
+//! Runs of markers (CommonMark 6.2, GFM 6.5, and marked text).
 //!
 //! ```text
-//! attention_sequence ::= 1*'*' | 1*'_' | 1*'~'
+//! attention_sequence ::= 1*'*' | 1*'_' | 1*'~' | 1*'='
 //! ```
 //!
 //! Which runs go together is told once all is read.
@@ -55,6 +55,13 @@ pub fn start<M, T, A: Allocator>(tokenizer: &mut Tokenizer<'_, M, T, A>) -> Stat
         Some(b'~') => {
             if tokenizer.parse_state.options.constructs.gfm_strikethrough {
                 open(tokenizer, b'~')
+            } else {
+                State::Nok
+            }
+        },
+        Some(b'=') => {
+            if tokenizer.parse_state.options.constructs.mark {
+                open(tokenizer, b'=')
             } else {
                 State::Nok
             }

@@ -31,6 +31,7 @@ fn is_marker(in_text: bool, byte: u8) -> bool
                 | b'&'
                 | b'*'
                 | b'<'
+                | b'='
                 | b'H'
                 | b'W'
                 | b'['

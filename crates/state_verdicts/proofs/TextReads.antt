@@ -35,8 +35,8 @@ module _ {T : Type 0} (texts : List ℕ → Option (List ℕ)) (is_punctuation :
       → run (bodies texts is_punctuation x (Inline state_inline.TextBefore)) (byte_at text c b q)
       ≡ plain (byte_at text c b q) (retry state_inline.TextBeforeData)
   unfolding bodies Apart
-  at_other c b q (h1, (h2, (h3, (h4, (h5, (h6, (h7, (h8, (h9, (h10, (h11, (h12, (h13, (h14, (h15, _))))))))))))))) =
-      rw (h1, h2, h3, h4, h5, h6, h7, h8, h9, h10, h11, h12, h13, h14, h15) refl
+  at_other c b q (h1, (h2, (h3, (h4, (h5, (h6, (h7, (h8, (h9, (h10, (h11, (h12, (h13, (h14, (h15, (h16, _)))))))))))))))) =
+      rw (h1, h2, h3, h4, h5, h6, h7, h8, h9, h10, h11, h12, h13, h14, h15, h16) refl
 
   at_end : (c : Config Inlines) → run (bodies texts is_punctuation x (Inline state_inline.TextBefore)) (with_byte c (text.start c.point) None)
       ≡ plain (to_run_last resolvers.Text (to_run_last resolvers.Data (with_byte c (text.start c.point) None))) states.Ok

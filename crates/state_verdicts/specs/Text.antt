@@ -38,7 +38,7 @@ BackslashChoice T = BeforeByte T backslash (λ here. here.text.start here.place 
 
 -- the bytes that a construct may begin with
 abbrev pub first_bytes : List ℕ
-first_bytes = codes "!$`&*_~<HhWw[\\]"
+first_bytes = codes "!$`&*_~=<HhWw[\\]"
 
 -- before a part that begins with another byte reading goes on with data, at that byte
 abbrev pub DataChoice : Type 0 → Type 0

@@ -3,7 +3,7 @@ use engine_events::event::{Name, VOID_EVENTS};
 use std::alloc::{AllocError, Global};
 
 /// The names that aren't in `VOID_EVENTS`.
-const OTHERS: [Name; 82] = [
+const OTHERS: [Name; 84] = [
     Name::Autolink,
     Name::BlockQuote,
     Name::BlockQuotePrefix,
@@ -64,6 +64,8 @@ const OTHERS: [Name; 82] = [
     Name::ListItemPrefix,
     Name::ListOrdered,
     Name::ListUnordered,
+    Name::Mark,
+    Name::MarkText,
     Name::MathFlow,
     Name::MathFlowFence,
     Name::MathFlowFenceMeta,

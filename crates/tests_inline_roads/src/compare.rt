@@ -2,7 +2,7 @@
 use crate::contents::CONTENTS;
 use crate::generate::Numbers;
 use crate::roads::{Roads, full_options, plain_options};
-use crate::texts::{GFM_TEXTS, TEXTS};
+use crate::texts::{GFM_TEXTS, MARK_TEXTS, TEXTS};
 use std::test::Fail;
 
 #[test]
@@ -12,6 +12,17 @@ fn how_contents_are_spelled(rt: HostRuntime) -> Result<(), Fail> {
     let events = roads.by_events(&rt, "[c*d*](b) `e`")?;
     assert!(rt; events.as_slice() == wanted);
     let rows = roads.by_rows(&rt, "[c*d*](b) `e`")?;
+    assert!(rt; rows.as_slice() == wanted);
+    Ok(())
+}
+
+#[test]
+fn how_marked_text_is_spelled(rt: HostRuntime) -> Result<(), Fail> {
+    let roads = Roads::new(&rt, full_options())?;
+    let wanted: &[u8] = b"a \x01+mark\x02b\x01+emphasis\x02c\x01-\x02\x01-\x02 =d= ===e===";
+    let events = roads.by_events(&rt, "a ==b*c*== =d= ===e===")?;
+    assert!(rt; events.as_slice() == wanted);
+    let rows = roads.by_rows(&rt, "a ==b*c*== =d= ===e===")?;
     assert!(rt; rows.as_slice() == wanted);
     Ok(())
 }
@@ -27,9 +38,12 @@ fn are_texts_same(rt: &HostRuntime, roads: &Roads, texts: &[&str]) -> Result<boo
 
 #[test]
 fn contents_by_hand(rt: HostRuntime) -> Result<(), Fail> {
-    assert!(rt; are_texts_same(&rt, &Roads::new(&rt, plain_options())?, TEXTS)?);
+    let roads = Roads::new(&rt, plain_options())?;
+    assert!(rt; are_texts_same(&rt, &roads, TEXTS)?);
+    assert!(rt; are_texts_same(&rt, &roads, MARK_TEXTS)?);
     let roads = Roads::new(&rt, full_options())?;
     assert!(rt; are_texts_same(&rt, &roads, TEXTS)?);
+    assert!(rt; are_texts_same(&rt, &roads, MARK_TEXTS)?);
     assert!(rt; are_texts_same(&rt, &roads, GFM_TEXTS)?);
     Ok(())
 }

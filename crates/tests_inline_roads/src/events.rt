@@ -209,7 +209,7 @@ impl<'a> Reading<'a> {
             Name::SpaceOrTab | Name::Resource | Name::Reference => {},
             Name::LabelLink | Name::LabelImage | Name::LabelEnd => {},
             Name::EmphasisSequence | Name::StrongSequence => {},
-            Name::GfmStrikethroughSequence => {},
+            Name::GfmStrikethroughSequence | Name::MarkSequence => {},
             Name::CharacterEscape => {
                 push_part(out, b"escape ", part(self.between(from, to), 1, 1))?;
             },
@@ -239,6 +239,7 @@ impl<'a> Reading<'a> {
             Name::Emphasis => push_part(out, b"+", b"emphasis"),
             Name::Strong => push_part(out, b"+", b"strong"),
             Name::GfmStrikethrough => push_part(out, b"+", b"strikethrough"),
+            Name::Mark => push_part(out, b"+", b"mark"),
             Name::Link => {
                 push_part(out, b"+", b"link")?;
                 self.push_target(out, index, self.end_of(index, Name::Link))
@@ -248,7 +249,7 @@ impl<'a> Reading<'a> {
                 self.push_target(out, index, self.end_of(index, Name::Image))
             },
             Name::Label | Name::LabelText | Name::EmphasisText => Ok(()),
-            Name::StrongText | Name::GfmStrikethroughText => Ok(()),
+            Name::StrongText | Name::GfmStrikethroughText | Name::MarkText => Ok(()),
             _ => push_part(out, b"unknown", b""),
         }
     }
@@ -256,9 +257,10 @@ impl<'a> Reading<'a> {
     /// The end of what holds others.
     fn push_exit(&self, out: &mut Vec<u8>, name: Name) -> Result<(), Fail> {
         match name {
-            Name::Emphasis | Name::Strong | Name::GfmStrikethrough | Name::Link | Name::Image => {
+            Name::Emphasis | Name::Strong | Name::GfmStrikethrough | Name::Mark => {
                 push_part(out, b"-", b"")
             },
+            Name::Link | Name::Image => push_part(out, b"-", b""),
             _ => Ok(()),
         }
     }

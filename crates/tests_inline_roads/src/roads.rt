@@ -31,10 +31,11 @@ pub fn plain_options() -> ParseOptions {
     }
 }
 
-/// GFM, with math.
+/// GFM, with math and marked text.
 pub fn full_options() -> ParseOptions {
     ParseOptions {
         constructs: Constructs {
+            mark: true,
             math_text: true,
             ..Constructs::gfm()
         },

@@ -110,6 +110,7 @@ fn push_row(out: &mut Vec<u8>, row: &InlineRow<'_>) -> Result<(), Fail> {
         InlineRow::EnterSpan(Span::Emphasis) => push_part(out, b"+", b"emphasis"),
         InlineRow::EnterSpan(Span::Strong) => push_part(out, b"+", b"strong"),
         InlineRow::EnterSpan(Span::Strikethrough) => push_part(out, b"+", b"strikethrough"),
+        InlineRow::EnterSpan(Span::Mark) => push_part(out, b"+", b"mark"),
         InlineRow::EnterLink(target) => {
             push_part(out, b"+", b"link")?;
             push_target(out, target)

@@ -53,6 +53,29 @@ pub const TEXTS: &[&str] = &[
     "\u{201C}*a*\u{201D}*b*\u{E9}*c*",
 ];
 
+/// Contents with runs of equals signs.
+pub const MARK_TEXTS: &[&str] = &[
+    "a ==b== c ===d=== =e=",
+    "==a *b== c* *d ==e* f==",
+    "![==a==](b) [==a==](b) ==[a](b)== [==a](b)==",
+    "\\==a== ==a\\== &#61;=a==",
+    "a\n==b==\n== c",
+    "==a==b== a==b==c ==a ==b== c==",
+    "== a== ==a == ==a== ==b==",
+    "==a= =a== ==a=== ===a==",
+    "***==a==*** ==**b**== _==c==_ ==~~d~~==",
+    "==a~~b==c~~ ~~a==b~~c==",
+    "==`==` `==a==` ==$==$",
+    "<b c==d> <a:b==>==",
+    "a==\"b\"==c a==\u{201C}b\u{201D}==c",
+    "==www.a.b== ==http://a.b c==",
+    "==a@b.c== a==@b.c a@b==c.d",
+    "[==foo==] [foo]==== ==[^a]==",
+    "[^==a==] ![^==x==]",
+    "  ==a==  \n  ==b==  ",
+    "== ====  ==\t== =",
+];
+
 /// Contents with each construct of GFM, alone and in others.
 pub const GFM_TEXTS: &[&str] = &[
     "www.a.b http://c.d https://e_f.g.",

@@ -26,6 +26,8 @@ mod joined;
 #[cfg(test)]
 mod labels;
 #[cfg(test)]
+mod mark;
+#[cfg(test)]
 mod memory;
 #[cfg(test)]
 mod pairs;

@@ -8,6 +8,7 @@ use crate::gfm_label_start_footnote;
 use crate::gfm_task_list_item::TASKS;
 use crate::inline::{BESIDE, INLINE, MARKED, REFERENCES};
 use crate::joined::first_unjoined;
+use crate::mark::MARK;
 use crate::memory::CONTAINERS;
 use crate::rows::{LEAVES, PLAIN};
 use crate::worked::{COMMONMARK, GFM};
@@ -20,6 +21,7 @@ fn everything() -> Options
     ensures { HasNoMdx result }
 {
     let mut options = Options::gfm();
+    options.parse.constructs.mark = true;
     options.parse.constructs.math_text = true;
     options.parse.constructs.math_flow = true;
     options.parse.constructs.frontmatter = true;
@@ -113,6 +115,11 @@ fn prints_worked_texts_beside_blocks(rt: HostRuntime) -> Result<(), RunError> {
 fn prints_worked_texts_beside_math(rt: HostRuntime) -> Result<(), RunError> {
     assert_none_apart(&rt, MATH_FLOW)?;
     assert_none_apart(&rt, MATH_TEXT)
+}
+
+#[test]
+fn prints_worked_texts_beside_marked_text(rt: HostRuntime) -> Result<(), RunError> {
+    assert_none_apart(&rt, MARK)
 }
 
 #[test]

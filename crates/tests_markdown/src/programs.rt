@@ -103,6 +103,15 @@ fn prints_pages(rt: HostRuntime) -> io::Result<()> {
     prints(&rt, &["--plain", "--dangerous"], text, plain)?;
     prints(&rt, &["--plain", "--gfm"], text, plain)?;
     prints(&rt, &["--gfm"], b"~a~", "<p><del>a</del></p>")?;
+    prints(&rt, &["--mark"], b"==a== ~b~", "<p><mark>a</mark> ~b~</p>")?;
+    prints(
+        &rt,
+        &["--gfm", "--mark"],
+        b"==a== ~b~",
+        "<p><mark>a</mark> <del>b</del></p>",
+    )?;
+    prints(&rt, &["--mark", "--plain"], b"==a==", "<p>==a==</p>")?;
+    prints(&rt, &[], b"==a==", "<p>==a==</p>")?;
     let filtered = "<p>a <b>&lt;title></b></p>";
     let html = b"a <b><title></b>";
     prints(&rt, &["--gfm", "--dangerous"], html, filtered)?;
@@ -127,6 +136,9 @@ fn refuses_words(rt: HostRuntime) -> io::Result<()> {
         ["--plain=true"].as_slice(),
         ["--plain", "--plain"].as_slice(),
         ["--gfm", "--gfm"].as_slice(),
+        ["--mark", "--mark"].as_slice(),
+        ["--marked"].as_slice(),
+        ["--mar"].as_slice(),
         ["--references"].as_slice(),
     ] {
         complains(&rt, words, b"a", 2, fault)?;
@@ -142,17 +154,27 @@ fn prints_help(rt: HostRuntime) -> io::Result<()> {
 }
 
 const HELP: &str = "\
-Converts Markdown on standard input to HTML on standard output.
+Converts Markdown on standard input to safe HTML on standard output.
 
-Usage: markdown [OPTIONS]
+Usage: markdown [OPTIONS] < page.md > page.html
 
 Options:
-      --gfm                Read tables, task lists, strikethrough, footnotes and bare links, as GitHub does
-      --dangerous          Print HTML of the text as it is, and let links and images have any protocol
-      --plain              Read paragraphs alone: every construct is off
-      --references <PATH>  Read names of characters from a file, with a line NAME=HEX or NAME=HEX+HEX for each
+      --gfm                Read GitHub Flavored Markdown: tables, task lists,
+                           strikethrough, footnotes and bare links. With
+                           --dangerous, escape GitHub's filtered tags
+      --mark               Read ==text== as marked text
+      --dangerous          Keep raw HTML and URLs with any protocol. Only for
+                           input from trusted authors
+      --plain              Turn every construct off, also with --gfm or --mark
+      --references <PATH>  Read more names of character references from a file,
+                           NAME=HEX or NAME=HEX+HEX on each line
   -h, --help               Print help
   -V, --version            Print version
+
+Exit status:
+  0  the whole page was written
+  1  it was not; standard error has the reason
+  2  the command line is wrong
 
 Examples:
   markdown < page.md > page.html

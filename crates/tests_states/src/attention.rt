@@ -1,6 +1,6 @@
-//! Emphasis, strong emphasis and strikethrough, once the resolvers ran.
+//! Emphasis, strong emphasis, strikethrough and marked text, once the resolvers ran.
 use crate::display::{resolved_events, resolved_string_events};
-use markdown_engine::ParseOptions;
+use markdown_engine::{Constructs, ParseOptions};
 use std::test::Fail;
 
 /// Whether these are the events of a text once its resolvers ran.
@@ -18,6 +18,29 @@ fn pairs(rt: HostRuntime) -> Result<(), Fail> {
          +GfmStrikethroughText2 +Data2 -Data3 -GfmStrikethroughText3 +GfmStrikethroughSequence3 \
          -GfmStrikethroughSequence5 -GfmStrikethrough5 ";
     assert!(rt; is_emphasized(&rt, b"~~a~~", wanted)?);
+    Ok(())
+}
+
+/// CommonMark and marked text.
+fn marked() -> ParseOptions {
+    ParseOptions {
+        constructs: Constructs {
+            mark: true,
+            ..Constructs::default()
+        },
+        ..ParseOptions::default()
+    }
+}
+
+#[test]
+fn marked_text(rt: HostRuntime) -> Result<(), Fail> {
+    let wanted = "+Mark0 +MarkSequence0 -MarkSequence2 +MarkText2 +Data2 -Data3 -MarkText3 \
+         +MarkSequence3 -MarkSequence5 -Mark5 ";
+    let out = resolved_events(&rt, &marked(), "a", "a", b"==a==")?;
+    assert!(rt; out.as_str() == wanted);
+    let out = resolved_events(&rt, &marked(), "a", "a", b"=a= ===b===")?;
+    assert!(rt; out.as_str() == "+Data0 -Data11 ");
+    assert!(rt; is_emphasized(&rt, b"==a==", "+Data0 -Data5 ")?);
     Ok(())
 }
 

@@ -19,6 +19,7 @@ TABLES              a row of delimiters below a line, as ``| - | - |``, makes a 
 AUTOLINK_LITERALS   ``www.a.b``, ``https://a.b`` and ``a@b.c`` are links
 FOOTNOTES           ``[^a]`` calls the footnote that ``[^a]: b`` defines
 TAGFILTER           with DANGEROUS: escape ``<`` before nine names, as ``script``
+MARK                ``==a==`` is marked text
 GFM                 what GitHub turns on: the six flags for strikethrough, task list items, tables, links, footnotes, tag filter
 
 Threads may call at the same time; a call doesn't hold the interpreter's lock while it converts.
@@ -29,7 +30,7 @@ from typing import Final, Union, overload
 
 __all__ = [
     "to_html", "DANGEROUS", "PLAIN", "STRIKETHROUGH", "MATH", "FRONTMATTER", "TASK_LIST_ITEMS", "TABLES", "AUTOLINK_LITERALS",
-    "FOOTNOTES", "TAGFILTER", "GFM",
+    "FOOTNOTES", "TAGFILTER", "MARK", "GFM",
 ]
 
 DANGEROUS: Final = 1
@@ -42,6 +43,7 @@ TABLES: Final = 64
 AUTOLINK_LITERALS: Final = 128
 FOOTNOTES: Final = 256
 TAGFILTER: Final = 512
+MARK: Final = 1024
 GFM: Final = STRIKETHROUGH + TASK_LIST_ITEMS + TABLES + AUTOLINK_LITERALS + FOOTNOTES + TAGFILTER
 
 _OK, _ROOM, _MEMORY = 0, 1, 5

@@ -1,12 +1,12 @@
 """Reads Markdown from standard input, and writes its HTML to standard output.
 
-    python -m markdown_proved [--gfm] [--dangerous] [--plain]
+    python -m markdown_proved [--gfm] [--mark] [--dangerous] [--plain]
 """
 import sys
 
-from . import DANGEROUS, GFM, PLAIN, to_html
+from . import DANGEROUS, GFM, MARK, PLAIN, to_html
 
-FLAGS = {"--gfm": GFM, "--dangerous": DANGEROUS, "--plain": PLAIN}
+FLAGS = {"--gfm": GFM, "--mark": MARK, "--dangerous": DANGEROUS, "--plain": PLAIN}
 
 
 def main() -> int:

@@ -41,8 +41,8 @@ returns-in-Ok-clause-options c =
     let value : (id : Text) → is_true_text (first_value (found_of c.in-Ok.matches) id)
     ≡ is_true_text (first_of id (rows_of_words (map string_bytes c.args.words.now))) =
     λ id. ap is_true_text (value_is _ _ _ id c.in_ok-command.ensures c.in-Ok.ensures.matches) in
-    let options =
-    ap₂ (λ (of : Bool → Options) plain. of plain) (ap₂ flag_options (value (codes "gfm")) (value (codes "dangerous"))) (value (codes "plain")) in
+    let read = ap₂ (λ (of : Bool → Bool → Options) dangerous. of dangerous) (ap₂ flag_options (value (codes "gfm")) (value (codes "mark"))) (value (codes "dangerous")) in
+    let options = ap₂ (λ (of : Bool → Options) plain. of plain) read (value (codes "plain")) in
     IfOk-weaker c.settings_of.result _ _ (λ s is. is ∙ options) c.settings_of.ensures.options
 
 pub returns-in-Ok-clause-references : goal.returns-in-Ok-clause-references
