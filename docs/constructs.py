@@ -47,6 +47,7 @@ SHARED = {
     "definition_inline/Attention.antt": "gfm_strikethrough",
     "definition_inline/NextPair.antt": "attention gfm_strikethrough",
     "definition_inline/Pairing.antt": "attention gfm_strikethrough",
+    "definition_inline/Parts.antt": "definition label_end",
     "definition_inline/Resource.antt": "label_end",
     "definition_inline/RunPairs.antt": "attention gfm_strikethrough",
     "definition_inline/Scan.antt": "label_start_image label_start_link",
@@ -113,6 +114,8 @@ SHARED = {
 }
 # Laws whose names have another word before `_law` than the construct that they speak of.
 LAW_NAMES = {
+    "constructs": "attention autolink character_escape character_reference code_text gfm_autolink_literal gfm_label_start_footnote"
+    " gfm_strikethrough hard_break_escape hard_break_trailing html_text label_end label_start_image label_start_link math_text",
     "escape": "character_escape",
     "escaped_page": "character_escape",
     "first_match": "label_end",
@@ -138,6 +141,7 @@ LAW_NAMES = {
     "quotes": "block_quote",
     "references": "label_end",
     "string_escape": "character_escape",
+    "string_parts": "character_escape character_reference",
 }
 # Why a construct has nothing in a room.
 WITHOUT = {

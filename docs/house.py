@@ -2,6 +2,21 @@
 """Prints what a construct costs in this repository: how many files name it, by group, and how large specifications and proofs are.
 
 usage: docs/house.py            the figures, one a line
+
+Files are those of git that end in `.rt` or `.antt`, in `crates/`. Counts by group use the first word of the crate's name.
+
+  files that name strikethrough  the word in any case, in code, specifications, proofs or comments
+  files that name Math           the leaf `Math`, or the word in a comment; not imports of std's module `proofs.Math`
+  .. without tests, ..           the same, without tests, examples, benchmarks and the machines
+  by cases over leaves           specifications and proofs (without tests, examples, machines and events) in which clauses of one function take
+                                 two thirds of the constructors of InlineLeaf or more
+  by cases over spans            those in which clauses of one function take all of SpanKind's, or all but the last
+  by cases over the four kinds   those in which clauses of one function take Leaf, Span, Linked and Call
+  by cases over blocks           those in which clauses of one function take two thirds of the constructors of a block or more
+  names with two types           names that specifications of definition_page and of html_bytes both have, with different types
+  lines                          of all files in `src`, `specs` and `proofs`
+
+Before the inline tree had four kinds of parts, `Inline` had these leaves and spans as constructors of its own: the counts by cases are the same there.
 """
 import collections
 import re
@@ -13,9 +28,16 @@ TOP = Path(__file__).resolve().parent.parent
 # Groups whose files count apart: tests and examples, and the machines of the road by states.
 TESTS = ("tests_", "examples_", "markdown_bench")
 MACHINES = ("engine_", "state_", "markdown_engine")
-# The constructors of the definition's trees, by which files go by cases.
-INLINE = "Data Escape Character Code Math Autolink Literal Html EscapedBreak TrailingBreak LineEnd Emphasis Strong Strikethrough Link Image Call".split()
+# The constructors of the definition's trees, by which files go by cases: what they are of, their names, and how many of them one function has to take.
+LEAF = "Data Escape Character Code Math Autolink Literal Html EscapedBreak TrailingBreak LineEnd TaskCheck".split()
+SPAN = "Emphasis Strong Strikethrough".split()
+PART = "Leaf Span Linked Call".split()
 BLOCK = "Paragraph Heading Break IndentedCode FencedCode Html Table Definition Holds Items Ending Blank".split()
+CASES = (("leaves", LEAF, 8), ("spans", SPAN, 2), ("the four kinds of inline parts", PART, 4), ("blocks", BLOCK, 8))
+# Groups in which no case counts: their names, such as those of events, are others.
+APART = ("tests and examples", "machines", "event")
+# The leaf, not std's module.
+MATH = re.compile(r"(?<!proofs\.)\bMath\b")
 
 
 def tracked(*endings):
@@ -41,23 +63,22 @@ def main():
     files = tracked(".rt", ".antt")
     text = {it: (TOP / it).read_text(encoding="utf-8") for it in files}
     print("files that name strikethrough:", by_group([it for it in files if "strikethrough" in text[it].lower()]))
-    named = [it for it in files if re.search(r"\bMath\b", text[it])]
+    named = [it for it in files if MATH.search(text[it])]
     print("files that name Math:", by_group(named))
     inner = [it for it in named if group_of(it) not in ("tests and examples", "machines")]
     print("files that name Math, without tests, examples and machines:", len(inner))
-    # A file goes by cases where clauses of one function take most of the constructors.
-    for what, names in (("inline", INLINE), ("block", BLOCK)):
+    for what, names, least in CASES:
         rows = []
         for it in files:
-            if not it.endswith(".antt") or group_of(it) in ("tests and examples", "machines"):
+            if not it.endswith(".antt") or group_of(it) in APART:
                 continue
             heads = re.findall(r"^\s*([\w-]+)(?: [^\n=]*?)? \(?(?:\w+\.)?(" + "|".join(names) + r")\b[^\n]*=", text[it], re.M)
             cases = collections.defaultdict(set)
             for function, name in heads:
                 cases[function].add(name)
-            if any(len(found) * 3 >= len(names) * 2 for found in cases.values()):
+            if any(len(found) >= least for found in cases.values()):
                 rows.append(it)
-        print(f"files by cases over the {what} constructors:", by_group(rows))
+        print(f"files by cases over {what}:", by_group(rows))
     names = collections.defaultdict(dict)
     for it in files:
         if "/specs/" in it:
