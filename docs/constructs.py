@@ -44,17 +44,18 @@ SHARED = {
     "definition_inline/HtmlTags.antt": "html_flow html_text",
     "definition_inline/Label.antt": "definition label_end",
     "definition_inline/CodeText.antt": "math_text",
-    "definition_inline/Attention.antt": "gfm_strikethrough",
-    "definition_inline/NextPair.antt": "attention gfm_strikethrough",
-    "definition_inline/Pairing.antt": "attention gfm_strikethrough",
+    "definition_inline/Attention.antt": "gfm_strikethrough mark",
+    "definition_inline/NextPair.antt": "attention gfm_strikethrough mark",
+    "definition_inline/Pairing.antt": "attention gfm_strikethrough mark",
     "definition_inline/Parts.antt": "definition label_end",
     "definition_inline/Resource.antt": "label_end",
-    "definition_inline/RunPairs.antt": "attention gfm_strikethrough",
+    "definition_inline/RunPairs.antt": "attention gfm_strikethrough mark",
     "definition_inline/Scan.antt": "label_start_image label_start_link",
-    "definition_inline/Spans.antt": "attention gfm_strikethrough",
+    "definition_inline/SpanRows.antt": "attention gfm_strikethrough mark",
+    "definition_inline/Spans.antt": "attention gfm_strikethrough mark",
     "definition_inline/Title.antt": "definition label_end",
     "block_parser/code_fenced.rt": "math_flow",
-    "inline_content/run.rt": "attention gfm_strikethrough",
+    "inline_content/run.rt": "attention gfm_strikethrough mark",
     "inline_content/previous.rt": "gfm_autolink_literal",
     "state_edits_data/RawText.antt": "code_text math_text",
     "state_edits_data/raw_text": "code_text math_text",
@@ -72,16 +73,16 @@ SHARED = {
     "inline_literals/name.rt": "gfm_autolink_literal",
     "inline_parser/label.rt": "label_start_image label_start_link",
     "inline_references/reference.rt": "character_reference",
-    "inline_runs/pairing.rt": "attention gfm_strikethrough",
-    "inline_runs/run.rt": "attention gfm_strikethrough",
-    "inline_runs/spans.rt": "attention gfm_strikethrough",
-    "inline_rows/tell.rt": "attention gfm_strikethrough",
+    "inline_runs/pairing.rt": "attention gfm_strikethrough mark",
+    "inline_runs/run.rt": "attention gfm_strikethrough mark",
+    "inline_runs/spans.rt": "attention gfm_strikethrough mark",
+    "inline_rows/tell.rt": "attention gfm_strikethrough mark",
     "state_leaves/RawText.antt": "code_text math_text",
     "state_leaves/raw_text.rt": "code_text math_text",
     "state_verdicts/RawText.antt": "code_text math_text",
     "inline_tags/tags.rt": "html_flow html_text",
     "html_inline/leaf.rt": "autolink character_escape character_reference hard_break_escape hard_break_trailing",
-    "html_inline/rows.rt": "attention gfm_strikethrough label_end",
+    "html_inline/rows.rt": "attention gfm_strikethrough label_end mark",
     "html_inline/string.rt": "character_escape character_reference",
     "html_inline/url.rt": "autolink label_end",
     "html_leaves/code_fenced.rt": "math_flow",
@@ -112,10 +113,12 @@ SHARED = {
     "state_labels/partial_title.rt": "label_end",
     "state_labels/start.rt": "label_start_image label_start_link",
 }
+# Files with the name of a construct that are of something else: what is before a line, the byte order mark, and the marks of items.
+OTHERS = {"block_starts/MarkLemmas.antt", "inline_content/mark.rt", "text_lines/mark", "text_lines/mark.rt"}
 # Laws whose names have another word before `_law` than the construct that they speak of.
 LAW_NAMES = {
     "constructs": "attention autolink character_escape character_reference code_text gfm_autolink_literal gfm_label_start_footnote"
-    " gfm_strikethrough hard_break_escape hard_break_trailing html_text label_end label_start_image label_start_link math_text",
+    " gfm_strikethrough hard_break_escape hard_break_trailing html_text label_end label_start_image label_start_link mark math_text",
     "escape": "character_escape",
     "escaped_page": "character_escape",
     "first_match": "label_end",
@@ -219,7 +222,8 @@ def laws_in(path):
 def constructs_of(crate, part, path, room):
     """The constructs that a file is of."""
     file = os.path.basename(path)
-    yield stem_of(file)
+    if f"{crate}/{file}" not in OTHERS:
+        yield stem_of(file)
     yield from SHARED.get(f"{crate}/{file}", "").split()
     if room == "Laws" and part == "src":
         yield from laws_in(path)
@@ -246,6 +250,7 @@ def stale_entries(names):
             if room_of(crate, part) == "Laws" and part == "src":
                 laws.update(law_names(path))
     yield from (f"SHARED has {it}, which is no file" for it in SHARED if it not in files)
+    yield from (f"OTHERS has {it}, which is no file" for it in OTHERS if it not in files)
     yield from (f"LAW_NAMES has {it}, which is no law" for it in LAW_NAMES if it not in laws)
     for entries in (SHARED, LAW_NAMES):
         for entry, words in entries.items():

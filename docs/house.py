@@ -10,7 +10,7 @@ Files are those of git that end in `.rt` or `.antt`, in `crates/`. Counts by gro
   .. without tests, ..           the same, without tests, examples, benchmarks and the machines
   by cases over leaves           specifications and proofs (without tests, examples, machines and events) in which clauses of one function take
                                  two thirds of the constructors of InlineLeaf or more
-  by cases over spans            those in which clauses of one function take all of SpanKind's, or all but the last
+  by cases over spans            those in which clauses of one function take two or more of SpanKind's
   by cases over the four kinds   those in which clauses of one function take Leaf, Span, Linked and Call
   by cases over blocks           those in which clauses of one function take two thirds of the constructors of a block or more
   names with two types           names that specifications of definition_page and of html_bytes both have, with different types
@@ -30,7 +30,7 @@ TESTS = ("tests_", "examples_", "markdown_bench")
 MACHINES = ("engine_", "state_", "markdown_engine")
 # The constructors of the definition's trees, by which files go by cases: what they are of, their names, and how many of them one function has to take.
 LEAF = "Data Escape Character Code Math Autolink Literal Html EscapedBreak TrailingBreak LineEnd TaskCheck".split()
-SPAN = "Emphasis Strong Strikethrough".split()
+SPAN = "Emphasis Strong Strikethrough Mark".split()
 PART = "Leaf Span Linked Call".split()
 BLOCK = "Paragraph Heading Break IndentedCode FencedCode Html Table Definition Holds Items Ending Blank".split()
 CASES = (("leaves", LEAF, 8), ("spans", SPAN, 2), ("the four kinds of inline parts", PART, 4), ("blocks", BLOCK, 8))
