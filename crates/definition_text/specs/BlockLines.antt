@@ -26,7 +26,7 @@ last_ending_or ending (line ∷ others) = last_ending_or line.ending others
 abbrev pub last_ending : List BlockLine → Option LineEnding
 last_ending ls = last_ending_or None ls
 
--- the lines of a block: the ending of its last line stands outside
+-- the lines of a block: the ending of its last line isn't among them
 abbrev pub own_lines : List BlockLine → List BlockLine
 own_lines [] = []
 own_lines (line ∷ []) = block_line line.codes None line.before ∷ []

@@ -1,11 +1,11 @@
--- What the codes of a content stand for (CommonMark 2.1 and 2.2).
+-- What the codes of a content mean (CommonMark 2.1 and 2.2).
 use Rattle.std.specs.Prelude.{ℕ, Bool, true, not, ◌&&◌, nat_lt}
 use Rattle.markdown_options.specs.declared.line_ending.LineEnding.{LineEnding}
 use Rattle.definition_text.specs.Lines.{ends_line}
 use Rattle.definition_text.specs.Columns.{Code, tab_column}
 use Rattle.definition_text.specs.Content.{line_ending_code}
 
--- a byte, a column that is left of a tab, or a line ending
+-- a byte, a remaining column of a tab, or a line ending
 pub data Symbol : Type 0 where
   Byte : ℕ → Symbol
   Column : Symbol

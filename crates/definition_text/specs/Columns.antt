@@ -3,8 +3,8 @@ use Rattle.std.specs.Prelude.{ℕ, ◌+◌, ◌-◌, ◌%◌, Bool, not, if◌th
 use Rattle.std.specs.List.{prefix_len, suffix_len, list_all, filter}
 use Rattle.definition_text.specs.Ascii.{tab, space}
 
--- A code is a number that stands for a byte, for a column of a tab after its first (256), or, in a content, for a line ending (10, 13, and 257 for CR LF).
--- Codes.antt has the three as a type. A byte is its own code, so what is asked of codes can be asked of bytes, too.
+-- A code is a number. It means a byte, a column of a tab after its first (256), or in a content a line ending (10, 13, and 257 for CR LF).
+-- Codes.antt has the three as a type. A byte is its own code, so each test of codes is a test of bytes, too.
 abbrev pub Code : Type 0
 Code = ℕ
 
@@ -40,7 +40,7 @@ is_white code = (code == space) || (code == tab) || (code == tab_column)
 abbrev pub is_blank : Rest → Bool
 is_blank rest = list_all is_white rest
 
--- the columns of spaces and tabs ahead
+-- the columns of spaces and tabs at the front
 abbrev pub indent : Rest → ℕ
 indent rest = prefix_len is_white rest
 
@@ -51,7 +51,7 @@ bare rest = drop (indent rest) rest
 abbrev pub is_tab_column : Code → Bool
 is_tab_column code = code == tab_column
 
--- a code of a rest that is a byte: no line ending is a code of a rest
+-- a code that is a byte; no code of a rest is a line ending
 abbrev pub is_byte : Code → Bool
 is_byte code = not (is_tab_column code)
 
@@ -59,11 +59,11 @@ is_byte code = not (is_tab_column code)
 abbrev pub bytes_of : Rest → List ℕ
 bytes_of rest = filter is_byte rest
 
--- a column that is left of a tab as a byte: a space
+-- a remaining column of a tab as a byte: a space
 abbrev pub code_byte : Code → ℕ
 code_byte code = if is_tab_column code then space else code
 
--- a rest as it stands in a block: the columns left of a tab that a prefix ended in, and the bytes
+-- a rest as it is in a block: the remaining columns of a tab in which a prefix ended, and the bytes
 abbrev pub block_codes : Rest → List Code
 block_codes rest = take (prefix_len is_tab_column rest) rest ++ bytes_of rest
 

@@ -8,7 +8,7 @@ use Rattle.definition_text.specs.Lines.{ending_text}
 use Rattle.definition_text.specs.Columns.{Code, is_white, code_byte}
 use Rattle.definition_text.specs.BlockLines.{BlockLine, own_lines}
 
--- A code of a content is a byte that ends no line, 256 for a column that is left of a tab, or the one code of a line ending (Codes.antt).
+-- A code of a content is a byte that ends no line, 256 for a remaining column of a tab, or the one code of a line ending (Codes.antt).
 
 -- the one code of CR LF
 abbrev pub return_and_feed : Code
@@ -28,7 +28,7 @@ is_eol code = (code == line_feed) || (code == carriage_return) || (code == retur
 abbrev pub is_space : Code → Bool
 is_space code = is_white code || is_eol code
 
--- a CR stands before these bytes, whose codes are given: with an LF right after it, it is one code
+-- a CR is before these bytes, whose codes are given: with an LF right after it, it is one code
 abbrev pub after_return_code : List ℕ → List Code → List Code
 after_return_code [] codes = carriage_return ∷ codes
 after_return_code (b ∷ bs) codes = if b == line_feed then return_and_feed ∷ drop 1 codes else carriage_return ∷ codes
@@ -51,7 +51,7 @@ line_codes line = line.codes ++ ending_code line.ending
 abbrev pub content_of : List BlockLine → List Code
 content_of block_lines = flat_map line_codes block_lines
 
--- the bytes of a line with its ending: a column that is left of a tab is a space
+-- the bytes of a line with its ending: a remaining column of a tab is a space
 abbrev pub line_text : BlockLine → List ℕ
 line_text line = map code_byte line.codes ++ ending_text line.ending
 
@@ -67,7 +67,7 @@ pub record Part : Type 0 where
 abbrev pub part : List Code → List Code → Part
 part text rest = record { text = text; rest = rest }
 
--- what stands before the rest of a content
+-- the codes before the rest of a content
 abbrev pub text_before : List Code → List Code → List Code
 text_before content rest = take (length content - length rest) content
 
@@ -85,6 +85,6 @@ closed_by content (Some rest) = Some (part (text_before content rest) (drop 1 re
 abbrev pub may_escape : Bool → Code → Bool
 may_escape escaped code = (code == backslash) && not escaped
 
--- whether only spaces and tabs stand between the last line ending and the place after this code, given the same for the place before it
+-- whether only spaces and tabs are between the last line ending and the place after this code, given the same for the place before it
 abbrev pub at_line_start : Bool → Code → Bool
 at_line_start start code = is_eol code || (start && is_white code)

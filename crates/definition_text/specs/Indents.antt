@@ -7,6 +7,6 @@ use Rattle.definition_text.specs.Columns.{Rest, indent}
 abbrev pub small_indent : Constructs → Rest → Bool
 small_indent on rest = leb (indent rest) 3 || not on.code_indented
 
--- the rest without its first columns of spaces and tabs, at most so many (CommonMark 2.2)
+-- the rest without at most this many columns of spaces and tabs at the front (CommonMark 2.2)
 abbrev pub outdent : ℕ → Rest → Rest
 outdent most rest = drop (min most (indent rest)) rest

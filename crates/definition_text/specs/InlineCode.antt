@@ -1,4 +1,4 @@
--- The content of a block as codes that know what stands beside them (CommonMark 6.2).
+-- The content of a block as codes with their neighbours (CommonMark 6.2).
 use Rattle.std.specs.Prelude.{Option, None, Some, ℕ, ◌+◌, ◌-◌, ◌*◌, Bool, if◌then◌else◌, ◌&&◌, nat_lt, nat_le, List, [], ◌∷◌, map, slice_index}
 use Rattle.std.specs.List.{flat_map}
 use Rattle.std.specs.Char.{is_whitespace}
@@ -63,7 +63,7 @@ with_kinds is_punctuation previous before after (c ∷ cs) =
     inline_code c previous before (first_kind is_punctuation after cs)
     ∷ with_kinds is_punctuation (Some c) (next_kind is_punctuation before (c ∷ cs)) after cs
 
--- the codes of a line with its ending, in which a column that is left of a tab is a space; the kind of the character after the content is given
+-- the codes of a line with its ending, in which a remaining column of a tab is a space; the kind of the character after the content is given
 abbrev pub line_content : (ℕ → Bool) → Kind → BlockLine → List InlineCode
 line_content is_punctuation after line = with_kinds is_punctuation None line.before after (map code_byte (line_codes line))
 

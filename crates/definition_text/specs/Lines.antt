@@ -15,12 +15,12 @@ pub record TextLine : Type 0 where
 abbrev pub text_line : List ℕ → Option LineEnding → TextLine
 text_line content ending = record { content = content; ending = ending }
 
--- a byte that ends no line stands before these lines
+-- a byte that ends no line is before these lines
 abbrev pub in_first_line : ℕ → List TextLine → List TextLine
 in_first_line b [] = text_line (b ∷ []) None ∷ []
 in_first_line b (line ∷ others) = text_line (b ∷ line.content) line.ending ∷ others
 
--- a CR stands before these bytes, whose lines are given: with an LF right after it, it is one ending
+-- a CR is before these bytes, whose lines are given: with an LF right after it, it is one ending
 abbrev pub after_return : List ℕ → List TextLine → List TextLine
 after_return [] others = text_line [] (Some CarriageReturn) ∷ others
 after_return (b ∷ bs) others =

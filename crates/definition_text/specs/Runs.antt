@@ -10,6 +10,6 @@ run byte text = prefix_len (λ b. b == byte) text
 abbrev pub after_run : ℕ → List ℕ → List ℕ
 after_run byte text = drop (run byte text) text
 
--- so many of this byte or more, and then only spaces and tabs
+-- at least this many of the byte, then only spaces and tabs
 abbrev pub is_run : ℕ → ℕ → List ℕ → Bool
 is_run least byte text = leb least (run byte text) && list_all is_white (after_run byte text)

@@ -12,11 +12,11 @@ use engine_events::Event;
 use markdown_options::Message;
 use std::alloc::{AllocError, Allocator};
 
-/// Puts one chain's edits into the map: each chunk is replaced by its part of the child events,
-/// with their links to where they stand afterwards.
+/// Adds the edits of one chain to the map: each chunk is replaced by its part of the child events,
+/// whose links are updated.
 ///
-/// Answers how many events go and come by the edits so far, given how many did before the chain.
-/// After an error nothing is said of the map.
+/// Returns how many events all edits up to here remove and insert, given the counts before the
+/// chain. After an error the map may have any edits.
 pub fn divide_events<A: Allocator + Clone>(
     alloc: A,
     map: &mut EditMap<A>,

@@ -5,7 +5,7 @@ ghost use Rattle.engine_chunks.specs.Joins.{link_all, link_to, update_at, with_n
 
 use engine_events::{Event, Link};
 
-/// Joins the chunk at an index to the one that is two events before: no event stands between.
+/// Links the chunk at an index to the one two events before. No event is between them.
 pub fn link(events: &mut [Event], index: usize)
     requires after { 2 ≤ index }
     requires within { index < length events.old }

@@ -9,9 +9,9 @@ use std::alloc::{AllocError, Allocator};
 /// An edit at a place of a list.
 #[derive(Drop)]
 pub struct Edit<A: Allocator> {
-    /// How many events go.
+    /// How many events are removed.
     pub remove: usize,
-    /// What comes in their place.
+    /// The events that replace them.
     pub add: Vec<Event, A>,
 }
 

@@ -31,10 +31,10 @@ impl<A: Allocator + Clone> EditMap<A> {
     ghost use Rattle.markdown_options.specs.Messages.{IsOutOfMemory};
     ghost use Rattle.engine_edits.specs.Edits.{edits_of, with_edit, with_new, has_place};
 
-    /// Adds an edit: at an index of the list so many events go, and others come in their place.
+    /// Adds an edit: at an index of the list `remove` events are removed and others are inserted.
     ///
-    /// At one index removals add up, to at most `usize::MAX`, which no list has, and the events come
-    /// after those there.
+    /// At one index removals add up, to at most `usize::MAX`, and inserted events come after
+    /// earlier ones.
     pub fn add(&mut self, index: usize, remove: usize, add: Vec<Event, A>) -> Result<(), Message>
         ensures edits { OnOk result (edits_of self.new ≡ with_edit false index remove add.items (edits_of self.old)) }
         ensures err { OnErr result (edits_of self.new ≡ edits_of self.old) }
@@ -171,10 +171,11 @@ impl<A: Allocator + Clone> EditMap<A> {
     ghost use Rattle.engine_edits.specs.Edits.{edits_of};
     ghost use Rattle.engine_edits.specs.Replacement.{IsOrdered, events_after};
 
-    /// Makes all edits at once, counted in the list as it was, and forgets them.
+    /// Makes all edits at once, and clears the map.
     ///
-    /// Links between events that stay are kept, and an end whose event went becomes none; links of
-    /// the events that come are taken as they are. An error changes nothing.
+    /// Indices are those of the list before. Links between kept events are updated. A link to a
+    /// removed event becomes none. Links of inserted events are kept as they are. An error changes
+    /// nothing.
     pub fn consume(&mut self, events: &mut Vec<Event, A>) -> Result<(), Message>
         requires { IsOrdered 0 (edits_of self.old) (vec_len events.old) }
         ensures edited { OnOk result (events.new.items ≡ events_after (edits_of self.old) events.old.items) }

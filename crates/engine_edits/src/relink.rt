@@ -1,4 +1,4 @@
-//! Where events stand after edits, and links that follow them.
+//! Where events are after edits, and links that follow them.
 ghost use Rattle.std.specs.Prelude.{◌≡◌, ◌<◌, ◌+◌, ◌^◌, ◌++◌, None, OnOk, map, replicate};
 ghost use Rattle.engine_edits.specs.Replacement.{rising, with_new_links, link_after, place_after};
 

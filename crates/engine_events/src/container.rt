@@ -8,11 +8,11 @@ pub enum Container {
     GfmFootnoteDefinition,
 }
 
-/// What is kept of an open container.
+/// An open container.
 #[derive(Clone, Copy, Debug, PartialEq, Eq)]
 pub struct ContainerState {
     pub kind: Container,
-    /// Whether its first line was blank so far.
+    /// Whether its first line is blank up to here.
     pub blank_initial: bool,
     /// How many columns its lines are indented.
     pub size: usize,

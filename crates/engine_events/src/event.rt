@@ -1,4 +1,4 @@
-//! What is read is told by events: each enters or exits something at a place.
+//! Events: each enters or exits something at a place.
 ghost use Rattle.std.specs.Prelude.{◌≡◌};
 ghost use Rattle.engine_events.specs.Links.{present};
 
@@ -12,7 +12,7 @@ pub enum Kind {
     Exit,
 }
 
-/// What a chunk is to be read as.
+/// What a chunk is read as, later.
 #[derive(Clone, Copy, Debug, PartialEq, Eq)]
 pub enum Content {
     /// Blocks.
@@ -256,9 +256,9 @@ pub const VOID_EVENTS: [Name; 64] = [
     Name::ThematicBreakSequence,
 ];
 
-/// The beginning or the end of something.
+/// The start or the end of something.
 ///
-/// The place and the link lie flat beside the rest, so that an event has 48 bytes.
+/// An event has 48 bytes, so its place and link are stored as plain fields (`point`, `link`).
 #[derive(Clone, Copy, Debug, PartialEq, Eq)]
 pub struct Event {
     pub kind: Kind,
@@ -280,7 +280,7 @@ impl Event {
     ghost use Rattle.std.specs.Prelude.{◌≡◌, None};
     ghost use Rattle.engine_events.specs.Events.{event, link_of, point_of, with_link};
 
-    /// An event at a point. A chunk that is read later holds a link to its neighbours.
+    /// Returns an event at a point. A chunk that is read later has a link to its neighbours.
     pub fn new(kind: Kind, name: Name, point: Point, link: Option<Link>) -> Event
         ensures event { result ≡ event kind name point link }
         ensures kind { result.kind ≡ kind }

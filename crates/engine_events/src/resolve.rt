@@ -1,4 +1,4 @@
-//! What is done with the events of a text once it is read.
+//! Resolvers: what is done with events after a text is read.
 
 /// A resolver: it rewrites the events once all are there.
 #[derive(Clone, Copy, Debug, PartialEq, Eq)]

@@ -337,7 +337,7 @@ pub enum Name {
     Block(Block),
 }
 
-/// What a state says of how reading goes on: 16 bytes, since it is answered at each step.
+/// What a state returns: how reading continues. It has 16 bytes, since each step returns one.
 #[derive(Clone, Copy, Debug, PartialEq, Eq)]
 pub enum State {
     /// Reading failed, for good.
@@ -346,15 +346,15 @@ pub enum State {
     Next(Name),
     /// The state that reads the same byte.
     Retry(Name),
-    /// What was looked for is there.
+    /// The attempt succeeded.
     Ok,
-    /// What was looked for isn't there.
+    /// The attempt failed.
     Nok,
 }
 
 const _: () = prove!(size_of::<State>() <= 16);
 
-/// Memory was refused.
+/// The message for out of memory.
 const REFUSED: Message = Message {
     place: None,
     reason: "Out of memory",
@@ -365,14 +365,14 @@ const REFUSED: Message = Message {
 impl State {
     ghost use Rattle.engine_events.specs.States.{IsOver, IsRefused, HasResult};
 
-    /// Memory was refused.
+    /// Returns the error state for out of memory.
     pub fn out_of_memory() -> State
         ensures { IsRefused result }
     {
         State::Error(&REFUSED)
     }
 
-    /// How reading ended, where it ended well or failed.
+    /// Returns `Ok` for success, or the message of an error.
     pub fn to_result(&self) -> Result<(), Message>
         requires { IsOver self.now }
         ensures { HasResult self.now result }

@@ -4,7 +4,7 @@ ghost use Rattle.std.specs.List.{suffix_len};
 ghost use Rattle.std.specs.Str.{chars};
 ghost use Rattle.engine_text.specs.Bytes.{code_after, code_before, first_code, goes_on, last_code, last_start, width};
 
-/// So many bytes from an index on, or fewer at the end.
+/// At most a number of bytes from an index on.
 pub fn part(bytes: &[u8], index: usize, size: usize) -> &[u8]
     ensures { result.now ≡ take size (drop index bytes.now) }
 {

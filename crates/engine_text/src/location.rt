@@ -9,8 +9,8 @@ use markdown_options::Message;
 use markdown_options::unist::Point;
 use std::alloc::{AllocError, Allocator};
 
-/// A place of a part of a text, and the place of the whole where it comes from: from there on both
-/// go on alike, up to the next stop.
+/// A place of a part of a text, and the same place in the whole text. Up to the next stop both have
+/// the same bytes.
 pub type Stop = (usize, usize);
 
 /// Where the lines of a text start.

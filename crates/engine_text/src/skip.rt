@@ -1,6 +1,6 @@
-//! Runs of events that are skipped, forward or backward.
+//! Skips runs of events, forward or backward.
 //!
-//! A whole event is an enter, what stands inside, and its exit.
+//! A whole event is an enter, the events inside, and its exit.
 ghost use Rattle.std.specs.Prelude.{◌≡◌, ◌≤◌, ◌<◌, ◌+◌, ◌-◌, ◌^◌, ◌∷◌, IsTrue, List, length, take, drop, reverse, false};
 ghost use Rattle.std.specs.List.{list_any};
 ghost use Rattle.engine_events.specs.declared.event.Event.{Event};
@@ -51,9 +51,9 @@ fn whole_before(events: &[Event], names: &[Name]) -> usize
     run.done
 }
 
-/// The first index from an index on whose event has a listed name, or the number of events.
+/// Returns the first index from an index on whose event has a listed name, or the number of events.
 ///
-/// An index past the last event is the answer itself.
+/// An index past the last event is returned as it is.
 pub fn to(events: &[Event], index: usize, names: &[Name]) -> usize
     ensures { result ≡ first_named names.now index events.now }
 {
@@ -65,9 +65,9 @@ pub fn to(events: &[Event], index: usize, names: &[Name]) -> usize
     index.max(events.len())
 }
 
-/// The last index up to an index whose event has a listed name.
+/// Returns the last index up to an index whose event has a listed name.
 ///
-/// An index past the last event is the answer itself.
+/// An index past the last event is returned as it is.
 pub fn to_back(events: &[Event], index: usize, names: &[Name]) -> usize
     requires { index < length events.now
         → IsTrue (list_any (has_name names.now) (take (index + 1) events.now)) }

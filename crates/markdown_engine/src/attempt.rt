@@ -4,11 +4,11 @@ use engine_events::{Point, State};
 /// An attempt that waits, with the mark to go back to.
 #[derive(Clone, Copy, Debug, PartialEq, Eq)]
 pub struct Attempt {
-    /// Whether it only looks ahead, and goes back in any case.
+    /// Whether it only looks ahead, and goes back in either case.
     pub check: bool,
-    /// How reading goes on after it went well.
+    /// The state after it succeeds.
     pub ok: State,
-    /// How reading goes on after it didn't.
+    /// The state after it fails.
     pub nok: State,
     /// How many events there were.
     pub events: usize,

@@ -31,7 +31,7 @@ use engine_events::{Content, Event, Point, State, Subresult};
 use markdown_options::{Message, Tables};
 use std::alloc::Allocator;
 
-/// The content of the chain that an event begins, if that is asked for.
+/// The content of the chain that an event begins, if such chains are requested.
 pub(crate) fn chain_content(event: &Event, filter: Option<Content>) -> Option<Content>
     ensures { result ≡ chain_content filter event.now }
 {

@@ -1,4 +1,4 @@
-//! Whether events are such that the chains of their chunks can be read.
+//! Tests whether the chains of a list of events can be read.
 ghost use Rattle.std.specs.Prelude.{◌≤◌, ◌+◌, ◌++◌, ◌↔◌, IfOk, IsTrue, List, MatchOption, ℕ, length};
 ghost use Rattle.std.specs.Option.{option_copied};
 ghost use Rattle.markdown_engine.specs.Chains.{AreApart, ArePlaces, IsPlace, chains, chunks_of};
@@ -27,7 +27,8 @@ fn is_place(bytes: &[u8], point: Point) -> bool
     point.index < bytes.len() || (point.index == bytes.len() && point.vs == 0)
 }
 
-/// Whether the chunks of the chains that are asked for stand one after another, each with its exit.
+/// Returns whether the chunks of the requested chains follow one another, each right before its
+/// exit.
 pub fn are_apart<A: Allocator + Clone>(
     alloc: &A,
     events: &[Event],

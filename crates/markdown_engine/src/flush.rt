@@ -1,4 +1,4 @@
-//! The end of a text: it is handed in, and resolvers run.
+//! The end of a text: it is passed to the states, and resolvers run.
 ghost use Rattle.std.specs.Prelude.{◌≡◌, OnOk, IfOk};
 ghost use Rattle.markdown_engine.specs.Resolving.{IsNotDone, KeepsDone, found_in, found_of, found_both, nothing_found};
 
@@ -47,10 +47,10 @@ impl<'a, M: Machine<T>, T: Tables, A: Allocator + Clone> Tokenizer<'a, M, T, A> 
     ghost use Rattle.markdown_engine.specs.Resolving.{IsNotDone, KeepsDone, found_in, nothing_found, resolve_all, resolve_each};
     ghost use Rattle.markdown_engine.specs.VirtualText.{IsCut};
 
-    /// Hands in the end where the last range ended, and, if that is asked for, runs the resolvers in
-    /// their order and makes the edits that they asked for. Answers what they found.
+    /// Passes the end of the text to the states, at the end of the last range. If requested, runs
+    /// the resolvers in order and makes their edits. Returns what they found.
     ///
-    /// Once memory was refused, an error is answered.
+    /// After out of memory every call returns an error.
     pub fn flush(&mut self, state: State, resolve: bool) -> Result<Subresult<A>, Message>
         requires end { IsCut (bytes_of self.old) self.old.end }
         requires valid { IsValidUnlessFailed M.seen (M.valid (read_with self.old)) self.old state }
@@ -65,10 +65,10 @@ impl<'a, M: Machine<T>, T: Tables, A: Allocator + Clone> Tokenizer<'a, M, T, A> 
         self.flush_to(self.end, state, resolve)
     }
 
-    /// Reads a text at once, runs the resolvers in their order, and makes the edits that they asked
-    /// for. Answers what they found.
+    /// Reads a text at once, runs the resolvers in order, and makes their edits. Returns what they
+    /// found.
     ///
-    /// Once memory was refused, an error is answered.
+    /// After out of memory every call returns an error.
     pub fn read_and_resolve(&mut self, state: State) -> Result<Subresult<A>, Message>
         requires valid { IsValidUnlessFailed M.seen (M.valid (read_with self.old)) self.old state }
         ensures completed { IfOk result (λ found. Completes M.seen M.step M.resolved

@@ -4,7 +4,7 @@ ghost use Rattle.markdown_engine.specs.Context.{context, without_labels};
 use markdown_options::{Message, ParseOptions, Tables};
 use std::alloc::Allocator;
 
-/// A text, and what it is read with: states may ask for all of it, and change nothing.
+/// A text, and what reading it depends on. States may read all of it and change nothing.
 #[derive(Drop)]
 pub struct ParseState<'a, T, A: Allocator> {
     /// The text.
@@ -23,7 +23,7 @@ impl<'a, T: Tables, A: Allocator + Clone> ParseState<'a, T, A> {
     ghost use Rattle.markdown_options.specs.Messages.{IsOutOfMemory};
     ghost use Rattle.markdown_engine.specs.Context.{context, without_labels};
 
-    /// A text of which no label is known.
+    /// Returns a text without labels.
     pub fn new(
         alloc: A,
         bytes: &'a [u8],

@@ -27,8 +27,8 @@ use markdown_options::{Message, Tables};
 use std::alloc::{AllocError, Allocator};
 use std::collections::BTreeMap;
 
-/// A set of states. A state reads a tokenizer's byte, changes the tokenizer by its calls, and says
-/// how reading goes on.
+/// A set of states. A state reads a tokenizer's byte, changes the tokenizer by its calls, and
+/// returns the next state.
 pub trait Machine<T: Tables> {
     // What configurations show of the machine: all of it, or a view, as of a tokenizer that it holds.
     ghost Seen: { Type 0 };
@@ -80,7 +80,7 @@ pub trait Machine<T: Tables> {
 pub struct Tokenizer<'a, M, T, A: Allocator> {
     /// The text, and what it is read with.
     pub parse_state: &'a ParseState<'a, T, A>,
-    /// What was found so far.
+    /// The events up to here.
     pub events: Vec<Event, A>,
     /// The attempts that wait, the innermost last.
     pub attempts: Vec<Attempt, A>,
@@ -113,7 +113,7 @@ pub struct Tokenizer<'a, M, T, A: Allocator> {
     pub skips: BTreeMap<usize, Point, A>,
     /// Where the last range ended: an index, and a column of a tab there.
     pub end: (usize, usize),
-    /// Whether memory was refused, so that nothing can be read any more.
+    /// Whether memory ran out. Then nothing can be read any more.
     pub failed: bool,
 }
 
@@ -276,8 +276,8 @@ impl<'a, M, T, A: Allocator> Tokenizer<'a, M, T, A> {
         self.current = None;
     }
 
-    /// Tries what follows: goes on with one state if it goes well, and otherwise goes back here
-    /// and on with another.
+    /// Makes an attempt: if it succeeds, reading continues with one state. If it fails, reading
+    /// goes back here and continues with another.
     pub fn attempt(&mut self, ok: State, nok: State) -> Result<(), Message>
         ensures began { Began (frame_at false ok nok (config self.old)) self.old self.new result }
         ensures memory { IfErr result IsOutOfMemory }
@@ -285,7 +285,8 @@ impl<'a, M, T, A: Allocator> Tokenizer<'a, M, T, A> {
         self.begin(false, ok, nok)
     }
 
-    /// Looks ahead: goes back here in any case, and on with one state or the other.
+    /// Looks ahead: reading goes back here in either case, and continues with one state or the
+    /// other.
     pub fn check(&mut self, ok: State, nok: State) -> Result<(), Message>
         ensures began { Began (frame_at true ok nok (config self.old)) self.old self.new result }
         ensures memory { IfErr result IsOutOfMemory }
@@ -530,7 +531,7 @@ impl<'a, M: Machine<T>, T: Tables, A: Allocator> Tokenizer<'a, M, T, A> {
         last
     }
 
-    /// Reads a text at once. Once memory was refused, an error is answered.
+    /// Reads a text at once. After out of memory it returns an error.
     pub fn read_at_once(&mut self, state: State) -> State
         requires fresh { NothingWaits self.old }
         requires valid { IsValidAlone M.seen (M.valid (read_with self.old)) self.old state }

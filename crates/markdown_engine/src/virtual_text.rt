@@ -136,9 +136,10 @@ fn ends_before(bytes: &[u8], index: usize) -> bool
     feeds(bytes, index - 1) || (bytes.get(index - 1) == Some(&b'\r') && !feeds(bytes, index))
 }
 
-/// Where reading goes on from a place: at the start of a line that has a skip, after it.
+/// The place at which reading continues: at the start of a line with a skip, the place after the
+/// skip.
 ///
-/// The skips say where lines are read from, by the index of their start.
+/// Skips are by the index of a line's start.
 pub fn place_in<A: Allocator>(skips: &BTreeMap<usize, Point, A>, point: Point) -> Point
     ensures { result ≡ place_in skips.now.entries point }
 {

@@ -1,6 +1,6 @@
-//! How the cells of a table stand.
+//! Alignments of the columns of a table.
 
-/// How the cells of a table's column are aligned (GFM 4.10).
+/// The alignment of a table's column (GFM 4.10).
 #[derive(Clone, Copy, Debug, PartialEq, Eq)]
 pub enum AlignKind {
     /// To the left: `:-`.
@@ -9,6 +9,6 @@ pub enum AlignKind {
     Right,
     /// In the middle: `:-:`.
     Center,
-    /// As the page likes: `-`.
+    /// Not set: `-`.
     None,
 }

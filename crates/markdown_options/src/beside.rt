@@ -1,22 +1,22 @@
-//! What stands beside the rest of a line in the text.
+//! What is beside the remaining part of a line.
 use crate::line_ending::LineEnding;
 
-/// What a character is beside a run of delimiters (CommonMark 6.2).
+/// The kind of a character beside a run of delimiters (CommonMark 6.2).
 #[derive(Clone, Copy, Debug, PartialEq, Eq)]
 pub enum Kind {
-    /// Unicode whitespace, which the ends of a line and of the text are too.
+    /// Unicode whitespace. The ends of a line and of the text count as whitespace.
     Whitespace,
     /// Unicode punctuation.
     Punctuation,
-    /// Another character.
+    /// Any other character.
     Other,
 }
 
-/// What stands beside the rest of a line.
+/// What is beside the remaining part of a line.
 #[derive(Clone, Copy)]
 pub struct Beside {
     /// The kind of the character before it.
     pub before: Kind,
-    /// The line ending after it, which a text's last line may lack.
+    /// The line ending after it. The last line of a text may have none.
     pub ending: Option<LineEnding>,
 }

@@ -7,12 +7,12 @@ ghost use Rattle.markdown_options.specs.Mdx.{has_mdx};
 
 use crate::line_ending::LineEnding;
 
-/// The constructs of markdown, each on or off. A construct that is off never occurs.
+/// The constructs of Markdown, each on or off. A construct that is off never occurs.
 #[derive(Clone, Copy, Debug, PartialEq, Eq)]
 pub struct Constructs {
     /// Emphasis and strong emphasis by `*` and `_` (CommonMark 6.2).
     pub attention: bool,
-    /// Links in angle brackets, as `<https://example.com>` (CommonMark 6.5).
+    /// Links in angle brackets, such as `<https://example.com>` (CommonMark 6.5).
     pub autolink: bool,
     /// Block quotes by `>` (CommonMark 5.1).
     pub block_quote: bool,
@@ -30,17 +30,17 @@ pub struct Constructs {
     pub definition: bool,
     /// Metadata at the start of a text, between lines of `---` or `+++`; in neither standard.
     pub frontmatter: bool,
-    /// Links with no brackets, as `www.example.com` (GFM 6.9).
+    /// Bare links, such as `www.example.com`, and email addresses (GFM 6.9).
     pub gfm_autolink_literal: bool,
     /// Definitions of footnotes, as `[^a]: b`; GitHub has them, and GFM has no section on them.
     pub gfm_footnote_definition: bool,
     /// Calls of footnotes, as `[^a]`; GitHub has them, and GFM has no section on them.
     pub gfm_label_start_footnote: bool,
-    /// Struck text by `~` (GFM 6.5).
+    /// Strikethrough by `~` (GFM 6.5).
     pub gfm_strikethrough: bool,
     /// Tables (GFM 4.10).
     pub gfm_table: bool,
-    /// Checks at the start of an item, as `[x]` (GFM 5.3).
+    /// Check boxes at the start of an item, such as `[x]` (GFM 5.3).
     pub gfm_task_list_item: bool,
     /// Line breaks by a backslash (CommonMark 6.7).
     pub hard_break_escape: bool,
@@ -52,7 +52,7 @@ pub struct Constructs {
     pub heading_setext: bool,
     /// HTML blocks (CommonMark 4.6).
     pub html_flow: bool,
-    /// HTML within text (CommonMark 6.6).
+    /// Raw HTML in text (CommonMark 6.6).
     pub html_text: bool,
     /// The start `![` of an image (CommonMark 6.4).
     pub label_start_image: bool,
@@ -68,11 +68,11 @@ pub struct Constructs {
     pub math_text: bool,
     /// Imports and exports of MDX; in neither standard.
     pub mdx_esm: bool,
-    /// Expressions of MDX that stand alone, as `{1 + 1}`; in neither standard.
+    /// Expressions of MDX as blocks, such as `{1 + 1}`; in neither standard.
     pub mdx_expression_flow: bool,
     /// Expressions of MDX within text; in neither standard.
     pub mdx_expression_text: bool,
-    /// Tags of MDX that stand alone; in neither standard.
+    /// Tags of MDX as blocks; in neither standard.
     pub mdx_jsx_flow: bool,
     /// Tags of MDX within text; in neither standard.
     pub mdx_jsx_text: bool,
@@ -81,7 +81,7 @@ pub struct Constructs {
 }
 
 impl Constructs {
-    /// Every construct off.
+    /// Returns every construct off.
     pub fn none() -> Constructs
         ensures { result ≡ no_constructs }
     {
@@ -123,7 +123,7 @@ impl Constructs {
         }
     }
 
-    /// The default with all that GFM and GitHub's footnotes add.
+    /// Returns the default constructs, and those of GFM and GitHub's footnotes.
     pub fn gfm() -> Constructs
         ensures { result ≡ gfm_constructs }
     {
@@ -138,8 +138,8 @@ impl Constructs {
         }
     }
 
-    /// The default with MDX in place of autolinks, indented code and HTML: flags alone, since no
-    /// call reads MDX.
+    /// Returns the default constructs, with MDX in place of autolinks, indented code and HTML. No
+    /// call of this library accepts it, since none reads MDX.
     pub fn mdx() -> Constructs
         ensures { result ≡ mdx_constructs }
     {
@@ -157,7 +157,7 @@ impl Constructs {
         }
     }
 
-    /// Whether some of the constructs of MDX are on.
+    /// Returns whether a construct of MDX is on.
     pub fn has_mdx(&self) -> bool
         ensures { result ≡ has_mdx self.now }
     {
@@ -169,7 +169,7 @@ impl Constructs {
     }
 }
 
-/// What CommonMark has.
+/// The constructs of CommonMark.
 impl Default for Constructs {
     ghost is_default = { λ c. c ≡ default_constructs };
 
@@ -225,7 +225,7 @@ pub struct ParseOptions {
 }
 
 impl ParseOptions {
-    /// Reads what GitHub has.
+    /// Returns the options that read GitHub Flavored Markdown.
     pub fn gfm() -> ParseOptions
         ensures { result ≡ gfm_parse_options }
     {
@@ -235,7 +235,7 @@ impl ParseOptions {
         }
     }
 
-    /// Reads what MDX has, by its flags alone.
+    /// Returns the options of MDX. No call of this library accepts them, since none reads MDX.
     pub fn mdx() -> ParseOptions
         ensures { result ≡ mdx_parse_options }
     {
@@ -246,7 +246,7 @@ impl ParseOptions {
     }
 }
 
-/// Reads what CommonMark has.
+/// The options that read CommonMark.
 impl Default for ParseOptions {
     ghost is_default = { λ options. options ≡ default_parse_options };
 
@@ -261,37 +261,38 @@ impl Default for ParseOptions {
 
 /// How HTML is printed.
 ///
-/// A copy would take memory, so there is no `Clone`.
+/// It isn't `Clone`, since cloning its texts takes memory.
 #[derive(Debug, Drop)]
 pub struct CompileOptions {
-    /// Whether an image may have any protocol, while links keep to the safe ones.
+    /// Whether an image may have any protocol. It changes nothing for links.
     pub allow_any_img_src: bool,
     /// Whether HTML of the text is printed as it is, and not encoded.
     pub allow_dangerous_html: bool,
-    /// Whether links and images may have any protocol, as `javascript`.
+    /// Whether links and images may have any protocol, such as `javascript`.
     pub allow_dangerous_protocol: bool,
-    /// The line ending that is printed where the text has none.
+    /// The line ending that is printed if the text has none.
     pub default_line_ending: LineEnding,
-    /// What a screen reader says for a way back to a footnote's call; `Back to content` if there
-    /// is none.
+    /// The label of a link back to a footnote's call, for screen readers. The default is
+    /// `Back to content`.
     pub gfm_footnote_back_label: Option<String>,
-    /// What the ids of footnotes begin with; `user-content-` if there is none.
+    /// The prefix of the ids of footnotes and calls. The default is `user-content-`.
     pub gfm_footnote_clobber_prefix: Option<String>,
-    /// The heading of the footnotes; `Footnotes` if there is none.
+    /// The heading of the section of footnotes. The default is `Footnotes`.
     pub gfm_footnote_label: Option<String>,
-    /// The attributes of that heading, printed as they are; `class="sr-only"` if there are none.
+    /// The attributes of that heading, printed as given: a dangerous text stays dangerous. The
+    /// default is `class="sr-only"`.
     pub gfm_footnote_label_attributes: Option<String>,
-    /// The element of that heading; `h2` if there is none.
+    /// The tag name of that heading, printed as given. The default is `h2`.
     pub gfm_footnote_label_tag_name: Option<String>,
-    /// Whether, where HTML is printed as it is, `<` before some names is printed as `&lt;` (GFM
+    /// Whether the `<` of nine tags is printed as `&lt;` in HTML that is printed as it is (GFM
     /// 6.11).
     pub gfm_tagfilter: bool,
-    /// Whether readers can click the checks of items (GFM 5.3).
+    /// Whether check boxes of items aren't `disabled` (GFM 5.3).
     pub gfm_task_list_item_checkable: bool,
 }
 
 impl CompileOptions {
-    /// Prints what GitHub does: the default with the tag filter.
+    /// Returns the default options with the tag filter, as GitHub has it.
     pub fn gfm() -> CompileOptions
         ensures { result ≡ gfm_compile_options }
     {
@@ -302,7 +303,7 @@ impl CompileOptions {
     }
 }
 
-/// Nothing dangerous, line feeds, and no texts of one's own.
+/// Safe output, line feeds, and the default texts.
 impl Default for CompileOptions {
     ghost is_default = { λ options. options ≡ default_compile_options };
 
@@ -333,7 +334,7 @@ pub struct Options {
 }
 
 impl Options {
-    /// Reads and prints what GitHub does.
+    /// Returns the options of GitHub Flavored Markdown.
     pub fn gfm() -> Options
         ensures { result ≡ gfm_options }
     {
@@ -343,7 +344,7 @@ impl Options {
         }
     }
 
-    /// Whether a construct of MDX is on.
+    /// Returns whether a construct of MDX is on. The calls require that none is.
     pub fn has_mdx(&self) -> bool
         ensures { result ≡ has_mdx self.now.parse.constructs }
     {
@@ -351,7 +352,7 @@ impl Options {
     }
 }
 
-/// Reads what CommonMark has, and prints nothing dangerous.
+/// CommonMark, with safe output.
 impl Default for Options {
     ghost is_default = { λ options. options ≡ default_options };
 

@@ -1,4 +1,4 @@
-//! What holds other blocks.
+//! Containers: blocks that hold other blocks.
 
 /// A list item that is open (CommonMark 5.2).
 #[derive(Clone, Copy, Debug, PartialEq, Eq)]
@@ -7,8 +7,7 @@ pub struct Item {
     pub marker: u8,
     /// The number of an ordered item.
     pub number: Option<u32>,
-    /// The columns from the item's start to its content, in the rest of the line that its parent
-    /// leaves.
+    /// The columns from the item's start to its content, after the prefix of its parent.
     pub size: usize,
 }
 

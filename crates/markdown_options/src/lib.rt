@@ -1,7 +1,7 @@
-//! Options, line endings, places, messages, limits and tables, and what stands beside a line and around a block: the plain data of
-//! all crates.
+//! The plain data of all crates: options, line endings, places, messages, limits, tables,
+//! containers, and the neighbours of a line.
 //!
-//! Sizes and offsets are in bytes; lines and columns count from 1.
+//! Sizes and offsets are in bytes. Lines and columns count from 1.
 #![tactic(auto)]
 
 pub mod align_kind;

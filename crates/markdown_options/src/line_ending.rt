@@ -16,13 +16,13 @@ pub enum LineEnding {
     LineFeed,
 }
 
-/// The refusal of a text that is none of the three line endings.
+/// The error for a text that is none of the three line endings.
 #[derive(Clone, Copy, Debug, PartialEq, Eq, Error)]
 #[error("Expected CR, LF, or CRLF")]
 pub struct LineEndingError;
 
 impl LineEnding {
-    /// The text of the ending, of one or two bytes.
+    /// Returns the text of the ending, of one or two bytes.
     pub fn as_str(self) -> &'static str
         ensures { result.now ≡ ending_bytes self }
     {
@@ -45,7 +45,7 @@ impl Default for LineEnding {
     }
 }
 
-/// Reads the text of a line ending, and refuses every other text.
+/// Reads the text of a line ending. Any other text is an error.
 impl FromStr for LineEnding {
     type Err = LineEndingError;
 

@@ -1,4 +1,4 @@
-//! What a call answers that gives no HTML.
+//! Messages: why a call failed.
 ghost use Rattle.std.specs.Prelude.{Some};
 ghost use Rattle.markdown_options.specs.Messages.{IsOutOfMemory, place_text, message_text};
 
@@ -35,16 +35,16 @@ impl fmt::Display for Place {
 pub struct Message {
     /// Where in the text it happened, if anywhere.
     pub place: Option<Place>,
-    /// What happened, in words for people.
+    /// What happened, in words for users.
     pub reason: &'static str,
-    /// The name of what was broken, within the source.
+    /// The name of the broken rule, within the source.
     pub rule_id: &'static str,
     /// The name of what found it.
     pub source: &'static str,
 }
 
 impl Message {
-    /// Memory was refused. Shown as `Out of memory (markdown:memory)`.
+    /// Returns the message for out of memory. It is shown as `Out of memory (markdown:memory)`.
     pub fn out_of_memory() -> Message
         ensures { IsOutOfMemory result }
     {
@@ -57,7 +57,7 @@ impl Message {
     }
 }
 
-/// The message for refused memory.
+/// The message for out of memory.
 impl From<AllocError> for Message {
     ghost from_gives = { λ _ message. IsOutOfMemory message };
 

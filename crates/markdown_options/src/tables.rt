@@ -1,10 +1,10 @@
-//! The tables that reading a text asks.
+//! Tables that reading a text depends on.
 ghost use Rattle.std.specs.Prelude.{◌≡◌, ℕ, ◌<◌, List, Option, Some, length, Bool, true, false, IsTrue, IsUtf8};
 ghost use Rattle.std.specs.Option.{option_copied};
 ghost use Rattle.std.specs.Char.{is_ascii_alphanumeric, is_ascii_punctuation};
 ghost use Rattle.markdown_options.specs.References.{IsReferenceName};
 
-/// Which named references there are, and which characters are punctuation.
+/// The names of character references, and which characters are punctuation.
 pub trait Tables {
     // The text of a name, if it has one.
     ghost reference_of: { Self → List ℕ → Option (List ℕ) };
@@ -12,13 +12,13 @@ pub trait Tables {
     // Whether a code is punctuation.
     ghost punctuation_of: { Self → ℕ → Bool };
 
-    /// The text that a named character reference stands for (CommonMark 2.5), if it is known.
+    /// Returns the text of a name, if the tables have it (CommonMark 2.5).
     ///
-    /// The name is without `&` and `;`, as `amp` for `&amp;`.
+    /// The name is without `&` and `;`, such as `amp` for `&amp;`.
     fn reference(&self, name: &str) -> Option<&str>
         ensures { option_copied result ≡ reference_of self.now name.now };
 
-    /// Whether a character is Unicode punctuation (CommonMark 2.1).
+    /// Returns whether a character is Unicode punctuation (CommonMark 2.1).
     fn is_punctuation(&self, character: char) -> bool
         ensures { result ≡ punctuation_of self.now character };
 

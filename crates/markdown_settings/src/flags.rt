@@ -1,16 +1,16 @@
-//! The options that flags ask for.
+//! The options of the flags.
 ghost use Rattle.std.specs.Prelude.{◌≡◌};
 ghost use Rattle.markdown_options.specs.Mdx.{HasNoMdx};
 ghost use Rattle.markdown_settings.specs.Flags.{flag_options, parse_of, printed_as};
 
 use markdown_options::{CompileOptions, Constructs, Options, ParseOptions};
 
-/// What the words of the command line ask for.
+/// The options and the references file of a command line.
 #[derive(Debug, Drop)]
 pub struct Settings {
     /// How the text is read, and how its HTML is printed.
     pub options: Options,
-    /// Where the file of named character references is, if there is one.
+    /// The path of the references file, if there is one.
     pub references: Option<String>,
 }
 
@@ -46,7 +46,7 @@ fn parse_of(gfm: bool, plain: bool) -> ParseOptions
     }
 }
 
-/// What GitHub prints, or what is printed by default.
+/// The options of printing: GitHub's, or the default ones.
 fn printed_as(gfm: bool) -> CompileOptions
     ensures { result ≡ printed_as gfm }
 {

@@ -1,4 +1,4 @@
-//! Reading the words of the command line.
+//! Reads the command line.
 ghost use Rattle.std.specs.Prelude.{◌≡◌, IfOk, IfErr, OnOk, [], true, codes, option_map, string_bytes};
 ghost use Rattle.clap.specs.Words.{first_value, found_of, kind_of, Kinds, IsAmong};
 ghost use Rattle.markdown_options.specs.Mdx.{HasNoMdx};
@@ -13,7 +13,7 @@ use clap::error::ErrorKind;
 use clap::{ArgMatches, Error};
 use std::alloc::{AllocError, Global};
 
-/// What the words of the command line, without the program's name, ask for.
+/// Reads the words of the command line, without the program's name.
 ///
 /// `--gfm` reads and prints what GitHub does, `--dangerous` prints HTML of the text and allows every protocol, `--plain` turns all constructs
 /// off, and `--references` is followed by the path of a file.
@@ -75,7 +75,7 @@ fn path(alloc: Global, matches: &ArgMatches<'_>) -> Result<Option<String>, Alloc
     }
 }
 
-/// Why the words are refused, by the command's error.
+/// The error for an error of the command.
 fn refusal(error: &Error) -> SettingsError
     ensures memory { kind_of error.now ≡ ErrorKind.OutOfMemory → result ≡ SettingsError.Memory }
     ensures refused { (faults : Kinds) → IsAmong (kind_of error.now) faults → Refuses faults result }

@@ -1,14 +1,14 @@
-//! Why words give no settings.
+//! Why a command line gives no settings.
 use std::alloc::AllocError;
 
-/// Why words give no settings.
+/// Why a command line gives no settings.
 #[derive(Debug, Drop)]
 pub enum SettingsError {
-    /// The words ask for the help or the version: the text to print.
+    /// The command line has `--help` or `--version`. This is the text to print.
     Help(&'static str),
-    /// The words are no command line.
+    /// The command line is wrong.
     Words,
-    /// Memory was refused.
+    /// Out of memory.
     Memory,
 }
 

@@ -2,7 +2,7 @@
 ghost use Rattle.state_codes.specs.TextCodes.{AreCodesLaw, TabCodesLaw, TextCodesLaw};
 
 /// The virtual text of bytes gives their codes: a tab its columns, any line ending one line feed.
-/// From inside of a tab it gives a column for each that is left. Each of the codes is one.
+/// From inside a tab it gives each remaining column first.
 pub fn text_codes_law()
     ensures text { TextCodesLaw }
     ensures tab { TabCodesLaw }

@@ -1,4 +1,4 @@
-//! Data that stands side by side is one.
+//! Adjacent data is joined.
 ghost use Rattle.std.specs.Prelude.{◌≡◌, ◌<◌, ◌^◌, ◌-◌, OnOk, IfOk, IfErr, length, slice_get};
 ghost use Rattle.markdown_options.specs.Messages.{IsOutOfMemory};
 ghost use Rattle.engine_edits.specs.Edits.{edits_of};

@@ -16,7 +16,7 @@ use markdown_engine::tokenizer::Tokenizer;
 use markdown_options::Tables;
 use std::alloc::Allocator;
 
-/// Calls a state of this crate; any other answers that it isn't there.
+/// Calls a state of this crate. Any other state fails (`Nok`).
 pub fn call<M, T: Tables, A: Allocator>(
     tokenizer: &mut Tokenizer<'_, M, T, A>,
     state: Inline,

@@ -14,7 +14,7 @@ use markdown_engine::state::{Inline, State};
 use markdown_engine::tokenizer::Tokenizer;
 use std::alloc::Allocator;
 
-/// Calls a state of this crate; any other answers that it isn't there.
+/// Calls a state of this crate. Any other state fails (`Nok`).
 pub fn call<M, T, A: Allocator>(tokenizer: &mut Tokenizer<'_, M, T, A>, state: Inline) -> State
     requires { IsOpen (sorts (any_states.Inline state)).open_tokens tokenizer.old }
     ensures { Does (html_body (read_with tokenizer.old) state) tokenizer.old tokenizer.new result }

@@ -248,7 +248,7 @@ pub fn after<M, T, A: Allocator>(tokenizer: &mut Tokenizer<'_, M, T, A>) -> Stat
     }
 }
 
-/// Where no full reference is: after a label that isn't defined there is no other.
+/// If there is no full reference. After a label that isn't defined there is no other reference.
 pub fn reference_not_full<M, T, A: Allocator>(tokenizer: &mut Tokenizer<'_, M, T, A>) -> State
     ensures { Does (label_end_reference_not_full (bytes_of tokenizer.old) (definitions_of tokenizer.old)) tokenizer.old tokenizer.new result }
 {
@@ -275,7 +275,7 @@ pub fn ok<M, T, A: Allocator>(tokenizer: &mut Tokenizer<'_, M, T, A>) -> State
     form(tokenizer)
 }
 
-/// Where none ends.
+/// If no label ends here.
 pub fn nok<M, T, A: Allocator>(tokenizer: &mut Tokenizer<'_, M, T, A>) -> State
     ensures { Does label_end_nok tokenizer.old tokenizer.new result }
 {
@@ -355,7 +355,7 @@ pub fn resource_destination_after<M, T, A: Allocator>(
     }
 }
 
-/// Where no destination is.
+/// If there is no destination.
 pub fn resource_destination_missing<M, T, A: Allocator>(
     tokenizer: &mut Tokenizer<'_, M, T, A>,
 ) -> State
@@ -443,7 +443,7 @@ pub fn reference_full_after<M, T, A: Allocator>(tokenizer: &mut Tokenizer<'_, M,
     }
 }
 
-/// Where no label is.
+/// If there is no label.
 pub fn reference_full_missing<M, T, A: Allocator>(tokenizer: &mut Tokenizer<'_, M, T, A>) -> State
     ensures { Does label_end_reference_full_missing tokenizer.old tokenizer.new result }
 {

@@ -138,7 +138,7 @@ pub fn eol_after<M, T, A: Allocator>(tokenizer: &mut Tokenizer<'_, M, T, A>) -> 
     retry(Inline::LabelAtBreak)
 }
 
-/// Where no label is.
+/// If there is no label.
 pub fn nok<M, T, A: Allocator>(tokenizer: &mut Tokenizer<'_, M, T, A>) -> State
     ensures { Does label_nok tokenizer.old tokenizer.new result }
 {

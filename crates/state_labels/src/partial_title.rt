@@ -37,7 +37,7 @@ fn open<M, T, A: Allocator>(tokenizer: &mut Tokenizer<'_, M, T, A>, marker: u8) 
     around_to(tokenizer, name, next(Inline::TitleBegin))
 }
 
-/// Where no title is.
+/// If there is no title.
 fn fail<M, T, A: Allocator>(tokenizer: &mut Tokenizer<'_, M, T, A>) -> State
     ensures { Does title_fails tokenizer.old tokenizer.new result }
 {
@@ -148,7 +148,7 @@ pub fn after_eol<M, T, A: Allocator>(tokenizer: &mut Tokenizer<'_, M, T, A>) -> 
     retry(Inline::TitleAtBreak)
 }
 
-/// Where no title is.
+/// If there is no title.
 pub fn nok<M, T, A: Allocator>(tokenizer: &mut Tokenizer<'_, M, T, A>) -> State
     ensures { Does title_nok tokenizer.old tokenizer.new result }
 {

@@ -8,7 +8,7 @@ use markdown_engine::state::State;
 use markdown_engine::tokenizer::Tokenizer;
 use std::alloc::Allocator;
 
-/// Keeps that the last events, so many, are the start of a label.
+/// Records that the last events are the start of a label.
 pub fn start_label<M, T, A: Allocator>(
     tokenizer: &mut Tokenizer<'_, M, T, A>,
     kind: LabelKind,

@@ -7,8 +7,8 @@ pub fn autolink_verdict<T>()
     ensures { AutolinkVerdict T }
 {}
 
-/// Before a part of a text that begins with `<`, reading goes on after an autolink exactly where the
-/// definition has one, with its events added, and otherwise with HTML at the same place.
+/// At `<`, reading continues after an autolink exactly if the definition has one, with its events
+/// added. Otherwise it continues with HTML at the same place.
 pub fn autolink_choice<T>()
     ensures { AutolinkChoice T }
 {}

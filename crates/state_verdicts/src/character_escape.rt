@@ -7,9 +7,8 @@ pub fn character_escape_verdict<T>()
     ensures { EscapeVerdict T }
 {}
 
-/// Before a part of a text that begins with a backslash, reading goes on after an escape exactly
-/// where the definition has one, with its events added, and otherwise with a hard break at the same
-/// place.
+/// At a backslash, reading continues after an escape exactly if the definition has one, with its
+/// events added. Otherwise it continues with a hard break at the same place.
 pub fn character_escape_choice<T>()
     ensures { EscapeChoice T }
 {}

@@ -7,8 +7,8 @@ pub fn character_reference_verdict<T>()
     ensures { CharacterReferenceVerdict T }
 {}
 
-/// Before a part of a text that begins with `&`, reading goes on after a reference exactly where the
-/// definition has one, with its events added, and otherwise with data at the same place.
+/// At `&`, reading continues after a reference exactly if the definition has one, with its events
+/// added. Otherwise it continues with data at the same place.
 pub fn character_reference_choice<T>()
     ensures { CharacterReferenceChoice T }
 {}

@@ -1,4 +1,4 @@
-//! What attempts of inline states come to, by the definition.
+//! Attempts of inline states, compared with the definition.
 #![tactic(auto)]
 
 pub mod autolink;

@@ -1,8 +1,8 @@
-//! Texts: what they come to before each part.
+//! The choices of a text.
 ghost use Rattle.state_verdicts.specs.Text.{BackslashChoice, ChoiceLaw, DataChoice, TextEndVerdict};
 
-/// A state that attempts a construct at a byte comes to what reading on comes to once the attempt was
-/// made: after it, or with the next choice at the same place.
+/// A state that attempts a construct at a byte has the outcome of reading on: after the construct,
+/// or with the next choice at the same place.
 pub fn choice_law<T>()
     ensures { ChoiceLaw T }
 {}
@@ -13,8 +13,7 @@ pub fn text_backslash_choice<T>()
     ensures { BackslashChoice T }
 {}
 
-/// Before a part of a text that begins with a byte with which no construct may begin, reading goes on
-/// with data at that byte.
+/// At a byte that begins no construct, reading continues with data at that byte.
 pub fn text_data_choice<T>()
     ensures { DataChoice T }
 {}

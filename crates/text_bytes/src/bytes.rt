@@ -1,18 +1,18 @@
-//! Texts in bytes.
+//! Tests of bytes and texts.
 ghost use Rattle.std.specs.Prelude.{◌≡◌, length, nat_le, true};
 ghost use Rattle.std.specs.List.{list_all, list_any};
 ghost use Rattle.definition_text.specs.Bytes.{same_caselessly, holds, without_slash};
 ghost use Rattle.definition_text.specs.Columns.{is_white, is_blank};
 ghost use Rattle.definition_text.specs.Content.{is_space, may_escape};
 
-/// A space or a tab (CommonMark 2.1).
+/// Returns whether a byte is a space or a tab (CommonMark 2.1).
 pub fn is_space_or_tab(byte: u8) -> bool
     ensures { result ≡ is_white byte }
 {
     byte == b' ' || byte == b'\t'
 }
 
-/// A space, a tab, or a byte of a line ending (CommonMark 2.1).
+/// Returns whether a byte is a space, a tab, CR or LF (CommonMark 2.1).
 pub fn is_space(byte: u8) -> bool
     ensures { result ≡ is_space byte }
 {
@@ -34,7 +34,7 @@ pub fn may_escape(escaped: bool, byte: u8) -> bool
     byte == b'\\' && !escaped
 }
 
-/// Whether two texts are the same but for the case of ASCII letters.
+/// Whether two texts are equal, ignoring ASCII case.
 fn same_caselessly(one: &[u8], other: &[u8]) -> bool
     ensures { result ≡ same_caselessly one.now other.now }
 {
@@ -52,7 +52,7 @@ pub fn without_slash(bytes: &[u8]) -> &[u8]
     }
 }
 
-/// Whether a text stands in bytes.
+/// Returns whether bytes contain a text.
 pub fn holds(text: &[u8], bytes: &[u8]) -> bool
     ensures { result ≡ holds text.now bytes.now }
 {
@@ -64,14 +64,15 @@ pub fn holds(text: &[u8], bytes: &[u8]) -> bool
     false
 }
 
-/// Whether a text is one of these, in whatever case.
+/// Returns whether a text is one of these, ignoring ASCII case.
 pub fn is_one_of(texts: &[&str], text: &[u8]) -> bool
     ensures { result ≡ list_any (λ n. same_caselessly n.now text.now) texts.now }
 {
     texts.iter().any(|n| same_caselessly(n.as_bytes(), text))
 }
 
-/// The same of texts that have at most so many bytes: a longer one is none of them.
+/// Returns whether a text is one of these, ignoring ASCII case. Each of them has at most `longest`
+/// bytes, so a longer text is none.
 pub fn is_short_one_of(texts: &[&str], longest: usize, text: &[u8]) -> bool
     requires { list_all (λ n. nat_le (length n.now) longest) texts.now ≡ true }
     ensures { result ≡ list_any (λ n. same_caselessly n.now text.now) texts.now }

@@ -6,7 +6,7 @@ ghost use Rattle.definition_text.specs.Runs.{run as run_of, after_run, is_run as
 use crate::bytes::is_blank;
 use crate::front::run;
 
-/// Whether a text is so many of a byte, or more, and then only spaces and tabs.
+/// Returns whether a text is a run of at least `least` of a byte, followed only by spaces and tabs.
 pub fn is_run(least: usize, byte: u8, bytes: &[u8]) -> bool
     ensures { result ≡ is_run_of least byte bytes.now }
 {
@@ -24,7 +24,7 @@ pub fn split_run(byte: u8, text: &str) -> (usize, &str)
     (count, &text[count..])
 }
 
-/// Whether a byte doesn't stand in a text.
+/// Returns whether a text doesn't contain a byte.
 pub fn lacks(byte: u8, bytes: &[u8]) -> bool
     ensures { result ≡ list_all (λ b. not (b == byte)) bytes.now }
 {

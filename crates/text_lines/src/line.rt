@@ -16,8 +16,8 @@ const ENDS: BytePair = BytePair {
     second: b'\r',
 };
 
-/// The content of the first line, its ending, and what follows it. The empty text begins with an
-/// empty line.
+/// Returns the content of the first line, its ending, and the text after it. The first line of the
+/// empty text is empty.
 #[inline(always)]
 pub fn next_line(text: &str) -> (&str, Option<LineEnding>, &str)
     ensures first { text_line result.0.now result.1 ≡ first_line text.now }
@@ -38,7 +38,7 @@ fn split_content(text: &str) -> (&str, &str)
     text.split_at(end)
 }
 
-/// How many bytes stand before the first CR or LF.
+/// How many bytes are before the first CR or LF.
 fn content_len(bytes: &[u8]) -> usize
     ensures { result ≡ position_or_len ends_line bytes.now }
 {

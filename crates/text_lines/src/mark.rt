@@ -4,9 +4,8 @@ ghost use Rattle.definition_text.specs.Lines.{kind_before_text, without_mark};
 
 use markdown_options::Kind;
 
-/// The kind of the character before the first line, and a text without a byte order mark at its
-/// start. The mark is a character of kind other; where there is none, the start of the text counts
-/// as whitespace.
+/// Removes a byte order mark at the start of a text. Also returns the kind of the character before
+/// the first line: other for a mark, whitespace without one.
 pub fn without_mark(value: &str) -> (Kind, &str)
     ensures kind { result.0 ≡ kind_before_text value.now }
     ensures text { result.1.now ≡ without_mark value.now }

@@ -12,8 +12,8 @@ use crate::piece::Piece;
 use markdown_options::LineEnding;
 use std::alloc::{AllocError, Allocator};
 
-/// Makes `content` that of these lines: a space for each column that is left of a tab, the bytes of
-/// the line, and all endings but the last.
+/// Sets `content` to the content of these lines: a space for each remaining column of a tab, the
+/// bytes of the lines, and all endings except the last.
 pub fn join_lines<A: Allocator>(
     content: &mut String<A>,
     lines: &[Piece<'_>],
@@ -30,7 +30,7 @@ pub fn join_lines<A: Allocator>(
     Ok(())
 }
 
-/// An ending, if there is one.
+/// Appends an ending, if there is one.
 pub fn push_ending<A: Allocator>(
     content: &mut String<A>,
     ending: Option<LineEnding>,
@@ -44,7 +44,7 @@ pub fn push_ending<A: Allocator>(
     }
 }
 
-/// A line without its ending.
+/// Appends a line without its ending.
 pub fn push_line<A: Allocator>(
     content: &mut String<A>,
     owed: u8,
@@ -56,7 +56,7 @@ pub fn push_line<A: Allocator>(
     content.push_str(text)
 }
 
-/// A space for each column that is left of a tab.
+/// Appends a space for each remaining column of a tab.
 pub fn push_columns<A: Allocator>(content: &mut String<A>, owed: u8) -> Result<(), AllocError>
     ensures { OnOk result (string_bytes content.new ≡ string_bytes content.old ++ replicate owed 32) }
 {

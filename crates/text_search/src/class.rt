@@ -7,7 +7,7 @@ use crate::search::{ByteTest, LANES, first_set, next_of};
 use crate::set::by_half;
 use std::simd::prelude::*;
 
-/// A class of bytes: a byte is of it where what the two tables have for its halves share a bit.
+/// A class of bytes. A byte is in it if the entries of the two tables for its halves share a bit.
 #[derive(Clone, Copy)]
 pub struct ByteClass {
     /// Bits for each lower half.
@@ -16,7 +16,7 @@ pub struct ByteClass {
     pub upper: [u8; 16],
 }
 
-/// A byte passes that isn't of the class.
+/// Passes bytes outside the class.
 impl ByteTest for ByteClass {
     ghost use Rattle.text_search.specs.Classes.{is_outside};
 

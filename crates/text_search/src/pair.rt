@@ -3,7 +3,7 @@
 use crate::search::{ByteTest, LANES, first_set};
 use std::simd::prelude::*;
 
-/// One of two bytes, which may be the same. It is told without tables.
+/// One of two bytes, which may be equal. The test needs no tables.
 #[derive(Clone, Copy)]
 pub struct BytePair {
     pub first: u8,

@@ -1,11 +1,11 @@
-//! The next byte that is looked for.
+//! Searches for the next byte that passes a test.
 ghost use Rattle.std.specs.Prelude.{◌≡◌, ℕ, ◌+◌, ◌<◌, ◌≤◌, Bool, true, false, not, length, slice_index};
 ghost use Rattle.std.specs.List.{position_or_len, prefix_len};
 ghost use Rattle.text_search.specs.Sets.{ends, first_set};
 
 use std::simd::prelude::*;
 
-/// What is looked for: a test of bytes, one by one and 16 together.
+/// A test of bytes, one by one and 16 at once.
 pub trait ByteTest: Copy {
     // Whether a byte passes.
     ghost passes: { Self → ℕ → Bool };
@@ -25,7 +25,7 @@ pub(crate) const LANES: usize = 16;
 /// How many of the first and of the last bytes are looked at together where there are fewer.
 const END_SIZE: usize = 8;
 
-/// How many bytes come before the first one that passes: all of them, where none does.
+/// Returns how many bytes are before the first one that passes, or their number if none does.
 #[inline(always)]
 pub fn next_of<T: ByteTest>(bytes: &[u8], test: T) -> usize
     ensures { result ≡ position_or_len (T.passes test) bytes.now }
@@ -45,8 +45,7 @@ pub fn next_of<T: ByteTest>(bytes: &[u8], test: T) -> usize
     last + run_in(bytes, last, test)
 }
 
-/// The same in fewer than 16 bytes: the first 8 and the last 8 are looked at together, fewer one by
-/// one.
+/// Searches fewer than 16 bytes: the first 8 and the last 8 together, or fewer than 8 one by one.
 fn next_in_few<T: ByteTest>(bytes: &[u8], test: T) -> usize
     requires { length bytes.now < LANES }
     ensures { result ≡ position_or_len (T.passes test) bytes.now }
@@ -62,7 +61,7 @@ fn next_in_few<T: ByteTest>(bytes: &[u8], test: T) -> usize
     }
 }
 
-/// The same, one byte after another.
+/// Searches bytes one by one.
 fn next_one_by_one<T: ByteTest>(bytes: &[u8], test: T) -> usize
     ensures { result ≡ position_or_len (T.passes test) bytes.now }
 {

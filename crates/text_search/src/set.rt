@@ -10,7 +10,7 @@ use std::simd::prelude::*;
 pub struct ByteSet {
     /// For each lower half, a byte of the set that has it, or any byte that doesn't.
     pub first: [u8; 16],
-    /// The same of a second byte.
+    /// For each lower half, a second byte of the set, or any byte that doesn't have that half.
     pub second: [u8; 16],
 }
 
