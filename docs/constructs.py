@@ -82,7 +82,7 @@ SHARED = {
     "state_verdicts/RawText.antt": "code_text math_text",
     "inline_tags/tags.rt": "html_flow html_text",
     "html_inline/leaf.rt": "autolink character_escape character_reference hard_break_escape hard_break_trailing",
-    "html_inline/rows.rt": "attention gfm_strikethrough label_end mark",
+    "html_inline/rows.rt": "attention gfm_strikethrough mark label_end",
     "html_inline/string.rt": "character_escape character_reference",
     "html_inline/url.rt": "autolink label_end",
     "html_leaves/code_fenced.rt": "math_flow",

@@ -144,7 +144,7 @@ module _ (context : InlineContext) where
   mark_stands : (code : ℕ) → is_marker context.options code ≡ true → (p : Pair) → span_may_stand constructs (span_of code p) ≡ true
   mark_stands code e p =
       let emphasis : constructs.attention ≡ true → span_may_stand constructs (cond (p.taken == 2) Strong Emphasis) ≡ true =
-          λ on. cond_both (p.taken == 2) Strong Emphasis (λ kind. span_may_stand constructs kind ≡ true) (λ _. on) (λ _. on) in
+      λ on. cond_both (p.taken == 2) Strong Emphasis (λ kind. span_may_stand constructs kind ≡ true) (λ _. on) (λ _. on) in
       of_marker context.options (λ b. span_may_stand constructs (span_of b p) ≡ true) emphasis emphasis (λ h. h) (λ h. h) code e
 
   run_stands : (content : List InlineCode) → WhereSome (RunStands constructs) (run_at context.options content)
