@@ -62,8 +62,8 @@ pub fn exit_to<M, T, A: Allocator>(
     }
 }
 
-/// Makes an attempt at a state: if it succeeds, reading continues with one state. If it fails,
-/// reading continues from here with another.
+/// Tries what begins with a state, and goes on with one state if that goes well and with another
+/// from here if it doesn't.
 pub fn attempt_to<M, T, A: Allocator>(
     tokenizer: &mut Tokenizer<'_, M, T, A>,
     ok: State,

@@ -1,7 +1,7 @@
 //! Chains of chunks, each read as one text by a tokenizer of its own.
 //!
-//! What is before a chunk on its line, such as the prefixes of containers, isn't read if the line
-//! starts after the previous chunk. The new events replace the chunks.
+//! What stands before a chunk on its line, as the marks of containers, isn't read, if the line starts
+//! after the chunk before. The events that are added come in place of the chunks.
 ghost use Rattle.std.specs.Prelude.{◌≡◌, ◌≤◌, ◌<◌, OnOk, OnErr, IfOk, IfErr, [], length};
 ghost use Rattle.std.specs.Option.{option_copied};
 ghost use Rattle.markdown_options.specs.Messages.{IsOutOfMemory};
@@ -75,7 +75,7 @@ fn place_at(events: &[Event], index: usize) -> Point
     events[index].point()
 }
 
-/// Skips what is before a chunk on its line, if the line starts after the previous chunk.
+/// Skips what stands before a chunk on its line, if the line starts after the chunk before.
 fn skip_before<'a, M, T, A: Allocator + Clone>(
     tokenizer: &mut Tokenizer<'a, M, T, A>,
     end: Point,
@@ -95,7 +95,7 @@ fn skip_before<'a, M, T, A: Allocator + Clone>(
     Ok(())
 }
 
-/// Skips what is before the chunks of a chain. Returns where the last one ends.
+/// Skips what stands before the chunks of a chain, and answers where the last one ends.
 fn skip_before_chunks<'a, M, T, A: Allocator + Clone>(
     tokenizer: &mut Tokenizer<'a, M, T, A>,
     events: &[Event],
@@ -121,7 +121,7 @@ fn skip_before_chunks<'a, M, T, A: Allocator + Clone>(
     Ok(end)
 }
 
-/// Reads the chain that an event begins by a tokenizer at its start. Returns what resolvers find.
+/// Reads the chain that an event begins by a tokenizer at its start, and answers what resolvers find.
 fn read_chunks<M: Machine<T>, T: Tables, A: Allocator + Clone>(
     alloc: &A,
     tokenizer: &mut Tokenizer<'_, M, T, A>,
@@ -168,8 +168,8 @@ fn read_chain<M: Machine<T> + Copy, T: Tables, A: Allocator + Clone>(
     Ok((tokenizer.into_events(), found))
 }
 
-/// Adds the edits that replace a chain by its events, and what was found while it was read. Returns
-/// how many events all edits up to here remove and insert.
+/// Adds the edits that put the events of a chain in its place, and what was found as it was read.
+/// Answers how many events go and come by then.
 fn add_chain<A: Allocator + Clone>(
     alloc: &A,
     map: &mut EditMap<A>,
@@ -192,8 +192,8 @@ fn add_chain<A: Allocator + Clone>(
     Ok(after)
 }
 
-/// Reads the requested chains, and adds the edits that replace them by what was read. Returns what
-/// was found, and is done if there was none.
+/// Reads the chains that are asked for, and adds the edits that put what was read in their place.
+/// Answers what was found, and is done where there was none.
 fn divide_chains<M: Machine<T> + Copy, T: Tables, A: Allocator + Clone>(
     alloc: &A,
     map: &mut EditMap<A>,

@@ -50,7 +50,7 @@ pub fn are_apart<A: Allocator + Clone>(
     Ok(true)
 }
 
-/// Where the last of some chunks ends, if they follow one another from an index on.
+/// Where the last of some chunks ends, if they stand one after another from an index on.
 fn end_apart(from: usize, chain: &[usize], count: usize) -> Option<usize>
     requires { from ≤ count }
     ensures { (more : List ℕ) → MatchOption result
@@ -67,7 +67,7 @@ fn end_apart(from: usize, chain: &[usize], count: usize) -> Option<usize>
     Some(end)
 }
 
-/// Returns whether a chunk is at an index or after it, with its exit, in a list of `count` events.
+/// Whether a chunk stands at an index or after it, with its exit, in a list of so many events.
 fn follows(from: usize, chunk: usize, count: usize) -> bool
     ensures { IsTrue result ↔ ((from ≤ chunk) × (chunk + 2 ≤ count)) }
 {

@@ -107,7 +107,7 @@ impl<'a, M: Machine<T>, T: Tables, A: Allocator + Clone> Tokenizer<'a, M, T, A> 
         result
     }
 
-    /// Reads to the end, and runs the resolvers if requested.
+    /// Reads to the end, and runs the resolvers if that is asked for.
     fn complete(
         &mut self,
         to: (usize, usize),

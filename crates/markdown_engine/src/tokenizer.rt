@@ -55,7 +55,7 @@ pub trait Machine<T: Tables> {
         requires { valid (read_with tokenizer.old) (view_config seen tokenizer.old) tokenizer.old.attempts.items (states.Retry name) }
         ensures { Shows seen (step (read_with tokenizer.old) (view_config seen tokenizer.old) name) tokenizer.old tokenizer.new result };
 
-    /// Runs a resolver. Returns what it found, if anything.
+    /// Runs a resolver, and answers what it found, if anything.
     fn resolve<'a, A: Allocator + Clone>(
         tokenizer: &mut Tokenizer<'a, Self, T, A>,
         name: resolve::Name,
@@ -106,7 +106,7 @@ pub struct Tokenizer<'a, M, T, A: Allocator> {
     pub lazy: bool,
     /// Whether nothing may interrupt what is read.
     pub concrete: bool,
-    /// Whether what is read may end a container although its line continues with it.
+    /// Whether what is read may end a container although its line goes on with it.
     pub pierce: bool,
     pub machine: M,
     /// Where the lines are read from that have a skip, by the index of their start.
@@ -404,7 +404,7 @@ impl<'a, M: Machine<T>, T: Tables, A: Allocator> Tokenizer<'a, M, T, A> {
     ghost use Rattle.markdown_engine.specs.VirtualText.{IsCut, byte_before, place_in, text_to};
     ghost use Rattle.markdown_engine.specs.Outcomes.{HasOutcome, HasRun};
 
-    /// Where reading continues: at the start of a line with a skip, after the skip.
+    /// Where reading goes on: at the start of a line that has a skip, after it.
     fn place(&self) -> Point
         ensures { result ≡ place_in self.now.skips.entries self.now.point }
     {
@@ -482,11 +482,11 @@ impl<'a, M: Machine<T>, T: Tables, A: Allocator> Tokenizer<'a, M, T, A> {
 
     /// Reads a range, from and up to an index and a column of a tab there.
     ///
-    /// The state is the last one returned. If the ranges of a text adjoin, each begins where the
-    /// last one ended, or after what is skipped there. Then what is read doesn't depend on where
-    /// the text is cut. Otherwise what is before a range isn't read. A state that reads the current
-    /// byte again can't begin a range, and none is returned. After out of memory any further range
-    /// returns an error.
+    /// The state is the one that was answered last. Where the ranges of a text adjoin, each begins
+    /// where the last one ended, or after what is skipped there, and what is read doesn't depend on
+    /// where the text is cut. What stands before a range otherwise isn't read. A state that reads the
+    /// byte at hand again is no state to begin a range with, and none is answered. Once memory was
+    /// refused, an error is answered to any further range.
     pub fn push(&mut self, from: (usize, usize), to: (usize, usize), state: State) -> State
         requires from { IsCut (bytes_of self.old) from }
         requires to { IsCut (bytes_of self.old) to }
@@ -549,9 +549,9 @@ impl<'a, M: Machine<T>, T: Tables, A: Allocator> Tokenizer<'a, M, T, A> {
         self.finish(to, state)
     }
 
-    /// Reads a text in ranges, cut anywhere, also inside a tab or a line ending. Each ends at one
-    /// of these places (an index and a column of a tab there), the last at the text's end. After
-    /// out of memory it returns an error.
+    /// Reads a text in ranges, cut anywhere, inside of a tab or a line ending, too: each ends at one
+    /// of these places, an index and a column of a tab there, and the last at the text's end. Once
+    /// memory was refused, an error is answered.
     pub fn read_in_ranges(&mut self, cuts: &[(usize, usize)], state: State) -> State
         requires cuts { AreCuts (0, 0) cuts.now (length (bytes_of self.old)) }
         requires fresh { NothingWaits self.old }

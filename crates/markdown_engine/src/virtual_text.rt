@@ -75,7 +75,7 @@ fn in_line(point: Point) -> Point
     }
 }
 
-/// The place after a line ending of `size` bytes.
+/// The place after a line ending of so many bytes.
 fn next_line(point: Point, size: usize) -> Point
     requires { point.index + size < 2 ^ 64 }
     ensures { result ≡ next_line size point }
@@ -88,7 +88,7 @@ fn next_line(point: Point, size: usize) -> Point
     }
 }
 
-/// Returns whether a line feed is at an index.
+/// Whether a line feed stands at an index.
 fn feeds(bytes: &[u8], index: usize) -> bool
     ensures { result ≡ feeds bytes.now index }
 {
@@ -128,7 +128,7 @@ pub fn line_start(bytes: &[u8], index: usize) -> usize
     start
 }
 
-/// Returns whether a line ending is right before an index.
+/// Whether a line ending stands right before an index.
 fn ends_before(bytes: &[u8], index: usize) -> bool
     requires { 0 < index }
     ensures { result ≡ ends_before bytes.now index }

@@ -1,8 +1,8 @@
 //! Autolinks (CommonMark 6.5).
 ghost use Rattle.state_verdicts.specs.Autolink.{AutolinkChoice, AutolinkVerdict};
 
-/// An attempt at an autolink succeeds exactly if the definition has one, of a URI or an email
-/// address. It adds its events and ends where the autolink ends.
+/// An attempt at an autolink goes well exactly where the definition has one, with its events and up
+/// to its end: by a URI or by an email address.
 pub fn autolink_verdict<T>()
     ensures { AutolinkVerdict T }
 {}

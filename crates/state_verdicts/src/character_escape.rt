@@ -1,8 +1,8 @@
 //! Backslash escapes (CommonMark 2.4).
 ghost use Rattle.state_verdicts.specs.CharacterEscape.{EscapeChoice, EscapeVerdict};
 
-/// An attempt at an escape succeeds exactly if the definition has one. It adds its events and ends
-/// where the escape ends.
+/// An attempt at an escape goes well exactly where the definition has one, with its events and up to
+/// its end.
 pub fn character_escape_verdict<T>()
     ensures { EscapeVerdict T }
 {}

@@ -1,8 +1,8 @@
 //! Character references (CommonMark 2.5).
 ghost use Rattle.state_verdicts.specs.CharacterReference.{CharacterReferenceChoice, CharacterReferenceVerdict};
 
-/// An attempt at a reference succeeds exactly if the definition has one, by a name of the tables or
-/// by a number. It adds its events and ends where the reference ends.
+/// An attempt at a reference goes well exactly where the definition has one, with its events and up
+/// to its end: by a name that the tables have, or by a number.
 pub fn character_reference_verdict<T>()
     ensures { CharacterReferenceVerdict T }
 {}

@@ -1,15 +1,15 @@
 //! Code spans (CommonMark 6.1).
 ghost use Rattle.state_verdicts.specs.CodeText.{CodeTextChoice, CodeTextVerdict};
 
-/// An attempt at a code span succeeds exactly if a run of backticks begins here and the definition
-/// has a span. It adds its events and ends where the span ends.
+/// An attempt at a code span goes well exactly where a run of backticks begins and the definition has
+/// a span, with its events and up to its end.
 pub fn code_text_verdict<T>()
     ensures { CodeTextVerdict T }
 {}
 
-/// At a backtick, reading continues after a code span exactly if a run begins here and the
-/// definition has a span, with its events added. Otherwise it continues with data at the same
-/// place.
+/// Before a part of a text that begins with a backtick, reading goes on after a code span exactly
+/// where a run begins and the definition has one, with its events added, and otherwise with data at
+/// the same place.
 pub fn code_text_choice<T>()
     ensures { CodeTextChoice T }
 {}

@@ -7,8 +7,8 @@ pub fn choice_law<T>()
     ensures { ChoiceLaw T }
 {}
 
-/// At a backslash that escapes nothing, reading continues after a hard break exactly if the
-/// definition has one. Otherwise it continues with data at the same place.
+/// Before a part of a text that begins with a backslash that escapes nothing, reading goes on after a
+/// hard break exactly where the definition has one, and otherwise with data at the same place.
 pub fn text_backslash_choice<T>()
     ensures { BackslashChoice T }
 {}
