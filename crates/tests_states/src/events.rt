@@ -172,7 +172,7 @@ fn html_in_texts(rt: HostRuntime) -> Result<(), Fail> {
             "+HtmlText0 +HtmlTextData0 -HtmlTextData4 -HtmlText4 ",
         ),
         ("</a b>", "+Data0 -Data6 "),
-        ("<a b='c'd>", "+Data0 -Data10 "),
+        ("<a b='c'd>", "+Data0 -Data4 +Data4 -Data10 "),
     ];
     assert!(rt; are_texts(&rt, &rows)?);
     Ok(())
