@@ -51,9 +51,10 @@ starts_high x h = and_right (leb 128 x) (ltb x 192) (le-ltb x 192 h)
 no_count : (x : ℕ) → 128 ≤ x → counts_after x ≡ false
 no_count x h =
     let apart : (y : ℕ) → y < 128 → eqb x y ≡ false = λ y l. ne_eqb x y (λ is. omega (arith, is, h, l)) in
-    ap (λ b. (b || (eqb x 95 || eqb x 126)) || (eqb x 46 || eqb x 47)) (apart 42 (omega arith))
-    ∙ ap (λ b. (b || eqb x 126) || (eqb x 46 || eqb x 47)) (apart 95 (omega arith))
-    ∙ ap (λ b. b || (eqb x 46 || eqb x 47)) (apart 126 (omega arith))
+    ap (λ b. (b || (eqb x 95 || (eqb x 126 || eqb x 61))) || (eqb x 46 || eqb x 47)) (apart 42 (omega arith))
+    ∙ ap (λ b. (b || (eqb x 126 || eqb x 61)) || (eqb x 46 || eqb x 47)) (apart 95 (omega arith))
+    ∙ ap (λ b. (b || eqb x 61) || (eqb x 46 || eqb x 47)) (apart 126 (omega arith))
+    ∙ ap (λ b. b || (eqb x 46 || eqb x 47)) (apart 61 (omega arith))
     ∙ ap (λ b. b || eqb x 47) (apart 46 (omega arith))
     ∙ apart 47 (omega arith)
 
