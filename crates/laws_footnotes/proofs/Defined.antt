@@ -1,5 +1,5 @@
 -- Where the calls of a page lead.
-use Rattle.std.proofs.Common.{◌≡◌, ◌<◌, ℕ, Bool, true, false, if◌then◌else◌, ◌||◌, not, List, [], ◌∷◌, ◌++◌, map, Option, None, Some, length, refl, sym, ap}
+use Rattle.std.proofs.Common.{◌≡◌, ◌<◌, ℕ, Bool, true, false, if◌then◌else◌, ◌||◌, not, List, [], ◌∷◌, ◌++◌, map, Option, None, Some, length, refl, sym}
 use Rattle.std.proofs.Common.{◌∙◌, subst, get_or, codes}
 use Rattle.std.specs.List.{All, flat_map}
 use Rattle.std.specs.Str.{bytes_eq}
@@ -14,7 +14,7 @@ use Rattle.markdown_options.specs.declared.align_kind.AlignKind.{AlignKind}
 use Rattle.definition_inline.specs.Inline.{Inline, Html as RawHtml, Emphasis, Strong, Strikethrough, Link, Image, Call, Inlines, Nil as NoText, Cons as Text}
 use Rattle.definition_inline.specs.LabelMatch.{normal_label, first_match}
 use Rattle.definition_page.specs.Tags.{PrintedPart, Words, Tag, tag, bare_tag}
-use Rattle.definition_page.specs.Pieces.{Piece, Open, Close, Void, Says, Eol, Fresh, CallOf, CountOf, NoteStart, NoteEnd}
+use Rattle.definition_page.specs.Pieces.{Piece, Close, Says, Eol, Fresh, NoteEnd}
 use Rattle.definition_page.specs.InlinePieces.{Meaning, element, html_says, call_at, count_at, part_counts, inline_counts, part_pieces, inline_pieces, link_tag}
 use Rattle.definition_inline.specs.Targets.{leads_to}
 use Rattle.definition_page.specs.GfmTable.{TableRow, Table as TableOf, cell_pieces, cells_pieces, row_pieces, align_attributes, ending_piece, body_row_pieces}
