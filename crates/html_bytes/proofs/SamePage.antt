@@ -17,7 +17,7 @@ use Rattle.definition_page.specs.Html.{html}
 use Rattle.html_bytes.specs.Document.{document}
 use Rattle.html_bytes.specs.Pieces as bytes
 use Rattle.html_bytes.specs.Layout as bytes_layout
-use Rattle.html_bytes.specs.Layout.{LayoutState, nothing_laid, note_of}
+use Rattle.html_bytes.specs.Layout.{nothing_laid, note_of}
 use Rattle.html_bytes.proofs.LayoutSteps.{with_section, steps_same}
 use Rattle.html_bytes.specs.Html as old
 use Rattle.html_bytes.proofs.SameLayout.{Same, joined}

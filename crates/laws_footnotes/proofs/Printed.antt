@@ -1,8 +1,6 @@
 -- What calls print.
 use Rattle.std.proofs.Common.{◌≡◌, ℕ, suc, ◌+◌, Bool, true, false, if◌then◌else◌, eqb, List, [], ◌∷◌, ◌++◌, sym, ap, ◌∙◌, append_assoc, arith}
-use Rattle.std.proofs.lemmas.List.{append-nil}
-use Rattle.markdown_options.specs.declared.configuration.CompileOptions.{CompileOptions}
-use Rattle.definition_page.specs.Pieces.{Piece, CallOf, CountOf}
+use Rattle.definition_page.specs.Pieces.{Piece, CallOf}
 use Rattle.definition_page.specs.Layout.{NamedCall, named_call, named_calls, first_calls, times, call_of, with_calls}
 use Rattle.definition_page.specs.GfmLabelStartFootnote.{Call, call_pieces}
 use Rattle.definition_page.proofs.Cuts.{calls_append, shown_append}
