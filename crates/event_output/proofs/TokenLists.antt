@@ -1,5 +1,6 @@
 -- Tokens and more tokens.
-use Rattle.std.proofs.Common.{◌≡◌, ℕ, List, [], ◌∷◌, ◌++◌, true, Option, None, Some, inl, inr, refl, sym, ap, subst, ◌∙◌, append_assoc, length}
+use Rattle.std.proofs.Common.{◌≡◌, ℕ, List, [], ◌∷◌, ◌++◌, true, Option, None, Some, inl, inr, refl, sym, ap, subst, ◌∙◌, append_assoc, length, ◌<◌, take, drop}
+use Rattle.std.proofs.Math.Nat.{lt_irrefl, sub_self}
 use Rattle.std.proofs.lemmas.List.{append-nil}
 use denote.Enum.Bare.{same_true}
 use Rattle.engine_events.specs.contracts.event.Name.{the_type}
@@ -10,8 +11,11 @@ use Rattle.engine_events.specs.declared.event.Event.{Event}
 use Rattle.engine_events.specs.Events.{event}
 use Rattle.event_output.specs.declared.spot.Place.{Place}
 use Rattle.event_output.specs.declared.points.Told.{Told}
-use Rattle.event_output.specs.Spots.{spot_at}
-use Rattle.event_output.specs.Tokens.{Token, Enter, Exit, Void, AreOnward, GoesOn, place, point_at, token_end, token_events, tokens_end, tokens_events}
+use Rattle.std.specs.List.{fold}
+use Rattle.engine_events.specs.Columns.{mark_size}
+use Rattle.event_output.specs.declared.spot.Spot.{Spot}
+use Rattle.event_output.specs.Spots.{next_spot, spot_at}
+use Rattle.event_output.specs.Tokens.{Token, Enter, Exit, Void, AreOnward, GoesOn, IsPlace, IsWhole, place, point_at, token_end, token_events, tokens_end, tokens_events}
 use Rattle.event_output.specs.Placed.{ArePlaced, Exits, IsTold, beginning, entered_events, exits_from, told, told_event}
 
 pub end-append : (text : List ℕ) (p : Place) (ts us : List Token) → tokens_end text p (ts ++ us) ≡ tokens_end text (tokens_end text p ts) us
@@ -31,7 +35,7 @@ onward-append text p [] us first second = second
 onward-append text p (Enter name ∷ ts) us first second = onward-append text p ts us first second
 onward-append text p (Exit name ∷ ts) us first second = onward-append text p ts us first second
 onward-append text p (Void name index vs ∷ ts) us first second =
-    (first.0, onward-append text (token_end text p (Void name index vs)) ts us first.1 second)
+    (first.0, first.1, onward-append text (place (spot_at text index p.spot) vs) ts us first.2 second)
 
 -- the token that enters something, if one does
 abbrev entered_tokens : Option Name → List Token
@@ -103,7 +107,7 @@ module _ (text : List ℕ) where
       (ap (λ r. tokens_events text beginning is.tokens ++ enter_event name p ∷ exit_event name r ∷ []) there
       ∙ sym (append_assoc (tokens_events text beginning is.tokens) (enter_event name p ∷ []) (exit_event name q ∷ []))
       ∙ ap (λ x. x ++ exit_event name q ∷ []) (sym is.each))
-      (joined is.tokens (Void name q.spot.index q.vs ∷ []) p q is.onward is.end (goes.onward, tt) there)
+      (joined is.tokens (Void name q.spot.index q.vs ∷ []) p q is.onward is.end (goes.onward, subst (IsWhole text) (sym there) goes.whole, tt) there)
 
   exits_there : (es : List Event) (p q : Place) (entered : Option Name) (name : Name) → exits_from text p entered name q
       → IsTold text es (told p entered) → IsTold text (es ++ exit_event name q ∷ []) (told q None)
@@ -127,27 +131,36 @@ module _ (text : List ℕ) where
       (exits_there es t.place q t.entered e.name there is)
 
   -- events up to the end of the text
-  pub all_placed : (es : List Event) (t : Told) → IsTold text es t → t.place.spot.index ≡ length text → ArePlaced text es
-  all_placed es t is at_end =
+  no_tab_at_end : (p : Place) → IsWhole text p → p.spot.index ≡ length text → p.vs ≡ 0
+  no_tab_at_end p (inl none) at_end = none
+  no_tab_at_end p (inr tab) at_end = absurd (lt_irrefl (length text) (subst (λ n. n < length text) at_end tab.within))
+
+  pub all_placed : (es : List Event) (t : Told) → IsTold text es t → IsPlace text t.place → t.place.spot.index ≡ length text → ArePlaced text es
+  all_placed es t is here at_end =
       let s = settled es t is in
       record {
         tokens = s.tokens;
         onward = s.onward;
         each = tokens_alone es t.place s;
-        end = ap (λ p. p.spot.index) s.end ∙ at_end;
+        index = ap (λ p. p.spot.index) s.end ∙ at_end;
+        vs = ap (λ p. p.vs) s.end ∙ no_tab_at_end t.place here.whole at_end;
       }
 
-  pub rest_placed : (es : List Event) (t : Told) (q : Place) (name : Name) → IsTold text es t → GoesOn text t.place q → q.spot.index ≡ length text
+  pub rest_placed : (es : List Event) (t : Told) (q : Place) (name : Name) → IsTold text es t → GoesOn text t.place q → IsPlace text q → q.spot.index ≡ length text
       → ArePlaced text ((es ++ enter_event name t.place ∷ []) ++ exit_event name q ∷ [])
-  rest_placed es t q name is goes at_end =
+  rest_placed es t q name is goes here at_end =
       all_placed ((es ++ enter_event name t.place ∷ []) ++ exit_event name q ∷ []) (told q None)
-      (passes (es ++ enter_event name t.place ∷ []) t.place q name (enters es t name is) goes) at_end
+      (passes (es ++ enter_event name t.place ∷ []) t.place q name (enters es t name is) goes) here at_end
 
   -- an exit right after the enter of its name is further on
   pub exits_on : (t : Told) (entered name : Name) (q : Place) → t.entered ≡ Some entered → same_name entered name ≡ true → GoesOn text t.place q
       → Exits text t name q
   exits_on t entered name q is same goes =
       subst (λ e. exits_from text t.place e name q) (sym is) (inr (same_true the_type tt entered name same, goes))
+
+  -- no bytes are passed
+  pub stays : (s : Spot) → s ≡ spot_at text s.index s
+  stays s = ap (λ n. fold (next_spot (mark_size text)) s (take n (drop s.index text))) (sym (sub_self s.index))
 
   pub nothing_told : IsTold text [] (told beginning None)
   nothing_told = record { tokens = []; onward = tt; each = refl; end = refl }

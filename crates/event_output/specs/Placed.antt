@@ -18,7 +18,8 @@ pub record ArePlaced (text : List ℕ) (events : List Event) : Type 0 where
   pub tokens : List Token
   pub onward : AreOnward text beginning tokens
   pub each : events ≡ tokens_events text beginning tokens
-  pub end : (tokens_end text beginning tokens).spot.index ≡ length text
+  pub index : (tokens_end text beginning tokens).spot.index ≡ length text
+  pub vs : (tokens_end text beginning tokens).vs ≡ 0
 
 abbrev pub told : Place → Option Name → Told
 told p entered = record { place = p; entered = entered }

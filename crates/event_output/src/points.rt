@@ -5,7 +5,7 @@
 ghost use Rattle.std.specs.Prelude.{◌≡◌, ◌+◌, ◌<◌, ◌≤◌, ◌^◌, ◌∷◌, ◌++◌, [], List, IfOk, OnOk, length, None};
 ghost use Rattle.engine_events.specs.declared.event.Event.{Event as EventOf};
 ghost use Rattle.event_output.specs.Spots.{IsIn, start};
-ghost use Rattle.event_output.specs.Tokens.{GoesOn, place, point_at};
+ghost use Rattle.event_output.specs.Tokens.{GoesOn, IsPlace, IsWhole, place, point_at};
 ghost use Rattle.event_output.specs.Placed.{ArePlaced, Exits, IsTold, told, told_event};
 ghost use Rattle.engine_events.specs.Events.{event};
 
@@ -42,7 +42,7 @@ pub(crate) fn set_points<A: Allocator>(
 #[tactic(auto, using(crate::proofs::TokenLists::nothing_told))]
 fn set_all<A: Allocator>(text: &[u8], events: &mut Vec<Event, A>) -> Told
     requires fits { length text.now < 2 ^ 61 }
-    ensures place { IsIn text.now result.place.spot }
+    ensures place { IsPlace text.now result.place }
     ensures told { IsTold text.now events.new.items result }
 {
     let mut told = Told::new();
@@ -63,7 +63,7 @@ fn push_rest<A: Allocator>(
     events: &mut Vec<Event, A>,
 ) -> Result<(), AllocError>
     requires fits { length text.now < 2 ^ 61 }
-    requires place { IsIn text.now told.place.spot }
+    requires place { IsPlace text.now told.place }
     requires told { IsTold text.now events.old.items told }
     ensures { OnOk result (ArePlaced text.now events.new.items) }
 {
@@ -108,8 +108,8 @@ impl Told {
     /// After the next event, which was written at an index where columns of a tab are owed.
     fn next(self, text: &[u8], event: Event) -> Told
         requires fits { length text.now < 2 ^ 61 }
-        requires place { IsIn text.now self.place.spot }
-        ensures place { IsIn text.now result.place.spot }
+        requires place { IsPlace text.now self.place }
+        ensures place { IsPlace text.now result.place }
         ensures told { (es : List EventOf) → IsTold text.now es self → IsTold text.now (es ++ told_event result event ∷ []) result }
     {
         match event.kind {
@@ -127,8 +127,8 @@ impl Told {
     /// Where an exit is: further on if it is right after the enter of its name.
     fn exit_place(self, text: &[u8], event: Event) -> Place
         requires fits { length text.now < 2 ^ 61 }
-        requires place { IsIn text.now self.place.spot }
-        ensures place { IsIn text.now result.spot }
+        requires place { IsPlace text.now self.place }
+        ensures place { IsPlace text.now result }
         ensures exits { Exits text.now self event.name result }
     {
         match self.entered {
@@ -168,29 +168,38 @@ impl Place {
     }
 
     /// The place at an index of a text, before so many columns of the tab there, if it is further on.
+    #[tactic(auto, using(crate::proofs::TokenLists::stays))]
     fn pass_to(self, text: &[u8], index: usize, owed: u8) -> Place
         requires fits { length text.now < 2 ^ 61 }
-        requires place { IsIn text.now self.spot }
-        ensures place { IsIn text.now result.spot }
+        requires place { IsPlace text.now self }
+        ensures place { IsPlace text.now result }
         ensures goes_on { GoesOn text.now self result }
         ensures index { length text.now ≤ index → result.spot.index ≡ length text.now }
     {
         let to = index.min(text.len()).max(self.spot.index);
+        if to == self.spot.index {
+            let vs = columns_before(text, self.spot, owed);
+            return if vs > self.vs {
+                Place {
+                    spot: self.spot,
+                    vs,
+                }
+            } else {
+                self
+            };
+        }
         let spot = pass_to(text, self.spot, to);
-        let vs = columns_before(text, spot, owed);
         Place {
             spot,
-            vs: if to == self.spot.index {
-                vs.max(self.vs)
-            } else {
-                vs
-            },
+            vs: columns_before(text, spot, owed),
         }
     }
 }
 
 /// How many columns of the tab at a place are before so many of them.
-fn columns_before(text: &[u8], spot: Spot, owed: u8) -> u8 {
+fn columns_before(text: &[u8], spot: Spot, owed: u8) -> u8
+    ensures { IsWhole text.now (place spot result) }
+{
     if owed == 0 || spot.index >= text.len() || text[spot.index] != b'\t' {
         return 0;
     }
