@@ -1,0 +1,17 @@
+//! Links with no brackets (GFM 6.9).
+use engine_events::event::Name;
+use event_lines::cut::first;
+use inline_leaves::LiteralKind;
+
+/// The name of a literal of a kind, which begins with these bytes.
+pub(crate) fn literal_name(kind: LiteralKind, bytes: &[u8]) -> Name {
+    match kind {
+        LiteralKind::Www => Name::GfmAutolinkLiteralWww,
+        LiteralKind::Email => Name::GfmAutolinkLiteralEmail,
+        LiteralKind::Protocol => match first(bytes) {
+            b'm' | b'M' => Name::GfmAutolinkLiteralMailto,
+            b'x' | b'X' => Name::GfmAutolinkLiteralXmpp,
+            _ => Name::GfmAutolinkLiteralProtocol,
+        },
+    }
+}

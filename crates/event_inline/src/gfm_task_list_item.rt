@@ -1,0 +1,31 @@
+//! Checks of task list items (GFM 5.3).
+use engine_events::event::Name;
+use event_lines::Walk;
+use event_lines::cut::bytes_from;
+use inline_leaves::line_ending::ending_at;
+use std::alloc::{AllocError, Allocator};
+
+/// A check that bytes begin with.
+pub fn push_check<A: Allocator>(
+    walk: &mut Walk<'_, A>,
+    bytes: &[u8],
+    done: bool,
+) -> Result<(), AllocError> {
+    walk.enter(Name::GfmTaskListItemCheck)?;
+    walk.text(Name::GfmTaskListItemMarker, 1)?;
+    let name = value_name(done);
+    match ending_at(bytes_from(bytes, 1)) {
+        Some(found) => walk.content_ending(name, found.size)?,
+        None => walk.text(name, 1)?,
+    }
+    walk.text(Name::GfmTaskListItemMarker, 1)?;
+    walk.exit(Name::GfmTaskListItemCheck)
+}
+
+fn value_name(done: bool) -> Name {
+    if done {
+        Name::GfmTaskListItemValueChecked
+    } else {
+        Name::GfmTaskListItemValueUnchecked
+    }
+}

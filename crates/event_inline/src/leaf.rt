@@ -1,0 +1,114 @@
+//! Constructs that hold no other (CommonMark 2.4, 2.5, 6.1 and 6.5 to 6.8).
+use crate::gfm_autolink_literal::literal_name;
+use crate::lines::push_lines;
+use crate::reading::Reading;
+use engine_events::event::Name;
+use event_lines::Walk;
+use event_lines::cut::{bytes_from, bytes_up_to};
+use event_strings::character_escape::push_escape;
+use event_strings::character_reference::{push_reference, reference_size};
+use inline_leaves::LeafPart;
+use std::alloc::{AllocError, Allocator};
+use text_bytes::{run, white_size};
+
+/// The names of raw text between two sequences.
+#[derive(Clone, Copy)]
+struct RawNames {
+    text: Name,
+    sequence: Name,
+    chunk: Name,
+}
+
+const CODE: RawNames = RawNames {
+    text: Name::CodeText,
+    sequence: Name::CodeTextSequence,
+    chunk: Name::CodeTextData,
+};
+
+const MATH: RawNames = RawNames {
+    text: Name::MathText,
+    sequence: Name::MathTextSequence,
+    chunk: Name::MathTextData,
+};
+
+/// A construct that comes next in a content.
+pub(crate) fn push_leaf<T, A: Allocator>(
+    walk: &mut Walk<'_, A>,
+    reading: &Reading<'_, T>,
+    part: LeafPart<'_>,
+) -> Result<(), AllocError> {
+    let bytes = reading.rest(walk.place()).as_bytes();
+    match part {
+        LeafPart::Escape(_) => push_escape(walk),
+        LeafPart::Character(_) | LeafPart::Number { .. } => {
+            push_reference(walk, bytes, reference_size(bytes))
+        }
+        LeafPart::Code(text) => push_raw(walk, &CODE, bytes, run(b'`', bytes), text.len()),
+        LeafPart::Math(text) => push_raw(walk, &MATH, bytes, run(b'$', bytes), text.len()),
+        LeafPart::Unclosed(text) => walk.data(text.len()),
+        LeafPart::Autolink { email, text } => push_autolink(walk, email, text.len()),
+        LeafPart::Literal { kind, text } => {
+            walk.text(literal_name(kind, text.as_bytes()), text.len())
+        }
+        LeafPart::Html(text) => push_html(walk, bytes_up_to(bytes, text.len())),
+        LeafPart::EscapedBreak => walk.text(Name::HardBreakEscape, 1),
+        LeafPart::TrailingBreak => walk.text(Name::HardBreakTrailing, white_size(bytes)),
+        LeafPart::LineEnd(ending) => push_line_end(walk, bytes, ending.as_str().len()),
+        LeafPart::Spaces => walk.text(Name::SpaceOrTab, white_size(bytes)),
+    }
+}
+
+/// Raw text of a size between two sequences of a size, at the front of these bytes (CommonMark 6.1).
+fn push_raw<A: Allocator>(
+    walk: &mut Walk<'_, A>,
+    names: &RawNames,
+    bytes: &[u8],
+    sequence: usize,
+    size: usize,
+) -> Result<(), AllocError> {
+    walk.enter(names.text)?;
+    walk.text(names.sequence, sequence)?;
+    let inside = bytes_up_to(bytes_from(bytes, sequence), size);
+    push_lines(walk, names.chunk, inside, false)?;
+    walk.text(names.sequence, sequence)?;
+    walk.exit(names.text)
+}
+
+/// An autolink of a URI or an address of a size (CommonMark 6.5).
+fn push_autolink<A: Allocator>(
+    walk: &mut Walk<'_, A>,
+    email: bool,
+    size: usize,
+) -> Result<(), AllocError> {
+    let name = if email {
+        Name::AutolinkEmail
+    } else {
+        Name::AutolinkProtocol
+    };
+    walk.enter(Name::Autolink)?;
+    walk.text(Name::AutolinkMarker, 1)?;
+    walk.text(name, size)?;
+    walk.text(Name::AutolinkMarker, 1)?;
+    walk.exit(Name::Autolink)
+}
+
+/// Raw HTML (CommonMark 6.6).
+fn push_html<A: Allocator>(walk: &mut Walk<'_, A>, bytes: &[u8]) -> Result<(), AllocError> {
+    walk.enter(Name::HtmlText)?;
+    push_lines(walk, Name::HtmlTextData, bytes, true)?;
+    walk.exit(Name::HtmlText)
+}
+
+/// A line ending of a size, with the spaces and tabs around it (CommonMark 6.8). Rows in which email
+/// addresses were looked for have no row for those before it.
+fn push_line_end<A: Allocator>(
+    walk: &mut Walk<'_, A>,
+    bytes: &[u8],
+    size: usize,
+) -> Result<(), AllocError> {
+    let before = white_size(bytes);
+    walk.text(Name::SpaceOrTab, before)?;
+    walk.content_ending(Name::LineEnding, size)?;
+    let after = bytes_from(bytes_from(bytes, before), size);
+    walk.text(Name::SpaceOrTab, white_size(after))
+}

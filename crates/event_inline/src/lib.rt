@@ -1,0 +1,17 @@
+//! Rows of inline structure to events.
+#![tactic(auto)]
+
+pub mod gfm_autolink_literal;
+pub mod gfm_footnote_call;
+pub mod gfm_task_list_item;
+pub mod label;
+pub mod leaf;
+pub mod lines;
+pub mod open;
+pub mod reading;
+pub mod rows;
+pub mod span;
+
+pub use open::Open;
+pub use reading::Reading;
+pub use rows::push_rows;

@@ -1,0 +1,53 @@
+//! Raw text of lines (CommonMark 6.1 and 6.6).
+use engine_events::event::Name;
+use event_lines::Walk;
+use event_lines::cut::bytes_from;
+use inline_leaves::line_ending::ending_at;
+use std::alloc::{AllocError, Allocator};
+use text_bytes::white_size;
+
+/// Bytes by a name, and the endings between their lines. White space after an ending may stand apart.
+pub(crate) fn push_lines<A: Allocator>(
+    walk: &mut Walk<'_, A>,
+    name: Name,
+    bytes: &[u8],
+    indented: bool,
+) -> Result<(), AllocError> {
+    let mut rest = bytes;
+    while !rest.is_empty() {
+        let size = push_line(walk, name, rest, indented)?;
+        rest = bytes_from(rest, size.max(1));
+    }
+    Ok(())
+}
+
+/// An ending, or what comes before one. Answers its size.
+fn push_line<A: Allocator>(
+    walk: &mut Walk<'_, A>,
+    name: Name,
+    bytes: &[u8],
+    indented: bool,
+) -> Result<usize, AllocError> {
+    let Some(found) = ending_at(bytes) else {
+        let size = line_size(bytes);
+        walk.text(name, size)?;
+        return Ok(size);
+    };
+    walk.content_ending(Name::LineEnding, found.size)?;
+    if !indented {
+        return Ok(found.size);
+    }
+    let white = white_size(bytes_from(bytes, found.size));
+    walk.text(Name::SpaceOrTab, white)?;
+    Ok(found.size.saturating_add(white))
+}
+
+/// How many bytes come before the first LF or CR.
+fn line_size(bytes: &[u8]) -> usize {
+    for (i, byte) in bytes.iter().enumerate() {
+        if matches!(*byte, b'\n' | b'\r') {
+            return i;
+        }
+    }
+    bytes.len()
+}

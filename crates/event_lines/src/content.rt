@@ -1,0 +1,78 @@
+//! Contents, whose lines stand after the prefixes of containers (CommonMark 4.8).
+use crate::walk::Walk;
+use engine_events::event::Name;
+use event_output::{End, at};
+use std::alloc::{AllocError, Allocator};
+
+impl<'a, A: Allocator> Walk<'a, A> {
+    /// A content begins, whose first line is the rest of the line.
+    pub fn begin_content(&mut self) {
+        self.place = 0;
+        self.line_place = 0;
+        self.line_start = self.start_of(&self.rest);
+    }
+
+    /// A content begins, which is a part of the line, from an index on.
+    pub fn begin_part(&mut self, index: usize) {
+        self.place = 0;
+        self.line_place = 0;
+        self.line_start = at(index);
+    }
+
+    /// A content begins here, which is a part of the line.
+    pub fn begin_here(&mut self) {
+        self.place = 0;
+        self.line_place = 0;
+        self.line_start = self.out.end();
+    }
+
+    /// How far the content is written.
+    pub fn place(&self) -> usize {
+        self.place
+    }
+
+    /// The next bytes of the content, so many, by a name.
+    pub fn text(&mut self, name: Name, size: usize) -> Result<(), AllocError> {
+        self.place = self.place.saturating_add(size);
+        let end = self.content_end();
+        self.out.token(name, end)
+    }
+
+    /// The next bytes of the content, so many, as data.
+    pub fn data(&mut self, size: usize) -> Result<(), AllocError> {
+        if size == 0 {
+            return Ok(());
+        }
+        self.place = self.place.saturating_add(size);
+        let end = self.content_end();
+        self.out.data(end)
+    }
+
+    /// The ending of the line by a name, of so many bytes, and the prefixes of the next line.
+    pub fn content_ending(&mut self, name: Name, size: usize) -> Result<(), AllocError> {
+        self.place = self.place.saturating_add(size);
+        self.ending(name)?;
+        self.begin_line()?;
+        self.line_place = self.place;
+        self.line_start = self.start_of(&self.rest);
+        Ok(())
+    }
+
+    /// The place in the text up to which the content is written.
+    fn content_end(&self) -> End {
+        let more = self.place.saturating_sub(self.line_place);
+        let owed = usize::from(self.line_start.owed);
+        if more < owed {
+            End {
+                index: self.line_start.index,
+                owed: self.line_start.owed.saturating_sub(more as u8),
+            }
+        } else if owed > 0 {
+            at(self.line_start.index)
+                .after(1)
+                .after(more.saturating_sub(owed))
+        } else {
+            at(self.line_start.index).after(more)
+        }
+    }
+}

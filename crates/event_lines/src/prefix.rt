@@ -1,0 +1,146 @@
+//! The prefixes of containers (CommonMark 5.1 and 5.2).
+use crate::cut::first;
+use crate::walk::Walk;
+use block_starts::Cursor;
+use block_starts::container::{continues, starts};
+use engine_events::event::Name;
+use markdown_options::{Container, Item};
+use std::alloc::{AllocError, Allocator};
+
+/// No line is longer.
+const LINE_MAX: usize = 1 << 60;
+
+/// A line before anything of it is read.
+pub(crate) fn line_rest(content: &str) -> Cursor<'_> {
+    if content.len() <= LINE_MAX {
+        Cursor::new(content)
+    } else {
+        Cursor::new("")
+    }
+}
+
+impl<'a, A: Allocator> Walk<'a, A> {
+    /// The prefixes of the containers that go on. At an empty rest, no quote may follow but those that
+    /// are known.
+    pub(crate) fn prefixes(&mut self) -> Result<(), AllocError> {
+        for depth in 0..self.open.len() {
+            if depth >= self.quotes_end && self.rest.is_blank() && self.rest.indent() == 0 {
+                return Ok(());
+            }
+            let Some(container) = self.open.get(depth).copied() else {
+                return Ok(());
+            };
+            let Some(line) = continues(self.on, container, false, self.rest) else {
+                return Ok(());
+            };
+            self.prefix(container, line.rest)?;
+        }
+        Ok(())
+    }
+
+    /// The prefix of a container, up to a rest of the line.
+    fn prefix(&mut self, container: Container<'a>, after: Cursor<'a>) -> Result<(), AllocError> {
+        match container {
+            Container::Quote => self.quote_prefix(after)?,
+            _ => self.space_to(&after)?,
+        }
+        self.rest = after;
+        Ok(())
+    }
+
+    /// The prefix of a quote, up to a rest of the line.
+    fn quote_prefix(&mut self, after: Cursor<'a>) -> Result<(), AllocError> {
+        let _bare = self.white()?;
+        self.enter(Name::BlockQuotePrefix)?;
+        self.token(Name::BlockQuoteMarker, 1)?;
+        self.space_to(&after)?;
+        self.exit(Name::BlockQuotePrefix)
+    }
+
+    /// The container that starts here, if one does.
+    pub fn start(&mut self) -> Result<(), AllocError> {
+        let Some((container, line)) = starts(self.on, false, self.rest) else {
+            return Ok(());
+        };
+        let bare = self.white()?;
+        match container {
+            Container::Quote => self.start_quote(line.rest)?,
+            Container::Item(item) => self.start_item(item, bare, line.rest)?,
+            Container::Footnote(label) => self.start_footnote(label, line.rest)?,
+        }
+        self.open.push(container)?;
+        self.rest = line.rest;
+        Ok(())
+    }
+
+    fn start_quote(&mut self, after: Cursor<'a>) -> Result<(), AllocError> {
+        self.enter(Name::BlockQuote)?;
+        self.quotes_end = self.open.len().saturating_add(1);
+        self.quote_prefix(after)
+    }
+
+    fn start_item(&mut self, item: Item, bare: &str, after: Cursor<'a>) -> Result<(), AllocError> {
+        self.enter(Name::ListItem)?;
+        self.enter(Name::ListItemPrefix)?;
+        if item.number.is_some() {
+            self.token(Name::ListItemValue, digits(bare.as_bytes()))?;
+        }
+        self.token(Name::ListItemMarker, 1)?;
+        self.space_to(&after)?;
+        self.exit(Name::ListItemPrefix)
+    }
+
+    fn start_footnote(&mut self, label: &str, after: Cursor<'a>) -> Result<(), AllocError> {
+        self.enter(Name::GfmFootnoteDefinition)?;
+        self.enter(Name::GfmFootnoteDefinitionPrefix)?;
+        self.enter(Name::GfmFootnoteDefinitionLabel)?;
+        self.token(Name::GfmFootnoteDefinitionLabelMarker, 1)?;
+        self.token(Name::GfmFootnoteDefinitionMarker, 1)?;
+        self.enter(Name::GfmFootnoteDefinitionLabelString)?;
+        self.token(Name::Data, label.len())?;
+        self.exit(Name::GfmFootnoteDefinitionLabelString)?;
+        self.token(Name::GfmFootnoteDefinitionLabelMarker, 1)?;
+        self.exit(Name::GfmFootnoteDefinitionLabel)?;
+        self.token(Name::DefinitionMarker, 1)?;
+        self.space_to(&after)?;
+        self.exit(Name::GfmFootnoteDefinitionPrefix)
+    }
+
+    /// The innermost container ends. Answers which.
+    pub fn leave(&mut self) -> Result<Option<Container<'a>>, AllocError> {
+        let Some(container) = self.open.pop() else {
+            return Ok(None);
+        };
+        self.quotes_end = quotes_end(&self.open, self.quotes_end);
+        self.exit(container_name(container))?;
+        Ok(Some(container))
+    }
+}
+
+/// After the last quote among the first containers, so many.
+fn quotes_end(open: &[Container<'_>], count: usize) -> usize {
+    for depth in (0..count.min(open.len())).rev() {
+        if matches!(open[depth], Container::Quote) {
+            return depth + 1;
+        }
+    }
+    0
+}
+
+fn container_name(container: Container<'_>) -> Name {
+    match container {
+        Container::Quote => Name::BlockQuote,
+        Container::Item(_) => Name::ListItem,
+        Container::Footnote(_) => Name::GfmFootnoteDefinition,
+    }
+}
+
+/// How many digits bytes begin with.
+fn digits(bytes: &[u8]) -> usize {
+    for (i, byte) in bytes.iter().enumerate() {
+        if !byte.is_ascii_digit() {
+            return i;
+        }
+    }
+    bytes.len()
+}

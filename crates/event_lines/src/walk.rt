@@ -1,0 +1,182 @@
+//! The lines of a text (CommonMark 2.1), one after another, each after the prefixes of its containers.
+use crate::prefix::line_rest;
+use block_starts::Cursor;
+use engine_events::event::Name;
+use event_output::{End, Output, at};
+use markdown_options::{Constructs, Container, LineEnding};
+use std::alloc::{AllocError, Allocator};
+use text_lines::next_line;
+
+/// A walk over the lines of a text.
+#[derive(Drop)]
+pub struct Walk<'a, A: Allocator> {
+    pub on: &'a Constructs,
+    /// How many bytes the text has.
+    pub(crate) size: usize,
+    /// What follows the line.
+    pub(crate) left: &'a str,
+    /// Whether a line is begun.
+    pub(crate) is_in_line: bool,
+    /// What is left of it.
+    pub rest: Cursor<'a>,
+    /// Where its ending is.
+    pub(crate) line_end: usize,
+    pub(crate) ending: Option<LineEnding>,
+    /// The containers that are open, the outermost first.
+    pub(crate) open: Vec<Container<'a>, A>,
+    /// From this depth on no container is a quote.
+    pub(crate) quotes_end: usize,
+    pub(crate) out: Output<A>,
+    /// How far a content is written.
+    pub(crate) place: usize,
+    /// Where the line starts in that content.
+    pub(crate) line_place: usize,
+    /// Where it starts in the text.
+    pub(crate) line_start: End,
+}
+
+impl<'a, A: Allocator + Clone> Walk<'a, A> {
+    /// A walk over the lines at the end of a text of a size, which begin with `lines`.
+    pub fn new(
+        alloc: A,
+        on: &'a Constructs,
+        size: usize,
+        lines: &'a str,
+    ) -> Result<Walk<'a, A>, AllocError> {
+        Ok(Walk {
+            on,
+            size,
+            left: lines,
+            is_in_line: false,
+            rest: line_rest(""),
+            line_end: 0,
+            ending: None,
+            open: Vec::new(alloc.clone()?),
+            quotes_end: 0,
+            out: Output::new(alloc),
+            place: 0,
+            line_place: 0,
+            line_start: at(0),
+        })
+    }
+}
+
+impl<'a, A: Allocator> Walk<'a, A> {
+    /// What is written.
+    pub fn into_output(self) -> Output<A> {
+        let Walk { out, .. } = self;
+        out
+    }
+
+    /// What follows the line.
+    pub fn left(&self) -> &'a str {
+        self.left
+    }
+
+    /// Whether no container is open.
+    pub fn is_outside(&self) -> bool {
+        self.open.is_empty()
+    }
+
+    /// Begins a line, unless one is begun.
+    pub fn in_line(&mut self) -> Result<(), AllocError> {
+        if self.is_in_line {
+            Ok(())
+        } else {
+            self.begin_line()
+        }
+    }
+
+    /// Begins a line: the containers that go on have their prefixes on it.
+    pub fn begin_line(&mut self) -> Result<(), AllocError> {
+        let (content, ending, after) = next_line(self.left);
+        self.line_end = self
+            .size
+            .saturating_sub(after.len())
+            .saturating_sub(ending_size(ending));
+        self.ending = ending;
+        self.left = after;
+        self.is_in_line = true;
+        self.rest = line_rest(content);
+        self.prefixes()
+    }
+
+    /// The ending of the line, and the start of the next.
+    pub fn next_line(&mut self) -> Result<(), AllocError> {
+        self.ending(Name::LineEnding)?;
+        self.begin_line()
+    }
+
+    /// The line's ending, if it has one, by this name.
+    pub fn ending(&mut self, name: Name) -> Result<(), AllocError> {
+        self.is_in_line = false;
+        let end = at(self.line_end).after(ending_size(self.ending));
+        self.out.token(name, end)
+    }
+
+    /// Something begins here.
+    pub fn enter(&mut self, name: Name) -> Result<(), AllocError> {
+        self.out.enter(name)
+    }
+
+    /// Something ends here.
+    pub fn exit(&mut self, name: Name) -> Result<(), AllocError> {
+        self.out.exit(name)
+    }
+
+    /// The next bytes, so many, by a name.
+    pub fn token(&mut self, name: Name, size: usize) -> Result<(), AllocError> {
+        let end = self.out.end().after(size);
+        self.out.token(name, end)
+    }
+
+    /// What is before an index, by a name.
+    pub fn to(&mut self, name: Name, index: usize) -> Result<(), AllocError> {
+        self.out.token(name, at(index))
+    }
+
+    /// The columns and bytes of the line before a rest of it.
+    pub fn space_to(&mut self, rest: &Cursor<'a>) -> Result<(), AllocError> {
+        let end = self.start_of(rest);
+        self.out.token(Name::SpaceOrTab, end)
+    }
+
+    /// The spaces and tabs ahead. Answers what follows them.
+    pub fn white(&mut self) -> Result<&'a str, AllocError> {
+        let bare = self.rest.bare_text();
+        self.to(Name::SpaceOrTab, self.index_of(bare.len()))?;
+        Ok(bare)
+    }
+
+    /// What is left of the line, by this name.
+    pub fn all(&mut self, name: Name) -> Result<(), AllocError> {
+        self.to(name, self.line_end)
+    }
+
+    /// Where a rest of the line begins.
+    pub fn start_of(&self, rest: &Cursor<'a>) -> End {
+        let index = self.index_of(rest.text().len());
+        let owed = rest.tab_columns();
+        if owed > 0 {
+            End {
+                index: index.saturating_sub(1),
+                owed,
+            }
+        } else {
+            at(index)
+        }
+    }
+
+    /// Where the last bytes of the line's content begin, so many.
+    pub fn index_of(&self, count: usize) -> usize {
+        self.line_end.saturating_sub(count)
+    }
+}
+
+/// How many bytes an ending has, if there is one.
+fn ending_size(ending: Option<LineEnding>) -> usize {
+    match ending {
+        Some(ending) => ending.as_str().len(),
+        None => 0,
+    }
+}

@@ -1,0 +1,81 @@
+//! Link reference definitions (CommonMark 4.7).
+//!
+//!     definition ::= spaces label ':' white destination (white title)? spaces
+use crate::destination::{inside, push_destination};
+use crate::names::DEFINITION;
+use crate::resource::{last, without_last};
+use crate::title::push_title;
+use crate::white::push_white;
+use engine_events::event::Name;
+use event_lines::Walk;
+use event_lines::cut::bytes_from;
+use event_strings::push_string;
+use inline_links::destination::destination;
+use inline_links::label::label;
+use inline_links::space::{spaces, white};
+use inline_links::title::title as title_at;
+use markdown_options::{Constructs, Tables};
+use std::alloc::{AllocError, Allocator};
+
+/// A definition that a content is.
+pub fn push_definition<T: Tables, A: Allocator>(
+    walk: &mut Walk<'_, A>,
+    on: &Constructs,
+    tables: &T,
+    content: &str,
+) -> Result<(), AllocError> {
+    let bytes = content.as_bytes();
+    let text = last(content, spaces(bytes).len());
+    walk.text(Name::SpaceOrTab, content.len().saturating_sub(text.len()))?;
+    walk.enter(Name::Definition)?;
+    if let Some(found) = label(text.as_bytes()) {
+        push_label(walk, on, tables, without_last(text, found.rest.len()))?;
+        walk.text(Name::DefinitionMarker, 1)?;
+        let rest = push_white(walk, bytes_from(found.rest, 1))?;
+        push_target(walk, on, tables, last(text, rest.len()))?;
+    }
+    walk.exit(Name::Definition)?;
+    let left = content.len().saturating_sub(walk.place());
+    walk.text(Name::SpaceOrTab, left)
+}
+
+/// The label, with its brackets.
+fn push_label<T: Tables, A: Allocator>(
+    walk: &mut Walk<'_, A>,
+    on: &Constructs,
+    tables: &T,
+    text: &str,
+) -> Result<(), AllocError> {
+    walk.enter(Name::DefinitionLabel)?;
+    walk.text(Name::DefinitionLabelMarker, 1)?;
+    walk.enter(Name::DefinitionLabelString)?;
+    push_string(walk, on, tables, inside(text))?;
+    walk.exit(Name::DefinitionLabelString)?;
+    walk.text(Name::DefinitionLabelMarker, 1)?;
+    walk.exit(Name::DefinitionLabel)
+}
+
+/// The destination, and the title if there is one.
+fn push_target<T: Tables, A: Allocator>(
+    walk: &mut Walk<'_, A>,
+    on: &Constructs,
+    tables: &T,
+    text: &str,
+) -> Result<(), AllocError> {
+    let Some(part) = destination(text.as_bytes(), None) else {
+        return Ok(());
+    };
+    push_destination(
+        walk,
+        on,
+        tables,
+        &DEFINITION,
+        without_last(text, part.rest.len()),
+    )?;
+    let Some(found) = title_at(white(part.rest)) else {
+        return Ok(());
+    };
+    let rest = push_white(walk, part.rest)?;
+    let title = without_last(last(text, rest.len()), found.rest.len());
+    push_title(walk, on, tables, &DEFINITION, title)
+}

@@ -1,0 +1,55 @@
+//! Destinations (CommonMark 6.3).
+//!
+//!     destination ::= '<' string '>' | string
+use crate::names::Names;
+use event_lines::Walk;
+use event_lines::cut::{first, from, up_to};
+use event_strings::push_string;
+use markdown_options::{Constructs, Tables};
+use std::alloc::{AllocError, Allocator};
+
+/// A destination, with its delimiters.
+pub fn push_destination<T: Tables, A: Allocator>(
+    walk: &mut Walk<'_, A>,
+    on: &Constructs,
+    tables: &T,
+    names: &Names,
+    text: &str,
+) -> Result<(), AllocError> {
+    walk.enter(names.destination)?;
+    if first(text.as_bytes()) == b'<' {
+        push_literal(walk, on, tables, names, inside(text))?;
+    } else {
+        walk.enter(names.raw)?;
+        walk.enter(names.string)?;
+        push_string(walk, on, tables, text)?;
+        walk.exit(names.string)?;
+        walk.exit(names.raw)?;
+    }
+    walk.exit(names.destination)
+}
+
+/// A destination between angle brackets.
+fn push_literal<T: Tables, A: Allocator>(
+    walk: &mut Walk<'_, A>,
+    on: &Constructs,
+    tables: &T,
+    names: &Names,
+    text: &str,
+) -> Result<(), AllocError> {
+    walk.enter(names.literal)?;
+    walk.text(names.literal_marker, 1)?;
+    if !text.is_empty() {
+        walk.enter(names.string)?;
+        push_string(walk, on, tables, text)?;
+        walk.exit(names.string)?;
+    }
+    walk.text(names.literal_marker, 1)?;
+    walk.exit(names.literal)
+}
+
+/// A text without its first and its last byte.
+pub fn inside(text: &str) -> &str {
+    let front = up_to(text, text.len().saturating_sub(1));
+    from(front, 1)
+}

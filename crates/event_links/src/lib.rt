@@ -1,0 +1,14 @@
+//! Resources and references of links, and definitions.
+#![tactic(auto)]
+
+pub mod definition;
+pub mod destination;
+pub mod names;
+pub mod reference;
+pub mod resource;
+pub mod title;
+pub mod white;
+
+pub use definition::push_definition;
+pub use reference::push_link_reference;
+pub use resource::push_resource;

@@ -1,0 +1,48 @@
+//! Full and collapsed references (CommonMark 6.3).
+//!
+//!     reference ::= label | '[]' | nothing
+use crate::destination::inside;
+use crate::resource::without_last;
+use engine_events::event::Name;
+use event_lines::Walk;
+use event_lines::cut::up_to;
+use event_strings::push_string;
+use inline_links::label::label;
+use markdown_options::{Constructs, Tables};
+use std::alloc::{AllocError, Allocator};
+
+/// The reference that a text begins with, if it does.
+pub fn push_link_reference<T: Tables, A: Allocator>(
+    walk: &mut Walk<'_, A>,
+    on: &Constructs,
+    tables: &T,
+    text: &str,
+) -> Result<(), AllocError> {
+    let Some(reference) = reference_front(text) else {
+        return Ok(());
+    };
+    let string = inside(reference);
+    walk.enter(Name::Reference)?;
+    walk.text(Name::ReferenceMarker, 1)?;
+    if !string.is_empty() {
+        walk.enter(Name::ReferenceString)?;
+        push_string(walk, on, tables, string)?;
+        walk.exit(Name::ReferenceString)?;
+    }
+    walk.text(Name::ReferenceMarker, 1)?;
+    walk.exit(Name::Reference)
+}
+
+/// The label or the two brackets that a text begins with.
+fn reference_front(text: &str) -> Option<&str> {
+    match label(text.as_bytes()) {
+        Some(part) => Some(without_last(text, part.rest.len())),
+        None => {
+            if text.starts_with("[]") {
+                Some(up_to(text, 2))
+            } else {
+                None
+            }
+        }
+    }
+}

@@ -1,0 +1,29 @@
+//! Titles (CommonMark 6.3).
+//!
+//!     title ::= '"' string '"' | "'" string "'" | '(' string ')'
+use crate::destination::inside;
+use crate::names::Names;
+use event_lines::Walk;
+use event_strings::push_string;
+use markdown_options::{Constructs, Tables};
+use std::alloc::{AllocError, Allocator};
+
+/// A title, with its delimiters.
+pub fn push_title<T: Tables, A: Allocator>(
+    walk: &mut Walk<'_, A>,
+    on: &Constructs,
+    tables: &T,
+    names: &Names,
+    text: &str,
+) -> Result<(), AllocError> {
+    let string = inside(text);
+    walk.enter(names.title)?;
+    walk.text(names.title_marker, 1)?;
+    if !string.is_empty() {
+        walk.enter(names.title_string)?;
+        push_string(walk, on, tables, string)?;
+        walk.exit(names.title_string)?;
+    }
+    walk.text(names.title_marker, 1)?;
+    walk.exit(names.title)
+}

@@ -1,0 +1,93 @@
+//! Events, written one after another.
+ghost use Rattle.std.specs.Prelude.{◌<◌, ◌^◌, IfOk, length};
+ghost use Rattle.event_output.specs.Placed.{ArePlaced};
+
+use crate::end::{End, at};
+use crate::points::set_points;
+use engine_events::event::Name;
+use engine_events::{Event, Kind, Point};
+use std::alloc::{AllocError, Allocator};
+
+/// The events so far, and the place that they have come to.
+///
+/// Until `finish`, a point has the index and the columns that are owed, and no line and column.
+#[derive(Drop)]
+pub struct Output<A: Allocator> {
+    events: Vec<Event, A>,
+    end: End,
+}
+
+impl<A: Allocator> Output<A> {
+    /// No events, at the start of a text.
+    pub fn new(alloc: A) -> Output<A> {
+        Output {
+            events: Vec::new(alloc),
+            end: at(0),
+        }
+    }
+
+    /// Where it is.
+    pub fn end(&self) -> End {
+        self.end
+    }
+
+    /// Something begins here.
+    pub fn enter(&mut self, name: Name) -> Result<(), AllocError> {
+        let event = event_at(Kind::Enter, name, self.end);
+        self.events.push(event)?;
+        Ok(())
+    }
+
+    /// Something ends here.
+    pub fn exit(&mut self, name: Name) -> Result<(), AllocError> {
+        let event = event_at(Kind::Exit, name, self.end);
+        self.events.push(event)?;
+        Ok(())
+    }
+
+    /// What holds no other, up to a place. Nothing of no size.
+    pub fn token(&mut self, name: Name, end: End) -> Result<(), AllocError> {
+        if end == self.end {
+            return Ok(());
+        }
+        self.enter(name)?;
+        self.end = end;
+        self.exit(name)
+    }
+
+    /// Data up to a place, as one with data that ends here.
+    pub fn data(&mut self, end: End) -> Result<(), AllocError> {
+        let count = self.events.len();
+        if count == 0 || !ends_data(self.events[count - 1]) {
+            return self.token(Name::Data, end);
+        }
+        self.events[count - 1] = event_at(Kind::Exit, Name::Data, end);
+        self.end = end;
+        Ok(())
+    }
+
+    /// The events with their points in the text. What they leave of it at its end becomes data.
+    pub fn finish(self, text: &[u8]) -> Result<Vec<Event, A>, AllocError>
+        requires fits { length text.now < 2 ^ 61 }
+        ensures placed { IfOk result (λ events. ArePlaced text.now events.items) }
+    {
+        let Output { events, .. } = self;
+        set_points(text, events)
+    }
+}
+
+/// An event without a line and a column.
+fn event_at(kind: Kind, name: Name, end: End) -> Event {
+    let point = Point {
+        line: 1,
+        column: 1,
+        index: end.index,
+        vs: end.owed,
+    };
+    Event::new(kind, name, point, None)
+}
+
+/// Whether data ends.
+fn ends_data(event: Event) -> bool {
+    event.name == Name::Data && event.kind == Kind::Exit
+}

@@ -1,0 +1,12 @@
+//! Backslash escapes (CommonMark 2.4).
+use engine_events::event::Name;
+use event_lines::Walk;
+use std::alloc::{AllocError, Allocator};
+
+/// A backslash and the byte that it escapes.
+pub fn push_escape<A: Allocator>(walk: &mut Walk<'_, A>) -> Result<(), AllocError> {
+    walk.enter(Name::CharacterEscape)?;
+    walk.text(Name::CharacterEscapeMarker, 1)?;
+    walk.text(Name::CharacterEscapeValue, 1)?;
+    walk.exit(Name::CharacterEscape)
+}

@@ -1,0 +1,88 @@
+//! Strings, in which only escapes and references are read (CommonMark 2.4 and 2.5).
+use crate::character_escape::push_escape;
+use crate::character_reference::push_reference;
+use engine_events::event::Name;
+use event_lines::Walk;
+use event_lines::cut::{bytes_from, first, from};
+use inline_leaves::character_escape::escape_at;
+use inline_leaves::character_reference::reference_at;
+use inline_leaves::line_ending::ending_at;
+use markdown_options::{Constructs, Tables};
+use std::alloc::{AllocError, Allocator};
+use text_bytes::white_size;
+
+/// A string, which comes next in a content.
+pub fn push_string<T: Tables, A: Allocator>(
+    walk: &mut Walk<'_, A>,
+    on: &Constructs,
+    tables: &T,
+    string: &str,
+) -> Result<(), AllocError> {
+    let mut rest = string;
+    while !rest.is_empty() {
+        let size = push_part(walk, on, tables, rest)?;
+        rest = from(rest, size.max(1));
+    }
+    Ok(())
+}
+
+/// The part that a string begins with. Answers its size.
+fn push_part<T: Tables, A: Allocator>(
+    walk: &mut Walk<'_, A>,
+    on: &Constructs,
+    tables: &T,
+    rest: &str,
+) -> Result<usize, AllocError> {
+    match first(rest.as_bytes()) {
+        b'\\' if escape_at(on, rest).is_some() => {
+            push_escape(walk)?;
+            Ok(2)
+        }
+        b'&' => match reference_at(on, tables, rest) {
+            Some(found) => {
+                let size = rest.len().saturating_sub(found.after.len());
+                push_reference(walk, rest.as_bytes(), size)?;
+                Ok(size)
+            }
+            None => push_data(walk, rest.as_bytes()),
+        },
+        _ => push_white_or_data(walk, rest.as_bytes()),
+    }
+}
+
+/// White space at the end of a line, a line ending and the white space after it, or data. Answers its
+/// size.
+fn push_white_or_data<A: Allocator>(
+    walk: &mut Walk<'_, A>,
+    bytes: &[u8],
+) -> Result<usize, AllocError> {
+    if let Some(found) = ending_at(bytes) {
+        walk.content_ending(Name::LineEnding, found.size)?;
+        let white = white_size(bytes_from(bytes, found.size));
+        walk.text(Name::SpaceOrTab, white)?;
+        return Ok(found.size.saturating_add(white));
+    }
+    let white = white_size(bytes);
+    if ending_at(bytes_from(bytes, white)).is_some() {
+        walk.text(Name::SpaceOrTab, white)?;
+        return Ok(white);
+    }
+    push_data(walk, bytes)
+}
+
+/// The first byte and those after it in which nothing may begin. Answers their size.
+fn push_data<A: Allocator>(walk: &mut Walk<'_, A>, bytes: &[u8]) -> Result<usize, AllocError> {
+    let size = data_size(bytes_from(bytes, 1)).saturating_add(1);
+    walk.data(size)?;
+    Ok(size)
+}
+
+/// How many bytes come before the first in which something may begin.
+fn data_size(bytes: &[u8]) -> usize {
+    for (i, byte) in bytes.iter().enumerate() {
+        if matches!(*byte, b'\\' | b'&' | b'\n' | b'\r' | b' ' | b'\t') {
+            return i;
+        }
+    }
+    bytes.len()
+}
