@@ -1,4 +1,4 @@
-//! Emphasis, strong emphasis (CommonMark 6.2) and strikethrough (GFM 6.5).
+//! Emphasis, strong emphasis (CommonMark 6.2), strikethrough (GFM 6.5) and marked text.
 use crate::open::Open;
 use crate::reading::Reading;
 use engine_events::event::Name;
@@ -16,7 +16,7 @@ pub(crate) fn enter_span<T, A: Allocator>(
 ) -> Result<(), AllocError> {
     let size = match span {
         Span::Emphasis => 1,
-        Span::Strong => 2,
+        Span::Strong | Span::Mark => 2,
         Span::Strikethrough => run(b'~', reading.rest(walk.place()).as_bytes()),
     };
     open.push(Open::Span { span, size })?;
@@ -41,6 +41,7 @@ fn span_name(span: Span) -> Name {
         Span::Emphasis => Name::Emphasis,
         Span::Strong => Name::Strong,
         Span::Strikethrough => Name::GfmStrikethrough,
+        Span::Mark => Name::Mark,
     }
 }
 
@@ -49,6 +50,7 @@ fn sequence_name(span: Span) -> Name {
         Span::Emphasis => Name::EmphasisSequence,
         Span::Strong => Name::StrongSequence,
         Span::Strikethrough => Name::GfmStrikethroughSequence,
+        Span::Mark => Name::MarkSequence,
     }
 }
 
@@ -57,5 +59,6 @@ fn text_name(span: Span) -> Name {
         Span::Emphasis => Name::EmphasisText,
         Span::Strong => Name::StrongText,
         Span::Strikethrough => Name::GfmStrikethroughText,
+        Span::Mark => Name::MarkText,
     }
 }
