@@ -1,0 +1,42 @@
+use Rattle.std.proofs.Common.{◌≡◌, OnOk, subst, ◌∙◌}
+use Rattle.std.specs.List.{fold}
+use Rattle.definition_inline.specs.Scan.{inlines}
+use Rattle.definition_inline.specs.Targets.{Targets}
+use Rattle.definition_page.specs.Read.{context_of}
+use Rattle.html_bytes.specs.Document.{reading_of, structure_pieces}
+use Rattle.html_bytes.specs.Layout.{lay}
+use Rattle.html_footnotes.specs.Output.{output_view}
+use Rattle.html_inline.specs.GfmTable.{parts_in_cell}
+use Rattle.inline_content.specs.View.{content_view}
+use Rattle.html_contents.specs.Texts.{KnowsTargets, LaysOut, document_by}
+use Rattle.html_contents.proofs.texts.Texts.push_lines.Goals as goal
+
+pub returns-in-Some : goal.returns-in-Some
+returns-in-Some g c = λ ds known plain default.
+    let texts = c.args.self.now in
+    let d = document_by g.T.Tables texts ds in
+    subst (λ content. OnOk c.push_content.result
+    (output_view c.push_content.new.out
+    ≡ fold (lay texts.options.now.compile default) (output_view c.args.out.now)
+    (structure_pieces d (parts_in_cell c.args.cell (inlines (context_of (reading_of d)) content)))))
+    (c.in-Some.ensures.content (g.T.Tables.punctuation_of texts.tables.now) plain)
+    (c.push_content.ensures ds known default)
+
+pub returns : goal.returns
+returns g c = λ ds known plain default.
+    let texts = c.args.self.now in
+    let p = g.T.Tables.punctuation_of texts.tables.now in
+    let d = document_by g.T.Tables texts ds in
+    let told =
+    subst (λ t. (ds : Targets) → KnowsTargets t ds
+    → LaysOut (document_by g.T.Tables t ds) c.push_content-2.result c.args.out.now c.push_content-2.new.out
+    (structure_pieces (document_by g.T.Tables t ds)
+    (parts_in_cell c.args.cell
+    (inlines (context_of (reading_of (document_by g.T.Tables t ds))) (content_view (g.T.Tables.punctuation_of t.tables.now) c.content-content.result)))))
+    c.reborrow-texts.ensures c.push_content-2.ensures in
+    subst (λ content. OnOk c.push_content-2.result
+    (output_view c.push_content-2.new.out
+    ≡ fold (lay texts.options.now.compile default) (output_view c.args.out.now)
+    (structure_pieces d (parts_in_cell c.args.cell (inlines (context_of (reading_of d)) content)))))
+    (c.content-content.ensures p ∙ c.in_ok-join.ensures p c.args.after plain)
+    (told ds known default)
