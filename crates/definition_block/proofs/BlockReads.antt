@@ -28,8 +28,8 @@ use Rattle.definition_block.specs.HeadingSetext.{underline}
 use Rattle.markdown_options.specs.declared.align_kind.AlignKind.{AlignKind}
 use Rattle.definition_block.specs.GfmTable.{delimiter_row, is_head}
 use Rattle.definition_block.specs.Definitions.{lines_before, DefinitionCut, cut_into, definition_lines, cut_after, cut_most, definition_cut}
-use Rattle.definition_block.specs.Tree.{Block, Paragraph, Heading, Break, IndentedCode, FencedCode, Html, Table, Definition, Holds, Items, Ending, Blank}
-use Rattle.definition_block.specs.Tree.{Blocks, Nil, Cons, join, one, block_and_ending, OpenLeaf, Text, Indented, Fenced, OpenHtml, OpenTable, Opening, Leaf}
+use Rattle.definition_block.specs.Tree.{LeafBlock, Paragraph, Heading, Break, IndentedCode, FencedCode, Html, Table, Definition, Block, Leaf, Holds, Items, Ending, Blank}
+use Rattle.definition_block.specs.Tree.{Blocks, Nil, Cons, join, one, block_and_ending, OpenLeaf, Text, Indented, Fenced, OpenHtml, OpenTable, Opening, At}
 use Rattle.definition_block.specs.Tree.{Inside, Tree as BlockTree, tree, nothing, empty_tree, blanks, paragraph_of, close_leaf, is_ending, all_endings, front}
 use Rattle.definition_block.specs.Tree.{trailing, without_last, last_of, container_block, close, leaf_text, has_text, has_table, is_some_line, table_of}
 use Rattle.definition_block.specs.Tree.{leaf_with_line, with_line, rest_line, html_with, takes, after, text_line_of, text_here, fence_tree}
@@ -65,16 +65,19 @@ module _ (good : Property) where
   abbrev pub LinesGood : List BlockLine → Type 0
   LinesGood ls = Each LineGood ls
 
+  abbrev pub LeafBlockGood : LeafBlock → Type 0
+  LeafBlockGood (Paragraph ls) = LinesGood ls
+  LeafBlockGood (Heading rank ls) = good.heading rank ls
+  LeafBlockGood Break = Unit {0}
+  LeafBlockGood (IndentedCode ls) = LinesGood ls
+  LeafBlockGood (FencedCode info is_closed ls) = good.info info × LinesGood ls
+  LeafBlockGood (Html ls) = LinesGood ls
+  LeafBlockGood (Table ls) = LinesGood ls
+  LeafBlockGood (Definition label destination title) = good.leads destination title
+
   abbrev mutual
     pub BlockGood : Block → Type 0
-    BlockGood (Paragraph ls) = LinesGood ls
-    BlockGood (Heading rank ls) = good.heading rank ls
-    BlockGood Break = Unit {0}
-    BlockGood (IndentedCode ls) = LinesGood ls
-    BlockGood (FencedCode info is_closed ls) = good.info info × LinesGood ls
-    BlockGood (Html ls) = LinesGood ls
-    BlockGood (Table ls) = LinesGood ls
-    BlockGood (Definition label destination title) = good.leads destination title
+    BlockGood (Leaf leaf) = LeafBlockGood leaf
     BlockGood (Holds c kids) = BlocksGood kids
     BlockGood (Items items) = BlocksGood items
     BlockGood (Ending ending) = EndGood ending
@@ -92,7 +95,7 @@ module _ (good : Property) where
   LeafGood (OpenTable ls) = LinesGood ls
 
   abbrev OpeningGood : Opening → Type 0
-  OpeningGood (Leaf leaf) = LeafGood leaf
+  OpeningGood (At leaf) = LeafGood leaf
   OpeningGood (Inside c kids inner) = BlocksGood kids × OpeningGood inner
 
   abbrev TreeGood : BlockTree → Type 0
@@ -223,8 +226,8 @@ module _ (good : Property) where
     html_with_good kind ls rest beside p q f =
         let more = ls ++ rest_line rest beside ∷ [] in
         let h = more_good ls rest beside p q f in
-        cond_both (html_ends_here kind rest) (tree (block_and_ending (Html (own_lines more)) beside.ending) nothing)
-        (tree Nil (Leaf (OpenHtml kind more))) TreeGood
+        cond_both (html_ends_here kind rest) (tree (block_and_ending (Leaf (Html (own_lines more))) beside.ending) nothing)
+        (tree Nil (At (OpenHtml kind more))) TreeGood
         (λ _. ((own_good reads.unended more h, (f, tt)), tt)) (λ _. (tt, h))
 
     heading_of_good : (rank : ℕ) (definitions : Blocks) (ls : List BlockLine) (ending : Option LineEnding) → good.rank rank
@@ -242,7 +245,7 @@ module _ (good : Property) where
     leaf_with_line_good line (OpenTable ls) l p = each-append LineGood ls (line ∷ []) p (l, tt)
 
     with_line_good : (line : BlockLine) (now : Opening) → LineGood line → OpeningGood now → OpeningGood (with_line line now)
-    with_line_good line (Leaf leaf) l p = leaf_with_line_good line leaf l p
+    with_line_good line (At leaf) l p = leaf_with_line_good line leaf l p
     with_line_good line (Inside c kids inner) l p = (p.0, with_line_good line inner l p.1)
 
     leaf_text_good : (leaf : OpenLeaf) → LeafGood leaf → LinesGood (leaf_text leaf)
@@ -253,7 +256,7 @@ module _ (good : Property) where
     leaf_text_good (OpenTable ls) p = tt
 
     text_here_good : (now : Opening) → OpeningGood now → LinesGood (text_here now)
-    text_here_good (Leaf leaf) p = leaf_text_good leaf p
+    text_here_good (At leaf) p = leaf_text_good leaf p
     text_here_good (Inside c kids inner) p = tt
 
     cut_good : (ls : List BlockLine) → LinesGood ls → CutGood (definition_cut on ls)
@@ -269,7 +272,7 @@ module _ (good : Property) where
     close_leaf_good (OpenTable ls) p = (own_good reads.unended ls p, (last_good ls p, tt))
 
     close_good : (now : Opening) → OpeningGood now → BlocksGood (close on now)
-    close_good (Leaf leaf) p = close_leaf_good leaf p
+    close_good (At leaf) p = close_leaf_good leaf p
     close_good (Inside c kids inner) p = holds_good c (join kids (close on inner)) (join_good kids (close on inner) p.0 (close_good inner p.1))
 
     takes_good : (leaf : OpenLeaf) (rest : Rest) (beside : Beside) → LeafGood leaf → RestGood rest → EndGood beside.ending
@@ -295,7 +298,7 @@ module _ (good : Property) where
     text_line_good away rest beside p q f =
         let line = reads.taken_line rest beside q f in
         cond_both (has_text away || has_table away) _ _ TreeGood (λ _. (tt, with_line_good (rest_line rest beside) away line p))
-        (λ _. after_good away (tree Nil (Leaf (Text (rest_line rest beside ∷ [])))) p (tt, (line, tt)))
+        (λ _. after_good away (tree Nil (At (Text (rest_line rest beside ∷ [])))) p (tt, (line, tt)))
 
     table_of_good : (definitions : Blocks) (ls : List BlockLine) (row : BlockLine) → BlocksGood definitions → LinesGood ls → LineGood row
         → TreeGood (table_of definitions ls row)
@@ -377,9 +380,9 @@ module _ (good : Property) where
     -- ---- lines
 
     grow_good : (beside : Beside) (now : Opening) (rest : Rest) → OpeningGood now → RestGood rest → EndGood beside.ending → TreeGood (grow on beside now rest)
-    grow_good beside (Leaf leaf) rest p q f =
-        where_unwrapped TreeGood (takes on leaf rest beside) (new (length rest) on true (Leaf leaf) beside rest) (takes_good leaf rest beside p q f)
-        (new_good (length rest) true (Leaf leaf) beside rest p q f)
+    grow_good beside (At leaf) rest p q f =
+        where_unwrapped TreeGood (takes on leaf rest beside) (new (length rest) on true (At leaf) beside rest) (takes_good leaf rest beside p q f)
+        (new_good (length rest) true (At leaf) beside rest p q f)
     grow_good beside (Inside c kids inner) rest p q f =
         goes_on_good (continues on c (began_blank kids inner) rest) c kids inner beside rest
         (λ line. grow on (beside_in line.before beside) inner line.rest) (reads.stays c (began_blank kids inner) rest q) p.0 p.1 q f

@@ -6,7 +6,7 @@ use Rattle.markdown_options.specs.declared.configuration.Constructs.{Constructs}
 use Rattle.definition_text.specs.Columns.{Code, code_byte}
 use Rattle.definition_text.specs.BlockLines.{BlockLine, last_ending, own_lines}
 use Rattle.definition_block.specs.Container.{Container, Footnote}
-use Rattle.definition_block.specs.Blocks.{Block, Definition, Holds, Items, Blocks, Nil, Cons, join, block_and_ending}
+use Rattle.definition_block.specs.Blocks.{LeafBlock, Definition, Block, Leaf, Holds, Items, Blocks, Nil, Cons, join, block_and_ending}
 use Rattle.definition_text.specs.Content.{is_eol, content_of}
 use Rattle.definition_inline.specs.Definition.{Definition as LinkDefinition, definition, definition_at}
 use Rattle.definition_inline.specs.Targets.{Targets, targets}
@@ -30,7 +30,7 @@ lines_before rest ls = length ls - line_count rest
 
 -- a definition on these lines, and the ending of the last one
 abbrev pub definition_lines : LinkDefinition → List BlockLine → Blocks
-definition_lines d ls = block_and_ending (Definition d.label d.destination d.title) (last_ending ls)
+definition_lines d ls = block_and_ending (Leaf (Definition d.label d.destination d.title)) (last_ending ls)
 
 -- a definition before what more cuts of the lines after it give
 abbrev pub cut_after : Option LinkDefinition → List BlockLine → (List BlockLine → DefinitionCut) → DefinitionCut
@@ -49,10 +49,15 @@ cut_most (suc most) ls = cut_after (definition_at (content_of (own_lines ls))) l
 abbrev pub definition_cut : Constructs → List BlockLine → DefinitionCut
 definition_cut on ls = if on.definition then cut_most (length ls) ls else cut_into Nil ls
 
--- the definitions in a document, in the order of the text, repeats kept; each is alone, so that nothing follows it (CommonMark 4.7)
+-- a leaf that is a definition; it is alone, so that nothing follows it
+abbrev pub leaf_definitions : LeafBlock → List LinkDefinition
+leaf_definitions (Definition label destination title) = definition label destination title [] ∷ []
+leaf_definitions leaf = []
+
+-- the definitions in a document, in the order of the text, repeats kept (CommonMark 4.7)
 abbrev mutual
   pub block_definitions : Block → List LinkDefinition
-  block_definitions (Definition label destination title) = definition label destination title [] ∷ []
+  block_definitions (Leaf leaf) = leaf_definitions leaf
   block_definitions (Holds c kids) = definitions kids
   block_definitions (Items items) = definitions items
   block_definitions b = []

@@ -10,8 +10,8 @@ use Rattle.markdown_options.specs.declared.beside.Kind.TheVariants.{Whitespace}
 use Rattle.definition_block.specs.Container.{Container, Quote, Item, Footnote}
 use Rattle.definition_text.specs.Lines.{TextLine, lines}
 pub use Rattle.definition_text.specs.BlockLines.{BlockLine, block_line, spaced_line, last_ending_or, last_ending, own_lines}
-pub use Rattle.definition_block.specs.Blocks.{Block, Paragraph, Heading, Break, IndentedCode, FencedCode, Html, Table, Definition, Holds, Items, Ending, Blank}
-pub use Rattle.definition_block.specs.Blocks.{Blocks, Nil, Cons, join, one, block_and_ending}
+pub use Rattle.definition_block.specs.Blocks.{LeafBlock, Paragraph, Heading, Break, IndentedCode, FencedCode, Html, Table, Definition}
+pub use Rattle.definition_block.specs.Blocks.{Block, Leaf, Holds, Items, Ending, Blank, Blocks, Nil, Cons, join, one, block_and_ending}
 use Rattle.definition_text.specs.Columns.{Rest, whole, is_blank, block_codes}
 use Rattle.definition_text.specs.Indents.{outdent}
 use Rattle.definition_block.specs.ContainerLine.{ContainerLine}
@@ -43,7 +43,7 @@ pub data OpenLeaf : Type 0 where
 
 -- what is open: a leaf, or a container with the children that it has so far, and what is open in it
 pub data Opening : Type 0 where
-  Leaf : OpenLeaf → Opening
+  At : OpenLeaf → Opening
   Inside : Container → Blocks → Opening → Opening
 
 -- the children that are finished, and what is open after them
@@ -55,7 +55,7 @@ abbrev pub tree : Blocks → Opening → Tree
 tree done now = record { done = done; now = now }
 
 abbrev pub nothing : Opening
-nothing = Leaf (Text [])
+nothing = At (Text [])
 
 abbrev pub empty_tree : Tree
 empty_tree = tree Nil nothing
@@ -70,7 +70,7 @@ blanks (line ∷ others) = Cons (Blank line.ending) (blanks others)
 -- a paragraph of these lines, if there are any
 abbrev pub paragraph_of : List BlockLine → Blocks
 paragraph_of [] = Nil
-paragraph_of (line ∷ others) = block_and_ending (Paragraph (own_lines (line ∷ others))) (last_ending (line ∷ others))
+paragraph_of (line ∷ others) = block_and_ending (Leaf (Paragraph (own_lines (line ∷ others)))) (last_ending (line ∷ others))
 
 -- a paragraph after the definitions at its front, which are none of its lines (CommonMark 4.7)
 abbrev pub with_paragraph : DefinitionCut → Blocks
@@ -80,10 +80,10 @@ with_paragraph parts = join parts.definitions (paragraph_of parts.left)
 -- and has all lines after its fence (CommonMark 4.5).
 abbrev pub close_leaf : Constructs → OpenLeaf → Blocks
 close_leaf on (Text ls) = with_paragraph (definition_cut on ls)
-close_leaf on (Indented ls pending) = join (block_and_ending (IndentedCode (own_lines ls)) (last_ending ls)) (blanks pending)
-close_leaf on (Fenced fence ending ls) = block_and_ending (FencedCode fence.info false ls) (last_ending_or ending ls)
-close_leaf on (OpenHtml kind ls) = block_and_ending (Html (own_lines ls)) (last_ending ls)
-close_leaf on (OpenTable ls) = block_and_ending (Table (own_lines ls)) (last_ending ls)
+close_leaf on (Indented ls pending) = join (block_and_ending (Leaf (IndentedCode (own_lines ls))) (last_ending ls)) (blanks pending)
+close_leaf on (Fenced fence ending ls) = block_and_ending (Leaf (FencedCode fence.info false ls)) (last_ending_or ending ls)
+close_leaf on (OpenHtml kind ls) = block_and_ending (Leaf (Html (own_lines ls))) (last_ending ls)
+close_leaf on (OpenTable ls) = block_and_ending (Leaf (Table (own_lines ls))) (last_ending ls)
 
 abbrev pub is_ending : Block → Bool
 is_ending (Ending ending) = true
@@ -123,7 +123,7 @@ container_block (Footnote label) kids = Cons (Holds (Footnote label) (front kids
 
 -- the children that are finished where this is closed
 abbrev pub close : Constructs → Opening → Blocks
-close on (Leaf leaf) = close_leaf on leaf
+close on (At leaf) = close_leaf on leaf
 close on (Inside c kids inner) = container_block c (join kids (close on inner))
 
 -- ---- a line
@@ -134,7 +134,7 @@ leaf_text (Text ls) = ls
 leaf_text leaf = []
 
 abbrev pub open_text : Opening → List BlockLine
-open_text (Leaf leaf) = leaf_text leaf
+open_text (At leaf) = leaf_text leaf
 open_text (Inside c kids inner) = open_text inner
 
 abbrev pub is_some_line : List BlockLine → Bool
@@ -151,7 +151,7 @@ is_table_leaf (OpenTable ls) = true
 is_table_leaf leaf = false
 
 abbrev pub has_table : Opening → Bool
-has_table (Leaf leaf) = is_table_leaf leaf
+has_table (At leaf) = is_table_leaf leaf
 has_table (Inside c kids inner) = false
 
 -- one more line of the open paragraph, or of the open table
@@ -161,7 +161,7 @@ leaf_with_line line (OpenTable ls) = OpenTable (ls ++ line ∷ [])
 leaf_with_line line leaf = leaf
 
 abbrev pub with_line : BlockLine → Opening → Opening
-with_line line (Leaf leaf) = Leaf (leaf_with_line line leaf)
+with_line line (At leaf) = At (leaf_with_line line leaf)
 with_line line (Inside c kids inner) = Inside c kids (with_line line inner)
 
 -- a line of a block, by its rest
@@ -171,21 +171,21 @@ rest_line rest beside = block_line (block_codes rest) beside.ending beside.befor
 -- indented code goes on where the rest is indented 4 columns, and may go on over a blank one (CommonMark 4.4)
 abbrev pub indented_takes : Constructs → List BlockLine → List BlockLine → Rest → Beside → Option Tree
 indented_takes on ls pending rest beside =
-    if is_blank rest then Some (tree Nil (Leaf (Indented ls (pending ++ rest_line (outdent 4 rest) beside ∷ []))))
-    else (if starts_code_indented on rest then Some (tree Nil (Leaf (Indented (ls ++ pending ++ rest_line (outdent 4 rest) beside ∷ []) [])))
+    if is_blank rest then Some (tree Nil (At (Indented ls (pending ++ rest_line (outdent 4 rest) beside ∷ []))))
+    else (if starts_code_indented on rest then Some (tree Nil (At (Indented (ls ++ pending ++ rest_line (outdent 4 rest) beside ∷ []) [])))
     else None)
 
 -- fenced code takes every line up to its closing fence (CommonMark 4.5)
 abbrev pub fenced_takes : Constructs → Fence → Option LineEnding → List BlockLine → Rest → Beside → Option Tree
 fenced_takes on fence opening ls rest beside =
-    if is_fence_end on fence rest then Some (tree (block_and_ending (FencedCode fence.info true ls) beside.ending) nothing)
-    else Some (tree Nil (Leaf (Fenced fence opening (ls ++ rest_line (fence_line fence rest) beside ∷ []))))
+    if is_fence_end on fence rest then Some (tree (block_and_ending (Leaf (FencedCode fence.info true ls)) beside.ending) nothing)
+    else Some (tree Nil (At (Fenced fence opening (ls ++ rest_line (fence_line fence rest) beside ∷ []))))
 
 -- an HTML block with one more line, which may end it (CommonMark 4.6)
 abbrev pub html_with : ℕ → List BlockLine → Rest → Beside → Tree
 html_with kind ls rest beside =
     let more = ls ++ rest_line rest beside ∷ [] in
-    if html_ends_here kind rest then tree (block_and_ending (Html (own_lines more)) beside.ending) nothing else tree Nil (Leaf (OpenHtml kind more))
+    if html_ends_here kind rest then tree (block_and_ending (Leaf (Html (own_lines more))) beside.ending) nothing else tree Nil (At (OpenHtml kind more))
 
 -- an HTML block takes every line up to its end, which may come before a blank one (CommonMark 4.6)
 abbrev pub html_takes : ℕ → List BlockLine → Rest → Beside → Option Tree
@@ -207,22 +207,22 @@ after on away t = tree (join (close on away) t.done) t.now
 abbrev pub text_line_of : Constructs → Opening → Rest → Beside → Tree
 text_line_of on away rest beside =
     if has_text away || has_table away then tree Nil (with_line (rest_line rest beside) away)
-    else after on away (tree Nil (Leaf (Text (rest_line rest beside ∷ []))))
+    else after on away (tree Nil (At (Text (rest_line rest beside ∷ []))))
 
 -- the lines of the open paragraph, where this line is in all of its containers
 abbrev pub text_here : Opening → List BlockLine
-text_here (Leaf leaf) = leaf_text leaf
+text_here (At leaf) = leaf_text leaf
 text_here (Inside c kids inner) = []
 
 -- ---- what a line of text begins
 
 -- indented code with its first line
 abbrev pub indented_tree : Rest → Beside → Tree
-indented_tree rest beside = tree Nil (Leaf (Indented (rest_line (outdent 4 rest) beside ∷ []) []))
+indented_tree rest beside = tree Nil (At (Indented (rest_line (outdent 4 rest) beside ∷ []) []))
 
 -- code or math after its fence
 abbrev pub fence_tree : Beside → Fence → Tree
-fence_tree beside fence = tree Nil (Leaf (Fenced fence beside.ending []))
+fence_tree beside fence = tree Nil (At (Fenced fence beside.ending []))
 
 -- an HTML block of a kind, which may end on its first line
 abbrev pub html_tree : Rest → Beside → ℕ → Tree
@@ -230,16 +230,16 @@ html_tree rest beside kind = html_with kind [] rest beside
 
 -- a heading on one line
 abbrev pub atx_tree : Beside → Atx → Tree
-atx_tree beside atx = tree (block_and_ending (Heading atx.rank (spaced_line atx.content None ∷ [])) beside.ending) nothing
+atx_tree beside atx = tree (block_and_ending (Leaf (Heading atx.rank (spaced_line atx.content None ∷ []))) beside.ending) nothing
 
 abbrev pub break_tree : Beside → Tree
-break_tree beside = tree (block_and_ending Break beside.ending) nothing
+break_tree beside = tree (block_and_ending (Leaf Break) beside.ending) nothing
 
 -- a heading of what is left of a paragraph, if anything is, after the definitions at its front
 abbrev pub heading_of : ℕ → Blocks → List BlockLine → Option LineEnding → Option Tree
 heading_of rank definitions [] ending = None
 heading_of rank definitions (line ∷ others) ending =
-    Some (tree (join definitions (block_and_ending (Heading rank (own_lines (line ∷ others))) ending)) nothing)
+    Some (tree (join definitions (block_and_ending (Leaf (Heading rank (own_lines (line ∷ others)))) ending)) nothing)
 
 -- what an underline of a rank makes of a paragraph's lines
 abbrev pub underlined : Constructs → List BlockLine → Option LineEnding → ℕ → Option Tree
@@ -253,7 +253,7 @@ turns on away rest ending = option_and_then (underlined on (text_here away) endi
 abbrev pub table_of : Blocks → List BlockLine → BlockLine → Tree
 table_of definitions ls row =
     let head = length ls - 1 in
-    tree (join definitions (paragraph_of (take head ls))) (Leaf (OpenTable (drop head ls ++ row ∷ [])))
+    tree (join definitions (paragraph_of (take head ls))) (At (OpenTable (drop head ls ++ row ∷ [])))
 
 -- what a row of delimiters of so many columns makes of a paragraph's lines, where something is left of them after their definitions, and the last has as many
 -- cells
@@ -323,7 +323,7 @@ abbrev pub in_container : Container → Blocks → Tree → Tree
 in_container c kids t = tree Nil (Inside c (join kids t.done) t.now)
 
 abbrev pub is_nothing : Opening → Bool
-is_nothing (Leaf (Text [])) = true
+is_nothing (At (Text [])) = true
 is_nothing now = false
 
 -- whether nothing was read in a container but a blank line
@@ -341,7 +341,7 @@ goes_on (Some line) on c kids inner beside rest more = in_container c kids (more
 
 -- a line: the containers that go on, then the leaf that takes it, or what is new
 abbrev pub grow : Constructs → Beside → Opening → Rest → Tree
-grow on beside (Leaf leaf) rest = unwrap_or (takes on leaf rest beside) (new (length rest) on true (Leaf leaf) beside rest)
+grow on beside (At leaf) rest = unwrap_or (takes on leaf rest beside) (new (length rest) on true (At leaf) beside rest)
 grow on beside (Inside c kids inner) rest =
     goes_on (continues on c (began_blank kids inner) rest) on c kids inner beside rest (λ line. grow on (beside_in line.before beside) inner line.rest)
 

@@ -1,5 +1,5 @@
 -- What the blocks of a page print (CommonMark 4 and 5).
-use Rattle.std.specs.Prelude.{ℕ, ◌+◌, Bool, true, false, if◌then◌else◌, ◌==◌, ◌||◌, not, List, [], ◌∷◌, ◌++◌, Option, None, Some, codes, map}
+use Rattle.std.specs.Prelude.{ℕ, ◌+◌, Bool, true, false, if◌then◌else◌, ◌==◌, ◌&&◌, ◌||◌, not, List, [], ◌∷◌, ◌++◌, Option, None, Some, codes, map}
 use Rattle.std.specs.List.{flat_map}
 use Rattle.markdown_options.specs.declared.configuration.CompileOptions.{CompileOptions}
 use Rattle.markdown_options.specs.LineEndings.{ending_bytes}
@@ -10,8 +10,8 @@ use Rattle.definition_page.specs.Tags.{PrintedPart, Words, Number, Attribute, at
 use Rattle.definition_page.specs.Pieces.{Piece, Void, Says, Eol, Fresh, NoteStart, NoteEnd}
 use Rattle.definition_page.specs.InlinePieces.{Meaning, raw_html, element, inline_pieces}
 use Rattle.definition_page.specs.GfmTable.{table_pieces}
-use Rattle.definition_page.specs.Page.{Page, Block, Paragraph, Heading, Break, IndentedCode, FencedCode, Html, Table, Definition, Quote, ItemList, Item}
-use Rattle.definition_page.specs.Page.{Footnote, Ending, Blank, Blocks, Nil, Cons}
+use Rattle.definition_page.specs.Page.{Page, PageLeaf, Paragraph, Heading, Break, IndentedCode, FencedCode, Html, Table, Definition}
+use Rattle.definition_page.specs.Page.{PageContainer, Quote, Item, Footnote, Block, Leaf, Holds, ItemList, Ending, Blank, Blocks, Nil, Cons}
 
 -- where a block stands: at the top of the document or in a container, and whether in an item of a tight list, whose paragraphs have no tags (CommonMark 5.3)
 pub record Place : Type 0 where
@@ -58,26 +58,40 @@ list_tag (Some number) = tag (codes "ol") (start_attributes number)
 
 -- ---- siblings
 
+abbrev pub is_paragraph : PageLeaf → Bool
+is_paragraph (Paragraph is) = true
+is_paragraph leaf = false
+
+abbrev pub is_definition : PageLeaf → Bool
+is_definition Definition = true
+is_definition leaf = false
+
+abbrev pub is_footnote : PageContainer → Bool
+is_footnote (Footnote label) = true
+is_footnote c = false
+
 -- whether an ending prints nothing, given the sibling right before: after a tight paragraph, and after a definition of a link or a footnote
 abbrev pub is_silent : Place → Option Block → Bool
-is_silent place (Some (Paragraph is)) = place.tight
-is_silent place (Some Definition) = true
-is_silent place (Some (Footnote label kids)) = true
+is_silent place (Some (Leaf leaf)) = (place.tight && is_paragraph leaf) || is_definition leaf
+is_silent place (Some (Holds c kids)) = is_footnote c
 is_silent place b = false
+
+-- whether a block prints something of its own
+abbrev pub is_visible : Block → Bool
+is_visible (Leaf leaf) = not (is_definition leaf)
+is_visible (Holds c kids) = not (is_footnote c)
+is_visible (ItemList number loose items) = true
+is_visible b = false
 
 -- the last of these siblings that prints something of its own, or the one before them
 abbrev pub last_visible : Option Block → Blocks → Option Block
 last_visible before Nil = before
-last_visible before (Cons Definition bs) = last_visible before bs
-last_visible before (Cons (Footnote label kids) bs) = last_visible before bs
-last_visible before (Cons (Ending ending) bs) = last_visible before bs
-last_visible before (Cons (Blank ending) bs) = last_visible before bs
-last_visible before (Cons b bs) = last_visible (Some b) bs
+last_visible before (Cons b bs) = last_visible (if is_visible b then Some b else before) bs
 
 -- an item whose last child is a tight paragraph, or that has none, ends on the same line
 abbrev pub ends_plainly : Bool → Option Block → Bool
 ends_plainly tight None = true
-ends_plainly tight (Some (Paragraph is)) = tight
+ends_plainly tight (Some (Leaf leaf)) = tight && is_paragraph leaf
 ends_plainly tight (Some b) = false
 
 abbrev pub fresh_unless : Bool → List Piece
@@ -91,29 +105,33 @@ fenced_pieces place is_closed (line ∷ others) =
 
 -- ---- blocks
 
+-- a leaf (CommonMark 4)
+abbrev pub leaf_block_pieces : Meaning → Place → PageLeaf → List Piece
+leaf_block_pieces m place (Paragraph is) =
+    if place.tight then inline_pieces m is else Fresh ∷ element (bare_tag (codes "p")) (inline_pieces m is)
+leaf_block_pieces m place (Heading rank is) = Fresh ∷ element (bare_tag (heading_name rank)) (inline_pieces m is)
+leaf_block_pieces m place Break = Fresh ∷ Void (bare_tag (codes "hr")) ∷ []
+leaf_block_pieces m place (IndentedCode ls) =
+    Fresh ∷ element (bare_tag (codes "pre")) (element (bare_tag (codes "code")) (says (flat_map code_line ls) ++ Fresh ∷ []))
+leaf_block_pieces m place (FencedCode info is_closed ls) =
+    Fresh ∷ element (bare_tag (codes "pre")) (element (tag (codes "code") (info_attributes info)) (fenced_pieces place is_closed ls))
+    ++ fresh_unless is_closed
+leaf_block_pieces m place (Html ls) = Fresh ∷ says (flat_map (html_line m.compile) ls)
+leaf_block_pieces m place (Table t) = table_pieces m t
+leaf_block_pieces m place Definition = []
+
 abbrev mutual
   -- a block, or the ending of a line, after this sibling
   pub block_pieces : Meaning → Place → Option Block → Block → List Piece
-  block_pieces m place before (Paragraph is) =
-      if place.tight then inline_pieces m is else Fresh ∷ element (bare_tag (codes "p")) (inline_pieces m is)
-  block_pieces m place before (Heading rank is) = Fresh ∷ element (bare_tag (heading_name rank)) (inline_pieces m is)
-  block_pieces m place before Break = Fresh ∷ Void (bare_tag (codes "hr")) ∷ []
-  block_pieces m place before (IndentedCode ls) =
-      Fresh ∷ element (bare_tag (codes "pre")) (element (bare_tag (codes "code")) (says (flat_map code_line ls) ++ Fresh ∷ []))
-  block_pieces m place before (FencedCode info is_closed ls) =
-      Fresh ∷ element (bare_tag (codes "pre")) (element (tag (codes "code") (info_attributes info)) (fenced_pieces place is_closed ls))
-      ++ fresh_unless is_closed
-  block_pieces m place before (Html ls) = Fresh ∷ says (flat_map (html_line m.compile) ls)
-  block_pieces m place before (Table t) = table_pieces m t
-  block_pieces m place before Definition = []
-  block_pieces m place before (Quote kids) =
+  block_pieces m place before (Leaf leaf) = leaf_block_pieces m place leaf
+  block_pieces m place before (Holds Quote kids) =
       Fresh ∷ element (bare_tag (codes "blockquote")) (children_pieces m (inside false) None kids ++ Fresh ∷ [])
-  block_pieces m place before (ItemList number loose items) =
-      Fresh ∷ element (list_tag number) (children_pieces m (inside (not loose)) None items ++ Eol ∷ [])
-  block_pieces m place before (Item kids) =
+  block_pieces m place before (Holds Item kids) =
       Fresh ∷ element (bare_tag (codes "li"))
       (children_pieces m (inside place.tight) None kids ++ fresh_unless (ends_plainly place.tight (last_visible None kids)))
-  block_pieces m place before (Footnote label kids) = NoteStart ∷ children_pieces m (inside false) None kids ++ NoteEnd ∷ []
+  block_pieces m place before (Holds (Footnote label) kids) = NoteStart ∷ children_pieces m (inside false) None kids ++ NoteEnd ∷ []
+  block_pieces m place before (ItemList number loose items) =
+      Fresh ∷ element (list_tag number) (children_pieces m (inside (not loose)) None items ++ Eol ∷ [])
   block_pieces m place before (Ending ending) = if is_silent place before then [] else Says (Words (ending_bytes ending)) ∷ []
   block_pieces m place before (Blank ending) = []
 

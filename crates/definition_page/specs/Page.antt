@@ -7,24 +7,31 @@ use Rattle.definition_inline.specs.Definition as link
 use Rattle.definition_inline.specs.Inline.{Inlines}
 use Rattle.definition_page.specs.GfmTable as table
 
--- A block, or the ending of a line between blocks: a paragraph; a heading of a rank; a
--- thematic break; indented code; fenced code with the text of its info, if it has one, and whether it was closed; an HTML block; a table; a link reference
--- definition; a block quote; a list with the number of its first item, if it is ordered, whether it is loose, and its items; an item; a footnote definition
--- with its label, as it is written; the ending of a block's last line; the ending of a blank line.
+-- A leaf of a page: a paragraph; a heading of a rank; a thematic break; indented code; fenced code with the text of its info, if it has one, and whether it was
+-- closed; an HTML block; a table; a link reference definition.
+pub data PageLeaf : Type 0 where
+  Paragraph : Inlines → PageLeaf
+  Heading : ℕ → Inlines → PageLeaf
+  Break : PageLeaf
+  IndentedCode : List BlockLine → PageLeaf
+  FencedCode : Option (List ℕ) → Bool → List BlockLine → PageLeaf
+  Html : List BlockLine → PageLeaf
+  Table : table.Table → PageLeaf
+  Definition : PageLeaf
+
+-- what holds other blocks: a block quote; a list item; a footnote definition with its label, as it is written
+pub data PageContainer : Type 0 where
+  Quote : PageContainer
+  Item : PageContainer
+  Footnote : List Code → PageContainer
+
+-- A block, or the ending of a line between blocks: a leaf; a container with its children; a list with the number of its first item, if it is ordered, whether it
+-- is loose, and its items; the ending of a block's last line; the ending of a blank line.
 mutual
   pub data Block : Type 0 where
-    Paragraph : Inlines → Block
-    Heading : ℕ → Inlines → Block
-    Break : Block
-    IndentedCode : List BlockLine → Block
-    FencedCode : Option (List ℕ) → Bool → List BlockLine → Block
-    Html : List BlockLine → Block
-    Table : table.Table → Block
-    Definition : Block
-    Quote : Blocks → Block
+    Leaf : PageLeaf → Block
+    Holds : PageContainer → Blocks → Block
     ItemList : Option ℕ → Bool → Blocks → Block
-    Item : Blocks → Block
-    Footnote : List Code → Blocks → Block
     Ending : LineEnding → Block
     Blank : LineEnding → Block
 

@@ -108,8 +108,31 @@ abbrev pub without_ending : page.Blocks → page.Blocks
 without_ending (page.Cons (page.Ending ending) bs) = bs
 without_ending bs = bs
 
-abbrev pub after_code : Bool → Bool → page.Blocks → page.Blocks
-after_code top is_closed bs = if top && not is_closed then without_ending bs else bs
+-- what follows a leaf, where it stands at the top or doesn't
+abbrev pub after_leaf : Bool → tree.LeafBlock → page.Blocks → page.Blocks
+after_leaf top (tree.FencedCode info is_closed ls) others = if top && not is_closed then without_ending others else others
+after_leaf top leaf others = others
+
+-- a leaf that stands here
+abbrev pub read_leaf : Reading → Standing → tree.LeafBlock → page.PageLeaf
+read_leaf r standing (tree.Paragraph ls) = page.Paragraph (read_paragraph r standing.first ls)
+read_leaf r standing (tree.Heading rank ls) = page.Heading rank (read_text r ls)
+read_leaf r standing tree.Break = page.Break
+read_leaf r standing (tree.IndentedCode ls) = page.IndentedCode ls
+read_leaf r standing (tree.FencedCode info is_closed ls) = page.FencedCode (info_text r info) is_closed (code_lines standing.top is_closed ls)
+read_leaf r standing (tree.Html ls) = page.Html ls
+read_leaf r standing (tree.Table ls) = page.Table (read_table r ls)
+read_leaf r standing (tree.Definition label destination title) = page.Definition
+
+abbrev pub read_container : Container → page.PageContainer
+read_container Quote = page.Quote
+read_container (Item item) = page.Item
+read_container (Footnote label) = page.Footnote label
+
+-- where the first child of a container stands
+abbrev pub standing_in : Container → Standing
+standing_in (Item item) = in_item
+standing_in c = in_container
 
 -- the number of an ordered item
 abbrev pub container_number : Container → Option ℕ
@@ -124,18 +147,8 @@ list_number bs = None
 abbrev mutual
   -- a block that stands here, before others
   pub read_block : Reading → Standing → tree.Block → page.Blocks → page.Blocks
-  read_block r standing (tree.Paragraph ls) others = page.Cons (page.Paragraph (read_paragraph r standing.first ls)) others
-  read_block r standing (tree.Heading rank ls) others = page.Cons (page.Heading rank (read_text r ls)) others
-  read_block r standing tree.Break others = page.Cons page.Break others
-  read_block r standing (tree.IndentedCode ls) others = page.Cons (page.IndentedCode ls) others
-  read_block r standing (tree.FencedCode info is_closed ls) others =
-      page.Cons (page.FencedCode (info_text r info) is_closed (code_lines standing.top is_closed ls)) (after_code standing.top is_closed others)
-  read_block r standing (tree.Html ls) others = page.Cons (page.Html ls) others
-  read_block r standing (tree.Table ls) others = page.Cons (page.Table (read_table r ls)) others
-  read_block r standing (tree.Definition label destination title) others = page.Cons page.Definition others
-  read_block r standing (tree.Holds Quote kids) others = page.Cons (page.Quote (read_blocks r in_container kids)) others
-  read_block r standing (tree.Holds (Item item) kids) others = page.Cons (page.Item (read_blocks r in_item kids)) others
-  read_block r standing (tree.Holds (Footnote label) kids) others = page.Cons (page.Footnote label (read_blocks r in_container kids)) others
+  read_block r standing (tree.Leaf leaf) others = page.Cons (page.Leaf (read_leaf r standing leaf)) (after_leaf standing.top leaf others)
+  read_block r standing (tree.Holds c kids) others = page.Cons (page.Holds (read_container c) (read_blocks r (standing_in c) kids)) others
   read_block r standing (tree.Items items) others = page.Cons (page.ItemList (list_number items) (is_loose items) (read_blocks r in_container items)) others
   read_block r standing (tree.Ending ending) others = cons_ending ending others
   read_block r standing (tree.Blank ending) others = cons_blank ending others
