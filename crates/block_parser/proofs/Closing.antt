@@ -4,18 +4,18 @@ use Rattle.std.proofs.lemmas.List.{length-append, length-map, map-append, get_or
 use Rattle.markdown_options.specs.declared.configuration.Constructs.{Constructs}
 use Rattle.markdown_options.specs.declared.container.Container.{Container as CodeContainer}
 use Rattle.block_starts.specs.View.{container_view, container_views}
-use Rattle.definition_block.specs.Tree.{Blocks, join, OpenLeaf, Text, Opening, Leaf, Inside, Tree, close, close_leaf, after}
+use Rattle.definition_block.specs.Tree.{Blocks, join, OpenLeaf, Text, Opening, At, Inside, Tree, close, close_leaf, after}
 use Rattle.block_state.specs.Spine.{Level, level, Spine, spine, spine_at, spine_after, containers_of, without_innermost, without_innermost_at}
 use Rattle.block_state.proofs.Trees.{join-assoc}
 
 -- ---- how many containers are open
 
 abbrev pub opening_depth : Opening → ℕ
-opening_depth (Leaf leaf) = 0
+opening_depth (At leaf) = 0
 opening_depth (Inside c kids inner) = suc (opening_depth inner)
 
 pub length-around : (around : List Level) (kids : Blocks) (away : Opening) → length (spine_at around kids away).around ≡ opening_depth away + length around
-length-around around kids (Leaf leaf) = omega arith
+length-around around kids (At leaf) = omega arith
 length-around around kids (Inside c inner_kids inner) =
     let k = length-around (level c kids ∷ around) inner_kids inner in omega (arith, k)
 
@@ -42,7 +42,7 @@ exits-leaf (suc n) s = let x = exits n s in exited-leaf x.around x.kids x.leaf �
 
 pub closed-spine : (on : Constructs) (around : List Level) (kids : Blocks) (away : Opening)
     → exits (opening_depth away) (leaf_closed on (spine_at around kids away)) ≡ spine around (join kids (close on away)) (Text [])
-closed-spine on around kids (Leaf leaf) = refl
+closed-spine on around kids (At leaf) = refl
 closed-spine on around kids (Inside c inner_kids inner) = ap without_innermost (closed-spine on (level c kids ∷ around) inner_kids inner)
 
 -- ---- what is added after that

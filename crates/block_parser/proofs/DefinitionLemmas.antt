@@ -7,7 +7,7 @@ use Rattle.markdown_options.specs.declared.configuration.Constructs.{Constructs}
 use Rattle.block_rows.specs.declared.row.Row.TheVariants as row
 use Rattle.text_pieces.specs.declared.piece.Piece.{Piece}
 use Rattle.definition_text.specs.BlockLines.{BlockLine, own_lines}
-use Rattle.definition_block.specs.Tree.{Blocks, Nil, join, Definition, Text, is_some_line}
+use Rattle.definition_block.specs.Tree.{Blocks, Nil, join, Leaf, Definition, Text, is_some_line}
 use Rattle.std.specs.Option.{option_map}
 use Rattle.definition_text.specs.Columns.{code_byte}
 use Rattle.definition_text.specs.Content.{content_of, content_text}
@@ -86,7 +86,7 @@ first_lines (suc (suc n)) (line ∷ next ∷ others) h some = (h.0, h.1, h.2, fi
 
 -- the row of a definition
 pub row_of_definition : (content : List ℕ) (ls : List BlockLine) (end : DefinitionEnd) → AreLines ls → (h : EndsAt content ls end)
-    → block_rows (Definition h.read.label h.read.destination h.read.title) ≡ row_value (row.Definition end.lines) ls ∷ []
+    → block_rows (Leaf (Definition h.read.label h.read.destination h.read.title)) ≡ row_value (row.Definition end.lines) ls ∷ []
 row_of_definition content ls end clean h =
     let count = lines_before h.read.rest ls in
     let cuts = definition_cuts ls h.read clean h.found in

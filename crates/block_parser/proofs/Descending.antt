@@ -16,8 +16,8 @@ use Rattle.definition_block.specs.Containers.{continues}
 use Rattle.definition_block.specs.CodeFenced.{Fence}
 use Rattle.definition_inline.specs.Definition.{Definition as LinkDefinition}
 use Rattle.definition_text.specs.BlockLines.{BlockLine, last_ending_or}
-use Rattle.definition_block.specs.Tree.{Block, Paragraph, Heading, Break, IndentedCode, FencedCode, Html, Table, Definition, Holds, Items, Ending, Blank}
-use Rattle.definition_block.specs.Tree.{Blocks, Nil, Cons, join, all_endings, front, trailing, Text, Indented, Fenced, OpenHtml, OpenTable, Opening, Leaf}
+use Rattle.definition_block.specs.Tree.{Block, Leaf, Paragraph, Heading, Break, IndentedCode, FencedCode, Html, Table, Definition, Holds, Items, Ending, Blank}
+use Rattle.definition_block.specs.Tree.{Blocks, Nil, Cons, join, all_endings, front, trailing, Text, Indented, Fenced, OpenHtml, OpenTable, Opening, At}
 use Rattle.definition_block.specs.Tree.{Inside, Tree, beside_in, grow, goes_on, new, began_blank, is_nothing, is_one_blank}
 use Rattle.block_rows.specs.Rows.{definition_on, definition_value, BlockRow, Single, rows_of}
 use Rattle.block_state.specs.Spine.{Level, level, Spine, spine, spine_at, spine_of, spine_after, containers_of}
@@ -34,12 +34,12 @@ get-append [] x ys d = refl
 get-append (z ∷ xs) x ys d = get-append xs x ys d
 
 abbrev inner_containers : Opening → List Container
-inner_containers (Leaf leaf) = []
+inner_containers (At leaf) = []
 inner_containers (Inside c kids inner) = c ∷ inner_containers inner
 
 containers-at : (around : List Level) (kids : Blocks) (now : Opening) → containers_of (spine_at around kids now).around
     ≡ containers_of around ++ inner_containers now
-containers-at around kids (Leaf leaf) = sym (append-nil (containers_of around))
+containers-at around kids (At leaf) = sym (append-nil (containers_of around))
 containers-at around kids (Inside c inner_kids inner) =
     containers-at (level c kids ∷ around) inner_kids inner ∙ append-one (containers_of around) c (inner_containers inner)
   where
@@ -67,7 +67,7 @@ module _ (on : Constructs) (beside : Beside) (line : Rest) (t : Tree) (depth : �
       → spine_at around kids now ≡ spine_of t
       → spine_after [] t.done (grow on beside t.now line) ≡ spine_after around kids (grow on here now rest)
       → Descent on beside line t 0 (depth + 1) left.rest (beside_in left.before here)
-  goes-inside left h around kids (Leaf leaf) deep same grows =
+  goes-inside left h around kids (At leaf) deep same grows =
       absurd (omega (arith, ap length opened, length-containers (spine_of t).around, ap (λ (s : Spine). length s.around) same))
   goes-inside left h around kids (Inside inner_c inner_kids inner) deep same grows =
       let same_c : c ≡ inner_c =
@@ -98,7 +98,7 @@ module _ (on : Constructs) (beside : Beside) (line : Rest) (t : Tree) (depth : �
   stays-outside : continues on c b rest ≡ None → (around : List Level) (kids : Blocks) (now : Opening) → depth ≡ length around
       → spine_at around kids now ≡ spine_of t
       → grow on here now rest ≡ new (length rest) on false now here rest
-  stays-outside h around kids (Leaf leaf) deep same =
+  stays-outside h around kids (At leaf) deep same =
       absurd (omega (arith, ap length opened, length-containers (spine_of t).around, ap (λ (s : Spine). length s.around) same))
   stays-outside h around kids (Inside inner_c inner_kids inner) deep same =
       let same_c : c ≡ inner_c =
@@ -129,14 +129,14 @@ is_blank_rows rows = false
 
 blank-rows : (bs : Blocks) → is_one_blank bs ≡ (is_nil (front bs) && is_blank_rows (rows_of (trailing bs)))
 blank-rows Nil = refl
-blank-rows (Cons (Paragraph ls) Nil) = refl
-blank-rows (Cons (Heading rank ls) Nil) = refl
-blank-rows (Cons Break Nil) = refl
-blank-rows (Cons (IndentedCode ls) Nil) = refl
-blank-rows (Cons (FencedCode info closed ls) Nil) = refl
-blank-rows (Cons (Html ls) Nil) = refl
-blank-rows (Cons (Table ls) Nil) = refl
-blank-rows (Cons (Definition label destination title) Nil) = refl
+blank-rows (Cons (Leaf (Paragraph ls)) Nil) = refl
+blank-rows (Cons (Leaf (Heading rank ls)) Nil) = refl
+blank-rows (Cons (Leaf Break) Nil) = refl
+blank-rows (Cons (Leaf (IndentedCode ls)) Nil) = refl
+blank-rows (Cons (Leaf (FencedCode info closed ls)) Nil) = refl
+blank-rows (Cons (Leaf (Html ls)) Nil) = refl
+blank-rows (Cons (Leaf (Table ls)) Nil) = refl
+blank-rows (Cons (Leaf (Definition label destination title)) Nil) = refl
 blank-rows (Cons (Holds c kids) Nil) = refl
 blank-rows (Cons (Items items) Nil) = refl
 blank-rows (Cons (Ending ending) Nil) = refl
@@ -144,14 +144,14 @@ blank-rows (Cons (Blank ending) Nil) = refl
 blank-rows (Cons b (Cons c bs)) = none b ∙ parts b c (all_endings (Cons b (Cons c bs))) refl
   where
     none : (b : Block) → is_one_blank (Cons b (Cons c bs)) ≡ false
-    none (Paragraph ls) = refl
-    none (Heading rank ls) = refl
-    none Break = refl
-    none (IndentedCode ls) = refl
-    none (FencedCode info closed ls) = refl
-    none (Html ls) = refl
-    none (Table ls) = refl
-    none (Definition label destination title) = refl
+    none (Leaf (Paragraph ls)) = refl
+    none (Leaf (Heading rank ls)) = refl
+    none (Leaf Break) = refl
+    none (Leaf (IndentedCode ls)) = refl
+    none (Leaf (FencedCode info closed ls)) = refl
+    none (Leaf (Html ls)) = refl
+    none (Leaf (Table ls)) = refl
+    none (Leaf (Definition label destination title)) = refl
     none (Holds c kids) = refl
     none (Items items) = refl
     none (Ending ending) = refl
@@ -224,13 +224,13 @@ pub began_is : (rows waiting : List Row) (bare : Bool) (pool : List BlockLine) (
     (c : Container) (inner : Opening)
     → let s = spine_at around kids (Inside c inner_kids inner) in
     (left : List BlockLine) → AreWritten rows waiting bare pool s.around s.kids left → containers ≡ containers_of s.around
-    → ((length around + 1 == length containers) && is_nothing (Leaf s.leaf) && (bare && is_one_blank_row waiting)) ≡ began_blank inner_kids inner
-began_is rows waiting bare pool containers around kids inner_kids c (Leaf leaf) left h opened =
+    → ((length around + 1 == length containers) && is_nothing (At s.leaf) && (bare && is_one_blank_row waiting)) ≡ began_blank inner_kids inner
+began_is rows waiting bare pool containers around kids inner_kids c (At leaf) left h opened =
     let last : (length around + 1 == length containers) ≡ true =
     eq-eqb (length around + 1) (length containers) (omega (arith, ap length opened, length-containers (level c kids ∷ around))) in
-    ap (λ x. x && is_nothing (Leaf leaf) && (bare && is_one_blank_row waiting)) last
-    ∙ and-swap (is_nothing (Leaf leaf)) (bare && is_one_blank_row waiting)
-    ∙ ap (λ x. x && is_nothing (Leaf leaf))
+    ap (λ x. x && is_nothing (At leaf) && (bare && is_one_blank_row waiting)) last
+    ∙ and-swap (is_nothing (At leaf)) (bare && is_one_blank_row waiting)
+    ∙ ap (λ x. x && is_nothing (At leaf))
     (ap (λ x. x && is_one_blank_row waiting) h.is_bare ∙ ap (λ x. is_nil (front inner_kids) && x) (one-row waiting ∙ ap is_blank_rows h.waiting_stand)
     ∙ sym (blank-rows inner_kids))
 began_is rows waiting bare pool containers around kids inner_kids c (Inside inner_c others inner) left h opened =
@@ -243,7 +243,7 @@ began_is rows waiting bare pool containers around kids inner_kids c (Inside inne
       length-containers (spine_at around kids (Inside c inner_kids (Inside inner_c others inner))).around,
       more,
     )) in
-    ap (λ x. x && is_nothing (Leaf (spine_at around kids (Inside c inner_kids (Inside inner_c others inner))).leaf) && (bare && is_one_blank_row waiting))
+    ap (λ x. x && is_nothing (At (spine_at around kids (Inside c inner_kids (Inside inner_c others inner))).leaf) && (bare && is_one_blank_row waiting))
     deeper
     ∙ sym (and-swap (is_one_blank inner_kids) false)
 
@@ -262,63 +262,63 @@ depth_of containers kids now opened =
 module _ (P Q : Spine → Type 0) (on : Constructs) (e : Beside) (r : Rest) where
   pub text_grows : (around : List Level) (kids : Blocks) (now : Opening) → opening_depth now ≡ 0 → InText ≡ state_of (spine_at around kids now).leaf
       → Q (spine_after around kids (new (length r) on true now e r)) → Q (spine_after around kids (grow on e now r))
-  text_grows around kids (Leaf (Text ls)) none is h = h
-  text_grows around kids (Leaf (Indented ls pending)) none is h = let wrong : InText ≡ InIndented _ _ = is in cc
-  text_grows around kids (Leaf (Fenced f opening ls)) none is h = let wrong : InText ≡ InFenced _ _ = is in cc
-  text_grows around kids (Leaf (OpenHtml kind ls)) none is h = let wrong : InText ≡ InHtml _ _ = is in cc
-  text_grows around kids (Leaf (OpenTable ls)) none is h = let wrong : InText ≡ InTable _ = is in cc
+  text_grows around kids (At (Text ls)) none is h = h
+  text_grows around kids (At (Indented ls pending)) none is h = let wrong : InText ≡ InIndented _ _ = is in cc
+  text_grows around kids (At (Fenced f opening ls)) none is h = let wrong : InText ≡ InFenced _ _ = is in cc
+  text_grows around kids (At (OpenHtml kind ls)) none is h = let wrong : InText ≡ InHtml _ _ = is in cc
+  text_grows around kids (At (OpenTable ls)) none is h = let wrong : InText ≡ InTable _ = is in cc
   text_grows around kids (Inside c inner_kids inner) none is h = absurd (omega (arith, none))
 
   pub table_grows : (last : Option LineEnding) (around : List Level) (kids : Blocks) (now : Opening) → opening_depth now ≡ 0
       → InTable last ≡ state_of (spine_at around kids now).leaf
       → Q (spine_after around kids (new (length r) on true now e r)) → Q (spine_after around kids (grow on e now r))
-  table_grows last around kids (Leaf (Text ls)) none is h = let wrong : InTable last ≡ InText = is in cc
-  table_grows last around kids (Leaf (Indented ls pending)) none is h = let wrong : InTable last ≡ InIndented _ _ = is in cc
-  table_grows last around kids (Leaf (Fenced f opening ls)) none is h = let wrong : InTable last ≡ InFenced _ _ = is in cc
-  table_grows last around kids (Leaf (OpenHtml kind ls)) none is h = let wrong : InTable last ≡ InHtml _ _ = is in cc
-  table_grows last around kids (Leaf (OpenTable ls)) none is h = h
+  table_grows last around kids (At (Text ls)) none is h = let wrong : InTable last ≡ InText = is in cc
+  table_grows last around kids (At (Indented ls pending)) none is h = let wrong : InTable last ≡ InIndented _ _ = is in cc
+  table_grows last around kids (At (Fenced f opening ls)) none is h = let wrong : InTable last ≡ InFenced _ _ = is in cc
+  table_grows last around kids (At (OpenHtml kind ls)) none is h = let wrong : InTable last ≡ InHtml _ _ = is in cc
+  table_grows last around kids (At (OpenTable ls)) none is h = h
   table_grows last around kids (Inside c inner_kids inner) none is h = absurd (omega (arith, none))
 
   pub indented_grows : ((around : List Level) (kids : Blocks) (ls pending : List BlockLine) → P (spine around kids (Indented ls pending))
-      → Q (spine_after around kids (leaf_grown on e r (Leaf (Indented ls pending)))))
+      → Q (spine_after around kids (leaf_grown on e r (At (Indented ls pending)))))
       → (count : ℕ) (last : Option LineEnding) (around : List Level) (kids : Blocks) (now : Opening) → opening_depth now ≡ 0
       → InIndented count last ≡ state_of (spine_at around kids now).leaf
       → P (spine_at around kids now) → Q (spine_after around kids (grow on e now r))
-  indented_grows grows count last around kids (Leaf (Text ls)) none is h = let wrong : InIndented count last ≡ InText = is in cc
-  indented_grows grows count last around kids (Leaf (Indented ls pending)) none is h = grows around kids ls pending h
-  indented_grows grows count last around kids (Leaf (Fenced f opening ls)) none is h = let wrong : InIndented count last ≡ InFenced _ _ = is in cc
-  indented_grows grows count last around kids (Leaf (OpenHtml kind ls)) none is h = let wrong : InIndented count last ≡ InHtml _ _ = is in cc
-  indented_grows grows count last around kids (Leaf (OpenTable ls)) none is h = let wrong : InIndented count last ≡ InTable _ = is in cc
+  indented_grows grows count last around kids (At (Text ls)) none is h = let wrong : InIndented count last ≡ InText = is in cc
+  indented_grows grows count last around kids (At (Indented ls pending)) none is h = grows around kids ls pending h
+  indented_grows grows count last around kids (At (Fenced f opening ls)) none is h = let wrong : InIndented count last ≡ InFenced _ _ = is in cc
+  indented_grows grows count last around kids (At (OpenHtml kind ls)) none is h = let wrong : InIndented count last ≡ InHtml _ _ = is in cc
+  indented_grows grows count last around kids (At (OpenTable ls)) none is h = let wrong : InIndented count last ≡ InTable _ = is in cc
   indented_grows grows count last around kids (Inside c inner_kids inner) none is h = absurd (omega (arith, none))
 
   pub fenced_grows : (f : Fence) → ((around : List Level) (kids : Blocks) (opening : Option LineEnding) (ls : List BlockLine)
-      → P (spine around kids (Fenced f opening ls)) → Q (spine_after around kids (leaf_grown on e r (Leaf (Fenced f opening ls)))))
+      → P (spine around kids (Fenced f opening ls)) → Q (spine_after around kids (leaf_grown on e r (At (Fenced f opening ls)))))
       → (last : Option LineEnding) (around : List Level) (kids : Blocks) (now : Opening) → opening_depth now ≡ 0
       → InFenced f last ≡ state_of (spine_at around kids now).leaf
       → P (spine_at around kids now) → Q (spine_after around kids (grow on e now r))
-  fenced_grows f grows last around kids (Leaf (Text ls)) none is h = let wrong : InFenced f last ≡ InText = is in cc
-  fenced_grows f grows last around kids (Leaf (Indented ls pending)) none is h = let wrong : InFenced f last ≡ InIndented _ _ = is in cc
-  fenced_grows f grows last around kids (Leaf (Fenced fence opening ls)) none is h =
+  fenced_grows f grows last around kids (At (Text ls)) none is h = let wrong : InFenced f last ≡ InText = is in cc
+  fenced_grows f grows last around kids (At (Indented ls pending)) none is h = let wrong : InFenced f last ≡ InIndented _ _ = is in cc
+  fenced_grows f grows last around kids (At (Fenced fence opening ls)) none is h =
       let same : InFenced f last ≡ InFenced fence (last_ending_or opening ls) = is in
       let is_fence : fence ≡ f = cc in
-      subst (λ (x : Fence). Q (spine_after around kids (grow on e (Leaf (Fenced x opening ls)) r))) (sym is_fence)
+      subst (λ (x : Fence). Q (spine_after around kids (grow on e (At (Fenced x opening ls)) r))) (sym is_fence)
       (grows around kids opening ls (subst (λ (x : Fence). P (spine around kids (Fenced x opening ls))) is_fence h))
-  fenced_grows f grows last around kids (Leaf (OpenHtml kind ls)) none is h = let wrong : InFenced f last ≡ InHtml _ _ = is in cc
-  fenced_grows f grows last around kids (Leaf (OpenTable ls)) none is h = let wrong : InFenced f last ≡ InTable _ = is in cc
+  fenced_grows f grows last around kids (At (OpenHtml kind ls)) none is h = let wrong : InFenced f last ≡ InHtml _ _ = is in cc
+  fenced_grows f grows last around kids (At (OpenTable ls)) none is h = let wrong : InFenced f last ≡ InTable _ = is in cc
   fenced_grows f grows last around kids (Inside c inner_kids inner) none is h = absurd (omega (arith, none))
 
   pub html_grows : (kind : ℕ) → ((around : List Level) (kids : Blocks) (ls : List BlockLine) → P (spine around kids (OpenHtml kind ls))
-      → Q (spine_after around kids (leaf_grown on e r (Leaf (OpenHtml kind ls)))))
+      → Q (spine_after around kids (leaf_grown on e r (At (OpenHtml kind ls)))))
       → (last : Option LineEnding) (around : List Level) (kids : Blocks) (now : Opening) → opening_depth now ≡ 0
       → InHtml kind last ≡ state_of (spine_at around kids now).leaf
       → P (spine_at around kids now) → Q (spine_after around kids (grow on e now r))
-  html_grows kind grows last around kids (Leaf (Text ls)) none is h = let wrong : InHtml kind last ≡ InText = is in cc
-  html_grows kind grows last around kids (Leaf (Indented ls pending)) none is h = let wrong : InHtml kind last ≡ InIndented _ _ = is in cc
-  html_grows kind grows last around kids (Leaf (Fenced f opening ls)) none is h = let wrong : InHtml kind last ≡ InFenced _ _ = is in cc
-  html_grows kind grows last around kids (Leaf (OpenHtml other ls)) none is h =
+  html_grows kind grows last around kids (At (Text ls)) none is h = let wrong : InHtml kind last ≡ InText = is in cc
+  html_grows kind grows last around kids (At (Indented ls pending)) none is h = let wrong : InHtml kind last ≡ InIndented _ _ = is in cc
+  html_grows kind grows last around kids (At (Fenced f opening ls)) none is h = let wrong : InHtml kind last ≡ InFenced _ _ = is in cc
+  html_grows kind grows last around kids (At (OpenHtml other ls)) none is h =
       let same : InHtml kind last ≡ InHtml other (last_ending_or None ls) = is in
       let is_kind : other ≡ kind = cc in
-      subst (λ (x : ℕ). Q (spine_after around kids (grow on e (Leaf (OpenHtml x ls)) r))) (sym is_kind)
+      subst (λ (x : ℕ). Q (spine_after around kids (grow on e (At (OpenHtml x ls)) r))) (sym is_kind)
       (grows around kids ls (subst (λ (x : ℕ). P (spine around kids (OpenHtml x ls))) is_kind h))
-  html_grows kind grows last around kids (Leaf (OpenTable ls)) none is h = let wrong : InHtml kind last ≡ InTable _ = is in cc
+  html_grows kind grows last around kids (At (OpenTable ls)) none is h = let wrong : InHtml kind last ≡ InTable _ = is in cc
   html_grows kind grows last around kids (Inside c inner_kids inner) none is h = absurd (omega (arith, none))

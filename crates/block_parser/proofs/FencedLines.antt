@@ -17,8 +17,8 @@ use Rattle.definition_text.specs.Lines.{TextLine, lines, ending_text}
 use Rattle.definition_text.specs.Columns.{Rest, whole}
 use Rattle.definition_text.specs.BlockLines.{BlockLine, block_line, last_ending_or}
 use Rattle.definition_block.specs.CodeFenced.{Fence, fence_line, is_fence_end}
-use Rattle.definition_block.specs.Tree.{Blocks, FencedCode, block_and_ending, join, nothing, rest_line}
-use Rattle.definition_block.specs.Tree.{Text, Indented, Fenced, OpenHtml, OpenTable, Opening, Leaf, Inside, Tree, tree, beside_line, step, steps}
+use Rattle.definition_block.specs.Tree.{Blocks, Leaf, FencedCode, block_and_ending, join, nothing, rest_line}
+use Rattle.definition_block.specs.Tree.{Text, Indented, Fenced, OpenHtml, OpenTable, Opening, At, Inside, Tree, tree, beside_line, step, steps}
 use Rattle.text_pieces.specs.Pieces.{piece_lines, whole_line, whole_lines}
 use Rattle.block_rows.proofs.OpenLines.{AreTextLines, lines_of_text}
 use Rattle.block_rows.proofs.TextLines.{front_bytes, front_of_text, later_bytes, line_bytes, lines_of_front, text_back, text_of}
@@ -38,19 +38,19 @@ use Rattle.block_parser.proofs.Steps.{fenced_end, fenced_goes_on}
 
 -- fenced code is open, and no container
 abbrev fenced_open : Fence → Blocks → Option LineEnding → List BlockLine → Tree
-fenced_open f kids opening ls = tree kids (Leaf (Fenced f opening ls))
+fenced_open f kids opening ls = tree kids (At (Fenced f opening ls))
 
 pub of_fenced : (f : Fence) (last : Option LineEnding) (P : Tree → Type 0)
     → ((kids : Blocks) (opening : Option LineEnding) (ls : List BlockLine) → P (fenced_open f kids opening ls)) → (kids : Blocks) (now : Opening)
     → opening_depth now ≡ 0 → InFenced f last ≡ state_of (spine_at [] kids now).leaf → P (tree kids now)
-of_fenced f last P h kids (Leaf (Text ls)) none is = let wrong : InFenced f last ≡ InText = is in cc
-of_fenced f last P h kids (Leaf (Indented ls pending)) none is = let wrong : InFenced f last ≡ InIndented _ _ = is in cc
-of_fenced f last P h kids (Leaf (Fenced fence opening ls)) none is =
+of_fenced f last P h kids (At (Text ls)) none is = let wrong : InFenced f last ≡ InText = is in cc
+of_fenced f last P h kids (At (Indented ls pending)) none is = let wrong : InFenced f last ≡ InIndented _ _ = is in cc
+of_fenced f last P h kids (At (Fenced fence opening ls)) none is =
     let same : InFenced f last ≡ InFenced fence (last_ending_or opening ls) = is in
     let is_fence : fence ≡ f = cc in
     subst (λ (x : Fence). P (fenced_open x kids opening ls)) (sym is_fence) (h kids opening ls)
-of_fenced f last P h kids (Leaf (OpenHtml kind ls)) none is = let wrong : InFenced f last ≡ InHtml _ _ = is in cc
-of_fenced f last P h kids (Leaf (OpenTable ls)) none is = let wrong : InFenced f last ≡ InTable _ = is in cc
+of_fenced f last P h kids (At (OpenHtml kind ls)) none is = let wrong : InFenced f last ≡ InHtml _ _ = is in cc
+of_fenced f last P h kids (At (OpenTable ls)) none is = let wrong : InFenced f last ≡ InTable _ = is in cc
 of_fenced f last P h kids (Inside c inner_kids inner) none is = absurd (omega (arith, none))
 
 -- what was read is this, where the last line of the fenced code that is open has such an ending
@@ -228,7 +228,7 @@ code_whole f (line ∷ others) none bytes =
 -- the line that closes the fence
 end_step : (on : Constructs) (f : Fence) (line : TextLine) → line_closes on f line ≡ true
     → (kids : Blocks) (opening : Option LineEnding) (ls : List BlockLine)
-    → step on Whitespace (fenced_open f kids opening ls) line ≡ tree (join kids (block_and_ending (FencedCode f.info true ls) line.ending)) nothing
+    → step on Whitespace (fenced_open f kids opening ls) line ≡ tree (join kids (block_and_ending (Leaf (FencedCode f.info true ls)) line.ending)) nothing
 end_step on f line closes kids opening ls =
     ap (λ (t : Tree). tree (join kids t.done) t.now) (fenced_end on (beside_line Whitespace line) (whole line.content) f opening ls closes)
 
@@ -236,7 +236,7 @@ end_step on f line closes kids opening ls =
 pub whole_read : {A : Type 0} (on : Constructs) (f : Fence) (text code : List ℕ) (ending : Option LineEnding) (rest : List ℕ) (new : Parser A)
     → IsWholeCode on f text code ending rest → f.indent ≡ 0 → ((k : ℕ) → get_or text k 0 < 256)
     → (kids : Blocks) (opening : Option LineEnding) (ls : List BlockLine) → ls ≡ []
-    → HasRead new (spine_after [] kids (tree (block_and_ending (FencedCode f.info true (whole_lines code)) ending) nothing))
+    → HasRead new (spine_after [] kids (tree (block_and_ending (Leaf (FencedCode f.info true (whole_lines code))) ending) nothing))
     → ReadsSome on Whitespace (fenced_open f kids opening ls) text rest new
 whole_read on f text code ending rest new w indent bytes kids opening ls none reads =
     let read = lines code in
@@ -249,8 +249,8 @@ whole_read on f text code ending rest new w indent bytes kids opening ls none re
     let all =
     steps_to on (fenced_open f kids opening ls) _ read w.line content
     ∙ end_step on f w.line w.closes kids opening (ls ++ map (code_line f) read)
-    ∙ ap (λ xs. tree (join kids (block_and_ending (FencedCode f.info true xs) w.line.ending)) nothing) whole_is
-    ∙ ap (λ e. tree (join kids (block_and_ending (FencedCode f.info true (whole_lines code)) e)) nothing) w.ends in
+    ∙ ap (λ xs. tree (join kids (block_and_ending (Leaf (FencedCode f.info true xs)) w.line.ending)) nothing) whole_is
+    ∙ ap (λ e. tree (join kids (block_and_ending (Leaf (FencedCode f.info true (whole_lines code))) e)) nothing) w.ends in
     record {
       read = read ++ w.line ∷ [];
       some = omega (arith, length-append read (w.line ∷ []));

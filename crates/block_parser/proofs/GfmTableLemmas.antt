@@ -11,7 +11,7 @@ use Rattle.definition_text.specs.Indents.{small_indent}
 use Rattle.markdown_options.specs.declared.align_kind.AlignKind.{AlignKind}
 use Rattle.definition_block.specs.Definitions.{definition_cut}
 use Rattle.definition_block.specs.GfmTable.{alignments_of, cells, delimiter_row, delimiters, is_bar_or_colon, is_head, line_cells, some_alignments}
-use Rattle.definition_block.specs.Tree.{Paragraph, Tree, block_and_ending, is_some_line, paragraph_of}
+use Rattle.definition_block.specs.Tree.{Leaf, Paragraph, Tree, block_and_ending, is_some_line, paragraph_of}
 use Rattle.text_pieces.specs.declared.piece.Piece.{Piece}
 use Rattle.text_pieces.specs.Pieces.{piece_line, piece_lines}
 use Rattle.markdown_options.specs.declared.beside.Kind.TheVariants.{Whitespace}
@@ -19,7 +19,7 @@ use Rattle.block_parser.specs.GfmTable.{fits, table_from_cut, table_if}
 use Rattle.block_parser.proofs.Steps.{none_cut}
 
 -- a paragraph of some lines
-pub paragraph_some : (ls : List BlockLine) → 0 < length ls → paragraph_of ls ≡ block_and_ending (Paragraph (own_lines ls)) (last_ending ls)
+pub paragraph_some : (ls : List BlockLine) → 0 < length ls → paragraph_of ls ≡ block_and_ending (Leaf (Paragraph (own_lines ls))) (last_ending ls)
 paragraph_some [] some = absurd (omega arith)
 paragraph_some (line ∷ ls) some = refl
 

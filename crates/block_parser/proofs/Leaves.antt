@@ -13,8 +13,8 @@ use Rattle.block_rows.specs.declared.row.Row.{Row}
 use Rattle.block_rows.specs.declared.row.Row.TheVariants as row
 use Rattle.text_pieces.specs.declared.piece.Piece.{Piece}
 use Rattle.definition_text.specs.BlockLines.{BlockLine, last_ending, own_lines}
-use Rattle.definition_block.specs.Tree.{Block, IndentedCode, Ending, Blank, Blocks, Nil, join, one, block_and_ending, container_block}
-use Rattle.definition_block.specs.Tree.{OpenLeaf, Text, Indented, Fenced, OpenHtml, OpenTable, Leaf}
+use Rattle.definition_block.specs.Tree.{Block, Leaf, IndentedCode, Ending, Blank, Blocks, Nil, join, one, block_and_ending, container_block}
+use Rattle.definition_block.specs.Tree.{OpenLeaf, Text, Indented, Fenced, OpenHtml, OpenTable, At}
 use Rattle.definition_block.specs.Tree.{is_nothing, close_leaf, blanks, is_ending, front}
 use Rattle.text_pieces.proofs.Pieces.{lines_from}
 use Rattle.block_rows.specs.Rows.{Single, start_row, block_rows, row_value, rows_of, rows_value, value_with, row_size, rows_size}
@@ -114,7 +114,7 @@ text_left p s count h same len =
     of (OpenHtml kind ls) left is = let wrong = is in cc
     of (OpenTable ls) left is = let wrong = is in cc
 
-pub nothing_is_open : (count len : ℕ) (ls : List BlockLine) → count + length ls ≡ len → (count == len) ≡ is_nothing (Leaf (Text ls))
+pub nothing_is_open : (count len : ℕ) (ls : List BlockLine) → count + length ls ≡ len → (count == len) ≡ is_nothing (At (Text ls))
 nothing_is_open count len [] h = eq-eqb count len (omega (arith, h))
 nothing_is_open count len (x ∷ ls) h = ne_eqb count len (λ e. omega (arith, h, e))
 
@@ -178,7 +178,7 @@ written_indented on rows waiting bare pieces around kids ls pending h le none co
     sym (drop-map piece_line n pieces) ∙ ap (λ k. drop k pool) n_is ∙ sym (drop-drop count (rows_size rows) pool)
     ∙ ap (drop count) (sym (left_shown rows pool _ h.rows_stand)) ∙ rest_lines in
     let ended_code = written_ended rows waiting bare pool around kids (ls ++ pending) h (row.IndentedCode count) code ending none
-    (ap (λ x. Single (IndentedCode (own_lines x)) ∷ []) (sym front_lines)) refl rows2 waiting2 waiting3 bare2 pending rows_are none_wait waits is_bare
+    (ap (λ x. Single (Leaf (IndentedCode (own_lines x))) ∷ []) (sym front_lines)) refl rows2 waiting2 waiting3 bare2 pending rows_are none_wait waits is_bare
     (sym rest_lines) in
     let with_all = with_blanks rows2 waiting3 bare2 pool around (join kids (block_and_ending code ending)) pending (drop n pieces) ended_code in
     let children : join (join kids (block_and_ending code ending)) (blanks (piece_lines (drop n pieces))) ≡ join kids (close_leaf on (Indented ls pending)) =

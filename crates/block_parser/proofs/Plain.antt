@@ -8,7 +8,7 @@ use Rattle.markdown_options.specs.declared.beside.Beside.{Beside}
 use Rattle.definition_text.specs.Columns.{Rest, indent, bare, bytes_of}
 use Rattle.definition_text.specs.BlockLines.{BlockLine}
 use Rattle.definition_block.specs.MathFlow.{math_start}
-use Rattle.definition_block.specs.Tree.{Blocks, Text, Indented, Fenced, OpenHtml, OpenTable, Opening, Leaf, Inside, Tree, tree}
+use Rattle.definition_block.specs.Tree.{Blocks, Text, Indented, Fenced, OpenHtml, OpenTable, Opening, At, Inside, Tree, tree}
 use Rattle.definition_block.specs.Tree.{has_text, text_here, rest_line, leaf_line, text_line_of, new}
 use Rattle.block_parser.specs.GfmTable.{table_if}
 use Rattle.block_starts.specs.Plain.{begins_plain, is_plain}
@@ -41,11 +41,11 @@ module _ (on : Constructs) (away : Opening) (r : Rest) (e : Beside) (plain : is_
 -- ---- where no container is open, and no leaf but a paragraph
 
 -- the leaf that is open is a paragraph, in no container
-pub of_text : (P : Tree → Type 0) → ((kids : Blocks) (ls : List BlockLine) → P (tree kids (Leaf (Text ls)))) → (kids : Blocks) (now : Opening)
+pub of_text : (P : Tree → Type 0) → ((kids : Blocks) (ls : List BlockLine) → P (tree kids (At (Text ls)))) → (kids : Blocks) (now : Opening)
     → opening_depth now ≡ 0 → InText ≡ state_of (spine_at [] kids now).leaf → P (tree kids now)
-of_text P h kids (Leaf (Text ls)) none is = h kids ls
-of_text P h kids (Leaf (Indented ls pending)) none is = let wrong : InText ≡ InIndented _ _ = is in cc
-of_text P h kids (Leaf (Fenced f opening ls)) none is = let wrong : InText ≡ InFenced _ _ = is in cc
-of_text P h kids (Leaf (OpenHtml kind ls)) none is = let wrong : InText ≡ InHtml _ _ = is in cc
-of_text P h kids (Leaf (OpenTable ls)) none is = let wrong : InText ≡ InTable _ = is in cc
+of_text P h kids (At (Text ls)) none is = h kids ls
+of_text P h kids (At (Indented ls pending)) none is = let wrong : InText ≡ InIndented _ _ = is in cc
+of_text P h kids (At (Fenced f opening ls)) none is = let wrong : InText ≡ InFenced _ _ = is in cc
+of_text P h kids (At (OpenHtml kind ls)) none is = let wrong : InText ≡ InHtml _ _ = is in cc
+of_text P h kids (At (OpenTable ls)) none is = let wrong : InText ≡ InTable _ = is in cc
 of_text P h kids (Inside c inner_kids inner) none is = absurd (omega (arith, none))

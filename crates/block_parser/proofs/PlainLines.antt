@@ -14,7 +14,7 @@ use Rattle.definition_text.specs.Columns.{Rest, whole}
 use Rattle.definition_text.specs.BlockLines.{BlockLine, block_line}
 use Rattle.definition_text.specs.Content.{line_text}
 use Rattle.definition_text.proofs.CodeBytes.{code_bytes}
-use Rattle.definition_block.specs.Tree.{Blocks, Nil, join, Text, Leaf, Tree, tree, beside_line, grow, open_text, rest_line, step, steps, text_line_of}
+use Rattle.definition_block.specs.Tree.{Blocks, Nil, join, Text, At, Tree, tree, beside_line, grow, open_text, rest_line, step, steps, text_line_of}
 use Rattle.text_pieces.specs.ParagraphLines.{AreLines}
 use Rattle.text_pieces.specs.Pieces.{whole_line, whole_lines}
 use Rattle.block_rows.proofs.TextLines.{first_bytes, front_bytes, later_bytes, text_back, text_of}
@@ -63,23 +63,23 @@ module _ (on : Constructs) (line : TextLine) (bytes : (k : ℕ) → get_or line.
   line_is : rest_line rest here ≡ whole_line line
   line_is = ap (λ (codes : List ℕ). block_line codes line.ending Whitespace) (block_codes_whole line.content bytes)
 
-  text_tree : (ls : List BlockLine) → text_line_of on (Leaf (Text ls)) rest here ≡ tree Nil (Leaf (Text (ls ++ rest_line rest here ∷ [])))
-  text_tree [] = ap (λ (bs : Blocks). tree (join bs Nil) (Leaf (Text (rest_line rest here ∷ [])))) (closed-nothing on here on.definition)
+  text_tree : (ls : List BlockLine) → text_line_of on (At (Text ls)) rest here ≡ tree Nil (At (Text (ls ++ rest_line rest here ∷ [])))
+  text_tree [] = ap (λ (bs : Blocks). tree (join bs Nil) (At (Text (rest_line rest here ∷ [])))) (closed-nothing on here on.definition)
   text_tree (l ∷ ls) = refl
 
   plain_step : is_plain on rest ≡ true → (kids : Blocks) (ls : List BlockLine)
-      → step on Whitespace (tree kids (Leaf (Text ls))) line ≡ tree kids (Leaf (Text (ls ++ whole_line line ∷ [])))
+      → step on Whitespace (tree kids (At (Text ls))) line ≡ tree kids (At (Text (ls ++ whole_line line ∷ [])))
   plain_step plain kids ls =
-      let grown : grow on here (Leaf (Text ls)) rest ≡ tree Nil (Leaf (Text (ls ++ rest_line rest here ∷ []))) =
-      plain_new on (Leaf (Text ls)) rest here plain (length rest) true ∙ text_tree ls in
+      let grown : grow on here (At (Text ls)) rest ≡ tree Nil (At (Text (ls ++ rest_line rest here ∷ []))) =
+      plain_new on (At (Text ls)) rest here plain (length rest) true ∙ text_tree ls in
       ap (λ (t : Tree). tree (join kids t.done) t.now) grown
-      ∙ ap (λ (bs : Blocks). tree bs (Leaf (Text (ls ++ rest_line rest here ∷ [])))) (join-nil kids)
-      ∙ ap (λ (l : BlockLine). tree kids (Leaf (Text (ls ++ l ∷ [])))) line_is
+      ∙ ap (λ (bs : Blocks). tree bs (At (Text (ls ++ rest_line rest here ∷ [])))) (join-nil kids)
+      ∙ ap (λ (l : BlockLine). tree kids (At (Text (ls ++ l ∷ [])))) line_is
 
 -- ---- the plain lines so far, after those of a paragraph that may be open
 
 abbrev text_open : Blocks → List BlockLine → Tree
-text_open kids ls = tree kids (Leaf (Text ls))
+text_open kids ls = tree kids (At (Text ls))
 
 pub record PlainSoFar {A : Type 0} (on : Constructs) (text rest : List ℕ) (Old : Spine → Type 0) (new : Parser A) : Type 0 where
   pub read : List TextLine

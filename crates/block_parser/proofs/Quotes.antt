@@ -12,7 +12,7 @@ use Rattle.markdown_options.specs.declared.container.Container.{Container as Cod
 use Rattle.definition_block.specs.Container.{Container, Quote, Item, Footnote}
 use Rattle.definition_block.specs.ContainerLine.{container_line}
 use Rattle.definition_block.specs.Containers.{continues}
-use Rattle.definition_block.specs.Tree.{Blocks, Opening, Leaf, Inside, Tree, beside_in, began_blank, is_one_blank}
+use Rattle.definition_block.specs.Tree.{Blocks, Opening, At, Inside, Tree, beside_in, began_blank, is_one_blank}
 use Rattle.block_starts.specs.View.{container_view, container_views}
 use Rattle.block_state.specs.Spine.{Level, Spine, spine_at, spine_of, containers_of}
 use Rattle.block_state.proofs.Trees.{choose_if}
@@ -79,8 +79,8 @@ pub none_began : (t : Tree) (containers : List Container) → containers ≡ con
     → ((around : List Level) (kids inner_kids : Blocks) (c : Container) (inner : Opening) → length containers ≡ length around + 1
     → spine_at around kids (Inside c inner_kids inner) ≡ spine_of t → began_blank inner_kids inner ≡ false)
     → NoneBeganBlank t
-none_began t containers opened last around kids inner_kids c (Leaf leaf) same =
-    last around kids inner_kids c (Leaf leaf)
+none_began t containers opened last around kids inner_kids c (At leaf) same =
+    last around kids inner_kids c (At leaf)
     (omega (arith, ap length opened, length-containers (spine_of t).around, ap (λ (s : Spine). length s.around) same)) same
 none_began t containers opened last around kids inner_kids c (Inside inner_c others inner) same = and-swap (is_one_blank inner_kids) false
 

@@ -21,8 +21,8 @@ use Rattle.definition_block.specs.ThematicBreak.{is_break}
 use Rattle.definition_block.specs.Definitions.{definition_cut, cut_into, cut_most}
 use Rattle.text_pieces.specs.ParagraphLines.{AreLines}
 use Rattle.definition_text.specs.BlockLines.{BlockLine, spaced_line, own_lines}
-use Rattle.definition_block.specs.Tree.{Heading, Break, FencedCode, Blank, Blocks, Nil, join, one, block_and_ending, OpenLeaf, Text, Indented, Fenced, OpenHtml}
-use Rattle.definition_block.specs.Tree.{OpenTable, Opening, Leaf, Inside, Tree, tree, nothing, close, after, leaf_text, open_text, text_here, is_some_line}
+use Rattle.definition_block.specs.Tree.{Leaf, Heading, Break, FencedCode, Blank, Blocks, Nil, join, one, block_and_ending, OpenLeaf, Text, Indented, Fenced, OpenHtml}
+use Rattle.definition_block.specs.Tree.{OpenTable, Opening, At, Inside, Tree, tree, nothing, close, after, leaf_text, open_text, text_here, is_some_line}
 use Rattle.definition_block.specs.Tree.{has_text, is_table_leaf, has_table, makes_table, with_line, rest_line, leaf_line, html_with, text_line_of, turns}
 use Rattle.definition_block.specs.Tree.{indented_tree, fence_tree, html_tree, atx_tree, break_tree, underlined, heading_of, anew, first_of, leaf_starts, new}
 use Rattle.block_state.specs.Spine.{Level, level, Spine, spine, spine_at, spine_after}
@@ -36,39 +36,39 @@ use Rattle.block_parser.proofs.Closing.{after_added, opening_depth}
 
 module _ (on : Constructs) (e : Beside) (r : Rest) where
   abbrev other_line : OpenLeaf → Tree
-  other_line leaf = new (length r) on true (Leaf leaf) e r
+  other_line leaf = new (length r) on true (At leaf) e r
 
   pub indented_blank : (ls pending : List BlockLine) → is_blank r ≡ true
-      → leaf_grown on e r (Leaf (Indented ls pending)) ≡ tree Nil (Leaf (Indented ls (pending ++ rest_line (outdent 4 r) e ∷ [])))
+      → leaf_grown on e r (At (Indented ls pending)) ≡ tree Nil (At (Indented ls (pending ++ rest_line (outdent 4 r) e ∷ [])))
   indented_blank ls pending h = ap (λ o. unwrap_or o (other_line (Indented ls pending))) (cond-true (is_blank r) _ _ h)
 
   pub indented_code : (ls pending : List BlockLine) → is_blank r ≡ false → starts_code_indented on r ≡ true
-      → leaf_grown on e r (Leaf (Indented ls pending)) ≡ tree Nil (Leaf (Indented (ls ++ pending ++ rest_line (outdent 4 r) e ∷ []) []))
+      → leaf_grown on e r (At (Indented ls pending)) ≡ tree Nil (At (Indented (ls ++ pending ++ rest_line (outdent 4 r) e ∷ []) []))
   indented_code ls pending h k =
       ap (λ o. unwrap_or o (other_line (Indented ls pending))) (cond-false (is_blank r) _ _ h ∙ cond-true (starts_code_indented on r) _ _ k)
 
   pub indented_other : (ls pending : List BlockLine) → is_blank r ≡ false → starts_code_indented on r ≡ false
-      → leaf_grown on e r (Leaf (Indented ls pending)) ≡ new (length r) on true (Leaf (Indented ls pending)) e r
+      → leaf_grown on e r (At (Indented ls pending)) ≡ new (length r) on true (At (Indented ls pending)) e r
   indented_other ls pending h k =
       ap (λ o. unwrap_or o (other_line (Indented ls pending))) (cond-false (is_blank r) _ _ h ∙ cond-false (starts_code_indented on r) _ _ k)
 
   pub fenced_end : (f : Fence) (opening : Option LineEnding) (ls : List BlockLine) → is_fence_end on f r ≡ true
-      → leaf_grown on e r (Leaf (Fenced f opening ls)) ≡ tree (block_and_ending (FencedCode f.info true ls) e.ending) nothing
+      → leaf_grown on e r (At (Fenced f opening ls)) ≡ tree (block_and_ending (Leaf (FencedCode f.info true ls)) e.ending) nothing
   fenced_end f opening ls h = ap (λ o. unwrap_or o (other_line (Fenced f opening ls))) (cond-true (is_fence_end on f r) _ _ h)
 
   pub fenced_goes_on : (f : Fence) (opening : Option LineEnding) (ls : List BlockLine) → is_fence_end on f r ≡ false
-      → leaf_grown on e r (Leaf (Fenced f opening ls)) ≡ tree Nil (Leaf (Fenced f opening (ls ++ rest_line (fence_line f r) e ∷ [])))
+      → leaf_grown on e r (At (Fenced f opening ls)) ≡ tree Nil (At (Fenced f opening (ls ++ rest_line (fence_line f r) e ∷ [])))
   fenced_goes_on f opening ls h = ap (λ o. unwrap_or o (other_line (Fenced f opening ls))) (cond-false (is_fence_end on f r) _ _ h)
 
 -- ---- an HTML block takes a line
 
 module _ (on : Constructs) (e : Beside) (r : Rest) (kind : ℕ) (ls : List BlockLine) where
-  pub html_goes_on : (ends_before_blank kind && is_blank r) ≡ false → leaf_grown on e r (Leaf (OpenHtml kind ls)) ≡ html_with kind ls r e
-  html_goes_on h = ap (λ o. unwrap_or o (new (length r) on true (Leaf (OpenHtml kind ls)) e r)) (cond-false (ends_before_blank kind && is_blank r) _ _ h)
+  pub html_goes_on : (ends_before_blank kind && is_blank r) ≡ false → leaf_grown on e r (At (OpenHtml kind ls)) ≡ html_with kind ls r e
+  html_goes_on h = ap (λ o. unwrap_or o (new (length r) on true (At (OpenHtml kind ls)) e r)) (cond-false (ends_before_blank kind && is_blank r) _ _ h)
 
-  pub html_stops : (ends_before_blank kind && is_blank r) ≡ true → leaf_grown on e r (Leaf (OpenHtml kind ls))
-      ≡ new (length r) on true (Leaf (OpenHtml kind ls)) e r
-  html_stops h = ap (λ o. unwrap_or o (new (length r) on true (Leaf (OpenHtml kind ls)) e r)) (cond-true (ends_before_blank kind && is_blank r) _ _ h)
+  pub html_stops : (ends_before_blank kind && is_blank r) ≡ true → leaf_grown on e r (At (OpenHtml kind ls))
+      ≡ new (length r) on true (At (OpenHtml kind ls)) e r
+  html_stops h = ap (λ o. unwrap_or o (new (length r) on true (At (OpenHtml kind ls)) e r)) (cond-true (ends_before_blank kind && is_blank r) _ _ h)
 
 -- ---- a line that the open leaf doesn't take
 
@@ -115,7 +115,7 @@ module _ (on : Constructs) (away : Opening) (r : Rest) (e : Beside) where
     any_leaf = cond-false (is_blank r) _ _ h ∙ ap or_text first_leaf
 
     pub indented_leaf : (starts_code_indented on r && not (has_text away)) ≡ true
-        → leaf_line on away r e ≡ after on away (tree Nil (Leaf (Indented (rest_line (outdent 4 r) e ∷ []) [])))
+        → leaf_line on away r e ≡ after on away (tree Nil (At (Indented (rest_line (outdent 4 r) e ∷ []) [])))
     indented_leaf k = any_leaf ∙ ap (λ b. or_text (from_code b)) k
 
     module _ (k : (starts_code_indented on r && not (has_text away)) ≡ false) where
@@ -123,7 +123,7 @@ module _ (on : Constructs) (away : Opening) (r : Rest) (e : Beside) where
       other_leaf : leaf_line on away r e ≡ or_text (from_fence (opening_fence on r))
       other_leaf = any_leaf ∙ ap (λ b. or_text (from_code b)) k
 
-      pub fenced_leaf : (f : Fence) → opening_fence on r ≡ Some f → leaf_line on away r e ≡ after on away (tree Nil (Leaf (Fenced f e.ending [])))
+      pub fenced_leaf : (f : Fence) → opening_fence on r ≡ Some f → leaf_line on away r e ≡ after on away (tree Nil (At (Fenced f e.ending [])))
       fenced_leaf f fence = other_leaf ∙ ap (λ o. or_text (from_fence o)) fence
 
       module _ (fence : opening_fence on r ≡ None) where
@@ -140,7 +140,7 @@ module _ (on : Constructs) (away : Opening) (r : Rest) (e : Beside) where
           heading_leaves = html_leaves ∙ ap (λ o. or_text (from_html o)) html
 
           pub heading_leaf : (atx : Atx) → heading_atx on r ≡ Some atx
-              → leaf_line on away r e ≡ after on away (tree (block_and_ending (Heading atx.rank (spaced_line atx.content None ∷ [])) e.ending) nothing)
+              → leaf_line on away r e ≡ after on away (tree (block_and_ending (Leaf (Heading atx.rank (spaced_line atx.content None ∷ []))) e.ending) nothing)
           heading_leaf atx heading = heading_leaves ∙ ap (λ o. or_text (from_heading o)) heading
 
           module _ (heading : heading_atx on r ≡ None) where
@@ -155,7 +155,7 @@ module _ (on : Constructs) (away : Opening) (r : Rest) (e : Beside) where
               break_leaves : leaf_line on away r e ≡ or_text (from_break (is_break on r))
               break_leaves = last_leaves ∙ ap (λ o. or_text (from_underline o)) unturned
 
-              pub break_leaf : is_break on r ≡ true → leaf_line on away r e ≡ after on away (tree (block_and_ending Break e.ending) nothing)
+              pub break_leaf : is_break on r ≡ true → leaf_line on away r e ≡ after on away (tree (block_and_ending (Leaf Break) e.ending) nothing)
               break_leaf b = break_leaves ∙ ap (λ b. or_text (from_break b)) b
 
               module _ (unbroken : is_break on r ≡ false) where
@@ -182,7 +182,7 @@ module _ (on : Constructs) (r : Rest) (e : Option LineEnding) where
   not_headed rank definitions (l ∷ ls) none = let wrong : true ≡ false = none in cc
 
   is_headed : (rank : ℕ) (definitions : Blocks) (left : List BlockLine) → is_some_line left ≡ true
-      → heading_of rank definitions left e ≡ Some (tree (join definitions (block_and_ending (Heading rank (own_lines left)) e)) nothing)
+      → heading_of rank definitions left e ≡ Some (tree (join definitions (block_and_ending (Leaf (Heading rank (own_lines left))) e)) nothing)
   is_headed rank definitions [] some = let wrong : false ≡ true = some in cc
   is_headed rank definitions (l ∷ ls) some = refl
 
@@ -198,11 +198,11 @@ module _ (on : Constructs) (r : Rest) (e : Option LineEnding) where
 
   -- the definitions take the whole of it, or a heading of what is left
   pub turns_none : (ls : List BlockLine) (rank : ℕ) → underline on r ≡ Some rank → is_some_line (definition_cut on ls).left ≡ false
-      → turns on (Leaf (Text ls)) r e ≡ None
+      → turns on (At (Text ls)) r e ≡ None
   turns_none ls rank is none = ap (λ o. option_and_then (underlined on ls e) o) is ∙ not_headed rank (definition_cut on ls).definitions (definition_cut on ls).left none
 
   pub turns_some : (ls : List BlockLine) (rank : ℕ) → underline on r ≡ Some rank → is_some_line (definition_cut on ls).left ≡ true
-      → turns on (Leaf (Text ls)) r e ≡ heading_tree on (Some rank) (Leaf (Text ls)) e
+      → turns on (At (Text ls)) r e ≡ heading_tree on (Some rank) (At (Text ls)) e
   turns_some ls rank is some = ap (λ o. option_and_then (underlined on ls e) o) is ∙ is_headed rank (definition_cut on ls).definitions (definition_cut on ls).left some
 
 -- no paragraph is open
@@ -213,23 +213,23 @@ no_text (l ∷ ls) h = let wrong : true ≡ false = h in cc
 -- whether a paragraph is open where all containers are
 pub here_or_not : (depth count : ℕ) (away : Opening) → (opening_depth away ≡ 0 → (depth == count) ≡ true) → ((depth == count) && has_text away) ≡ false
     → text_here away ≡ []
-here_or_not depth count (Leaf leaf) last h = no_text (leaf_text leaf) (sym (ap (λ b. b && has_text (Leaf leaf)) (last refl)) ∙ h)
+here_or_not depth count (At leaf) last h = no_text (leaf_text leaf) (sym (ap (λ b. b && has_text (At leaf)) (last refl)) ∙ h)
 here_or_not depth count (Inside c kids inner) last h = refl
 
 pub text_leaf_here : (P : Opening → Type 0) (away : Opening) → opening_depth away ≡ 0 → has_text away ≡ true
-    → ((l : BlockLine) (ls : List BlockLine) → P (Leaf (Text (l ∷ ls)))) → P away
-text_leaf_here P (Leaf (Text [])) none some k = let wrong : false ≡ true = some in cc
-text_leaf_here P (Leaf (Text (l ∷ ls))) none some k = k l ls
-text_leaf_here P (Leaf (Indented ls pending)) none some k = let wrong : false ≡ true = some in cc
-text_leaf_here P (Leaf (Fenced f opening ls)) none some k = let wrong : false ≡ true = some in cc
-text_leaf_here P (Leaf (OpenHtml kind ls)) none some k = let wrong : false ≡ true = some in cc
-text_leaf_here P (Leaf (OpenTable ls)) none some k = let wrong : false ≡ true = some in cc
+    → ((l : BlockLine) (ls : List BlockLine) → P (At (Text (l ∷ ls)))) → P away
+text_leaf_here P (At (Text [])) none some k = let wrong : false ≡ true = some in cc
+text_leaf_here P (At (Text (l ∷ ls))) none some k = k l ls
+text_leaf_here P (At (Indented ls pending)) none some k = let wrong : false ≡ true = some in cc
+text_leaf_here P (At (Fenced f opening ls)) none some k = let wrong : false ≡ true = some in cc
+text_leaf_here P (At (OpenHtml kind ls)) none some k = let wrong : false ≡ true = some in cc
+text_leaf_here P (At (OpenTable ls)) none some k = let wrong : false ≡ true = some in cc
 text_leaf_here P (Inside c kids inner) none some k = absurd (omega (arith, none))
 
 -- ---- a line of text
 
 pub text_at : (around : List Level) (kids : Blocks) (away : Opening) → leaf_text (spine_at around kids away).leaf ≡ open_text away
-text_at around kids (Leaf leaf) = refl
+text_at around kids (At leaf) = refl
 text_at around kids (Inside c inner_kids inner) = text_at (level c kids ∷ around) inner_kids inner
 
 pub has_text_at : (around : List Level) (kids : Blocks) (away : Opening) → is_some_line (leaf_text (spine_at around kids away).leaf) ≡ has_text away
@@ -240,11 +240,11 @@ module _ (P Q : Spine → Type 0) (l : BlockLine) (more : (around : List Level) 
     → Q (spine around kids (Text (ls ++ l ∷ [])))) where
   longer_at : (around : List Level) (kids : Blocks) (away : Opening) → has_text away ≡ true → P (spine_at around kids away)
       → Q (spine_at around kids (with_line l away))
-  longer_at around kids (Leaf (Text ls)) some h = more around kids ls h
-  longer_at around kids (Leaf (Indented ls pending)) some h = let wrong : false ≡ true = some in cc
-  longer_at around kids (Leaf (Fenced f opening ls)) some h = let wrong : false ≡ true = some in cc
-  longer_at around kids (Leaf (OpenHtml kind ls)) some h = let wrong : false ≡ true = some in cc
-  longer_at around kids (Leaf (OpenTable ls)) some h = let wrong : false ≡ true = some in cc
+  longer_at around kids (At (Text ls)) some h = more around kids ls h
+  longer_at around kids (At (Indented ls pending)) some h = let wrong : false ≡ true = some in cc
+  longer_at around kids (At (Fenced f opening ls)) some h = let wrong : false ≡ true = some in cc
+  longer_at around kids (At (OpenHtml kind ls)) some h = let wrong : false ≡ true = some in cc
+  longer_at around kids (At (OpenTable ls)) some h = let wrong : false ≡ true = some in cc
   longer_at around kids (Inside c inner_kids inner) some h = longer_at (level c kids ∷ around) inner_kids inner some h
 
 pub goes_longer : (on : Constructs) (P Q : Spine → Type 0) (r : Rest) (e : Beside)
@@ -261,7 +261,7 @@ pub starts_text : (on : Constructs) (Q : Spine → Type 0) (r : Rest) (e : Besid
     → has_table away ≡ false
     → Q (spine around (join kids (close on away)) (Text (rest_line r e ∷ []))) → Q (spine_after around kids (text_line_of on away r e))
 starts_text on Q r e around kids away none no_table h =
-    let t = tree Nil (Leaf (Text (rest_line r e ∷ []))) in
+    let t = tree Nil (At (Text (rest_line r e ∷ []))) in
     subst (λ (more : Tree). Q (spine_after around kids more))
     (sym (cond-false (has_text away || has_table away) _ _ (or_from (has_text away) (has_table away) none no_table)))
     (after_added on Q around kids away t (subst (λ (bs : Blocks). Q (spine around bs (Text (rest_line r e ∷ []))))
@@ -269,24 +269,24 @@ starts_text on Q r e around kids away none no_table h =
 
 -- whether a table is open where all containers are
 pub table_at : (around : List Level) (kids : Blocks) (away : Opening) → opening_depth away ≡ 0 → is_table_leaf (spine_at around kids away).leaf ≡ has_table away
-table_at around kids (Leaf leaf) none = refl
+table_at around kids (At leaf) none = refl
 table_at around kids (Inside c inner_kids inner) none = absurd (omega (arith, none))
 
 pub no_table_at : (away : Opening) → (opening_depth away ≡ 0 → ⊥) → has_table away ≡ false
-no_table_at (Leaf leaf) deeper = absurd (deeper refl)
+no_table_at (At leaf) deeper = absurd (deeper refl)
 no_table_at (Inside c kids inner) deeper = refl
 
 -- or a row of a table
 pub goes_row : (on : Constructs) (P Q : Spine → Type 0) (r : Rest) (e : Beside)
     → ((around : List Level) (kids : Blocks) (ls : List BlockLine) → P (spine around kids (OpenTable ls))
-    → Q (spine_after around kids (tree Nil (Leaf (OpenTable (ls ++ rest_line r e ∷ []))))))
+    → Q (spine_after around kids (tree Nil (At (OpenTable (ls ++ rest_line r e ∷ []))))))
     → (around : List Level) (kids : Blocks) (away : Opening) → has_table away ≡ true → P (spine_at around kids away)
     → Q (spine_after around kids (text_line_of on away r e))
-goes_row on P Q r e more around kids (Leaf (Text ls)) some h = let wrong : false ≡ true = some in cc
-goes_row on P Q r e more around kids (Leaf (Indented ls pending)) some h = let wrong : false ≡ true = some in cc
-goes_row on P Q r e more around kids (Leaf (Fenced f opening ls)) some h = let wrong : false ≡ true = some in cc
-goes_row on P Q r e more around kids (Leaf (OpenHtml kind ls)) some h = let wrong : false ≡ true = some in cc
-goes_row on P Q r e more around kids (Leaf (OpenTable ls)) some h = more around kids ls h
+goes_row on P Q r e more around kids (At (Text ls)) some h = let wrong : false ≡ true = some in cc
+goes_row on P Q r e more around kids (At (Indented ls pending)) some h = let wrong : false ≡ true = some in cc
+goes_row on P Q r e more around kids (At (Fenced f opening ls)) some h = let wrong : false ≡ true = some in cc
+goes_row on P Q r e more around kids (At (OpenHtml kind ls)) some h = let wrong : false ≡ true = some in cc
+goes_row on P Q r e more around kids (At (OpenTable ls)) some h = more around kids ls h
 goes_row on P Q r e more around kids (Inside c inner_kids inner) some h = let wrong : false ≡ true = some in cc
 
 -- a paragraph becomes a table
@@ -295,11 +295,11 @@ pub tabled_here : (on : Constructs) (P Q : Spine → Type 0) (row : BlockLine)
     → Q (spine_after around kids (table_from_cut (definition_cut on ls) row)))
     → (around : List Level) (kids : Blocks) (away : Opening) → IsText away → AreLines (open_text away) → P (spine_at around kids away)
     → Q (spine_after around kids (table_from_cut (definition_cut on (text_here away)) row))
-tabled_here on P Q row reads around kids (Leaf (Text ls)) is clean h = reads around kids ls clean h
-tabled_here on P Q row reads around kids (Leaf (Indented ls pending)) is clean h = let wrong : false ≡ true = is in cc
-tabled_here on P Q row reads around kids (Leaf (Fenced f opening ls)) is clean h = let wrong : false ≡ true = is in cc
-tabled_here on P Q row reads around kids (Leaf (OpenHtml kind ls)) is clean h = let wrong : false ≡ true = is in cc
-tabled_here on P Q row reads around kids (Leaf (OpenTable ls)) is clean h = let wrong : false ≡ true = is in cc
+tabled_here on P Q row reads around kids (At (Text ls)) is clean h = reads around kids ls clean h
+tabled_here on P Q row reads around kids (At (Indented ls pending)) is clean h = let wrong : false ≡ true = is in cc
+tabled_here on P Q row reads around kids (At (Fenced f opening ls)) is clean h = let wrong : false ≡ true = is in cc
+tabled_here on P Q row reads around kids (At (OpenHtml kind ls)) is clean h = let wrong : false ≡ true = is in cc
+tabled_here on P Q row reads around kids (At (OpenTable ls)) is clean h = let wrong : false ≡ true = is in cc
 tabled_here on P Q row reads around kids (Inside c inner_kids inner) is clean h = let wrong : false ≡ true = is in cc
 
 -- a paragraph becomes a heading
@@ -308,9 +308,9 @@ pub turned_here : (on : Constructs) (P Q : Spine → Type 0) (rank : ℕ) (e : O
     → Q (spine around (join kids (heading_blocks on rank ls e)) (Text [])))
     → (around : List Level) (kids : Blocks) (away : Opening) → IsText away → AreLines (open_text away) → P (spine_at around kids away)
     → Q (spine_after around kids (tree (heading_blocks on rank (text_here away) e) nothing))
-turned_here on P Q rank e reads around kids (Leaf (Text ls)) is clean h = reads around kids ls clean h
-turned_here on P Q rank e reads around kids (Leaf (Indented ls pending)) is clean h = let wrong : false ≡ true = is in cc
-turned_here on P Q rank e reads around kids (Leaf (Fenced f opening ls)) is clean h = let wrong : false ≡ true = is in cc
-turned_here on P Q rank e reads around kids (Leaf (OpenHtml kind ls)) is clean h = let wrong : false ≡ true = is in cc
-turned_here on P Q rank e reads around kids (Leaf (OpenTable ls)) is clean h = let wrong : false ≡ true = is in cc
+turned_here on P Q rank e reads around kids (At (Text ls)) is clean h = reads around kids ls clean h
+turned_here on P Q rank e reads around kids (At (Indented ls pending)) is clean h = let wrong : false ≡ true = is in cc
+turned_here on P Q rank e reads around kids (At (Fenced f opening ls)) is clean h = let wrong : false ≡ true = is in cc
+turned_here on P Q rank e reads around kids (At (OpenHtml kind ls)) is clean h = let wrong : false ≡ true = is in cc
+turned_here on P Q rank e reads around kids (At (OpenTable ls)) is clean h = let wrong : false ≡ true = is in cc
 turned_here on P Q rank e reads around kids (Inside c inner_kids inner) is clean h = let wrong : false ≡ true = is in cc

@@ -11,7 +11,7 @@ use Rattle.definition_text.specs.BlockLines.{BlockLine}
 use Rattle.definition_text.specs.Columns.{Rest}
 use Rattle.definition_block.specs.CodeFenced.{Fence}
 use Rattle.definition_block.specs.Container.{Container}
-use Rattle.definition_block.specs.Tree.{Blocks, Nil, OpenLeaf, Text, Fenced, Opening, Leaf, Inside, Tree, tree, nothing, open_text, new, leaf_line, grow, steps}
+use Rattle.definition_block.specs.Tree.{Blocks, Nil, OpenLeaf, Text, Fenced, Opening, At, Inside, Tree, tree, nothing, open_text, new, leaf_line, grow, steps}
 use Rattle.text_pieces.specs.ParagraphLines.{AreLines}
 use Rattle.text_pieces.specs.Pieces.{piece_lines, whole_lines}
 use Rattle.block_starts.specs.View.{container_views}
@@ -43,7 +43,7 @@ pub record ReadsSome {A : Type 0} (on : Constructs) (before : Kind) (t : Tree) (
 -- where this fence is open, and no container, lines of a text were read, and the rest follows them
 abbrev pub ReadsFenced : {A : Type 0} → Constructs → Fence → List ℕ → Parser A → Parser A → List ℕ → Type 0
 ReadsFenced on fence text old new rest =
-    (kids : Blocks) (opening : Option LineEnding) (ls : List BlockLine) → let t = tree kids (Leaf (Fenced fence opening ls)) in
+    (kids : Blocks) (opening : Option LineEnding) (ls : List BlockLine) → let t = tree kids (At (Fenced fence opening ls)) in
     KeepsLines on Whitespace t text → HasRead old (spine_of t) → ReadsSome on Whitespace t text rest new
 
 -- a leaf that is open becomes this, whatever it stands in
@@ -89,7 +89,7 @@ Grows old new depth becomes =
 
 -- what a line that is in all containers makes of the open leaf
 abbrev pub leaf_grown : Constructs → Beside → Rest → Opening → Tree
-leaf_grown on beside rest (Leaf leaf) = grow on beside (Leaf leaf) rest
+leaf_grown on beside rest (At leaf) = grow on beside (At leaf) rest
 leaf_grown on beside rest (Inside c kids inner) = tree Nil (Inside c kids inner)
 
 -- how far a line is in the containers that are open

@@ -43,7 +43,7 @@ impl<'a, A: Allocator> Parser<'a, A> {
     ) -> Result<(), AllocError>
         requires lines { self.old.lines_in_rows + 1 ≤ vec_len self.old.pieces }
         ensures { OnOk result ((opening : Option LineEnding) (ls : List BlockLine) → let leaf = tree.Fenced (fence_view fence.entry) opening ls in
-            Becomes self.old self.new leaf (leaf_grown on.now beside (rest_of rest.now) (tree.Leaf leaf))) }
+            Becomes self.old self.new leaf (leaf_grown on.now beside (rest_of rest.now) (tree.At leaf))) }
     {
         if !is_fence_end(on, &fence, *rest) {
             self.pieces.push(piece(&fence_line(&fence, *rest), beside))?;
@@ -129,7 +129,7 @@ impl<'a, A: Allocator> Parser<'a, A> {
     ) -> Result<(), AllocError>
         requires { self.old.lines_in_rows + 1 ≡ vec_len self.old.pieces }
         ensures { OnOk result ((fence : FenceRecord) (opening : Option LineEnding) →
-            let code = tree.FencedCode fence.info true (whole_lines lines.now) in
+            let code = tree.Leaf (tree.FencedCode fence.info true (whole_lines lines.now)) in
             Closes self.old self.new (tree.Fenced fence opening []) (tree.block_and_ending code ending)) }
     {
         self.leaf = NOTHING;
@@ -143,7 +143,7 @@ impl<'a, A: Allocator> Parser<'a, A> {
         fence: Fence<'a>,
         ending: Option<LineEnding>,
     ) -> Result<(), AllocError>
-        ensures { OnOk result (Adds self.old self.new (tree.tree tree.Nil (tree.Leaf (tree.Fenced (fence_view fence.entry) ending [])))) }
+        ensures { OnOk result (Adds self.old self.new (tree.tree tree.Nil (tree.At (tree.Fenced (fence_view fence.entry) ending [])))) }
     {
         self.pieces.push(whole_piece(fence.info, None))?;
         self.leaf = OpenLeaf::Fenced { fence, ending };

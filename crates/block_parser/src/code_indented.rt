@@ -30,7 +30,7 @@ impl<'a, A: Allocator> Parser<'a, A> {
         beside: Beside,
     ) -> Result<(), AllocError>
         ensures { OnOk result ((ls pending : List BlockLine) →
-            Becomes self.old self.new (tree.Indented ls pending) (leaf_grown on.now beside (rest_of rest.now) (tree.Leaf (tree.Indented ls pending)))) }
+            Becomes self.old self.new (tree.Indented ls pending) (leaf_grown on.now beside (rest_of rest.now) (tree.At (tree.Indented ls pending)))) }
     {
         if rest.is_blank() {
             self.pieces.push(piece(&rest.outdent(CODE_INDENT), beside))?;
@@ -56,7 +56,7 @@ impl<'a, A: Allocator> Parser<'a, A> {
         beside: Beside,
     ) -> Result<(), AllocError>
         ensures { OnOk result (Adds self.old self.new
-            (tree.tree tree.Nil (tree.Leaf (tree.Indented (tree.rest_line (outdent 4 (rest_of rest.now)) beside ∷ []) [])))) }
+            (tree.tree tree.Nil (tree.At (tree.Indented (tree.rest_line (outdent 4 (rest_of rest.now)) beside ∷ []) [])))) }
     {
         self.pieces.push(piece(&rest.outdent(CODE_INDENT), beside))?;
         self.leaf = OpenLeaf::Indented {

@@ -27,7 +27,7 @@ impl<'a, A: Allocator> Parser<'a, A> {
     /// The definitions at the front of the open paragraph become rows.
     pub(crate) fn cut_definitions(&mut self, on: &Constructs) -> Result<(), AllocError>
         ensures read { OnOk result ((ls : List BlockLine) → AreLines ls → let parts = definition_cut on.now ls in
-            Becomes self.old self.new (tree.Text ls) (tree.tree parts.definitions (tree.Leaf (tree.Text parts.left)))) }
+            Becomes self.old self.new (tree.Text ls) (tree.tree parts.definitions (tree.At (tree.Text parts.left)))) }
         ensures containers { self.new.open ≡ self.old.open }
     {
         if !self.may_define(on) {

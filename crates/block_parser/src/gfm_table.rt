@@ -92,7 +92,7 @@ impl<'a, A: Allocator> Parser<'a, A> {
     /// The lines of the open paragraph before its last one are a paragraph, if there are any.
     fn close_before_head(&mut self) -> Result<(), AllocError>
         ensures read { OnOk result ((ls : List BlockLine) → let head = length ls - 1 in
-            Becomes self.old self.new (tree.Text ls) (tree.tree (tree.paragraph_of (take head ls)) (tree.Leaf (tree.Text (drop head ls))))) }
+            Becomes self.old self.new (tree.Text ls) (tree.tree (tree.paragraph_of (take head ls)) (tree.At (tree.Text (drop head ls))))) }
         ensures containers { self.new.open ≡ self.old.open }
     {
         let count = self.pieces.len() - self.lines_in_rows;
@@ -105,7 +105,7 @@ impl<'a, A: Allocator> Parser<'a, A> {
     /// One more line of a table.
     pub(crate) fn table_row(&mut self, rest: &Cursor<'a>, beside: Beside) -> Result<(), AllocError>
         ensures { OnOk result ((leaf : tree.OpenLeaf) (ls : List BlockLine) → leaf_lines leaf ≡ ls →
-            Becomes self.old self.new leaf (tree.tree tree.Nil (tree.Leaf (tree.OpenTable (ls ++ tree.rest_line (rest_of rest.now) beside ∷ []))))) }
+            Becomes self.old self.new leaf (tree.tree tree.Nil (tree.At (tree.OpenTable (ls ++ tree.rest_line (rest_of rest.now) beside ∷ []))))) }
     {
         self.pieces.push(piece(rest, beside))?;
         self.leaf = OpenLeaf::Table {

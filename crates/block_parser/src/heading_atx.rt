@@ -22,7 +22,7 @@ impl<'a, A: Allocator> Parser<'a, A> {
         ending: Option<LineEnding>,
     ) -> Result<(), AllocError>
         ensures { OnOk result (Adds self.old self.new
-            (tree.tree (tree.block_and_ending (tree.Heading atx.entry.rank (spaced_line atx.entry.content.now None ∷ [])) ending) tree.nothing)) }
+            (tree.tree (tree.block_and_ending (tree.Leaf (tree.Heading atx.entry.rank (spaced_line atx.entry.content.now None ∷ []))) ending) tree.nothing)) }
     {
         self.pieces.push(whole_piece(atx.content, None))?;
         self.rows.block(Row::Heading(atx.rank))?;

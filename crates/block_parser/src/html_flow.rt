@@ -35,7 +35,7 @@ impl<'a, A: Allocator> Parser<'a, A> {
         beside: Beside,
     ) -> Result<(), AllocError>
         ensures { OnOk result ((ls : List BlockLine) → let leaf = tree.OpenHtml (number_of kind) ls in
-            Becomes self.old self.new leaf (leaf_grown on.now beside (rest_of rest.now) (tree.Leaf leaf))) }
+            Becomes self.old self.new leaf (leaf_grown on.now beside (rest_of rest.now) (tree.At leaf))) }
     {
         if html_stops(kind, rest) {
             let depth = self.open.len();

@@ -121,7 +121,7 @@ impl<'a, A: Allocator> Parser<'a, A> {
     /// The open paragraph ends. Its lines are kept as one, which is their text.
     fn close_whole(&mut self, text: &'a str, ending: Option<LineEnding>) -> Result<(), AllocError>
         ensures read { OnOk result ((ls : List BlockLine) → ls ≡ whole_lines text.now →
-            Closes self.old self.new (tree.Text ls) (tree.block_and_ending (tree.Paragraph (own_lines ls)) ending)) }
+            Closes self.old self.new (tree.Text ls) (tree.block_and_ending (tree.Leaf (tree.Paragraph (own_lines ls))) ending)) }
         ensures containers { self.new.open ≡ self.old.open }
     {
         self.leaf = NOTHING;

@@ -115,7 +115,7 @@ impl<'a, A: Allocator> Parser<'a, A> {
         requires some { 0 < length text.now }
         requires fits { length text.now < 2 ^ 61 }
         ensures shorter { IfOk result (λ rest. length rest.now < length text.now) }
-        ensures read { IfOk result (λ rest. (kids : tree.Blocks) (ls : List BlockLine) → let t = tree.tree kids (tree.Leaf (tree.Text ls)) in
+        ensures read { IfOk result (λ rest. (kids : tree.Blocks) (ls : List BlockLine) → let t = tree.tree kids (tree.At (tree.Text ls)) in
             KeepsLines on.now Whitespace t text.now → HasRead self.old (spine_of t) → ReadsSome on.now Whitespace t text.now rest.now self.new) }
     {
         let goes_on = self.has_text();
@@ -227,7 +227,7 @@ impl<'a, A: Allocator> Parser<'a, A> {
 
     /// Whether no leaf is open.
     fn is_nothing(&self) -> bool
-        ensures { (s : Spine) → HasRead self.now s → result ≡ tree.is_nothing (tree.Leaf s.leaf) }
+        ensures { (s : Spine) → HasRead self.now s → result ≡ tree.is_nothing (tree.At s.leaf) }
     {
         match self.leaf {
             OpenLeaf::Text => self.lines_in_rows == self.pieces.len(),
@@ -478,7 +478,7 @@ impl<'a, A: Allocator> Parser<'a, A> {
         requires within { self.old.lines_in_rows + count ≤ vec_len self.old.pieces }
         ensures read { OnOk result ((ls : List BlockLine) (b : tree.Block) → block_rows b ≡ row_value row ls ∷ [] → tree.is_ending b ≡ false →
             Becomes self.old self.new (tree.Text ls)
-            (tree.tree (tree.block_and_ending b (last_ending (take count ls))) (tree.Leaf (tree.Text (drop count ls))))) }
+            (tree.tree (tree.block_and_ending b (last_ending (take count ls))) (tree.At (tree.Text (drop count ls))))) }
         ensures containers { self.new.open ≡ self.old.open }
         ensures content { self.new.content ≡ self.old.content }
         ensures pieces { self.new.pieces ≡ self.old.pieces }

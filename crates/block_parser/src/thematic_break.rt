@@ -14,7 +14,7 @@ impl<'a, A: Allocator> Parser<'a, A> {
 
     /// A thematic break, where no leaf is open.
     pub(crate) fn thematic_break(&mut self, ending: Option<LineEnding>) -> Result<(), AllocError>
-        ensures { OnOk result (Adds self.old self.new (tree.tree (tree.block_and_ending tree.Break ending) tree.nothing)) }
+        ensures { OnOk result (Adds self.old self.new (tree.tree (tree.block_and_ending (tree.Leaf tree.Break) ending) tree.nothing)) }
     {
         self.rows.block(Row::Break)?;
         self.rows.ending(ending)

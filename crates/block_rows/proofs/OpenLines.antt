@@ -36,7 +36,7 @@ use Rattle.markdown_options.specs.declared.align_kind.AlignKind.{AlignKind}
 use Rattle.definition_block.specs.GfmTable.{delimiter_row, is_head}
 use Rattle.text_pieces.specs.ParagraphLines.{HaveNoEnding, AreLines}
 use Rattle.definition_text.specs.BlockLines.{BlockLine}
-use Rattle.definition_block.specs.Tree.{Blocks, OpenLeaf, Text, Indented, Fenced, OpenHtml, OpenTable, Opening, Leaf, Inside, Tree, nothing, empty_tree}
+use Rattle.definition_block.specs.Tree.{Blocks, OpenLeaf, Text, Indented, Fenced, OpenHtml, OpenTable, Opening, At, Inside, Tree, nothing, empty_tree}
 use Rattle.std.specs.Option.{option_and_then}
 use Rattle.definition_text.proofs.Each.{WhereSome}
 use Rattle.definition_block.proofs.LeafLines.{where_leaf_line, where_unwrapped}
@@ -331,11 +331,11 @@ module _ (on : Constructs) (e : LineEnding) (beside : Beside) where
   -- a line on the open paragraph, or the first of one
   open_with_line : (line : BlockLine) (now : Opening) → HaveNoEnding line.codes → 0 < length line.codes → AreLinesTo (Some e) (open_text now)
       → AreLinesTo line.ending (open_text (with_line line now))
-  open_with_line line (Leaf (Text ls)) clear some h = one_more e ls line clear some h
-  open_with_line line (Leaf (Indented ls pending)) clear some h = tt
-  open_with_line line (Leaf (Fenced fence opening ls)) clear some h = tt
-  open_with_line line (Leaf (OpenHtml kind ls)) clear some h = tt
-  open_with_line line (Leaf (OpenTable ls)) clear some h = tt
+  open_with_line line (At (Text ls)) clear some h = one_more e ls line clear some h
+  open_with_line line (At (Indented ls pending)) clear some h = tt
+  open_with_line line (At (Fenced fence opening ls)) clear some h = tt
+  open_with_line line (At (OpenHtml kind ls)) clear some h = tt
+  open_with_line line (At (OpenTable ls)) clear some h = tt
   open_with_line line (Inside c kids inner) clear some h = open_with_line line inner clear some h
 
   open_text_line : (away : Opening) (rest : Rest) → HaveNoEnding rest → is_blank rest ≡ false → AreLinesTo (Some e) (open_text away)
@@ -391,9 +391,9 @@ module _ (on : Constructs) (e : LineEnding) where
 
   open_grow : (beside : Beside) (now : Opening) (rest : Rest) → HaveNoEnding rest → AreLinesTo (Some e) (open_text now)
       → OpenTo on e beside (grow on beside now rest)
-  open_grow beside (Leaf leaf) rest clear h =
-      where_unwrapped (OpenTo on e beside) (takes on leaf rest beside) (new (length rest) on true (Leaf leaf) beside rest) (open_takes on e beside leaf rest)
-      (open_new beside (length rest) true (Leaf leaf) rest clear h)
+  open_grow beside (At leaf) rest clear h =
+      where_unwrapped (OpenTo on e beside) (takes on leaf rest beside) (new (length rest) on true (At leaf) beside rest) (open_takes on e beside leaf rest)
+      (open_new beside (length rest) true (At leaf) rest clear h)
   open_grow beside (Inside c kids inner) rest clear h =
       open_goes_on beside (continues on c (began_blank kids inner) rest) c kids inner rest (λ line. grow on (beside_in line.before beside) inner line.rest)
       (clear_continue on c (began_blank kids inner) rest clear) clear h (λ line k. open_grow (beside_in line.before beside) inner line.rest k h)

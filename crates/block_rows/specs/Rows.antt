@@ -8,7 +8,7 @@ use Rattle.block_rows.specs.declared.row.Row.TheVariants as row
 use Rattle.definition_text.specs.Columns.{bytes_of, code_byte}
 use Rattle.definition_text.specs.BlockLines.{BlockLine, own_lines}
 use Rattle.text_pieces.specs.Pieces.{whole_lines}
-use Rattle.definition_block.specs.Tree.{Block, Paragraph, Heading, Break, IndentedCode, FencedCode, Html, Table, Definition, Holds, Items, Ending, Blank}
+use Rattle.definition_block.specs.Tree.{Block, Leaf, Paragraph, Heading, Break, IndentedCode, FencedCode, Html, Table, Definition, Holds, Items, Ending, Blank}
 use Rattle.definition_block.specs.Tree.{Blocks, Nil, Cons}
 use Rattle.definition_text.specs.Content.{content_codes, content_text}
 use Rattle.definition_block.specs.Definitions.{block_definitions}
@@ -35,14 +35,14 @@ spaced_definition label destination title = Definition (map code_byte label) (ma
 -- the rows of blocks, before their items are put into lists
 abbrev mutual
   pub block_rows : Block → List BlockRow
-  block_rows (Paragraph ls) = Single (Paragraph ls) ∷ []
-  block_rows (Heading rank ls) = Single (Heading rank ls) ∷ []
-  block_rows Break = Single Break ∷ []
-  block_rows (IndentedCode ls) = Single (IndentedCode ls) ∷ []
-  block_rows (FencedCode info closed ls) = Single (FencedCode info closed ls) ∷ []
-  block_rows (Html ls) = Single (Html ls) ∷ []
-  block_rows (Table ls) = Single (Table ls) ∷ []
-  block_rows (Definition label destination title) = Single (spaced_definition label destination title) ∷ []
+  block_rows (Leaf (Paragraph ls)) = Single (Leaf (Paragraph ls)) ∷ []
+  block_rows (Leaf (Heading rank ls)) = Single (Leaf (Heading rank ls)) ∷ []
+  block_rows (Leaf Break) = Single (Leaf Break) ∷ []
+  block_rows (Leaf (IndentedCode ls)) = Single (Leaf (IndentedCode ls)) ∷ []
+  block_rows (Leaf (FencedCode info closed ls)) = Single (Leaf (FencedCode info closed ls)) ∷ []
+  block_rows (Leaf (Html ls)) = Single (Leaf (Html ls)) ∷ []
+  block_rows (Leaf (Table ls)) = Single (Leaf (Table ls)) ∷ []
+  block_rows (Leaf (Definition label destination title)) = Single (spaced_definition label destination title) ∷ []
   block_rows (Holds c kids) = start_row c ∷ (rows_of kids ++ Exit ∷ [])
   block_rows (Items items) = rows_of items
   block_rows (Ending ending) = Single (Ending ending) ∷ []
@@ -107,17 +107,17 @@ definition_value (Some d) = Definition d.label d.destination d.title
 
 -- what a row stands for: it takes its lines from the front of those that are left
 abbrev pub row_value : Row → List BlockLine → BlockRow
-row_value (row.Paragraph count) left = Single (Paragraph (own_lines (take count left)))
-row_value row.WholeParagraph left = Single (Paragraph (own_lines (whole_lines (bytes_of (first_codes left)))))
-row_value (row.Heading rank) left = Single (Heading rank (own_lines (take 1 left)))
-row_value (row.SetextHeading rank count) left = Single (Heading rank (own_lines (take count left)))
-row_value row.Break left = Single Break
-row_value (row.IndentedCode count) left = Single (IndentedCode (own_lines (take count left)))
-row_value (row.FencedCode count) left = Single (FencedCode (first_codes left) true (take count (drop 1 left)))
-row_value (row.UnclosedCode count) left = Single (FencedCode (first_codes left) false (take count (drop 1 left)))
-row_value row.WholeCode left = Single (FencedCode (first_codes left) true (whole_lines (bytes_of (first_codes (drop 1 left)))))
-row_value (row.Html count) left = Single (Html (own_lines (take count left)))
-row_value (row.Table count) left = Single (Table (own_lines (take count left)))
+row_value (row.Paragraph count) left = Single (Leaf (Paragraph (own_lines (take count left))))
+row_value row.WholeParagraph left = Single (Leaf (Paragraph (own_lines (whole_lines (bytes_of (first_codes left))))))
+row_value (row.Heading rank) left = Single (Leaf (Heading rank (own_lines (take 1 left))))
+row_value (row.SetextHeading rank count) left = Single (Leaf (Heading rank (own_lines (take count left))))
+row_value row.Break left = Single (Leaf Break)
+row_value (row.IndentedCode count) left = Single (Leaf (IndentedCode (own_lines (take count left))))
+row_value (row.FencedCode count) left = Single (Leaf (FencedCode (first_codes left) true (take count (drop 1 left))))
+row_value (row.UnclosedCode count) left = Single (Leaf (FencedCode (first_codes left) false (take count (drop 1 left))))
+row_value row.WholeCode left = Single (Leaf (FencedCode (first_codes left) true (whole_lines (bytes_of (first_codes (drop 1 left))))))
+row_value (row.Html count) left = Single (Leaf (Html (own_lines (take count left))))
+row_value (row.Table count) left = Single (Leaf (Table (own_lines (take count left))))
 row_value (row.Definition count) left = Single (definition_value (definition_on (take count left)))
 row_value row.EnterQuote left = EnterQuote
 row_value (row.EnterItem marker number) left = EnterItem marker number

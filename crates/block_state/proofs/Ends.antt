@@ -6,7 +6,7 @@ use Rattle.std.proofs.lemmas.Bool.{cond-true, and_parts}
 use Rattle.std.proofs.lemmas.List.{append-nil, take-map, drop-map, length-map}
 use Rattle.definition_block.specs.Container.{Container, Quote, Item, Footnote}
 use Rattle.block_rows.specs.declared.row.Row.{Row}
-use Rattle.definition_block.specs.Tree.{Block, Paragraph, Heading, Break, IndentedCode, FencedCode, Html, Table, Definition, Holds, Items, Ending, Blank}
+use Rattle.definition_block.specs.Tree.{Block, Leaf, Paragraph, Heading, Break, IndentedCode, FencedCode, Html, Table, Definition, Holds, Items, Ending, Blank}
 use Rattle.definition_block.specs.Tree.{Blocks, Nil, Cons, join, one, is_ending, all_endings, front, trailing, without_last, last_of, container_block}
 use Rattle.block_rows.specs.Rows.{BlockRow, Single, Exit, start_row, block_rows, rows_of}
 use Rattle.block_state.specs.Waits.{inside, outside}
@@ -17,14 +17,14 @@ use Rattle.block_state.proofs.Trees.{choose_if, join-assoc, trailing-all, front-
 
 -- an ending has one row
 ending_rows : (b : Block) → is_ending b ≡ true → block_rows b ≡ Single b ∷ []
-ending_rows (Paragraph ls) h = refl
-ending_rows (Heading rank ls) h = refl
-ending_rows Break h = refl
-ending_rows (IndentedCode ls) h = refl
-ending_rows (FencedCode info closed ls) h = refl
-ending_rows (Html ls) h = refl
-ending_rows (Table ls) h = refl
-ending_rows (Definition label destination title) h = let wrong : false ≡ true = h in cc
+ending_rows (Leaf (Paragraph ls)) h = refl
+ending_rows (Leaf (Heading rank ls)) h = refl
+ending_rows (Leaf Break) h = refl
+ending_rows (Leaf (IndentedCode ls)) h = refl
+ending_rows (Leaf (FencedCode info closed ls)) h = refl
+ending_rows (Leaf (Html ls)) h = refl
+ending_rows (Leaf (Table ls)) h = refl
+ending_rows (Leaf (Definition label destination title)) h = let wrong : false ≡ true = h in cc
 ending_rows (Holds c kids) h = let wrong : false ≡ true = h in cc
 ending_rows (Items items) h = let wrong : false ≡ true = h in cc
 ending_rows (Ending ending) h = refl

@@ -8,7 +8,7 @@ use Rattle.block_rows.specs.declared.row.Row.{Row}
 use Rattle.block_rows.specs.declared.row.Row.TheVariants as row
 use Rattle.definition_text.specs.Columns.{bytes_of}
 use Rattle.definition_text.specs.BlockLines.{BlockLine, own_lines}
-use Rattle.definition_block.specs.Tree.{Paragraph, Heading, IndentedCode, FencedCode, Html, Table}
+use Rattle.definition_block.specs.Tree.{Leaf, Paragraph, Heading, IndentedCode, FencedCode, Html, Table}
 use Rattle.block_state.specs.Shows.{lone}
 use Rattle.block_rows.specs.Rows.{definition_on, definition_value, BlockRow, Single, RowsValue, rows_value, value_with, show_row, row_value}
 use Rattle.text_pieces.specs.Pieces.{whole_lines}
@@ -22,38 +22,38 @@ with_left s more = value_with s.rows (s.left ++ more)
 row_longer : (r : Row) (out : List BlockRow) (ls more : List BlockLine) → row_size r ≤ length ls
     → show_row (value_with out (ls ++ more)) r ≡ with_left (show_row (value_with out ls) r) more
 row_longer (row.Paragraph n) out ls more le =
-    ap (λ front. value_with (out ++ Single (Paragraph (own_lines front)) ∷ []) (drop n (ls ++ more))) (take-append-le n ls more le)
-    ∙ ap (value_with (out ++ Single (Paragraph (own_lines (take n ls))) ∷ [])) (drop-append-le n ls more le)
+    ap (λ front. value_with (out ++ Single (Leaf (Paragraph (own_lines front))) ∷ []) (drop n (ls ++ more))) (take-append-le n ls more le)
+    ∙ ap (value_with (out ++ Single (Leaf (Paragraph (own_lines (take n ls)))) ∷ [])) (drop-append-le n ls more le)
 row_longer (row.Heading rank) out ls more le =
-    ap (λ front. value_with (out ++ Single (Heading rank (own_lines front)) ∷ []) (drop 1 (ls ++ more))) (take-append-le 1 ls more le)
-    ∙ ap (value_with (out ++ Single (Heading rank (own_lines (take 1 ls))) ∷ [])) (drop-append-le 1 ls more le)
+    ap (λ front. value_with (out ++ Single (Leaf (Heading rank (own_lines front))) ∷ []) (drop 1 (ls ++ more))) (take-append-le 1 ls more le)
+    ∙ ap (value_with (out ++ Single (Leaf (Heading rank (own_lines (take 1 ls)))) ∷ [])) (drop-append-le 1 ls more le)
 row_longer row.Break out ls more le = refl
 row_longer (row.IndentedCode n) out ls more le =
-    ap (λ front. value_with (out ++ Single (IndentedCode (own_lines front)) ∷ []) (drop n (ls ++ more))) (take-append-le n ls more le)
-    ∙ ap (value_with (out ++ Single (IndentedCode (own_lines (take n ls))) ∷ [])) (drop-append-le n ls more le)
+    ap (λ front. value_with (out ++ Single (Leaf (IndentedCode (own_lines front))) ∷ []) (drop n (ls ++ more))) (take-append-le n ls more le)
+    ∙ ap (value_with (out ++ Single (Leaf (IndentedCode (own_lines (take n ls)))) ∷ [])) (drop-append-le n ls more le)
 row_longer (row.FencedCode n) out [] more le = absurd (omega arith)
 row_longer (row.FencedCode n) out (l ∷ ls) more le =
-    ap (λ front. value_with (out ++ Single (FencedCode l.codes true front) ∷ []) (drop (1 + n) ((l ∷ ls) ++ more))) (take-append-le n ls more (omega arith))
-    ∙ ap (value_with (out ++ Single (FencedCode l.codes true (take n ls)) ∷ [])) (drop-append-le (1 + n) (l ∷ ls) more le)
+    ap (λ front. value_with (out ++ Single (Leaf (FencedCode l.codes true front)) ∷ []) (drop (1 + n) ((l ∷ ls) ++ more))) (take-append-le n ls more (omega arith))
+    ∙ ap (value_with (out ++ Single (Leaf (FencedCode l.codes true (take n ls))) ∷ [])) (drop-append-le (1 + n) (l ∷ ls) more le)
 row_longer (row.UnclosedCode n) out [] more le = absurd (omega arith)
 row_longer (row.UnclosedCode n) out (l ∷ ls) more le =
-    ap (λ front. value_with (out ++ Single (FencedCode l.codes false front) ∷ []) (drop (1 + n) ((l ∷ ls) ++ more))) (take-append-le n ls more (omega arith))
-    ∙ ap (value_with (out ++ Single (FencedCode l.codes false (take n ls)) ∷ [])) (drop-append-le (1 + n) (l ∷ ls) more le)
+    ap (λ front. value_with (out ++ Single (Leaf (FencedCode l.codes false front)) ∷ []) (drop (1 + n) ((l ∷ ls) ++ more))) (take-append-le n ls more (omega arith))
+    ∙ ap (value_with (out ++ Single (Leaf (FencedCode l.codes false (take n ls))) ∷ [])) (drop-append-le (1 + n) (l ∷ ls) more le)
 row_longer row.WholeCode out [] more le = absurd (omega arith)
 row_longer row.WholeCode out (l ∷ []) more le = absurd (omega arith)
 row_longer row.WholeCode out (l ∷ code ∷ ls) more le = refl
 row_longer row.WholeParagraph out [] more le = absurd (omega arith)
 row_longer row.WholeParagraph out (l ∷ ls) more le =
-    ap (value_with (out ++ Single (Paragraph (own_lines (whole_lines (bytes_of l.codes)))) ∷ [])) (drop-append-le 1 (l ∷ ls) more le)
+    ap (value_with (out ++ Single (Leaf (Paragraph (own_lines (whole_lines (bytes_of l.codes))))) ∷ [])) (drop-append-le 1 (l ∷ ls) more le)
 row_longer (row.SetextHeading rank n) out ls more le =
-    ap (λ front. value_with (out ++ Single (Heading rank (own_lines front)) ∷ []) (drop n (ls ++ more))) (take-append-le n ls more le)
-    ∙ ap (value_with (out ++ Single (Heading rank (own_lines (take n ls))) ∷ [])) (drop-append-le n ls more le)
+    ap (λ front. value_with (out ++ Single (Leaf (Heading rank (own_lines front))) ∷ []) (drop n (ls ++ more))) (take-append-le n ls more le)
+    ∙ ap (value_with (out ++ Single (Leaf (Heading rank (own_lines (take n ls)))) ∷ [])) (drop-append-le n ls more le)
 row_longer (row.Html n) out ls more le =
-    ap (λ front. value_with (out ++ Single (Html (own_lines front)) ∷ []) (drop n (ls ++ more))) (take-append-le n ls more le)
-    ∙ ap (value_with (out ++ Single (Html (own_lines (take n ls))) ∷ [])) (drop-append-le n ls more le)
+    ap (λ front. value_with (out ++ Single (Leaf (Html (own_lines front))) ∷ []) (drop n (ls ++ more))) (take-append-le n ls more le)
+    ∙ ap (value_with (out ++ Single (Leaf (Html (own_lines (take n ls)))) ∷ [])) (drop-append-le n ls more le)
 row_longer (row.Table n) out ls more le =
-    ap (λ front. value_with (out ++ Single (Table (own_lines front)) ∷ []) (drop n (ls ++ more))) (take-append-le n ls more le)
-    ∙ ap (value_with (out ++ Single (Table (own_lines (take n ls))) ∷ [])) (drop-append-le n ls more le)
+    ap (λ front. value_with (out ++ Single (Leaf (Table (own_lines front))) ∷ []) (drop n (ls ++ more))) (take-append-le n ls more le)
+    ∙ ap (value_with (out ++ Single (Leaf (Table (own_lines (take n ls)))) ∷ [])) (drop-append-le n ls more le)
 row_longer (row.Definition n) out ls more le =
     ap (λ front. value_with (out ++ Single (definition_value (definition_on front)) ∷ []) (drop n (ls ++ more))) (take-append-le n ls more le)
     ∙ ap (value_with (out ++ Single (definition_value (definition_on (take n ls))) ∷ [])) (drop-append-le n ls more le)
@@ -101,19 +101,19 @@ one_row_shown rows pool r s h = fold_push show_row (value_with [] pool) rows r �
 -- a row that takes no lines shows the same whatever is left
 none_taken : (r : Row) (left : List BlockLine) → row_size r ≡ 0 → row_value r left ≡ lone r
 none_taken (row.Paragraph n) left h =
-    ap (λ (k : ℕ). Single (Paragraph (own_lines (take k left)))) h ∙ sym (ap (λ (k : ℕ). Single (Paragraph (own_lines (take k [])))) h)
+    ap (λ (k : ℕ). Single (Leaf (Paragraph (own_lines (take k left))))) h ∙ sym (ap (λ (k : ℕ). Single (Leaf (Paragraph (own_lines (take k []))))) h)
 none_taken (row.Heading rank) left h = absurd (omega (arith, h))
 none_taken row.WholeParagraph left h = absurd (omega (arith, h))
 none_taken (row.SetextHeading rank n) left h =
-    ap (λ (k : ℕ). Single (Heading rank (own_lines (take k left)))) h ∙ sym (ap (λ (k : ℕ). Single (Heading rank (own_lines (take k [])))) h)
-none_taken (row.Html n) left h = ap (λ (k : ℕ). Single (Html (own_lines (take k left)))) h ∙ sym (ap (λ (k : ℕ). Single (Html (own_lines (take k [])))) h)
-none_taken (row.Table n) left h = ap (λ (k : ℕ). Single (Table (own_lines (take k left)))) h ∙ sym (ap (λ (k : ℕ). Single (Table (own_lines (take k [])))) h)
+    ap (λ (k : ℕ). Single (Leaf (Heading rank (own_lines (take k left))))) h ∙ sym (ap (λ (k : ℕ). Single (Leaf (Heading rank (own_lines (take k []))))) h)
+none_taken (row.Html n) left h = ap (λ (k : ℕ). Single (Leaf (Html (own_lines (take k left))))) h ∙ sym (ap (λ (k : ℕ). Single (Leaf (Html (own_lines (take k []))))) h)
+none_taken (row.Table n) left h = ap (λ (k : ℕ). Single (Leaf (Table (own_lines (take k left))))) h ∙ sym (ap (λ (k : ℕ). Single (Leaf (Table (own_lines (take k []))))) h)
 none_taken (row.Definition n) left h =
     ap (λ (k : ℕ). Single (definition_value (definition_on (take k left)))) h
     ∙ sym (ap (λ (k : ℕ). Single (definition_value (definition_on (take k [])))) h)
 none_taken row.Break left h = refl
 none_taken (row.IndentedCode n) left h =
-    ap (λ (k : ℕ). Single (IndentedCode (own_lines (take k left)))) h ∙ sym (ap (λ (k : ℕ). Single (IndentedCode (own_lines (take k [])))) h)
+    ap (λ (k : ℕ). Single (Leaf (IndentedCode (own_lines (take k left))))) h ∙ sym (ap (λ (k : ℕ). Single (Leaf (IndentedCode (own_lines (take k []))))) h)
 none_taken (row.FencedCode n) left h = absurd (omega (arith, h))
 none_taken (row.UnclosedCode n) left h = absurd (omega (arith, h))
 none_taken row.WholeCode left h = absurd (omega (arith, h))

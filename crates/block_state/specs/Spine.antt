@@ -1,7 +1,7 @@
 -- A tree that is being read, seen from its innermost container.
 use Rattle.std.specs.Prelude.{List, [], ◌∷◌, ◌++◌}
 use Rattle.definition_block.specs.Container.{Container}
-use Rattle.definition_block.specs.Tree.{Blocks, join, container_block, OpenLeaf, Opening, Leaf, Inside, Tree}
+use Rattle.definition_block.specs.Tree.{Blocks, join, container_block, OpenLeaf, Opening, At, Inside, Tree}
 use Rattle.block_rows.specs.Rows.{BlockRow, start_row, rows_of}
 
 -- a container that is open, and the children of its parent before it
@@ -22,7 +22,7 @@ abbrev pub spine : List Level → Blocks → OpenLeaf → Spine
 spine around kids leaf = record { around = around; kids = kids; leaf = leaf }
 
 abbrev pub spine_at : List Level → Blocks → Opening → Spine
-spine_at around kids (Leaf leaf) = spine around kids leaf
+spine_at around kids (At leaf) = spine around kids leaf
 spine_at around kids (Inside c inner_kids inner) = spine_at (level c kids ∷ around) inner_kids inner
 
 abbrev pub spine_of : Tree → Spine

@@ -8,7 +8,7 @@ use Rattle.std.proofs.lemmas.List.Sums.{fold-append}
 use Rattle.definition_text.specs.Columns.{tab_column}
 use Rattle.definition_text.specs.Content.{is_space, content_codes}
 use Rattle.definition_block.specs.Container.{Quote, Item, Footnote}
-use Rattle.definition_block.specs.Blocks.{Block, Paragraph, Heading, Break, IndentedCode, FencedCode, Html, Table, Definition, Holds, Items, Ending, Blank}
+use Rattle.definition_block.specs.Blocks.{Block, Leaf, Paragraph, Heading, Break, IndentedCode, FencedCode, Html, Table, Definition, Holds, Items, Ending, Blank}
 use Rattle.definition_block.specs.Blocks.{Blocks, Nil, Cons}
 use Rattle.definition_block.specs.Definitions.{block_footnotes, footnotes}
 use Rattle.block_rows.specs.Rows.{Exit, block_rows, rows_of}
@@ -20,14 +20,14 @@ nothing_more ended containers = ap (λ x. labels_so_far x containers) (sym (appe
 mutual
   notes_in : (b : Block) (ended : List (List ℕ)) (containers : _) → fold note_row (labels_so_far ended containers) (block_rows b)
       ≡ labels_so_far (ended ++ block_footnotes b) containers
-  notes_in (Paragraph ls) ended containers = nothing_more ended containers
-  notes_in (Heading rank ls) ended containers = nothing_more ended containers
-  notes_in Break ended containers = nothing_more ended containers
-  notes_in (IndentedCode ls) ended containers = nothing_more ended containers
-  notes_in (FencedCode info closed ls) ended containers = nothing_more ended containers
-  notes_in (Html ls) ended containers = nothing_more ended containers
-  notes_in (Table ls) ended containers = nothing_more ended containers
-  notes_in (Definition label destination title) ended containers = nothing_more ended containers
+  notes_in (Leaf (Paragraph ls)) ended containers = nothing_more ended containers
+  notes_in (Leaf (Heading rank ls)) ended containers = nothing_more ended containers
+  notes_in (Leaf Break) ended containers = nothing_more ended containers
+  notes_in (Leaf (IndentedCode ls)) ended containers = nothing_more ended containers
+  notes_in (Leaf (FencedCode info closed ls)) ended containers = nothing_more ended containers
+  notes_in (Leaf (Html ls)) ended containers = nothing_more ended containers
+  notes_in (Leaf (Table ls)) ended containers = nothing_more ended containers
+  notes_in (Leaf (Definition label destination title)) ended containers = nothing_more ended containers
   notes_in (Holds Quote kids) ended containers =
       fold-append note_row (labels_so_far ended (None ∷ containers)) (rows_of kids) (Exit ∷ [])
       ∙ ap (λ (n : LabelsSoFar). note_row n Exit) (notes_of kids ended (None ∷ containers))

@@ -209,8 +209,8 @@ module _ (default : List ℕ) (options : Options) (tables : TextTables) (ds : Ta
       element_same options.compile default (bare_tag (codes "p")) (codes "<p>") (codes "</p>") text shown refl refl same (fresh default l)
 
   paragraph_same : (s : Standing) (tight silent : Bool) (before : Option page.Block) (ls : List BlockLine)
-      → Alike (block_pieces m (place_in s tight) before (page.Paragraph (read_paragraph r s.first ls)))
-      (old.block_bytes d s tight silent (tree.Paragraph ls))
+      → Alike (block_pieces m (place_in s tight) before (page.Leaf (page.Paragraph (read_paragraph r s.first ls))))
+      (old.block_bytes d s tight silent (tree.Leaf (tree.Paragraph ls)))
   paragraph_same s tight silent before ls =
       let is = read_paragraph r s.first ls in tight_same (inline_pieces m is) (structure_pieces d is) (structure_same is) tight
 
@@ -219,14 +219,14 @@ module _ (default : List ℕ) (options : Options) (tables : TextTables) (ds : Ta
   class_same (b ∷ bs) = ap (λ x. codes "<code" ++ x ++ codes ">") (one_attribute (codes " class=\"language-") (encode (info_of d (b ∷ bs))) (codes "\""))
 
   indented_same : (place : Place) (s : Standing) (tight silent : Bool) (before : Option page.Block) (ls : List BlockLine)
-      → Alike (block_pieces m place before (page.IndentedCode ls)) (old.block_bytes d s tight silent (tree.IndentedCode ls))
+      → Alike (block_pieces m place before (page.Leaf (page.IndentedCode ls))) (old.block_bytes d s tight silent (tree.Leaf (tree.IndentedCode ls)))
   indented_same place s tight silent before ls l =
       code_element options.compile default (bare_tag (codes "code")) (codes "<code>") (says (flat_map code_line ls) ++ Fresh ∷ [])
       (bytes.Bytes (old.code_of ls) ∷ bytes.Fresh ∷ []) refl refl (lines_same options.compile default ls) (fresh default l)
 
   fence_same : (s : Standing) (tight silent : Bool) (before : Option page.Block) (info : List ℕ) (is_closed : Bool) (ls : List BlockLine)
-      → Alike (block_pieces m (place_in s tight) before (page.FencedCode (info_text r info) is_closed (code_lines s.top is_closed ls)))
-      (old.block_bytes d s tight silent (tree.FencedCode info is_closed ls))
+      → Alike (block_pieces m (place_in s tight) before (page.Leaf (page.FencedCode (info_text r info) is_closed (code_lines s.top is_closed ls))))
+      (old.block_bytes d s tight silent (tree.Leaf (tree.FencedCode info is_closed ls)))
   fence_same s tight silent before info is_closed ls l =
       let code = tag (codes "code") (info_attributes (info_text r info)) in
       let start = codes "<code" ++ old.class_of d info ++ codes ">" in
@@ -267,25 +267,25 @@ module _ (default : List ℕ) (options : Options) (tables : TextTables) (ds : Ta
   plain_same : (first tight : Bool) (before : Option page.Block) (said : Bool) (bs : tree.Blocks) → ends_plainly tight before ≡ said
       → ends_plainly tight (last_visible before (read_blocks r (record { top = false; first = first }) bs)) ≡ old.ends_tight tight said bs
   plain_same first tight before said tree.Nil h = h
-  plain_same first tight before said (tree.Cons (tree.Paragraph ls) bs) h =
-      plain_same (first && false) tight (Some (page.Paragraph (read_paragraph r first ls))) tight bs refl
-  plain_same first tight before said (tree.Cons (tree.Definition label destination title) bs) h = plain_same (first && false) tight before said bs h
-  plain_same first tight before said (tree.Cons (tree.Heading rank ls) bs) h =
-      plain_same (first && false) tight (Some (page.Heading rank (read_text r ls))) (said && false) bs (and_false said)
-  plain_same first tight before said (tree.Cons tree.Break bs) h = plain_same (first && false) tight (Some page.Break) (said && false) bs (and_false said)
-  plain_same first tight before said (tree.Cons (tree.IndentedCode ls) bs) h =
-      plain_same (first && false) tight (Some (page.IndentedCode ls)) (said && false) bs (and_false said)
-  plain_same first tight before said (tree.Cons (tree.FencedCode info is_closed ls) bs) h =
-      plain_same (first && false) tight (Some (page.FencedCode (info_text r info) is_closed (code_lines false is_closed ls))) (said && false) bs
+  plain_same first tight before said (tree.Cons (tree.Leaf (tree.Paragraph ls)) bs) h =
+      plain_same (first && false) tight (Some (page.Leaf (page.Paragraph (read_paragraph r first ls)))) tight bs refl
+  plain_same first tight before said (tree.Cons (tree.Leaf (tree.Definition label destination title)) bs) h = plain_same (first && false) tight before said bs h
+  plain_same first tight before said (tree.Cons (tree.Leaf (tree.Heading rank ls)) bs) h =
+      plain_same (first && false) tight (Some (page.Leaf (page.Heading rank (read_text r ls)))) (said && false) bs (and_false said)
+  plain_same first tight before said (tree.Cons (tree.Leaf tree.Break) bs) h = plain_same (first && false) tight (Some (page.Leaf page.Break)) (said && false) bs (and_false said)
+  plain_same first tight before said (tree.Cons (tree.Leaf (tree.IndentedCode ls)) bs) h =
+      plain_same (first && false) tight (Some (page.Leaf (page.IndentedCode ls))) (said && false) bs (and_false said)
+  plain_same first tight before said (tree.Cons (tree.Leaf (tree.FencedCode info is_closed ls)) bs) h =
+      plain_same (first && false) tight (Some (page.Leaf (page.FencedCode (info_text r info) is_closed (code_lines false is_closed ls)))) (said && false) bs
       (and_false said)
-  plain_same first tight before said (tree.Cons (tree.Html ls) bs) h =
-      plain_same (first && false) tight (Some (page.Html ls)) (said && false) bs (and_false said)
-  plain_same first tight before said (tree.Cons (tree.Table ls) bs) h =
-      plain_same (first && false) tight (Some (page.Table (read_table r ls))) (said && false) bs (and_false said)
+  plain_same first tight before said (tree.Cons (tree.Leaf (tree.Html ls)) bs) h =
+      plain_same (first && false) tight (Some (page.Leaf (page.Html ls))) (said && false) bs (and_false said)
+  plain_same first tight before said (tree.Cons (tree.Leaf (tree.Table ls)) bs) h =
+      plain_same (first && false) tight (Some (page.Leaf (page.Table (read_table r ls)))) (said && false) bs (and_false said)
   plain_same first tight before said (tree.Cons (tree.Holds Quote kids) bs) h =
-      plain_same (first && false) tight (Some (page.Quote (read_blocks r in_container kids))) (said && false) bs (and_false said)
+      plain_same (first && false) tight (Some (page.Holds page.Quote (read_blocks r in_container kids))) (said && false) bs (and_false said)
   plain_same first tight before said (tree.Cons (tree.Holds (Item item) kids) bs) h =
-      plain_same (first && false) tight (Some (page.Item (read_blocks r in_item kids))) (said && false) bs (and_false said)
+      plain_same (first && false) tight (Some (page.Holds page.Item (read_blocks r in_item kids))) (said && false) bs (and_false said)
   plain_same first tight before said (tree.Cons (tree.Holds (Footnote label) kids) bs) h = plain_same (first && false) tight before said bs h
   plain_same first tight before said (tree.Cons (tree.Items items) bs) h =
       plain_same (first && false) tight (Some (page.ItemList (list_number items) (is_loose items) (read_blocks r in_container items))) (said && false) bs
@@ -301,7 +301,7 @@ module _ (default : List ℕ) (options : Options) (tables : TextTables) (ds : Ta
   quote_same : (s : Standing) (tight silent : Bool) (before : Option page.Block) (kids : tree.Blocks)
       → Alike (children_pieces m (record { top = false; tight = false }) None (read_blocks r in_container kids))
       (old.children_bytes d in_container false false kids)
-      → Alike (block_pieces m (place_in s tight) before (page.Quote (read_blocks r in_container kids)))
+      → Alike (block_pieces m (place_in s tight) before (page.Holds page.Quote (read_blocks r in_container kids)))
       (old.block_bytes d s tight silent (tree.Holds Quote kids))
   quote_same s tight silent before kids same l =
       let inside = children_pieces m (record { top = false; tight = false }) None (read_blocks r in_container kids) in
@@ -317,7 +317,7 @@ module _ (default : List ℕ) (options : Options) (tables : TextTables) (ds : Ta
 
   item_same : (s : Standing) (tight silent : Bool) (before : Option page.Block) (item : ItemOf) (kids : tree.Blocks)
       → Alike (children_pieces m (record { top = false; tight = tight }) None (read_blocks r in_item kids)) (old.children_bytes d in_item tight false kids)
-      → Alike (block_pieces m (place_in s tight) before (page.Item (read_blocks r in_item kids)))
+      → Alike (block_pieces m (place_in s tight) before (page.Holds page.Item (read_blocks r in_item kids)))
       (old.block_bytes d s tight silent (tree.Holds (Item item) kids))
   item_same s tight silent before item kids same l =
       let inside = children_pieces m (record { top = false; tight = tight }) None (read_blocks r in_item kids) in
@@ -345,7 +345,7 @@ module _ (default : List ℕ) (options : Options) (tables : TextTables) (ds : Ta
   footnote_same : (s : Standing) (tight silent : Bool) (before : Option page.Block) (label : List ℕ) (kids : tree.Blocks)
       → Alike (children_pieces m (record { top = false; tight = false }) None (read_blocks r in_container kids))
       (old.children_bytes d in_container false false kids)
-      → Alike (block_pieces m (place_in s tight) before (page.Footnote label (read_blocks r in_container kids)))
+      → Alike (block_pieces m (place_in s tight) before (page.Holds (page.Footnote label) (read_blocks r in_container kids)))
       (old.block_bytes d s tight silent (tree.Holds (Footnote label) kids))
   footnote_same s tight silent before label kids same l =
       joined options.compile default (children_pieces m (record { top = false; tight = false }) None (read_blocks r in_container kids)) (NoteEnd ∷ [])
@@ -396,81 +396,81 @@ module _ (default : List ℕ) (options : Options) (tables : TextTables) (ds : Ta
 
   twice : (s : Standing) (tight : Bool) (bs : tree.Blocks) → AreSameTwice s tight bs
   twice s tight tree.Nil = (λ silent before h l. refl, λ before h l. refl)
-  twice s tight (tree.Cons (tree.Paragraph ls) bs) =
+  twice s tight (tree.Cons (tree.Leaf (tree.Paragraph ls)) bs) =
       let is = read_paragraph r s.first ls in
-      let each : EachSame s tight (tree.Cons (tree.Paragraph ls) bs) = λ silent before l.
-      siblings (place_in s tight) before (page.Paragraph is) (read_blocks r (next_standing s (tree.Paragraph ls)) bs)
-      (old.block_bytes d s tight silent (tree.Paragraph ls)) (old.children_bytes d (next_standing s (tree.Paragraph ls)) tight tight bs)
+      let each : EachSame s tight (tree.Cons (tree.Leaf (tree.Paragraph ls)) bs) = λ silent before l.
+      siblings (place_in s tight) before (page.Leaf (page.Paragraph is)) (read_blocks r (next_standing s (tree.Leaf (tree.Paragraph ls))) bs)
+      (old.block_bytes d s tight silent (tree.Leaf (tree.Paragraph ls))) (old.children_bytes d (next_standing s (tree.Leaf (tree.Paragraph ls))) tight tight bs)
       (paragraph_same s tight silent before ls)
-      ((twice (next_standing s (tree.Paragraph ls)) tight bs).0 tight (Some (page.Paragraph is)) refl) l in
-      each_twice s tight (tree.Paragraph ls) bs each (λ before h l. each true before l)
-  twice s tight (tree.Cons (tree.Heading rank ls) bs) =
-      let each : EachSame s tight (tree.Cons (tree.Heading rank ls) bs) = λ silent before l.
-      siblings (place_in s tight) before (page.Heading rank (read_text r ls)) (read_blocks r (next_standing s (tree.Heading rank ls)) bs)
-      (old.block_bytes d s tight silent (tree.Heading rank ls)) (old.children_bytes d (next_standing s (tree.Heading rank ls)) tight false bs)
+      ((twice (next_standing s (tree.Leaf (tree.Paragraph ls))) tight bs).0 tight (Some (page.Leaf (page.Paragraph is))) refl) l in
+      each_twice s tight (tree.Leaf (tree.Paragraph ls)) bs each (λ before h l. each true before l)
+  twice s tight (tree.Cons (tree.Leaf (tree.Heading rank ls)) bs) =
+      let each : EachSame s tight (tree.Cons (tree.Leaf (tree.Heading rank ls)) bs) = λ silent before l.
+      siblings (place_in s tight) before (page.Leaf (page.Heading rank (read_text r ls))) (read_blocks r (next_standing s (tree.Leaf (tree.Heading rank ls))) bs)
+      (old.block_bytes d s tight silent (tree.Leaf (tree.Heading rank ls))) (old.children_bytes d (next_standing s (tree.Leaf (tree.Heading rank ls))) tight false bs)
       (heading_same rank ls)
-      ((twice (next_standing s (tree.Heading rank ls)) tight bs).0 false (Some (page.Heading rank (read_text r ls))) refl) l in
-      each_twice s tight (tree.Heading rank ls) bs each (λ before h l. each true before l)
-  twice s tight (tree.Cons tree.Break bs) =
-      let each : EachSame s tight (tree.Cons tree.Break bs) = λ silent before l.
-      siblings (place_in s tight) before (page.Break) (read_blocks r (next_standing s tree.Break) bs)
-      (old.block_bytes d s tight silent tree.Break) (old.children_bytes d (next_standing s tree.Break) tight false bs)
+      ((twice (next_standing s (tree.Leaf (tree.Heading rank ls))) tight bs).0 false (Some (page.Leaf (page.Heading rank (read_text r ls)))) refl) l in
+      each_twice s tight (tree.Leaf (tree.Heading rank ls)) bs each (λ before h l. each true before l)
+  twice s tight (tree.Cons (tree.Leaf tree.Break) bs) =
+      let each : EachSame s tight (tree.Cons (tree.Leaf tree.Break) bs) = λ silent before l.
+      siblings (place_in s tight) before ((page.Leaf page.Break)) (read_blocks r (next_standing s (tree.Leaf tree.Break)) bs)
+      (old.block_bytes d s tight silent (tree.Leaf tree.Break)) (old.children_bytes d (next_standing s (tree.Leaf tree.Break)) tight false bs)
       (λ o. refl)
-      ((twice (next_standing s tree.Break) tight bs).0 false (Some (page.Break)) refl) l in
-      each_twice s tight tree.Break bs each (λ before h l. each true before l)
-  twice s tight (tree.Cons (tree.IndentedCode ls) bs) =
-      let each : EachSame s tight (tree.Cons (tree.IndentedCode ls) bs) = λ silent before l.
-      siblings (place_in s tight) before (page.IndentedCode ls) (read_blocks r (next_standing s (tree.IndentedCode ls)) bs)
-      (old.block_bytes d s tight silent (tree.IndentedCode ls)) (old.children_bytes d (next_standing s (tree.IndentedCode ls)) tight false bs)
+      ((twice (next_standing s (tree.Leaf tree.Break)) tight bs).0 false (Some ((page.Leaf page.Break))) refl) l in
+      each_twice s tight (tree.Leaf tree.Break) bs each (λ before h l. each true before l)
+  twice s tight (tree.Cons (tree.Leaf (tree.IndentedCode ls)) bs) =
+      let each : EachSame s tight (tree.Cons (tree.Leaf (tree.IndentedCode ls)) bs) = λ silent before l.
+      siblings (place_in s tight) before (page.Leaf (page.IndentedCode ls)) (read_blocks r (next_standing s (tree.Leaf (tree.IndentedCode ls))) bs)
+      (old.block_bytes d s tight silent (tree.Leaf (tree.IndentedCode ls))) (old.children_bytes d (next_standing s (tree.Leaf (tree.IndentedCode ls))) tight false bs)
       (indented_same (place_in s tight) s tight silent before ls)
-      ((twice (next_standing s (tree.IndentedCode ls)) tight bs).0 false (Some (page.IndentedCode ls)) refl) l in
-      each_twice s tight (tree.IndentedCode ls) bs each (λ before h l. each true before l)
-  twice s tight (tree.Cons (tree.FencedCode info is_closed ls) bs) =
-      let each : EachSame s tight (tree.Cons (tree.FencedCode info is_closed ls) bs) = λ silent before l.
-      siblings (place_in s tight) before (page.FencedCode (info_text r info) is_closed (code_lines s.top is_closed ls))
-      (after_code s.top is_closed (read_blocks r (next_standing s (tree.FencedCode info is_closed ls)) bs))
-      (old.block_bytes d s tight silent (tree.FencedCode info is_closed ls))
-      (old.children_bytes d (next_standing s (tree.FencedCode info is_closed ls)) tight (s.top && not is_closed) bs)
+      ((twice (next_standing s (tree.Leaf (tree.IndentedCode ls))) tight bs).0 false (Some (page.Leaf (page.IndentedCode ls))) refl) l in
+      each_twice s tight (tree.Leaf (tree.IndentedCode ls)) bs each (λ before h l. each true before l)
+  twice s tight (tree.Cons (tree.Leaf (tree.FencedCode info is_closed ls)) bs) =
+      let each : EachSame s tight (tree.Cons (tree.Leaf (tree.FencedCode info is_closed ls)) bs) = λ silent before l.
+      siblings (place_in s tight) before (page.Leaf (page.FencedCode (info_text r info) is_closed (code_lines s.top is_closed ls)))
+      (after_code s.top is_closed (read_blocks r (next_standing s (tree.Leaf (tree.FencedCode info is_closed ls))) bs))
+      (old.block_bytes d s tight silent (tree.Leaf (tree.FencedCode info is_closed ls)))
+      (old.children_bytes d (next_standing s (tree.Leaf (tree.FencedCode info is_closed ls))) tight (s.top && not is_closed) bs)
       (fence_same s tight silent before info is_closed ls)
-      (after_same (s.first && false) s.top tight is_closed bs (twice (next_standing s (tree.FencedCode info is_closed ls)) tight bs).0
-      (twice (next_standing s (tree.FencedCode info is_closed ls)) tight bs).1
-      (Some (page.FencedCode (info_text r info) is_closed (code_lines s.top is_closed ls))) refl) l in
-      each_twice s tight (tree.FencedCode info is_closed ls) bs each (λ before h l. each true before l)
-  twice s tight (tree.Cons (tree.Html ls) bs) =
-      let each : EachSame s tight (tree.Cons (tree.Html ls) bs) = λ silent before l.
-      siblings (place_in s tight) before (page.Html ls) (read_blocks r (next_standing s (tree.Html ls)) bs)
-      (old.block_bytes d s tight silent (tree.Html ls)) (old.children_bytes d (next_standing s (tree.Html ls)) tight false bs)
+      (after_same (s.first && false) s.top tight is_closed bs (twice (next_standing s (tree.Leaf (tree.FencedCode info is_closed ls))) tight bs).0
+      (twice (next_standing s (tree.Leaf (tree.FencedCode info is_closed ls))) tight bs).1
+      (Some (page.Leaf (page.FencedCode (info_text r info) is_closed (code_lines s.top is_closed ls)))) refl) l in
+      each_twice s tight (tree.Leaf (tree.FencedCode info is_closed ls)) bs each (λ before h l. each true before l)
+  twice s tight (tree.Cons (tree.Leaf (tree.Html ls)) bs) =
+      let each : EachSame s tight (tree.Cons (tree.Leaf (tree.Html ls)) bs) = λ silent before l.
+      siblings (place_in s tight) before (page.Leaf (page.Html ls)) (read_blocks r (next_standing s (tree.Leaf (tree.Html ls))) bs)
+      (old.block_bytes d s tight silent (tree.Leaf (tree.Html ls))) (old.children_bytes d (next_standing s (tree.Leaf (tree.Html ls))) tight false bs)
       (λ l. html_added options.compile default ls (fresh default l))
-      ((twice (next_standing s (tree.Html ls)) tight bs).0 false (Some (page.Html ls)) refl) l in
-      each_twice s tight (tree.Html ls) bs each (λ before h l. each true before l)
-  twice s tight (tree.Cons (tree.Table ls) bs) =
-      let each : EachSame s tight (tree.Cons (tree.Table ls) bs) = λ silent before l.
-      siblings (place_in s tight) before (page.Table (read_table r ls)) (read_blocks r (next_standing s (tree.Table ls)) bs)
-      (old.block_bytes d s tight silent (tree.Table ls)) (old.children_bytes d (next_standing s (tree.Table ls)) tight false bs)
+      ((twice (next_standing s (tree.Leaf (tree.Html ls))) tight bs).0 false (Some (page.Leaf (page.Html ls))) refl) l in
+      each_twice s tight (tree.Leaf (tree.Html ls)) bs each (λ before h l. each true before l)
+  twice s tight (tree.Cons (tree.Leaf (tree.Table ls)) bs) =
+      let each : EachSame s tight (tree.Cons (tree.Leaf (tree.Table ls)) bs) = λ silent before l.
+      siblings (place_in s tight) before (page.Leaf (page.Table (read_table r ls))) (read_blocks r (next_standing s (tree.Leaf (tree.Table ls))) bs)
+      (old.block_bytes d s tight silent (tree.Leaf (tree.Table ls))) (old.children_bytes d (next_standing s (tree.Leaf (tree.Table ls))) tight false bs)
       (pieces_same options.compile default (table_pieces m (read_table r ls)))
-      ((twice (next_standing s (tree.Table ls)) tight bs).0 false (Some (page.Table (read_table r ls))) refl) l in
-      each_twice s tight (tree.Table ls) bs each (λ before h l. each true before l)
-  twice s tight (tree.Cons (tree.Definition label destination title) bs) =
-      let each : EachSame s tight (tree.Cons (tree.Definition label destination title) bs) = λ silent before l.
-      siblings (place_in s tight) before (page.Definition) (read_blocks r (next_standing s (tree.Definition label destination title)) bs)
-      (old.block_bytes d s tight silent (tree.Definition label destination title))
-      (old.children_bytes d (next_standing s (tree.Definition label destination title)) tight true bs)
+      ((twice (next_standing s (tree.Leaf (tree.Table ls))) tight bs).0 false (Some (page.Leaf (page.Table (read_table r ls)))) refl) l in
+      each_twice s tight (tree.Leaf (tree.Table ls)) bs each (λ before h l. each true before l)
+  twice s tight (tree.Cons (tree.Leaf (tree.Definition label destination title)) bs) =
+      let each : EachSame s tight (tree.Cons (tree.Leaf (tree.Definition label destination title)) bs) = λ silent before l.
+      siblings (place_in s tight) before ((page.Leaf page.Definition)) (read_blocks r (next_standing s (tree.Leaf (tree.Definition label destination title))) bs)
+      (old.block_bytes d s tight silent (tree.Leaf (tree.Definition label destination title)))
+      (old.children_bytes d (next_standing s (tree.Leaf (tree.Definition label destination title))) tight true bs)
       (λ o. refl)
-      ((twice (next_standing s (tree.Definition label destination title)) tight bs).0 true (Some (page.Definition)) refl) l in
-      each_twice s tight (tree.Definition label destination title) bs each (λ before h l. each true before l)
+      ((twice (next_standing s (tree.Leaf (tree.Definition label destination title))) tight bs).0 true (Some ((page.Leaf page.Definition))) refl) l in
+      each_twice s tight (tree.Leaf (tree.Definition label destination title)) bs each (λ before h l. each true before l)
   twice s tight (tree.Cons (tree.Holds Quote kids) bs) =
       let each : EachSame s tight (tree.Cons (tree.Holds Quote kids) bs) = λ silent before l.
-      siblings (place_in s tight) before (page.Quote (read_blocks r in_container kids)) (read_blocks r (next_standing s (tree.Holds Quote kids)) bs)
+      siblings (place_in s tight) before (page.Holds page.Quote (read_blocks r in_container kids)) (read_blocks r (next_standing s (tree.Holds Quote kids)) bs)
       (old.block_bytes d s tight silent (tree.Holds Quote kids)) (old.children_bytes d (next_standing s (tree.Holds Quote kids)) tight false bs)
       (quote_same s tight silent before kids ((twice in_container false kids).0 false None refl))
-      ((twice (next_standing s (tree.Holds Quote kids)) tight bs).0 false (Some (page.Quote (read_blocks r in_container kids))) refl) l in
+      ((twice (next_standing s (tree.Holds Quote kids)) tight bs).0 false (Some (page.Holds page.Quote (read_blocks r in_container kids))) refl) l in
       each_twice s tight (tree.Holds Quote kids) bs each (λ before h l. each true before l)
   twice s tight (tree.Cons (tree.Holds (Item item) kids) bs) =
       let each : EachSame s tight (tree.Cons (tree.Holds (Item item) kids) bs) = λ silent before l.
-      siblings (place_in s tight) before (page.Item (read_blocks r in_item kids)) (read_blocks r (next_standing s (tree.Holds (Item item) kids)) bs)
+      siblings (place_in s tight) before (page.Holds page.Item (read_blocks r in_item kids)) (read_blocks r (next_standing s (tree.Holds (Item item) kids)) bs)
       (old.block_bytes d s tight silent (tree.Holds (Item item) kids)) (old.children_bytes d (next_standing s (tree.Holds (Item item) kids)) tight false bs)
       (item_same s tight silent before item kids ((twice in_item tight kids).0 false None refl))
-      ((twice (next_standing s (tree.Holds (Item item) kids)) tight bs).0 false (Some (page.Item (read_blocks r in_item kids))) refl) l in
+      ((twice (next_standing s (tree.Holds (Item item) kids)) tight bs).0 false (Some (page.Holds page.Item (read_blocks r in_item kids))) refl) l in
       each_twice s tight (tree.Holds (Item item) kids) bs each (λ before h l. each true before l)
   twice s tight (tree.Cons (tree.Holds (Footnote label) kids) bs) =
       let b = tree.Holds (Footnote label) kids in

@@ -13,7 +13,7 @@ use Rattle.definition_text.specs.Columns.{code_byte, bytes_of}
 use Rattle.definition_text.specs.Encode.{encode}
 use Rattle.html_bytes.specs.RawHtml.{raw_bytes}
 use Rattle.definition_text.specs.BlockLines.{BlockLine, own_lines}
-use Rattle.definition_block.specs.Tree.{Block, Paragraph, Heading, Break, IndentedCode, FencedCode, Html, Table, Definition, Holds, Items, Ending, Blank}
+use Rattle.definition_block.specs.Tree.{Block, Leaf, Paragraph, Heading, Break, IndentedCode, FencedCode, Html, Table, Definition, Holds, Items, Ending, Blank}
 use Rattle.definition_block.specs.Tree.{Blocks, Nil, Cons, is_ending, blocks}
 use Rattle.definition_block.specs.Lists.{group_items, is_loose}
 use Rattle.definition_block.specs.Definitions.{document_targets}
@@ -87,9 +87,9 @@ fresh_unless said = if said then [] else Fresh ∷ []
 -- whether the ending after this child prints nothing: after a tight paragraph, after fenced code at the top that isn't closed, and after a definition of a link
 -- or a footnote; an ending that isn't there changes nothing
 abbrev pub silences : Bool → Bool → Bool → Block → Bool
-silences top tight silent (Paragraph ls) = tight
-silences top tight silent (FencedCode info closed ls) = top && not closed
-silences top tight silent (Definition label destination title) = true
+silences top tight silent (Leaf (Paragraph ls)) = tight
+silences top tight silent (Leaf (FencedCode info closed ls)) = top && not closed
+silences top tight silent (Leaf (Definition label destination title)) = true
 silences top tight silent (Holds (Footnote label) kids) = true
 silences top tight silent (Ending None) = silent
 silences top tight silent (Blank None) = silent
@@ -98,28 +98,28 @@ silences top tight silent b = false
 -- whether the last block of an item that prints anything, if it has one, is a tight paragraph; `before` says it of the blocks before
 abbrev pub ends_tight : Bool → Bool → Blocks → Bool
 ends_tight tight before Nil = before
-ends_tight tight before (Cons (Paragraph ls) bs) = ends_tight tight tight bs
-ends_tight tight before (Cons (Definition label destination title) bs) = ends_tight tight before bs
+ends_tight tight before (Cons (Leaf (Paragraph ls)) bs) = ends_tight tight tight bs
+ends_tight tight before (Cons (Leaf (Definition label destination title)) bs) = ends_tight tight before bs
 ends_tight tight before (Cons (Holds (Footnote label) kids) bs) = ends_tight tight before bs
 ends_tight tight before (Cons b bs) = ends_tight tight (before && is_ending b) bs
 
 abbrev mutual
   -- a child that stands here, of a tight item or not, after a child that silences an ending or not
   pub block_bytes : Document → Standing → Bool → Bool → Block → List Piece
-  block_bytes d standing tight silent (Paragraph ls) =
+  block_bytes d standing tight silent (Leaf (Paragraph ls)) =
       let text = paragraph_of d standing.first ls in
       if tight then text else Fresh ∷ Bytes (codes "<p>") ∷ text ++ Bytes (codes "</p>") ∷ []
-  block_bytes d standing tight silent (Heading rank ls) =
+  block_bytes d standing tight silent (Leaf (Heading rank ls)) =
       Fresh ∷ Bytes (heading_tag rank) ∷ text_of d ls ++ Bytes (heading_end rank) ∷ []
-  block_bytes d standing tight silent Break = Fresh ∷ Bytes (codes "<hr />") ∷ []
-  block_bytes d standing tight silent (IndentedCode ls) =
+  block_bytes d standing tight silent (Leaf Break) = Fresh ∷ Bytes (codes "<hr />") ∷ []
+  block_bytes d standing tight silent (Leaf (IndentedCode ls)) =
       Fresh ∷ Bytes (codes "<pre><code>") ∷ Bytes (code_of ls) ∷ Fresh ∷ Bytes (codes "</code></pre>") ∷ []
-  block_bytes d standing tight silent (FencedCode info closed ls) =
+  block_bytes d standing tight silent (Leaf (FencedCode info closed ls)) =
       Fresh ∷ Bytes (codes "<pre><code" ++ class_of d info ++ codes ">") ∷ fenced_content standing.top closed ls
       ++ Bytes (codes "</code></pre>") ∷ fresh_unless closed
-  block_bytes d standing tight silent (Html ls) = Fresh ∷ Bytes (html_of d.options.compile ls) ∷ []
-  block_bytes d standing tight silent (Table ls) = table_bytes d ls
-  block_bytes d standing tight silent (Definition label destination title) = []
+  block_bytes d standing tight silent (Leaf (Html ls)) = Fresh ∷ Bytes (html_of d.options.compile ls) ∷ []
+  block_bytes d standing tight silent (Leaf (Table ls)) = table_bytes d ls
+  block_bytes d standing tight silent (Leaf (Definition label destination title)) = []
   block_bytes d standing tight silent (Holds Quote kids) =
       Fresh ∷ Bytes (codes "<blockquote>") ∷ children_bytes d in_container false false kids ++ Fresh ∷ Bytes (codes "</blockquote>") ∷ []
   block_bytes d standing tight silent (Holds (Item item) kids) =

@@ -17,7 +17,7 @@ use Rattle.block_rows.proofs.TextLines.{front_bytes, later_bytes, line_bytes, te
 use Rattle.definition_text.specs.Columns.{bytes_of, is_byte, code_byte}
 use Rattle.definition_text.specs.Encode.{encode, encoded_byte}
 use Rattle.definition_text.specs.BlockLines.{BlockLine, own_lines, last_ending}
-use Rattle.definition_block.specs.Tree.{FencedCode}
+use Rattle.definition_block.specs.Tree.{Leaf, FencedCode}
 use Rattle.html_bytes.specs.Pieces.{Piece as PrinterView, Bytes, Fresh}
 use Rattle.html_bytes.specs.Layout.{LayoutState, lay, with_text}
 use Rattle.markdown_options.specs.declared.configuration.CompileOptions.{CompileOptions}
@@ -85,7 +85,7 @@ pub open_laid : (d : Document) (e inner after : LineEnding) (info : List ℕ) (t
     (out start content end : LayoutState)
     → closed ≡ false → inner ≡ e → after ≡ e → start ≡ tagged d e info out
     → content ≡ layout_after d.options.compile inner start (fenced_content top closed ls) → end ≡ with_bytes (codes "</code></pre>") content
-    → with_fresh (ending_bytes after) end ≡ layout_after d.options.compile e out (block_bytes d (standing_at top) false false (FencedCode info closed ls))
+    → with_fresh (ending_bytes after) end ≡ layout_after d.options.compile e out (block_bytes d (standing_at top) false false (Leaf (FencedCode info closed ls)))
 open_laid d e inner after info top closed ls out start content end not_closed same_inner same_after is_start is_content is_end =
     let o = d.options.compile in
     let first = tagged d e info out in
@@ -101,7 +101,7 @@ pub closed_laid : (d : Document) (e inner : LineEnding) (info : List ℕ) (top c
     → closed ≡ true → inner ≡ e → start ≡ tagged d e info out
     → content ≡ layout_after d.options.compile inner start (fenced_content top closed ls)
     → with_bytes (codes "</code></pre>") content
-    ≡ layout_after d.options.compile e out (block_bytes d (standing_at top) false false (FencedCode info closed ls))
+    ≡ layout_after d.options.compile e out (block_bytes d (standing_at top) false false (Leaf (FencedCode info closed ls)))
 closed_laid d e inner info top closed ls out start content is_closed same_inner is_start is_content =
     let o = d.options.compile in
     let first = tagged d e info out in
@@ -176,14 +176,14 @@ clear_info pieces some has = subst HaveNoEnding (info_is pieces some has.0) has.
 pub code_pieces : (d : Document) (top : Bool) (s : Standing) (tight silent closed : Bool) (count : ℕ) (pieces : List Piece)
     → top ≡ s.top → 0 < length pieces → HasInfo pieces
     → block_bytes d (standing_at top) false false
-    (FencedCode (get_or pieces 0 no_piece).text.now closed (piece_lines (take count (take (length pieces - 1) (drop 1 pieces)))))
-    ≡ block_bytes d s tight silent (FencedCode (first_codes (piece_lines pieces)) closed (take count (drop 1 (piece_lines pieces))))
+    (Leaf (FencedCode (get_or pieces 0 no_piece).text.now closed (piece_lines (take count (take (length pieces - 1) (drop 1 pieces))))))
+    ≡ block_bytes d s tight silent (Leaf (FencedCode (first_codes (piece_lines pieces)) closed (take count (drop 1 (piece_lines pieces)))))
 code_pieces d top s tight silent closed count pieces same some has =
     let info = (get_or pieces 0 no_piece).text.now in
     let content = take count (drop 1 (piece_lines pieces)) in
-    ap (λ ls. block_bytes d (standing_at top) false false (FencedCode info closed ls)) (content_is count pieces)
-    ∙ ap (λ (top : Bool). block_bytes d (standing_at top) false false (FencedCode info closed content)) same
-    ∙ ap (λ x. block_bytes d s tight silent (FencedCode x closed content)) (sym (info_is pieces some has.0))
+    ap (λ ls. block_bytes d (standing_at top) false false (Leaf (FencedCode info closed ls))) (content_is count pieces)
+    ∙ ap (λ (top : Bool). block_bytes d (standing_at top) false false (Leaf (FencedCode info closed content))) same
+    ∙ ap (λ x. block_bytes d s tight silent (Leaf (FencedCode x closed content))) (sym (info_is pieces some has.0))
 
 -- the text of the second piece is that of the lines
 pub second_codes : (pieces : List Piece) → 2 ≤ length pieces → ((k : ℕ) → get_or (get_or pieces 1 no_piece).text.now k 0 < 256)
@@ -195,11 +195,11 @@ second_codes (a ∷ b ∷ others) enough bytes = bytes_owed b.owed b.text.now by
 pub whole_code_pieces : (d : Document) (s : Standing) (tight silent : Bool) (pieces : List Piece) → 2 ≤ length pieces → HasInfo pieces
     → ((k : ℕ) → get_or (get_or pieces 1 no_piece).text.now k 0 < 256)
     → block_bytes d (standing_at s.top) false false
-    (FencedCode (get_or pieces 0 no_piece).text.now true (whole_lines (get_or pieces 1 no_piece).text.now))
+    (Leaf (FencedCode (get_or pieces 0 no_piece).text.now true (whole_lines (get_or pieces 1 no_piece).text.now)))
     ≡ block_bytes d s tight silent
-    (FencedCode (first_codes (piece_lines pieces)) true (whole_lines (bytes_of (first_codes (drop 1 (piece_lines pieces))))))
+    (Leaf (FencedCode (first_codes (piece_lines pieces)) true (whole_lines (bytes_of (first_codes (drop 1 (piece_lines pieces)))))))
 whole_code_pieces d s tight silent pieces enough has bytes =
     let info = first_codes (piece_lines pieces) in
-    ap (λ x. block_bytes d s tight silent (FencedCode x true (whole_lines (get_or pieces 1 no_piece).text.now)))
+    ap (λ x. block_bytes d s tight silent (Leaf (FencedCode x true (whole_lines (get_or pieces 1 no_piece).text.now))))
     (sym (info_is pieces (omega (arith, enough)) has.0))
-    ∙ ap (λ x. block_bytes d s tight silent (FencedCode info true (whole_lines x))) (sym (second_codes pieces enough bytes))
+    ∙ ap (λ x. block_bytes d s tight silent (Leaf (FencedCode info true (whole_lines x)))) (sym (second_codes pieces enough bytes))

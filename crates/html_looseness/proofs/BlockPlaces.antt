@@ -1,7 +1,7 @@
 -- What the pass over the rows of blocks finds.
 use Rattle.std.proofs.Common.{◌≡◌, List, [], ◌∷◌, ◌++◌, refl, sym, ap, ◌∙◌, append_assoc}
 use Rattle.definition_block.specs.Container.{Container, Quote, Item, Footnote}
-use Rattle.definition_block.specs.Tree.{Block, Paragraph, Heading, Break, IndentedCode, FencedCode, Html, Table, Definition, Holds, Items, Ending, Blank}
+use Rattle.definition_block.specs.Tree.{Block, Leaf, Paragraph, Heading, Break, IndentedCode, FencedCode, Html, Table, Definition, Holds, Items, Ending, Blank}
 use Rattle.definition_block.specs.Tree.{Blocks, Nil, Cons}
 use Rattle.definition_block.specs.Lists.{has_gap, put_before, group_items, grouped_block}
 use Rattle.block_rows.specs.Rows.{BlockRow, Exit, start_row, rows_of, block_rows}
@@ -21,14 +21,14 @@ own_place (Item item) kids gs = place_at (ahead_of gs) item.marker (has_gap (gro
 -- those of a block before these, and of blocks
 abbrev mutual
   pub places_in : Block → Blocks → List Place
-  places_in (Paragraph ls) gs = []
-  places_in (Heading rank ls) gs = []
-  places_in Break gs = []
-  places_in (IndentedCode ls) gs = []
-  places_in (FencedCode info closed ls) gs = []
-  places_in (Html ls) gs = []
-  places_in (Table ls) gs = []
-  places_in (Definition label destination title) gs = []
+  places_in (Leaf (Paragraph ls)) gs = []
+  places_in (Leaf (Heading rank ls)) gs = []
+  places_in (Leaf Break) gs = []
+  places_in (Leaf (IndentedCode ls)) gs = []
+  places_in (Leaf (FencedCode info closed ls)) gs = []
+  places_in (Leaf (Html ls)) gs = []
+  places_in (Leaf (Table ls)) gs = []
+  places_in (Leaf (Definition label destination title)) gs = []
   places_in (Holds c kids) gs = own_place c kids gs ++ places_within kids
   places_in (Items items) gs = []
   places_in (Ending ending) gs = []
@@ -76,14 +76,14 @@ more_passed b bs h k outer places =
 
 mutual
   pub block_passed : (b : Block) → IsPrintable b → BlockPassed b
-  block_passed (Paragraph ls) h gs outer places = refl
-  block_passed (Heading rank ls) h gs outer places = refl
-  block_passed Break h gs outer places = refl
-  block_passed (IndentedCode ls) h gs outer places = refl
-  block_passed (FencedCode info closed ls) h gs outer places = refl
-  block_passed (Html ls) h gs outer places = refl
-  block_passed (Table ls) h gs outer places = refl
-  block_passed (Definition label destination title) h gs outer places = refl
+  block_passed (Leaf (Paragraph ls)) h gs outer places = refl
+  block_passed (Leaf (Heading rank ls)) h gs outer places = refl
+  block_passed (Leaf Break) h gs outer places = refl
+  block_passed (Leaf (IndentedCode ls)) h gs outer places = refl
+  block_passed (Leaf (FencedCode info closed ls)) h gs outer places = refl
+  block_passed (Leaf (Html ls)) h gs outer places = refl
+  block_passed (Leaf (Table ls)) h gs outer places = refl
+  block_passed (Leaf (Definition label destination title)) h gs outer places = refl
   block_passed (Holds c kids) h gs outer places = holds_passed c kids h.0 (blocks_passed kids h.1) gs outer places
   block_passed (Items items) h gs outer places = absurd h
   block_passed (Ending e) h gs outer places = ap (λ (a : Ahead). pass_at a outer places) (sym (ahead_of_ending e gs))

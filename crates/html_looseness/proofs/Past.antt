@@ -1,7 +1,7 @@
 -- A level after blocks in it.
 use Rattle.std.proofs.Common.{◌≡◌, Bool, true, false, ◌&&◌, refl, ap, ◌∙◌}
 use Rattle.definition_block.specs.Container.{Quote, Item, Footnote}
-use Rattle.definition_block.specs.Tree.{Block, Paragraph, Heading, Break, IndentedCode, FencedCode, Html, Table, Definition, Holds, Items, Ending, Blank}
+use Rattle.definition_block.specs.Tree.{Block, Leaf, Paragraph, Heading, Break, IndentedCode, FencedCode, Html, Table, Definition, Holds, Items, Ending, Blank}
 use Rattle.definition_block.specs.Tree.{Blocks, Nil, Cons}
 use Rattle.html_bytes.specs.Html.{ends_tight}
 use Rattle.block_rows.specs.Rows.{Single}
@@ -26,14 +26,14 @@ and_true false = refl
 
 -- one more block
 ends_tight_more : (tight before : Bool) (b : Block) (bs : Blocks) → ends_tight tight before (Cons b bs) ≡ ends_tight tight (plain_after tight before b) bs
-ends_tight_more tight before (Paragraph ls) bs = refl
-ends_tight_more tight before (Heading rank ls) bs = ap (λ x. ends_tight tight x bs) (and_false before)
-ends_tight_more tight before Break bs = ap (λ x. ends_tight tight x bs) (and_false before)
-ends_tight_more tight before (IndentedCode ls) bs = ap (λ x. ends_tight tight x bs) (and_false before)
-ends_tight_more tight before (FencedCode info closed ls) bs = ap (λ x. ends_tight tight x bs) (and_false before)
-ends_tight_more tight before (Html ls) bs = ap (λ x. ends_tight tight x bs) (and_false before)
-ends_tight_more tight before (Table ls) bs = ap (λ x. ends_tight tight x bs) (and_false before)
-ends_tight_more tight before (Definition label destination title) bs = refl
+ends_tight_more tight before (Leaf (Paragraph ls)) bs = refl
+ends_tight_more tight before (Leaf (Heading rank ls)) bs = ap (λ x. ends_tight tight x bs) (and_false before)
+ends_tight_more tight before (Leaf Break) bs = ap (λ x. ends_tight tight x bs) (and_false before)
+ends_tight_more tight before (Leaf (IndentedCode ls)) bs = ap (λ x. ends_tight tight x bs) (and_false before)
+ends_tight_more tight before (Leaf (FencedCode info closed ls)) bs = ap (λ x. ends_tight tight x bs) (and_false before)
+ends_tight_more tight before (Leaf (Html ls)) bs = ap (λ x. ends_tight tight x bs) (and_false before)
+ends_tight_more tight before (Leaf (Table ls)) bs = ap (λ x. ends_tight tight x bs) (and_false before)
+ends_tight_more tight before (Leaf (Definition label destination title)) bs = refl
 ends_tight_more tight before (Holds Quote kids) bs = ap (λ x. ends_tight tight x bs) (and_false before)
 ends_tight_more tight before (Holds (Item item) kids) bs = ap (λ x. ends_tight tight x bs) (and_false before)
 ends_tight_more tight before (Holds (Footnote label) kids) bs = refl

@@ -1,7 +1,7 @@
 -- What holds a row, and what a block prints in it.
 use Rattle.std.specs.Prelude.{Bool, true, false, ◌&&◌, List, []}
 use Rattle.definition_block.specs.Container.{Quote, Item, Footnote}
-use Rattle.definition_block.specs.Tree.{Block, Paragraph, Heading, Break, IndentedCode, FencedCode, Html, Table, Definition, Holds, Items, Ending, Blank}
+use Rattle.definition_block.specs.Tree.{Block, Leaf, Paragraph, Heading, Break, IndentedCode, FencedCode, Html, Table, Definition, Holds, Items, Ending, Blank}
 use Rattle.definition_block.specs.Tree.{is_ending}
 use Rattle.definition_page.specs.Read.{Standing}
 use Rattle.html_bytes.specs.Pieces.{Piece}
@@ -61,14 +61,14 @@ after_footnote l = level_of l.holder l.tight l.plain true (l.first && false)
 
 -- whether the last block that prints anything, if there is any, is a tight paragraph, after one more
 abbrev pub plain_after : Bool → Bool → Block → Bool
-plain_after tight before (Paragraph ls) = tight
-plain_after tight before (Heading rank ls) = false
-plain_after tight before Break = false
-plain_after tight before (IndentedCode ls) = false
-plain_after tight before (FencedCode info closed ls) = false
-plain_after tight before (Html ls) = false
-plain_after tight before (Table ls) = false
-plain_after tight before (Definition label destination title) = before
+plain_after tight before (Leaf (Paragraph ls)) = tight
+plain_after tight before (Leaf (Heading rank ls)) = false
+plain_after tight before (Leaf Break) = false
+plain_after tight before (Leaf (IndentedCode ls)) = false
+plain_after tight before (Leaf (FencedCode info closed ls)) = false
+plain_after tight before (Leaf (Html ls)) = false
+plain_after tight before (Leaf (Table ls)) = false
+plain_after tight before (Leaf (Definition label destination title)) = before
 plain_after tight before (Holds Quote kids) = false
 plain_after tight before (Holds (Item item) kids) = false
 plain_after tight before (Holds (Footnote label) kids) = before

@@ -6,7 +6,7 @@ use Rattle.definition_block.specs.GfmFootnoteDefinition.{is_footnote_label}
 use Rattle.definition_text.specs.Columns.{is_byte}
 use Rattle.text_pieces.specs.ParagraphLines.{HaveNoEnding, AreLines}
 use Rattle.definition_text.specs.BlockLines.{BlockLine}
-use Rattle.definition_block.specs.Tree.{Block, Paragraph, Heading, Break, IndentedCode, FencedCode, Html, Table, Definition, Holds, Items, Ending, Blank}
+use Rattle.definition_block.specs.Tree.{Block, Leaf, Paragraph, Heading, Break, IndentedCode, FencedCode, Html, Table, Definition, Holds, Items, Ending, Blank}
 use Rattle.definition_block.specs.Tree.{Blocks, Nil, Cons}
 use Rattle.block_rows.specs.Rows.{BlockRow, Single, EnterQuote, EnterItem, EnterFootnote, Exit}
 
@@ -35,14 +35,14 @@ IsTable ls = (2 ≤ length ls) × AreClear ls
 -- ending, a table has such lines, and so it is in each container. Lists are made when they are printed.
 abbrev mutual
   pub IsPrintable : Block → Type 0
-  IsPrintable (Paragraph ls) = AreLines ls
-  IsPrintable (Heading rank ls) = ((1 ≤ rank) × (rank ≤ 6)) × AreHeadingLines ls
-  IsPrintable Break = Unit {0}
-  IsPrintable (IndentedCode ls) = Unit {0}
-  IsPrintable (FencedCode info closed ls) = (list_all is_byte info ≡ true) × HaveNoEnding info
-  IsPrintable (Html ls) = Unit {0}
-  IsPrintable (Table ls) = IsTable ls
-  IsPrintable (Definition label destination title) = Unit {0}
+  IsPrintable (Leaf (Paragraph ls)) = AreLines ls
+  IsPrintable (Leaf (Heading rank ls)) = ((1 ≤ rank) × (rank ≤ 6)) × AreHeadingLines ls
+  IsPrintable (Leaf Break) = Unit {0}
+  IsPrintable (Leaf (IndentedCode ls)) = Unit {0}
+  IsPrintable (Leaf (FencedCode info closed ls)) = (list_all is_byte info ≡ true) × HaveNoEnding info
+  IsPrintable (Leaf (Html ls)) = Unit {0}
+  IsPrintable (Leaf (Table ls)) = IsTable ls
+  IsPrintable (Leaf (Definition label destination title)) = Unit {0}
   IsPrintable (Holds c kids) = IsPrintableContainer c × CanBePrinted kids
   IsPrintable (Items items) = ⊥
   IsPrintable (Ending ending) = Unit {0}

@@ -5,7 +5,7 @@ use Rattle.std.specs.List.{fold}
 use Rattle.std.proofs.lemmas.List.Sums.{fold-append}
 use Rattle.markdown_options.specs.declared.container.Item.{Item as ItemOf}
 use Rattle.definition_block.specs.Container.{Quote, Item, Footnote}
-use Rattle.definition_block.specs.Tree.{Block, Paragraph, Heading, Break, IndentedCode, FencedCode, Html, Table, Definition, Holds, Items, Ending, Blank}
+use Rattle.definition_block.specs.Tree.{Block, Leaf, Paragraph, Heading, Break, IndentedCode, FencedCode, Html, Table, Definition, Holds, Items, Ending, Blank}
 use Rattle.definition_block.specs.Tree.{Blocks, Nil, Cons}
 use Rattle.definition_block.specs.Lists.{after_endings, has_gap, is_loose, list_marker, put_before, group_items, grouped_block}
 use Rattle.html_bytes.specs.Pieces.{Piece, Bytes, Eol, Fresh, NoteStart, NoteEnd, print}
@@ -271,14 +271,14 @@ module _ (d : Document) (default : List ℕ) where
   KidsPrinted b = Unit {0}
 
   step : (b : Block) (bs : Blocks) → IsPrintable b → KidsPrinted b → ChildrenPrinted bs → ListPrinted bs → StepPrinted b bs
-  step (Paragraph ls) bs h k children list = leaf_step (Paragraph ls) bs children
-  step (Heading rank ls) bs h k children list = leaf_step (Heading rank ls) bs children
-  step Break bs h k children list = leaf_step Break bs children
-  step (IndentedCode ls) bs h k children list = leaf_step (IndentedCode ls) bs children
-  step (FencedCode info closed ls) bs h k children list = leaf_step (FencedCode info closed ls) bs children
-  step (Html ls) bs h k children list = leaf_step (Html ls) bs children
-  step (Table ls) bs h k children list = leaf_step (Table ls) bs children
-  step (Definition label destination title) bs h k children list = leaf_step (Definition label destination title) bs children
+  step (Leaf (Paragraph ls)) bs h k children list = leaf_step (Leaf (Paragraph ls)) bs children
+  step (Leaf (Heading rank ls)) bs h k children list = leaf_step (Leaf (Heading rank ls)) bs children
+  step (Leaf Break) bs h k children list = leaf_step (Leaf Break) bs children
+  step (Leaf (IndentedCode ls)) bs h k children list = leaf_step (Leaf (IndentedCode ls)) bs children
+  step (Leaf (FencedCode info closed ls)) bs h k children list = leaf_step (Leaf (FencedCode info closed ls)) bs children
+  step (Leaf (Html ls)) bs h k children list = leaf_step (Leaf (Html ls)) bs children
+  step (Leaf (Table ls)) bs h k children list = leaf_step (Leaf (Table ls)) bs children
+  step (Leaf (Definition label destination title)) bs h k children list = leaf_step (Leaf (Definition label destination title)) bs children
   step (Holds Quote kids) bs h k children list = quote_step kids bs k children
   step (Holds (Item item) kids) bs h k children list = item_step item kids bs h.0 k children list
   step (Holds (Footnote label) kids) bs h k children list = footnote_step label kids bs k children
@@ -327,14 +327,14 @@ module _ (d : Document) (default : List ℕ) where
 
   mutual
     pub kids_printed : (b : Block) → IsPrintable b → KidsPrinted b
-    kids_printed (Paragraph ls) h = tt
-    kids_printed (Heading rank ls) h = tt
-    kids_printed Break h = tt
-    kids_printed (IndentedCode ls) h = tt
-    kids_printed (FencedCode info closed ls) h = tt
-    kids_printed (Html ls) h = tt
-    kids_printed (Table ls) h = tt
-    kids_printed (Definition label destination title) h = tt
+    kids_printed (Leaf (Paragraph ls)) h = tt
+    kids_printed (Leaf (Heading rank ls)) h = tt
+    kids_printed (Leaf Break) h = tt
+    kids_printed (Leaf (IndentedCode ls)) h = tt
+    kids_printed (Leaf (FencedCode info closed ls)) h = tt
+    kids_printed (Leaf (Html ls)) h = tt
+    kids_printed (Leaf (Table ls)) h = tt
+    kids_printed (Leaf (Definition label destination title)) h = tt
     kids_printed (Holds c kids) h = (blocks_printed kids h.1).children
     kids_printed (Items items) h = tt
     kids_printed (Ending ending) h = tt

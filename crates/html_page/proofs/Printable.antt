@@ -37,9 +37,9 @@ use Rattle.block_rows.proofs.OpenLines.{clear_bare, clear_start, clear_continue,
 use Rattle.markdown_options.specs.declared.line_ending.LineEnding.{LineEnding}
 use Rattle.markdown_options.specs.declared.line_ending.LineEnding.TheVariants.{LineFeed}
 use Rattle.definition_text.specs.BlockLines.{BlockLine, own_lines}
-use Rattle.definition_block.specs.Tree.{leaf_text, open_text, beside_in, beside_line, in_container, Block, Paragraph, Heading, Break, IndentedCode, FencedCode}
+use Rattle.definition_block.specs.Tree.{leaf_text, open_text, beside_in, beside_line, in_container, Block, Leaf, Paragraph, Heading, Break, IndentedCode, FencedCode}
 use Rattle.definition_block.specs.Tree.{Html, Table, Definition, Holds, Items, Ending, Blank, Blocks, Nil, Cons, join, one, block_and_ending, OpenLeaf, Text}
-use Rattle.definition_block.specs.Tree.{Indented, Fenced, OpenHtml, OpenTable, Opening, Leaf, Inside, Tree, tree, nothing, empty_tree, paragraph_of, close_leaf}
+use Rattle.definition_block.specs.Tree.{Indented, Fenced, OpenHtml, OpenTable, Opening, At, Inside, Tree, tree, nothing, empty_tree, paragraph_of, close_leaf}
 use Rattle.definition_block.specs.Tree.{close, blanks, is_ending, all_endings, front, trailing, without_last, last_of, container_block, has_text, has_table}
 use Rattle.definition_block.specs.Tree.{is_some_line}
 use Rattle.definition_block.specs.Tree.{table_of, tabled, makes_table, with_line, rest_line, html_with, takes, indented_tree, fence_tree, html_tree, atx_tree}
@@ -186,14 +186,14 @@ joined Nil others h k = k
 joined (Cons b bs) others h k = (h.0, joined bs others h.1 k)
 
 ending_printable : (b : Block) → is_ending b ≡ true → IsPrintable b
-ending_printable (Paragraph ls) h = let wrong : false ≡ true = h in cc
-ending_printable (Heading rank ls) h = let wrong : false ≡ true = h in cc
-ending_printable Break h = tt
-ending_printable (IndentedCode ls) h = tt
-ending_printable (FencedCode info blocks_at_end ls) h = let wrong : false ≡ true = h in cc
-ending_printable (Html ls) h = let wrong : false ≡ true = h in cc
-ending_printable (Table ls) h = let wrong : false ≡ true = h in cc
-ending_printable (Definition label destination title) h = let wrong : false ≡ true = h in cc
+ending_printable (Leaf (Paragraph ls)) h = let wrong : false ≡ true = h in cc
+ending_printable (Leaf (Heading rank ls)) h = let wrong : false ≡ true = h in cc
+ending_printable (Leaf Break) h = tt
+ending_printable (Leaf (IndentedCode ls)) h = tt
+ending_printable (Leaf (FencedCode info blocks_at_end ls)) h = let wrong : false ≡ true = h in cc
+ending_printable (Leaf (Html ls)) h = let wrong : false ≡ true = h in cc
+ending_printable (Leaf (Table ls)) h = let wrong : false ≡ true = h in cc
+ending_printable (Leaf (Definition label destination title)) h = let wrong : false ≡ true = h in cc
 ending_printable (Holds c kids) h = let wrong : false ≡ true = h in cc
 ending_printable (Items items) h = let wrong : false ≡ true = h in cc
 ending_printable (Ending ending) h = tt
@@ -323,7 +323,7 @@ LeafFits (OpenHtml kind ls) = Unit {0}
 LeafFits (OpenTable ls) = IsTable ls
 
 abbrev Fits : Opening → Type 0
-Fits (Leaf leaf) = LeafFits leaf
+Fits (At leaf) = LeafFits leaf
 Fits (Inside c kids inner) = IsPrintableContainer c × CanBePrinted kids × Fits inner
 
 record TreeFits (t : Tree) : Type 0 where
@@ -349,7 +349,7 @@ leaf_closed on (OpenHtml kind ls) h clean = (tt, (tt, tt))
 leaf_closed on (OpenTable ls) h clean = (own_table ls h, (tt, tt))
 
 close_printable : (on : Constructs) (now : Opening) → Fits now → AreLines (open_text now) → CanBePrinted (close on now)
-close_printable on (Leaf leaf) h clean = leaf_closed on leaf h clean
+close_printable on (At leaf) h clean = leaf_closed on leaf h clean
 close_printable on (Inside c kids inner) h clean =
     holds_printable c (join kids (close on inner)) h.0 (joined kids (close on inner) h.1 (close_printable on inner h.2 clean))
 
@@ -362,11 +362,11 @@ after_fits : (on : Constructs) (away : Opening) (t : Tree) → CanClose away →
 after_fits on away t h k = record { done = joined (close on away) t.done (close_printable on away h.fits h.lines) k.done; now = k.now }
 
 with_line_fits : (line : BlockLine) (now : Opening) → HaveNoEnding line.codes → Fits now → Fits (with_line line now)
-with_line_fits line (Leaf (Text ls)) clear h = tt
-with_line_fits line (Leaf (Indented ls pending)) clear h = tt
-with_line_fits line (Leaf (Fenced fence opening ls)) clear h = h
-with_line_fits line (Leaf (OpenHtml kind ls)) clear h = tt
-with_line_fits line (Leaf (OpenTable ls)) clear h = longer_table ls line h clear
+with_line_fits line (At (Text ls)) clear h = tt
+with_line_fits line (At (Indented ls pending)) clear h = tt
+with_line_fits line (At (Fenced fence opening ls)) clear h = h
+with_line_fits line (At (OpenHtml kind ls)) clear h = tt
+with_line_fits line (At (OpenTable ls)) clear h = longer_table ls line h clear
 with_line_fits line (Inside c kids inner) clear h = (h.0, h.1, with_line_fits line inner clear h.2)
 
 -- ---- a line
@@ -375,8 +375,8 @@ module _ (on : Constructs) (e : Beside) (r : Rest) where
   html_with_fits : (kind : ℕ) (ls : List BlockLine) → TreeFits (html_with kind ls r e)
   html_with_fits kind ls =
       let more = ls ++ rest_line r e ∷ [] in
-      choose TreeFits (html_ends_here kind r) (tree (block_and_ending (Html (own_lines more)) e.ending) nothing) (tree Nil (Leaf (OpenHtml kind more)))
-      (fits (tree (block_and_ending (Html (own_lines more)) e.ending) nothing) (tt, (tt, tt)) tt) (fits (tree Nil (Leaf (OpenHtml kind more))) tt tt)
+      choose TreeFits (html_ends_here kind r) (tree (block_and_ending (Leaf (Html (own_lines more))) e.ending) nothing) (tree Nil (At (OpenHtml kind more)))
+      (fits (tree (block_and_ending (Leaf (Html (own_lines more))) e.ending) nothing) (tt, (tt, tt)) tt) (fits (tree Nil (At (OpenHtml kind more))) tt tt)
 
   takes_fits : (leaf : OpenLeaf) → LeafFits leaf → OptionFits (takes on leaf r e)
   takes_fits (Text ls) h = record { tree = tt }
@@ -403,7 +403,7 @@ module _ (on : Constructs) (e : Beside) (r : Rest) where
       → OptionFits (heading_of rank definitions ls e.ending)
   heading_of_fits rank definitions [] h k clean = record { tree = tt }
   heading_of_fits rank definitions (l ∷ ls) h k clean =
-      let heading = block_and_ending (Heading rank (own_lines (l ∷ ls))) e.ending in
+      let heading = block_and_ending (Leaf (Heading rank (own_lines (l ∷ ls)))) e.ending in
       some_fits (tree (join definitions heading) nothing) (joined definitions heading k ((h, heading_lines (l ∷ ls) clean), (tt, tt))) tt
 
   underlined_fits : (o : Option ℕ) (ls : List BlockLine) → RankFits o → AreLines ls → OptionFits (option_and_then (underlined on ls e.ending) o)
@@ -413,7 +413,7 @@ module _ (on : Constructs) (e : Beside) (r : Rest) where
 
   -- the lines of the open paragraph where the line is in all of its containers
   lines_here : (away : Opening) → AreLines (open_text away) → AreLines (text_here away)
-  lines_here (Leaf leaf) clean = clean
+  lines_here (At leaf) clean = clean
   lines_here (Inside c kids inner) clean = tt
 
   turns_fits : (away : Opening) → AreLines (open_text away) → OptionFits (turns on away r e.ending)
@@ -423,7 +423,7 @@ module _ (on : Constructs) (e : Beside) (r : Rest) where
   text_fits away clear h =
       let line = rest_line r e in
       choose TreeFits (has_text away || has_table away) _ _ (fits (tree Nil (with_line line away)) tt (with_line_fits line away (clear_block r clear) h.fits))
-      (after_fits on away (tree Nil (Leaf (Text (line ∷ [])))) h (fits (tree Nil (Leaf (Text (line ∷ [])))) tt tt))
+      (after_fits on away (tree Nil (At (Text (line ∷ [])))) h (fits (tree Nil (At (Text (line ∷ [])))) tt tt))
 
   tabled_fits : (o : Option (List AlignKind)) (ls : List BlockLine) → HaveNoEnding r → AreLines ls → OptionFits (option_and_then (tabled on ls (rest_line r e)) o)
   tabled_fits None ls clear clean = record { tree = tt }
@@ -489,9 +489,9 @@ goes_on_fits on e r None c kids inner more clear some h k = new_fits on e (lengt
 goes_on_fits on e r (Some line) c kids inner more clear some h k = in_container_fits on e r c kids (more line) h.fits.0 h.fits.1 (k line some)
 
 grow_fits : (on : Constructs) (e : Beside) (now : Opening) (r : Rest) → HaveNoEnding r → CanClose now → TreeFits (grow on e now r)
-grow_fits on e (Leaf leaf) r clear h =
-    where_unwrapped TreeFits (takes on leaf r e) (new (length r) on true (Leaf leaf) e r) (where_fits on e r (takes on leaf r e) (takes_fits on e r leaf h.fits))
-    (new_fits on e (length r) true (Leaf leaf) r clear h)
+grow_fits on e (At leaf) r clear h =
+    where_unwrapped TreeFits (takes on leaf r e) (new (length r) on true (At leaf) e r) (where_fits on e r (takes on leaf r e) (takes_fits on e r leaf h.fits))
+    (new_fits on e (length r) true (At leaf) r clear h)
 grow_fits on e (Inside c kids inner) r clear h =
     goes_on_fits on e r (continues on c (began_blank kids inner) r) c kids inner (λ line. grow on (beside_in line.before e) inner line.rest) clear
     (clear_continue on c (began_blank kids inner) r clear) h

@@ -4,7 +4,7 @@ use Rattle.std.specs.List.{fold, All}
 use Rattle.std.proofs.lemmas.List.Sums.{fold-append}
 use Rattle.std.proofs.lemmas.List.Elements.{All-nil, All-cons, All-head, All-tail}
 use Rattle.definition_block.specs.Container.{Container, Quote, Item, Footnote}
-use Rattle.definition_block.specs.Tree.{Block, Paragraph, Heading, Break, IndentedCode, FencedCode, Html, Table, Definition, Holds, Items, Ending, Blank}
+use Rattle.definition_block.specs.Tree.{Block, Leaf, Paragraph, Heading, Break, IndentedCode, FencedCode, Html, Table, Definition, Holds, Items, Ending, Blank}
 use Rattle.definition_block.specs.Tree.{Blocks, Nil, Cons}
 use Rattle.definition_block.specs.Lists.{group_items}
 use Rattle.html_bytes.specs.Layout.{LayoutState, with_footnotes, lay, nothing_laid, page_layout}
@@ -28,14 +28,14 @@ abbrev blank_after : Bool → List BlockRow → Bool
 blank_after blank rows = fold (λ (before : Bool) row. is_blank_row row) blank rows
 
 block_ends_blank : (b : Block) (blank : Bool) → IsPrintable b → blank_after blank (block_rows b) ≡ is_blank_ending b
-block_ends_blank (Paragraph ls) blank h = refl
-block_ends_blank (Heading rank ls) blank h = refl
-block_ends_blank Break blank h = refl
-block_ends_blank (IndentedCode ls) blank h = refl
-block_ends_blank (FencedCode info closed ls) blank h = refl
-block_ends_blank (Html ls) blank h = refl
-block_ends_blank (Table ls) blank h = refl
-block_ends_blank (Definition label destination title) blank h = refl
+block_ends_blank (Leaf (Paragraph ls)) blank h = refl
+block_ends_blank (Leaf (Heading rank ls)) blank h = refl
+block_ends_blank (Leaf Break) blank h = refl
+block_ends_blank (Leaf (IndentedCode ls)) blank h = refl
+block_ends_blank (Leaf (FencedCode info closed ls)) blank h = refl
+block_ends_blank (Leaf (Html ls)) blank h = refl
+block_ends_blank (Leaf (Table ls)) blank h = refl
+block_ends_blank (Leaf (Definition label destination title)) blank h = refl
 block_ends_blank (Holds c kids) blank h =
     fold-append (λ (before : Bool) row. is_blank_row row) (is_blank_row (start_row c)) (rows_of kids) (Exit ∷ [])
 block_ends_blank (Items items) blank h = absurd h
@@ -81,14 +81,14 @@ entered_printable (Footnote label) h = h
 
 mutual
   pub printable_block : (b : Block) → IsPrintable b → ArePrintable (block_rows b)
-  printable_block (Paragraph ls) h = all_one (Single (Paragraph ls)) h
-  printable_block (Heading rank ls) h = all_one (Single (Heading rank ls)) h
-  printable_block Break h = all_one (Single Break) h
-  printable_block (IndentedCode ls) h = all_one (Single (IndentedCode ls)) h
-  printable_block (FencedCode info closed ls) h = all_one (Single (FencedCode info closed ls)) h
-  printable_block (Html ls) h = all_one (Single (Html ls)) h
-  printable_block (Table ls) h = all_one (Single (Table ls)) h
-  printable_block (Definition label destination title) h = all_one (Single (spaced_definition label destination title)) h
+  printable_block (Leaf (Paragraph ls)) h = all_one (Single (Leaf (Paragraph ls))) h
+  printable_block (Leaf (Heading rank ls)) h = all_one (Single (Leaf (Heading rank ls))) h
+  printable_block (Leaf Break) h = all_one (Single (Leaf Break)) h
+  printable_block (Leaf (IndentedCode ls)) h = all_one (Single (Leaf (IndentedCode ls))) h
+  printable_block (Leaf (FencedCode info closed ls)) h = all_one (Single (Leaf (FencedCode info closed ls))) h
+  printable_block (Leaf (Html ls)) h = all_one (Single (Leaf (Html ls))) h
+  printable_block (Leaf (Table ls)) h = all_one (Single (Leaf (Table ls))) h
+  printable_block (Leaf (Definition label destination title)) h = all_one (Single (spaced_definition label destination title)) h
   printable_block (Holds c kids) h =
       All-cons IsPrintableRow (start_row c) (rows_of kids ++ Exit ∷ []) (entered_printable c h.0)
       (all_append IsPrintableRow (rows_of kids) (Exit ∷ []) (printable_rows_of kids h.1) (all_one Exit tt))

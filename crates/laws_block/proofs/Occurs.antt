@@ -45,8 +45,8 @@ use Rattle.definition_block.specs.Tree.{html_tree, atx_tree, after, text_line_of
 use Rattle.definition_block.proofs.LeafLines.{where_leaf_line, where_unwrapped}
 use Rattle.std.specs.Option.{option_and_then}
 use Rattle.definition_block.specs.Tree.{leaf_line, beside_in, start, new, began_blank, goes_on, grow, beside_line, step, steps, blocks_at_end, children}
-use Rattle.definition_block.specs.Tree.{children_after, Block, Paragraph, Heading, Break, IndentedCode, FencedCode, Html, Table, Definition, Holds, Items}
-use Rattle.definition_block.specs.Tree.{Ending, Blank, Blocks, Nil, Cons, join, blocks, OpenLeaf, Text, Indented, Fenced, OpenHtml, OpenTable, Opening, Leaf}
+use Rattle.definition_block.specs.Tree.{children_after, Block, Leaf, Paragraph, Heading, Break, IndentedCode, FencedCode, Html, Table, Definition, Holds, Items}
+use Rattle.definition_block.specs.Tree.{Ending, Blank, Blocks, Nil, Cons, join, blocks, OpenLeaf, Text, Indented, Fenced, OpenHtml, OpenTable, Opening, At}
 use Rattle.definition_block.specs.Tree.{Inside, Tree as BlockTree}
 use Rattle.definition_block.specs.Lists.{put_before, grouped_block, group_items}
 use Rattle.laws_block.specs.ItemMarkers.{is_item_marker, is_unmarked, ItemsAreMarked}
@@ -73,14 +73,14 @@ InfoMayStand on info = ((on.code_fenced ≡ true) × (is_word info ≡ true)) �
 -- the construct of each block is on, at any depth, and items aren't in lists yet
 abbrev mutual
   pub BlockMayStand : Constructs → Block → Type 0
-  BlockMayStand on (Paragraph ls) = Unit {0}
-  BlockMayStand on (Heading rank ls) = HeadingMayStand on rank ls
-  BlockMayStand on Break = on.thematic_break ≡ true
-  BlockMayStand on (IndentedCode ls) = on.code_indented ≡ true
-  BlockMayStand on (FencedCode info blocks_at_end ls) = InfoMayStand on info
-  BlockMayStand on (Html ls) = on.html_flow ≡ true
-  BlockMayStand on (Table ls) = on.gfm_table ≡ true
-  BlockMayStand on (Definition label destination title) = on.definition ≡ true
+  BlockMayStand on (Leaf (Paragraph ls)) = Unit {0}
+  BlockMayStand on (Leaf (Heading rank ls)) = HeadingMayStand on rank ls
+  BlockMayStand on (Leaf Break) = on.thematic_break ≡ true
+  BlockMayStand on (Leaf (IndentedCode ls)) = on.code_indented ≡ true
+  BlockMayStand on (Leaf (FencedCode info blocks_at_end ls)) = InfoMayStand on info
+  BlockMayStand on (Leaf (Html ls)) = on.html_flow ≡ true
+  BlockMayStand on (Leaf (Table ls)) = on.gfm_table ≡ true
+  BlockMayStand on (Leaf (Definition label destination title)) = on.definition ≡ true
   BlockMayStand on (Holds c kids) = ContainerMayStand on c × MayStand on kids
   BlockMayStand on (Items items) = ⊥
   BlockMayStand on (Ending ending) = Unit {0}
@@ -98,7 +98,7 @@ LeafMayStand on (OpenHtml kind ls) = on.html_flow ≡ true
 LeafMayStand on (OpenTable ls) = on.gfm_table ≡ true
 
 abbrev OpeningMayStand : Constructs → Opening → Type 0
-OpeningMayStand on (Leaf leaf) = LeafMayStand on leaf
+OpeningMayStand on (At leaf) = LeafMayStand on leaf
 OpeningMayStand on (Inside c kids inner) = ContainerMayStand on c × MayStand on kids × OpeningMayStand on inner
 
 abbrev TreeMayStand : Constructs → BlockTree → Type 0
@@ -214,7 +214,7 @@ module _ (on : Constructs) where
   may_close_leaf (OpenTable ls) p = (p, (tt, tt))
 
   may_close : (now : Opening) → OpeningMayStand on now → MayStand on (close on now)
-  may_close (Leaf leaf) p = may_close_leaf leaf p
+  may_close (At leaf) p = may_close_leaf leaf p
   may_close (Inside c kids inner) p = may_hold c (join kids (close on inner)) p.0 (may-join kids (close on inner) p.1 (may_close inner p.2))
 
   -- ---- leaves
@@ -295,13 +295,13 @@ module _ (on : Constructs) where
   may_leaf_with_line line (OpenTable ls) p = p
 
   may_with_line : (line : BlockLine) (now : Opening) → OpeningMayStand on now → OpeningMayStand on (with_line line now)
-  may_with_line line (Leaf leaf) p = may_leaf_with_line line leaf p
+  may_with_line line (At leaf) p = may_leaf_with_line line leaf p
   may_with_line line (Inside c kids inner) p = (p.0, p.1, may_with_line line inner p.2)
 
   may_text : (away : Opening) (rest : Rest) (beside : Beside) → OpeningMayStand on away → TreeMayStand on (text_line_of on away rest beside)
   may_text away rest beside p =
       cond_both (has_text away || has_table away) _ _ (TreeMayStand on) (λ _. (tt, may_with_line (rest_line rest beside) away p))
-      (λ _. may_after away (tree Nil (Leaf (Text (rest_line rest beside ∷ [])))) p (tt, tt))
+      (λ _. may_after away (tree Nil (At (Text (rest_line rest beside ∷ [])))) p (tt, tt))
 
   -- a row of delimiters is read where tables are on
   may_table_of : (definitions : Blocks) (ls : List BlockLine) (row : BlockLine) → on.gfm_table ≡ true → MayStand on definitions
@@ -421,9 +421,9 @@ module _ (on : Constructs) where
   -- ---- the lines of a text
 
   may_grow : (beside : Beside) (now : Opening) (rest : Rest) → OpeningMayStand on now → TreeMayStand on (grow on beside now rest)
-  may_grow beside (Leaf leaf) rest p =
-      where_unwrapped (TreeMayStand on) (takes on leaf rest beside) (new (length rest) on true (Leaf leaf) beside rest) (may_take leaf rest beside p)
-      (may_new (length rest) true (Leaf leaf) beside rest p)
+  may_grow beside (At leaf) rest p =
+      where_unwrapped (TreeMayStand on) (takes on leaf rest beside) (new (length rest) on true (At leaf) beside rest) (may_take leaf rest beside p)
+      (may_new (length rest) true (At leaf) beside rest p)
   may_grow beside (Inside c kids inner) rest p =
       may_go_on (continues on c (began_blank kids inner) rest) c kids inner beside rest
       (λ line. grow on (beside_in line.before beside) inner line.rest) p.0 p.1 p.2 (λ line. may_grow (beside_in line.before beside) inner line.rest p.2)
@@ -482,46 +482,46 @@ no_footnote_definition on off (Holds (Footnote label) kids) p = absurd (both_way
 no_footnote_definition on off b p = refl
 
 not_indented : (on : Constructs) → on.code_indented ≡ false → (b : Block) → BlockMayStand on b → is_indented_code b ≡ false
-not_indented on off (IndentedCode ls) p = absurd (both_ways on.code_indented off p)
+not_indented on off (Leaf (IndentedCode ls)) p = absurd (both_ways on.code_indented off p)
 not_indented on off b p = refl
 
 not_fenced : (on : Constructs) → on.code_fenced ≡ false → (b : Block) → BlockMayStand on b → is_fenced_code b ≡ false
-not_fenced on off (FencedCode info blocks_at_end ls) p = elim p [ inl h ↦ absurd (both_ways on.code_fenced off h.0) | inr h ↦ h.1 ]
+not_fenced on off (Leaf (FencedCode info blocks_at_end ls)) p = elim p [ inl h ↦ absurd (both_ways on.code_fenced off h.0) | inr h ↦ h.1 ]
 not_fenced on off b p = refl
 
 not_math : (on : Constructs) → on.math_flow ≡ false → (b : Block) → BlockMayStand on b → is_math b ≡ false
-not_math on off (FencedCode info blocks_at_end ls) p = elim p [ inl h ↦ ap not h.1 | inr h ↦ absurd (both_ways on.math_flow off h.0) ]
+not_math on off (Leaf (FencedCode info blocks_at_end ls)) p = elim p [ inl h ↦ ap not h.1 | inr h ↦ absurd (both_ways on.math_flow off h.0) ]
 not_math on off b p = refl
 
 not_html : (on : Constructs) → on.html_flow ≡ false → (b : Block) → BlockMayStand on b → is_html b ≡ false
-not_html on off (Html ls) p = absurd (both_ways on.html_flow off p)
+not_html on off (Leaf (Html ls)) p = absurd (both_ways on.html_flow off p)
 not_html on off b p = refl
 
 no_table : (on : Constructs) → on.gfm_table ≡ false → (b : Block) → BlockMayStand on b → is_table b ≡ false
-no_table on off (Table ls) p = absurd (both_ways on.gfm_table off p)
+no_table on off (Leaf (Table ls)) p = absurd (both_ways on.gfm_table off p)
 no_table on off b p = refl
 
 no_break : (on : Constructs) → on.thematic_break ≡ false → (b : Block) → BlockMayStand on b → is_thematic_break b ≡ false
-no_break on off Break p = absurd (both_ways on.thematic_break off p)
+no_break on off (Leaf Break) p = absurd (both_ways on.thematic_break off p)
 no_break on off b p = refl
 
 no_definition : (on : Constructs) → on.definition ≡ false → (b : Block) → BlockMayStand on b → is_definition b ≡ false
-no_definition on off (Definition label destination title) p = absurd (both_ways on.definition off p)
+no_definition on off (Leaf (Definition label destination title)) p = absurd (both_ways on.definition off p)
 no_definition on off b p = refl
 
 no_heading : (on : Constructs) → (on.heading_atx || on.heading_setext) ≡ false → (b : Block) → BlockMayStand on b → is_heading b ≡ false
-no_heading on off (Heading rank ls) p =
+no_heading on off (Leaf (Heading rank ls)) p =
     let parts = or_parts on.heading_atx on.heading_setext off in
     elim p [ inl h ↦ absurd (both_ways on.heading_atx parts.0 h.0) | inr h ↦ absurd (both_ways on.heading_setext parts.1 h.0) ]
 no_heading on off b p = refl
 
 no_long_heading : (on : Constructs) → on.heading_setext ≡ false → (b : Block) → BlockMayStand on b → is_long_heading b ≡ false
-no_long_heading on off (Heading rank ls) p =
+no_long_heading on off (Leaf (Heading rank ls)) p =
     elim p [ inl h ↦ not_from_true (is_one_line ls) h.1 | inr h ↦ absurd (both_ways on.heading_setext off h.0) ]
 no_long_heading on off b p = refl
 
 no_deep_heading : (on : Constructs) → on.heading_atx ≡ false → (b : Block) → BlockMayStand on b → is_deep_heading b ≡ false
-no_deep_heading on off (Heading rank ls) p =
+no_deep_heading on off (Leaf (Heading rank ls)) p =
     elim p [ inl h ↦ absurd (both_ways on.heading_atx off h.0) | inr h ↦ not_from_true (leb rank 2) h.1 ]
 no_deep_heading on off b p = refl
 

@@ -30,8 +30,8 @@ use Rattle.definition_block.specs.Frontmatter.{is_metadata_fence, after_metadata
 use Rattle.markdown_options.specs.declared.align_kind.AlignKind.{AlignKind}
 use Rattle.definition_block.specs.GfmTable.{delimiter_row, is_head}
 use Rattle.definition_block.specs.Definitions.{lines_before, DefinitionCut, cut_into, cut_after, cut_most, definition_cut}
-use Rattle.definition_block.specs.Tree.{Block, Paragraph, Heading, FencedCode, Html, Table, Holds, Items, Blank, Blocks, Nil, Cons, join, one}
-use Rattle.definition_block.specs.Tree.{block_and_ending, OpenLeaf, Text, Indented, Fenced, OpenHtml, OpenTable, Opening, Leaf, Inside, Tree as BlockTree, tree}
+use Rattle.definition_block.specs.Tree.{Block, Leaf, Paragraph, Heading, FencedCode, Html, Table, Holds, Items, Blank, Blocks, Nil, Cons, join, one}
+use Rattle.definition_block.specs.Tree.{block_and_ending, OpenLeaf, Text, Indented, Fenced, OpenHtml, OpenTable, Opening, At, Inside, Tree as BlockTree, tree}
 use Rattle.definition_block.specs.Tree.{nothing, empty_tree, blanks, paragraph_of, close_leaf, is_ending, all_endings, front, trailing, without_last, last_of}
 use Rattle.definition_block.specs.Tree.{container_block, close, leaf_text, open_text, has_text, has_table, is_some_line, table_of, makes_table}
 use Rattle.definition_block.specs.Tree.{with_line, rest_line, html_with, takes, after, text_line_of}
@@ -101,7 +101,7 @@ module _ (on : Constructs) where
   paragraph_on [] a b e = omega (arith, e)
   paragraph_on (line ∷ others) a b e =
       let own = length-own (line ∷ others) in
-      ended_on (Paragraph (own_lines (line ∷ others))) (last_ending (line ∷ others)) a (a + (length (own_lines (line ∷ others)) - 1)) b refl (omega (arith, e, own))
+      ended_on (Leaf (Paragraph (own_lines (line ∷ others)))) (last_ending (line ∷ others)) a (a + (length (own_lines (line ∷ others)) - 1)) b refl (omega (arith, e, own))
 
   -- what is cut from a paragraph, and what is left of it
   abbrev CutOn : DefinitionCut → ℕ → ℕ → Type 0
@@ -145,7 +145,7 @@ module _ (on : Constructs) where
   LeafOn (OpenTable ls) a b = (1 ≤ length ls) × (b ≡ a + length ls)
 
   abbrev OpeningOn : Opening → ℕ → ℕ → Type 0
-  OpeningOn (Leaf leaf) a b = LeafOn leaf a b
+  OpeningOn (At leaf) a b = LeafOn leaf a b
   OpeningOn (Inside c kids inner) a b = (m : ℕ) × AreOn on kids a m × OpeningOn inner m b
 
   abbrev TreeOn : BlockTree → ℕ → ℕ → Type 0
@@ -169,14 +169,14 @@ module _ (on : Constructs) where
       let last : ℕ = a + (length (own_lines ls) - 1) in
       (last, refl, (a + length ls, omega (arith, own, some), blanks_on pending (a + length ls) b (let e = p.1 in omega (arith, e))))
   close_leaf_on (Fenced fence ending ls) a b h p =
-      ended_on (FencedCode fence.info false ls) (last_ending_or ending ls) a (a + (length ls + 0)) b refl (omega (arith, p))
+      ended_on (Leaf (FencedCode fence.info false ls)) (last_ending_or ending ls) a (a + (length ls + 0)) b refl (omega (arith, p))
   close_leaf_on (OpenHtml kind ls) a b h p =
-      ended_on (Html (own_lines ls)) (last_ending ls) a (a + (length (own_lines ls) - 1)) b refl (own_on ls a b p.0 p.1)
+      ended_on (Leaf (Html (own_lines ls))) (last_ending ls) a (a + (length (own_lines ls) - 1)) b refl (own_on ls a b p.0 p.1)
   close_leaf_on (OpenTable ls) a b h p =
-      ended_on (Table (own_lines ls)) (last_ending ls) a (a + (length (own_lines ls) - 1)) b refl (own_on ls a b p.0 p.1)
+      ended_on (Leaf (Table (own_lines ls))) (last_ending ls) a (a + (length (own_lines ls) - 1)) b refl (own_on ls a b p.0 p.1)
 
   close_on : (now : Opening) (a b : ℕ) → AreLines (open_text now) → OpeningOn now a b → AreOn on (close on now) a b
-  close_on (Leaf leaf) a b h p = close_leaf_on leaf a b h p
+  close_on (At leaf) a b h p = close_leaf_on leaf a b h p
   close_on (Inside c kids inner) a b h p =
       hold_on c (join kids (close on inner)) a b (join_on kids (close on inner) a p.0 b p.1 (close_on inner p.0 b h p.2))
 
@@ -190,9 +190,9 @@ module _ (on : Constructs) where
       let more = ls ++ rest_line rest beside ∷ [] in
       let n : length more ≡ suc (length ls) = more_lines ls (rest_line rest beside) in
       let own = length-own more in
-      cond_both (html_ends_here kind rest) (tree (block_and_ending (Html (own_lines more)) beside.ending) nothing)
-      (tree Nil (Leaf (OpenHtml kind more))) (λ (t : BlockTree). TreeOn t a (suc b))
-      (λ _. (suc b, ended_on (Html (own_lines more)) beside.ending a (a + (length (own_lines more) - 1)) (suc b) refl (omega (arith, e, n, own)), omega arith))
+      cond_both (html_ends_here kind rest) (tree (block_and_ending (Leaf (Html (own_lines more))) beside.ending) nothing)
+      (tree Nil (At (OpenHtml kind more))) (λ (t : BlockTree). TreeOn t a (suc b))
+      (λ _. (suc b, ended_on (Leaf (Html (own_lines more))) beside.ending a (a + (length (own_lines more) - 1)) (suc b) refl (omega (arith, e, n, own)), omega arith))
       (λ _. (a, refl, (omega (arith, n), omega (arith, e, n))))
 
   takes_on : (leaf : OpenLeaf) (rest : Rest) (beside : Beside) (a b : ℕ) → LeafOn leaf a b → SomeOn a (suc b) (takes on leaf rest beside)
@@ -210,7 +210,7 @@ module _ (on : Constructs) where
   takes_on (Fenced fence opening ls) rest beside a b p =
       let n = more_lines ls (rest_line (fence_line fence rest) beside) in
       cond_both (is_fence_end on fence rest) _ _ (SomeOn a (suc b))
-      (λ _. (suc b, ended_on (FencedCode fence.info true ls) beside.ending a (a + (length ls + 1)) (suc b) refl (omega (arith, p)), omega arith))
+      (λ _. (suc b, ended_on (Leaf (FencedCode fence.info true ls)) beside.ending a (a + (length ls + 1)) (suc b) refl (omega (arith, p)), omega arith))
       (λ _. (a, refl, omega (arith, p, n)))
   takes_on (OpenHtml kind ls) rest beside a b p =
       cond_both (ends_before_blank kind && is_blank rest) _ _ (SomeOn a (suc b)) (λ _. tt) (λ _. html_on kind ls rest beside a b p.1)
@@ -262,11 +262,11 @@ module _ (on : Constructs) where
 
   has_more : (line : BlockLine) (now : Opening) (a b : ℕ) → (has_text now || has_table now) ≡ true → OpeningOn now a b
       → OpeningOn (with_line line now) a (suc b)
-  has_more line (Leaf (Text ls)) a b h p = let n = more_lines ls line in omega (arith, p, n)
-  has_more line (Leaf (Indented ls pending)) a b h p = absurd (false≢true h)
-  has_more line (Leaf (Fenced fence ending ls)) a b h p = absurd (false≢true h)
-  has_more line (Leaf (OpenHtml kind ls)) a b h p = absurd (false≢true h)
-  has_more line (Leaf (OpenTable ls)) a b h p = let n = more_lines ls line in let e = p.1 in (omega (arith, n), omega (arith, e, n))
+  has_more line (At (Text ls)) a b h p = let n = more_lines ls line in omega (arith, p, n)
+  has_more line (At (Indented ls pending)) a b h p = absurd (false≢true h)
+  has_more line (At (Fenced fence ending ls)) a b h p = absurd (false≢true h)
+  has_more line (At (OpenHtml kind ls)) a b h p = absurd (false≢true h)
+  has_more line (At (OpenTable ls)) a b h p = let n = more_lines ls line in let e = p.1 in (omega (arith, n), omega (arith, e, n))
   has_more line (Inside c kids inner) a b h p = (p.0, p.1, has_more line inner p.0 b (ap (λ x. x || has_table inner) (or_nothing (has_text inner) h)) p.2)
 
   text_line_on : (away : Opening) (rest : Rest) (beside : Beside) (a b : ℕ) → AreLines (open_text away) → OpeningOn away a b
@@ -274,7 +274,7 @@ module _ (on : Constructs) where
   text_line_on away rest beside a b h p =
       cond_both (has_text away || has_table away) _ _ (λ (t : BlockTree). TreeOn t a (suc b))
       (λ e. (a, refl, has_more (rest_line rest beside) away a b e p))
-      (λ _. after_on away (tree Nil (Leaf (Text (rest_line rest beside ∷ [])))) a b (suc b) h p (b, refl, omega arith))
+      (λ _. after_on away (tree Nil (At (Text (rest_line rest beside ∷ [])))) a b (suc b) h p (b, refl, omega arith))
 
   -- an underline makes a heading of the open paragraph
   heading_on : (rank : ℕ) (definitions : Blocks) (ls : List BlockLine) (ending : Option LineEnding) (a m b : ℕ)
@@ -303,11 +303,11 @@ module _ (on : Constructs) where
 
   turns_on : (away : Opening) (rest : Rest) (ending : Option LineEnding) (a b : ℕ) → AreLines (open_text away) → OpeningOn away a b
       → SomeOn a (suc b) (turns on away rest ending)
-  turns_on (Leaf (Text ls)) rest ending a b h p = underlined_on (underline on rest) ls ending a b (underline_read rest) h p
-  turns_on (Leaf (Indented ls pending)) rest ending a b h p = no_heading (underline on rest) ending a (suc b)
-  turns_on (Leaf (Fenced fence opening ls)) rest ending a b h p = no_heading (underline on rest) ending a (suc b)
-  turns_on (Leaf (OpenHtml kind ls)) rest ending a b h p = no_heading (underline on rest) ending a (suc b)
-  turns_on (Leaf (OpenTable ls)) rest ending a b h p = no_heading (underline on rest) ending a (suc b)
+  turns_on (At (Text ls)) rest ending a b h p = underlined_on (underline on rest) ls ending a b (underline_read rest) h p
+  turns_on (At (Indented ls pending)) rest ending a b h p = no_heading (underline on rest) ending a (suc b)
+  turns_on (At (Fenced fence opening ls)) rest ending a b h p = no_heading (underline on rest) ending a (suc b)
+  turns_on (At (OpenHtml kind ls)) rest ending a b h p = no_heading (underline on rest) ending a (suc b)
+  turns_on (At (OpenTable ls)) rest ending a b h p = no_heading (underline on rest) ending a (suc b)
   turns_on (Inside c kids inner) rest ending a b h p = no_heading (underline on rest) ending a (suc b)
 
   -- a row of delimiters makes a table of its last line
@@ -341,11 +341,11 @@ module _ (on : Constructs) where
 
   makes_table_on : (away : Opening) (rest : Rest) (beside : Beside) (a b : ℕ) → AreLines (open_text away) → OpeningOn away a b
       → SomeOn a (suc b) (makes_table on away rest beside)
-  makes_table_on (Leaf (Text ls)) rest beside a b h p = table_on (delimiter_row on rest) ls (rest_line rest beside) a b h p
-  makes_table_on (Leaf (Indented ls pending)) rest beside a b h p = no_table (delimiter_row on rest) (rest_line rest beside) a (suc b)
-  makes_table_on (Leaf (Fenced fence opening ls)) rest beside a b h p = no_table (delimiter_row on rest) (rest_line rest beside) a (suc b)
-  makes_table_on (Leaf (OpenHtml kind ls)) rest beside a b h p = no_table (delimiter_row on rest) (rest_line rest beside) a (suc b)
-  makes_table_on (Leaf (OpenTable ls)) rest beside a b h p = no_table (delimiter_row on rest) (rest_line rest beside) a (suc b)
+  makes_table_on (At (Text ls)) rest beside a b h p = table_on (delimiter_row on rest) ls (rest_line rest beside) a b h p
+  makes_table_on (At (Indented ls pending)) rest beside a b h p = no_table (delimiter_row on rest) (rest_line rest beside) a (suc b)
+  makes_table_on (At (Fenced fence opening ls)) rest beside a b h p = no_table (delimiter_row on rest) (rest_line rest beside) a (suc b)
+  makes_table_on (At (OpenHtml kind ls)) rest beside a b h p = no_table (delimiter_row on rest) (rest_line rest beside) a (suc b)
+  makes_table_on (At (OpenTable ls)) rest beside a b h p = no_table (delimiter_row on rest) (rest_line rest beside) a (suc b)
   makes_table_on (Inside c kids inner) rest beside a b h p = no_table (delimiter_row on rest) (rest_line rest beside) a (suc b)
 
   leaf_line_on : (away : Opening) (rest : Rest) (beside : Beside) (a b : ℕ) → AreLines (open_text away) → OpeningOn away a b
@@ -391,9 +391,9 @@ module _ (on : Constructs) where
   -- ---- the lines of a text
 
   grow_on : (beside : Beside) (now : Opening) (rest : Rest) (a b : ℕ) → AreLines (open_text now) → OpeningOn now a b → TreeOn (grow on beside now rest) a (suc b)
-  grow_on beside (Leaf leaf) rest a b h p =
-      where_unwrapped (λ (t : BlockTree). TreeOn t a (suc b)) (takes on leaf rest beside) (new (length rest) on true (Leaf leaf) beside rest)
-      (takes_on leaf rest beside a b p) (new_on (length rest) true (Leaf leaf) beside rest a b h p)
+  grow_on beside (At leaf) rest a b h p =
+      where_unwrapped (λ (t : BlockTree). TreeOn t a (suc b)) (takes on leaf rest beside) (new (length rest) on true (At leaf) beside rest)
+      (takes_on leaf rest beside a b p) (new_on (length rest) true (At leaf) beside rest a b h p)
   grow_on beside (Inside c kids inner) rest a b h p =
       goes_on_on (continues on c (began_blank kids inner) rest) c kids inner beside rest (λ line. grow on (beside_in line.before beside) inner line.rest)
       a p.0 b h p.1 p.2 (λ line. grow_on (beside_in line.before beside) inner line.rest p.0 b h p.2)

@@ -7,7 +7,7 @@ use Rattle.definition_text.specs.BlockLines.{BlockLine}
 use Rattle.definition_text.specs.Columns.{is_white}
 use Rattle.definition_text.specs.Lines.{lines}
 use Rattle.std.specs.List.{list_all}
-use Rattle.definition_block.specs.Tree.{Block, Heading, Break, IndentedCode, FencedCode, Html, Table, Definition, Holds, Items, Blocks, Nil, Cons, blocks}
+use Rattle.definition_block.specs.Tree.{Block, Leaf, Heading, Break, IndentedCode, FencedCode, Html, Table, Definition, Holds, Items, Blocks, Nil, Cons, blocks}
 use Rattle.definition_block.specs.Tree.{children}
 use Rattle.definition_block.specs.Lists.{group_items}
 
@@ -45,7 +45,7 @@ is_footnote_definition b = false
 
 -- indented code (CommonMark 4.4)
 abbrev pub is_indented_code : Block → Bool
-is_indented_code (IndentedCode ls) = true
+is_indented_code (Leaf (IndentedCode ls)) = true
 is_indented_code b = false
 
 -- an info that can be written: no space or tab stands in it
@@ -54,37 +54,37 @@ is_word info = list_all (λ b. not (is_white b)) info
 
 -- fenced code (CommonMark 4.5)
 abbrev pub is_fenced_code : Block → Bool
-is_fenced_code (FencedCode info closed ls) = is_word info
+is_fenced_code (Leaf (FencedCode info closed ls)) = is_word info
 is_fenced_code b = false
 
 -- math (in neither standard): code whose info can't be written
 abbrev pub is_math : Block → Bool
-is_math (FencedCode info closed ls) = not (is_word info)
+is_math (Leaf (FencedCode info closed ls)) = not (is_word info)
 is_math b = false
 
 -- an HTML block (CommonMark 4.6)
 abbrev pub is_html : Block → Bool
-is_html (Html ls) = true
+is_html (Leaf (Html ls)) = true
 is_html b = false
 
 -- a table (GFM 4.10)
 abbrev pub is_table : Block → Bool
-is_table (Table ls) = true
+is_table (Leaf (Table ls)) = true
 is_table b = false
 
 -- a thematic break (CommonMark 4.1)
 abbrev pub is_thematic_break : Block → Bool
-is_thematic_break Break = true
+is_thematic_break (Leaf Break) = true
 is_thematic_break b = false
 
 -- a link reference definition (CommonMark 4.7)
 abbrev pub is_definition : Block → Bool
-is_definition (Definition label destination title) = true
+is_definition (Leaf (Definition label destination title)) = true
 is_definition b = false
 
 -- a heading (CommonMark 4.2 and 4.3)
 abbrev pub is_heading : Block → Bool
-is_heading (Heading rank ls) = true
+is_heading (Leaf (Heading rank ls)) = true
 is_heading b = false
 
 -- one line, no more and no less
@@ -94,12 +94,12 @@ is_one_line ls = false
 
 -- a heading of no line, or of more than one
 abbrev pub is_long_heading : Block → Bool
-is_long_heading (Heading rank ls) = not (is_one_line ls)
+is_long_heading (Leaf (Heading rank ls)) = not (is_one_line ls)
 is_long_heading b = false
 
 -- a heading of a rank above 2, which no underline gives
 abbrev pub is_deep_heading : Block → Bool
-is_deep_heading (Heading rank ls) = not (leb rank 2)
+is_deep_heading (Leaf (Heading rank ls)) = not (leb rank 2)
 is_deep_heading b = false
 
 -- ---- the laws

@@ -1,7 +1,7 @@
 -- Texts without constructs: paragraphs and blank lines (CommonMark 4.8 and 4.9).
 use Rattle.std.specs.Prelude.{Bool, true, false, not, ◌||◌}
 use Rattle.markdown_options.specs.declared.configuration.Constructs.{Constructs}
-use Rattle.definition_block.specs.Tree.{Block, Paragraph, Ending, Blank}
+use Rattle.definition_block.specs.Tree.{Block, Leaf, Paragraph, Ending, Blank}
 use Rattle.laws_block.specs.Occurs.{Never}
 
 -- some construct that makes blocks is on
@@ -12,7 +12,7 @@ has_blocks on =
 
 -- a paragraph, or an ending
 abbrev pub is_plain : Block → Bool
-is_plain (Paragraph ls) = true
+is_plain (Leaf (Paragraph ls)) = true
 is_plain (Ending ending) = true
 is_plain (Blank ending) = true
 is_plain b = false

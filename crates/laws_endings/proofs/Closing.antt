@@ -4,9 +4,9 @@ use Rattle.markdown_options.specs.declared.line_ending.LineEnding.{LineEnding}
 use Rattle.markdown_options.specs.declared.configuration.Constructs.{Constructs}
 use Rattle.definition_block.specs.Container.{Container, Quote, Item, Footnote}
 use Rattle.definition_block.specs.Definitions.{DefinitionCut, definition_cut}
-use Rattle.definition_block.specs.Tree.{BlockLine, last_ending, own_lines, Block, Paragraph, Heading, Break, IndentedCode, FencedCode, Html, Table, Definition}
+use Rattle.definition_block.specs.Tree.{BlockLine, last_ending, own_lines, Block, Leaf, Paragraph, Heading, Break, IndentedCode, FencedCode, Html, Table, Definition}
 use Rattle.definition_block.specs.Tree.{Holds, Items, Ending, Blank, Blocks, Nil, Cons, join, one, block_and_ending}
-use Rattle.definition_block.specs.Tree.{OpenLeaf, Text, Indented, Fenced, OpenHtml, OpenTable, Opening, Leaf, Inside, blanks, paragraph_of, with_paragraph}
+use Rattle.definition_block.specs.Tree.{OpenLeaf, Text, Indented, Fenced, OpenHtml, OpenTable, Opening, At, Inside, blanks, paragraph_of, with_paragraph}
 use Rattle.definition_block.specs.Tree.{close_leaf, is_ending, all_endings, front, trailing, without_last, last_of, container_block, close}
 use Rattle.laws_endings.specs.Endings.{if_ending_with, lines_with, block_with, blocks_with}
 use Rattle.laws_endings.proofs.Codes.{cond-under}
@@ -38,25 +38,25 @@ module _ (e : LineEnding) where
   close_leaf-with : (on : Constructs) (leaf : OpenLeaf) → close_leaf on (leaf_with e leaf) ≡ blocks_with e (close_leaf on leaf)
   close_leaf-with on (Text ls) = ap with_paragraph (cut-with e on ls) ∙ with_paragraph-with (definition_cut on ls)
   close_leaf-with on (Indented ls pending) =
-      let code = block_and_ending (IndentedCode (own_lines ls)) (last_ending ls) in
+      let code = block_and_ending (Leaf (IndentedCode (own_lines ls))) (last_ending ls) in
       ap (λ bs. join bs (blanks (lines_with e pending))) (ended-with IndentedCode (λ _. refl) ls)
       ∙ ap (join (blocks_with e code)) (blanks-with pending)
       ∙ join-with e code (blanks pending)
-  close_leaf-with on (Fenced fence ending ls) = ap (block_and_ending (FencedCode fence.info false (lines_with e ls))) (last_ending_or-with e ending ls)
+  close_leaf-with on (Fenced fence ending ls) = ap (block_and_ending (Leaf (FencedCode fence.info false (lines_with e ls)))) (last_ending_or-with e ending ls)
   close_leaf-with on (OpenHtml kind ls) = ended-with Html (λ _. refl) ls
   close_leaf-with on (OpenTable ls) = ended-with Table (λ _. refl) ls
 
   -- ---- endings at the end of a container
 
   pub is_ending-with : (b : Block) → is_ending (block_with e b) ≡ is_ending b
-  is_ending-with (Paragraph ls) = refl
-  is_ending-with (Heading rank ls) = refl
-  is_ending-with Break = refl
-  is_ending-with (IndentedCode ls) = refl
-  is_ending-with (FencedCode info closed ls) = refl
-  is_ending-with (Html ls) = refl
-  is_ending-with (Table ls) = refl
-  is_ending-with (Definition label destination title) = refl
+  is_ending-with (Leaf (Paragraph ls)) = refl
+  is_ending-with (Leaf (Heading rank ls)) = refl
+  is_ending-with (Leaf Break) = refl
+  is_ending-with (Leaf (IndentedCode ls)) = refl
+  is_ending-with (Leaf (FencedCode info closed ls)) = refl
+  is_ending-with (Leaf (Html ls)) = refl
+  is_ending-with (Leaf (Table ls)) = refl
+  is_ending-with (Leaf (Definition label destination title)) = refl
   is_ending-with (Holds c kids) = refl
   is_ending-with (Items items) = refl
   is_ending-with (Ending ending) = refl
@@ -103,7 +103,7 @@ module _ (e : LineEnding) where
       ∙ ap (Cons (Holds (Footnote label) (blocks_with e (front kids)))) (trailing-with kids)
 
   pub close-with : (on : Constructs) (now : Opening) → close on (opening_with e now) ≡ blocks_with e (close on now)
-  close-with on (Leaf leaf) = close_leaf-with on leaf
+  close-with on (At leaf) = close_leaf-with on leaf
   close-with on (Inside c kids inner) =
       ap (λ bs. container_block c (join (blocks_with e kids) bs)) (close-with on inner)
       ∙ ap (container_block c) (join-with e kids (close on inner))

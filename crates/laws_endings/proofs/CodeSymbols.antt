@@ -21,7 +21,7 @@ use Rattle.definition_block.specs.CodeFenced.{fence_start}
 use Rattle.definition_block.specs.MathFlow.{math_start}
 use Rattle.definition_block.specs.HeadingAtx.{atx, begins_apart, ends_apart, without_run, without_closing, atx_of, heading_atx}
 use Rattle.definition_block.specs.HeadingSetext.{underline}
-use Rattle.definition_block.specs.Tree.{Block, Paragraph, Heading, Break, IndentedCode, FencedCode, Html, Table, Definition, Holds, Items, Ending, Blank}
+use Rattle.definition_block.specs.Tree.{Block, Leaf, Paragraph, Heading, Break, IndentedCode, FencedCode, Html, Table, Definition, Holds, Items, Ending, Blank}
 use Rattle.definition_block.specs.Tree.{Blocks}
 use Rattle.definition_block.specs.Tree.{Nil, Cons, blocks}
 use Rattle.laws_endings.proofs.Rests.{starts-fine, continues-fine}
@@ -198,14 +198,14 @@ content_coded (line ∷ ls) p =
 
 mutual
   lines_coded : (b : Block) → BlockGood coded b → Each LineCoded (block_lines b)
-  lines_coded (Paragraph ls) p = p
-  lines_coded (Heading rank ls) p = p
-  lines_coded Break p = tt
-  lines_coded (IndentedCode ls) p = p
-  lines_coded (FencedCode info closed ls) p = p.1
-  lines_coded (Html ls) p = p
-  lines_coded (Table ls) p = p
-  lines_coded (Definition label destination title) p = tt
+  lines_coded (Leaf (Paragraph ls)) p = p
+  lines_coded (Leaf (Heading rank ls)) p = p
+  lines_coded (Leaf Break) p = tt
+  lines_coded (Leaf (IndentedCode ls)) p = p
+  lines_coded (Leaf (FencedCode info closed ls)) p = p.1
+  lines_coded (Leaf (Html ls)) p = p
+  lines_coded (Leaf (Table ls)) p = p
+  lines_coded (Leaf (Definition label destination title)) p = tt
   lines_coded (Holds c kids) p = all_coded kids p
   lines_coded (Items items) p = all_coded items p
   lines_coded (Ending ending) p = tt

@@ -9,7 +9,7 @@ use Rattle.markdown_options.specs.declared.line_ending.LineEnding.TheVariants.{C
 use Rattle.definition_text.specs.BlockLines.{BlockLine, last_ending_or, last_ending, own_lines}
 use Rattle.definition_text.specs.Content.{is_eol, ending_code, line_codes, content_of}
 use Rattle.definition_inline.specs.Definition.{Definition as LinkDefinition, definition_at}
-use Rattle.definition_block.specs.Blocks.{Definition, Ending, Blocks, Nil, Cons, join}
+use Rattle.definition_block.specs.Blocks.{Leaf, Definition, Ending, Blocks, Nil, Cons, join}
 use Rattle.definition_block.specs.Definitions.{DefinitionCut, cut_into, line_count, lines_before, definition_lines, cut_after, cut_most, definition_cut}
 use Rattle.laws_endings.specs.Endings.{code_with, codes_with, if_ending_with, line_with, lines_with, definition_with, block_with, blocks_with}
 use Rattle.laws_endings.proofs.Codes.{cond-under, same_code}
@@ -75,7 +75,7 @@ module _ (e : LineEnding) where
       ap (λ n. n - line_count (codes_with e rest)) (length-map ls (line_with e)) ∙ ap (λ n. length ls - n) (line_count-with rest)
 
   defined-with : (d : LinkDefinition) (ls : List BlockLine) → definition_lines (definition_with e d) (lines_with e ls) ≡ blocks_with e (definition_lines d ls)
-  defined-with d ls = ap (λ ending. Cons (block_with e (Definition d.label d.destination d.title)) (Cons (Ending ending) Nil)) (last_ending-with ls)
+  defined-with d ls = ap (λ ending. Cons (block_with e (Leaf (Definition d.label d.destination d.title))) (Cons (Ending ending) Nil)) (last_ending-with ls)
 
   cut_after-with : (found : Option LinkDefinition) (ls : List BlockLine) (more : List BlockLine → DefinitionCut)
       → ((others : List BlockLine) → more (lines_with e others) ≡ cut_with (more others))

@@ -24,9 +24,9 @@ use Rattle.definition_block.specs.ThematicBreak.{is_break}
 use Rattle.markdown_options.specs.declared.align_kind.AlignKind.{AlignKind}
 use Rattle.definition_block.specs.GfmTable.{delimiter_row, is_head}
 use Rattle.definition_block.specs.Definitions.{DefinitionCut, definition_cut}
-use Rattle.definition_block.specs.Tree.{BlockLine, block_line, spaced_line, own_lines, Paragraph, Heading, Break, IndentedCode, FencedCode, Html, Table}
+use Rattle.definition_block.specs.Tree.{BlockLine, block_line, spaced_line, own_lines, Leaf, Paragraph, Heading, Break, IndentedCode, FencedCode, Html, Table}
 use Rattle.definition_block.specs.Tree.{Definition, Holds, Items, Ending, Blank, Blocks, Nil, Cons, join, one, block_and_ending}
-use Rattle.definition_block.specs.Tree.{OpenLeaf, Text, Indented, Fenced, OpenHtml, OpenTable, Opening, Leaf, Inside, Tree, tree, nothing, close, leaf_text}
+use Rattle.definition_block.specs.Tree.{OpenLeaf, Text, Indented, Fenced, OpenHtml, OpenTable, Opening, At, Inside, Tree, tree, nothing, close, leaf_text}
 use Rattle.definition_block.specs.Tree.{open_text, is_some_line, has_text, has_table, table_of, tabled, makes_table, paragraph_of, leaf_with_line, with_line}
 use Rattle.definition_block.specs.Tree.{rest_line}
 use Rattle.definition_block.specs.Tree.{indented_takes, fenced_takes, html_with, takes, after, text_line_of, text_here, heading_of, underlined, turns}
@@ -54,7 +54,7 @@ module _ (e : LineEnding) where
   leaf_text-with (OpenTable ls) = refl
 
   open_text-with : (now : Opening) → open_text (opening_with e now) ≡ lines_with e (open_text now)
-  open_text-with (Leaf leaf) = leaf_text-with leaf
+  open_text-with (At leaf) = leaf_text-with leaf
   open_text-with (Inside c kids inner) = open_text-with inner
 
   is_some_line-with : (ls : List BlockLine) → is_some_line (lines_with e ls) ≡ is_some_line ls
@@ -65,11 +65,11 @@ module _ (e : LineEnding) where
   has_text-with now = ap is_some_line (open_text-with now) ∙ is_some_line-with (open_text now)
 
   has_table-with : (now : Opening) → has_table (opening_with e now) ≡ has_table now
-  has_table-with (Leaf (Text ls)) = refl
-  has_table-with (Leaf (Indented ls pending)) = refl
-  has_table-with (Leaf (Fenced fence ending ls)) = refl
-  has_table-with (Leaf (OpenHtml kind ls)) = refl
-  has_table-with (Leaf (OpenTable ls)) = refl
+  has_table-with (At (Text ls)) = refl
+  has_table-with (At (Indented ls pending)) = refl
+  has_table-with (At (Fenced fence ending ls)) = refl
+  has_table-with (At (OpenHtml kind ls)) = refl
+  has_table-with (At (OpenTable ls)) = refl
   has_table-with (Inside c kids inner) = refl
 
   one_more : (ls : List BlockLine) (line : BlockLine) → lines_with e ls ++ line_with e line ∷ [] ≡ lines_with e (ls ++ line ∷ [])
@@ -83,7 +83,7 @@ module _ (e : LineEnding) where
   leaf_with_line-with line (OpenTable ls) = ap OpenTable (one_more ls line)
 
   with_line-with : (line : BlockLine) (now : Opening) → with_line (line_with e line) (opening_with e now) ≡ opening_with e (with_line line now)
-  with_line-with line (Leaf leaf) = ap Leaf (leaf_with_line-with line leaf)
+  with_line-with line (At leaf) = ap At (leaf_with_line-with line leaf)
   with_line-with line (Inside c kids inner) = ap (Inside c (blocks_with e kids)) (with_line-with line inner)
 
   rest_line-with : (rest : Rest) (beside : Beside) → Kept e rest → rest_line rest (beside_with e beside) ≡ line_with e (rest_line rest beside)
@@ -101,25 +101,25 @@ module _ (e : LineEnding) where
       let code = outdent 4 rest in
       let kept = outdented-kept e 4 rest k in
       cond-under if_tree (is_blank rest)
-      (ap (λ others. Some (tree Nil (Leaf (Indented (lines_with e ls) others)))) (more_lines pending code beside kept))
+      (ap (λ others. Some (tree Nil (At (Indented (lines_with e ls) others)))) (more_lines pending code beside kept))
       (cond-under if_tree (starts_code_indented on rest)
-      (ap (λ front. Some (tree Nil (Leaf (Indented (front ++ rest_line code (beside_with e beside) ∷ []) [])))) (sym (map-append (line_with e) ls pending))
-      ∙ ap (λ all. Some (tree Nil (Leaf (Indented all [])))) (more_lines (ls ++ pending) code beside kept))
+      (ap (λ front. Some (tree Nil (At (Indented (front ++ rest_line code (beside_with e beside) ∷ []) [])))) (sym (map-append (line_with e) ls pending))
+      ∙ ap (λ all. Some (tree Nil (At (Indented all [])))) (more_lines (ls ++ pending) code beside kept))
       refl)
 
   fenced_takes-with : (on : Constructs) (fence : Fence) (opening : Option LineEnding) (ls : List BlockLine) (rest : Rest) (beside : Beside) → Kept e rest
       → fenced_takes on fence (if_ending_with e opening) (lines_with e ls) rest (beside_with e beside) ≡ if_tree (fenced_takes on fence opening ls rest beside)
   fenced_takes-with on fence opening ls rest beside k =
       cond-under if_tree (is_fence_end on fence rest) refl
-      (ap (λ all. Some (tree Nil (Leaf (Fenced fence (if_ending_with e opening) all))))
+      (ap (λ all. Some (tree Nil (At (Fenced fence (if_ending_with e opening) all))))
       (more_lines ls (fence_line fence rest) beside (outdented-kept e fence.indent rest k)))
 
   html_with-with : (kind : ℕ) (ls : List BlockLine) (rest : Rest) (beside : Beside) → Kept e rest
       → html_with kind (lines_with e ls) rest (beside_with e beside) ≡ tree_with e (html_with kind ls rest beside)
   html_with-with kind ls rest beside k =
-      let made : List BlockLine → Tree = λ own. tree (block_and_ending (Html own) (if_ending_with e beside.ending)) nothing in
+      let made : List BlockLine → Tree = λ own. tree (block_and_ending (Leaf (Html own)) (if_ending_with e beside.ending)) nothing in
       let more = ls ++ rest_line rest beside ∷ [] in
-      ap (λ all. cond (html_ends_here kind rest) (made (own_lines all)) (tree Nil (Leaf (OpenHtml kind all)))) (more_lines ls rest beside k)
+      ap (λ all. cond (html_ends_here kind rest) (made (own_lines all)) (tree Nil (At (OpenHtml kind all)))) (more_lines ls rest beside k)
       ∙ cond-under (tree_with e) (html_ends_here kind rest) (ap made (own_lines-with e more)) refl
 
   takes-with : (on : Constructs) (leaf : OpenLeaf) (rest : Rest) (beside : Beside) → Kept e rest
@@ -137,7 +137,7 @@ module _ (e : LineEnding) where
       → option_map (atx_tree (beside_with e beside)) found ≡ if_tree (option_map (atx_tree beside) found)
   atx-with beside None k = refl
   atx-with beside (Some atx) k =
-      ap (λ content. Some (tree (block_and_ending (Heading atx.rank (spaced_line content None ∷ [])) (if_ending_with e beside.ending)) nothing)) (sym k)
+      ap (λ content. Some (tree (block_and_ending (Leaf (Heading atx.rank (spaced_line content None ∷ []))) (if_ending_with e beside.ending)) nothing)) (sym k)
 
   fence-with : (beside : Beside) (found : Option Fence)
       → option_map (fence_tree (beside_with e beside)) found ≡ if_tree (option_map (fence_tree beside) found)
@@ -150,7 +150,7 @@ module _ (e : LineEnding) where
   html-with rest beside (Some kind) k = ap Some (html_with-with kind [] rest beside k)
 
   indented-with : (rest : Rest) (beside : Beside) → Kept e rest → indented_tree rest (beside_with e beside) ≡ tree_with e (indented_tree rest beside)
-  indented-with rest beside k = ap (λ line. tree Nil (Leaf (Indented (line ∷ []) []))) (rest_line-with (outdent 4 rest) beside (outdented-kept e 4 rest k))
+  indented-with rest beside k = ap (λ line. tree Nil (At (Indented (line ∷ []) []))) (rest_line-with (outdent 4 rest) beside (outdented-kept e 4 rest k))
 
   after-with : (on : Constructs) (away : Opening) (t : Tree) → after on (opening_with e away) (tree_with e t) ≡ tree_with e (after on away t)
   after-with on away t =
@@ -162,27 +162,27 @@ module _ (e : LineEnding) where
   text_line_of-with on away rest beside k =
       let now = opening_with e away in
       let line = rest_line rest beside in
-      let begun : BlockLine → Tree = λ l. after on now (tree Nil (Leaf (Text (l ∷ [])))) in
+      let begun : BlockLine → Tree = λ l. after on now (tree Nil (At (Text (l ∷ [])))) in
       let more = rest_line rest (beside_with e beside) in
       let goes_on = has_text away || has_table away in
       ap (λ has. cond (has || has_table now) (tree Nil (with_line more now)) (begun more)) (has_text-with away)
       ∙ ap (λ has. cond (has_text away || has) (tree Nil (with_line more now)) (begun more)) (has_table-with away)
       ∙ ap (λ l. cond goes_on (tree Nil (with_line l now)) (begun l)) (rest_line-with rest beside k)
-      ∙ cond-under (tree_with e) goes_on (ap (tree Nil) (with_line-with line away)) (after-with on away (tree Nil (Leaf (Text (line ∷ [])))))
+      ∙ cond-under (tree_with e) goes_on (ap (tree Nil) (with_line-with line away)) (after-with on away (tree Nil (At (Text (line ∷ [])))))
 
   -- ---- underlines
 
   text_here-with : (away : Opening) → text_here (opening_with e away) ≡ lines_with e (text_here away)
-  text_here-with (Leaf leaf) = leaf_text-with leaf
+  text_here-with (At leaf) = leaf_text-with leaf
   text_here-with (Inside c kids inner) = refl
 
   heading_of-with : (rank : ℕ) (definitions : Blocks) (ls : List BlockLine) (ending : Option LineEnding)
       → heading_of rank (blocks_with e definitions) (lines_with e ls) (if_ending_with e ending) ≡ if_tree (heading_of rank definitions ls ending)
   heading_of-with rank definitions [] ending = refl
   heading_of-with rank definitions (line ∷ ls) ending =
-      let made : List BlockLine → Blocks = λ own. block_and_ending (Heading rank own) (if_ending_with e ending) in
+      let made : List BlockLine → Blocks = λ own. block_and_ending (Leaf (Heading rank own)) (if_ending_with e ending) in
       ap (λ own. Some (tree (join (blocks_with e definitions) (made own)) nothing)) (own_lines-with e (line ∷ ls))
-      ∙ ap (λ done. Some (tree done nothing)) (join-with e definitions (block_and_ending (Heading rank (own_lines (line ∷ ls))) ending))
+      ∙ ap (λ done. Some (tree done nothing)) (join-with e definitions (block_and_ending (Leaf (Heading rank (own_lines (line ∷ ls)))) ending))
 
   underlined-with : (on : Constructs) (rank : Option ℕ) (ls : List BlockLine) (ending : Option LineEnding)
       → option_and_then (underlined on (lines_with e ls) (if_ending_with e ending)) rank ≡ if_tree (option_and_then (underlined on ls ending) rank)
@@ -208,13 +208,13 @@ module _ (e : LineEnding) where
   table_of-with definitions ls row =
       let head = length ls - 1 in
       let front : List BlockLine → Blocks = λ own. join (blocks_with e definitions) (paragraph_of own) in
-      let table : Blocks → List BlockLine → Tree = λ done own. tree done (Leaf (OpenTable (own ++ line_with e row ∷ []))) in
+      let table : Blocks → List BlockLine → Tree = λ done own. tree done (At (OpenTable (own ++ line_with e row ∷ []))) in
       ap (λ n. table (front (take (n - 1) (lines_with e ls))) (drop (n - 1) (lines_with e ls))) (length-map ls (line_with e))
       ∙ ap (λ own. table (front own) (drop head (lines_with e ls))) (take-map (line_with e) head ls)
       ∙ ap (λ own. table (front (lines_with e (take head ls))) own) (drop-map (line_with e) head ls)
       ∙ ap (λ bs. table (join (blocks_with e definitions) bs) (lines_with e (drop head ls))) (paragraph_of-with e (take head ls))
       ∙ ap (λ bs. table bs (lines_with e (drop head ls))) (join-with e definitions (paragraph_of (take head ls)))
-      ∙ ap (λ own. tree (blocks_with e (join definitions (paragraph_of (take head ls)))) (Leaf (OpenTable own))) (one_more (drop head ls) row)
+      ∙ ap (λ own. tree (blocks_with e (join definitions (paragraph_of (take head ls)))) (At (OpenTable own))) (one_more (drop head ls) row)
 
   tabled-with : (on : Constructs) (o : Option (List AlignKind)) (ls : List BlockLine) (row : BlockLine)
       → option_and_then (tabled on (lines_with e ls) (line_with e row)) o ≡ if_tree (option_and_then (tabled on ls row) o)
@@ -317,24 +317,24 @@ module _ (e : LineEnding) where
   in_container-with c kids t = ap (λ bs. tree Nil (Inside c bs (opening_with e t.now))) (join-with e kids t.done)
 
   is_nothing-with : (now : Opening) → is_nothing (opening_with e now) ≡ is_nothing now
-  is_nothing-with (Leaf (Text [])) = refl
-  is_nothing-with (Leaf (Text (line ∷ ls))) = refl
-  is_nothing-with (Leaf (Indented ls pending)) = refl
-  is_nothing-with (Leaf (Fenced fence ending ls)) = refl
-  is_nothing-with (Leaf (OpenHtml kind ls)) = refl
-  is_nothing-with (Leaf (OpenTable ls)) = refl
+  is_nothing-with (At (Text [])) = refl
+  is_nothing-with (At (Text (line ∷ ls))) = refl
+  is_nothing-with (At (Indented ls pending)) = refl
+  is_nothing-with (At (Fenced fence ending ls)) = refl
+  is_nothing-with (At (OpenHtml kind ls)) = refl
+  is_nothing-with (At (OpenTable ls)) = refl
   is_nothing-with (Inside c kids inner) = refl
 
   is_one_blank-with : (bs : Blocks) → is_one_blank (blocks_with e bs) ≡ is_one_blank bs
   is_one_blank-with Nil = refl
-  is_one_blank-with (Cons (Paragraph ls) bs) = refl
-  is_one_blank-with (Cons (Heading rank ls) bs) = refl
-  is_one_blank-with (Cons Break bs) = refl
-  is_one_blank-with (Cons (IndentedCode ls) bs) = refl
-  is_one_blank-with (Cons (FencedCode info closed ls) bs) = refl
-  is_one_blank-with (Cons (Html ls) bs) = refl
-  is_one_blank-with (Cons (Table ls) bs) = refl
-  is_one_blank-with (Cons (Definition label destination title) bs) = refl
+  is_one_blank-with (Cons (Leaf (Paragraph ls)) bs) = refl
+  is_one_blank-with (Cons (Leaf (Heading rank ls)) bs) = refl
+  is_one_blank-with (Cons (Leaf Break) bs) = refl
+  is_one_blank-with (Cons (Leaf (IndentedCode ls)) bs) = refl
+  is_one_blank-with (Cons (Leaf (FencedCode info closed ls)) bs) = refl
+  is_one_blank-with (Cons (Leaf (Html ls)) bs) = refl
+  is_one_blank-with (Cons (Leaf (Table ls)) bs) = refl
+  is_one_blank-with (Cons (Leaf (Definition label destination title)) bs) = refl
   is_one_blank-with (Cons (Holds c kids) bs) = refl
   is_one_blank-with (Cons (Items items) bs) = refl
   is_one_blank-with (Cons (Ending ending) bs) = refl
@@ -354,10 +354,10 @@ module _ (e : LineEnding) where
 
   pub grow-with : (on : Constructs) (beside : Beside) (now : Opening) (rest : Rest) → Kept e rest
       → grow on (beside_with e beside) (opening_with e now) rest ≡ tree_with e (grow on beside now rest)
-  grow-with on beside (Leaf leaf) rest k =
-      let other = new (length rest) on true (Leaf leaf) beside rest in
-      ap (λ found. unwrap_or found (new (length rest) on true (opening_with e (Leaf leaf)) (beside_with e beside) rest)) (takes-with on leaf rest beside k)
-      ∙ ap (unwrap_or (if_tree (takes on leaf rest beside))) (new-with (length rest) on true (Leaf leaf) beside rest k)
+  grow-with on beside (At leaf) rest k =
+      let other = new (length rest) on true (At leaf) beside rest in
+      ap (λ found. unwrap_or found (new (length rest) on true (opening_with e (At leaf)) (beside_with e beside) rest)) (takes-with on leaf rest beside k)
+      ∙ ap (unwrap_or (if_tree (takes on leaf rest beside))) (new-with (length rest) on true (At leaf) beside rest k)
       ∙ taken-with (takes on leaf rest beside) other
   grow-with on beside (Inside c kids inner) rest k =
       let inside = opening_with e inner in

@@ -10,7 +10,7 @@ use Rattle.definition_text.specs.Columns.{is_tab_column, code_byte}
 use Rattle.definition_text.specs.Content.{line_ending_code, is_space}
 use Rattle.definition_inline.specs.Definition.{Definition as LinkDefinition, definition}
 use Rattle.definition_inline.specs.LabelMatch.{is_word, fold_word, normal_label, place_of}
-use Rattle.definition_block.specs.Blocks.{Block, Paragraph, Heading, Break, IndentedCode, FencedCode, Html, Table, Definition, Holds, Items, Ending, Blank}
+use Rattle.definition_block.specs.Blocks.{Block, Leaf, Paragraph, Heading, Break, IndentedCode, FencedCode, Html, Table, Definition, Holds, Items, Ending, Blank}
 use Rattle.definition_block.specs.Blocks.{Blocks, Nil, Cons}
 use Rattle.definition_block.specs.Definitions.{block_definitions, definitions, container_footnotes, block_footnotes, footnotes}
 use Rattle.definition_block.specs.Tree.{blocks}
@@ -101,14 +101,14 @@ module _ (e : LineEnding) where
 
   mutual
     block_definitions-with : (b : Block) → block_definitions (block_with e b) ≡ map (definition_with e) (block_definitions b)
-    block_definitions-with (Paragraph ls) = refl
-    block_definitions-with (Heading rank ls) = refl
-    block_definitions-with Break = refl
-    block_definitions-with (IndentedCode ls) = refl
-    block_definitions-with (FencedCode info closed ls) = refl
-    block_definitions-with (Html ls) = refl
-    block_definitions-with (Table ls) = refl
-    block_definitions-with (Definition label destination title) = refl
+    block_definitions-with (Leaf (Paragraph ls)) = refl
+    block_definitions-with (Leaf (Heading rank ls)) = refl
+    block_definitions-with (Leaf Break) = refl
+    block_definitions-with (Leaf (IndentedCode ls)) = refl
+    block_definitions-with (Leaf (FencedCode info closed ls)) = refl
+    block_definitions-with (Leaf (Html ls)) = refl
+    block_definitions-with (Leaf (Table ls)) = refl
+    block_definitions-with (Leaf (Definition label destination title)) = refl
     block_definitions-with (Holds c kids) = definitions-with kids
     block_definitions-with (Items items) = definitions-with items
     block_definitions-with (Ending ending) = refl
@@ -125,14 +125,14 @@ module _ (e : LineEnding) where
 
   mutual
     block_footnotes-with : (b : Block) → block_footnotes (block_with e b) ≡ block_footnotes b
-    block_footnotes-with (Paragraph ls) = refl
-    block_footnotes-with (Heading rank ls) = refl
-    block_footnotes-with Break = refl
-    block_footnotes-with (IndentedCode ls) = refl
-    block_footnotes-with (FencedCode info closed ls) = refl
-    block_footnotes-with (Html ls) = refl
-    block_footnotes-with (Table ls) = refl
-    block_footnotes-with (Definition label destination title) = refl
+    block_footnotes-with (Leaf (Paragraph ls)) = refl
+    block_footnotes-with (Leaf (Heading rank ls)) = refl
+    block_footnotes-with (Leaf Break) = refl
+    block_footnotes-with (Leaf (IndentedCode ls)) = refl
+    block_footnotes-with (Leaf (FencedCode info closed ls)) = refl
+    block_footnotes-with (Leaf (Html ls)) = refl
+    block_footnotes-with (Leaf (Table ls)) = refl
+    block_footnotes-with (Leaf (Definition label destination title)) = refl
     block_footnotes-with (Holds c kids) = ap (λ labels. labels ++ container_footnotes c) (footnotes-with kids)
     block_footnotes-with (Items items) = footnotes-with items
     block_footnotes-with (Ending ending) = refl

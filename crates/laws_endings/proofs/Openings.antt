@@ -1,7 +1,7 @@
 -- What is open after some lines, with another line ending in place of each LF.
 use Rattle.markdown_options.specs.declared.line_ending.LineEnding.{LineEnding}
 use Rattle.markdown_options.specs.declared.beside.Beside.{Beside}
-use Rattle.definition_block.specs.Tree.{OpenLeaf, Text, Indented, Fenced, OpenHtml, OpenTable, Opening, Leaf, Inside, Tree, tree}
+use Rattle.definition_block.specs.Tree.{OpenLeaf, Text, Indented, Fenced, OpenHtml, OpenTable, Opening, At, Inside, Tree, tree}
 use Rattle.laws_endings.specs.Endings.{if_ending_with, lines_with, blocks_with}
 
 -- an open leaf
@@ -14,7 +14,7 @@ leaf_with e (OpenTable ls) = OpenTable (lines_with e ls)
 
 -- what is open
 abbrev pub opening_with : LineEnding → Opening → Opening
-opening_with e (Leaf leaf) = Leaf (leaf_with e leaf)
+opening_with e (At leaf) = At (leaf_with e leaf)
 opening_with e (Inside c kids inner) = Inside c (blocks_with e kids) (opening_with e inner)
 
 -- a tree

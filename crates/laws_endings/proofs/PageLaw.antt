@@ -62,7 +62,7 @@ DefinitionIs d = Each Plain d.destination × TitleFits d.title
 
 mutual
   block_definitions_fit : (b : tree.Block) → BlockFits b → Each DefinitionIs (block_definitions b)
-  block_definitions_fit (tree.Definition label destination title) p = (p, tt)
+  block_definitions_fit (tree.Leaf (tree.Definition label destination title)) p = (p, tt)
   block_definitions_fit (tree.Holds c kids) p = definitions_fit kids p
   block_definitions_fit (tree.Items items) p = definitions_fit items p
   block_definitions_fit b p = tt

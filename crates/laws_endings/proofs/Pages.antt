@@ -286,18 +286,18 @@ module _ (e : LineEnding) where
 
   abbrev mutual
     pub page_block_with : page.Block → page.Block
-    page_block_with (page.Paragraph is) = page.Paragraph (inlines_with e is)
-    page_block_with (page.Heading rank is) = page.Heading rank (inlines_with e is)
-    page_block_with page.Break = page.Break
-    page_block_with (page.IndentedCode ls) = page.IndentedCode (lines_with e ls)
-    page_block_with (page.FencedCode info is_closed ls) = page.FencedCode info is_closed (lines_with e ls)
-    page_block_with (page.Html ls) = page.Html (lines_with e ls)
-    page_block_with (page.Table t) = page.Table (table_with e t)
-    page_block_with page.Definition = page.Definition
-    page_block_with (page.Quote kids) = page.Quote (page_blocks_with kids)
+    page_block_with (page.Leaf (page.Paragraph is)) = page.Paragraph (inlines_with e is)
+    page_block_with (page.Leaf (page.Heading rank is)) = page.Heading rank (inlines_with e is)
+    page_block_with (page.Leaf page.Break) = (page.Leaf page.Break)
+    page_block_with (page.Leaf (page.IndentedCode ls)) = page.IndentedCode (lines_with e ls)
+    page_block_with (page.Leaf (page.FencedCode info is_closed ls)) = page.FencedCode info is_closed (lines_with e ls)
+    page_block_with (page.Leaf (page.Html ls)) = page.Html (lines_with e ls)
+    page_block_with (page.Leaf (page.Table t)) = page.Table (table_with e t)
+    page_block_with (page.Leaf page.Definition) = (page.Leaf page.Definition)
+    page_block_with (page.Holds page.Quote kids) = page.Quote (page_blocks_with kids)
     page_block_with (page.ItemList number loose items) = page.ItemList number loose (page_blocks_with items)
-    page_block_with (page.Item kids) = page.Item (page_blocks_with kids)
-    page_block_with (page.Footnote label kids) = page.Footnote label (page_blocks_with kids)
+    page_block_with (page.Holds page.Item kids) = page.Item (page_blocks_with kids)
+    page_block_with (page.Holds (page.Footnote label) kids) = page.Footnote label (page_blocks_with kids)
     page_block_with (page.Ending ending) = page.Ending (ending_with e ending)
     page_block_with (page.Blank ending) = page.Blank (ending_with e ending)
 
@@ -312,18 +312,18 @@ module _ (e : LineEnding) where
 
   abbrev mutual
     pub PageBlockFits : page.Block → Type 0
-    PageBlockFits (page.Paragraph is) = AreFit is
-    PageBlockFits (page.Heading rank is) = AreFit is
-    PageBlockFits page.Break = Unit {0}
-    PageBlockFits (page.IndentedCode ls) = LinesFit ls
-    PageBlockFits (page.FencedCode info is_closed ls) = InfoFits info × LinesFit ls
-    PageBlockFits (page.Html ls) = LinesFit ls
-    PageBlockFits (page.Table t) = TableFits t
-    PageBlockFits page.Definition = Unit {0}
-    PageBlockFits (page.Quote kids) = PageFits kids
+    PageBlockFits (page.Leaf (page.Paragraph is)) = AreFit is
+    PageBlockFits (page.Leaf (page.Heading rank is)) = AreFit is
+    PageBlockFits (page.Leaf page.Break) = Unit {0}
+    PageBlockFits (page.Leaf (page.IndentedCode ls)) = LinesFit ls
+    PageBlockFits (page.Leaf (page.FencedCode info is_closed ls)) = InfoFits info × LinesFit ls
+    PageBlockFits (page.Leaf (page.Html ls)) = LinesFit ls
+    PageBlockFits (page.Leaf (page.Table t)) = TableFits t
+    PageBlockFits (page.Leaf page.Definition) = Unit {0}
+    PageBlockFits (page.Holds page.Quote kids) = PageFits kids
     PageBlockFits (page.ItemList number loose items) = PageFits items
-    PageBlockFits (page.Item kids) = PageFits kids
-    PageBlockFits (page.Footnote label kids) = PageFits kids
+    PageBlockFits (page.Holds page.Item kids) = PageFits kids
+    PageBlockFits (page.Holds (page.Footnote label) kids) = PageFits kids
     PageBlockFits (page.Ending ending) = IsFed (Some ending)
     PageBlockFits (page.Blank ending) = IsFed (Some ending)
 
@@ -509,30 +509,30 @@ module _ (e : LineEnding) where
     mutual
       read_block-with : (s : Standing) (b : tree.Block) (others' others : page.Blocks) → BlockFits b → others' ≡ page_blocks_with others
           → read_block r s (block_with e b) others' ≡ page_blocks_with (read_block r s b others)
-      read_block-with s (tree.Paragraph ls) others' others p q =
-          ap (λ is. page.Cons (page.Paragraph is) others') (paragraph-with s.first ls p)
-          ∙ ap (page.Cons (page.Paragraph (inlines_with e (read_paragraph r s.first ls)))) q
-      read_block-with s (tree.Heading rank ls) others' others p q =
-          ap (λ is. page.Cons (page.Heading rank is) others') (text-with ls p) ∙ ap (page.Cons (page.Heading rank (inlines_with e (read_text r ls)))) q
-      read_block-with s tree.Break others' others p q = ap (page.Cons page.Break) q
-      read_block-with s (tree.IndentedCode ls) others' others p q = ap (page.Cons (page.IndentedCode (lines_with e ls))) q
-      read_block-with s (tree.FencedCode info is_closed ls) others' others p q =
+      read_block-with s (tree.Leaf (tree.Paragraph ls)) others' others p q =
+          ap (λ is. page.Cons (page.Leaf (page.Paragraph is)) others') (paragraph-with s.first ls p)
+          ∙ ap (page.Cons (page.Leaf (page.Paragraph (inlines_with e (read_paragraph r s.first ls))))) q
+      read_block-with s (tree.Leaf (tree.Heading rank ls)) others' others p q =
+          ap (λ is. page.Cons (page.Leaf (page.Heading rank is)) others') (text-with ls p) ∙ ap (page.Cons (page.Leaf (page.Heading rank (inlines_with e (read_text r ls))))) q
+      read_block-with s (tree.Leaf tree.Break) others' others p q = ap (page.Cons (page.Leaf page.Break)) q
+      read_block-with s (tree.Leaf (tree.IndentedCode ls)) others' others p q = ap (page.Cons (page.Leaf (page.IndentedCode (lines_with e ls)))) q
+      read_block-with s (tree.Leaf (tree.FencedCode info is_closed ls)) others' others p q =
           let code : List BlockLine → page.Block = λ own. page.FencedCode (info_text r info) is_closed own in
           ap (λ own. page.Cons (code own) (after_code s.top is_closed others')) (code_lines-with s.top is_closed ls)
           ∙ ap (page.Cons (code (lines_with e (code_lines s.top is_closed ls)))) (ap (after_code s.top is_closed) q ∙ after_code-with s.top is_closed others)
-      read_block-with s (tree.Html ls) others' others p q = ap (page.Cons (page.Html (lines_with e ls))) q
-      read_block-with s (tree.Table ls) others' others p q =
-          ap (λ t. page.Cons (page.Table t) others') (table-with ls p) ∙ ap (page.Cons (page.Table (table_with e (read_table r ls)))) q
-      read_block-with s (tree.Definition label destination title) others' others p q = ap (page.Cons page.Definition) q
+      read_block-with s (tree.Leaf (tree.Html ls)) others' others p q = ap (page.Cons (page.Leaf (page.Html (lines_with e ls)))) q
+      read_block-with s (tree.Leaf (tree.Table ls)) others' others p q =
+          ap (λ t. page.Cons (page.Leaf (page.Table t)) others') (table-with ls p) ∙ ap (page.Cons (page.Leaf (page.Table (table_with e (read_table r ls))))) q
+      read_block-with s (tree.Leaf (tree.Definition label destination title)) others' others p q = ap (page.Cons (page.Leaf page.Definition)) q
       read_block-with s (tree.Holds Quote kids) others' others p q =
-          ap (λ inside. page.Cons (page.Quote inside) others') (read_blocks-with in_container kids p)
-          ∙ ap (page.Cons (page.Quote (page_blocks_with (read_blocks r in_container kids)))) q
+          ap (λ inside. page.Cons (page.Holds page.Quote inside) others') (read_blocks-with in_container kids p)
+          ∙ ap (page.Cons (page.Holds page.Quote (page_blocks_with (read_blocks r in_container kids)))) q
       read_block-with s (tree.Holds (Item item) kids) others' others p q =
-          ap (λ inside. page.Cons (page.Item inside) others') (read_blocks-with in_item kids p)
-          ∙ ap (page.Cons (page.Item (page_blocks_with (read_blocks r in_item kids)))) q
+          ap (λ inside. page.Cons (page.Holds page.Item inside) others') (read_blocks-with in_item kids p)
+          ∙ ap (page.Cons (page.Holds page.Item (page_blocks_with (read_blocks r in_item kids)))) q
       read_block-with s (tree.Holds (Footnote label) kids) others' others p q =
-          ap (λ inside. page.Cons (page.Footnote label inside) others') (read_blocks-with in_container kids p)
-          ∙ ap (page.Cons (page.Footnote label (page_blocks_with (read_blocks r in_container kids)))) q
+          ap (λ inside. page.Cons (page.Holds (page.Footnote label) inside) others') (read_blocks-with in_container kids p)
+          ∙ ap (page.Cons (page.Holds (page.Footnote label) (page_blocks_with (read_blocks r in_container kids)))) q
       read_block-with s (tree.Items items) others' others p q =
           let items' = read_blocks r in_container (blocks_with e items) in
           ap (λ number. page.Cons (page.ItemList number (is_loose (blocks_with e items)) items') others') (list_number-with items)
@@ -551,15 +551,15 @@ module _ (e : LineEnding) where
 
     mutual
       read_block_fits : (s : Standing) (b : tree.Block) (others : page.Blocks) → BlockFits b → PageFits others → PageFits (read_block r s b others)
-      read_block_fits s (tree.Paragraph ls) others p q = (paragraph_fits s.first ls p, q)
-      read_block_fits s (tree.Heading rank ls) others p q = (text_fits ls p, q)
-      read_block_fits s tree.Break others p q = (tt, q)
-      read_block_fits s (tree.IndentedCode ls) others p q = (p, q)
-      read_block_fits s (tree.FencedCode info is_closed ls) others p q =
+      read_block_fits s (tree.Leaf (tree.Paragraph ls)) others p q = (paragraph_fits s.first ls p, q)
+      read_block_fits s (tree.Leaf (tree.Heading rank ls)) others p q = (text_fits ls p, q)
+      read_block_fits s (tree.Leaf tree.Break) others p q = (tt, q)
+      read_block_fits s (tree.Leaf (tree.IndentedCode ls)) others p q = (p, q)
+      read_block_fits s (tree.Leaf (tree.FencedCode info is_closed ls)) others p q =
           ((info_fits info p.0, code_lines_fit s.top is_closed ls p.1), after_code_fits s.top is_closed others q)
-      read_block_fits s (tree.Html ls) others p q = (p, q)
-      read_block_fits s (tree.Table ls) others p q = (table_fits ls p, q)
-      read_block_fits s (tree.Definition label destination title) others p q = (tt, q)
+      read_block_fits s (tree.Leaf (tree.Html ls)) others p q = (p, q)
+      read_block_fits s (tree.Leaf (tree.Table ls)) others p q = (table_fits ls p, q)
+      read_block_fits s (tree.Leaf (tree.Definition label destination title)) others p q = (tt, q)
       read_block_fits s (tree.Holds Quote kids) others p q = (read_blocks_fit in_container kids p, q)
       read_block_fits s (tree.Holds (Item item) kids) others p q = (read_blocks_fit in_item kids p, q)
       read_block_fits s (tree.Holds (Footnote label) kids) others p q = (read_blocks_fit in_container kids p, q)

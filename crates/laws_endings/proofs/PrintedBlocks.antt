@@ -19,7 +19,7 @@ use Rattle.definition_page.specs.GfmTable.{head_pieces, body_pieces, table_piece
 use Rattle.definition_page.specs.Tags.{Words, Number, Attribute, attribute, tag, bare_tag}
 use Rattle.definition_page.specs.Pieces.{Piece, Void, Says, Eol, Fresh, NoteStart, NoteEnd}
 use Rattle.definition_page.specs.InlinePieces.{Meaning, raw_html, element, inline_counts, inline_pieces}
-use Rattle.definition_page.specs.Page.{Block, Paragraph, Heading, Break, IndentedCode, FencedCode, Html, Table, Definition, Quote, ItemList, Item, Footnote}
+use Rattle.definition_page.specs.Page.{Block, Leaf, Paragraph, Heading, Break, IndentedCode, FencedCode, Html, Table, Definition, Quote, ItemList, Item, Footnote}
 use Rattle.definition_page.specs.Page.{Ending, Blank, Blocks, Nil, Cons}
 use Rattle.definition_page.specs.BlockPieces.{Place, inside, code_line, html_line, says, heading_name}
 use Rattle.definition_page.specs.BlockPieces.{info_attributes, start_attributes, list_tag, is_silent, last_visible, ends_plainly, fresh_unless, fenced_pieces}
@@ -130,22 +130,22 @@ module _ (e : LineEnding) where
 
     is_silent-with : (place : Place) (b : Option Block) → is_silent place (sibling_with b) ≡ is_silent place b
     is_silent-with place None = refl
-    is_silent-with place (Some (Paragraph is)) = refl
-    is_silent-with place (Some Definition) = refl
-    is_silent-with place (Some (Footnote label kids)) = refl
+    is_silent-with place (Some (Leaf (Paragraph is))) = refl
+    is_silent-with place (Some (Leaf Definition)) = refl
+    is_silent-with place (Some (Holds (Footnote label) kids)) = refl
     is_silent-with place (Some b) = refl
 
     last_shown-with : (b : Option Block) (bs : Blocks) → last_visible (sibling_with b) (page_blocks_with e bs) ≡ sibling_with (last_visible b bs)
     last_shown-with b Nil = refl
-    last_shown-with b (Cons Definition bs) = last_shown-with b bs
-    last_shown-with b (Cons (Footnote label kids) bs) = last_shown-with b bs
+    last_shown-with b (Cons (Leaf Definition) bs) = last_shown-with b bs
+    last_shown-with b (Cons (Holds (Footnote label) kids) bs) = last_shown-with b bs
     last_shown-with b (Cons (Ending ending) bs) = last_shown-with b bs
     last_shown-with b (Cons (Blank ending) bs) = last_shown-with b bs
     last_shown-with b (Cons c bs) = last_shown-with (Some c) bs
 
     ends_plainly-with : (tight : Bool) (b : Option Block) → ends_plainly tight (sibling_with b) ≡ ends_plainly tight b
     ends_plainly-with tight None = refl
-    ends_plainly-with tight (Some (Paragraph is)) = refl
+    ends_plainly-with tight (Some (Leaf (Paragraph is))) = refl
     ends_plainly-with tight (Some b) = refl
 
     pub fresh_unless-with : (said : Bool) → PiecesWith e m.compile (fresh_unless said) (fresh_unless said)
@@ -289,16 +289,16 @@ module _ (e : LineEnding) where
     mutual
       block-with : (place : Place) (before : Option Block) (b : Block) → PageBlockFits e b
           → PiecesWith e m.compile (block_pieces m' place (sibling_with before) (page_block_with e b)) (block_pieces m place before b)
-      block-with place before (Paragraph is) p =
+      block-with place before (Leaf (Paragraph is)) p =
           paragraph-with place.tight (inline_pieces m' (inlines_with e is)) (inline_pieces m is) (text-with is p)
-      block-with place before (Heading rank is) p =
+      block-with place before (Leaf (Heading rank is)) p =
           let ps' = inline_pieces m' (inlines_with e is) in
           let ps = inline_pieces m is in
           fresh-then (element (bare_tag (heading_name rank)) ps') (element (bare_tag (heading_name rank)) ps)
           (bare-with (heading_name rank) ps' ps (heading-kept rank) (text-with is p))
-      block-with place before Break p =
+      block-with place before (Leaf Break) p =
           let hr = Void (bare_tag (codes "hr")) ∷ [] in fresh-then hr hr (void_piece-with e m.compile (codes "hr") [] [] refl refl)
-      block-with place before (IndentedCode ls) p =
+      block-with place before (Leaf (IndentedCode ls)) p =
           let all' = says (flat_map code_line (lines_with e ls)) ++ Fresh ∷ [] in
           let all = says (flat_map code_line ls) ++ Fresh ∷ [] in
           let code' = element (bare_tag (codes "code")) all' in
@@ -308,7 +308,7 @@ module _ (e : LineEnding) where
           (bare-with (codes "code") all' all refl
           (append-with e m.compile (says (flat_map code_line (lines_with e ls))) (says (flat_map code_line ls)) (Fresh ∷ []) (Fresh ∷ []) (code-says ls p)
           (fresh_piece-with e m.compile))))
-      block-with place before (FencedCode info is_closed ls) p =
+      block-with place before (Leaf (FencedCode info is_closed ls)) p =
           let all' = fenced_pieces place is_closed (lines_with e ls) in
           let all = fenced_pieces place is_closed ls in
           let code' = element (tag (codes "code") (info_attributes info)) all' in
@@ -321,12 +321,12 @@ module _ (e : LineEnding) where
           (element-with e m.compile (codes "code") (info_attributes info) (info_attributes info) all' all refl (info-with info p.0)
           (fenced-with place is_closed ls p.1))))
           (fresh_unless-with is_closed)
-      block-with place before (Html ls) p =
+      block-with place before (Leaf (Html ls)) p =
           fresh-then (says (flat_map (html_line m.compile) (lines_with e ls))) (says (flat_map (html_line m.compile) ls))
           (saids-with e m.compile (flat_map (html_line m.compile) (lines_with e ls)) (flat_map (html_line m.compile) ls) (html_lines-with ls p))
-      block-with place before (Table t) p = table-printed t p
-      block-with place before Definition p = no_pieces e m.compile
-      block-with place before (Quote kids) p =
+      block-with place before (Leaf (Table t)) p = table-printed t p
+      block-with place before (Leaf Definition) p = no_pieces e m.compile
+      block-with place before (Holds Quote kids) p =
           let kids' = children_pieces m' (inside false) None (page_blocks_with e kids) in
           let ps = children_pieces m (inside false) None kids in
           fresh-then (element (bare_tag (codes "blockquote")) (kids' ++ Fresh ∷ [])) (element (bare_tag (codes "blockquote")) (ps ++ Fresh ∷ []))
@@ -338,7 +338,7 @@ module _ (e : LineEnding) where
           fresh-then (element (list_tag number) (items' ++ Eol ∷ [])) (element (list_tag number) (ps ++ Eol ∷ []))
           (list-with number (items' ++ Eol ∷ []) (ps ++ Eol ∷ [])
           (append-with e m.compile items' ps (Eol ∷ []) (Eol ∷ []) (children-with (inside (not loose)) None items p) (eol_piece-with e m.compile)))
-      block-with place before (Item kids) p =
+      block-with place before (Holds Item kids) p =
           let kids' = children_pieces m' (inside place.tight) None (page_blocks_with e kids) in
           let ps = children_pieces m (inside place.tight) None kids in
           let end = fresh_unless (ends_plainly place.tight (last_visible None kids)) in
@@ -351,7 +351,7 @@ module _ (e : LineEnding) where
           (bare-with (codes "li") (kids' ++ end) (ps ++ end) refl
           (append-with e m.compile kids' ps end end (children-with (inside place.tight) None kids p)
           (fresh_unless-with (ends_plainly place.tight (last_visible None kids))))))
-      block-with place before (Footnote label kids) p =
+      block-with place before (Holds (Footnote label) kids) p =
           let kids' = children_pieces m' (inside false) None (page_blocks_with e kids) in
           let ps = children_pieces m (inside false) None kids in
           note-with e m.compile kids' ps (children-with (inside false) None kids p)

@@ -7,7 +7,7 @@ use Rattle.definition_text.specs.BlockLines.{BlockLine}
 use Rattle.definition_text.specs.Columns.{Code}
 use Rattle.definition_text.specs.Content.{content_of}
 use Rattle.definition_text.specs.Codes.{Symbol, is_of_content, code_of}
-use Rattle.definition_block.specs.Tree.{Block, Paragraph, Heading, IndentedCode, FencedCode, Html, Table, Holds, Items, Blocks, Nil, Cons, blocks}
+use Rattle.definition_block.specs.Tree.{Block, Leaf, Paragraph, Heading, IndentedCode, FencedCode, Html, Table, Holds, Items, Blocks, Nil, Cons, blocks}
 
 -- the code of a symbol of a content
 pub record IsCode (c : Code) : Type 0 where
@@ -22,12 +22,12 @@ AreCodes (c ∷ cs) = IsCode c × AreCodes cs
 -- the lines that have a content, at any depth
 abbrev mutual
   pub block_lines : Block → List BlockLine
-  block_lines (Paragraph ls) = ls
-  block_lines (Heading rank ls) = ls
-  block_lines (IndentedCode ls) = ls
-  block_lines (FencedCode info closed ls) = ls
-  block_lines (Html ls) = ls
-  block_lines (Table ls) = ls
+  block_lines (Leaf (Paragraph ls)) = ls
+  block_lines (Leaf (Heading rank ls)) = ls
+  block_lines (Leaf (IndentedCode ls)) = ls
+  block_lines (Leaf (FencedCode info closed ls)) = ls
+  block_lines (Leaf (Html ls)) = ls
+  block_lines (Leaf (Table ls)) = ls
   block_lines (Holds c kids) = all_lines kids
   block_lines (Items items) = all_lines items
   block_lines b = []

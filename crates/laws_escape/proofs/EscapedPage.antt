@@ -13,7 +13,7 @@ use Rattle.definition_text.specs.Encode.{encode}
 use Rattle.definition_text.specs.Lines.{has_mark, kind_before_text}
 use Rattle.definition_text.specs.BlockLines.{BlockLine, block_line}
 use Rattle.definition_text.specs.InlineCode.{inline_content}
-use Rattle.definition_block.specs.Tree.{Paragraph, block_and_ending, blocks}
+use Rattle.definition_block.specs.Tree.{Leaf, Paragraph, block_and_ending, blocks}
 use Rattle.definition_inline.specs.Scan.{inlines}
 use Rattle.definition_inline.specs.Targets.{no_targets}
 use Rattle.definition_page.specs.TextTables.{TextTables}
@@ -46,7 +46,7 @@ paragraph_adds options default text said adds l =
 -- what a document of one paragraph prints, where its text adds these bytes
 paragraph_html : (tables : TextTables) (options : Options) (ending : LineEnding) (ls : List BlockLine) (said : List ℕ)
     → AddsBytes options.compile (ending_bytes ending) (text_of (document options tables no_targets) ls) said
-    → blocks_html tables options ending (block_and_ending (Paragraph ls) None) ≡ codes "<p>" ++ said ++ codes "</p>"
+    → blocks_html tables options ending (block_and_ending (Leaf (Paragraph ls)) None) ≡ codes "<p>" ++ said ++ codes "</p>"
 paragraph_html tables options ending ls said adds =
     let default = ending_bytes ending in
     let text = text_of (document options tables no_targets) ls in
@@ -67,11 +67,11 @@ line_says d options default line before on h l =
 
 -- the blocks of an escaped line
 its_blocks : (options : Options) (before : Kind) (line : List ℕ) → Begins (with_backslashes line)
-    → blocks options.parse.constructs before (with_backslashes line) ≡ block_and_ending (Paragraph (block_line (with_backslashes line) None before ∷ [])) None
+    → blocks options.parse.constructs before (with_backslashes line) ≡ block_and_ending (Leaf (Paragraph (block_line (with_backslashes line) None before ∷ []))) None
 its_blocks options before line h =
     let on = options.parse.constructs in
     ap (blocks on before) h.are ∙ one_paragraph on h.first h.others h.line before
-    ∙ ap (λ xs. block_and_ending (Paragraph (block_line xs None before ∷ [])) None) (sym h.are)
+    ∙ ap (λ xs. block_and_ending (Leaf (Paragraph (block_line xs None before ∷ []))) None) (sym h.are)
 
 marked_page : (tables : TextTables) (line : List ℕ) (options : Options) (before : Kind) → options.parse.constructs.character_escape ≡ true
     → IsTrimmedLine line → Begins (with_backslashes line)

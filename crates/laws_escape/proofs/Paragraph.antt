@@ -19,7 +19,7 @@ use Rattle.definition_block.specs.Definitions.{DefinitionCut, cut_into, cut_afte
 use Rattle.definition_block.specs.Frontmatter.{is_metadata_fence, after_frontmatter}
 use Rattle.markdown_options.specs.declared.align_kind.AlignKind.{AlignKind}
 use Rattle.definition_block.specs.GfmTable.{delimiter_row, is_head}
-use Rattle.definition_block.specs.Tree.{is_some_line, tabled, Nil, Paragraph, join, block_and_ending, Text, Leaf, Tree, tree, nothing, empty_tree}
+use Rattle.definition_block.specs.Tree.{is_some_line, tabled, Nil, Leaf, Paragraph, join, block_and_ending, Text, At, Tree, tree, nothing, empty_tree}
 use Rattle.definition_block.specs.Tree.{with_paragraph, rest_line, text_line_of, beside_in, leaf_line, start}
 use Rattle.definition_block.specs.Tree.{new}
 use Rattle.definition_block.specs.Tree.{grow, beside_line, step, blocks_at_end, children, children_after, blocks}
@@ -55,13 +55,13 @@ module _ (on : Constructs) (c : ℕ) (cs : List ℕ) (line : BeginsNothing c cs)
   -- ---- the line in the tree
 
   abbrev in_paragraph : Beside → Tree
-  in_paragraph beside = tree Nil (Leaf (Text (rest_line here beside ∷ [])))
+  in_paragraph beside = tree Nil (At (Text (rest_line here beside ∷ [])))
 
   cut_none : definition_cut on [] ≡ cut_into Nil []
   cut_none = cond_both on.definition (cut_most 0 []) (cut_into Nil []) (λ x. x ≡ cut_into Nil []) (λ _. refl) (λ _. refl)
 
   its_text : (beside : Beside) → text_line_of on nothing here beside ≡ in_paragraph beside
-  its_text beside = ap (λ x. tree (join (with_paragraph x) Nil) (Leaf (Text (rest_line here beside ∷ [])))) cut_none
+  its_text beside = ap (λ x. tree (join (with_paragraph x) Nil) (At (Text (rest_line here beside ∷ [])))) cut_none
 
   no_table : (o : Option (List AlignKind)) (row : BlockLine) → option_and_then (tabled on [] row) o ≡ None
   no_table None row = refl
@@ -101,15 +101,15 @@ module _ (on : Constructs) (c : ℕ) (cs : List ℕ) (line : BeginsNothing c cs)
       cond_both on.definition (cut_most 1 (alone before ∷ [])) (cut_into Nil (alone before ∷ [])) (λ x. x ≡ cut_into Nil (alone before ∷ []))
       (λ _. ap (λ o. cut_after o (alone before ∷ []) (cut_most 0)) (no_definition ((cs ++ []) ++ []))) (λ _. refl)
 
-  its_step : (before : Kind) → step on before empty_tree (text_line here None) ≡ tree Nil (Leaf (Text (alone before ∷ [])))
+  its_step : (before : Kind) → step on before empty_tree (text_line here None) ≡ tree Nil (At (Text (alone before ∷ [])))
   its_step before =
       let beside = beside_line before (text_line here None) in
       let on_tree = λ (t : Tree). tree (join Nil t.done) t.now in
       ap (λ xs. on_tree (grow on beside nothing xs)) (no_tabs 0 here line.bytes)
       ∙ ap on_tree (its_place (length here) beside)
-      ∙ ap (λ xs. tree Nil (Leaf (Text (block_line xs None before ∷ [])))) no_columns
+      ∙ ap (λ xs. tree Nil (At (Text (block_line xs None before ∷ [])))) no_columns
 
-  its_children : (before : Kind) → children on before (text_line here None ∷ []) ≡ block_and_ending (Paragraph (alone before ∷ [])) None
+  its_children : (before : Kind) → children on before (text_line here None ∷ []) ≡ block_and_ending (Leaf (Paragraph (alone before ∷ []))) None
   its_children before = ap (blocks_at_end on) (its_step before) ∙ ap with_paragraph (uncut before)
 
   -- ---- the text
@@ -122,7 +122,7 @@ module _ (on : Constructs) (c : ℕ) (cs : List ℕ) (line : BeginsNothing c cs)
       cond-false _ _ _ (and_no on.frontmatter (is_metadata_fence 45 here) (no_metadata 45 (line.no_punctuation 45 refl refl)))
       ∙ cond-false _ _ _ (and_no on.frontmatter (is_metadata_fence 43 here) (no_metadata 43 (line.no_punctuation 43 refl refl)))
 
-  pub one_paragraph : (before : Kind) → blocks on before here ≡ block_and_ending (Paragraph (alone before ∷ [])) None
+  pub one_paragraph : (before : Kind) → blocks on before here ≡ block_and_ending (Leaf (Paragraph (alone before ∷ []))) None
   one_paragraph before =
       let line_alone = text_line here None ∷ [] in
       ap (λ ls. children_after on before ls (after_frontmatter on ls)) (one_line c cs line.bytes)

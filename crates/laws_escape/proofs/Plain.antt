@@ -5,12 +5,12 @@ use Rattle.markdown_options.specs.Defaults.{no_constructs}
 use Rattle.markdown_options.specs.declared.beside.Beside.{Beside}
 use Rattle.definition_text.specs.Columns.{Rest, is_blank}
 use Rattle.definition_text.specs.BlockLines.{BlockLine}
-use Rattle.definition_block.specs.Tree.{Blank, Nil, join, one, Text, Opening, Leaf, Tree, tree, nothing, close_leaf, rest_line, text_line_of, leaf_line, new}
+use Rattle.definition_block.specs.Tree.{Blank, Nil, join, one, Text, Opening, At, Tree, tree, nothing, close_leaf, rest_line, text_line_of, leaf_line, new}
 use Rattle.definition_block.specs.Tree.{grow}
 
 -- the open paragraph with these lines, none where it isn't open
 abbrev pub paragraph : List BlockLine → Opening
-paragraph ls = Leaf (Text ls)
+paragraph ls = At (Text ls)
 
 -- a blank line closes the open paragraph
 abbrev pub blank_tree : List BlockLine → Option LineEnding → Tree

@@ -22,7 +22,7 @@ use Rattle.definition_text.specs.Columns.{Rest, codes_from, whole, is_white, is_
 use Rattle.definition_text.specs.Columns.{columns_after_tab}
 use Rattle.definition_text.specs.Encode.{replacement_character, encoded_byte, encode}
 use Rattle.definition_text.specs.BlockLines.{BlockLine, own_lines}
-use Rattle.definition_block.specs.Tree.{beside_line, Block, Paragraph, Ending, Blank, Blocks, Nil, Cons, join, one, Text, Opening, Leaf, Tree, tree, empty_tree}
+use Rattle.definition_block.specs.Tree.{beside_line, Block, Leaf, Paragraph, Ending, Blank, Blocks, Nil, Cons, join, one, Text, Opening, At, Tree, tree, empty_tree}
 use Rattle.definition_block.specs.Tree.{close_leaf, close, rest_line, grow, step, steps, blocks_at_end, children_after, blocks}
 use Rattle.definition_block.specs.Frontmatter.{after_frontmatter}
 use Rattle.definition_block.specs.Lists.{put_before, grouped_block, group_items}
@@ -282,7 +282,7 @@ plain_shows (line ∷ ls) p =
 
 -- what blocks say: the lines of their paragraphs
 abbrev said_in_block : Block → List ℕ
-said_in_block (Paragraph ls) = said_in_lines ls
+said_in_block (Leaf (Paragraph ls)) = said_in_lines ls
 said_in_block b = []
 
 abbrev said_in_blocks : Blocks → List ℕ
@@ -291,7 +291,7 @@ said_in_blocks (Cons b bs) = said_in_block b ++ said_in_blocks bs
 
 -- a block is a paragraph of lines of text, or an ending
 abbrev BlockIsText : Block → Type 0
-BlockIsText (Paragraph ls) = AreText ls
+BlockIsText (Leaf (Paragraph ls)) = AreText ls
 BlockIsText (Ending ending) = Unit {0}
 BlockIsText (Blank ending) = Unit {0}
 BlockIsText b = ⊥
@@ -302,7 +302,7 @@ BlocksAreText (Cons b bs) = BlockIsText b × BlocksAreText bs
 
 -- there are no items to put into lists
 no_item : (b : Block) (bs : Blocks) → BlockIsText b → put_before (grouped_block b) bs ≡ Cons b bs
-no_item (Paragraph ls) bs p = refl
+no_item (Leaf (Paragraph ls)) bs p = refl
 no_item (Ending ending) bs p = refl
 no_item (Blank ending) bs p = refl
 no_item b bs p = absurd p
@@ -318,7 +318,7 @@ module _ (d : Document) (off : d.options.parse.constructs ≡ no_constructs) (op
   lines_show ls p = pieces_add options default (text_of d ls) (plain_text ls) (said_in_lines ls) (text_is_plain d options default off ls p) (plain_shows ls p)
 
   paragraph_shows : (silent : Bool) (ls : List BlockLine) → AreText ls
-      → PiecesShow options default (block_bytes d on_page false silent (Paragraph ls)) (said_in_lines ls)
+      → PiecesShow options default (block_bytes d on_page false silent (Leaf (Paragraph ls))) (said_in_lines ls)
   paragraph_shows silent ls p =
       let start = Fresh ∷ Bytes (codes "<p>") ∷ [] in
       let end = Bytes (codes "</p>") ∷ [] in
@@ -329,7 +329,7 @@ module _ (d : Document) (off : d.options.parse.constructs ≡ no_constructs) (op
       (pieces_bytes options default (codes "<p>") [] shows_p) in
       let more = pieces-append options default start text [] said first (lines_show ls p) in
       let all = pieces-append options default (start ++ text) end said [] more (pieces_bytes options default (codes "</p>") [] shows_end_of_p) in
-      subst (PiecesShow options default (block_bytes d on_page false silent (Paragraph ls))) (append-nil said) all
+      subst (PiecesShow options default (block_bytes d on_page false silent (Leaf (Paragraph ls)))) (append-nil said) all
 
   ending_shows : (silent : Bool) (ending : Option LineEnding) → PiecesShow options default (block_bytes d on_page false silent (Ending ending)) []
   ending_shows silent ending =
@@ -338,7 +338,7 @@ module _ (d : Document) (off : d.options.parse.constructs ≡ no_constructs) (op
       (λ _. pieces_bytes options default (ending_text ending) [] (shows_ending_text ending))
 
   block_shows : (silent : Bool) (b : Block) → BlockIsText b → PiecesShow options default (block_bytes d on_page false silent b) (said_in_block b)
-  block_shows silent (Paragraph ls) p = paragraph_shows silent ls p
+  block_shows silent (Leaf (Paragraph ls)) p = paragraph_shows silent ls p
   block_shows silent (Ending ending) p = ending_shows silent ending
   block_shows silent (Blank ending) p = pieces_none options default
   block_shows silent b p = absurd p
@@ -364,18 +364,18 @@ said-join (Cons b bs) cs =
 
 -- what is open, as its lines
 abbrev said_in_open : Opening → List ℕ
-said_in_open (Leaf (Text ls)) = said_in_lines ls
+said_in_open (At (Text ls)) = said_in_lines ls
 said_in_open now = []
 
 -- nothing is open but a paragraph, the last line of which has this ending
 abbrev OpenIsText : Option LineEnding → Opening → Type 0
-OpenIsText ending (Leaf (Text ls)) = AreTextTo ending ls
+OpenIsText ending (At (Text ls)) = AreTextTo ending ls
 OpenIsText ending now = ⊥
 
 -- what holds of an open paragraph holds of what is open
 at_paragraph : (ending : Option LineEnding) (P : Opening → Type 0) (now : Opening) → OpenIsText ending now
     → ((ls : List BlockLine) → AreTextTo ending ls → P (paragraph ls)) → P now
-at_paragraph ending P (Leaf (Text ls)) p f = f ls p
+at_paragraph ending P (At (Text ls)) p f = f ls p
 at_paragraph ending P now p f = absurd p
 
 -- what a tree says, after a line with this ending, and that its blocks are text

@@ -23,7 +23,7 @@ use Rattle.definition_page.specs.GfmTable.{head_pieces, body_pieces, table_piece
 use Rattle.definition_page.specs.BlockPieces.{Place, at_top, inside, fresh_unless, says, code_line, html_line, fenced_pieces, is_silent}
 use Rattle.definition_page.specs.BlockPieces.{last_visible, ends_plainly, block_pieces, children_pieces, heading_name, info_attributes, list_tag}
 use Rattle.definition_page.specs.DocumentPieces.{meaning_of}
-use Rattle.definition_page.specs.Page.{Page, Block, Paragraph, Heading, IndentedCode, FencedCode, Html, Table, Quote, ItemList, Item, Footnote, Ending, Blocks}
+use Rattle.definition_page.specs.Page.{Page, Block, Leaf, Paragraph, Heading, IndentedCode, FencedCode, Html, Table, Quote, ItemList, Item, Footnote, Ending, Blocks}
 use Rattle.definition_page.specs.Page.{Nil, Cons}
 use Rattle.definition_page.specs.Layout.{NamedCall, named_call, named_calls}
 use Rattle.definition_page.proofs.Cuts.{calls_append}
@@ -170,34 +170,34 @@ module _ (m : Meaning) where
 
   mutual
     block_leads : (place : Place) (before : Option Block) (b : Block) → Lead (block_pieces m place before b)
-    block_leads place before (Paragraph is) =
+    block_leads place before (Leaf (Paragraph is)) =
         let text = inline_pieces m is in
         either_leads place.tight text (Fresh ∷ element (bare_tag (codes "p")) text) (inlines_lead is)
         (element_leads (bare_tag (codes "p")) text (inlines_lead is))
-    block_leads place before (Heading rank is) = element_leads (bare_tag (heading_name rank)) (inline_pieces m is) (inlines_lead is)
-    block_leads place before (IndentedCode ls) =
+    block_leads place before (Leaf (Heading rank is)) = element_leads (bare_tag (heading_name rank)) (inline_pieces m is) (inlines_lead is)
+    block_leads place before (Leaf (IndentedCode ls)) =
         let code = says (flat_map code_line ls) ++ Fresh ∷ [] in
         element_leads (bare_tag (codes "pre")) (element (bare_tag (codes "code")) code) (element_leads (bare_tag (codes "code")) code (code_leads ls))
-    block_leads place before (FencedCode info is_closed ls) =
+    block_leads place before (Leaf (FencedCode info is_closed ls)) =
         let code = fenced_pieces place is_closed ls in
         let inner = element (tag (codes "code") (info_attributes info)) code in
         both_lead (element (bare_tag (codes "pre")) inner) (fresh_unless is_closed)
         (element_leads (bare_tag (codes "pre")) inner (element_leads (tag (codes "code") (info_attributes info)) code (fenced_leads place is_closed ls)))
         (fresh_leads is_closed)
-    block_leads place before (Html ls) = says_lead (flat_map (html_line m.compile) ls)
-    block_leads place before (Table t) = table_leads t
-    block_leads place before (Quote kids) =
+    block_leads place before (Leaf (Html ls)) = says_lead (flat_map (html_line m.compile) ls)
+    block_leads place before (Leaf (Table t)) = table_leads t
+    block_leads place before (Holds Quote kids) =
         let inner = children_pieces m (inside false) None kids in
         element_leads (bare_tag (codes "blockquote")) (inner ++ Fresh ∷ []) (both_lead inner (Fresh ∷ []) (children_lead (inside false) None kids) no_calls)
     block_leads place before (ItemList number loose items) =
         let inner = children_pieces m (inside (not loose)) None items in
         element_leads (list_tag number) (inner ++ Eol ∷ []) (both_lead inner (Eol ∷ []) (children_lead (inside (not loose)) None items) no_calls)
-    block_leads place before (Item kids) =
+    block_leads place before (Holds Item kids) =
         let inner = children_pieces m (inside place.tight) None kids in
         let end = ends_plainly place.tight (last_visible None kids) in
         element_leads (bare_tag (codes "li")) (inner ++ fresh_unless end)
         (both_lead inner (fresh_unless end) (children_lead (inside place.tight) None kids) (fresh_leads end))
-    block_leads place before (Footnote label kids) =
+    block_leads place before (Holds (Footnote label) kids) =
         let inner = children_pieces m (inside false) None kids in
         both_lead inner (NoteEnd ∷ []) (children_lead (inside false) None kids) no_calls
     block_leads place before (Ending ending) = either_leads (is_silent place before) [] (Says (Words (ending_bytes ending)) ∷ []) no_calls no_calls

@@ -10,7 +10,7 @@ use Rattle.std.proofs.lemmas.Slice.Eq.{bytes_eq-Decides}
 use Rattle.definition_inline.specs.Definition.{Definition as LinkDefinition}
 use Rattle.definition_inline.specs.Inline.{link_texts}
 use Rattle.definition_inline.specs.LabelMatch.{normal_label, first_match}
-use Rattle.definition_block.specs.Blocks.{Block, Paragraph, Heading, Break, IndentedCode, FencedCode, Html, Table, Definition, Holds, Items, Ending, Blank}
+use Rattle.definition_block.specs.Blocks.{Block, Leaf, Paragraph, Heading, Break, IndentedCode, FencedCode, Html, Table, Definition, Holds, Items, Ending, Blank}
 use Rattle.definition_block.specs.Blocks.{Blocks, Nil, Cons}
 use Rattle.definition_block.specs.Definitions.{block_definitions, definitions}
 use Rattle.definition_inline.specs.Targets.{labels_of, no_definition, linked_at, linked_by}
@@ -54,15 +54,15 @@ module _ (P : LinkDefinition → Type 0) where
 
   mutual
     block_defines : (b : Block) → Some_of P (block_definitions b) → BlockDefines P b
-    block_defines (Paragraph ls) h = absurd h
-    block_defines (Heading rank ls) h = absurd h
-    block_defines Break h = absurd h
-    block_defines (IndentedCode ls) h = absurd h
-    block_defines (FencedCode info closed ls) h = absurd h
-    block_defines (Html ls) h = absurd h
-    block_defines (Table ls) h = absurd h
-    block_defines (Definition label destination title) (inl h) = h
-    block_defines (Definition label destination title) (inr h) = absurd h
+    block_defines (Leaf (Paragraph ls)) h = absurd h
+    block_defines (Leaf (Heading rank ls)) h = absurd h
+    block_defines (Leaf Break) h = absurd h
+    block_defines (Leaf (IndentedCode ls)) h = absurd h
+    block_defines (Leaf (FencedCode info closed ls)) h = absurd h
+    block_defines (Leaf (Html ls)) h = absurd h
+    block_defines (Leaf (Table ls)) h = absurd h
+    block_defines (Leaf (Definition label destination title)) (inl h) = h
+    block_defines (Leaf (Definition label destination title)) (inr h) = absurd h
     block_defines (Holds c kids) h = define kids h
     block_defines (Items items) h = define items h
     block_defines (Ending ending) h = absurd h
@@ -75,14 +75,14 @@ module _ (P : LinkDefinition → Type 0) where
 
   mutual
     block_defined : (b : Block) → BlockDefines P b → Some_of P (block_definitions b)
-    block_defined (Paragraph ls) h = absurd h
-    block_defined (Heading rank ls) h = absurd h
-    block_defined Break h = absurd h
-    block_defined (IndentedCode ls) h = absurd h
-    block_defined (FencedCode info closed ls) h = absurd h
-    block_defined (Html ls) h = absurd h
-    block_defined (Table ls) h = absurd h
-    block_defined (Definition label destination title) h = inl h
+    block_defined (Leaf (Paragraph ls)) h = absurd h
+    block_defined (Leaf (Heading rank ls)) h = absurd h
+    block_defined (Leaf Break) h = absurd h
+    block_defined (Leaf (IndentedCode ls)) h = absurd h
+    block_defined (Leaf (FencedCode info closed ls)) h = absurd h
+    block_defined (Leaf (Html ls)) h = absurd h
+    block_defined (Leaf (Table ls)) h = absurd h
+    block_defined (Leaf (Definition label destination title)) h = inl h
     block_defined (Holds c kids) h = defined kids h
     block_defined (Items items) h = defined items h
     block_defined (Ending ending) h = absurd h

@@ -22,7 +22,7 @@ use Rattle.markdown_options.specs.declared.align_kind.AlignKind.{AlignKind}
 use Rattle.definition_block.specs.GfmTable.{delimiter_row, is_head}
 use Rattle.definition_block.specs.Definitions.{DefinitionCut, cut_into, cut_after, cut_most, definition_cut}
 use Rattle.definition_block.specs.Tree.{BlockLine, own_lines, Blank, Blocks, Nil, Cons, join, one, OpenLeaf, Text, Indented, Fenced}
-use Rattle.definition_block.specs.Tree.{OpenHtml, OpenTable, Opening, Leaf, Inside, Tree, tree, nothing, paragraph_of, with_paragraph, container_block, close}
+use Rattle.definition_block.specs.Tree.{OpenHtml, OpenTable, Opening, At, Inside, Tree, tree, nothing, paragraph_of, with_paragraph, container_block, close}
 use Rattle.definition_block.specs.Tree.{has_text, has_table, is_some_line, table_of, tabled, leaf_with_line, with_line, rest_line, html_with, takes, after}
 use Rattle.definition_block.specs.Tree.{fence_tree, html_tree, atx_tree, text_line_of, text_here, heading_of, underlined, leaf_line, beside_in, start, new}
 use Rattle.definition_block.specs.Tree.{is_nothing, is_one_blank, began_blank, goes_on, grow}
@@ -38,7 +38,7 @@ IsDark (Cons b bs) = Unit {0}
 
 -- something is open
 abbrev IsOpen : Opening → Type 0
-IsOpen (Leaf (Text [])) = true ≡ false
+IsOpen (At (Text [])) = true ≡ false
 IsOpen now = Unit {0}
 
 -- what was read first is no blank line
@@ -116,11 +116,11 @@ table_of_begun definitions ls row h =
     let front = take (length ls - 1) ls in
     ⊎_elim (λ none. inr (none, tt)) (λ dark. inl dark) (join_either definitions (paragraph_of front) h (paragraph_either front))
 
-longer_open : (ls : List BlockLine) (line : BlockLine) → IsOpen (Leaf (Text (ls ++ line ∷ [])))
+longer_open : (ls : List BlockLine) (line : BlockLine) → IsOpen (At (Text (ls ++ line ∷ [])))
 longer_open [] line = tt
 longer_open (l ∷ ls) line = tt
 
-leaf_line_open : (line : BlockLine) (leaf : OpenLeaf) → IsOpen (Leaf (leaf_with_line line leaf))
+leaf_line_open : (line : BlockLine) (leaf : OpenLeaf) → IsOpen (At (leaf_with_line line leaf))
 leaf_line_open line (Text ls) = longer_open ls line
 leaf_line_open line (Indented ls pending) = tt
 leaf_line_open line (Fenced fence ending ls) = tt
@@ -128,7 +128,7 @@ leaf_line_open line (OpenHtml kind ls) = tt
 leaf_line_open line (OpenTable ls) = tt
 
 line_open : (line : BlockLine) (now : Opening) → IsOpen (with_line line now)
-line_open line (Leaf leaf) = leaf_line_open line leaf
+line_open line (At leaf) = leaf_line_open line leaf
 line_open line (Inside c kids inner) = tt
 
 module _ (on : Constructs) where
@@ -150,12 +150,12 @@ module _ (on : Constructs) where
 
   -- what is open is something where it is closed
   close_dark : (now : Opening) → IsOpen now → IsDark (close on now)
-  close_dark (Leaf (Text [])) h = absurd (true≢false h)
-  close_dark (Leaf (Text (line ∷ ls))) h = paragraph_dark line ls
-  close_dark (Leaf (Indented ls pending)) h = tt
-  close_dark (Leaf (Fenced fence ending ls)) h = tt
-  close_dark (Leaf (OpenHtml kind ls)) h = tt
-  close_dark (Leaf (OpenTable ls)) h = tt
+  close_dark (At (Text [])) h = absurd (true≢false h)
+  close_dark (At (Text (line ∷ ls))) h = paragraph_dark line ls
+  close_dark (At (Indented ls pending)) h = tt
+  close_dark (At (Fenced fence ending ls)) h = tt
+  close_dark (At (OpenHtml kind ls)) h = tt
+  close_dark (At (OpenTable ls)) h = tt
   close_dark (Inside c kids inner) h = holds_dark c (join kids (close on inner))
 
   closed_nothing : NoneOrDark (close on nothing)
@@ -163,12 +163,12 @@ module _ (on : Constructs) where
       cond_both on.definition (cut_most 0 []) (cut_into Nil []) (λ (parts : DefinitionCut). NoneOrDark (with_paragraph parts)) (λ _. inl refl) (λ _. inl refl)
 
   close_either : (now : Opening) → NoneOrDark (close on now)
-  close_either (Leaf (Text [])) = closed_nothing
-  close_either (Leaf (Text (line ∷ ls))) = inr (paragraph_dark line ls)
-  close_either (Leaf (Indented ls pending)) = inr tt
-  close_either (Leaf (Fenced fence ending ls)) = inr tt
-  close_either (Leaf (OpenHtml kind ls)) = inr tt
-  close_either (Leaf (OpenTable ls)) = inr tt
+  close_either (At (Text [])) = closed_nothing
+  close_either (At (Text (line ∷ ls))) = inr (paragraph_dark line ls)
+  close_either (At (Indented ls pending)) = inr tt
+  close_either (At (Fenced fence ending ls)) = inr tt
+  close_either (At (OpenHtml kind ls)) = inr tt
+  close_either (At (OpenTable ls)) = inr tt
   close_either (Inside c kids inner) = inr (holds_dark c (join kids (close on inner)))
 
   after_begun : (away : Opening) (t : Tree) → IsBegun t → IsBegun (after on away t)
@@ -190,7 +190,7 @@ module _ (on : Constructs) where
   text_begun : (away : Opening) (rest : Rest) (beside : Beside) → IsBegun (text_line_of on away rest beside)
   text_begun away rest beside =
       cond_both (has_text away || has_table away) _ _ IsBegun (λ _. inr (refl, line_open (rest_line rest beside) away))
-      (λ _. after_begun away (tree Nil (Leaf (Text (rest_line rest beside ∷ [])))) (inr (refl, tt)))
+      (λ _. after_begun away (tree Nil (At (Text (rest_line rest beside ∷ [])))) (inr (refl, tt)))
 
   table_begun : (o : Option (List AlignKind)) (ls : List BlockLine) (row : BlockLine) → SomeBegun (option_and_then (tabled on ls row) o)
   table_begun None ls row = tt
@@ -241,9 +241,9 @@ module _ (on : Constructs) where
   goes_on_begun (Some line) c kids inner beside rest more = inr (refl, tt)
 
   grow_begun : (beside : Beside) (now : Opening) (rest : Rest) → IsOpen now → IsBegun (grow on beside now rest)
-  grow_begun beside (Leaf leaf) rest h =
-      where_unwrapped IsBegun (takes on leaf rest beside) (new (length rest) on true (Leaf leaf) beside rest) (takes_begun leaf rest beside)
-      (new_begun (length rest) true (Leaf leaf) beside rest (inl h))
+  grow_begun beside (At leaf) rest h =
+      where_unwrapped IsBegun (takes on leaf rest beside) (new (length rest) on true (At leaf) beside rest) (takes_begun leaf rest beside)
+      (new_begun (length rest) true (At leaf) beside rest (inl h))
   grow_begun beside (Inside c kids inner) rest h =
       goes_on_begun (continues on c (began_blank kids inner) rest) c kids inner beside rest
       (λ line. grow on (beside_in line.before beside) inner line.rest)

@@ -20,14 +20,14 @@ module _ (r : Reading) (off : r.options.constructs.gfm_task_list_item ≡ false)
       let content = without_indent (text_content r ls) in ap (checked_text r content) (no_check r off first (codes_of content))
 
   same_block : (first : Bool) (b : tree.Block) (others : page.Blocks) → read_block r (standing_by first) b others ≡ read_block r in_container b others
-  same_block first (tree.Paragraph ls) others = ap (λ is. page.Cons (page.Paragraph is) others) (same_paragraph first ls)
-  same_block first (tree.Heading rank ls) others = refl
-  same_block first tree.Break others = refl
-  same_block first (tree.IndentedCode ls) others = refl
-  same_block first (tree.FencedCode info is_closed ls) others = refl
-  same_block first (tree.Html ls) others = refl
-  same_block first (tree.Table ls) others = refl
-  same_block first (tree.Definition label destination title) others = refl
+  same_block first (tree.Leaf (tree.Paragraph ls)) others = ap (λ is. page.Cons (page.Leaf (page.Paragraph is)) others) (same_paragraph first ls)
+  same_block first (tree.Leaf (tree.Heading rank ls)) others = refl
+  same_block first (tree.Leaf tree.Break) others = refl
+  same_block first (tree.Leaf (tree.IndentedCode ls)) others = refl
+  same_block first (tree.Leaf (tree.FencedCode info is_closed ls)) others = refl
+  same_block first (tree.Leaf (tree.Html ls)) others = refl
+  same_block first (tree.Leaf (tree.Table ls)) others = refl
+  same_block first (tree.Leaf (tree.Definition label destination title)) others = refl
   same_block first (tree.Holds Quote kids) others = refl
   same_block first (tree.Holds (Item item) kids) others = refl
   same_block first (tree.Holds (Footnote label) kids) others = refl

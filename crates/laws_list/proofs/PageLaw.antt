@@ -92,7 +92,7 @@ module _ (tables : TextTables) (options : Options) (default : LineEnding) (ds : 
 
   -- a list of one item with these children, squeezed
   item_kept : (kids : page.Blocks)
-      → (with_pieces default nothing_yet (pieces_here true (page.Cons (page.Item kids) page.Nil))).kept
+      → (with_pieces default nothing_yet (pieces_here true (page.Cons (page.Holds page.Item kids) page.Nil))).kept
       ≡ kept_around (print_siblings default (meaning tables options default ds) (inside false) None kids nothing_yet).kept
   item_kept kids =
       let f = with_piece default in
@@ -119,8 +119,8 @@ module _ (tables : TextTables) (options : Options) (default : LineEnding) (ds : 
       let all = group_items kids in
       let r = reading tables options default ds in
       let loose : is_loose (tree.one (tree.Holds plus_item all)) ≡ true = ap (λ gap. gap || false) h in
-      ap (λ is. (with_pieces default nothing_yet (pieces_here is (page.Cons (page.Item (read_blocks r in_item all)) page.Nil))).kept) loose
-      ∙ ap (λ inner. (with_pieces default nothing_yet (pieces_here true (page.Cons (page.Item inner) page.Nil))).kept) (read_in_item r off true all)
+      ap (λ is. (with_pieces default nothing_yet (pieces_here is (page.Cons (page.Holds page.Item (read_blocks r in_item all)) page.Nil))).kept) loose
+      ∙ ap (λ inner. (with_pieces default nothing_yet (pieces_here true (page.Cons (page.Holds page.Item inner) page.Nil))).kept) (read_in_item r off true all)
       ∙ item_kept (read_here all)
 
   -- children in a list, with the endings at their end after it, and alone

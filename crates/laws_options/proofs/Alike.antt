@@ -171,18 +171,18 @@ module _ (m : Meaning) (compile : CompileOptions) (alike : Alike compile m.compi
 
   mutual
     same_block : (place : Place) (before : Option page.Block) (b : page.Block) → block_pieces other place before b ≡ block_pieces m place before b
-    same_block place before (page.Paragraph is) = ap (λ ps. cond place.tight ps (Fresh ∷ element (bare_tag (codes "p")) ps)) (same_inlines is)
-    same_block place before (page.Heading rank is) = ap (λ ps. Fresh ∷ element (bare_tag (heading_name rank)) ps) (same_inlines is)
-    same_block place before (page.Html ls) = ap (λ said. Fresh ∷ says said) (same_html ls)
-    same_block place before (page.Table t) = same_table t
-    same_block place before (page.Quote kids) =
+    same_block place before (page.Leaf (page.Paragraph is)) = ap (λ ps. cond place.tight ps (Fresh ∷ element (bare_tag (codes "p")) ps)) (same_inlines is)
+    same_block place before (page.Leaf (page.Heading rank is)) = ap (λ ps. Fresh ∷ element (bare_tag (heading_name rank)) ps) (same_inlines is)
+    same_block place before (page.Leaf (page.Html ls)) = ap (λ said. Fresh ∷ says said) (same_html ls)
+    same_block place before (page.Leaf (page.Table t)) = same_table t
+    same_block place before (page.Holds page.Quote kids) =
         ap (λ ps. Fresh ∷ element (bare_tag (codes "blockquote")) (ps ++ Fresh ∷ [])) (same_children (inside false) None kids)
     same_block place before (page.ItemList number loose items) =
         ap (λ ps. Fresh ∷ element (list_tag number) (ps ++ Eol ∷ [])) (same_children (inside (not loose)) None items)
-    same_block place before (page.Item kids) =
+    same_block place before (page.Holds page.Item kids) =
         ap (λ ps. Fresh ∷ element (bare_tag (codes "li")) (ps ++ fresh_unless (ends_plainly place.tight (last_visible None kids))))
         (same_children (inside place.tight) None kids)
-    same_block place before (page.Footnote label kids) = ap (λ ps. NoteStart ∷ ps ++ NoteEnd ∷ []) (same_children (inside false) None kids)
+    same_block place before (page.Holds (page.Footnote label) kids) = ap (λ ps. NoteStart ∷ ps ++ NoteEnd ∷ []) (same_children (inside false) None kids)
     same_block place before b = refl
 
     same_children : (place : Place) (before : Option page.Block) (bs : page.Blocks) → children_pieces other place before bs ≡ children_pieces m place before bs

@@ -161,28 +161,28 @@ module _ (m : Meaning) (none : m.footnotes ≡ []) where
 
   mutual
     uncalled_block : (place : Place) (before : Option page.Block) (b : page.Block) → AreUncalled (block_pieces m place before b)
-    uncalled_block place before (page.Paragraph is) =
+    uncalled_block place before (page.Leaf (page.Paragraph is)) =
         cond_both place.tight (inline_pieces m is) _ AreUncalled (λ _. uncalled_inlines is)
         (λ _. (tt, uncalled_element (bare_tag (codes "p")) (inline_pieces m is) (uncalled_inlines is)))
-    uncalled_block place before (page.Heading rank is) = (tt, uncalled_element (bare_tag (heading_name rank)) (inline_pieces m is) (uncalled_inlines is))
-    uncalled_block place before page.Break = (tt, (tt, tt))
-    uncalled_block place before (page.IndentedCode ls) =
+    uncalled_block place before (page.Leaf (page.Heading rank is)) = (tt, uncalled_element (bare_tag (heading_name rank)) (inline_pieces m is) (uncalled_inlines is))
+    uncalled_block place before (page.Leaf page.Break) = (tt, (tt, tt))
+    uncalled_block place before (page.Leaf (page.IndentedCode ls)) =
         let lines = says (flat_map code_line ls) ++ Fresh ∷ [] in
         let code = bare_tag (codes "code") in (
           tt,
           uncalled_element (bare_tag (codes "pre")) (element code lines)
               (uncalled_element code lines (uncalled_append (says (flat_map code_line ls)) (Fresh ∷ []) (uncalled_says (flat_map code_line ls)) (tt, tt))),
         )
-    uncalled_block place before (page.FencedCode info is_closed ls) =
+    uncalled_block place before (page.Leaf (page.FencedCode info is_closed ls)) =
         let lines = fenced_pieces place is_closed ls in
         let code = tag (codes "code") (info_attributes info) in
         let pre = bare_tag (codes "pre") in
         uncalled_append (Fresh ∷ element pre (element code lines)) (fresh_unless is_closed)
         (tt, uncalled_element pre (element code lines) (uncalled_element code lines (uncalled_fenced place is_closed ls))) (uncalled_fresh is_closed)
-    uncalled_block place before (page.Html ls) = (tt, uncalled_says (flat_map (html_line m.compile) ls))
-    uncalled_block place before (page.Table t) = uncalled_table t
-    uncalled_block place before page.Definition = tt
-    uncalled_block place before (page.Quote kids) =
+    uncalled_block place before (page.Leaf (page.Html ls)) = (tt, uncalled_says (flat_map (html_line m.compile) ls))
+    uncalled_block place before (page.Leaf (page.Table t)) = uncalled_table t
+    uncalled_block place before (page.Leaf page.Definition) = tt
+    uncalled_block place before (page.Holds page.Quote kids) =
         let lines = children_pieces m (inside false) None kids in (
           tt,
           uncalled_element (bare_tag (codes "blockquote")) (lines ++ Fresh ∷ [])
@@ -194,14 +194,14 @@ module _ (m : Meaning) (none : m.footnotes ≡ []) where
           uncalled_element (list_tag number) (lines ++ Eol ∷ [])
               (uncalled_append lines (Eol ∷ []) (uncalled_children (inside (not loose)) None items) (tt, tt)),
         )
-    uncalled_block place before (page.Item kids) =
+    uncalled_block place before (page.Holds page.Item kids) =
         let lines = children_pieces m (inside place.tight) None kids in
         let plainly = ends_plainly place.tight (last_visible None kids) in (
           tt,
           uncalled_element (bare_tag (codes "li")) (lines ++ fresh_unless plainly)
               (uncalled_append lines (fresh_unless plainly) (uncalled_children (inside place.tight) None kids) (uncalled_fresh plainly)),
         )
-    uncalled_block place before (page.Footnote label kids) =
+    uncalled_block place before (page.Holds (page.Footnote label) kids) =
         let lines = children_pieces m (inside false) None kids in
         (tt, uncalled_append lines (NoteEnd ∷ []) (uncalled_children (inside false) None kids) (tt, tt))
     uncalled_block place before (page.Ending ending) =

@@ -4,7 +4,7 @@ use Rattle.markdown_options.specs.declared.configuration.ParseOptions.{ParseOpti
 use Rattle.definition_inline.specs.Inline.{TaskCheck, Inline, Leaf}
 use Rattle.definition_inline.specs.EachPart.{EachOf}
 use Rattle.definition_page.specs.TextTables.{TextTables}
-use Rattle.definition_page.specs.Page.{Block, Paragraph, Quote, ItemList, Item, Footnote, Blocks, Nil, Cons}
+use Rattle.definition_page.specs.Page.{Block, Leaf, Paragraph, Quote, ItemList, Item, Footnote, Blocks, Nil, Cons}
 use Rattle.definition_page.specs.Read.{read}
 
 -- a part that is no check
@@ -15,11 +15,11 @@ IsNoCheck i = Unit {0}
 -- no paragraph has a check, at any depth
 abbrev mutual
   pub HasNoCheck : Block → Type 0
-  HasNoCheck (Paragraph is) = EachOf IsNoCheck is
-  HasNoCheck (Quote kids) = HaveNoChecks kids
+  HasNoCheck (Leaf (Paragraph is)) = EachOf IsNoCheck is
+  HasNoCheck (Holds Quote kids) = HaveNoChecks kids
   HasNoCheck (ItemList number loose items) = HaveNoChecks items
-  HasNoCheck (Item kids) = HaveNoChecks kids
-  HasNoCheck (Footnote label kids) = HaveNoChecks kids
+  HasNoCheck (Holds Item kids) = HaveNoChecks kids
+  HasNoCheck (Holds (Footnote label) kids) = HaveNoChecks kids
   HasNoCheck b = Unit {0}
 
   pub HaveNoChecks : Blocks → Type 0

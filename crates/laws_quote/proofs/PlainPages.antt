@@ -69,14 +69,14 @@ module _ (on : Constructs) (off : on.gfm_footnote_definition ≡ false) where
     has_no_note (tree.Holds (Item item) kids) p = have_no_notes kids p.1
     has_no_note (tree.Holds (Footnote label) kids) p = absurd (both_ways on.gfm_footnote_definition off p.0)
     has_no_note (tree.Items items) p = absurd p
-    has_no_note (tree.Paragraph ls) p = tt
-    has_no_note (tree.Heading rank ls) p = tt
-    has_no_note tree.Break p = tt
-    has_no_note (tree.IndentedCode ls) p = tt
-    has_no_note (tree.FencedCode info closed ls) p = tt
-    has_no_note (tree.Html ls) p = tt
-    has_no_note (tree.Table ls) p = tt
-    has_no_note (tree.Definition label destination title) p = tt
+    has_no_note (tree.Leaf (tree.Paragraph ls)) p = tt
+    has_no_note (tree.Leaf (tree.Heading rank ls)) p = tt
+    has_no_note (tree.Leaf tree.Break) p = tt
+    has_no_note (tree.Leaf (tree.IndentedCode ls)) p = tt
+    has_no_note (tree.Leaf (tree.FencedCode info closed ls)) p = tt
+    has_no_note (tree.Leaf (tree.Html ls)) p = tt
+    has_no_note (tree.Leaf (tree.Table ls)) p = tt
+    has_no_note (tree.Leaf (tree.Definition label destination title)) p = tt
     has_no_note (tree.Ending ending) p = tt
     has_no_note (tree.Blank ending) p = tt
 
@@ -150,10 +150,10 @@ mutual
 
 abbrev mutual
   ReadsNoNote : page.Block → Type 0
-  ReadsNoNote (page.Quote kids) = ReadNoNotes kids
+  ReadsNoNote (page.Holds page.Quote kids) = ReadNoNotes kids
   ReadsNoNote (page.ItemList number loose items) = ReadNoNotes items
-  ReadsNoNote (page.Item kids) = ReadNoNotes kids
-  ReadsNoNote (page.Footnote label kids) = ⊥
+  ReadsNoNote (page.Holds page.Item kids) = ReadNoNotes kids
+  ReadsNoNote (page.Holds (page.Footnote label) kids) = ⊥
   ReadsNoNote b = Unit {0}
 
   ReadNoNotes : page.Blocks → Type 0
@@ -167,15 +167,15 @@ notes_without_ending bs p = p
 module _ (r : Reading) where
   mutual
     note_read : (standing : Standing) (b : tree.Block) (others : page.Blocks) → HasNoNote b → ReadNoNotes others → ReadNoNotes (read_block r standing b others)
-    note_read standing (tree.Paragraph ls) others p q = (tt, q)
-    note_read standing (tree.Heading rank ls) others p q = (tt, q)
-    note_read standing tree.Break others p q = (tt, q)
-    note_read standing (tree.IndentedCode ls) others p q = (tt, q)
-    note_read standing (tree.FencedCode info closed ls) others p q =
+    note_read standing (tree.Leaf (tree.Paragraph ls)) others p q = (tt, q)
+    note_read standing (tree.Leaf (tree.Heading rank ls)) others p q = (tt, q)
+    note_read standing (tree.Leaf tree.Break) others p q = (tt, q)
+    note_read standing (tree.Leaf (tree.IndentedCode ls)) others p q = (tt, q)
+    note_read standing (tree.Leaf (tree.FencedCode info closed ls)) others p q =
         (tt, cond_both (standing.top && not closed) (without_ending others) others ReadNoNotes (λ _. notes_without_ending others q) (λ _. q))
-    note_read standing (tree.Html ls) others p q = (tt, q)
-    note_read standing (tree.Table ls) others p q = (tt, q)
-    note_read standing (tree.Definition label destination title) others p q = (tt, q)
+    note_read standing (tree.Leaf (tree.Html ls)) others p q = (tt, q)
+    note_read standing (tree.Leaf (tree.Table ls)) others p q = (tt, q)
+    note_read standing (tree.Leaf (tree.Definition label destination title)) others p q = (tt, q)
     note_read standing (tree.Holds Quote kids) others p q = (notes_read in_container kids p, q)
     note_read standing (tree.Holds (Item item) kids) others p q = (notes_read in_item kids p, q)
     note_read standing (tree.Holds (Footnote label) kids) others p q = absurd p
@@ -283,36 +283,36 @@ module _ (m : Meaning) (none : m.footnotes ≡ []) where
 
   mutual
     block_plain : (place : Place) (before : Option page.Block) (b : page.Block) → ReadsNoNote b → ArePlain (block_pieces m place before b)
-    block_plain place before (page.Paragraph is) p =
+    block_plain place before (page.Leaf (page.Paragraph is)) p =
         let text = inline_pieces m is in
         cond_both place.tight text (Fresh ∷ element (bare_tag (codes "p")) text) ArePlain (λ _. inline_plain is)
         (λ _. (tt, plain-element _ text (inline_plain is)))
-    block_plain place before (page.Heading rank is) p = (tt, plain-element _ (inline_pieces m is) (inline_plain is))
-    block_plain place before page.Break p = (tt, (tt, tt))
-    block_plain place before (page.IndentedCode ls) p =
+    block_plain place before (page.Leaf (page.Heading rank is)) p = (tt, plain-element _ (inline_pieces m is) (inline_plain is))
+    block_plain place before (page.Leaf page.Break) p = (tt, (tt, tt))
+    block_plain place before (page.Leaf (page.IndentedCode ls)) p =
         let lines = says (flat_map code_line ls) in
         let code = lines ++ Fresh ∷ [] in (
           tt,
           plain-element _ (element (bare_tag (codes "code")) code)
               (plain-element _ code (plain-append lines (Fresh ∷ []) (plain-says (flat_map code_line ls)) (tt, tt))),
         )
-    block_plain place before (page.FencedCode info closed ls) p =
+    block_plain place before (page.Leaf (page.FencedCode info closed ls)) p =
         let lines = fenced_pieces place closed ls in
         let code = element (tag (codes "code") (info_attributes info)) lines in (
           tt,
           plain-append (element (bare_tag (codes "pre")) code) (fresh_unless closed)
               (plain-element _ code (plain-element _ lines (fenced_plain place closed ls))) (plain-fresh_unless closed),
         )
-    block_plain place before (page.Html ls) p = (tt, plain-says (flat_map (html_line m.compile) ls))
-    block_plain place before (page.Table t) p = table_plain t
-    block_plain place before page.Definition p = tt
-    block_plain place before (page.Quote kids) p =
+    block_plain place before (page.Leaf (page.Html ls)) p = (tt, plain-says (flat_map (html_line m.compile) ls))
+    block_plain place before (page.Leaf (page.Table t)) p = table_plain t
+    block_plain place before (page.Leaf page.Definition) p = tt
+    block_plain place before (page.Holds page.Quote kids) p =
         let inner = children_pieces m (inside false) None kids in
         (tt, plain-element _ (inner ++ Fresh ∷ []) (plain-append inner (Fresh ∷ []) (children_plain (inside false) None kids p) (tt, tt)))
     block_plain place before (page.ItemList number loose items) p =
         let inner = children_pieces m (inside (not loose)) None items in
         (tt, plain-element _ (inner ++ Eol ∷ []) (plain-append inner (Eol ∷ []) (children_plain (inside (not loose)) None items p) (tt, tt)))
-    block_plain place before (page.Item kids) p =
+    block_plain place before (page.Holds page.Item kids) p =
         let inner = children_pieces m (inside place.tight) None kids in
         let end = fresh_unless (ends_plainly place.tight (last_visible None kids)) in (
           tt,
@@ -320,7 +320,7 @@ module _ (m : Meaning) (none : m.footnotes ≡ []) where
               (plain-append inner end (children_plain (inside place.tight) None kids p)
               (plain-fresh_unless (ends_plainly place.tight (last_visible None kids)))),
         )
-    block_plain place before (page.Footnote label kids) p = absurd p
+    block_plain place before (page.Holds (page.Footnote label) kids) p = absurd p
     block_plain place before (page.Ending ending) p =
         cond_both (is_silent place before) [] _ ArePlain (λ _. tt) (λ _. (tt, tt))
     block_plain place before (page.Blank ending) p = tt

@@ -28,9 +28,9 @@ use Rattle.laws_quote.proofs.Printed.{with_piece, with_pieces, kept_at_fresh, ke
 ending_alike : (m : Meaning) (before : Option page.Block) (ending : LineEnding)
     → block_pieces m at_top before (page.Ending ending) ≡ block_pieces m (inside false) before (page.Ending ending)
 ending_alike m None ending = refl
-ending_alike m (Some (page.Paragraph is)) ending = refl
-ending_alike m (Some page.Definition) ending = refl
-ending_alike m (Some (page.Footnote label kids)) ending = refl
+ending_alike m (Some (page.Leaf (page.Paragraph is))) ending = refl
+ending_alike m (Some (page.Leaf page.Definition)) ending = refl
+ending_alike m (Some (page.Holds (page.Footnote label) kids)) ending = refl
 ending_alike m (Some b) ending = refl
 
 -- so does fenced code that is closed
@@ -39,7 +39,7 @@ lines_alike [] = refl
 lines_alike (line ∷ others) = refl
 
 fenced_alike : (m : Meaning) (before : Option page.Block) (info : Option (List ℕ)) (ls : List BlockLine)
-    → block_pieces m at_top before (page.FencedCode info true ls) ≡ block_pieces m (inside false) before (page.FencedCode info true ls)
+    → block_pieces m at_top before (page.Leaf (page.FencedCode info true ls)) ≡ block_pieces m (inside false) before (page.Leaf (page.FencedCode info true ls))
 fenced_alike m before info ls =
     ap (λ ps. Fresh ∷ (element (bare_tag (codes "pre")) (element (tag (codes "code") (info_attributes info)) ps) ++ []))
     (lines_alike ls)
@@ -54,28 +54,28 @@ data ReadBoth (m : Meaning) (r : Reading) (b : tree.Block) : Type 0 where
       → ((before : Option page.Block) → block_pieces m at_top before c ≡ block_pieces m (inside false) before c) → ReadBoth m r b
   Nothing : ((top : Bool) (others : page.Blocks) → read_block r (standing_at top) b others ≡ others) → ReadBoth m r b
   Unclosed : (info : Option (List ℕ)) (ls : List BlockLine)
-      → ((others : page.Blocks) → read_block r on_page b others ≡ page.Cons (page.FencedCode info false ls) (without_ending others))
-      → ((others : page.Blocks) → read_block r in_container b others ≡ page.Cons (page.FencedCode info false (own_lines ls)) others) → ReadBoth m r b
+      → ((others : page.Blocks) → read_block r on_page b others ≡ page.Cons (page.Leaf (page.FencedCode info false ls)) (without_ending others))
+      → ((others : page.Blocks) → read_block r in_container b others ≡ page.Cons (page.Leaf (page.FencedCode info false (own_lines ls))) others) → ReadBoth m r b
 
 closed_read : (r : Reading) (info : List ℕ) (ls : List BlockLine) (top : Bool) (others : page.Blocks)
-    → read_block r (standing_at top) (tree.FencedCode info true ls) others ≡ page.Cons (page.FencedCode (info_text r info) true ls) others
+    → read_block r (standing_at top) (tree.Leaf (tree.FencedCode info true ls)) others ≡ page.Cons (page.Leaf (page.FencedCode (info_text r info) true ls)) others
 closed_read r info ls true others = refl
 closed_read r info ls false others = refl
 
 read_both : (m : Meaning) (r : Reading) (b : tree.Block) → ReadBoth m r b
-read_both m r (tree.Paragraph ls) = Alike (page.Paragraph (read_text r ls)) (λ top others. refl) (λ before. refl)
-read_both m r (tree.Heading rank ls) = Alike (page.Heading rank (read_text r ls)) (λ top others. refl) (λ before. refl)
-read_both m r tree.Break = Alike page.Break (λ top others. refl) (λ before. refl)
-read_both m r (tree.IndentedCode ls) = Alike (page.IndentedCode ls) (λ top others. refl) (λ before. refl)
-read_both m r (tree.FencedCode info true ls) =
-    Alike (page.FencedCode (info_text r info) true ls) (closed_read r info ls) (λ before. fenced_alike m before (info_text r info) ls)
-read_both m r (tree.FencedCode info false ls) = Unclosed (info_text r info) ls (λ others. refl) (λ others. refl)
-read_both m r (tree.Html ls) = Alike (page.Html ls) (λ top others. refl) (λ before. refl)
-read_both m r (tree.Table ls) = Alike (page.Table (read_table r ls)) (λ top others. refl) (λ before. refl)
-read_both m r (tree.Definition label destination title) = Alike page.Definition (λ top others. refl) (λ before. refl)
-read_both m r (tree.Holds Quote kids) = Alike (page.Quote (read_blocks r in_container kids)) (λ top others. refl) (λ before. refl)
-read_both m r (tree.Holds (Item item) kids) = Alike (page.Item (read_blocks r in_item kids)) (λ top others. refl) (λ before. refl)
-read_both m r (tree.Holds (Footnote label) kids) = Alike (page.Footnote label (read_blocks r in_container kids)) (λ top others. refl) (λ before. refl)
+read_both m r (tree.Leaf (tree.Paragraph ls)) = Alike (page.Leaf (page.Paragraph (read_text r ls))) (λ top others. refl) (λ before. refl)
+read_both m r (tree.Leaf (tree.Heading rank ls)) = Alike (page.Leaf (page.Heading rank (read_text r ls))) (λ top others. refl) (λ before. refl)
+read_both m r (tree.Leaf tree.Break) = Alike (page.Leaf page.Break) (λ top others. refl) (λ before. refl)
+read_both m r (tree.Leaf (tree.IndentedCode ls)) = Alike (page.Leaf (page.IndentedCode ls)) (λ top others. refl) (λ before. refl)
+read_both m r (tree.Leaf (tree.FencedCode info true ls)) =
+    Alike (page.Leaf (page.FencedCode (info_text r info) true ls)) (closed_read r info ls) (λ before. fenced_alike m before (info_text r info) ls)
+read_both m r (tree.Leaf (tree.FencedCode info false ls)) = Unclosed (info_text r info) ls (λ others. refl) (λ others. refl)
+read_both m r (tree.Leaf (tree.Html ls)) = Alike (page.Leaf (page.Html ls)) (λ top others. refl) (λ before. refl)
+read_both m r (tree.Leaf (tree.Table ls)) = Alike (page.Leaf (page.Table (read_table r ls))) (λ top others. refl) (λ before. refl)
+read_both m r (tree.Leaf (tree.Definition label destination title)) = Alike (page.Leaf page.Definition) (λ top others. refl) (λ before. refl)
+read_both m r (tree.Holds Quote kids) = Alike (page.Holds page.Quote (read_blocks r in_container kids)) (λ top others. refl) (λ before. refl)
+read_both m r (tree.Holds (Item item) kids) = Alike (page.Holds page.Item (read_blocks r in_item kids)) (λ top others. refl) (λ before. refl)
+read_both m r (tree.Holds (Footnote label) kids) = Alike (page.Holds (page.Footnote label) (read_blocks r in_container kids)) (λ top others. refl) (λ before. refl)
 read_both m r (tree.Items items) =
     Alike (page.ItemList (list_number items) (is_loose items) (read_blocks r in_container items)) (λ top others. refl) (λ before. refl)
 read_both m r (tree.Ending None) = Nothing (λ top others. refl)

@@ -17,7 +17,7 @@ use Rattle.definition_page.specs.GfmTable.{TableRow, Table as TableOf, align_att
 use Rattle.definition_page.specs.GfmTable.{head_pieces, body_pieces, table_pieces}
 use Rattle.definition_page.specs.Tags.{Words, Number, Tag, tag, bare_tag}
 use Rattle.definition_page.specs.Pieces.{Piece, Void, Says, Eol, Fresh}
-use Rattle.definition_page.specs.Page.{Page, Block, Paragraph, Heading, Break, IndentedCode, FencedCode, Html, Table, Definition, Quote, ItemList, Item}
+use Rattle.definition_page.specs.Page.{Page, Block, Leaf, Paragraph, Heading, Break, IndentedCode, FencedCode, Html, Table, Definition, Quote, ItemList, Item}
 use Rattle.definition_page.specs.Page.{Footnote, Ending, Blank, Blocks, Nil as NoBlocks, Cons}
 use Rattle.definition_page.specs.InlinePieces.{Meaning, inline_counts, element, inline_pieces}
 use Rattle.definition_page.specs.GfmFootnoteDefinition.{Footnote as NoteWithCalls, section_pieces}
@@ -56,13 +56,13 @@ RowsEndLines rows = Each (λ (row : TableRow). CellsEndLines row.cells) rows
 -- headings have such ranks, and the codes of line endings are those, at any depth
 abbrev mutual
   pub IsReadable : Block → Type 0
-  IsReadable (Paragraph is) = AllEndLines is
-  IsReadable (Heading rank is) = (is_rank rank ≡ true) × AllEndLines is
-  IsReadable (Table t) = CellsEndLines t.head.cells × RowsEndLines t.rows
-  IsReadable (Quote kids) = AreReadable kids
+  IsReadable (Leaf (Paragraph is)) = AllEndLines is
+  IsReadable (Leaf (Heading rank is)) = (is_rank rank ≡ true) × AllEndLines is
+  IsReadable (Leaf (Table t)) = CellsEndLines t.head.cells × RowsEndLines t.rows
+  IsReadable (Holds Quote kids) = AreReadable kids
   IsReadable (ItemList number loose items) = AreReadable items
-  IsReadable (Item kids) = AreReadable kids
-  IsReadable (Footnote label kids) = AreReadable kids
+  IsReadable (Holds Item kids) = AreReadable kids
+  IsReadable (Holds (Footnote label) kids) = AreReadable kids
   IsReadable b = Unit {0}
 
   pub AreReadable : Blocks → Type 0
@@ -225,43 +225,43 @@ module _ (default : List ℕ) (ending : IsText default) (m : Meaning) (safe : Ar
     unfolding start_rows void_rows
 
     block_adds : (place : Place) (before : Option Block) (b : Block) → IsReadable b → Lays m.compile default (block_pieces m place before b)
-    block_adds place before (Paragraph is) h =
+    block_adds place before (Leaf (Paragraph is)) h =
         let text = inline_pieces m is in
         let p = inline_adds default m safe is h in
         cond_both place.tight text _ (Lays m.compile default) (λ _. p) (λ _. block_element (bare_tag (codes "p")) text (tt, refl) p)
-    block_adds place before (Heading rank is) h =
+    block_adds place before (Leaf (Heading rank is)) h =
         block_element (bare_tag (heading_name rank)) (inline_pieces m is) (heading_is_tag rank h.0) (inline_adds default m safe is h.1)
-    block_adds place before Break h = fresh_line (Void (bare_tag (codes "hr")) ∷ []) (lays_void m.compile default (bare_tag (codes "hr")) (tt, refl))
-    block_adds place before (IndentedCode ls) h =
+    block_adds place before (Leaf Break) h = fresh_line (Void (bare_tag (codes "hr")) ∷ []) (lays_void m.compile default (bare_tag (codes "hr")) (tt, refl))
+    block_adds place before (Leaf (IndentedCode ls)) h =
         let lines = says (flat_map code_line ls) ++ Fresh ∷ [] in
         block_element (bare_tag (codes "pre")) (element (bare_tag (codes "code")) lines) (tt, refl)
         (lays_element m.compile default (bare_tag (codes "code")) lines (tt, refl) (and_fresh (says (flat_map code_line ls)) (code_adds ls)))
-    block_adds place before (FencedCode info is_closed ls) h =
+    block_adds place before (Leaf (FencedCode info is_closed ls)) h =
         let code = tag (codes "code") (info_attributes info) in
         let lines = fenced_pieces place is_closed ls in
         lays_append m.compile default (Fresh ∷ element (bare_tag (codes "pre")) (element code lines)) (fresh_unless is_closed)
         (block_element (bare_tag (codes "pre")) (element code lines) (tt, refl)
         (lays_element m.compile default code lines (code_is_tag info) (fenced_adds place is_closed ls)))
         (adds_fresh_unless is_closed)
-    block_adds place before (Html ls) h =
+    block_adds place before (Leaf (Html ls)) h =
         fresh_line (says (flat_map (html_line m.compile) ls))
         (lays_parts m.compile default (flat_map (html_line m.compile) ls)
         (each_flat_map IsTextPart (html_line m.compile) ls (λ line. (html_is_text m.compile safe (bytes_of line.codes), (tt, tt)))))
-    block_adds place before (Table t) h = table_adds t h.0 h.1
-    block_adds place before Definition h = lays_nothing m.compile default
-    block_adds place before (Quote kids) h =
+    block_adds place before (Leaf (Table t)) h = table_adds t h.0 h.1
+    block_adds place before (Leaf Definition) h = lays_nothing m.compile default
+    block_adds place before (Holds Quote kids) h =
         let lines = children_pieces m (inside false) None kids in
         block_element (bare_tag (codes "blockquote")) (lines ++ Fresh ∷ []) (tt, refl) (and_fresh lines (children_add (inside false) None kids h))
     block_adds place before (ItemList number loose items) h =
         let lines = children_pieces m (inside (not loose)) None items in
         block_element (list_tag number) (lines ++ Eol ∷ []) (list_is_tag number)
         (lays_append m.compile default lines (Eol ∷ []) (children_add (inside (not loose)) None items h) (lays_eol m.compile default ending))
-    block_adds place before (Item kids) h =
+    block_adds place before (Holds Item kids) h =
         let lines = children_pieces m (inside place.tight) None kids in
         let plainly = ends_plainly place.tight (last_visible None kids) in
         block_element (bare_tag (codes "li")) (lines ++ fresh_unless plainly) (tt, refl)
         (lays_append m.compile default lines (fresh_unless plainly) (children_add (inside place.tight) None kids h) (adds_fresh_unless plainly))
-    block_adds place before (Footnote label kids) h =
+    block_adds place before (Holds (Footnote label) kids) h =
         lays_note m.compile default (children_pieces m (inside false) None kids) (children_add (inside false) None kids h)
     block_adds place before (Ending ending) h =
         cond_both (is_silent place before) [] (Says (Words (ending_bytes ending)) ∷ []) (Lays m.compile default) (λ _. lays_nothing m.compile default)

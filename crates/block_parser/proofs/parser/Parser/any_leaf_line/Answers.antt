@@ -3,7 +3,7 @@ use Rattle.std.proofs.lemmas.Result.{on_ok_weaker}
 use Rattle.definition_text.specs.Indents.{outdent}
 use Rattle.definition_block.specs.CodeIndented.{starts_code_indented}
 use Rattle.definition_text.specs.BlockLines.{spaced_line}
-use Rattle.definition_block.specs.Tree.{Heading, Break, Blank, Nil, Tree, tree, nothing, one, block_and_ending, join, Text, Indented, Fenced, Leaf}
+use Rattle.definition_block.specs.Tree.{Leaf, Heading, Break, Blank, Nil, Tree, tree, nothing, one, block_and_ending, join, Text, Indented, Fenced, At}
 use Rattle.definition_block.specs.Tree.{rest_line, close, html_with, text_here}
 use Rattle.block_starts.specs.View.{rest_of}
 use Rattle.block_starts.specs.CodeFenced.{fence_view, fence_if}
@@ -41,7 +41,7 @@ returns-then-begins_code g c =
     let e = c.args.beside in
     let text_is = c.has_text-paragraph.ensures (spine_at around kids away) h ∙ steps.has_text_at around kids away in
     let not_code = ap (λ b. starts_code_indented on r && not b) (sym text_is) ∙ sym c.begins_code.ensures in
-    let more = tree Nil (Leaf (Indented (rest_line (outdent 4 r) e ∷ []) [])) in
+    let more = tree Nil (At (Indented (rest_line (outdent 4 r) e ∷ []) [])) in
     let k = c.in_ok-close_to-2.ensures.read around kids away deep clean h in
     subst (λ (x : Tree). HasRead c.start_indented.new.self (spine_after around kids x))
     (sym (steps.indented_leaf on away r e (sym c.is_blank.ensures ∙ c.if-is_blank.false) (not_code ∙ c.if-begins_code.true)))
@@ -56,7 +56,7 @@ returns-in-Some g c =
     let e = c.args.beside in
     let text_is = c.has_text-paragraph.ensures (spine_at around kids away) h ∙ steps.has_text_at around kids away in
     let not_code = ap (λ b. starts_code_indented on r && not b) (sym text_is) ∙ sym c.begins_code.ensures in
-    let more = tree Nil (Leaf (Fenced (fence_view c.in-Some.fence) e.ending [])) in
+    let more = tree Nil (At (Fenced (fence_view c.in-Some.fence) e.ending [])) in
     let k = c.in_ok-close_to-3.ensures.read around kids away deep clean h in
     subst (λ (x : Tree). HasRead c.start_fenced.new.self (spine_after around kids x))
     (sym (steps.fenced_leaf on away r e (sym c.is_blank.ensures ∙ c.if-is_blank.false) (not_code ∙ c.if-begins_code.false) (fence_view c.in-Some.fence)
@@ -91,7 +91,7 @@ returns-in-Some-heading_atx g c =
     let text_is = c.has_text-paragraph.ensures (spine_at around kids away) h ∙ steps.has_text_at around kids away in
     let not_code = ap (λ b. starts_code_indented on r && not b) (sym text_is) ∙ sym c.begins_code.ensures in
     let html_is = ap (λ b. html_start on b r) (sym text_is) ∙ sym c.html_start.ensures in
-    let more = tree (block_and_ending (Heading c.in-Some-heading_atx.atx.rank (spaced_line c.in-Some-heading_atx.atx.content.now None ∷ [])) e.ending)
+    let more = tree (block_and_ending (Leaf (Heading c.in-Some-heading_atx.atx.rank (spaced_line c.in-Some-heading_atx.atx.content.now None ∷ []))) e.ending)
     nothing in
     let k = c.in_ok-close_to-5.ensures.read around kids away deep clean h in
     subst (λ (x : Tree). HasRead c.heading.new.self (spine_after around kids x))
@@ -130,7 +130,7 @@ returns-then-is_break g c =
     let text_is = c.has_text-paragraph.ensures (spine_at around kids away) h ∙ steps.has_text_at around kids away in
     let not_code = ap (λ b. starts_code_indented on r && not b) (sym text_is) ∙ sym c.begins_code.ensures in
     let html_is = ap (λ b. html_start on b r) (sym text_is) ∙ sym c.html_start.ensures in
-    let more = tree (block_and_ending Break e.ending) nothing in
+    let more = tree (block_and_ending (Leaf Break) e.ending) nothing in
     let k = c.in_ok-close_to-6.ensures.read around kids away deep clean (c.turns.ensures.kept (spine_at around kids away) h) in
     subst (λ (x : Tree). HasRead c.thematic_break.new.self (spine_after around kids x))
     (sym (steps.break_leaf on away r e (sym c.is_blank.ensures ∙ c.if-is_blank.false) (not_code ∙ c.if-begins_code.false)

@@ -1,5 +1,5 @@
 use Rattle.std.proofs.Common.{◌≡◌, ◌+◌, true, false, ◌&&◌, ◌==◌, sym, ap, ◌∙◌, length, arith}
-use Rattle.definition_block.specs.Tree.{Leaf, Inside}
+use Rattle.definition_block.specs.Tree.{At, Inside}
 use Rattle.definition_block.specs.Tree.{is_nothing}
 use Rattle.text_pieces.specs.Pieces.{piece_lines}
 use Rattle.block_starts.specs.View.{container_views}
@@ -20,7 +20,7 @@ returns-then-depth-len g c = λ around kids inner_kids holder inner deep h.
     let blank = p.rows.bare && is_one_blank_row p.rows.waiting.items in
     let other : (length around + 1 == length opened) ≡ false =
     ne_eqb (length around + 1) (length opened) (λ e. c.if-depth-len.true (omega (arith, e, deep, c.len.ensures, p.open.ok.0, count))) in
-    sym (ap (λ x. x && is_nothing (Leaf s.leaf) && blank) other)
+    sym (ap (λ x. x && is_nothing (At s.leaf) && blank) other)
     ∙ descending.began_is p.rows.rows.items p.rows.waiting.items p.rows.bare (piece_lines p.pieces.items) opened around kids inner_kids holder inner
     (leaf_lines s.leaf) h.written h.opened
 
@@ -33,7 +33,7 @@ returns-then-is_nothing g c = λ around kids inner_kids holder inner deep h.
     let blank = p.rows.bare && is_one_blank_row p.rows.waiting.items in
     let last : (length around + 1 == length opened) ≡ true =
     eq-eqb (length around + 1) (length opened) (omega (arith, deep, c.if-depth-len.false, c.len.ensures, p.open.ok.0, count)) in
-    let nothing_open : is_nothing (Leaf s.leaf) ≡ true = sym (c.is_nothing.ensures s h) ∙ c.if-is_nothing.true in
-    c.began_blank.ensures ∙ sym (ap (λ x. x && is_nothing (Leaf s.leaf) && blank) last ∙ ap (λ x. x && blank) nothing_open)
+    let nothing_open : is_nothing (At s.leaf) ≡ true = sym (c.is_nothing.ensures s h) ∙ c.if-is_nothing.true in
+    c.began_blank.ensures ∙ sym (ap (λ x. x && is_nothing (At s.leaf) && blank) last ∙ ap (λ x. x && blank) nothing_open)
     ∙ descending.began_is p.rows.rows.items p.rows.waiting.items p.rows.bare (piece_lines p.pieces.items) opened around kids inner_kids holder inner
     (leaf_lines s.leaf) h.written h.opened

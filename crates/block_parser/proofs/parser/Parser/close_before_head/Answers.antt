@@ -2,7 +2,7 @@ use Rattle.std.proofs.Common.{◌≡◌, ℕ, ◌≤◌, ◌<◌, ◌-◌, List,
 use Rattle.std.proofs.lemmas.List.{length-map, length-take}
 use Rattle.std.proofs.lemmas.Result.{on_ok_weaker}
 use Rattle.definition_text.specs.BlockLines.{BlockLine, own_lines}
-use Rattle.definition_block.specs.Tree.{Blocks, Paragraph, Text, join, paragraph_of}
+use Rattle.definition_block.specs.Tree.{Blocks, Leaf, Paragraph, Text, join, paragraph_of}
 use Rattle.text_pieces.specs.Pieces.{piece_lines, piece_line}
 use Rattle.block_state.specs.Spine.{Level, spine}
 use Rattle.block_parser.specs.View.{HasRead}
@@ -36,5 +36,5 @@ returns-clause-read g c =
     let some : 0 < length (take n ls) = omega (arith, left, long, p.counted, p.pieces.ok.0, c.len.ensures, c.if-count-le1.false, length-take n ls) in
     subst (λ (k : ℕ). HasRead c.take_lines.new.self (spine around (join kids (paragraph_of (take k ls))) (Text (drop k ls)))) head
     (subst (λ (bs : Blocks). HasRead c.take_lines.new.self (spine around (join kids bs) (Text (drop n ls)))) (sym (paragraph_some (take n ls) some))
-    (reads ls (Paragraph (own_lines (take n ls))) refl refl around kids h)))
+    (reads ls (Leaf (Paragraph (own_lines (take n ls)))) refl refl around kids h)))
     c.take_lines.ensures.read

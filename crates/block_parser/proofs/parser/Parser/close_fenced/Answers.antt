@@ -2,7 +2,7 @@ use Rattle.std.proofs.Common.{◌≡◌, ◌-◌, ◌∷◌, [], Option, false, 
 use Rattle.std.proofs.lemmas.List.{length-map, take_all}
 use Rattle.std.proofs.lemmas.Result.{on_ok_weaker}
 use Rattle.markdown_options.specs.declared.line_ending.LineEnding.{LineEnding}
-use Rattle.definition_block.specs.Tree.{FencedCode, block_and_ending, join, Text, Fenced}
+use Rattle.definition_block.specs.Tree.{Leaf, FencedCode, block_and_ending, join, Text, Fenced}
 use Rattle.block_rows.specs.Rows.{Single}
 use Rattle.text_pieces.specs.Pieces.{piece_lines, piece_line}
 use Rattle.block_state.specs.Spine.{spine}
@@ -21,8 +21,8 @@ returns-clause-read g c =
     let long = length-map p.pieces.items piece_line in
     let count = c.len.result - p.lines_in_rows - 1 in
     let all : count ≡ length ls = omega (arith, left, long, p.counted, p.pieces.ok.0, c.len.ensures) in
-    subst (λ (e : Option LineEnding). HasRead c.end_leaf.new.self (spine around (join kids (block_and_ending (FencedCode fence.info false ls) e)) (Text [])))
+    subst (λ (e : Option LineEnding). HasRead c.end_leaf.new.self (spine around (join kids (block_and_ending (Leaf (FencedCode fence.info false ls)) e)) (Text [])))
     last
-    (reads (Fenced fence opening ls) (FencedCode fence.info false ls) (ap (λ x. Single (FencedCode fence.info false x) ∷ [])
+    (reads (Fenced fence opening ls) (Leaf (FencedCode fence.info false ls)) (ap (λ x. Single (Leaf (FencedCode fence.info false x)) ∷ [])
     (sym (take_all count ls (omega (arith, all))))) refl around kids h))
     c.end_leaf.ensures.read

@@ -3,7 +3,7 @@ use Rattle.std.proofs.lemmas.List.{length-map, take_all}
 use Rattle.std.proofs.lemmas.Result.{on_ok_weaker}
 use Rattle.markdown_options.specs.declared.line_ending.LineEnding.{LineEnding}
 use Rattle.definition_text.specs.BlockLines.{own_lines}
-use Rattle.definition_block.specs.Tree.{Html, block_and_ending, join, Text, OpenHtml}
+use Rattle.definition_block.specs.Tree.{Leaf, Html, block_and_ending, join, Text, OpenHtml}
 use Rattle.block_rows.specs.Rows.{Single}
 use Rattle.text_pieces.specs.Pieces.{piece_lines, piece_line}
 use Rattle.block_state.specs.Spine.{spine}
@@ -20,7 +20,7 @@ returns-clause-read g c =
     let long = length-map p.pieces.items piece_line in
     let count = c.len.result - p.lines_in_rows in
     let all : count ≡ length ls = omega (arith, left, long, p.counted, p.pieces.ok.0, c.len.ensures) in
-    subst (λ (e : Option LineEnding). HasRead c.end_leaf.new.self (spine around (join kids (block_and_ending (Html (own_lines ls)) e)) (Text []))) last
-    (reads (OpenHtml kind ls) (Html (own_lines ls)) (ap (λ x. Single (Html (own_lines x)) ∷ []) (sym (take_all count ls (omega (arith, all))))) refl around kids
+    subst (λ (e : Option LineEnding). HasRead c.end_leaf.new.self (spine around (join kids (block_and_ending (Leaf (Html (own_lines ls))) e)) (Text []))) last
+    (reads (OpenHtml kind ls) (Leaf (Html (own_lines ls))) (ap (λ x. Single (Leaf (Html (own_lines x))) ∷ []) (sym (take_all count ls (omega (arith, all))))) refl around kids
     h))
     c.end_leaf.ensures.read

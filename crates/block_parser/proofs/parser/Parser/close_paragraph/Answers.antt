@@ -4,7 +4,7 @@ use Rattle.std.proofs.lemmas.List.{length-map, take_all}
 use Rattle.std.proofs.lemmas.Result.{on_ok_weaker}
 use Rattle.markdown_options.specs.declared.line_ending.LineEnding.{LineEnding}
 use Rattle.definition_text.specs.BlockLines.{BlockLine, last_ending, own_lines}
-use Rattle.definition_block.specs.Tree.{Blocks, Paragraph, block_and_ending, join, Text, paragraph_of}
+use Rattle.definition_block.specs.Tree.{Blocks, Leaf, Paragraph, block_and_ending, join, Text, paragraph_of}
 use Rattle.text_pieces.specs.ParagraphLines.{AreLines}
 use Rattle.block_rows.specs.Rows.{Single}
 use Rattle.text_pieces.specs.Pieces.{piece_lines, piece_line, whole_lines}
@@ -30,11 +30,11 @@ returns-then-count-eq0-clause-read g c = λ ls _ _ around kids h.
 
 -- some lines, and the ending of the last one, are a paragraph
 some_lines : {A : Type 0} (q : Parser A) (kids : Blocks) (around : List Level) (ls : List BlockLine) (ending : Option LineEnding) → (length ls ≡ 0 → ⊥)
-    → ending ≡ last_ending ls → HasRead q (spine around (join kids (block_and_ending (Paragraph (own_lines ls)) ending)) (Text []))
+    → ending ≡ last_ending ls → HasRead q (spine around (join kids (block_and_ending (Leaf (Paragraph (own_lines ls))) ending)) (Text []))
     → HasRead q (spine around (join kids (paragraph_of ls)) (Text []))
 some_lines q kids around [] ending some last h = absurd (some refl)
 some_lines q kids around (l ∷ ls) ending some last h =
-    subst (λ (e : Option LineEnding). HasRead q (spine around (join kids (block_and_ending (Paragraph (own_lines (l ∷ ls))) e)) (Text []))) last h
+    subst (λ (e : Option LineEnding). HasRead q (spine around (join kids (block_and_ending (Leaf (Paragraph (own_lines (l ∷ ls)))) e)) (Text []))) last h
 
 pub returns-in-Some-clause-read : goal.returns-in-Some-clause-read
 returns-in-Some-clause-read g c =
@@ -65,7 +65,7 @@ returns-then-count-eq1-clause-read g c =
     c.last_ending-ending.ensures ∙ ap last_ending (sym (leaves.lines_here p around kids (Text ls) h c.deref.result.now c.deref.ensures.value)) in
     let one = take_all 1 ls (omega (arith, all, c.if-count-eq1.true)) in
     some_lines c.end_leaf.new.self kids around ls c.last_ending-ending.result (λ none. c.if-count-eq0.false (all ∙ none)) last
-    (reads (Text ls) (Paragraph (own_lines ls)) (ap (λ x. Single (Paragraph (own_lines x)) ∷ []) (sym one)) refl around kids h))
+    (reads (Text ls) (Leaf (Paragraph (own_lines ls))) (ap (λ x. Single (Leaf (Paragraph (own_lines x))) ∷ []) (sym one)) refl around kids h))
     c.end_leaf.ensures.read
 
 pub returns-in-None-clause-read : goal.returns-in-None-clause-read
@@ -81,5 +81,5 @@ returns-in-None-clause-read g c =
     c.last_ending-ending.ensures ∙ ap last_ending (sym (leaves.lines_here p around kids (Text ls) h c.deref.result.now c.deref.ensures.value)) in
     let whole = take_all count ls (omega (arith, all)) in
     some_lines c.end_leaf-in-None.new.self kids around ls c.last_ending-ending.result (λ none. c.if-count-eq0.false (all ∙ none)) last
-    (reads (Text ls) (Paragraph (own_lines ls)) (ap (λ x. Single (Paragraph (own_lines x)) ∷ []) (sym whole)) refl around kids h))
+    (reads (Text ls) (Leaf (Paragraph (own_lines ls))) (ap (λ x. Single (Leaf (Paragraph (own_lines x))) ∷ []) (sym whole)) refl around kids h))
     c.end_leaf-in-None.ensures.read

@@ -1,7 +1,7 @@
 use Rattle.std.proofs.Common.{◌≡◌, ◌++◌, ◌∷◌, [], None, sym, ap, ◌∙◌, refl, take}
 use Rattle.std.proofs.lemmas.Result.{on_ok_weaker}
 use Rattle.definition_text.specs.BlockLines.{spaced_line, own_lines}
-use Rattle.definition_block.specs.Tree.{Paragraph, Text}
+use Rattle.definition_block.specs.Tree.{Leaf, Paragraph, Text}
 use Rattle.block_rows.specs.Rows.{rows_size, Single}
 use Rattle.text_pieces.specs.Pieces.{whole_lines, piece_lines, piece_line}
 use Rattle.block_parser.proofs.Leaves as leaves
@@ -24,7 +24,7 @@ returns-clause-read g c =
     let mid = leaves.written_as p.rows.rows.items p.rows.rows.items p.rows.waiting.items p.rows.waiting.items p.rows.bare p.rows.bare
     (take (rows_size p.rows.rows.items) pool ++ l ∷ []) (piece_lines c.push.new.self.items) around kids (l ∷ []) (l ∷ [])
     refl refl refl (pushed ∙ ap (λ x. x ++ l ∷ []) cut) refl w in
-    reads (Text (l ∷ [])) (Paragraph (own_lines ls))
-    (ap (λ x. Single (Paragraph (own_lines x)) ∷ []) (is ∙ ap whole_lines (sym c.whole_piece.ensures.bytes))) refl
+    reads (Text (l ∷ [])) (Leaf (Paragraph (own_lines ls)))
+    (ap (λ x. Single (Leaf (Paragraph (own_lines x))) ∷ []) (is ∙ ap whole_lines (sym c.whole_piece.ensures.bytes))) refl
     around kids record { written = mid; opened = h.opened; same_state = refl })
     c.end_leaf.ensures.read

@@ -1,7 +1,7 @@
 use Rattle.std.proofs.Common.{◌++◌, ◌∷◌, [], None, true, sym, ap, refl}
 use Rattle.std.proofs.lemmas.Result.{on_ok_weaker}
 use Rattle.definition_text.specs.BlockLines.{spaced_line}
-use Rattle.definition_block.specs.Tree.{FencedCode, Fenced, Text}
+use Rattle.definition_block.specs.Tree.{Leaf, FencedCode, Fenced, Text}
 use Rattle.block_rows.specs.Rows.{Single}
 use Rattle.text_pieces.specs.Pieces.{piece_lines, whole_lines}
 use Rattle.block_starts.specs.View.{container_views}
@@ -19,8 +19,8 @@ returns g c =
     let leaf = Fenced fence opening [] in
     let both = Text (leaf_lines leaf ++ l ∷ []) in
     let pushed = leaves.piece_pushed p.pieces.items c.whole_piece.result c.push.new.self.items l c.in_ok-push.ensures.items c.whole_piece.ensures.line in
-    reads both (FencedCode fence.info true (whole_lines c.args.lines.now))
-    (ap (λ x. Single (FencedCode fence.info true (whole_lines x)) ∷ []) (sym c.whole_piece.ensures.bytes)) refl around kids
+    reads both (Leaf (FencedCode fence.info true (whole_lines c.args.lines.now)))
+    (ap (λ x. Single (Leaf (FencedCode fence.info true (whole_lines x))) ∷ []) (sym c.whole_piece.ensures.bytes)) refl around kids
     (leaves.shows_line p.rows.rows.items p.rows.waiting.items p.rows.bare (container_views p.open.items) pool (piece_lines c.push.new.self.items)
     (leaf_state p.leaf) InText around kids leaf both l (leaves.enough_lines p) pushed refl refl h))
     c.end_leaf.ensures.read

@@ -4,7 +4,7 @@ use Rattle.definition_text.specs.Content.{content_of, content_text}
 use Rattle.definition_inline.specs.Definition.{definition_at}
 use Rattle.text_pieces.specs.ParagraphLines.{AreLines}
 use Rattle.definition_text.specs.BlockLines.{BlockLine, own_lines}
-use Rattle.definition_block.specs.Tree.{Blocks, Definition, Text, join}
+use Rattle.definition_block.specs.Tree.{Blocks, Leaf, Definition, Text, join}
 use Rattle.definition_block.specs.Definitions.{DefinitionCut}
 use Rattle.block_state.specs.Spine.{spine}
 use Rattle.block_parser.specs.View.{HasRead}
@@ -47,7 +47,7 @@ loop-end-preserved g c =
           (Text k.left) k.reads c.deref-in-loop-end.result.now c.deref-in-loop-end.ensures.value in
           let found = c.in-Some.ensures.found (subst AreLines here k.clean) (bytes ∙ k.rest ∙ ap content_text here) in
           let ends = ends_as _ content _ k.left end bytes here found in
-          let reads = c.in_ok-take_lines.ensures.read k.left (Definition ends.read.label ends.read.destination ends.read.title)
+          let reads = c.in_ok-take_lines.ensures.read k.left (Leaf (Definition ends.read.label ends.read.destination ends.read.title))
           (row_of_definition content k.left end k.clean ends) refl around (join kids k.definitions) k.reads in
           subst (λ (x : List ℕ). Cutting c.take_lines.new.self x around kids ls) (drop-drop end.bytes at all ∙ ap (drop (at + end.bytes)) (sym same_content))
           (one_more before c.take_lines.new.self content around kids ls k end ends reads);

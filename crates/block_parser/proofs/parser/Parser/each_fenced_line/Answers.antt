@@ -3,7 +3,7 @@ use Rattle.std.specs.Prelude.{map}
 use Rattle.std.specs.Str.{IsUtf8}
 use Rattle.std.proofs.lemmas.Bool.{eqb-false, eqb-true}
 use Rattle.definition_text.specs.Lines.{text_line}
-use Rattle.definition_block.specs.Tree.{Fenced, Leaf, tree}
+use Rattle.definition_block.specs.Tree.{Fenced, At, tree}
 use Rattle.text_pieces.specs.Pieces.{piece_lines}
 use Rattle.text_pieces.proofs.OwnLines.{last_ending_or-more}
 use Rattle.block_starts.specs.CodeFenced.{fence_view}
@@ -37,7 +37,7 @@ returns-then-closes_fence-clause-read g c = λ kids opening ls keeps h.
     let line = text_line next.0.now next.1 in
     fenced.fenced_after c.args.on.now f c.args.text.now rest next.2.now (HasRead c.args.self.now) c.loop-content.self c.loop-content.last line k
     (c.next_line-ending.ensures.rest some) c.any_line.new.self kids opening ls
-    (c.in_ok-any_line.ensures (tree kids (Leaf (Fenced f opening (ls ++ map (code_line f) k.code.read)))) tt (k.reads kids opening ls h))
+    (c.in_ok-any_line.ensures (tree kids (At (Fenced f opening (ls ++ map (code_line f) k.code.read)))) tt (k.reads kids opening ls h))
 
 pub loop-content-smaller : goal.loop-content-smaller
 loop-content-smaller g c =

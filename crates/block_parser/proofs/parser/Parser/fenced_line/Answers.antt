@@ -3,7 +3,7 @@ use Rattle.std.proofs.lemmas.List.{length-map, take_all}
 use Rattle.std.proofs.lemmas.Result.{on_ok_weaker}
 use Rattle.definition_text.specs.Columns.{Rest}
 use Rattle.definition_block.specs.CodeFenced.{fence_line}
-use Rattle.definition_block.specs.Tree.{Blocks, FencedCode, Tree, Fenced, rest_line}
+use Rattle.definition_block.specs.Tree.{Blocks, Leaf, FencedCode, Tree, Fenced, rest_line}
 use Rattle.block_rows.specs.Rows.{Single}
 use Rattle.text_pieces.specs.Pieces.{piece_lines, piece_line}
 use Rattle.text_pieces.proofs.OwnLines.{last_ending_or-more}
@@ -55,6 +55,6 @@ returns g c =
     let all : count ≡ length ls = omega (arith, left, long, p.counted, p.pieces.ok.0, c.len.ensures) in
     subst (λ (t : Tree). HasRead c.end_leaf.new.self (spine_after around kids t))
     (sym (steps.fenced_end on e r f opening ls (sym c.is_fence_end.ensures ∙ c.if-not-is_fence_end.false)))
-    (reads (Fenced f opening ls) (FencedCode f.info true ls) (ap (λ x. Single (FencedCode f.info true x) ∷ []) (sym (take_all count ls (omega (arith, all)))))
+    (reads (Fenced f opening ls) (Leaf (FencedCode f.info true ls)) (ap (λ x. Single (Leaf (FencedCode f.info true x)) ∷ []) (sym (take_all count ls (omega (arith, all)))))
     refl around kids h))
     c.end_leaf.ensures.read

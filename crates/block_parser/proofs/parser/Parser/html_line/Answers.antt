@@ -1,6 +1,6 @@
 use Rattle.std.proofs.Common.{◌≡◌, true, ◌==◌, sym, ap, ◌∙◌, subst, refl, length, arith, vec_len}
 use Rattle.std.proofs.lemmas.Result.{on_ok_weaker}
-use Rattle.definition_block.specs.Tree.{Tree, OpenHtml, Leaf, new}
+use Rattle.definition_block.specs.Tree.{Tree, OpenHtml, At, new}
 use Rattle.block_starts.specs.View.{rest_of}
 use Rattle.block_starts.specs.HtmlFlow.{number_of}
 use Rattle.block_state.specs.Spine.{spine_after}
@@ -18,7 +18,7 @@ returns-then-html_stops g c =
     let r = rest_of c.args.rest.now in
     let e = c.args.beside in
     let kind = number_of c.args.kind in
-    let leaf = Leaf (OpenHtml kind ls) in
+    let leaf = At (OpenHtml kind ls) in
     let last : (c.len-depth.result == vec_len p.open) ≡ true = eq-eqb c.len-depth.result (vec_len p.open) c.len-depth.ensures in
     let deep : c.len-depth.result ≡ length around =
     omega (arith, c.len-depth.ensures, p.open.ok.0, closing.views_length p.open.items, ap length h.opened, closing.length-containers around) in

@@ -2,7 +2,7 @@ use Rattle.std.proofs.Common.{◌≡◌, ◌++◌, ◌∷◌, [], Option, None, 
 use Rattle.std.proofs.lemmas.Result.{on_ok_weaker}
 use Rattle.markdown_options.specs.declared.line_ending.LineEnding.{LineEnding}
 use Rattle.definition_text.specs.BlockLines.{last_ending, own_lines}
-use Rattle.definition_block.specs.Tree.{Blocks, Html, Tree, block_and_ending, join, Text, OpenHtml, rest_line}
+use Rattle.definition_block.specs.Tree.{Blocks, Leaf, Html, Tree, block_and_ending, join, Text, OpenHtml, rest_line}
 use Rattle.text_pieces.specs.Pieces.{piece_lines}
 use Rattle.text_pieces.proofs.OwnLines.{last_ending_or-more}
 use Rattle.block_starts.specs.View.{rest_of, container_views}
@@ -34,7 +34,7 @@ returns-then-html_ends_here g c =
     (ap (λ x. x ++ l ∷ []) (sym is)) (ap (InHtml kind) (sym last)) h in
     subst (λ (t : Tree). HasRead c.close_html.new.self (spine_after around kids t))
     (sym (cond-true (html_ends_here kind r) _ _ (sym c.html_ends_here.ensures ∙ c.if-html_ends_here.true)))
-    (subst (λ (x : Option LineEnding). HasRead c.close_html.new.self (spine around (join kids (block_and_ending (Html (own_lines more)) x)) (Text []))) last
+    (subst (λ (x : Option LineEnding). HasRead c.close_html.new.self (spine around (join kids (block_and_ending (Leaf (Html (own_lines more))) x)) (Text []))) last
     (reads no_constructs kind more (sym last) around kids k)))
     c.close_html.ensures.read
 

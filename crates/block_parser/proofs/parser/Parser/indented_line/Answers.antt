@@ -3,7 +3,7 @@ use Rattle.std.proofs.lemmas.List.{length-map, length-append, append-nil}
 use Rattle.std.proofs.lemmas.Result.{on_ok_weaker}
 use Rattle.definition_text.specs.Columns.{Rest}
 use Rattle.definition_text.specs.Indents.{outdent}
-use Rattle.definition_block.specs.Tree.{Blocks, Tree, Indented, Leaf, rest_line, new}
+use Rattle.definition_block.specs.Tree.{Blocks, Tree, Indented, At, rest_line, new}
 use Rattle.text_pieces.specs.Pieces.{piece_lines, piece_line}
 use Rattle.text_pieces.proofs.OwnLines.{last_ending_or-more}
 use Rattle.block_starts.specs.View.{rest_of, container_views}
@@ -81,7 +81,7 @@ returns g c =
     let on = c.args.on.now in
     let r = rest_of c.args.rest.now in
     let e = c.args.beside in
-    let leaf = Leaf (Indented ls pending) in
+    let leaf = At (Indented ls pending) in
     let last : (c.len-depth.result == vec_len p.open) ≡ true = eq-eqb c.len-depth.result (vec_len p.open) c.len-depth.ensures in
     let deep : c.len-depth.result ≡ length around =
     omega (arith, c.len-depth.ensures, p.open.ok.0, closing.views_length p.open.items, ap length h.opened, closing.length-containers around) in

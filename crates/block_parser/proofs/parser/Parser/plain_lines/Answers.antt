@@ -9,7 +9,7 @@ use Rattle.definition_text.specs.Columns.{whole}
 use Rattle.markdown_options.specs.declared.beside.Kind.TheVariants.{Whitespace}
 use Rattle.definition_text.specs.Content.{line_text}
 use Rattle.definition_text.specs.Lines.{text_line}
-use Rattle.definition_block.specs.Tree.{Blank, Leaf, Text, beside_line, close_leaf, grow, join, nothing, one, tree}
+use Rattle.definition_block.specs.Tree.{Blank, At, Text, beside_line, close_leaf, grow, join, nothing, one, tree}
 use Rattle.text_pieces.specs.Pieces.{whole_line, whole_lines}
 use Rattle.block_state.specs.Spine.{spine, spine_after}
 use Rattle.block_parser.specs.View.{HasRead}
@@ -66,9 +66,9 @@ returns-then-is_empty-clause-read g c = λ kids ls keeps h.
     let blank = c.in_ok-blank_line.ensures [] (join kids (close_leaf on (Text all))) shut in
     read_after on text rest next.2.now (HasRead c.args.self.now) c.loop-content.self c.blank_line.new.self line k (c.next_line-ending.ensures.rest some) kids ls
     (subst
-    (λ (bs : List ℕ). HasRead c.blank_line.new.self (spine_after [] kids (grow on (beside_line Whitespace line) (Leaf (Text all)) (whole bs))))
+    (λ (bs : List ℕ). HasRead c.blank_line.new.self (spine_after [] kids (grow on (beside_line Whitespace line) (At (Text all)) (whole bs))))
     (sym none)
-    (closing.after_added on (HasRead c.blank_line.new.self) [] kids (Leaf (Text all)) (tree (one (Blank next.1)) nothing) blank))
+    (closing.after_added on (HasRead c.blank_line.new.self) [] kids (At (Text all)) (tree (one (Blank next.1)) nothing) blank))
 
 pub returns-then-not-is_plain_line-clause-read : goal.returns-then-not-is_plain_line-clause-read
 returns-then-not-is_plain_line-clause-read g c = λ kids ls keeps h.
@@ -82,7 +82,7 @@ returns-then-not-is_plain_line-clause-read g c = λ kids ls keeps h.
     let some : 0 < length rest = omega (arith, eqb-false (length rest) 0 (sym c.is_empty.ensures ∙ c.loop-content-test.true)) in
     let clean = plain_clean on text rest (HasRead c.args.self.now) c.loop-content.self k kids ls keeps in
     read_after on text rest next.2.now (HasRead c.args.self.now) c.loop-content.self c.any_line.new.self line k (c.next_line-ending.ensures.rest some) kids ls
-    (c.in_ok-any_line.ensures (tree kids (Leaf (Text all))) clean (k.reads kids ls h))
+    (c.in_ok-any_line.ensures (tree kids (At (Text all))) clean (k.reads kids ls h))
 
 pub loop-content-preserved : goal.loop-content-preserved
 loop-content-preserved g c =

@@ -2,7 +2,7 @@ use Rattle.std.proofs.Common.{◌≡◌, ◌-◌, ◌∷◌, [], sym, ap, refl, 
 use Rattle.std.proofs.lemmas.List.{length-map, take_all}
 use Rattle.std.proofs.lemmas.Result.{on_ok_weaker}
 use Rattle.definition_text.specs.BlockLines.{own_lines}
-use Rattle.definition_block.specs.Tree.{Blocks, Heading, Text, block_and_ending, join}
+use Rattle.definition_block.specs.Tree.{Blocks, Leaf, Heading, Text, block_and_ending, join}
 use Rattle.definition_block.specs.Definitions.{definition_cut}
 use Rattle.block_rows.specs.Rows.{Single}
 use Rattle.text_pieces.specs.Pieces.{piece_lines, piece_line}
@@ -28,6 +28,6 @@ returns g c =
     let heading = Heading c.args.rank (own_lines left_lines) in
     subst (λ (bs : Blocks). HasRead c.end_leaf.new.self (spine around bs (Text [])))
     (join-assoc kids parts.definitions (block_and_ending heading c.args.ending))
-    (reads (Text left_lines) heading (ap (λ x. Single (Heading c.args.rank (own_lines x)) ∷ []) (sym (take_all count left_lines (omega (arith, all))))) refl
+    (reads (Text left_lines) heading (ap (λ x. Single (Leaf (Heading c.args.rank (own_lines x))) ∷ []) (sym (take_all count left_lines (omega (arith, all))))) refl
     around kids2 k))
     c.end_leaf.ensures.read

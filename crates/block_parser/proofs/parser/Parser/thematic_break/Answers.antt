@@ -1,7 +1,7 @@
 use Rattle.std.proofs.Common.{[], ◌∙◌, refl}
 use Rattle.std.proofs.lemmas.Result.{on_ok_weaker}
 use Rattle.block_rows.specs.declared.row.Row.TheVariants as row
-use Rattle.definition_block.specs.Tree.{Break}
+use Rattle.definition_block.specs.Tree.{Leaf, Break}
 use Rattle.text_pieces.specs.Pieces.{piece_lines}
 use Rattle.block_parser.proofs.Leaves as leaves
 use Rattle.block_parser.proofs.parser.Parser.thematic_break.Goals as goal
@@ -12,7 +12,7 @@ returns g c =
     let p = c.args.self.now in
     let pool = piece_lines p.pieces.items in
     record {
-      written = leaves.written_ended p.rows.rows.items p.rows.waiting.items p.rows.bare pool around kids [] h.written row.Break Break c.args.ending p.rows.none
+      written = leaves.written_ended p.rows.rows.items p.rows.waiting.items p.rows.bare pool around kids [] h.written row.Break (Leaf Break) c.args.ending p.rows.none
           refl refl
           c.ending.new.self.rows.items c.block.new.self.waiting.items c.ending.new.self.waiting.items c.ending.new.self.bare []
           (c.ending.ensures.rows ∙ c.in_ok-block.ensures.rows) c.in_ok-block.ensures.waiting waits (c.ending.ensures.bare ∙ c.in_ok-block.ensures.bare) refl;
