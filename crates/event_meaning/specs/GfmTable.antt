@@ -1,5 +1,5 @@
 -- Tables: the cells that events spell (GFM 4.10).
-use Rattle.std.specs.Prelude.{ℕ, false, List, [], ◌∷◌, Option, None, Some, is_some, if◌then◌else◌, map}
+use Rattle.std.specs.Prelude.{ℕ, false, List, [], ◌∷◌, is_some, if◌then◌else◌, map}
 use Rattle.markdown_options.specs.declared.line_ending.LineEnding.{LineEnding}
 use Rattle.engine_events.specs.declared.event.Name.TheVariants as n
 use Rattle.engine_events.specs.Names.{same_name}
@@ -18,30 +18,29 @@ module _ (names : Names) (bytes : List ℕ) where
   cell_of cell = in_cell (text_within names bytes false (kids_of cell))
 
   -- the cells of a row, and these endings after it
-  abbrev pub row_of : Nodes → Option LineEnding → TableRow
-  row_of kids ending = record { cells = map cell_of (children n.GfmTableCell kids); ending = ending }
+  abbrev pub row_of : Nodes → List LineEnding → TableRow
+  row_of kids endings = record { cells = map cell_of (children n.GfmTableCell kids); endings = endings }
 
-  -- the first ending among these
-  abbrev pub first_ending : Nodes → Option LineEnding
-  first_ending Nil = None
-  first_ending (Cons node ns) = if same_name (node_name node) n.LineEnding then Some (ending_of (text_of bytes node)) else first_ending ns
+  -- the endings among these
+  abbrev pub endings_in : Nodes → List LineEnding
+  endings_in ns = map (λ node. ending_of (text_of bytes node)) (children n.LineEnding ns)
 
-  -- the ending before the next row, if there is one
-  abbrev pub ending_before_row : Nodes → Option LineEnding
-  ending_before_row ns = if is_some (child n.GfmTableRow ns) then first_ending (before_child n.GfmTableRow ns) else None
+  -- the endings before the next row, if there is one
+  abbrev pub endings_before_row : Nodes → List LineEnding
+  endings_before_row ns = if is_some (child n.GfmTableRow ns) then endings_in (before_child n.GfmTableRow ns) else []
 
-  -- the rows of a body, each with the ending before the next
+  -- the rows of a body, each with the endings before the next
   abbrev pub rows_of : Nodes → List TableRow
   rows_of Nil = []
   rows_of (Cons node ns) =
-      if same_name (node_name node) n.GfmTableRow then row_of (kids_of node) (ending_before_row ns) ∷ rows_of ns else rows_of ns
+      if same_name (node_name node) n.GfmTableRow then row_of (kids_of node) (endings_before_row ns) ∷ rows_of ns else rows_of ns
 
   abbrev pub table_of : Nodes → Table
   table_of kids =
       let head = kids_in n.GfmTableHead kids in
       record {
         aligns = table_align head;
-        head = row_of (kids_in n.GfmTableRow head) (first_ending (before_child n.GfmTableDelimiterRow (after_child n.GfmTableRow head)));
-        ending = first_ending (before_child n.GfmTableBody (after_child n.GfmTableHead kids));
+        head = row_of (kids_in n.GfmTableRow head) (endings_in (before_child n.GfmTableDelimiterRow (after_child n.GfmTableRow head)));
+        endings = endings_in (before_child n.GfmTableBody (after_child n.GfmTableHead kids));
         rows = rows_of (kids_in n.GfmTableBody kids);
       }
