@@ -122,12 +122,8 @@ module _ (r : Reading) where
   readable_leaf : (s : Standing) (leaf : tree.LeafBlock) → IsRankedLeaf leaf → IsReadableLeaf (read_leaf r s leaf)
   readable_leaf s (tree.Paragraph ls) h = paragraph_ends s.first ls
   readable_leaf s (tree.Heading rank ls) h = (h, text_ends ls)
-  readable_leaf s tree.Break h = tt
-  readable_leaf s (tree.IndentedCode ls) h = tt
-  readable_leaf s (tree.FencedCode info is_closed ls) h = tt
-  readable_leaf s (tree.Html ls) h = tt
   readable_leaf s (tree.Table ls) h = (row_readable (line_cells (head_line ls)), rows_readable (body_lines ls))
-  readable_leaf s (tree.Definition label destination title) h = tt
+  readable_leaf s leaf h = tt
 
   mutual
     readable_block : (s : Standing) (b : tree.Block) (others : page.Blocks) → IsRanked b → AreReadable others → AreReadable (read_block r s b others)
