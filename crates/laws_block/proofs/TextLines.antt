@@ -101,7 +101,8 @@ module _ (on : Constructs) where
   paragraph_on [] a b e = omega (arith, e)
   paragraph_on (line ∷ others) a b e =
       let own = length-own (line ∷ others) in
-      ended_on (Leaf (Paragraph (own_lines (line ∷ others)))) (last_ending (line ∷ others)) a (a + (length (own_lines (line ∷ others)) - 1)) b refl (omega (arith, e, own))
+      let last : ℕ = a + (length (own_lines (line ∷ others)) - 1) in
+      ended_on (Leaf (Paragraph (own_lines (line ∷ others)))) (last_ending (line ∷ others)) a last b refl (omega (arith, e, own))
 
   -- what is cut from a paragraph, and what is left of it
   abbrev CutOn : DefinitionCut → ℕ → ℕ → Type 0
@@ -190,9 +191,10 @@ module _ (on : Constructs) where
       let more = ls ++ rest_line rest beside ∷ [] in
       let n : length more ≡ suc (length ls) = more_lines ls (rest_line rest beside) in
       let own = length-own more in
+      let last : ℕ = a + (length (own_lines more) - 1) in
       cond_both (html_ends_here kind rest) (tree (block_and_ending (Leaf (Html (own_lines more))) beside.ending) nothing)
       (tree Nil (At (OpenHtml kind more))) (λ (t : BlockTree). TreeOn t a (suc b))
-      (λ _. (suc b, ended_on (Leaf (Html (own_lines more))) beside.ending a (a + (length (own_lines more) - 1)) (suc b) refl (omega (arith, e, n, own)), omega arith))
+      (λ _. (suc b, ended_on (Leaf (Html (own_lines more))) beside.ending a last (suc b) refl (omega (arith, e, n, own)), omega arith))
       (λ _. (a, refl, (omega (arith, n), omega (arith, e, n))))
 
   takes_on : (leaf : OpenLeaf) (rest : Rest) (beside : Beside) (a b : ℕ) → LeafOn leaf a b → SomeOn a (suc b) (takes on leaf rest beside)
@@ -283,7 +285,7 @@ module _ (on : Constructs) where
   heading_on rank definitions [] ending a m b h p e = tt
   heading_on rank definitions (line ∷ others) ending a m b h p e =
       let own = length-own (line ∷ others) in
-      let heading = Heading rank (own_lines (line ∷ others)) in
+      let heading = Leaf (Heading rank (own_lines (line ∷ others))) in
       let here : IsOn on heading m b = inr (h.0, h.1, omega (arith, own), omega (arith, own, e)) in
       (suc b, join_on definitions (block_and_ending heading ending) a m (suc b) p (ended_on heading ending m b (suc b) here refl), omega arith)
 
@@ -304,11 +306,7 @@ module _ (on : Constructs) where
   turns_on : (away : Opening) (rest : Rest) (ending : Option LineEnding) (a b : ℕ) → AreLines (open_text away) → OpeningOn away a b
       → SomeOn a (suc b) (turns on away rest ending)
   turns_on (At (Text ls)) rest ending a b h p = underlined_on (underline on rest) ls ending a b (underline_read rest) h p
-  turns_on (At (Indented ls pending)) rest ending a b h p = no_heading (underline on rest) ending a (suc b)
-  turns_on (At (Fenced fence opening ls)) rest ending a b h p = no_heading (underline on rest) ending a (suc b)
-  turns_on (At (OpenHtml kind ls)) rest ending a b h p = no_heading (underline on rest) ending a (suc b)
-  turns_on (At (OpenTable ls)) rest ending a b h p = no_heading (underline on rest) ending a (suc b)
-  turns_on (Inside c kids inner) rest ending a b h p = no_heading (underline on rest) ending a (suc b)
+  turns_on away rest ending a b h p = no_heading (underline on rest) ending a (suc b)
 
   -- a row of delimiters makes a table of its last line
   table_of_on : (definitions : Blocks) (ls : List BlockLine) (row : BlockLine) (a m b : ℕ) → AreOn on definitions a m → b ≡ m + length ls
@@ -336,17 +334,14 @@ module _ (on : Constructs) where
   no_table None row a b = tt
   no_table (Some columns) row a b =
       cond_both on.definition (cut_most 0 []) (cut_into Nil [])
-      (λ (parts : DefinitionCut). SomeOn a b (cond (is_some_line parts.left && is_head (length columns) []) (Some (table_of parts.definitions parts.left row)) None))
+      (λ (parts : DefinitionCut).
+      SomeOn a b (cond (is_some_line parts.left && is_head (length columns) []) (Some (table_of parts.definitions parts.left row)) None))
       (λ _. tt) (λ _. tt)
 
   makes_table_on : (away : Opening) (rest : Rest) (beside : Beside) (a b : ℕ) → AreLines (open_text away) → OpeningOn away a b
       → SomeOn a (suc b) (makes_table on away rest beside)
   makes_table_on (At (Text ls)) rest beside a b h p = table_on (delimiter_row on rest) ls (rest_line rest beside) a b h p
-  makes_table_on (At (Indented ls pending)) rest beside a b h p = no_table (delimiter_row on rest) (rest_line rest beside) a (suc b)
-  makes_table_on (At (Fenced fence opening ls)) rest beside a b h p = no_table (delimiter_row on rest) (rest_line rest beside) a (suc b)
-  makes_table_on (At (OpenHtml kind ls)) rest beside a b h p = no_table (delimiter_row on rest) (rest_line rest beside) a (suc b)
-  makes_table_on (At (OpenTable ls)) rest beside a b h p = no_table (delimiter_row on rest) (rest_line rest beside) a (suc b)
-  makes_table_on (Inside c kids inner) rest beside a b h p = no_table (delimiter_row on rest) (rest_line rest beside) a (suc b)
+  makes_table_on away rest beside a b h p = no_table (delimiter_row on rest) (rest_line rest beside) a (suc b)
 
   leaf_line_on : (away : Opening) (rest : Rest) (beside : Beside) (a b : ℕ) → AreLines (open_text away) → OpeningOn away a b
       → TreeOn (leaf_line on away rest beside) a (suc b)
@@ -390,7 +385,8 @@ module _ (on : Constructs) where
 
   -- ---- the lines of a text
 
-  grow_on : (beside : Beside) (now : Opening) (rest : Rest) (a b : ℕ) → AreLines (open_text now) → OpeningOn now a b → TreeOn (grow on beside now rest) a (suc b)
+  grow_on : (beside : Beside) (now : Opening) (rest : Rest) (a b : ℕ) → AreLines (open_text now) → OpeningOn now a b
+      → TreeOn (grow on beside now rest) a (suc b)
   grow_on beside (At leaf) rest a b h p =
       where_unwrapped (λ (t : BlockTree). TreeOn t a (suc b)) (takes on leaf rest beside) (new (length rest) on true (At leaf) beside rest)
       (takes_on leaf rest beside a b p) (new_on (length rest) true (At leaf) beside rest a b h p)
