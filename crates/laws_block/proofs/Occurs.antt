@@ -183,8 +183,7 @@ module _ (on : Constructs) where
 
   may_hold : (c : Container) (kids : Blocks) → ContainerMayStand on c → MayStand on kids → MayStand on (container_block c kids)
   may_hold Quote kids h p = ((h, may_without_last kids p), may_last kids p)
-  may_hold (Item item) kids h p = ((h, may_front kids p), may_trail kids p)
-  may_hold (Footnote label) kids h p = ((h, may_front kids p), may_trail kids p)
+  may_hold c kids h p = ((h, may_front kids p), may_trail kids p)
 
   -- ---- closing
 
@@ -213,9 +212,7 @@ module _ (on : Constructs) where
   may_close_leaf (Text ls) p =
       may-join (definition_cut on ls).definitions (paragraph_of (definition_cut on ls).left) (may_cut ls) (may_paragraph (definition_cut on ls).left)
   may_close_leaf (Indented ls pending) p = (p, (tt, may_blanks pending))
-  may_close_leaf (Fenced fence ending ls) p = (p, (tt, tt))
-  may_close_leaf (OpenHtml kind ls) p = (p, (tt, tt))
-  may_close_leaf (OpenTable ls) p = (p, (tt, tt))
+  may_close_leaf leaf p = (p, (tt, tt))
 
   may_close : (now : Opening) → OpeningMayStand on now → MayStand on (close on now)
   may_close (At leaf) p = may_close_leaf leaf p
@@ -293,10 +290,7 @@ module _ (on : Constructs) where
 
   may_leaf_with_line : (line : BlockLine) (leaf : OpenLeaf) → LeafMayStand on leaf → LeafMayStand on (leaf_with_line line leaf)
   may_leaf_with_line line (Text ls) p = tt
-  may_leaf_with_line line (Indented ls pending) p = p
-  may_leaf_with_line line (Fenced fence ending ls) p = p
-  may_leaf_with_line line (OpenHtml kind ls) p = p
-  may_leaf_with_line line (OpenTable ls) p = p
+  may_leaf_with_line line leaf p = p
 
   may_with_line : (line : BlockLine) (now : Opening) → OpeningMayStand on now → OpeningMayStand on (with_line line now)
   may_with_line line (At leaf) p = may_leaf_with_line line leaf p

@@ -16,7 +16,7 @@ use Rattle.definition_text.specs.Indents.{outdent, small_indent}
 use Rattle.definition_text.specs.Lines.{TextLine, lines}
 use Rattle.definition_text.specs.Runs.{run, after_run, is_run}
 use Rattle.definition_inline.specs.Definition.{Definition as LinkDefinition, definition_at}
-use Rattle.definition_block.specs.Container.{Container, Quote, Item, Footnote}
+use Rattle.definition_block.specs.Container.{Container, Quote}
 use Rattle.definition_block.specs.ContainerLine.{ContainerLine}
 use Rattle.definition_block.specs.ContainerStart.{ContainerStart}
 use Rattle.definition_block.specs.Containers.{continues, starts}
@@ -90,8 +90,7 @@ module _ (on : Constructs) where
   hold_on : (c : Container) (kids : Blocks) (a b : ℕ) → AreOn on kids a b → AreOn on (container_block c kids) a b
   hold_on Quote kids a b p =
       split_on (without_last kids) (last_of kids) a b (subst (λ x. AreOn on x a b) (sym (join-without_last kids)) p)
-  hold_on (Item item) kids a b p = split_on (front kids) (trailing kids) a b (subst (λ x. AreOn on x a b) (sym (join-front kids)) p)
-  hold_on (Footnote label) kids a b p = split_on (front kids) (trailing kids) a b (subst (λ x. AreOn on x a b) (sym (join-front kids)) p)
+  hold_on c kids a b p = split_on (front kids) (trailing kids) a b (subst (λ x. AreOn on x a b) (sym (join-front kids)) p)
 
   blanks_on : (ls : List BlockLine) (a b : ℕ) → b ≡ a + length ls → AreOn on (blanks ls) a b
   blanks_on [] a b e = omega (arith, e)
@@ -265,10 +264,8 @@ module _ (on : Constructs) where
   has_more : (line : BlockLine) (now : Opening) (a b : ℕ) → (has_text now || has_table now) ≡ true → OpeningOn now a b
       → OpeningOn (with_line line now) a (suc b)
   has_more line (At (Text ls)) a b h p = let n = more_lines ls line in omega (arith, p, n)
-  has_more line (At (Indented ls pending)) a b h p = absurd (false≢true h)
-  has_more line (At (Fenced fence ending ls)) a b h p = absurd (false≢true h)
-  has_more line (At (OpenHtml kind ls)) a b h p = absurd (false≢true h)
   has_more line (At (OpenTable ls)) a b h p = let n = more_lines ls line in let e = p.1 in (omega (arith, n), omega (arith, e, n))
+  has_more line (At leaf) a b h p = absurd (false≢true h)
   has_more line (Inside c kids inner) a b h p = (p.0, p.1, has_more line inner p.0 b (ap (λ x. x || has_table inner) (or_nothing (has_text inner) h)) p.2)
 
   text_line_on : (away : Opening) (rest : Rest) (beside : Beside) (a b : ℕ) → AreLines (open_text away) → OpeningOn away a b
