@@ -1,5 +1,5 @@
 -- Pieces of the definition and pieces in bytes that lay out the same.
-use Rattle.std.proofs.Common.{◌≡◌, ℕ, List, [], ◌∷◌, ◌++◌, refl, sym, ap, ◌∙◌, append_assoc, map}
+use Rattle.std.proofs.Common.{◌≡◌, ℕ, List, [], ◌∷◌, ◌++◌, sym, ap, ◌∙◌, append_assoc, map}
 use Rattle.std.specs.List.{fold, flat_map}
 use Rattle.std.proofs.lemmas.List.{append-nil}
 use Rattle.std.proofs.lemmas.List.Sums.{fold-append}
@@ -38,9 +38,6 @@ module _ (options : CompileOptions) (default : List ℕ) where
   abbrev pub Adds : List Piece → List ℕ → Type 0
   Adds ps more = (l : LayoutState) → fold (lay options default) l ps ≡ add l more
 
-  pub none_same : Same [] []
-  none_same l = refl
-
   pub joined : (ps qs : List Piece) (bs cs : List bytes.Piece) → Same ps bs → Same qs cs → Same (ps ++ qs) (bs ++ cs)
   joined ps qs bs cs h k l =
       fold-append (lay options default) l ps qs
@@ -50,14 +47,6 @@ module _ (options : CompileOptions) (default : List ℕ) where
 
   pub after_fresh : (ps : List Piece) (bs : List bytes.Piece) → Same ps bs → Same (Fresh ∷ ps) (bytes.Fresh ∷ bs)
   after_fresh ps bs h l = h (fresh default l)
-
-  -- after bytes
-  pub after_added : (ps qs : List Piece) (more : List ℕ) (cs : List bytes.Piece) → Adds ps more → Same qs cs → Same (ps ++ qs) (bytes.Bytes more ∷ cs)
-  after_added ps qs more cs h k l =
-      fold-append (lay options default) l ps qs ∙ ap (λ x. fold (lay options default) x qs) (h l) ∙ k (add l more)
-
-  pub as_bytes : (ps : List Piece) (more : List ℕ) → Adds ps more → Same ps (bytes.Bytes more ∷ [])
-  as_bytes ps more h l = h l
 
   -- an element
   pub element_same : (t : Tag) (start end : List ℕ) (ps : List Piece) (bs : List bytes.Piece) → start_tag t ≡ start → end_tag t.name ≡ end → Same ps bs

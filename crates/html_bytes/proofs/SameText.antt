@@ -6,11 +6,17 @@ use Rattle.std.proofs.lemmas.List.Sums.{fold-append}
 use Rattle.markdown_options.specs.declared.configuration.CompileOptions.{CompileOptions}
 use Rattle.html_bytes.specs.Layout.{LayoutState, layout_state, once_more, latest_call}
 use Rattle.html_bytes.proofs.LayoutSteps.{lay}
+use Rattle.definition_page.specs.Tags.{Tag, start_tag, end_tag}
+use Rattle.definition_page.specs.InlinePieces.{element}
 use Rattle.definition_page.specs.Pieces.{Piece, Open, Close, Void, Says, Eol, Fresh, CallOf, CountOf, NoteStart, NoteEnd}
 use Rattle.html_bytes.specs.Layout as bytes_layout
-use Rattle.html_bytes.specs.Pieces.{piece_bytes, in_bytes}
+use Rattle.html_bytes.specs.Pieces.{Bytes, piece_bytes, in_bytes}
 use Rattle.html_bytes.proofs.SameCalls.{call_printed}
 use Rattle.html_bytes.proofs.SameLayout.{Same}
+
+-- an element in bytes
+pub element_bytes : (t : Tag) (ps : List Piece) → in_bytes (element t ps) ≡ Bytes (start_tag t) ∷ (in_bytes ps ++ Bytes (end_tag t.name) ∷ [])
+element_bytes t ps = ap (λ x. Bytes (start_tag t) ∷ x) (map-append piece_bytes ps (Close t.name ∷ []))
 
 module _ (options : CompileOptions) (default : List ℕ) where
   piece_same : (l : LayoutState) (p : Piece) → lay options default l p ≡ bytes_layout.lay options default l (piece_bytes p)

@@ -23,26 +23,10 @@ no_ending None = refl
 no_ending (Some d) = refl
 
 same_without_lines : (p : PassView) (r : Row) (ls : List BlockLine) → pass_row p (row_value r ls) ≡ pass_bare p r
-same_without_lines p (row.Paragraph count) ls = refl
-same_without_lines p (row.Heading rank) ls = refl
-same_without_lines p row.WholeParagraph ls = refl
-same_without_lines p (row.SetextHeading rank count) ls = refl
-same_without_lines p row.Break ls = refl
-same_without_lines p (row.IndentedCode count) ls = refl
-same_without_lines p (row.FencedCode count) ls = refl
-same_without_lines p (row.UnclosedCode count) ls = refl
-same_without_lines p row.WholeCode ls = refl
-same_without_lines p (row.Html count) ls = refl
-same_without_lines p (row.Table count) ls = refl
 same_without_lines p (row.Definition count) ls =
     ap (λ ending. pass_at (before_if ending p.ahead) p.outer p.places) (no_ending (definition_on (take count ls))
     ∙ sym (no_ending (definition_on (take count []))))
-same_without_lines p row.EnterQuote ls = refl
-same_without_lines p (row.EnterItem marker number) ls = refl
-same_without_lines p row.EnterFootnote ls = refl
-same_without_lines p row.Exit ls = refl
-same_without_lines p (row.Ending ending) ls = refl
-same_without_lines p (row.Blank ending) ls = refl
+same_without_lines p r ls = refl
 
 pub passed_backward : (p : PassView) (rows : List Row) (ls : List BlockLine) → fold pass_bare p (reverse rows) ≡ pass_rows p (rows_value rows ls).rows
 passed_backward p [] ls = refl
@@ -57,24 +41,8 @@ passed_backward p (r ∷ rows) ls =
 -- ---- no place where there is no item
 
 same_places : (p : PassView) (r : Row) (ls : List BlockLine) → starts_item r ≡ false → (pass_row p (row_value r ls)).places ≡ p.places
-same_places p (row.Paragraph count) ls h = refl
-same_places p (row.Heading rank) ls h = refl
-same_places p row.WholeParagraph ls h = refl
-same_places p (row.SetextHeading rank count) ls h = refl
-same_places p row.Break ls h = refl
-same_places p (row.IndentedCode count) ls h = refl
-same_places p (row.FencedCode count) ls h = refl
-same_places p (row.UnclosedCode count) ls h = refl
-same_places p row.WholeCode ls h = refl
-same_places p (row.Html count) ls h = refl
-same_places p (row.Table count) ls h = refl
-same_places p (row.Definition count) ls h = refl
-same_places p row.EnterQuote ls h = refl
 same_places p (row.EnterItem marker number) ls h = let wrong : true ≡ false = h in cc
-same_places p row.EnterFootnote ls h = refl
-same_places p row.Exit ls h = refl
-same_places p (row.Ending ending) ls h = refl
-same_places p (row.Blank ending) ls h = refl
+same_places p r ls h = refl
 
 no_places : (p : PassView) (rows : List Row) (ls : List BlockLine) → list_any starts_item rows ≡ false
     → (pass_rows p (rows_value rows ls).rows).places ≡ p.places

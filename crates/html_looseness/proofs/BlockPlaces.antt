@@ -1,8 +1,7 @@
 -- What the pass over the rows of blocks finds.
 use Rattle.std.proofs.Common.{◌≡◌, List, [], ◌∷◌, ◌++◌, refl, sym, ap, ◌∙◌, append_assoc}
-use Rattle.definition_block.specs.Container.{Container, Quote, Item, Footnote}
-use Rattle.definition_block.specs.Tree.{Block, Leaf, Paragraph, Heading, Break, IndentedCode, FencedCode, Html, Table, Definition, Holds, Items, Ending, Blank}
-use Rattle.definition_block.specs.Tree.{Blocks, Nil, Cons}
+use Rattle.definition_block.specs.Container.{Container, Item}
+use Rattle.definition_block.specs.Tree.{Block, Leaf, Holds, Items, Ending, Blank, Blocks, Nil, Cons}
 use Rattle.definition_block.specs.Lists.{has_gap, put_before, group_items, grouped_block}
 use Rattle.block_rows.specs.Rows.{BlockRow, Exit, start_row, rows_of, block_rows}
 use Rattle.html_looseness.specs.declared.loose.Place.{Place}
@@ -14,25 +13,14 @@ use Rattle.html_looseness.proofs.Ahead.{ahead_of, ahead_of_ending, ahead_of_blan
 -- ---- the places of items
 
 abbrev pub own_place : Container → Blocks → Blocks → List Place
-own_place Quote kids gs = []
-own_place (Footnote label) kids gs = []
 own_place (Item item) kids gs = place_at (ahead_of gs) item.marker (has_gap (group_items kids)) ∷ []
+own_place c kids gs = []
 
 -- those of a block before these, and of blocks
 abbrev mutual
   pub places_in : Block → Blocks → List Place
-  places_in (Leaf (Paragraph ls)) gs = []
-  places_in (Leaf (Heading rank ls)) gs = []
-  places_in (Leaf Break) gs = []
-  places_in (Leaf (IndentedCode ls)) gs = []
-  places_in (Leaf (FencedCode info closed ls)) gs = []
-  places_in (Leaf (Html ls)) gs = []
-  places_in (Leaf (Table ls)) gs = []
-  places_in (Leaf (Definition label destination title)) gs = []
   places_in (Holds c kids) gs = own_place c kids gs ++ places_within kids
-  places_in (Items items) gs = []
-  places_in (Ending ending) gs = []
-  places_in (Blank ending) gs = []
+  places_in b gs = []
 
   pub places_within : Blocks → List Place
   places_within Nil = []
@@ -54,17 +42,14 @@ BlockPassed b = (gs : Blocks) (outer : List Ahead) (places : List Place)
     → pass_rows (pass_at (ahead_of gs) outer places) (block_rows b) ≡ pass_at (ahead_of (put_before (grouped_block b) gs)) outer (places_in b gs ++ places)
 
 holds_passed : (c : Container) (kids : Blocks) → IsPrintableContainer c → KidsPassed kids → BlockPassed (Holds c kids)
-holds_passed Quote kids some k gs outer places =
-    ap (λ p. pass_row p (start_row Quote)) (pass_rows-append (pass_at (ahead_of gs) outer places) (rows_of kids) (Exit ∷ []) ∙ k (ahead_of gs ∷ outer) places)
-holds_passed (Footnote label) kids some k gs outer places =
-    ap (λ p. pass_row p (start_row (Footnote label))) (pass_rows-append (pass_at (ahead_of gs) outer places) (rows_of kids) (Exit ∷ [])
-    ∙ k (ahead_of gs ∷ outer) places)
 holds_passed (Item item) kids some k gs outer places =
     let at = λ (a : Ahead). pass_at a outer (place_at (ahead_of gs) item.marker (has_gap (group_items kids)) ∷ (places_within kids ++ places)) in
     ap (λ p. pass_row p (start_row (Item item))) (pass_rows-append (pass_at (ahead_of gs) outer places) (rows_of kids) (Exit ∷ [])
     ∙ k (ahead_of gs ∷ outer) places)
     ∙ ap at (sym (ahead_of_item item (group_items kids) gs some))
     ∙ ap (λ (bs : Blocks). at (ahead_of bs)) (sym (before_item_is item (group_items kids) gs some))
+holds_passed c kids some k gs outer places =
+    ap (λ p. pass_row p (start_row c)) (pass_rows-append (pass_at (ahead_of gs) outer places) (rows_of kids) (Exit ∷ []) ∙ k (ahead_of gs ∷ outer) places)
 
 more_passed : (b : Block) (bs : Blocks) → BlockPassed b → KidsPassed bs → KidsPassed (Cons b bs)
 more_passed b bs h k outer places =
@@ -76,14 +61,7 @@ more_passed b bs h k outer places =
 
 mutual
   pub block_passed : (b : Block) → IsPrintable b → BlockPassed b
-  block_passed (Leaf (Paragraph ls)) h gs outer places = refl
-  block_passed (Leaf (Heading rank ls)) h gs outer places = refl
-  block_passed (Leaf Break) h gs outer places = refl
-  block_passed (Leaf (IndentedCode ls)) h gs outer places = refl
-  block_passed (Leaf (FencedCode info closed ls)) h gs outer places = refl
-  block_passed (Leaf (Html ls)) h gs outer places = refl
-  block_passed (Leaf (Table ls)) h gs outer places = refl
-  block_passed (Leaf (Definition label destination title)) h gs outer places = refl
+  block_passed (Leaf leaf) h gs outer places = refl
   block_passed (Holds c kids) h gs outer places = holds_passed c kids h.0 (blocks_passed kids h.1) gs outer places
   block_passed (Items items) h gs outer places = absurd h
   block_passed (Ending e) h gs outer places = ap (λ (a : Ahead). pass_at a outer places) (sym (ahead_of_ending e gs))

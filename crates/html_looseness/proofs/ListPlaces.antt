@@ -2,9 +2,8 @@
 use Rattle.std.proofs.Common.{◌≡◌, ◌≤◌, Bool, true, false, ◌==◌, List, [], ◌∷◌, ◌++◌, refl, sym, ap, ◌∙◌, subst, append_assoc, append-nil}
 use Rattle.std.proofs.lemmas.Bool.{eqb-true}
 use Rattle.markdown_options.specs.declared.container.Item.{Item as ItemOf}
-use Rattle.definition_block.specs.Container.{Quote, Item, Footnote}
-use Rattle.definition_block.specs.Tree.{Block, Leaf, Paragraph, Heading, Break, IndentedCode, FencedCode, Html, Table, Definition, Holds, Items, Ending, Blank}
-use Rattle.definition_block.specs.Tree.{Blocks, Nil, Cons}
+use Rattle.definition_block.specs.Container.{Item}
+use Rattle.definition_block.specs.Tree.{Block, Leaf, Holds, Items, Ending, Blank, Blocks, Nil, Cons}
 use Rattle.definition_block.specs.Lists.{after_endings, has_gap, is_loose, is_some_block, list_marker, put_before, group_items, grouped_block}
 use Rattle.block_rows.specs.Rows.{rows_of}
 use Rattle.html_looseness.specs.declared.loose.Place.{Place}
@@ -65,19 +64,11 @@ item_before item kids gs some =
 
 mutual
   block_before : (b : Block) → IsPrintable b → (gs : Blocks) → places_in b gs ++ all_places gs ≡ all_places (put_before (grouped_block b) gs)
-  block_before (Leaf (Paragraph ls)) h gs = refl
-  block_before (Leaf (Heading rank ls)) h gs = refl
-  block_before (Leaf Break) h gs = refl
-  block_before (Leaf (IndentedCode ls)) h gs = refl
-  block_before (Leaf (FencedCode info closed ls)) h gs = refl
-  block_before (Leaf (Html ls)) h gs = refl
-  block_before (Leaf (Table ls)) h gs = refl
-  block_before (Leaf (Definition label destination title)) h gs = refl
-  block_before (Holds Quote kids) h gs = ap (λ ps. ps ++ all_places gs) (blocks_within kids h.1)
+  block_before (Leaf leaf) h gs = refl
   block_before (Holds (Item item) kids) h gs =
       ap (λ ps. place_at (ahead_of gs) item.marker (has_gap (group_items kids)) ∷ (ps ++ all_places gs)) (blocks_within kids h.1)
       ∙ item_before item (group_items kids) gs h.0
-  block_before (Holds (Footnote label) kids) h gs = ap (λ ps. ps ++ all_places gs) (blocks_within kids h.1)
+  block_before (Holds c kids) h gs = ap (λ ps. ps ++ all_places gs) (blocks_within kids h.1)
   block_before (Items items) h gs = absurd h
   block_before (Ending e) h gs = refl
   block_before (Blank e) h gs = refl

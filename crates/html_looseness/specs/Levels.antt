@@ -1,12 +1,10 @@
 -- What holds a row, and what a block prints in it.
 use Rattle.std.specs.Prelude.{Bool, true, false, ◌&&◌, List, []}
-use Rattle.definition_block.specs.Container.{Quote, Item, Footnote}
-use Rattle.definition_block.specs.Tree.{Block, Leaf, Paragraph, Heading, Break, IndentedCode, FencedCode, Html, Table, Definition, Holds, Items, Ending, Blank}
 use Rattle.definition_block.specs.Tree.{is_ending}
 use Rattle.definition_page.specs.Read.{Standing}
 use Rattle.html_bytes.specs.Pieces.{Piece}
 use Rattle.html_bytes.specs.Document.{Document}
-use Rattle.html_bytes.specs.Html.{block_bytes, silences}
+use Rattle.html_bytes.specs.Html.{block_bytes, silences, plain_after}
 use Rattle.block_rows.specs.Rows.{BlockRow, Single, EnterQuote, EnterItem, EnterFootnote, Exit}
 use Rattle.html_looseness.specs.declared.level.Level.{Level}
 use Rattle.html_looseness.specs.declared.level.Holder.{Holder}
@@ -14,24 +12,15 @@ use Rattle.html_looseness.specs.declared.level.Holder.TheVariants as holder
 
 abbrev pub is_document : Holder → Bool
 is_document holder.Document = true
-is_document holder.Quote = false
-is_document (holder.List number) = false
-is_document (holder.Item last) = false
-is_document holder.Footnote = false
+is_document k = false
 
 abbrev pub is_list : Holder → Bool
-is_list holder.Document = false
-is_list holder.Quote = false
 is_list (holder.List number) = true
-is_list (holder.Item last) = false
-is_list holder.Footnote = false
+is_list k = false
 
 abbrev pub is_item : Holder → Bool
-is_item holder.Document = false
-is_item holder.Quote = false
-is_item (holder.List number) = false
 is_item (holder.Item last) = true
-is_item holder.Footnote = false
+is_item k = false
 
 abbrev pub level_of : Holder → Bool → Bool → Bool → Bool → Level
 level_of k tight plain silent first = record { holder = k; tight = tight; plain = plain; silent = silent; first = first }
@@ -59,23 +48,6 @@ after_block l = level_of l.holder l.tight false false (l.first && false)
 abbrev pub after_footnote : Level → Level
 after_footnote l = level_of l.holder l.tight l.plain true (l.first && false)
 
--- whether the last block that prints anything, if there is any, is a tight paragraph, after one more
-abbrev pub plain_after : Bool → Bool → Block → Bool
-plain_after tight before (Leaf (Paragraph ls)) = tight
-plain_after tight before (Leaf (Heading rank ls)) = false
-plain_after tight before (Leaf Break) = false
-plain_after tight before (Leaf (IndentedCode ls)) = false
-plain_after tight before (Leaf (FencedCode info closed ls)) = false
-plain_after tight before (Leaf (Html ls)) = false
-plain_after tight before (Leaf (Table ls)) = false
-plain_after tight before (Leaf (Definition label destination title)) = before
-plain_after tight before (Holds Quote kids) = false
-plain_after tight before (Holds (Item item) kids) = false
-plain_after tight before (Holds (Footnote label) kids) = before
-plain_after tight before (Items items) = false
-plain_after tight before (Ending ending) = before
-plain_after tight before (Blank ending) = before
-
 abbrev pub level_after : Level → BlockRow → Level
 level_after l (Single b) = level_of l.holder l.tight (plain_after l.tight l.plain b) (silences (is_document l.holder) l.tight l.silent b)
     (l.first && is_ending b)
@@ -87,7 +59,4 @@ level_after l Exit = after_block l
 -- what a block prints at a level
 abbrev pub row_pieces : Document → Level → BlockRow → List Piece
 row_pieces d l (Single b) = block_bytes d (standing_of l) l.tight l.silent b
-row_pieces d l EnterQuote = []
-row_pieces d l (EnterItem marker number) = []
-row_pieces d l (EnterFootnote label) = []
-row_pieces d l Exit = []
+row_pieces d l row = []

@@ -83,45 +83,16 @@ places_of rows = (pass_rows pass_start rows).places
 
 -- whether a row starts an item
 abbrev pub starts_item : Row → Bool
-starts_item (row.Paragraph count) = false
-starts_item (row.Heading rank) = false
-starts_item row.WholeParagraph = false
-starts_item (row.SetextHeading rank count) = false
-starts_item row.Break = false
-starts_item (row.IndentedCode count) = false
-starts_item (row.FencedCode count) = false
-starts_item (row.UnclosedCode count) = false
-starts_item row.WholeCode = false
-starts_item (row.Html count) = false
-starts_item (row.Table count) = false
-starts_item (row.Definition count) = false
-starts_item row.EnterQuote = false
 starts_item (row.EnterItem marker number) = true
-starts_item row.EnterFootnote = false
-starts_item row.Exit = false
-starts_item (row.Ending ending) = false
-starts_item (row.Blank ending) = false
+starts_item r = false
 
 -- whether a row starts or ends a container
 abbrev pub bounds_container : Row → Bool
-bounds_container (row.Paragraph count) = false
-bounds_container row.WholeParagraph = false
-bounds_container (row.Heading rank) = false
-bounds_container (row.SetextHeading rank count) = false
-bounds_container row.Break = false
-bounds_container (row.IndentedCode count) = false
-bounds_container (row.FencedCode count) = false
-bounds_container (row.UnclosedCode count) = false
-bounds_container row.WholeCode = false
-bounds_container (row.Html count) = false
-bounds_container (row.Table count) = false
-bounds_container (row.Definition count) = false
 bounds_container row.EnterQuote = true
 bounds_container (row.EnterItem marker number) = true
 bounds_container row.EnterFootnote = true
 bounds_container row.Exit = true
-bounds_container (row.Ending ending) = false
-bounds_container (row.Blank ending) = false
+bounds_container r = false
 
 -- what a pass has found
 abbrev pub pass_view : {A : Type 0} → Pass A → PassView

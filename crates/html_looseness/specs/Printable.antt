@@ -6,9 +6,8 @@ use Rattle.definition_block.specs.GfmFootnoteDefinition.{is_footnote_label}
 use Rattle.definition_text.specs.Columns.{is_byte}
 use Rattle.text_pieces.specs.ParagraphLines.{HaveNoEnding, AreLines}
 use Rattle.definition_text.specs.BlockLines.{BlockLine}
-use Rattle.definition_block.specs.Tree.{Block, Leaf, Paragraph, Heading, Break, IndentedCode, FencedCode, Html, Table, Definition, Holds, Items, Ending, Blank}
-use Rattle.definition_block.specs.Tree.{Blocks, Nil, Cons}
-use Rattle.block_rows.specs.Rows.{BlockRow, Single, EnterQuote, EnterItem, EnterFootnote, Exit}
+use Rattle.definition_block.specs.Tree.{LeafBlock, Paragraph, Heading, FencedCode, Table, Block, Leaf, Holds, Items, Blocks, Nil, Cons}
+use Rattle.block_rows.specs.Rows.{BlockRow, Single, EnterFootnote}
 
 -- whether a container can be printed: an item has a marker, and a footnote definition a label
 abbrev pub IsPrintableContainer : Container → Type 0
@@ -31,22 +30,22 @@ AreClear (line ∷ others) = HaveNoEnding line.codes × AreClear others
 abbrev pub IsTable : List BlockLine → Type 0
 IsTable ls = (2 ≤ length ls) × AreClear ls
 
--- Whether blocks can all be printed: a paragraph has lines of a text, a heading has a rank from 1 to 6 and such lines, an info is made of bytes and has no line
--- ending, a table has such lines, and so it is in each container. Lists are made when they are printed.
+-- Whether a leaf can be printed: a paragraph has lines of a text, a heading has a rank from 1 to 6 and such lines, an info is made of bytes and has no line
+-- ending, a table has such lines.
+abbrev pub IsPrintableLeaf : LeafBlock → Type 0
+IsPrintableLeaf (Paragraph ls) = AreLines ls
+IsPrintableLeaf (Heading rank ls) = ((1 ≤ rank) × (rank ≤ 6)) × AreHeadingLines ls
+IsPrintableLeaf (FencedCode info closed ls) = (list_all is_byte info ≡ true) × HaveNoEnding info
+IsPrintableLeaf (Table ls) = IsTable ls
+IsPrintableLeaf leaf = Unit {0}
+
+-- whether blocks can all be printed, and so in each container; lists are made when they are printed
 abbrev mutual
   pub IsPrintable : Block → Type 0
-  IsPrintable (Leaf (Paragraph ls)) = AreLines ls
-  IsPrintable (Leaf (Heading rank ls)) = ((1 ≤ rank) × (rank ≤ 6)) × AreHeadingLines ls
-  IsPrintable (Leaf Break) = Unit {0}
-  IsPrintable (Leaf (IndentedCode ls)) = Unit {0}
-  IsPrintable (Leaf (FencedCode info closed ls)) = (list_all is_byte info ≡ true) × HaveNoEnding info
-  IsPrintable (Leaf (Html ls)) = Unit {0}
-  IsPrintable (Leaf (Table ls)) = IsTable ls
-  IsPrintable (Leaf (Definition label destination title)) = Unit {0}
+  IsPrintable (Leaf leaf) = IsPrintableLeaf leaf
   IsPrintable (Holds c kids) = IsPrintableContainer c × CanBePrinted kids
   IsPrintable (Items items) = ⊥
-  IsPrintable (Ending ending) = Unit {0}
-  IsPrintable (Blank ending) = Unit {0}
+  IsPrintable b = Unit {0}
 
   pub CanBePrinted : Blocks → Type 0
   CanBePrinted Nil = Unit {0}
@@ -55,10 +54,8 @@ abbrev mutual
 -- the same of rows
 abbrev pub IsPrintableRow : BlockRow → Type 0
 IsPrintableRow (Single b) = IsPrintable b
-IsPrintableRow EnterQuote = Unit {0}
-IsPrintableRow (EnterItem marker number) = Unit {0}
 IsPrintableRow (EnterFootnote label) = is_footnote_label label ≡ true
-IsPrintableRow Exit = Unit {0}
+IsPrintableRow row = Unit {0}
 
 abbrev pub ArePrintable : List BlockRow → Type 0
 ArePrintable rows = All IsPrintableRow rows
