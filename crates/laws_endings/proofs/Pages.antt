@@ -26,7 +26,7 @@ use Rattle.definition_inline.specs.Inline.{Leaf, TaskCheck, Inlines, Cons}
 use Rattle.definition_page.specs.GfmTable.{TableRow, Table, head_line, delimiter_line, body_lines, line_aligns, in_cell}
 use Rattle.definition_page.specs.Page as page
 use Rattle.definition_page.specs.Page.{cons_ending, cons_blank}
-use Rattle.definition_page.specs.Read.{Reading, Standing, context_of, in_container, next_standing, checked_text, read_paragraph, read_cell, read_row}
+use Rattle.definition_page.specs.Read.{Reading, Standing, context_of, in_container, ending_list, next_standing, checked_text, read_paragraph, read_cell, read_row}
 use Rattle.definition_page.specs.Read.{read_table, read_text, info_text, code_lines, without_ending, after_leaf, read_leaf, read_container, standing_in}
 use Rattle.definition_page.specs.Read.{list_number, read_block, read_blocks, is_blank_ending, ends_blank}
 use Rattle.laws_endings.specs.Endings.{with_ending, ending_with, if_ending_with, codes_with, line_with, lines_with, leaf_block_with, block_with, blocks_with}
@@ -49,7 +49,7 @@ use Rattle.laws_endings.proofs.InlineReads.{dropped_codes, from_fits, inlines_fi
 use Rattle.laws_endings.proofs.BlockReads.{IsFed, WholeBefore, LineFits, LinesFit, LeafBlockFits, BlockFits, BlocksFit, line_singles, join_fits, own_fit}
 use Rattle.laws_endings.proofs.Bytes.{IsNoFeed}
 use Rattle.laws_endings.proofs.PrintedTable.{RowFits, TableFits, in_cell_fits, CellFits, cells_fit, head_fits, delimiters_fit, head-with, delimiters-with}
-use Rattle.laws_endings.proofs.PrintedTable.{row_with, table_with, in_cell-with}
+use Rattle.laws_endings.proofs.PrintedTable.{list_fed, list-with, row_with, table_with, in_cell-with}
 use Rattle.laws_endings.proofs.Saids.{plains_no_feed, codes-kept, string_text-with}
 
 -- ---- lists
@@ -443,9 +443,11 @@ module _ (e : LineEnding) where
 
     row-with : (line : BlockLine) → LineFits line → read_row r (line_with e line) ≡ row_with e (read_row r line)
     row-with line h =
-        let made : List Inlines → TableRow = λ cells. record { cells = cells; ending = if_ending_with e line.ending } in
-        ap (λ text. made (map (read_cell r) (cells line.before text))) (codes-kept e line.codes (plains_no_feed line.codes h.0))
-        ∙ ap made (cells-with (line_cells line) (cells_fit line h))
+        let made : List Inlines → List LineEnding → TableRow = λ cells endings. record { cells = cells; endings = endings } in
+        let ends = ending_list (if_ending_with e line.ending) in
+        ap (λ text. made (map (read_cell r) (cells line.before text)) ends) (codes-kept e line.codes (plains_no_feed line.codes h.0))
+        ∙ ap (λ own. made own ends) (cells-with (line_cells line) (cells_fit line h))
+        ∙ ap (made (map (inlines_with e) (map (read_cell r) (line_cells line)))) (list-with e line.ending)
 
     rows-with : (ls : List BlockLine) → LinesFit ls → map (read_row r) (lines_with e ls) ≡ map (row_with e) (map (read_row r) ls)
     rows-with [] h = refl
@@ -456,12 +458,12 @@ module _ (e : LineEnding) where
     table-with ls h =
         let delimiters = delimiter_line ls in
         let made : BlockLine → TableRow → List TableRow → Table =
-        λ line head rows. record { aligns = line_aligns line; head = head; ending = line.ending; rows = rows } in
-        let aligned : List ℕ → Table =
-        λ text. record {
+        λ line head rows. record { aligns = line_aligns line; head = head; endings = ending_list line.ending; rows = rows } in
+        let aligned : List ℕ → List LineEnding → Table =
+        λ text endings. record {
           aligns = unwrap_or (delimiters_of text) [];
           head = row_with e (read_row r (head_line ls));
-          ending = if_ending_with e delimiters.ending;
+          endings = endings;
           rows = map (row_with e) (map (read_row r) (body_lines ls));
         } in
         let body = lines_with e (body_lines ls) in
@@ -470,7 +472,9 @@ module _ (e : LineEnding) where
         ∙ ap (λ head. made (line_with e delimiters) head (map (read_row r) (body_lines (lines_with e ls)))) (row-with (head_line ls) (head_fits ls h))
         ∙ ap (λ own. made (line_with e delimiters) (row_with e (read_row r (head_line ls))) (map (read_row r) own)) (drop-map (line_with e) 2 ls)
         ∙ ap (made (line_with e delimiters) (row_with e (read_row r (head_line ls)))) (rows-with (body_lines ls) (each-drop LineFits 2 ls h))
-        ∙ ap aligned (codes-kept e delimiters.codes (plains_no_feed delimiters.codes (delimiters_fit ls h).0))
+        ∙ ap (λ text. aligned text (ending_list (if_ending_with e delimiters.ending)))
+        (codes-kept e delimiters.codes (plains_no_feed delimiters.codes (delimiters_fit ls h).0))
+        ∙ ap (aligned delimiters.codes) (list-with e delimiters.ending)
 
     read_cells_fit : (cs : List Cell) → Each CellFits cs → Each AreFit (map (read_cell r) cs)
     read_cells_fit [] h = tt
@@ -483,7 +487,7 @@ module _ (e : LineEnding) where
         (in_cell_fits (inlines context content) (inlines_fit context content singles), read_cells_fit cs h.1)
 
     row_fits : (line : BlockLine) → LineFits line → RowFits (read_row r line)
-    row_fits line h = (read_cells_fit (line_cells line) (cells_fit line h), h.1.0)
+    row_fits line h = (read_cells_fit (line_cells line) (cells_fit line h), list_fed line.ending h.1.0)
 
     rows_fit : (ls : List BlockLine) → LinesFit ls → Each RowFits (map (read_row r) ls)
     rows_fit [] h = tt
@@ -491,7 +495,7 @@ module _ (e : LineEnding) where
 
     table_fits : (ls : List BlockLine) → LinesFit ls → TableFits (read_table r ls)
     table_fits ls h =
-        (row_fits (head_line ls) (head_fits ls h), (delimiters_fit ls h).1.0, rows_fit (body_lines ls) (each-drop LineFits 2 ls h))
+        (row_fits (head_line ls) (head_fits ls h), list_fed (delimiter_line ls).ending (delimiters_fit ls h).1.0, rows_fit (body_lines ls) (each-drop LineFits 2 ls h))
 
     info_fits : (info : List ℕ) → Each Plain info → InfoFits (info_text r info)
     info_fits [] p = tt

@@ -14,7 +14,7 @@ use Rattle.definition_text.specs.Encode.{encode}
 use Rattle.definition_inline.specs.Inline.{LinkTexts, Inlines, Nil as NoText}
 use Rattle.markdown_options.specs.declared.align_kind.AlignKind.{AlignKind}
 use Rattle.markdown_options.specs.declared.align_kind.AlignKind.TheVariants as kind
-use Rattle.definition_page.specs.GfmTable.{TableRow, Table as TableOf, align_attributes, cell_pieces, cells_pieces, row_pieces, ending_piece, body_row_pieces}
+use Rattle.definition_page.specs.GfmTable.{TableRow, Table as TableOf, align_attributes, cell_pieces, cells_pieces, row_pieces, ending_piece, endings_pieces, body_row_pieces}
 use Rattle.definition_page.specs.GfmTable.{head_pieces, body_pieces, table_pieces}
 use Rattle.definition_page.specs.Tags.{Words, Number, Attribute, attribute, tag, bare_tag}
 use Rattle.definition_page.specs.Pieces.{Piece, Void, Says, Eol, Fresh}
@@ -37,7 +37,7 @@ use Rattle.laws_endings.specs.PageLaws.{HaveNoFeeds}
 use Rattle.laws_endings.proofs.Pieces.{BytesWith, AttributesWith, attribute-with, more_attributes, PiecesWith, no_pieces, append-with, more-with}
 use Rattle.laws_endings.proofs.Pieces.{said-with, void_piece-with, eol_piece-with, fresh_piece-with, element-with, saids-with, note-with}
 use Rattle.laws_endings.proofs.Printed.{LinkedFits, linked_with, counts-with, inlines-with}
-use Rattle.laws_endings.proofs.PrintedTable.{RowFits, TableFits, row_with, table_with}
+use Rattle.laws_endings.proofs.PrintedTable.{AreFed, RowFits, TableFits, row_with, table_with}
 use Rattle.laws_endings.proofs.Pages.{page_leaf_with, page_block_with, page_blocks_with, InfoFits, PageLeafFits, PageBlockFits, PageFits}
 
 module _ (e : LineEnding) where
@@ -209,8 +209,14 @@ module _ (e : LineEnding) where
     align-with kind.Center = refl
     align-with kind.None = refl
 
-    end-with : (ending : Option LineEnding) → IsFed ending → PiecesWith e m.compile (ending_piece (if_ending_with e ending) ∷ []) (ending_piece ending ∷ [])
-    end-with ending f = said-with e m.compile (Words (ending_text (if_ending_with e ending))) (Words (ending_text ending)) (ending-words ending f)
+    ends-with : (endings : List LineEnding) → AreFed endings
+        → PiecesWith e m.compile (endings_pieces (map (ending_with e) endings)) (endings_pieces endings)
+    ends-with [] f = no_pieces e m.compile
+    ends-with (ending ∷ others) f =
+        append-with e m.compile (ending_piece (ending_with e ending) ∷ []) (ending_piece ending ∷ []) (endings_pieces (map (ending_with e) others))
+        (endings_pieces others)
+        (said-with e m.compile (Words (ending_text (Some (ending_with e ending)))) (Words (ending_text (Some ending))) (ending-words (Some ending) f.0))
+        (ends-with others f.1)
 
     module _ (name : List ℕ) (same : BytesWith e name name) where
       cell-with : (align : AlignKind) (is : Inlines) → AreFit is
@@ -255,18 +261,18 @@ module _ (e : LineEnding) where
         append-with e m.compile (body_row_pieces m' aligns (row_with e row)) (body_row_pieces m aligns row)
         (flat_map (body_row_pieces m' aligns) (map (row_with e) rows)) (flat_map (body_row_pieces m aligns) rows)
         (append-with e m.compile (row_pieces m' (codes "td") aligns (row_with e row)) (row_pieces m (codes "td") aligns row)
-        (ending_piece (if_ending_with e row.ending) ∷ []) (ending_piece row.ending ∷ [])
-        (row-with (codes "td") refl aligns row p.0) (end-with row.ending p.0.1))
+        (endings_pieces (map (ending_with e) row.endings)) (endings_pieces row.endings)
+        (row-with (codes "td") refl aligns row p.0) (ends-with row.endings p.0.1))
         (rows-with aligns rows p.1)
 
-    body-with : (aligns : List AlignKind) (ending : Option LineEnding) (rows : List TableRow) → IsFed ending → Each RowFits rows
-        → PiecesWith e m.compile (body_pieces m' aligns (if_ending_with e ending) (map (row_with e) rows)) (body_pieces m aligns ending rows)
-    body-with aligns ending [] f p = no_pieces e m.compile
-    body-with aligns ending (row ∷ rows) f p =
+    body-with : (aligns : List AlignKind) (endings : List LineEnding) (rows : List TableRow) → AreFed endings → Each RowFits rows
+        → PiecesWith e m.compile (body_pieces m' aligns (map (ending_with e) endings) (map (row_with e) rows)) (body_pieces m aligns endings rows)
+    body-with aligns endings [] f p = no_pieces e m.compile
+    body-with aligns endings (row ∷ rows) f p =
         let ps' = flat_map (body_row_pieces m' aligns) (map (row_with e) (row ∷ rows)) in
         let ps = flat_map (body_row_pieces m aligns) (row ∷ rows) in
-        append-with e m.compile (ending_piece (if_ending_with e ending) ∷ []) (ending_piece ending ∷ [])
-        (element (bare_tag (codes "tbody")) (ps' ++ Fresh ∷ [])) (element (bare_tag (codes "tbody")) (ps ++ Fresh ∷ [])) (end-with ending f)
+        append-with e m.compile (endings_pieces (map (ending_with e) endings)) (endings_pieces endings)
+        (element (bare_tag (codes "tbody")) (ps' ++ Fresh ∷ [])) (element (bare_tag (codes "tbody")) (ps ++ Fresh ∷ [])) (ends-with endings f)
         (bare-with (codes "tbody") (ps' ++ Fresh ∷ []) (ps ++ Fresh ∷ []) refl
         (append-with e m.compile ps' ps (Fresh ∷ []) (Fresh ∷ []) (rows-with aligns (row ∷ rows) p) (fresh_piece-with e m.compile)))
 
@@ -275,25 +281,25 @@ module _ (e : LineEnding) where
     head-with aligns head p =
         let ps' = row_pieces m' (codes "th") aligns (row_with e head) in
         let ps = row_pieces m (codes "th") aligns head in
-        let end' = ending_piece (if_ending_with e head.ending) in
-        let end = ending_piece head.ending in
-        bare-with (codes "thead") (ps' ++ end' ∷ Fresh ∷ []) (ps ++ end ∷ Fresh ∷ []) refl
-        (append-with e m.compile ps' ps (end' ∷ Fresh ∷ []) (end ∷ Fresh ∷ []) (row-with (codes "th") refl aligns head p)
-        (append-with e m.compile (end' ∷ []) (end ∷ []) (Fresh ∷ []) (Fresh ∷ []) (end-with head.ending p.1) (fresh_piece-with e m.compile)))
+        let end' = endings_pieces (map (ending_with e) head.endings) in
+        let end = endings_pieces head.endings in
+        bare-with (codes "thead") (ps' ++ end' ++ Fresh ∷ []) (ps ++ end ++ Fresh ∷ []) refl
+        (append-with e m.compile (ps' ++ end') (ps ++ end) (Fresh ∷ []) (Fresh ∷ [])
+        (append-with e m.compile ps' ps end' end (row-with (codes "th") refl aligns head p) (ends-with head.endings p.1)) (fresh_piece-with e m.compile))
 
     table-printed : (t : TableOf) → TableFits t → PiecesWith e m.compile (table_pieces m' (table_with e t)) (table_pieces m t)
     table-printed t p =
         let head' = head_pieces m' t.aligns (row_with e t.head) in
         let head = head_pieces m t.aligns t.head in
-        let body' = body_pieces m' t.aligns (if_ending_with e t.ending) (map (row_with e) t.rows) in
-        let body = body_pieces m t.aligns t.ending t.rows in
+        let body' = body_pieces m' t.aligns (map (ending_with e) t.endings) (map (row_with e) t.rows) in
+        let body = body_pieces m t.aligns t.endings t.rows in
         let all' = head' ++ body' ++ Fresh ∷ [] in
         let all = head ++ body ++ Fresh ∷ [] in
         fresh-then (element (bare_tag (codes "table")) (Fresh ∷ all')) (element (bare_tag (codes "table")) (Fresh ∷ all))
         (bare-with (codes "table") (Fresh ∷ all') (Fresh ∷ all) refl
         (fresh-then all' all
         (append-with e m.compile (head' ++ body') (head ++ body) (Fresh ∷ []) (Fresh ∷ [])
-        (append-with e m.compile head' head body' body (head-with t.aligns t.head p.0) (body-with t.aligns t.ending t.rows p.1 p.2))
+        (append-with e m.compile head' head body' body (head-with t.aligns t.head p.0) (body-with t.aligns t.endings t.rows p.1 p.2))
         (fresh_piece-with e m.compile))))
 
     leaf_block-with : (place : Place) (leaf : PageLeaf) → PageLeafFits e leaf

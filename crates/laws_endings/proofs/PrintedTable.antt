@@ -1,5 +1,5 @@
 -- Tables of a page with another line ending in place of each LF (GFM 4.10).
-use Rattle.std.proofs.Common.{◌≡◌, ℕ, Bool, false, List, [], ◌∷◌, refl, ap, ◌∙◌, map}
+use Rattle.std.proofs.Common.{◌≡◌, ℕ, Bool, false, List, [], ◌∷◌, Option, None, Some, refl, ap, ◌∙◌, map}
 use Rattle.std.proofs.lemmas.Bool.{cond_both}
 use Rattle.markdown_options.specs.declared.line_ending.LineEnding.{LineEnding}
 use Rattle.definition_text.specs.BlockLines.{BlockLine}
@@ -10,7 +10,8 @@ use Rattle.markdown_options.specs.declared.beside.Kind.TheVariants.{Punctuation}
 use Rattle.definition_inline.specs.Inline.{Inline, Leaf, Span, Linked, Call, Inlines, Nil, Cons}
 use Rattle.definition_block.specs.GfmTable.{Cell, in_first_cell, is_bar, parts, without_blank_first, without_blank_last, line_cells}
 use Rattle.definition_page.specs.GfmTable.{TableRow, Table, part_in_cell, in_cell, head_line, delimiter_line}
-use Rattle.laws_endings.specs.Endings.{if_ending_with, line_with, lines_with}
+use Rattle.definition_page.specs.Read.{ending_list}
+use Rattle.laws_endings.specs.Endings.{ending_with, if_ending_with, line_with, lines_with}
 use Rattle.laws_endings.specs.Inlines.{target_with, inline_with, inlines_with}
 use Rattle.laws_endings.proofs.Each.{Each}
 use Rattle.laws_endings.proofs.Fits.{Plain}
@@ -20,11 +21,18 @@ use Rattle.laws_endings.proofs.PrintedLeaves.{cell_leaf_fits, cell_leaf-with}
 
 -- ---- what is fit
 
+abbrev pub AreFed : List LineEnding → Type 0
+AreFed endings = Each (λ ending. IsFed (Some ending)) endings
+
+pub list_fed : (ending : Option LineEnding) → IsFed ending → AreFed (ending_list ending)
+list_fed None f = tt
+list_fed (Some ending) f = (f, tt)
+
 abbrev pub RowFits : TableRow → Type 0
-RowFits row = Each AreFit row.cells × IsFed row.ending
+RowFits row = Each AreFit row.cells × AreFed row.endings
 
 abbrev pub TableFits : Table → Type 0
-TableFits t = RowFits t.head × IsFed t.ending × Each RowFits t.rows
+TableFits t = RowFits t.head × AreFed t.endings × Each RowFits t.rows
 
 mutual
   part_fits : (i : Inline) → IsFit i → IsFit (part_in_cell i)
@@ -89,12 +97,16 @@ module _ (e : LineEnding) where
 
   -- ---- tables
 
+  pub list-with : (ending : Option LineEnding) → ending_list (if_ending_with e ending) ≡ map (ending_with e) (ending_list ending)
+  list-with None = refl
+  list-with (Some ending) = refl
+
   abbrev pub row_with : TableRow → TableRow
-  row_with row = record { cells = map (inlines_with e) row.cells; ending = if_ending_with e row.ending }
+  row_with row = record { cells = map (inlines_with e) row.cells; endings = map (ending_with e) row.endings }
 
   abbrev pub table_with : Table → Table
   table_with t =
-      record { aligns = t.aligns; head = row_with t.head; ending = if_ending_with e t.ending; rows = map row_with t.rows }
+      record { aligns = t.aligns; head = row_with t.head; endings = map (ending_with e) t.endings; rows = map row_with t.rows }
 
   mutual
     part-with : (i : Inline) → part_in_cell (inline_with e i) ≡ inline_with e (part_in_cell i)

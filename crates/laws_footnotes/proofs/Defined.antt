@@ -19,7 +19,7 @@ use Rattle.definition_page.specs.Pieces.{Piece, Close, Says, Eol, Fresh, NoteEnd
 use Rattle.definition_page.specs.InlinePieces.{Meaning, element, html_says, call_at, count_at, part_counts, inline_counts, leaf_pieces, span_name}
 use Rattle.definition_page.specs.InlinePieces.{part_pieces, inline_pieces, link_tag}
 use Rattle.definition_inline.specs.Targets.{leads_to}
-use Rattle.definition_page.specs.GfmTable.{TableRow, Table as TableOf, cell_pieces, cells_pieces, row_pieces, align_attributes, ending_piece, body_row_pieces}
+use Rattle.definition_page.specs.GfmTable.{TableRow, Table as TableOf, cell_pieces, cells_pieces, row_pieces, align_attributes, ending_piece, endings_pieces, body_row_pieces}
 use Rattle.definition_page.specs.GfmTable.{head_pieces, body_pieces, table_pieces}
 use Rattle.definition_page.specs.BlockPieces.{Place, at_top, inside, fresh_unless, says, code_line, html_line, fenced_pieces, is_silent}
 use Rattle.definition_page.specs.BlockPieces.{last_visible, ends_plainly, leaf_block_pieces, block_pieces, children_pieces, heading_name}
@@ -128,30 +128,36 @@ module _ (m : Meaning) where
       let cells = cells_pieces m name aligns row.cells in
       element_leads (bare_tag (codes "tr")) (cells ++ Fresh ∷ []) (both_lead cells (Fresh ∷ []) (cells_lead name aligns row.cells) no_calls)
 
+  endings_lead : (endings : List LineEnding) → Lead (endings_pieces endings)
+  endings_lead [] = no_calls
+  endings_lead (ending ∷ others) = both_lead (ending_piece ending ∷ []) (endings_pieces others) no_calls (endings_lead others)
+
   rows_lead : (aligns : List AlignKind) (rows : List TableRow) → Lead (flat_map (body_row_pieces m aligns) rows)
   rows_lead aligns [] = no_calls
   rows_lead aligns (row ∷ rows) =
       both_lead (body_row_pieces m aligns row) (flat_map (body_row_pieces m aligns) rows)
-      (both_lead (row_pieces m (codes "td") aligns row) (ending_piece row.ending ∷ []) (row_leads (codes "td") aligns row) no_calls) (rows_lead aligns rows)
+      (both_lead (row_pieces m (codes "td") aligns row) (endings_pieces row.endings) (row_leads (codes "td") aligns row) (endings_lead row.endings)) (rows_lead aligns rows)
 
-  body_leads : (aligns : List AlignKind) (ending : Option LineEnding) (rows : List TableRow) → Lead (body_pieces m aligns ending rows)
-  body_leads aligns ending [] = no_calls
-  body_leads aligns ending (row ∷ rows) =
+  body_leads : (aligns : List AlignKind) (endings : List LineEnding) (rows : List TableRow) → Lead (body_pieces m aligns endings rows)
+  body_leads aligns endings [] = no_calls
+  body_leads aligns endings (row ∷ rows) =
       let all = flat_map (body_row_pieces m aligns) (row ∷ rows) in
-      element_leads (bare_tag (codes "tbody")) (all ++ Fresh ∷ []) (both_lead all (Fresh ∷ []) (rows_lead aligns (row ∷ rows)) no_calls)
+      both_lead (endings_pieces endings) (element (bare_tag (codes "tbody")) (all ++ Fresh ∷ [])) (endings_lead endings)
+      (element_leads (bare_tag (codes "tbody")) (all ++ Fresh ∷ []) (both_lead all (Fresh ∷ []) (rows_lead aligns (row ∷ rows)) no_calls))
 
   head_leads : (aligns : List AlignKind) (head : TableRow) → Lead (head_pieces m aligns head)
   head_leads aligns head =
       let row = row_pieces m (codes "th") aligns head in
-      let end = ending_piece head.ending ∷ Fresh ∷ [] in
-      element_leads (bare_tag (codes "thead")) (row ++ end) (both_lead row end (row_leads (codes "th") aligns head) no_calls)
+      let ends = endings_pieces head.endings in
+      element_leads (bare_tag (codes "thead")) (row ++ ends ++ Fresh ∷ [])
+      (both_lead (row ++ ends) (Fresh ∷ []) (both_lead row ends (row_leads (codes "th") aligns head) (endings_lead head.endings)) no_calls)
 
   table_leads : (t : TableOf) → Lead (table_pieces m t)
   table_leads t =
       let head = head_pieces m t.aligns t.head in
-      let body = body_pieces m t.aligns t.ending t.rows in
+      let body = body_pieces m t.aligns t.endings t.rows in
       element_leads (bare_tag (codes "table")) (Fresh ∷ head ++ body ++ Fresh ∷ [])
-      (both_lead (head ++ body) (Fresh ∷ []) (both_lead head body (head_leads t.aligns t.head) (body_leads t.aligns t.ending t.rows)) no_calls)
+      (both_lead (head ++ body) (Fresh ∷ []) (both_lead head body (head_leads t.aligns t.head) (body_leads t.aligns t.endings t.rows)) no_calls)
 
   -- ---- blocks
 

@@ -17,7 +17,7 @@ use Rattle.definition_inline.specs.Targets.{leads_to}
 use Rattle.definition_page.specs.InlinePieces.{part_counts, inline_counts, element, address_tag, leaf_pieces, span_name, part_pieces, inline_pieces}
 use Rattle.definition_page.specs.GfmTaskListItem.{checkable_attributes, done_attributes}
 use Rattle.markdown_options.specs.declared.align_kind.AlignKind.{AlignKind}
-use Rattle.definition_page.specs.GfmTable.{Table, TableRow, align_attributes, cell_pieces, cells_pieces, row_pieces, ending_piece, body_row_pieces, head_pieces}
+use Rattle.definition_page.specs.GfmTable.{Table, TableRow, align_attributes, cell_pieces, cells_pieces, row_pieces, endings_pieces, body_row_pieces, head_pieces}
 use Rattle.definition_page.specs.GfmTable.{body_pieces, table_pieces}
 use Rattle.definition_page.specs.Page as page
 use Rattle.definition_page.specs.Page.{Page}
@@ -151,24 +151,24 @@ module _ (m : Meaning) (compile : CompileOptions) (alike : Alike compile m.compi
   same_rows : (aligns : List AlignKind) (rows : List TableRow) → flat_map (body_row_pieces other aligns) rows ≡ flat_map (body_row_pieces m aligns) rows
   same_rows aligns [] = refl
   same_rows aligns (row ∷ rows) =
-      ap (λ ps. (ps ++ ending_piece row.ending ∷ []) ++ flat_map (body_row_pieces other aligns) rows) (same_row (codes "td") aligns row)
+      ap (λ ps. (ps ++ endings_pieces row.endings) ++ flat_map (body_row_pieces other aligns) rows) (same_row (codes "td") aligns row)
       ∙ ap (λ ps. body_row_pieces m aligns row ++ ps) (same_rows aligns rows)
 
-  same_body : (aligns : List AlignKind) (ending : Option LineEnding) (rows : List TableRow)
-      → body_pieces other aligns ending rows ≡ body_pieces m aligns ending rows
-  same_body aligns ending [] = refl
-  same_body aligns ending (row ∷ rows) =
-      ap (λ ps. ending_piece ending ∷ element (bare_tag (codes "tbody")) (ps ++ Fresh ∷ [])) (same_rows aligns (row ∷ rows))
+  same_body : (aligns : List AlignKind) (endings : List LineEnding) (rows : List TableRow)
+      → body_pieces other aligns endings rows ≡ body_pieces m aligns endings rows
+  same_body aligns endings [] = refl
+  same_body aligns endings (row ∷ rows) =
+      ap (λ ps. endings_pieces endings ++ element (bare_tag (codes "tbody")) (ps ++ Fresh ∷ [])) (same_rows aligns (row ∷ rows))
 
   same_head : (aligns : List AlignKind) (head : TableRow) → head_pieces other aligns head ≡ head_pieces m aligns head
   same_head aligns head =
-      ap (λ ps. element (bare_tag (codes "thead")) (ps ++ ending_piece head.ending ∷ Fresh ∷ [])) (same_row (codes "th") aligns head)
+      ap (λ ps. element (bare_tag (codes "thead")) (ps ++ endings_pieces head.endings ++ Fresh ∷ [])) (same_row (codes "th") aligns head)
 
   same_table : (t : Table) → table_pieces other t ≡ table_pieces m t
   same_table t =
       let whole : List Piece → List Piece → List Piece = λ head body. Fresh ∷ element (bare_tag (codes "table")) (Fresh ∷ head ++ body ++ Fresh ∷ []) in
-      ap (λ head. whole head (body_pieces other t.aligns t.ending t.rows)) (same_head t.aligns t.head)
-      ∙ ap (whole (head_pieces m t.aligns t.head)) (same_body t.aligns t.ending t.rows)
+      ap (λ head. whole head (body_pieces other t.aligns t.endings t.rows)) (same_head t.aligns t.head)
+      ∙ ap (whole (head_pieces m t.aligns t.head)) (same_body t.aligns t.endings t.rows)
 
   same_leaf_block : (place : Place) (leaf : page.PageLeaf) → leaf_block_pieces other place leaf ≡ leaf_block_pieces m place leaf
   same_leaf_block place (page.Paragraph is) = ap (λ ps. cond place.tight ps (Fresh ∷ element (bare_tag (codes "p")) ps)) (same_inlines is)

@@ -18,7 +18,7 @@ use Rattle.definition_page.specs.Pieces.{Piece, Close, Says, Eol, Fresh, NoteEnd
 use Rattle.definition_page.specs.InlinePieces.{Meaning, html_says, link_tag, call_at, count_at, part_counts, inline_counts, element, leaf_pieces}
 use Rattle.definition_inline.specs.Targets.{leads_to}
 use Rattle.definition_page.specs.InlinePieces.{span_name, part_pieces, inline_pieces}
-use Rattle.definition_page.specs.GfmTable.{Table, TableRow, align_attributes, cell_pieces, cells_pieces, row_pieces, ending_piece, body_row_pieces, head_pieces}
+use Rattle.definition_page.specs.GfmTable.{Table, TableRow, align_attributes, cell_pieces, cells_pieces, row_pieces, endings_pieces, body_row_pieces, head_pieces}
 use Rattle.definition_page.specs.GfmTable.{body_pieces, table_pieces}
 use Rattle.definition_page.specs.Page as page
 use Rattle.definition_page.specs.Page.{Page}
@@ -120,9 +120,13 @@ module _ (m : Meaning) (none : m.footnotes ≡ []) where
       let cells = cells_pieces m name aligns row.cells in
       (tt, uncalled_element (bare_tag (codes "tr")) (cells ++ Fresh ∷ []) (uncalled_append cells (Fresh ∷ []) (uncalled_cells name aligns row.cells) (tt, tt)))
 
+  uncalled_endings : (endings : List LineEnding) → AreUncalled (endings_pieces endings)
+  uncalled_endings [] = tt
+  uncalled_endings (ending ∷ others) = (tt, uncalled_endings others)
+
   uncalled_body_row : (aligns : List AlignKind) (row : TableRow) → AreUncalled (body_row_pieces m aligns row)
   uncalled_body_row aligns row =
-      uncalled_append (row_pieces m (codes "td") aligns row) (ending_piece row.ending ∷ []) (uncalled_row (codes "td") aligns row) (tt, tt)
+      uncalled_append (row_pieces m (codes "td") aligns row) (endings_pieces row.endings) (uncalled_row (codes "td") aligns row) (uncalled_endings row.endings)
 
   uncalled_rows : (aligns : List AlignKind) (rows : List TableRow) → AreUncalled (flat_map (body_row_pieces m aligns) rows)
   uncalled_rows aligns [] = tt
@@ -132,20 +136,22 @@ module _ (m : Meaning) (none : m.footnotes ≡ []) where
   uncalled_head : (aligns : List AlignKind) (head : TableRow) → AreUncalled (head_pieces m aligns head)
   uncalled_head aligns head =
       let row = row_pieces m (codes "th") aligns head in
-      let end = ending_piece head.ending ∷ Fresh ∷ [] in
-      uncalled_element (bare_tag (codes "thead")) (row ++ end) (uncalled_append row end (uncalled_row (codes "th") aligns head) (tt, (tt, tt)))
+      let ends = endings_pieces head.endings in
+      uncalled_element (bare_tag (codes "thead")) (row ++ ends ++ Fresh ∷ [])
+      (uncalled_append (row ++ ends) (Fresh ∷ []) (uncalled_append row ends (uncalled_row (codes "th") aligns head) (uncalled_endings head.endings)) (tt, tt))
 
-  uncalled_body : (aligns : List AlignKind) (ending : Option LineEnding) (rows : List TableRow) → AreUncalled (body_pieces m aligns ending rows)
-  uncalled_body aligns ending [] = tt
-  uncalled_body aligns ending (row ∷ rows) =
+  uncalled_body : (aligns : List AlignKind) (endings : List LineEnding) (rows : List TableRow) → AreUncalled (body_pieces m aligns endings rows)
+  uncalled_body aligns endings [] = tt
+  uncalled_body aligns endings (row ∷ rows) =
       let all = flat_map (body_row_pieces m aligns) (row ∷ rows) in
-      (tt, uncalled_element (bare_tag (codes "tbody")) (all ++ Fresh ∷ []) (uncalled_append all (Fresh ∷ []) (uncalled_rows aligns (row ∷ rows)) (tt, tt)))
+      uncalled_append (endings_pieces endings) (element (bare_tag (codes "tbody")) (all ++ Fresh ∷ [])) (uncalled_endings endings)
+      (uncalled_element (bare_tag (codes "tbody")) (all ++ Fresh ∷ []) (uncalled_append all (Fresh ∷ []) (uncalled_rows aligns (row ∷ rows)) (tt, tt)))
 
   uncalled_table : (t : Table) → AreUncalled (table_pieces m t)
   uncalled_table t =
       let head = head_pieces m t.aligns t.head in
-      let body = body_pieces m t.aligns t.ending t.rows in
-      let both = uncalled_append head body (uncalled_head t.aligns t.head) (uncalled_body t.aligns t.ending t.rows) in
+      let body = body_pieces m t.aligns t.endings t.rows in
+      let both = uncalled_append head body (uncalled_head t.aligns t.head) (uncalled_body t.aligns t.endings t.rows) in
       (tt, uncalled_element (bare_tag (codes "table")) (Fresh ∷ head ++ body ++ Fresh ∷ []) (tt, uncalled_append (head ++ body) (Fresh ∷ []) both (tt, tt)))
 
   -- ---- blocks

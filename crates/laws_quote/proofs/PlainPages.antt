@@ -20,7 +20,7 @@ use Rattle.definition_page.specs.Tags.{PrintedPart, tag, bare_tag}
 use Rattle.definition_page.specs.Pieces.{Piece, Close, Eol, Fresh}
 use Rattle.definition_page.specs.InlinePieces.{Meaning, html_says, call_at, count_at, part_counts, inline_counts, element, leaf_pieces, part_pieces}
 use Rattle.definition_page.specs.InlinePieces.{inline_pieces}
-use Rattle.definition_page.specs.GfmTable.{Table, TableRow, cell_pieces, cells_pieces, row_pieces, ending_piece, body_row_pieces, head_pieces, body_pieces}
+use Rattle.definition_page.specs.GfmTable.{Table, TableRow, cell_pieces, cells_pieces, row_pieces, endings_pieces, body_row_pieces, head_pieces, body_pieces}
 use Rattle.definition_page.specs.GfmTable.{table_pieces}
 use Rattle.definition_page.specs.Page as page
 use Rattle.definition_page.specs.BlockPieces.{Place, at_top, inside, code_line, html_line, says, info_attributes, is_silent, last_visible}
@@ -232,34 +232,40 @@ module _ (m : Meaning) (none : m.footnotes ≡ []) where
       let cells = cells_pieces m name aligns row.cells in
       (tt, plain-element _ (cells ++ Fresh ∷ []) (plain-append cells (Fresh ∷ []) (cells_plain name aligns row.cells) (tt, tt)))
 
+  endings_plain : (endings : List LineEnding) → ArePlain (endings_pieces endings)
+  endings_plain [] = tt
+  endings_plain (ending ∷ others) = (tt, endings_plain others)
+
   rows_plain : (aligns : List AlignKind) (rows : List TableRow) → ArePlain (flat_map (body_row_pieces m aligns) rows)
   rows_plain aligns [] = tt
   rows_plain aligns (row ∷ rows) =
       let one_row = row_pieces m (codes "td") aligns row in
-      plain-append (body_row_pieces m aligns row) _ (plain-append one_row (ending_piece row.ending ∷ []) (row_plain _ aligns row) (tt, tt))
+      plain-append (body_row_pieces m aligns row) _ (plain-append one_row (endings_pieces row.endings) (row_plain _ aligns row) (endings_plain row.endings))
       (rows_plain aligns rows)
 
-  body_plain : (aligns : List AlignKind) (ending : Option LineEnding) (rows : List TableRow) → ArePlain (body_pieces m aligns ending rows)
-  body_plain aligns ending [] = tt
-  body_plain aligns ending (row ∷ rows) =
+  body_plain : (aligns : List AlignKind) (endings : List LineEnding) (rows : List TableRow) → ArePlain (body_pieces m aligns endings rows)
+  body_plain aligns endings [] = tt
+  body_plain aligns endings (row ∷ rows) =
       let inner = flat_map (body_row_pieces m aligns) (row ∷ rows) in
-      (tt, plain-element _ (inner ++ Fresh ∷ []) (plain-append inner (Fresh ∷ []) (rows_plain aligns (row ∷ rows)) (tt, tt)))
+      plain-append (endings_pieces endings) _ (endings_plain endings)
+      (plain-element _ (inner ++ Fresh ∷ []) (plain-append inner (Fresh ∷ []) (rows_plain aligns (row ∷ rows)) (tt, tt)))
 
   head_plain : (aligns : List AlignKind) (head : TableRow) → ArePlain (head_pieces m aligns head)
   head_plain aligns head =
       let row = row_pieces m (codes "th") aligns head in
-      let end = ending_piece head.ending ∷ Fresh ∷ [] in
-      plain-element _ (row ++ end) (plain-append row end (row_plain _ aligns head) (tt, (tt, tt)))
+      let ends = endings_pieces head.endings in
+      plain-element _ (row ++ ends ++ Fresh ∷ [])
+      (plain-append (row ++ ends) (Fresh ∷ []) (plain-append row ends (row_plain _ aligns head) (endings_plain head.endings)) (tt, tt))
 
   table_plain : (t : Table) → ArePlain (table_pieces m t)
   table_plain t =
       let head = head_pieces m t.aligns t.head in
-      let body = body_pieces m t.aligns t.ending t.rows in (
+      let body = body_pieces m t.aligns t.endings t.rows in (
         tt,
         plain-element _ (Fresh ∷ head ++ body ++ Fresh ∷ []) (
           tt,
           plain-append (head ++ body) (Fresh ∷ [])
-              (plain-append head body (head_plain t.aligns t.head) (body_plain t.aligns t.ending t.rows)) (tt, tt),
+              (plain-append head body (head_plain t.aligns t.head) (body_plain t.aligns t.endings t.rows)) (tt, tt),
         ),
       )
 

@@ -13,7 +13,7 @@ use Rattle.definition_text.specs.Lines.{ending_text}
 use Rattle.definition_inline.specs.Inline.{Inlines, Nil}
 use Rattle.markdown_options.specs.declared.align_kind.AlignKind.{AlignKind}
 use Rattle.markdown_options.specs.declared.align_kind.AlignKind.TheVariants as kind
-use Rattle.definition_page.specs.GfmTable.{TableRow, Table as TableOf, align_attributes, cell_pieces, cells_pieces, row_pieces, ending_piece, body_row_pieces}
+use Rattle.definition_page.specs.GfmTable.{TableRow, Table as TableOf, align_attributes, cell_pieces, cells_pieces, row_pieces, ending_piece, endings_pieces, body_row_pieces}
 use Rattle.definition_page.specs.GfmTable.{head_pieces, body_pieces, table_pieces}
 use Rattle.definition_page.specs.Tags.{Words, Number, Tag, tag, bare_tag}
 use Rattle.definition_page.specs.Pieces.{Piece, Void, Says, Eol, Fresh}
@@ -186,43 +186,46 @@ module _ (default : List ℕ) (ending : IsText default) (m : Meaning) (safe : Ar
         let cells = cells_pieces m name aligns row.cells in
         block_element (bare_tag (codes "tr")) (cells ++ Fresh ∷ []) row_is_tag (and_fresh cells (cells_add aligns row.cells h))
 
-  ending_adds : (ending : Option LineEnding) → Lays m.compile default (ending_piece ending ∷ [])
-  ending_adds ending = lays_says m.compile default (Words (ending_text ending)) tt
+  endings_add : (endings : List LineEnding) → Lays m.compile default (endings_pieces endings)
+  endings_add [] = lays_nothing m.compile default
+  endings_add (ending ∷ others) =
+      lays_append m.compile default (ending_piece ending ∷ []) (endings_pieces others) (lays_says m.compile default (Words (ending_bytes ending)) tt)
+      (endings_add others)
 
   -- tables
   body_rows_add : (aligns : List AlignKind) (rows : List TableRow) → RowsEndLines rows → Lays m.compile default (flat_map (body_row_pieces m aligns) rows)
   body_rows_add aligns [] h = lays_nothing m.compile default
   body_rows_add aligns (row ∷ rows) h =
       lays_append m.compile default (body_row_pieces m aligns row) (flat_map (body_row_pieces m aligns) rows)
-      (lays_append m.compile default (row_pieces m (codes "td") aligns row) (ending_piece row.ending ∷ [])
+      (lays_append m.compile default (row_pieces m (codes "td") aligns row) (endings_pieces row.endings)
       (row_adds (codes "td") body_cell_is_tag aligns row h.0)
-      (ending_adds row.ending))
+      (endings_add row.endings))
       (body_rows_add aligns rows h.1)
 
-  body_adds : (aligns : List AlignKind) (ending : Option LineEnding) (rows : List TableRow) → RowsEndLines rows
-      → Lays m.compile default (body_pieces m aligns ending rows)
-  body_adds aligns ending [] h = lays_nothing m.compile default
-  body_adds aligns ending (row ∷ rows) h =
+  body_adds : (aligns : List AlignKind) (endings : List LineEnding) (rows : List TableRow) → RowsEndLines rows
+      → Lays m.compile default (body_pieces m aligns endings rows)
+  body_adds aligns endings [] h = lays_nothing m.compile default
+  body_adds aligns endings (row ∷ rows) h =
       let all = flat_map (body_row_pieces m aligns) (row ∷ rows) ++ Fresh ∷ [] in
-      lays_append m.compile default (ending_piece ending ∷ []) (element (bare_tag (codes "tbody")) all) (ending_adds ending)
+      lays_append m.compile default (endings_pieces endings) (element (bare_tag (codes "tbody")) all) (endings_add endings)
       (lays_element m.compile default (bare_tag (codes "tbody")) all body_is_tag
       (and_fresh (flat_map (body_row_pieces m aligns) (row ∷ rows)) (body_rows_add aligns (row ∷ rows) h)))
 
   head_adds : (aligns : List AlignKind) (head : TableRow) → CellsEndLines head.cells → Lays m.compile default (head_pieces m aligns head)
   head_adds aligns head h =
       let row = row_pieces m (codes "th") aligns head in
-      let end = ending_piece head.ending ∷ Fresh ∷ [] in
-      lays_element m.compile default (bare_tag (codes "thead")) (row ++ end) head_is_tag
-      (lays_append m.compile default row end (row_adds (codes "th") head_cell_is_tag aligns head h)
-      (lays_append m.compile default (ending_piece head.ending ∷ []) (Fresh ∷ []) (ending_adds head.ending) (lays_fresh m.compile default ending)))
+      let ends = endings_pieces head.endings in
+      lays_element m.compile default (bare_tag (codes "thead")) (row ++ ends ++ Fresh ∷ []) head_is_tag
+      (and_fresh (row ++ ends)
+      (lays_append m.compile default row ends (row_adds (codes "th") head_cell_is_tag aligns head h) (endings_add head.endings)))
 
   table_adds : (t : TableOf) → CellsEndLines t.head.cells → RowsEndLines t.rows → Lays m.compile default (table_pieces m t)
   table_adds t h k =
       let head = head_pieces m t.aligns t.head in
-      let body = body_pieces m t.aligns t.ending t.rows in
+      let body = body_pieces m t.aligns t.endings t.rows in
       block_element (bare_tag (codes "table")) (Fresh ∷ head ++ body ++ Fresh ∷ []) table_is_tag
       (fresh_line (head ++ body ++ Fresh ∷ [])
-      (and_fresh (head ++ body) (lays_append m.compile default head body (head_adds t.aligns t.head h) (body_adds t.aligns t.ending t.rows k))))
+      (and_fresh (head ++ body) (lays_append m.compile default head body (head_adds t.aligns t.head h) (body_adds t.aligns t.endings t.rows k))))
 
   leaf_block_adds : (place : Place) (leaf : PageLeaf) → IsReadableLeaf leaf → Lays m.compile default (leaf_block_pieces m place leaf)
   unfolding start_rows void_rows
