@@ -16,9 +16,8 @@ use Rattle.definition_block.specs.Containers.{continues}
 use Rattle.definition_block.specs.CodeFenced.{Fence}
 use Rattle.definition_inline.specs.Definition.{Definition as LinkDefinition}
 use Rattle.definition_text.specs.BlockLines.{BlockLine, last_ending_or}
-use Rattle.definition_block.specs.Tree.{Block, Leaf, Paragraph, Heading, Break, IndentedCode, FencedCode, Html, Table, Definition, Holds, Items, Ending, Blank}
-use Rattle.definition_block.specs.Tree.{Blocks, Nil, Cons, join, all_endings, front, trailing, Text, Indented, Fenced, OpenHtml, OpenTable, Opening, At}
-use Rattle.definition_block.specs.Tree.{Inside, Tree, beside_in, grow, goes_on, new, began_blank, is_nothing, is_one_blank}
+use Rattle.definition_block.specs.Tree.{Block, Ending, Blank, Blocks, Nil, Cons, join, all_endings, front, trailing, Text, Indented, Fenced, OpenHtml}
+use Rattle.definition_block.specs.Tree.{OpenTable, Opening, At, Inside, Tree, beside_in, grow, goes_on, new, began_blank, is_nothing, is_one_blank}
 use Rattle.block_rows.specs.Rows.{definition_on, definition_value, BlockRow, Single, rows_of}
 use Rattle.block_state.specs.Spine.{Level, level, Spine, spine, spine_at, spine_of, spine_after, containers_of}
 use Rattle.block_state.specs.Waits.{is_one_blank_row}
@@ -129,33 +128,14 @@ is_blank_rows rows = false
 
 blank-rows : (bs : Blocks) → is_one_blank bs ≡ (is_nil (front bs) && is_blank_rows (rows_of (trailing bs)))
 blank-rows Nil = refl
-blank-rows (Cons (Leaf (Paragraph ls)) Nil) = refl
-blank-rows (Cons (Leaf (Heading rank ls)) Nil) = refl
-blank-rows (Cons (Leaf Break) Nil) = refl
-blank-rows (Cons (Leaf (IndentedCode ls)) Nil) = refl
-blank-rows (Cons (Leaf (FencedCode info closed ls)) Nil) = refl
-blank-rows (Cons (Leaf (Html ls)) Nil) = refl
-blank-rows (Cons (Leaf (Table ls)) Nil) = refl
-blank-rows (Cons (Leaf (Definition label destination title)) Nil) = refl
-blank-rows (Cons (Holds c kids) Nil) = refl
-blank-rows (Cons (Items items) Nil) = refl
 blank-rows (Cons (Ending ending) Nil) = refl
 blank-rows (Cons (Blank ending) Nil) = refl
+blank-rows (Cons b Nil) = refl
 blank-rows (Cons b (Cons c bs)) = none b ∙ parts b c (all_endings (Cons b (Cons c bs))) refl
   where
     none : (b : Block) → is_one_blank (Cons b (Cons c bs)) ≡ false
-    none (Leaf (Paragraph ls)) = refl
-    none (Leaf (Heading rank ls)) = refl
-    none (Leaf Break) = refl
-    none (Leaf (IndentedCode ls)) = refl
-    none (Leaf (FencedCode info closed ls)) = refl
-    none (Leaf (Html ls)) = refl
-    none (Leaf (Table ls)) = refl
-    none (Leaf (Definition label destination title)) = refl
-    none (Holds c kids) = refl
-    none (Items items) = refl
-    none (Ending ending) = refl
     none (Blank ending) = refl
+    none b = refl
 
     parts : (b c : Block) (x : Bool) → all_endings (Cons b (Cons c bs)) ≡ x
         → false ≡ (is_nil (if x then Nil else Cons b (front (Cons c bs))) && is_blank_rows (rows_of (if x then Cons b (Cons c bs) else trailing (Cons c bs))))
@@ -179,45 +159,14 @@ not-blank (Some d) rows = refl
 
 one-row : (waiting : List Row) → is_one_blank_row waiting ≡ is_blank_rows (map lone waiting)
 one-row [] = refl
-one-row (row.Paragraph n ∷ []) = refl
-one-row (row.Heading rank ∷ []) = refl
-one-row (row.Break ∷ []) = refl
-one-row (row.IndentedCode n ∷ []) = refl
-one-row (row.FencedCode n ∷ []) = refl
-one-row (row.UnclosedCode n ∷ []) = refl
-one-row (row.WholeCode ∷ []) = refl
-one-row (row.WholeParagraph ∷ []) = refl
-one-row (row.SetextHeading rank n ∷ []) = refl
-one-row (row.Html n ∷ []) = refl
-one-row (row.Table n ∷ []) = refl
-one-row (row.Definition n ∷ []) = sym (not-blank (definition_on (take n [])) [])
-one-row (row.EnterQuote ∷ []) = refl
-one-row (row.EnterItem marker number ∷ []) = refl
-one-row (row.EnterFootnote ∷ []) = refl
-one-row (row.Exit ∷ []) = refl
-one-row (row.Ending ending ∷ []) = refl
 one-row (row.Blank ending ∷ []) = refl
+one-row (row.Definition n ∷ []) = sym (not-blank (definition_on (take n [])) [])
+one-row (r ∷ []) = refl
 one-row (a ∷ b ∷ rows) = two a
   where
     two : (a : Row) → is_one_blank_row (a ∷ b ∷ rows) ≡ is_blank_rows (lone a ∷ (lone b ∷ map lone rows))
-    two (row.Paragraph n) = refl
-    two (row.Heading rank) = refl
-    two row.Break = refl
-    two (row.IndentedCode n) = refl
-    two (row.FencedCode n) = refl
-    two (row.UnclosedCode n) = refl
-    two row.WholeCode = refl
-    two row.WholeParagraph = refl
-    two (row.SetextHeading rank n) = refl
-    two (row.Html n) = refl
-    two (row.Table n) = refl
     two (row.Definition n) = sym (not-blank (definition_on (take n [])) (lone b ∷ map lone rows))
-    two row.EnterQuote = refl
-    two (row.EnterItem marker number) = refl
-    two row.EnterFootnote = refl
-    two row.Exit = refl
-    two (row.Ending ending) = refl
-    two (row.Blank ending) = refl
+    two r = refl
 
 -- only the innermost container can have begun so
 pub began_is : (rows waiting : List Row) (bare : Bool) (pool : List BlockLine) (containers : List Container) (around : List Level) (kids inner_kids : Blocks)
@@ -263,20 +212,14 @@ module _ (P Q : Spine → Type 0) (on : Constructs) (e : Beside) (r : Rest) wher
   pub text_grows : (around : List Level) (kids : Blocks) (now : Opening) → opening_depth now ≡ 0 → InText ≡ state_of (spine_at around kids now).leaf
       → Q (spine_after around kids (new (length r) on true now e r)) → Q (spine_after around kids (grow on e now r))
   text_grows around kids (At (Text ls)) none is h = h
-  text_grows around kids (At (Indented ls pending)) none is h = let wrong : InText ≡ InIndented _ _ = is in cc
-  text_grows around kids (At (Fenced f opening ls)) none is h = let wrong : InText ≡ InFenced _ _ = is in cc
-  text_grows around kids (At (OpenHtml kind ls)) none is h = let wrong : InText ≡ InHtml _ _ = is in cc
-  text_grows around kids (At (OpenTable ls)) none is h = let wrong : InText ≡ InTable _ = is in cc
+  text_grows around kids (At leaf) none is h = let wrong = is in cc
   text_grows around kids (Inside c inner_kids inner) none is h = absurd (omega (arith, none))
 
   pub table_grows : (last : Option LineEnding) (around : List Level) (kids : Blocks) (now : Opening) → opening_depth now ≡ 0
       → InTable last ≡ state_of (spine_at around kids now).leaf
       → Q (spine_after around kids (new (length r) on true now e r)) → Q (spine_after around kids (grow on e now r))
-  table_grows last around kids (At (Text ls)) none is h = let wrong : InTable last ≡ InText = is in cc
-  table_grows last around kids (At (Indented ls pending)) none is h = let wrong : InTable last ≡ InIndented _ _ = is in cc
-  table_grows last around kids (At (Fenced f opening ls)) none is h = let wrong : InTable last ≡ InFenced _ _ = is in cc
-  table_grows last around kids (At (OpenHtml kind ls)) none is h = let wrong : InTable last ≡ InHtml _ _ = is in cc
   table_grows last around kids (At (OpenTable ls)) none is h = h
+  table_grows last around kids (At leaf) none is h = let wrong = is in cc
   table_grows last around kids (Inside c inner_kids inner) none is h = absurd (omega (arith, none))
 
   pub indented_grows : ((around : List Level) (kids : Blocks) (ls pending : List BlockLine) → P (spine around kids (Indented ls pending))
@@ -284,11 +227,8 @@ module _ (P Q : Spine → Type 0) (on : Constructs) (e : Beside) (r : Rest) wher
       → (count : ℕ) (last : Option LineEnding) (around : List Level) (kids : Blocks) (now : Opening) → opening_depth now ≡ 0
       → InIndented count last ≡ state_of (spine_at around kids now).leaf
       → P (spine_at around kids now) → Q (spine_after around kids (grow on e now r))
-  indented_grows grows count last around kids (At (Text ls)) none is h = let wrong : InIndented count last ≡ InText = is in cc
   indented_grows grows count last around kids (At (Indented ls pending)) none is h = grows around kids ls pending h
-  indented_grows grows count last around kids (At (Fenced f opening ls)) none is h = let wrong : InIndented count last ≡ InFenced _ _ = is in cc
-  indented_grows grows count last around kids (At (OpenHtml kind ls)) none is h = let wrong : InIndented count last ≡ InHtml _ _ = is in cc
-  indented_grows grows count last around kids (At (OpenTable ls)) none is h = let wrong : InIndented count last ≡ InTable _ = is in cc
+  indented_grows grows count last around kids (At leaf) none is h = let wrong = is in cc
   indented_grows grows count last around kids (Inside c inner_kids inner) none is h = absurd (omega (arith, none))
 
   pub fenced_grows : (f : Fence) → ((around : List Level) (kids : Blocks) (opening : Option LineEnding) (ls : List BlockLine)
@@ -296,15 +236,12 @@ module _ (P Q : Spine → Type 0) (on : Constructs) (e : Beside) (r : Rest) wher
       → (last : Option LineEnding) (around : List Level) (kids : Blocks) (now : Opening) → opening_depth now ≡ 0
       → InFenced f last ≡ state_of (spine_at around kids now).leaf
       → P (spine_at around kids now) → Q (spine_after around kids (grow on e now r))
-  fenced_grows f grows last around kids (At (Text ls)) none is h = let wrong : InFenced f last ≡ InText = is in cc
-  fenced_grows f grows last around kids (At (Indented ls pending)) none is h = let wrong : InFenced f last ≡ InIndented _ _ = is in cc
   fenced_grows f grows last around kids (At (Fenced fence opening ls)) none is h =
       let same : InFenced f last ≡ InFenced fence (last_ending_or opening ls) = is in
       let is_fence : fence ≡ f = cc in
       subst (λ (x : Fence). Q (spine_after around kids (grow on e (At (Fenced x opening ls)) r))) (sym is_fence)
       (grows around kids opening ls (subst (λ (x : Fence). P (spine around kids (Fenced x opening ls))) is_fence h))
-  fenced_grows f grows last around kids (At (OpenHtml kind ls)) none is h = let wrong : InFenced f last ≡ InHtml _ _ = is in cc
-  fenced_grows f grows last around kids (At (OpenTable ls)) none is h = let wrong : InFenced f last ≡ InTable _ = is in cc
+  fenced_grows f grows last around kids (At leaf) none is h = let wrong = is in cc
   fenced_grows f grows last around kids (Inside c inner_kids inner) none is h = absurd (omega (arith, none))
 
   pub html_grows : (kind : ℕ) → ((around : List Level) (kids : Blocks) (ls : List BlockLine) → P (spine around kids (OpenHtml kind ls))
@@ -312,13 +249,10 @@ module _ (P Q : Spine → Type 0) (on : Constructs) (e : Beside) (r : Rest) wher
       → (last : Option LineEnding) (around : List Level) (kids : Blocks) (now : Opening) → opening_depth now ≡ 0
       → InHtml kind last ≡ state_of (spine_at around kids now).leaf
       → P (spine_at around kids now) → Q (spine_after around kids (grow on e now r))
-  html_grows kind grows last around kids (At (Text ls)) none is h = let wrong : InHtml kind last ≡ InText = is in cc
-  html_grows kind grows last around kids (At (Indented ls pending)) none is h = let wrong : InHtml kind last ≡ InIndented _ _ = is in cc
-  html_grows kind grows last around kids (At (Fenced f opening ls)) none is h = let wrong : InHtml kind last ≡ InFenced _ _ = is in cc
   html_grows kind grows last around kids (At (OpenHtml other ls)) none is h =
       let same : InHtml kind last ≡ InHtml other (last_ending_or None ls) = is in
       let is_kind : other ≡ kind = cc in
       subst (λ (x : ℕ). Q (spine_after around kids (grow on e (At (OpenHtml x ls)) r))) (sym is_kind)
       (grows around kids ls (subst (λ (x : ℕ). P (spine around kids (OpenHtml x ls))) is_kind h))
-  html_grows kind grows last around kids (At (OpenTable ls)) none is h = let wrong : InHtml kind last ≡ InTable _ = is in cc
+  html_grows kind grows last around kids (At leaf) none is h = let wrong = is in cc
   html_grows kind grows last around kids (Inside c inner_kids inner) none is h = absurd (omega (arith, none))

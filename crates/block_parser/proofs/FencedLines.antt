@@ -18,14 +18,14 @@ use Rattle.definition_text.specs.Columns.{Rest, whole}
 use Rattle.definition_text.specs.BlockLines.{BlockLine, block_line, last_ending_or}
 use Rattle.definition_block.specs.CodeFenced.{Fence, fence_line, is_fence_end}
 use Rattle.definition_block.specs.Tree.{Blocks, Leaf, FencedCode, block_and_ending, join, nothing, rest_line}
-use Rattle.definition_block.specs.Tree.{Text, Indented, Fenced, OpenHtml, OpenTable, Opening, At, Inside, Tree, tree, beside_line, step, steps}
+use Rattle.definition_block.specs.Tree.{Fenced, Opening, At, Inside, Tree, tree, beside_line, step, steps}
 use Rattle.text_pieces.specs.Pieces.{piece_lines, whole_line, whole_lines}
 use Rattle.block_rows.proofs.OpenLines.{AreTextLines, lines_of_text}
 use Rattle.block_rows.proofs.TextLines.{front_bytes, front_of_text, later_bytes, line_bytes, lines_of_front, text_back, text_of}
 use Rattle.text_lines.proofs.Codes.{block_codes_whole}
 use Rattle.block_starts.specs.View.{container_views}
 use Rattle.block_state.specs.Leaves.{leaf_state}
-use Rattle.block_state.specs.Shows.{InText, InIndented, InFenced, InHtml, InTable, Shows, state_of}
+use Rattle.block_state.specs.Shows.{InFenced, Shows, state_of}
 use Rattle.block_state.specs.Spine.{Spine, spine, spine_after, spine_at, spine_of}
 use Rattle.block_state.proofs.Trees.{join-nil}
 use Rattle.block_parser.specs.declared.parser.Parser.{Parser}
@@ -43,14 +43,11 @@ fenced_open f kids opening ls = tree kids (At (Fenced f opening ls))
 pub of_fenced : (f : Fence) (last : Option LineEnding) (P : Tree → Type 0)
     → ((kids : Blocks) (opening : Option LineEnding) (ls : List BlockLine) → P (fenced_open f kids opening ls)) → (kids : Blocks) (now : Opening)
     → opening_depth now ≡ 0 → InFenced f last ≡ state_of (spine_at [] kids now).leaf → P (tree kids now)
-of_fenced f last P h kids (At (Text ls)) none is = let wrong : InFenced f last ≡ InText = is in cc
-of_fenced f last P h kids (At (Indented ls pending)) none is = let wrong : InFenced f last ≡ InIndented _ _ = is in cc
 of_fenced f last P h kids (At (Fenced fence opening ls)) none is =
     let same : InFenced f last ≡ InFenced fence (last_ending_or opening ls) = is in
     let is_fence : fence ≡ f = cc in
     subst (λ (x : Fence). P (fenced_open x kids opening ls)) (sym is_fence) (h kids opening ls)
-of_fenced f last P h kids (At (OpenHtml kind ls)) none is = let wrong : InFenced f last ≡ InHtml _ _ = is in cc
-of_fenced f last P h kids (At (OpenTable ls)) none is = let wrong : InFenced f last ≡ InTable _ = is in cc
+of_fenced f last P h kids (At leaf) none is = let wrong = is in cc
 of_fenced f last P h kids (Inside c inner_kids inner) none is = absurd (omega (arith, none))
 
 -- what was read is this, where the last line of the fenced code that is open has such an ending

@@ -8,13 +8,13 @@ use Rattle.std.proofs.lemmas.List.{drop-drop, take_more, get_or-drop, length-dro
 use Rattle.std.proofs.lemmas.List.Sums.{sum_by-append}
 use Rattle.markdown_options.specs.declared.line_ending.LineEnding.{LineEnding}
 use Rattle.markdown_options.specs.declared.configuration.Constructs.{Constructs}
-use Rattle.definition_block.specs.Container.{Container, Quote, Item, Footnote}
+use Rattle.definition_block.specs.Container.{Container, Quote, Footnote}
 use Rattle.block_rows.specs.declared.row.Row.{Row}
 use Rattle.block_rows.specs.declared.row.Row.TheVariants as row
 use Rattle.text_pieces.specs.declared.piece.Piece.{Piece}
 use Rattle.definition_text.specs.BlockLines.{BlockLine, last_ending, own_lines}
 use Rattle.definition_block.specs.Tree.{Block, Leaf, IndentedCode, Ending, Blank, Blocks, Nil, join, one, block_and_ending, container_block}
-use Rattle.definition_block.specs.Tree.{OpenLeaf, Text, Indented, Fenced, OpenHtml, OpenTable, At}
+use Rattle.definition_block.specs.Tree.{OpenLeaf, Text, Indented, At}
 use Rattle.definition_block.specs.Tree.{is_nothing, close_leaf, blanks, is_ending, front}
 use Rattle.text_pieces.proofs.Pieces.{lines_from}
 use Rattle.block_rows.specs.Rows.{Single, start_row, block_rows, row_value, rows_of, rows_value, value_with, row_size, rows_size}
@@ -109,10 +109,7 @@ text_left p s count h same len =
       is = refl;
       left = omega (arith, left, p.counted, length-map p.pieces.items piece_line, p.pieces.ok.0, len);
     }
-    of (Indented ls pending) left is = let wrong = is in cc
-    of (Fenced fence opening ls) left is = let wrong = is in cc
-    of (OpenHtml kind ls) left is = let wrong = is in cc
-    of (OpenTable ls) left is = let wrong = is in cc
+    of leaf left is = let wrong = is in cc
 
 pub nothing_is_open : (count len : ℕ) (ls : List BlockLine) → count + length ls ≡ len → (count == len) ≡ is_nothing (At (Text ls))
 nothing_is_open count len [] h = eq-eqb count len (omega (arith, h))
@@ -170,7 +167,7 @@ written_indented on rows waiting bare pieces around kids ls pending h le none co
     none_wait waits blank is_bare taken =
     let pool = piece_lines pieces in
     let c = left_count rows pool _ h.rows_stand le in
-    let code = IndentedCode (own_lines ls) in
+    let code = Leaf (IndentedCode (own_lines ls)) in
     let front_lines : take count (ls ++ pending) ≡ ls = take-append-le count ls pending (omega (arith, all)) ∙ take_all count ls (omega (arith, all)) in
     let rest_lines : drop count (ls ++ pending) ≡ pending =
     drop-append-le count ls pending (omega (arith, all)) ∙ ap (λ x. x ++ pending) (drop_all count ls (omega (arith, all))) in
@@ -201,9 +198,8 @@ pub longer : (rows waiting : List Row) (bare : Bool) (pool : List BlockLine) (ar
 longer rows waiting bare pool around kids left h l le = with_line rows waiting bare pool around kids left h l le
 
 pub enter_shown : (c : Container) (left : List BlockLine) → row_size (enter_row c) ≡ 0 → row_value (enter_row c) left ≡ start_row c
-enter_shown Quote left none = refl
-enter_shown (Item item) left none = refl
 enter_shown (Footnote label) left none = absurd (omega (arith, none))
+enter_shown c left none = refl
 
 pub entered_as : (rows waiting : List Row) (bare : Bool) (pool : List BlockLine) (around : List Level) (kids : Blocks) (left : List BlockLine)
     → AreWritten rows waiting bare pool around kids left → (c : Container) → rows_size waiting ≡ 0 → row_value (enter_row c) left ≡ start_row c
@@ -221,8 +217,7 @@ none-inside n waiting none =
 
 pub inside_none : (c : Container) (waiting : List Row) → rows_size waiting ≡ 0 → rows_size (inside c waiting) ≡ 0
 inside_none Quote waiting none = none-inside (length waiting - 1) waiting none
-inside_none (Item item) waiting none = refl
-inside_none (Footnote label) waiting none = refl
+inside_none c waiting none = refl
 
 pub exited_as : (rows waiting : List Row) (bare : Bool) (pool : List BlockLine) (around : List Level) (l : Level) (kids : Blocks) (left : List BlockLine)
     → AreWritten rows waiting bare pool (l ∷ around) kids left → rows_size waiting ≡ 0

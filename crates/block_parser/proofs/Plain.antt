@@ -8,13 +8,13 @@ use Rattle.markdown_options.specs.declared.beside.Beside.{Beside}
 use Rattle.definition_text.specs.Columns.{Rest, indent, bare, bytes_of}
 use Rattle.definition_text.specs.BlockLines.{BlockLine}
 use Rattle.definition_block.specs.MathFlow.{math_start}
-use Rattle.definition_block.specs.Tree.{Blocks, Text, Indented, Fenced, OpenHtml, OpenTable, Opening, At, Inside, Tree, tree}
+use Rattle.definition_block.specs.Tree.{Blocks, Text, Opening, At, Inside, Tree, tree}
 use Rattle.definition_block.specs.Tree.{has_text, text_here, rest_line, leaf_line, text_line_of, new}
 use Rattle.block_parser.specs.GfmTable.{table_if}
 use Rattle.block_starts.specs.Plain.{begins_plain, is_plain}
 use Rattle.block_starts.proofs.PlainLemmas.{plain_starts, plain_not_blank, plain_not_code, plain_fence, plain_math, plain_html, plain_heading, plain_underline}
 use Rattle.block_starts.proofs.PlainLemmas.{plain_break, plain_delimiters}
-use Rattle.block_state.specs.Shows.{InText, InIndented, InFenced, InHtml, InTable, state_of}
+use Rattle.block_state.specs.Shows.{InText, state_of}
 use Rattle.block_state.specs.Spine.{spine_at}
 use Rattle.block_parser.proofs.Closing.{opening_depth}
 use Rattle.block_parser.proofs.Starting.{new_none}
@@ -44,8 +44,5 @@ module _ (on : Constructs) (away : Opening) (r : Rest) (e : Beside) (plain : is_
 pub of_text : (P : Tree → Type 0) → ((kids : Blocks) (ls : List BlockLine) → P (tree kids (At (Text ls)))) → (kids : Blocks) (now : Opening)
     → opening_depth now ≡ 0 → InText ≡ state_of (spine_at [] kids now).leaf → P (tree kids now)
 of_text P h kids (At (Text ls)) none is = h kids ls
-of_text P h kids (At (Indented ls pending)) none is = let wrong : InText ≡ InIndented _ _ = is in cc
-of_text P h kids (At (Fenced f opening ls)) none is = let wrong : InText ≡ InFenced _ _ = is in cc
-of_text P h kids (At (OpenHtml kind ls)) none is = let wrong : InText ≡ InHtml _ _ = is in cc
-of_text P h kids (At (OpenTable ls)) none is = let wrong : InText ≡ InTable _ = is in cc
+of_text P h kids (At leaf) none is = let wrong = is in cc
 of_text P h kids (Inside c inner_kids inner) none is = absurd (omega (arith, none))

@@ -21,10 +21,11 @@ use Rattle.definition_block.specs.ThematicBreak.{is_break}
 use Rattle.definition_block.specs.Definitions.{definition_cut, cut_into, cut_most}
 use Rattle.text_pieces.specs.ParagraphLines.{AreLines}
 use Rattle.definition_text.specs.BlockLines.{BlockLine, spaced_line, own_lines}
-use Rattle.definition_block.specs.Tree.{Leaf, Heading, Break, FencedCode, Blank, Blocks, Nil, join, one, block_and_ending, OpenLeaf, Text, Indented, Fenced, OpenHtml}
-use Rattle.definition_block.specs.Tree.{OpenTable, Opening, At, Inside, Tree, tree, nothing, close, after, leaf_text, open_text, text_here, is_some_line}
-use Rattle.definition_block.specs.Tree.{has_text, is_table_leaf, has_table, makes_table, with_line, rest_line, leaf_line, html_with, text_line_of, turns}
-use Rattle.definition_block.specs.Tree.{indented_tree, fence_tree, html_tree, atx_tree, break_tree, underlined, heading_of, anew, first_of, leaf_starts, new}
+use Rattle.definition_block.specs.Tree.{Leaf, Heading, Break, FencedCode, Blank, Blocks, Nil, join, one, block_and_ending, OpenLeaf, Text, Indented, Fenced}
+use Rattle.definition_block.specs.Tree.{OpenHtml, OpenTable, Opening, At, Inside, Tree, tree, nothing, close, after, leaf_text, open_text, text_here}
+use Rattle.definition_block.specs.Tree.{is_some_line, has_text, is_table_leaf, has_table, makes_table, with_line, rest_line, leaf_line, html_with}
+use Rattle.definition_block.specs.Tree.{text_line_of, turns, indented_tree, fence_tree, html_tree, atx_tree, break_tree, underlined, heading_of, anew}
+use Rattle.definition_block.specs.Tree.{first_of, leaf_starts, new}
 use Rattle.block_state.specs.Spine.{Level, level, Spine, spine, spine_at, spine_after}
 use Rattle.block_parser.specs.HeadingSetext.{IsText, heading_blocks, heading_tree}
 use Rattle.block_parser.specs.GfmTable.{table_from_cut}
@@ -74,7 +75,8 @@ module _ (on : Constructs) (e : Beside) (r : Rest) (kind : ℕ) (ls : List Block
 
 -- the fence of code, or else that of math
 either_fence : (f : Fence → Tree) (g : Tree → Tree) (o p : Option Fence) (other : Option Tree)
-    → option_or (option_map g (option_map f o)) (option_or (option_map g (option_map f p)) other) ≡ option_or (option_map g (option_map f (option_or o p))) other
+    → option_or (option_map g (option_map f o)) (option_or (option_map g (option_map f p)) other)
+    ≡ option_or (option_map g (option_map f (option_or o p))) other
 either_fence f g None p other = refl
 either_fence f g (Some fence) p other = refl
 
@@ -199,11 +201,13 @@ module _ (on : Constructs) (r : Rest) (e : Option LineEnding) where
   -- the definitions take the whole of it, or a heading of what is left
   pub turns_none : (ls : List BlockLine) (rank : ℕ) → underline on r ≡ Some rank → is_some_line (definition_cut on ls).left ≡ false
       → turns on (At (Text ls)) r e ≡ None
-  turns_none ls rank is none = ap (λ o. option_and_then (underlined on ls e) o) is ∙ not_headed rank (definition_cut on ls).definitions (definition_cut on ls).left none
+  turns_none ls rank is none =
+      ap (λ o. option_and_then (underlined on ls e) o) is ∙ not_headed rank (definition_cut on ls).definitions (definition_cut on ls).left none
 
   pub turns_some : (ls : List BlockLine) (rank : ℕ) → underline on r ≡ Some rank → is_some_line (definition_cut on ls).left ≡ true
       → turns on (At (Text ls)) r e ≡ heading_tree on (Some rank) (At (Text ls)) e
-  turns_some ls rank is some = ap (λ o. option_and_then (underlined on ls e) o) is ∙ is_headed rank (definition_cut on ls).definitions (definition_cut on ls).left some
+  turns_some ls rank is some =
+      ap (λ o. option_and_then (underlined on ls e) o) is ∙ is_headed rank (definition_cut on ls).definitions (definition_cut on ls).left some
 
 -- no paragraph is open
 pub no_text : (ls : List BlockLine) → is_some_line ls ≡ false → ls ≡ []
@@ -220,10 +224,7 @@ pub text_leaf_here : (P : Opening → Type 0) (away : Opening) → opening_depth
     → ((l : BlockLine) (ls : List BlockLine) → P (At (Text (l ∷ ls)))) → P away
 text_leaf_here P (At (Text [])) none some k = let wrong : false ≡ true = some in cc
 text_leaf_here P (At (Text (l ∷ ls))) none some k = k l ls
-text_leaf_here P (At (Indented ls pending)) none some k = let wrong : false ≡ true = some in cc
-text_leaf_here P (At (Fenced f opening ls)) none some k = let wrong : false ≡ true = some in cc
-text_leaf_here P (At (OpenHtml kind ls)) none some k = let wrong : false ≡ true = some in cc
-text_leaf_here P (At (OpenTable ls)) none some k = let wrong : false ≡ true = some in cc
+text_leaf_here P (At leaf) none some k = let wrong : false ≡ true = some in cc
 text_leaf_here P (Inside c kids inner) none some k = absurd (omega (arith, none))
 
 -- ---- a line of text
@@ -241,10 +242,7 @@ module _ (P Q : Spine → Type 0) (l : BlockLine) (more : (around : List Level) 
   longer_at : (around : List Level) (kids : Blocks) (away : Opening) → has_text away ≡ true → P (spine_at around kids away)
       → Q (spine_at around kids (with_line l away))
   longer_at around kids (At (Text ls)) some h = more around kids ls h
-  longer_at around kids (At (Indented ls pending)) some h = let wrong : false ≡ true = some in cc
-  longer_at around kids (At (Fenced f opening ls)) some h = let wrong : false ≡ true = some in cc
-  longer_at around kids (At (OpenHtml kind ls)) some h = let wrong : false ≡ true = some in cc
-  longer_at around kids (At (OpenTable ls)) some h = let wrong : false ≡ true = some in cc
+  longer_at around kids (At leaf) some h = let wrong : false ≡ true = some in cc
   longer_at around kids (Inside c inner_kids inner) some h = longer_at (level c kids ∷ around) inner_kids inner some h
 
 pub goes_longer : (on : Constructs) (P Q : Spine → Type 0) (r : Rest) (e : Beside)
@@ -282,12 +280,8 @@ pub goes_row : (on : Constructs) (P Q : Spine → Type 0) (r : Rest) (e : Beside
     → Q (spine_after around kids (tree Nil (At (OpenTable (ls ++ rest_line r e ∷ []))))))
     → (around : List Level) (kids : Blocks) (away : Opening) → has_table away ≡ true → P (spine_at around kids away)
     → Q (spine_after around kids (text_line_of on away r e))
-goes_row on P Q r e more around kids (At (Text ls)) some h = let wrong : false ≡ true = some in cc
-goes_row on P Q r e more around kids (At (Indented ls pending)) some h = let wrong : false ≡ true = some in cc
-goes_row on P Q r e more around kids (At (Fenced f opening ls)) some h = let wrong : false ≡ true = some in cc
-goes_row on P Q r e more around kids (At (OpenHtml kind ls)) some h = let wrong : false ≡ true = some in cc
 goes_row on P Q r e more around kids (At (OpenTable ls)) some h = more around kids ls h
-goes_row on P Q r e more around kids (Inside c inner_kids inner) some h = let wrong : false ≡ true = some in cc
+goes_row on P Q r e more around kids away some h = let wrong : false ≡ true = some in cc
 
 -- a paragraph becomes a table
 pub tabled_here : (on : Constructs) (P Q : Spine → Type 0) (row : BlockLine)
@@ -296,11 +290,7 @@ pub tabled_here : (on : Constructs) (P Q : Spine → Type 0) (row : BlockLine)
     → (around : List Level) (kids : Blocks) (away : Opening) → IsText away → AreLines (open_text away) → P (spine_at around kids away)
     → Q (spine_after around kids (table_from_cut (definition_cut on (text_here away)) row))
 tabled_here on P Q row reads around kids (At (Text ls)) is clean h = reads around kids ls clean h
-tabled_here on P Q row reads around kids (At (Indented ls pending)) is clean h = let wrong : false ≡ true = is in cc
-tabled_here on P Q row reads around kids (At (Fenced f opening ls)) is clean h = let wrong : false ≡ true = is in cc
-tabled_here on P Q row reads around kids (At (OpenHtml kind ls)) is clean h = let wrong : false ≡ true = is in cc
-tabled_here on P Q row reads around kids (At (OpenTable ls)) is clean h = let wrong : false ≡ true = is in cc
-tabled_here on P Q row reads around kids (Inside c inner_kids inner) is clean h = let wrong : false ≡ true = is in cc
+tabled_here on P Q row reads around kids away is clean h = let wrong : false ≡ true = is in cc
 
 -- a paragraph becomes a heading
 pub turned_here : (on : Constructs) (P Q : Spine → Type 0) (rank : ℕ) (e : Option LineEnding)
@@ -309,8 +299,4 @@ pub turned_here : (on : Constructs) (P Q : Spine → Type 0) (rank : ℕ) (e : O
     → (around : List Level) (kids : Blocks) (away : Opening) → IsText away → AreLines (open_text away) → P (spine_at around kids away)
     → Q (spine_after around kids (tree (heading_blocks on rank (text_here away) e) nothing))
 turned_here on P Q rank e reads around kids (At (Text ls)) is clean h = reads around kids ls clean h
-turned_here on P Q rank e reads around kids (At (Indented ls pending)) is clean h = let wrong : false ≡ true = is in cc
-turned_here on P Q rank e reads around kids (At (Fenced f opening ls)) is clean h = let wrong : false ≡ true = is in cc
-turned_here on P Q rank e reads around kids (At (OpenHtml kind ls)) is clean h = let wrong : false ≡ true = is in cc
-turned_here on P Q rank e reads around kids (At (OpenTable ls)) is clean h = let wrong : false ≡ true = is in cc
-turned_here on P Q rank e reads around kids (Inside c inner_kids inner) is clean h = let wrong : false ≡ true = is in cc
+turned_here on P Q rank e reads around kids away is clean h = let wrong : false ≡ true = is in cc

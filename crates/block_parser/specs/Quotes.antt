@@ -1,13 +1,12 @@
 -- Which of the open containers are quotes.
 use Rattle.std.specs.Prelude.{◌≡◌, ℕ, ◌≤◌, ◌<◌, Bool, true, false, List, length, slice_index_or}
-use Rattle.definition_block.specs.Container.{Container, Quote, Item, Footnote}
+use Rattle.definition_block.specs.Container.{Container, Quote}
 use Rattle.definition_block.specs.Tree.{Blocks, Opening, Inside, Tree, began_blank}
 use Rattle.block_state.specs.Spine.{Level, spine_at, spine_of}
 
 abbrev pub is_quote : Container → Bool
 is_quote Quote = true
-is_quote (Item item) = false
-is_quote (Footnote label) = false
+is_quote c = false
 
 -- no container from this depth on is a quote
 abbrev pub NoQuoteFrom : ℕ → List Container → Type 0

@@ -6,10 +6,9 @@ use Rattle.std.proofs.lemmas.List.{append-nil, map-append}
 use Rattle.std.proofs.lemmas.List.Concat.{flat_map-append}
 use Rattle.definition_block.specs.Container.{Container, Quote, Item, Footnote}
 use Rattle.definition_text.specs.Columns.{code_byte}
-use Rattle.definition_block.specs.Blocks.{Block, Leaf, Paragraph, Heading, Break, IndentedCode, FencedCode, Html, Table, Definition, Holds, Items, Ending, Blank}
-use Rattle.definition_block.specs.Blocks.{Blocks, Nil, Cons}
-use Rattle.definition_block.specs.Definitions.{block_definitions, definitions}
-use Rattle.block_rows.specs.Rows.{Exit, start_row, row_definitions, block_rows, rows_of}
+use Rattle.definition_block.specs.Blocks.{LeafBlock, Definition, Block, Leaf, Holds, Items, Ending, Blank, Blocks, Nil, Cons}
+use Rattle.definition_block.specs.Definitions.{leaf_definitions, block_definitions, definitions}
+use Rattle.block_rows.specs.Rows.{Exit, start_row, row_definitions, spaced_leaf, block_rows, rows_of}
 use Rattle.definition_inline.proofs.LinkRenaming.{renamed_definition}
 
 -- where a container starts there is none
@@ -18,16 +17,13 @@ none_entered Quote = refl
 none_entered (Item item) = refl
 none_entered (Footnote label) = refl
 
+definitions_in_leaf : (leaf : LeafBlock) → leaf_definitions (spaced_leaf leaf) ++ [] ≡ map (renamed_definition code_byte) (leaf_definitions leaf)
+definitions_in_leaf (Definition label destination title) = refl
+definitions_in_leaf leaf = refl
+
 mutual
   pub definitions_in : (b : Block) → flat_map row_definitions (block_rows b) ≡ map (renamed_definition code_byte) (block_definitions b)
-  definitions_in (Leaf (Paragraph ls)) = refl
-  definitions_in (Leaf (Heading rank ls)) = refl
-  definitions_in (Leaf Break) = refl
-  definitions_in (Leaf (IndentedCode ls)) = refl
-  definitions_in (Leaf (FencedCode info closed ls)) = refl
-  definitions_in (Leaf (Html ls)) = refl
-  definitions_in (Leaf (Table ls)) = refl
-  definitions_in (Leaf (Definition label destination title)) = refl
+  definitions_in (Leaf leaf) = definitions_in_leaf leaf
   definitions_in (Holds c kids) =
       ap (λ x. x ++ flat_map row_definitions (rows_of kids ++ Exit ∷ [])) (none_entered c)
       ∙ flat_map-append row_definitions (rows_of kids) (Exit ∷ []) ∙ append-nil (flat_map row_definitions (rows_of kids)) ∙ definitions_of kids

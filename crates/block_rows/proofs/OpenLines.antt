@@ -332,10 +332,7 @@ module _ (on : Constructs) (e : LineEnding) (beside : Beside) where
   open_with_line : (line : BlockLine) (now : Opening) → HaveNoEnding line.codes → 0 < length line.codes → AreLinesTo (Some e) (open_text now)
       → AreLinesTo line.ending (open_text (with_line line now))
   open_with_line line (At (Text ls)) clear some h = one_more e ls line clear some h
-  open_with_line line (At (Indented ls pending)) clear some h = tt
-  open_with_line line (At (Fenced fence opening ls)) clear some h = tt
-  open_with_line line (At (OpenHtml kind ls)) clear some h = tt
-  open_with_line line (At (OpenTable ls)) clear some h = tt
+  open_with_line line (At leaf) clear some h = tt
   open_with_line line (Inside c kids inner) clear some h = open_with_line line inner clear some h
 
   open_text_line : (away : Opening) (rest : Rest) → HaveNoEnding rest → is_blank rest ≡ false → AreLinesTo (Some e) (open_text away)

@@ -8,8 +8,8 @@ use Rattle.block_rows.specs.declared.row.Row.TheVariants as row
 use Rattle.definition_text.specs.Columns.{bytes_of, code_byte}
 use Rattle.definition_text.specs.BlockLines.{BlockLine, own_lines}
 use Rattle.text_pieces.specs.Pieces.{whole_lines}
-use Rattle.definition_block.specs.Tree.{Block, Leaf, Paragraph, Heading, Break, IndentedCode, FencedCode, Html, Table, Definition, Holds, Items, Ending, Blank}
-use Rattle.definition_block.specs.Tree.{Blocks, Nil, Cons}
+use Rattle.definition_block.specs.Tree.{LeafBlock, Paragraph, Heading, Break, IndentedCode, FencedCode, Html, Table, Definition}
+use Rattle.definition_block.specs.Tree.{Block, Leaf, Holds, Items, Ending, Blank, Blocks, Nil, Cons}
 use Rattle.definition_text.specs.Content.{content_codes, content_text}
 use Rattle.definition_block.specs.Definitions.{block_definitions}
 use Rattle.definition_inline.specs.Definition.{Definition as LinkDefinition, definition_at}
@@ -28,21 +28,15 @@ start_row Quote = EnterQuote
 start_row (Item item) = EnterItem item.marker item.number
 start_row (Footnote label) = EnterFootnote label
 
--- a definition whose columns that are left of a tab are spaces
-abbrev pub spaced_definition : List ℕ → List ℕ → Option (List ℕ) → Block
-spaced_definition label destination title = Definition (map code_byte label) (map code_byte destination) (option_map (map code_byte) title)
+-- a leaf whose columns that are left of a tab are spaces, where it is a definition
+abbrev pub spaced_leaf : LeafBlock → LeafBlock
+spaced_leaf (Definition label destination title) = Definition (map code_byte label) (map code_byte destination) (option_map (map code_byte) title)
+spaced_leaf leaf = leaf
 
 -- the rows of blocks, before their items are put into lists
 abbrev mutual
   pub block_rows : Block → List BlockRow
-  block_rows (Leaf (Paragraph ls)) = Single (Leaf (Paragraph ls)) ∷ []
-  block_rows (Leaf (Heading rank ls)) = Single (Leaf (Heading rank ls)) ∷ []
-  block_rows (Leaf Break) = Single (Leaf Break) ∷ []
-  block_rows (Leaf (IndentedCode ls)) = Single (Leaf (IndentedCode ls)) ∷ []
-  block_rows (Leaf (FencedCode info closed ls)) = Single (Leaf (FencedCode info closed ls)) ∷ []
-  block_rows (Leaf (Html ls)) = Single (Leaf (Html ls)) ∷ []
-  block_rows (Leaf (Table ls)) = Single (Leaf (Table ls)) ∷ []
-  block_rows (Leaf (Definition label destination title)) = Single (spaced_definition label destination title) ∷ []
+  block_rows (Leaf leaf) = Single (Leaf (spaced_leaf leaf)) ∷ []
   block_rows (Holds c kids) = start_row c ∷ (rows_of kids ++ Exit ∷ [])
   block_rows (Items items) = rows_of items
   block_rows (Ending ending) = Single (Ending ending) ∷ []
@@ -102,8 +96,8 @@ abbrev pub definition_on : List BlockLine → Option LinkDefinition
 definition_on ls = definition_at (content_codes (content_text ls))
 
 abbrev pub definition_value : Option LinkDefinition → Block
-definition_value None = Definition [] [] None
-definition_value (Some d) = Definition d.label d.destination d.title
+definition_value None = Leaf (Definition [] [] None)
+definition_value (Some d) = Leaf (Definition d.label d.destination d.title)
 
 -- what a row stands for: it takes its lines from the front of those that are left
 abbrev pub row_value : Row → List BlockLine → BlockRow

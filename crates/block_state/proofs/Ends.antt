@@ -4,9 +4,9 @@ use Rattle.std.proofs.Common.{arith}
 use Rattle.std.specs.Prelude.{map}
 use Rattle.std.proofs.lemmas.Bool.{cond-true, and_parts}
 use Rattle.std.proofs.lemmas.List.{append-nil, take-map, drop-map, length-map}
-use Rattle.definition_block.specs.Container.{Container, Quote, Item, Footnote}
+use Rattle.definition_block.specs.Container.{Container, Quote}
 use Rattle.block_rows.specs.declared.row.Row.{Row}
-use Rattle.definition_block.specs.Tree.{Block, Leaf, Paragraph, Heading, Break, IndentedCode, FencedCode, Html, Table, Definition, Holds, Items, Ending, Blank}
+use Rattle.definition_block.specs.Tree.{Block, Holds, Ending, Blank}
 use Rattle.definition_block.specs.Tree.{Blocks, Nil, Cons, join, one, is_ending, all_endings, front, trailing, without_last, last_of, container_block}
 use Rattle.block_rows.specs.Rows.{BlockRow, Single, Exit, start_row, block_rows, rows_of}
 use Rattle.block_state.specs.Waits.{inside, outside}
@@ -17,18 +17,9 @@ use Rattle.block_state.proofs.Trees.{choose_if, join-assoc, trailing-all, front-
 
 -- an ending has one row
 ending_rows : (b : Block) → is_ending b ≡ true → block_rows b ≡ Single b ∷ []
-ending_rows (Leaf (Paragraph ls)) h = refl
-ending_rows (Leaf (Heading rank ls)) h = refl
-ending_rows (Leaf Break) h = refl
-ending_rows (Leaf (IndentedCode ls)) h = refl
-ending_rows (Leaf (FencedCode info closed ls)) h = refl
-ending_rows (Leaf (Html ls)) h = refl
-ending_rows (Leaf (Table ls)) h = refl
-ending_rows (Leaf (Definition label destination title)) h = let wrong : false ≡ true = h in cc
-ending_rows (Holds c kids) h = let wrong : false ≡ true = h in cc
-ending_rows (Items items) h = let wrong : false ≡ true = h in cc
 ending_rows (Ending ending) h = refl
 ending_rows (Blank ending) h = refl
+ending_rows b h = let wrong : false ≡ true = h in cc
 
 -- endings without the last, and the last
 pub endings-last : (bs : Blocks) → all_endings bs ≡ true
@@ -96,44 +87,38 @@ last-all (Cons b (Cons c bs)) = last-all (Cons c bs)
 -- ---- a container that ends
 
 -- what stands in it, and after it
-abbrev pub holding : Container → Blocks → Block
-holding Quote kids = Holds Quote (without_last kids)
-holding (Item item) kids = Holds (Item item) (front kids)
-holding (Footnote label) kids = Holds (Footnote label) (front kids)
+abbrev kept : Container → Blocks → Blocks
+kept Quote kids = without_last kids
+kept c kids = front kids
 
-abbrev pub left_over : Container → Blocks → Blocks
+abbrev left_over : Container → Blocks → Blocks
 left_over Quote kids = last_of kids
-left_over (Item item) kids = trailing kids
-left_over (Footnote label) kids = trailing kids
+left_over c kids = trailing kids
 
-pub holds_parts : (c : Container) (kids : Blocks) → container_block c kids ≡ join (one (holding c kids)) (left_over c kids)
+abbrev pub holding : Container → Blocks → Block
+holding c kids = Holds c (kept c kids)
+
+holds_parts : (c : Container) (kids : Blocks) → container_block c kids ≡ join (one (holding c kids)) (left_over c kids)
 holds_parts Quote kids = refl
-holds_parts (Item item) kids = refl
-holds_parts (Footnote label) kids = refl
+holds_parts c kids = refl
 
 left_over-all : (c : Container) (kids : Blocks) → all_endings (left_over c kids) ≡ true
 left_over-all Quote kids = last-all kids
-left_over-all (Item item) kids = trailing-all kids
-left_over-all (Footnote label) kids = trailing-all kids
-
-holding-block : (c : Container) (kids : Blocks) → is_ending (holding c kids) ≡ false
-holding-block Quote kids = refl
-holding-block (Item item) kids = refl
-holding-block (Footnote label) kids = refl
+left_over-all c kids = trailing-all kids
 
 pub front-holds : (before kids : Blocks) (c : Container) → front (join before (container_block c kids)) ≡ join before (one (holding c kids))
 front-holds before kids c =
     ap (λ x. front (join before x)) (holds_parts c kids)
     ∙ ap front (sym (join-assoc before (one (holding c kids)) (left_over c kids)))
     ∙ front-more (join before (one (holding c kids))) (left_over c kids) (left_over-all c kids)
-    ∙ front-block before (holding c kids) (holding-block c kids)
+    ∙ front-block before (holding c kids) refl
 
 pub trailing-holds : (before kids : Blocks) (c : Container) → trailing (join before (container_block c kids)) ≡ left_over c kids
 trailing-holds before kids c =
     ap (λ x. trailing (join before x)) (holds_parts c kids)
     ∙ ap trailing (sym (join-assoc before (one (holding c kids)) (left_over c kids)))
     ∙ trailing-more (join before (one (holding c kids))) (left_over c kids) (left_over-all c kids)
-    ∙ ap (λ x. join x (left_over c kids)) (trailing-block before (holding c kids) (holding-block c kids))
+    ∙ ap (λ x. join x (left_over c kids)) (trailing-block before (holding c kids) refl)
 
 -- the endings that wait are those that stand in it and those after it
 pub inside-rows : (c : Container) (kids : Blocks) (waiting : List Row) → map lone waiting ≡ rows_of (trailing kids)
@@ -145,8 +130,7 @@ inside-rows Quote kids waiting h =
     (without-front kids
     ∙ ap (λ x. rows_of (front kids) ++ x) ((endings-last (trailing kids) (trailing-all kids)).0 ∙ ap (λ m. take m (rows_of (trailing kids))) count
     ∙ ap (take n) (sym h) ∙ take-map lone n waiting))
-inside-rows (Item item) kids waiting h = ap (λ x. start_row (Item item) ∷ (x ++ Exit ∷ [])) (sym (append-nil (rows_of (front kids))))
-inside-rows (Footnote label) kids waiting h = ap (λ x. start_row (Footnote label) ∷ (x ++ Exit ∷ [])) (sym (append-nil (rows_of (front kids))))
+inside-rows c kids waiting h = ap (λ x. start_row c ∷ (x ++ Exit ∷ [])) (sym (append-nil (rows_of (front kids))))
 
 pub outside-rows : (c : Container) (kids : Blocks) (waiting : List Row) → map lone waiting ≡ rows_of (trailing kids)
     → map lone (outside c waiting) ≡ rows_of (left_over c kids)
@@ -155,5 +139,4 @@ outside-rows Quote kids waiting h =
     let count : length (rows_of (trailing kids)) - 1 ≡ n = ap (λ (x : List BlockRow). length x - 1) (sym h) ∙ ap (λ m. m - 1) (length-map waiting lone) in
     sym (ap rows_of (last-trailing kids) ∙ (endings-last (trailing kids) (trailing-all kids)).1 ∙ ap (λ m. drop m (rows_of (trailing kids))) count
     ∙ ap (drop n) (sym h) ∙ drop-map lone n waiting)
-outside-rows (Item item) kids waiting h = h
-outside-rows (Footnote label) kids waiting h = h
+outside-rows c kids waiting h = h

@@ -6,12 +6,10 @@ use Rattle.std.proofs.lemmas.List.{append-nil, take-append-le, drop-append-le, l
 use Rattle.std.proofs.lemmas.List.Sums.{fold_push, fold-append, sum_by-cons}
 use Rattle.block_rows.specs.declared.row.Row.{Row}
 use Rattle.block_rows.specs.declared.row.Row.TheVariants as row
-use Rattle.definition_text.specs.Columns.{bytes_of}
 use Rattle.definition_text.specs.BlockLines.{BlockLine, own_lines}
 use Rattle.definition_block.specs.Tree.{Leaf, Paragraph, Heading, IndentedCode, FencedCode, Html, Table}
 use Rattle.block_state.specs.Shows.{lone}
 use Rattle.block_rows.specs.Rows.{definition_on, definition_value, BlockRow, Single, RowsValue, rows_value, value_with, show_row, row_value}
-use Rattle.text_pieces.specs.Pieces.{whole_lines}
 use Rattle.block_rows.specs.Rows.{row_size, rows_size}
 
 -- ---- more lines beside the rows
@@ -19,51 +17,36 @@ use Rattle.block_rows.specs.Rows.{row_size, rows_size}
 abbrev pub with_left : RowsValue → List BlockLine → RowsValue
 with_left s more = value_with s.rows (s.left ++ more)
 
+-- a row of so many of these lines
+taken_longer : (row_of : List BlockLine → BlockRow) (n m : ℕ) (out : List BlockRow) (own ls more : List BlockLine) → n ≤ length own → m ≤ length ls
+    → value_with (out ++ row_of (take n (own ++ more)) ∷ []) (drop m (ls ++ more)) ≡ with_left (value_with (out ++ row_of (take n own) ∷ []) (drop m ls)) more
+taken_longer row_of n m out own ls more some le =
+    ap (λ front. value_with (out ++ row_of front ∷ []) (drop m (ls ++ more))) (take-append-le n own more some)
+    ∙ ap (value_with (out ++ row_of (take n own) ∷ [])) (drop-append-le m ls more le)
+
 row_longer : (r : Row) (out : List BlockRow) (ls more : List BlockLine) → row_size r ≤ length ls
     → show_row (value_with out (ls ++ more)) r ≡ with_left (show_row (value_with out ls) r) more
-row_longer (row.Paragraph n) out ls more le =
-    ap (λ front. value_with (out ++ Single (Leaf (Paragraph (own_lines front))) ∷ []) (drop n (ls ++ more))) (take-append-le n ls more le)
-    ∙ ap (value_with (out ++ Single (Leaf (Paragraph (own_lines (take n ls)))) ∷ [])) (drop-append-le n ls more le)
-row_longer (row.Heading rank) out ls more le =
-    ap (λ front. value_with (out ++ Single (Leaf (Heading rank (own_lines front))) ∷ []) (drop 1 (ls ++ more))) (take-append-le 1 ls more le)
-    ∙ ap (value_with (out ++ Single (Leaf (Heading rank (own_lines (take 1 ls)))) ∷ [])) (drop-append-le 1 ls more le)
-row_longer row.Break out ls more le = refl
-row_longer (row.IndentedCode n) out ls more le =
-    ap (λ front. value_with (out ++ Single (Leaf (IndentedCode (own_lines front))) ∷ []) (drop n (ls ++ more))) (take-append-le n ls more le)
-    ∙ ap (value_with (out ++ Single (Leaf (IndentedCode (own_lines (take n ls)))) ∷ [])) (drop-append-le n ls more le)
+row_longer (row.Paragraph n) out ls more le = taken_longer (λ front. Single (Leaf (Paragraph (own_lines front)))) n n out ls ls more le le
+row_longer row.WholeParagraph out [] more le = absurd (omega arith)
+row_longer row.WholeParagraph out (l ∷ ls) more le = refl
+row_longer (row.Heading rank) out ls more le = taken_longer (λ front. Single (Leaf (Heading rank (own_lines front)))) 1 1 out ls ls more le le
+row_longer (row.SetextHeading rank n) out ls more le = taken_longer (λ front. Single (Leaf (Heading rank (own_lines front)))) n n out ls ls more le le
+row_longer (row.IndentedCode n) out ls more le = taken_longer (λ front. Single (Leaf (IndentedCode (own_lines front)))) n n out ls ls more le le
 row_longer (row.FencedCode n) out [] more le = absurd (omega arith)
 row_longer (row.FencedCode n) out (l ∷ ls) more le =
-    ap (λ front. value_with (out ++ Single (Leaf (FencedCode l.codes true front)) ∷ []) (drop (1 + n) ((l ∷ ls) ++ more))) (take-append-le n ls more (omega arith))
-    ∙ ap (value_with (out ++ Single (Leaf (FencedCode l.codes true (take n ls))) ∷ [])) (drop-append-le (1 + n) (l ∷ ls) more le)
+    taken_longer (λ front. Single (Leaf (FencedCode l.codes true front))) n (1 + n) out ls (l ∷ ls) more (omega arith) le
 row_longer (row.UnclosedCode n) out [] more le = absurd (omega arith)
 row_longer (row.UnclosedCode n) out (l ∷ ls) more le =
-    ap (λ front. value_with (out ++ Single (Leaf (FencedCode l.codes false front)) ∷ []) (drop (1 + n) ((l ∷ ls) ++ more))) (take-append-le n ls more (omega arith))
-    ∙ ap (value_with (out ++ Single (Leaf (FencedCode l.codes false (take n ls))) ∷ [])) (drop-append-le (1 + n) (l ∷ ls) more le)
+    taken_longer (λ front. Single (Leaf (FencedCode l.codes false front))) n (1 + n) out ls (l ∷ ls) more (omega arith) le
 row_longer row.WholeCode out [] more le = absurd (omega arith)
 row_longer row.WholeCode out (l ∷ []) more le = absurd (omega arith)
 row_longer row.WholeCode out (l ∷ code ∷ ls) more le = refl
-row_longer row.WholeParagraph out [] more le = absurd (omega arith)
-row_longer row.WholeParagraph out (l ∷ ls) more le =
-    ap (value_with (out ++ Single (Leaf (Paragraph (own_lines (whole_lines (bytes_of l.codes))))) ∷ [])) (drop-append-le 1 (l ∷ ls) more le)
-row_longer (row.SetextHeading rank n) out ls more le =
-    ap (λ front. value_with (out ++ Single (Leaf (Heading rank (own_lines front))) ∷ []) (drop n (ls ++ more))) (take-append-le n ls more le)
-    ∙ ap (value_with (out ++ Single (Leaf (Heading rank (own_lines (take n ls)))) ∷ [])) (drop-append-le n ls more le)
-row_longer (row.Html n) out ls more le =
-    ap (λ front. value_with (out ++ Single (Leaf (Html (own_lines front))) ∷ []) (drop n (ls ++ more))) (take-append-le n ls more le)
-    ∙ ap (value_with (out ++ Single (Leaf (Html (own_lines (take n ls)))) ∷ [])) (drop-append-le n ls more le)
-row_longer (row.Table n) out ls more le =
-    ap (λ front. value_with (out ++ Single (Leaf (Table (own_lines front))) ∷ []) (drop n (ls ++ more))) (take-append-le n ls more le)
-    ∙ ap (value_with (out ++ Single (Leaf (Table (own_lines (take n ls)))) ∷ [])) (drop-append-le n ls more le)
-row_longer (row.Definition n) out ls more le =
-    ap (λ front. value_with (out ++ Single (definition_value (definition_on front)) ∷ []) (drop n (ls ++ more))) (take-append-le n ls more le)
-    ∙ ap (value_with (out ++ Single (definition_value (definition_on (take n ls))) ∷ [])) (drop-append-le n ls more le)
-row_longer row.EnterQuote out ls more le = refl
-row_longer (row.EnterItem marker number) out ls more le = refl
+row_longer (row.Html n) out ls more le = taken_longer (λ front. Single (Leaf (Html (own_lines front)))) n n out ls ls more le le
+row_longer (row.Table n) out ls more le = taken_longer (λ front. Single (Leaf (Table (own_lines front)))) n n out ls ls more le le
+row_longer (row.Definition n) out ls more le = taken_longer (λ front. Single (definition_value (definition_on front))) n n out ls ls more le le
 row_longer row.EnterFootnote out [] more le = absurd (omega arith)
 row_longer row.EnterFootnote out (l ∷ ls) more le = refl
-row_longer row.Exit out ls more le = refl
-row_longer (row.Ending e) out ls more le = refl
-row_longer (row.Blank e) out ls more le = refl
+row_longer r out ls more le = refl
 
 pub shown_longer : (rows : List Row) (out : List BlockRow) (ls more : List BlockLine) → rows_size rows ≤ length ls
     → fold show_row (value_with out (ls ++ more)) rows ≡ with_left (fold show_row (value_with out ls) rows) more
@@ -99,30 +82,23 @@ pub one_row_shown : (rows : List Row) (pool : List BlockLine) (r : Row) (s : Row
 one_row_shown rows pool r s h = fold_push show_row (value_with [] pool) rows r ∙ ap (λ x. show_row x r) h
 
 -- a row that takes no lines shows the same whatever is left
+none_of : (row_of : List BlockLine → BlockRow) (n : ℕ) (left : List BlockLine) → n ≡ 0 → row_of (take n left) ≡ row_of (take n [])
+none_of row_of n left h = ap (λ (k : ℕ). row_of (take k left)) h ∙ sym (ap (λ (k : ℕ). row_of (take k [])) h)
+
 none_taken : (r : Row) (left : List BlockLine) → row_size r ≡ 0 → row_value r left ≡ lone r
-none_taken (row.Paragraph n) left h =
-    ap (λ (k : ℕ). Single (Leaf (Paragraph (own_lines (take k left))))) h ∙ sym (ap (λ (k : ℕ). Single (Leaf (Paragraph (own_lines (take k []))))) h)
-none_taken (row.Heading rank) left h = absurd (omega (arith, h))
+none_taken (row.Paragraph n) left h = none_of (λ front. Single (Leaf (Paragraph (own_lines front)))) n left h
 none_taken row.WholeParagraph left h = absurd (omega (arith, h))
-none_taken (row.SetextHeading rank n) left h =
-    ap (λ (k : ℕ). Single (Leaf (Heading rank (own_lines (take k left))))) h ∙ sym (ap (λ (k : ℕ). Single (Leaf (Heading rank (own_lines (take k []))))) h)
-none_taken (row.Html n) left h = ap (λ (k : ℕ). Single (Leaf (Html (own_lines (take k left))))) h ∙ sym (ap (λ (k : ℕ). Single (Leaf (Html (own_lines (take k []))))) h)
-none_taken (row.Table n) left h = ap (λ (k : ℕ). Single (Leaf (Table (own_lines (take k left))))) h ∙ sym (ap (λ (k : ℕ). Single (Leaf (Table (own_lines (take k []))))) h)
-none_taken (row.Definition n) left h =
-    ap (λ (k : ℕ). Single (definition_value (definition_on (take k left)))) h
-    ∙ sym (ap (λ (k : ℕ). Single (definition_value (definition_on (take k [])))) h)
-none_taken row.Break left h = refl
-none_taken (row.IndentedCode n) left h =
-    ap (λ (k : ℕ). Single (Leaf (IndentedCode (own_lines (take k left))))) h ∙ sym (ap (λ (k : ℕ). Single (Leaf (IndentedCode (own_lines (take k []))))) h)
+none_taken (row.Heading rank) left h = absurd (omega (arith, h))
+none_taken (row.SetextHeading rank n) left h = none_of (λ front. Single (Leaf (Heading rank (own_lines front)))) n left h
+none_taken (row.IndentedCode n) left h = none_of (λ front. Single (Leaf (IndentedCode (own_lines front)))) n left h
 none_taken (row.FencedCode n) left h = absurd (omega (arith, h))
 none_taken (row.UnclosedCode n) left h = absurd (omega (arith, h))
 none_taken row.WholeCode left h = absurd (omega (arith, h))
-none_taken row.EnterQuote left h = refl
-none_taken (row.EnterItem marker number) left h = refl
+none_taken (row.Html n) left h = none_of (λ front. Single (Leaf (Html (own_lines front)))) n left h
+none_taken (row.Table n) left h = none_of (λ front. Single (Leaf (Table (own_lines front)))) n left h
+none_taken (row.Definition n) left h = none_of (λ front. Single (definition_value (definition_on front))) n left h
 none_taken row.EnterFootnote left h = absurd (omega (arith, h))
-none_taken row.Exit left h = refl
-none_taken (row.Ending e) left h = refl
-none_taken (row.Blank e) left h = refl
+none_taken r left h = refl
 
 -- rows that take no lines
 pub lone_shown : (rows : List Row) (s : RowsValue) → rows_size rows ≡ 0 → fold show_row s rows ≡ value_with (s.rows ++ map lone rows) s.left

@@ -7,13 +7,11 @@ use Rattle.block_rows.specs.declared.row.Row.TheVariants as row
 -- the endings that stand in a container that ends, and those that stand after it
 abbrev pub inside : Container → List Row → List Row
 inside Quote waiting = take (length waiting - 1) waiting
-inside (Item item) waiting = []
-inside (Footnote label) waiting = []
+inside c waiting = []
 
 abbrev pub outside : Container → List Row → List Row
 outside Quote waiting = drop (length waiting - 1) waiting
-outside (Item item) waiting = waiting
-outside (Footnote label) waiting = waiting
+outside c waiting = waiting
 
 -- whether these are the ending of one blank line
 abbrev pub is_one_blank_row : List Row → Bool

@@ -11,24 +11,8 @@ use Rattle.block_rows.specs.Rows.{RowsValue, row_definitions, row_size, row_valu
 use Rattle.block_targets.specs.Read.{is_definition, takes_lines}
 
 none_in : (r : Row) (ls : List BlockLine) → is_definition r ≡ false → row_definitions (row_value r ls) ++ [] ≡ []
-none_in (row.Paragraph count) ls h = refl
-none_in row.WholeParagraph ls h = refl
-none_in (row.Heading rank) ls h = refl
-none_in (row.SetextHeading rank count) ls h = refl
-none_in row.Break ls h = refl
-none_in (row.IndentedCode count) ls h = refl
-none_in (row.FencedCode count) ls h = refl
-none_in (row.UnclosedCode count) ls h = refl
-none_in row.WholeCode ls h = refl
-none_in (row.Html count) ls h = refl
-none_in (row.Table count) ls h = refl
 none_in (row.Definition count) ls h = absurd (true≢false h)
-none_in row.EnterQuote ls h = refl
-none_in (row.EnterItem marker number) ls h = refl
-none_in row.EnterFootnote ls h = refl
-none_in row.Exit ls h = refl
-none_in (row.Ending ending) ls h = refl
-none_in (row.Blank ending) ls h = refl
+none_in r ls h = refl
 
 none_more : (s : RowsValue) (rows : List Row) → list_any is_definition rows ≡ false
     → flat_map row_definitions (fold show_row s rows).rows ≡ flat_map row_definitions s.rows
@@ -47,21 +31,10 @@ no_definitions rows ls h = none_more (value_with [] ls) rows h
 -- ---- rows that take no lines have none
 
 pub no_lines : (r : Row) (ls : List BlockLine) → takes_lines r ≡ false → (0 ≡ row_size r) × (row_definitions (row_value r ls) ≡ [])
-no_lines (row.Paragraph count) ls h = absurd (true≢false h)
-no_lines row.WholeParagraph ls h = absurd (true≢false h)
-no_lines (row.Heading rank) ls h = absurd (true≢false h)
-no_lines (row.SetextHeading rank count) ls h = absurd (true≢false h)
 no_lines row.Break ls h = (refl, refl)
-no_lines (row.IndentedCode count) ls h = absurd (true≢false h)
-no_lines (row.FencedCode count) ls h = absurd (true≢false h)
-no_lines (row.UnclosedCode count) ls h = absurd (true≢false h)
-no_lines row.WholeCode ls h = absurd (true≢false h)
-no_lines (row.Html count) ls h = absurd (true≢false h)
-no_lines (row.Table count) ls h = absurd (true≢false h)
-no_lines (row.Definition count) ls h = absurd (true≢false h)
 no_lines row.EnterQuote ls h = (refl, refl)
 no_lines (row.EnterItem marker number) ls h = (refl, refl)
-no_lines row.EnterFootnote ls h = absurd (true≢false h)
 no_lines row.Exit ls h = (refl, refl)
 no_lines (row.Ending ending) ls h = (refl, refl)
 no_lines (row.Blank ending) ls h = (refl, refl)
+no_lines r ls h = absurd (true≢false h)

@@ -29,24 +29,11 @@ exit_unnamed ended (None ∷ containers) h = (h.0, h.1)
 exit_unnamed ended (Some label ∷ containers) h = absurd h.1
 
 row_unnamed : (n : LabelsSoFar) (r : Row) (ls : List BlockLine) → starts_footnote r ≡ false → IsUnnamed n → IsUnnamed (note_row n (row_value r ls))
-row_unnamed n (row.Paragraph count) ls off h = h
-row_unnamed n row.WholeParagraph ls off h = h
-row_unnamed n (row.Heading rank) ls off h = h
-row_unnamed n (row.SetextHeading rank count) ls off h = h
-row_unnamed n row.Break ls off h = h
-row_unnamed n (row.IndentedCode count) ls off h = h
-row_unnamed n (row.FencedCode count) ls off h = h
-row_unnamed n (row.UnclosedCode count) ls off h = h
-row_unnamed n row.WholeCode ls off h = h
-row_unnamed n (row.Html count) ls off h = h
-row_unnamed n (row.Table count) ls off h = h
-row_unnamed n (row.Definition count) ls off h = h
 row_unnamed n row.EnterQuote ls off h = (h.0, h.1)
 row_unnamed n (row.EnterItem marker number) ls off h = (h.0, h.1)
 row_unnamed n row.EnterFootnote ls off h = absurd (true≢false off)
 row_unnamed n row.Exit ls off h = exit_unnamed n.ended n.containers h
-row_unnamed n (row.Ending ending) ls off h = h
-row_unnamed n (row.Blank ending) ls off h = h
+row_unnamed n r ls off h = h
 
 rows_unnamed : (s : RowsValue) (rows : List Row) → list_any starts_footnote rows ≡ false → IsUnnamed (note_rows s.rows)
     → IsUnnamed (note_rows (fold show_row s rows).rows)

@@ -1,5 +1,6 @@
 -- The labels of a document's footnote definitions are those of its rows.
-use Rattle.std.proofs.Common.{◌≡◌, ℕ, zero, suc, Bool, true, false, not, eqb, List, [], ◌∷◌, ◌++◌, None, Some, refl, sym, ap, ◌∙◌, append_assoc, inl, inr}
+use Rattle.std.proofs.Common.{◌≡◌, ℕ, zero, suc, Bool, true, false, not, eqb, List, [], ◌∷◌, ◌++◌, Option, None, Some, refl, sym, ap, ◌∙◌}
+use Rattle.std.proofs.Common.{append_assoc, inl, inr}
 use Rattle.std.specs.Prelude.{replicate}
 use Rattle.std.specs.List.{fold, list_any}
 use Rattle.std.proofs.lemmas.Bool.{cases_Bool, cond-false, eqb-true, false≢true, true≢false, or_parts}
@@ -7,42 +8,41 @@ use Rattle.std.proofs.lemmas.List.{append-nil}
 use Rattle.std.proofs.lemmas.List.Sums.{fold-append}
 use Rattle.definition_text.specs.Columns.{tab_column}
 use Rattle.definition_text.specs.Content.{is_space, content_codes}
-use Rattle.definition_block.specs.Container.{Quote, Item, Footnote}
-use Rattle.definition_block.specs.Blocks.{Block, Leaf, Paragraph, Heading, Break, IndentedCode, FencedCode, Html, Table, Definition, Holds, Items, Ending, Blank}
-use Rattle.definition_block.specs.Blocks.{Blocks, Nil, Cons}
-use Rattle.definition_block.specs.Definitions.{block_footnotes, footnotes}
-use Rattle.block_rows.specs.Rows.{Exit, block_rows, rows_of}
-use Rattle.block_targets.specs.GfmFootnoteDefinition.{LabelsSoFar, labels_so_far, note_row}
+use Rattle.definition_block.specs.Container.{Container, Footnote}
+use Rattle.definition_block.specs.Blocks.{Block, Holds, Items, Blocks, Nil, Cons}
+use Rattle.definition_block.specs.Definitions.{container_footnotes, block_footnotes, footnotes}
+use Rattle.block_rows.specs.Rows.{Exit, start_row, block_rows, rows_of}
+use Rattle.block_targets.specs.GfmFootnoteDefinition.{LabelsSoFar, labels_so_far, note_exit, note_row}
 
 nothing_more : (ended : List (List ℕ)) (containers : _) → labels_so_far ended containers ≡ labels_so_far (ended ++ []) containers
 nothing_more ended containers = ap (λ x. labels_so_far x containers) (sym (append-nil ended))
 
+-- the label of a footnote definition, as it is kept while this is open
+abbrev container_label : Container → Option (List ℕ)
+container_label (Footnote label) = Some label
+container_label c = None
+
+noted_at_start : (c : Container) (ended : List (List ℕ)) (containers : _) → note_row (labels_so_far ended containers) (start_row c)
+    ≡ labels_so_far ended (container_label c ∷ containers)
+noted_at_start (Footnote label) ended containers = refl
+noted_at_start c ended containers = refl
+
+noted_at_end : (c : Container) (ended : List (List ℕ)) (containers : _) → note_exit ended (container_label c ∷ containers)
+    ≡ labels_so_far (ended ++ container_footnotes c) containers
+noted_at_end (Footnote label) ended containers = refl
+noted_at_end c ended containers = nothing_more ended containers
+
 mutual
   notes_in : (b : Block) (ended : List (List ℕ)) (containers : _) → fold note_row (labels_so_far ended containers) (block_rows b)
       ≡ labels_so_far (ended ++ block_footnotes b) containers
-  notes_in (Leaf (Paragraph ls)) ended containers = nothing_more ended containers
-  notes_in (Leaf (Heading rank ls)) ended containers = nothing_more ended containers
-  notes_in (Leaf Break) ended containers = nothing_more ended containers
-  notes_in (Leaf (IndentedCode ls)) ended containers = nothing_more ended containers
-  notes_in (Leaf (FencedCode info closed ls)) ended containers = nothing_more ended containers
-  notes_in (Leaf (Html ls)) ended containers = nothing_more ended containers
-  notes_in (Leaf (Table ls)) ended containers = nothing_more ended containers
-  notes_in (Leaf (Definition label destination title)) ended containers = nothing_more ended containers
-  notes_in (Holds Quote kids) ended containers =
-      fold-append note_row (labels_so_far ended (None ∷ containers)) (rows_of kids) (Exit ∷ [])
-      ∙ ap (λ (n : LabelsSoFar). note_row n Exit) (notes_of kids ended (None ∷ containers))
-      ∙ ap (λ x. labels_so_far (ended ++ x) containers) (sym (append-nil (footnotes kids)))
-  notes_in (Holds (Item item) kids) ended containers =
-      fold-append note_row (labels_so_far ended (None ∷ containers)) (rows_of kids) (Exit ∷ [])
-      ∙ ap (λ (n : LabelsSoFar). note_row n Exit) (notes_of kids ended (None ∷ containers))
-      ∙ ap (λ x. labels_so_far (ended ++ x) containers) (sym (append-nil (footnotes kids)))
-  notes_in (Holds (Footnote label) kids) ended containers =
-      fold-append note_row (labels_so_far ended (Some label ∷ containers)) (rows_of kids) (Exit ∷ [])
-      ∙ ap (λ (n : LabelsSoFar). note_row n Exit) (notes_of kids ended (Some label ∷ containers))
-      ∙ ap (λ x. labels_so_far x containers) (append_assoc ended (footnotes kids) (label ∷ []))
+  notes_in (Holds c kids) ended containers =
+      fold-append note_row (note_row (labels_so_far ended containers) (start_row c)) (rows_of kids) (Exit ∷ [])
+      ∙ ap (λ (n : LabelsSoFar). note_row (fold note_row n (rows_of kids)) Exit) (noted_at_start c ended containers)
+      ∙ ap (λ (n : LabelsSoFar). note_row n Exit) (notes_of kids ended (container_label c ∷ containers))
+      ∙ noted_at_end c (ended ++ footnotes kids) containers
+      ∙ ap (λ x. labels_so_far x containers) (append_assoc ended (footnotes kids) (container_footnotes c))
   notes_in (Items items) ended containers = notes_of items ended containers
-  notes_in (Ending ending) ended containers = nothing_more ended containers
-  notes_in (Blank ending) ended containers = nothing_more ended containers
+  notes_in b ended containers = nothing_more ended containers
 
   pub notes_of : (bs : Blocks) (ended : List (List ℕ)) (containers : _) → fold note_row (labels_so_far ended containers) (rows_of bs)
       ≡ labels_so_far (ended ++ footnotes bs) containers

@@ -11,24 +11,8 @@ use Rattle.block_targets.specs.declared.gfm_footnote_definition.Footnotes.{Footn
 
 -- whether a row starts a footnote definition
 abbrev pub starts_footnote : Row → Bool
-starts_footnote (row.Paragraph count) = false
-starts_footnote row.WholeParagraph = false
-starts_footnote (row.Heading rank) = false
-starts_footnote (row.SetextHeading rank count) = false
-starts_footnote row.Break = false
-starts_footnote (row.IndentedCode count) = false
-starts_footnote (row.FencedCode count) = false
-starts_footnote (row.UnclosedCode count) = false
-starts_footnote row.WholeCode = false
-starts_footnote (row.Html count) = false
-starts_footnote (row.Table count) = false
-starts_footnote (row.Definition count) = false
-starts_footnote row.EnterQuote = false
-starts_footnote (row.EnterItem marker number) = false
 starts_footnote row.EnterFootnote = true
-starts_footnote row.Exit = false
-starts_footnote (row.Ending ending) = false
-starts_footnote (row.Blank ending) = false
+starts_footnote r = false
 
 -- the labels of those that ended, and for each container that is open its label, if it has one, the innermost first
 pub record LabelsSoFar : Type 0 where

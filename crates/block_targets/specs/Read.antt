@@ -15,45 +15,18 @@ use Rattle.block_targets.specs.declared.definitions.Definitions.{Definitions}
 
 -- whether a row is a definition
 abbrev pub is_definition : Row → Bool
-is_definition (row.Paragraph count) = false
-is_definition row.WholeParagraph = false
-is_definition (row.Heading rank) = false
-is_definition (row.SetextHeading rank count) = false
-is_definition row.Break = false
-is_definition (row.IndentedCode count) = false
-is_definition (row.FencedCode count) = false
-is_definition (row.UnclosedCode count) = false
-is_definition row.WholeCode = false
-is_definition (row.Html count) = false
-is_definition (row.Table count) = false
 is_definition (row.Definition count) = true
-is_definition row.EnterQuote = false
-is_definition (row.EnterItem marker number) = false
-is_definition row.EnterFootnote = false
-is_definition row.Exit = false
-is_definition (row.Ending ending) = false
-is_definition (row.Blank ending) = false
+is_definition r = false
 
 -- whether rows of a kind take lines
 abbrev pub takes_lines : Row → Bool
-takes_lines (row.Paragraph count) = true
-takes_lines row.WholeParagraph = true
-takes_lines (row.Heading rank) = true
-takes_lines (row.SetextHeading rank count) = true
 takes_lines row.Break = false
-takes_lines (row.IndentedCode count) = true
-takes_lines (row.FencedCode count) = true
-takes_lines (row.UnclosedCode count) = true
-takes_lines row.WholeCode = true
-takes_lines (row.Html count) = true
-takes_lines (row.Table count) = true
-takes_lines (row.Definition count) = true
 takes_lines row.EnterQuote = false
 takes_lines (row.EnterItem marker number) = false
-takes_lines row.EnterFootnote = true
 takes_lines row.Exit = false
 takes_lines (row.Ending ending) = false
 takes_lines (row.Blank ending) = false
+takes_lines r = true
 
 -- a definition with nothing after it, if there is one
 abbrev pub alone : Option Definition → Definition

@@ -21,8 +21,8 @@ returns-clause-read g c =
     let long = length-map p.pieces.items piece_line in
     let count = c.len.result - p.lines_in_rows - 1 in
     let all : count ≡ length ls = omega (arith, left, long, p.counted, p.pieces.ok.0, c.len.ensures) in
-    subst (λ (e : Option LineEnding). HasRead c.end_leaf.new.self (spine around (join kids (block_and_ending (Leaf (FencedCode fence.info false ls)) e)) (Text [])))
-    last
-    (reads (Fenced fence opening ls) (Leaf (FencedCode fence.info false ls)) (ap (λ x. Single (Leaf (FencedCode fence.info false x)) ∷ [])
+    let code = Leaf (FencedCode fence.info false ls) in
+    subst (λ (e : Option LineEnding). HasRead c.end_leaf.new.self (spine around (join kids (block_and_ending code e)) (Text []))) last
+    (reads (Fenced fence opening ls) code (ap (λ x. Single (Leaf (FencedCode fence.info false x)) ∷ [])
     (sym (take_all count ls (omega (arith, all))))) refl around kids h))
     c.end_leaf.ensures.read

@@ -21,6 +21,6 @@ returns-clause-read g c =
     let count = c.len.result - p.lines_in_rows in
     let all : count ≡ length ls = omega (arith, left, long, p.counted, p.pieces.ok.0, c.len.ensures) in
     subst (λ (e : Option LineEnding). HasRead c.end_leaf.new.self (spine around (join kids (block_and_ending (Leaf (Html (own_lines ls))) e)) (Text []))) last
-    (reads (OpenHtml kind ls) (Leaf (Html (own_lines ls))) (ap (λ x. Single (Leaf (Html (own_lines x))) ∷ []) (sym (take_all count ls (omega (arith, all))))) refl around kids
-    h))
+    (reads (OpenHtml kind ls) (Leaf (Html (own_lines ls))) (ap (λ x. Single (Leaf (Html (own_lines x))) ∷ []) (sym (take_all count ls (omega (arith, all)))))
+    refl around kids h))
     c.end_leaf.ensures.read

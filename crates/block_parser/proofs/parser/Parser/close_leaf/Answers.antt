@@ -25,10 +25,7 @@ returns-in-Text-clause-read g c =
         → HasRead c.args.self.now (spine around kids leaf)
         → HasRead c.close_text.new.self (spine around (join kids (close_leaf c.args.on.now leaf)) (Text []))
     text_case reads around kids (Text ls) clean is h = reads around kids ls clean h
-    text_case reads around kids (Indented ls pending) clean is h = let wrong = is in cc
-    text_case reads around kids (Fenced fence opening ls) clean is h = let wrong = is in cc
-    text_case reads around kids (OpenHtml kind ls) clean is h = let wrong = is in cc
-    text_case reads around kids (OpenTable ls) clean is h = let wrong = is in cc
+    text_case reads around kids leaf clean is h = let wrong = is in cc
 
 pub returns-in-Indented-clause-read : goal.returns-in-Indented-clause-read
 returns-in-Indented-clause-read g c =
@@ -42,11 +39,8 @@ returns-in-Indented-clause-read g c =
         → (around : List Level) (kids : Blocks) (leaf : OpenLeaf) → InIndented c.in-Indented.count c.in-Indented.ending ≡ state_of leaf
         → HasRead c.args.self.now (spine around kids leaf)
         → HasRead c.close_indented.new.self (spine around (join kids (close_leaf c.args.on.now leaf)) (Text []))
-    indented_case reads around kids (Text ls) is h = let wrong = is in cc
     indented_case reads around kids (Indented ls pending) is h = reads around kids ls pending (cc) (cc) h
-    indented_case reads around kids (Fenced fence opening ls) is h = let wrong = is in cc
-    indented_case reads around kids (OpenHtml kind ls) is h = let wrong = is in cc
-    indented_case reads around kids (OpenTable ls) is h = let wrong = is in cc
+    indented_case reads around kids leaf is h = let wrong = is in cc
 
 pub returns-in-Fenced-clause-read : goal.returns-in-Fenced-clause-read
 returns-in-Fenced-clause-read g c =
@@ -60,11 +54,8 @@ returns-in-Fenced-clause-read g c =
         → (around : List Level) (kids : Blocks) (leaf : OpenLeaf) → InFenced (fence_view c.in-Fenced.fence) c.in-Fenced.ending ≡ state_of leaf
         → HasRead c.args.self.now (spine around kids leaf)
         → HasRead c.close_fenced.new.self (spine around (join kids (close_leaf c.args.on.now leaf)) (Text []))
-    fenced_case reads around kids (Text ls) is h = let wrong = is in cc
-    fenced_case reads around kids (Indented ls pending) is h = let wrong = is in cc
     fenced_case reads around kids (Fenced fence opening ls) is h = reads around kids fence opening ls (cc) h
-    fenced_case reads around kids (OpenHtml kind ls) is h = let wrong = is in cc
-    fenced_case reads around kids (OpenTable ls) is h = let wrong = is in cc
+    fenced_case reads around kids leaf is h = let wrong = is in cc
 
 pub returns-in-Html-clause-read : goal.returns-in-Html-clause-read
 returns-in-Html-clause-read g c =
@@ -78,11 +69,8 @@ returns-in-Html-clause-read g c =
         → (around : List Level) (kids : Blocks) (leaf : OpenLeaf) → InHtml (number_of c.in-Html.kind) c.in-Html.ending ≡ state_of leaf
         → HasRead c.args.self.now (spine around kids leaf)
         → HasRead c.close_html.new.self (spine around (join kids (close_leaf c.args.on.now leaf)) (Text []))
-    html_case reads around kids (Text ls) is h = let wrong = is in cc
-    html_case reads around kids (Indented ls pending) is h = let wrong = is in cc
-    html_case reads around kids (Fenced fence opening ls) is h = let wrong = is in cc
     html_case reads around kids (OpenHtml kind ls) is h = reads around kids kind ls (cc) h
-    html_case reads around kids (OpenTable ls) is h = let wrong = is in cc
+    html_case reads around kids leaf is h = let wrong = is in cc
 
 pub returns-in-Table-clause-read : goal.returns-in-Table-clause-read
 returns-in-Table-clause-read g c =
@@ -95,8 +83,5 @@ returns-in-Table-clause-read g c =
         → HasRead c.close_table.new.self (spine around (join kids (close_leaf c.args.on.now (OpenTable ls))) (Text [])))
         → (around : List Level) (kids : Blocks) (leaf : OpenLeaf) → InTable c.in-Table.ending ≡ state_of leaf → HasRead c.args.self.now (spine around kids leaf)
         → HasRead c.close_table.new.self (spine around (join kids (close_leaf c.args.on.now leaf)) (Text []))
-    table_case reads around kids (Text ls) is h = let wrong = is in cc
-    table_case reads around kids (Indented ls pending) is h = let wrong = is in cc
-    table_case reads around kids (Fenced fence opening ls) is h = let wrong = is in cc
-    table_case reads around kids (OpenHtml kind ls) is h = let wrong = is in cc
     table_case reads around kids (OpenTable ls) is h = reads around kids ls (cc) h
+    table_case reads around kids leaf is h = let wrong = is in cc

@@ -55,6 +55,6 @@ returns g c =
     let all : count ≡ length ls = omega (arith, left, long, p.counted, p.pieces.ok.0, c.len.ensures) in
     subst (λ (t : Tree). HasRead c.end_leaf.new.self (spine_after around kids t))
     (sym (steps.fenced_end on e r f opening ls (sym c.is_fence_end.ensures ∙ c.if-not-is_fence_end.false)))
-    (reads (Fenced f opening ls) (Leaf (FencedCode f.info true ls)) (ap (λ x. Single (Leaf (FencedCode f.info true x)) ∷ []) (sym (take_all count ls (omega (arith, all)))))
-    refl around kids h))
+    (reads (Fenced f opening ls) (Leaf (FencedCode f.info true ls))
+    (ap (λ x. Single (Leaf (FencedCode f.info true x)) ∷ []) (sym (take_all count ls (omega (arith, all))))) refl around kids h))
     c.end_leaf.ensures.read

@@ -2,7 +2,7 @@ use Rattle.std.proofs.Common.{◌++◌, ◌∷◌, [], None, ◌∙◌, refl}
 use Rattle.std.proofs.lemmas.Result.{on_ok_weaker}
 use Rattle.block_rows.specs.declared.row.Row.TheVariants as row
 use Rattle.definition_text.specs.BlockLines.{spaced_line}
-use Rattle.definition_block.specs.Tree.{Heading}
+use Rattle.definition_block.specs.Tree.{Leaf, Heading}
 use Rattle.text_pieces.specs.Pieces.{piece_lines}
 use Rattle.block_parser.proofs.Leaves as leaves
 use Rattle.block_parser.proofs.parser.Parser.heading.Goals as goal
@@ -13,7 +13,7 @@ returns g c =
     let p = c.args.self.now in
     let pool = piece_lines p.pieces.items in
     let l = spaced_line c.args.atx.content.now None in
-    let block = Heading c.args.atx.rank (l ∷ []) in
+    let block = Leaf (Heading c.args.atx.rank (l ∷ [])) in
     let more = leaves.piece_pushed p.pieces.items _ c.push.new.self.items l c.in_ok-push.ensures.items c.whole_piece.ensures.line in
     let k = leaves.written_as p.rows.rows.items p.rows.rows.items p.rows.waiting.items p.rows.waiting.items p.rows.bare p.rows.bare (pool ++ l ∷ [])
     (piece_lines c.push.new.self.items) around kids (l ∷ []) (l ∷ [])

@@ -34,8 +34,8 @@ returns-then-html_ends_here g c =
     (ap (λ x. x ++ l ∷ []) (sym is)) (ap (InHtml kind) (sym last)) h in
     subst (λ (t : Tree). HasRead c.close_html.new.self (spine_after around kids t))
     (sym (cond-true (html_ends_here kind r) _ _ (sym c.html_ends_here.ensures ∙ c.if-html_ends_here.true)))
-    (subst (λ (x : Option LineEnding). HasRead c.close_html.new.self (spine around (join kids (block_and_ending (Leaf (Html (own_lines more))) x)) (Text []))) last
-    (reads no_constructs kind more (sym last) around kids k)))
+    (subst (λ (x : Option LineEnding). HasRead c.close_html.new.self (spine around (join kids (block_and_ending (Leaf (Html (own_lines more))) x)) (Text [])))
+    last (reads no_constructs kind more (sym last) around kids k)))
     c.close_html.ensures.read
 
 pub returns : goal.returns

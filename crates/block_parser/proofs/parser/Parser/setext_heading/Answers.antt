@@ -25,9 +25,9 @@ returns g c =
     let long = length-map p.pieces.items piece_line in
     let count = c.len.result - p.lines_in_rows in
     let all : count ≡ length left_lines = omega (arith, left, long, p.counted, p.pieces.ok.0, c.len.ensures) in
-    let heading = Heading c.args.rank (own_lines left_lines) in
+    let heading = Leaf (Heading c.args.rank (own_lines left_lines)) in
     subst (λ (bs : Blocks). HasRead c.end_leaf.new.self (spine around bs (Text [])))
     (join-assoc kids parts.definitions (block_and_ending heading c.args.ending))
-    (reads (Text left_lines) heading (ap (λ x. Single (Leaf (Heading c.args.rank (own_lines x))) ∷ []) (sym (take_all count left_lines (omega (arith, all))))) refl
-    around kids2 k))
+    (reads (Text left_lines) heading (ap (λ x. Single (Leaf (Heading c.args.rank (own_lines x))) ∷ []) (sym (take_all count left_lines (omega (arith, all)))))
+    refl around kids2 k))
     c.end_leaf.ensures.read

@@ -12,8 +12,8 @@ returns g c =
     let p = c.args.self.now in
     let pool = piece_lines p.pieces.items in
     record {
-      written = leaves.written_ended p.rows.rows.items p.rows.waiting.items p.rows.bare pool around kids [] h.written row.Break (Leaf Break) c.args.ending p.rows.none
-          refl refl
+      written = leaves.written_ended p.rows.rows.items p.rows.waiting.items p.rows.bare pool around kids [] h.written row.Break (Leaf Break) c.args.ending
+          p.rows.none refl refl
           c.ending.new.self.rows.items c.block.new.self.waiting.items c.ending.new.self.waiting.items c.ending.new.self.bare []
           (c.ending.ensures.rows ∙ c.in_ok-block.ensures.rows) c.in_ok-block.ensures.waiting waits (c.ending.ensures.bare ∙ c.in_ok-block.ensures.bare) refl;
       opened = h.opened;
