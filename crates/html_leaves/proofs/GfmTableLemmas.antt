@@ -15,26 +15,29 @@ use Rattle.markdown_options.specs.declared.beside.Kind.{Kind}
 use Rattle.markdown_options.specs.declared.beside.Kind.TheVariants.{Punctuation}
 use Rattle.markdown_options.specs.declared.align_kind.AlignKind.{AlignKind}
 use Rattle.definition_block.specs.GfmTable.{Cell, in_first_cell, is_bar, parts, without_blank_first, without_blank_last, line_cells}
+use Rattle.definition_block.specs.Tree.{Table}
 use Rattle.text_pieces.specs.ParagraphLines.{HaveNoEnding}
 use Rattle.text_pieces.specs.declared.piece.Piece.{Piece as LinePiece}
 use Rattle.text_pieces.specs.Pieces.{piece_line, piece_lines}
 use Rattle.definition_inline.specs.Inline.{Inlines, Nil}
-use Rattle.definition_page.specs.GfmTable.{line_aligns, align_attributes, cell_pieces, cells_pieces, row_pieces, ending_piece, body_row_pieces, head_pieces, body_pieces}
+use Rattle.definition_page.specs.GfmTable.{line_aligns, align_attributes, cell_pieces, cells_pieces, row_pieces, ending_piece, body_row_pieces}
+use Rattle.definition_page.specs.GfmTable.{head_pieces, body_pieces}
 use Rattle.definition_page.specs.InlinePieces.{element, inline_counts, inline_pieces}
 use Rattle.definition_page.specs.Pieces as page
-use Rattle.definition_page.specs.Read.{read_cell, read_row}
+use Rattle.definition_page.specs.Read.{on_page, read_cell, read_row}
 use Rattle.definition_page.specs.Tags.{bare_tag, tag, start_tag, end_tag}
 use Rattle.html_bytes.specs.Document.{Document, reading_of, document_meaning, structure_pieces, cell_counts}
 use Rattle.block_cells.specs.declared.gfm_table.Cell.{Cell as CellOf}
 use Rattle.block_cells.specs.GfmTable.{cell_view}
-use Rattle.html_bytes.specs.Html.{table_bytes}
+use Rattle.html_bytes.specs.Html.{leaf_bytes}
 use Rattle.html_bytes.specs.Pieces.{Piece, in_bytes}
 use Rattle.html_bytes.proofs.SameBlocks.{end_said}
 use Rattle.html_bytes.proofs.SameText.{laid_both}
 use Rattle.html_bytes.specs.Layout.{lay, with_text}
 use Rattle.html_bytes.specs.Layout.{LayoutState}
 use Rattle.html_leaves.specs.Prints.{with_bytes, with_fresh}
-use Rattle.html_leaves.specs.GfmTable.{cell_bytes, next_cell_bytes, cells_bytes, counts_bytes, row_bytes, rows_bytes, head_bytes, body_bytes, IsClearIf, CellsAreClear}
+use Rattle.html_leaves.specs.GfmTable.{cell_bytes, next_cell_bytes, cells_bytes, counts_bytes, row_bytes, rows_bytes, head_bytes, body_bytes}
+use Rattle.html_leaves.specs.GfmTable.{IsClearIf, CellsAreClear}
 use Rattle.html_looseness.specs.Printable.{AreClear}
 
 -- ---- cells without a line ending
@@ -146,7 +149,7 @@ module _ (default : List ℕ) (d : Document) (head delimiters : BlockLine) (ls :
 
   -- that of these lines, the first two by themselves
   table_own : (ls : List BlockLine)
-      → table_bytes d (own_lines (head ∷ delimiters ∷ ls))
+      → leaf_bytes d on_page false (Table (own_lines (head ∷ delimiters ∷ ls)))
       ≡ in_bytes (page.Fresh ∷ element (bare_tag (codes "table")) (((page.Fresh ∷ first) ++ more (own_lines ls)) ++ page.Fresh ∷ []))
   table_own [] = refl
   table_own (l ∷ ls) = refl
@@ -156,7 +159,7 @@ module _ (default : List ℕ) (d : Document) (head delimiters : BlockLine) (ls :
       → (let start = with_fresh default (with_bytes (codes "<table>") (with_fresh default out)) in
       with_bytes (codes "</table>") (with_fresh default (past default d (past default d start (head_bytes d columns head))
       (body_bytes d columns delimiters.ending (own_lines ls)))))
-      ≡ past default d out (table_bytes d (own_lines (head ∷ delimiters ∷ ls)))
+      ≡ past default d out (leaf_bytes d on_page false (Table (own_lines (head ∷ delimiters ∷ ls))))
   table_laid out =
       let opened = with_bytes (codes "<table>") (with_fresh default out) in
       ap (λ x. with_bytes (codes "</table>") (with_fresh default x)) (sym (laid_both d.options.compile default opened (page.Fresh ∷ first) (more (own_lines ls))))
