@@ -1,5 +1,6 @@
 #!/usr/bin/env python3
-"""Writes docs/CONSTRUCTS.md: for each construct its grammar and where it is defined, read, printed, proved and tested.
+"""Writes docs/CONSTRUCTS.md: for each construct its grammar and where it is defined, read, printed, proved and tested; and for each section of the
+standards the files of the definition that say at their heads that they are about it.
 
 usage: docs/constructs.py            writes the page
        docs/constructs.py --check    fails where the page is not what would be written
@@ -317,6 +318,44 @@ Not in the table, since it holds all of them: what a block prints is defined in 
 """
 
 
+# A section at a file's head, as `CommonMark 4, 5 and appendix, phase 1` or `GFM 6.5`; or none.
+SECTION = r"(?:[0-9.]*[0-9]|appendix(?:, phase [12])?)"
+CITED = re.compile(rf"(CommonMark|GFM) ({SECTION}(?:(?:, | and ){SECTION})*)|in (?:neither|no) standard|in neither CommonMark nor GFM")
+
+
+def sections_of(sentence):
+    """The sections that a sentence names, each as a standard and a number."""
+    for found in CITED.finditer(sentence):
+        if found[1] is None:
+            yield "none", ""
+        else:
+            yield from ((found[1], it) for it in re.findall(SECTION, found[2]))
+
+
+def section_order(section):
+    """CommonMark before GFM before neither; numbers in order, and then the appendix."""
+    standard, number = section
+    parts = [int(it) for it in number.split(".")] if re.fullmatch(r"[0-9.]+", number) else [99]
+    return ("CommonMark", "GFM", "none").index(standard), parts, number
+
+
+def sections():
+    """The table of the definition's files by section."""
+    rows = {}
+    for crate in ("definition_text", "definition_inline", "definition_block", "definition_page"):
+        for part, path in files_of(crate):
+            first = text_of(path).split("\n", 1)[0]
+            if part == "specs" and first.startswith("-- "):
+                for section in dict.fromkeys(sections_of(first)):
+                    rows.setdefault(section, []).append((crate, path))
+    lines = ["", "## By section of the standards", "", "The first line of each file of the definition says what it is about, and the section.", ""]
+    lines += ["| Section | Files |", "|---|---|"]
+    for section in sorted(rows, key=section_order):
+        files = ", ".join(f"[`{os.path.basename(path)}`](../{path})" for _, path in rows[section])
+        lines.append(f"| {'in neither' if section[0] == 'none' else ' '.join(section)} | {files} |")
+    return lines
+
+
 def is_read(name, found):
     """Whether a construct has a reader, or needs none."""
     return (name, "Reader") in found or (name, "Reader") in WITHOUT
@@ -340,6 +379,7 @@ def page():
     absent = [f"`{it}`" for it in names if not is_read(it, found)]
     if absent:
         lines += ["", f"Not read so far: {', '.join(absent)}."]
+    lines += sections()
     return "\n".join(lines) + "\n", gaps
 
 

@@ -12,11 +12,12 @@ Files are those of git that end in `.rt` or `.antt`, in `crates/`. Counts by gro
                                  two thirds of the constructors of InlineLeaf or more
   by cases over spans            those in which clauses of one function take two or more of SpanKind's
   by cases over the four kinds   those in which clauses of one function take Leaf, Span, Linked and Call
-  by cases over blocks           those in which clauses of one function take two thirds of the constructors of a block or more
+  by cases over blocks           those in which clauses of one function take two thirds of the constructors of LeafBlock or of PageLeaf or more
+  by cases over the five kinds   those in which clauses of one function take four or more of Leaf, Holds, a list, Ending and Blank
   names with two types           names that specifications of definition_page and of html_bytes both have, with different types
   lines                          of all files in `src`, `specs` and `proofs`
 
-Before the inline tree had four kinds of parts, `Inline` had these leaves and spans as constructors of its own: the counts by cases are the same there.
+Before the trees had kinds of parts, `Inline` and `Block` had these leaves and spans as constructors of their own: the counts by cases are the same there.
 """
 import collections
 import re
@@ -32,8 +33,9 @@ MACHINES = ("engine_", "state_", "markdown_engine")
 LEAF = "Data Escape Character Code Math Autolink Literal Html EscapedBreak TrailingBreak LineEnd TaskCheck".split()
 SPAN = "Emphasis Strong Strikethrough Mark".split()
 PART = "Leaf Span Linked Call".split()
-BLOCK = "Paragraph Heading Break IndentedCode FencedCode Html Table Definition Holds Items Ending Blank".split()
-CASES = (("leaves", LEAF, 8), ("spans", SPAN, 2), ("the four kinds of inline parts", PART, 4), ("blocks", BLOCK, 8))
+BLOCK = "Paragraph Heading Break IndentedCode FencedCode Html Table Definition".split()
+CHILD = "Leaf Holds Items ItemList Ending Blank".split()
+CASES = (("leaves", LEAF, 8), ("spans", SPAN, 2), ("the four kinds of inline parts", PART, 4), ("blocks", BLOCK, 6), ("the five kinds of blocks", CHILD, 4))
 # Groups in which no case counts: their names, such as those of events, are others.
 APART = ("tests and examples", "machines", "event")
 # The leaf, not std's module.

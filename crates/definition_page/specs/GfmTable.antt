@@ -1,10 +1,10 @@
 -- Tables of a page, and what they print (GFM 4.10).
-use Rattle.std.specs.Prelude.{ℕ, Bool, if◌then◌else◌, ◌==◌, ◌&&◌, List, [], ◌∷◌, ◌++◌, Option, None, codes, drop, slice_index, slice_index_or, unwrap_or}
+use Rattle.std.specs.Prelude.{ℕ, Bool, if◌then◌else◌, ◌==◌, ◌&&◌, List, [], ◌∷◌, ◌++◌, None, codes, drop, map, slice_index, slice_index_or, unwrap_or}
 use Rattle.std.specs.List.{flat_map}
+use Rattle.markdown_options.specs.LineEndings.{ending_bytes}
 use Rattle.markdown_options.specs.declared.line_ending.LineEnding.{LineEnding}
 use Rattle.definition_text.specs.Ascii.{backslash, vertical_bar}
 use Rattle.definition_text.specs.BlockLines.{BlockLine, spaced_line}
-use Rattle.definition_text.specs.Lines.{ending_text}
 use Rattle.definition_inline.specs.Inline.{InlineLeaf, Code, Math, Inline, Leaf, Span, Linked, Call, Inlines, Nil, Cons}
 use Rattle.markdown_options.specs.declared.align_kind.AlignKind.{AlignKind}
 use Rattle.markdown_options.specs.declared.align_kind.AlignKind.TheVariants as align
@@ -13,16 +13,16 @@ use Rattle.definition_page.specs.Tags.{Words, Attribute, attribute, tag, bare_ta
 use Rattle.definition_page.specs.Pieces.{Piece, Says, Fresh}
 use Rattle.definition_page.specs.InlinePieces.{Meaning, element, inline_counts, inline_pieces}
 
--- a row: its cells, and the ending of its line
+-- a row: its cells, and the endings after it: that of its line, or none after the last row
 pub record TableRow : Type 0 where
   pub cells : List Inlines
-  pub ending : Option LineEnding
+  pub endings : List LineEnding
 
--- a table: how its columns are aligned, its head, the ending of its row of delimiters, and the rows of its body
+-- a table: how its columns are aligned, its head, the endings after its row of delimiters, and the rows of its body
 pub record Table : Type 0 where
   pub aligns : List AlignKind
   pub head : TableRow
-  pub ending : Option LineEnding
+  pub endings : List LineEnding
   pub rows : List TableRow
 
 -- ---- the lines of a table: the head, the row of delimiters, and the rows of the body
@@ -94,24 +94,27 @@ cells_pieces m name (align ∷ aligns) (c ∷ cs) = cell_pieces m name align c +
 abbrev pub row_pieces : Meaning → List ℕ → List AlignKind → TableRow → List Piece
 row_pieces m name aligns row = Fresh ∷ element (bare_tag (codes "tr")) (cells_pieces m name aligns row.cells ++ Fresh ∷ [])
 
--- an ending as it is, if there is one
-abbrev pub ending_piece : Option LineEnding → Piece
-ending_piece ending = Says (Words (ending_text ending))
+-- an ending as it is
+abbrev pub ending_piece : LineEnding → Piece
+ending_piece ending = Says (Words (ending_bytes ending))
 
--- a row of the body, with its ending
+abbrev pub endings_pieces : List LineEnding → List Piece
+endings_pieces endings = map ending_piece endings
+
+-- a row of the body, with its endings
 abbrev pub body_row_pieces : Meaning → List AlignKind → TableRow → List Piece
-body_row_pieces m aligns row = row_pieces m (codes "td") aligns row ++ ending_piece row.ending ∷ []
+body_row_pieces m aligns row = row_pieces m (codes "td") aligns row ++ endings_pieces row.endings
 
--- the head, with its ending
+-- the head, with its endings
 abbrev pub head_pieces : Meaning → List AlignKind → TableRow → List Piece
-head_pieces m aligns head = element (bare_tag (codes "thead")) (row_pieces m (codes "th") aligns head ++ ending_piece head.ending ∷ Fresh ∷ [])
+head_pieces m aligns head = element (bare_tag (codes "thead")) (row_pieces m (codes "th") aligns head ++ endings_pieces head.endings ++ Fresh ∷ [])
 
--- the body, if there is one, after the ending of the row of delimiters
-abbrev pub body_pieces : Meaning → List AlignKind → Option LineEnding → List TableRow → List Piece
-body_pieces m aligns ending [] = []
-body_pieces m aligns ending (row ∷ rows) =
-    ending_piece ending ∷ element (bare_tag (codes "tbody")) (flat_map (body_row_pieces m aligns) (row ∷ rows) ++ Fresh ∷ [])
+-- the body, if there is one, after the endings of the row of delimiters
+abbrev pub body_pieces : Meaning → List AlignKind → List LineEnding → List TableRow → List Piece
+body_pieces m aligns endings [] = []
+body_pieces m aligns endings (row ∷ rows) =
+    endings_pieces endings ++ element (bare_tag (codes "tbody")) (flat_map (body_row_pieces m aligns) (row ∷ rows) ++ Fresh ∷ [])
 
 abbrev pub table_pieces : Meaning → Table → List Piece
 table_pieces m t =
-    Fresh ∷ element (bare_tag (codes "table")) (Fresh ∷ head_pieces m t.aligns t.head ++ body_pieces m t.aligns t.ending t.rows ++ Fresh ∷ [])
+    Fresh ∷ element (bare_tag (codes "table")) (Fresh ∷ head_pieces m t.aligns t.head ++ body_pieces m t.aligns t.endings t.rows ++ Fresh ∷ [])

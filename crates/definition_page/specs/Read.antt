@@ -1,6 +1,7 @@
 -- From the lines of a text to a page (CommonMark appendix).
 use Rattle.std.specs.Prelude.{ℕ, Bool, true, false, if◌then◌else◌, not, ◌&&◌, ◌||◌, List, [], ◌∷◌, Option, None, Some, drop, map}
 use Rattle.markdown_options.specs.declared.configuration.ParseOptions.{ParseOptions}
+use Rattle.markdown_options.specs.declared.line_ending.LineEnding.{LineEnding}
 use Rattle.markdown_options.specs.declared.beside.Kind.{Kind}
 use Rattle.markdown_options.specs.declared.beside.Kind.TheVariants.{Whitespace}
 use Rattle.definition_text.specs.BlockLines.{BlockLine, own_lines}
@@ -79,9 +80,14 @@ abbrev pub read_cell : Reading → Cell → Inlines
 read_cell r c =
     in_cell (inlines (context_of r) (with_kinds r.tables.is_punctuation None c.before c.after (map code_byte c.codes)))
 
+-- the ending of a line, if it has one
+abbrev pub ending_list : Option LineEnding → List LineEnding
+ending_list None = []
+ending_list (Some ending) = ending ∷ []
+
 -- a row of a table (GFM 4.10)
 abbrev pub read_row : Reading → BlockLine → TableRow
-read_row r line = record { cells = map (read_cell r) (line_cells line); ending = line.ending }
+read_row r line = record { cells = map (read_cell r) (line_cells line); endings = ending_list line.ending }
 
 -- a table of its lines (GFM 4.10)
 abbrev pub read_table : Reading → List BlockLine → Table
@@ -89,7 +95,7 @@ read_table r ls =
     record {
       aligns = line_aligns (delimiter_line ls);
       head = read_row r (head_line ls);
-      ending = (delimiter_line ls).ending;
+      endings = ending_list (delimiter_line ls).ending;
       rows = map (read_row r) (body_lines ls);
     }
 

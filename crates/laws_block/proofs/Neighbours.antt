@@ -1,7 +1,7 @@
 -- Which items are in one list.
 use Rattle.std.proofs.Common.{◌≡◌, ◌≢◌, ℕ, true, false, cond, ◌&&◌, eqb, refl, sym, ap, ◌∙◌, inl, inr}
 use Rattle.std.proofs.lemmas.Bool.{cases_Bool, cond-true, cond-false, and_parts, eqb-false, eq-eqb, ne_eqb, false≢true}
-use Rattle.definition_block.specs.Container.{Quote, Item, Footnote}
+use Rattle.definition_block.specs.Container.{Quote, Item}
 use Rattle.definition_block.specs.Tree.{Block, Holds, Items, Ending, Blank, Blocks, Nil, Cons, join, one, is_ending, all_endings}
 use Rattle.definition_block.specs.Lists.{endings_of, after_endings, item_marker, list_marker, list_items, rest_of, before_list, put_before, grouped_block}
 use Rattle.definition_block.specs.Lists.{group_items}
@@ -119,8 +119,6 @@ other_no_item b p = refl
 
 other_grouped : (b : Block) → is_other b ≡ true → is_other (grouped_block b) ≡ true
 other_grouped (Holds Quote kids) p = p
-other_grouped (Holds (Item item) kids) p = p
-other_grouped (Holds (Footnote label) kids) p = p
 other_grouped b p = p
 
 other_no_list : (b : Block) (bs : Blocks) → is_other b ≡ true → list_marker (Cons b bs) ≡ 0

@@ -1,7 +1,7 @@
 -- How the rows of blocks are nested.
 use Rattle.std.proofs.Common.{◌≡◌, ℕ, suc, List, [], ◌∷◌, ◌++◌, sym, refl, ap, ◌∙◌, append_assoc}
 use Rattle.std.proofs.lemmas.List.{append-nil}
-use Rattle.definition_block.specs.Container.{Container, Quote, Item, Footnote}
+use Rattle.definition_block.specs.Container.{Container, Quote}
 use Rattle.definition_block.specs.Tree.{Block, Holds, Items, Blocks, Nil, Cons, blocks}
 use Rattle.block_rows.specs.Rows.{BlockRow, Exit, start_row, block_rows, rows_of}
 use Rattle.laws_block.specs.Nested.{depth_after, RowsAreNested, RowsOfTextAreNested}
@@ -13,8 +13,7 @@ LeavesDepth rows = (depth : ℕ) (others : List BlockRow) → depth_after depth 
 -- a container's start adds one
 enters : (c : Container) (depth : ℕ) (rows : List BlockRow) → depth_after depth (start_row c ∷ rows) ≡ depth_after (suc depth) rows
 enters Quote depth rows = refl
-enters (Item item) depth rows = refl
-enters (Footnote label) depth rows = refl
+enters c depth rows = refl
 
 mutual
   block_leaves : (b : Block) → LeavesDepth (block_rows b)

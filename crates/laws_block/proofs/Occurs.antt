@@ -39,15 +39,15 @@ use Rattle.definition_text.specs.Content.{Part, content_of}
 use Rattle.definition_block.specs.Definitions.{lines_before, DefinitionCut, cut_into, cut_after, cut_most, definition_cut}
 use Rattle.definition_text.specs.BlockLines.{own_lines, BlockLine}
 use Rattle.definition_block.specs.Tree.{one, empty_tree, nothing, tree, blanks, paragraph_of, close_leaf, is_ending, all_endings, front}
-use Rattle.definition_block.specs.Tree.{trailing, without_last, last_of, container_block, close, has_text, has_table, is_some_line, table_of, tabled, makes_table}
-use Rattle.definition_block.specs.Tree.{leaf_with_line, with_line, rest_line, indented_takes, fenced_takes, html_with, html_takes, takes, fence_tree}
-use Rattle.definition_block.specs.Tree.{html_tree, atx_tree, after, text_line_of, text_here, heading_of, underlined}
+use Rattle.definition_block.specs.Tree.{trailing, without_last, last_of, container_block, close, has_text, has_table, is_some_line, table_of, tabled}
+use Rattle.definition_block.specs.Tree.{makes_table, leaf_with_line, with_line, rest_line, indented_takes, fenced_takes, html_with, html_takes, takes}
+use Rattle.definition_block.specs.Tree.{fence_tree, html_tree, atx_tree, after, text_line_of, text_here, heading_of, underlined}
 use Rattle.definition_block.proofs.LeafLines.{where_leaf_line, where_unwrapped}
 use Rattle.std.specs.Option.{option_and_then}
-use Rattle.definition_block.specs.Tree.{leaf_line, beside_in, start, new, began_blank, goes_on, grow, beside_line, step, steps, blocks_at_end, children}
-use Rattle.definition_block.specs.Tree.{children_after, Block, Leaf, Paragraph, Heading, Break, IndentedCode, FencedCode, Html, Table, Definition, Holds, Items}
-use Rattle.definition_block.specs.Tree.{Ending, Blank, Blocks, Nil, Cons, join, blocks, OpenLeaf, Text, Indented, Fenced, OpenHtml, OpenTable, Opening, At}
-use Rattle.definition_block.specs.Tree.{Inside, Tree as BlockTree}
+use Rattle.definition_block.specs.Tree.{leaf_line, beside_in, start, new, began_blank, goes_on, grow, beside_line, step, steps, children}
+use Rattle.definition_block.specs.Tree.{children_after, LeafBlock, Paragraph, Heading, Break, IndentedCode, FencedCode, Html, Table, Definition}
+use Rattle.definition_block.specs.Tree.{Block, Leaf, Holds, Items, Ending, Blank, Blocks, Nil, Cons, join, blocks, OpenLeaf, Text, Indented, Fenced}
+use Rattle.definition_block.specs.Tree.{OpenHtml, OpenTable, Opening, At, Inside, Tree as BlockTree}
 use Rattle.definition_block.specs.Lists.{put_before, grouped_block, group_items}
 use Rattle.laws_block.specs.ItemMarkers.{is_item_marker, is_unmarked, ItemsAreMarked}
 use Rattle.laws_block.specs.Occurs.{block_has, has, is_word, is_math, NoMath, NoFrontmatter, is_quote, is_list_item, is_footnote_definition, is_indented_code}
@@ -70,17 +70,21 @@ ContainerMayStand on (Footnote label) = on.gfm_footnote_definition ≡ true
 abbrev pub InfoMayStand : Constructs → List ℕ → Type 0
 InfoMayStand on info = ((on.code_fenced ≡ true) × (is_word info ≡ true)) ⊎ ((on.math_flow ≡ true) × (is_word info ≡ false))
 
+-- the construct of a leaf is on
+abbrev pub LeafBlockMayStand : Constructs → LeafBlock → Type 0
+LeafBlockMayStand on (Paragraph ls) = Unit {0}
+LeafBlockMayStand on (Heading rank ls) = HeadingMayStand on rank ls
+LeafBlockMayStand on Break = on.thematic_break ≡ true
+LeafBlockMayStand on (IndentedCode ls) = on.code_indented ≡ true
+LeafBlockMayStand on (FencedCode info is_closed ls) = InfoMayStand on info
+LeafBlockMayStand on (Html ls) = on.html_flow ≡ true
+LeafBlockMayStand on (Table ls) = on.gfm_table ≡ true
+LeafBlockMayStand on (Definition label destination title) = on.definition ≡ true
+
 -- the construct of each block is on, at any depth, and items aren't in lists yet
 abbrev mutual
   pub BlockMayStand : Constructs → Block → Type 0
-  BlockMayStand on (Leaf (Paragraph ls)) = Unit {0}
-  BlockMayStand on (Leaf (Heading rank ls)) = HeadingMayStand on rank ls
-  BlockMayStand on (Leaf Break) = on.thematic_break ≡ true
-  BlockMayStand on (Leaf (IndentedCode ls)) = on.code_indented ≡ true
-  BlockMayStand on (Leaf (FencedCode info blocks_at_end ls)) = InfoMayStand on info
-  BlockMayStand on (Leaf (Html ls)) = on.html_flow ≡ true
-  BlockMayStand on (Leaf (Table ls)) = on.gfm_table ≡ true
-  BlockMayStand on (Leaf (Definition label destination title)) = on.definition ≡ true
+  BlockMayStand on (Leaf leaf) = LeafBlockMayStand on leaf
   BlockMayStand on (Holds c kids) = ContainerMayStand on c × MayStand on kids
   BlockMayStand on (Items items) = ⊥
   BlockMayStand on (Ending ending) = Unit {0}
@@ -179,8 +183,7 @@ module _ (on : Constructs) where
 
   may_hold : (c : Container) (kids : Blocks) → ContainerMayStand on c → MayStand on kids → MayStand on (container_block c kids)
   may_hold Quote kids h p = ((h, may_without_last kids p), may_last kids p)
-  may_hold (Item item) kids h p = ((h, may_front kids p), may_trail kids p)
-  may_hold (Footnote label) kids h p = ((h, may_front kids p), may_trail kids p)
+  may_hold c kids h p = ((h, may_front kids p), may_trail kids p)
 
   -- ---- closing
 
@@ -209,9 +212,7 @@ module _ (on : Constructs) where
   may_close_leaf (Text ls) p =
       may-join (definition_cut on ls).definitions (paragraph_of (definition_cut on ls).left) (may_cut ls) (may_paragraph (definition_cut on ls).left)
   may_close_leaf (Indented ls pending) p = (p, (tt, may_blanks pending))
-  may_close_leaf (Fenced fence ending ls) p = (p, (tt, tt))
-  may_close_leaf (OpenHtml kind ls) p = (p, (tt, tt))
-  may_close_leaf (OpenTable ls) p = (p, (tt, tt))
+  may_close_leaf leaf p = (p, (tt, tt))
 
   may_close : (now : Opening) → OpeningMayStand on now → MayStand on (close on now)
   may_close (At leaf) p = may_close_leaf leaf p
@@ -289,10 +290,7 @@ module _ (on : Constructs) where
 
   may_leaf_with_line : (line : BlockLine) (leaf : OpenLeaf) → LeafMayStand on leaf → LeafMayStand on (leaf_with_line line leaf)
   may_leaf_with_line line (Text ls) p = tt
-  may_leaf_with_line line (Indented ls pending) p = p
-  may_leaf_with_line line (Fenced fence ending ls) p = p
-  may_leaf_with_line line (OpenHtml kind ls) p = p
-  may_leaf_with_line line (OpenTable ls) p = p
+  may_leaf_with_line line leaf p = p
 
   may_with_line : (line : BlockLine) (now : Opening) → OpeningMayStand on now → OpeningMayStand on (with_line line now)
   may_with_line line (At leaf) p = may_leaf_with_line line leaf p
@@ -486,11 +484,11 @@ not_indented on off (Leaf (IndentedCode ls)) p = absurd (both_ways on.code_inden
 not_indented on off b p = refl
 
 not_fenced : (on : Constructs) → on.code_fenced ≡ false → (b : Block) → BlockMayStand on b → is_fenced_code b ≡ false
-not_fenced on off (Leaf (FencedCode info blocks_at_end ls)) p = elim p [ inl h ↦ absurd (both_ways on.code_fenced off h.0) | inr h ↦ h.1 ]
+not_fenced on off (Leaf (FencedCode info is_closed ls)) p = elim p [ inl h ↦ absurd (both_ways on.code_fenced off h.0) | inr h ↦ h.1 ]
 not_fenced on off b p = refl
 
 not_math : (on : Constructs) → on.math_flow ≡ false → (b : Block) → BlockMayStand on b → is_math b ≡ false
-not_math on off (Leaf (FencedCode info blocks_at_end ls)) p = elim p [ inl h ↦ ap not h.1 | inr h ↦ absurd (both_ways on.math_flow off h.0) ]
+not_math on off (Leaf (FencedCode info is_closed ls)) p = elim p [ inl h ↦ ap not h.1 | inr h ↦ absurd (both_ways on.math_flow off h.0) ]
 not_math on off b p = refl
 
 not_html : (on : Constructs) → on.html_flow ≡ false → (b : Block) → BlockMayStand on b → is_html b ≡ false

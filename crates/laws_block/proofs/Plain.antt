@@ -3,9 +3,10 @@ use Rattle.std.proofs.Common.{◌≡◌, false, not, refl, inl, inr}
 use Rattle.std.proofs.lemmas.Bool.{or_parts, both_ways}
 use Rattle.markdown_options.specs.declared.configuration.Constructs.{Constructs}
 use Rattle.definition_block.specs.Container.{Quote, Item, Footnote}
-use Rattle.definition_block.specs.Tree.{Block, Leaf, Paragraph, Heading, Break, IndentedCode, FencedCode, Html, Table, Definition, Holds, Items, Ending, Blank}
+use Rattle.definition_block.specs.Tree.{LeafBlock, Paragraph, Heading, Break, IndentedCode, FencedCode, Html, Table, Definition, Block, Leaf, Holds, Items}
+use Rattle.definition_block.specs.Tree.{Ending, Blank}
 use Rattle.laws_block.specs.Plain.{has_blocks, is_plain, OnlyPlain}
-use Rattle.laws_block.proofs.Occurs.{BlockMayStand, never}
+use Rattle.laws_block.proofs.Occurs.{LeafBlockMayStand, BlockMayStand, never}
 
 -- each of the constructs is off
 record AreOff (on : Constructs) : Type 0 where
@@ -50,17 +51,20 @@ are_off on off =
       gfm_footnote_definition = to_footnote.1;
     }
 
-plain : (on : Constructs) → AreOff on → (b : Block) → BlockMayStand on b → not (is_plain b) ≡ false
-plain on off (Leaf (Paragraph ls)) p = refl
-plain on off (Leaf (Heading rank ls)) p =
+plain_leaf : (on : Constructs) → AreOff on → (leaf : LeafBlock) → LeafBlockMayStand on leaf → not (is_plain (Leaf leaf)) ≡ false
+plain_leaf on off (Paragraph ls) p = refl
+plain_leaf on off (Heading rank ls) p =
     elim p [ inl h ↦ absurd (both_ways on.heading_atx off.heading_atx h.0) | inr h ↦ absurd (both_ways on.heading_setext off.heading_setext h.0) ]
-plain on off (Leaf Break) p = absurd (both_ways on.thematic_break off.thematic_break p)
-plain on off (Leaf (IndentedCode ls)) p = absurd (both_ways on.code_indented off.code_indented p)
-plain on off (Leaf (FencedCode info closed ls)) p =
+plain_leaf on off Break p = absurd (both_ways on.thematic_break off.thematic_break p)
+plain_leaf on off (IndentedCode ls) p = absurd (both_ways on.code_indented off.code_indented p)
+plain_leaf on off (FencedCode info is_closed ls) p =
     elim p [ inl h ↦ absurd (both_ways on.code_fenced off.code_fenced h.0) | inr h ↦ absurd (both_ways on.math_flow off.math_flow h.0) ]
-plain on off (Leaf (Html ls)) p = absurd (both_ways on.html_flow off.html_flow p)
-plain on off (Leaf (Table ls)) p = absurd (both_ways on.gfm_table off.gfm_table p)
-plain on off (Leaf (Definition label destination title)) p = absurd (both_ways on.definition off.definition p)
+plain_leaf on off (Html ls) p = absurd (both_ways on.html_flow off.html_flow p)
+plain_leaf on off (Table ls) p = absurd (both_ways on.gfm_table off.gfm_table p)
+plain_leaf on off (Definition label destination title) p = absurd (both_ways on.definition off.definition p)
+
+plain : (on : Constructs) → AreOff on → (b : Block) → BlockMayStand on b → not (is_plain b) ≡ false
+plain on off (Leaf leaf) p = plain_leaf on off leaf p
 plain on off (Holds Quote kids) p = absurd (both_ways on.block_quote off.block_quote p.0)
 plain on off (Holds (Item item) kids) p = absurd (both_ways on.list_item off.list_item p.0.0)
 plain on off (Holds (Footnote label) kids) p = absurd (both_ways on.gfm_footnote_definition off.gfm_footnote_definition p.0)

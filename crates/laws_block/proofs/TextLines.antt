@@ -16,7 +16,7 @@ use Rattle.definition_text.specs.Indents.{outdent, small_indent}
 use Rattle.definition_text.specs.Lines.{TextLine, lines}
 use Rattle.definition_text.specs.Runs.{run, after_run, is_run}
 use Rattle.definition_inline.specs.Definition.{Definition as LinkDefinition, definition_at}
-use Rattle.definition_block.specs.Container.{Container, Quote, Item, Footnote}
+use Rattle.definition_block.specs.Container.{Container, Quote}
 use Rattle.definition_block.specs.ContainerLine.{ContainerLine}
 use Rattle.definition_block.specs.ContainerStart.{ContainerStart}
 use Rattle.definition_block.specs.Containers.{continues, starts}
@@ -90,8 +90,7 @@ module _ (on : Constructs) where
   hold_on : (c : Container) (kids : Blocks) (a b : ℕ) → AreOn on kids a b → AreOn on (container_block c kids) a b
   hold_on Quote kids a b p =
       split_on (without_last kids) (last_of kids) a b (subst (λ x. AreOn on x a b) (sym (join-without_last kids)) p)
-  hold_on (Item item) kids a b p = split_on (front kids) (trailing kids) a b (subst (λ x. AreOn on x a b) (sym (join-front kids)) p)
-  hold_on (Footnote label) kids a b p = split_on (front kids) (trailing kids) a b (subst (λ x. AreOn on x a b) (sym (join-front kids)) p)
+  hold_on c kids a b p = split_on (front kids) (trailing kids) a b (subst (λ x. AreOn on x a b) (sym (join-front kids)) p)
 
   blanks_on : (ls : List BlockLine) (a b : ℕ) → b ≡ a + length ls → AreOn on (blanks ls) a b
   blanks_on [] a b e = omega (arith, e)
@@ -101,7 +100,8 @@ module _ (on : Constructs) where
   paragraph_on [] a b e = omega (arith, e)
   paragraph_on (line ∷ others) a b e =
       let own = length-own (line ∷ others) in
-      ended_on (Leaf (Paragraph (own_lines (line ∷ others)))) (last_ending (line ∷ others)) a (a + (length (own_lines (line ∷ others)) - 1)) b refl (omega (arith, e, own))
+      let last : ℕ = a + (length (own_lines (line ∷ others)) - 1) in
+      ended_on (Leaf (Paragraph (own_lines (line ∷ others)))) (last_ending (line ∷ others)) a last b refl (omega (arith, e, own))
 
   -- what is cut from a paragraph, and what is left of it
   abbrev CutOn : DefinitionCut → ℕ → ℕ → Type 0
@@ -190,9 +190,10 @@ module _ (on : Constructs) where
       let more = ls ++ rest_line rest beside ∷ [] in
       let n : length more ≡ suc (length ls) = more_lines ls (rest_line rest beside) in
       let own = length-own more in
+      let last : ℕ = a + (length (own_lines more) - 1) in
       cond_both (html_ends_here kind rest) (tree (block_and_ending (Leaf (Html (own_lines more))) beside.ending) nothing)
       (tree Nil (At (OpenHtml kind more))) (λ (t : BlockTree). TreeOn t a (suc b))
-      (λ _. (suc b, ended_on (Leaf (Html (own_lines more))) beside.ending a (a + (length (own_lines more) - 1)) (suc b) refl (omega (arith, e, n, own)), omega arith))
+      (λ _. (suc b, ended_on (Leaf (Html (own_lines more))) beside.ending a last (suc b) refl (omega (arith, e, n, own)), omega arith))
       (λ _. (a, refl, (omega (arith, n), omega (arith, e, n))))
 
   takes_on : (leaf : OpenLeaf) (rest : Rest) (beside : Beside) (a b : ℕ) → LeafOn leaf a b → SomeOn a (suc b) (takes on leaf rest beside)
@@ -263,10 +264,8 @@ module _ (on : Constructs) where
   has_more : (line : BlockLine) (now : Opening) (a b : ℕ) → (has_text now || has_table now) ≡ true → OpeningOn now a b
       → OpeningOn (with_line line now) a (suc b)
   has_more line (At (Text ls)) a b h p = let n = more_lines ls line in omega (arith, p, n)
-  has_more line (At (Indented ls pending)) a b h p = absurd (false≢true h)
-  has_more line (At (Fenced fence ending ls)) a b h p = absurd (false≢true h)
-  has_more line (At (OpenHtml kind ls)) a b h p = absurd (false≢true h)
   has_more line (At (OpenTable ls)) a b h p = let n = more_lines ls line in let e = p.1 in (omega (arith, n), omega (arith, e, n))
+  has_more line (At leaf) a b h p = absurd (false≢true h)
   has_more line (Inside c kids inner) a b h p = (p.0, p.1, has_more line inner p.0 b (ap (λ x. x || has_table inner) (or_nothing (has_text inner) h)) p.2)
 
   text_line_on : (away : Opening) (rest : Rest) (beside : Beside) (a b : ℕ) → AreLines (open_text away) → OpeningOn away a b
@@ -283,7 +282,7 @@ module _ (on : Constructs) where
   heading_on rank definitions [] ending a m b h p e = tt
   heading_on rank definitions (line ∷ others) ending a m b h p e =
       let own = length-own (line ∷ others) in
-      let heading = Heading rank (own_lines (line ∷ others)) in
+      let heading = Leaf (Heading rank (own_lines (line ∷ others))) in
       let here : IsOn on heading m b = inr (h.0, h.1, omega (arith, own), omega (arith, own, e)) in
       (suc b, join_on definitions (block_and_ending heading ending) a m (suc b) p (ended_on heading ending m b (suc b) here refl), omega arith)
 
@@ -304,11 +303,7 @@ module _ (on : Constructs) where
   turns_on : (away : Opening) (rest : Rest) (ending : Option LineEnding) (a b : ℕ) → AreLines (open_text away) → OpeningOn away a b
       → SomeOn a (suc b) (turns on away rest ending)
   turns_on (At (Text ls)) rest ending a b h p = underlined_on (underline on rest) ls ending a b (underline_read rest) h p
-  turns_on (At (Indented ls pending)) rest ending a b h p = no_heading (underline on rest) ending a (suc b)
-  turns_on (At (Fenced fence opening ls)) rest ending a b h p = no_heading (underline on rest) ending a (suc b)
-  turns_on (At (OpenHtml kind ls)) rest ending a b h p = no_heading (underline on rest) ending a (suc b)
-  turns_on (At (OpenTable ls)) rest ending a b h p = no_heading (underline on rest) ending a (suc b)
-  turns_on (Inside c kids inner) rest ending a b h p = no_heading (underline on rest) ending a (suc b)
+  turns_on away rest ending a b h p = no_heading (underline on rest) ending a (suc b)
 
   -- a row of delimiters makes a table of its last line
   table_of_on : (definitions : Blocks) (ls : List BlockLine) (row : BlockLine) (a m b : ℕ) → AreOn on definitions a m → b ≡ m + length ls
@@ -336,17 +331,14 @@ module _ (on : Constructs) where
   no_table None row a b = tt
   no_table (Some columns) row a b =
       cond_both on.definition (cut_most 0 []) (cut_into Nil [])
-      (λ (parts : DefinitionCut). SomeOn a b (cond (is_some_line parts.left && is_head (length columns) []) (Some (table_of parts.definitions parts.left row)) None))
+      (λ (parts : DefinitionCut).
+      SomeOn a b (cond (is_some_line parts.left && is_head (length columns) []) (Some (table_of parts.definitions parts.left row)) None))
       (λ _. tt) (λ _. tt)
 
   makes_table_on : (away : Opening) (rest : Rest) (beside : Beside) (a b : ℕ) → AreLines (open_text away) → OpeningOn away a b
       → SomeOn a (suc b) (makes_table on away rest beside)
   makes_table_on (At (Text ls)) rest beside a b h p = table_on (delimiter_row on rest) ls (rest_line rest beside) a b h p
-  makes_table_on (At (Indented ls pending)) rest beside a b h p = no_table (delimiter_row on rest) (rest_line rest beside) a (suc b)
-  makes_table_on (At (Fenced fence opening ls)) rest beside a b h p = no_table (delimiter_row on rest) (rest_line rest beside) a (suc b)
-  makes_table_on (At (OpenHtml kind ls)) rest beside a b h p = no_table (delimiter_row on rest) (rest_line rest beside) a (suc b)
-  makes_table_on (At (OpenTable ls)) rest beside a b h p = no_table (delimiter_row on rest) (rest_line rest beside) a (suc b)
-  makes_table_on (Inside c kids inner) rest beside a b h p = no_table (delimiter_row on rest) (rest_line rest beside) a (suc b)
+  makes_table_on away rest beside a b h p = no_table (delimiter_row on rest) (rest_line rest beside) a (suc b)
 
   leaf_line_on : (away : Opening) (rest : Rest) (beside : Beside) (a b : ℕ) → AreLines (open_text away) → OpeningOn away a b
       → TreeOn (leaf_line on away rest beside) a (suc b)
@@ -390,7 +382,8 @@ module _ (on : Constructs) where
 
   -- ---- the lines of a text
 
-  grow_on : (beside : Beside) (now : Opening) (rest : Rest) (a b : ℕ) → AreLines (open_text now) → OpeningOn now a b → TreeOn (grow on beside now rest) a (suc b)
+  grow_on : (beside : Beside) (now : Opening) (rest : Rest) (a b : ℕ) → AreLines (open_text now) → OpeningOn now a b
+      → TreeOn (grow on beside now rest) a (suc b)
   grow_on beside (At leaf) rest a b h p =
       where_unwrapped (λ (t : BlockTree). TreeOn t a (suc b)) (takes on leaf rest beside) (new (length rest) on true (At leaf) beside rest)
       (takes_on leaf rest beside a b p) (new_on (length rest) true (At leaf) beside rest a b h p)

@@ -1,8 +1,7 @@
 -- Which items are in one list (CommonMark 5.3).
 use Rattle.std.specs.Prelude.{◌≡◌, ◌≢◌, Bool, true, false}
 use Rattle.definition_block.specs.Container.{Quote, Footnote}
-use Rattle.definition_block.specs.Tree.{Block, Leaf, Paragraph, Heading, Break, IndentedCode, FencedCode, Html, Table, Definition, Holds, Items, Blocks, Cons, join}
-use Rattle.definition_block.specs.Tree.{one, all_endings}
+use Rattle.definition_block.specs.Tree.{Block, Leaf, Holds, Items, Blocks, Cons, join, one, all_endings}
 use Rattle.definition_block.specs.Lists.{item_marker, grouped_block, group_items}
 
 -- an item has a marker, any other block none
@@ -57,14 +56,7 @@ NeighboursAreListed =
 
 -- no item, list or ending
 abbrev pub is_other : Block → Bool
-is_other (Leaf (Paragraph ls)) = true
-is_other (Leaf (Heading rank ls)) = true
-is_other (Leaf Break) = true
-is_other (Leaf (IndentedCode ls)) = true
-is_other (Leaf (FencedCode info closed ls)) = true
-is_other (Leaf (Html ls)) = true
-is_other (Leaf (Table ls)) = true
-is_other (Leaf (Definition label destination title)) = true
+is_other (Leaf leaf) = true
 is_other (Holds Quote kids) = true
 is_other (Holds (Footnote label) kids) = true
 is_other b = false

@@ -54,12 +54,12 @@ is_word info = list_all (λ b. not (is_white b)) info
 
 -- fenced code (CommonMark 4.5)
 abbrev pub is_fenced_code : Block → Bool
-is_fenced_code (Leaf (FencedCode info closed ls)) = is_word info
+is_fenced_code (Leaf (FencedCode info is_closed ls)) = is_word info
 is_fenced_code b = false
 
 -- math (in neither standard): code whose info can't be written
 abbrev pub is_math : Block → Bool
-is_math (Leaf (FencedCode info closed ls)) = not (is_word info)
+is_math (Leaf (FencedCode info is_closed ls)) = not (is_word info)
 is_math b = false
 
 -- an HTML block (CommonMark 4.6)

@@ -5,8 +5,8 @@ use Rattle.markdown_options.specs.declared.beside.Kind.{Kind}
 use Rattle.definition_text.specs.BlockLines.{BlockLine}
 use Rattle.definition_text.specs.Lines.{TextLine, lines}
 use Rattle.definition_block.specs.Frontmatter.{after_frontmatter}
-use Rattle.definition_block.specs.Tree.{Block, Leaf, Paragraph, Heading, Break, IndentedCode, FencedCode, Html, Table, Definition, Holds, Items, Ending, Blank}
-use Rattle.definition_block.specs.Tree.{Blocks, Nil, Cons, blocks}
+use Rattle.definition_block.specs.Tree.{LeafBlock, Paragraph, Heading, Break, IndentedCode, FencedCode, Html, Table, Definition, Block, Leaf, Holds, Items}
+use Rattle.definition_block.specs.Tree.{Ending, Blank, Blocks, Nil, Cons, blocks}
 use Rattle.definition_block.specs.Lists.{group_items}
 
 -- a heading by `#` stands on one line, which is its content (CommonMark 4.2)
@@ -17,19 +17,23 @@ IsAtxOn on rank ls first last = (on.heading_atx ≡ true) × (leb rank 6 ≡ tru
 abbrev pub IsSetextOn : Constructs → ℕ → List BlockLine → ℕ → ℕ → Type 0
 IsSetextOn on rank ls first last = (on.heading_setext ≡ true) × (leb rank 2 ≡ true) × (1 ≤ length ls) × (last ≡ first + length ls)
 
--- The lines of a block: its first line is the one of the first number, and its last line the one of the second. An ending leads from the line that it ends to the
--- next one. The tree doesn't hold a heading's underline, nor what stands around the label, the destination and the title of a definition.
+-- The lines of a leaf: its first line is the one of the first number, and its last line the one of the second. The tree doesn't hold a heading's underline, nor
+-- what stands around the label, the destination and the title of a definition.
+abbrev pub IsLeafOn : Constructs → LeafBlock → ℕ → ℕ → Type 0
+IsLeafOn on (Paragraph ls) first last = last ≡ first + (length ls - 1)
+IsLeafOn on (Heading rank ls) first last = IsAtxOn on rank ls first last ⊎ IsSetextOn on rank ls first last
+IsLeafOn on Break first last = last ≡ first
+IsLeafOn on (IndentedCode ls) first last = last ≡ first + (length ls - 1)
+-- after the line of the fence; and the closing fence, if there is one, is a line of its own
+IsLeafOn on (FencedCode info is_closed ls) first last = last ≡ first + (length ls + (if is_closed then 1 else 0))
+IsLeafOn on (Html ls) first last = last ≡ first + (length ls - 1)
+IsLeafOn on (Table ls) first last = last ≡ first + (length ls - 1)
+IsLeafOn on (Definition label destination title) first last = first ≤ last
+
+-- The lines of a block, by the numbers of its first and its last line. An ending leads from the line that it ends to the next one.
 abbrev mutual
   pub IsOn : Constructs → Block → ℕ → ℕ → Type 0
-  IsOn on (Leaf (Paragraph ls)) first last = last ≡ first + (length ls - 1)
-  IsOn on (Leaf (Heading rank ls)) first last = IsAtxOn on rank ls first last ⊎ IsSetextOn on rank ls first last
-  IsOn on (Leaf Break) first last = last ≡ first
-  IsOn on (Leaf (IndentedCode ls)) first last = last ≡ first + (length ls - 1)
-  -- after the line of the fence; and the closing fence, if there is one, is a line of its own
-  IsOn on (Leaf (FencedCode info closed ls)) first last = last ≡ first + (length ls + (if closed then 1 else 0))
-  IsOn on (Leaf (Html ls)) first last = last ≡ first + (length ls - 1)
-  IsOn on (Leaf (Table ls)) first last = last ≡ first + (length ls - 1)
-  IsOn on (Leaf (Definition label destination title)) first last = first ≤ last
+  IsOn on (Leaf leaf) first last = IsLeafOn on leaf first last
   IsOn on (Holds c kids) first last = AreOn on kids first last
   IsOn on (Items items) first last = AreOn on items first last
   IsOn on (Ending ending) first next = next ≡ suc first
@@ -56,7 +60,7 @@ BlocksAreOnLines =
 
 -- where ATX headings are off, a heading has the lines of its content and that of an underline; where setext headings are off, it has one line
 pub record HeadingsAreOfLines : Type 0 where
-  pub without_atx : (on : Constructs) (rank : ℕ) (ls : List BlockLine) (first last : ℕ) → on.heading_atx ≡ false → IsOn on (Leaf (Heading rank ls)) first last
-      → IsSetextOn on rank ls first last
-  pub without_setext : (on : Constructs) (rank : ℕ) (ls : List BlockLine) (first last : ℕ) → on.heading_setext ≡ false → IsOn on (Leaf (Heading rank ls)) first last
-      → IsAtxOn on rank ls first last
+  pub without_atx : (on : Constructs) (rank : ℕ) (ls : List BlockLine) (first last : ℕ) → on.heading_atx ≡ false
+      → IsLeafOn on (Heading rank ls) first last → IsSetextOn on rank ls first last
+  pub without_setext : (on : Constructs) (rank : ℕ) (ls : List BlockLine) (first last : ℕ) → on.heading_setext ≡ false
+      → IsLeafOn on (Heading rank ls) first last → IsAtxOn on rank ls first last

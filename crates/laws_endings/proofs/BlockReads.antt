@@ -18,9 +18,10 @@ use Rattle.definition_block.specs.CodeFenced.{Fence, first_word, fence_by, fence
 use Rattle.definition_block.specs.MathFlow.{math_info, math_fence_of, math_start}
 use Rattle.definition_block.specs.HeadingAtx.{Atx, atx, begins_apart, ends_apart, without_run, without_closing, atx_of, heading_atx}
 use Rattle.definition_block.specs.HeadingSetext.{underline}
-use Rattle.definition_block.specs.Tree.{Block, Blocks, join, rest_line, blocks}
+use Rattle.definition_block.specs.Tree.{LeafBlock, Block, Blocks, join, rest_line, blocks}
 use Rattle.laws_endings.proofs.Rests.{starts-fine, continues-fine}
-use Rattle.definition_block.proofs.BlockReads.{Property, BlockGood, BlocksGood, TextLineGood, AtxGood, FenceGood, Reads, join_good, own_good, blocks_good}
+use Rattle.definition_block.proofs.BlockReads.{Property, LeafBlockGood, BlockGood, BlocksGood, TextLineGood, AtxGood, FenceGood, Reads}
+use Rattle.definition_block.proofs.BlockReads.{join_good, own_good, blocks_good}
 use Rattle.laws_endings.proofs.Each.{Each, each-append, each-take, each-drop, each_filter, WhereSome, where_passed}
 use Rattle.laws_endings.proofs.Characters.{IsWhole, AreWhole}
 use Rattle.laws_endings.proofs.Fits.{Single, Plain, TitleFits, definition_fits}
@@ -59,6 +60,9 @@ fits =
       rank = λ rank. Unit {0};
       rest = RestFits;
     }
+
+abbrev pub LeafBlockFits : LeafBlock → Type 0
+LeafBlockFits leaf = LeafBlockGood fits leaf
 
 abbrev pub BlockFits : Block → Type 0
 BlockFits b = BlockGood fits b

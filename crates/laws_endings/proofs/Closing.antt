@@ -4,24 +4,24 @@ use Rattle.markdown_options.specs.declared.line_ending.LineEnding.{LineEnding}
 use Rattle.markdown_options.specs.declared.configuration.Constructs.{Constructs}
 use Rattle.definition_block.specs.Container.{Container, Quote, Item, Footnote}
 use Rattle.definition_block.specs.Definitions.{DefinitionCut, definition_cut}
-use Rattle.definition_block.specs.Tree.{BlockLine, last_ending, own_lines, Block, Leaf, Paragraph, Heading, Break, IndentedCode, FencedCode, Html, Table, Definition}
-use Rattle.definition_block.specs.Tree.{Holds, Items, Ending, Blank, Blocks, Nil, Cons, join, one, block_and_ending}
+use Rattle.definition_block.specs.Tree.{BlockLine, last_ending, own_lines, LeafBlock, Paragraph, IndentedCode, FencedCode, Html, Table}
+use Rattle.definition_block.specs.Tree.{Block, Leaf, Holds, Ending, Blank, Blocks, Nil, Cons, join, one, block_and_ending}
 use Rattle.definition_block.specs.Tree.{OpenLeaf, Text, Indented, Fenced, OpenHtml, OpenTable, Opening, At, Inside, blanks, paragraph_of, with_paragraph}
 use Rattle.definition_block.specs.Tree.{close_leaf, is_ending, all_endings, front, trailing, without_last, last_of, container_block, close}
-use Rattle.laws_endings.specs.Endings.{if_ending_with, lines_with, block_with, blocks_with}
+use Rattle.laws_endings.specs.Endings.{if_ending_with, lines_with, leaf_block_with, block_with, blocks_with}
 use Rattle.laws_endings.proofs.Codes.{cond-under}
 use Rattle.laws_endings.proofs.Cuts.{last_ending_or-with, last_ending-with, own_lines-with, cut_with, join-with, cut-with}
 use Rattle.laws_endings.proofs.Openings.{leaf_with, opening_with}
 
 module _ (e : LineEnding) where
-  -- a block made of lines, and the ending of its last one
-  ended-with : (make : List BlockLine → Block) → ((ls : List BlockLine) → make (lines_with e ls) ≡ block_with e (make ls)) → (ls : List BlockLine)
-      → block_and_ending (make (own_lines (lines_with e ls))) (last_ending (lines_with e ls))
-      ≡ blocks_with e (block_and_ending (make (own_lines ls)) (last_ending ls))
+  -- a leaf made of lines, and the ending of its last one
+  ended-with : (make : List BlockLine → LeafBlock) → ((ls : List BlockLine) → make (lines_with e ls) ≡ leaf_block_with e (make ls)) → (ls : List BlockLine)
+      → block_and_ending (Leaf (make (own_lines (lines_with e ls)))) (last_ending (lines_with e ls))
+      ≡ blocks_with e (block_and_ending (Leaf (make (own_lines ls))) (last_ending ls))
   ended-with make same ls =
-      ap (λ own. block_and_ending (make own) (last_ending (lines_with e ls))) (own_lines-with e ls)
-      ∙ ap (λ b. block_and_ending b (last_ending (lines_with e ls))) (same (own_lines ls))
-      ∙ ap (block_and_ending (block_with e (make (own_lines ls)))) (last_ending-with e ls)
+      ap (λ own. block_and_ending (Leaf (make own)) (last_ending (lines_with e ls))) (own_lines-with e ls)
+      ∙ ap (λ leaf. block_and_ending (Leaf leaf) (last_ending (lines_with e ls))) (same (own_lines ls))
+      ∙ ap (block_and_ending (block_with e (Leaf (make (own_lines ls))))) (last_ending-with e ls)
 
   blanks-with : (ls : List BlockLine) → blanks (lines_with e ls) ≡ blocks_with e (blanks ls)
   blanks-with [] = refl
@@ -49,18 +49,8 @@ module _ (e : LineEnding) where
   -- ---- endings at the end of a container
 
   pub is_ending-with : (b : Block) → is_ending (block_with e b) ≡ is_ending b
-  is_ending-with (Leaf (Paragraph ls)) = refl
-  is_ending-with (Leaf (Heading rank ls)) = refl
-  is_ending-with (Leaf Break) = refl
-  is_ending-with (Leaf (IndentedCode ls)) = refl
-  is_ending-with (Leaf (FencedCode info closed ls)) = refl
-  is_ending-with (Leaf (Html ls)) = refl
-  is_ending-with (Leaf (Table ls)) = refl
-  is_ending-with (Leaf (Definition label destination title)) = refl
-  is_ending-with (Holds c kids) = refl
-  is_ending-with (Items items) = refl
   is_ending-with (Ending ending) = refl
-  is_ending-with (Blank ending) = refl
+  is_ending-with b = refl
 
   all_endings-with : (bs : Blocks) → all_endings (blocks_with e bs) ≡ all_endings bs
   all_endings-with Nil = refl

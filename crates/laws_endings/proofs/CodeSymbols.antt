@@ -21,13 +21,12 @@ use Rattle.definition_block.specs.CodeFenced.{fence_start}
 use Rattle.definition_block.specs.MathFlow.{math_start}
 use Rattle.definition_block.specs.HeadingAtx.{atx, begins_apart, ends_apart, without_run, without_closing, atx_of, heading_atx}
 use Rattle.definition_block.specs.HeadingSetext.{underline}
-use Rattle.definition_block.specs.Tree.{Block, Leaf, Paragraph, Heading, Break, IndentedCode, FencedCode, Html, Table, Definition, Holds, Items, Ending, Blank}
-use Rattle.definition_block.specs.Tree.{Blocks}
-use Rattle.definition_block.specs.Tree.{Nil, Cons, blocks}
+use Rattle.definition_block.specs.Tree.{LeafBlock, FencedCode, Block, Leaf, Holds, Items}
+use Rattle.definition_block.specs.Tree.{Ending, Blank, Blocks, Nil, Cons, blocks}
 use Rattle.laws_endings.proofs.Rests.{starts-fine, continues-fine}
 use Rattle.definition_text.proofs.Each.{Each, each-append, each-take, each-drop, each_filter, each_same, WhereSome}
-use Rattle.definition_block.proofs.BlockReads.{Property, BlockGood, BlocksGood, TextLineGood, AtxGood, Reads, blocks_good}
-use Rattle.laws_endings.specs.Symbols.{IsCode, AreCodes, block_lines, all_lines, CodesLaw, ApartLaw}
+use Rattle.definition_block.proofs.BlockReads.{Property, LeafBlockGood, BlockGood, BlocksGood, TextLineGood, AtxGood, Reads, blocks_good}
+use Rattle.laws_endings.specs.Symbols.{IsCode, AreCodes, leaf_lines, block_lines, all_lines, CodesLaw, ApartLaw}
 
 -- ---- no two symbols have the same code
 
@@ -196,16 +195,13 @@ content_coded (line ∷ ls) p =
     subst AreCodes (sym (append_assoc line.codes (ending_code line.ending) (content_of ls)))
     (with_codes line.codes (ending_code line.ending ++ content_of ls) p.0 (with_ending line.ending (content_of ls) (content_coded ls p.1)))
 
+leaf_coded : (leaf : LeafBlock) → LeafBlockGood coded leaf → Each LineCoded (leaf_lines leaf)
+leaf_coded (FencedCode info closed ls) p = p.1
+leaf_coded leaf p = p
+
 mutual
   lines_coded : (b : Block) → BlockGood coded b → Each LineCoded (block_lines b)
-  lines_coded (Leaf (Paragraph ls)) p = p
-  lines_coded (Leaf (Heading rank ls)) p = p
-  lines_coded (Leaf Break) p = tt
-  lines_coded (Leaf (IndentedCode ls)) p = p
-  lines_coded (Leaf (FencedCode info closed ls)) p = p.1
-  lines_coded (Leaf (Html ls)) p = p
-  lines_coded (Leaf (Table ls)) p = p
-  lines_coded (Leaf (Definition label destination title)) p = tt
+  lines_coded (Leaf leaf) p = leaf_coded leaf p
   lines_coded (Holds c kids) p = all_coded kids p
   lines_coded (Items items) p = all_coded items p
   lines_coded (Ending ending) p = tt

@@ -27,9 +27,10 @@ use Rattle.definition_inline.specs.GfmLabelStartFootnote.{called_label, call_or_
 use Rattle.definition_inline.specs.Attention.{Run, is_marker, run_between, run_size, run_at}
 use Rattle.definition_inline.specs.Spans.{Token, Item, Delimiters, with_spans}
 use Rattle.definition_inline.specs.Scan.{InlineContext, leaf_at, leaf_here, LabelStart, LinkStart, ImageStart, starts_image, starts_link, label_start_at}
-use Rattle.definition_inline.specs.Scan.{start_more, leaf_tokens, start_tokens, may_form, label_part, formed_part, formed_at, makes_link, Text, text, OpenLabel, Reading}
-use Rattle.definition_inline.specs.Scan.{reading, read_tokens, with_plain_start, with_link_or_call, Step, Next, data_step, ended_step, ended_by, label_end_step}
-use Rattle.definition_inline.specs.Scan.{last_step, label_step, run_step, leaf_step, step, and_then, scan, whole_text, inlines, inlines_from, without_indent}
+use Rattle.definition_inline.specs.Scan.{start_more, leaf_tokens, start_tokens, may_form, label_part, formed_part, formed_at, makes_link, Text, text, OpenLabel}
+use Rattle.definition_inline.specs.Scan.{Reading, reading, read_tokens, with_plain_start, with_link_or_call, Step, Next, data_step, ended_step, ended_by}
+use Rattle.definition_inline.specs.Scan.{label_end_step, last_step, label_step, run_step, leaf_step, step, and_then, scan, whole_text, inlines, inlines_from}
+use Rattle.definition_inline.specs.Scan.{without_indent}
 use Rattle.laws_endings.specs.Endings.{code_with, codes_with}
 use Rattle.laws_endings.specs.Inlines.{inline_code_with, content_with, target_with, leaf_with, inline_with, inlines_with}
 use Rattle.laws_endings.specs.Laws.{InlinesLaw}

@@ -3,7 +3,7 @@ use Rattle.std.proofs.Common.{◌≡◌, ℕ, suc, ◌+◌, ◌-◌, Bool, true,
 use Rattle.std.proofs.Common.{arith, map, length, take, drop, append_assoc, take-append-drop, length-append, take_at}
 use Rattle.std.specs.List.{prefix_len}
 use Rattle.std.proofs.lemmas.Bool.{cond_both, both_ways, false_from_ne_true, eqb-true, and_parts, or_parts, or_from}
-use Rattle.definition_text.specs.Columns.{is_tab_column}
+use Rattle.definition_text.specs.Columns.{is_tab_column, code_byte}
 use Rattle.definition_text.specs.Bytes.{begins_with, after_all}
 use Rattle.definition_text.specs.Content.{is_eol, Part, text_before, up_to, closed_by, may_escape, at_line_start}
 use Rattle.definition_inline.specs.Definition.{Definition, definition_at, next_line, definition_with_title}
@@ -22,6 +22,13 @@ Single c = (eqb c 38 ≡ false) × (eqb c 257 ≡ false)
 -- such a code that isn't that of a line ending
 abbrev pub Plain : ℕ → Type 0
 Plain c = Single c × (is_eol c ≡ false)
+
+-- the byte of such a code, where a column that is left of a tab is a space
+pub space_single : (c : ℕ) → Single c → Single (code_byte c)
+space_single c p = cond_both (is_tab_column c) 32 c Single (λ _. (refl, refl)) (λ _. p)
+
+pub space_plain : (c : ℕ) → Plain c → Plain (code_byte c)
+space_plain c p = cond_both (is_tab_column c) 32 c Plain (λ _. ((refl, refl), refl)) (λ _. p)
 
 abbrev pub IsNoEnding : ℕ → Type 0
 IsNoEnding c = is_eol c ≡ false

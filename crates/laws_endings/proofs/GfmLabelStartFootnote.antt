@@ -1,5 +1,5 @@
 -- Calls of footnotes, with another line ending in place of each LF: none is in them.
-use Rattle.std.proofs.Common.{ℕ, suc, List, [], ◌∷◌, Option, None, Some, String, string_bytes, refl, sym, ap, arith, map, inr, All, decimal, subst, append-nil}
+use Rattle.std.proofs.Common.{ℕ, suc, List, [], ◌∷◌, Option, None, Some, String, string_bytes, refl, sym, arith, inr, All, decimal, subst, append-nil}
 use Rattle.std.specs.Prelude.{codes, ◌≢◌, nat_le}
 use Rattle.std.proofs.lemmas.Bool.{cond_both, ne_eqb}
 use Rattle.std.proofs.lemmas.List.Elements.{All-tail}
@@ -12,7 +12,6 @@ use Rattle.definition_page.specs.InlinePieces.{element}
 use Rattle.definition_page.specs.GfmLabelStartFootnote.{Call, text_or, id_prefix, footnote_id, count_says, call_id, leads_to_id, call_tag, call_pieces}
 use Rattle.definition_page.specs.Layout.{times, call_of}
 use Rattle.definition_page.proofs.PlainLayout.{ArePlain}
-use Rattle.laws_endings.specs.Endings.{with_ending}
 use Rattle.laws_endings.proofs.Each.{Each}
 use Rattle.laws_endings.specs.PageLaws.{HasNoFeed, HaveNoFeeds}
 use Rattle.laws_endings.proofs.Bytes.{IsNoFeed, given_no_feed, decimal_no_feed, percent_no_feed, kept}

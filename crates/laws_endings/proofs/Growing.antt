@@ -24,8 +24,8 @@ use Rattle.definition_block.specs.ThematicBreak.{is_break}
 use Rattle.markdown_options.specs.declared.align_kind.AlignKind.{AlignKind}
 use Rattle.definition_block.specs.GfmTable.{delimiter_row, is_head}
 use Rattle.definition_block.specs.Definitions.{DefinitionCut, definition_cut}
-use Rattle.definition_block.specs.Tree.{BlockLine, block_line, spaced_line, own_lines, Leaf, Paragraph, Heading, Break, IndentedCode, FencedCode, Html, Table}
-use Rattle.definition_block.specs.Tree.{Definition, Holds, Items, Ending, Blank, Blocks, Nil, Cons, join, one, block_and_ending}
+use Rattle.definition_block.specs.Tree.{BlockLine, block_line, spaced_line, own_lines, Heading, Html, Leaf, Blank, Blocks, Nil, Cons, join}
+use Rattle.definition_block.specs.Tree.{one, block_and_ending}
 use Rattle.definition_block.specs.Tree.{OpenLeaf, Text, Indented, Fenced, OpenHtml, OpenTable, Opening, At, Inside, Tree, tree, nothing, close, leaf_text}
 use Rattle.definition_block.specs.Tree.{open_text, is_some_line, has_text, has_table, table_of, tabled, makes_table, paragraph_of, leaf_with_line, with_line}
 use Rattle.definition_block.specs.Tree.{rest_line}
@@ -48,10 +48,7 @@ module _ (e : LineEnding) where
 
   leaf_text-with : (leaf : OpenLeaf) → leaf_text (leaf_with e leaf) ≡ lines_with e (leaf_text leaf)
   leaf_text-with (Text ls) = refl
-  leaf_text-with (Indented ls pending) = refl
-  leaf_text-with (Fenced fence ending ls) = refl
-  leaf_text-with (OpenHtml kind ls) = refl
-  leaf_text-with (OpenTable ls) = refl
+  leaf_text-with leaf = refl
 
   open_text-with : (now : Opening) → open_text (opening_with e now) ≡ lines_with e (open_text now)
   open_text-with (At leaf) = leaf_text-with leaf
@@ -65,11 +62,8 @@ module _ (e : LineEnding) where
   has_text-with now = ap is_some_line (open_text-with now) ∙ is_some_line-with (open_text now)
 
   has_table-with : (now : Opening) → has_table (opening_with e now) ≡ has_table now
-  has_table-with (At (Text ls)) = refl
-  has_table-with (At (Indented ls pending)) = refl
-  has_table-with (At (Fenced fence ending ls)) = refl
-  has_table-with (At (OpenHtml kind ls)) = refl
   has_table-with (At (OpenTable ls)) = refl
+  has_table-with (At leaf) = refl
   has_table-with (Inside c kids inner) = refl
 
   one_more : (ls : List BlockLine) (line : BlockLine) → lines_with e ls ++ line_with e line ∷ [] ≡ lines_with e (ls ++ line ∷ [])
@@ -77,10 +71,8 @@ module _ (e : LineEnding) where
 
   leaf_with_line-with : (line : BlockLine) (leaf : OpenLeaf) → leaf_with_line (line_with e line) (leaf_with e leaf) ≡ leaf_with e (leaf_with_line line leaf)
   leaf_with_line-with line (Text ls) = ap Text (one_more ls line)
-  leaf_with_line-with line (Indented ls pending) = refl
-  leaf_with_line-with line (Fenced fence ending ls) = refl
-  leaf_with_line-with line (OpenHtml kind ls) = refl
   leaf_with_line-with line (OpenTable ls) = ap OpenTable (one_more ls line)
+  leaf_with_line-with line leaf = refl
 
   with_line-with : (line : BlockLine) (now : Opening) → with_line (line_with e line) (opening_with e now) ≡ opening_with e (with_line line now)
   with_line-with line (At leaf) = ap At (leaf_with_line-with line leaf)
@@ -318,28 +310,11 @@ module _ (e : LineEnding) where
 
   is_nothing-with : (now : Opening) → is_nothing (opening_with e now) ≡ is_nothing now
   is_nothing-with (At (Text [])) = refl
-  is_nothing-with (At (Text (line ∷ ls))) = refl
-  is_nothing-with (At (Indented ls pending)) = refl
-  is_nothing-with (At (Fenced fence ending ls)) = refl
-  is_nothing-with (At (OpenHtml kind ls)) = refl
-  is_nothing-with (At (OpenTable ls)) = refl
-  is_nothing-with (Inside c kids inner) = refl
+  is_nothing-with now = refl
 
   is_one_blank-with : (bs : Blocks) → is_one_blank (blocks_with e bs) ≡ is_one_blank bs
-  is_one_blank-with Nil = refl
-  is_one_blank-with (Cons (Leaf (Paragraph ls)) bs) = refl
-  is_one_blank-with (Cons (Leaf (Heading rank ls)) bs) = refl
-  is_one_blank-with (Cons (Leaf Break) bs) = refl
-  is_one_blank-with (Cons (Leaf (IndentedCode ls)) bs) = refl
-  is_one_blank-with (Cons (Leaf (FencedCode info closed ls)) bs) = refl
-  is_one_blank-with (Cons (Leaf (Html ls)) bs) = refl
-  is_one_blank-with (Cons (Leaf (Table ls)) bs) = refl
-  is_one_blank-with (Cons (Leaf (Definition label destination title)) bs) = refl
-  is_one_blank-with (Cons (Holds c kids) bs) = refl
-  is_one_blank-with (Cons (Items items) bs) = refl
-  is_one_blank-with (Cons (Ending ending) bs) = refl
   is_one_blank-with (Cons (Blank ending) Nil) = refl
-  is_one_blank-with (Cons (Blank ending) (Cons b bs)) = refl
+  is_one_blank-with bs = refl
 
   began_blank-with : (kids : Blocks) (inner : Opening) → began_blank (blocks_with e kids) (opening_with e inner) ≡ began_blank kids inner
   began_blank-with kids inner =

@@ -10,13 +10,12 @@ use Rattle.definition_text.specs.Columns.{is_tab_column, code_byte}
 use Rattle.definition_text.specs.Content.{line_ending_code, is_space}
 use Rattle.definition_inline.specs.Definition.{Definition as LinkDefinition, definition}
 use Rattle.definition_inline.specs.LabelMatch.{is_word, fold_word, normal_label, place_of}
-use Rattle.definition_block.specs.Blocks.{Block, Leaf, Paragraph, Heading, Break, IndentedCode, FencedCode, Html, Table, Definition, Holds, Items, Ending, Blank}
-use Rattle.definition_block.specs.Blocks.{Blocks, Nil, Cons}
-use Rattle.definition_block.specs.Definitions.{block_definitions, definitions, container_footnotes, block_footnotes, footnotes}
+use Rattle.definition_block.specs.Blocks.{LeafBlock, Definition, Block, Leaf, Holds, Items, Blocks, Nil, Cons}
+use Rattle.definition_block.specs.Definitions.{leaf_definitions, block_definitions, definitions, container_footnotes, block_footnotes, footnotes}
 use Rattle.definition_block.specs.Tree.{blocks}
 use Rattle.definition_block.specs.Definitions.{with_spaces}
 use Rattle.definition_block.specs.Definitions.{document_definitions}
-use Rattle.laws_endings.specs.Endings.{code_with, codes_with, definition_with, block_with, blocks_with}
+use Rattle.laws_endings.specs.Endings.{code_with, codes_with, definition_with, leaf_block_with, block_with, blocks_with}
 use Rattle.laws_endings.specs.Laws.{LabelsLaw, DefinitionsLaw, FootnotesLaw}
 use Rattle.laws_endings.proofs.Codes.{same_code}
 use Rattle.laws_endings.proofs.Leaves.{same_byte}
@@ -99,20 +98,16 @@ module _ (e : LineEnding) where
       ap (λ first. first ∷ map with_spaces (map (definition_with e) ds)) (spaced-with d)
       ∙ ap (λ others. definition_with e (with_spaces d) ∷ others) (all_spaced-with ds)
 
+  leaf_definitions-with : (leaf : LeafBlock) → leaf_definitions (leaf_block_with e leaf) ≡ map (definition_with e) (leaf_definitions leaf)
+  leaf_definitions-with (Definition label destination title) = refl
+  leaf_definitions-with leaf = refl
+
   mutual
     block_definitions-with : (b : Block) → block_definitions (block_with e b) ≡ map (definition_with e) (block_definitions b)
-    block_definitions-with (Leaf (Paragraph ls)) = refl
-    block_definitions-with (Leaf (Heading rank ls)) = refl
-    block_definitions-with (Leaf Break) = refl
-    block_definitions-with (Leaf (IndentedCode ls)) = refl
-    block_definitions-with (Leaf (FencedCode info closed ls)) = refl
-    block_definitions-with (Leaf (Html ls)) = refl
-    block_definitions-with (Leaf (Table ls)) = refl
-    block_definitions-with (Leaf (Definition label destination title)) = refl
+    block_definitions-with (Leaf leaf) = leaf_definitions-with leaf
     block_definitions-with (Holds c kids) = definitions-with kids
     block_definitions-with (Items items) = definitions-with items
-    block_definitions-with (Ending ending) = refl
-    block_definitions-with (Blank ending) = refl
+    block_definitions-with b = refl
 
     definitions-with : (bs : Blocks) → definitions (blocks_with e bs) ≡ map (definition_with e) (definitions bs)
     definitions-with Nil = refl
@@ -125,18 +120,9 @@ module _ (e : LineEnding) where
 
   mutual
     block_footnotes-with : (b : Block) → block_footnotes (block_with e b) ≡ block_footnotes b
-    block_footnotes-with (Leaf (Paragraph ls)) = refl
-    block_footnotes-with (Leaf (Heading rank ls)) = refl
-    block_footnotes-with (Leaf Break) = refl
-    block_footnotes-with (Leaf (IndentedCode ls)) = refl
-    block_footnotes-with (Leaf (FencedCode info closed ls)) = refl
-    block_footnotes-with (Leaf (Html ls)) = refl
-    block_footnotes-with (Leaf (Table ls)) = refl
-    block_footnotes-with (Leaf (Definition label destination title)) = refl
     block_footnotes-with (Holds c kids) = ap (λ labels. labels ++ container_footnotes c) (footnotes-with kids)
     block_footnotes-with (Items items) = footnotes-with items
-    block_footnotes-with (Ending ending) = refl
-    block_footnotes-with (Blank ending) = refl
+    block_footnotes-with b = refl
 
     footnotes-with : (bs : Blocks) → footnotes (blocks_with e bs) ≡ footnotes bs
     footnotes-with Nil = refl

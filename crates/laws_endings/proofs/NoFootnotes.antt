@@ -3,7 +3,7 @@ use Rattle.std.proofs.Common.{◌≡◌, ℕ, false, List, [], ◌++◌, refl, a
 use Rattle.std.proofs.lemmas.Bool.{or_parts}
 use Rattle.markdown_options.specs.declared.configuration.Constructs.{Constructs}
 use Rattle.markdown_options.specs.declared.beside.Kind.{Kind}
-use Rattle.definition_block.specs.Container.{Quote, Item, Footnote}
+use Rattle.definition_block.specs.Container.{Footnote}
 use Rattle.definition_block.specs.Definitions.{block_footnotes, footnotes}
 use Rattle.definition_block.specs.Tree.{Block, Holds, Items, Blocks, Nil, Cons, blocks}
 use Rattle.laws_block.specs.Occurs.{block_has, has, is_footnote_definition}
@@ -11,9 +11,8 @@ use Rattle.laws_block.proofs.Occurs.{no_footnote_definitions}
 
 mutual
   block_none : (b : Block) → block_has is_footnote_definition b ≡ false → block_footnotes b ≡ []
-  block_none (Holds Quote kids) h = ap (λ labels. labels ++ []) (none kids h)
-  block_none (Holds (Item item) kids) h = ap (λ labels. labels ++ []) (none kids h)
   block_none (Holds (Footnote label) kids) h = absurd (true≢false h)
+  block_none (Holds c kids) h = ap (λ labels. labels ++ []) (none kids h)
   block_none (Items items) h = none items h
   block_none b h = refl
 

@@ -14,13 +14,13 @@ use Rattle.markdown_options.specs.declared.configuration.CompileOptions.{Compile
 use Rattle.markdown_options.specs.declared.configuration.Options.{Options}
 use Rattle.markdown_options.specs.LineEndings.{ending_bytes}
 use Rattle.markdown_options.specs.declared.beside.Kind.{Kind}
-use Rattle.definition_text.specs.Columns.{is_tab_column, code_byte}
+use Rattle.definition_text.specs.Columns.{code_byte}
 use Rattle.definition_text.specs.Lines.{TextLine, text_line, in_first_line, after_return, lines, first_of, first_line, has_mark, without_mark, kind_before_text}
 use Rattle.definition_inline.specs.Inline.{link_texts}
 use Rattle.definition_inline.specs.Definition.{Definition}
 use Rattle.definition_inline.specs.LabelMatch.{normal_label, place_of, first_match}
 use Rattle.definition_block.specs.Tree as tree
-use Rattle.definition_block.specs.Definitions.{block_definitions, definitions, footnotes}
+use Rattle.definition_block.specs.Definitions.{leaf_definitions, block_definitions, definitions, footnotes}
 use Rattle.definition_block.specs.Lists.{group_items}
 use Rattle.definition_page.specs.TextTables.{TextTables}
 use Rattle.definition_block.specs.Definitions.{with_spaces}
@@ -44,8 +44,8 @@ use Rattle.laws_endings.proofs.Matching.{normal_label-with, normal_labels-with, 
 use Rattle.laws_endings.specs.PageLaws.{HaveNoFeeds, FootnotesHoldNoFeed, EndingPageLaw}
 use Rattle.laws_endings.proofs.Each.{Each, each-append, each-drop, each_map, WhereSome}
 use Rattle.laws_endings.proofs.Characters.{AreWhole, whole-drop, IsTextByte, utf8_spelled}
-use Rattle.laws_endings.proofs.Fits.{Single, Plain, TitleFits}
-use Rattle.laws_endings.proofs.BlockReads.{BlockFits, BlocksFit, blocks_fit}
+use Rattle.laws_endings.proofs.Fits.{Single, Plain, TitleFits, space_plain, space_single}
+use Rattle.laws_endings.proofs.BlockReads.{LeafBlockFits, BlockFits, BlocksFit, blocks_fit}
 use Rattle.laws_endings.proofs.TextLines.{ByteFits, text_lines_fit}
 use Rattle.laws_endings.proofs.Marks.{without_mark-with, kind_before-with}
 use Rattle.laws_endings.proofs.Pieces.{PiecesWith, append-with}
@@ -60,9 +60,13 @@ use Rattle.laws_endings.proofs.PrintedBlocks.{children-with, fresh_unless-with}
 abbrev DefinitionIs : Definition → Type 0
 DefinitionIs d = Each Plain d.destination × TitleFits d.title
 
+leaf_definitions_fit : (leaf : tree.LeafBlock) → LeafBlockFits leaf → Each DefinitionIs (leaf_definitions leaf)
+leaf_definitions_fit (tree.Definition label destination title) p = (p, tt)
+leaf_definitions_fit leaf p = tt
+
 mutual
   block_definitions_fit : (b : tree.Block) → BlockFits b → Each DefinitionIs (block_definitions b)
-  block_definitions_fit (tree.Leaf (tree.Definition label destination title)) p = (p, tt)
+  block_definitions_fit (tree.Leaf leaf) p = leaf_definitions_fit leaf p
   block_definitions_fit (tree.Holds c kids) p = definitions_fit kids p
   block_definitions_fit (tree.Items items) p = definitions_fit items p
   block_definitions_fit b p = tt
@@ -71,12 +75,6 @@ mutual
   definitions_fit tree.Nil p = tt
   definitions_fit (tree.Cons b bs) p =
       each-append DefinitionIs (block_definitions b) (definitions bs) (block_definitions_fit b p.0) (definitions_fit bs p.1)
-
-space_plain : (c : ℕ) → Plain c → Plain (code_byte c)
-space_plain c p = cond_both (is_tab_column c) 32 c Plain (λ _. ((refl, refl), refl)) (λ _. p)
-
-space_single : (c : ℕ) → Single c → Single (code_byte c)
-space_single c p = cond_both (is_tab_column c) 32 c Single (λ _. (refl, refl)) (λ _. p)
 
 title_spaced : (title : Option (List ℕ)) → TitleFits title → TitleFits (option_map (map code_byte) title)
 title_spaced None p = tt

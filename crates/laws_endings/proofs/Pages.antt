@@ -11,13 +11,12 @@ use Rattle.markdown_options.specs.declared.line_ending.LineEnding.TheVariants.{C
 use Rattle.markdown_options.specs.declared.beside.Kind.{Kind}
 use Rattle.markdown_options.specs.declared.beside.Kind.TheVariants.{Whitespace}
 use Rattle.definition_text.specs.BlockLines.{BlockLine, own_lines}
-use Rattle.definition_text.specs.Columns.{is_tab_column, code_byte}
+use Rattle.definition_text.specs.Columns.{code_byte}
 use Rattle.definition_text.specs.Content.{ending_code, line_codes}
 use Rattle.definition_text.specs.InlineCode.{InlineCode, codes_of, with_kinds, next_kind, line_content, inline_content}
 use Rattle.definition_inline.specs.GfmTaskListItem.{check_at, check_size}
 use Rattle.definition_inline.specs.Scan.{InlineContext, inlines, inlines_from, without_indent}
 use Rattle.definition_inline.specs.Strings.{string_text}
-use Rattle.definition_block.specs.Container.{Quote, Item, Footnote}
 use Rattle.definition_block.specs.Tree as tree
 use Rattle.definition_block.specs.Tree.{is_ending, join, one}
 use Rattle.definition_block.specs.Lists.{endings_at_front, endings_of, after_endings, is_some_block, has_gap, has_gap_inside, is_loose, item_marker}
@@ -27,13 +26,14 @@ use Rattle.definition_inline.specs.Inline.{Leaf, TaskCheck, Inlines, Cons}
 use Rattle.definition_page.specs.GfmTable.{TableRow, Table, head_line, delimiter_line, body_lines, line_aligns, in_cell}
 use Rattle.definition_page.specs.Page as page
 use Rattle.definition_page.specs.Page.{cons_ending, cons_blank}
-use Rattle.definition_page.specs.Read.{Reading, Standing, context_of, in_container, in_item, next_standing, checked_text, read_paragraph, read_cell}
-use Rattle.definition_page.specs.Read.{read_row, read_table, read_text, info_text, code_lines, without_ending, after_code, list_number, read_block, read_blocks}
-use Rattle.definition_page.specs.Read.{is_blank_ending, ends_blank}
-use Rattle.laws_endings.specs.Endings.{with_ending, ending_with, if_ending_with, codes_with, line_with, lines_with, block_with, blocks_with}
+use Rattle.definition_page.specs.Read.{Reading, Standing, context_of, in_container, next_standing, checked_text, read_paragraph, read_cell, read_row}
+use Rattle.definition_page.specs.Read.{read_table, read_text, info_text, code_lines, without_ending, after_leaf, read_leaf, read_container, standing_in}
+use Rattle.definition_page.specs.Read.{list_number, read_block, read_blocks, is_blank_ending, ends_blank}
+use Rattle.laws_endings.specs.Endings.{with_ending, ending_with, if_ending_with, codes_with, line_with, lines_with, leaf_block_with, block_with, blocks_with}
 use Rattle.laws_endings.specs.Inlines.{inline_code_with, inlines_with, content_with}
 use Rattle.laws_endings.proofs.Codes.{cond-under}
 use Rattle.laws_endings.proofs.Cuts.{own_lines-with, line_codes-with, join-with}
+use Rattle.laws_endings.proofs.Closing.{is_ending-with}
 use Rattle.laws_endings.proofs.Matching.{bytes-with}
 use Rattle.laws_endings.proofs.Literals.{codes_of-with}
 use Rattle.laws_endings.proofs.Contents.{unindented-with, from-with, inlines-with}
@@ -43,10 +43,10 @@ use Rattle.laws_endings.proofs.AlikeLiterals.{alike_codes, alike_drop, alike_app
 use Rattle.laws_endings.proofs.Each.{Each, each-append, each-drop, each_map}
 use Rattle.laws_endings.proofs.Characters.{Begins, continues_one, AreWhole}
 use Rattle.laws_endings.proofs.Neighbours.{kinds-with, kinds-kept, alike_unindented, alike_from, alike_inlines}
-use Rattle.laws_endings.proofs.Fits.{Single, Plain}
+use Rattle.laws_endings.proofs.Fits.{Single, Plain, space_plain, space_single}
 use Rattle.laws_endings.proofs.Parts.{AreFit}
 use Rattle.laws_endings.proofs.InlineReads.{dropped_codes, from_fits, inlines_fit}
-use Rattle.laws_endings.proofs.BlockReads.{IsFed, WholeBefore, LineFits, LinesFit, BlockFits, BlocksFit, line_singles, join_fits, own_fit}
+use Rattle.laws_endings.proofs.BlockReads.{IsFed, WholeBefore, LineFits, LinesFit, LeafBlockFits, BlockFits, BlocksFit, line_singles, join_fits, own_fit}
 use Rattle.laws_endings.proofs.Bytes.{IsNoFeed}
 use Rattle.laws_endings.proofs.PrintedTable.{RowFits, TableFits, in_cell_fits, CellFits, cells_fit, head_fits, delimiters_fit, head-with, delimiters-with}
 use Rattle.laws_endings.proofs.PrintedTable.{row_with, table_with, in_cell-with}
@@ -91,11 +91,6 @@ mutual
   grouped_fits (tree.Cons b bs) p = before_fits (grouped_block b) (group_items bs) (grouped_block_fits b p.0) (grouped_fits bs p.1)
 
 module _ (e : LineEnding) where
-  is_ending-with : (b : tree.Block) → is_ending (block_with e b) ≡ is_ending b
-  is_ending-with (tree.Ending ending) = refl
-  is_ending-with (tree.Blank ending) = refl
-  is_ending-with b = refl
-
   item_marker-with : (b : tree.Block) → item_marker (block_with e b) ≡ item_marker b
   item_marker-with (tree.Holds c kids) = refl
   item_marker-with b = refl
@@ -103,13 +98,13 @@ module _ (e : LineEnding) where
   endings_of-with : (bs : tree.Blocks) → endings_of (blocks_with e bs) ≡ blocks_with e (endings_of bs)
   endings_of-with tree.Nil = refl
   endings_of-with (tree.Cons b bs) =
-      ap (λ is. cond is (tree.Cons (block_with e b) (endings_of (blocks_with e bs))) tree.Nil) (is_ending-with b)
+      ap (λ is. cond is (tree.Cons (block_with e b) (endings_of (blocks_with e bs))) tree.Nil) (is_ending-with e b)
       ∙ cond-under (blocks_with e) (is_ending b) (ap (tree.Cons (block_with e b)) (endings_of-with bs)) refl
 
   after_endings-with : (bs : tree.Blocks) → after_endings (blocks_with e bs) ≡ blocks_with e (after_endings bs)
   after_endings-with tree.Nil = refl
   after_endings-with (tree.Cons b bs) =
-      ap (λ is. cond is (after_endings (blocks_with e bs)) (tree.Cons (block_with e b) (blocks_with e bs))) (is_ending-with b)
+      ap (λ is. cond is (after_endings (blocks_with e bs)) (tree.Cons (block_with e b) (blocks_with e bs))) (is_ending-with e b)
       ∙ cond-under (blocks_with e) (is_ending b) (after_endings-with bs) refl
 
   list_marker-with : (bs : tree.Blocks) → list_marker (blocks_with e bs) ≡ list_marker bs
@@ -168,18 +163,18 @@ module _ (e : LineEnding) where
   leading-with : (bs : tree.Blocks) → endings_at_front (blocks_with e bs) ≡ endings_at_front bs
   leading-with tree.Nil = refl
   leading-with (tree.Cons b bs) =
-      ap (λ is. cond is (suc (endings_at_front (blocks_with e bs))) 0) (is_ending-with b) ∙ ap (λ n. cond (is_ending b) (suc n) 0) (leading-with bs)
+      ap (λ is. cond is (suc (endings_at_front (blocks_with e bs))) 0) (is_ending-with e b) ∙ ap (λ n. cond (is_ending b) (suc n) 0) (leading-with bs)
 
   is_some_block-with : (bs : tree.Blocks) → is_some_block (blocks_with e bs) ≡ is_some_block bs
   is_some_block-with tree.Nil = refl
   is_some_block-with (tree.Cons b bs) =
-      ap (λ is. not is || is_some_block (blocks_with e bs)) (is_ending-with b) ∙ ap (λ some. not (is_ending b) || some) (is_some_block-with bs)
+      ap (λ is. not is || is_some_block (blocks_with e bs)) (is_ending-with e b) ∙ ap (λ some. not (is_ending b) || some) (is_some_block-with bs)
 
   has_gap-with : (bs : tree.Blocks) → has_gap (blocks_with e bs) ≡ has_gap bs
   has_gap-with tree.Nil = refl
   has_gap-with (tree.Cons b bs) =
       let bs' = blocks_with e bs in
-      ap (λ is. (not is && leb 2 (endings_at_front bs') && is_some_block bs') || has_gap bs') (is_ending-with b)
+      ap (λ is. (not is && leb 2 (endings_at_front bs') && is_some_block bs') || has_gap bs') (is_ending-with e b)
       ∙ ap (λ n. (not (is_ending b) && leb 2 n && is_some_block bs') || has_gap bs') (leading-with bs)
       ∙ ap (λ some. (not (is_ending b) && leb 2 (endings_at_front bs) && some) || has_gap bs') (is_some_block-with bs)
       ∙ ap (λ gap. (not (is_ending b) && leb 2 (endings_at_front bs) && is_some_block bs) || gap) (has_gap-with bs)
@@ -199,12 +194,6 @@ module _ (e : LineEnding) where
   list_number-with bs = refl
 
   -- ---- the content of lines
-
-  space_plain : (c : ℕ) → Plain c → Plain (code_byte c)
-  space_plain c p = cond_both (is_tab_column c) 32 c Plain (λ _. ((refl, refl), refl)) (λ _. p)
-
-  space_single : (c : ℕ) → Single c → Single (code_byte c)
-  space_single c p = cond_both (is_tab_column c) 32 c Single (λ _. (refl, refl)) (λ _. p)
 
   -- a line ending after whole characters
   begins_longer : (n : ℕ) (cs more : List ℕ) → Begins n cs → Begins n (cs ++ more)
@@ -284,20 +273,22 @@ module _ (e : LineEnding) where
 
   -- ---- the blocks of a page
 
+  -- a leaf with this ending in place of each LF of its contents and its lines
+  abbrev pub page_leaf_with : page.PageLeaf → page.PageLeaf
+  page_leaf_with (page.Paragraph is) = page.Paragraph (inlines_with e is)
+  page_leaf_with (page.Heading rank is) = page.Heading rank (inlines_with e is)
+  page_leaf_with page.Break = page.Break
+  page_leaf_with (page.IndentedCode ls) = page.IndentedCode (lines_with e ls)
+  page_leaf_with (page.FencedCode info is_closed ls) = page.FencedCode info is_closed (lines_with e ls)
+  page_leaf_with (page.Html ls) = page.Html (lines_with e ls)
+  page_leaf_with (page.Table t) = page.Table (table_with e t)
+  page_leaf_with page.Definition = page.Definition
+
   abbrev mutual
     pub page_block_with : page.Block → page.Block
-    page_block_with (page.Leaf (page.Paragraph is)) = page.Paragraph (inlines_with e is)
-    page_block_with (page.Leaf (page.Heading rank is)) = page.Heading rank (inlines_with e is)
-    page_block_with (page.Leaf page.Break) = (page.Leaf page.Break)
-    page_block_with (page.Leaf (page.IndentedCode ls)) = page.IndentedCode (lines_with e ls)
-    page_block_with (page.Leaf (page.FencedCode info is_closed ls)) = page.FencedCode info is_closed (lines_with e ls)
-    page_block_with (page.Leaf (page.Html ls)) = page.Html (lines_with e ls)
-    page_block_with (page.Leaf (page.Table t)) = page.Table (table_with e t)
-    page_block_with (page.Leaf page.Definition) = (page.Leaf page.Definition)
-    page_block_with (page.Holds page.Quote kids) = page.Quote (page_blocks_with kids)
+    page_block_with (page.Leaf leaf) = page.Leaf (page_leaf_with leaf)
+    page_block_with (page.Holds c kids) = page.Holds c (page_blocks_with kids)
     page_block_with (page.ItemList number loose items) = page.ItemList number loose (page_blocks_with items)
-    page_block_with (page.Holds page.Item kids) = page.Item (page_blocks_with kids)
-    page_block_with (page.Holds (page.Footnote label) kids) = page.Footnote label (page_blocks_with kids)
     page_block_with (page.Ending ending) = page.Ending (ending_with e ending)
     page_block_with (page.Blank ending) = page.Blank (ending_with e ending)
 
@@ -310,20 +301,21 @@ module _ (e : LineEnding) where
   InfoFits None = Unit {0}
   InfoFits (Some info) = with_ending e info ≡ info
 
+  -- a leaf whose contents and lines are fit
+  abbrev pub PageLeafFits : page.PageLeaf → Type 0
+  PageLeafFits (page.Paragraph is) = AreFit is
+  PageLeafFits (page.Heading rank is) = AreFit is
+  PageLeafFits (page.IndentedCode ls) = LinesFit ls
+  PageLeafFits (page.FencedCode info is_closed ls) = InfoFits info × LinesFit ls
+  PageLeafFits (page.Html ls) = LinesFit ls
+  PageLeafFits (page.Table t) = TableFits t
+  PageLeafFits leaf = Unit {0}
+
   abbrev mutual
     pub PageBlockFits : page.Block → Type 0
-    PageBlockFits (page.Leaf (page.Paragraph is)) = AreFit is
-    PageBlockFits (page.Leaf (page.Heading rank is)) = AreFit is
-    PageBlockFits (page.Leaf page.Break) = Unit {0}
-    PageBlockFits (page.Leaf (page.IndentedCode ls)) = LinesFit ls
-    PageBlockFits (page.Leaf (page.FencedCode info is_closed ls)) = InfoFits info × LinesFit ls
-    PageBlockFits (page.Leaf (page.Html ls)) = LinesFit ls
-    PageBlockFits (page.Leaf (page.Table t)) = TableFits t
-    PageBlockFits (page.Leaf page.Definition) = Unit {0}
-    PageBlockFits (page.Holds page.Quote kids) = PageFits kids
+    PageBlockFits (page.Leaf leaf) = PageLeafFits leaf
+    PageBlockFits (page.Holds c kids) = PageFits kids
     PageBlockFits (page.ItemList number loose items) = PageFits items
-    PageBlockFits (page.Holds page.Item kids) = PageFits kids
-    PageBlockFits (page.Holds (page.Footnote label) kids) = PageFits kids
     PageBlockFits (page.Ending ending) = IsFed (Some ending)
     PageBlockFits (page.Blank ending) = IsFed (Some ending)
 
@@ -357,11 +349,14 @@ module _ (e : LineEnding) where
   without_ending_fits (page.Cons (page.Ending ending) bs) p = p.1
   without_ending_fits bs p = p
 
-  after_code-with : (top is_closed : Bool) (bs : page.Blocks) → after_code top is_closed (page_blocks_with bs) ≡ page_blocks_with (after_code top is_closed bs)
-  after_code-with top is_closed bs = cond-under page_blocks_with (top && not is_closed) (without_ending-with bs) refl
+  after_leaf-with : (top : Bool) (leaf : tree.LeafBlock) (bs : page.Blocks)
+      → after_leaf top (leaf_block_with e leaf) (page_blocks_with bs) ≡ page_blocks_with (after_leaf top leaf bs)
+  after_leaf-with top (tree.FencedCode info is_closed ls) bs = cond-under page_blocks_with (top && not is_closed) (without_ending-with bs) refl
+  after_leaf-with top leaf bs = refl
 
-  after_code_fits : (top is_closed : Bool) (bs : page.Blocks) → PageFits bs → PageFits (after_code top is_closed bs)
-  after_code_fits top is_closed bs p = cond_both (top && not is_closed) _ _ PageFits (λ _. without_ending_fits bs p) (λ _. p)
+  after_leaf_fits : (top : Bool) (leaf : tree.LeafBlock) (bs : page.Blocks) → PageFits bs → PageFits (after_leaf top leaf bs)
+  after_leaf_fits top (tree.FencedCode info is_closed ls) bs p = cond_both (top && not is_closed) _ _ PageFits (λ _. without_ending_fits bs p) (λ _. p)
+  after_leaf_fits top leaf bs p = p
 
   code_lines-with : (top is_closed : Bool) (ls : List BlockLine) → code_lines top is_closed (lines_with e ls) ≡ lines_with e (code_lines top is_closed ls)
   code_lines-with top is_closed ls = cond-under (lines_with e) (top || is_closed) refl (own_lines-with e ls)
@@ -506,33 +501,24 @@ module _ (e : LineEnding) where
         sym (string_text-with e on r.tables.names info (singles_of info p))
         ∙ ap (string_text on r.tables.names) (codes-kept e info (plains_no_feed info p))
 
+    read_leaf-with : (s : Standing) (leaf : tree.LeafBlock) → LeafBlockFits leaf → read_leaf r s (leaf_block_with e leaf) ≡ page_leaf_with (read_leaf r s leaf)
+    read_leaf-with s (tree.Paragraph ls) p = ap page.Paragraph (paragraph-with s.first ls p)
+    read_leaf-with s (tree.Heading rank ls) p = ap (page.Heading rank) (text-with ls p)
+    read_leaf-with s (tree.FencedCode info is_closed ls) p = ap (page.FencedCode (info_text r info) is_closed) (code_lines-with s.top is_closed ls)
+    read_leaf-with s (tree.Table ls) p = ap page.Table (table-with ls p)
+    read_leaf-with s leaf p = refl
+
     mutual
       read_block-with : (s : Standing) (b : tree.Block) (others' others : page.Blocks) → BlockFits b → others' ≡ page_blocks_with others
           → read_block r s (block_with e b) others' ≡ page_blocks_with (read_block r s b others)
-      read_block-with s (tree.Leaf (tree.Paragraph ls)) others' others p q =
-          ap (λ is. page.Cons (page.Leaf (page.Paragraph is)) others') (paragraph-with s.first ls p)
-          ∙ ap (page.Cons (page.Leaf (page.Paragraph (inlines_with e (read_paragraph r s.first ls))))) q
-      read_block-with s (tree.Leaf (tree.Heading rank ls)) others' others p q =
-          ap (λ is. page.Cons (page.Leaf (page.Heading rank is)) others') (text-with ls p) ∙ ap (page.Cons (page.Leaf (page.Heading rank (inlines_with e (read_text r ls))))) q
-      read_block-with s (tree.Leaf tree.Break) others' others p q = ap (page.Cons (page.Leaf page.Break)) q
-      read_block-with s (tree.Leaf (tree.IndentedCode ls)) others' others p q = ap (page.Cons (page.Leaf (page.IndentedCode (lines_with e ls)))) q
-      read_block-with s (tree.Leaf (tree.FencedCode info is_closed ls)) others' others p q =
-          let code : List BlockLine → page.Block = λ own. page.FencedCode (info_text r info) is_closed own in
-          ap (λ own. page.Cons (code own) (after_code s.top is_closed others')) (code_lines-with s.top is_closed ls)
-          ∙ ap (page.Cons (code (lines_with e (code_lines s.top is_closed ls)))) (ap (after_code s.top is_closed) q ∙ after_code-with s.top is_closed others)
-      read_block-with s (tree.Leaf (tree.Html ls)) others' others p q = ap (page.Cons (page.Leaf (page.Html (lines_with e ls)))) q
-      read_block-with s (tree.Leaf (tree.Table ls)) others' others p q =
-          ap (λ t. page.Cons (page.Leaf (page.Table t)) others') (table-with ls p) ∙ ap (page.Cons (page.Leaf (page.Table (table_with e (read_table r ls))))) q
-      read_block-with s (tree.Leaf (tree.Definition label destination title)) others' others p q = ap (page.Cons (page.Leaf page.Definition)) q
-      read_block-with s (tree.Holds Quote kids) others' others p q =
-          ap (λ inside. page.Cons (page.Holds page.Quote inside) others') (read_blocks-with in_container kids p)
-          ∙ ap (page.Cons (page.Holds page.Quote (page_blocks_with (read_blocks r in_container kids)))) q
-      read_block-with s (tree.Holds (Item item) kids) others' others p q =
-          ap (λ inside. page.Cons (page.Holds page.Item inside) others') (read_blocks-with in_item kids p)
-          ∙ ap (page.Cons (page.Holds page.Item (page_blocks_with (read_blocks r in_item kids)))) q
-      read_block-with s (tree.Holds (Footnote label) kids) others' others p q =
-          ap (λ inside. page.Cons (page.Holds (page.Footnote label) inside) others') (read_blocks-with in_container kids p)
-          ∙ ap (page.Cons (page.Holds (page.Footnote label) (page_blocks_with (read_blocks r in_container kids)))) q
+      read_block-with s (tree.Leaf leaf) others' others p q =
+          let leaf' = leaf_block_with e leaf in
+          ap (λ shown. page.Cons (page.Leaf shown) (after_leaf s.top leaf' others')) (read_leaf-with s leaf p)
+          ∙ ap (page.Cons (page.Leaf (page_leaf_with (read_leaf r s leaf)))) (ap (after_leaf s.top leaf') q ∙ after_leaf-with s.top leaf others)
+      read_block-with s (tree.Holds c kids) others' others p q =
+          let holds : page.Blocks → page.Block = λ inside. page.Holds (read_container c) inside in
+          ap (λ inside. page.Cons (holds inside) others') (read_blocks-with (standing_in c) kids p)
+          ∙ ap (page.Cons (holds (page_blocks_with (read_blocks r (standing_in c) kids)))) q
       read_block-with s (tree.Items items) others' others p q =
           let items' = read_blocks r in_container (blocks_with e items) in
           ap (λ number. page.Cons (page.ItemList number (is_loose (blocks_with e items)) items') others') (list_number-with items)
@@ -545,24 +531,22 @@ module _ (e : LineEnding) where
       pub read_blocks-with : (s : Standing) (bs : tree.Blocks) → BlocksFit bs → read_blocks r s (blocks_with e bs) ≡ page_blocks_with (read_blocks r s bs)
       read_blocks-with s tree.Nil p = refl
       read_blocks-with s (tree.Cons b bs) p =
-          ap (λ t. read_block r s (block_with e b) (read_blocks r (record { top = s.top; first = s.first && t }) (blocks_with e bs))) (is_ending-with b)
+          ap (λ t. read_block r s (block_with e b) (read_blocks r (record { top = s.top; first = s.first && t }) (blocks_with e bs))) (is_ending-with e b)
           ∙ read_block-with s b (read_blocks r (next_standing s b) (blocks_with e bs)) (read_blocks r (next_standing s b) bs) p.0
           (read_blocks-with (next_standing s b) bs p.1)
 
+    read_leaf_fits : (s : Standing) (leaf : tree.LeafBlock) → LeafBlockFits leaf → PageLeafFits (read_leaf r s leaf)
+    read_leaf_fits s (tree.Paragraph ls) p = paragraph_fits s.first ls p
+    read_leaf_fits s (tree.Heading rank ls) p = text_fits ls p
+    read_leaf_fits s (tree.FencedCode info is_closed ls) p = (info_fits info p.0, code_lines_fit s.top is_closed ls p.1)
+    read_leaf_fits s (tree.Table ls) p = table_fits ls p
+    read_leaf_fits s (tree.Definition label destination title) p = tt
+    read_leaf_fits s leaf p = p
+
     mutual
       read_block_fits : (s : Standing) (b : tree.Block) (others : page.Blocks) → BlockFits b → PageFits others → PageFits (read_block r s b others)
-      read_block_fits s (tree.Leaf (tree.Paragraph ls)) others p q = (paragraph_fits s.first ls p, q)
-      read_block_fits s (tree.Leaf (tree.Heading rank ls)) others p q = (text_fits ls p, q)
-      read_block_fits s (tree.Leaf tree.Break) others p q = (tt, q)
-      read_block_fits s (tree.Leaf (tree.IndentedCode ls)) others p q = (p, q)
-      read_block_fits s (tree.Leaf (tree.FencedCode info is_closed ls)) others p q =
-          ((info_fits info p.0, code_lines_fit s.top is_closed ls p.1), after_code_fits s.top is_closed others q)
-      read_block_fits s (tree.Leaf (tree.Html ls)) others p q = (p, q)
-      read_block_fits s (tree.Leaf (tree.Table ls)) others p q = (table_fits ls p, q)
-      read_block_fits s (tree.Leaf (tree.Definition label destination title)) others p q = (tt, q)
-      read_block_fits s (tree.Holds Quote kids) others p q = (read_blocks_fit in_container kids p, q)
-      read_block_fits s (tree.Holds (Item item) kids) others p q = (read_blocks_fit in_item kids p, q)
-      read_block_fits s (tree.Holds (Footnote label) kids) others p q = (read_blocks_fit in_container kids p, q)
+      read_block_fits s (tree.Leaf leaf) others p q = (read_leaf_fits s leaf p, after_leaf_fits s.top leaf others q)
+      read_block_fits s (tree.Holds c kids) others p q = (read_blocks_fit (standing_in c) kids p, q)
       read_block_fits s (tree.Items items) others p q = (read_blocks_fit in_container items p, q)
       read_block_fits s (tree.Ending ending) others p q = cons_ending_fits ending others p q
       read_block_fits s (tree.Blank ending) others p q = cons_blank_fits ending others p q

@@ -8,14 +8,15 @@ use Rattle.markdown_options.specs.declared.line_ending.LineEnding.TheVariants.{C
 use Rattle.markdown_options.specs.declared.configuration.CompileOptions.{CompileOptions}
 use Rattle.markdown_options.specs.LineEndings.{ending_bytes}
 use Rattle.definition_text.specs.Encode.{plain}
-use Rattle.definition_inline.specs.Inline.{Target, Resource, Reference, LinkTexts, link_texts, SpanKind, Emphasis, Link, Image, Inline, Leaf, Span, Linked, Call}
-use Rattle.definition_inline.specs.Inline.{Inlines, Nil, Cons}
+use Rattle.definition_inline.specs.Inline.{Target, Resource, Reference, LinkTexts, link_texts, SpanKind, Emphasis, Link, Image, Inline, Leaf, Span, Linked}
+use Rattle.definition_inline.specs.Inline.{Call, Inlines, Nil, Cons}
 use Rattle.definition_inline.specs.LabelMatch.{normal_label, place_of, first_match}
 use Rattle.definition_inline.specs.Strings.{string_text}
 use Rattle.definition_page.specs.Urls.{href_protocols, src_protocols}
 use Rattle.definition_page.specs.Tags.{PrintedPart, Words, Attribute, attribute, attribute_bytes}
 use Rattle.definition_page.specs.Pieces.{Piece, Void}
-use Rattle.definition_page.specs.InlinePieces.{Meaning, link_url, image_url, url_of, title_attributes, title_attribute, link_tag, image_tag, span_name, part_says}
+use Rattle.definition_page.specs.InlinePieces.{Meaning, link_url, image_url, url_of, title_attributes, title_attribute, link_tag, image_tag, span_name}
+use Rattle.definition_page.specs.InlinePieces.{part_says}
 use Rattle.definition_inline.specs.Targets.{leads_to}
 use Rattle.definition_page.specs.InlinePieces.{description, call_at, count_at, part_counts, inline_counts, element, part_pieces, inline_pieces}
 use Rattle.laws_endings.specs.Endings.{with_ending, codes_with}

@@ -1,6 +1,6 @@
 -- What the blocks of a page print, with another line ending in place of each LF.
-use Rattle.std.proofs.Common.{◌≡◌, ℕ, ◌+◌, Bool, true, false, true≢false, cond, eqb, not, ◌||◌, List, [], ◌∷◌, ◌++◌, Option, None, Some, refl, sym, ap, ◌∙◌}
-use Rattle.std.proofs.Common.{subst, arith, map, flat_map, append-nil, ◌⊎◌}
+use Rattle.std.proofs.Common.{◌≡◌, ℕ, ◌+◌, Bool, true, false, true≢false, cond, eqb, not, ◌&&◌, ◌||◌, List, [], ◌∷◌, ◌++◌, Option, None, Some, refl, sym, ap}
+use Rattle.std.proofs.Common.{◌∙◌, subst, arith, map, flat_map, append-nil, ◌⊎◌}
 use Rattle.std.specs.Prelude.{codes}
 use Rattle.std.specs.Option.{option_map}
 use Rattle.std.proofs.lemmas.Bool.{cond_both, ne_eqb}
@@ -9,7 +9,7 @@ use Rattle.markdown_options.specs.declared.line_ending.LineEnding.TheVariants.{C
 use Rattle.markdown_options.specs.LineEndings.{ending_bytes}
 use Rattle.definition_text.specs.BlockLines.{BlockLine}
 use Rattle.definition_text.specs.Lines.{ending_text}
-use Rattle.definition_text.specs.Columns.{is_byte, is_tab_column, code_byte, bytes_of}
+use Rattle.definition_text.specs.Columns.{is_byte, code_byte, bytes_of}
 use Rattle.definition_text.specs.Encode.{encode}
 use Rattle.definition_inline.specs.Inline.{LinkTexts, Inlines, Nil as NoText}
 use Rattle.markdown_options.specs.declared.align_kind.AlignKind.{AlignKind}
@@ -17,17 +17,18 @@ use Rattle.markdown_options.specs.declared.align_kind.AlignKind.TheVariants as k
 use Rattle.definition_page.specs.GfmTable.{TableRow, Table as TableOf, align_attributes, cell_pieces, cells_pieces, row_pieces, ending_piece, body_row_pieces}
 use Rattle.definition_page.specs.GfmTable.{head_pieces, body_pieces, table_pieces}
 use Rattle.definition_page.specs.Tags.{Words, Number, Attribute, attribute, tag, bare_tag}
-use Rattle.definition_page.specs.Pieces.{Piece, Void, Says, Eol, Fresh, NoteStart, NoteEnd}
+use Rattle.definition_page.specs.Pieces.{Piece, Void, Says, Eol, Fresh}
 use Rattle.definition_page.specs.InlinePieces.{Meaning, raw_html, element, inline_counts, inline_pieces}
-use Rattle.definition_page.specs.Page.{Block, Leaf, Paragraph, Heading, Break, IndentedCode, FencedCode, Html, Table, Definition, Quote, ItemList, Item, Footnote}
-use Rattle.definition_page.specs.Page.{Ending, Blank, Blocks, Nil, Cons}
+use Rattle.definition_page.specs.Page.{PageLeaf, Paragraph, Heading, Break, IndentedCode, FencedCode, Html, Table, Definition, Quote, Item, Footnote}
+use Rattle.definition_page.specs.Page.{Block, Leaf, Holds, ItemList, Ending, Blank, Blocks, Nil, Cons}
 use Rattle.definition_page.specs.BlockPieces.{Place, inside, code_line, html_line, says, heading_name}
 use Rattle.definition_page.specs.BlockPieces.{info_attributes, start_attributes, list_tag, is_silent, last_visible, ends_plainly, fresh_unless, fenced_pieces}
-use Rattle.definition_page.specs.BlockPieces.{block_pieces, children_pieces}
+use Rattle.definition_page.specs.BlockPieces.{is_paragraph, is_definition, is_visible, leaf_block_pieces, block_pieces, children_pieces}
 use Rattle.laws_endings.specs.Endings.{with_ending, ending_with, if_ending_with, codes_with, line_with, lines_with}
 use Rattle.laws_endings.specs.Inlines.{inlines_with}
+use Rattle.laws_endings.proofs.Codes.{cond-under}
 use Rattle.laws_endings.proofs.Each.{Each, WhereSome, each_filter, each_map}
-use Rattle.laws_endings.proofs.Fits.{Plain}
+use Rattle.laws_endings.proofs.Fits.{Plain, space_plain}
 use Rattle.laws_endings.proofs.Parts.{AreFit}
 use Rattle.laws_endings.proofs.BlockReads.{IsFed, LineFits, LinesFit}
 use Rattle.laws_endings.proofs.Bytes.{IsNoFeed, decimal_no_feed, with-append, kept, encode-with}
@@ -37,10 +38,7 @@ use Rattle.laws_endings.proofs.Pieces.{BytesWith, AttributesWith, attribute-with
 use Rattle.laws_endings.proofs.Pieces.{said-with, void_piece-with, eol_piece-with, fresh_piece-with, element-with, saids-with, note-with}
 use Rattle.laws_endings.proofs.Printed.{LinkedFits, linked_with, counts-with, inlines-with}
 use Rattle.laws_endings.proofs.PrintedTable.{RowFits, TableFits, row_with, table_with}
-use Rattle.laws_endings.proofs.Pages.{page_block_with, page_blocks_with, InfoFits, PageBlockFits, PageFits}
-
-space_plain : (c : ℕ) → Plain c → Plain (code_byte c)
-space_plain c p = cond_both (is_tab_column c) 32 c Plain (λ _. ((refl, refl), refl)) (λ _. p)
+use Rattle.laws_endings.proofs.Pages.{page_leaf_with, page_block_with, page_blocks_with, InfoFits, PageLeafFits, PageBlockFits, PageFits}
 
 module _ (e : LineEnding) where
   -- ---- lines
@@ -128,24 +126,36 @@ module _ (e : LineEnding) where
     abbrev sibling_with : Option Block → Option Block
     sibling_with b = option_map (page_block_with e) b
 
+    is_paragraph-with : (leaf : PageLeaf) → is_paragraph (page_leaf_with e leaf) ≡ is_paragraph leaf
+    is_paragraph-with (Paragraph is) = refl
+    is_paragraph-with leaf = refl
+
+    is_definition-with : (leaf : PageLeaf) → is_definition (page_leaf_with e leaf) ≡ is_definition leaf
+    is_definition-with Definition = refl
+    is_definition-with leaf = refl
+
     is_silent-with : (place : Place) (b : Option Block) → is_silent place (sibling_with b) ≡ is_silent place b
     is_silent-with place None = refl
-    is_silent-with place (Some (Leaf (Paragraph is))) = refl
-    is_silent-with place (Some (Leaf Definition)) = refl
-    is_silent-with place (Some (Holds (Footnote label) kids)) = refl
+    is_silent-with place (Some (Leaf leaf)) =
+        ap (λ is. (place.tight && is) || is_definition (page_leaf_with e leaf)) (is_paragraph-with leaf)
+        ∙ ap (λ is. (place.tight && is_paragraph leaf) || is) (is_definition-with leaf)
     is_silent-with place (Some b) = refl
+
+    is_visible-with : (b : Block) → is_visible (page_block_with e b) ≡ is_visible b
+    is_visible-with (Leaf leaf) = ap not (is_definition-with leaf)
+    is_visible-with b = refl
 
     last_shown-with : (b : Option Block) (bs : Blocks) → last_visible (sibling_with b) (page_blocks_with e bs) ≡ sibling_with (last_visible b bs)
     last_shown-with b Nil = refl
-    last_shown-with b (Cons (Leaf Definition) bs) = last_shown-with b bs
-    last_shown-with b (Cons (Holds (Footnote label) kids) bs) = last_shown-with b bs
-    last_shown-with b (Cons (Ending ending) bs) = last_shown-with b bs
-    last_shown-with b (Cons (Blank ending) bs) = last_shown-with b bs
-    last_shown-with b (Cons c bs) = last_shown-with (Some c) bs
+    last_shown-with b (Cons c bs) =
+        let shown : Bool → Option Block = λ is. cond is (Some (page_block_with e c)) (sibling_with b) in
+        ap (λ is. last_visible (shown is) (page_blocks_with e bs)) (is_visible-with c)
+        ∙ ap (λ now. last_visible now (page_blocks_with e bs)) (cond-under sibling_with (is_visible c) refl refl)
+        ∙ last_shown-with (cond (is_visible c) (Some c) b) bs
 
     ends_plainly-with : (tight : Bool) (b : Option Block) → ends_plainly tight (sibling_with b) ≡ ends_plainly tight b
     ends_plainly-with tight None = refl
-    ends_plainly-with tight (Some (Leaf (Paragraph is))) = refl
+    ends_plainly-with tight (Some (Leaf leaf)) = ap (λ is. tight && is) (is_paragraph-with leaf)
     ends_plainly-with tight (Some b) = refl
 
     pub fresh_unless-with : (said : Bool) → PiecesWith e m.compile (fresh_unless said) (fresh_unless said)
@@ -286,58 +296,56 @@ module _ (e : LineEnding) where
         (append-with e m.compile head' head body' body (head-with t.aligns t.head p.0) (body-with t.aligns t.ending t.rows p.1 p.2))
         (fresh_piece-with e m.compile))))
 
+    leaf_block-with : (place : Place) (leaf : PageLeaf) → PageLeafFits e leaf
+        → PiecesWith e m.compile (leaf_block_pieces m' place (page_leaf_with e leaf)) (leaf_block_pieces m place leaf)
+    leaf_block-with place (Paragraph is) p =
+        paragraph-with place.tight (inline_pieces m' (inlines_with e is)) (inline_pieces m is) (text-with is p)
+    leaf_block-with place (Heading rank is) p =
+        let ps' = inline_pieces m' (inlines_with e is) in
+        let ps = inline_pieces m is in
+        fresh-then (element (bare_tag (heading_name rank)) ps') (element (bare_tag (heading_name rank)) ps)
+        (bare-with (heading_name rank) ps' ps (heading-kept rank) (text-with is p))
+    leaf_block-with place Break p =
+        let hr = Void (bare_tag (codes "hr")) ∷ [] in fresh-then hr hr (void_piece-with e m.compile (codes "hr") [] [] refl refl)
+    leaf_block-with place (IndentedCode ls) p =
+        let all' = says (flat_map code_line (lines_with e ls)) ++ Fresh ∷ [] in
+        let all = says (flat_map code_line ls) ++ Fresh ∷ [] in
+        let code' = element (bare_tag (codes "code")) all' in
+        let code = element (bare_tag (codes "code")) all in
+        fresh-then (element (bare_tag (codes "pre")) code') (element (bare_tag (codes "pre")) code)
+        (bare-with (codes "pre") code' code refl
+        (bare-with (codes "code") all' all refl
+        (append-with e m.compile (says (flat_map code_line (lines_with e ls))) (says (flat_map code_line ls)) (Fresh ∷ []) (Fresh ∷ []) (code-says ls p)
+        (fresh_piece-with e m.compile))))
+    leaf_block-with place (FencedCode info is_closed ls) p =
+        let all' = fenced_pieces place is_closed (lines_with e ls) in
+        let all = fenced_pieces place is_closed ls in
+        let code' = element (tag (codes "code") (info_attributes info)) all' in
+        let code = element (tag (codes "code") (info_attributes info)) all in
+        let pre' = element (bare_tag (codes "pre")) code' in
+        let pre = element (bare_tag (codes "pre")) code in
+        append-with e m.compile (Fresh ∷ pre') (Fresh ∷ pre) (fresh_unless is_closed) (fresh_unless is_closed)
+        (fresh-then pre' pre
+        (bare-with (codes "pre") code' code refl
+        (element-with e m.compile (codes "code") (info_attributes info) (info_attributes info) all' all refl (info-with info p.0)
+        (fenced-with place is_closed ls p.1))))
+        (fresh_unless-with is_closed)
+    leaf_block-with place (Html ls) p =
+        fresh-then (says (flat_map (html_line m.compile) (lines_with e ls))) (says (flat_map (html_line m.compile) ls))
+        (saids-with e m.compile (flat_map (html_line m.compile) (lines_with e ls)) (flat_map (html_line m.compile) ls) (html_lines-with ls p))
+    leaf_block-with place (Table t) p = table-printed t p
+    leaf_block-with place Definition p = no_pieces e m.compile
+
     mutual
       block-with : (place : Place) (before : Option Block) (b : Block) → PageBlockFits e b
           → PiecesWith e m.compile (block_pieces m' place (sibling_with before) (page_block_with e b)) (block_pieces m place before b)
-      block-with place before (Leaf (Paragraph is)) p =
-          paragraph-with place.tight (inline_pieces m' (inlines_with e is)) (inline_pieces m is) (text-with is p)
-      block-with place before (Leaf (Heading rank is)) p =
-          let ps' = inline_pieces m' (inlines_with e is) in
-          let ps = inline_pieces m is in
-          fresh-then (element (bare_tag (heading_name rank)) ps') (element (bare_tag (heading_name rank)) ps)
-          (bare-with (heading_name rank) ps' ps (heading-kept rank) (text-with is p))
-      block-with place before (Leaf Break) p =
-          let hr = Void (bare_tag (codes "hr")) ∷ [] in fresh-then hr hr (void_piece-with e m.compile (codes "hr") [] [] refl refl)
-      block-with place before (Leaf (IndentedCode ls)) p =
-          let all' = says (flat_map code_line (lines_with e ls)) ++ Fresh ∷ [] in
-          let all = says (flat_map code_line ls) ++ Fresh ∷ [] in
-          let code' = element (bare_tag (codes "code")) all' in
-          let code = element (bare_tag (codes "code")) all in
-          fresh-then (element (bare_tag (codes "pre")) code') (element (bare_tag (codes "pre")) code)
-          (bare-with (codes "pre") code' code refl
-          (bare-with (codes "code") all' all refl
-          (append-with e m.compile (says (flat_map code_line (lines_with e ls))) (says (flat_map code_line ls)) (Fresh ∷ []) (Fresh ∷ []) (code-says ls p)
-          (fresh_piece-with e m.compile))))
-      block-with place before (Leaf (FencedCode info is_closed ls)) p =
-          let all' = fenced_pieces place is_closed (lines_with e ls) in
-          let all = fenced_pieces place is_closed ls in
-          let code' = element (tag (codes "code") (info_attributes info)) all' in
-          let code = element (tag (codes "code") (info_attributes info)) all in
-          let pre' = element (bare_tag (codes "pre")) code' in
-          let pre = element (bare_tag (codes "pre")) code in
-          append-with e m.compile (Fresh ∷ pre') (Fresh ∷ pre) (fresh_unless is_closed) (fresh_unless is_closed)
-          (fresh-then pre' pre
-          (bare-with (codes "pre") code' code refl
-          (element-with e m.compile (codes "code") (info_attributes info) (info_attributes info) all' all refl (info-with info p.0)
-          (fenced-with place is_closed ls p.1))))
-          (fresh_unless-with is_closed)
-      block-with place before (Leaf (Html ls)) p =
-          fresh-then (says (flat_map (html_line m.compile) (lines_with e ls))) (says (flat_map (html_line m.compile) ls))
-          (saids-with e m.compile (flat_map (html_line m.compile) (lines_with e ls)) (flat_map (html_line m.compile) ls) (html_lines-with ls p))
-      block-with place before (Leaf (Table t)) p = table-printed t p
-      block-with place before (Leaf Definition) p = no_pieces e m.compile
+      block-with place before (Leaf leaf) p = leaf_block-with place leaf p
       block-with place before (Holds Quote kids) p =
           let kids' = children_pieces m' (inside false) None (page_blocks_with e kids) in
           let ps = children_pieces m (inside false) None kids in
           fresh-then (element (bare_tag (codes "blockquote")) (kids' ++ Fresh ∷ [])) (element (bare_tag (codes "blockquote")) (ps ++ Fresh ∷ []))
           (bare-with (codes "blockquote") (kids' ++ Fresh ∷ []) (ps ++ Fresh ∷ []) refl
           (append-with e m.compile kids' ps (Fresh ∷ []) (Fresh ∷ []) (children-with (inside false) None kids p) (fresh_piece-with e m.compile)))
-      block-with place before (ItemList number loose items) p =
-          let items' = children_pieces m' (inside (not loose)) None (page_blocks_with e items) in
-          let ps = children_pieces m (inside (not loose)) None items in
-          fresh-then (element (list_tag number) (items' ++ Eol ∷ [])) (element (list_tag number) (ps ++ Eol ∷ []))
-          (list-with number (items' ++ Eol ∷ []) (ps ++ Eol ∷ [])
-          (append-with e m.compile items' ps (Eol ∷ []) (Eol ∷ []) (children-with (inside (not loose)) None items p) (eol_piece-with e m.compile)))
       block-with place before (Holds Item kids) p =
           let kids' = children_pieces m' (inside place.tight) None (page_blocks_with e kids) in
           let ps = children_pieces m (inside place.tight) None kids in
@@ -355,6 +363,12 @@ module _ (e : LineEnding) where
           let kids' = children_pieces m' (inside false) None (page_blocks_with e kids) in
           let ps = children_pieces m (inside false) None kids in
           note-with e m.compile kids' ps (children-with (inside false) None kids p)
+      block-with place before (ItemList number loose items) p =
+          let items' = children_pieces m' (inside (not loose)) None (page_blocks_with e items) in
+          let ps = children_pieces m (inside (not loose)) None items in
+          fresh-then (element (list_tag number) (items' ++ Eol ∷ [])) (element (list_tag number) (ps ++ Eol ∷ []))
+          (list-with number (items' ++ Eol ∷ []) (ps ++ Eol ∷ [])
+          (append-with e m.compile items' ps (Eol ∷ []) (Eol ∷ []) (children-with (inside (not loose)) None items p) (eol_piece-with e m.compile)))
       block-with place before (Ending ending) p =
           subst (λ silent. PiecesWith e m.compile (cond silent [] (Says (Words (ending_bytes (ending_with e ending))) ∷ []))
           (cond (is_silent place before) [] (Says (Words (ending_bytes ending)) ∷ [])))

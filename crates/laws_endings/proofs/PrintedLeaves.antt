@@ -19,7 +19,8 @@ use Rattle.laws_endings.proofs.Fits.{Plain}
 use Rattle.laws_endings.proofs.Parts.{IsFitLeaf}
 use Rattle.laws_endings.proofs.Bytes.{IsNoFeed, percent_no_feed, eol-with}
 use Rattle.laws_endings.proofs.Saids.{plains_no_feed, codes-kept, SaidsWith, says_one, words-kept, words-codes, html_says-with}
-use Rattle.laws_endings.proofs.Pieces.{BytesWith, AttributesWith, attribute-with, more_attributes, PiecesWith, said-with, void_piece-with, element-with, saids-with}
+use Rattle.laws_endings.proofs.Pieces.{BytesWith, AttributesWith, attribute-with, more_attributes, PiecesWith, said-with, void_piece-with, element-with}
+use Rattle.laws_endings.proofs.Pieces.{saids-with}
 
 -- ---- in cells of tables
 

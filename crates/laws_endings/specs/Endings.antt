@@ -10,8 +10,8 @@ use Rattle.definition_text.specs.Lines.{TextLine, text_line}
 use Rattle.definition_text.specs.BlockLines.{BlockLine, block_line}
 use Rattle.definition_text.specs.Content.{line_ending_code}
 use Rattle.definition_inline.specs.Definition.{Definition as LinkDefinition, definition}
-use Rattle.definition_block.specs.Blocks.{Block, Leaf, Paragraph, Heading, Break, IndentedCode, FencedCode, Html, Table, Definition, Holds, Items, Ending, Blank}
-use Rattle.definition_block.specs.Blocks.{Blocks, Nil, Cons}
+use Rattle.definition_block.specs.Blocks.{LeafBlock, Paragraph, Heading, Break, IndentedCode, FencedCode, Html, Table, Definition}
+use Rattle.definition_block.specs.Blocks.{Block, Leaf, Holds, Items, Ending, Blank, Blocks, Nil, Cons}
 
 -- the bytes of an ending for an LF, any other byte as it is
 abbrev pub byte_with : LineEnding → ℕ → List ℕ
@@ -56,17 +56,21 @@ lines_with e ls = map (line_with e) ls
 abbrev pub definition_with : LineEnding → LinkDefinition → LinkDefinition
 definition_with e d = definition (codes_with e d.label) (codes_with e d.destination) (option_map (codes_with e) d.title) (codes_with e d.rest)
 
+-- a leaf with this ending in place of each LF of its lines and its contents
+abbrev pub leaf_block_with : LineEnding → LeafBlock → LeafBlock
+leaf_block_with e (Paragraph ls) = Paragraph (lines_with e ls)
+leaf_block_with e (Heading rank ls) = Heading rank (lines_with e ls)
+leaf_block_with e Break = Break
+leaf_block_with e (IndentedCode ls) = IndentedCode (lines_with e ls)
+leaf_block_with e (FencedCode info closed ls) = FencedCode info closed (lines_with e ls)
+leaf_block_with e (Html ls) = Html (lines_with e ls)
+leaf_block_with e (Table ls) = Table (lines_with e ls)
+leaf_block_with e (Definition label destination title) = Definition (codes_with e label) (codes_with e destination) (option_map (codes_with e) title)
+
 abbrev mutual
-  -- a block with this ending in place of each LF of its lines and its contents
+  -- a block with this ending in place of each LF of it, at any depth
   pub block_with : LineEnding → Block → Block
-  block_with e (Leaf (Paragraph ls)) = Paragraph (lines_with e ls)
-  block_with e (Leaf (Heading rank ls)) = Heading rank (lines_with e ls)
-  block_with e (Leaf Break) = (Leaf Break)
-  block_with e (Leaf (IndentedCode ls)) = IndentedCode (lines_with e ls)
-  block_with e (Leaf (FencedCode info closed ls)) = FencedCode info closed (lines_with e ls)
-  block_with e (Leaf (Html ls)) = Html (lines_with e ls)
-  block_with e (Leaf (Table ls)) = Table (lines_with e ls)
-  block_with e (Leaf (Definition label destination title)) = Definition (codes_with e label) (codes_with e destination) (option_map (codes_with e) title)
+  block_with e (Leaf leaf) = Leaf (leaf_block_with e leaf)
   block_with e (Holds c kids) = Holds c (blocks_with e kids)
   block_with e (Items items) = Items (blocks_with e items)
   block_with e (Ending ending) = Ending (if_ending_with e ending)

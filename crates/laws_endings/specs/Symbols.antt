@@ -7,7 +7,8 @@ use Rattle.definition_text.specs.BlockLines.{BlockLine}
 use Rattle.definition_text.specs.Columns.{Code}
 use Rattle.definition_text.specs.Content.{content_of}
 use Rattle.definition_text.specs.Codes.{Symbol, is_of_content, code_of}
-use Rattle.definition_block.specs.Tree.{Block, Leaf, Paragraph, Heading, IndentedCode, FencedCode, Html, Table, Holds, Items, Blocks, Nil, Cons, blocks}
+use Rattle.definition_block.specs.Tree.{LeafBlock, Paragraph, Heading, IndentedCode, FencedCode, Html, Table, Block, Leaf, Holds, Items, Blocks, Nil, Cons}
+use Rattle.definition_block.specs.Tree.{blocks}
 
 -- the code of a symbol of a content
 pub record IsCode (c : Code) : Type 0 where
@@ -19,15 +20,20 @@ abbrev pub AreCodes : List Code → Type 0
 AreCodes [] = Unit {0}
 AreCodes (c ∷ cs) = IsCode c × AreCodes cs
 
+-- the lines of a leaf that have a content
+abbrev pub leaf_lines : LeafBlock → List BlockLine
+leaf_lines (Paragraph ls) = ls
+leaf_lines (Heading rank ls) = ls
+leaf_lines (IndentedCode ls) = ls
+leaf_lines (FencedCode info closed ls) = ls
+leaf_lines (Html ls) = ls
+leaf_lines (Table ls) = ls
+leaf_lines leaf = []
+
 -- the lines that have a content, at any depth
 abbrev mutual
   pub block_lines : Block → List BlockLine
-  block_lines (Leaf (Paragraph ls)) = ls
-  block_lines (Leaf (Heading rank ls)) = ls
-  block_lines (Leaf (IndentedCode ls)) = ls
-  block_lines (Leaf (FencedCode info closed ls)) = ls
-  block_lines (Leaf (Html ls)) = ls
-  block_lines (Leaf (Table ls)) = ls
+  block_lines (Leaf leaf) = leaf_lines leaf
   block_lines (Holds c kids) = all_lines kids
   block_lines (Items items) = all_lines items
   block_lines b = []

@@ -20,12 +20,12 @@ use Rattle.definition_page.specs.TextTables.{TextTables}
 use Rattle.html_bytes.specs.Document.{Document, document, reading_of, document_meaning, text_of}
 use Rattle.definition_page.specs.Read.{context_of}
 use Rattle.html_bytes.specs.Html.{text_ending, blocks_html, marked_html}
-use Rattle.html_bytes.specs.Layout.{layout_state, with_footnotes}
+use Rattle.html_bytes.specs.Layout.{layout_state, with_footnotes, page_layout}
 use Rattle.html_bytes.specs.Pieces.{Piece, Bytes}
 use Rattle.html_bytes.proofs.SameLayout.{add, add_nil}
 use Rattle.html_bytes.proofs.SamePage.{html_is}
 use Rattle.html_bytes.proofs.WithoutCalls.{AddsBytes, adds_append, without_calls}
-use Rattle.laws_escape.proofs.PlainText.{content_codes}
+use Rattle.laws_escape.proofs.PlainText.{content_codes, paragraph_bytes}
 use Rattle.laws_escape.specs.Escaped.{with_backslashes, IsTrimmedLine}
 use Rattle.laws_escape.proofs.Escaped.{escape_law, escaped_calls_nothing}
 use Rattle.laws_escape.specs.EscapedPage.{EscapedPageLaw}
@@ -49,8 +49,10 @@ paragraph_html : (tables : TextTables) (options : Options) (ending : LineEnding)
     → blocks_html tables options ending (block_and_ending (Leaf (Paragraph ls)) None) ≡ codes "<p>" ++ said ++ codes "</p>"
 paragraph_html tables options ending ls said adds =
     let default = ending_bytes ending in
-    let text = text_of (document options tables no_targets) ls in
-    ap (with_footnotes options.compile default) (paragraph_adds options.compile default text said adds (layout_state (codes "<p>") [] [] []))
+    let d = document options tables no_targets in
+    let text = text_of d ls in
+    ap (λ ps. page_layout options.compile default (ps ++ Bytes [] ∷ [] ++ [])) (paragraph_bytes d ls)
+    ∙ ap (with_footnotes options.compile default) (paragraph_adds options.compile default text said adds (layout_state (codes "<p>") [] [] []))
     ∙ sym (append_assoc (codes "<p>") said (codes "</p>"))
 
 -- what the paragraph of an escaped line says
@@ -67,7 +69,8 @@ line_says d options default line before on h l =
 
 -- the blocks of an escaped line
 its_blocks : (options : Options) (before : Kind) (line : List ℕ) → Begins (with_backslashes line)
-    → blocks options.parse.constructs before (with_backslashes line) ≡ block_and_ending (Leaf (Paragraph (block_line (with_backslashes line) None before ∷ []))) None
+    → blocks options.parse.constructs before (with_backslashes line)
+    ≡ block_and_ending (Leaf (Paragraph (block_line (with_backslashes line) None before ∷ []))) None
 its_blocks options before line h =
     let on = options.parse.constructs in
     ap (blocks on before) h.are ∙ one_paragraph on h.first h.others h.line before

@@ -1,7 +1,7 @@
 -- The text of lines where every construct is off: the lines without the spaces and tabs at their ends, encoded.
 use Rattle.std.proofs.Common.{◌≡◌, ℕ, ◌+◌, ◌-◌, ◌<◌, suc, zero, List, [], ◌∷◌, ◌++◌, Option, None, Some, Bool, true, false, cond, ◌&&◌, eqb, leb, inl, inr}
 use Rattle.std.proofs.Common.{refl, sym, ap, ◌∙◌, subst, append_assoc, arith, take, drop, length, map}
-use Rattle.std.specs.Prelude.{reverse}
+use Rattle.std.specs.Prelude.{codes, reverse}
 use Rattle.std.specs.List.{flat_map, fold, prefix_len, suffix_len}
 use Rattle.std.proofs.Math.Seq.{drop-append_seam}
 use Rattle.std.proofs.lemmas.Bool.{true≢false, both_ways, cases_Bool, cond-true, cond-false, and_parts, and_cases, or_from, ne_eqb, eqb-true, le-leb}
@@ -28,13 +28,18 @@ use Rattle.definition_inline.specs.Spans.{Item, with_spans}
 use Rattle.definition_inline.specs.Scan.{InlineContext, leaf_at, leaf_here, text, Reading, reading, read_tokens, Next, leaf_step, step, and_then, scan}
 use Rattle.definition_inline.specs.Scan.{whole_text, inlines}
 use Rattle.definition_inline.specs.Strings.{or_byte}
+use Rattle.definition_block.specs.Blocks.{Paragraph}
+use Rattle.definition_page.specs.Tags.{bare_tag}
 use Rattle.definition_page.specs.InlinePieces.{Meaning, inline_pieces}
+use Rattle.definition_page.specs.Read.{on_page, read_text}
 use Rattle.html_bytes.specs.InlineHtml.{leaf_html, inline_html}
-use Rattle.html_bytes.specs.Pieces.{in_bytes}
+use Rattle.html_bytes.specs.Pieces.{Bytes, Fresh, in_bytes}
 use Rattle.html_bytes.specs.Layout.{lay}
-use Rattle.html_bytes.specs.Document.{Document, document_meaning, text_of}
+use Rattle.html_bytes.specs.Document.{Document, reading_of, document_meaning, text_of}
 use Rattle.definition_inline.specs.Targets.{is_label_of, is_footnote_of}
+use Rattle.html_bytes.specs.Html.{leaf_bytes}
 use Rattle.html_bytes.proofs.SameLayout.{add}
+use Rattle.html_bytes.proofs.SameText.{element_bytes}
 use Rattle.html_bytes.proofs.WithoutCalls.{has_calls, AddsBytes, without_calls}
 use Rattle.definition_inline.proofs.Scanning.{drop-codes_of}
 use Rattle.laws_escape.proofs.InlineParts.{read_nothing, white_codes, items, leaves, leaves_alone, html_of_leaves, html_of_data, leaves_call_nothing}
@@ -415,6 +420,12 @@ content_codes is_punctuation after (line ∷ others) h =
     ∙ ap (λ x. line_codes line ++ x) (content_codes is_punctuation after others (other_lines line others h))
 
 -- ---- the text
+
+-- what a paragraph prints that is no first block of an item, and in no tight one
+pub paragraph_bytes : (d : Document) (ls : List BlockLine)
+    → leaf_bytes d on_page false (Paragraph ls) ≡ Fresh ∷ Bytes (codes "<p>") ∷ text_of d ls ++ Bytes (codes "</p>") ∷ []
+paragraph_bytes d ls =
+    ap (λ ps. Fresh ∷ ps) (element_bytes (bare_tag (codes "p")) (inline_pieces (document_meaning d) (read_text (reading_of d) ls)))
 
 -- what a document's texts are read by, were these constructs on
 abbrev read_by : Document → Constructs → InlineContext

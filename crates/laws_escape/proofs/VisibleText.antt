@@ -22,22 +22,22 @@ use Rattle.definition_text.specs.Columns.{Rest, codes_from, whole, is_white, is_
 use Rattle.definition_text.specs.Columns.{columns_after_tab}
 use Rattle.definition_text.specs.Encode.{replacement_character, encoded_byte, encode}
 use Rattle.definition_text.specs.BlockLines.{BlockLine, own_lines}
-use Rattle.definition_block.specs.Tree.{beside_line, Block, Leaf, Paragraph, Ending, Blank, Blocks, Nil, Cons, join, one, Text, Opening, At, Tree, tree, empty_tree}
-use Rattle.definition_block.specs.Tree.{close_leaf, close, rest_line, grow, step, steps, blocks_at_end, children_after, blocks}
+use Rattle.definition_block.specs.Tree.{beside_line, Block, Leaf, Paragraph, Ending, Blank, Blocks, Nil, Cons, join, one, Text, Opening, At, Tree, tree}
+use Rattle.definition_block.specs.Tree.{empty_tree, close_leaf, close, rest_line, grow, step, steps, blocks_at_end, children_after, blocks}
 use Rattle.definition_block.specs.Frontmatter.{after_frontmatter}
 use Rattle.definition_block.specs.Lists.{put_before, grouped_block, group_items}
 use Rattle.definition_page.specs.Pieces.{is_fresh}
 use Rattle.html_bytes.specs.Pieces.{Piece, Bytes, Fresh, print}
 use Rattle.html_bytes.specs.Layout.{LayoutState, with_text, lay, nothing_laid, with_footnotes, page_layout}
 use Rattle.definition_page.specs.Read.{on_page, ends_blank}
-use Rattle.html_bytes.specs.Html.{silences, block_bytes, children_bytes, last_piece, document_bytes, text_ending, blocks_html, marked_html}
+use Rattle.html_bytes.specs.Html.{silences, leaf_bytes, block_bytes, children_bytes, last_piece, document_bytes, text_ending, blocks_html, marked_html}
 use Rattle.definition_block.specs.Definitions.{document_targets}
 use Rattle.definition_page.specs.TextTables.{TextTables}
 use Rattle.html_bytes.specs.Document.{Document, document, text_of}
 use Rattle.html_bytes.proofs.SamePage.{html_is}
 use Rattle.html_bytes.proofs.WithoutCalls.{AddsBytes}
 use Rattle.laws_escape.specs.Visible.{visible, is_not_blank, said_by, all_said_by, VisibleLaw}
-use Rattle.laws_escape.proofs.PlainText.{line_text, plain_text, AreInLine, AreText, line_drop, first_line, other_lines, text_is_plain}
+use Rattle.laws_escape.proofs.PlainText.{line_text, plain_text, AreInLine, AreText, line_drop, first_line, other_lines, paragraph_bytes, text_is_plain}
 use Rattle.laws_escape.proofs.Plain.{paragraph, blank_tree, text_tree, plain_tree, plain_grow}
 
 -- ---- the lines of a text
@@ -317,9 +317,8 @@ module _ (d : Document) (off : d.options.parse.constructs ≡ no_constructs) (op
   lines_show : (ls : List BlockLine) → AreText ls → PiecesShow options default (text_of d ls) (said_in_lines ls)
   lines_show ls p = pieces_add options default (text_of d ls) (plain_text ls) (said_in_lines ls) (text_is_plain d options default off ls p) (plain_shows ls p)
 
-  paragraph_shows : (silent : Bool) (ls : List BlockLine) → AreText ls
-      → PiecesShow options default (block_bytes d on_page false silent (Leaf (Paragraph ls))) (said_in_lines ls)
-  paragraph_shows silent ls p =
+  paragraph_shows : (ls : List BlockLine) → AreText ls → PiecesShow options default (leaf_bytes d on_page false (Paragraph ls)) (said_in_lines ls)
+  paragraph_shows ls p =
       let start = Fresh ∷ Bytes (codes "<p>") ∷ [] in
       let end = Bytes (codes "</p>") ∷ [] in
       let said = said_in_lines ls in
@@ -329,7 +328,8 @@ module _ (d : Document) (off : d.options.parse.constructs ≡ no_constructs) (op
       (pieces_bytes options default (codes "<p>") [] shows_p) in
       let more = pieces-append options default start text [] said first (lines_show ls p) in
       let all = pieces-append options default (start ++ text) end said [] more (pieces_bytes options default (codes "</p>") [] shows_end_of_p) in
-      subst (PiecesShow options default (block_bytes d on_page false silent (Leaf (Paragraph ls)))) (append-nil said) all
+      subst (λ ps. PiecesShow options default ps said) (sym (paragraph_bytes d ls))
+      (subst (PiecesShow options default ((start ++ text) ++ end)) (append-nil said) all)
 
   ending_shows : (silent : Bool) (ending : Option LineEnding) → PiecesShow options default (block_bytes d on_page false silent (Ending ending)) []
   ending_shows silent ending =
@@ -338,7 +338,7 @@ module _ (d : Document) (off : d.options.parse.constructs ≡ no_constructs) (op
       (λ _. pieces_bytes options default (ending_text ending) [] (shows_ending_text ending))
 
   block_shows : (silent : Bool) (b : Block) → BlockIsText b → PiecesShow options default (block_bytes d on_page false silent b) (said_in_block b)
-  block_shows silent (Leaf (Paragraph ls)) p = paragraph_shows silent ls p
+  block_shows silent (Leaf (Paragraph ls)) p = paragraph_shows ls p
   block_shows silent (Ending ending) p = ending_shows silent ending
   block_shows silent (Blank ending) p = pieces_none options default
   block_shows silent b p = absurd p

@@ -1,5 +1,5 @@
 -- Where the calls of a page lead.
-use Rattle.std.proofs.Common.{◌≡◌, ◌<◌, ℕ, Bool, true, false, if◌then◌else◌, ◌||◌, not, List, [], ◌∷◌, ◌++◌, map, Option, None, Some, length, refl, sym, ap}
+use Rattle.std.proofs.Common.{◌≡◌, ◌<◌, ℕ, Bool, true, false, if◌then◌else◌, ◌||◌, not, List, [], ◌∷◌, ◌++◌, map, Option, None, Some, length, refl, sym}
 use Rattle.std.proofs.Common.{◌∙◌, subst, get_or, codes}
 use Rattle.std.specs.List.{All, flat_map}
 use Rattle.std.specs.Str.{bytes_eq}
@@ -11,20 +11,22 @@ use Rattle.markdown_options.specs.declared.line_ending.LineEnding.{LineEnding}
 use Rattle.markdown_options.specs.LineEndings.{ending_bytes}
 use Rattle.definition_text.specs.BlockLines.{BlockLine}
 use Rattle.markdown_options.specs.declared.align_kind.AlignKind.{AlignKind}
-use Rattle.definition_inline.specs.Inline.{InlineLeaf, Html as RawHtml, Link, Image, Inline, Leaf, Span, Linked, Call, Inlines, Nil as NoText, Cons as Text}
+use Rattle.definition_inline.specs.Inline.{InlineLeaf, Html as RawHtml, Link, Image, Inline, Leaf as Part, Span, Linked, Call}
+use Rattle.definition_inline.specs.Inline.{Inlines, Nil as NoText, Cons as Text}
 use Rattle.definition_inline.specs.LabelMatch.{normal_label, first_match}
 use Rattle.definition_page.specs.Tags.{PrintedPart, Words, Tag, tag, bare_tag}
-use Rattle.definition_page.specs.Pieces.{Piece, Open, Close, Void, Says, Eol, Fresh, CallOf, CountOf, NoteStart, NoteEnd}
+use Rattle.definition_page.specs.Pieces.{Piece, Close, Says, Eol, Fresh, NoteEnd}
 use Rattle.definition_page.specs.InlinePieces.{Meaning, element, html_says, call_at, count_at, part_counts, inline_counts, leaf_pieces, span_name}
 use Rattle.definition_page.specs.InlinePieces.{part_pieces, inline_pieces, link_tag}
 use Rattle.definition_inline.specs.Targets.{leads_to}
 use Rattle.definition_page.specs.GfmTable.{TableRow, Table as TableOf, cell_pieces, cells_pieces, row_pieces, align_attributes, ending_piece, body_row_pieces}
 use Rattle.definition_page.specs.GfmTable.{head_pieces, body_pieces, table_pieces}
 use Rattle.definition_page.specs.BlockPieces.{Place, at_top, inside, fresh_unless, says, code_line, html_line, fenced_pieces, is_silent}
-use Rattle.definition_page.specs.BlockPieces.{last_visible, ends_plainly, block_pieces, children_pieces, heading_name, info_attributes, list_tag}
+use Rattle.definition_page.specs.BlockPieces.{last_visible, ends_plainly, leaf_block_pieces, block_pieces, children_pieces, heading_name}
+use Rattle.definition_page.specs.BlockPieces.{info_attributes, list_tag}
 use Rattle.definition_page.specs.DocumentPieces.{meaning_of}
-use Rattle.definition_page.specs.Page.{Page, Block, Leaf, Paragraph, Heading, IndentedCode, FencedCode, Html, Table, Quote, ItemList, Item, Footnote, Ending, Blocks}
-use Rattle.definition_page.specs.Page.{Nil, Cons}
+use Rattle.definition_page.specs.Page.{Page, PageLeaf, Paragraph, Heading, IndentedCode, FencedCode, Html, Table, Quote, Item, Footnote}
+use Rattle.definition_page.specs.Page.{Block, Leaf, Holds, ItemList, Ending, Blank, Blocks, Nil, Cons}
 use Rattle.definition_page.specs.Layout.{NamedCall, named_call, named_calls}
 use Rattle.definition_page.proofs.Cuts.{calls_append}
 use Rattle.laws_footnotes.specs.Defined.{HasDefinition, CallHasDefinitionLaw}
@@ -80,7 +82,7 @@ module _ (m : Meaning) where
 
   mutual
     part_counts_lead : (i : Inline) → Lead (part_counts m i)
-    part_counts_lead (Leaf part) = no_calls
+    part_counts_lead (Part part) = no_calls
     part_counts_lead (Span kind kids) = counts_lead kids
     part_counts_lead (Linked kind target kids) = counts_lead kids
     part_counts_lead (Call label) = count_leads label (first_match label m.footnotes) refl
@@ -95,7 +97,7 @@ module _ (m : Meaning) where
 
   mutual
     part_leads : (i : Inline) → Lead (part_pieces m i)
-    part_leads (Leaf part) = leaf_leads part
+    part_leads (Part part) = leaf_leads part
     part_leads (Span kind kids) = element_leads (bare_tag (span_name kind)) (inline_pieces m kids) (inlines_lead kids)
     part_leads (Linked Link target kids) = element_leads (link_tag m (leads_to m.definition target)) (inline_pieces m kids) (inlines_lead kids)
     part_leads (Linked Image target kids) = counts_lead kids
@@ -168,30 +170,31 @@ module _ (m : Meaning) where
       both_lead (says code ++ end) (Fresh ∷ [])
       (both_lead (says code) end (says_lead code) (either_leads (place.top || is_closed) [] (Eol ∷ []) no_calls no_calls)) no_calls
 
+  leaf_block_leads : (place : Place) (leaf : PageLeaf) → Lead (leaf_block_pieces m place leaf)
+  leaf_block_leads place (Paragraph is) =
+      let text = inline_pieces m is in
+      either_leads place.tight text (Fresh ∷ element (bare_tag (codes "p")) text) (inlines_lead is)
+      (element_leads (bare_tag (codes "p")) text (inlines_lead is))
+  leaf_block_leads place (Heading rank is) = element_leads (bare_tag (heading_name rank)) (inline_pieces m is) (inlines_lead is)
+  leaf_block_leads place (IndentedCode ls) =
+      let code = says (flat_map code_line ls) ++ Fresh ∷ [] in
+      element_leads (bare_tag (codes "pre")) (element (bare_tag (codes "code")) code) (element_leads (bare_tag (codes "code")) code (code_leads ls))
+  leaf_block_leads place (FencedCode info is_closed ls) =
+      let code = fenced_pieces place is_closed ls in
+      let inner = element (tag (codes "code") (info_attributes info)) code in
+      both_lead (element (bare_tag (codes "pre")) inner) (fresh_unless is_closed)
+      (element_leads (bare_tag (codes "pre")) inner (element_leads (tag (codes "code") (info_attributes info)) code (fenced_leads place is_closed ls)))
+      (fresh_leads is_closed)
+  leaf_block_leads place (Html ls) = says_lead (flat_map (html_line m.compile) ls)
+  leaf_block_leads place (Table t) = table_leads t
+  leaf_block_leads place leaf = no_calls
+
   mutual
     block_leads : (place : Place) (before : Option Block) (b : Block) → Lead (block_pieces m place before b)
-    block_leads place before (Leaf (Paragraph is)) =
-        let text = inline_pieces m is in
-        either_leads place.tight text (Fresh ∷ element (bare_tag (codes "p")) text) (inlines_lead is)
-        (element_leads (bare_tag (codes "p")) text (inlines_lead is))
-    block_leads place before (Leaf (Heading rank is)) = element_leads (bare_tag (heading_name rank)) (inline_pieces m is) (inlines_lead is)
-    block_leads place before (Leaf (IndentedCode ls)) =
-        let code = says (flat_map code_line ls) ++ Fresh ∷ [] in
-        element_leads (bare_tag (codes "pre")) (element (bare_tag (codes "code")) code) (element_leads (bare_tag (codes "code")) code (code_leads ls))
-    block_leads place before (Leaf (FencedCode info is_closed ls)) =
-        let code = fenced_pieces place is_closed ls in
-        let inner = element (tag (codes "code") (info_attributes info)) code in
-        both_lead (element (bare_tag (codes "pre")) inner) (fresh_unless is_closed)
-        (element_leads (bare_tag (codes "pre")) inner (element_leads (tag (codes "code") (info_attributes info)) code (fenced_leads place is_closed ls)))
-        (fresh_leads is_closed)
-    block_leads place before (Leaf (Html ls)) = says_lead (flat_map (html_line m.compile) ls)
-    block_leads place before (Leaf (Table t)) = table_leads t
+    block_leads place before (Leaf leaf) = leaf_block_leads place leaf
     block_leads place before (Holds Quote kids) =
         let inner = children_pieces m (inside false) None kids in
         element_leads (bare_tag (codes "blockquote")) (inner ++ Fresh ∷ []) (both_lead inner (Fresh ∷ []) (children_lead (inside false) None kids) no_calls)
-    block_leads place before (ItemList number loose items) =
-        let inner = children_pieces m (inside (not loose)) None items in
-        element_leads (list_tag number) (inner ++ Eol ∷ []) (both_lead inner (Eol ∷ []) (children_lead (inside (not loose)) None items) no_calls)
     block_leads place before (Holds Item kids) =
         let inner = children_pieces m (inside place.tight) None kids in
         let end = ends_plainly place.tight (last_visible None kids) in
@@ -200,8 +203,11 @@ module _ (m : Meaning) where
     block_leads place before (Holds (Footnote label) kids) =
         let inner = children_pieces m (inside false) None kids in
         both_lead inner (NoteEnd ∷ []) (children_lead (inside false) None kids) no_calls
+    block_leads place before (ItemList number loose items) =
+        let inner = children_pieces m (inside (not loose)) None items in
+        element_leads (list_tag number) (inner ++ Eol ∷ []) (both_lead inner (Eol ∷ []) (children_lead (inside (not loose)) None items) no_calls)
     block_leads place before (Ending ending) = either_leads (is_silent place before) [] (Says (Words (ending_bytes ending)) ∷ []) no_calls no_calls
-    block_leads place before b = no_calls
+    block_leads place before (Blank ending) = no_calls
 
     pub children_lead : (place : Place) (before : Option Block) (bs : Blocks) → Lead (children_pieces m place before bs)
     children_lead place before Nil = no_calls

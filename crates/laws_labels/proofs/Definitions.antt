@@ -10,15 +10,14 @@ use Rattle.std.proofs.lemmas.Slice.Eq.{bytes_eq-Decides}
 use Rattle.definition_inline.specs.Definition.{Definition as LinkDefinition}
 use Rattle.definition_inline.specs.Inline.{link_texts}
 use Rattle.definition_inline.specs.LabelMatch.{normal_label, first_match}
-use Rattle.definition_block.specs.Blocks.{Block, Leaf, Paragraph, Heading, Break, IndentedCode, FencedCode, Html, Table, Definition, Holds, Items, Ending, Blank}
-use Rattle.definition_block.specs.Blocks.{Blocks, Nil, Cons}
-use Rattle.definition_block.specs.Definitions.{block_definitions, definitions}
+use Rattle.definition_block.specs.Blocks.{LeafBlock, Definition, Block, Leaf, Holds, Items, Blocks, Nil, Cons}
+use Rattle.definition_block.specs.Definitions.{leaf_definitions, block_definitions, definitions}
 use Rattle.definition_inline.specs.Targets.{labels_of, no_definition, linked_at, linked_by}
 use Rattle.definition_block.specs.Definitions.{document_definitions, with_spaces}
 use Rattle.laws_inline.proofs.Matching.{first_label_matches}
 use Rattle.laws_quote.proofs.Quotes.{quote_definitions_law}
 use Rattle.laws_list.proofs.Items.{list_definitions_law}
-use Rattle.laws_labels.specs.Definition.{BlockDefines, Define, Matches, DefinedLabelLaw, FirstDefinitionLaw, QuotedLabelLaw, ListedLabelLaw}
+use Rattle.laws_labels.specs.Definition.{LeafDefines, BlockDefines, Define, Matches, DefinedLabelLaw, FirstDefinitionLaw, QuotedLabelLaw, ListedLabelLaw}
 
 -- ---- some element of a list
 
@@ -52,41 +51,33 @@ module _ (P : LinkDefinition → Type 0) where
   define_either b bs first others (inl h) = inl (first h)
   define_either b bs first others (inr h) = inr (others h)
 
+  leaf_defines : (leaf : LeafBlock) → Some_of P (leaf_definitions leaf) → LeafDefines P leaf
+  leaf_defines (Definition label destination title) (inl h) = h
+  leaf_defines (Definition label destination title) (inr h) = absurd h
+  leaf_defines leaf h = absurd h
+
   mutual
     block_defines : (b : Block) → Some_of P (block_definitions b) → BlockDefines P b
-    block_defines (Leaf (Paragraph ls)) h = absurd h
-    block_defines (Leaf (Heading rank ls)) h = absurd h
-    block_defines (Leaf Break) h = absurd h
-    block_defines (Leaf (IndentedCode ls)) h = absurd h
-    block_defines (Leaf (FencedCode info closed ls)) h = absurd h
-    block_defines (Leaf (Html ls)) h = absurd h
-    block_defines (Leaf (Table ls)) h = absurd h
-    block_defines (Leaf (Definition label destination title)) (inl h) = h
-    block_defines (Leaf (Definition label destination title)) (inr h) = absurd h
+    block_defines (Leaf leaf) h = leaf_defines leaf h
     block_defines (Holds c kids) h = define kids h
     block_defines (Items items) h = define items h
-    block_defines (Ending ending) h = absurd h
-    block_defines (Blank ending) h = absurd h
+    block_defines b h = absurd h
 
     define : (bs : Blocks) → Some_of P (definitions bs) → Define P bs
     define Nil h = absurd h
     define (Cons b bs) h =
         define_either b bs (λ k. block_defines b k) (λ k. define bs k) (in_either (block_definitions b) (definitions bs) h)
 
+  leaf_defined : (leaf : LeafBlock) → LeafDefines P leaf → Some_of P (leaf_definitions leaf)
+  leaf_defined (Definition label destination title) h = inl h
+  leaf_defined leaf h = absurd h
+
   mutual
     block_defined : (b : Block) → BlockDefines P b → Some_of P (block_definitions b)
-    block_defined (Leaf (Paragraph ls)) h = absurd h
-    block_defined (Leaf (Heading rank ls)) h = absurd h
-    block_defined (Leaf Break) h = absurd h
-    block_defined (Leaf (IndentedCode ls)) h = absurd h
-    block_defined (Leaf (FencedCode info closed ls)) h = absurd h
-    block_defined (Leaf (Html ls)) h = absurd h
-    block_defined (Leaf (Table ls)) h = absurd h
-    block_defined (Leaf (Definition label destination title)) h = inl h
+    block_defined (Leaf leaf) h = leaf_defined leaf h
     block_defined (Holds c kids) h = defined kids h
     block_defined (Items items) h = defined items h
-    block_defined (Ending ending) h = absurd h
-    block_defined (Blank ending) h = absurd h
+    block_defined b h = absurd h
 
     defined : (bs : Blocks) → Define P bs → Some_of P (definitions bs)
     defined Nil h = absurd h

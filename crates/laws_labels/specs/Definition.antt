@@ -8,7 +8,7 @@ use Rattle.definition_text.specs.Lines.{first_line}
 use Rattle.definition_inline.specs.Definition.{Definition as LinkDefinition, definition}
 use Rattle.definition_inline.specs.Inline.{link_texts}
 use Rattle.definition_inline.specs.LabelMatch.{normal_label}
-use Rattle.definition_block.specs.Blocks.{Block, Leaf, Definition, Holds, Items, Blocks, Nil, Cons}
+use Rattle.definition_block.specs.Blocks.{LeafBlock, Definition, Block, Leaf, Holds, Items, Blocks, Nil, Cons}
 use Rattle.definition_block.specs.Tree.{blocks}
 use Rattle.definition_inline.specs.Targets.{labels_of, linked_by, is_label_of}
 use Rattle.definition_block.specs.Definitions.{document_definitions, with_spaces}
@@ -17,10 +17,15 @@ use Rattle.laws_quote.specs.Laws.{HasNoTab}
 use Rattle.laws_list.specs.Listed.{list_lines}
 use Rattle.laws_list.specs.Laws.{begins_dark}
 
+-- a leaf is a definition that has this property
+abbrev pub LeafDefines : (LinkDefinition → Type 0) → LeafBlock → Type 0
+LeafDefines P (Definition label destination title) = P (definition label destination title [])
+LeafDefines P leaf = ⊥
+
 abbrev mutual
   -- some definition has this property, in whatever containers it stands
   pub BlockDefines : (LinkDefinition → Type 0) → Block → Type 0
-  BlockDefines P (Leaf (Definition label destination title)) = P (definition label destination title [])
+  BlockDefines P (Leaf leaf) = LeafDefines P leaf
   BlockDefines P (Holds c kids) = Define P kids
   BlockDefines P (Items items) = Define P items
   BlockDefines P b = ⊥

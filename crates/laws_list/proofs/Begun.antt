@@ -8,7 +8,7 @@ use Rattle.markdown_options.specs.declared.beside.Beside.{Beside}
 use Rattle.definition_text.specs.Columns.{Rest, is_blank}
 use Rattle.definition_text.specs.Content.{content_of}
 use Rattle.definition_inline.specs.Definition.{Definition as LinkDefinition, definition_at}
-use Rattle.definition_block.specs.Container.{Container, Quote, Item, Footnote}
+use Rattle.definition_block.specs.Container.{Container, Quote}
 use Rattle.definition_block.specs.ContainerLine.{ContainerLine}
 use Rattle.definition_block.specs.ContainerStart.{ContainerStart}
 use Rattle.definition_block.specs.Containers.{continues, starts}
@@ -122,10 +122,7 @@ longer_open (l ∷ ls) line = tt
 
 leaf_line_open : (line : BlockLine) (leaf : OpenLeaf) → IsOpen (At (leaf_with_line line leaf))
 leaf_line_open line (Text ls) = longer_open ls line
-leaf_line_open line (Indented ls pending) = tt
-leaf_line_open line (Fenced fence ending ls) = tt
-leaf_line_open line (OpenHtml kind ls) = tt
-leaf_line_open line (OpenTable ls) = tt
+leaf_line_open line leaf = tt
 
 line_open : (line : BlockLine) (now : Opening) → IsOpen (with_line line now)
 line_open line (At leaf) = leaf_line_open line leaf
@@ -145,17 +142,13 @@ module _ (on : Constructs) where
 
   holds_dark : (c : Container) (kids : Blocks) → IsDark (container_block c kids)
   holds_dark Quote kids = tt
-  holds_dark (Item item) kids = tt
-  holds_dark (Footnote label) kids = tt
+  holds_dark c kids = tt
 
   -- what is open is something where it is closed
   close_dark : (now : Opening) → IsOpen now → IsDark (close on now)
   close_dark (At (Text [])) h = absurd (true≢false h)
   close_dark (At (Text (line ∷ ls))) h = paragraph_dark line ls
-  close_dark (At (Indented ls pending)) h = tt
-  close_dark (At (Fenced fence ending ls)) h = tt
-  close_dark (At (OpenHtml kind ls)) h = tt
-  close_dark (At (OpenTable ls)) h = tt
+  close_dark (At leaf) h = tt
   close_dark (Inside c kids inner) h = holds_dark c (join kids (close on inner))
 
   closed_nothing : NoneOrDark (close on nothing)
@@ -164,12 +157,7 @@ module _ (on : Constructs) where
 
   close_either : (now : Opening) → NoneOrDark (close on now)
   close_either (At (Text [])) = closed_nothing
-  close_either (At (Text (line ∷ ls))) = inr (paragraph_dark line ls)
-  close_either (At (Indented ls pending)) = inr tt
-  close_either (At (Fenced fence ending ls)) = inr tt
-  close_either (At (OpenHtml kind ls)) = inr tt
-  close_either (At (OpenTable ls)) = inr tt
-  close_either (Inside c kids inner) = inr (holds_dark c (join kids (close on inner)))
+  close_either now = inr (close_dark now tt)
 
   after_begun : (away : Opening) (t : Tree) → IsBegun t → IsBegun (after on away t)
   after_begun away t b =

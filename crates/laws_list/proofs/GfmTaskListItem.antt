@@ -3,11 +3,11 @@ use Rattle.std.proofs.Common.{◌≡◌, Bool, false, ◌&&◌, List, refl, ap, 
 use Rattle.definition_text.specs.BlockLines.{BlockLine}
 use Rattle.definition_text.specs.InlineCode.{codes_of}
 use Rattle.definition_inline.specs.Scan.{without_indent}
-use Rattle.definition_block.specs.Container.{Quote, Item, Footnote}
 use Rattle.definition_block.specs.Blocks as tree
 use Rattle.definition_block.specs.Tree.{is_ending}
 use Rattle.definition_page.specs.Page as page
-use Rattle.definition_page.specs.Read.{Reading, Standing, in_container, text_content, checked_text, read_paragraph, read_block, read_blocks}
+use Rattle.definition_page.specs.Read.{Reading, Standing, in_container, text_content, checked_text, read_paragraph, after_leaf, read_leaf, read_block}
+use Rattle.definition_page.specs.Read.{read_blocks}
 use Rattle.laws_options.proofs.GfmTaskListItem.{no_check}
 
 -- in a container, as the first block of an item or not
@@ -19,21 +19,13 @@ module _ (r : Reading) (off : r.options.constructs.gfm_task_list_item ≡ false)
   same_paragraph first ls =
       let content = without_indent (text_content r ls) in ap (checked_text r content) (no_check r off first (codes_of content))
 
+  same_leaf : (first : Bool) (leaf : tree.LeafBlock) → read_leaf r (standing_by first) leaf ≡ read_leaf r in_container leaf
+  same_leaf first (tree.Paragraph ls) = ap page.Paragraph (same_paragraph first ls)
+  same_leaf first leaf = refl
+
   same_block : (first : Bool) (b : tree.Block) (others : page.Blocks) → read_block r (standing_by first) b others ≡ read_block r in_container b others
-  same_block first (tree.Leaf (tree.Paragraph ls)) others = ap (λ is. page.Cons (page.Leaf (page.Paragraph is)) others) (same_paragraph first ls)
-  same_block first (tree.Leaf (tree.Heading rank ls)) others = refl
-  same_block first (tree.Leaf tree.Break) others = refl
-  same_block first (tree.Leaf (tree.IndentedCode ls)) others = refl
-  same_block first (tree.Leaf (tree.FencedCode info is_closed ls)) others = refl
-  same_block first (tree.Leaf (tree.Html ls)) others = refl
-  same_block first (tree.Leaf (tree.Table ls)) others = refl
-  same_block first (tree.Leaf (tree.Definition label destination title)) others = refl
-  same_block first (tree.Holds Quote kids) others = refl
-  same_block first (tree.Holds (Item item) kids) others = refl
-  same_block first (tree.Holds (Footnote label) kids) others = refl
-  same_block first (tree.Items items) others = refl
-  same_block first (tree.Ending ending) others = refl
-  same_block first (tree.Blank ending) others = refl
+  same_block first (tree.Leaf leaf) others = ap (λ x. page.Cons (page.Leaf x) (after_leaf false leaf others)) (same_leaf first leaf)
+  same_block first b others = refl
 
   pub read_in_item : (first : Bool) (bs : tree.Blocks) → read_blocks r (standing_by first) bs ≡ read_blocks r in_container bs
   read_in_item first tree.Nil = refl

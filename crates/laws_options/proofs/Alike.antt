@@ -22,7 +22,8 @@ use Rattle.definition_page.specs.GfmTable.{body_pieces, table_pieces}
 use Rattle.definition_page.specs.Page as page
 use Rattle.definition_page.specs.Page.{Page}
 use Rattle.definition_page.specs.BlockPieces.{Place, at_top, inside, html_line, says, heading_name}
-use Rattle.definition_page.specs.BlockPieces.{list_tag, last_visible, ends_plainly, fresh_unless, block_pieces, children_pieces, document_pieces}
+use Rattle.definition_page.specs.BlockPieces.{list_tag, last_visible, ends_plainly, fresh_unless, leaf_block_pieces, block_pieces, children_pieces}
+use Rattle.definition_page.specs.BlockPieces.{document_pieces}
 
 -- options that print raw HTML and URLs alike
 pub record Alike (one another : CompileOptions) : Type 0 where
@@ -169,12 +170,16 @@ module _ (m : Meaning) (compile : CompileOptions) (alike : Alike compile m.compi
       ap (λ head. whole head (body_pieces other t.aligns t.ending t.rows)) (same_head t.aligns t.head)
       ∙ ap (whole (head_pieces m t.aligns t.head)) (same_body t.aligns t.ending t.rows)
 
+  same_leaf_block : (place : Place) (leaf : page.PageLeaf) → leaf_block_pieces other place leaf ≡ leaf_block_pieces m place leaf
+  same_leaf_block place (page.Paragraph is) = ap (λ ps. cond place.tight ps (Fresh ∷ element (bare_tag (codes "p")) ps)) (same_inlines is)
+  same_leaf_block place (page.Heading rank is) = ap (λ ps. Fresh ∷ element (bare_tag (heading_name rank)) ps) (same_inlines is)
+  same_leaf_block place (page.Html ls) = ap (λ said. Fresh ∷ says said) (same_html ls)
+  same_leaf_block place (page.Table t) = same_table t
+  same_leaf_block place leaf = refl
+
   mutual
     same_block : (place : Place) (before : Option page.Block) (b : page.Block) → block_pieces other place before b ≡ block_pieces m place before b
-    same_block place before (page.Leaf (page.Paragraph is)) = ap (λ ps. cond place.tight ps (Fresh ∷ element (bare_tag (codes "p")) ps)) (same_inlines is)
-    same_block place before (page.Leaf (page.Heading rank is)) = ap (λ ps. Fresh ∷ element (bare_tag (heading_name rank)) ps) (same_inlines is)
-    same_block place before (page.Leaf (page.Html ls)) = ap (λ said. Fresh ∷ says said) (same_html ls)
-    same_block place before (page.Leaf (page.Table t)) = same_table t
+    same_block place before (page.Leaf leaf) = same_leaf_block place leaf
     same_block place before (page.Holds page.Quote kids) =
         ap (λ ps. Fresh ∷ element (bare_tag (codes "blockquote")) (ps ++ Fresh ∷ [])) (same_children (inside false) None kids)
     same_block place before (page.ItemList number loose items) =

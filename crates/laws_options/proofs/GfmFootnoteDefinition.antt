@@ -8,23 +8,23 @@ use Rattle.definition_text.specs.BlockLines.{BlockLine}
 use Rattle.definition_text.specs.Lines.{without_mark, kind_before_text}
 use Rattle.definition_inline.specs.Inline.{InlineLeaf, Html, Link, Image, Inline, Leaf, Span, Linked, Call, Inlines, Nil, Cons}
 use Rattle.definition_inline.specs.LabelMatch.{normal_label, first_match}
-use Rattle.definition_block.specs.Container.{Quote, Item, Footnote}
+use Rattle.definition_block.specs.Container.{Footnote}
 use Rattle.definition_block.specs.Tree as tree
 use Rattle.definition_block.specs.Tree.{blocks}
 use Rattle.definition_block.specs.Definitions.{block_footnotes, footnotes}
 use Rattle.markdown_options.specs.declared.align_kind.AlignKind.{AlignKind}
 use Rattle.definition_page.specs.Tags.{PrintedPart, Tag, tag, bare_tag}
 use Rattle.definition_page.specs.Pieces.{Piece, Close, Says, Eol, Fresh, NoteEnd}
-use Rattle.definition_page.specs.InlinePieces.{Meaning, html_says, link_tag, call_at, count_at, part_counts, inline_counts, element, leaf_pieces, span_name, part_pieces}
+use Rattle.definition_page.specs.InlinePieces.{Meaning, html_says, link_tag, call_at, count_at, part_counts, inline_counts, element, leaf_pieces}
 use Rattle.definition_inline.specs.Targets.{leads_to}
-use Rattle.definition_page.specs.InlinePieces.{inline_pieces}
+use Rattle.definition_page.specs.InlinePieces.{span_name, part_pieces, inline_pieces}
 use Rattle.definition_page.specs.GfmTable.{Table, TableRow, align_attributes, cell_pieces, cells_pieces, row_pieces, ending_piece, body_row_pieces, head_pieces}
 use Rattle.definition_page.specs.GfmTable.{body_pieces, table_pieces}
 use Rattle.definition_page.specs.Page as page
 use Rattle.definition_page.specs.Page.{Page}
 use Rattle.definition_page.specs.BlockPieces.{Place, at_top, inside, code_line, html_line, says, heading_name, info_attributes, list_tag}
-use Rattle.definition_page.specs.BlockPieces.{last_visible, ends_plainly, is_silent, fresh_unless, fenced_pieces, block_pieces, children_pieces}
-use Rattle.definition_page.specs.BlockPieces.{document_pieces}
+use Rattle.definition_page.specs.BlockPieces.{last_visible, ends_plainly, is_silent, fresh_unless, fenced_pieces, leaf_block_pieces, block_pieces}
+use Rattle.definition_page.specs.BlockPieces.{children_pieces, document_pieces}
 use Rattle.definition_page.specs.DocumentPieces.{meaning_of, default_ending}
 use Rattle.definition_page.specs.Layout.{page_layout}
 use Rattle.definition_page.specs.Read.{read}
@@ -38,9 +38,8 @@ use Rattle.laws_options.proofs.Layouts.{AreUncalled, uncalled_layout}
 
 mutual
   no_label : (b : tree.Block) → block_has is_footnote_definition b ≡ false → block_footnotes b ≡ []
-  no_label (tree.Holds Quote kids) h = ap (λ labels. labels ++ []) (no_labels kids h)
-  no_label (tree.Holds (Item item) kids) h = ap (λ labels. labels ++ []) (no_labels kids h)
   no_label (tree.Holds (Footnote label) kids) h = absurd (false≢true (sym h))
+  no_label (tree.Holds c kids) h = ap (λ labels. labels ++ []) (no_labels kids h)
   no_label (tree.Items items) h = no_labels items h
   no_label b h = refl
 
@@ -159,29 +158,32 @@ module _ (m : Meaning) (none : m.footnotes ≡ []) where
       let p = cond_both (place.top || is_closed) [] (Eol ∷ []) AreUncalled (λ _. tt) (λ _. (tt, tt)) in
       uncalled_append (lines ++ last) (Fresh ∷ []) (uncalled_append lines last (uncalled_says (flat_map code_line (line ∷ others))) p) (tt, tt)
 
+  uncalled_leaf_block : (place : Place) (leaf : page.PageLeaf) → AreUncalled (leaf_block_pieces m place leaf)
+  uncalled_leaf_block place (page.Paragraph is) =
+      cond_both place.tight (inline_pieces m is) _ AreUncalled (λ _. uncalled_inlines is)
+      (λ _. (tt, uncalled_element (bare_tag (codes "p")) (inline_pieces m is) (uncalled_inlines is)))
+  uncalled_leaf_block place (page.Heading rank is) = (tt, uncalled_element (bare_tag (heading_name rank)) (inline_pieces m is) (uncalled_inlines is))
+  uncalled_leaf_block place page.Break = (tt, (tt, tt))
+  uncalled_leaf_block place (page.IndentedCode ls) =
+      let lines = says (flat_map code_line ls) ++ Fresh ∷ [] in
+      let code = bare_tag (codes "code") in (
+        tt,
+        uncalled_element (bare_tag (codes "pre")) (element code lines)
+            (uncalled_element code lines (uncalled_append (says (flat_map code_line ls)) (Fresh ∷ []) (uncalled_says (flat_map code_line ls)) (tt, tt))),
+      )
+  uncalled_leaf_block place (page.FencedCode info is_closed ls) =
+      let lines = fenced_pieces place is_closed ls in
+      let code = tag (codes "code") (info_attributes info) in
+      let pre = bare_tag (codes "pre") in
+      uncalled_append (Fresh ∷ element pre (element code lines)) (fresh_unless is_closed)
+      (tt, uncalled_element pre (element code lines) (uncalled_element code lines (uncalled_fenced place is_closed ls))) (uncalled_fresh is_closed)
+  uncalled_leaf_block place (page.Html ls) = (tt, uncalled_says (flat_map (html_line m.compile) ls))
+  uncalled_leaf_block place (page.Table t) = uncalled_table t
+  uncalled_leaf_block place page.Definition = tt
+
   mutual
     uncalled_block : (place : Place) (before : Option page.Block) (b : page.Block) → AreUncalled (block_pieces m place before b)
-    uncalled_block place before (page.Leaf (page.Paragraph is)) =
-        cond_both place.tight (inline_pieces m is) _ AreUncalled (λ _. uncalled_inlines is)
-        (λ _. (tt, uncalled_element (bare_tag (codes "p")) (inline_pieces m is) (uncalled_inlines is)))
-    uncalled_block place before (page.Leaf (page.Heading rank is)) = (tt, uncalled_element (bare_tag (heading_name rank)) (inline_pieces m is) (uncalled_inlines is))
-    uncalled_block place before (page.Leaf page.Break) = (tt, (tt, tt))
-    uncalled_block place before (page.Leaf (page.IndentedCode ls)) =
-        let lines = says (flat_map code_line ls) ++ Fresh ∷ [] in
-        let code = bare_tag (codes "code") in (
-          tt,
-          uncalled_element (bare_tag (codes "pre")) (element code lines)
-              (uncalled_element code lines (uncalled_append (says (flat_map code_line ls)) (Fresh ∷ []) (uncalled_says (flat_map code_line ls)) (tt, tt))),
-        )
-    uncalled_block place before (page.Leaf (page.FencedCode info is_closed ls)) =
-        let lines = fenced_pieces place is_closed ls in
-        let code = tag (codes "code") (info_attributes info) in
-        let pre = bare_tag (codes "pre") in
-        uncalled_append (Fresh ∷ element pre (element code lines)) (fresh_unless is_closed)
-        (tt, uncalled_element pre (element code lines) (uncalled_element code lines (uncalled_fenced place is_closed ls))) (uncalled_fresh is_closed)
-    uncalled_block place before (page.Leaf (page.Html ls)) = (tt, uncalled_says (flat_map (html_line m.compile) ls))
-    uncalled_block place before (page.Leaf (page.Table t)) = uncalled_table t
-    uncalled_block place before (page.Leaf page.Definition) = tt
+    uncalled_block place before (page.Leaf leaf) = uncalled_leaf_block place leaf
     uncalled_block place before (page.Holds page.Quote kids) =
         let lines = children_pieces m (inside false) None kids in (
           tt,

@@ -12,23 +12,22 @@ use Rattle.definition_inline.specs.GfmTaskListItem.{check_of, check_at}
 use Rattle.definition_inline.specs.Scan.{without_indent}
 use Rattle.definition_inline.proofs.EachPart.{each_gives}
 use Rattle.definition_inline.proofs.MayStand.{Stands, may_stand}
-use Rattle.definition_block.specs.Container.{Quote, Item, Footnote}
 use Rattle.definition_block.specs.Tree as tree
 use Rattle.definition_block.specs.Tree.{blocks}
 use Rattle.definition_block.specs.Lists.{group_items}
 use Rattle.definition_page.specs.Page as page
 use Rattle.definition_page.specs.Page.{cons_ending, cons_blank}
-use Rattle.definition_page.specs.Read.{Reading, Standing, on_page, in_container, in_item, next_standing, context_of, text_content, checked_text}
-use Rattle.definition_page.specs.Read.{read_paragraph}
-use Rattle.definition_page.specs.Read.{without_ending, after_code, read_block, read_blocks}
-use Rattle.laws_options.specs.GfmTaskListItem.{IsNoCheck, HaveNoChecks, TaskListItemOffLaw}
+use Rattle.definition_page.specs.Read.{Reading, Standing, on_page, in_container, next_standing, context_of, text_content, checked_text, read_paragraph}
+use Rattle.definition_page.specs.Read.{without_ending, after_leaf, read_leaf, standing_in, read_block, read_blocks}
+use Rattle.laws_options.specs.GfmTaskListItem.{IsNoCheck, LeafHasNoCheck, HaveNoChecks, TaskListItemOffLaw}
 
 unchecked_rest : (bs : page.Blocks) → HaveNoChecks bs → HaveNoChecks (without_ending bs)
 unchecked_rest (page.Cons (page.Ending ending) bs) p = p.1
 unchecked_rest bs p = p
 
-unchecked_after_code : (top is_closed : Bool) (bs : page.Blocks) → HaveNoChecks bs → HaveNoChecks (after_code top is_closed bs)
-unchecked_after_code top is_closed bs p = cond_both (top && not is_closed) _ _ HaveNoChecks (λ _. unchecked_rest bs p) (λ _. p)
+unchecked_after : (top : Bool) (leaf : tree.LeafBlock) (bs : page.Blocks) → HaveNoChecks bs → HaveNoChecks (after_leaf top leaf bs)
+unchecked_after top (tree.FencedCode info is_closed ls) bs p = cond_both (top && not is_closed) _ _ HaveNoChecks (λ _. unchecked_rest bs p) (λ _. p)
+unchecked_after top leaf bs p = p
 
 unchecked_ending : (ending : Option LineEnding) (bs : page.Blocks) → HaveNoChecks bs → HaveNoChecks (cons_ending ending bs)
 unchecked_ending None bs p = p
@@ -58,19 +57,14 @@ module _ (r : Reading) (off : r.options.constructs.gfm_task_list_item ≡ false)
       subst (λ found. EachOf IsNoCheck (checked_text r content found)) (sym (no_check first (codes_of content)))
       (each_gives (Stands on) IsNoCheck (no_check_stands on) _ (may_stand (context_of r) content))
 
+  unchecked_leaf : (s : Standing) (leaf : tree.LeafBlock) → LeafHasNoCheck (read_leaf r s leaf)
+  unchecked_leaf s (tree.Paragraph ls) = unchecked_paragraph s.first ls
+  unchecked_leaf s leaf = tt
+
   mutual
     unchecked_block : (s : Standing) (b : tree.Block) (others : page.Blocks) → HaveNoChecks others → HaveNoChecks (read_block r s b others)
-    unchecked_block s (tree.Leaf (tree.Paragraph ls)) others p = (unchecked_paragraph s.first ls, p)
-    unchecked_block s (tree.Leaf (tree.Heading rank ls)) others p = (tt, p)
-    unchecked_block s (tree.Leaf tree.Break) others p = (tt, p)
-    unchecked_block s (tree.Leaf (tree.IndentedCode ls)) others p = (tt, p)
-    unchecked_block s (tree.Leaf (tree.FencedCode info is_closed ls)) others p = (tt, unchecked_after_code s.top is_closed others p)
-    unchecked_block s (tree.Leaf (tree.Html ls)) others p = (tt, p)
-    unchecked_block s (tree.Leaf (tree.Table ls)) others p = (tt, p)
-    unchecked_block s (tree.Leaf (tree.Definition label destination title)) others p = (tt, p)
-    unchecked_block s (tree.Holds Quote kids) others p = (unchecked_blocks in_container kids, p)
-    unchecked_block s (tree.Holds (Item item) kids) others p = (unchecked_blocks in_item kids, p)
-    unchecked_block s (tree.Holds (Footnote label) kids) others p = (unchecked_blocks in_container kids, p)
+    unchecked_block s (tree.Leaf leaf) others p = (unchecked_leaf s leaf, unchecked_after s.top leaf others p)
+    unchecked_block s (tree.Holds c kids) others p = (unchecked_blocks (standing_in c) kids, p)
     unchecked_block s (tree.Items items) others p = (unchecked_blocks in_container items, p)
     unchecked_block s (tree.Ending ending) others p = unchecked_ending ending others p
     unchecked_block s (tree.Blank ending) others p = unchecked_blank ending others p

@@ -9,7 +9,7 @@ use Rattle.definition_text.specs.BlockLines.{BlockLine}
 use Rattle.markdown_options.specs.declared.beside.Kind.{Kind}
 use Rattle.definition_inline.specs.Inline.{InlineLeaf, Html, Link, Image, Inline, Leaf, Span, Linked, Call, Inlines, Nil, Cons}
 use Rattle.definition_inline.specs.LabelMatch.{normal_label, first_match}
-use Rattle.definition_block.specs.Container.{Quote, Item, Footnote}
+use Rattle.definition_block.specs.Container.{Container, Footnote}
 use Rattle.definition_block.specs.Blocks as tree
 use Rattle.definition_block.specs.Tree.{is_ending, one, blocks}
 use Rattle.definition_block.specs.Definitions.{block_footnotes, footnotes}
@@ -24,11 +24,11 @@ use Rattle.definition_page.specs.GfmTable.{Table, TableRow, cell_pieces, cells_p
 use Rattle.definition_page.specs.GfmTable.{table_pieces}
 use Rattle.definition_page.specs.Page as page
 use Rattle.definition_page.specs.BlockPieces.{Place, at_top, inside, code_line, html_line, says, info_attributes, is_silent, last_visible}
-use Rattle.definition_page.specs.BlockPieces.{ends_plainly, fresh_unless, fenced_pieces, block_pieces, children_pieces}
-use Rattle.definition_page.specs.Read.{Reading, Standing, on_page, in_container, in_item, next_standing}
-use Rattle.definition_page.specs.Read.{without_ending, read_block, read_blocks}
+use Rattle.definition_page.specs.BlockPieces.{ends_plainly, fresh_unless, fenced_pieces, leaf_block_pieces, block_pieces, children_pieces}
+use Rattle.definition_page.specs.Read.{Reading, Standing, on_page, in_container, next_standing}
+use Rattle.definition_page.specs.Read.{without_ending, after_leaf, read_container, standing_in, read_block, read_blocks}
 use Rattle.definition_page.proofs.PlainLayout.{ArePlain}
-use Rattle.laws_block.proofs.Occurs.{BlockMayStand, MayStand, may_stand}
+use Rattle.laws_block.proofs.Occurs.{ContainerMayStand, BlockMayStand, MayStand, may_stand}
 
 -- ---- lists of such pieces
 
@@ -49,11 +49,14 @@ plain-fresh_unless false = (tt, tt)
 
 -- ---- blocks without footnote definitions, at any depth
 
+-- any container but a footnote definition
+abbrev IsNoNote : Container → Type 0
+IsNoNote (Footnote label) = ⊥
+IsNoNote c = Unit {0}
+
 abbrev mutual
   HasNoNote : tree.Block → Type 0
-  HasNoNote (tree.Holds Quote kids) = HaveNoNotes kids
-  HasNoNote (tree.Holds (Item item) kids) = HaveNoNotes kids
-  HasNoNote (tree.Holds (Footnote label) kids) = ⊥
+  HasNoNote (tree.Holds c kids) = IsNoNote c × HaveNoNotes kids
   HasNoNote (tree.Items items) = HaveNoNotes items
   HasNoNote b = Unit {0}
 
@@ -63,22 +66,15 @@ abbrev mutual
 
 -- where footnote definitions are off, no text has one
 module _ (on : Constructs) (off : on.gfm_footnote_definition ≡ false) where
+  is_no_note : (c : Container) → ContainerMayStand on c → IsNoNote c
+  is_no_note (Footnote label) p = absurd (both_ways on.gfm_footnote_definition off p)
+  is_no_note c p = tt
+
   mutual
     has_no_note : (b : tree.Block) → BlockMayStand on b → HasNoNote b
-    has_no_note (tree.Holds Quote kids) p = have_no_notes kids p.1
-    has_no_note (tree.Holds (Item item) kids) p = have_no_notes kids p.1
-    has_no_note (tree.Holds (Footnote label) kids) p = absurd (both_ways on.gfm_footnote_definition off p.0)
+    has_no_note (tree.Holds c kids) p = (is_no_note c p.0, have_no_notes kids p.1)
     has_no_note (tree.Items items) p = absurd p
-    has_no_note (tree.Leaf (tree.Paragraph ls)) p = tt
-    has_no_note (tree.Leaf (tree.Heading rank ls)) p = tt
-    has_no_note (tree.Leaf tree.Break) p = tt
-    has_no_note (tree.Leaf (tree.IndentedCode ls)) p = tt
-    has_no_note (tree.Leaf (tree.FencedCode info closed ls)) p = tt
-    has_no_note (tree.Leaf (tree.Html ls)) p = tt
-    has_no_note (tree.Leaf (tree.Table ls)) p = tt
-    has_no_note (tree.Leaf (tree.Definition label destination title)) p = tt
-    has_no_note (tree.Ending ending) p = tt
-    has_no_note (tree.Blank ending) p = tt
+    has_no_note b p = tt
 
     have_no_notes : (bs : tree.Blocks) → MayStand on bs → HaveNoNotes bs
     have_no_notes tree.Nil p = tt
@@ -90,9 +86,8 @@ module _ (on : Constructs) (off : on.gfm_footnote_definition ≡ false) where
 -- blocks that have none have no labels of them
 mutual
   block_labels : (b : tree.Block) → HasNoNote b → block_footnotes b ≡ []
-  block_labels (tree.Holds Quote kids) p = ap (λ labels. labels ++ []) (no_labels kids p)
-  block_labels (tree.Holds (Item item) kids) p = ap (λ labels. labels ++ []) (no_labels kids p)
-  block_labels (tree.Holds (Footnote label) kids) p = absurd p
+  block_labels (tree.Holds (Footnote label) kids) p = absurd p.0
+  block_labels (tree.Holds c kids) p = ap (λ labels. labels ++ []) (no_labels kids p.1)
   block_labels (tree.Items items) p = no_labels items p
   block_labels b p = refl
 
@@ -137,9 +132,7 @@ notes-before b bs p q =
 
 mutual
   note_grouped : (b : tree.Block) → HasNoNote b → HasNoNote (grouped_block b)
-  note_grouped (tree.Holds Quote kids) p = notes_grouped kids p
-  note_grouped (tree.Holds (Item item) kids) p = notes_grouped kids p
-  note_grouped (tree.Holds (Footnote label) kids) p = absurd p
+  note_grouped (tree.Holds c kids) p = (p.0, notes_grouped kids p.1)
   note_grouped b p = p
 
   notes_grouped : (bs : tree.Blocks) → HaveNoNotes bs → HaveNoNotes (group_items bs)
@@ -148,12 +141,14 @@ mutual
 
 -- ---- the blocks of a page
 
+abbrev IsNoNoteOnPage : page.PageContainer → Type 0
+IsNoNoteOnPage (page.Footnote label) = ⊥
+IsNoNoteOnPage c = Unit {0}
+
 abbrev mutual
   ReadsNoNote : page.Block → Type 0
-  ReadsNoNote (page.Holds page.Quote kids) = ReadNoNotes kids
+  ReadsNoNote (page.Holds c kids) = IsNoNoteOnPage c × ReadNoNotes kids
   ReadsNoNote (page.ItemList number loose items) = ReadNoNotes items
-  ReadsNoNote (page.Holds page.Item kids) = ReadNoNotes kids
-  ReadsNoNote (page.Holds (page.Footnote label) kids) = ⊥
   ReadsNoNote b = Unit {0}
 
   ReadNoNotes : page.Blocks → Type 0
@@ -164,21 +159,20 @@ notes_without_ending : (bs : page.Blocks) → ReadNoNotes bs → ReadNoNotes (wi
 notes_without_ending (page.Cons (page.Ending ending) bs) p = p.1
 notes_without_ending bs p = p
 
+notes_after : (top : Bool) (leaf : tree.LeafBlock) (others : page.Blocks) → ReadNoNotes others → ReadNoNotes (after_leaf top leaf others)
+notes_after top (tree.FencedCode info is_closed ls) others p =
+    cond_both (top && not is_closed) (without_ending others) others ReadNoNotes (λ _. notes_without_ending others p) (λ _. p)
+notes_after top leaf others p = p
+
+no_note_read : (c : Container) → IsNoNote c → IsNoNoteOnPage (read_container c)
+no_note_read (Footnote label) p = absurd p
+no_note_read c p = tt
+
 module _ (r : Reading) where
   mutual
     note_read : (standing : Standing) (b : tree.Block) (others : page.Blocks) → HasNoNote b → ReadNoNotes others → ReadNoNotes (read_block r standing b others)
-    note_read standing (tree.Leaf (tree.Paragraph ls)) others p q = (tt, q)
-    note_read standing (tree.Leaf (tree.Heading rank ls)) others p q = (tt, q)
-    note_read standing (tree.Leaf tree.Break) others p q = (tt, q)
-    note_read standing (tree.Leaf (tree.IndentedCode ls)) others p q = (tt, q)
-    note_read standing (tree.Leaf (tree.FencedCode info closed ls)) others p q =
-        (tt, cond_both (standing.top && not closed) (without_ending others) others ReadNoNotes (λ _. notes_without_ending others q) (λ _. q))
-    note_read standing (tree.Leaf (tree.Html ls)) others p q = (tt, q)
-    note_read standing (tree.Leaf (tree.Table ls)) others p q = (tt, q)
-    note_read standing (tree.Leaf (tree.Definition label destination title)) others p q = (tt, q)
-    note_read standing (tree.Holds Quote kids) others p q = (notes_read in_container kids p, q)
-    note_read standing (tree.Holds (Item item) kids) others p q = (notes_read in_item kids p, q)
-    note_read standing (tree.Holds (Footnote label) kids) others p q = absurd p
+    note_read standing (tree.Leaf leaf) others p q = (tt, notes_after standing.top leaf others q)
+    note_read standing (tree.Holds c kids) others p q = ((no_note_read c p.0, notes_read (standing_in c) kids p.1), q)
     note_read standing (tree.Items items) others p q = (notes_read in_container items p, q)
     note_read standing (tree.Ending None) others p q = q
     note_read standing (tree.Ending (Some ending)) others p q = (tt, q)
@@ -271,44 +265,47 @@ module _ (m : Meaning) (none : m.footnotes ≡ []) where
 
   -- ---- blocks
 
-  fenced_plain : (place : Place) (closed : Bool) (ls : List BlockLine) → ArePlain (fenced_pieces place closed ls)
-  fenced_plain place closed [] = tt
-  fenced_plain place closed (line ∷ others) =
+  fenced_plain : (place : Place) (is_closed : Bool) (ls : List BlockLine) → ArePlain (fenced_pieces place is_closed ls)
+  fenced_plain place is_closed [] = tt
+  fenced_plain place is_closed (line ∷ others) =
       let lines = says (flat_map code_line (line ∷ others)) in
-      let end = if place.top || closed then [] else Eol ∷ [] in
+      let end = if place.top || is_closed then [] else Eol ∷ [] in
       plain-append (lines ++ end) (Fresh ∷ [])
       (plain-append lines end (plain-says (flat_map code_line (line ∷ others)))
-      (cond_both (place.top || closed) [] (Eol ∷ []) ArePlain (λ _. tt) (λ _. (tt, tt))))
+      (cond_both (place.top || is_closed) [] (Eol ∷ []) ArePlain (λ _. tt) (λ _. (tt, tt))))
       (tt, tt)
+
+  leaf_block_plain : (place : Place) (leaf : page.PageLeaf) → ArePlain (leaf_block_pieces m place leaf)
+  leaf_block_plain place (page.Paragraph is) =
+      let text = inline_pieces m is in
+      cond_both place.tight text (Fresh ∷ element (bare_tag (codes "p")) text) ArePlain (λ _. inline_plain is)
+      (λ _. (tt, plain-element _ text (inline_plain is)))
+  leaf_block_plain place (page.Heading rank is) = (tt, plain-element _ (inline_pieces m is) (inline_plain is))
+  leaf_block_plain place page.Break = (tt, (tt, tt))
+  leaf_block_plain place (page.IndentedCode ls) =
+      let lines = says (flat_map code_line ls) in
+      let code = lines ++ Fresh ∷ [] in (
+        tt,
+        plain-element _ (element (bare_tag (codes "code")) code)
+            (plain-element _ code (plain-append lines (Fresh ∷ []) (plain-says (flat_map code_line ls)) (tt, tt))),
+      )
+  leaf_block_plain place (page.FencedCode info is_closed ls) =
+      let lines = fenced_pieces place is_closed ls in
+      let code = element (tag (codes "code") (info_attributes info)) lines in (
+        tt,
+        plain-append (element (bare_tag (codes "pre")) code) (fresh_unless is_closed)
+            (plain-element _ code (plain-element _ lines (fenced_plain place is_closed ls))) (plain-fresh_unless is_closed),
+      )
+  leaf_block_plain place (page.Html ls) = (tt, plain-says (flat_map (html_line m.compile) ls))
+  leaf_block_plain place (page.Table t) = table_plain t
+  leaf_block_plain place page.Definition = tt
 
   mutual
     block_plain : (place : Place) (before : Option page.Block) (b : page.Block) → ReadsNoNote b → ArePlain (block_pieces m place before b)
-    block_plain place before (page.Leaf (page.Paragraph is)) p =
-        let text = inline_pieces m is in
-        cond_both place.tight text (Fresh ∷ element (bare_tag (codes "p")) text) ArePlain (λ _. inline_plain is)
-        (λ _. (tt, plain-element _ text (inline_plain is)))
-    block_plain place before (page.Leaf (page.Heading rank is)) p = (tt, plain-element _ (inline_pieces m is) (inline_plain is))
-    block_plain place before (page.Leaf page.Break) p = (tt, (tt, tt))
-    block_plain place before (page.Leaf (page.IndentedCode ls)) p =
-        let lines = says (flat_map code_line ls) in
-        let code = lines ++ Fresh ∷ [] in (
-          tt,
-          plain-element _ (element (bare_tag (codes "code")) code)
-              (plain-element _ code (plain-append lines (Fresh ∷ []) (plain-says (flat_map code_line ls)) (tt, tt))),
-        )
-    block_plain place before (page.Leaf (page.FencedCode info closed ls)) p =
-        let lines = fenced_pieces place closed ls in
-        let code = element (tag (codes "code") (info_attributes info)) lines in (
-          tt,
-          plain-append (element (bare_tag (codes "pre")) code) (fresh_unless closed)
-              (plain-element _ code (plain-element _ lines (fenced_plain place closed ls))) (plain-fresh_unless closed),
-        )
-    block_plain place before (page.Leaf (page.Html ls)) p = (tt, plain-says (flat_map (html_line m.compile) ls))
-    block_plain place before (page.Leaf (page.Table t)) p = table_plain t
-    block_plain place before (page.Leaf page.Definition) p = tt
+    block_plain place before (page.Leaf leaf) p = leaf_block_plain place leaf
     block_plain place before (page.Holds page.Quote kids) p =
         let inner = children_pieces m (inside false) None kids in
-        (tt, plain-element _ (inner ++ Fresh ∷ []) (plain-append inner (Fresh ∷ []) (children_plain (inside false) None kids p) (tt, tt)))
+        (tt, plain-element _ (inner ++ Fresh ∷ []) (plain-append inner (Fresh ∷ []) (children_plain (inside false) None kids p.1) (tt, tt)))
     block_plain place before (page.ItemList number loose items) p =
         let inner = children_pieces m (inside (not loose)) None items in
         (tt, plain-element _ (inner ++ Eol ∷ []) (plain-append inner (Eol ∷ []) (children_plain (inside (not loose)) None items p) (tt, tt)))
@@ -317,10 +314,10 @@ module _ (m : Meaning) (none : m.footnotes ≡ []) where
         let end = fresh_unless (ends_plainly place.tight (last_visible None kids)) in (
           tt,
           plain-element _ (inner ++ end)
-              (plain-append inner end (children_plain (inside place.tight) None kids p)
+              (plain-append inner end (children_plain (inside place.tight) None kids p.1)
               (plain-fresh_unless (ends_plainly place.tight (last_visible None kids)))),
         )
-    block_plain place before (page.Holds (page.Footnote label) kids) p = absurd p
+    block_plain place before (page.Holds (page.Footnote label) kids) p = absurd p.0
     block_plain place before (page.Ending ending) p =
         cond_both (is_silent place before) [] _ ArePlain (λ _. tt) (λ _. (tt, tt))
     block_plain place before (page.Blank ending) p = tt

@@ -8,16 +8,16 @@ use Rattle.markdown_options.specs.declared.line_ending.LineEnding.{LineEnding}
 use Rattle.markdown_options.specs.LineEndings.{ending_bytes}
 use Rattle.definition_text.specs.BlockLines.{BlockLine, own_lines}
 use Rattle.definition_text.specs.Columns.{code_byte}
-use Rattle.definition_block.specs.Container.{Quote, Item, Footnote}
 use Rattle.definition_block.specs.Tree as tree
 use Rattle.definition_page.specs.Tags.{Words, said_bytes, end_tag, tag, bare_tag}
 use Rattle.definition_page.specs.Pieces.{Piece, Open, Close, Says, Eol, Fresh}
 use Rattle.definition_page.specs.InlinePieces.{Meaning, element}
 use Rattle.definition_page.specs.Page as page
-use Rattle.definition_page.specs.Read.{Reading, Standing, on_page, in_container, in_item, read_text, read_table, info_text, without_ending, list_number}
-use Rattle.definition_page.specs.Read.{read_block, read_blocks}
+use Rattle.definition_page.specs.Read.{Reading, Standing, on_page, in_container, info_text, without_ending, read_leaf, read_container, standing_in}
+use Rattle.definition_page.specs.Read.{list_number, read_block, read_blocks}
 use Rattle.definition_block.specs.Lists.{is_loose}
-use Rattle.definition_page.specs.BlockPieces.{Place, at_top, inside, code_line, says, info_attributes, is_silent, fenced_pieces, block_pieces, children_pieces}
+use Rattle.definition_page.specs.BlockPieces.{Place, at_top, inside, code_line, says, info_attributes, is_silent, fenced_pieces, leaf_block_pieces}
+use Rattle.definition_page.specs.BlockPieces.{block_pieces, children_pieces}
 use Rattle.laws_quote.specs.Squeeze.{SqueezeState, with_bytes}
 use Rattle.laws_quote.proofs.Bytes.{kept_at_ending, same_at_tag}
 use Rattle.laws_quote.proofs.Printed.{with_piece, with_pieces, kept_at_fresh, kept_at_said, dropped_said}
@@ -28,9 +28,7 @@ use Rattle.laws_quote.proofs.Printed.{with_piece, with_pieces, kept_at_fresh, ke
 ending_alike : (m : Meaning) (before : Option page.Block) (ending : LineEnding)
     → block_pieces m at_top before (page.Ending ending) ≡ block_pieces m (inside false) before (page.Ending ending)
 ending_alike m None ending = refl
-ending_alike m (Some (page.Leaf (page.Paragraph is))) ending = refl
-ending_alike m (Some (page.Leaf page.Definition)) ending = refl
-ending_alike m (Some (page.Holds (page.Footnote label) kids)) ending = refl
+ending_alike m (Some (page.Leaf leaf)) ending = refl
 ending_alike m (Some b) ending = refl
 
 -- so does fenced code that is closed
@@ -38,11 +36,17 @@ lines_alike : (ls : List BlockLine) → fenced_pieces at_top true ls ≡ fenced_
 lines_alike [] = refl
 lines_alike (line ∷ others) = refl
 
-fenced_alike : (m : Meaning) (before : Option page.Block) (info : Option (List ℕ)) (ls : List BlockLine)
-    → block_pieces m at_top before (page.Leaf (page.FencedCode info true ls)) ≡ block_pieces m (inside false) before (page.Leaf (page.FencedCode info true ls))
-fenced_alike m before info ls =
+fenced_alike : (m : Meaning) (info : Option (List ℕ)) (ls : List BlockLine)
+    → leaf_block_pieces m at_top (page.FencedCode info true ls) ≡ leaf_block_pieces m (inside false) (page.FencedCode info true ls)
+fenced_alike m info ls =
     ap (λ ps. Fresh ∷ (element (bare_tag (codes "pre")) (element (tag (codes "code") (info_attributes info)) ps) ++ []))
     (lines_alike ls)
+
+-- so does a container
+held_alike : (m : Meaning) (before : Option page.Block) (c : page.PageContainer) (kids : page.Blocks)
+    → block_pieces m at_top before (page.Holds c kids) ≡ block_pieces m (inside false) before (page.Holds c kids)
+held_alike m before page.Quote kids = refl
+held_alike m before c kids = refl
 
 -- where a block stands that isn't the first in an item
 abbrev standing_at : Bool → Standing
@@ -55,27 +59,26 @@ data ReadBoth (m : Meaning) (r : Reading) (b : tree.Block) : Type 0 where
   Nothing : ((top : Bool) (others : page.Blocks) → read_block r (standing_at top) b others ≡ others) → ReadBoth m r b
   Unclosed : (info : Option (List ℕ)) (ls : List BlockLine)
       → ((others : page.Blocks) → read_block r on_page b others ≡ page.Cons (page.Leaf (page.FencedCode info false ls)) (without_ending others))
-      → ((others : page.Blocks) → read_block r in_container b others ≡ page.Cons (page.Leaf (page.FencedCode info false (own_lines ls))) others) → ReadBoth m r b
+      → ((others : page.Blocks) → read_block r in_container b others ≡ page.Cons (page.Leaf (page.FencedCode info false (own_lines ls))) others)
+      → ReadBoth m r b
 
 closed_read : (r : Reading) (info : List ℕ) (ls : List BlockLine) (top : Bool) (others : page.Blocks)
-    → read_block r (standing_at top) (tree.Leaf (tree.FencedCode info true ls)) others ≡ page.Cons (page.Leaf (page.FencedCode (info_text r info) true ls)) others
+    → read_block r (standing_at top) (tree.Leaf (tree.FencedCode info true ls)) others
+    ≡ page.Cons (page.Leaf (page.FencedCode (info_text r info) true ls)) others
 closed_read r info ls true others = refl
 closed_read r info ls false others = refl
 
+leaf_both : (m : Meaning) (r : Reading) (leaf : tree.LeafBlock) → ReadBoth m r (tree.Leaf leaf)
+leaf_both m r (tree.FencedCode info true ls) =
+    Alike (page.Leaf (page.FencedCode (info_text r info) true ls)) (closed_read r info ls) (λ before. fenced_alike m (info_text r info) ls)
+leaf_both m r (tree.FencedCode info false ls) = Unclosed (info_text r info) ls (λ others. refl) (λ others. refl)
+leaf_both m r leaf = Alike (page.Leaf (read_leaf r on_page leaf)) (λ top others. refl) (λ before. refl)
+
 read_both : (m : Meaning) (r : Reading) (b : tree.Block) → ReadBoth m r b
-read_both m r (tree.Leaf (tree.Paragraph ls)) = Alike (page.Leaf (page.Paragraph (read_text r ls))) (λ top others. refl) (λ before. refl)
-read_both m r (tree.Leaf (tree.Heading rank ls)) = Alike (page.Leaf (page.Heading rank (read_text r ls))) (λ top others. refl) (λ before. refl)
-read_both m r (tree.Leaf tree.Break) = Alike (page.Leaf page.Break) (λ top others. refl) (λ before. refl)
-read_both m r (tree.Leaf (tree.IndentedCode ls)) = Alike (page.Leaf (page.IndentedCode ls)) (λ top others. refl) (λ before. refl)
-read_both m r (tree.Leaf (tree.FencedCode info true ls)) =
-    Alike (page.Leaf (page.FencedCode (info_text r info) true ls)) (closed_read r info ls) (λ before. fenced_alike m before (info_text r info) ls)
-read_both m r (tree.Leaf (tree.FencedCode info false ls)) = Unclosed (info_text r info) ls (λ others. refl) (λ others. refl)
-read_both m r (tree.Leaf (tree.Html ls)) = Alike (page.Leaf (page.Html ls)) (λ top others. refl) (λ before. refl)
-read_both m r (tree.Leaf (tree.Table ls)) = Alike (page.Leaf (page.Table (read_table r ls))) (λ top others. refl) (λ before. refl)
-read_both m r (tree.Leaf (tree.Definition label destination title)) = Alike (page.Leaf page.Definition) (λ top others. refl) (λ before. refl)
-read_both m r (tree.Holds Quote kids) = Alike (page.Holds page.Quote (read_blocks r in_container kids)) (λ top others. refl) (λ before. refl)
-read_both m r (tree.Holds (Item item) kids) = Alike (page.Holds page.Item (read_blocks r in_item kids)) (λ top others. refl) (λ before. refl)
-read_both m r (tree.Holds (Footnote label) kids) = Alike (page.Holds (page.Footnote label) (read_blocks r in_container kids)) (λ top others. refl) (λ before. refl)
+read_both m r (tree.Leaf leaf) = leaf_both m r leaf
+read_both m r (tree.Holds c kids) =
+    let inner = read_blocks r (standing_in c) kids in
+    Alike (page.Holds (read_container c) inner) (λ top others. refl) (λ before. held_alike m before (read_container c) inner)
 read_both m r (tree.Items items) =
     Alike (page.ItemList (list_number items) (is_loose items) (read_blocks r in_container items)) (λ top others. refl) (λ before. refl)
 read_both m r (tree.Ending None) = Nothing (λ top others. refl)
@@ -91,6 +94,7 @@ same_after : (m : Meaning) (place : Place) (a b : Option page.Block) (bs : page.
 same_after m place a b page.Nil e = refl
 same_after m place a b (page.Cons (page.Ending ending) bs) e =
     ap (λ silent. cond silent [] (Says (Words (ending_bytes ending)) ∷ []) ++ children_pieces m place (Some (page.Ending ending)) bs) e
+same_after m place a b (page.Cons (page.Holds page.Quote kids) bs) e = refl
 same_after m place a b (page.Cons c bs) e = refl
 
 module _ (default : LineEnding) (m : Meaning) where
@@ -108,15 +112,15 @@ module _ (default : LineEnding) (m : Meaning) where
   -- ---- fenced code that isn't closed
 
   abbrev fence : Option (List ℕ) → List BlockLine → page.Block
-  fence info ls = page.FencedCode info false ls
+  fence info ls = page.Leaf (page.FencedCode info false ls)
 
-  -- an ending right after it prints nothing that is kept
-  no_ending : (place : Place) (info : Option (List ℕ)) (ls : List BlockLine) (bs : page.Blocks) (s : SqueezeState) → s.run ≡ None
-      → print_siblings place (Some (fence info ls)) (without_ending bs) s ≡ print_siblings place (Some (fence info ls)) bs s
-  no_ending place info ls (page.Cons (page.Ending ending) bs) s e =
-      ap (with_pieces default s) (same_after m place (Some (fence info ls)) (Some (page.Ending ending)) bs refl)
-      ∙ sym (ap (print_siblings place (Some (page.Ending ending)) bs) (dropped_said s ending e))
-  no_ending place info ls bs s e = refl
+  -- an ending right after it at the top prints nothing that is kept
+  no_ending : (info : Option (List ℕ)) (ls : List BlockLine) (bs : page.Blocks) (s : SqueezeState) → s.run ≡ None
+      → print_siblings at_top (Some (fence info ls)) (without_ending bs) s ≡ print_siblings at_top (Some (fence info ls)) bs s
+  no_ending info ls (page.Cons (page.Ending ending) bs) s e =
+      ap (with_pieces default s) (same_after m at_top (Some (fence info ls)) (Some (page.Ending ending)) bs refl)
+      ∙ sym (ap (print_siblings at_top (Some (page.Ending ending)) bs) (dropped_said s ending e))
+  no_ending info ls bs s e = refl
 
   -- its last line is kept without its ending
   kept_lines : (line : BlockLine) (others : List BlockLine) (s : SqueezeState)
@@ -208,7 +212,7 @@ module _ (default : LineEnding) (m : Meaning) where
         let dropped = ap (λ u. u.run) (print-fence at_top before info ls s) in
         ap (λ bs. print_siblings at_top before bs s) (read_outer outer)
         ∙ print-cons at_top before code (without_ending outer) s
-        ∙ no_ending at_top info ls outer t dropped
+        ∙ no_ending info ls outer t dropped
         ∙ same (Some code) t
         ∙ ap (with_pieces default t) (same_after m (inside false) (Some code) (Some own) inner refl)
         ∙ ap (print_siblings (inside false) (Some own) inner) (same_fence before info ls s)

@@ -17,15 +17,15 @@ use Rattle.definition_page.specs.GfmTable.{TableRow, Table as TableOf, align_att
 use Rattle.definition_page.specs.GfmTable.{head_pieces, body_pieces, table_pieces}
 use Rattle.definition_page.specs.Tags.{Words, Number, Tag, tag, bare_tag}
 use Rattle.definition_page.specs.Pieces.{Piece, Void, Says, Eol, Fresh}
-use Rattle.definition_page.specs.Page.{Page, Block, Leaf, Paragraph, Heading, Break, IndentedCode, FencedCode, Html, Table, Definition, Quote, ItemList, Item}
-use Rattle.definition_page.specs.Page.{Footnote, Ending, Blank, Blocks, Nil as NoBlocks, Cons}
+use Rattle.definition_page.specs.Page.{Page, PageLeaf, Paragraph, Heading, Break, IndentedCode, FencedCode, Html, Table, Definition, Quote, Item, Footnote}
+use Rattle.definition_page.specs.Page.{Block, Leaf, Holds, ItemList, Ending, Blank, Blocks, Nil as NoBlocks, Cons}
 use Rattle.definition_page.specs.InlinePieces.{Meaning, inline_counts, element, inline_pieces}
 use Rattle.definition_page.specs.GfmFootnoteDefinition.{Footnote as NoteWithCalls, section_pieces}
 use Rattle.definition_page.specs.Layout.{named_calls, first_calls, with_calls, content, contents, layout, footnote_of, called_footnotes, page_layout}
 use Rattle.definition_page.proofs.Cuts.{outside_is, insides_are}
 use Rattle.definition_page.specs.BlockPieces.{Place, at_top, inside, code_line, html_line, says}
 use Rattle.definition_page.specs.BlockPieces.{heading_name, info_attributes, list_tag, is_silent, last_visible, ends_plainly, fresh_unless, fenced_pieces}
-use Rattle.definition_page.specs.BlockPieces.{block_pieces, children_pieces, document_pieces}
+use Rattle.definition_page.specs.BlockPieces.{leaf_block_pieces, block_pieces, children_pieces, document_pieces}
 use Rattle.html_safe_page.specs.Table.{start_rows, void_rows}
 use Rattle.html_safe_page.specs.SafePage.{IsSafePage}
 use Rattle.html_safe_page.proofs.Closing.{closed}
@@ -53,16 +53,19 @@ CellsEndLines cells = Each AllEndLines cells
 abbrev pub RowsEndLines : List TableRow → Type 0
 RowsEndLines rows = Each (λ (row : TableRow). CellsEndLines row.cells) rows
 
--- headings have such ranks, and the codes of line endings are those, at any depth
+-- a heading has such a rank, and the codes of line endings are those
+abbrev pub IsReadableLeaf : PageLeaf → Type 0
+IsReadableLeaf (Paragraph is) = AllEndLines is
+IsReadableLeaf (Heading rank is) = (is_rank rank ≡ true) × AllEndLines is
+IsReadableLeaf (Table t) = CellsEndLines t.head.cells × RowsEndLines t.rows
+IsReadableLeaf leaf = Unit {0}
+
+-- of leaves at any depth
 abbrev mutual
   pub IsReadable : Block → Type 0
-  IsReadable (Leaf (Paragraph is)) = AllEndLines is
-  IsReadable (Leaf (Heading rank is)) = (is_rank rank ≡ true) × AllEndLines is
-  IsReadable (Leaf (Table t)) = CellsEndLines t.head.cells × RowsEndLines t.rows
-  IsReadable (Holds Quote kids) = AreReadable kids
+  IsReadable (Leaf leaf) = IsReadableLeaf leaf
+  IsReadable (Holds c kids) = AreReadable kids
   IsReadable (ItemList number loose items) = AreReadable items
-  IsReadable (Holds Item kids) = AreReadable kids
-  IsReadable (Holds (Footnote label) kids) = AreReadable kids
   IsReadable b = Unit {0}
 
   pub AreReadable : Blocks → Type 0
@@ -221,41 +224,41 @@ module _ (default : List ℕ) (ending : IsText default) (m : Meaning) (safe : Ar
       (fresh_line (head ++ body ++ Fresh ∷ [])
       (and_fresh (head ++ body) (lays_append m.compile default head body (head_adds t.aligns t.head h) (body_adds t.aligns t.ending t.rows k))))
 
+  leaf_block_adds : (place : Place) (leaf : PageLeaf) → IsReadableLeaf leaf → Lays m.compile default (leaf_block_pieces m place leaf)
+  unfolding start_rows void_rows
+  leaf_block_adds place (Paragraph is) h =
+      let text = inline_pieces m is in
+      let p = inline_adds default m safe is h in
+      cond_both place.tight text _ (Lays m.compile default) (λ _. p) (λ _. block_element (bare_tag (codes "p")) text (tt, refl) p)
+  leaf_block_adds place (Heading rank is) h =
+      block_element (bare_tag (heading_name rank)) (inline_pieces m is) (heading_is_tag rank h.0) (inline_adds default m safe is h.1)
+  leaf_block_adds place Break h = fresh_line (Void (bare_tag (codes "hr")) ∷ []) (lays_void m.compile default (bare_tag (codes "hr")) (tt, refl))
+  leaf_block_adds place (IndentedCode ls) h =
+      let lines = says (flat_map code_line ls) ++ Fresh ∷ [] in
+      block_element (bare_tag (codes "pre")) (element (bare_tag (codes "code")) lines) (tt, refl)
+      (lays_element m.compile default (bare_tag (codes "code")) lines (tt, refl) (and_fresh (says (flat_map code_line ls)) (code_adds ls)))
+  leaf_block_adds place (FencedCode info is_closed ls) h =
+      let code = tag (codes "code") (info_attributes info) in
+      let lines = fenced_pieces place is_closed ls in
+      lays_append m.compile default (Fresh ∷ element (bare_tag (codes "pre")) (element code lines)) (fresh_unless is_closed)
+      (block_element (bare_tag (codes "pre")) (element code lines) (tt, refl)
+      (lays_element m.compile default code lines (code_is_tag info) (fenced_adds place is_closed ls)))
+      (adds_fresh_unless is_closed)
+  leaf_block_adds place (Html ls) h =
+      fresh_line (says (flat_map (html_line m.compile) ls))
+      (lays_parts m.compile default (flat_map (html_line m.compile) ls)
+      (each_flat_map IsTextPart (html_line m.compile) ls (λ line. (html_is_text m.compile safe (bytes_of line.codes), (tt, tt)))))
+  leaf_block_adds place (Table t) h = table_adds t h.0 h.1
+  leaf_block_adds place Definition h = lays_nothing m.compile default
+
   mutual
-    unfolding start_rows void_rows
+    unfolding start_rows
 
     block_adds : (place : Place) (before : Option Block) (b : Block) → IsReadable b → Lays m.compile default (block_pieces m place before b)
-    block_adds place before (Leaf (Paragraph is)) h =
-        let text = inline_pieces m is in
-        let p = inline_adds default m safe is h in
-        cond_both place.tight text _ (Lays m.compile default) (λ _. p) (λ _. block_element (bare_tag (codes "p")) text (tt, refl) p)
-    block_adds place before (Leaf (Heading rank is)) h =
-        block_element (bare_tag (heading_name rank)) (inline_pieces m is) (heading_is_tag rank h.0) (inline_adds default m safe is h.1)
-    block_adds place before (Leaf Break) h = fresh_line (Void (bare_tag (codes "hr")) ∷ []) (lays_void m.compile default (bare_tag (codes "hr")) (tt, refl))
-    block_adds place before (Leaf (IndentedCode ls)) h =
-        let lines = says (flat_map code_line ls) ++ Fresh ∷ [] in
-        block_element (bare_tag (codes "pre")) (element (bare_tag (codes "code")) lines) (tt, refl)
-        (lays_element m.compile default (bare_tag (codes "code")) lines (tt, refl) (and_fresh (says (flat_map code_line ls)) (code_adds ls)))
-    block_adds place before (Leaf (FencedCode info is_closed ls)) h =
-        let code = tag (codes "code") (info_attributes info) in
-        let lines = fenced_pieces place is_closed ls in
-        lays_append m.compile default (Fresh ∷ element (bare_tag (codes "pre")) (element code lines)) (fresh_unless is_closed)
-        (block_element (bare_tag (codes "pre")) (element code lines) (tt, refl)
-        (lays_element m.compile default code lines (code_is_tag info) (fenced_adds place is_closed ls)))
-        (adds_fresh_unless is_closed)
-    block_adds place before (Leaf (Html ls)) h =
-        fresh_line (says (flat_map (html_line m.compile) ls))
-        (lays_parts m.compile default (flat_map (html_line m.compile) ls)
-        (each_flat_map IsTextPart (html_line m.compile) ls (λ line. (html_is_text m.compile safe (bytes_of line.codes), (tt, tt)))))
-    block_adds place before (Leaf (Table t)) h = table_adds t h.0 h.1
-    block_adds place before (Leaf Definition) h = lays_nothing m.compile default
+    block_adds place before (Leaf leaf) h = leaf_block_adds place leaf h
     block_adds place before (Holds Quote kids) h =
         let lines = children_pieces m (inside false) None kids in
         block_element (bare_tag (codes "blockquote")) (lines ++ Fresh ∷ []) (tt, refl) (and_fresh lines (children_add (inside false) None kids h))
-    block_adds place before (ItemList number loose items) h =
-        let lines = children_pieces m (inside (not loose)) None items in
-        block_element (list_tag number) (lines ++ Eol ∷ []) (list_is_tag number)
-        (lays_append m.compile default lines (Eol ∷ []) (children_add (inside (not loose)) None items h) (lays_eol m.compile default ending))
     block_adds place before (Holds Item kids) h =
         let lines = children_pieces m (inside place.tight) None kids in
         let plainly = ends_plainly place.tight (last_visible None kids) in
@@ -263,6 +266,10 @@ module _ (default : List ℕ) (ending : IsText default) (m : Meaning) (safe : Ar
         (lays_append m.compile default lines (fresh_unless plainly) (children_add (inside place.tight) None kids h) (adds_fresh_unless plainly))
     block_adds place before (Holds (Footnote label) kids) h =
         lays_note m.compile default (children_pieces m (inside false) None kids) (children_add (inside false) None kids h)
+    block_adds place before (ItemList number loose items) h =
+        let lines = children_pieces m (inside (not loose)) None items in
+        block_element (list_tag number) (lines ++ Eol ∷ []) (list_is_tag number)
+        (lays_append m.compile default lines (Eol ∷ []) (children_add (inside (not loose)) None items h) (lays_eol m.compile default ending))
     block_adds place before (Ending ending) h =
         cond_both (is_silent place before) [] (Says (Words (ending_bytes ending)) ∷ []) (Lays m.compile default) (λ _. lays_nothing m.compile default)
         (λ _. lays_says m.compile default (Words (ending_bytes ending)) tt)
@@ -291,9 +298,11 @@ module _ (default : List ℕ) (ending : IsText default) (m : Meaning) (safe : Ar
       let calls = named_calls ps in
       let shown = with_calls m.compile (first_calls calls) [] ps in
       let lines = document_adds page h (first_calls calls) [] in
-      let around : Adds default (content zero (reverse shown)) = subst (Adds default) (sym (outside_is shown lines.outside lines.insides lines.cut)) lines.outside_adds in
+      let around : Adds default (content zero (reverse shown)) =
+      subst (Adds default) (sym (outside_is shown lines.outside lines.insides lines.cut)) lines.outside_adds in
       let notes = map (layout default) (contents [] shown) in
-      let printed : Each IsPrinted notes = subst (λ cs. Each IsPrinted (map (layout default) cs)) (sym (insides_are shown lines.outside lines.insides lines.cut))
+      let printed : Each IsPrinted notes =
+      subst (λ cs. Each IsPrinted (map (layout default) cs)) (sym (insides_are shown lines.outside lines.insides lines.cut))
       (each_mapped (λ c. IsPrinted (layout default c)) IsPrinted (layout default) lines.insides (λ c p. p) lines.insides_safe) in
       let footnotes = called_footnotes calls notes in
       let section =

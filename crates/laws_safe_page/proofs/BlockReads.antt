@@ -16,8 +16,8 @@ use Rattle.definition_block.specs.CodeFenced.{fence_start}
 use Rattle.definition_block.specs.MathFlow.{math_start}
 use Rattle.definition_block.specs.HeadingAtx.{Atx, begins_apart, atx_of, heading_atx}
 use Rattle.definition_block.specs.HeadingSetext.{underline, underline_of}
-use Rattle.definition_block.specs.Tree.{Block, Blocks, join, blocks}
-use Rattle.definition_block.proofs.BlockReads.{Property, BlockGood, BlocksGood, TextLineGood, AtxGood, RankGood, Reads, join_good, blocks_good}
+use Rattle.definition_block.specs.Tree.{LeafBlock, Block, Blocks, join, blocks}
+use Rattle.definition_block.proofs.BlockReads.{Property, LeafBlockGood, BlockGood, BlocksGood, TextLineGood, AtxGood, RankGood, Reads, join_good, blocks_good}
 use Rattle.laws_safe_page.proofs.Each.{Each, WhereSome}
 use Rattle.laws_safe_page.proofs.BlockAdds.{is_rank}
 
@@ -32,6 +32,10 @@ ranks =
       rank = λ rank. is_rank rank ≡ true;
       rest = λ rest. Unit {0};
     }
+
+-- a heading has such a rank
+abbrev pub IsRankedLeaf : LeafBlock → Type 0
+IsRankedLeaf leaf = LeafBlockGood ranks leaf
 
 -- each heading has such a rank, at any depth
 abbrev pub IsRanked : Block → Type 0

@@ -10,7 +10,6 @@ use Rattle.definition_text.specs.Lines.{without_mark, kind_before_text}
 use Rattle.definition_inline.specs.Inline.{InlineLeaf, LineEnd, Inline, Leaf, Span, Linked, Call, Inlines, Nil, Cons}
 use Rattle.definition_inline.specs.GfmTaskListItem.{check_at, check_size}
 use Rattle.definition_inline.specs.Scan.{without_indent}
-use Rattle.definition_block.specs.Container.{Quote, Item, Footnote}
 use Rattle.definition_block.specs.Tree as tree
 use Rattle.definition_block.specs.Tree.{is_ending, blocks}
 use Rattle.definition_block.specs.Lists.{endings_of, after_endings, item_marker, list_marker, list_items, rest_of, before_list, put_before, grouped_block}
@@ -19,11 +18,11 @@ use Rattle.definition_block.specs.GfmTable.{Cell, line_cells}
 use Rattle.definition_page.specs.GfmTable.{head_line, body_lines, leaf_in_cell, part_in_cell, in_cell}
 use Rattle.definition_page.specs.Page as page
 use Rattle.definition_page.specs.Page.{cons_ending, cons_blank}
-use Rattle.definition_page.specs.Read.{Reading, Standing, on_page, in_container, in_item, next_standing, context_of, text_content, read_text, checked_text}
-use Rattle.definition_page.specs.Read.{read_paragraph, read_cell, read_row, without_ending, after_code, read_block, read_blocks, read}
+use Rattle.definition_page.specs.Read.{Reading, Standing, on_page, in_container, next_standing, context_of, text_content, read_text, checked_text}
+use Rattle.definition_page.specs.Read.{read_paragraph, read_cell, read_row, without_ending, after_leaf, read_leaf, standing_in, read_block, read_blocks, read}
 use Rattle.definition_page.specs.TextTables.{TextTables}
-use Rattle.laws_safe_page.proofs.BlockAdds.{CellsEndLines, RowsEndLines, AreReadable}
-use Rattle.laws_safe_page.proofs.BlockReads.{IsRanked, AreRanked, ranked_join, blocks_are_ranked}
+use Rattle.laws_safe_page.proofs.BlockAdds.{CellsEndLines, RowsEndLines, IsReadableLeaf, AreReadable}
+use Rattle.laws_safe_page.proofs.BlockReads.{IsRankedLeaf, IsRanked, AreRanked, ranked_join, blocks_are_ranked}
 use Rattle.laws_safe_page.proofs.InlineAdds.{LeafEndsLine, EndsLines, AllEndLines}
 use Rattle.laws_safe_page.proofs.InlineReads.{from_ends, inlines_end}
 
@@ -71,8 +70,9 @@ readable_rest : (bs : page.Blocks) → AreReadable bs → AreReadable (without_e
 readable_rest (page.Cons (page.Ending ending) bs) p = p.1
 readable_rest bs p = p
 
-readable_after_code : (top is_closed : Bool) (bs : page.Blocks) → AreReadable bs → AreReadable (after_code top is_closed bs)
-readable_after_code top is_closed bs p = cond_both (top && not is_closed) _ _ AreReadable (λ _. readable_rest bs p) (λ _. p)
+readable_after_leaf : (top : Bool) (leaf : tree.LeafBlock) (bs : page.Blocks) → AreReadable bs → AreReadable (after_leaf top leaf bs)
+readable_after_leaf top (tree.FencedCode info is_closed ls) bs p = cond_both (top && not is_closed) _ _ AreReadable (λ _. readable_rest bs p) (λ _. p)
+readable_after_leaf top leaf bs p = p
 
 readable_ending : (ending : Option LineEnding) (bs : page.Blocks) → AreReadable bs → AreReadable (cons_ending ending bs)
 readable_ending None bs p = p
@@ -119,19 +119,16 @@ module _ (r : Reading) where
   rows_readable [] = tt
   rows_readable (line ∷ ls) = (row_readable (line_cells line), rows_readable ls)
 
+  readable_leaf : (s : Standing) (leaf : tree.LeafBlock) → IsRankedLeaf leaf → IsReadableLeaf (read_leaf r s leaf)
+  readable_leaf s (tree.Paragraph ls) h = paragraph_ends s.first ls
+  readable_leaf s (tree.Heading rank ls) h = (h, text_ends ls)
+  readable_leaf s (tree.Table ls) h = (row_readable (line_cells (head_line ls)), rows_readable (body_lines ls))
+  readable_leaf s leaf h = tt
+
   mutual
     readable_block : (s : Standing) (b : tree.Block) (others : page.Blocks) → IsRanked b → AreReadable others → AreReadable (read_block r s b others)
-    readable_block s (tree.Leaf (tree.Paragraph ls)) others h p = (paragraph_ends s.first ls, p)
-    readable_block s (tree.Leaf (tree.Heading rank ls)) others h p = ((h, text_ends ls), p)
-    readable_block s (tree.Leaf tree.Break) others h p = (tt, p)
-    readable_block s (tree.Leaf (tree.IndentedCode ls)) others h p = (tt, p)
-    readable_block s (tree.Leaf (tree.FencedCode info is_closed ls)) others h p = (tt, readable_after_code s.top is_closed others p)
-    readable_block s (tree.Leaf (tree.Html ls)) others h p = (tt, p)
-    readable_block s (tree.Leaf (tree.Table ls)) others h p = ((row_readable (line_cells (head_line ls)), rows_readable (body_lines ls)), p)
-    readable_block s (tree.Leaf (tree.Definition label destination title)) others h p = (tt, p)
-    readable_block s (tree.Holds Quote kids) others h p = (readable_blocks in_container kids h, p)
-    readable_block s (tree.Holds (Item item) kids) others h p = (readable_blocks in_item kids h, p)
-    readable_block s (tree.Holds (Footnote label) kids) others h p = (readable_blocks in_container kids h, p)
+    readable_block s (tree.Leaf leaf) others h p = (readable_leaf s leaf h, readable_after_leaf s.top leaf others p)
+    readable_block s (tree.Holds c kids) others h p = (readable_blocks (standing_in c) kids h, p)
     readable_block s (tree.Items items) others h p = (readable_blocks in_container items h, p)
     readable_block s (tree.Ending ending) others h p = readable_ending ending others p
     readable_block s (tree.Blank ending) others h p = readable_blank ending others p

@@ -1,0 +1,2 @@
+//! What events mean: the page that a list of events spells.
+#![tactic(auto)]
