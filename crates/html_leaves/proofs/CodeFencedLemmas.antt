@@ -1,34 +1,40 @@
 -- Fenced code, and what it takes from the lines.
-use Rattle.std.proofs.Common.{Option, None, Some, subst, ◌≡◌, ℕ, ◌-◌, ◌<◌, ◌≤◌, take, drop, List, [], ◌∷◌, ◌++◌, Bool, true, false}
+use Rattle.std.proofs.Common.{Option, Some, subst, ◌≡◌, ℕ, ◌-◌, ◌<◌, ◌≤◌, take, drop, List, [], ◌∷◌, ◌++◌, Bool, true, false}
 use Rattle.std.proofs.Common.{◌==◌, codes, sym, refl, ap, ◌∙◌, length, get_or, arith, append_assoc}
 use Rattle.std.specs.Prelude.{map, if◌then◌else◌, ◌||◌}
 use Rattle.std.specs.List.{list_all}
-use Rattle.std.proofs.lemmas.List.{take-map, drop-map, take_rest}
-use Rattle.std.proofs.lemmas.List.Sums.{fold-append}
+use Rattle.std.proofs.lemmas.List.{append-nil, take-map, drop-map, take_rest}
 use Rattle.markdown_options.specs.declared.line_ending.LineEnding.{LineEnding}
 use Rattle.markdown_options.specs.LineEndings.{ending_bytes}
 use Rattle.text_pieces.specs.declared.piece.Piece.{Piece}
 use Rattle.text_pieces.specs.ParagraphLines.{HaveNoEnding}
 use Rattle.definition_text.specs.Lines.{TextLine, ending_text, lines}
 use Rattle.definition_text.proofs.CodeBytes.{code_bytes}
-use Rattle.markdown_options.specs.declared.line_ending.LineEnding.TheVariants.{CarriageReturnLineFeed, CarriageReturn, LineFeed}
 use Rattle.std.proofs.lemmas.List.Concat.{flat_map-append}
 use Rattle.block_rows.proofs.TextLines.{front_bytes, later_bytes, line_bytes, text_back, text_of}
 use Rattle.definition_text.specs.Columns.{bytes_of, is_byte, code_byte}
 use Rattle.definition_text.specs.Encode.{encode, encoded_byte}
 use Rattle.definition_text.specs.BlockLines.{BlockLine, own_lines, last_ending}
-use Rattle.definition_block.specs.Tree.{Leaf, FencedCode}
-use Rattle.html_bytes.specs.Pieces.{Piece as PrinterView, Bytes, Fresh}
-use Rattle.html_bytes.specs.Layout.{LayoutState, lay, with_text}
+use Rattle.definition_block.specs.Tree.{FencedCode}
+use Rattle.definition_page.specs.BlockPieces.{info_attributes, fenced_pieces, fresh_unless}
+use Rattle.definition_page.specs.InlinePieces.{element}
+use Rattle.definition_page.specs.Pieces as page
+use Rattle.definition_page.specs.Tags.{tag, bare_tag}
+use Rattle.html_bytes.specs.Pieces.{in_bytes}
+use Rattle.html_bytes.specs.Layout.{LayoutState, with_text}
 use Rattle.markdown_options.specs.declared.configuration.CompileOptions.{CompileOptions}
-use Rattle.html_bytes.specs.Document.{Document, info_of}
-use Rattle.definition_page.specs.Read.{Standing}
+use Rattle.html_bytes.specs.Document.{Document, reading_of, info_of}
+use Rattle.definition_page.specs.Read.{Standing, code_lines, info_text}
 use Rattle.html_looseness.specs.Levels.{standing_at}
-use Rattle.html_bytes.specs.Html.{block_bytes, class_of, code_of, fenced_content, fresh_unless}
+use Rattle.html_bytes.specs.Html.{leaf_bytes}
+use Rattle.html_bytes.proofs.SameBlocks.{end_said}
+use Rattle.html_bytes.proofs.SameText.{laid_both}
 use Rattle.block_rows.specs.Rows.{first_codes}
 use Rattle.text_pieces.specs.Pieces.{piece_line, piece_lines, whole_line, whole_lines}
 use Rattle.text_pieces.proofs.Pieces.{no_piece}
+use Rattle.html_leaves.specs.CodeLines.{class_of, code_of, fenced_bytes}
 use Rattle.html_leaves.specs.Prints.{layout_after, with_bytes, with_fresh, with_tag}
+use Rattle.html_leaves.proofs.LeafLaid.{after_pieces, code_element_laid, kept_lines_laid, cut_lines_laid}
 use Rattle.html_leaves.proofs.Owed.{bytes_owed, none_owed}
 use Rattle.text_pieces.proofs.OwnLines.{with_last_ending}
 
@@ -36,7 +42,10 @@ use Rattle.text_pieces.proofs.OwnLines.{with_last_ending}
 pub class_some : (d : Document) (info : List ℕ) → (length info == 0) ≡ false
     → class_of d info ≡ codes " class=\"language-" ++ encode (info_of d info) ++ codes "\""
 class_some d [] some = let wrong : true ≡ false = some in cc
-class_some d (b ∷ bs) some = refl
+class_some d (b ∷ bs) some =
+    let start = codes " class=\"language-" in
+    let text = encode (info_of d (b ∷ bs)) in
+    append-nil (start ++ (text ++ []) ++ codes "\"") ∙ ap (λ x. start ++ x ++ codes "\"") (append-nil text)
 
 -- content with the ending of its last line
 whole_laid : (e : LineEnding) (out : LayoutState) (ls : List BlockLine)
@@ -52,18 +61,13 @@ content_ending top closed e ls = if top || closed then last_ending ls else Some 
 
 -- content with that ending
 pub content_laid : (options : CompileOptions) (e : LineEnding) (out : LayoutState) (top closed : Bool) (ls : List BlockLine) → 0 < length ls
-    → layout_after options e out (fenced_content top closed ls)
+    → layout_after options e out (fenced_bytes top closed ls)
     ≡ with_fresh (ending_bytes e) (with_bytes (ending_text (content_ending top closed e ls)) (with_bytes (code_of (own_lines ls)) out))
 content_laid options e out top closed [] some = absurd (omega arith)
-content_laid options e out true closed (l ∷ ls) some = whole_laid e out (l ∷ ls)
-content_laid options e out false true (l ∷ ls) some = whole_laid e out (l ∷ ls)
-content_laid options e out false false (l ∷ ls) some = refl
-
--- what stands after the content of code that isn't closed
-end_laid : (options : CompileOptions) (e : LineEnding) (out : LayoutState) (content : List PrinterView)
-    → with_fresh (ending_bytes e) (with_bytes (codes "</code></pre>") (layout_after options e out content))
-    ≡ layout_after options e out (content ++ Bytes (codes "</code></pre>") ∷ fresh_unless false)
-end_laid options e out content = sym (fold-append (lay options (ending_bytes e)) out content (Bytes (codes "</code></pre>") ∷ Fresh ∷ []))
+content_laid options e out true closed (l ∷ ls) some = kept_lines_laid options (ending_bytes e) (l ∷ ls) out ∙ whole_laid e out (l ∷ ls)
+content_laid options e out false true (l ∷ ls) some = kept_lines_laid options (ending_bytes e) (l ∷ ls) out ∙ whole_laid e out (l ∷ ls)
+content_laid options e out false false (l ∷ []) some = cut_lines_laid options (ending_bytes e) (own_lines (l ∷ [])) out
+content_laid options e out false false (l ∷ next ∷ ls) some = cut_lines_laid options (ending_bytes e) (own_lines (l ∷ next ∷ ls)) out
 
 -- the start tags, step by step
 pub tags_laid : (d : Document) (e : LineEnding) (info : List ℕ) (out tag class : LayoutState)
@@ -80,44 +84,51 @@ tags_laid d e info out tag class is_tag is_class =
 abbrev tagged : Document → LineEnding → List ℕ → LayoutState → LayoutState
 tagged d e info out = with_tag (ending_bytes e) (codes "<pre><code" ++ class_of d info ++ codes ">") out
 
+-- the end of code, which begins a fresh line if it isn't closed
+abbrev ended_code : Document → LineEnding → Bool → LayoutState → LayoutState
+ended_code d e closed content =
+    after_pieces d.options.compile (ending_bytes e) (with_bytes (codes "</code></pre>") content) (fresh_unless closed)
+
+fence_laid : (d : Document) (e : LineEnding) (info : List ℕ) (top closed : Bool) (ls : List BlockLine) (out : LayoutState)
+    → layout_after d.options.compile e out (leaf_bytes d (standing_at top) false (FencedCode info closed ls))
+    ≡ ended_code d e closed (layout_after d.options.compile e (tagged d e info out) (fenced_bytes top closed ls))
+fence_laid d e info top closed ls out =
+    let o = d.options.compile in
+    let default = ending_bytes e in
+    let attributes = info_attributes (info_text (reading_of d) info) in
+    let content = fenced_pieces (record { top = top; tight = false }) closed (code_lines top closed ls) in
+    laid_both o default (with_fresh default out) (element (bare_tag (codes "pre")) (element (tag (codes "code") attributes) content)) (fresh_unless closed)
+    ∙ ap (λ x. after_pieces o default x (fresh_unless closed)) (code_element_laid o default attributes content (with_fresh default out))
+
 -- code that isn't closed, step by step
 pub open_laid : (d : Document) (e inner after : LineEnding) (info : List ℕ) (top closed : Bool) (ls : List BlockLine)
     (out start content end : LayoutState)
     → closed ≡ false → inner ≡ e → after ≡ e → start ≡ tagged d e info out
-    → content ≡ layout_after d.options.compile inner start (fenced_content top closed ls) → end ≡ with_bytes (codes "</code></pre>") content
-    → with_fresh (ending_bytes after) end ≡ layout_after d.options.compile e out (block_bytes d (standing_at top) false false (Leaf (FencedCode info closed ls)))
+    → content ≡ layout_after d.options.compile inner start (fenced_bytes top closed ls) → end ≡ with_bytes (codes "</code></pre>") content
+    → with_fresh (ending_bytes after) end ≡ layout_after d.options.compile e out (leaf_bytes d (standing_at top) false (FencedCode info closed ls))
 open_laid d e inner after info top closed ls out start content end not_closed same_inner same_after is_start is_content is_end =
     let o = d.options.compile in
-    let first = tagged d e info out in
-    let body = fenced_content top closed ls in
+    let body = fenced_bytes top closed ls in
     ap (λ x. with_fresh (ending_bytes x) end) same_after
     ∙ ap (with_fresh (ending_bytes e)) (is_end ∙ ap (with_bytes (codes "</code></pre>")) (is_content ∙ ap (λ x. layout_after o x start body) same_inner
     ∙ ap (λ x. layout_after o e x body) is_start))
-    ∙ end_laid o e first body
-    ∙ ap (λ b. layout_after o e first (body ++ Bytes (codes "</code></pre>") ∷ fresh_unless b)) (sym not_closed)
+    ∙ ap (λ b. ended_code d e b (layout_after o e (tagged d e info out) body)) (sym not_closed)
+    ∙ sym (fence_laid d e info top closed ls out)
 
 -- code that is closed
 pub closed_laid : (d : Document) (e inner : LineEnding) (info : List ℕ) (top closed : Bool) (ls : List BlockLine) (out start content : LayoutState)
     → closed ≡ true → inner ≡ e → start ≡ tagged d e info out
-    → content ≡ layout_after d.options.compile inner start (fenced_content top closed ls)
-    → with_bytes (codes "</code></pre>") content
-    ≡ layout_after d.options.compile e out (block_bytes d (standing_at top) false false (Leaf (FencedCode info closed ls)))
+    → content ≡ layout_after d.options.compile inner start (fenced_bytes top closed ls)
+    → with_bytes (codes "</code></pre>") content ≡ layout_after d.options.compile e out (leaf_bytes d (standing_at top) false (FencedCode info closed ls))
 closed_laid d e inner info top closed ls out start content is_closed same_inner is_start is_content =
     let o = d.options.compile in
-    let first = tagged d e info out in
-    let body = fenced_content top closed ls in
+    let body = fenced_bytes top closed ls in
     ap (with_bytes (codes "</code></pre>")) (is_content ∙ ap (λ x. layout_after o x start body) same_inner
     ∙ ap (λ x. layout_after o e x body) is_start)
-    ∙ sym (fold-append (lay o (ending_bytes e)) first body (Bytes (codes "</code></pre>") ∷ []))
-    ∙ ap (λ b. layout_after o e first (body ++ Bytes (codes "</code></pre>") ∷ fresh_unless b)) (sym is_closed)
+    ∙ ap (λ b. ended_code d e b (layout_after o e (tagged d e info out) body)) (sym is_closed)
+    ∙ sym (fence_laid d e info top closed ls out)
 
 -- ---- content that is the lines of a text
-
-encoded_ending : (o : Option LineEnding) → encode (ending_text o) ≡ ending_text o
-encoded_ending None = refl
-encoded_ending (Some CarriageReturnLineFeed) = refl
-encoded_ending (Some CarriageReturn) = refl
-encoded_ending (Some LineFeed) = refl
 
 -- is printed as the text is
 encoded_lines : (ls : List TextLine) → ((k : ℕ) → get_or (text_of ls) k 0 < 256) → code_of (map whole_line ls) ≡ encode (text_of ls)
@@ -127,20 +138,20 @@ encoded_lines (line ∷ others) bytes =
     let own = front_bytes line.content (ending_text line.ending) (front_bytes front (text_of others) bytes) in
     ap (λ x. x ++ code_of (map whole_line others))
     (ap (λ x. encode x ++ ending_text line.ending) (code_bytes line.content own)
-    ∙ ap (λ x. encode line.content ++ x) (sym (encoded_ending line.ending))
+    ∙ ap (λ x. encode line.content ++ x) (sym (end_said line.ending))
     ∙ sym (flat_map-append encoded_byte line.content (ending_text line.ending)))
     ∙ ap (λ x. encode front ++ x) (encoded_lines others (later_bytes front (text_of others) bytes))
     ∙ sym (flat_map-append encoded_byte front (text_of others))
 
 some_content : (options : CompileOptions) (e : LineEnding) (out : LayoutState) (top : Bool) (ls : List BlockLine) → 0 < length ls
-    → layout_after options e out (fenced_content top true ls) ≡ with_fresh (ending_bytes e) (with_bytes (code_of ls) out)
+    → layout_after options e out (fenced_bytes top true ls) ≡ with_fresh (ending_bytes e) (with_bytes (code_of ls) out)
 some_content options e out top [] some = absurd (omega (arith, some))
-some_content options e out true (l ∷ ls) some = refl
-some_content options e out false (l ∷ ls) some = refl
+some_content options e out true (l ∷ ls) some = kept_lines_laid options (ending_bytes e) (l ∷ ls) out
+some_content options e out false (l ∷ ls) some = kept_lines_laid options (ending_bytes e) (l ∷ ls) out
 
 pub text_content : (options : CompileOptions) (e : LineEnding) (out : LayoutState) (top : Bool) (text : List ℕ) → ((k : ℕ) → get_or text k 0 < 256)
     → 0 < length text
-    → layout_after options e out (fenced_content top true (whole_lines text)) ≡ with_fresh (ending_bytes e) (with_bytes (encode text) out)
+    → layout_after options e out (fenced_bytes top true (whole_lines text)) ≡ with_fresh (ending_bytes e) (with_bytes (encode text) out)
 text_content options e out top text bytes some =
     let back = text_back text in
     some_content options e out top (whole_lines text) (some_lines (lines text) (subst (λ xs. 0 < length xs) (sym back) some))
@@ -173,17 +184,31 @@ HasInfo pieces = (list_all is_byte (first_codes (piece_lines pieces)) ≡ true) 
 pub clear_info : (pieces : List Piece) → 0 < length pieces → HasInfo pieces → HaveNoEnding (get_or pieces 0 no_piece).text.now
 clear_info pieces some has = subst HaveNoEnding (info_is pieces some has.0) has.1
 
-pub code_pieces : (d : Document) (top : Bool) (s : Standing) (tight silent closed : Bool) (count : ℕ) (pieces : List Piece)
+-- where it stands in a tight item, it is the same
+fenced_alike : (top closed tight : Bool) (ls : List BlockLine)
+    → fenced_pieces (record { top = top; tight = false }) closed ls ≡ fenced_pieces (record { top = top; tight = tight }) closed ls
+fenced_alike top closed tight [] = refl
+fenced_alike top closed tight (l ∷ ls) = refl
+
+fence_alike : (d : Document) (s : Standing) (tight closed : Bool) (info : List ℕ) (ls : List BlockLine)
+    → leaf_bytes d (standing_at s.top) false (FencedCode info closed ls) ≡ leaf_bytes d s tight (FencedCode info closed ls)
+fence_alike d s tight closed info ls =
+    let code = tag (codes "code") (info_attributes (info_text (reading_of d) info)) in
+    ap (λ ps. in_bytes (page.Fresh ∷ element (bare_tag (codes "pre")) (element code ps) ++ fresh_unless closed))
+    (fenced_alike s.top closed tight (code_lines s.top closed ls))
+
+pub code_pieces : (d : Document) (top : Bool) (s : Standing) (tight closed : Bool) (count : ℕ) (pieces : List Piece)
     → top ≡ s.top → 0 < length pieces → HasInfo pieces
-    → block_bytes d (standing_at top) false false
-    (Leaf (FencedCode (get_or pieces 0 no_piece).text.now closed (piece_lines (take count (take (length pieces - 1) (drop 1 pieces))))))
-    ≡ block_bytes d s tight silent (Leaf (FencedCode (first_codes (piece_lines pieces)) closed (take count (drop 1 (piece_lines pieces)))))
-code_pieces d top s tight silent closed count pieces same some has =
+    → leaf_bytes d (standing_at top) false
+    (FencedCode (get_or pieces 0 no_piece).text.now closed (piece_lines (take count (take (length pieces - 1) (drop 1 pieces)))))
+    ≡ leaf_bytes d s tight (FencedCode (first_codes (piece_lines pieces)) closed (take count (drop 1 (piece_lines pieces))))
+code_pieces d top s tight closed count pieces same some has =
     let info = (get_or pieces 0 no_piece).text.now in
     let content = take count (drop 1 (piece_lines pieces)) in
-    ap (λ ls. block_bytes d (standing_at top) false false (Leaf (FencedCode info closed ls))) (content_is count pieces)
-    ∙ ap (λ (top : Bool). block_bytes d (standing_at top) false false (Leaf (FencedCode info closed content))) same
-    ∙ ap (λ x. block_bytes d s tight silent (Leaf (FencedCode x closed content))) (sym (info_is pieces some has.0))
+    ap (λ ls. leaf_bytes d (standing_at top) false (FencedCode info closed ls)) (content_is count pieces)
+    ∙ ap (λ (top : Bool). leaf_bytes d (standing_at top) false (FencedCode info closed content)) same
+    ∙ fence_alike d s tight closed info content
+    ∙ ap (λ x. leaf_bytes d s tight (FencedCode x closed content)) (sym (info_is pieces some has.0))
 
 -- the text of the second piece is that of the lines
 pub second_codes : (pieces : List Piece) → 2 ≤ length pieces → ((k : ℕ) → get_or (get_or pieces 1 no_piece).text.now k 0 < 256)
@@ -192,14 +217,15 @@ second_codes [] enough bytes = absurd (omega (arith, enough))
 second_codes (a ∷ []) enough bytes = absurd (omega (arith, enough))
 second_codes (a ∷ b ∷ others) enough bytes = bytes_owed b.owed b.text.now bytes
 
-pub whole_code_pieces : (d : Document) (s : Standing) (tight silent : Bool) (pieces : List Piece) → 2 ≤ length pieces → HasInfo pieces
+pub whole_code_pieces : (d : Document) (s : Standing) (tight : Bool) (pieces : List Piece) → 2 ≤ length pieces → HasInfo pieces
     → ((k : ℕ) → get_or (get_or pieces 1 no_piece).text.now k 0 < 256)
-    → block_bytes d (standing_at s.top) false false
-    (Leaf (FencedCode (get_or pieces 0 no_piece).text.now true (whole_lines (get_or pieces 1 no_piece).text.now)))
-    ≡ block_bytes d s tight silent
-    (Leaf (FencedCode (first_codes (piece_lines pieces)) true (whole_lines (bytes_of (first_codes (drop 1 (piece_lines pieces)))))))
-whole_code_pieces d s tight silent pieces enough has bytes =
+    → leaf_bytes d (standing_at s.top) false
+    (FencedCode (get_or pieces 0 no_piece).text.now true (whole_lines (get_or pieces 1 no_piece).text.now))
+    ≡ leaf_bytes d s tight
+    (FencedCode (first_codes (piece_lines pieces)) true (whole_lines (bytes_of (first_codes (drop 1 (piece_lines pieces))))))
+whole_code_pieces d s tight pieces enough has bytes =
     let info = first_codes (piece_lines pieces) in
-    ap (λ x. block_bytes d s tight silent (Leaf (FencedCode x true (whole_lines (get_or pieces 1 no_piece).text.now))))
-    (sym (info_is pieces (omega (arith, enough)) has.0))
-    ∙ ap (λ x. block_bytes d s tight silent (Leaf (FencedCode info true (whole_lines x)))) (sym (second_codes pieces enough bytes))
+    let lines = whole_lines (get_or pieces 1 no_piece).text.now in
+    fence_alike d s tight true (get_or pieces 0 no_piece).text.now lines
+    ∙ ap (λ x. leaf_bytes d s tight (FencedCode x true lines)) (sym (info_is pieces (omega (arith, enough)) has.0))
+    ∙ ap (λ x. leaf_bytes d s tight (FencedCode info true (whole_lines x))) (sym (second_codes pieces enough bytes))

@@ -15,26 +15,29 @@ use Rattle.markdown_options.specs.declared.beside.Kind.{Kind}
 use Rattle.markdown_options.specs.declared.beside.Kind.TheVariants.{Punctuation}
 use Rattle.markdown_options.specs.declared.align_kind.AlignKind.{AlignKind}
 use Rattle.definition_block.specs.GfmTable.{Cell, in_first_cell, is_bar, parts, without_blank_first, without_blank_last, line_cells}
+use Rattle.definition_block.specs.Tree.{Table}
 use Rattle.text_pieces.specs.ParagraphLines.{HaveNoEnding}
 use Rattle.text_pieces.specs.declared.piece.Piece.{Piece as LinePiece}
 use Rattle.text_pieces.specs.Pieces.{piece_line, piece_lines}
 use Rattle.definition_inline.specs.Inline.{Inlines, Nil}
-use Rattle.definition_page.specs.GfmTable.{line_aligns, align_attributes, cell_pieces, cells_pieces, row_pieces, ending_piece, body_row_pieces, head_pieces, body_pieces}
+use Rattle.definition_page.specs.GfmTable.{line_aligns, align_attributes, cell_pieces, cells_pieces, row_pieces, endings_pieces, body_row_pieces}
+use Rattle.definition_page.specs.GfmTable.{head_pieces, body_pieces}
 use Rattle.definition_page.specs.InlinePieces.{element, inline_counts, inline_pieces}
 use Rattle.definition_page.specs.Pieces as page
-use Rattle.definition_page.specs.Read.{read_cell, read_row}
+use Rattle.definition_page.specs.Read.{on_page, read_cell, ending_list, read_row}
 use Rattle.definition_page.specs.Tags.{bare_tag, tag, start_tag, end_tag}
 use Rattle.html_bytes.specs.Document.{Document, reading_of, document_meaning, structure_pieces, cell_counts}
 use Rattle.block_cells.specs.declared.gfm_table.Cell.{Cell as CellOf}
 use Rattle.block_cells.specs.GfmTable.{cell_view}
-use Rattle.html_bytes.specs.Html.{table_bytes}
+use Rattle.html_bytes.specs.Html.{leaf_bytes}
 use Rattle.html_bytes.specs.Pieces.{Piece, in_bytes}
 use Rattle.html_bytes.proofs.SameBlocks.{end_said}
 use Rattle.html_bytes.proofs.SameText.{laid_both}
 use Rattle.html_bytes.specs.Layout.{lay, with_text}
 use Rattle.html_bytes.specs.Layout.{LayoutState}
 use Rattle.html_leaves.specs.Prints.{with_bytes, with_fresh}
-use Rattle.html_leaves.specs.GfmTable.{cell_bytes, next_cell_bytes, cells_bytes, counts_bytes, row_bytes, rows_bytes, head_bytes, body_bytes, IsClearIf, CellsAreClear}
+use Rattle.html_leaves.specs.GfmTable.{cell_bytes, next_cell_bytes, cells_bytes, counts_bytes, row_bytes, rows_bytes, head_bytes, body_bytes}
+use Rattle.html_leaves.specs.GfmTable.{IsClearIf, CellsAreClear}
 use Rattle.html_looseness.specs.Printable.{AreClear}
 
 -- ---- cells without a line ending
@@ -65,6 +68,9 @@ cells_clear line h =
 
 -- ---- pieces in bytes
 
+nothing_more : (out : LayoutState) → with_bytes [] out ≡ out
+nothing_more out = ap (with_text out) (append-nil out.text)
+
 module _ (default : List ℕ) (d : Document) where
   abbrev past : LayoutState → List Piece → LayoutState
   past out ps = fold (lay d.options.compile default) out ps
@@ -76,9 +82,10 @@ module _ (default : List ℕ) (d : Document) where
       laid_both d.options.compile default out (ps ++ page.Fresh ∷ []) (page.Close name ∷ [])
       ∙ ap (with_bytes (end_tag name)) (laid_both d.options.compile default out ps (page.Fresh ∷ []))
 
-  -- the ending of a row
-  said : (ending : Option LineEnding) (out : LayoutState) → past out (in_bytes (ending_piece ending ∷ [])) ≡ with_bytes (ending_text ending) out
-  said ending out = ap (λ bytes. with_bytes bytes out) (end_said ending)
+  -- the ending of a row, if it has one
+  said : (ending : Option LineEnding) (out : LayoutState) → past out (in_bytes (endings_pieces (ending_list ending))) ≡ with_bytes (ending_text ending) out
+  said None out = sym (nothing_more out)
+  said (Some ending) out = ap (λ bytes. with_bytes bytes out) (end_said (Some ending))
 
 -- ---- rows of a body
 
@@ -93,20 +100,14 @@ module _ (default : List ℕ) (d : Document) (aligns : List AlignKind) where
   others ls = flat_map (body_row_pieces (document_meaning d) aligns) (map (read_row (reading_of d)) ls)
 
   -- one row prints no ending
-  nothing_more : (out : LayoutState) → with_bytes [] out ≡ out
-  nothing_more out = ap (with_text out) (append-nil out.text)
-
   one_row : (l : BlockLine) (out : LayoutState)
       → past default d out (rows_bytes d aligns (own_lines (l ∷ []))) ≡ past default d out (row_bytes d (codes "td") aligns l)
-  one_row l out =
-      ap (λ ps. past default d out (in_bytes ps)) (append-nil (body l ++ ending_piece None ∷ []))
-      ∙ laid_both d.options.compile default out (body l) (ending_piece None ∷ [])
-      ∙ nothing_more (past default d out (in_bytes (body l)))
+  one_row l out = ap (λ ps. past default d out (in_bytes ps)) (append-nil (body l ++ []) ∙ append-nil (body l))
 
   ended_row : (l : BlockLine) (out : LayoutState)
       → past default d out (in_bytes (whole l)) ≡ with_bytes (ending_text l.ending) (past default d out (row_bytes d (codes "td") aligns l))
   ended_row l out =
-      laid_both d.options.compile default out (body l) (ending_piece l.ending ∷ []) ∙ said default d l.ending (past default d out (in_bytes (body l)))
+      laid_both d.options.compile default out (body l) (endings_pieces (ending_list l.ending)) ∙ said default d l.ending (past default d out (in_bytes (body l)))
 
   -- and one more prints the ending before it
   pub rows_more : (ls : List BlockLine) (l : BlockLine) (out : LayoutState)
@@ -142,11 +143,11 @@ module _ (default : List ℕ) (d : Document) (head delimiters : BlockLine) (ls :
   first = head_pieces (document_meaning d) columns (read_row (reading_of d) head)
 
   abbrev more : List BlockLine → List page.Piece
-  more own = body_pieces (document_meaning d) columns delimiters.ending (map (read_row (reading_of d)) own)
+  more own = body_pieces (document_meaning d) columns (ending_list delimiters.ending) (map (read_row (reading_of d)) own)
 
   -- that of these lines, the first two by themselves
   table_own : (ls : List BlockLine)
-      → table_bytes d (own_lines (head ∷ delimiters ∷ ls))
+      → leaf_bytes d on_page false (Table (own_lines (head ∷ delimiters ∷ ls)))
       ≡ in_bytes (page.Fresh ∷ element (bare_tag (codes "table")) (((page.Fresh ∷ first) ++ more (own_lines ls)) ++ page.Fresh ∷ []))
   table_own [] = refl
   table_own (l ∷ ls) = refl
@@ -156,7 +157,7 @@ module _ (default : List ℕ) (d : Document) (head delimiters : BlockLine) (ls :
       → (let start = with_fresh default (with_bytes (codes "<table>") (with_fresh default out)) in
       with_bytes (codes "</table>") (with_fresh default (past default d (past default d start (head_bytes d columns head))
       (body_bytes d columns delimiters.ending (own_lines ls)))))
-      ≡ past default d out (table_bytes d (own_lines (head ∷ delimiters ∷ ls)))
+      ≡ past default d out (leaf_bytes d on_page false (Table (own_lines (head ∷ delimiters ∷ ls))))
   table_laid out =
       let opened = with_bytes (codes "<table>") (with_fresh default out) in
       ap (λ x. with_bytes (codes "</table>") (with_fresh default x)) (sym (laid_both d.options.compile default opened (page.Fresh ∷ first) (more (own_lines ls))))
@@ -183,9 +184,10 @@ module _ (default : List ℕ) (d : Document) (aligns : List AlignKind) (line : B
   head_laid out =
       let opened = with_bytes (codes "<thead>") out in
       let row = row_pieces (document_meaning d) (codes "th") aligns (read_row (reading_of d) line) in
-      ap (λ bytes. with_bytes (codes "</thead>") (with_fresh default (with_bytes bytes (past default d opened (in_bytes row))))) (sym (end_said line.ending))
-      ∙ ap (with_bytes (codes "</thead>")) (sym (laid_both d.options.compile default opened row (ending_piece line.ending ∷ page.Fresh ∷ [])))
-      ∙ sym (laid_both d.options.compile default opened (row ++ ending_piece line.ending ∷ page.Fresh ∷ []) (page.Close (codes "thead") ∷ []))
+      let endings = endings_pieces (ending_list line.ending) in
+      ap (λ x. with_bytes (codes "</thead>") (with_fresh default x))
+      (sym (laid_both d.options.compile default opened row endings ∙ said default d line.ending (past default d opened (in_bytes row))))
+      ∙ sym (ended default d opened (row ++ endings) (codes "thead"))
 
 -- a body
 some_body : (default : List ℕ) (d : Document) (aligns : List AlignKind) (ending : Option LineEnding) (ls : List BlockLine) (out : LayoutState) → 0 < length ls
@@ -194,10 +196,12 @@ some_body : (default : List ℕ) (d : Document) (aligns : List AlignKind) (endin
     ≡ past default d out (body_bytes d aligns ending ls)
 some_body default d aligns ending [] out some = absurd (omega arith)
 some_body default d aligns ending (l ∷ ls) out some =
+    let endings = endings_pieces (ending_list ending) in
+    let rows = others default d aligns (l ∷ ls) in
     ap (λ x. with_bytes (codes "</tbody>") (with_fresh default (past default d (with_bytes (codes "<tbody>") x) (rows_bytes d aligns (l ∷ ls)))))
     (sym (said default d ending out))
-    ∙ sym (ended default d (with_bytes (codes "<tbody>") (past default d out (in_bytes (ending_piece ending ∷ [])))) (others default d aligns (l ∷ ls))
-    (codes "tbody"))
+    ∙ sym (ended default d (with_bytes (codes "<tbody>") (past default d out (in_bytes endings))) rows (codes "tbody"))
+    ∙ sym (laid_both d.options.compile default out endings (element (bare_tag (codes "tbody")) (rows ++ page.Fresh ∷ [])))
 
 own_some : (ls : List BlockLine) → 0 < length ls → 0 < length (own_lines ls)
 own_some [] some = absurd (omega arith)

@@ -1,4 +1,6 @@
 pub mod Laid
+pub mod LeafLaid
+pub mod ParagraphLaid
 pub mod Owed
 pub mod Lines
 pub mod GfmTableLemmas

@@ -8,7 +8,7 @@ use Rattle.definition_inline.specs.Inline.{Inlines, Nil}
 use Rattle.definition_block.specs.GfmTable as table
 use Rattle.definition_page.specs.GfmTable.{cell_pieces, cells_pieces, row_pieces, body_row_pieces, head_pieces, body_pieces}
 use Rattle.definition_page.specs.InlinePieces.{inline_counts}
-use Rattle.definition_page.specs.Read.{read_cell, read_row}
+use Rattle.definition_page.specs.Read.{read_cell, ending_list, read_row}
 use Rattle.text_pieces.specs.ParagraphLines.{HaveNoEnding}
 use Rattle.block_cells.specs.declared.gfm_table.Cell.{Cell}
 use Rattle.block_cells.specs.GfmTable.{cell_view}
@@ -52,7 +52,7 @@ abbrev pub head_bytes : Document → List AlignKind → BlockLine → List Piece
 head_bytes d aligns line = in_bytes (head_pieces (document_meaning d) aligns (read_row (reading_of d) line))
 
 abbrev pub body_bytes : Document → List AlignKind → Option LineEnding → List BlockLine → List Piece
-body_bytes d aligns ending ls = in_bytes (body_pieces (document_meaning d) aligns ending (map (read_row (reading_of d)) ls))
+body_bytes d aligns ending ls = in_bytes (body_pieces (document_meaning d) aligns (ending_list ending) (map (read_row (reading_of d)) ls))
 
 -- ---- cells without a line ending
 

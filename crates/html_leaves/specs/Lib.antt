@@ -1,2 +1,3 @@
 pub mod Prints
 pub mod GfmTable
+pub mod CodeLines

@@ -6,12 +6,13 @@ ghost use Rattle.definition_inline.specs.Targets.{Targets};
 ghost use Rattle.markdown_options.specs.declared.configuration.CompileOptions.{CompileOptions};
 ghost use Rattle.text_pieces.specs.ParagraphLines.{HaveNoEnding};
 ghost use Rattle.definition_block.specs.Tree.{FencedCode};
-ghost use Rattle.html_bytes.specs.Html.{block_bytes, class_of, fenced_content};
+ghost use Rattle.html_bytes.specs.Html.{leaf_bytes};
 ghost use Rattle.text_pieces.specs.Pieces.{piece_lines, whole_lines};
 ghost use Rattle.html_contents.specs.Texts.{document_by};
 ghost use Rattle.definition_text.specs.Encode.{encode};
 ghost use Rattle.html_looseness.specs.Levels.{standing_at};
 ghost use Rattle.html_escape.specs.Prints as escape;
+ghost use Rattle.html_leaves.specs.CodeLines.{class_of, fenced_bytes};
 ghost use Rattle.html_leaves.specs.Prints.{LaysOut, Prints, page_view, with_bytes, with_fresh, with_tag, KeepsEnding};
 
 use crate::page::Page;
@@ -34,7 +35,7 @@ impl<'t, A: Allocator + Clone> Page<'t, A> {
         ensures default { KeepsEnding self.old self.new }
         ensures printed { (ds : Targets) → HaveNoEnding info.now → let code = FencedCode info.now closed (piece_lines lines.now) in
             let d = document_by T.Tables texts.now ds in
-            OnOk result (LaysOut d.options.compile self.old self.new (block_bytes d (standing_at top) false false code)) }
+            OnOk result (LaysOut d.options.compile self.old self.new (leaf_bytes d (standing_at top) false code)) }
     {
         self.start_code(texts, info)?;
         self.fenced_content(closed, top, lines)?;
@@ -56,7 +57,7 @@ impl<'t, A: Allocator + Clone> Page<'t, A> {
         ensures default { KeepsEnding self.old self.new }
         ensures printed { (ds : Targets) (top : Bool) → HaveNoEnding info.now → let code = FencedCode info.now true (whole_lines text.now) in
             let d = document_by T.Tables texts.now ds in
-            OnOk result (LaysOut d.options.compile self.old self.new (block_bytes d (standing_at top) false false code)) }
+            OnOk result (LaysOut d.options.compile self.old self.new (leaf_bytes d (standing_at top) false code)) }
         ensures bytes { (k : ℕ) → slice_index text.now k < 256 }
     {
         self.start_code(texts, info)?;
@@ -102,7 +103,7 @@ impl<'t, A: Allocator + Clone> Page<'t, A> {
         lines: &[Piece<'_>],
     ) -> Result<(), AllocError>
         ensures default { KeepsEnding self.old self.new }
-        ensures printed { (options : CompileOptions) → OnOk result (LaysOut options self.old self.new (fenced_content top closed (piece_lines lines.now))) }
+        ensures printed { (options : CompileOptions) → OnOk result (LaysOut options self.old self.new (fenced_bytes top closed (piece_lines lines.now))) }
     {
         self.code(lines)?;
         match lines.last() {
@@ -123,7 +124,7 @@ impl<'t, A: Allocator + Clone> Page<'t, A> {
     fn whole_content(&mut self, text: &str) -> Result<(), AllocError>
         ensures default { KeepsEnding self.old self.new }
         ensures printed { (options : CompileOptions) (top : Bool) →
-            OnOk result (LaysOut options self.old self.new (fenced_content top true (whole_lines text.now))) }
+            OnOk result (LaysOut options self.old self.new (fenced_bytes top true (whole_lines text.now))) }
     {
         if text.is_empty() {
             return Ok(());

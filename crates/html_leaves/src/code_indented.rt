@@ -4,7 +4,7 @@ ghost use Rattle.html_bytes.specs.Document.{Document};
 ghost use Rattle.definition_text.specs.BlockLines.{own_lines};
 ghost use Rattle.definition_block.specs.Tree.{IndentedCode};
 ghost use Rattle.definition_page.specs.Read.{on_page};
-ghost use Rattle.html_bytes.specs.Html.{block_bytes};
+ghost use Rattle.html_bytes.specs.Html.{leaf_bytes};
 ghost use Rattle.text_pieces.specs.Pieces.{piece_lines};
 ghost use Rattle.html_leaves.specs.Prints.{LaysOut, KeepsEnding};
 
@@ -17,7 +17,7 @@ impl<A: Allocator + Clone> Page<'_, A> {
     pub(crate) fn indented_code(&mut self, lines: &[Piece<'_>]) -> Result<(), AllocError>
         ensures default { KeepsEnding self.old self.new }
         ensures printed { (d : Document) → let code = IndentedCode (own_lines (piece_lines lines.now)) in
-            OnOk result (LaysOut d.options.compile self.old self.new (block_bytes d on_page false false code)) }
+            OnOk result (LaysOut d.options.compile self.old self.new (leaf_bytes d on_page false code)) }
     {
         self.fresh_tag("<pre><code>")?;
         self.code(lines)?;

@@ -3,7 +3,7 @@ ghost use Rattle.std.specs.Prelude.{◌++◌, map, replicate, OnOk};
 ghost use Rattle.definition_text.specs.Columns.{tab_column, code_byte};
 ghost use Rattle.definition_text.specs.Encode.{encode};
 ghost use Rattle.definition_text.specs.BlockLines.{own_lines};
-ghost use Rattle.html_bytes.specs.Html.{code_of};
+ghost use Rattle.html_leaves.specs.CodeLines.{code_of};
 ghost use Rattle.text_pieces.specs.Pieces.{piece_lines};
 ghost use Rattle.html_escape.specs.Prints as escape;
 ghost use Rattle.html_leaves.specs.Prints.{Prints, KeepsEnding};

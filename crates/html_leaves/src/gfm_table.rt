@@ -4,7 +4,7 @@
 //!
 //! A row has a cell for each delimiter: those that are missing are empty, and more aren't printed,
 //! but the calls of footnotes in them count.
-ghost use Rattle.std.specs.Prelude.{◌≡◌, ◌≤◌, OnOk, length};
+ghost use Rattle.std.specs.Prelude.{◌≡◌, ◌≤◌, OnOk, length, false};
 ghost use Rattle.definition_inline.specs.Targets.{Targets};
 ghost use Rattle.definition_text.specs.BlockLines.{own_lines};
 ghost use Rattle.definition_block.specs.GfmTable.{line_cells};
@@ -13,10 +13,11 @@ ghost use Rattle.text_pieces.specs.Pieces.{piece_line, piece_lines};
 ghost use Rattle.block_cells.specs.GfmTable.{cell_view, cells_left};
 ghost use Rattle.definition_inline.specs.Inline.{Nil};
 ghost use Rattle.definition_page.specs.GfmTable.{align_attributes};
-ghost use Rattle.definition_page.specs.Read.{read_cell};
+ghost use Rattle.definition_block.specs.Tree.{Table};
+ghost use Rattle.definition_page.specs.Read.{on_page, read_cell};
 ghost use Rattle.definition_page.specs.Tags.{tag, start_tag, end_tag};
 ghost use Rattle.html_bytes.specs.Document.{Document, reading_of};
-ghost use Rattle.html_bytes.specs.Html.{table_bytes};
+ghost use Rattle.html_bytes.specs.Html.{leaf_bytes};
 ghost use Rattle.html_contents.specs.Texts.{KnowsTargets, document_by};
 ghost use Rattle.html_leaves.specs.GfmTable.{CellsAreClear, IsClearIf, cell_name, cell_bytes, next_cell_bytes, cells_bytes, counts_bytes};
 ghost use Rattle.html_leaves.specs.GfmTable.{row_bytes, rows_bytes, head_bytes, body_bytes};
@@ -50,7 +51,7 @@ impl<'t, A: Allocator + Clone> Page<'t, A> {
         ensures default { KeepsEnding self.old self.new }
         ensures printed { (ds : Targets) → KnowsTargets texts.now ds → AreClear (piece_lines lines.now) →
             let d = document_by T.Tables texts.now ds in
-            OnOk result (LaysOut d.options.compile self.old self.new (table_bytes d (own_lines (piece_lines lines.now)))) }
+            OnOk result (LaysOut d.options.compile self.old self.new (leaf_bytes d on_page false (Table (own_lines (piece_lines lines.now))))) }
     {
         let mut aligns = Vec::new(self.buffers.alloc.clone()?);
         read_delimiters(&mut aligns, lines[1])?;

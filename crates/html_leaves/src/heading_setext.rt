@@ -5,7 +5,7 @@ ghost use Rattle.definition_inline.specs.Targets.{Targets};
 ghost use Rattle.definition_text.specs.BlockLines.{own_lines};
 ghost use Rattle.definition_block.specs.Tree.{Heading};
 ghost use Rattle.definition_page.specs.Read.{on_page};
-ghost use Rattle.html_bytes.specs.Html.{block_bytes};
+ghost use Rattle.html_bytes.specs.Html.{leaf_bytes};
 ghost use Rattle.text_pieces.specs.Pieces.{piece_lines};
 ghost use Rattle.html_contents.specs.Texts.{KnowsTargets, document_by};
 ghost use Rattle.html_looseness.specs.Printable.{AreHeadingLines};
@@ -30,7 +30,7 @@ impl<'t, A: Allocator + Clone> Page<'t, A> {
         ensures printed { (ds : Targets) → KnowsTargets texts.now ds →
             let ls = own_lines (piece_lines lines.now) in AreHeadingLines ls →
             let d = document_by T.Tables texts.now ds in
-            OnOk result (LaysOut d.options.compile self.old self.new (block_bytes d on_page false false (Heading rank ls))) }
+            OnOk result (LaysOut d.options.compile self.old self.new (leaf_bytes d on_page false (Heading rank ls))) }
     {
         self.fresh()?;
         self.heading_tag("<h", rank)?;

@@ -2,12 +2,15 @@
 //!
 //! Where raw HTML isn't allowed, it is printed as text. Where it is, the tag filter may print the
 //! `<` of some tags as a reference (GFM 6.11).
-ghost use Rattle.std.specs.Prelude.{ℕ, replicate, ◌++◌, ◌∷◌, [], OnOk};
+ghost use Rattle.std.specs.Prelude.{◌≡◌, ℕ, replicate, ◌++◌, OnOk, false};
 ghost use Rattle.definition_text.specs.BlockLines.{own_lines};
 ghost use Rattle.definition_text.specs.Columns.{bytes_of, tab_column};
-ghost use Rattle.html_bytes.specs.Html.{html_of};
+ghost use Rattle.html_leaves.specs.CodeLines.{html_of};
+ghost use Rattle.definition_block.specs.Tree.{Html};
+ghost use Rattle.definition_page.specs.Read.{on_page};
+ghost use Rattle.html_bytes.specs.Document.{Document};
+ghost use Rattle.html_bytes.specs.Html.{leaf_bytes};
 ghost use Rattle.html_bytes.specs.RawHtml.{raw_bytes};
-ghost use Rattle.html_bytes.specs.Pieces.{Bytes, Fresh};
 ghost use Rattle.text_pieces.specs.Pieces.{piece_lines};
 ghost use Rattle.html_escape.specs.Prints as escape;
 ghost use Rattle.html_leaves.specs.Prints.{LaysOut, Prints, KeepsEnding};
@@ -26,7 +29,8 @@ impl<'t, A: Allocator + Clone> Page<'t, A> {
         lines: &[Piece<'_>],
     ) -> Result<(), AllocError>
         ensures default { KeepsEnding self.old self.new }
-        ensures printed { OnOk result (LaysOut options.now self.old self.new (Fresh ∷ Bytes (html_of options.now (own_lines (piece_lines lines.now))) ∷ [])) }
+        ensures printed { (d : Document) → d.options.compile ≡ options.now → let html = Html (own_lines (piece_lines lines.now)) in
+            OnOk result (LaysOut d.options.compile self.old self.new (leaf_bytes d on_page false html)) }
     {
         self.fresh()?;
         self.html_lines(options, lines)

@@ -1,10 +1,10 @@
 //! Paragraphs (CommonMark 4.8).
-ghost use Rattle.std.specs.Prelude.{◌<◌, ℕ, slice_index, OnOk, false};
+ghost use Rattle.std.specs.Prelude.{◌<◌, ℕ, slice_index, OnOk};
 ghost use Rattle.definition_inline.specs.Targets.{Targets};
 ghost use Rattle.text_pieces.specs.ParagraphLines.{AreLines};
 ghost use Rattle.definition_text.specs.BlockLines.{own_lines};
 ghost use Rattle.definition_block.specs.Tree.{Paragraph};
-ghost use Rattle.html_bytes.specs.Html.{block_bytes};
+ghost use Rattle.html_bytes.specs.Html.{leaf_bytes};
 ghost use Rattle.text_pieces.specs.Pieces.{piece_lines, whole_lines};
 ghost use Rattle.html_contents.specs.Texts.{KnowsTargets, document_by};
 ghost use Rattle.html_looseness.specs.Levels.{standing_first};
@@ -30,7 +30,7 @@ impl<'t, A: Allocator + Clone> Page<'t, A> {
         ensures printed { (ds : Targets) → KnowsTargets texts.now ds → AreLines (piece_lines lines.now) →
             let paragraph = Paragraph (own_lines (piece_lines lines.now)) in
             let d = document_by T.Tables texts.now ds in
-            OnOk result (LaysOut d.options.compile self.old self.new (block_bytes d (standing_first first) tight false paragraph)) }
+            OnOk result (LaysOut d.options.compile self.old self.new (leaf_bytes d (standing_first first) tight paragraph)) }
     {
         if tight {
             return texts.push_paragraph(&mut self.out, &mut self.buffers, first, lines);
@@ -52,7 +52,7 @@ impl<'t, A: Allocator + Clone> Page<'t, A> {
         ensures printed { (ds : Targets) → KnowsTargets texts.now ds →
             let paragraph = Paragraph (own_lines (whole_lines text.now)) in
             let d = document_by T.Tables texts.now ds in
-            OnOk result (LaysOut d.options.compile self.old self.new (block_bytes d (standing_first first) tight false paragraph)) }
+            OnOk result (LaysOut d.options.compile self.old self.new (leaf_bytes d (standing_first first) tight paragraph)) }
         ensures bytes { (k : ℕ) → slice_index text.now k < 256 }
     {
         if tight {

@@ -5,15 +5,14 @@ use Rattle.std.specs.List.{fold}
 use Rattle.std.proofs.lemmas.List.Sums.{fold-append}
 use Rattle.markdown_options.specs.declared.container.Item.{Item as ItemOf}
 use Rattle.definition_block.specs.Container.{Quote, Item, Footnote}
-use Rattle.definition_block.specs.Tree.{Block, Leaf, Paragraph, Heading, Break, IndentedCode, FencedCode, Html, Table, Definition, Holds, Items, Ending, Blank}
-use Rattle.definition_block.specs.Tree.{Blocks, Nil, Cons}
+use Rattle.definition_block.specs.Tree.{LeafBlock, Definition, Block, Leaf, Holds, Items, Ending, Blank, Blocks, Nil, Cons}
 use Rattle.definition_block.specs.Lists.{after_endings, has_gap, is_loose, list_marker, put_before, group_items, grouped_block}
 use Rattle.html_bytes.specs.Pieces.{Piece, Bytes, Eol, Fresh, NoteStart, NoteEnd, print}
 use Rattle.html_bytes.specs.Layout.{LayoutState, lay as lay_piece, with_text}
 use Rattle.html_bytes.specs.Document.{Document}
 use Rattle.definition_page.specs.Read.{in_container, in_item}
 use Rattle.html_bytes.specs.Html.{block_bytes, children_bytes, ends_tight, fresh_unless, number_tag, number_end}
-use Rattle.block_rows.specs.Rows.{Single, Exit, rows_of, block_rows}
+use Rattle.block_rows.specs.Rows.{Single, Exit, spaced_leaf, rows_of, block_rows}
 use Rattle.html_looseness.specs.declared.level.Level.{Level}
 use Rattle.html_looseness.specs.declared.level.Holder.{Holder}
 use Rattle.html_looseness.specs.declared.level.Holder.TheVariants as holder
@@ -133,58 +132,61 @@ module _ (d : Document) (default : List ℕ) where
       ≡ printer_at (lay out (at_level l (put_before (grouped_block b) (group_items bs))))
       (level_past l (put_before (grouped_block b) (group_items bs))) outer places
 
+  -- the row of a leaf
+  leaf_row : (leaf : LeafBlock) (p : PrinterView) → print_row d default p (Single (Leaf (spaced_leaf leaf))) ≡ print_row d default p (Single (Leaf leaf))
+  leaf_row (Definition label destination title) p = refl
+  leaf_row leaf p = refl
+
   -- a block that is a row
-  leaf_step : (b : Block) (bs : Blocks) → ChildrenPrinted bs → (l : Level) (out : LayoutState) (outer : List Level) (places : List Place)
+  row_step : (b : Block) (bs : Blocks) → ChildrenPrinted bs → (l : Level) (out : LayoutState) (outer : List Level) (places : List Place)
       → is_list l.holder ≡ false
       → print_all d default (print_row d default (printer_at out l outer (places_within bs ++ places)) (Single b)) (rows_of bs)
       ≡ printer_at (lay out (at_level l (Cons b (group_items bs)))) (level_past l (Cons b (group_items bs))) outer places
-  leaf_step b bs children l out outer places no_list =
+  row_step b bs children l out outer places no_list =
       let own = block_bytes d (standing_of l) l.tight l.silent b in
       let after = level_after l (Single b) in
       children after (lay out own) outer places no_list
       ∙ ap (λ x. printer_at x (level_past after (group_items bs)) outer places) (lay_more out own (at_level after (group_items bs)))
 
-  quote_left : (l inner : Level) (out : LayoutState) (outer : List Level) (places : List Place) → inner.holder ≡ holder.Quote
-      → print_row d default (printer_at out inner (l ∷ outer) places) Exit ≡ printer_at (lay out (Fresh ∷ Bytes (codes "</blockquote>") ∷ [])) l outer places
-  quote_left l inner out outer places is = ap (λ (k : Holder). exit_of default k (printer_at out inner (l ∷ outer) places)) is
+  leaf_step : (leaf : LeafBlock) (bs : Blocks) → ChildrenPrinted bs → StepPrinted (Leaf leaf) bs
+  leaf_step leaf bs children l out outer places no_list =
+      ap (λ (p : PrinterView). print_all d default p (rows_of bs)) (leaf_row leaf (printer_at out l outer (places_within bs ++ places)))
+      ∙ row_step (Leaf leaf) bs children l out outer places no_list
+
+  -- a container that holds blocks between a start and an end
+  held_step : (start end : List Piece) (k : Holder) (kids bs : Blocks) → is_list k ≡ false
+      → ((inner around : Level) (out : LayoutState) (outer : List Level) (places : List Place) → inner.holder ≡ k
+      → print_row d default (printer_at out inner (around ∷ outer) places) Exit ≡ printer_at (lay out end) around outer places)
+      → ChildrenPrinted kids → ChildrenPrinted bs
+      → (l : Level) (out : LayoutState) (outer : List Level) (places : List Place) → is_list l.holder ≡ false
+      → (let entered = printer_at (lay out start) (new_level k false) (l ∷ outer) (places_within kids ++ (places_within bs ++ places)) in
+      print_all d default (print_all d default entered (rows_of kids ++ Exit ∷ [])) (rows_of bs))
+      ≡ printer_at (lay out ((start ++ (at_level (new_level k false) (group_items kids) ++ end)) ++ at_level l (group_items bs)))
+      (level_past l (group_items bs)) outer places
+  held_step start end k kids bs no_items left_at held children l out outer places no_list =
+      let gs = group_items kids in
+      let new = new_level k false in
+      let body = at_level new gs in
+      let left = places_within bs ++ places in
+      ap (λ (p : PrinterView). print_all d default p (rows_of bs))
+      (fold-append (print_row d default) (printer_at (lay out start) new (l ∷ outer) (places_within kids ++ left)) (rows_of kids) (Exit ∷ [])
+      ∙ ap (λ (p : PrinterView). print_row d default p Exit) (held new (lay out start) (l ∷ outer) left no_items)
+      ∙ left_at (level_past new gs) l (lay (lay out start) body) outer left (past_kind new gs)
+      ∙ ap (λ x. printer_at x l outer left) (lay_more (lay out start) body end ∙ lay_more out start (body ++ end)))
+      ∙ children l (lay out (start ++ (body ++ end))) outer places no_list
+      ∙ ap (λ x. printer_at x (level_past l (group_items bs)) outer places) (lay_more out (start ++ (body ++ end)) (at_level l (group_items bs)))
 
   quote_step : (kids bs : Blocks) → ChildrenPrinted kids → ChildrenPrinted bs → StepPrinted (Holds Quote kids) bs
-  quote_step kids bs k children l out outer places no_list =
-      let gs = group_items kids in
-      let start : List Piece = Fresh ∷ Bytes (codes "<blockquote>") ∷ [] in
-      let new = new_level holder.Quote false in
-      let body = children_bytes d in_container false false gs in
-      let end : List Piece = Fresh ∷ Bytes (codes "</blockquote>") ∷ [] in
-      let left = places_within bs ++ places in
-      ap (λ (p : PrinterView). print_all d default p (rows_of bs))
-      (fold-append (print_row d default) (printer_at (lay out start) new (after_block l ∷ outer) (places_within kids ++ left)) (rows_of kids) (Exit ∷ [])
-      ∙ ap (λ (p : PrinterView). print_row d default p Exit) (k new (lay out start) (after_block l ∷ outer) left refl)
-      ∙ quote_left (after_block l) (level_past new gs) (lay (lay out start) body) outer left (past_kind new gs)
-      ∙ ap (λ x. printer_at x (after_block l) outer left) (lay_more (lay out start) body end))
-      ∙ children (after_block l) (lay (lay out start) (body ++ end)) outer places no_list
-      ∙ ap (λ x. printer_at x (level_past (after_block l) (group_items bs)) outer places)
-      (lay_more out (start ++ (body ++ end)) (at_level (after_block l) (group_items bs)))
-
-  footnote_left : (l inner : Level) (out : LayoutState) (outer : List Level) (places : List Place) → inner.holder ≡ holder.Footnote
-      → print_row d default (printer_at out inner (l ∷ outer) places) Exit ≡ printer_at (lay out (NoteEnd ∷ [])) l outer places
-  footnote_left l inner out outer places is = ap (λ (k : Holder). exit_of default k (printer_at out inner (l ∷ outer) places)) is
+  quote_step kids bs held children l out outer places no_list =
+      held_step (Fresh ∷ Bytes (codes "<blockquote>") ∷ []) (Fresh ∷ Bytes (codes "</blockquote>") ∷ []) holder.Quote kids bs refl
+      (λ inner around o others left is. ap (λ (k : Holder). exit_of default k (printer_at o inner (around ∷ others) left)) is)
+      held children (after_block l) out outer places no_list
 
   footnote_step : (label : List ℕ) (kids bs : Blocks) → ChildrenPrinted kids → ChildrenPrinted bs → StepPrinted (Holds (Footnote label) kids) bs
-  footnote_step label kids bs k children l out outer places no_list =
-      let gs = group_items kids in
-      let start : List Piece = NoteStart ∷ [] in
-      let new = new_level holder.Footnote false in
-      let body = children_bytes d in_container false false gs in
-      let end : List Piece = NoteEnd ∷ [] in
-      let left = places_within bs ++ places in
-      ap (λ (p : PrinterView). print_all d default p (rows_of bs))
-      (fold-append (print_row d default) (printer_at (lay out start) new (after_footnote l ∷ outer) (places_within kids ++ left)) (rows_of kids) (Exit ∷ [])
-      ∙ ap (λ (p : PrinterView). print_row d default p Exit) (k new (lay out start) (after_footnote l ∷ outer) left refl)
-      ∙ footnote_left (after_footnote l) (level_past new gs) (lay (lay out start) body) outer left (past_kind new gs)
-      ∙ ap (λ x. printer_at x (after_footnote l) outer left) (lay_more (lay out start) body end))
-      ∙ children (after_footnote l) (lay (lay out start) (body ++ end)) outer places no_list
-      ∙ ap (λ x. printer_at x (level_past (after_footnote l) (group_items bs)) outer places)
-      (lay_more out (start ++ (body ++ end)) (at_level (after_footnote l) (group_items bs)))
+  footnote_step label kids bs held children l out outer places no_list =
+      held_step (NoteStart ∷ []) (NoteEnd ∷ []) holder.Footnote kids bs refl
+      (λ inner around o others left is. ap (λ (k : Holder). exit_of default k (printer_at o inner (around ∷ others) left)) is)
+      held children (after_footnote l) out outer places no_list
 
   -- the list that an item starts, if none is open
   list_started : (item : ItemOf) (kids : Blocks) (place : Place) (l : Level) (out : LayoutState) (outer : List Level) (places : List Place)
@@ -271,20 +273,13 @@ module _ (d : Document) (default : List ℕ) where
   KidsPrinted b = Unit {0}
 
   step : (b : Block) (bs : Blocks) → IsPrintable b → KidsPrinted b → ChildrenPrinted bs → ListPrinted bs → StepPrinted b bs
-  step (Leaf (Paragraph ls)) bs h k children list = leaf_step (Leaf (Paragraph ls)) bs children
-  step (Leaf (Heading rank ls)) bs h k children list = leaf_step (Leaf (Heading rank ls)) bs children
-  step (Leaf Break) bs h k children list = leaf_step (Leaf Break) bs children
-  step (Leaf (IndentedCode ls)) bs h k children list = leaf_step (Leaf (IndentedCode ls)) bs children
-  step (Leaf (FencedCode info closed ls)) bs h k children list = leaf_step (Leaf (FencedCode info closed ls)) bs children
-  step (Leaf (Html ls)) bs h k children list = leaf_step (Leaf (Html ls)) bs children
-  step (Leaf (Table ls)) bs h k children list = leaf_step (Leaf (Table ls)) bs children
-  step (Leaf (Definition label destination title)) bs h k children list = leaf_step (Leaf (Definition label destination title)) bs children
+  step (Leaf leaf) bs h k children list = leaf_step leaf bs children
   step (Holds Quote kids) bs h k children list = quote_step kids bs k children
   step (Holds (Item item) kids) bs h k children list = item_step item kids bs h.0 k children list
   step (Holds (Footnote label) kids) bs h k children list = footnote_step label kids bs k children
   step (Items items) bs h k children list = absurd h
-  step (Ending ending) bs h k children list = leaf_step (Ending ending) bs children
-  step (Blank ending) bs h k children list = leaf_step (Blank ending) bs children
+  step (Ending ending) bs h k children list = row_step (Ending ending) bs children
+  step (Blank ending) bs h k children list = row_step (Blank ending) bs children
 
   list_step : (b : Block) (bs : Blocks) → IsPrintable b → KidsPrinted b → ChildrenPrinted bs → ListPrinted bs → OnListPrinted b bs
   list_step (Ending None) bs h k children list number tight plain l out outer places no_list some =
@@ -327,18 +322,8 @@ module _ (d : Document) (default : List ℕ) where
 
   mutual
     pub kids_printed : (b : Block) → IsPrintable b → KidsPrinted b
-    kids_printed (Leaf (Paragraph ls)) h = tt
-    kids_printed (Leaf (Heading rank ls)) h = tt
-    kids_printed (Leaf Break) h = tt
-    kids_printed (Leaf (IndentedCode ls)) h = tt
-    kids_printed (Leaf (FencedCode info closed ls)) h = tt
-    kids_printed (Leaf (Html ls)) h = tt
-    kids_printed (Leaf (Table ls)) h = tt
-    kids_printed (Leaf (Definition label destination title)) h = tt
     kids_printed (Holds c kids) h = (blocks_printed kids h.1).children
-    kids_printed (Items items) h = tt
-    kids_printed (Ending ending) h = tt
-    kids_printed (Blank ending) h = tt
+    kids_printed b h = tt
 
     pub blocks_printed : (bs : Blocks) → CanBePrinted bs → BlocksPrinted bs
     blocks_printed Nil h = none_printed

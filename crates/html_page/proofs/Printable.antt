@@ -10,7 +10,7 @@ use Rattle.markdown_options.specs.declared.configuration.Constructs.{Constructs}
 use Rattle.markdown_options.specs.declared.beside.Beside.{Beside}
 use Rattle.markdown_options.specs.declared.beside.Kind.{Kind}
 use Rattle.markdown_options.specs.declared.beside.Kind.TheVariants.{Whitespace}
-use Rattle.definition_block.specs.Container.{Container, Quote, Item, Footnote}
+use Rattle.definition_block.specs.Container.{Container, Quote}
 use Rattle.definition_text.specs.Lines.{TextLine, lines}
 use Rattle.definition_text.specs.Content.{is_eol}
 use Rattle.definition_text.specs.Columns.{Rest, whole, bare, bytes_of, indent, is_byte, is_white, is_blank, trim}
@@ -37,8 +37,8 @@ use Rattle.block_rows.proofs.OpenLines.{clear_bare, clear_start, clear_continue,
 use Rattle.markdown_options.specs.declared.line_ending.LineEnding.{LineEnding}
 use Rattle.markdown_options.specs.declared.line_ending.LineEnding.TheVariants.{LineFeed}
 use Rattle.definition_text.specs.BlockLines.{BlockLine, own_lines}
-use Rattle.definition_block.specs.Tree.{leaf_text, open_text, beside_in, beside_line, in_container, Block, Leaf, Paragraph, Heading, Break, IndentedCode, FencedCode}
-use Rattle.definition_block.specs.Tree.{Html, Table, Definition, Holds, Items, Ending, Blank, Blocks, Nil, Cons, join, one, block_and_ending, OpenLeaf, Text}
+use Rattle.definition_block.specs.Tree.{leaf_text, open_text, beside_in, beside_line, in_container, Heading, Html, Block, Leaf, Ending, Blank}
+use Rattle.definition_block.specs.Tree.{Blocks, Nil, Cons, join, one, block_and_ending, OpenLeaf, Text}
 use Rattle.definition_block.specs.Tree.{Indented, Fenced, OpenHtml, OpenTable, Opening, At, Inside, Tree, tree, nothing, empty_tree, paragraph_of, close_leaf}
 use Rattle.definition_block.specs.Tree.{close, blanks, is_ending, all_endings, front, trailing, without_last, last_of, container_block, has_text, has_table}
 use Rattle.definition_block.specs.Tree.{is_some_line}
@@ -186,18 +186,9 @@ joined Nil others h k = k
 joined (Cons b bs) others h k = (h.0, joined bs others h.1 k)
 
 ending_printable : (b : Block) → is_ending b ≡ true → IsPrintable b
-ending_printable (Leaf (Paragraph ls)) h = let wrong : false ≡ true = h in cc
-ending_printable (Leaf (Heading rank ls)) h = let wrong : false ≡ true = h in cc
-ending_printable (Leaf Break) h = tt
-ending_printable (Leaf (IndentedCode ls)) h = tt
-ending_printable (Leaf (FencedCode info blocks_at_end ls)) h = let wrong : false ≡ true = h in cc
-ending_printable (Leaf (Html ls)) h = let wrong : false ≡ true = h in cc
-ending_printable (Leaf (Table ls)) h = let wrong : false ≡ true = h in cc
-ending_printable (Leaf (Definition label destination title)) h = let wrong : false ≡ true = h in cc
-ending_printable (Holds c kids) h = let wrong : false ≡ true = h in cc
-ending_printable (Items items) h = let wrong : false ≡ true = h in cc
 ending_printable (Ending ending) h = tt
 ending_printable (Blank ending) h = tt
+ending_printable b h = let wrong : false ≡ true = h in cc
 
 endings_printable : (bs : Blocks) → all_endings bs ≡ true → CanBePrinted bs
 endings_printable Nil h = tt
@@ -226,8 +217,7 @@ without_last_printable (Cons b (Cons c bs)) h = (h.0, without_last_printable (Co
 
 holds_printable : (c : Container) (kids : Blocks) → IsPrintableContainer c → CanBePrinted kids → CanBePrinted (container_block c kids)
 holds_printable Quote kids h k = ((tt, without_last_printable kids k), last_printable kids)
-holds_printable (Item item) kids h k = ((h, front_printable kids k), trailing_printable kids)
-holds_printable (Footnote label) kids h k = ((h, front_printable kids k), trailing_printable kids)
+holds_printable c kids h k = ((h, front_printable kids k), trailing_printable kids)
 
 blanks_printable : (ls : List BlockLine) → CanBePrinted (blanks ls)
 blanks_printable [] = tt
@@ -316,11 +306,9 @@ lines_taken (suc (suc n)) (a ∷ b ∷ others) h = (h.0, h.1, h.2, lines_taken (
 -- ---- what is open
 
 abbrev LeafFits : OpenLeaf → Type 0
-LeafFits (Text ls) = Unit {0}
-LeafFits (Indented ls pending) = Unit {0}
 LeafFits (Fenced fence opening ls) = IsInfo fence.info
-LeafFits (OpenHtml kind ls) = Unit {0}
 LeafFits (OpenTable ls) = IsTable ls
+LeafFits leaf = Unit {0}
 
 abbrev Fits : Opening → Type 0
 Fits (At leaf) = LeafFits leaf
@@ -362,11 +350,9 @@ after_fits : (on : Constructs) (away : Opening) (t : Tree) → CanClose away →
 after_fits on away t h k = record { done = joined (close on away) t.done (close_printable on away h.fits h.lines) k.done; now = k.now }
 
 with_line_fits : (line : BlockLine) (now : Opening) → HaveNoEnding line.codes → Fits now → Fits (with_line line now)
-with_line_fits line (At (Text ls)) clear h = tt
-with_line_fits line (At (Indented ls pending)) clear h = tt
 with_line_fits line (At (Fenced fence opening ls)) clear h = h
-with_line_fits line (At (OpenHtml kind ls)) clear h = tt
 with_line_fits line (At (OpenTable ls)) clear h = longer_table ls line h clear
+with_line_fits line (At leaf) clear h = tt
 with_line_fits line (Inside c kids inner) clear h = (h.0, h.1, with_line_fits line inner clear h.2)
 
 -- ---- a line

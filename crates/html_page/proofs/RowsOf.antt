@@ -3,19 +3,18 @@ use Rattle.std.proofs.Common.{◌≡◌, ℕ, Bool, false, List, [], ◌∷◌, 
 use Rattle.std.specs.List.{fold, All}
 use Rattle.std.proofs.lemmas.List.Sums.{fold-append}
 use Rattle.std.proofs.lemmas.List.Elements.{All-nil, All-cons, All-head, All-tail}
-use Rattle.definition_block.specs.Container.{Container, Quote, Item, Footnote}
-use Rattle.definition_block.specs.Tree.{Block, Leaf, Paragraph, Heading, Break, IndentedCode, FencedCode, Html, Table, Definition, Holds, Items, Ending, Blank}
-use Rattle.definition_block.specs.Tree.{Blocks, Nil, Cons}
+use Rattle.definition_block.specs.Container.{Container, Footnote}
+use Rattle.definition_block.specs.Tree.{LeafBlock, Definition, Block, Leaf, Holds, Items, Ending, Blank, Blocks, Nil, Cons}
 use Rattle.definition_block.specs.Lists.{group_items}
 use Rattle.html_bytes.specs.Layout.{LayoutState, with_footnotes, lay, nothing_laid, page_layout}
 use Rattle.html_bytes.specs.Document.{Document}
 use Rattle.definition_page.specs.Read.{ends_blank, is_blank_ending}
 use Rattle.definition_page.specs.Read.{on_page}
 use Rattle.html_bytes.specs.Html.{children_bytes, last_piece, document_bytes}
-use Rattle.block_rows.specs.Rows.{BlockRow, Single, Exit, start_row, rows_of, block_rows, spaced_definition}
+use Rattle.block_rows.specs.Rows.{BlockRow, Single, Exit, start_row, rows_of, block_rows, spaced_leaf}
 use Rattle.html_looseness.specs.declared.level.Holder.TheVariants as holder
 use Rattle.html_looseness.specs.declared.loose.Place.{Place}
-use Rattle.html_looseness.specs.Printable.{IsPrintable, IsPrintableContainer, IsPrintableRow, ArePrintable, CanBePrinted}
+use Rattle.html_looseness.specs.Printable.{IsPrintableLeaf, IsPrintable, IsPrintableContainer, IsPrintableRow, ArePrintable, CanBePrinted}
 use Rattle.html_looseness.specs.Loose.{PassView}
 use Rattle.html_looseness.specs.Levels.{new_level}
 use Rattle.html_page.specs.PrinterView.{PrinterView, printer_at, print_all, is_blank_row, ends_blank_rows, rows_html}
@@ -28,14 +27,7 @@ abbrev blank_after : Bool → List BlockRow → Bool
 blank_after blank rows = fold (λ (before : Bool) row. is_blank_row row) blank rows
 
 block_ends_blank : (b : Block) (blank : Bool) → IsPrintable b → blank_after blank (block_rows b) ≡ is_blank_ending b
-block_ends_blank (Leaf (Paragraph ls)) blank h = refl
-block_ends_blank (Leaf (Heading rank ls)) blank h = refl
-block_ends_blank (Leaf Break) blank h = refl
-block_ends_blank (Leaf (IndentedCode ls)) blank h = refl
-block_ends_blank (Leaf (FencedCode info closed ls)) blank h = refl
-block_ends_blank (Leaf (Html ls)) blank h = refl
-block_ends_blank (Leaf (Table ls)) blank h = refl
-block_ends_blank (Leaf (Definition label destination title)) blank h = refl
+block_ends_blank (Leaf leaf) blank h = refl
 block_ends_blank (Holds c kids) blank h =
     fold-append (λ (before : Bool) row. is_blank_row row) (is_blank_row (start_row c)) (rows_of kids) (Exit ∷ [])
 block_ends_blank (Items items) blank h = absurd h
@@ -75,20 +67,16 @@ all_one : (row : BlockRow) → IsPrintableRow row → ArePrintable (row ∷ [])
 all_one row h = All-cons IsPrintableRow row [] h (All-nil IsPrintableRow)
 
 entered_printable : (c : Container) → IsPrintableContainer c → IsPrintableRow (start_row c)
-entered_printable Quote h = tt
-entered_printable (Item item) h = tt
 entered_printable (Footnote label) h = h
+entered_printable c h = tt
+
+spaced_printable : (leaf : LeafBlock) → IsPrintableLeaf leaf → IsPrintableLeaf (spaced_leaf leaf)
+spaced_printable (Definition label destination title) h = tt
+spaced_printable leaf h = h
 
 mutual
   pub printable_block : (b : Block) → IsPrintable b → ArePrintable (block_rows b)
-  printable_block (Leaf (Paragraph ls)) h = all_one (Single (Leaf (Paragraph ls))) h
-  printable_block (Leaf (Heading rank ls)) h = all_one (Single (Leaf (Heading rank ls))) h
-  printable_block (Leaf Break) h = all_one (Single (Leaf Break)) h
-  printable_block (Leaf (IndentedCode ls)) h = all_one (Single (Leaf (IndentedCode ls))) h
-  printable_block (Leaf (FencedCode info closed ls)) h = all_one (Single (Leaf (FencedCode info closed ls))) h
-  printable_block (Leaf (Html ls)) h = all_one (Single (Leaf (Html ls))) h
-  printable_block (Leaf (Table ls)) h = all_one (Single (Leaf (Table ls))) h
-  printable_block (Leaf (Definition label destination title)) h = all_one (Single (spaced_definition label destination title)) h
+  printable_block (Leaf leaf) h = all_one (Single (Leaf (spaced_leaf leaf))) (spaced_printable leaf h)
   printable_block (Holds c kids) h =
       All-cons IsPrintableRow (start_row c) (rows_of kids ++ Exit ∷ []) (entered_printable c h.0)
       (all_append IsPrintableRow (rows_of kids) (Exit ∷ []) (printable_rows_of kids h.1) (all_one Exit tt))

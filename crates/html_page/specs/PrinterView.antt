@@ -93,11 +93,8 @@ module _ (default : List ℕ) where
   leave_item p = outside (more (fresh_unless p.level.plain ++ Bytes (codes "</li>") ∷ []) p)
 
   abbrev pub leave_list_of : Holder → PrinterView → PrinterView
-  leave_list_of holder.Document p = p
-  leave_list_of holder.Quote p = p
   leave_list_of (holder.List number) p = outside (more (Eol ∷ Bytes (number_end number) ∷ []) p)
-  leave_list_of (holder.Item last) p = p
-  leave_list_of holder.Footnote p = p
+  leave_list_of k p = p
 
   abbrev pub leave_list : PrinterView → PrinterView
   leave_list p = leave_list_of p.level.holder p
@@ -107,11 +104,10 @@ module _ (default : List ℕ) where
   leave_list_if true p = leave_list p
 
   abbrev pub exit_of : Holder → PrinterView → PrinterView
-  exit_of holder.Document p = p
   exit_of holder.Quote p = leave_quote p
-  exit_of (holder.List number) p = p
   exit_of (holder.Item last) p = leave_list_if last (leave_item p)
   exit_of holder.Footnote p = leave_footnote p
+  exit_of k p = p
 
   abbrev pub exit : PrinterView → PrinterView
   exit p = exit_of p.level.holder p
@@ -137,10 +133,7 @@ printer_view p = printer_at (page_view p.page) p.level (reverse p.outer.items) (
 -- whether a row is the ending of a blank line
 abbrev pub is_blank_row : BlockRow → Bool
 is_blank_row (Single b) = is_blank_ending b
-is_blank_row EnterQuote = false
-is_blank_row (EnterItem marker number) = false
-is_blank_row (EnterFootnote label) = false
-is_blank_row Exit = false
+is_blank_row row = false
 
 -- whether the last row is one
 abbrev pub ends_blank_rows : List BlockRow → Bool

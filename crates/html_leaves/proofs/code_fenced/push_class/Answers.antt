@@ -2,7 +2,7 @@ use Rattle.std.proofs.Common.{◌≡◌, ◌++◌, ◌==◌, false, string_bytes
 use Rattle.std.specs.Result.{OnOk}
 use Rattle.definition_text.specs.Encode.{encode}
 use Rattle.html_bytes.specs.Document.{info_of}
-use Rattle.html_bytes.specs.Html.{class_of}
+use Rattle.html_leaves.specs.CodeLines.{class_of}
 use Rattle.html_contents.specs.Texts.{document_by}
 use Rattle.html_leaves.proofs.CodeFencedLemmas.{class_some}
 use Rattle.html_leaves.proofs.code_fenced.push_class.Goals as goal

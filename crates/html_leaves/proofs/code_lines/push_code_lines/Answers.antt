@@ -5,7 +5,7 @@ use Rattle.definition_text.specs.Lines.{ending_text}
 use Rattle.std.specs.Prelude.{map}
 use Rattle.definition_text.specs.Encode.{encode}
 use Rattle.definition_text.specs.BlockLines.{BlockLine, own_lines, last_ending}
-use Rattle.html_bytes.specs.Html.{code_of}
+use Rattle.html_leaves.specs.CodeLines.{code_of}
 use Rattle.definition_text.specs.Columns.{code_byte}
 use Rattle.text_pieces.specs.Pieces.{piece_line, piece_lines}
 use Rattle.text_pieces.proofs.Pieces.{no_piece}

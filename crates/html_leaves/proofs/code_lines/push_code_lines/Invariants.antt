@@ -1,6 +1,6 @@
 use Rattle.std.proofs.Common.{◌≡◌, ◌++◌, string_bytes, take}
 use Rattle.definition_text.specs.BlockLines.{own_lines, last_ending}
-use Rattle.html_bytes.specs.Html.{code_of}
+use Rattle.html_leaves.specs.CodeLines.{code_of}
 use Rattle.text_pieces.specs.Pieces.{piece_lines}
 use Rattle.html_leaves.proofs.code_lines.push_code_lines.Given as goal
 

@@ -4,7 +4,7 @@ use Rattle.markdown_options.specs.declared.line_ending.LineEnding.{LineEnding}
 use Rattle.definition_text.specs.Lines.{ending_text}
 use Rattle.definition_text.specs.Columns.{bytes_of}
 use Rattle.definition_text.specs.BlockLines.{BlockLine, own_lines, last_ending}
-use Rattle.html_bytes.specs.Html.{html_of}
+use Rattle.html_leaves.specs.CodeLines.{html_of}
 use Rattle.html_bytes.specs.RawHtml.{raw_bytes}
 use Rattle.text_pieces.specs.Pieces.{piece_line, piece_lines}
 use Rattle.text_pieces.proofs.Pieces.{no_piece}

@@ -8,7 +8,7 @@ use Rattle.markdown_options.specs.LineEndings.{ending_bytes}
 use Rattle.text_pieces.specs.declared.piece.Piece.{Piece}
 use Rattle.definition_text.specs.Lines.{ending_text}
 use Rattle.definition_text.specs.BlockLines.{own_lines, last_ending}
-use Rattle.html_bytes.specs.Html.{code_of}
+use Rattle.html_leaves.specs.CodeLines.{code_of}
 use Rattle.text_pieces.specs.Pieces.{piece_line, piece_lines}
 use Rattle.text_pieces.proofs.OwnLines.{last_piece_ending}
 use Rattle.html_leaves.specs.Prints.{page_view, with_bytes, with_fresh}

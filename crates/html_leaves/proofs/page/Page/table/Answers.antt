@@ -1,4 +1,4 @@
-use Rattle.std.proofs.Common.{◌≡◌, ◌∷◌, ◌-◌, List, sym, ap, ◌∙◌, subst, get_or, take, drop, length}
+use Rattle.std.proofs.Common.{◌≡◌, ◌∷◌, ◌-◌, List, false, sym, ap, ◌∙◌, subst, get_or, take, drop, length}
 use Rattle.std.specs.Prelude.{codes}
 use Rattle.std.specs.Result.{OnOk}
 use Rattle.std.proofs.lemmas.List.{take_rest}
@@ -6,9 +6,11 @@ use Rattle.markdown_options.specs.declared.line_ending.LineEnding.{LineEnding}
 use Rattle.markdown_options.specs.LineEndings.{ending_bytes}
 use Rattle.definition_text.specs.BlockLines.{BlockLine, own_lines}
 use Rattle.markdown_options.specs.declared.align_kind.AlignKind.{AlignKind}
+use Rattle.definition_block.specs.Tree.{Table}
 use Rattle.definition_page.specs.GfmTable.{line_aligns}
-use Rattle.html_bytes.specs.Html.{table_bytes}
+use Rattle.definition_page.specs.Read.{on_page}
 use Rattle.html_leaves.specs.GfmTable.{head_bytes, body_bytes}
+use Rattle.html_bytes.specs.Html.{leaf_bytes}
 use Rattle.html_contents.specs.Texts.{document_by}
 use Rattle.text_pieces.proofs.Pieces.{no_piece}
 use Rattle.text_pieces.specs.Pieces.{piece_line, piece_lines}
@@ -62,5 +64,5 @@ returns-clause-printed g c = λ ds has clear.
     (c.in_ok-table_body.ensures.default ∙ c.in_ok-table_head.ensures.default ∙ later)
     ∙ ap (with_tag default (codes "</table>")) bodied
     ∙ table_laid default d head second ls out
-    ∙ ap (λ (all : List BlockLine). layout_after o e out (table_bytes d (own_lines all))) (sym two))
+    ∙ ap (λ (all : List BlockLine). layout_after o e out (leaf_bytes d on_page false (Table (own_lines all)))) (sym two))
     c.fresh_tag-2.ensures.printed
