@@ -1,0 +1,11 @@
+//! Blank lines (CommonMark 4.9).
+use engine_events::event::Name;
+use event_lines::Walk;
+use std::alloc::{AllocError, Allocator};
+
+/// A blank line with its ending, if it has one. It begins unless it is begun.
+pub fn push_blank_line<A: Allocator>(walk: &mut Walk<'_, A>) -> Result<(), AllocError> {
+    walk.in_line()?;
+    walk.all(Name::SpaceOrTab)?;
+    walk.ending(Name::BlankLineEnding)
+}

@@ -1,0 +1,36 @@
+//! Lines of code (CommonMark 4.4 and 4.5).
+use engine_events::event::Name;
+use event_lines::Walk;
+use std::alloc::{AllocError, Allocator};
+use text_lines::next_line;
+
+/// The rest of the line, which loses up to so many columns of spaces and tabs.
+pub(crate) fn push_code_line<A: Allocator>(
+    walk: &mut Walk<'_, A>,
+    chunk: Name,
+    indent: usize,
+) -> Result<(), AllocError> {
+    push_indent(walk, indent)?;
+    walk.all(chunk)
+}
+
+/// The spaces and tabs ahead, up to so many columns.
+pub(crate) fn push_indent<A: Allocator>(
+    walk: &mut Walk<'_, A>,
+    indent: usize,
+) -> Result<(), AllocError> {
+    let rest = walk.rest;
+    walk.space_to(&rest.outdent(indent))
+}
+
+/// How many lines a text has.
+pub(crate) fn line_count(text: &str) -> usize {
+    let mut count: usize = 0;
+    let mut rest = text;
+    while !rest.is_empty() {
+        let (_, _, after) = next_line(rest);
+        count = count.saturating_add(1);
+        rest = after;
+    }
+    count
+}

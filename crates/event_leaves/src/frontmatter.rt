@@ -1,0 +1,35 @@
+//! Frontmatter (in neither standard).
+//!
+//!     frontmatter ::= fence line* fence
+//!     fence       ::= ('-'{3} | '+'{3}) white*
+use crate::code_lines::line_count;
+use engine_events::event::Name;
+use event_lines::Walk;
+use markdown_options::constants::FRONTMATTER_SEQUENCE_SIZE;
+use std::alloc::{AllocError, Allocator};
+
+/// Frontmatter, whose lines come next: the lines of this text. The ending of the last one follows it.
+pub fn push_frontmatter<A: Allocator>(
+    walk: &mut Walk<'_, A>,
+    text: &str,
+) -> Result<(), AllocError> {
+    walk.in_line()?;
+    walk.enter(Name::Frontmatter)?;
+    push_metadata_fence(walk)?;
+    for _ in 2..line_count(text) {
+        walk.next_line()?;
+        walk.all(Name::FrontmatterChunk)?;
+    }
+    walk.next_line()?;
+    push_metadata_fence(walk)?;
+    walk.exit(Name::Frontmatter)?;
+    walk.ending(Name::LineEnding)
+}
+
+/// A fence: the rest of the line.
+fn push_metadata_fence<A: Allocator>(walk: &mut Walk<'_, A>) -> Result<(), AllocError> {
+    walk.enter(Name::FrontmatterFence)?;
+    walk.token(Name::FrontmatterSequence, FRONTMATTER_SEQUENCE_SIZE)?;
+    walk.all(Name::SpaceOrTab)?;
+    walk.exit(Name::FrontmatterFence)
+}

@@ -1,0 +1,66 @@
+//! ATX headings (CommonMark 4.2).
+//!
+//!     heading ::= '#'{1,6} white* text? white* '#'* white*
+use crate::buffers::Buffers;
+use crate::text::push_text;
+use crate::texts::Texts;
+use engine_events::event::Name;
+use event_lines::Walk;
+use event_lines::cut::bytes_from;
+use markdown_options::{Kind, Tables};
+use std::alloc::{AllocError, Allocator};
+use std::slice::from_ref;
+use text_bytes::{run, white_size};
+use text_pieces::Piece;
+
+/// An ATX heading of a rank, whose content is this piece of the line.
+pub fn push_heading<'a, T: Tables, A: Allocator + Clone>(
+    walk: &mut Walk<'_, A>,
+    texts: &Texts<'a, '_, T, A>,
+    buffers: &mut Buffers<'a, A>,
+    rank: u8,
+    content: &Piece<'a>,
+) -> Result<(), AllocError> {
+    let bytes = walk.white()?.as_bytes();
+    let size = usize::from(rank);
+    walk.enter(Name::HeadingAtx)?;
+    walk.token(Name::HeadingAtxSequence, size)?;
+    let text = push_white(walk, bytes_from(bytes, size))?;
+    if !content.text.is_empty() {
+        push_heading_text(walk, texts, buffers, content)?;
+    }
+    let closing = push_white(walk, bytes_from(text, content.text.len()))?;
+    walk.token(Name::HeadingAtxSequence, run(b'#', closing))?;
+    walk.all(Name::SpaceOrTab)?;
+    walk.exit(Name::HeadingAtx)
+}
+
+/// The text, which comes next.
+fn push_heading_text<'a, T: Tables, A: Allocator + Clone>(
+    walk: &mut Walk<'_, A>,
+    texts: &Texts<'a, '_, T, A>,
+    buffers: &mut Buffers<'a, A>,
+    content: &Piece<'a>,
+) -> Result<(), AllocError> {
+    walk.begin_here();
+    walk.enter(Name::HeadingAtxText)?;
+    push_text(
+        walk,
+        texts,
+        buffers,
+        false,
+        from_ref(content),
+        Kind::Whitespace,
+    )?;
+    walk.exit(Name::HeadingAtxText)
+}
+
+/// The spaces and tabs that bytes begin with, which come next. Answers what follows them.
+fn push_white<'b, A: Allocator>(
+    walk: &mut Walk<'_, A>,
+    bytes: &'b [u8],
+) -> Result<&'b [u8], AllocError> {
+    let size = white_size(bytes);
+    walk.token(Name::SpaceOrTab, size)?;
+    Ok(bytes_from(bytes, size))
+}

@@ -1,0 +1,58 @@
+//! Rows of blocks that hold no others (CommonMark 4).
+use crate::buffers::Buffers;
+use crate::code_fenced::{push_fenced_code, push_unclosed_code, push_whole_code};
+use crate::code_indented::push_indented_code;
+use crate::definition::push_definition;
+use crate::heading_atx::push_heading;
+use crate::heading_setext::push_setext_heading;
+use crate::html_flow::push_html;
+use crate::paragraph::{push_paragraph, push_whole_paragraph};
+use crate::texts::Texts;
+use crate::thematic_break::push_thematic_break;
+use block_rows::Row;
+use event_lines::Walk;
+use markdown_options::Tables;
+use std::alloc::{AllocError, Allocator};
+use text_pieces::Piece;
+
+/// The block of a row, whose first line is begun, and of the lines that the row takes. A paragraph that
+/// is the first block of an item may begin with a check (GFM 5.3). Tables, containers, endings and blank
+/// lines write nothing here.
+pub fn push_leaf<'a, T: Tables, A: Allocator + Clone>(
+    walk: &mut Walk<'_, A>,
+    texts: &Texts<'a, '_, T, A>,
+    buffers: &mut Buffers<'a, A>,
+    first: bool,
+    row: Row,
+    lines: &[Piece<'a>],
+) -> Result<(), AllocError> {
+    match row {
+        Row::Paragraph(_) => push_paragraph(walk, texts, buffers, first, lines),
+        Row::WholeParagraph => match lines {
+            [line, ..] => push_whole_paragraph(walk, texts, buffers, first, line.text),
+            [] => Ok(()),
+        },
+        Row::Heading(rank) => match lines {
+            [line, ..] => push_heading(walk, texts, buffers, rank, line),
+            [] => Ok(()),
+        },
+        Row::SetextHeading { .. } => push_setext_heading(walk, texts, buffers, lines),
+        Row::Break => push_thematic_break(walk),
+        Row::IndentedCode(count) => push_indented_code(walk, count),
+        Row::FencedCode(count) => push_fenced_code(walk, texts, count),
+        Row::UnclosedCode(count) => push_unclosed_code(walk, texts, count),
+        Row::WholeCode => match lines {
+            [_, line, ..] => push_whole_code(walk, texts, line.text),
+            _ => Ok(()),
+        },
+        Row::Html(count) => push_html(walk, count),
+        Row::Definition(_) => push_definition(walk, texts, buffers, lines),
+        Row::Table(_)
+        | Row::EnterQuote
+        | Row::EnterItem { .. }
+        | Row::EnterFootnote
+        | Row::Exit
+        | Row::Ending(_)
+        | Row::Blank(_) => Ok(()),
+    }
+}

@@ -1,0 +1,12 @@
+//! Math (in neither standard): fenced code of dollars, which has no info.
+use crate::code_fenced::FenceNames;
+use engine_events::event::Name;
+
+/// The names of math and its parts.
+pub(crate) const MATH: FenceNames = FenceNames {
+    block: Name::MathFlow,
+    fence: Name::MathFlowFence,
+    sequence: Name::MathFlowFenceSequence,
+    meta: Name::MathFlowFenceMeta,
+    chunk: Name::MathFlowChunk,
+};

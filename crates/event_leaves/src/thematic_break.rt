@@ -1,0 +1,31 @@
+//! Thematic breaks (CommonMark 4.1).
+//!
+//!     break ::= (marker+ white*)+, with the same marker throughout
+use engine_events::event::Name;
+use event_lines::Walk;
+use event_lines::cut::{bytes_from, first};
+use std::alloc::{AllocError, Allocator};
+use text_bytes::{run, white_size};
+
+/// A thematic break: the rest of the line.
+pub fn push_thematic_break<A: Allocator>(walk: &mut Walk<'_, A>) -> Result<(), AllocError> {
+    let mut rest = walk.white()?.as_bytes();
+    walk.enter(Name::ThematicBreak)?;
+    while !rest.is_empty() {
+        let size = push_part(walk, rest)?;
+        rest = bytes_from(rest, size.max(1));
+    }
+    walk.exit(Name::ThematicBreak)
+}
+
+/// The markers or the white space that bytes begin with, which come next. Answers their size.
+fn push_part<A: Allocator>(walk: &mut Walk<'_, A>, bytes: &[u8]) -> Result<usize, AllocError> {
+    let white = white_size(bytes);
+    if white > 0 {
+        walk.token(Name::SpaceOrTab, white)?;
+        return Ok(white);
+    }
+    let size = run(first(bytes), bytes);
+    walk.token(Name::ThematicBreakSequence, size)?;
+    Ok(size)
+}

@@ -1,0 +1,101 @@
+//! Rows of cells (GFM 4.10).
+//!
+//!     row ::= (white* bar)? cell (bar cell)* (bar white*)?
+use block_cells::{Cell, Cells};
+use engine_events::event::Name;
+use event_leaves::{Buffers, Texts, push_text};
+use event_lines::Walk;
+use event_lines::cut::{bytes_from, first};
+use markdown_options::{Kind, Tables};
+use std::alloc::{AllocError, Allocator};
+use std::slice::from_ref;
+use text_bytes::white_size;
+use text_lines::is_blank;
+use text_pieces::Piece;
+
+/// A row of cells: a line, which is the rest of the line.
+pub(crate) fn push_row<'a, T: Tables, A: Allocator + Clone>(
+    walk: &mut Walk<'_, A>,
+    texts: &Texts<'a, '_, T, A>,
+    buffers: &mut Buffers<'a, A>,
+    line: Piece<'a>,
+) -> Result<(), AllocError> {
+    walk.enter(Name::GfmTableRow)?;
+    let start = walk.index_of(line.text.len());
+    walk.to(Name::SpaceOrTab, start)?;
+    push_first_divider(walk, line.text.as_bytes())?;
+    push_cells(walk, texts, buffers, Cells::new(without_columns(line)))?;
+    walk.all(Name::SpaceOrTab)?;
+    walk.exit(Name::GfmTableRow)
+}
+
+/// A line without the columns of a tab before it, which are written.
+fn without_columns(line: Piece<'_>) -> Piece<'_> {
+    Piece { owed: 0, ..line }
+}
+
+/// The bar before the first cell, if there is one, with the spaces and tabs before it.
+fn push_first_divider<A: Allocator>(
+    walk: &mut Walk<'_, A>,
+    bytes: &[u8],
+) -> Result<(), AllocError> {
+    let white = white_size(bytes);
+    if first(bytes_from(bytes, white)) != b'|' {
+        return Ok(());
+    }
+    walk.token(Name::SpaceOrTab, white)?;
+    walk.token(Name::GfmTableCellDivider, 1)
+}
+
+/// The cells of a line, each with the bar after it.
+fn push_cells<'a, T: Tables, A: Allocator + Clone>(
+    walk: &mut Walk<'_, A>,
+    texts: &Texts<'a, '_, T, A>,
+    buffers: &mut Buffers<'a, A>,
+    cells: Cells<'a>,
+) -> Result<(), AllocError> {
+    let mut left = cells;
+    while let Some(cell) = left.next() {
+        push_cell(walk, texts, buffers, &cell)?;
+        if cell.after == Kind::Punctuation {
+            walk.token(Name::GfmTableCellDivider, 1)?;
+        }
+    }
+    Ok(())
+}
+
+/// A cell, which comes next. One of spaces and tabs alone has no text.
+fn push_cell<'a, T: Tables, A: Allocator + Clone>(
+    walk: &mut Walk<'_, A>,
+    texts: &Texts<'a, '_, T, A>,
+    buffers: &mut Buffers<'a, A>,
+    cell: &Cell<'a>,
+) -> Result<(), AllocError> {
+    walk.enter(Name::GfmTableCell)?;
+    if is_blank(cell.line.text) {
+        walk.token(Name::SpaceOrTab, cell.line.text.len())?;
+    } else {
+        push_cell_text(walk, texts, buffers, cell)?;
+    }
+    walk.exit(Name::GfmTableCell)
+}
+
+/// The text of a cell.
+fn push_cell_text<'a, T: Tables, A: Allocator + Clone>(
+    walk: &mut Walk<'_, A>,
+    texts: &Texts<'a, '_, T, A>,
+    buffers: &mut Buffers<'a, A>,
+    cell: &Cell<'a>,
+) -> Result<(), AllocError> {
+    walk.begin_here();
+    walk.enter(Name::GfmTableCellText)?;
+    push_text(
+        walk,
+        texts,
+        buffers,
+        false,
+        from_ref(&cell.line),
+        cell.after,
+    )?;
+    walk.exit(Name::GfmTableCellText)
+}

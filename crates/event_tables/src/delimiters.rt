@@ -1,0 +1,52 @@
+//! Rows of delimiters (GFM 4.10).
+//!
+//!     delimiters ::= (bar | white | delimiter)*
+//!     delimiter  ::= ':'? '-'+ ':'?
+use engine_events::event::Name;
+use event_lines::Walk;
+use event_lines::cut::{bytes_from, first};
+use std::alloc::{AllocError, Allocator};
+use text_bytes::{run, white_size};
+
+/// A row of delimiters: the rest of the line.
+pub(crate) fn push_delimiters<A: Allocator>(walk: &mut Walk<'_, A>) -> Result<(), AllocError> {
+    let mut rest = walk.white()?.as_bytes();
+    walk.enter(Name::GfmTableDelimiterRow)?;
+    while !rest.is_empty() {
+        let size = push_part(walk, rest)?;
+        rest = bytes_from(rest, size.max(1));
+    }
+    walk.exit(Name::GfmTableDelimiterRow)
+}
+
+/// The bar, the white space or the delimiter that bytes begin with, which come next. Answers its size.
+fn push_part<A: Allocator>(walk: &mut Walk<'_, A>, bytes: &[u8]) -> Result<usize, AllocError> {
+    match first(bytes) {
+        b'|' => {
+            walk.token(Name::GfmTableCellDivider, 1)?;
+            Ok(1)
+        }
+        b' ' | b'\t' => {
+            let size = white_size(bytes);
+            walk.token(Name::SpaceOrTab, size)?;
+            Ok(size)
+        }
+        _ => push_delimiter(walk, bytes),
+    }
+}
+
+/// The delimiter that bytes begin with. Its colons say how the column is aligned. Answers its size.
+fn push_delimiter<A: Allocator>(walk: &mut Walk<'_, A>, bytes: &[u8]) -> Result<usize, AllocError> {
+    walk.enter(Name::GfmTableDelimiterCell)?;
+    walk.enter(Name::GfmTableDelimiterCellValue)?;
+    let left = run(b':', bytes);
+    walk.token(Name::GfmTableDelimiterMarker, left)?;
+    let dashes = run(b'-', bytes_from(bytes, left));
+    walk.token(Name::GfmTableDelimiterFiller, dashes)?;
+    let size = left.saturating_add(dashes);
+    let right = run(b':', bytes_from(bytes, size));
+    walk.token(Name::GfmTableDelimiterMarker, right)?;
+    walk.exit(Name::GfmTableDelimiterCellValue)?;
+    walk.exit(Name::GfmTableDelimiterCell)?;
+    Ok(size.saturating_add(right))
+}

@@ -1,0 +1,52 @@
+//! Tables (GFM 4.10).
+//!
+//!     table ::= head delimiters row*
+use crate::cells::push_row;
+use crate::delimiters::push_delimiters;
+use engine_events::event::Name;
+use event_leaves::{Buffers, Texts};
+use event_lines::Walk;
+use markdown_options::Tables;
+use std::alloc::{AllocError, Allocator};
+use text_pieces::Piece;
+
+/// A table of these lines, the first of which is begun: its head, its row of delimiters, and the rows of
+/// its body. Fewer than two lines are none.
+pub fn push_table<'a, T: Tables, A: Allocator + Clone>(
+    walk: &mut Walk<'_, A>,
+    texts: &Texts<'a, '_, T, A>,
+    buffers: &mut Buffers<'a, A>,
+    lines: &[Piece<'a>],
+) -> Result<(), AllocError> {
+    let [head, _, rows @ ..] = lines else {
+        return Ok(());
+    };
+    walk.enter(Name::GfmTable)?;
+    walk.enter(Name::GfmTableHead)?;
+    push_row(walk, texts, buffers, *head)?;
+    walk.next_line()?;
+    push_delimiters(walk)?;
+    walk.exit(Name::GfmTableHead)?;
+    if !rows.is_empty() {
+        push_body(walk, texts, buffers, rows)?;
+    }
+    walk.exit(Name::GfmTable)
+}
+
+/// The rows of the body, after the ending of the row of delimiters.
+fn push_body<'a, T: Tables, A: Allocator + Clone>(
+    walk: &mut Walk<'_, A>,
+    texts: &Texts<'a, '_, T, A>,
+    buffers: &mut Buffers<'a, A>,
+    rows: &[Piece<'a>],
+) -> Result<(), AllocError> {
+    walk.next_line()?;
+    walk.enter(Name::GfmTableBody)?;
+    for (i, row) in rows.iter().enumerate() {
+        if i > 0 {
+            walk.next_line()?;
+        }
+        push_row(walk, texts, buffers, *row)?;
+    }
+    walk.exit(Name::GfmTableBody)
+}
