@@ -1,0 +1,136 @@
+//! From a text to its events.
+ghost use Rattle.std.specs.Prelude.{◌≡◌, ◌≤◌, IfErr, IfOk, false, length};
+ghost use Rattle.markdown_options.specs.Mdx.{has_mdx};
+ghost use Rattle.markdown_options.specs.Messages.{IsOutOfMemory};
+ghost use Rattle.block_rows.specs.Rows.{rows_size};
+ghost use Rattle.event_output.specs.Placed.{ArePlaced};
+
+use crate::labels::Labels;
+use crate::parser::Parser;
+use crate::state::ParseState;
+use block_parser::{BlockRows, block_rows};
+use block_rows::Row;
+use block_starts::frontmatter::without_frontmatter;
+use block_targets::{definition_contents, document_definitions, document_footnotes};
+use engine_events::Event;
+use engine_events::event::Name;
+use event_leaves::{Buffers, Texts, push_frontmatter};
+use event_lines::Walk;
+use event_lines::cut::up_to;
+use html_looseness::places;
+use markdown_options::{Kind, Message, ParseOptions, Tables};
+use std::alloc::{AllocError, Allocator};
+use text_lines::without_mark;
+use text_pieces::Piece;
+
+/// The largest size of a text, in bytes.
+pub const SIZE_MAX: usize = usize::MAX / 8;
+
+/// Reads a text. Returns its events, and the labels that are defined in it.
+///
+/// The text must have at most `SIZE_MAX` bytes. No construct of MDX may be on, which
+/// `Constructs::has_mdx` tests. The only error is `out of memory`.
+pub fn parse<'a, T: Tables, A: Allocator + Clone>(
+    alloc: A,
+    value: &'a str,
+    options: &'a ParseOptions,
+    tables: &'a T,
+) -> Result<(Vec<Event, A>, ParseState<'a, T, A>), Message>
+    requires size { length value.now ≤ SIZE_MAX }
+    requires without_mdx { has_mdx options.now.constructs ≡ false }
+    ensures placed { IfOk result (λ parsed. ArePlaced value.now parsed.0.items) }
+    ensures memory { IfErr result IsOutOfMemory }
+{
+    let parsed = parse_text(alloc, value, options, tables)?;
+    Ok(parsed)
+}
+
+/// Reads a text.
+fn parse_text<'a, T: Tables, A: Allocator + Clone>(
+    alloc: A,
+    value: &'a str,
+    options: &'a ParseOptions,
+    tables: &'a T,
+) -> Result<(Vec<Event, A>, ParseState<'a, T, A>), AllocError>
+    requires size { length value.now ≤ SIZE_MAX }
+    ensures placed { IfOk result (λ parsed. ArePlaced value.now parsed.0.items) }
+{
+    let (before, text) = without_mark(value);
+    let BlockRows { rows, pieces } = block_rows(alloc.clone()?, before, text, &options.constructs)?;
+    let labels = Labels::of_rows(alloc.clone()?, &rows, &pieces)?;
+    let walk = begin(alloc.clone()?, value, before, text, options)?;
+    let walk = push_blocks(alloc, walk, options, tables, &rows, &pieces)?;
+    let events = walk.into_output().finish(value.as_bytes())?;
+    let Labels {
+        definitions,
+        footnotes,
+        ..
+    } = labels;
+    let state = ParseState {
+        options,
+        tables,
+        bytes: value.as_bytes(),
+        definitions,
+        gfm_footnote_definitions: footnotes,
+    };
+    Ok((events, state))
+}
+
+/// A walk over the lines of a text, after its byte order mark and its frontmatter. `text` is what
+/// follows the mark.
+fn begin<'a, A: Allocator + Clone>(
+    alloc: A,
+    value: &'a str,
+    before: Kind,
+    text: &'a str,
+    options: &'a ParseOptions,
+) -> Result<Walk<'a, A>, AllocError> {
+    let mut walk = Walk::new(alloc, &options.constructs, value.len(), text)?;
+    walk.token(Name::ByteOrderMark, value.len().saturating_sub(text.len()))?;
+    let (_, left) = without_frontmatter(&options.constructs, before, text);
+    let size = text.len().saturating_sub(left.len());
+    if size > 0 {
+        push_frontmatter(&mut walk, up_to(text, size))?;
+    }
+    Ok(walk)
+}
+
+/// Writes the blocks of these rows, whose lines are given.
+#[tactic(auto, using(block_rows::proofs::RowSteps::taken_more))]
+fn push_blocks<'a, T: Tables, A: Allocator + Clone>(
+    alloc: A,
+    walk: Walk<'a, A>,
+    options: &'a ParseOptions,
+    tables: &'a T,
+    rows: &[Row],
+    pieces: &[Piece<'a>],
+) -> Result<Walk<'a, A>, AllocError>
+    requires enough { rows_size rows.now ≤ length pieces.now }
+{
+    let contents = definition_contents(alloc.clone()?, rows, pieces)?;
+    let definitions = document_definitions(alloc.clone()?, &contents)?;
+    let may_define = options.constructs.gfm_footnote_definition;
+    let footnotes = document_footnotes(alloc.clone()?, may_define, rows, pieces)?;
+    let texts = Texts {
+        options,
+        tables,
+        labels: &definitions.labels,
+        footnotes: &footnotes.labels,
+    };
+    let mut parser = Parser {
+        walk,
+        buffers: Buffers::new(alloc.clone()?)?,
+        items: Vec::new(alloc.clone()?),
+        places: places(alloc, rows)?,
+        between_items: false,
+        first: false,
+    };
+    let mut taken = 0;
+    for row in rows {
+        let end = taken + row.size();
+        parser.row(&texts, *row, &pieces[taken..end])?;
+        taken = end;
+    }
+    let Parser { walk, .. } = parser;
+    Ok(walk)
+}

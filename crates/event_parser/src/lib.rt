@@ -1,0 +1,11 @@
+//! A text to its events.
+#![tactic(auto)]
+
+pub mod document;
+pub mod labels;
+pub mod list;
+pub mod parser;
+pub mod state;
+
+pub use document::{SIZE_MAX, parse};
+pub use state::ParseState;
