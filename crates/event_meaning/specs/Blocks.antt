@@ -11,7 +11,7 @@ use Rattle.definition_block.specs.MathFlow.{math_info}
 use Rattle.definition_inline.specs.CharacterReference.{Names}
 use Rattle.definition_page.specs.Page as page
 use Rattle.event_check.specs.Loose.{is_loose_list}
-use Rattle.event_grammar.specs.InGrammar.{node_name, kids_of}
+use Rattle.event_grammar.specs.InGrammar.{kids_of}
 use Rattle.event_grammar.specs.References.{label_text}
 use Rattle.event_grammar.specs.Trees.{Node, Nodes, Around, Nil, Cons}
 use Rattle.event_meaning.specs.Children.{child, children, kids_in, after_child, before_child, text_of, text_in}

@@ -8,7 +8,7 @@ use Rattle.definition_text.specs.Ascii.{carriage_return}
 use Rattle.definition_text.specs.BlockLines.{BlockLine, spaced_line}
 use Rattle.event_grammar.specs.InGrammar.{node_name}
 use Rattle.event_grammar.specs.Trees.{Node, Nodes, Nil, Cons}
-use Rattle.event_meaning.specs.Children.{after_child, before_child, text_of, spaced_text_of}
+use Rattle.event_meaning.specs.Children.{text_of, spaced_text_of}
 
 -- the line ending of these bytes
 abbrev pub ending_of : List ℕ → LineEnding

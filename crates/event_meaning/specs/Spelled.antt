@@ -7,7 +7,6 @@ use Rattle.engine_events.specs.Names.{same_name}
 use Rattle.engine_events.specs.declared.event.Event.{Event}
 use Rattle.engine_events.specs.declared.event.Name.TheVariants as n
 use Rattle.definition_text.specs.Columns.{Code}
-use Rattle.definition_text.specs.Content.{content_codes}
 use Rattle.definition_text.specs.Lines.{first_line, without_mark}
 use Rattle.definition_inline.specs.CharacterReference.{Names}
 use Rattle.definition_inline.specs.Definition.{Definition, definition}

@@ -9,7 +9,7 @@ use Rattle.definition_text.specs.Columns.{Code, is_white}
 use Rattle.definition_text.specs.Content.{is_eol}
 use Rattle.definition_inline.specs.CharacterReference.{Names, number_of, numbered_text}
 use Rattle.event_grammar.specs.InGrammar.{node_name, kids_of}
-use Rattle.event_grammar.specs.Trees.{Node, Nodes, Nil, Cons}
+use Rattle.event_grammar.specs.Trees.{Nodes, Nil, Cons}
 use Rattle.event_meaning.specs.Children.{child, text_of, text_in}
 
 module _ (names : Names) (bytes : List ℕ) where

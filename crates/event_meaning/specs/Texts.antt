@@ -12,7 +12,7 @@ use Rattle.definition_inline.specs.Inline.{Target, Resource, Reference, LiteralK
 use Rattle.definition_inline.specs.Inline.{Autolink, Literal, Html, EscapedBreak, TrailingBreak, LineEnd, TaskCheck, Emphasis, Strong, Strikethrough, Mark}
 use Rattle.definition_inline.specs.Inline.{Link, Image, Inline, Leaf, Span, Linked, Call, Inlines}
 use Rattle.definition_inline.specs.Inline as inline
-use Rattle.event_grammar.specs.InGrammar.{node_name, kids_of}
+use Rattle.event_grammar.specs.InGrammar.{node_name}
 use Rattle.event_grammar.specs.References.{own_label}
 use Rattle.event_grammar.specs.Trees.{Node, Nodes, Around, Nil, Cons}
 use Rattle.event_meaning.specs.Children.{child, kids_in, after_child, before_child, text_of, text_in, spaced_text_of}

@@ -9,7 +9,6 @@ use Rattle.markdown_options.specs.declared.line_ending.LineEnding.TheVariants.{C
 use Rattle.markdown_options.specs.LineEndings.{ending_bytes}
 use Rattle.definition_text.specs.BlockLines.{BlockLine}
 use Rattle.definition_text.specs.Columns.{bytes_of}
-use Rattle.definition_text.specs.Lines.{ending_text}
 use Rattle.definition_inline.specs.Inline.{Inlines, Nil}
 use Rattle.markdown_options.specs.declared.align_kind.AlignKind.{AlignKind}
 use Rattle.markdown_options.specs.declared.align_kind.AlignKind.TheVariants as kind
