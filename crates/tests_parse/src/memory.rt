@@ -20,7 +20,10 @@ const TEXTS: &str = texts![
 /// By how many bytes a heap grows from one call to the next.
 const UNIT: usize = 64;
 
-/// How many times a heap may grow, and how many requests a text may take.
+/// How many sizes of a heap are tried.
+const UNITS: usize = 8192;
+
+/// How many requests of a text are refused, one at a time.
 const MOST: u64 = 8192;
 
 /// What a text is parsed to with an allocator.
@@ -64,12 +67,11 @@ fn parses_in_growing_heaps(
     text: &str,
     events: &[Event],
 ) -> Result<bool, AllocError> {
-    let mut size = 0;
-    for _ in 0..MOST {
-        let heap = LocalHeap::new(alloc, size)?;
+    for units in 0..UNITS {
+        let heap = LocalHeap::new(alloc, units * UNIT)?;
         match parse_with(&heap, text, events) {
             Outcome::Same => return Ok(true),
-            Outcome::Memory => size += UNIT,
+            Outcome::Memory => {}
             Outcome::Other => return Ok(false),
         }
     }
