@@ -1,0 +1,68 @@
+//! Code and math between fences and by indentation (CommonMark 4.4 and 4.5), and frontmatter.
+use crate::right::assert_right;
+use crate::texts::texts;
+use markdown_options::Message;
+
+/// Fences, closed and open, with blank lines at the end.
+const CODE: &str = texts![
+    "- ```\n  a\n\n\nb",
+    "> ~~~\n>\n>  a\n>\n\nb",
+    "- a\n  ```\n\n\n",
+    "> ```\n",
+    "```\n\n\n",
+    "- ```x y\n\n  \n   \n",
+    "> - ```\n>   a\n>   \n>\n> b",
+    "1. ~~~ é\\* &amp; z &#35;\n   a\n   ~~~~\n   ~~~\n",
+    "    a\n\n\n    b\n\n",
+    "-     a\n\n\n      b\n  c\n\n",
+    ">     a\n>\n>\n>     b\nc",
+    "  ```\n   a\n b\n  ```` \n  ``` \nc",
+    "```\na\n ``` b\n```",
+    "- - ~~~\n\n\n  - ```\n    ```\n    ```",
+    "> > ```\n> > a\n> b\n> > ```\n\n",
+    "``` a`b\nc\n~~~ a`b\n🪐\n~~~",
+    "```\r\n\ra\n```\r\n\n",
+    "- a\n\n      b\n\n\n- c",
+];
+
+/// Math as a block.
+const MATH: &str = texts![
+    "$$\na\n$$\n> $$ b\\* &amp;\n> c\nd",
+    "- $$$\n\n  a\n  $$\n  $$$ \n\n",
+    "$$ a$b\nc\n$$\n\nd\n$$",
+    ">  $$\n>   a\n>\n\n",
+];
+
+/// Frontmatter, closed and not.
+const FRONTMATTER: &str = texts![
+    "---\na: b\n\n---\nc",
+    "---\na",
+    "+++\n---\n+++ \t\n# b",
+    "---\n---",
+    "--- \n...\n---\n",
+    "---\n\n",
+    "+++\na\n+++",
+    " ---\na\n---",
+    "---\n[a]: b\n---\n[a]",
+    "---\né\n---\n\n> c\n",
+    "----\na\n----",
+    "+++\n\n+++\n\n---\na\n---",
+    "> ---\n> a\n> ---",
+    "---\n+++\n",
+    "---\n---\n---\n---",
+];
+
+#[test]
+fn code(rt: HostRuntime) -> Result<(), Message> {
+    assert_right(&rt, CODE)
+}
+
+#[test]
+fn math(rt: HostRuntime) -> Result<(), Message> {
+    assert_right(&rt, MATH)
+}
+
+#[test]
+fn frontmatter(rt: HostRuntime) -> Result<(), Message> {
+    assert_right(&rt, FRONTMATTER)
+}

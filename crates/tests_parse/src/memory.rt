@@ -1,0 +1,120 @@
+//! Memory that runs out: heaps of fixed size, and one request refused.
+use crate::options::every;
+use crate::texts::{MARK, texts};
+use engine_events::event::Event;
+use event_parser::{SIZE_MAX, parse};
+use linked_list_allocator::LocalHeap;
+use markdown_options::Message;
+use markdown_tables::Builtin;
+use std::alloc::{AllocError, Allocator, Global};
+use tests_memory::Refusing;
+
+/// Short texts, with each kind of container and of leaf among them.
+const TEXTS: &str = texts![
+    "",
+    "---\na\n---\n> - b\n>   1. *c* `d`\n\n[e]: f 'g'\n# [e] &amp;\n",
+    "\u{FEFF}| a | b |\n|:-:|--|\n| c\\| | www.d.e |\n\n[^f]:\n\n    ![g](h \"i\")\n\n[^f] ==j== $k$",
+    "- [x] a\n\n  ```b c\n  d\n\n-\t\te\n$$\nf\n$$\n<g>\n\nh\\\ni <j@k.l>\n===",
+];
+
+/// By how many bytes a heap grows from one call to the next.
+const UNIT: usize = 64;
+
+/// How many sizes of a heap are tried.
+const UNITS: usize = 8192;
+
+/// How many requests of a text are refused, one at a time.
+const MOST: u64 = 8192;
+
+/// What a text is parsed to with an allocator.
+#[derive(Clone, Copy)]
+enum Outcome {
+    /// The events that are wanted.
+    Same,
+    /// Out of memory.
+    Memory,
+    /// Other events, or another error.
+    Other,
+}
+
+/// What a text is parsed to with this allocator, where these events are wanted.
+fn parse_with<A: Allocator + Clone>(alloc: A, text: &str, events: &[Event]) -> Outcome {
+    if text.len() > SIZE_MAX {
+        return Outcome::Other;
+    }
+    let options = every();
+    match parse(alloc, text, &options, &Builtin) {
+        Ok((found, _state)) => {
+            if found.as_slice() == events {
+                Outcome::Same
+            } else {
+                Outcome::Other
+            }
+        }
+        Err(message) => {
+            if message == Message::out_of_memory() {
+                Outcome::Memory
+            } else {
+                Outcome::Other
+            }
+        }
+    }
+}
+
+/// Whether a text is parsed to these events in a heap of some size, and is out of memory in each smaller one.
+fn parses_in_growing_heaps(
+    alloc: Global,
+    text: &str,
+    events: &[Event],
+) -> Result<bool, AllocError> {
+    for units in 0..UNITS {
+        let heap = LocalHeap::new(alloc, units * UNIT)?;
+        match parse_with(&heap, text, events) {
+            Outcome::Same => return Ok(true),
+            Outcome::Memory => {}
+            Outcome::Other => return Ok(false),
+        }
+    }
+    Ok(false)
+}
+
+/// Whether a text is parsed to these events, or is out of memory, if any one request is refused, and is parsed if none is.
+fn parses_with_refusals(alloc: Global, text: &str, events: &[Event]) -> bool {
+    for passed in 0..MOST {
+        let heap = Refusing::new(alloc, passed);
+        match parse_with(&heap, text, events) {
+            Outcome::Same if heap.is_unused() => return true,
+            Outcome::Same => {}
+            Outcome::Memory if !heap.is_unused() => {}
+            _ => return false,
+        }
+    }
+    false
+}
+
+/// Whether a text is parsed to the same events in any heap, or is out of memory.
+fn is_same_in_heaps(alloc: Global, text: &str) -> Result<bool, Message> {
+    if text.len() > SIZE_MAX {
+        return Ok(false);
+    }
+    let options = every();
+    let (events, _) = parse(alloc, text, &options, &Builtin)?;
+    Ok(parses_with_refusals(alloc, text, &events) && parses_in_growing_heaps(alloc, text, &events)?)
+}
+
+/// The first of these texts that a heap changes.
+fn first_other<'a>(alloc: Global, texts: &'a str) -> Result<Option<&'a str>, Message> {
+    for text in texts.split_terminator(MARK) {
+        if !is_same_in_heaps(alloc, text)? {
+            return Ok(Some(text));
+        }
+    }
+    Ok(None)
+}
+
+#[test]
+fn memory_runs_out(rt: HostRuntime) -> Result<(), Message> {
+    let other = first_other(rt.alloc(), TEXTS)?;
+    assert!(rt; other.is_none(), "{other:?}");
+    Ok(())
+}

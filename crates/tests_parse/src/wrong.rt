@@ -1,0 +1,96 @@
+//! What must hold of the events of a text.
+ghost use Rattle.std.specs.Prelude.{◌≡◌, false};
+ghost use Rattle.markdown_options.specs.Mdx.{has_mdx};
+
+use engine_events::event::{Event, Kind, Name};
+use engine_events::place::START;
+use event_check::{CompileError, check_events};
+use event_grammar::EventFault;
+use event_grammar::void::is_void;
+use event_parser::{ParseState, SIZE_MAX, parse};
+use markdown_options::{Message, ParseOptions};
+use markdown_tables::Builtin;
+use std::alloc::{AllocError, Global};
+
+/// What is wrong with the events of a text.
+#[derive(Clone, Copy, Debug)]
+pub(crate) enum Wrong {
+    /// The text has too many bytes.
+    Size,
+    /// The events aren't in the grammar.
+    Fault(EventFault),
+    /// Their places don't tile the text.
+    Places,
+    /// The state has another text, or more or fewer labels than there are definitions.
+    State,
+}
+
+/// What is wrong with the events of a text, if something is.
+pub(crate) fn wrong_of(
+    alloc: Global,
+    text: &str,
+    options: &ParseOptions,
+) -> Result<Option<Wrong>, Message>
+    requires { has_mdx options.now.constructs ≡ false }
+{
+    if text.len() > SIZE_MAX {
+        return Ok(Some(Wrong::Size));
+    }
+    let (events, state) = parse(alloc, text, options, &Builtin)?;
+    if let Some(fault) = fault_of(alloc, &events, text)? {
+        return Ok(Some(Wrong::Fault(fault)));
+    }
+    if !tile(&events, text.len()) {
+        return Ok(Some(Wrong::Places));
+    }
+    if !is_state_of(&state, &events, text) {
+        return Ok(Some(Wrong::State));
+    }
+    Ok(None)
+}
+
+/// The fault of a list of events, if it has one.
+fn fault_of(alloc: Global, events: &[Event], text: &str) -> Result<Option<EventFault>, AllocError> {
+    match check_events(alloc, events, text.as_bytes(), &Builtin) {
+        Ok(_) => Ok(None),
+        Err(CompileError::Events(fault)) => Ok(Some(fault)),
+        Err(CompileError::Memory) => Err(AllocError),
+    }
+}
+
+/// Whether events tile a text of a size: the first is at its start and the last at its end, and each is where the one before it is,
+/// or further on as the exit of an event that holds no other.
+fn tile(events: &[Event], size: usize) -> bool {
+    let (Some(first), Some(last)) = (events.first(), events.last()) else {
+        return size == 0;
+    };
+    let end = last.point();
+    first.point() == START
+        && end.index == size
+        && end.vs == 0
+        && events.windows(2).all(|pair| matches!(pair, [before, event] if is_next(before, event)))
+}
+
+/// Whether an event is where the one before it is, or is the exit of an event that holds no other.
+fn is_next(before: &Event, event: &Event) -> bool {
+    event.point() == before.point()
+        || before.kind == Kind::Enter
+            && event.kind == Kind::Exit
+            && event.name == before.name
+            && is_void(event.name)
+}
+
+/// Whether a state has this text, and a label for each definition among these events.
+fn is_state_of(state: &ParseState<'_, Builtin, Global>, events: &[Event], text: &str) -> bool {
+    state.bytes == text.as_bytes()
+        && state.definitions.len() == count(events, Name::Definition)
+        && state.gfm_footnote_definitions.len() == count(events, Name::GfmFootnoteDefinition)
+}
+
+/// How many events enter this name.
+fn count(events: &[Event], name: Name) -> usize {
+    events
+        .iter()
+        .filter(|event| event.kind == Kind::Enter && event.name == name)
+        .count()
+}
