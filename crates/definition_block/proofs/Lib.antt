@@ -1,3 +1,4 @@
 pub mod LeafLines
 pub mod GfmFootnoteDefinition
 pub mod BlockReads
+pub mod ListReads
