@@ -10,7 +10,7 @@ use Rattle.definition_inline.specs.CharacterReference.{Names}
 use Rattle.definition_page.specs.BlockPieces.{Place, inside, list_tag, is_silent, is_visible, last_visible, ends_plainly, fresh_unless, block_pieces, children_pieces}
 use Rattle.definition_page.specs.InlinePieces.{Meaning}
 use Rattle.definition_page.specs.Page as page
-use Rattle.definition_page.specs.Pieces.{Piece, Says, Close, Eol, Fresh, NoteEnd}
+use Rattle.definition_page.specs.Pieces.{Piece, Says, Close, Eol, Fresh}
 use Rattle.definition_page.specs.Tags.{Words}
 use Rattle.event_grammar.specs.Trees.{Node, Nodes, Around, Nil, Cons, node_events, events_of}
 use Rattle.event_meaning.specs.Blocks.{join, one, start_of, block_of, blocks_of, blocks_from}
@@ -58,18 +58,17 @@ plain_same tight true = refl
 plain_same tight false = refl
 
 module _ (tight : Bool) where
-  mutual
-    last_same : (before : Option page.Block) (bs : page.Blocks)
-        → ends_plainly tight (last_visible before bs) ≡ ends_plainly tight (last_visible (visible_of (ends_plainly tight before)) bs)
-    last_same before page.Nil = sym (plain_same tight (ends_plainly tight before))
-    last_same before (page.Cons b bs) = last_by (is_visible b) before b bs
+  last_by : (v : Bool) (before : Option page.Block) (b : page.Block) (bs : page.Blocks)
+      → ends_plainly tight (last_visible before bs) ≡ ends_plainly tight (last_visible (visible_of (ends_plainly tight before)) bs)
+      → ends_plainly tight (last_visible (if v then Some b else before) bs)
+      ≡ ends_plainly tight (last_visible (if v then Some b else visible_of (ends_plainly tight before)) bs)
+  last_by true before b bs h = refl
+  last_by false before b bs h = h
 
-    last_by : (v : Bool) (before : Option page.Block) (b : page.Block) (bs : page.Blocks)
-        → ends_plainly tight (last_visible (if v then Some b else before) bs)
-        ≡ ends_plainly tight (last_visible (if v then Some b else visible_of (ends_plainly tight before)) bs)
-    last_by true before b bs = refl
-    last_by false before b bs =
-        last_same before bs
+  last_same : (before : Option page.Block) (bs : page.Blocks)
+      → ends_plainly tight (last_visible before bs) ≡ ends_plainly tight (last_visible (visible_of (ends_plainly tight before)) bs)
+  last_same before page.Nil = sym (plain_same tight (ends_plainly tight before))
+  last_same before (page.Cons b bs) = last_by (is_visible b) before b bs (last_same before bs)
 
   -- after a child that is visible or isn't
   plain_after : (v plain : Bool) (b : page.Block)
@@ -219,5 +218,5 @@ pub entered_events : (f g : Frame) (enter exit : Event) (kids ns : Nodes) (fs : 
 entered_events f g enter exit kids ns fs p q =
     passed_events f (Around enter kids exit) ns fs
     ∙ ap (λ es. enter ∷ es) (append_assoc (events_of kids) (exit ∷ []) (left_events (with_siblings f ns ∷ fs)))
-    ∙ ap (λ ks. enter ∷ events_of ks ++ (exit ∷ []) ++ left_events (with_siblings f ns ∷ fs)) (sym p)
-    ∙ ap (λ es. enter ∷ events_of g.siblings ++ (es ++ left_events (with_siblings f ns ∷ fs))) (sym q)
+    ∙ ap (λ ks. enter ∷ (events_of ks ++ ((exit ∷ []) ++ left_events (with_siblings f ns ∷ fs)))) (sym p)
+    ∙ ap (λ es. enter ∷ (events_of g.siblings ++ (es ++ left_events (with_siblings f ns ∷ fs)))) (sym q)

@@ -10,7 +10,7 @@ use Rattle.definition_page.specs.InlinePieces.{Meaning}
 use Rattle.definition_page.specs.Page as page
 use Rattle.definition_page.specs.Pieces.{Piece, Open, Close, Eol, Fresh, NoteStart, NoteEnd}
 use Rattle.definition_page.specs.Tags.{bare_tag}
-use Rattle.event_grammar.specs.Trees.{Node, Nodes, Around, Nil, Cons, events_of}
+use Rattle.event_grammar.specs.Trees.{Nodes, events_of}
 use Rattle.event_meaning.specs.Blocks.{blocks_of, blocks_from}
 
 -- what holds blocks: the document, a block quote, an item, a footnote definition, a list with the number of its first item, if it is ordered
