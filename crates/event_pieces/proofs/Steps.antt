@@ -15,8 +15,8 @@ use Rattle.definition_page.specs.Tags.{Words}
 use Rattle.event_grammar.specs.Trees.{Node, Nodes, Around, Nil, Cons, node_events, events_of}
 use Rattle.event_meaning.specs.Blocks.{join, one, start_of, block_of, blocks_of, blocks_from}
 use Rattle.event_meaning.specs.Children.{text_of}
-use Rattle.event_pieces.specs.Left.{Holder, Document, Quote, Item, Footnote, ListOf, is_document, first_name, Frame, place_of, sibling_of, visible_of, blocks_by}
-use Rattle.event_pieces.specs.Left.{blocks_left, opening, closing, left_events, frame_pieces, left_pieces, has_begun, counts, passed, after_block, new_frame}
+use Rattle.event_pieces.specs.Left.{Holder, Quote, Item, Footnote, ListOf, is_document, first_name, Frame, place_of, sibling_of, visible_of, blocks_by}
+use Rattle.event_pieces.specs.Left.{opening, closing, left_events, frame_pieces, left_pieces, counts, passed, after_block, new_frame}
 
 no_true : (A : Type 0) → (let b : Bool = false in b ≡ true) → A
 no_true A h = absurd (cc)

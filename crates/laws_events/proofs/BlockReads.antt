@@ -1,5 +1,5 @@
 -- The page of every list of events in the grammar has headings of the ranks 1 to 6, and the codes of its line endings are those.
-use Rattle.std.proofs.Common.{◌≡◌, ℕ, Bool, true, false, ◌&&◌, leb, eqb, if◌then◌else◌, List, [], ◌∷◌, Option, None, Some, length, map, is_some, refl, arith}
+use Rattle.std.proofs.Common.{◌≡◌, ℕ, Bool, true, false, ◌&&◌, leb, eqb, if◌then◌else◌, List, [], ◌∷◌, Some, length, map, refl, arith}
 use Rattle.std.specs.Prelude.{slice_index}
 use Rattle.std.proofs.lemmas.Bool.{cond_both}
 use Rattle.std.proofs.lemmas.Bool.Decides.{nat_tests}
@@ -10,11 +10,9 @@ use Rattle.engine_events.specs.declared.event.Name.TheVariants as n
 use Rattle.definition_text.specs.Ascii.{hyphen}
 use Rattle.definition_text.proofs.Each.{Each}
 use Rattle.definition_inline.specs.CharacterReference.{Names}
-use Rattle.definition_inline.specs.Inline.{Inlines}
 use Rattle.definition_page.specs.GfmTable.{TableRow, in_cell}
 use Rattle.definition_page.specs.Page as page
-use Rattle.event_grammar.specs.Facts.{is_size}
-use Rattle.event_grammar.specs.InGrammar.{node_name, kids_of}
+use Rattle.event_grammar.specs.InGrammar.{node_name}
 use Rattle.event_grammar.specs.Trees.{Node, Nodes, Around, Nil, Cons}
 use Rattle.event_meaning.specs.Blocks.{join, underline_rank, start_of, block_of, blocks_of, blocks_from}
 use Rattle.event_meaning.specs.Children.{child, children, kids_in, inside_of, text_of, text_in}
@@ -22,7 +20,7 @@ use Rattle.event_meaning.specs.GfmTable.{cell_of, row_of, endings_before_row, ro
 use Rattle.laws_safe_page.proofs.BlockAdds.{is_rank, CellsEndLines, RowsEndLines, IsReadableLeaf, AreReadable}
 use Rattle.laws_safe_page.proofs.InlineAdds.{AllEndLines}
 use Rattle.laws_safe_page.proofs.PageReads.{in_cell_ends}
-use Rattle.laws_events.proofs.Facts.{EndingFact, RankFact, IsSound, AreSound}
+use Rattle.laws_events.proofs.Facts.{RankFact, IsSound, AreSound}
 use Rattle.laws_events.proofs.TextReads.{parts_end, text_ends}
 
 in_range : (rank : ℕ) → (leb 1 rank && leb rank 6) ≡ true → is_rank rank ≡ true

@@ -1,5 +1,5 @@
 -- The HTML of every list of events in the grammar is a safe page.
-use Rattle.std.proofs.Common.{◌≡◌, ℕ, List, sym, subst, ap}
+use Rattle.std.proofs.Common.{ℕ, List, ap}
 use Rattle.std.specs.Prelude.{unwrap_or}
 use Rattle.markdown_options.specs.declared.configuration.CompileOptions.{CompileOptions}
 use Rattle.definition_text.specs.Lines.{first_line, without_mark}
@@ -7,10 +7,9 @@ use Rattle.definition_inline.specs.CharacterReference.{Names}
 use Rattle.engine_events.specs.declared.event.Event.{Event}
 use Rattle.event_grammar.specs.Trees.{Nodes, tree}
 use Rattle.event_grammar.specs.Grammar.{document_row}
-use Rattle.event_check.specs.Matches.{MatchesGrammar}
 use Rattle.event_check.proofs.Joined.{fits_then, then_fits}
 use Rattle.event_check.proofs.Matching.{kids_match, matches_in}
-use Rattle.event_meaning.specs.Spelled.{page_of, meaning_of, default_ending, html_of_nodes, html_of_events}
+use Rattle.event_meaning.specs.Spelled.{page_of, meaning_of, default_ending, html_of_nodes}
 use Rattle.html_safe_page.specs.SafePage.{IsSafePage}
 use Rattle.html_safe_page.proofs.Pages.{one_reading}
 use Rattle.laws_safe_page.specs.SafeHtml.{AreSafe, HasOneReading}

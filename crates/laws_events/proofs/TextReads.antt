@@ -1,5 +1,5 @@
 -- In the text of every event the codes of line endings are those of endings.
-use Rattle.std.proofs.Common.{◌≡◌, ℕ, Bool, true, ◌||◌, List, [], ◌∷◌, Option, is_some, refl, sym, subst, map, inl, inr}
+use Rattle.std.proofs.Common.{◌≡◌, ℕ, Bool, true, ◌||◌, List, [], ◌∷◌, is_some, refl, sym, subst, map, inl, inr}
 use Rattle.std.specs.Str.{bytes_eq}
 use Rattle.std.proofs.lemmas.Bool.{cond_both, or_cases}
 use Rattle.std.proofs.lemmas.Slice.Eq.{bytes_eq-Decides}
@@ -10,10 +10,9 @@ use Rattle.definition_text.specs.Columns.{Code as ContentCode}
 use Rattle.definition_text.specs.Content.{content_codes, is_eol}
 use Rattle.definition_text.proofs.Each.{Each}
 use Rattle.definition_inline.specs.CharacterReference.{Names}
-use Rattle.definition_inline.specs.Inline.{LiteralKind, InlineLeaf, Data, Escape, LineEnd, Leaf, Inline, Inlines}
+use Rattle.definition_inline.specs.Inline.{LiteralKind, Data, Escape, LineEnd, Leaf, Inline, Inlines}
 use Rattle.definition_inline.specs.Inline as inline
 use Rattle.event_grammar.specs.Facts.{is_ending}
-use Rattle.event_grammar.specs.InGrammar.{node_name}
 use Rattle.event_grammar.specs.Trees.{Node, Nodes, Around, Nil, Cons}
 use Rattle.event_meaning.specs.Children.{child, text_of, text_in}
 use Rattle.event_meaning.specs.Texts.{append, leaves, text_names, endings, html_part, html_parts, autolink_of, literal_of, text_part, inlines_of, text_within}
