@@ -1,16 +1,14 @@
 -- The page of every list of events in the grammar has headings of the ranks 1 to 6, and the codes of its line endings are those.
-use Rattle.std.proofs.Common.{◌≡◌, ℕ, Bool, true, false, ◌&&◌, leb, eqb, if◌then◌else◌, List, [], ◌∷◌, Some, length, map, refl, arith}
+use Rattle.std.proofs.Common.{◌≡◌, ℕ, Bool, true, false, ◌&&◌, leb, eqb, List, [], ◌∷◌, Some, length, map, refl, arith}
 use Rattle.std.specs.Prelude.{slice_index}
 use Rattle.std.proofs.lemmas.Bool.{cond_both}
 use Rattle.std.proofs.lemmas.Bool.Decides.{nat_tests}
-use Rattle.markdown_options.specs.declared.line_ending.LineEnding.{LineEnding}
 use Rattle.engine_events.specs.Names.{same_name}
 use Rattle.engine_events.specs.declared.event.Name.{Name}
 use Rattle.engine_events.specs.declared.event.Name.TheVariants as n
 use Rattle.definition_text.specs.Ascii.{hyphen}
 use Rattle.definition_text.proofs.Each.{Each}
 use Rattle.definition_inline.specs.CharacterReference.{Names}
-use Rattle.definition_page.specs.GfmTable.{TableRow, in_cell}
 use Rattle.definition_page.specs.Page as page
 use Rattle.event_grammar.specs.InGrammar.{node_name}
 use Rattle.event_grammar.specs.Trees.{Node, Nodes, Around, Nil, Cons}
@@ -26,8 +24,8 @@ use Rattle.laws_events.proofs.TextReads.{parts_end, text_ends}
 in_range : (rank : ℕ) → (leb 1 rank && leb rank 6) ≡ true → is_rank rank ≡ true
 in_range rank h = grind (arith, nat_tests)
 
-setext_rank : (line : List ℕ) → is_rank (underline_rank line) ≡ true
-setext_rank line = cond_both (eqb (slice_index line 0) hyphen) 2 1 (λ rank. is_rank rank ≡ true) (λ _. refl) (λ _. refl)
+setext_rank : (names : Names) (bytes line : List ℕ) → is_rank (underline_rank names bytes line) ≡ true
+setext_rank names bytes line = cond_both (eqb (slice_index line 0) hyphen) 2 1 (λ rank. is_rank rank ≡ true) (λ _. refl) (λ _. refl)
 
 joined : (bs others : page.Blocks) → AreReadable bs → AreReadable others → AreReadable (join bs others)
 joined page.Nil others p q = q
@@ -65,7 +63,7 @@ module _ (names : Names) (bytes : List ℕ) where
   rows_end : (ns : Nodes) → AreSound bytes ns → RowsEndLines (rows_of names bytes ns)
   rows_end Nil p = tt
   rows_end (Cons (Around enter kids exit) ns) p =
-      cond_both (same_name enter.name n.GfmTableRow) (row_of names bytes kids (endings_before_row bytes ns) ∷ rows_of names bytes ns) (rows_of names bytes ns)
+      cond_both (same_name enter.name n.GfmTableRow) (row_of names bytes kids (endings_before_row names bytes ns) ∷ rows_of names bytes ns) (rows_of names bytes ns)
       RowsEndLines (λ _. (row_ends kids p.0.2, rows_end ns p.1)) (λ _. rows_end ns p.1)
 
   table_ends : (kids : Nodes) → AreSound bytes kids → IsReadableLeaf (page.Table (table_of names bytes kids))
@@ -82,7 +80,8 @@ module _ (names : Names) (bytes : List ℕ) where
   block_readable top n.BlankLineEnding text kids inner h k p = (tt, tt)
   block_readable top n.Paragraph text kids inner h k p = (parts_end names bytes false kids k, tt)
   block_readable top n.HeadingAtx text kids inner h k p = ((in_range (length (text_in bytes n.HeadingAtxSequence kids)) h, text_ends names bytes false kids k), tt)
-  block_readable top n.HeadingSetext text kids inner h k p = ((setext_rank _, text_ends names bytes false kids k), tt)
+  block_readable top n.HeadingSetext text kids inner h k p =
+      ((setext_rank names bytes (text_in bytes n.HeadingSetextUnderlineSequence (kids_in n.HeadingSetextUnderline kids)), text_ends names bytes false kids k), tt)
   block_readable top n.ThematicBreak text kids inner h k p = (tt, tt)
   block_readable top n.CodeIndented text kids inner h k p = (tt, tt)
   block_readable top n.CodeFenced text kids inner h k p = (tt, tt)
@@ -104,7 +103,7 @@ module _ (names : Names) (bytes : List ℕ) where
     blocks_readable top (Cons (Around enter kids exit) ns) p =
         let inner = blocks_from names bytes (start_of enter.name) kids in
         joined (block_of names bytes top enter.name (text_of bytes (Around enter kids exit)) kids inner) (blocks_of names bytes top ns)
-        (block_readable top enter.name _ kids inner p.0.1 p.0.2 (inner_readable (start_of enter.name) kids p.0.2)) (blocks_readable top ns p.1)
+        (block_readable top enter.name (text_of bytes (Around enter kids exit)) kids inner p.0.1 p.0.2 (inner_readable (start_of enter.name) kids p.0.2)) (blocks_readable top ns p.1)
 
     inner_readable : (start : Name) (ns : Nodes) → AreSound bytes ns → AreReadable (blocks_from names bytes start ns)
     inner_readable start Nil p = tt
@@ -112,5 +111,5 @@ module _ (names : Names) (bytes : List ℕ) where
         let inner = blocks_from names bytes (start_of enter.name) kids in
         cond_both (same_name enter.name start) _ _ AreReadable
         (λ _. joined (block_of names bytes false enter.name (text_of bytes (Around enter kids exit)) kids inner) (blocks_of names bytes false ns)
-        (block_readable false enter.name _ kids inner p.0.1 p.0.2 (inner_readable (start_of enter.name) kids p.0.2)) (blocks_readable false ns p.1))
+        (block_readable false enter.name (text_of bytes (Around enter kids exit)) kids inner p.0.1 p.0.2 (inner_readable (start_of enter.name) kids p.0.2)) (blocks_readable false ns p.1))
         (λ _. inner_readable start ns p.1)

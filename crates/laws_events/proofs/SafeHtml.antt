@@ -1,10 +1,9 @@
 -- The HTML of every list of events in the grammar is a safe page.
-use Rattle.std.proofs.Common.{ℕ, List, ap}
+use Rattle.std.proofs.Common.{ℕ, List, true}
 use Rattle.std.specs.Prelude.{unwrap_or}
 use Rattle.markdown_options.specs.declared.configuration.CompileOptions.{CompileOptions}
 use Rattle.definition_text.specs.Lines.{first_line, without_mark}
 use Rattle.definition_inline.specs.CharacterReference.{Names}
-use Rattle.engine_events.specs.declared.event.Event.{Event}
 use Rattle.event_grammar.specs.Trees.{Nodes, tree}
 use Rattle.event_grammar.specs.Grammar.{document_row}
 use Rattle.event_check.proofs.Joined.{fits_then, then_fits}

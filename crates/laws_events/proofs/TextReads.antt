@@ -13,9 +13,9 @@ use Rattle.definition_inline.specs.CharacterReference.{Names}
 use Rattle.definition_inline.specs.Inline.{LiteralKind, Data, Escape, LineEnd, Leaf, Inline, Inlines}
 use Rattle.definition_inline.specs.Inline as inline
 use Rattle.event_grammar.specs.Facts.{is_ending}
-use Rattle.event_grammar.specs.Trees.{Node, Nodes, Around, Nil, Cons}
+use Rattle.event_grammar.specs.Trees.{Nodes, Around, Nil, Cons}
 use Rattle.event_meaning.specs.Children.{child, text_of, text_in}
-use Rattle.event_meaning.specs.Texts.{append, leaves, text_names, endings, html_part, html_parts, autolink_of, literal_of, text_part, inlines_of, text_within}
+use Rattle.event_meaning.specs.Texts.{append, leaves, text_names, html_part, html_parts, autolink_of, literal_of, text_part, inlines_of, text_within}
 use Rattle.laws_safe_page.proofs.InlineAdds.{LeafEndsLine, AllEndLines}
 use Rattle.laws_events.proofs.Facts.{EndingFact, AreSound}
 
@@ -28,7 +28,7 @@ abbrev AreEnds : List ℕ → Type 0
 AreEnds text = Each IsEnd (content_codes text)
 
 spelled_as : (text wanted : List ℕ) → AreEnds wanted → bytes_eq text wanted ≡ true → AreEnds text
-spelled_as text wanted p h = subst AreEnds (sym ((bytes_eq-Decides text wanted).1 h)) p
+spelled_as text wanted p h = subst AreEnds (sym ((bytes_eq-Decides text wanted).0 h)) p
 
 are_ends : (text : List ℕ) → is_ending text ≡ true → AreEnds text
 are_ends text h =
@@ -58,22 +58,22 @@ escapes : (text : List ℕ) → AllEndLines (leaves (map Escape text))
 escapes [] = tt
 escapes (b ∷ bs) = (tt, escapes bs)
 
-html_end : (name : Name) (text : List ℕ) → EndingFact name text → AllEndLines (html_part name text)
-html_end n.HtmlTextData text h = (tt, tt)
-html_end n.LineEnding text h = line_ends (content_codes text) (are_ends text h)
-html_end name text h = tt
-
-literal_ends : (linked : Bool) (kind : LiteralKind) (text : List ℕ) → AllEndLines (literal_of linked kind text)
-literal_ends linked kind text = cond_both linked _ _ AllEndLines (λ _. datas text) (λ _. (tt, tt))
-
 module _ (names : Names) (bytes : List ℕ) where
-  html_ends : (ns : Nodes) → AreSound bytes ns → AllEndLines (html_parts bytes ns)
+  html_end : (name : Name) (text : List ℕ) → EndingFact name text → AllEndLines (html_part names bytes name text)
+  html_end n.HtmlTextData text h = (tt, tt)
+  html_end n.LineEnding text h = line_ends (content_codes text) (are_ends text h)
+  html_end name text h = tt
+
+  literal_ends : (linked : Bool) (kind : LiteralKind) (text : List ℕ) → AllEndLines (literal_of names bytes linked kind text)
+  literal_ends linked kind text = cond_both linked _ _ AllEndLines (λ _. datas text) (λ _. (tt, tt))
+
+  html_ends : (ns : Nodes) → AreSound bytes ns → AllEndLines (html_parts names bytes ns)
   html_ends Nil p = tt
   html_ends (Cons (Around enter kids exit) ns) p =
       let text = text_of bytes (Around enter kids exit) in
-      appended (html_part enter.name text) (html_parts bytes ns) (html_end enter.name text p.0.0) (html_ends ns p.1)
+      appended (html_part names bytes enter.name text) (html_parts names bytes ns) (html_end enter.name text p.0.0) (html_ends ns p.1)
 
-  autolink_ends : (kids : Nodes) → LeafEndsLine (autolink_of bytes kids)
+  autolink_ends : (kids : Nodes) → LeafEndsLine (autolink_of names bytes kids)
   autolink_ends kids = cond_both (is_some (child n.AutolinkEmail kids)) _ _ LeafEndsLine (λ _. tt) (λ _. tt)
 
   part_ends : (linked : Bool) (name : Name) (text : List ℕ) (kids : Nodes) (inner : Inlines) → EndingFact name text → AreSound bytes kids
