@@ -12,9 +12,9 @@ use crate::page::Page;
 use std::alloc::{AllocError, Allocator};
 use text_pieces::Piece;
 
-impl<A: Allocator + Clone> Page<'_, A> {
+impl<A: Allocator + Clone> Page<A> {
     /// Prints indented code (CommonMark 4.4).
-    pub(crate) fn indented_code(&mut self, lines: &[Piece<'_>]) -> Result<(), AllocError>
+    pub fn indented_code(&mut self, lines: &[Piece<'_>]) -> Result<(), AllocError>
         ensures default { KeepsEnding self.old self.new }
         ensures printed { (d : Document) → let code = IndentedCode (own_lines (piece_lines lines.now)) in
             OnOk result (LaysOut d.options.compile self.old self.new (leaf_bytes d on_page false code)) }

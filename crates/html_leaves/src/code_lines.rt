@@ -13,9 +13,9 @@ use html_escape::push_encoded;
 use std::alloc::{AllocError, Allocator};
 use text_pieces::{Piece, push_columns, push_ending};
 
-impl<A: Allocator + Clone> Page<'_, A> {
+impl<A: Allocator + Clone> Page<A> {
     /// Prints lines of code without the last ending.
-    pub(crate) fn code(&mut self, lines: &[Piece<'_>]) -> Result<(), AllocError>
+    pub fn code(&mut self, lines: &[Piece<'_>]) -> Result<(), AllocError>
         ensures default { KeepsEnding self.old self.new }
         ensures printed { OnOk result (Prints self.old self.new (code_of (own_lines (piece_lines lines.now)))) }
     {

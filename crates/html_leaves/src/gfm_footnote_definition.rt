@@ -5,7 +5,7 @@ ghost use Rattle.html_leaves.specs.Prints.{page_view, footnote_text_started, foo
 use crate::page::Page;
 use std::alloc::{AllocError, Allocator};
 
-impl<A: Allocator + Clone> Page<'_, A> {
+impl<A: Allocator + Clone> Page<A> {
     /// The content of a footnote starts.
     pub fn start_footnote(&mut self) -> Result<(), AllocError>
         ensures default { KeepsEnding self.old self.new }

@@ -6,9 +6,9 @@ ghost use Rattle.html_leaves.specs.Prints.{Prints, KeepsEnding};
 use crate::page::Page;
 use std::alloc::{AllocError, Allocator};
 
-impl<A: Allocator + Clone> Page<'_, A> {
+impl<A: Allocator + Clone> Page<A> {
     /// Prints a tag that ends with a rank.
-    pub(crate) fn heading_tag(&mut self, name: &str, rank: u8) -> Result<(), AllocError>
+    pub fn heading_tag(&mut self, name: &str, rank: u8) -> Result<(), AllocError>
         requires { (1 ≤ rank) × (rank ≤ 6) }
         ensures default { KeepsEnding self.old self.new }
         ensures printed { OnOk result (Prints self.old self.new (name.now ++ (48 + rank) ∷ codes ">")) }

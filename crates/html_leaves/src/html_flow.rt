@@ -21,9 +21,9 @@ use markdown_options::CompileOptions;
 use std::alloc::{AllocError, Allocator};
 use text_pieces::{Piece, push_ending};
 
-impl<'t, A: Allocator + Clone> Page<'t, A> {
+impl<A: Allocator + Clone> Page<A> {
     /// Prints an HTML block (CommonMark 4.6).
-    pub(crate) fn html_block(
+    pub fn html_block(
         &mut self,
         options: &CompileOptions,
         lines: &[Piece<'_>],

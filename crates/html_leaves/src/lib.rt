@@ -1,4 +1,4 @@
-//! Leaf blocks to HTML.
+//! The page, and what is printed on it without the texts of a document.
 #![tactic(auto)]
 
 pub mod code_fenced;
@@ -7,12 +7,9 @@ pub mod code_lines;
 pub mod gfm_footnote_definition;
 pub mod gfm_table;
 pub mod heading;
-pub mod heading_atx;
-pub mod heading_setext;
 pub mod html_flow;
 pub mod list;
 pub mod page;
-pub mod paragraph;
 pub mod thematic_break;
 
 pub use page::Page;

@@ -7,7 +7,7 @@ ghost use Rattle.html_leaves.specs.Prints.{Prints, KeepsEnding};
 use crate::page::Page;
 use std::alloc::{AllocError, Allocator};
 
-impl<A: Allocator + Clone> Page<'_, A> {
+impl<A: Allocator + Clone> Page<A> {
     /// Prints the tag of a list by the number of its first item.
     pub fn list_tag(&mut self, number: Option<u32>) -> Result<(), AllocError>
         ensures default { KeepsEnding self.old self.new }

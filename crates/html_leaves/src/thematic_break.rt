@@ -9,9 +9,9 @@ ghost use Rattle.html_leaves.specs.Prints.{LaysOut, KeepsEnding};
 use crate::page::Page;
 use std::alloc::{AllocError, Allocator};
 
-impl<A: Allocator + Clone> Page<'_, A> {
+impl<A: Allocator + Clone> Page<A> {
     /// Prints a thematic break (CommonMark 4.1).
-    pub(crate) fn thematic_break(&mut self) -> Result<(), AllocError>
+    pub fn thematic_break(&mut self) -> Result<(), AllocError>
         ensures default { KeepsEnding self.old self.new }
         ensures printed { (d : Document) → OnOk result (LaysOut d.options.compile self.old self.new (leaf_bytes d on_page false Break)) }
     {

@@ -10,12 +10,13 @@ ghost use Rattle.block_rows.specs.Rows.{rows_size, row_size, rows_of, row_value,
 ghost use Rattle.text_pieces.specs.Pieces.{piece_lines};
 ghost use Rattle.html_contents.specs.Texts.{KnowsTargets, document_by};
 ghost use Rattle.html_looseness.specs.Printable.{IsPrintableRow, ArePrintable, CanBePrinted};
-ghost use Rattle.html_page.specs.PrinterView.{ends_blank_rows, is_blank_row, printer_view, print_row, print_all};
+ghost use Rattle.html_rows.specs.Printing.{ends_blank_rows, is_blank_row, print_row, print_all};
+ghost use Rattle.html_page.specs.PrinterView.{printer_view};
 ghost use Rattle.html_leaves.specs.Prints.{KeepsEnding};
 
 use block_rows::Row;
+use html_blocks::LeafPrinter;
 use html_contents::Texts;
-use html_leaves::Page;
 use html_looseness::{Holder, Level, Place, places};
 use markdown_options::{LineEnding, Tables};
 use std::alloc::{AllocError, Allocator};
@@ -24,7 +25,7 @@ use text_pieces::Piece;
 /// A page that is being printed, and what is open on it.
 #[derive(Drop)]
 pub(crate) struct Printer<'t, A: Allocator + Clone> {
-    pub(crate) page: Page<'t, A>,
+    pub(crate) leaves: LeafPrinter<'t, A>,
     pub(crate) level: Level,
     /// The levels around it.
     pub(crate) outer: Vec<Level, A>,
@@ -42,15 +43,15 @@ impl<'t, A: Allocator + Clone> Printer<'t, A> {
     ) -> Result<usize, AllocError>
         requires enough { row_size row ≤ length lines.now }
         requires printable { IsPrintableRow (row_value row (piece_lines lines.now)) }
-        ensures default { KeepsEnding self.old.page self.new.page }
+        ensures default { KeepsEnding self.old.leaves.page self.new.leaves.page }
         ensures size { IfOk result (λ taken. taken ≡ row_size row) }
         ensures printed { (ds : Targets) → KnowsTargets texts.now ds →
             let d = document_by T.Tables texts.now ds in let value = row_value row (piece_lines lines.now) in
-            IfOk result (λ taken. printer_view self.new ≡ print_row d (ending_bytes self.old.page.default_ending) (printer_view self.old) value) }
+            IfOk result (λ taken. printer_view self.new ≡ print_row d (ending_bytes self.old.leaves.page.default_ending) (printer_view self.old) value) }
     {
         match row {
             Row::Ending(ending) => {
-                self.page.line_ending(self.level, ending)?;
+                self.leaves.line_ending(self.level, ending)?;
                 self.level.pass(row);
                 Ok(0)
             }
@@ -75,7 +76,7 @@ impl<'t, A: Allocator + Clone> Printer<'t, A> {
                 Ok(0)
             }
             _ => {
-                self.page.block(texts, row, self.level, lines)?;
+                self.leaves.block(texts, row, self.level, lines)?;
                 self.level.pass(row);
                 Ok(row.size())
             }
@@ -91,12 +92,12 @@ impl<'t, A: Allocator + Clone> Printer<'t, A> {
     ) -> Result<usize, AllocError>
         requires enough { rows_size rows.now ≤ length pieces.now }
         requires printable { ArePrintable (rows_value rows.now (piece_lines pieces.now)).rows }
-        ensures default { KeepsEnding self.old.page self.new.page }
+        ensures default { KeepsEnding self.old.leaves.page self.new.leaves.page }
         ensures size { IfOk result (λ taken. taken ≡ rows_size rows.now) }
         ensures left { IfOk result (λ taken. (rows_value rows.now (piece_lines pieces.now)).left ≡ piece_lines (drop taken pieces.now)) }
         ensures printed { (ds : Targets) → KnowsTargets texts.now ds →
             let d = document_by T.Tables texts.now ds in
-            IfOk result (λ taken. printer_view self.new ≡ print_all d (ending_bytes self.old.page.default_ending) (printer_view self.old)
+            IfOk result (λ taken. printer_view self.new ≡ print_all d (ending_bytes self.old.leaves.page.default_ending) (printer_view self.old)
             (rows_value rows.now (piece_lines pieces.now)).rows) }
     {
         let mut taken = 0;
@@ -129,7 +130,7 @@ pub fn print_rows<'t, T: Tables, A: Allocator + Clone>(
         IfOk result (λ html. string_bytes html ≡ page_layout texts.now.options.now.compile (ending_bytes default_ending) (document_bytes d bs)) }
 {
     let mut printer = Printer {
-        page: Page::new(alloc.clone()?, room, default_ending)?,
+        leaves: LeafPrinter::new(alloc.clone()?, room, default_ending)?,
         level: Level::new(Holder::Document, false),
         outer: Vec::new(alloc.clone()?),
         places: places(alloc, &rows)?,
@@ -142,10 +143,10 @@ pub fn print_rows<'t, T: Tables, A: Allocator + Clone>(
         remove_front(&mut pieces, taken);
     }
     if blank {
-        printer.page.fresh()?;
+        printer.leaves.page.fresh()?;
     }
-    let Printer { page, .. } = printer;
-    page.finish(&texts.options.compile)
+    let Printer { leaves, .. } = printer;
+    leaves.finish(&texts.options.compile)
 }
 
 /// From so many rows on they are printed part by part.

@@ -3,8 +3,8 @@ use Rattle.std.specs.List.{slice_get}
 use Rattle.std.proofs.lemmas.Option.{slice_get_within, get_or_from_slice_get}
 use Rattle.block_rows.specs.declared.row.Row.{Row}
 use Rattle.block_rows.specs.Rows.{row_value, rows_value}
-use Rattle.html_page.specs.PrinterView.{is_blank_row}
-use Rattle.html_page.proofs.LastRow.{last_row}
+use Rattle.html_rows.specs.Printing.{is_blank_row}
+use Rattle.html_rows.proofs.LastRow.{last_row}
 use Rattle.html_page.proofs.printer.ends_blank.Goals as goal
 
 pub returns-in-Some : goal.returns-in-Some

@@ -11,15 +11,16 @@ use Rattle.definition_text.specs.BlockLines.{BlockLine}
 use Rattle.block_rows.specs.Rows.{BlockRow, rows_value, rows_size, row_size}
 use Rattle.text_pieces.specs.Pieces.{piece_lines}
 use Rattle.html_looseness.specs.Printable.{ArePrintable}
-use Rattle.html_page.specs.PrinterView.{PrinterView, print_row, print_all, blank_page, ends_blank_rows, rows_html, printer_view}
+use Rattle.html_rows.specs.Printing.{PrinterView, print_row, print_all, blank_page, ends_blank_rows, rows_html}
+use Rattle.html_page.specs.PrinterView.{printer_view}
 use Rattle.std.specs.Result.{IfOk}
 use Rattle.html_bytes.specs.Layout.{LayoutState, with_footnotes, lay}
 use Rattle.html_leaves.specs.Prints.{page_view, with_fresh}
 use Rattle.html_bytes.specs.Html.{last_piece}
 use Rattle.html_contents.specs.Texts.{document_by}
 use Rattle.html_page.specs.declared.printer.Printer.{Printer}
-use Rattle.html_page.proofs.RowsOf.{rows_html_of}
-use Rattle.html_page.proofs.RowSteps.{shown_from, printable_front, printable_rest}
+use Rattle.html_rows.proofs.RowsOf.{rows_html_of}
+use Rattle.html_rows.proofs.RowSteps.{shown_from, printable_front, printable_rest}
 use Rattle.html_page.proofs.printer.print_rows.Goals as goal
 use Rattle.html_page.proofs.printer.print_rows.Goals.{then-blank+in_ok-fresh, else-blank}
 
@@ -93,7 +94,7 @@ returns g c = λ ds has bs rows_are can.
     let every = (rows_value rows all).rows in
     let start = blank_page every in
     let k = c.loop-rows.invariant in
-    let out = page_view c.loop-rows.printer.page in
+    let out = page_view c.loop-rows.printer.leaves.page in
     let len : vec_len c.loop-rows.rows ≡ 0 = eqb-true (vec_len c.loop-rows.rows) 0 (sym c.is_empty.ensures ∙ c.loop-rows-test.false) in
     let none : c.loop-rows.rows.items ≡ [] = nil_from_length c.loop-rows.rows.items (omega (arith, len, c.loop-rows.rows.ok.0)) in
     let laid_out : out ≡ (print_all d default start every).out =
@@ -101,18 +102,18 @@ returns g c = λ ds has bs rows_are can.
     (sym (ap (λ (rs : List Row). print_all d default (printer_view c.loop-rows.printer) (rows_value rs (piece_lines c.loop-rows.pieces.items)).rows) none)
     ∙ k.printed ds has) in
     let ends = λ (x : LayoutState) (blank : Bool). fold (lay o default) x (last_piece blank) in
-    let ended : page_view c.if-blank.printer.page ≡ ends out c.ends_blank-blank.result = elim c.if-blank.branch [
+    let ended : page_view c.if-blank.printer.leaves.page ≡ ends out c.ends_blank-blank.result = elim c.if-blank.branch [
       | then-blank+in_ok-fresh w ↦
-          ap (λ (p : Printer _). page_view p.page) w.printer-is
+          ap (λ (p : Printer _). page_view p.leaves.page) w.printer-is
           ∙ w.in_ok-fresh.ensures.printed
           ∙ ap (λ (e : LineEnding). with_fresh (ending_bytes e) out) k.same_default
           ∙ ap (ends out) (sym w.if-blank.true)
-      | else-blank w ↦ ap (λ (p : Printer _). page_view p.page) w.printer-is ∙ ap (ends out) (sym w.if-blank.false)
+      | else-blank w ↦ ap (λ (p : Printer _). page_view p.leaves.page) w.printer-is ∙ ap (ends out) (sym w.if-blank.false)
     ] in
-    let page = c.if-blank.printer.page in
+    let page = c.if-blank.printer.leaves.page in
     let same_default : page.default_ending ≡ c.args.default_ending = elim c.if-blank.branch [
-      | then-blank+in_ok-fresh w ↦ ap (λ (p : Printer _). p.page.default_ending) w.printer-is ∙ w.in_ok-fresh.ensures.default ∙ k.same_default
-      | else-blank w ↦ ap (λ (p : Printer _). p.page.default_ending) w.printer-is ∙ k.same_default
+      | then-blank+in_ok-fresh w ↦ ap (λ (p : Printer _). p.leaves.page.default_ending) w.printer-is ∙ w.in_ok-fresh.ensures.default ∙ k.same_default
+      | else-blank w ↦ ap (λ (p : Printer _). p.leaves.page.default_ending) w.printer-is ∙ k.same_default
     ] in
     subst (λ x. IfOk c.finish.result (λ html. string_bytes html ≡ x))
     (ap (λ (e : LineEnding). with_footnotes o (ending_bytes e) (page_view page)) same_default

@@ -5,13 +5,14 @@ use Rattle.html_contents.specs.Texts.{KnowsTargets, document_by}
 use Rattle.block_rows.specs.Rows.{rows_size, rows_value}
 use Rattle.text_pieces.specs.Pieces.{piece_lines}
 use Rattle.html_looseness.specs.Printable.{ArePrintable}
-use Rattle.html_page.specs.PrinterView.{print_all, blank_page, printer_view}
+use Rattle.html_rows.specs.Printing.{print_all, blank_page}
+use Rattle.html_page.specs.PrinterView.{printer_view}
 use Rattle.html_page.proofs.printer.print_rows.Given as goal
 
 -- what is printed of the rows that are left, after what is printed so far, is what is printed of all
 abbrev pub invariant-loop-rows : goal.invariant-loop-rows
 invariant-loop-rows g l = record {
-  same_default : l.printer.page.default_ending ≡ l.fn.default_ending;
+  same_default : l.printer.leaves.page.default_ending ≡ l.fn.default_ending;
   enough : rows_size l.rows.items ≤ vec_len l.pieces;
   printable : ArePrintable (rows_value l.rows.items (piece_lines l.pieces.items)).rows;
   printed : (ds : Targets) → KnowsTargets l.texts ds →

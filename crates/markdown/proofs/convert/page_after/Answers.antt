@@ -20,8 +20,8 @@ use Rattle.inline_links.specs.declared.text.LinkTexts.{LinkTexts}
 use Rattle.markdown_definition.specs.TextTables.{TextTables, text_tables}
 use Rattle.html_contents.specs.Texts.{KnowsTargets}
 use Rattle.html_looseness.specs.Printable.{ArePrintable}
-use Rattle.html_page.proofs.RowsOf.{printable_rows_of}
-use Rattle.html_page.proofs.Printable.{blocks_printable}
+use Rattle.html_rows.proofs.RowsOf.{printable_rows_of}
+use Rattle.html_rows.proofs.Printable.{blocks_printable}
 use Rattle.laws_endings.proofs.NoFootnotes.{no_footnotes}
 use Rattle.markdown.proofs.FootnoteLabels.{bare_rows}
 use Rattle.markdown.proofs.convert.page_after.Goals as goal

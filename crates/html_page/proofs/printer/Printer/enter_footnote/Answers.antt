@@ -6,7 +6,8 @@ use Rattle.html_looseness.specs.declared.level.Level.{Level}
 use Rattle.html_looseness.specs.declared.level.Holder.TheVariants as holder
 use Rattle.html_looseness.specs.Levels.{after_footnote}
 use Rattle.html_leaves.specs.Prints.{page_view}
-use Rattle.html_page.specs.PrinterView.{printer_at, printer_view, within_at}
+use Rattle.html_rows.specs.Printing.{printer_at, within_at}
+use Rattle.html_page.specs.PrinterView.{printer_view}
 use Rattle.html_page.proofs.printer.Printer.enter_footnote.Goals as goal
 
 pub returns-clause-printed : goal.returns-clause-printed

@@ -8,10 +8,11 @@ use Rattle.definition_text.specs.BlockLines.{BlockLine}
 use Rattle.block_rows.specs.Rows.{RowsValue, row_value, rows_value, row_size}
 use Rattle.text_pieces.specs.Pieces.{piece_lines, piece_line}
 use Rattle.html_looseness.specs.Printable.{IsPrintableRow}
-use Rattle.html_page.specs.PrinterView.{PrinterView, print_row, print_all, printer_view}
+use Rattle.html_rows.specs.Printing.{PrinterView, print_row, print_all}
+use Rattle.html_page.specs.PrinterView.{printer_view}
 use Rattle.html_contents.specs.Texts.{document_by}
 use Rattle.block_rows.proofs.RowSteps.{shown_more, taken_more, left_more}
-use Rattle.html_page.proofs.RowSteps.{printed_more, printable_at}
+use Rattle.html_rows.proofs.RowSteps.{printed_more, printable_at}
 use Rattle.html_page.proofs.printer.Printer.rows.Goals as goal
 
 pub row-requires-clause-printable : goal.row-requires-clause-printable
@@ -30,7 +31,7 @@ loop-row-preserved g c =
     let pieces = c.args.pieces.now in
     let i = c.loop-row.row-index in
     let row : Row = get_or rows i (Paragraph 0) in
-    let default = ending_bytes c.args.self.now.page.default_ending in
+    let default = ending_bytes c.args.self.now.leaves.page.default_ending in
     let all = piece_lines pieces in
     let start = printer_view c.args.self.now in
     let so_far = rows_value (take i rows) all in

@@ -1,0 +1,32 @@
+use Rattle.std.proofs.Common.{◌≡◌, Bool, sym, subst}
+use Rattle.std.specs.Result.{OnOk}
+use Rattle.markdown_options.specs.LineEndings.{ending_bytes}
+use Rattle.definition_block.specs.Tree.{Paragraph}
+use Rattle.definition_text.specs.BlockLines.{own_lines}
+use Rattle.text_pieces.specs.Pieces.{whole_lines}
+use Rattle.html_bytes.specs.Html.{leaf_bytes}
+use Rattle.html_contents.specs.Texts.{document_by}
+use Rattle.html_looseness.specs.Levels.{standing_first}
+use Rattle.html_footnotes.specs.Output.{output_view}
+use Rattle.html_leaves.specs.Prints.{layout_after, page_view}
+use Rattle.html_rows.proofs.ParagraphLaid.{loose_laid}
+use Rattle.html_blocks.proofs.printer.LeafPrinter.whole_paragraph.Goals as goal
+
+pub returns-then-tight-clause-printed : goal.returns-then-tight-clause-printed
+returns-then-tight-clause-printed g c = λ ds has.
+    let d = document_by g.T.Tables c.args.texts.now ds in
+    let page = c.args.self.now.page in
+    let ls = own_lines (whole_lines c.args.text.now) in
+    subst (λ (tight : Bool). OnOk c.push_whole.result (output_view c.push_whole.new.out
+    ≡ layout_after d.options.compile page.default_ending (page_view page) (leaf_bytes d (standing_first c.args.first) tight (Paragraph ls))))
+    (sym c.if-tight.true) (c.push_whole.ensures ds has (ending_bytes page.default_ending))
+
+pub returns-clause-printed : goal.returns-clause-printed
+returns-clause-printed g c = λ ds has.
+    let d = document_by g.T.Tables c.args.texts.now ds in
+    let page = c.args.self.now.page in
+    subst (λ x. OnOk c.say.result (page_view c.say.new.self ≡ x))
+    (loose_laid d page.default_ending c.args.tight c.args.first (own_lines (whole_lines c.args.text.now)) (page_view page)
+    (page_view c.fresh_tag.new.self) (output_view c.push_whole-2.new.out) c.if-tight.false c.in_ok-fresh_tag.ensures.printed
+    (c.in_ok-push_whole.ensures ds has (ending_bytes page.default_ending)))
+    c.say.ensures.printed

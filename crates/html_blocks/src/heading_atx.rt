@@ -1,0 +1,39 @@
+//! ATX headings (CommonMark 4.2).
+ghost use Rattle.std.specs.Prelude.{◌≤◌, ◌∷◌, [], OnOk, false};
+ghost use Rattle.definition_inline.specs.Targets.{Targets};
+ghost use Rattle.definition_text.specs.BlockLines.{own_lines};
+ghost use Rattle.definition_block.specs.Tree.{Heading};
+ghost use Rattle.definition_page.specs.Read.{on_page};
+ghost use Rattle.html_bytes.specs.Html.{leaf_bytes};
+ghost use Rattle.text_pieces.specs.ParagraphLines.{HaveNoEnding};
+ghost use Rattle.text_pieces.specs.Pieces.{piece_line};
+ghost use Rattle.html_contents.specs.Texts.{KnowsTargets, document_by};
+ghost use Rattle.html_leaves.specs.Prints.{LaysOut, KeepsEnding};
+
+use crate::printer::LeafPrinter;
+use html_contents::Texts;
+use markdown_options::Tables;
+use std::alloc::{AllocError, Allocator};
+use text_pieces::Piece;
+
+impl<'t, A: Allocator + Clone> LeafPrinter<'t, A> {
+    /// Prints a heading of one line, which may be empty.
+    pub(crate) fn heading_atx<T: Tables>(
+        &mut self,
+        texts: &Texts<'t, '_, T, A>,
+        rank: u8,
+        line: &Piece<'t>,
+    ) -> Result<(), AllocError>
+        requires { (1 ≤ rank) × (rank ≤ 6) }
+        ensures default { KeepsEnding self.old.page self.new.page }
+        ensures printed { (ds : Targets) → KnowsTargets texts.now ds →
+            HaveNoEnding (piece_line line.now).codes → let ls = own_lines (piece_line line.now ∷ []) in
+            let d = document_by T.Tables texts.now ds in
+            OnOk result (LaysOut d.options.compile self.old.page self.new.page (leaf_bytes d on_page false (Heading rank ls))) }
+    {
+        self.page.fresh()?;
+        self.page.heading_tag("<h", rank)?;
+        texts.push_line(&mut self.page.out, &mut self.buffers, line)?;
+        self.page.heading_tag("</h", rank)
+    }
+}
