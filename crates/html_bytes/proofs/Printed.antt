@@ -2,9 +2,10 @@
 use Rattle.std.proofs.Common.{◌≡◌, ℕ, List, [], ◌∷◌, ◌++◌, sym, ◌∙◌, append_assoc}
 use Rattle.std.specs.List.{fold}
 use Rattle.std.proofs.lemmas.List.{append-nil}
+use Rattle.definition_text.proofs.Each.{Each}
 use Rattle.definition_page.specs.Tags.{said_bytes, start_tag, end_tag, void_tag}
 use Rattle.definition_page.specs.Pieces.{Piece, Open, Close, Void, Says, Eol, Fresh, CallOf, CountOf, NoteStart, NoteEnd, print}
-use Rattle.html_bytes.specs.Pieces.{piece_html, pieces_html}
+use Rattle.html_bytes.specs.Pieces.{pieces_html}
 
 -- a piece that is no line ending
 abbrev pub IsInLine : Piece → Type 0
@@ -13,8 +14,7 @@ IsInLine Fresh = ⊥
 IsInLine piece = Unit {0}
 
 abbrev pub AreInLine : List Piece → Type 0
-AreInLine [] = Unit {0}
-AreInLine (p ∷ ps) = IsInLine p × AreInLine ps
+AreInLine pieces = Each IsInLine pieces
 
 -- pieces without line endings add their HTML
 pub added : (default : List ℕ) (ps : List Piece) → AreInLine ps → (out : List ℕ) → fold (print default) out ps ≡ out ++ pieces_html ps

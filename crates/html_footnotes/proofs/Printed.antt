@@ -7,15 +7,16 @@ use Rattle.std.proofs.lemmas.List.Concat.{flat_map-append}
 use Rattle.std.proofs.lemmas.List.Sums.{fold-append}
 use Rattle.markdown_options.specs.declared.configuration.CompileOptions.{CompileOptions}
 use Rattle.definition_text.specs.Encode.{encode, plain}
+use Rattle.definition_text.proofs.Each.{each-append}
 use Rattle.definition_page.specs.Tags.{AsItIs, Number, start_tag, bare_tag}
-use Rattle.definition_page.specs.Pieces.{Piece, Close, Says, print}
+use Rattle.definition_page.specs.Pieces.{Close, Says, print}
 use Rattle.definition_page.specs.InlinePieces.{element}
 use Rattle.definition_page.specs.GfmLabelStartFootnote.{Call, text_or, footnote_id, call_id, call_tag}
 use Rattle.definition_page.specs.GfmFootnoteDefinition.{arrow, count_pieces, back_tag, back_pieces, space_after, backs_pieces, item_tag}
 use Rattle.definition_page.specs.GfmFootnoteDefinition.{section_heading_name, section_heading_tag, heading_pieces, with_backs}
 use Rattle.html_bytes.specs.InlineHtml.{say_bytes}
 use Rattle.html_bytes.specs.Pieces.{piece_html, pieces_html}
-use Rattle.html_bytes.proofs.Printed.{AreInLine, added}
+use Rattle.html_bytes.proofs.Printed.{IsInLine, AreInLine, added}
 
 -- ---- tags
 
@@ -82,10 +83,6 @@ one_more options label count =
 
 -- ---- ways back are in line
 
-in_line_both : (ps qs : List Piece) → AreInLine ps → AreInLine qs → AreInLine (ps ++ qs)
-in_line_both [] qs h k = k
-in_line_both (p ∷ ps) qs h k = (h.0, in_line_both ps qs h.1 k)
-
 count_in_line : (count : ℕ) → AreInLine (count_pieces count)
 count_in_line count = elim (leb count 1) as (λ t. AreInLine (if t then [] else element (bare_tag (codes "sup")) (Says (Number count) ∷ []))) [
   | true ↦ tt
@@ -99,9 +96,9 @@ space_in_line (suc count) = (tt, tt)
 backs_in_line : (options : CompileOptions) (label : List ℕ) (count : ℕ) → AreInLine (backs_pieces options label count)
 backs_in_line options label zero = tt
 backs_in_line options label (suc count) =
-    in_line_both (backs_pieces options label count ++ space_after count) (back_pieces options label (suc count))
-    (in_line_both (backs_pieces options label count) (space_after count) (backs_in_line options label count) (space_in_line count))
-    (tt, (tt, in_line_both (count_pieces (suc count)) (Close (codes "a") ∷ []) (count_in_line (suc count)) (tt, tt)))
+    each-append IsInLine (backs_pieces options label count ++ space_after count) (back_pieces options label (suc count))
+    (each-append IsInLine (backs_pieces options label count) (space_after count) (backs_in_line options label count) (space_in_line count))
+    (tt, (tt, each-append IsInLine (count_pieces (suc count)) (Close (codes "a") ∷ []) (count_in_line (suc count)) (tt, tt)))
 
 -- ways back to calls add their HTML
 pub backs_added : (options : CompileOptions) (label : List ℕ) (count : ℕ) (default out : List ℕ)
