@@ -2,6 +2,7 @@
 use Rattle.std.proofs.Common.{◌≡◌, ℕ, zero, suc, List, [], ◌∷◌, ◌++◌, map, reverse, refl, sym, ap, ◌∙◌, append_assoc}
 use Rattle.std.proofs.lemmas.List.{append-nil, reverse-append}
 use Rattle.markdown_options.specs.declared.configuration.CompileOptions.{CompileOptions}
+use Rattle.definition_text.proofs.Each.{Each}
 use Rattle.definition_page.specs.Pieces.{Piece, CallOf, CountOf, NoteStart, NoteEnd}
 use Rattle.definition_page.specs.Layout.{NamedCall, named_calls, first_calls, with_calls, content, contents, layout, called_footnotes, page_layout}
 use Rattle.definition_page.specs.GfmFootnoteDefinition.{section_pieces}
@@ -37,8 +38,7 @@ IsPlain NoteEnd = ⊥
 IsPlain piece = Unit {0}
 
 abbrev pub ArePlain : List Piece → Type 0
-ArePlain [] = Unit {0}
-ArePlain (p ∷ ps) = IsPlain p × ArePlain ps
+ArePlain ps = Each IsPlain ps
 
 pub plain_calls : (ps : List Piece) → ArePlain ps → named_calls ps ≡ []
 plain_calls [] are = refl

@@ -101,10 +101,14 @@ heading_pieces options =
 abbrev pub section_tag : Tag
 section_tag = tag (codes "section") (attribute (codes "data-footnotes") [] ∷ attribute (codes "class") (codes "footnotes") ∷ [])
 
--- the footnotes of a page by their numbers, if it has any
+-- the section of these footnotes, by their numbers
+abbrev pub listed_pieces : CompileOptions → List Footnote → List Piece
+listed_pieces options notes =
+    Fresh ∷ element section_tag
+    (heading_pieces options ++ Fresh ∷ element (bare_tag (codes "ol")) (footnotes_pieces options notes ++ Fresh ∷ []) ++ Fresh ∷ [])
+    ++ Fresh ∷ []
+
+-- the section of the footnotes of a page, if it has any
 abbrev pub section_pieces : CompileOptions → List Footnote → List Piece
 section_pieces options [] = []
-section_pieces options (note ∷ notes) =
-    Fresh ∷ element section_tag
-    (heading_pieces options ++ Fresh ∷ element (bare_tag (codes "ol")) (footnotes_pieces options (note ∷ notes) ++ Fresh ∷ []) ++ Fresh ∷ [])
-    ++ Fresh ∷ []
+section_pieces options (note ∷ notes) = listed_pieces options (note ∷ notes)

@@ -26,14 +26,14 @@ use Rattle.definition_page.specs.Page.{Page, cons_ending, cons_blank}
 
 -- what a text is read by: the options, the tables, and which labels are those of link reference definitions and of footnote definitions
 pub record Reading : Type 0 where
-  pub options : ParseOptions
+  pub parse : ParseOptions
   pub tables : TextTables
   pub is_defined : List Code → Bool
   pub is_footnote : List Code → Bool
 
 abbrev pub reading : TextTables → ParseOptions → Targets → Reading
 reading tables options t =
-    record { options = options; tables = tables; is_defined = is_label_of t.definitions; is_footnote = is_footnote_of t.footnotes }
+    record { parse = options; tables = tables; is_defined = is_label_of t.definitions; is_footnote = is_footnote_of t.footnotes }
 
 -- where a block stands: at the top of the document or in a container, and whether in an item with no block before it
 pub record Standing : Type 0 where
@@ -55,7 +55,7 @@ next_standing standing b = record { top = standing.top; first = standing.first &
 
 -- what inline structure is read by
 abbrev pub context_of : Reading → InlineContext
-context_of r = record { options = r.options; names = r.tables.names; is_defined = r.is_defined; is_footnote = r.is_footnote }
+context_of r = record { options = r.parse; names = r.tables.names; is_defined = r.is_defined; is_footnote = r.is_footnote }
 
 -- the content of a paragraph or a heading, which ends where a line does (CommonMark 4.8)
 abbrev pub text_content : Reading → List BlockLine → List InlineCode
@@ -73,7 +73,7 @@ checked_text r content (Some done) = Cons (Leaf (TaskCheck done)) (inlines_from 
 -- a paragraph, which may be the first block of an item (CommonMark 4.8 and GFM 5.3)
 abbrev pub read_paragraph : Reading → Bool → List BlockLine → Inlines
 read_paragraph r first ls =
-    let content = without_indent (text_content r ls) in checked_text r content (check_at r.options.constructs first (codes_of content))
+    let content = without_indent (text_content r ls) in checked_text r content (check_at r.parse.constructs first (codes_of content))
 
 -- that of a cell of a table, which ends where its bar stands (GFM 4.10)
 abbrev pub read_cell : Reading → Cell → Inlines
@@ -102,7 +102,7 @@ read_table r ls =
 -- the text of an info string, if there is one (CommonMark 4.5)
 abbrev pub info_text : Reading → List ℕ → Option (List ℕ)
 info_text r [] = None
-info_text r (b ∷ bs) = Some (string_text r.options.constructs r.tables.names (b ∷ bs))
+info_text r (b ∷ bs) = Some (string_text r.parse.constructs r.tables.names (b ∷ bs))
 
 -- Fenced code that isn't closed ends with its container or the text. In a container the ending of its last line stands outside; at the top it is one of its
 -- content, and is said there alone (CommonMark 4.5).

@@ -11,7 +11,7 @@ use Rattle.definition_page.specs.GfmFootnoteDefinition.{section_pieces}
 use Rattle.definition_page.specs.Layout.{NamedCall, named_call, named_calls, first_calls, with_calls, content, contents, layout, times, call_of}
 use Rattle.definition_page.specs.Layout.{called_footnotes, page_layout}
 use Rattle.definition_page.proofs.PlainLayout.{ArePlain, turned, plain_content, plain_outer, plain_contents}
-use Rattle.html_bytes.specs.Layout.{NoteCalls, once_more, latest_call, LayoutState, layout_state, note_end, note_of, nothing_laid}
+use Rattle.html_bytes.specs.Layout.{NoteCalls, once_more, latest_call, LayoutState, layout_state, note_end, note_of, nothing_laid, with_footnotes}
 use Rattle.html_bytes.proofs.CalledFootnotes.{once, latest_same, footnotes_same}
 
 -- ---- steps
@@ -25,10 +25,6 @@ lay options default l (CountOf place label) = layout_state l.text l.outer l.note
 lay options default l NoteStart = layout_state [] (l.text ∷ l.outer) l.notes l.called
 lay options default l NoteEnd = note_end l.text l.outer l.notes l.called
 lay options default l piece = layout_state (print default l.text piece) l.outer l.notes l.called
-
--- a page, and after it the footnotes that are called
-abbrev pub with_section : CompileOptions → List ℕ → LayoutState → List ℕ
-with_section options default l = fold (print default) l.text (section_pieces options (map (note_of l.notes) l.called))
 
 -- pieces that footnotes don't need go on with the innermost text, and change nothing else
 pub plain_laid : (options : CompileOptions) (default : List ℕ) (ps : List Piece) → ArePlain ps → (l : LayoutState)
@@ -182,7 +178,7 @@ module _ (options : CompileOptions) (default : List ℕ) where
   -- ---- the page
 
   -- a page that is laid out one piece after another
-  pub steps_same : (ps : List Piece) → page_layout options default ps ≡ with_section options default (fold (lay options default) nothing_laid ps)
+  pub steps_same : (ps : List Piece) → page_layout options default ps ≡ with_footnotes options default (fold (lay options default) nothing_laid ps)
   steps_same ps =
       let calls = named_calls ps in
       let shown = with_calls options (first_calls calls) [] ps in

@@ -1,10 +1,8 @@
 pub mod CalledFootnotes
 pub mod LayoutSteps
+pub mod Printed
 pub mod SameLayout
-pub mod SamePrint
-pub mod SameCalls
 pub mod SameText
-pub mod SameFootnotes
 pub mod SameBlocks
 pub mod SamePage
 pub mod WithoutCalls

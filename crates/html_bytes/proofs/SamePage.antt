@@ -1,6 +1,5 @@
 -- The page that is printed in bytes is the page of the definition.
-use Rattle.std.proofs.Common.{◌≡◌, ℕ, Bool, true, false, not, List, ◌++◌, None, refl, ap, ◌∙◌, map}
-use Rattle.std.specs.List.{fold}
+use Rattle.std.proofs.Common.{◌≡◌, ℕ, Bool, true, false, not, List, ◌++◌, None, refl, ap, ◌∙◌}
 use Rattle.markdown_options.specs.declared.configuration.CompileOptions.{CompileOptions}
 use Rattle.markdown_options.specs.declared.configuration.Options.{Options}
 use Rattle.definition_text.specs.Lines.{without_mark, kind_before_text}
@@ -17,11 +16,10 @@ use Rattle.definition_page.specs.Html.{html}
 use Rattle.html_bytes.specs.Document.{document}
 use Rattle.html_bytes.specs.Pieces as bytes
 use Rattle.html_bytes.specs.Layout as bytes_layout
-use Rattle.html_bytes.specs.Layout.{nothing_laid, note_of}
-use Rattle.html_bytes.proofs.LayoutSteps.{with_section, steps_same}
+use Rattle.html_bytes.specs.Layout.{nothing_laid, with_footnotes}
+use Rattle.html_bytes.proofs.LayoutSteps.{steps_same}
 use Rattle.html_bytes.specs.Html as old
 use Rattle.html_bytes.proofs.SameLayout.{Same, joined}
-use Rattle.html_bytes.proofs.SameFootnotes.{section_same}
 use Rattle.html_bytes.proofs.SameBlocks.{m, r, document_same}
 
 -- what is printed at the end
@@ -33,8 +31,7 @@ last_same options default false l = refl
 pub page_same : (options : CompileOptions) (default : List ℕ) (ps : List Piece) (bs : List bytes.Piece) → Same options default ps bs
     → page_layout options default ps ≡ bytes_layout.page_layout options default bs
 page_same options default ps bs same =
-    let l = fold (bytes_layout.lay options default) nothing_laid bs in
-    steps_same options default ps ∙ ap (with_section options default) (same nothing_laid) ∙ section_same options (map (note_of l.notes) l.called) default l.text
+    steps_same options default ps ∙ ap (with_footnotes options default) (same nothing_laid)
 
 -- the HTML of a text, by the definition and in bytes
 pub html_is : (tables : TextTables) (text : List ℕ) (options : Options)

@@ -7,11 +7,12 @@ use Rattle.markdown_options.specs.declared.configuration.CompileOptions.{Compile
 use Rattle.html_bytes.specs.Layout.{LayoutState, layout_state, once_more, latest_call}
 use Rattle.html_bytes.proofs.LayoutSteps.{lay}
 use Rattle.definition_page.specs.Tags.{Tag, start_tag, end_tag}
+use Rattle.definition_page.specs.GfmLabelStartFootnote.{call_pieces}
 use Rattle.definition_page.specs.InlinePieces.{element}
 use Rattle.definition_page.specs.Pieces.{Piece, Open, Close, Void, Says, Eol, Fresh, CallOf, CountOf, NoteStart, NoteEnd}
 use Rattle.html_bytes.specs.Layout as bytes_layout
 use Rattle.html_bytes.specs.Pieces.{Bytes, piece_bytes, in_bytes}
-use Rattle.html_bytes.proofs.SameCalls.{call_printed}
+use Rattle.html_bytes.proofs.Printed.{added}
 use Rattle.html_bytes.proofs.SameLayout.{Same}
 
 -- an element in bytes
@@ -28,7 +29,7 @@ module _ (options : CompileOptions) (default : List ℕ) where
   piece_same l Fresh = refl
   piece_same l (CallOf place label) =
       let called = once_more place label l.called in
-      ap (λ t. layout_state t l.outer l.notes called) (call_printed options (latest_call place 1 called) default l.text)
+      ap (λ t. layout_state t l.outer l.notes called) (added default (call_pieces options (latest_call place 1 called)) (tt, (tt, (tt, (tt, (tt, tt))))) l.text)
   piece_same l (CountOf place label) = refl
   piece_same l NoteStart = refl
   piece_same l NoteEnd = refl

@@ -2,11 +2,10 @@
 use Rattle.std.specs.Prelude.{ℕ, suc, if◌then◌else◌, ◌==◌, List, [], ◌∷◌, ◌++◌, map, slice_index_or}
 use Rattle.std.specs.List.{fold}
 use Rattle.markdown_options.specs.declared.configuration.CompileOptions.{CompileOptions}
-use Rattle.definition_page.specs.GfmLabelStartFootnote.{Call}
-use Rattle.definition_page.specs.GfmFootnoteDefinition.{Footnote}
-use Rattle.html_bytes.specs.Pieces.{Piece, Bytes, Eol, Fresh, CallOf, CountOf, NoteStart, NoteEnd, print}
-use Rattle.html_bytes.specs.GfmLabelStartFootnote.{call_html}
-use Rattle.html_bytes.specs.GfmFootnoteDefinition.{section_pieces}
+use Rattle.definition_page.specs.Pieces as page
+use Rattle.definition_page.specs.GfmLabelStartFootnote.{Call, call_pieces}
+use Rattle.definition_page.specs.GfmFootnoteDefinition.{Footnote, section_pieces}
+use Rattle.html_bytes.specs.Pieces.{Piece, Bytes, Eol, Fresh, CallOf, CountOf, NoteStart, NoteEnd, print, pieces_html}
 
 -- ---- what was laid out
 
@@ -61,7 +60,8 @@ lay options default l (Bytes bs) = with_text l (l.text ++ bs)
 lay options default l Eol = with_text l (l.text ++ default)
 lay options default l Fresh = with_text l (print default l.text Fresh)
 lay options default l (CallOf place label) =
-    let called = once_more place label l.called in layout_state (l.text ++ call_html options (latest_call place 1 called)) l.outer l.notes called
+    let called = once_more place label l.called in
+    layout_state (l.text ++ pieces_html (call_pieces options (latest_call place 1 called))) l.outer l.notes called
 lay options default l (CountOf place label) = layout_state l.text l.outer l.notes (once_more place label l.called)
 lay options default l NoteStart = layout_state [] (l.text ∷ l.outer) l.notes l.called
 lay options default l NoteEnd = note_end l.text l.outer l.notes l.called
@@ -72,7 +72,7 @@ nothing_laid = layout_state [] [] [] []
 
 -- a page, and after it the footnotes that are called
 abbrev pub with_footnotes : CompileOptions → List ℕ → LayoutState → List ℕ
-with_footnotes options default l = fold (print default) l.text (section_pieces options (map (note_of l.notes) l.called))
+with_footnotes options default l = fold (page.print default) l.text (section_pieces options (map (note_of l.notes) l.called))
 
 abbrev pub page_layout : CompileOptions → List ℕ → List Piece → List ℕ
 page_layout options default pieces = with_footnotes options default (fold (lay options default) nothing_laid pieces)

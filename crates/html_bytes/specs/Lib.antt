@@ -3,6 +3,4 @@ pub mod RawHtml
 pub mod InlineHtml
 pub mod Document
 pub mod Html
-pub mod GfmLabelStartFootnote
-pub mod GfmFootnoteDefinition
 pub mod Layout

@@ -1,5 +1,6 @@
 -- What is printed.
 use Rattle.std.specs.Prelude.{ℕ, if◌then◌else◌, List, [], ◌++◌, map}
+use Rattle.std.specs.List.{flat_map}
 use Rattle.definition_page.specs.Tags.{said_bytes, start_tag, end_tag, void_tag}
 use Rattle.definition_page.specs.Pieces as page
 use Rattle.definition_page.specs.Pieces.{is_fresh}
@@ -52,3 +53,6 @@ piece_html (page.Close name) = end_tag name
 piece_html (page.Void t) = void_tag t
 piece_html (page.Says said) = said_bytes said
 piece_html piece = []
+
+abbrev pub pieces_html : List page.Piece → List ℕ
+pieces_html pieces = flat_map piece_html pieces

@@ -11,8 +11,8 @@ on_ok (Err e) new done old is = tt
 pub three : (s a b c : List ℕ) → ((s ++ a) ++ b) ++ c ≡ s ++ (a ++ b ++ c)
 three s a b c = simp append_assoc
 
-pub six : (s a b c d e f : List ℕ) → ((((s ++ a) ++ b) ++ c) ++ d) ++ (e ++ f) ≡ s ++ (a ++ b ++ c ++ d ++ e ++ f)
-six s a b c d e f = simp append_assoc
+pub four : (s a b c d : List ℕ) → (((s ++ a) ++ b) ++ c) ++ d ≡ s ++ (a ++ (b ++ (c ++ d)))
+four s a b c d = simp append_assoc
 
 pub five : (s a b c d e : List ℕ) → ((((s ++ a) ++ b) ++ c) ++ d) ++ e ≡ s ++ (a ++ b ++ c ++ d ++ e)
 five s a b c d e = simp append_assoc

@@ -4,8 +4,8 @@ use Rattle.std.specs.List.{fold}
 use Rattle.markdown_options.specs.declared.configuration.CompileOptions.{CompileOptions}
 use Rattle.definition_page.specs.GfmLabelStartFootnote as call
 use Rattle.definition_page.specs.GfmFootnoteDefinition as footnote
-use Rattle.html_bytes.specs.Pieces.{Piece, print}
-use Rattle.html_bytes.specs.GfmFootnoteDefinition.{backs_html, content_pieces}
+use Rattle.definition_page.specs.GfmFootnoteDefinition.{backs_pieces, content_pieces}
+use Rattle.definition_page.specs.Pieces.{Piece, print}
 use Rattle.html_footnotes.specs.declared.gfm_label_start_footnote.Call.{Call}
 use Rattle.html_footnotes.specs.declared.gfm_footnote_definition.Footnote.{Footnote}
 
@@ -21,4 +21,4 @@ note_view n = record { label = n.label.now; calls = n.calls; html = n.html.now }
 
 -- the content of a footnote, with the ways back to its calls
 abbrev pub with_ways_back : CompileOptions → footnote.Footnote → List Piece
-with_ways_back options note = content_pieces note.html (backs_html options note.label note.calls)
+with_ways_back options note = content_pieces note.html (backs_pieces options note.label note.calls)

@@ -7,9 +7,11 @@ ghost use Rattle.std.specs.Prelude.{◌≡◌, ◌≤◌, IfSome, length, map};
 ghost use Rattle.std.specs.Str.{IsCharBoundary};
 ghost use Rattle.markdown_options.specs.LineEndings.{ending_bytes};
 ghost use Rattle.definition_text.specs.Lines.{ends_line};
-ghost use Rattle.definition_page.specs.GfmFootnoteDefinition.{ended_size, section_heading_name, paragraph_end};
-ghost use Rattle.html_bytes.specs.GfmFootnoteDefinition.{back_html, back_tag, backs_html, count_html, footnote_pieces, footnotes_pieces};
-ghost use Rattle.html_bytes.specs.GfmFootnoteDefinition.{heading_html, section_heading_tag, listed_pieces, section_pieces, space_after};
+ghost use Rattle.definition_page.specs.GfmFootnoteDefinition.{back_pieces, back_tag, backs_pieces, count_pieces, ended_size, footnote_pieces};
+ghost use Rattle.definition_page.specs.GfmFootnoteDefinition.{footnotes_pieces, heading_pieces, item_tag, listed_pieces, paragraph_end};
+ghost use Rattle.definition_page.specs.GfmFootnoteDefinition.{section_heading_name, section_heading_tag, section_pieces, space_after};
+ghost use Rattle.definition_page.specs.Tags.{start_tag};
+ghost use Rattle.html_bytes.specs.Pieces.{pieces_html};
 ghost use Rattle.html_escape.specs.Prints.{Prints};
 ghost use Rattle.html_footnotes.specs.Footnotes.{LaysOut, note_view, with_ways_back};
 
@@ -74,7 +76,7 @@ fn push_heading<A: Allocator>(
     out: &mut String<A>,
     compile: &CompileOptions,
 ) -> Result<(), AllocError>
-    ensures { Prints result out.old out.new (heading_html compile.now) }
+    ensures { Prints result out.old out.new (pieces_html (heading_pieces compile.now)) }
 {
     push_heading_tag(out, compile)?;
     push_encoded(out, text_or(&compile.gfm_footnote_label, "Footnotes"))?;
@@ -88,7 +90,7 @@ fn push_heading_tag<A: Allocator>(
     out: &mut String<A>,
     compile: &CompileOptions,
 ) -> Result<(), AllocError>
-    ensures { Prints result out.old out.new (section_heading_tag compile.now) }
+    ensures { Prints result out.old out.new (start_tag (section_heading_tag (section_heading_name compile.now) compile.now.gfm_footnote_label_attributes)) }
 {
     out.push_str("<")?;
     push_heading_name(out, compile)?;
@@ -132,13 +134,24 @@ fn push_footnote<A: Allocator>(
     ensures { LaysOut (ending_bytes ending) result out.old out.new (footnote_pieces compile.now (note_view note.entry)) }
 {
     push_fresh(out, ending)?;
-    out.push_str("<li id=\"")?;
-    push_footnote_id(out, compile, note.label)?;
-    out.push_str("\">")?;
+    push_item_tag(out, compile, note.label)?;
     push_fresh(out, ending)?;
     push_content(out, compile, ending, note)?;
     push_fresh(out, ending)?;
     out.push_str("</li>")
+}
+
+/// Prints the start tag of a footnote with this label.
+fn push_item_tag<A: Allocator>(
+    out: &mut String<A>,
+    compile: &CompileOptions,
+    label: &str,
+) -> Result<(), AllocError>
+    ensures { Prints result out.old out.new (start_tag (item_tag compile.now label.now)) }
+{
+    out.push_str("<li id=\"")?;
+    push_footnote_id(out, compile, label)?;
+    out.push_str("\">")
 }
 
 /// Prints the HTML of a footnote with its ways back: in the paragraph that it ends with, or on a
@@ -206,7 +219,7 @@ fn push_backs<A: Allocator>(
     label: &str,
     calls: usize,
 ) -> Result<(), AllocError>
-    ensures { Prints result out.old out.new (backs_html compile.now label.now calls) }
+    ensures { Prints result out.old out.new (pieces_html (backs_pieces compile.now label.now calls)) }
 {
     for count in 0..calls {
         push_space(out, count)?;
@@ -217,7 +230,7 @@ fn push_backs<A: Allocator>(
 
 /// Prints a space after so many ways back, if there are any.
 fn push_space<A: Allocator>(out: &mut String<A>, count: usize) -> Result<(), AllocError>
-    ensures { Prints result out.old out.new (space_after count) }
+    ensures { Prints result out.old out.new (pieces_html (space_after count)) }
 {
     if count == 0 {
         return Ok(());
@@ -232,22 +245,23 @@ fn push_back<A: Allocator>(
     label: &str,
     count: usize,
 ) -> Result<(), AllocError>
-    ensures { Prints result out.old out.new (back_html compile.now label.now count) }
+    ensures { Prints result out.old out.new (pieces_html (back_pieces compile.now label.now count)) }
 {
     push_back_tag(out, compile, label, count)?;
+    out.push_str("↩")?;
     push_count(out, count)?;
     out.push_str("</a>")?;
     Ok(())
 }
 
-/// Prints the start tag of a way back to a call, and its arrow.
+/// Prints the start tag of a way back to a call.
 fn push_back_tag<A: Allocator>(
     out: &mut String<A>,
     compile: &CompileOptions,
     label: &str,
     count: usize,
 ) -> Result<(), AllocError>
-    ensures { Prints result out.old out.new (back_tag compile.now label.now count) }
+    ensures { Prints result out.old out.new (start_tag (back_tag compile.now label.now count)) }
 {
     out.push_str("<a href=\"#")?;
     push_call_id(out, compile, label, count)?;
@@ -256,13 +270,13 @@ fn push_back_tag<A: Allocator>(
         out,
         text_or(&compile.gfm_footnote_back_label, "Back to content"),
     )?;
-    out.push_str("\" class=\"data-footnote-backref\">↩")?;
+    out.push_str("\" class=\"data-footnote-backref\">")?;
     Ok(())
 }
 
 /// Prints which call a way back leads to, from the second one on.
 fn push_count<A: Allocator>(out: &mut String<A>, count: usize) -> Result<(), AllocError>
-    ensures { Prints result out.old out.new (count_html count) }
+    ensures { Prints result out.old out.new (pieces_html (count_pieces count)) }
 {
     if count <= 1 {
         return Ok(());

@@ -1,7 +1,9 @@
 //! Calls of footnotes (in no standard; as GitHub prints them).
 //!
 //!     call ::= '<sup><a href="#' footnote '" id="' call '" data-footnote-ref="" aria-describedby="footnote-label">' number '</a></sup>'
-ghost use Rattle.html_bytes.specs.GfmLabelStartFootnote.{call_html, call_tag};
+ghost use Rattle.definition_page.specs.GfmLabelStartFootnote.{call_pieces, call_tag};
+ghost use Rattle.definition_page.specs.Tags.{start_tag};
+ghost use Rattle.html_bytes.specs.Pieces.{pieces_html};
 ghost use Rattle.html_escape.specs.Prints.{Prints};
 ghost use Rattle.html_footnotes.specs.Footnotes.{call_view};
 
@@ -26,22 +28,23 @@ pub fn push_call<A: Allocator>(
     compile: &CompileOptions,
     call: Call<'_>,
 ) -> Result<(), AllocError>
-    ensures { Prints result out.old out.new (call_html compile.now (call_view call.entry)) }
+    ensures { Prints result out.old out.new (pieces_html (call_pieces compile.now (call_view call.entry))) }
 {
+    out.push_str("<sup>")?;
     push_call_tag(out, compile, call)?;
     write!(out, "{}", call.number)?;
     out.push_str("</a></sup>")
 }
 
-/// Prints the start tags of a call.
+/// Prints the start tag of a call.
 fn push_call_tag<A: Allocator>(
     out: &mut String<A>,
     compile: &CompileOptions,
     call: Call<'_>,
 ) -> Result<(), AllocError>
-    ensures { Prints result out.old out.new (call_tag compile.now (call_view call.entry)) }
+    ensures { Prints result out.old out.new (start_tag (call_tag compile.now (call_view call.entry))) }
 {
-    out.push_str("<sup><a href=\"#")?;
+    out.push_str("<a href=\"#")?;
     push_footnote_id(out, compile, call.label)?;
     out.push_str("\" id=\"")?;
     push_call_id(out, compile, call.label, call.count)?;

@@ -3,8 +3,8 @@
 //!     footnote ::= prefix 'fn-' label
 //!     call     ::= prefix 'fnref-' label ('-' count)?, with a count from the second call on
 ghost use Rattle.std.specs.Prelude.{◌≡◌};
-ghost use Rattle.definition_page.specs.GfmLabelStartFootnote.{id_prefix, text_or};
-ghost use Rattle.html_bytes.specs.GfmLabelStartFootnote.{call_id, count_of, footnote_id};
+ghost use Rattle.definition_page.specs.GfmLabelStartFootnote.{call_id, count_says, footnote_id, id_prefix, text_or};
+ghost use Rattle.html_bytes.specs.InlineHtml.{say_bytes};
 ghost use Rattle.html_escape.specs.Prints.{Prints};
 
 use html_escape::{push_encoded, push_sanitized};
@@ -34,7 +34,7 @@ pub(crate) fn push_footnote_id<A: Allocator>(
     compile: &CompileOptions,
     label: &str,
 ) -> Result<(), AllocError>
-    ensures { Prints result out.old out.new (footnote_id compile.now label.now) }
+    ensures { Prints result out.old out.new (say_bytes (footnote_id compile.now label.now)) }
 {
     push_encoded(out, id_prefix(compile))?;
     out.push_str("fn-")?;
@@ -48,7 +48,7 @@ pub(crate) fn push_call_id<A: Allocator>(
     label: &str,
     count: usize,
 ) -> Result<(), AllocError>
-    ensures { Prints result out.old out.new (call_id compile.now label.now count) }
+    ensures { Prints result out.old out.new (say_bytes (call_id compile.now label.now count)) }
 {
     push_encoded(out, id_prefix(compile))?;
     out.push_str("fnref-")?;
@@ -58,7 +58,7 @@ pub(crate) fn push_call_id<A: Allocator>(
 
 /// Prints what tells the calls of one footnote apart.
 fn push_id_count<A: Allocator>(out: &mut String<A>, count: usize) -> Result<(), AllocError>
-    ensures { Prints result out.old out.new (count_of count) }
+    ensures { Prints result out.old out.new (say_bytes (count_says count)) }
 {
     if count <= 1 {
         return Ok(());

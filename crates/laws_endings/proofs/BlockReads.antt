@@ -2,7 +2,7 @@
 use Rattle.std.proofs.Common.{◌≡◌, ℕ, suc, zero, ◌+◌, Bool, true, false, cond, eqb, ◌&&◌, not, leb, List, [], ◌∷◌, ◌++◌, Option, None, Some, take, drop, map}
 use Rattle.std.proofs.Common.{refl, sym, ap, ◌∙◌, subst, arith}
 use Rattle.std.specs.List.{list_all, prefix_len}
-use Rattle.std.proofs.lemmas.Bool.{cond_both, cond-true, and_parts, both_ways}
+use Rattle.std.proofs.lemmas.Bool.{cond_both, cond-true, and_parts, both_ways, not-true}
 use Rattle.markdown_options.specs.declared.line_ending.LineEnding.{LineEnding}
 use Rattle.markdown_options.specs.declared.line_ending.LineEnding.TheVariants.{CarriageReturnLineFeed, CarriageReturn, LineFeed}
 use Rattle.markdown_options.specs.declared.configuration.Constructs.{Constructs}
@@ -18,10 +18,10 @@ use Rattle.definition_block.specs.CodeFenced.{Fence, first_word, fence_by, fence
 use Rattle.definition_block.specs.MathFlow.{math_info, math_fence_of, math_start}
 use Rattle.definition_block.specs.HeadingAtx.{Atx, atx, begins_apart, ends_apart, without_run, without_closing, atx_of, heading_atx}
 use Rattle.definition_block.specs.HeadingSetext.{underline}
-use Rattle.definition_block.specs.Tree.{LeafBlock, Block, Blocks, join, rest_line, blocks}
+use Rattle.definition_block.specs.Tree.{LeafBlock, Block, Blocks, rest_line, blocks}
 use Rattle.laws_endings.proofs.Rests.{starts-fine, continues-fine}
 use Rattle.definition_block.proofs.BlockReads.{Property, LeafBlockGood, BlockGood, BlocksGood, TextLineGood, AtxGood, FenceGood, Reads}
-use Rattle.definition_block.proofs.BlockReads.{join_good, own_good, blocks_good}
+use Rattle.definition_block.proofs.BlockReads.{own_good, blocks_good}
 use Rattle.laws_endings.proofs.Each.{Each, each-append, each-take, each-drop, each_filter, WhereSome, where_passed}
 use Rattle.laws_endings.proofs.Characters.{IsWhole, AreWhole}
 use Rattle.laws_endings.proofs.Fits.{Single, Plain, TitleFits, definition_fits}
@@ -152,9 +152,6 @@ content_single : (ls : List BlockLine) → LinesFit ls → Each Single (content_
 content_single [] p = tt
 content_single (line ∷ ls) p = each-append Single (line_codes line) (content_of ls) (line_singles line p.0) (content_single ls p.1)
 
-pub join_fits : (bs others : Blocks) → BlocksFit bs → BlocksFit others → BlocksFit (join bs others)
-join_fits bs others p q = join_good fits bs others p q
-
 -- ---- ATX headings and fences
 
 abbrev AtxFits : Option Atx → Type 0
@@ -206,17 +203,13 @@ fence_start_fits on rest p =
 abbrev is_plain : ℕ → Bool
 is_plain c = not (eqb c 38) && (not (eqb c 257) && not (is_eol c))
 
-from_not : (b : Bool) → not b ≡ true → b ≡ false
-from_not true h = absurd (both_ways false refl h)
-from_not false h = refl
-
 plain_tested : (cs : List ℕ) → list_all is_plain cs ≡ true → Each Plain cs
 plain_tested [] h = tt
 plain_tested (c ∷ cs) h =
     let p = and_parts (is_plain c) (list_all is_plain cs) h in
     let q = and_parts (not (eqb c 38)) (not (eqb c 257) && not (is_eol c)) p.0 in
     let r = and_parts (not (eqb c 257)) (not (is_eol c)) q.1 in
-    (((from_not (eqb c 38) q.0, from_not (eqb c 257) r.0), from_not (is_eol c) r.1), plain_tested cs p.1)
+    (((not-true (eqb c 38) q.0, not-true (eqb c 257) r.0), not-true (is_eol c) r.1), plain_tested cs p.1)
 
 math_start_fits : (on : Constructs) (rest : Rest) → FenceFits (math_start on rest)
 math_start_fits on rest =

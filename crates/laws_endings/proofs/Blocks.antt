@@ -1,17 +1,18 @@
 -- The blocks of a text with another ending in place of each LF.
-use Rattle.std.proofs.Common.{◌≡◌, ℕ, List, [], ◌∷◌, None, Some, Option, false, cond, ◌&&◌, eqb, refl, ap, ◌∙◌, drop, map}
+use Rattle.std.proofs.Common.{◌≡◌, ℕ, List, [], ◌∷◌, None, Some, Option, cond, ◌&&◌, refl, ap, ◌∙◌, map}
 use Rattle.std.specs.Prelude.{IfSome}
 use Rattle.std.specs.Option.{option_map}
 use Rattle.std.proofs.lemmas.Bool.{cond_both}
 use Rattle.markdown_options.specs.declared.line_ending.LineEnding.{LineEnding}
-use Rattle.markdown_options.specs.declared.line_ending.LineEnding.TheVariants.{CarriageReturnLineFeed, CarriageReturn, LineFeed}
 use Rattle.markdown_options.specs.declared.configuration.Constructs.{Constructs}
 use Rattle.markdown_options.specs.declared.beside.Kind.{Kind}
 use Rattle.markdown_options.specs.declared.beside.Kind.TheVariants.{Whitespace}
-use Rattle.definition_text.specs.Lines.{TextLine, text_line, in_first_line, after_return, lines}
+use Rattle.definition_text.specs.Lines.{TextLine, lines}
 use Rattle.definition_text.specs.Columns.{whole}
 use Rattle.definition_block.specs.Frontmatter.{is_metadata_fence, after_metadata_fence, after_frontmatter}
 use Rattle.definition_block.specs.Tree.{join, Tree, tree, empty_tree, close, grow, beside_line, step, steps, blocks_at_end, children, children_after}
+use Rattle.definition_page.proofs.LineReads.{LinesGood, MayBegin, lines_good}
+use Rattle.laws_endings.proofs.Each.{Each}
 use Rattle.laws_endings.specs.Endings.{text_line_with, blocks_with}
 use Rattle.laws_endings.specs.Laws.{BlocksLaw}
 use Rattle.laws_endings.proofs.Lines.{ending_lines_law}
@@ -25,32 +26,14 @@ use Rattle.laws_endings.proofs.Growing.{grow-with}
 -- ---- no line of a text holds an LF
 
 abbrev pub LinesFeedless : List TextLine → Type 0
-LinesFeedless [] = Unit {0}
-LinesFeedless (line ∷ ls) = Feedless line.content × LinesFeedless ls
+LinesFeedless ls = LinesGood Feedless ls
 
-in_first_line_feedless : (b : ℕ) (ls : List TextLine) → eqb b 10 ≡ false → LinesFeedless ls → LinesFeedless (in_first_line b ls)
-in_first_line_feedless b [] h p = ((h, tt), tt)
-in_first_line_feedless b (line ∷ ls) h p = ((h, p.0), p.1)
-
-others_feedless : (ls : List TextLine) → LinesFeedless ls → LinesFeedless (drop 1 ls)
-others_feedless [] p = tt
-others_feedless (line ∷ ls) p = p.1
-
-after_return_feedless : (bs : List ℕ) (ls : List TextLine) → LinesFeedless ls → LinesFeedless (after_return bs ls)
-after_return_feedless [] ls p = (tt, p)
-after_return_feedless (b ∷ bs) ls p =
-    cond_both (eqb b 10) (text_line [] (Some CarriageReturnLineFeed) ∷ drop 1 ls) (text_line [] (Some CarriageReturn) ∷ ls) LinesFeedless
-    (λ _. (tt, others_feedless ls p)) (λ _. (tt, p))
+each_feedless : (text : List ℕ) → Each (MayBegin Feedless) text
+each_feedless [] = tt
+each_feedless (b ∷ bs) = (λ h more p. (h, p), each_feedless bs)
 
 pub lines_feedless : (text : List ℕ) → LinesFeedless (lines text)
-lines_feedless [] = tt
-lines_feedless (b ∷ bs) =
-    let ls = lines bs in
-    let p = lines_feedless bs in
-    cond_both (eqb b 10) (text_line [] (Some LineFeed) ∷ ls) (cond (eqb b 13) (after_return bs ls) (in_first_line b ls)) LinesFeedless
-    (λ _. (tt, p))
-    (λ h. cond_both (eqb b 13) (after_return bs ls) (in_first_line b ls) LinesFeedless
-    (λ _. after_return_feedless bs ls p) (λ _. in_first_line_feedless b ls h p))
+lines_feedless text = lines_good Feedless tt text (each_feedless text)
 
 -- ---- the lines after a frontmatter
 

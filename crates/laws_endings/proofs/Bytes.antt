@@ -1,7 +1,7 @@
 -- Printed bytes with another line ending in place of each LF.
 use Rattle.std.proofs.Common.{◌≡◌, ℕ, zero, suc, ◌+◌, ◌-◌, ◌/◌, ◌%◌, Bool, true, false, cond, not, eqb, ltb, ◌||◌, ◌&&◌, List, [], ◌∷◌, ◌++◌, Option, None}
-use Rattle.std.proofs.Common.{Some, refl, sym, ap, ◌∙◌, arith, length, decimal, append-nil, flat_map}
-use Rattle.std.specs.Prelude.{codes, slice_get}
+use Rattle.std.proofs.Common.{Some, refl, sym, ap, ◌∙◌, arith, decimal, append-nil, flat_map}
+use Rattle.std.specs.Prelude.{codes}
 use Rattle.std.specs.Fmt.{digit_glyph, digits, digits_onto}
 use Rattle.std.specs.List.{list_all}
 use Rattle.std.proofs.lemmas.Grind.{flat_map-append}
@@ -16,6 +16,7 @@ use Rattle.definition_inline.specs.Strings.{eol_bytes}
 use Rattle.definition_page.specs.GfmTagfilter.{is_filtered, filter_tags, filter_if}
 use Rattle.definition_page.specs.Urls.{is_kept, escape, percent_byte, percent}
 use Rattle.definition_page.specs.Pieces.{ends_a_line, is_fresh}
+use Rattle.definition_page.proofs.LastByte.{last_from, last_is}
 use Rattle.laws_endings.specs.Endings.{byte_with, with_ending, code_with}
 use Rattle.laws_endings.proofs.Each.{Each, each-append}
 
@@ -149,16 +150,6 @@ module _ (e : LineEnding) where
       eol_by code (eqb code 10) refl k ∙ sym (ap (with_ending e) (cond-false (eqb code 257) (13 ∷ 10 ∷ []) (code ∷ []) k))
 
   -- ---- the last byte
-
-  abbrev last_from : Option ℕ → List ℕ → Option ℕ
-  last_from last [] = last
-  last_from last (b ∷ bs) = last_from (Some b) bs
-
-  last_is : (b : ℕ) (bs : List ℕ) → slice_get (b ∷ bs) (length (b ∷ bs) - 1) ≡ last_from (Some b) bs
-  last_is b [] = refl
-  last_is b (c ∷ cs) =
-      let place : length (b ∷ c ∷ cs) - 1 ≡ suc (length (c ∷ cs) - 1) = omega arith in
-      ap (slice_get (b ∷ c ∷ cs)) place ∙ last_is c cs
 
   fresh_is : (bs : List ℕ) → is_fresh bs ≡ ends_a_line (last_from None bs)
   fresh_is [] = refl

@@ -45,14 +45,15 @@ use Rattle.laws_endings.specs.PageLaws.{HaveNoFeeds, FootnotesHoldNoFeed, Ending
 use Rattle.laws_endings.proofs.Each.{Each, each-append, each-drop, each_map, WhereSome}
 use Rattle.laws_endings.proofs.Characters.{AreWhole, whole-drop, IsTextByte, utf8_spelled}
 use Rattle.laws_endings.proofs.Fits.{Single, Plain, TitleFits, space_plain, space_single}
-use Rattle.laws_endings.proofs.BlockReads.{LeafBlockFits, BlockFits, BlocksFit, blocks_fit}
+use Rattle.definition_block.proofs.ListReads.{grouped_good}
+use Rattle.laws_endings.proofs.BlockReads.{fits, LeafBlockFits, BlockFits, BlocksFit, blocks_fit}
 use Rattle.laws_endings.proofs.TextLines.{ByteFits, text_lines_fit}
 use Rattle.laws_endings.proofs.Marks.{without_mark-with, kind_before-with}
 use Rattle.laws_endings.proofs.Pieces.{PiecesWith, append-with}
 use Rattle.laws_endings.proofs.GfmFootnoteDefinition.{section-with}
 use Rattle.laws_endings.proofs.NoFootnotes.{no_footnotes}
 use Rattle.laws_endings.proofs.Printed.{LinkedFits, linked_with}
-use Rattle.laws_endings.proofs.Pages.{grouped_fits, grouped-with, page_blocks_with, read_blocks-with, read_blocks_fit, ends_blank-with}
+use Rattle.laws_endings.proofs.Pages.{grouped-with, page_blocks_with, read_blocks-with, read_blocks_fit, ends_blank-with}
 use Rattle.laws_endings.proofs.PrintedBlocks.{children-with, fresh_unless-with}
 
 -- ---- definitions
@@ -171,7 +172,7 @@ module _ (e : LineEnding) (tables : TextTables) (options : Options) (bs : tree.B
   labels = footnotes bs
 
   abbrev reading_by : (List ℕ → Bool) → Reading
-  reading_by is_defined = record { options = options.parse; tables = tables; is_defined = is_defined; is_footnote = is_footnote_of labels }
+  reading_by is_defined = record { parse = options.parse; tables = tables; is_defined = is_defined; is_footnote = is_footnote_of labels }
 
   abbrev meaning_by : List Definition → Meaning
   meaning_by all =
@@ -193,7 +194,7 @@ module _ (e : LineEnding) (tables : TextTables) (options : Options) (bs : tree.B
   page-with =
       let r = reading_by (is_label_of ds) in
       let all = group_items bs in
-      let fits = grouped_fits bs fit in
+      let fits_grouped = grouped_good fits bs fit in
       let page = read_blocks r on_page all in
       let default = ending_bytes e in
       let blank' = ends_blank false (blocks_with e bs) in
@@ -203,12 +204,12 @@ module _ (e : LineEnding) (tables : TextTables) (options : Options) (bs : tree.B
       ∙ ap (λ items. read_here items (is_label_of ds) blank' default) (grouped-with e bs)
       ∙ ap (λ blank. read_here (blocks_with e all) (is_label_of ds) blank default) (ends_blank-with e false bs)
       ∙ ap (λ blocks. page_layout options.compile default (children_pieces (meaning_by other_ds) at_top None blocks ++ end))
-      (read_blocks-with e r (same_label e ds) same_call on_page all fits)
+      (read_blocks-with e r (same_label e ds) same_call on_page all fits_grouped)
       ∙ page_layout-with e options.compile (children_pieces (meaning_by other_ds) at_top None (page_blocks_with e page) ++ end)
       (children_pieces m at_top None page ++ end)
       (append-with e options.compile (children_pieces (meaning_by other_ds) at_top None (page_blocks_with e page)) (children_pieces m at_top None page) end end
       (children-with e m (linked_by other_ds) (leads-with e ds) (leads_fit ds ds_fit) notes at_top None page
-      (read_blocks_fit e r (same_label e ds) same_call on_page all fits))
+      (read_blocks_fit e r (same_label e ds) same_call on_page all fits_grouped))
       (fresh_unless-with e m (linked_by other_ds) (leads-with e ds) (leads_fit ds ds_fit) notes (not (ends_blank false bs))))
 
 -- ---- the first ending of a text

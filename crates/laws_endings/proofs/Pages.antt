@@ -13,7 +13,7 @@ use Rattle.markdown_options.specs.declared.beside.Kind.TheVariants.{Whitespace}
 use Rattle.definition_text.specs.BlockLines.{BlockLine, own_lines}
 use Rattle.definition_text.specs.Columns.{code_byte}
 use Rattle.definition_text.specs.Content.{ending_code, line_codes}
-use Rattle.definition_text.specs.InlineCode.{InlineCode, codes_of, with_kinds, next_kind, line_content, inline_content}
+use Rattle.definition_text.specs.InlineCode.{InlineCode, codes_of, with_kinds, line_content, inline_content}
 use Rattle.definition_inline.specs.GfmTaskListItem.{check_at, check_size}
 use Rattle.definition_inline.specs.Scan.{InlineContext, inlines, inlines_from, without_indent}
 use Rattle.definition_inline.specs.Strings.{string_text}
@@ -29,6 +29,7 @@ use Rattle.definition_page.specs.Page.{cons_ending, cons_blank}
 use Rattle.definition_page.specs.Read.{Reading, Standing, context_of, in_container, ending_list, next_standing, checked_text, read_paragraph, read_cell, read_row}
 use Rattle.definition_page.specs.Read.{read_table, read_text, info_text, code_lines, without_ending, after_leaf, read_leaf, read_container, standing_in}
 use Rattle.definition_page.specs.Read.{list_number, read_block, read_blocks, is_blank_ending, ends_blank}
+use Rattle.definition_page.proofs.ContentCodes.{kinds_codes}
 use Rattle.laws_endings.specs.Endings.{with_ending, ending_with, if_ending_with, codes_with, line_with, lines_with, leaf_block_with, block_with, blocks_with}
 use Rattle.laws_endings.specs.Inlines.{inline_code_with, inlines_with, content_with}
 use Rattle.laws_endings.proofs.Codes.{cond-under}
@@ -46,49 +47,13 @@ use Rattle.laws_endings.proofs.Neighbours.{kinds-with, kinds-kept, alike_uninden
 use Rattle.laws_endings.proofs.Fits.{Single, Plain, space_plain, space_single}
 use Rattle.laws_endings.proofs.Parts.{AreFit}
 use Rattle.laws_endings.proofs.InlineReads.{dropped_codes, from_fits, inlines_fit}
-use Rattle.laws_endings.proofs.BlockReads.{IsFed, WholeBefore, LineFits, LinesFit, LeafBlockFits, BlockFits, BlocksFit, line_singles, join_fits, own_fit}
+use Rattle.laws_endings.proofs.BlockReads.{IsFed, WholeBefore, LineFits, LinesFit, LeafBlockFits, BlockFits, BlocksFit, line_singles, own_fit}
 use Rattle.laws_endings.proofs.Bytes.{IsNoFeed}
 use Rattle.laws_endings.proofs.PrintedTable.{RowFits, TableFits, in_cell_fits, CellFits, cells_fit, head_fits, delimiters_fit, head-with, delimiters-with}
 use Rattle.laws_endings.proofs.PrintedTable.{list_fed, list-with, row_with, table_with, in_cell-with}
 use Rattle.laws_endings.proofs.Saids.{plains_no_feed, codes-kept, string_text-with}
 
 -- ---- lists
-
-list_fits_endings : (bs : tree.Blocks) → BlocksFit bs → BlocksFit (endings_of bs)
-list_fits_endings tree.Nil p = tt
-list_fits_endings (tree.Cons b bs) p = cond_both (is_ending b) _ _ BlocksFit (λ _. (p.0, list_fits_endings bs p.1)) (λ _. tt)
-
-list_fits_after : (bs : tree.Blocks) → BlocksFit bs → BlocksFit (after_endings bs)
-list_fits_after tree.Nil p = tt
-list_fits_after (tree.Cons b bs) p = cond_both (is_ending b) _ _ BlocksFit (λ _. list_fits_after bs p.1) (λ _. p)
-
-items_fit : (bs : tree.Blocks) → BlocksFit bs → BlocksFit (list_items bs)
-items_fit (tree.Cons (tree.Items items) bs) p = p.0
-items_fit bs p = tt
-
-rest_fits : (bs : tree.Blocks) → BlocksFit bs → BlocksFit (rest_of bs)
-rest_fits tree.Nil p = tt
-rest_fits (tree.Cons b bs) p = p.1
-
-before_list_fits : (marker : ℕ) (item : tree.Block) (bs : tree.Blocks) → BlockFits item → BlocksFit bs → BlocksFit (before_list marker item bs)
-before_list_fits marker item bs h p =
-    let others = after_endings bs in
-    let q = list_fits_after bs p in
-    cond_both (eqb (list_marker others) marker) _ _ BlocksFit
-    (λ _. ((h, join_fits (endings_of bs) (list_items others) (list_fits_endings bs p) (items_fit others q)), rest_fits others q))
-    (λ _. ((h, tt), p))
-
-before_fits : (b : tree.Block) (bs : tree.Blocks) → BlockFits b → BlocksFit bs → BlocksFit (put_before b bs)
-before_fits b bs h p = cond_both (eqb (item_marker b) 0) _ _ BlocksFit (λ _. (h, p)) (λ _. before_list_fits (item_marker b) b bs h p)
-
-mutual
-  grouped_block_fits : (b : tree.Block) → BlockFits b → BlockFits (grouped_block b)
-  grouped_block_fits (tree.Holds c kids) h = grouped_fits kids h
-  grouped_block_fits b h = h
-
-  pub grouped_fits : (bs : tree.Blocks) → BlocksFit bs → BlocksFit (group_items bs)
-  grouped_fits tree.Nil p = tt
-  grouped_fits (tree.Cons b bs) p = before_fits (grouped_block b) (group_items bs) (grouped_block_fits b p.0) (grouped_fits bs p.1)
 
 module _ (e : LineEnding) where
   item_marker-with : (b : tree.Block) → item_marker (block_with e b) ≡ item_marker b
@@ -256,10 +221,6 @@ module _ (e : LineEnding) where
         content-append xs ys = map-append _ xs ys
 
     -- its codes
-    kinds_codes : (previous : Option ℕ) (before after : Kind) (cs : List ℕ) → codes_of (with_kinds p previous before after cs) ≡ cs
-    kinds_codes previous before after [] = refl
-    kinds_codes previous before after (c ∷ cs) = ap (λ more. c ∷ more) (kinds_codes (Some c) (next_kind p before (c ∷ cs)) after cs)
-
     content_fits : (ls : List BlockLine) → LinesFit ls → Each Single (codes_of (inline_content p Whitespace ls))
     content_fits [] h = tt
     content_fits (line ∷ ls) h =
@@ -267,7 +228,7 @@ module _ (e : LineEnding) where
         let more = inline_content p Whitespace ls in
         subst (Each Single) (sym (map-append _ first more))
         (each-append Single (codes_of first) (codes_of more)
-        (subst (Each Single) (sym (kinds_codes None line.before Whitespace (map code_byte (line_codes line))))
+        (subst (Each Single) (sym (kinds_codes p None line.before Whitespace (map code_byte (line_codes line))))
         (each_map Single Single code_byte (line_codes line) space_single (line_singles line h.0)))
         (content_fits ls h.1))
 
@@ -402,7 +363,7 @@ module _ (e : LineEnding) where
         → read_paragraph r first (lines_with e ls) ≡ inlines_with e (read_paragraph r first ls)
     paragraph-with first ls h =
         let p = r.tables.is_punctuation in
-        let on = r.options.constructs in
+        let on = r.parse.constructs in
         let other = inline_content p Whitespace (lines_with e ls) in
         let content = inline_content p Whitespace ls in
         let alike : AreAlike (without_indent other) (content_with e (without_indent content)) =
@@ -420,7 +381,7 @@ module _ (e : LineEnding) where
         let content = inline_content r.tables.is_punctuation Whitespace ls in
         checked_fits (without_indent content)
         (dropped_codes context (prefix_len (λ (c : InlineCode). is_white c.code) content) content (content_fits r.tables.is_punctuation ls h))
-        (check_at r.options.constructs first (codes_of (without_indent content)))
+        (check_at r.parse.constructs first (codes_of (without_indent content)))
 
     singles_of : (cs : List ℕ) → Each Plain cs → Each Single cs
     singles_of [] p = tt
@@ -501,7 +462,7 @@ module _ (e : LineEnding) where
     info_fits [] p = tt
     info_fits (b ∷ bs) p =
         let info = b ∷ bs in
-        let on = r.options.constructs in
+        let on = r.parse.constructs in
         sym (string_text-with e on r.tables.names info (singles_of info p))
         ∙ ap (string_text on r.tables.names) (codes-kept e info (plains_no_feed info p))
 

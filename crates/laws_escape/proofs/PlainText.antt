@@ -21,7 +21,7 @@ use Rattle.definition_text.specs.Columns.{is_white, is_blank, indent, bare, is_t
 use Rattle.definition_text.specs.Encode.{encode}
 use Rattle.definition_text.specs.BlockLines.{BlockLine}
 use Rattle.definition_text.specs.Content.{is_eol, ending_code, line_codes, content_of}
-use Rattle.definition_text.specs.InlineCode.{InlineCode, codes_of, next_kind, with_kinds, line_content, inline_content}
+use Rattle.definition_text.specs.InlineCode.{InlineCode, codes_of, line_content, inline_content}
 use Rattle.definition_inline.specs.Inline.{InlineLeaf, Data, LineEnd, Leaf, Inlines, Found, leaf, or_else}
 use Rattle.definition_inline.specs.HardBreak.{ends_here, line_end_at, line_spaces_at}
 use Rattle.definition_inline.specs.Spans.{Item, with_spans}
@@ -34,6 +34,7 @@ use Rattle.definition_page.specs.InlinePieces.{Meaning, inline_pieces}
 use Rattle.definition_page.specs.Read.{on_page, read_text}
 use Rattle.html_bytes.specs.InlineHtml.{leaf_html, inline_html}
 use Rattle.html_bytes.specs.Pieces.{Bytes, Fresh, in_bytes}
+use Rattle.definition_page.proofs.ContentCodes.{kinds_codes}
 use Rattle.html_bytes.specs.Layout.{lay}
 use Rattle.html_bytes.specs.Document.{Document, reading_of, document_meaning, text_of}
 use Rattle.definition_inline.specs.Targets.{is_label_of, is_footnote_of}
@@ -385,12 +386,6 @@ module _ (compile : CompileOptions) where
       ∙ sym (append_assoc said (ending_text line.ending) (plain_text others))
 
 -- ---- the codes of lines
-
-kinds_codes : (is_punctuation : ℕ → Bool) (previous : Option ℕ) (before after : Kind) (cs : List ℕ)
-    → codes_of (with_kinds is_punctuation previous before after cs) ≡ cs
-kinds_codes is_punctuation previous before after [] = refl
-kinds_codes is_punctuation previous before after (c ∷ cs) =
-    ap (λ x. c ∷ x) (kinds_codes is_punctuation (Some c) (next_kind is_punctuation before (c ∷ cs)) after cs)
 
 same_bytes : (bs : List ℕ) → AreInLine bs → map code_byte bs ≡ bs
 same_bytes [] line = refl

@@ -4,6 +4,7 @@ use Rattle.std.proofs.lemmas.Bool.{cond_both, and_parts, and_right}
 use Rattle.definition_block.specs.Tree.{Block, Blocks, Nil, Cons, join, one, is_ending, all_endings, trailing}
 use Rattle.definition_block.specs.Lists.{endings_at_front, is_some_block, has_gap, group_items}
 use Rattle.laws_quote.proofs.Lists.{grouped-join}
+use Rattle.laws_quote.proofs.PageLaw.{join-nil}
 
 -- only endings stand at the end
 pub trailing_ends : (bs : Blocks) → all_endings (trailing bs) ≡ true
@@ -48,10 +49,6 @@ gap_ending (Cons b bs) last e =
 -- the same of more endings
 pub gap_endings : (bs ends : Blocks) → all_endings ends ≡ true → has_gap (group_items (join bs ends)) ≡ has_gap (group_items bs)
 gap_endings bs Nil h = ap (λ all. has_gap (group_items all)) (join-nil bs)
-  where
-    join-nil : (bs : Blocks) → join bs Nil ≡ bs
-    join-nil Nil = refl
-    join-nil (Cons b bs) = ap (Cons b) (join-nil bs)
 gap_endings bs (Cons last ends) h =
     let p = and_parts (is_ending last) (all_endings ends) h in
     ap (λ all. has_gap (group_items all)) (join_next bs last ends)

@@ -14,7 +14,7 @@ use Rattle.laws_options.proofs.GfmTaskListItem.{no_check}
 abbrev standing_by : Bool → Standing
 standing_by first = record { top = false; first = first }
 
-module _ (r : Reading) (off : r.options.constructs.gfm_task_list_item ≡ false) where
+module _ (r : Reading) (off : r.parse.constructs.gfm_task_list_item ≡ false) where
   same_paragraph : (first : Bool) (ls : List BlockLine) → read_paragraph r first ls ≡ read_paragraph r false ls
   same_paragraph first ls =
       let content = without_indent (text_content r ls) in ap (checked_text r content) (no_check r off first (codes_of content))

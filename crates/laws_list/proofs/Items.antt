@@ -2,7 +2,7 @@
 use Rattle.std.proofs.Common.{◌≡◌, ℕ, suc, ◌+◌, List, [], ◌∷◌, None, Some, Option, Bool, true, false, true≢false, cond, ◌&&◌, ◌||◌, not, leb, refl, sym, ap}
 use Rattle.std.proofs.Common.{◌∙◌, length, drop, arith, inr, map}
 use Rattle.std.specs.List.{list_all, prefix_len}
-use Rattle.std.proofs.lemmas.Bool.{and_right, le-leb}
+use Rattle.std.proofs.lemmas.Bool.{and_right, le-leb, not-true}
 use Rattle.markdown_options.specs.declared.configuration.Constructs.{Constructs}
 use Rattle.markdown_options.specs.declared.beside.Kind.{Kind}
 use Rattle.markdown_options.specs.declared.beside.Kind.TheVariants.{Whitespace}
@@ -89,12 +89,8 @@ module _ (on : Constructs) (items : on.list_item ≡ true) where
       ≡ in_item (new (length codes) on true nothing (beside_line Whitespace line) codes)
   step_codes before line [] h = absurd (true≢false (sym h))
   step_codes before line (c ∷ cs) h =
-      new-listed before (suc (length (c ∷ cs))) c cs line (dark (is_white c) h)
+      new-listed before (suc (length (c ∷ cs))) c cs line (not-true (is_white c) h)
       ∙ ap in_item (new-suc on (beside_line Whitespace line) (length (c ∷ cs)) (c ∷ cs) (omega arith))
-    where
-      dark : (white : Bool) → not white ≡ true → white ≡ false
-      dark true h = absurd (true≢false (sym h))
-      dark false h = refl
 
   step-listed : (before : Kind) (line : TextLine) → Tabless line.content → begins_dark line.content ≡ true
       → step on before empty_tree (text_line (43 ∷ 32 ∷ line.content) line.ending) ≡ in_item (step on Whitespace empty_tree line)

@@ -6,6 +6,7 @@ use Rattle.definition_page.specs.GfmLabelStartFootnote.{Call, call_pieces}
 use Rattle.definition_page.specs.GfmFootnoteDefinition.{Footnote, section_pieces}
 use Rattle.definition_page.specs.Layout.{NamedCall, named_call, named_calls, first_calls, times, call_of, with_calls, content, contents, layout}
 use Rattle.definition_page.specs.Layout.{called_footnotes, page_layout}
+use Rattle.definition_page.proofs.PagePieces.{PiecesGood}
 use Rattle.definition_page.proofs.PlainLayout.{uncalled_page}
 
 -- options that print calls and the section of footnotes alike
@@ -40,8 +41,7 @@ IsUncalled (CountOf place label) = ⊥
 IsUncalled piece = Unit {0}
 
 abbrev pub AreUncalled : List Piece → Type 0
-AreUncalled [] = Unit {0}
-AreUncalled (p ∷ ps) = IsUncalled p × AreUncalled ps
+AreUncalled ps = PiecesGood IsUncalled ps
 
 -- they have no calls
 none_called : (ps : List Piece) → AreUncalled ps → named_calls ps ≡ []

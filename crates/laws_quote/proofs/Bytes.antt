@@ -1,13 +1,13 @@
 -- Squeezing bytes one after another.
-use Rattle.std.proofs.Common.{◌≡◌, ℕ, suc, ◌-◌, List, [], ◌∷◌, ◌++◌, Bool, true, false, Option, None, Some, cond, eqb, length, refl, sym, ap, subst, ◌∙◌}
-use Rattle.std.proofs.Common.{append_assoc, arith}
-use Rattle.std.specs.Prelude.{slice_get}
+use Rattle.std.proofs.Common.{◌≡◌, ℕ, ◌-◌, List, [], ◌∷◌, ◌++◌, Bool, true, false, Option, None, Some, cond, eqb, refl, sym, ap, subst, ◌∙◌}
+use Rattle.std.proofs.Common.{append_assoc}
 use Rattle.std.specs.Option.{option_map}
 use Rattle.markdown_options.specs.declared.line_ending.LineEnding.{LineEnding}
 use Rattle.markdown_options.specs.declared.line_ending.LineEnding.TheVariants.{CarriageReturnLineFeed, CarriageReturn, LineFeed}
 use Rattle.markdown_options.specs.LineEndings.{ending_bytes}
 use Rattle.definition_text.specs.Lines.{ends_line}
 use Rattle.definition_page.specs.Pieces.{ends_a_line, is_fresh}
+use Rattle.definition_page.proofs.LastByte.{last_from, last_is}
 use Rattle.laws_quote.specs.Squeeze.{SqueezeState, kept_and_run, run_before, run_after, with_byte, with_bytes, nothing_yet}
 
 -- ---- an ending
@@ -75,17 +75,6 @@ byte_fresh : (b : ℕ) (kept more : List ℕ) (run : Option (List ℕ)) (ends dr
     → IsFreshBy (cond ends (kept_and_run kept (option_map (λ run. run ++ b ∷ []) run)) (kept_and_run more (cond drops None (Some [])))).run ends
 byte_fresh b kept more run true drops = longer_fresh b run
 byte_fresh b kept more run false drops = other_fresh drops
-
--- the last byte, or the one before these
-abbrev last_from : Option ℕ → List ℕ → Option ℕ
-last_from last [] = last
-last_from last (b ∷ bs) = last_from (Some b) bs
-
-last_is : (b : ℕ) (bs : List ℕ) → slice_get (b ∷ bs) (length (b ∷ bs) - 1) ≡ last_from (Some b) bs
-last_is b [] = refl
-last_is b (c ∷ cs) =
-    let place : length (b ∷ c ∷ cs) - 1 ≡ suc (length (c ∷ cs) - 1) = omega arith in
-    ap (slice_get (b ∷ c ∷ cs)) place ∙ last_is c cs
 
 bytes_fresh : (bs : List ℕ) (s : SqueezeState) (last : Option ℕ) → IsFreshBy s.run (ends_a_line last)
     → IsFreshBy (with_bytes s bs).run (ends_a_line (last_from last bs))

@@ -1,12 +1,13 @@
 -- Bytes without tabs, and the codes of a line that has none.
-use Rattle.std.proofs.Common.{◌≡◌, ℕ, ◌+◌, List, [], ◌∷◌, ◌++◌, Some, false, cond, eqb, refl, ap, ◌∙◌, drop, arith}
+use Rattle.std.proofs.Common.{◌≡◌, ℕ, ◌+◌, List, [], ◌∷◌, ◌++◌, false, eqb, refl, ap, ◌∙◌, arith}
 use Rattle.std.specs.Prelude.{◌≢◌, replicate}
 use Rattle.std.specs.List.{All}
 use Rattle.std.proofs.lemmas.Bool.{cond-false, cond_both, ne_eqb, eqb-false}
 use Rattle.std.proofs.lemmas.List.Elements.{All-nil, All-cons, All-tail}
-use Rattle.markdown_options.specs.declared.line_ending.LineEnding.TheVariants.{CarriageReturnLineFeed, CarriageReturn, LineFeed}
-use Rattle.definition_text.specs.Lines.{TextLine, text_line, in_first_line, after_return, lines}
+use Rattle.definition_text.specs.Lines.{TextLine, lines}
 use Rattle.definition_text.specs.Columns.{codes_from, tab_column, columns_after_tab}
+use Rattle.definition_text.proofs.Each.{Each}
+use Rattle.definition_page.proofs.LineReads.{LinesGood, MayBegin, lines_good}
 use Rattle.laws_quote.specs.Quoted.{is_last_of_ending, with_mark, marked_after_endings, quote_lines}
 
 -- no byte is a tab
@@ -34,32 +35,14 @@ codes_from-Tabless column (b ∷ bs) p =
 
 -- no line holds a tab
 abbrev pub LinesTabless : List TextLine → Type 0
-LinesTabless [] = Unit {0}
-LinesTabless (line ∷ ls) = Tabless line.content × LinesTabless ls
+LinesTabless ls = LinesGood Tabless ls
 
-in_first_line_tabless : (b : ℕ) (ls : List TextLine) → eqb b 9 ≡ false → LinesTabless ls → LinesTabless (in_first_line b ls)
-in_first_line_tabless b [] e p = ((e, tt), tt)
-in_first_line_tabless b (line ∷ ls) e p = ((e, p.0), p.1)
-
-others_tabless : (ls : List TextLine) → LinesTabless ls → LinesTabless (drop 1 ls)
-others_tabless [] p = tt
-others_tabless (line ∷ ls) p = p.1
-
-after_return_tabless : (bs : List ℕ) (ls : List TextLine) → LinesTabless ls → LinesTabless (after_return bs ls)
-after_return_tabless [] ls p = (tt, p)
-after_return_tabless (b ∷ bs) ls p =
-    cond_both (eqb b 10) (text_line [] (Some CarriageReturnLineFeed) ∷ drop 1 ls) (text_line [] (Some CarriageReturn) ∷ ls) LinesTabless
-    (λ _. (tt, others_tabless ls p)) (λ _. (tt, p))
+each_tabless : (text : List ℕ) → Tabless text → Each (MayBegin Tabless) text
+each_tabless [] p = tt
+each_tabless (b ∷ bs) p = (λ _ more q. (p.0, q), each_tabless bs p.1)
 
 pub lines_tabless : (text : List ℕ) → Tabless text → LinesTabless (lines text)
-lines_tabless [] p = tt
-lines_tabless (b ∷ bs) p =
-    let ls = lines bs in
-    let q = lines_tabless bs p.1 in
-    cond_both (eqb b 10) (text_line [] (Some LineFeed) ∷ ls) (cond (eqb b 13) (after_return bs ls) (in_first_line b ls)) LinesTabless
-    (λ _. (tt, q))
-    (λ _. cond_both (eqb b 13) (after_return bs ls) (in_first_line b ls) LinesTabless (λ _. after_return_tabless bs ls q)
-    (λ _. in_first_line_tabless b ls p.0 q))
+lines_tabless text p = lines_good Tabless tt text (each_tabless text p)
 
 -- ---- such a text with `> ` before every line has no tab either
 

@@ -16,12 +16,13 @@ use Rattle.definition_block.specs.CodeFenced.{fence_start}
 use Rattle.definition_block.specs.MathFlow.{math_start}
 use Rattle.definition_block.specs.HeadingAtx.{Atx, begins_apart, atx_of, heading_atx}
 use Rattle.definition_block.specs.HeadingSetext.{underline, underline_of}
-use Rattle.definition_block.specs.Tree.{LeafBlock, Block, Blocks, join, blocks}
-use Rattle.definition_block.proofs.BlockReads.{Property, LeafBlockGood, BlockGood, BlocksGood, TextLineGood, AtxGood, RankGood, Reads, join_good, blocks_good}
+use Rattle.definition_block.specs.Tree.{LeafBlock, Block, Blocks, blocks}
+use Rattle.definition_block.proofs.BlockReads.{Property, LeafBlockGood, BlockGood, BlocksGood, TextLineGood, AtxGood, RankGood, Reads, blocks_good}
 use Rattle.laws_safe_page.proofs.Each.{Each, WhereSome}
 use Rattle.laws_safe_page.proofs.BlockAdds.{is_rank}
 
-abbrev ranks : Property
+-- headings have the ranks 1 to 6
+abbrev pub ranks : Property
 ranks =
     record {
       line = λ line. Unit {0};
@@ -43,9 +44,6 @@ IsRanked b = BlockGood ranks b
 
 abbrev pub AreRanked : Blocks → Type 0
 AreRanked bs = BlocksGood ranks bs
-
-pub ranked_join : (bs others : Blocks) → AreRanked bs → AreRanked others → AreRanked (join bs others)
-ranked_join bs others p q = join_good ranks bs others p q
 
 -- ---- ranks
 

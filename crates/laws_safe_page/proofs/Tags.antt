@@ -1,7 +1,7 @@
 -- Tags, as they are printed, are tags of a safe page.
 use Rattle.std.proofs.Common.{◌≡◌, ℕ, true, eqb, not, ◌||◌, List, [], ◌∷◌, ◌++◌, codes, sym, refl, ap, ◌∙◌, subst, append_assoc}
 use Rattle.std.specs.List.{flat_map, list_all}
-use Rattle.std.proofs.lemmas.Bool.{and_parts, and_from, or_parts}
+use Rattle.std.proofs.lemmas.Bool.{and_parts, and_from, or_parts, not-true}
 use Rattle.definition_page.specs.Tags.{said_bytes, Attribute, attribute_bytes, Tag, tag_bytes, start_tag, end_tag, void_tag}
 use Rattle.html_safe_page.specs.Table.{Row, start_rows, void_rows}
 use Rattle.html_safe_page.specs.SafePage as safe
@@ -12,7 +12,7 @@ use Rattle.html_safe_page.proofs.Spelled.{is_word_byte, is_word, word_bytes, is_
 use Rattle.html_safe_page.proofs.Pages.{start_worded, void_worded}
 use Rattle.html_safe_page.proofs.Sound.{tag_append}
 use Rattle.html_safe_page.proofs.Closing.{closed}
-use Rattle.laws_safe_page.proofs.Values.{has_no_nul, no_nul_append, not_true, IsText}
+use Rattle.laws_safe_page.proofs.Values.{has_no_nul, no_nul_append, IsText}
 
 -- the value of each attribute is a text
 abbrev pub HaveTexts : List Attribute → Type 0
@@ -63,7 +63,7 @@ word_no_nul : (word : List ℕ) → list_all is_word_byte word ≡ true → has_
 word_no_nul [] h = refl
 word_no_nul (b ∷ bs) h =
     let parts = and_parts (is_word_byte b) (list_all is_word_byte bs) h in
-    let other = not_true (eqb b 32 || eqb b 61 || eqb b 47 || eqb b 0) (and_parts (is_plain (kind b)) _ parts.0).1 in
+    let other = not-true (eqb b 32 || eqb b 61 || eqb b 47 || eqb b 0) (and_parts (is_plain (kind b)) _ parts.0).1 in
     and_from (not (eqb b 0)) (has_no_nul bs) (ap not (or_parts (eqb b 32 || eqb b 61 || eqb b 47) (eqb b 0) other).1) (word_no_nul bs parts.1)
 
 name_no_nul : (name : List ℕ) → is_word name ≡ true → has_no_nul name ≡ true

@@ -3,7 +3,7 @@ use Rattle.std.proofs.Common.{◌≡◌, ℕ, zero, suc, ◌/◌, ◌%◌, Bool,
 use Rattle.std.proofs.Common.{inr, arith}
 use Rattle.std.specs.List.{flat_map, list_all}
 use Rattle.std.specs.Fmt.{digit_glyph, digits, digits_onto, decimal}
-use Rattle.std.proofs.lemmas.Bool.{cond_both, cond-false, false≢true, and_parts, and_from, or_cases, eqb-true}
+use Rattle.std.proofs.lemmas.Bool.{cond_both, cond-false, and_parts, and_from, or_cases, eqb-true, not-true}
 use Rattle.std.proofs.lemmas.Bool.Decides.{nat_tests}
 use Rattle.std.proofs.lemmas.List.Folds.{list_all-append}
 use Rattle.definition_text.specs.Content.{is_eol}
@@ -25,16 +25,12 @@ no_nul_append a b p q = list_all-append (λ b. not (eqb b 0)) a b ∙ and_from (
 pub no_nul_parts : (a b : List ℕ) → has_no_nul (a ++ b) ≡ true → (has_no_nul a ≡ true) × (has_no_nul b ≡ true)
 no_nul_parts a b h = and_parts (has_no_nul a) (has_no_nul b) (sym (list_all-append (λ b. not (eqb b 0)) a b) ∙ h)
 
-pub not_true : (t : Bool) → not t ≡ true → t ≡ false
-not_true true h = absurd (false≢true h)
-not_true false h = refl
-
 -- bytes without NUL are printed as they are
 pub as_it_is : (bytes : List ℕ) → has_no_nul bytes ≡ true → plain bytes ≡ bytes
 as_it_is [] h = refl
 as_it_is (b ∷ bs) h =
     let parts = and_parts (not (eqb b 0)) (has_no_nul bs) h in
-    ap (λ x. x ++ plain bs) (cond-false (eqb b 0) replacement_character (b ∷ []) (not_true (eqb b 0) parts.0)) ∙ ap (λ x. b ∷ x) (as_it_is bs parts.1)
+    ap (λ x. x ++ plain bs) (cond-false (eqb b 0) replacement_character (b ∷ []) (not-true (eqb b 0) parts.0)) ∙ ap (λ x. b ∷ x) (as_it_is bs parts.1)
 
 -- and so are texts
 byte_no_nul : (b : ℕ) → has_no_nul (encoded_byte b) ≡ true

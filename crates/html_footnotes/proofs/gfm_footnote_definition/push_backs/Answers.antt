@@ -1,6 +1,8 @@
 use Rattle.std.proofs.Common.{◌≡◌, ◌++◌, ◌+◌, suc, string_bytes, sym, ap, ◌∙◌, arith}
-use Rattle.html_bytes.specs.GfmFootnoteDefinition.{space_after, back_html, backs_html}
+use Rattle.definition_page.specs.GfmFootnoteDefinition.{space_after, back_pieces, backs_pieces}
+use Rattle.html_bytes.specs.Pieces.{pieces_html}
 use Rattle.html_footnotes.proofs.Parts.{three}
+use Rattle.html_footnotes.proofs.Printed.{one_more}
 use Rattle.html_footnotes.proofs.gfm_footnote_definition.push_backs.Goals as goal
 
 pub loop-count-preserved : goal.loop-count-preserved
@@ -9,9 +11,11 @@ loop-count-preserved g c =
     let options = c.args.compile.now in
     let label = c.args.label.now in
     let i = c.loop-count.count in
-    let next : i + 1 ≡ suc i = omega arith in
+    let next : suc i ≡ i + 1 = omega arith in
     c.in_ok-push_back.ensures
-    ∙ ap (λ x. x ++ back_html options label (i + 1)) (c.in_ok-push_space.ensures ∙ ap (λ x. x ++ space_after i) c.loop-count.invariant)
-    ∙ three start (backs_html options label i) (space_after i) (back_html options label (i + 1))
-    ∙ ap (λ n. start ++ (backs_html options label i ++ space_after i ++ back_html options label n)) next
-    ∙ sym (ap (λ n. start ++ backs_html options label n) next)
+    ∙ ap (λ x. x ++ pieces_html (back_pieces options label (i + 1)))
+    (c.in_ok-push_space.ensures ∙ ap (λ x. x ++ pieces_html (space_after i)) c.loop-count.invariant)
+    ∙ three start (pieces_html (backs_pieces options label i)) (pieces_html (space_after i)) (pieces_html (back_pieces options label (i + 1)))
+    ∙ sym (ap (λ n. start ++ (pieces_html (backs_pieces options label i) ++ pieces_html (space_after i) ++ pieces_html (back_pieces options label n))) next)
+    ∙ sym (ap (λ x. start ++ x) (one_more options label i))
+    ∙ ap (λ n. start ++ pieces_html (backs_pieces options label n)) next

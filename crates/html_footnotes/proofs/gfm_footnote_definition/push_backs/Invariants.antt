@@ -1,7 +1,8 @@
 use Rattle.std.proofs.Common.{◌≡◌, ◌++◌, string_bytes}
-use Rattle.html_bytes.specs.GfmFootnoteDefinition.{backs_html}
+use Rattle.definition_page.specs.GfmFootnoteDefinition.{backs_pieces}
+use Rattle.html_bytes.specs.Pieces.{pieces_html}
 use Rattle.html_footnotes.proofs.gfm_footnote_definition.push_backs.Given as goal
 
 -- the ways back so far are printed
 abbrev pub invariant-loop-count : goal.invariant-loop-count
-invariant-loop-count g l = string_bytes l.out ≡ string_bytes l.initial.out ++ backs_html l.compile l.label l.count
+invariant-loop-count g l = string_bytes l.out ≡ string_bytes l.initial.out ++ pieces_html (backs_pieces l.compile l.label l.count)

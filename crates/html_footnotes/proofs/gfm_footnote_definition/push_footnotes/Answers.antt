@@ -5,9 +5,8 @@ use Rattle.std.proofs.lemmas.List.Sums.{fold-append}
 use Rattle.std.proofs.lemmas.List.Concat.{flat_map-append}
 use Rattle.markdown_options.specs.LineEndings.{ending_bytes}
 use Rattle.markdown_options.specs.declared.configuration.CompileOptions.{CompileOptions}
-use Rattle.definition_page.specs.GfmFootnoteDefinition.{Footnote}
-use Rattle.html_bytes.specs.Pieces.{print}
-use Rattle.html_bytes.specs.GfmFootnoteDefinition.{footnote_pieces, footnotes_pieces}
+use Rattle.definition_page.specs.Pieces.{print}
+use Rattle.definition_page.specs.GfmFootnoteDefinition.{Footnote, footnote_pieces, footnotes_pieces}
 use Rattle.html_footnotes.specs.Footnotes.{note_view}
 use Rattle.html_footnotes.proofs.gfm_footnote_definition.push_footnotes.Goals as goal
 

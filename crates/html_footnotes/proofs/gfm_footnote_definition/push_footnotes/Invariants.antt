@@ -1,8 +1,8 @@
 use Rattle.std.proofs.Common.{◌≡◌, map, take, string_bytes}
 use Rattle.std.specs.List.{fold}
 use Rattle.markdown_options.specs.LineEndings.{ending_bytes}
-use Rattle.html_bytes.specs.Pieces.{print}
-use Rattle.html_bytes.specs.GfmFootnoteDefinition.{footnotes_pieces}
+use Rattle.definition_page.specs.Pieces.{print}
+use Rattle.definition_page.specs.GfmFootnoteDefinition.{footnotes_pieces}
 use Rattle.html_footnotes.specs.Footnotes.{note_view}
 use Rattle.html_footnotes.proofs.gfm_footnote_definition.push_footnotes.Given as goal
 

@@ -1,20 +1,22 @@
-use Rattle.std.proofs.Common.{◌≡◌, ◌++◌, string_bytes, codes, ap, ◌∙◌, subst}
+use Rattle.std.proofs.Common.{◌≡◌, ◌++◌, string_bytes, codes, sym, ap, ◌∙◌, subst}
 use Rattle.std.specs.Prelude.{OnOk}
 use Rattle.definition_text.specs.Encode.{encode}
 use Rattle.definition_page.specs.GfmLabelStartFootnote.{text_or}
-use Rattle.definition_page.specs.GfmFootnoteDefinition.{section_heading_name}
-use Rattle.html_bytes.specs.GfmFootnoteDefinition.{section_heading_tag}
+use Rattle.definition_page.specs.Tags.{start_tag}
+use Rattle.definition_page.specs.GfmFootnoteDefinition.{section_heading_name, section_heading_tag}
 use Rattle.html_footnotes.proofs.Parts.{five_prints, on_ok}
+use Rattle.html_footnotes.proofs.Printed.{heading_said}
 use Rattle.html_footnotes.proofs.gfm_footnote_definition.push_heading.Goals as goal
 
 pub returns : goal.returns
 returns g c =
     let options = c.args.compile.now in
-    let tag = section_heading_tag options in
+    let tag = start_tag (section_heading_tag (section_heading_name options) options.gfm_footnote_label_attributes) in
     let text = text_or options.gfm_footnote_label (codes "Footnotes") in
     let name = section_heading_name options in
     let all =
     five_prints (string_bytes c.args.out.now) tag (encode text) (codes "</") name (codes ">") _ _ _ _ c.in_ok-push_heading_tag.ensures
     (c.in_ok-push_encoded.ensures ∙ ap (λ t. string_bytes c.push_heading_tag.new.out ++ encode t) c.text_or.ensures)
-    c.in_ok-push_str.ensures.bytes c.in_ok-push_heading_name.ensures in
+    c.in_ok-push_str.ensures.bytes c.in_ok-push_heading_name.ensures
+    ∙ sym (ap (λ x. string_bytes c.args.out.now ++ x) (heading_said options)) in
     subst (λ x. OnOk c.push_str-2.result (string_bytes c.push_str-2.new.self ≡ x)) all (on_ok c.push_str-2.result _ _ _ c.push_str-2.ensures.bytes)

@@ -2,7 +2,7 @@ use Rattle.std.proofs.Common.{◌≡◌, [], ◌∷◌, List, map, length, false
 use Rattle.std.proofs.lemmas.Bool.{false≢true}
 use Rattle.markdown_options.specs.LineEndings.{ending_bytes}
 use Rattle.markdown_options.specs.declared.configuration.CompileOptions.{CompileOptions}
-use Rattle.html_bytes.specs.GfmFootnoteDefinition.{section_pieces, listed_pieces}
+use Rattle.definition_page.specs.GfmFootnoteDefinition.{section_pieces, listed_pieces}
 use Rattle.html_footnotes.specs.declared.gfm_footnote_definition.Footnote.{Footnote}
 use Rattle.html_footnotes.specs.Footnotes.{LaysOut, note_view}
 use Rattle.html_footnotes.proofs.gfm_footnote_definition.push_section.Goals as goal

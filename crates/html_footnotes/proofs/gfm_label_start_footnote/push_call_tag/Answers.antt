@@ -1,6 +1,9 @@
-use Rattle.std.proofs.Common.{◌++◌, string_bytes, codes, ap, ◌∙◌}
-use Rattle.html_bytes.specs.GfmLabelStartFootnote.{footnote_id, call_id}
+use Rattle.std.proofs.Common.{◌++◌, string_bytes, codes, sym, ap, ◌∙◌}
+use Rattle.definition_page.specs.GfmLabelStartFootnote.{footnote_id, call_id}
+use Rattle.html_bytes.specs.InlineHtml.{say_bytes}
+use Rattle.html_footnotes.specs.Footnotes.{call_view}
 use Rattle.html_footnotes.proofs.Parts.{five}
+use Rattle.html_footnotes.proofs.Printed.{call_printed}
 use Rattle.html_footnotes.proofs.gfm_label_start_footnote.push_call_tag.Goals as goal
 
 pub returns : goal.returns
@@ -8,9 +11,9 @@ returns g c =
     let start = string_bytes c.args.out.now in
     let options = c.args.compile.now in
     let label = c.args.call.label.now in
-    let id = footnote_id options label in
-    let call = call_id options label c.args.call.count in
-    let link = codes "<sup><a href=\"#" in
+    let id = say_bytes (footnote_id options label) in
+    let call = say_bytes (call_id options label c.args.call.count) in
+    let link = codes "<a href=\"#" in
     let between = codes "\" id=\"" in
     let end = codes "\" data-footnote-ref=\"\" aria-describedby=\"footnote-label\">" in
     c.in_ok-push_str-3.ensures.bytes
@@ -19,3 +22,4 @@ returns g c =
     ∙ ap (λ x. x ++ call) (c.in_ok-push_str-2.ensures.bytes ∙ ap (λ x. x ++ between)
     (c.in_ok-push_footnote_id.ensures ∙ ap (λ x. x ++ id) c.in_ok-push_str.ensures.bytes)))
     ∙ five start link id between call end
+    ∙ sym (ap (λ x. start ++ x) (call_printed options (call_view c.args.call)))

@@ -1,0 +1,230 @@
+-- If each piece that a page can print is good, so are all its pieces.
+use Rattle.std.proofs.Common.{ℕ, Bool, false, ◌||◌, not, if◌then◌else◌, List, [], ◌∷◌, ◌++◌, map, Option, None, Some, codes}
+use Rattle.std.specs.List.{flat_map}
+use Rattle.std.proofs.lemmas.Bool.{cond_both}
+use Rattle.markdown_options.specs.declared.align_kind.AlignKind.{AlignKind}
+use Rattle.markdown_options.specs.declared.line_ending.LineEnding.{LineEnding}
+use Rattle.definition_text.specs.BlockLines.{BlockLine}
+use Rattle.definition_text.specs.Columns.{Code as ContentCode}
+use Rattle.definition_text.proofs.Each.{Each, each-append, each_map, each_flat_map}
+use Rattle.definition_inline.specs.Inline.{InlineLeaf, Code, Math, Autolink, Literal, EscapedBreak, TrailingBreak, TaskCheck, Html as RawHtml}
+use Rattle.definition_inline.specs.Inline.{Link, Image, Inline, Leaf as Part, Span, Linked, Call, Inlines, Nil as NoText, Cons as Text}
+use Rattle.definition_inline.specs.LabelMatch.{normal_label, first_match}
+use Rattle.definition_inline.specs.Targets.{leads_to}
+use Rattle.definition_page.specs.Tags.{PrintedPart, Words, Tag, tag, bare_tag}
+use Rattle.definition_page.specs.Pieces.{Piece, Open, Close, Void, Says, Eol, Fresh, NoteStart, NoteEnd}
+use Rattle.definition_page.specs.InlinePieces.{Meaning, element, html_says, link_tag, span_name, call_at, count_at, part_counts, inline_counts}
+use Rattle.definition_page.specs.InlinePieces.{address, literal_address, address_tag, math_tag, leaf_pieces, part_pieces, inline_pieces}
+use Rattle.definition_page.specs.GfmTable.{TableRow, Table as TableOf, align_attributes, cell_pieces, cells_pieces, row_pieces, ending_piece, endings_pieces}
+use Rattle.definition_page.specs.GfmTable.{body_row_pieces, head_pieces, body_pieces, table_pieces}
+use Rattle.definition_page.specs.Page.{PageLeaf, Paragraph, Heading, Break, IndentedCode, FencedCode, Html, Table, Definition}
+use Rattle.definition_page.specs.Page.{PageContainer, Quote, Item, Footnote, Block, Leaf, Holds, ItemList, Ending, Blank, Blocks, Nil, Cons}
+use Rattle.definition_page.specs.BlockPieces.{Place, at_top, inside, code_line, html_line, says, heading_name, info_attributes, list_tag, is_silent}
+use Rattle.definition_page.specs.BlockPieces.{last_visible, ends_plainly, fresh_unless, fenced_pieces, leaf_block_pieces, block_pieces, children_pieces}
+
+module _ (good : Piece → Type 0) where
+  abbrev pub PiecesGood : List Piece → Type 0
+  PiecesGood ps = Each good ps
+
+  -- what is good: tags, what is said, endings, and what each label calls
+  pub record Prints (m : Meaning) : Type 0 where
+    pub opens : (t : Tag) → good (Open t)
+    pub closes : (name : List ℕ) → good (Close name)
+    pub voids : (t : Tag) → good (Void t)
+    pub said : (part : PrintedPart) → good (Says part)
+    pub eol : good Eol
+    pub fresh : good Fresh
+    pub calls : (label : List ContentCode) → PiecesGood (call_at (first_match label m.footnotes) (normal_label label))
+    pub counts : (label : List ContentCode) → PiecesGood (count_at (first_match label m.footnotes) (normal_label label))
+
+  -- which blocks there are: if there is a footnote among them, its start and its end are good
+  pub record Holding (There : Blocks → Type 0) : Type 0 where
+    pub others : (b : Block) (bs : Blocks) → There (Cons b bs) → There bs
+    pub kids : (c : PageContainer) (kids bs : Blocks) → There (Cons (Holds c kids) bs) → There kids
+    pub items : (number : Option ℕ) (loose : Bool) (items bs : Blocks) → There (Cons (ItemList number loose items) bs) → There items
+    pub note : (label : List ContentCode) (kids bs : Blocks) → There (Cons (Holds (Footnote label) kids) bs) → good NoteStart × good NoteEnd
+
+  -- any blocks, where the start and the end of a footnote are good
+  pub any_blocks : good NoteStart → good NoteEnd → Holding (λ bs. Unit {0})
+  any_blocks start end =
+      record {
+        others = λ b bs h. tt;
+        kids = λ c kids bs h. tt;
+        items = λ number loose items bs h. tt;
+        note = λ label kids bs h. (start, end);
+      }
+
+  module _ (m : Meaning) (prints : Prints m) where
+    -- ---- lists of pieces
+
+    both_good : (ps qs : List Piece) → PiecesGood ps → PiecesGood qs → PiecesGood (ps ++ qs)
+    both_good ps qs h k = each-append good ps qs h k
+
+    says_good : (parts : List PrintedPart) → PiecesGood (map Says parts)
+    says_good parts = each_map good Says parts prints.said
+
+    element_good : (t : Tag) (ps : List Piece) → PiecesGood ps → PiecesGood (element t ps)
+    element_good t ps h = (prints.opens t, both_good ps (Close t.name ∷ []) h (prints.closes t.name, tt))
+
+    fresh_good : (said : Bool) → PiecesGood (fresh_unless said)
+    fresh_good said = cond_both said [] (Fresh ∷ []) PiecesGood (λ _. tt) (λ _. (prints.fresh, tt))
+
+    -- pieces that end on a line of their own
+    ended_good : (ps : List Piece) → PiecesGood ps → PiecesGood (ps ++ Fresh ∷ [])
+    ended_good ps h = both_good ps (Fresh ∷ []) h (prints.fresh, tt)
+
+    -- ---- inline structure
+
+    mutual
+      part_counts_good : (i : Inline) → PiecesGood (part_counts m i)
+      part_counts_good (Part part) = tt
+      part_counts_good (Span kind kids) = counts_good kids
+      part_counts_good (Linked kind target kids) = counts_good kids
+      part_counts_good (Call label) = prints.counts label
+
+      counts_good : (is : Inlines) → PiecesGood (inline_counts m is)
+      counts_good NoText = tt
+      counts_good (Text i is) = both_good (part_counts m i) (inline_counts m is) (part_counts_good i) (counts_good is)
+
+    said_good : (t : Tag) (text : List ℕ) → PiecesGood (element t (Says (Words text) ∷ []))
+    said_good t text = element_good t (Says (Words text) ∷ []) (prints.said (Words text), tt)
+
+    leaf_good : (part : InlineLeaf) → PiecesGood (leaf_pieces m.compile part)
+    leaf_good (RawHtml html) = says_good (html_says m.compile html)
+    leaf_good (Code text) = said_good (bare_tag (codes "code")) text
+    leaf_good (Math text) = said_good math_tag text
+    leaf_good (Autolink is_email text) = said_good (address_tag m.compile (address is_email text)) text
+    leaf_good (Literal kind text) = said_good (address_tag m.compile (literal_address kind text)) text
+    leaf_good EscapedBreak = (prints.voids _, tt)
+    leaf_good TrailingBreak = (prints.voids _, tt)
+    leaf_good (TaskCheck done) = (prints.voids _, tt)
+    leaf_good part = (prints.said _, tt)
+
+    mutual
+      part_good : (i : Inline) → PiecesGood (part_pieces m i)
+      part_good (Part part) = leaf_good part
+      part_good (Span kind kids) = element_good (bare_tag (span_name kind)) (inline_pieces m kids) (inlines_good kids)
+      part_good (Linked Link target kids) = element_good (link_tag m (leads_to m.definition target)) (inline_pieces m kids) (inlines_good kids)
+      part_good (Linked Image target kids) = (prints.voids _, counts_good kids)
+      part_good (Call label) = prints.calls label
+
+      inlines_good : (is : Inlines) → PiecesGood (inline_pieces m is)
+      inlines_good NoText = tt
+      inlines_good (Text i is) = both_good (part_pieces m i) (inline_pieces m is) (part_good i) (inlines_good is)
+
+    -- ---- tables
+
+    cell_good : (name : List ℕ) (align : AlignKind) (is : Inlines) → PiecesGood (cell_pieces m name align is)
+    cell_good name align is = (prints.fresh, element_good (tag name (align_attributes align)) (inline_pieces m is) (inlines_good is))
+
+    cells_good : (name : List ℕ) (aligns : List AlignKind) (cells : List Inlines) → PiecesGood (cells_pieces m name aligns cells)
+    cells_good name [] cells = each_flat_map good (inline_counts m) cells counts_good
+    cells_good name (align ∷ aligns) [] =
+        both_good (cell_pieces m name align NoText) (cells_pieces m name aligns []) (cell_good name align NoText) (cells_good name aligns [])
+    cells_good name (align ∷ aligns) (c ∷ cs) =
+        both_good (cell_pieces m name align c) (cells_pieces m name aligns cs) (cell_good name align c) (cells_good name aligns cs)
+
+    row_good : (name : List ℕ) (aligns : List AlignKind) (row : TableRow) → PiecesGood (row_pieces m name aligns row)
+    row_good name aligns row =
+        let cells = cells_pieces m name aligns row.cells in
+        (prints.fresh, element_good (bare_tag (codes "tr")) (cells ++ Fresh ∷ []) (ended_good cells (cells_good name aligns row.cells)))
+
+    endings_good : (endings : List LineEnding) → PiecesGood (endings_pieces endings)
+    endings_good endings = each_map good ending_piece endings (λ ending. prints.said _)
+
+    body_row_good : (aligns : List AlignKind) (row : TableRow) → PiecesGood (body_row_pieces m aligns row)
+    body_row_good aligns row =
+        both_good (row_pieces m (codes "td") aligns row) (endings_pieces row.endings) (row_good (codes "td") aligns row) (endings_good row.endings)
+
+    body_good : (aligns : List AlignKind) (endings : List LineEnding) (rows : List TableRow) → PiecesGood (body_pieces m aligns endings rows)
+    body_good aligns endings [] = tt
+    body_good aligns endings (row ∷ rows) =
+        let all = flat_map (body_row_pieces m aligns) (row ∷ rows) in
+        both_good (endings_pieces endings) (element (bare_tag (codes "tbody")) (all ++ Fresh ∷ [])) (endings_good endings)
+        (element_good (bare_tag (codes "tbody")) (all ++ Fresh ∷ [])
+        (ended_good all (each_flat_map good (body_row_pieces m aligns) (row ∷ rows) (body_row_good aligns))))
+
+    head_good : (aligns : List AlignKind) (head : TableRow) → PiecesGood (head_pieces m aligns head)
+    head_good aligns head =
+        let row = row_pieces m (codes "th") aligns head in
+        let ends = endings_pieces head.endings in
+        element_good (bare_tag (codes "thead")) (row ++ ends ++ Fresh ∷ [])
+        (ended_good (row ++ ends) (both_good row ends (row_good (codes "th") aligns head) (endings_good head.endings)))
+
+    table_good : (t : TableOf) → PiecesGood (table_pieces m t)
+    table_good t =
+        let head = head_pieces m t.aligns t.head in
+        let body = body_pieces m t.aligns t.endings t.rows in
+        let rows = both_good head body (head_good t.aligns t.head) (body_good t.aligns t.endings t.rows) in
+        (prints.fresh, element_good (bare_tag (codes "table")) (Fresh ∷ head ++ body ++ Fresh ∷ []) (prints.fresh, ended_good (head ++ body) rows))
+
+    -- ---- leaf blocks
+
+    fenced_good : (place : Place) (is_closed : Bool) (ls : List BlockLine) → PiecesGood (fenced_pieces place is_closed ls)
+    fenced_good place is_closed [] = tt
+    fenced_good place is_closed (line ∷ others) =
+        let code = flat_map code_line (line ∷ others) in
+        let last = if place.top || is_closed then [] else Eol ∷ [] in
+        ended_good (says code ++ last)
+        (both_good (says code) last (says_good code) (cond_both (place.top || is_closed) [] (Eol ∷ []) PiecesGood (λ _. tt) (λ _. (prints.eol, tt))))
+
+    leaf_block_good : (place : Place) (leaf : PageLeaf) → PiecesGood (leaf_block_pieces m place leaf)
+    leaf_block_good place (Paragraph is) =
+        let text = inline_pieces m is in
+        cond_both place.tight text (Fresh ∷ element (bare_tag (codes "p")) text) PiecesGood (λ _. inlines_good is)
+        (λ _. (prints.fresh, element_good (bare_tag (codes "p")) text (inlines_good is)))
+    leaf_block_good place (Heading rank is) = (prints.fresh, element_good (bare_tag (heading_name rank)) (inline_pieces m is) (inlines_good is))
+    leaf_block_good place Break = (prints.fresh, (prints.voids _, tt))
+    leaf_block_good place (IndentedCode ls) =
+        let lines = says (flat_map code_line ls) ++ Fresh ∷ [] in
+        let code = element_good (bare_tag (codes "code")) lines (ended_good (says (flat_map code_line ls)) (says_good (flat_map code_line ls))) in
+        (prints.fresh, element_good (bare_tag (codes "pre")) (element (bare_tag (codes "code")) lines) code)
+    leaf_block_good place (FencedCode info is_closed ls) =
+        let lines = fenced_pieces place is_closed ls in
+        let code = tag (codes "code") (info_attributes info) in
+        let pre = element_good (bare_tag (codes "pre")) (element code lines) (element_good code lines (fenced_good place is_closed ls)) in
+        (prints.fresh, both_good (element (bare_tag (codes "pre")) (element code lines)) (fresh_unless is_closed) pre (fresh_good is_closed))
+    leaf_block_good place (Html ls) = (prints.fresh, says_good (flat_map (html_line m.compile) ls))
+    leaf_block_good place (Table t) = table_good t
+    leaf_block_good place Definition = tt
+
+    -- ---- blocks
+
+    module _ (There : Blocks → Type 0) (holding : Holding There) where
+      mutual
+        block_good : (place : Place) (before : Option Block) (b : Block) (bs : Blocks) → There (Cons b bs) → PiecesGood (block_pieces m place before b)
+        block_good place before (Leaf leaf) bs h = leaf_block_good place leaf
+        block_good place before (Holds Quote kids) bs h =
+            let inner = children_pieces m (inside false) None kids in
+            let all = children_good (inside false) None kids (holding.kids Quote kids bs h) in
+            (prints.fresh, element_good (bare_tag (codes "blockquote")) (inner ++ Fresh ∷ []) (ended_good inner all))
+        block_good place before (Holds Item kids) bs h =
+            let inner = children_pieces m (inside place.tight) None kids in
+            let plainly = ends_plainly place.tight (last_visible None kids) in
+            let all = children_good (inside place.tight) None kids (holding.kids Item kids bs h) in (
+              prints.fresh,
+              element_good (bare_tag (codes "li")) (inner ++ fresh_unless plainly)
+                  (both_good inner (fresh_unless plainly) all (fresh_good plainly)),
+            )
+        block_good place before (Holds (Footnote label) kids) bs h =
+            let inner = children_pieces m (inside false) None kids in
+            let note = holding.note label kids bs h in
+            let all = children_good (inside false) None kids (holding.kids (Footnote label) kids bs h) in
+            (note.0, both_good inner (NoteEnd ∷ []) all (note.1, tt))
+        block_good place before (ItemList number loose items) bs h =
+            let inner = children_pieces m (inside (not loose)) None items in
+            let all = children_good (inside (not loose)) None items (holding.items number loose items bs h) in
+            (prints.fresh, element_good (list_tag number) (inner ++ Eol ∷ []) (both_good inner (Eol ∷ []) all (prints.eol, tt)))
+        block_good place before (Ending ending) bs h =
+            cond_both (is_silent place before) [] _ PiecesGood (λ _. tt) (λ _. (prints.said _, tt))
+        block_good place before (Blank ending) bs h = tt
+
+        pub children_good : (place : Place) (before : Option Block) (bs : Blocks) → There bs → PiecesGood (children_pieces m place before bs)
+        children_good place before Nil h = tt
+        children_good place before (Cons b bs) h =
+            both_good (block_pieces m place before b) (children_pieces m place (Some b) bs) (block_good place before b bs h)
+            (children_good place (Some b) bs (holding.others b bs h))
+
+      -- blocks that end on a line of their own or not, such as those of a document
+      pub page_good : (bs : Blocks) (said : Bool) → There bs → PiecesGood (children_pieces m at_top None bs ++ fresh_unless said)
+      page_good bs said h = both_good (children_pieces m at_top None bs) (fresh_unless said) (children_good at_top None bs h) (fresh_good said)
