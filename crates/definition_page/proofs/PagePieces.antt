@@ -7,14 +7,14 @@ use Rattle.markdown_options.specs.declared.line_ending.LineEnding.{LineEnding}
 use Rattle.definition_text.specs.BlockLines.{BlockLine}
 use Rattle.definition_text.specs.Columns.{Code as ContentCode}
 use Rattle.definition_text.proofs.Each.{Each, each-append, each_map, each_flat_map}
-use Rattle.definition_inline.specs.Inline.{InlineLeaf, Code, Math, Autolink, Literal, EscapedBreak, TrailingBreak, TaskCheck, Html as RawHtml}
+use Rattle.definition_inline.specs.Inline.{InlineLeaf, Html as RawHtml}
 use Rattle.definition_inline.specs.Inline.{Link, Image, Inline, Leaf as Part, Span, Linked, Call, Inlines, Nil as NoText, Cons as Text}
 use Rattle.definition_inline.specs.LabelMatch.{normal_label, first_match}
 use Rattle.definition_inline.specs.Targets.{leads_to}
-use Rattle.definition_page.specs.Tags.{PrintedPart, Words, Tag, tag, bare_tag}
+use Rattle.definition_page.specs.Tags.{PrintedPart, Tag, tag, bare_tag}
 use Rattle.definition_page.specs.Pieces.{Piece, Open, Close, Void, Says, Eol, Fresh, NoteStart, NoteEnd}
 use Rattle.definition_page.specs.InlinePieces.{Meaning, element, html_says, link_tag, span_name, call_at, count_at, part_counts, inline_counts}
-use Rattle.definition_page.specs.InlinePieces.{address, literal_address, address_tag, math_tag, leaf_pieces, part_pieces, inline_pieces}
+use Rattle.definition_page.specs.InlinePieces.{leaf_pieces, part_pieces, inline_pieces}
 use Rattle.definition_page.specs.GfmTable.{TableRow, Table as TableOf, align_attributes, cell_pieces, cells_pieces, row_pieces, ending_piece, endings_pieces}
 use Rattle.definition_page.specs.GfmTable.{body_row_pieces, head_pieces, body_pieces, table_pieces}
 use Rattle.definition_page.specs.Page.{PageLeaf, Paragraph, Heading, Break, IndentedCode, FencedCode, Html, Table, Definition}
@@ -86,19 +86,9 @@ module _ (good : Piece → Type 0) where
       counts_good NoText = tt
       counts_good (Text i is) = both_good (part_counts m i) (inline_counts m is) (part_counts_good i) (counts_good is)
 
-    said_good : (t : Tag) (text : List ℕ) → PiecesGood (element t (Says (Words text) ∷ []))
-    said_good t text = element_good t (Says (Words text) ∷ []) (prints.said (Words text), tt)
-
     leaf_good : (part : InlineLeaf) → PiecesGood (leaf_pieces m.compile part)
     leaf_good (RawHtml html) = says_good (html_says m.compile html)
-    leaf_good (Code text) = said_good (bare_tag (codes "code")) text
-    leaf_good (Math text) = said_good math_tag text
-    leaf_good (Autolink is_email text) = said_good (address_tag m.compile (address is_email text)) text
-    leaf_good (Literal kind text) = said_good (address_tag m.compile (literal_address kind text)) text
-    leaf_good EscapedBreak = (prints.voids _, tt)
-    leaf_good TrailingBreak = (prints.voids _, tt)
-    leaf_good (TaskCheck done) = (prints.voids _, tt)
-    leaf_good part = (prints.said _, tt)
+    leaf_good part = search (prints.opens, prints.closes, prints.voids, prints.said)
 
     mutual
       part_good : (i : Inline) → PiecesGood (part_pieces m i)

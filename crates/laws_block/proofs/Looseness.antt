@@ -1,6 +1,6 @@
 -- When a list is loose, by the lines of its blocks.
 use Rattle.std.proofs.Common.{◌≡◌, ℕ, suc, ◌+◌, ◌≤◌, Bool, true, false, not, leb, ◌&&◌, ◌||◌, refl, sym, ap, ◌∙◌, subst, inl, inr, arith}
-use Rattle.std.proofs.lemmas.Bool.{cases_Bool, cond-true, cond-false, and_parts, and_from, false≢true, le-leb, leb-true}
+use Rattle.std.proofs.lemmas.Bool.{cases_Bool, cond-true, cond-false, and_parts, and_from, false≢true, le-leb, leb-true, not-true}
 use Rattle.markdown_options.specs.declared.configuration.Constructs.{Constructs}
 use Rattle.definition_block.specs.Container.{Container}
 use Rattle.definition_block.specs.Tree.{Block, Holds, Ending, Blank, Blocks, Nil, Cons, join, is_ending, all_endings}
@@ -16,10 +16,6 @@ or_right false b h = h
 
 or_left : (a b : Bool) → a ≡ true → (a || b) ≡ true
 or_left a b h = ap (λ x. x || b) h
-
-not_true : (a : Bool) → not a ≡ true → a ≡ false
-not_true true h = absurd (false≢true h)
-not_true false h = refl
 
 -- ---- endings, and a child that is none
 
@@ -132,7 +128,7 @@ module _ (on : Constructs) where
         | inl e ↦
             let parts = and_parts (not (is_ending b) && leb 2 (endings_at_front bs)) (is_some_block bs) e in
             let others = and_parts (not (is_ending b)) (leb 2 (endings_at_front bs)) parts.0 in
-            here_first b bs (not_true (is_ending b) others.0) others.1 parts.1
+            here_first b bs (not-true (is_ending b) others.0) others.1 parts.1
         | inr e ↦ further b bs (gap_line bs (sym (ap (λ x. x || has_gap bs) e) ∙ h))
       ]
 

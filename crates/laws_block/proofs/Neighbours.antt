@@ -76,12 +76,12 @@ solid (Cons b bs) p = elim (cases_Bool (is_ending b)) [
 ]
 
 -- the first block alone says whether a list comes first, and with which items
-same_marker : (b : Block) (bs cs : Blocks) → list_marker (Cons b bs) ≡ list_marker (Cons b cs)
+pub same_marker : (b : Block) (bs cs : Blocks) → list_marker (Cons b bs) ≡ list_marker (Cons b cs)
 same_marker (Items Nil) bs cs = refl
 same_marker (Items (Cons item items)) bs cs = refl
 same_marker b bs cs = refl
 
-same_items : (b : Block) (bs cs : Blocks) → list_items (Cons b bs) ≡ list_items (Cons b cs)
+pub same_items : (b : Block) (bs cs : Blocks) → list_items (Cons b bs) ≡ list_items (Cons b cs)
 same_items (Items items) bs cs = refl
 same_items b bs cs = refl
 

@@ -59,7 +59,7 @@ join-alone : (ends : Bool) (b : Block) → join (cond ends Nil (one b)) (cond en
 join-alone true b = refl
 join-alone false b = refl
 
-join-without_last : (bs : Blocks) → join (without_last bs) (last_of bs) ≡ bs
+pub join-without_last : (bs : Blocks) → join (without_last bs) (last_of bs) ≡ bs
 join-without_last Nil = refl
 join-without_last (Cons b Nil) = join-alone (is_ending b) b
 join-without_last (Cons b (Cons c bs)) = ap (Cons b) (join-without_last (Cons c bs))
@@ -69,7 +69,7 @@ join-front_by : (b : Block) (bs : Blocks) (ends : Bool) → join (front bs) (tra
 join-front_by b bs true same = refl
 join-front_by b bs false same = ap (Cons b) same
 
-join-front : (bs : Blocks) → join (front bs) (trailing bs) ≡ bs
+pub join-front : (bs : Blocks) → join (front bs) (trailing bs) ≡ bs
 join-front Nil = refl
 join-front (Cons b bs) = join-front_by b bs (all_endings (Cons b bs)) (join-front bs)
 

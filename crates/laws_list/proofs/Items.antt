@@ -17,10 +17,11 @@ use Rattle.definition_block.specs.ListItem.{item_after, item_start, item_continu
 use Rattle.definition_block.specs.ThematicBreak.{is_break, is_break_text}
 use Rattle.definition_block.specs.GfmFootnoteDefinition.{footnote_start}
 use Rattle.definition_block.specs.Containers.{quote_or, footnote_or, starts}
-use Rattle.definition_block.specs.Tree.{Block, Blocks, Nil, Cons, join, Inside, Tree, tree, nothing, empty_tree, all_endings, front, trailing, container_block}
+use Rattle.definition_block.specs.Tree.{Blocks, Nil, join, Inside, Tree, tree, nothing, empty_tree, front, trailing, container_block}
 use Rattle.definition_block.specs.Tree.{beside_in}
 use Rattle.definition_block.specs.Tree.{beside_line, leaf_line, start, new, began_blank, goes_on, grow, step, steps, blocks_at_end, children, blocks}
 use Rattle.definition_block.specs.Definitions.{definitions}
+use Rattle.laws_block.proofs.TextLines.{join-front}
 use Rattle.laws_quote.proofs.Tabs.{Tabless, Tabless-from_All, codes_from-Tabless, LinesTabless, lines_tabless}
 use Rattle.laws_quote.proofs.Starting.{new-suc}
 use Rattle.laws_quote.proofs.Grown.{after-nothing}
@@ -163,16 +164,6 @@ module _ (on : Constructs) (items : on.list_item ≡ true) where
       ∙ sym (ap (container_block plus_item) (blocks-children on Whitespace text off))
 
 -- ---- definitions
-
-join-front_by : (b : Block) (bs : Blocks) (ends : Bool) → join (front bs) (trailing bs) ≡ bs
-    → join (cond ends Nil (Cons b (front bs))) (cond ends (Cons b bs) (trailing bs)) ≡ Cons b bs
-join-front_by b bs true same = refl
-join-front_by b bs false same = ap (Cons b) same
-
--- blocks are those before the endings at their end, and these
-pub join-front : (bs : Blocks) → join (front bs) (trailing bs) ≡ bs
-join-front Nil = refl
-join-front (Cons b bs) = join-front_by b bs (all_endings (Cons b bs)) (join-front bs)
 
 definitions-item : (kids : Blocks) → definitions (container_block plus_item kids) ≡ definitions kids
 definitions-item kids = sym (definitions-join (front kids) (trailing kids)) ∙ ap definitions (join-front kids)

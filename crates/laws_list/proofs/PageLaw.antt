@@ -18,6 +18,7 @@ use Rattle.definition_page.specs.BlockPieces.{inside, last_visible, ends_plainly
 use Rattle.definition_page.specs.Read.{in_container, in_item, read_blocks}
 use Rattle.laws_list.proofs.GfmTaskListItem.{read_in_item}
 use Rattle.laws_block.proofs.Looseness.{line_gap}
+use Rattle.laws_block.proofs.TextLines.{join-front}
 use Rattle.laws_quote.specs.Squeeze.{SqueezeState, kept_and_run, with_byte, with_bytes, nothing_yet, squeeze}
 use Rattle.laws_quote.proofs.Bytes.{after_text, bytes_after_text, dropped_ending}
 use Rattle.laws_quote.proofs.Printed.{with_piece, with_pieces, pieces_after_text, kept_at_fresh}
@@ -27,7 +28,7 @@ use Rattle.laws_quote.proofs.PageLaw.{join-nil, reading, meaning, page_bytes, sq
 use Rattle.laws_list.specs.Listed.{list_lines}
 use Rattle.laws_list.specs.Laws.{listed_lines, plus_item, item_of}
 use Rattle.laws_list.proofs.Lines.{listed_lines_law}
-use Rattle.laws_list.proofs.Items.{join-front, list_law, list_definitions_law}
+use Rattle.laws_list.proofs.Items.{list_law, list_definitions_law}
 use Rattle.laws_list.specs.PageLaws.{list_around, ListPageLaw}
 use Rattle.laws_list.proofs.Gaps.{trailing_ends, join_next, gap_endings}
 

@@ -1,23 +1,13 @@
 -- The ending at the end of blocks.
-use Rattle.std.proofs.Common.{◌≡◌, ◌++◌, Bool, true, false, if◌then◌else◌, refl, sym, ap, ◌∙◌, append_assoc}
+use Rattle.std.proofs.Common.{◌≡◌, ◌++◌, true, refl, sym, ap, ◌∙◌, append_assoc}
 use Rattle.std.proofs.lemmas.Bool.{cond-true, cond_both}
 use Rattle.definition_block.specs.Container.{Quote}
 use Rattle.definition_block.specs.Tree.{Block, Holds, Blocks, Nil, Cons, join, one, is_ending, without_last, last_of, container_block}
 use Rattle.definition_block.specs.Definitions.{block_definitions, definitions}
+use Rattle.laws_block.proofs.TextLines.{join-without_last}
 use Rattle.laws_quote.specs.Laws.{quote_of}
 
--- a block alone, which may be an ending
-join-alone : (ends : Bool) (b : Block) → join (if ends then Nil else one b) (if ends then one b else Nil) ≡ one b
-join-alone true b = refl
-join-alone false b = refl
-
--- blocks are what stands before the ending of their last line, and that
-pub join-without_last : (bs : Blocks) → join (without_last bs) (last_of bs) ≡ bs
-join-without_last Nil = refl
-join-without_last (Cons b Nil) = join-alone (is_ending b) b
-join-without_last (Cons b (Cons c bs)) = ap (Cons b) (join-without_last (Cons c bs))
-
--- that is nothing, or one ending
+-- what ends the last line is nothing, or one ending
 pub at_last : (P : Blocks → Type 0) (bs : Blocks) → P Nil → ((b : Block) → is_ending b ≡ true → P (one b)) → P (last_of bs)
 at_last P Nil none some = none
 at_last P (Cons b Nil) none some = cond_both (is_ending b) (one b) Nil P (λ e. some b e) (λ _. none)

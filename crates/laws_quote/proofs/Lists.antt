@@ -5,6 +5,7 @@ use Rattle.std.proofs.lemmas.Bool.{cond-true, cond-false, cases_Bool, ne_eqb, eq
 use Rattle.definition_block.specs.Tree.{Block, Items, Ending, Blank, Blocks, Nil, Cons, join, one, is_ending}
 use Rattle.definition_block.specs.Lists.{endings_of, after_endings, item_marker, list_marker, list_items, rest_of, before_list, put_before, grouped_block}
 use Rattle.definition_block.specs.Lists.{group_items}
+use Rattle.laws_block.proofs.Neighbours.{same_marker, same_items}
 
 -- ---- what children begin with
 
@@ -50,16 +51,6 @@ front_of (Cons b bs) last e = front_cons b bs last (cases_Bool (is_ending b)) (f
 abbrev before_parts : ℕ → Block → Blocks → Blocks → Blocks → Blocks
 before_parts marker item bs endings others =
     cond (eqb (list_marker others) marker) (Cons (Items (Cons item (join endings (list_items others)))) (rest_of others)) (Cons (Items (one item)) bs)
-
--- only the first block says whether a list comes first
-same_marker : (b : Block) (xs ys : Blocks) → list_marker (Cons b xs) ≡ list_marker (Cons b ys)
-same_marker (Items Nil) xs ys = refl
-same_marker (Items (Cons item items)) xs ys = refl
-same_marker b xs ys = refl
-
-same_items : (b : Block) (xs ys : Blocks) → list_items (Cons b xs) ≡ list_items (Cons b ys)
-same_items (Items items) xs ys = refl
-same_items b xs ys = refl
 
 no_list : (marker : ℕ) (item : Block) (bs endings : Blocks) → eqb marker 0 ≡ false → before_parts marker item bs endings Nil ≡ Cons (Items (one item)) bs
 no_list marker item bs endings e =

@@ -25,12 +25,13 @@ use Rattle.definition_page.specs.Read.{Reading, on_page, in_container, read_bloc
 use Rattle.definition_page.specs.Html.{html}
 use Rattle.definition_page.specs.Layout.{layout, page_layout}
 use Rattle.definition_page.proofs.PlainLayout.{plain_page}
+use Rattle.laws_block.proofs.TextLines.{join-without_last}
 use Rattle.laws_quote.specs.Quoted.{quote_lines}
 use Rattle.laws_quote.specs.Laws.{quoted_line, quote_of}
 use Rattle.laws_quote.proofs.Tabs.{Tabless-from_All, Tabless-to_All, quoted_tabless}
 use Rattle.laws_quote.proofs.Lines.{quoted_lines_law}
 use Rattle.laws_quote.proofs.Quotes.{quote_law, quote_definitions_law}
-use Rattle.laws_quote.proofs.Endings.{join-without_last, at_last}
+use Rattle.laws_quote.proofs.Endings.{at_last}
 use Rattle.laws_quote.specs.Squeeze.{SqueezeState, kept_and_run, with_byte, with_bytes, nothing_yet, squeeze}
 use Rattle.laws_quote.specs.PageLaws.{IsQuotable, quote_around, QuotePageLaw, QuotePagesLaw}
 use Rattle.laws_quote.proofs.Bytes.{after_text, bytes_after_text}

@@ -10,12 +10,13 @@ use Rattle.definition_text.specs.Lines.{TextLine, lines}
 use Rattle.definition_block.specs.Frontmatter.{is_metadata_fence, after_metadata_fence, after_frontmatter}
 use Rattle.definition_block.specs.Tree.{join, without_last, last_of, container_block, empty_tree, step, steps, blocks_at_end, children, children_after, blocks}
 use Rattle.definition_block.specs.Definitions.{definitions}
+use Rattle.laws_block.proofs.TextLines.{join-without_last}
 use Rattle.laws_quote.specs.Quoted.{marked_after_endings, quote_lines}
 use Rattle.laws_quote.specs.Laws.{quoted_line, quote_of, QuoteLaw, QuotesLaw, QuoteDefinitionsLaw}
 use Rattle.laws_quote.proofs.Tabs.{Tabless, Tabless-from_All, LinesTabless, lines_tabless, quoted_tabless}
 use Rattle.laws_quote.proofs.Lines.{HasLine, lines_some, quoted_lines_law}
 use Rattle.laws_quote.proofs.Grown.{in_quote, step-quoted, steps-in_quote}
-use Rattle.laws_quote.proofs.Endings.{join-without_last, without_last-quote, last_of-quote, definitions-holds}
+use Rattle.laws_quote.proofs.Endings.{without_last-quote, last_of-quote, definitions-holds}
 
 -- ---- without frontmatter the children of a document are those of all its lines
 
