@@ -11,3 +11,4 @@ pub mod StringLoops
 pub mod DefinitionLoops
 pub mod FootnoteLoops
 pub mod Written
+pub mod WrittenTargets

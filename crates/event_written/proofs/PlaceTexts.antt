@@ -4,6 +4,7 @@ use Rattle.std.specs.Prelude.{nat_lt, nat_le, slice_index}
 use Rattle.std.specs.Str.{is_utf8}
 use Rattle.std.proofs.lemmas.List.{append-nil}
 use Rattle.std.proofs.lemmas.Bool.{and_parts, ltb-true, eqb-true, leb-true}
+use Rattle.engine_events.specs.Columns.{tab_size}
 use Rattle.engine_events.specs.declared.event.Event.{Event}
 use Rattle.event_grammar.specs.declared.spot.Spot.{Spot}
 use Rattle.event_grammar.specs.Checks.{spot_of}
@@ -19,26 +20,32 @@ module _ (bytes : List ℕ) where
   byte_there : (i b : ℕ) → nat_lt i (length bytes) ≡ true → (slice_index bytes i == b) ≡ true → take 1 (drop i bytes) ≡ b ∷ []
   byte_there i b l e =
       let lt : i < length bytes = ltb-true i (length bytes) l in
-      let next : drop i bytes ≡ get_or bytes i 0 ∷ drop (i + 1) bytes = rw (add-one, drop-cons bytes i 0 lt) in next in
+      let next : drop i bytes ≡ get_or bytes i 0 ∷ drop (i + 1) bytes = rw (add-one, drop-cons bytes i 0 lt) in
       ap (take 1) next ∙ ap (λ (z : ℕ). z ∷ []) (eqb-true (slice_index bytes i) b e)
+
+  -- a tab is at the index of a place
+  abbrev is_tab_at : Spot → Bool
+  is_tab_at p = nat_lt p.index (length bytes) && (slice_index bytes p.index == 9)
 
   edge_by : (p : Spot) (b : Bool) → (p.vs == 0) ≡ b → is_utf8 (take p.index bytes) ≡ true → is_column bytes p ≡ true
       → is_utf8 (take (if b then p.index else p.index + 1) bytes) ≡ true
   edge_by p true z u c = u
   edge_by p false z u c =
-      let parts = and_parts (nat_lt p.index (length bytes)) _ (sym (ap (λ (t : Bool). t || _) z) ∙ c) in
-      let tab = and_parts (slice_index bytes p.index == 9) _ parts.1 in
+      let column = is_tab_at p && nat_lt p.vs (tab_size (column_at bytes p.index)) in
+      let is : column ≡ true = sym (ap (λ (t : Bool). t || column) z) ∙ c in
+      let tab = and_parts (is_tab_at p) (nat_lt p.vs (tab_size (column_at bytes p.index))) is in
+      let parts = and_parts (nat_lt p.index (length bytes)) (slice_index bytes p.index == 9) tab.0 in
       let one : p.index + 1 - p.index ≡ 1 = omega arith in
       text_more bytes p.index (p.index + 1) u (omega arith)
       ∙ ap (λ (z : ℕ). is_utf8 (take z (drop p.index bytes))) one
-      ∙ ap is_utf8 (byte_there p.index 9 parts.0 tab.0)
+      ∙ ap is_utf8 (byte_there p.index 9 parts.0 parts.1)
       ∙ ascii_byte (9 ∷ []) refl
 
   pub edge_text : (p : Spot) → is_spot bytes p ≡ true → is_utf8 (take (edge p) bytes) ≡ true
   edge_text p h =
-      let parts = and_parts (nat_le p.index (length bytes)) (is_utf8 (take p.index bytes) && is_column bytes p) h in
-      let more = and_parts (is_utf8 (take p.index bytes)) (is_column bytes p) parts.1 in
-      edge_by p (p.vs == 0) refl more.0 more.1
+      let parts = and_parts (nat_le p.index (length bytes) && is_utf8 (take p.index bytes)) (is_column bytes p) h in
+      let more = and_parts (nat_le p.index (length bytes)) (is_utf8 (take p.index bytes)) parts.0 in
+      edge_by p (p.vs == 0) refl more.1 parts.1
 
   -- a later place has a later edge
   edges_by : (i j v w : ℕ) (a b : Bool) → (v == 0) ≡ a → (w == 0) ≡ b → (nat_lt i j || ((i == j) && nat_le v w)) ≡ true
