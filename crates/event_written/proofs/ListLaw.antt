@@ -177,7 +177,7 @@ module _ (bytes : List ℕ) where
       ∙ on_event enter Enter (pass_at own (q ∷ outer) (loose_lists bytes kids ++ found)) k.0.0
       ∙ ap (pass_at (before_enter name at own.apart q) outer)
       (lists_by (is_list name) name kids found refl
-      ∙ append_assoc (node_lists bytes (Around enter kids exit)) (loose_lists bytes ns) lists)
+      ∙ sym (append_assoc (node_lists bytes (Around enter kids exit)) (loose_lists bytes ns) lists))
 
   -- The law of lists: looseness by events is that of the tree.
   pub lists_law : (ns : Nodes) → AreNodes ns → (passed bytes pass_start (events_of ns)).lists ≡ loose_lists bytes ns
