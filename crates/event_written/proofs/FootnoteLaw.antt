@@ -23,6 +23,7 @@ use Rattle.event_written.specs.GfmFootnoteDefinition.{Notes, notes, enter_conten
 use Rattle.event_written.specs.Within.{AreWithin}
 use Rattle.event_written.proofs.ChildLaw.{child_within, kids_within}
 use Rattle.event_written.proofs.DefinitionLaw.{label_is}
+use Rattle.event_written.proofs.FootnoteLoops.{content_same}
 
 -- ---- blocks
 
@@ -142,22 +143,25 @@ module _ (names : Names) (bytes : List ℕ) where
       (sym (block_notes top enter.name (text_of bytes (Around enter kids exit)) kids inner
       ∙ ap (λ (t : Bool). if t then footnotes inner ++ label_list (only_if (same_name enter.name n.GfmFootnoteDefinition) (footnote_label names bytes kids)) else []) b))
 
+  -- what an event spells
+  abbrev own : Bool → Event → Nodes → Event → page.Blocks
+  own top enter kids exit = block_of names bytes top enter.name (text_of bytes (Around enter kids exit)) kids (blocks_from names bytes (start_of enter.name) kids)
+
   regroup : (top : Bool) (ended : List (List Code)) (a b : page.Blocks) → (ended ++ footnotes a) ++ footnotes b ≡ ended ++ footnotes (join a b)
   regroup top ended a b = append_assoc ended (footnotes a) (footnotes b) ∙ ap (λ (z : List (List Code)). ended ++ z) (sym (join_notes a b))
 
   notes_over : (ns : Nodes) → AreNodes ns → InContent ns × FromStart ns
-  notes_over Nil a =
-      (λ top ended label outer es. ap (λ (z : List (List Code)). run (notes z (held label None) outer 0) es) (sym (append-nil ended)),
-       λ start ended label outer exit es x. on_event exit es Exit (notes ended (held label (Some start)) outer 0) x)
+  notes_over Nil a = (
+    λ top ended label outer es. ap (λ (z : List (List Code)). run (notes z (held label None) outer 0) es) (sym (append-nil ended)),
+    λ start ended label outer exit es x. on_event exit es Exit (notes ended (held label (Some start)) outer 0) x,
+  )
   notes_over (Cons (Around enter kids exit) ns) a =
       let inner = notes_over kids a.0.3 in
-      let others = notes_over ns a.1 in
-      (λ top ended label outer es. content inner.1 others.0 top ended label outer es,
-       λ start ended label outer last es x. begins inner.1 others.0 others.1 start ended label outer last es (same_name enter.name start) x refl)
+      let others = notes_over ns a.1 in (
+        λ top ended label outer es. content inner.1 others.0 top ended label outer es,
+        λ start ended label outer last es x. begins inner.1 others.0 others.1 start ended label outer last es (same_name enter.name start) x refl,
+      )
     where
-      abbrev own : Bool → page.Blocks
-      own top = block_of names bytes top enter.name (text_of bytes (Around enter kids exit)) kids (blocks_from names bytes (start_of enter.name) kids)
-
       content : FromStart kids → InContent ns → InContent (Cons (Around enter kids exit) ns)
       content from over top ended label outer es =
           let rest = events_of ns ++ es in
@@ -165,30 +169,31 @@ module _ (names : Names) (bytes : List ℕ) where
           ap (λ (l : List Event). run (notes ended (held label None) outer 0) (enter ∷ l)) (split kids ns exit es)
           ∙ on_event enter inside Enter (notes ended (held label None) outer 0) a.0.0
           ∙ node_over top enter kids exit rest ended label outer (is_listed container_names enter.name) a.0.1 a.0.3 refl from
-          ∙ over top (ended ++ footnotes (own top)) label outer es
-          ∙ ap (λ (z : List (List Code)). run (notes z (held label None) outer 0) es) (regroup top ended (own top) (blocks_of names bytes top ns))
+          ∙ over top (ended ++ footnotes (own top enter kids exit)) label outer es
+          ∙ ap (λ (z : List (List Code)). run (notes z (held label None) outer 0) es) (regroup top ended (own top enter kids exit) (blocks_of names bytes top ns))
 
       begins : FromStart kids → InContent ns → FromStart ns
           → (start : Name) (ended : List (List Code)) (label : Option (List Code)) (outer : List Held) (last : Event) (es : List Event) (b : Bool) → last.kind ≡ Exit
           → same_name enter.name start ≡ b
           → run (notes ended (held label (Some start)) outer 0) (events_of (Cons (Around enter kids exit) ns) ++ last ∷ es)
-          ≡ run (notes (ended ++ (footnotes (if same_name enter.name start then join (own false) (blocks_of names bytes false ns) else blocks_from names bytes start ns) ++ label_list label))
+          ≡ run (notes (ended ++ (footnotes (if same_name enter.name start then join (own false enter kids exit) (blocks_of names bytes false ns) else blocks_from names bytes start ns) ++ label_list label))
           (first_held outer) (drop 1 outer) 0) es
       begins from over later start ended label outer last es true x h =
           let rest = events_of ns ++ last ∷ es in
           let inside = events_of kids ++ exit ∷ rest in
           let s = notes ended (held label (Some start)) outer 0 in
-          let found = ended ++ footnotes (join (own false) (blocks_of names bytes false ns)) in
+          let found = ended ++ footnotes (join (own false enter kids exit) (blocks_of names bytes false ns)) in
           ap (λ (l : List Event). run s (enter ∷ l)) (split kids ns exit (last ∷ es))
           ∙ on_event enter inside Enter s a.0.0
           ∙ ap (λ (t : Bool). run (enter_open t enter.name (label_codes bytes inside) s) inside) h
+          ∙ ap (λ (z : Notes). run z inside) (sym (content_same (is_listed container_names enter.name) enter.name (label_codes bytes inside) s))
           ∙ node_over false enter kids exit rest ended label outer (is_listed container_names enter.name) a.0.1 a.0.3 refl from
-          ∙ over false (ended ++ footnotes (own false)) label outer (last ∷ es)
-          ∙ ap (λ (z : List (List Code)). run (notes z (held label None) outer 0) (last ∷ es)) (regroup false ended (own false) (blocks_of names bytes false ns))
+          ∙ over false (ended ++ footnotes (own false enter kids exit)) label outer (last ∷ es)
+          ∙ ap (λ (z : List (List Code)). run (notes z (held label None) outer 0) (last ∷ es)) (regroup false ended (own false enter kids exit) (blocks_of names bytes false ns))
           ∙ on_event last es Exit (notes found (held label None) outer 0) x
           ∙ ap (λ (z : List (List Code)). run (notes z (first_held outer) (drop 1 outer) 0) es)
-          (append_assoc ended (footnotes (join (own false) (blocks_of names bytes false ns))) (label_list label))
-          ∙ ap (λ (t : Bool). run (notes (ended ++ (footnotes (if t then join (own false) (blocks_of names bytes false ns) else blocks_from names bytes start ns) ++ label_list label))
+          (append_assoc ended (footnotes (join (own false enter kids exit) (blocks_of names bytes false ns))) (label_list label))
+          ∙ ap (λ (t : Bool). run (notes (ended ++ (footnotes (if t then join (own false enter kids exit) (blocks_of names bytes false ns) else blocks_from names bytes start ns) ++ label_list label))
           (first_held outer) (drop 1 outer) 0) es) (sym h)
       begins from over later start ended label outer last es false x h =
           let rest = events_of ns ++ last ∷ es in
@@ -201,7 +206,7 @@ module _ (names : Names) (bytes : List ℕ) where
           ∙ on_event exit rest Exit (notes ended (held label (Some start)) outer 1) a.0.1
           ∙ ap (λ (s : Notes). run s rest) (exit_skipped ended (held label (Some start)) outer 0)
           ∙ later start ended label outer last es x
-          ∙ ap (λ (t : Bool). run (notes (ended ++ (footnotes (if t then join (own false) (blocks_of names bytes false ns) else blocks_from names bytes start ns) ++ label_list label))
+          ∙ ap (λ (t : Bool). run (notes (ended ++ (footnotes (if t then join (own false enter kids exit) (blocks_of names bytes false ns) else blocks_from names bytes start ns) ++ label_list label))
           (first_held outer) (drop 1 outer) 0) es) (sym h)
 
   -- The law of footnotes: the labels among the events of nodes are those of their blocks.

@@ -97,9 +97,10 @@ module _ (bytes : List ℕ) where
       let first = edges_reach at e here.0 in
       let last = edges_reach on.at x on.fit.0 in
       let order : edge e ≤ edge x = omega (arith, on.later, last) in
-      let others = texts_over ns x es on.fit.2 in
-      (((between_text e x here.1 on.fit.1 order, inner.0), others.0),
-       record { at = others.1.at; later = omega (arith, first, order, others.1.later); fit = others.1.fit })
+      let others = texts_over ns x es on.fit.2 in (
+        ((between_text e x here.1 on.fit.1 order, inner.0), others.0),
+        record { at = others.1.at; later = omega (arith, first, order, others.1.later); fit = others.1.fit },
+      )
 
   pub texts_law : (ns : Nodes) (at : Spot) → PlacesFit bytes at (events_of ns) → AreTexts bytes ns
   texts_law ns at h = (texts_over ns at [] (subst (PlacesFit bytes at) (sym (append-nil (events_of ns))) h)).0
