@@ -1,5 +1,5 @@
 -- The labels of footnote definitions, event by event.
-use Rattle.std.proofs.Common.{◌≡◌, ◌<◌, ◌≤◌, ℕ, ◌+◌, ◌==◌, Bool, true, false, if◌then◌else◌, List, [], ◌∷◌, Option, refl, sym, ap, ◌∙◌, subst, get_or, drop, length}
+use Rattle.std.proofs.Common.{◌≡◌, ◌<◌, ◌≤◌, ℕ, ◌+◌, ◌==◌, Bool, true, false, if◌then◌else◌, List, [], Option, refl, sym, ap, ◌∙◌, subst, get_or, drop, length}
 use Rattle.std.proofs.lemmas.List.{drop_all}
 use Rattle.definition_text.specs.Columns.{Code}
 use Rattle.engine_events.specs.Names.{is_listed}
@@ -9,7 +9,7 @@ use Rattle.engine_events.specs.declared.event.Name.{Name}
 use Rattle.inline_labels.specs.Table.{HasLabels}
 use Rattle.event_grammar.proofs.Runs.{no_event}
 use Rattle.event_references.proofs.Loops.{drop_next}
-use Rattle.event_written.specs.GfmFootnoteDefinition.{Notes, notes, the_document, label_codes, label_at, note_next, notes_after, HasNotes}
+use Rattle.event_written.specs.GfmFootnoteDefinition.{Notes, notes, the_document, label_at, note_next, notes_after, HasNotes}
 use Rattle.event_written.specs.GfmFootnoteDefinition.{container_names, begun, has_begun, enter_content, enter_open, enter_note}
 use Rattle.event_written.specs.declared.gfm_footnote_definition.Walk.{Walk}
 

@@ -1,4 +1,4 @@
-use Rattle.std.proofs.Common.{◌≡◌, ◌∙◌, ap, refl, subst, arith, List}
+use Rattle.std.proofs.Common.{◌∙◌, ap, refl, subst, arith, List}
 use Rattle.engine_events.specs.declared.event.Event.{Event}
 use Rattle.engine_events.specs.declared.event.Kind.TheVariants as kinds
 use Rattle.inline_labels.specs.Table.{HasLabels}

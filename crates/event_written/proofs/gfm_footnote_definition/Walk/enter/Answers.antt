@@ -1,5 +1,5 @@
 use Rattle.std.proofs.Common.{◌∙◌, ap, sym, refl, subst}
-use Rattle.event_written.specs.GfmFootnoteDefinition.{Held, HasNotes, notes, begun, holder_view, label_at}
+use Rattle.event_written.specs.GfmFootnoteDefinition.{Held, HasNotes, notes, begun, label_at}
 use Rattle.event_written.proofs.FootnoteLoops.{enters}
 use Rattle.event_written.proofs.gfm_footnote_definition.Walk.enter.Goals as goal
 
