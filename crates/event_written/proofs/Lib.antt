@@ -10,5 +10,4 @@ pub mod Waiting
 pub mod StringLoops
 pub mod DefinitionLoops
 pub mod FootnoteLoops
-pub mod Written
 pub mod WrittenTargets
