@@ -1,6 +1,7 @@
 pub mod ChildLaw
 pub mod StringLaw
 pub mod PlaceTexts
+pub mod CheckedNodes
 pub mod DefinitionLaw
 pub mod FootnoteLaw
 pub mod ListLaw
