@@ -113,8 +113,8 @@ fn is_far(bytes: &[u8], last: Option<Spot>, at: Spot) -> bool
     }
 }
 
-/// Whether more than one line ends between two places.
-fn is_apart(bytes: &[u8], from: usize, to: usize) -> bool
+/// Returns whether more than one line ends between two places (CommonMark 5.3).
+pub fn is_apart(bytes: &[u8], from: usize, to: usize) -> bool
     ensures { result ≡ is_apart bytes.now from to }
 {
     let start = Spot { index: from, vs: 0 };

@@ -1,10 +1,10 @@
 -- Strings: what an info, a destination or a title spells (CommonMark 2.4 and 2.5).
-use Rattle.std.specs.Prelude.{ℕ, Bool, ◌||◌, if◌then◌else◌, List, [], ◌∷◌, ◌++◌, Option, None, Some, codes, is_some, unwrap_or}
-use Rattle.std.specs.Char.{is_ascii_punctuation}
+use Rattle.std.specs.Prelude.{ℕ, Bool, ◌||◌, if◌then◌else◌, ◌==◌, List, [], ◌∷◌, ◌++◌, Option, None, Some, codes, is_some, unwrap_or}
 use Rattle.std.specs.Fmt.{decimal}
 use Rattle.std.specs.List.{flat_map}
 use Rattle.engine_events.specs.declared.event.Name.{Name}
 use Rattle.engine_events.specs.declared.event.Name.TheVariants as n
+use Rattle.definition_text.specs.Ascii.{ampersand, backslash}
 use Rattle.definition_text.specs.Columns.{Code, is_white}
 use Rattle.definition_text.specs.Content.{is_eol}
 use Rattle.definition_inline.specs.CharacterReference.{Names, number_of, numbered_text}
@@ -36,9 +36,9 @@ module _ (names : Names) (bytes : List ℕ) where
 
 -- ---- strings as they are written
 
--- whether a byte may stand for something else in a string, or be left out there
+-- whether something may begin at a byte in a string, or the byte may be left out there
 abbrev pub is_told : ℕ → Bool
-is_told b = is_ascii_punctuation b || is_white b || is_eol b
+is_told b = is_white b || is_eol b || (b == ampersand) || (b == backslash)
 
 -- a byte, by its number where it may stand for something else
 abbrev pub written_byte : ℕ → List Code
