@@ -1,0 +1,168 @@
+//! Code spans and math: text between two sequences (CommonMark 6.1).
+//!
+//!     CodeText ::= CodeTextSequence (CodeTextData | LineEnding)* CodeTextSequence
+//!     MathText ::= MathTextSequence (MathTextData | LineEnding)* MathTextSequence
+//!
+//! A line ending is a space, and so is each column of a tab that a place cuts.
+use crate::columns::Columns;
+use engine_events::event::{Event, Kind, Name};
+use event_grammar::Spot;
+use event_grammar::place::bytes_between;
+use event_grammar::spot::spot_of;
+use event_written::child::text_first;
+use std::alloc::{AllocError, Allocator};
+
+/// The name of the sequences around raw text, if this is the name of raw text.
+pub(crate) fn sequence_of(name: Name) -> Option<Name> {
+    if name == Name::CodeText {
+        Some(Name::CodeTextSequence)
+    } else if name == Name::MathText {
+        Some(Name::MathTextSequence)
+    } else {
+        None
+    }
+}
+
+/// The text between the sequences, if it is one piece of the bytes. The events are those after the
+/// enter of the raw text.
+pub(crate) fn whole_piece<'a>(
+    bytes: &'a [u8],
+    sequence: Name,
+    events: &[Event],
+) -> Option<&'a [u8]> {
+    let [before, _, enter, exit, after, ..] = events else {
+        return None;
+    };
+    if begins(before, sequence) && is_chunk(enter.name) && begins(after, sequence) {
+        piece_between(bytes, enter, exit)
+    } else {
+        None
+    }
+}
+
+/// Whether an event enters something of this name.
+fn begins(event: &Event, name: Name) -> bool {
+    event.kind == Kind::Enter && event.name == name
+}
+
+/// The bytes from an enter to the exit after it, if neither is in a tab.
+fn piece_between<'a>(bytes: &'a [u8], enter: &Event, exit: &Event) -> Option<&'a [u8]> {
+    let from = spot_of(enter);
+    let to = spot_of(exit);
+    if enter.kind == Kind::Enter && exit.kind == Kind::Exit && from.vs == 0 && to.vs == 0 {
+        Some(bytes_between(bytes, from, to))
+    } else {
+        None
+    }
+}
+
+fn is_chunk(name: Name) -> bool {
+    name == Name::CodeTextData || name == Name::MathTextData
+}
+
+/// Appends the text between the sequences. The events are those after the enter of the raw text.
+pub(crate) fn push_raw_text<A: Allocator>(
+    out: &mut String<A>,
+    columns: &mut Columns,
+    bytes: &[u8],
+    sequence: Name,
+    events: &[Event],
+) -> Result<(), AllocError> {
+    let mut depth: usize = 0;
+    let mut begun = false;
+    for (index, event) in events.iter().enumerate() {
+        match event.kind {
+            Kind::Enter => {
+                if depth == 0 {
+                    if event.name != sequence {
+                        if begun {
+                            push_raw_part(out, columns, bytes, event.name, &events[index..])?;
+                        }
+                    } else if begun {
+                        return Ok(());
+                    } else {
+                        begun = true;
+                    }
+                }
+                depth += 1;
+            }
+            Kind::Exit => {
+                if depth == 0 {
+                    return Ok(());
+                }
+                depth -= 1;
+            }
+        }
+    }
+    Ok(())
+}
+
+/// Appends the part of raw text that the events begin with.
+fn push_raw_part<A: Allocator>(
+    out: &mut String<A>,
+    columns: &mut Columns,
+    bytes: &[u8],
+    name: Name,
+    events: &[Event],
+) -> Result<(), AllocError> {
+    if name == Name::LineEnding {
+        out.push_str(" ")
+    } else if is_chunk(name) {
+        push_chunk(out, columns, bytes, events)
+    } else {
+        Ok(())
+    }
+}
+
+/// Appends the chunk that the events begin with.
+fn push_chunk<A: Allocator>(
+    out: &mut String<A>,
+    columns: &mut Columns,
+    bytes: &[u8],
+    events: &[Event],
+) -> Result<(), AllocError> {
+    let [enter, inside @ ..] = events else {
+        return Ok(());
+    };
+    let from = spot_of(enter);
+    let to = exit_spot(inside);
+    if from.vs != 0 && from.index == to.index {
+        return push_spaces(out, to.vs.saturating_sub(from.vs));
+    }
+    push_spaces(out, columns.after(bytes, from))?;
+    push_bytes(out, text_first(bytes, events))?;
+    push_spaces(out, to.vs.saturating_sub(1))
+}
+
+/// The place of the exit of the event that these events are in, and more events may follow. Without
+/// an exit it is the text's start.
+fn exit_spot(events: &[Event]) -> Spot {
+    let mut depth: usize = 0;
+    for event in events {
+        match event.kind {
+            Kind::Enter => depth += 1,
+            Kind::Exit => {
+                if depth == 0 {
+                    return spot_of(event);
+                }
+                depth -= 1;
+            }
+        }
+    }
+    Spot { index: 0, vs: 0 }
+}
+
+/// Appends bytes, if they are UTF-8.
+fn push_bytes<A: Allocator>(out: &mut String<A>, bytes: &[u8]) -> Result<(), AllocError> {
+    match std::str::from_utf8(bytes) {
+        Ok(text) => out.push_str(text),
+        Err(_) => Ok(()),
+    }
+}
+
+fn push_spaces<A: Allocator>(out: &mut String<A>, count: u8) -> Result<(), AllocError> {
+    for _ in 0..count {
+        out.push_str(" ")?;
+    }
+    Ok(())
+}
