@@ -1,0 +1,61 @@
+//! Where containers start and end (CommonMark 5).
+ghost use Rattle.std.specs.Prelude.{◌≡◌, ◌∷◌, OnOk};
+ghost use Rattle.markdown_options.specs.declared.configuration.CompileOptions.{CompileOptions};
+ghost use Rattle.html_leaves.specs.Prints.{KeepsEnding};
+ghost use Rattle.event_levels.specs.Levels.{new_level, passed};
+ghost use Rattle.event_levels.specs.Walks.{walk, close_pieces};
+ghost use Rattle.event_html.specs.Views.{walk_of, outer_of, around, Prints};
+
+use crate::printer::Printer;
+use event_levels::kind::BlockKind;
+use event_levels::level::{Holder, Level};
+use std::alloc::{AllocError, Allocator};
+
+impl<A: Allocator + Clone> Printer<A> {
+    /// The innermost container or list ends.
+    pub(crate) fn leave(&mut self) -> Result<(), AllocError>
+        ensures default { KeepsEnding self.old.page self.new.page }
+        ensures loose { self.new.loose ≡ self.old.loose }
+        ensures walk { OnOk result (walk_of self.new ≡ around self.old.level (outer_of self.old) self.old.skipped) }
+        ensures printed { (options : CompileOptions) → OnOk result (Prints options self.old self.new (close_pieces self.old.level self.old.level.holder)) }
+    {
+        match self.level.holder {
+            Holder::Document => {}
+            Holder::Quote => self.leave_quote()?,
+            Holder::List { number } => self.leave_list(number)?,
+            Holder::Item => self.leave_item()?,
+            Holder::Footnote => self.leave_footnote()?,
+        }
+        self.go_out();
+        Ok(())
+    }
+
+    /// Goes into a container or a list.
+    pub(crate) fn go_in(
+        &mut self,
+        kind: BlockKind,
+        holder: Holder,
+        tight: bool,
+    ) -> Result<(), AllocError>
+        ensures page { self.new.page ≡ self.old.page }
+        ensures loose { self.new.loose ≡ self.old.loose }
+        ensures walk { OnOk result (walk_of self.new
+            ≡ walk (new_level holder tight) (passed self.old.level kind ∷ outer_of self.old) self.old.skipped) }
+    {
+        self.level.pass(kind);
+        self.outer.push(self.level)?;
+        self.level = Level::new(holder, tight);
+        Ok(())
+    }
+
+    /// Goes out of one.
+    fn go_out(&mut self)
+        ensures page { self.new.page ≡ self.old.page }
+        ensures loose { self.new.loose ≡ self.old.loose }
+        ensures walk { walk_of self.new ≡ around self.old.level (outer_of self.old) self.old.skipped }
+    {
+        if let Some(level) = self.outer.pop() {
+            self.level = level;
+        }
+    }
+}
