@@ -94,7 +94,7 @@ mutual
   part_in_cell_ends (Linked kind target kids) h = (tt, in_cell_ends kids h.1)
   part_in_cell_ends (Call label) h = tt
 
-  in_cell_ends : (is : Inlines) → AllEndLines is → AllEndLines (in_cell is)
+  pub in_cell_ends : (is : Inlines) → AllEndLines is → AllEndLines (in_cell is)
   in_cell_ends Nil h = tt
   in_cell_ends (Cons i is) h = (part_in_cell_ends i h.0, in_cell_ends is h.1)
 

@@ -1,0 +1,2 @@
+//! What a list of events prints, step by step.
+#![tactic(auto)]

@@ -1,0 +1,4 @@
+pub mod Facts
+pub mod TextReads
+pub mod BlockReads
+pub mod SafeHtml
