@@ -1,10 +1,9 @@
 //! Where containers start and end (CommonMark 5).
-ghost use Rattle.std.specs.Prelude.{◌≡◌, ◌∷◌, OnOk};
+ghost use Rattle.std.specs.Prelude.{◌≡◌, OnOk};
 ghost use Rattle.markdown_options.specs.declared.configuration.CompileOptions.{CompileOptions};
 ghost use Rattle.html_leaves.specs.Prints.{KeepsEnding};
-ghost use Rattle.event_levels.specs.Levels.{new_level, passed};
-ghost use Rattle.event_levels.specs.Walks.{walk, close_pieces};
-ghost use Rattle.event_html.specs.Views.{walk_of, outer_of, around, Prints};
+ghost use Rattle.event_pieces.specs.Left.{closing};
+ghost use Rattle.event_html.specs.Views.{opened_of, within, outside, holder_view, Prints};
 
 use crate::printer::Printer;
 use event_levels::kind::BlockKind;
@@ -15,9 +14,11 @@ impl<A: Allocator + Clone> Printer<A> {
     /// The innermost container or list ends.
     pub(crate) fn leave(&mut self) -> Result<(), AllocError>
         ensures default { KeepsEnding self.old.page self.new.page }
+        ensures skipped { self.new.skipped ≡ self.old.skipped }
         ensures loose { self.new.loose ≡ self.old.loose }
-        ensures walk { OnOk result (walk_of self.new ≡ around self.old.level (outer_of self.old) self.old.skipped) }
-        ensures printed { (options : CompileOptions) → OnOk result (Prints options self.old self.new (close_pieces self.old.level self.old.level.holder)) }
+        ensures opened { OnOk result (opened_of self.new ≡ outside (opened_of self.old)) }
+        ensures printed { (options : CompileOptions) →
+            OnOk result (Prints options self.old self.new (closing (holder_view self.old.level.holder) self.old.level.plain)) }
     {
         match self.level.holder {
             Holder::Document => {}
@@ -38,9 +39,9 @@ impl<A: Allocator + Clone> Printer<A> {
         tight: bool,
     ) -> Result<(), AllocError>
         ensures page { self.new.page ≡ self.old.page }
+        ensures skipped { self.new.skipped ≡ self.old.skipped }
         ensures loose { self.new.loose ≡ self.old.loose }
-        ensures walk { OnOk result (walk_of self.new
-            ≡ walk (new_level holder tight) (passed self.old.level kind ∷ outer_of self.old) self.old.skipped) }
+        ensures opened { OnOk result (opened_of self.new ≡ within kind holder tight (opened_of self.old)) }
     {
         self.level.pass(kind);
         self.outer.push(self.level)?;
@@ -51,8 +52,9 @@ impl<A: Allocator + Clone> Printer<A> {
     /// Goes out of one.
     fn go_out(&mut self)
         ensures page { self.new.page ≡ self.old.page }
+        ensures skipped { self.new.skipped ≡ self.old.skipped }
         ensures loose { self.new.loose ≡ self.old.loose }
-        ensures walk { walk_of self.new ≡ around self.old.level (outer_of self.old) self.old.skipped }
+        ensures opened { opened_of self.new ≡ outside (opened_of self.old) }
     {
         if let Some(level) = self.outer.pop() {
             self.level = level;

@@ -1,11 +1,10 @@
 //! Lists (CommonMark 5.3).
-ghost use Rattle.std.specs.Prelude.{◌≡◌, ◌∷◌, OnOk, not};
+ghost use Rattle.std.specs.Prelude.{◌≡◌, OnOk, not};
 ghost use Rattle.markdown_options.specs.declared.configuration.CompileOptions.{CompileOptions};
 ghost use Rattle.html_leaves.specs.Prints.{KeepsEnding};
-ghost use Rattle.event_levels.specs.Levels.{new_level, passed};
-ghost use Rattle.event_levels.specs.Walks.{walk, open_pieces, close_pieces};
-ghost use Rattle.event_levels.specs.declared.level.Holder.TheVariants as holder;
-ghost use Rattle.event_html.specs.Views.{walk_of, outer_of, Prints, next_loose};
+ghost use Rattle.event_levels.specs.declared.level.Holder.TheVariants as holders;
+ghost use Rattle.event_pieces.specs.Left.{ListOf, opening, closing};
+ghost use Rattle.event_html.specs.Views.{opened_of, within, Prints, next_loose};
 
 use crate::printer::Printer;
 use crate::source::Source;
@@ -38,9 +37,9 @@ impl<A: Allocator + Clone> Printer<A> {
         number: Option<u32>,
     ) -> Result<(), AllocError>
         ensures default { KeepsEnding self.old.page self.new.page }
-        ensures walk { OnOk result (walk_of self.new
-            ≡ walk (new_level (holder.List number) (not (next_loose self.old))) (passed self.old.level kind ∷ outer_of self.old) self.old.skipped) }
-        ensures printed { (options : CompileOptions) → OnOk result (Prints options self.old self.new (open_pieces (holder.List number))) }
+        ensures skipped { self.new.skipped ≡ self.old.skipped }
+        ensures opened { OnOk result (opened_of self.new ≡ within kind (holders.List number) (not (next_loose self.old)) (opened_of self.old)) }
+        ensures printed { (options : CompileOptions) → OnOk result (Prints options self.old self.new (opening (ListOf number))) }
     {
         let loose = self.loose.pop().unwrap_or_default();
         self.page.fresh()?;
@@ -51,9 +50,10 @@ impl<A: Allocator + Clone> Printer<A> {
     /// A list ends.
     pub(crate) fn leave_list(&mut self, number: Option<u32>) -> Result<(), AllocError>
         ensures default { KeepsEnding self.old.page self.new.page }
+        ensures skipped { self.new.skipped ≡ self.old.skipped }
         ensures loose { self.new.loose ≡ self.old.loose }
-        ensures walk { walk_of self.new ≡ walk_of self.old }
-        ensures printed { (options : CompileOptions) → OnOk result (Prints options self.old self.new (close_pieces self.old.level (holder.List number))) }
+        ensures opened { opened_of self.new ≡ opened_of self.old }
+        ensures printed { (options : CompileOptions) → OnOk result (Prints options self.old self.new (closing (ListOf number) self.old.level.plain)) }
     {
         self.page.eol()?;
         self.page.list_end(number)
