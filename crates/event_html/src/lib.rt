@@ -4,7 +4,6 @@
 pub mod block_quote;
 pub mod code_fenced;
 pub mod code_indented;
-pub mod compile;
 pub mod container;
 pub mod gfm_footnote_definition;
 pub mod gfm_table;
@@ -21,5 +20,6 @@ pub mod printer;
 pub mod raw;
 pub mod source;
 pub mod text;
+pub mod to_html;
 
-pub use compile::compile;
+pub use to_html::compile;
