@@ -20,15 +20,27 @@ impl<A: Allocator + Clone> Printer<A> {
         ensures printed { (options : CompileOptions) →
             OnOk result (Prints options self.old self.new (closing (holder_view self.old.level.holder) self.old.level.plain)) }
     {
-        match self.level.holder {
-            Holder::Document => {}
-            Holder::Quote => self.leave_quote()?,
-            Holder::List { number } => self.leave_list(number)?,
-            Holder::Item => self.leave_item()?,
-            Holder::Footnote => self.leave_footnote()?,
-        }
+        self.close()?;
         self.go_out();
         Ok(())
+    }
+
+    /// Prints the end of the innermost container or list.
+    fn close(&mut self) -> Result<(), AllocError>
+        ensures default { KeepsEnding self.old.page self.new.page }
+        ensures skipped { self.new.skipped ≡ self.old.skipped }
+        ensures loose { self.new.loose ≡ self.old.loose }
+        ensures opened { opened_of self.new ≡ opened_of self.old }
+        ensures printed { (options : CompileOptions) →
+            OnOk result (Prints options self.old self.new (closing (holder_view self.old.level.holder) self.old.level.plain)) }
+    {
+        match self.level.holder {
+            Holder::Document => Ok(()),
+            Holder::Quote => self.leave_quote(),
+            Holder::List { number } => self.leave_list(number),
+            Holder::Item => self.leave_item(),
+            Holder::Footnote => self.leave_footnote(),
+        }
     }
 
     /// Goes into a container or a list.

@@ -1,4 +1,6 @@
 //! ATX headings (CommonMark 4.2).
+ghost use Rattle.std.specs.Prelude.{◌≡◌, ◌≤◌};
+
 use crate::piece::piece_in;
 use crate::printer::Printer;
 use crate::source::Source;
@@ -36,7 +38,8 @@ impl<A: Allocator + Clone> Printer<A> {
 
 /// The rank of a heading whose sequence has this size, which is from 1 to 6.
 fn rank_of(size: usize) -> u8
-    ensures { (1 ≤ result) × (result ≤ 6) }
+    ensures rank { (1 ≤ result) × (result ≤ 6) }
+    ensures size { 1 ≤ size → size ≤ 6 → result ≡ size }
 {
     match size {
         0 | 1 => 1,

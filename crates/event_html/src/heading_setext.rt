@@ -1,4 +1,6 @@
 //! Setext headings (CommonMark 4.3).
+ghost use Rattle.std.specs.Prelude.{◌≡◌, ◌≤◌, ◌==◌, if◌then◌else◌, slice_index};
+
 use crate::piece::piece_in;
 use crate::printer::Printer;
 use crate::source::Source;
@@ -27,10 +29,12 @@ impl<A: Allocator + Clone> Printer<A> {
 
 /// The rank of a heading by its underline: 2 by hyphens.
 fn underline_rank(line: &[u8]) -> u8
-    ensures { (1 ≤ result) × (result ≤ 6) }
+    ensures rank { (1 ≤ result) × (result ≤ 6) }
+    ensures line { result ≡ (if slice_index line.now 0 == 45 then 2 else 1) }
 {
-    match line {
-        [b'-', ..] => 2,
-        _ => 1,
+    if !line.is_empty() && line[0] == b'-' {
+        2
+    } else {
+        1
     }
 }

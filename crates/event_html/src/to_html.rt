@@ -70,11 +70,15 @@ fn checked_html<T: Tables, A: Allocator + Clone>(
 
 /// The first line ending of the text, or the other one if it has none.
 fn default_ending(bytes: &[u8], other: LineEnding) -> LineEnding {
-    match &bytes[next_of(bytes, ENDS)..] {
-        [] => other,
-        [b'\n', ..] => LineEnding::LineFeed,
-        [b'\r', b'\n', ..] => LineEnding::CarriageReturnLineFeed,
-        _ => LineEnding::CarriageReturn,
+    let end = next_of(bytes, ENDS);
+    if end >= bytes.len() {
+        other
+    } else if bytes[end] == b'\n' {
+        LineEnding::LineFeed
+    } else if end + 1 < bytes.len() && bytes[end + 1] == b'\n' {
+        LineEnding::CarriageReturnLineFeed
+    } else {
+        LineEnding::CarriageReturn
     }
 }
 

@@ -1,9 +1,12 @@
 -- Events that are siblings, by the events after an enter.
-use Rattle.std.specs.Prelude.{ℕ, suc, ◌+◌, ◌-◌, ◌==◌, if◌then◌else◌, List, [], ◌∷◌, take, drop}
+use Rattle.std.specs.Prelude.{◌≡◌, ℕ, suc, ◌+◌, ◌-◌, ◌==◌, if◌then◌else◌, List, [], ◌∷◌, take, drop}
 use Rattle.engine_events.specs.declared.event.Event.{Event}
 use Rattle.engine_events.specs.declared.event.Kind.{Kind}
 use Rattle.engine_events.specs.declared.event.Kind.TheVariants.{Enter, Exit}
-use Rattle.event_grammar.specs.Trees.{Node, Nodes, Around, tree}
+use Rattle.event_grammar.specs.Checks.{spot_of}
+use Rattle.event_grammar.specs.Trees as tree
+use Rattle.event_grammar.specs.Trees.{Around, events_of}
+use Rattle.event_levels.specs.declared.node.Node.{Node}
 
 abbrev pub size_next : Kind → ℕ → (ℕ → ℕ) → ℕ
 size_next Enter depth others = suc (others (depth + 1))
@@ -18,15 +21,19 @@ size_inside depth (e ∷ es) = size_next e.kind depth (λ d. size_inside d es)
 abbrev pub inside : List Event → List Event
 inside es = take (size_inside 0 es) es
 
--- the nodes before that exit
-abbrev pub kids_ahead : List Event → Nodes
-kids_ahead es = tree (inside es)
-
 -- the first of these, or this one where there is none
 abbrev pub first_or : Event → List Event → Event
 first_or e [] = e
 first_or e (x ∷ xs) = x
 
--- the node that is entered here, before these events
-abbrev pub node_ahead : Event → List Event → Node
-node_ahead e es = Around e (kids_ahead es) (first_or e (drop (size_inside 0 es) es))
+-- the first of these siblings, and those after it
+abbrev pub IsFirst : List Event → Node → List Event → Type 0
+IsFirst [] node after = ⊥
+IsFirst (e ∷ es) node after =
+    (node.name ≡ e.name) × (node.start ≡ spot_of e) × (node.end ≡ spot_of (first_or e (drop (size_inside 0 es) es))) × (node.inside.now ≡ inside es)
+    × (after ≡ drop 1 (drop (size_inside 0 es) es))
+
+-- an event with those in it is that of the tree
+abbrev pub Reads : Node → tree.Node → Type 0
+Reads node (Around enter kids exit) =
+    (node.name ≡ enter.name) × (node.start ≡ spot_of enter) × (node.end ≡ spot_of exit) × (node.inside.now ≡ events_of kids)

@@ -1,7 +1,7 @@
 //! Events that are siblings, and those in them.
-ghost use Rattle.std.specs.Prelude.{◌≡◌, ◌+◌, ◌≤◌, ◌<◌, drop, length, IfSome};
+ghost use Rattle.std.specs.Prelude.{◌≡◌, ◌≤◌, ◌<◌, drop, length, nat_lt, is_some, IfSome};
 ghost use Rattle.event_grammar.specs.Checks.{spot_of};
-ghost use Rattle.event_levels.specs.Siblings.{size_inside, inside, first_or};
+ghost use Rattle.event_levels.specs.Siblings.{size_inside, inside, first_or, IsFirst};
 
 use engine_events::event::{Event, Kind, Name};
 use event_grammar::spot::{Spot, spot_of};
@@ -35,6 +35,7 @@ pub fn node_after<'e>(enter: &Event, events: &'e [Event]) -> (Node<'e>, &'e [Eve
     ensures end { result.0.end ≡ spot_of (first_or enter.now (drop (size_inside 0 events.now) events.now)) }
     ensures inside { result.0.inside.now ≡ inside events.now }
     ensures after { result.1.now ≡ drop 1 (drop (size_inside 0 events.now) events.now) }
+    ensures smaller { length result.0.inside.now ≤ length events.now }
     ensures shorter { length result.1.now ≤ length events.now }
 {
     let (inside, rest) = events.split_at(size_inside(events));
@@ -82,6 +83,9 @@ fn size_inside(events: &[Event]) -> usize
 
 /// Returns the first of these siblings, and the events of those after it.
 pub fn first_node(events: &[Event]) -> Option<(Node<'_>, &[Event])>
+    ensures some { is_some result ≡ nat_lt 0 (length events.now) }
+    ensures first { IfSome result (λ found. IsFirst events.now found.0 found.1.now) }
+    ensures smaller { IfSome result (λ found. length found.0.inside.now < length events.now) }
     ensures shorter { IfSome result (λ found. length found.1.now < length events.now) }
 {
     match events {
