@@ -38,7 +38,7 @@ module _ (names : Names) (bytes : List ℕ) where
 
 -- whether something may begin at a byte in a string, or the byte may be left out there
 abbrev pub is_told : ℕ → Bool
-is_told b = is_white b || is_eol b || (b == ampersand) || (b == backslash)
+is_told b = is_white b || (is_eol b || ((b == ampersand) || (b == backslash)))
 
 -- a byte, by its number where it may stand for something else
 abbrev pub written_byte : ℕ → List Code

@@ -26,19 +26,19 @@ abbrev pub is_some_event : List Event → Bool
 is_some_event [] = false
 is_some_event (e ∷ es) = true
 
+-- the text of a name, if it has one
+abbrev pub named_text : Names → List ℕ → List ℕ
+named_text names name = if is_utf8 name then unwrap_or (names name) [] else []
+
+abbrev pub value_text : Names → Bool → Bool → List ℕ → List ℕ
+value_text names hexadecimal numeric value =
+    if hexadecimal then numbered_text (number_of 16 value) else (if numeric then numbered_text (number_of 10 value) else named_text names value)
+
 module _ (names : Names) (bytes : List ℕ) where
-  -- the text of a name, if it has one
-  abbrev pub named_text : List ℕ → List ℕ
-  named_text name = if is_utf8 name then unwrap_or (names name) [] else []
-
-  abbrev pub value_text : Bool → Bool → List ℕ → List ℕ
-  value_text hexadecimal numeric value =
-      if hexadecimal then numbered_text (number_of 16 value) else (if numeric then numbered_text (number_of 10 value) else named_text value)
-
   -- the text of a character reference, by the events after its enter
   abbrev pub reference_text : List Event → List ℕ
   reference_text events =
-      value_text (is_some_event (from_child n.CharacterReferenceMarkerHexadecimal 0 events)) (is_some_event (from_child n.CharacterReferenceMarkerNumeric 0 events))
+      value_text names (is_some_event (from_child n.CharacterReferenceMarkerHexadecimal 0 events)) (is_some_event (from_child n.CharacterReferenceMarkerNumeric 0 events))
       (text_first bytes (from_child n.CharacterReferenceValue 0 events))
 
   -- what a part of a string spells, by its name and the events from its enter on

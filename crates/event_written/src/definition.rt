@@ -3,6 +3,20 @@
 //!     definition  ::= DefinitionLabel DefinitionMarker DefinitionDestination DefinitionTitle?
 //!     label       ::= DefinitionLabelMarker DefinitionLabelString DefinitionLabelMarker
 //!     destination ::= DefinitionDestinationLiteral | DefinitionDestinationRaw
+ghost use Rattle.std.specs.Prelude.{◌≡◌, ℕ, List, [], ◌∷◌, ◌++◌, map, IfOk, OnOk, string_bytes};
+ghost use Rattle.definition_inline.specs.Definition.{Definition};
+ghost use Rattle.definition_inline.specs.Inline.{link_texts};
+ghost use Rattle.engine_events.specs.declared.event.Name.TheVariants as names;
+ghost use Rattle.inline_links.specs.View.{link_texts_view};
+ghost use Rattle.event_grammar.specs.Checks.{spot_of};
+ghost use Rattle.event_grammar.specs.InGrammar.{PlacesFit};
+ghost use Rattle.event_grammar.specs.References.{named};
+ghost use Rattle.event_grammar.specs.Trees.{Nodes, events_of, AreNodes};
+ghost use Rattle.event_grammar.specs.declared.spot.Spot.{Spot};
+ghost use Rattle.event_meaning.specs.Spelled.{definition_of};
+ghost use Rattle.event_written.specs.Definition.{HasDefinitions, definition_after, definitions_in, destination_written, label_string};
+ghost use Rattle.event_written.specs.Definition.{leads, literal_events, raw_events, starts_definition, target_view, title_events, title_written};
+
 use crate::child::{child, inside_child};
 use crate::string::push_written;
 use engine_events::event::{Event, Kind, Name};
@@ -38,11 +52,27 @@ pub fn read_definitions<T: Tables, A: Allocator + Clone>(
     bytes: &[u8],
     tables: &T,
     events: &[Event],
-) -> Result<Definitions<A>, AllocError> {
+) -> Result<Definitions<A>, AllocError>
+    ensures { (ns : Nodes) (at : Spot) → AreNodes ns → events.now ≡ events_of ns → PlacesFit bytes.now at events.now →
+        IfOk result (λ found. HasDefinitions found (map (definition_of (T.reference_of tables.now) bytes.now) (named names.Definition ns))) }
+{
+    let found = definitions_in(alloc, bytes, tables, events)?;
+    Ok(found)
+}
+
+/// The definitions among events.
+fn definitions_in<T: Tables, A: Allocator + Clone>(
+    alloc: A,
+    bytes: &[u8],
+    tables: &T,
+    events: &[Event],
+) -> Result<Definitions<A>, AllocError>
+    ensures { IfOk result (λ found. HasDefinitions found (definitions_in (T.reference_of tables.now) bytes.now events.now)) }
+{
     let mut found = Definitions::new(alloc.clone()?)?;
     let mut label = Vec::new(alloc);
     for (index, event) in events.iter().enumerate() {
-        if is_definition(event) {
+        if starts_definition(event) {
             found.read(&mut label, bytes, tables, &events[index + 1..])?;
         }
     }
@@ -50,7 +80,9 @@ pub fn read_definitions<T: Tables, A: Allocator + Clone>(
 }
 
 /// Whether a definition begins.
-fn is_definition(event: &Event) -> bool {
+fn starts_definition(event: &Event) -> bool
+    ensures { result ≡ starts_definition event.now }
+{
     match event.kind {
         Kind::Enter => event.name == Name::Definition,
         Kind::Exit => false,
@@ -58,7 +90,9 @@ fn is_definition(event: &Event) -> bool {
 }
 
 impl<A: Allocator + Clone> Definitions<A> {
-    fn new(alloc: A) -> Result<Definitions<A>, AllocError> {
+    fn new(alloc: A) -> Result<Definitions<A>, AllocError>
+        ensures { IfOk result (λ found. HasDefinitions found []) }
+    {
         Ok(Definitions {
             labels: LabelTable::new(alloc.clone()?)?,
             targets: Vec::new(alloc.clone()?),
@@ -67,13 +101,12 @@ impl<A: Allocator + Clone> Definitions<A> {
     }
 
     /// Returns where the definitions lead, by their places. The only error is out of memory.
-    pub fn links(&self) -> Result<Vec<LinkTexts<'_>, A>, AllocError> {
+    pub fn links(&self) -> Result<Vec<LinkTexts<'_>, A>, AllocError>
+        ensures { (ds : List Definition) → HasDefinitions self.now ds → IfOk result (λ links. map link_texts_view links.items ≡ map leads ds) }
+    {
         let mut links = Vec::new(self.alloc.clone()?);
         for target in &self.targets {
-            links.push(LinkTexts {
-                destination: target.destination.as_str(),
-                title: Some(target.title.as_str()),
-            })?;
+            links.push(target.link())?;
         }
         Ok(links)
     }
@@ -85,7 +118,10 @@ impl<A: Allocator + Clone> Definitions<A> {
         bytes: &[u8],
         tables: &T,
         events: &[Event],
-    ) -> Result<(), AllocError> {
+    ) -> Result<(), AllocError>
+        ensures { (ds : List Definition) → HasDefinitions self.old ds →
+            OnOk result (HasDefinitions self.new (ds ++ definition_after (T.reference_of tables.now) bytes.now events.now ∷ [])) }
+    {
         label.clear();
         push_text_at(label, bytes, label_string(events), 0)?;
         self.labels.insert(label, self.targets.len())?;
@@ -95,8 +131,21 @@ impl<A: Allocator + Clone> Definitions<A> {
     }
 }
 
+impl<A: Allocator> WrittenTarget<A> {
+    fn link(&self) -> LinkTexts<'_>
+        ensures { link_texts_view result ≡ target_view self.now }
+    {
+        LinkTexts {
+            destination: self.destination.as_str(),
+            title: Some(self.title.as_str()),
+        }
+    }
+}
+
 /// The events of a definition's label, from its enter on.
-fn label_string(events: &[Event]) -> &[Event] {
+fn label_string(events: &[Event]) -> &[Event]
+    ensures { result.now ≡ label_string events.now }
+{
     child(
         inside_child(events, Name::DefinitionLabel),
         Name::DefinitionLabelString,
@@ -109,7 +158,9 @@ fn read_target<T: Tables, A: Allocator + Clone>(
     bytes: &[u8],
     tables: &T,
     events: &[Event],
-) -> Result<WrittenTarget<A>, AllocError> {
+) -> Result<WrittenTarget<A>, AllocError>
+    ensures { IfOk result (λ target. target_view target ≡ leads (definition_after (T.reference_of tables.now) bytes.now events.now)) }
+{
     let mut destination = String::new(alloc.clone()?);
     push_destination(&mut destination, bytes, tables, events)?;
     let mut title = String::new(alloc);
@@ -123,21 +174,33 @@ fn push_destination<T: Tables, A: Allocator>(
     bytes: &[u8],
     tables: &T,
     events: &[Event],
-) -> Result<(), AllocError> {
+) -> Result<(), AllocError>
+    ensures { OnOk result (string_bytes out.new ≡ string_bytes out.old ++ destination_written (T.reference_of tables.now) bytes.now events.now) }
+{
+    push_written(out, bytes, tables, literal_events(events))?;
+    push_written(out, bytes, tables, raw_events(events))?;
+    Ok(())
+}
+
+/// The events in the string of a destination between `<` and `>`, if there is one.
+fn literal_events(events: &[Event]) -> &[Event]
+    ensures { result.now ≡ literal_events events.now }
+{
     let place = inside_child(events, Name::DefinitionDestination);
-    let literal = inside_child(place, Name::DefinitionDestinationLiteral);
-    let raw = inside_child(place, Name::DefinitionDestinationRaw);
-    push_written(
-        out,
-        bytes,
-        tables,
-        inside_child(literal, Name::DefinitionDestinationString),
-    )?;
-    push_written(
-        out,
-        bytes,
-        tables,
-        inside_child(raw, Name::DefinitionDestinationString),
+    inside_child(
+        inside_child(place, Name::DefinitionDestinationLiteral),
+        Name::DefinitionDestinationString,
+    )
+}
+
+/// The events in the string of a destination without brackets, if there is one.
+fn raw_events(events: &[Event]) -> &[Event]
+    ensures { result.now ≡ raw_events events.now }
+{
+    let place = inside_child(events, Name::DefinitionDestination);
+    inside_child(
+        inside_child(place, Name::DefinitionDestinationRaw),
+        Name::DefinitionDestinationString,
     )
 }
 
@@ -147,7 +210,9 @@ fn push_title<T: Tables, A: Allocator>(
     bytes: &[u8],
     tables: &T,
     events: &[Event],
-) -> Result<(), AllocError> {
+) -> Result<(), AllocError>
+    ensures { OnOk result (string_bytes out.new ≡ string_bytes out.old ++ title_written (T.reference_of tables.now) bytes.now events.now) }
+{
     let title = inside_child(events, Name::DefinitionTitle);
     push_written(
         out,

@@ -1,9 +1,13 @@
 //! Strings: what an info, a destination or a title spells (CommonMark 2.4 and 2.5).
 //!
 //!     string ::= (Data | LineEnding | CharacterEscape | CharacterReference)*
-ghost use Rattle.std.specs.Prelude.{◌≡◌, ◌++◌, OnOk, string_bytes};
-ghost use Rattle.event_meaning.specs.Strings.{is_told, written};
-ghost use Rattle.event_written.specs.Strings.{formed, reference_text, part_text, parts_after, told_text, valid};
+ghost use Rattle.std.specs.Prelude.{◌≡◌, ◌<◌, ◌++◌, ◌∷◌, [], List, MatchOption, OnOk, OnSome, string_bytes};
+ghost use Rattle.definition_inline.specs.CharacterReference.{number_of, numbered_text};
+ghost use Rattle.event_grammar.specs.Trees.{Nodes};
+ghost use Rattle.event_meaning.specs.Strings.{string_of, written, written_byte};
+ghost use Rattle.event_written.specs.Strings.{formed, named_text, reference_text, part_text, parts_after, valid};
+ghost use Rattle.event_written.specs.Texts.{AreTexts};
+ghost use Rattle.event_written.specs.Within.{AreWithin};
 
 use crate::character_reference::numbered;
 use crate::child::{child, inside, text_first};
@@ -27,9 +31,12 @@ pub fn push_string<T: Tables, A: Allocator>(
     tables: &T,
     events: &[Event],
 ) -> Result<(), AllocError>
-    ensures { OnOk result (string_bytes out.new ≡ string_bytes out.old ++ parts_after (T.reference_of tables.now) bytes.now 0 events.now) }
+    ensures parts { OnOk result (string_bytes out.new ≡ string_bytes out.old ++ parts_after (T.reference_of tables.now) bytes.now 0 events.now) }
+    ensures spelled { (ns : Nodes) → AreWithin ns events.now → AreTexts bytes.now ns →
+        OnOk result (string_bytes out.new ≡ string_bytes out.old ++ string_of (T.reference_of tables.now) bytes.now ns) }
 {
-    push_parts(out, Form::Plain, bytes, tables, events)
+    push_parts(out, Form::Plain, bytes, tables, events)?;
+    Ok(())
 }
 
 /// Appends a string that stands for what a string spells: backslashes, `&` and white space are
@@ -40,9 +47,12 @@ pub fn push_written<T: Tables, A: Allocator>(
     tables: &T,
     events: &[Event],
 ) -> Result<(), AllocError>
-    ensures { OnOk result (string_bytes out.new ≡ string_bytes out.old ++ written (parts_after (T.reference_of tables.now) bytes.now 0 events.now)) }
+    ensures parts { OnOk result (string_bytes out.new ≡ string_bytes out.old ++ written (parts_after (T.reference_of tables.now) bytes.now 0 events.now)) }
+    ensures spelled { (ns : Nodes) → AreWithin ns events.now → AreTexts bytes.now ns →
+        OnOk result (string_bytes out.new ≡ string_bytes out.old ++ written (string_of (T.reference_of tables.now) bytes.now ns)) }
 {
-    push_parts(out, Form::Written, bytes, tables, events)
+    push_parts(out, Form::Written, bytes, tables, events)?;
+    Ok(())
 }
 
 /// Appends the parts of a string.
@@ -125,7 +135,9 @@ fn push_numbered<A: Allocator>(
     form: Form,
     radix: u32,
     digits: &[u8],
-) -> Result<(), AllocError> {
+) -> Result<(), AllocError>
+    ensures { OnOk result (string_bytes out.new ≡ string_bytes out.old ++ formed form (numbered_text (number_of radix digits.now))) }
+{
     let mut room = [0; 4];
     let text = numbered(radix, digits).encode_utf8(&mut room);
     push_formed(out, form, text)
@@ -137,7 +149,9 @@ fn push_named<T: Tables, A: Allocator>(
     form: Form,
     tables: &T,
     name: &[u8],
-) -> Result<(), AllocError> {
+) -> Result<(), AllocError>
+    ensures { OnOk result (string_bytes out.new ≡ string_bytes out.old ++ formed form (named_text (T.reference_of tables.now) name.now)) }
+{
     match std::str::from_utf8(name) {
         Ok(name) => match tables.reference(name) {
             Some(text) => push_formed(out, form, text),
@@ -183,7 +197,10 @@ pub fn push_written_text<A: Allocator>(out: &mut String<A>, text: &str) -> Resul
 }
 
 /// The reference that stands for a byte, if something may begin at it in a string.
-fn told_text(byte: u8) -> Option<&'static str> {
+fn told_text(byte: u8) -> Option<&'static str>
+    ensures written { MatchOption result (written_byte byte ≡ byte ∷ []) (λ text. written_byte byte ≡ text.now) }
+    ensures ascii { OnSome result (byte < 128) }
+{
     match byte {
         b'\t' => Some("&#9;"),
         b'\n' => Some("&#10;"),

@@ -1,0 +1,14 @@
+pub mod ChildLaw
+pub mod StringLaw
+pub mod PlaceTexts
+pub mod DefinitionLaw
+pub mod FootnoteLaw
+pub mod ListLaw
+pub mod Numbers
+pub mod FormedTexts
+pub mod Waiting
+pub mod StringLoops
+pub mod DefinitionLoops
+pub mod FootnoteLoops
+pub mod Written
+pub mod WrittenTargets
