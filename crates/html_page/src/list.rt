@@ -13,7 +13,8 @@ impl<A: Allocator + Clone> Printer<'_, A> {
     /// A list starts (CommonMark 5.3).
     pub(crate) fn enter_list(&mut self, number: Option<u32>, tight: bool) -> Result<(), AllocError>
         ensures default { KeepsEnding self.old.leaves.page self.new.leaves.page }
-        ensures printed { OnOk result (printer_view self.new ≡ enter_list (ending_bytes self.old.leaves.page.default_ending) number tight (printer_view self.old)) }
+        ensures printed { let default = ending_bytes self.old.leaves.page.default_ending in
+            OnOk result (printer_view self.new ≡ enter_list default number tight (printer_view self.old)) }
     {
         self.leaves.page.fresh()?;
         self.leaves.page.list_tag(number)?;

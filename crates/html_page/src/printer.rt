@@ -1,24 +1,25 @@
 //! Rows to HTML.
-ghost use Rattle.std.specs.Prelude.{◌≡◌, ◌≤◌, ◌<◌, ◌*◌, List, IfOk, string_bytes, length, drop, vec_capacity, vec_len};
+ghost use Rattle.std.specs.Prelude.{◌≡◌, ◌≤◌, ◌<◌, ◌*◌, List, IfOk, OnOk, string_bytes, length, drop, vec_capacity, vec_len};
 ghost use Rattle.markdown_options.specs.LineEndings.{ending_bytes};
 ghost use Rattle.definition_inline.specs.Targets.{Targets};
 ghost use Rattle.definition_text.specs.BlockLines.{BlockLine};
 ghost use Rattle.definition_block.specs.Tree.{Blocks};
-ghost use Rattle.html_bytes.specs.Layout.{page_layout};
-ghost use Rattle.html_bytes.specs.Html.{document_bytes};
+ghost use Rattle.std.specs.List.{fold};
+ghost use Rattle.html_bytes.specs.Layout.{page_layout, with_footnotes, lay};
+ghost use Rattle.html_bytes.specs.Html.{document_bytes, last_piece};
 ghost use Rattle.block_rows.specs.Rows.{rows_size, row_size, rows_of, row_value, rows_value};
 ghost use Rattle.text_pieces.specs.Pieces.{piece_lines};
 ghost use Rattle.html_contents.specs.Texts.{KnowsTargets, document_by};
 ghost use Rattle.html_looseness.specs.Printable.{IsPrintableRow, ArePrintable, CanBePrinted};
-ghost use Rattle.html_rows.specs.Printing.{ends_blank_rows, is_blank_row, print_row, print_all};
+ghost use Rattle.html_rows.specs.Printing.{ends_blank_rows, is_blank_row, print_row, print_all, blank_page};
 ghost use Rattle.html_page.specs.PrinterView.{printer_view};
-ghost use Rattle.html_leaves.specs.Prints.{KeepsEnding};
+ghost use Rattle.html_leaves.specs.Prints.{KeepsEnding, page_view};
 
 use block_rows::Row;
 use html_blocks::LeafPrinter;
 use html_contents::Texts;
 use html_looseness::{Holder, Level, Place, places};
-use markdown_options::{LineEnding, Tables};
+use markdown_options::{CompileOptions, LineEnding, Tables};
 use std::alloc::{AllocError, Allocator};
 use text_pieces::Piece;
 
@@ -34,6 +35,26 @@ pub(crate) struct Printer<'t, A: Allocator + Clone> {
 }
 
 impl<'t, A: Allocator + Clone> Printer<'t, A> {
+    /// A printer with an empty page, before these rows.
+    fn new(
+        alloc: A,
+        room: usize,
+        default_ending: LineEnding,
+        rows: &[Row],
+    ) -> Result<Printer<'t, A>, AllocError>
+        ensures default { IfOk result (λ printer. printer.leaves.page.default_ending ≡ default_ending) }
+        ensures blank { (ls : List BlockLine) → IfOk result (λ printer. printer_view printer ≡ blank_page (rows_value rows.now ls).rows) }
+    {
+        let outer = Vec::new(alloc.clone()?);
+        let places = places(alloc.clone()?, rows)?;
+        Ok(Printer {
+            leaves: LeafPrinter::new(alloc, room, default_ending)?,
+            level: Level::new(Holder::Document, false),
+            outer,
+            places,
+        })
+    }
+
     /// Prints a row. A block takes its lines from the front of these. Answers how many it took.
     fn row<T: Tables>(
         &mut self,
@@ -106,6 +127,42 @@ impl<'t, A: Allocator + Clone> Printer<'t, A> {
         }
         Ok(taken)
     }
+    /// Prints all of these rows, part by part, and gives the memory of each part back.
+    fn parts<T: Tables>(
+        &mut self,
+        texts: &Texts<'t, '_, T, A>,
+        mut rows: Vec<Row, A>,
+        mut pieces: Vec<Piece<'t>, A>,
+    ) -> Result<(), AllocError>
+        requires enough { rows_size rows.items ≤ vec_len pieces }
+        requires printable { ArePrintable (rows_value rows.items (piece_lines pieces.items)).rows }
+        ensures default { KeepsEnding self.old.leaves.page self.new.leaves.page }
+        ensures printed { (ds : Targets) → KnowsTargets texts.now ds →
+            let d = document_by T.Tables texts.now ds in
+            OnOk result (printer_view self.new ≡ print_all d (ending_bytes self.old.leaves.page.default_ending) (printer_view self.old)
+            (rows_value rows.items (piece_lines pieces.entry.items)).rows) }
+    {
+        while !rows.is_empty() {
+            let count = part(rows.len());
+            let taken = self.rows(texts, &rows[..count], &pieces)?;
+            remove_front(&mut rows, count);
+            remove_front(&mut pieces, taken);
+        }
+        Ok(())
+    }
+
+    /// Ends the page, on a fresh line if the last row is the ending of a blank line.
+    fn finish(self, options: &CompileOptions, blank: bool) -> Result<String<A>, AllocError>
+        ensures { let page = self.entry.leaves.page in
+            let default = ending_bytes page.default_ending in
+            IfOk result (λ html. string_bytes html ≡ with_footnotes options.now default (fold (lay options.now default) (page_view page) (last_piece blank))) }
+    {
+        let Printer { mut leaves, .. } = self;
+        if blank {
+            leaves.page.fresh()?;
+        }
+        leaves.finish(options)
+    }
 }
 
 /// The HTML of a block tree by its rows, whose blocks take their lines from `pieces`. Its texts are
@@ -119,8 +176,8 @@ pub fn print_rows<'t, T: Tables, A: Allocator + Clone>(
     room: usize,
     default_ending: LineEnding,
     texts: &Texts<'t, '_, T, A>,
-    mut rows: Vec<Row, A>,
-    mut pieces: Vec<Piece<'t>, A>,
+    rows: Vec<Row, A>,
+    pieces: Vec<Piece<'t>, A>,
 ) -> Result<String<A>, AllocError>
     requires enough { rows_size rows.items ≤ vec_len pieces }
     requires printable { ArePrintable (rows_value rows.items (piece_lines pieces.items)).rows }
@@ -129,24 +186,10 @@ pub fn print_rows<'t, T: Tables, A: Allocator + Clone>(
         let d = document_by T.Tables texts.now ds in
         IfOk result (λ html. string_bytes html ≡ page_layout texts.now.options.now.compile (ending_bytes default_ending) (document_bytes d bs)) }
 {
-    let mut printer = Printer {
-        leaves: LeafPrinter::new(alloc.clone()?, room, default_ending)?,
-        level: Level::new(Holder::Document, false),
-        outer: Vec::new(alloc.clone()?),
-        places: places(alloc, &rows)?,
-    };
     let blank = ends_blank(&rows);
-    while !rows.is_empty() {
-        let count = part(rows.len());
-        let taken = printer.rows(texts, &rows[..count], &pieces)?;
-        remove_front(&mut rows, count);
-        remove_front(&mut pieces, taken);
-    }
-    if blank {
-        printer.leaves.page.fresh()?;
-    }
-    let Printer { leaves, .. } = printer;
-    leaves.finish(&texts.options.compile)
+    let mut printer = Printer::new(alloc, room, default_ending, &rows)?;
+    printer.parts(texts, rows, pieces)?;
+    printer.finish(&texts.options.compile, blank)
 }
 
 /// From so many rows on they are printed part by part.

@@ -7,7 +7,6 @@ use Rattle.markdown_options.specs.declared.line_ending.LineEnding.{LineEnding}
 use Rattle.markdown_options.specs.LineEndings.{ending_bytes}
 use Rattle.text_pieces.specs.declared.piece.Piece.{Piece}
 use Rattle.text_pieces.specs.ParagraphLines.{HaveNoEnding}
-use Rattle.definition_text.specs.Lines.{lines}
 use Rattle.definition_text.specs.Columns.{bytes_of, is_byte}
 use Rattle.definition_text.specs.Encode.{encode}
 use Rattle.definition_text.specs.BlockLines.{BlockLine}

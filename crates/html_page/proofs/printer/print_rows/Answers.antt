@@ -1,126 +1,44 @@
-use Rattle.std.proofs.Common.{◌≡◌, Bool, List, [], string_bytes, sym, ap, ◌∙◌, take, drop, arith, length, length-drop, subst, vec_len}
-use Rattle.std.proofs.lemmas.Bool.{eqb-true}
-use Rattle.std.proofs.lemmas.List.{nil_from_length}
+use Rattle.std.proofs.Common.{◌≡◌, Bool, List, string_bytes, ap, ◌∙◌, subst}
 use Rattle.std.specs.List.{fold}
-use Rattle.std.proofs.lemmas.List.Sums.{fold-append, sum_by-take-drop}
 use Rattle.markdown_options.specs.declared.line_ending.LineEnding.{LineEnding}
 use Rattle.markdown_options.specs.LineEndings.{ending_bytes}
 use Rattle.block_rows.specs.declared.row.Row.{Row}
-use Rattle.text_pieces.specs.declared.piece.Piece.{Piece}
-use Rattle.definition_text.specs.BlockLines.{BlockLine}
-use Rattle.block_rows.specs.Rows.{BlockRow, rows_value, rows_size, row_size}
+use Rattle.block_rows.specs.Rows.{rows_value}
 use Rattle.text_pieces.specs.Pieces.{piece_lines}
-use Rattle.html_looseness.specs.Printable.{ArePrintable}
-use Rattle.html_rows.specs.Printing.{PrinterView, print_row, print_all, blank_page, ends_blank_rows, rows_html}
+use Rattle.html_rows.specs.Printing.{PrinterView, print_all, blank_page, ends_blank_rows, rows_html}
 use Rattle.html_page.specs.PrinterView.{printer_view}
 use Rattle.std.specs.Result.{IfOk}
 use Rattle.html_bytes.specs.Layout.{LayoutState, with_footnotes, lay}
-use Rattle.html_leaves.specs.Prints.{page_view, with_fresh}
+use Rattle.html_leaves.specs.Prints.{page_view}
 use Rattle.html_bytes.specs.Html.{last_piece}
 use Rattle.html_contents.specs.Texts.{document_by}
-use Rattle.html_page.specs.declared.printer.Printer.{Printer}
 use Rattle.html_rows.proofs.RowsOf.{rows_html_of}
-use Rattle.html_rows.proofs.RowSteps.{shown_from, printable_front, printable_rest}
 use Rattle.html_page.proofs.printer.print_rows.Goals as goal
-use Rattle.html_page.proofs.printer.print_rows.Goals.{then-blank+in_ok-fresh, else-blank}
-
--- rows and pieces that were lent are those that are left
-lent_again : (lent rows : List Row) (lent_pieces pieces : List Piece) → lent ≡ rows → lent_pieces ≡ pieces
-    → (rows_value lent (piece_lines lent_pieces)).rows ≡ (rows_value rows (piece_lines pieces)).rows
-lent_again lent rows lent_pieces pieces same same_pieces =
-    ap (λ (rs : List Row). (rows_value rs (piece_lines lent_pieces)).rows) same
-    ∙ ap (λ (ps : List Piece). (rows_value rows (piece_lines ps)).rows) same_pieces
-
-pub rows-requires-clause-printable : goal.rows-requires-clause-printable
-rows-requires-clause-printable g c =
-    let rows = c.deref-in-loop-rows.result.now in
-    let pieces = c.deref-in-loop-rows-2.result.now in
-    let same = lent_again rows c.loop-rows.rows.items pieces c.loop-rows.pieces.items c.deref-in-loop-rows.ensures.value c.deref-in-loop-rows-2.ensures.value in
-    printable_front rows (piece_lines pieces) c.part-count.result (subst ArePrintable (sym same) c.loop-rows.invariant.printable)
-
-pub loop-rows-preserved : goal.loop-rows-preserved
-loop-rows-preserved g c =
-    let rows = c.deref-in-loop-rows.result.now in
-    let pieces = c.deref-in-loop-rows-2.result.now in
-    let ls = piece_lines pieces in
-    let i = c.part-count.result in
-    let n = c.in_ok-taken.taken in
-    let k = c.loop-rows.invariant in
-    let done = c.in_ok-taken.ensures in
-    let same = lent_again rows c.loop-rows.rows.items pieces c.loop-rows.pieces.items c.deref-in-loop-rows.ensures.value c.deref-in-loop-rows-2.ensures.value in
-    let front = (rows_value (take i rows) ls).rows in
-    let rest = (rows_value (drop i rows) (rows_value (take i rows) ls).left).rows in
-    let rows_left : c.remove_front.new.items.items ≡ drop i rows = c.remove_front.ensures.items ∙ ap (drop i) (sym c.deref-in-loop-rows.ensures.value) in
-    let pieces_left : c.remove_front-in-loop-rows.new.items.items ≡ drop n pieces =
-    c.remove_front-in-loop-rows.ensures.items ∙ ap (drop n) (sym c.deref-in-loop-rows-2.ensures.value) in
-    let moved : (rows_value c.remove_front.new.items.items (piece_lines c.remove_front-in-loop-rows.new.items.items)).rows ≡ rest =
-    lent_again c.remove_front.new.items.items (drop i rows) c.remove_front-in-loop-rows.new.items.items (drop n pieces) rows_left pieces_left
-    ∙ ap (λ (left : List BlockLine). (rows_value (drop i rows) left).rows) (sym done.left) in
-    let default = ending_bytes c.args.default_ending in
-    let before = printer_view c.loop-rows.printer in
-    record {
-      same_default = done.default ∙ k.same_default;
-      enough = omega (
-        arith,
-        k.enough,
-        done.size,
-        ap rows_size rows_left,
-        ap rows_size c.deref-in-loop-rows.ensures.value,
-        sum_by-take-drop row_size rows i,
-        ap length pieces_left,
-        length-drop n pieces,
-        c.deref-in-loop-rows-2.ensures.len,
-        c.remove_front-in-loop-rows.new.items.ok.0,
-      );
-      printable = subst ArePrintable (sym moved) (printable_rest rows ls i (subst ArePrintable (sym same) k.printable));
-      printed = λ ds has.
-          let d = document_by g.T.Tables c.args.texts.now ds in
-          let all = print_all d default before in
-          ap (λ (bs : List BlockRow). print_all d default (printer_view c.rows.new.self) bs) moved
-          ∙ ap (λ (p : PrinterView). print_all d default p rest)
-          (done.printed ds has ∙ ap (λ (e : LineEnding). print_all d (ending_bytes e) before front) k.same_default)
-          ∙ sym (fold-append (print_row d default) before front rest)
-          ∙ ap all (sym (shown_from rows ls i) ∙ same)
-          ∙ k.printed ds has;
-    }
 
 pub returns : goal.returns
 returns g c = λ ds has bs rows_are can.
     let d = document_by g.T.Tables c.args.texts.now ds in
     let o = d.options.compile in
-    let rows = c.args.rows.items in
     let all = piece_lines c.args.pieces.items in
-    let default = ending_bytes c.args.default_ending in
-    let every = (rows_value rows all).rows in
-    let start = blank_page every in
-    let k = c.loop-rows.invariant in
-    let out = page_view c.loop-rows.printer.leaves.page in
-    let len : vec_len c.loop-rows.rows ≡ 0 = eqb-true (vec_len c.loop-rows.rows) 0 (sym c.is_empty.ensures ∙ c.loop-rows-test.false) in
-    let none : c.loop-rows.rows.items ≡ [] = nil_from_length c.loop-rows.rows.items (omega (arith, len, c.loop-rows.rows.ok.0)) in
-    let laid_out : out ≡ (print_all d default start every).out =
-    ap (λ (p : PrinterView). p.out)
-    (sym (ap (λ (rs : List Row). print_all d default (printer_view c.loop-rows.printer) (rows_value rs (piece_lines c.loop-rows.pieces.items)).rows) none)
-    ∙ k.printed ds has) in
-    let ends = λ (x : LayoutState) (blank : Bool). fold (lay o default) x (last_piece blank) in
-    let ended : page_view c.if-blank.printer.leaves.page ≡ ends out c.ends_blank-blank.result = elim c.if-blank.branch [
-      | then-blank+in_ok-fresh w ↦
-          ap (λ (p : Printer _). page_view p.leaves.page) w.printer-is
-          ∙ w.in_ok-fresh.ensures.printed
-          ∙ ap (λ (e : LineEnding). with_fresh (ending_bytes e) out) k.same_default
-          ∙ ap (ends out) (sym w.if-blank.true)
-      | else-blank w ↦ ap (λ (p : Printer _). page_view p.leaves.page) w.printer-is ∙ ap (ends out) (sym w.if-blank.false)
-    ] in
-    let page = c.if-blank.printer.leaves.page in
-    let same_default : page.default_ending ≡ c.args.default_ending = elim c.if-blank.branch [
-      | then-blank+in_ok-fresh w ↦ ap (λ (p : Printer _). p.leaves.page.default_ending) w.printer-is ∙ w.in_ok-fresh.ensures.default ∙ k.same_default
-      | else-blank w ↦ ap (λ (p : Printer _). p.leaves.page.default_ending) w.printer-is ∙ k.same_default
-    ] in
+    let e = c.args.default_ending in
+    let default = ending_bytes e in
+    let every = (rows_value c.args.rows.items all).rows in
+    let printer = c.in_ok-printer.printer in
+    let after = c.parts.new.self in
+    let last = λ (ending : LineEnding) (out : LayoutState) (blank : Bool).
+    with_footnotes o (ending_bytes ending) (fold (lay o (ending_bytes ending)) out (last_piece blank)) in
+    let started : printer_view printer ≡ blank_page every =
+    c.in_ok-printer.ensures.blank all ∙ ap (λ (rs : List Row). blank_page (rows_value rs all).rows) c.deref-2.ensures.value in
+    let printed : printer_view after ≡ print_all d default (blank_page every) every =
+    c.in_ok-parts.ensures.printed ds has
+    ∙ ap (λ (ending : LineEnding). print_all d (ending_bytes ending) (printer_view printer) every) c.in_ok-printer.ensures.default
+    ∙ ap (λ (p : PrinterView). print_all d default p every) started in
     subst (λ x. IfOk c.finish.result (λ html. string_bytes html ≡ x))
-    (ap (λ (e : LineEnding). with_footnotes o (ending_bytes e) (page_view page)) same_default
-    ∙ ap (with_footnotes o default)
-    (ended
-    ∙ ap (ends out) (c.ends_blank-blank.ensures all ∙ ap (λ (rs : List Row). ends_blank_rows (rows_value rs all).rows) c.deref-2.ensures.value)
-    ∙ ap (λ x. ends x (ends_blank_rows every)) laid_out)
+    (ap (λ (ending : LineEnding). last ending (page_view after.leaves.page) c.ends_blank-blank.result)
+    (c.in_ok-parts.ensures.default ∙ c.in_ok-printer.ensures.default)
+    ∙ ap (λ (p : PrinterView). last e p.out c.ends_blank-blank.result) printed
+    ∙ ap (last e (print_all d default (blank_page every) every).out)
+    (c.ends_blank-blank.ensures all ∙ ap (λ (rs : List Row). ends_blank_rows (rows_value rs all).rows) c.deref.ensures.value)
     ∙ ap (rows_html d default) rows_are
     ∙ rows_html_of d default bs can)
     c.finish.ensures

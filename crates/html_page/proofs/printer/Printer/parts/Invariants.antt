@@ -5,22 +5,22 @@ use Rattle.html_contents.specs.Texts.{KnowsTargets, document_by}
 use Rattle.block_rows.specs.Rows.{rows_size, rows_value}
 use Rattle.text_pieces.specs.Pieces.{piece_lines}
 use Rattle.html_looseness.specs.Printable.{ArePrintable}
-use Rattle.html_rows.specs.Printing.{print_all, blank_page}
+use Rattle.html_rows.specs.Printing.{print_all}
 use Rattle.html_page.specs.PrinterView.{printer_view}
-use Rattle.html_page.proofs.printer.print_rows.Given as goal
+use Rattle.html_page.proofs.printer.Printer.parts.Given as goal
 
 -- what is printed of the rows that are left, after what is printed so far, is what is printed of all
 abbrev pub invariant-loop-rows : goal.invariant-loop-rows
 invariant-loop-rows g l = record {
-  same_default : l.printer.leaves.page.default_ending ≡ l.fn.default_ending;
+  same_default : l.self.leaves.page.default_ending ≡ l.initial.self.leaves.page.default_ending;
   enough : rows_size l.rows.items ≤ vec_len l.pieces;
   printable : ArePrintable (rows_value l.rows.items (piece_lines l.pieces.items)).rows;
   printed : (ds : Targets) → KnowsTargets l.texts ds →
       let d = document_by g.T.Tables l.texts ds in
-      let default = ending_bytes l.fn.default_ending in
+      let default = ending_bytes l.initial.self.leaves.page.default_ending in
       let all = (rows_value l.initial.rows.items (piece_lines l.initial.pieces.items)).rows in
-      print_all d default (printer_view l.printer) (rows_value l.rows.items (piece_lines l.pieces.items)).rows
-      ≡ print_all d default (blank_page all) all;
+      print_all d default (printer_view l.self) (rows_value l.rows.items (piece_lines l.pieces.items)).rows
+      ≡ print_all d default (printer_view l.initial.self) all;
 }
 
 abbrev pub decreases-loop-rows : goal.decreases-loop-rows
