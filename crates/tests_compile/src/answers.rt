@@ -9,7 +9,7 @@ use std::io::{self, ErrorKind};
 use tests_lists::{Names, bytes_of, events_of};
 
 /// Prints the page of a line `LETTERS|TEXT|LIST`, or its fault.
-pub fn print_answer(rt: &impl Print, names: &Names, line: &str) -> io::Result<()> {
+pub fn print_answer(rt: &(impl AllocGlobal + Print), names: &Names, line: &str) -> io::Result<()> {
     let Some((letters, rest)) = line.split_once('|') else {
         return Err(ErrorKind::InvalidData.into());
     };
@@ -29,7 +29,7 @@ pub fn print_answer(rt: &impl Print, names: &Names, line: &str) -> io::Result<()
 }
 
 /// Prints a page as one line. One that should be safe and isn't has a mark.
-fn print_page(rt: &impl Print, safe: bool, page: &str) -> io::Result<()> {
+fn print_page(rt: &(impl AllocGlobal + Print), safe: bool, page: &str) -> io::Result<()> {
     let line = one_line(rt.alloc(), page)?;
     let mark = if safe && !is_safe_page(rt.alloc(), page)? {
         "UNSAFE "

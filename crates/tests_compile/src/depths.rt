@@ -18,7 +18,8 @@ fn push(events: &mut Vec<Event>, kind: Kind, name: Name) -> Result<(), AllocErro
         index: 0,
         vs: 0,
     };
-    events.push(Event::new(kind, name, point, None))
+    events.push(Event::new(kind, name, point, None))?;
+    Ok(())
 }
 
 /// Adds an event that holds nothing.
