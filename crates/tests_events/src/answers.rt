@@ -1,13 +1,12 @@
 //! Lines, and what is printed for each.
 use crate::edits::Edit;
-use crate::lists::{bytes_of, events_of};
-use crate::names::Names;
 use engine_events::event::Event;
 use event_check::{CompileError, check_events, gfm_table_align, list_item_loose, list_loose};
 use event_grammar::EventFault;
 use markdown_tables::Builtin;
 use std::alloc::{AllocError, Global};
 use std::io::{self, ErrorKind};
+use tests_lists::{Names, bytes_of, events_of};
 
 /// The text and the list that edits are applied to.
 #[derive(Drop)]

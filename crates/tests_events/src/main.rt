@@ -4,10 +4,8 @@
 
 mod answers;
 mod edits;
-mod lists;
 #[cfg(test)]
 mod named;
-mod names;
 
 use answers::Answers;
 use std::env;

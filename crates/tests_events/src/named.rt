@@ -1,6 +1,4 @@
 //! A list with each kind of fault, what is told of lists without one, and memory that runs out.
-use crate::lists::events_of;
-use crate::names::Names;
 use engine_events::event::Event;
 use event_check::{CompileError, check_events, gfm_table_align, list_item_loose, list_loose};
 use event_grammar::{EventFault, FaultKind};
@@ -10,6 +8,7 @@ use markdown_tables::Builtin;
 use std::alloc::AllocError;
 use std::io::{self, ErrorKind};
 use std::test::Fail;
+use tests_lists::{Names, events_of};
 
 /// The events of `[a]` and two line endings.
 const LINK: &str =

@@ -1,0 +1,38 @@
+//! Block quotes (CommonMark 5.1).
+ghost use Rattle.std.specs.Prelude.{◌≡◌, OnOk, false};
+ghost use Rattle.markdown_options.specs.declared.configuration.CompileOptions.{CompileOptions};
+ghost use Rattle.html_leaves.specs.Prints.{KeepsEnding};
+ghost use Rattle.event_levels.specs.declared.kind.BlockKind.TheVariants as kinds;
+ghost use Rattle.event_levels.specs.declared.level.Holder.TheVariants as holders;
+ghost use Rattle.event_pieces.specs.Left.{Quote, opening, closing};
+ghost use Rattle.event_html.specs.Views.{opened_of, within, Prints};
+
+use crate::printer::Printer;
+use event_levels::kind::BlockKind;
+use event_levels::level::Holder;
+use std::alloc::{AllocError, Allocator};
+
+impl<A: Allocator + Clone> Printer<A> {
+    /// A block quote starts.
+    pub(crate) fn enter_quote(&mut self) -> Result<(), AllocError>
+        ensures default { KeepsEnding self.old.page self.new.page }
+        ensures skipped { self.new.skipped ≡ self.old.skipped }
+        ensures loose { self.new.loose ≡ self.old.loose }
+        ensures opened { OnOk result (opened_of self.new ≡ within kinds.Quote holders.Quote false (opened_of self.old)) }
+        ensures printed { (options : CompileOptions) → OnOk result (Prints options self.old self.new (opening Quote)) }
+    {
+        self.page.fresh_tag("<blockquote>")?;
+        self.go_in(BlockKind::Quote, Holder::Quote, false)
+    }
+
+    /// A block quote ends.
+    pub(crate) fn leave_quote(&mut self) -> Result<(), AllocError>
+        ensures default { KeepsEnding self.old.page self.new.page }
+        ensures skipped { self.new.skipped ≡ self.old.skipped }
+        ensures loose { self.new.loose ≡ self.old.loose }
+        ensures opened { opened_of self.new ≡ opened_of self.old }
+        ensures printed { (options : CompileOptions) → OnOk result (Prints options self.old self.new (closing Quote self.old.level.plain)) }
+    {
+        self.page.fresh_tag("</blockquote>")
+    }
+}

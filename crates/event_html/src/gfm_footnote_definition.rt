@@ -1,0 +1,38 @@
+//! Footnote definitions, whose blocks are printed at the page's end (in neither standard).
+ghost use Rattle.std.specs.Prelude.{◌≡◌, OnOk, false};
+ghost use Rattle.markdown_options.specs.declared.configuration.CompileOptions.{CompileOptions};
+ghost use Rattle.html_leaves.specs.Prints.{KeepsEnding};
+ghost use Rattle.event_levels.specs.declared.kind.BlockKind.TheVariants as kinds;
+ghost use Rattle.event_levels.specs.declared.level.Holder.TheVariants as holders;
+ghost use Rattle.event_pieces.specs.Left.{Footnote, opening, closing};
+ghost use Rattle.event_html.specs.Views.{opened_of, within, Prints};
+
+use crate::printer::Printer;
+use event_levels::kind::BlockKind;
+use event_levels::level::Holder;
+use std::alloc::{AllocError, Allocator};
+
+impl<A: Allocator + Clone> Printer<A> {
+    /// A footnote definition starts: what it holds is printed into a text of its own.
+    pub(crate) fn enter_footnote(&mut self) -> Result<(), AllocError>
+        ensures default { KeepsEnding self.old.page self.new.page }
+        ensures skipped { self.new.skipped ≡ self.old.skipped }
+        ensures loose { self.new.loose ≡ self.old.loose }
+        ensures opened { OnOk result (opened_of self.new ≡ within kinds.Footnote holders.Footnote false (opened_of self.old)) }
+        ensures printed { (options : CompileOptions) → OnOk result (Prints options self.old self.new (opening Footnote)) }
+    {
+        self.page.start_footnote()?;
+        self.go_in(BlockKind::Footnote, Holder::Footnote, false)
+    }
+
+    /// A footnote definition ends: the text around it goes on.
+    pub(crate) fn leave_footnote(&mut self) -> Result<(), AllocError>
+        ensures default { KeepsEnding self.old.page self.new.page }
+        ensures skipped { self.new.skipped ≡ self.old.skipped }
+        ensures loose { self.new.loose ≡ self.old.loose }
+        ensures opened { opened_of self.new ≡ opened_of self.old }
+        ensures printed { (options : CompileOptions) → OnOk result (Prints options self.old self.new (closing Footnote self.old.level.plain)) }
+    {
+        self.page.end_footnote()
+    }
+}

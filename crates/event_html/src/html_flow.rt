@@ -1,0 +1,17 @@
+//! HTML of the text (CommonMark 4.6).
+use crate::printer::Printer;
+use crate::source::Source;
+use engine_events::event::Event;
+use std::alloc::{AllocError, Allocator};
+
+impl<A: Allocator + Clone> Printer<A> {
+    /// Prints an HTML block of these events.
+    pub(crate) fn html_flow<T>(
+        &mut self,
+        source: &Source<'_, T, A>,
+        inside: &[Event],
+    ) -> Result<(), AllocError> {
+        self.page.fresh()?;
+        self.html(source, inside)
+    }
+}

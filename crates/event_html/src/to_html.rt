@@ -1,0 +1,89 @@
+//! A list of events to HTML.
+ghost use Rattle.std.specs.Prelude.{◌≡◌, IfErr, OnOk};
+ghost use Rattle.event_grammar.specs.Faults.{fault};
+ghost use Rattle.event_check.specs.Matches.{MatchesGrammar};
+ghost use Rattle.event_check.specs.Checked.{Refuses};
+ghost use Rattle.event_check.specs.declared.error.CompileError.TheVariants.{Memory};
+
+use crate::printer::Printer;
+use crate::source::Source;
+use engine_events::event::Event;
+use event_check::{Checked, CompileError, check_events};
+use event_written::{footnote_labels, loose_lists, read_definitions};
+use markdown_options::{CompileOptions, Constructs, LineEnding, Tables};
+use std::alloc::{AllocError, Allocator};
+use text_search::{BytePair, next_of};
+
+/// The bytes that begin an ending: LF and CR.
+const ENDS: BytePair = BytePair {
+    first: b'\n',
+    second: b'\r',
+};
+
+/// Returns the HTML of the page that a list of events of a text spells (docs/EVENTS.md). Fails with
+/// the first fault of a list that isn't in the grammar, or out of memory.
+pub fn compile<T: Tables, A: Allocator + Clone>(
+    alloc: A,
+    events: &[Event],
+    bytes: &[u8],
+    options: &CompileOptions,
+    tables: &T,
+) -> Result<String<A>, CompileError>
+    ensures right { OnOk result (MatchesGrammar (T.reference_of tables.now) bytes.now events.now) }
+    ensures passes { MatchesGrammar (T.reference_of tables.now) bytes.now events.now → IfErr result (λ error. error ≡ Memory) }
+    ensures fault { IfErr result (λ error. Refuses error (fault (T.reference_of tables.now) bytes.now events.now)) }
+{
+    let checked = check_events(alloc.clone()?, events, bytes, tables)?;
+    let html = checked_html(alloc, checked, options, tables)?;
+    Ok(html)
+}
+
+/// The HTML of a list in the grammar.
+fn checked_html<T: Tables, A: Allocator + Clone>(
+    alloc: A,
+    checked: Checked<'_>,
+    options: &CompileOptions,
+    tables: &T,
+) -> Result<String<A>, AllocError> {
+    let events = checked.events();
+    let bytes = checked.bytes();
+    let defined = read_definitions(alloc.clone()?, bytes, tables, events)?;
+    let links = defined.links()?;
+    let footnotes = footnote_labels(alloc.clone()?, bytes, events)?;
+    let on = Constructs::default();
+    let source = Source {
+        checked,
+        options,
+        tables,
+        on: &on,
+        labels: &defined.labels,
+        links: &links,
+        footnotes: &footnotes,
+    };
+    let loose = loose_lists(alloc.clone()?, bytes, events)?;
+    let ending = default_ending(bytes, options.default_line_ending);
+    let mut printer = Printer::new(alloc, room(bytes.len()), ending, loose)?;
+    printer.events(&source, events)?;
+    let Printer { page, .. } = printer;
+    page.finish(options)
+}
+
+/// The first line ending of the text, or the other one if it has none.
+fn default_ending(bytes: &[u8], other: LineEnding) -> LineEnding {
+    let end = next_of(bytes, ENDS);
+    if end >= bytes.len() {
+        other
+    } else if bytes[end] == b'\n' {
+        LineEnding::LineFeed
+    } else if end + 1 < bytes.len() && bytes[end + 1] == b'\n' {
+        LineEnding::CarriageReturnLineFeed
+    } else {
+        LineEnding::CarriageReturn
+    }
+}
+
+/// The initial capacity of a page, in bytes: the size of the text, and some for tags and
+/// references.
+fn room(size: usize) -> usize {
+    size.saturating_add(size / 4).saturating_add(64)
+}

@@ -1,0 +1,3 @@
+pub mod Kinds
+pub mod Levels
+pub mod Siblings
