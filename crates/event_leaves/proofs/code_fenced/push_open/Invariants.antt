@@ -1,4 +1,5 @@
-use Rattle.std.proofs.Common.{◌≡◌}
+use Rattle.std.proofs.Common.{◌≡◌, ◌∷◌}
+use Rattle.event_output.specs.Open.{Entered}
 use Rattle.event_lines.specs.Open.{still_open}
 use Rattle.event_leaves.proofs.code_fenced.push_open.Given as goal
 
