@@ -1,12 +1,15 @@
 -- A label matches by its bytes as by its codes, and without the columns of a tab before it.
-use Rattle.std.proofs.Common.{◌≡◌, ℕ, zero, suc, List, [], ◌∷◌, ◌++◌, Bool, true, false, if◌then◌else◌, refl, sym, ap, ap₂, subst, ◌∙◌, drop}
-use Rattle.std.specs.Prelude.{◌==◌, replicate}
+use Rattle.std.proofs.Common.{◌≡◌, ℕ, zero, suc, List, [], ◌∷◌, ◌++◌, Bool, true, false, if◌then◌else◌, refl, sym, ap, ap₂, subst, ◌∙◌, drop, length, ◌≤◌, ◌<◌, arith}
+use Rattle.std.specs.Prelude.{◌==◌, replicate, slice_index_or}
 use Rattle.std.specs.List.{filter, join_by, onto_first, slice_split}
 use Rattle.std.proofs.lemmas.Bool.{eqb-true}
 use Rattle.std.proofs.lemmas.List.Splits.{slice_split-cons_yes, slice_split-cons_no}
 use Rattle.definition_text.specs.Ascii.{carriage_return, line_feed, space}
 use Rattle.definition_text.specs.Columns.{Code, tab_column}
 use Rattle.definition_text.specs.Content.{after_return_code, content_codes, is_space, return_and_feed}
+use Rattle.text_pieces.specs.declared.piece.Piece.{Piece}
+use Rattle.text_pieces.specs.Pieces.{piece_lines}
+use Rattle.block_rows.specs.Rows.{first_codes}
 use Rattle.definition_inline.specs.LabelMatch.{fold_word, is_word, normal_label, words}
 
 -- what stands before the first space, and the words after it
@@ -51,11 +54,11 @@ others_onto c [] = refl
 others_onto c (p ∷ ps) = refl
 
 after_letter : (c : Code) (cs ds : List Code) → is_space c ≡ false → Alike cs ds → Alike (c ∷ cs) (c ∷ ds)
-after_letter c cs ds no alike = (
-  ap first_part (slice_split-cons_no is_space c cs no) ∙ first_onto c (parts cs) ∙ ap (λ p. c ∷ p) alike.0
-      ∙ sym (first_onto c (parts ds)) ∙ sym (ap first_part (slice_split-cons_no is_space c ds no)),
-  ap other_words (slice_split-cons_no is_space c cs no) ∙ others_onto c (parts cs) ∙ alike.1
-      ∙ sym (others_onto c (parts ds)) ∙ sym (ap other_words (slice_split-cons_no is_space c ds no)),
+after_letter c cs ds isnt alike = (
+  ap first_part (slice_split-cons_no is_space c cs isnt) ∙ first_onto c (parts cs) ∙ ap (λ p. c ∷ p) alike.0
+      ∙ sym (first_onto c (parts ds)) ∙ sym (ap first_part (slice_split-cons_no is_space c ds isnt)),
+  ap other_words (slice_split-cons_no is_space c cs isnt) ∙ others_onto c (parts cs) ∙ alike.1
+      ∙ sym (others_onto c (parts ds)) ∙ sym (ap other_words (slice_split-cons_no is_space c ds isnt)),
 )
 
 after_same : (t : Bool) (c : Code) (cs ds : List Code) → is_space c ≡ t → Alike cs ds → Alike (c ∷ cs) (c ∷ ds)
@@ -91,5 +94,15 @@ without_columns : (n : ℕ) (cs : List Code) → normal_label (replicate n tab_c
 without_columns zero cs = refl
 without_columns (suc n) cs = without_columns n cs
 
-pub label_codes : (n : ℕ) (bs : List ℕ) → normal_label (content_codes bs) ≡ normal_label (replicate n tab_column ++ bs)
+label_codes : (n : ℕ) (bs : List ℕ) → normal_label (content_codes bs) ≡ normal_label (replicate n tab_column ++ bs)
 label_codes n bs = ap (join_by fold_word (space ∷ [])) (same_words (content_codes bs) bs (alike_from bs).0) ∙ sym (without_columns n bs)
+
+-- the label on the first line
+pub label_first : (lines : List Piece) (other : Piece) → 1 ≤ length lines
+    → normal_label (content_codes (slice_index_or lines 0 other).text.now) ≡ normal_label (first_codes (piece_lines lines))
+label_first [] other enough = absurd (omega (arith, enough))
+label_first (line ∷ lines) other enough = label_codes line.owed line.text.now
+
+pub label_none : (lines : List Piece) → length lines < 1 → [] ≡ normal_label (first_codes (piece_lines lines))
+label_none [] none = refl
+label_none (line ∷ lines) none = absurd (omega (arith, none))

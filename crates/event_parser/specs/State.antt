@@ -4,9 +4,9 @@ use Rattle.markdown_options.specs.declared.configuration.ParseOptions.{ParseOpti
 use Rattle.event_parser.specs.declared.state.ParseState.{ParseState}
 
 -- what a text was read by, and its bytes
-pub record IsReadBy {T A : Type 0} (state : ParseState T A) (options : ParseOptions) (tables : T) (text : List ℕ) : Type 0 where
-  pub options : state.options.now ≡ options
-  pub tables : state.tables.now ≡ tables
+pub record IsReadBy {T A : Type 0} (state : ParseState T A) (by : ParseOptions) (over : T) (text : List ℕ) : Type 0 where
+  pub options : state.options.now ≡ by
+  pub tables : state.tables.now ≡ over
   pub bytes : state.bytes.now ≡ text
 
 -- the labels of link reference definitions, and those of footnote definitions

@@ -59,7 +59,6 @@ impl<A: Allocator + Clone> Labels<A> {
     }
 
     /// Adds the label of a row, which takes its lines from the front of these, if it defines one.
-    #[tactic(auto, using(crate::proofs::LabelRows::one_label))]
     fn row(&mut self, row: Row, lines: &[Piece<'_>]) -> Result<(), AllocError>
         requires enough { row_size row ≤ length lines.now }
         ensures defined { OnOk result (
@@ -108,13 +107,14 @@ fn definition_label<A: Allocator>(alloc: A, content: &str) -> Result<String<A>, 
 }
 
 /// The label of a footnote definition, which is the first of these lines.
-#[tactic(auto, using(crate::proofs::FootnoteCodes::label_codes))]
+#[tactic(auto, using(crate::proofs::FootnoteCodes::label_first, crate::proofs::FootnoteCodes::label_none))]
 fn footnote_label<A: Allocator>(alloc: A, lines: &[Piece<'_>]) -> Result<String<A>, AllocError>
     ensures { IfOk result (λ label. string_bytes label ≡ normal_label (first_codes (piece_lines lines.now))) }
 {
     let mut label = String::new(alloc);
-    if let [line, ..] = lines {
-        normalize_label(&mut label, line.text.as_bytes())?;
-    }
+    let [line, ..] = lines else {
+        return Ok(label);
+    };
+    normalize_label(&mut label, line.text.as_bytes())?;
     Ok(label)
 }

@@ -172,7 +172,7 @@ fn exit_all<'a, A: Allocator>(
     walk: Walk<'a, A>,
     names: Vec<Name, A>,
 ) -> Result<Walk<'a, A>, AllocError>
-    ensures open { IfOk result (λ after. still_open after ≡ close_all names.entry.items (still_open walk.entry)) }
+    ensures open { IfOk result (λ after. still_open after ≡ close_all names.items (still_open walk.entry)) }
 {
     let mut walk = walk;
     let mut names = names;

@@ -40,10 +40,7 @@ fn without_columns(line: Piece<'_>) -> Piece<'_> {
 }
 
 /// The bar before the first cell, if there is one, with the spaces and tabs before it.
-fn push_first_divider<A: Allocator>(
-    walk: &mut Walk<'_, A>,
-    bytes: &[u8],
-) -> Result<(), AllocError>
+fn push_first_divider<A: Allocator>(walk: &mut Walk<'_, A>, bytes: &[u8]) -> Result<(), AllocError>
     ensures open { OnOk result (still_open walk.new ≡ still_open walk.old) }
 {
     let white = white_size(bytes);

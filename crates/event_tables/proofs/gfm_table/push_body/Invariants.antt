@@ -4,4 +4,3 @@ use Rattle.event_tables.proofs.gfm_table.push_body.Given as goal
 
 abbrev pub invariant-loop-i : goal.invariant-loop-i
 invariant-loop-i g l = still_open l.walk ≡ still_open l.initial.walk
-

@@ -31,8 +31,8 @@ loop-row-preserved g c =
           ap (λ (s : RowsValue). s.left) more
           ∙ ap (drop (row_size row)) k.left
           ∙ left_more piece_line (row_size row) c.loop-row.taken pieces
-          ∙ ap (λ n. piece_lines (drop (c.loop-row.taken + n) pieces)) (sym c.size.ensures);
-      enough = omega (arith, k.enough, c.size.ensures, taken_more rows i (Paragraph 0) c.loop-row-test.true);
+          ∙ ap (λ n. piece_lines (drop (c.loop-row.taken + n) pieces)) (sym c.size-taken.ensures);
+      enough = omega (arith, k.enough, c.size-taken.ensures, taken_more rows i (Paragraph 0) c.loop-row-test.true);
     }
 
 pub returns : goal.returns
