@@ -1,4 +1,7 @@
 //! Calls of footnotes (in neither standard).
+ghost use Rattle.std.specs.Prelude.{◌≡◌, OnOk};
+ghost use Rattle.event_lines.specs.Open.{still_open};
+
 use crate::label::label_end;
 use crate::reading::Reading;
 use engine_events::event::Name;
@@ -13,16 +16,25 @@ pub(crate) fn push_call<T: Tables, A: Allocator>(
     walk: &mut Walk<'_, A>,
     reading: &Reading<'_, T>,
     label: &str,
-) -> Result<(), AllocError> {
+) -> Result<(), AllocError>
+    ensures open { OnOk result (still_open walk.new ≡ still_open walk.old) }
+{
     walk.enter(Name::GfmFootnoteCall)?;
     walk.enter(Name::Label)?;
-    walk.enter(Name::GfmFootnoteCallLabel)?;
-    walk.text(Name::LabelMarker, 1)?;
-    walk.text(Name::GfmFootnoteCallMarker, 1)?;
-    walk.exit(Name::GfmFootnoteCallLabel)?;
+    call_start(walk)?;
     walk.enter(Name::LabelText)?;
     let string = up_to(reading.rest(walk.place()), label.len());
     push_string(walk, reading.on, reading.tables, string)?;
     label_end(walk)?;
     walk.exit(Name::GfmFootnoteCall)
+}
+
+/// What begins the label.
+fn call_start<A: Allocator>(walk: &mut Walk<'_, A>) -> Result<(), AllocError>
+    ensures open { OnOk result (still_open walk.new ≡ still_open walk.old) }
+{
+    walk.enter(Name::GfmFootnoteCallLabel)?;
+    walk.text(Name::LabelMarker, 1)?;
+    walk.text(Name::GfmFootnoteCallMarker, 1)?;
+    walk.exit(Name::GfmFootnoteCallLabel)
 }

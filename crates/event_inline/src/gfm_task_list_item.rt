@@ -1,4 +1,7 @@
 //! Checks of task list items (GFM 5.3).
+ghost use Rattle.std.specs.Prelude.{◌≡◌, OnOk};
+ghost use Rattle.event_lines.specs.Open.{still_open};
+
 use engine_events::event::Name;
 use event_lines::Walk;
 use event_lines::cut::bytes_from;
@@ -10,7 +13,9 @@ pub fn push_check<A: Allocator>(
     walk: &mut Walk<'_, A>,
     bytes: &[u8],
     done: bool,
-) -> Result<(), AllocError> {
+) -> Result<(), AllocError>
+    ensures open { OnOk result (still_open walk.new ≡ still_open walk.old) }
+{
     walk.enter(Name::GfmTaskListItemCheck)?;
     walk.text(Name::GfmTaskListItemMarker, 1)?;
     let name = value_name(done);

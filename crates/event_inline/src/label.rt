@@ -1,5 +1,10 @@
 //! Links and images (CommonMark 6.3 and 6.4).
-use crate::open::Open;
+ghost use Rattle.std.specs.Prelude.{◌≡◌, OnOk};
+ghost use Rattle.event_output.specs.Open.{closed};
+ghost use Rattle.event_lines.specs.Open.{still_open};
+ghost use Rattle.event_inline.specs.Leaving.{leave_label, open_around};
+
+use crate::opened::Open;
 use crate::reading::Reading;
 use engine_events::event::Name;
 use event_lines::Walk;
@@ -8,37 +13,59 @@ use inline_rows::LinkTarget;
 use markdown_options::Tables;
 use std::alloc::{AllocError, Allocator};
 
-/// The start of a link or an image.
-pub(crate) fn enter_label<A: Allocator>(
+/// The start of a link.
+#[tactic(auto, using(crate::proofs::LeavingAll::leave_last))]
+pub(crate) fn enter_link<A: Allocator>(
     walk: &mut Walk<'_, A>,
     open: &mut Vec<Open, A>,
-    name: Name,
     target: LinkTarget<'_>,
-) -> Result<(), AllocError> {
+) -> Result<(), AllocError>
+    ensures open { OnOk result (open_around open.new.items walk.new ≡ open_around open.old.items walk.old) }
+{
     let resource = matches!(target, LinkTarget::Resource(_));
-    if name == Name::Image {
-        open.push(Open::Image { resource })?;
-    } else {
-        open.push(Open::Link { resource })?;
-    }
-    walk.enter(name)?;
+    open.push(Open::Link { resource })?;
+    walk.enter(Name::Link)?;
     walk.enter(Name::Label)?;
-    label_start(walk, name)?;
-    walk.enter(Name::LabelText)
+    link_start(walk)?;
+    walk.enter(Name::LabelText)?;
+    Ok(())
 }
 
-/// What begins the label.
-fn label_start<A: Allocator>(walk: &mut Walk<'_, A>, name: Name) -> Result<(), AllocError> {
-    if name == Name::Image {
-        walk.enter(Name::LabelImage)?;
-        walk.text(Name::LabelImageMarker, 1)?;
-        walk.text(Name::LabelMarker, 1)?;
-        walk.exit(Name::LabelImage)
-    } else {
-        walk.enter(Name::LabelLink)?;
-        walk.text(Name::LabelMarker, 1)?;
-        walk.exit(Name::LabelLink)
-    }
+/// The start of an image.
+#[tactic(auto, using(crate::proofs::LeavingAll::leave_last))]
+pub(crate) fn enter_image<A: Allocator>(
+    walk: &mut Walk<'_, A>,
+    open: &mut Vec<Open, A>,
+    target: LinkTarget<'_>,
+) -> Result<(), AllocError>
+    ensures open { OnOk result (open_around open.new.items walk.new ≡ open_around open.old.items walk.old) }
+{
+    let resource = matches!(target, LinkTarget::Resource(_));
+    open.push(Open::Image { resource })?;
+    walk.enter(Name::Image)?;
+    walk.enter(Name::Label)?;
+    image_start(walk)?;
+    walk.enter(Name::LabelText)?;
+    Ok(())
+}
+
+/// What begins the label of a link.
+fn link_start<A: Allocator>(walk: &mut Walk<'_, A>) -> Result<(), AllocError>
+    ensures open { OnOk result (still_open walk.new ≡ still_open walk.old) }
+{
+    walk.enter(Name::LabelLink)?;
+    walk.text(Name::LabelMarker, 1)?;
+    walk.exit(Name::LabelLink)
+}
+
+/// What begins the label of an image.
+fn image_start<A: Allocator>(walk: &mut Walk<'_, A>) -> Result<(), AllocError>
+    ensures open { OnOk result (still_open walk.new ≡ still_open walk.old) }
+{
+    walk.enter(Name::LabelImage)?;
+    walk.text(Name::LabelImageMarker, 1)?;
+    walk.text(Name::LabelMarker, 1)?;
+    walk.exit(Name::LabelImage)
 }
 
 /// The end of a link or an image, with what follows its label.
@@ -47,7 +74,9 @@ pub(crate) fn leave_label<T: Tables, A: Allocator>(
     reading: &Reading<'_, T>,
     name: Name,
     resource: bool,
-) -> Result<(), AllocError> {
+) -> Result<(), AllocError>
+    ensures open { OnOk result (still_open walk.new ≡ closed name (leave_label (still_open walk.old))) }
+{
     label_end(walk)?;
     let rest = reading.rest(walk.place());
     if resource {
@@ -59,7 +88,9 @@ pub(crate) fn leave_label<T: Tables, A: Allocator>(
 }
 
 /// What ends the label.
-pub(crate) fn label_end<A: Allocator>(walk: &mut Walk<'_, A>) -> Result<(), AllocError> {
+pub(crate) fn label_end<A: Allocator>(walk: &mut Walk<'_, A>) -> Result<(), AllocError>
+    ensures open { OnOk result (still_open walk.new ≡ leave_label (still_open walk.old)) }
+{
     walk.exit(Name::LabelText)?;
     walk.enter(Name::LabelEnd)?;
     walk.text(Name::LabelMarker, 1)?;

@@ -1,4 +1,7 @@
 //! Constructs that hold no other (CommonMark 2.4, 2.5, 6.1 and 6.5 to 6.8).
+ghost use Rattle.std.specs.Prelude.{◌≡◌, OnOk};
+ghost use Rattle.event_lines.specs.Open.{still_open};
+
 use crate::gfm_autolink_literal::literal_name;
 use crate::lines::push_lines;
 use crate::reading::Reading;
@@ -36,7 +39,9 @@ pub(crate) fn push_leaf<T, A: Allocator>(
     walk: &mut Walk<'_, A>,
     reading: &Reading<'_, T>,
     part: LeafPart<'_>,
-) -> Result<(), AllocError> {
+) -> Result<(), AllocError>
+    ensures open { OnOk result (still_open walk.new ≡ still_open walk.old) }
+{
     let bytes = reading.rest(walk.place()).as_bytes();
     match part {
         LeafPart::Escape(_) => push_escape(walk),
@@ -59,13 +64,16 @@ pub(crate) fn push_leaf<T, A: Allocator>(
 }
 
 /// Raw text of a size between two sequences of a size, at the front of these bytes (CommonMark 6.1).
+#[tactic(auto, using(event_output::proofs::Marks::same_self))]
 fn push_raw<A: Allocator>(
     walk: &mut Walk<'_, A>,
     names: &RawNames,
     bytes: &[u8],
     sequence: usize,
     size: usize,
-) -> Result<(), AllocError> {
+) -> Result<(), AllocError>
+    ensures open { OnOk result (still_open walk.new ≡ still_open walk.old) }
+{
     walk.enter(names.text)?;
     walk.text(names.sequence, sequence)?;
     let inside = bytes_up_to(bytes_from(bytes, sequence), size);
@@ -79,7 +87,9 @@ fn push_autolink<A: Allocator>(
     walk: &mut Walk<'_, A>,
     email: bool,
     size: usize,
-) -> Result<(), AllocError> {
+) -> Result<(), AllocError>
+    ensures open { OnOk result (still_open walk.new ≡ still_open walk.old) }
+{
     let name = if email {
         Name::AutolinkEmail
     } else {
@@ -93,7 +103,9 @@ fn push_autolink<A: Allocator>(
 }
 
 /// Raw HTML (CommonMark 6.6).
-fn push_html<A: Allocator>(walk: &mut Walk<'_, A>, bytes: &[u8]) -> Result<(), AllocError> {
+fn push_html<A: Allocator>(walk: &mut Walk<'_, A>, bytes: &[u8]) -> Result<(), AllocError>
+    ensures open { OnOk result (still_open walk.new ≡ still_open walk.old) }
+{
     walk.enter(Name::HtmlText)?;
     push_lines(walk, Name::HtmlTextData, bytes, true)?;
     walk.exit(Name::HtmlText)
@@ -105,7 +117,9 @@ fn push_line_end<A: Allocator>(
     walk: &mut Walk<'_, A>,
     bytes: &[u8],
     size: usize,
-) -> Result<(), AllocError> {
+) -> Result<(), AllocError>
+    ensures open { OnOk result (still_open walk.new ≡ still_open walk.old) }
+{
     let before = white_size(bytes);
     walk.text(Name::SpaceOrTab, before)?;
     walk.content_ending(Name::LineEnding, size)?;

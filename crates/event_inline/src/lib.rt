@@ -7,11 +7,11 @@ pub mod gfm_task_list_item;
 pub mod label;
 pub mod leaf;
 pub mod lines;
-pub mod open;
+pub mod opened;
 pub mod reading;
 pub mod rows;
 pub mod span;
 
-pub use open::Open;
+pub use opened::Open;
 pub use reading::Reading;
 pub use rows::push_rows;

@@ -1,4 +1,7 @@
 //! Raw text of lines (CommonMark 6.1 and 6.6).
+ghost use Rattle.std.specs.Prelude.{◌≡◌, OnOk};
+ghost use Rattle.event_lines.specs.Open.{still_open};
+
 use engine_events::event::Name;
 use event_lines::Walk;
 use event_lines::cut::bytes_from;
@@ -12,7 +15,9 @@ pub(crate) fn push_lines<A: Allocator>(
     name: Name,
     bytes: &[u8],
     indented: bool,
-) -> Result<(), AllocError> {
+) -> Result<(), AllocError>
+    ensures open { OnOk result (still_open walk.new ≡ still_open walk.old) }
+{
     let mut rest = bytes;
     while !rest.is_empty() {
         let size = push_line(walk, name, rest, indented)?;
@@ -27,7 +32,9 @@ fn push_line<A: Allocator>(
     name: Name,
     bytes: &[u8],
     indented: bool,
-) -> Result<usize, AllocError> {
+) -> Result<usize, AllocError>
+    ensures open { OnOk result (still_open walk.new ≡ still_open walk.old) }
+{
     let Some(found) = ending_at(bytes) else {
         let size = line_size(bytes);
         walk.text(name, size)?;

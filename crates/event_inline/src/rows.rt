@@ -1,8 +1,12 @@
 //! Rows, one after another (CommonMark 6).
+ghost use Rattle.std.specs.Prelude.{◌≡◌, OnOk};
+ghost use Rattle.event_lines.specs.Open.{still_open};
+ghost use Rattle.event_inline.specs.Leaving.{leave_open, open_around};
+
 use crate::gfm_footnote_call::push_call;
-use crate::label::{enter_label, leave_label};
+use crate::label::{enter_image, enter_link, leave_label};
 use crate::leaf::push_leaf;
-use crate::open::Open;
+use crate::opened::Open;
 use crate::reading::Reading;
 use crate::span::{enter_span, leave_span};
 use engine_events::event::Name;
@@ -12,49 +16,75 @@ use markdown_options::Tables;
 use std::alloc::{AllocError, Allocator};
 
 /// The events of the rows of a content, and of what is left of it: spaces and tabs at its end. What is
-/// open is kept in a list, whose memory is used again.
+/// open is kept in a list, whose memory is used again. What the rows don't end ends after them.
+#[tactic(auto, using(crate::proofs::LeavingAll::leave_last))]
 pub fn push_rows<T: Tables, A: Allocator>(
     walk: &mut Walk<'_, A>,
     reading: &Reading<'_, T>,
     open: &mut Vec<Open, A>,
     rows: &[InlineRow<'_>],
-) -> Result<(), AllocError> {
+) -> Result<(), AllocError>
+    ensures open { OnOk result (still_open walk.new ≡ still_open walk.old) }
+{
     open.clear();
     for row in rows {
         push_row(walk, reading, open, *row)?;
+    }
+    while let Some(held) = open.pop() {
+        leave(walk, reading, held)?;
     }
     let left = reading.content.len().saturating_sub(walk.place());
     walk.text(Name::SpaceOrTab, left)
 }
 
+/// The events of a row, which may begin something or end the innermost that is open.
 fn push_row<T: Tables, A: Allocator>(
     walk: &mut Walk<'_, A>,
     reading: &Reading<'_, T>,
     open: &mut Vec<Open, A>,
     row: InlineRow<'_>,
-) -> Result<(), AllocError> {
+) -> Result<(), AllocError>
+    ensures open { OnOk result (open_around open.new.items walk.new ≡ open_around open.old.items walk.old) }
+{
     match row {
-        InlineRow::Text(text) => walk.data(text.len()),
-        InlineRow::Verbatim(verbatim) => walk.data(verbatim.text.len()),
-        InlineRow::Leaf(part) => push_leaf(walk, reading, part),
-        InlineRow::EnterSpan(span) => enter_span(walk, reading, open, span),
-        InlineRow::EnterLink(target) => enter_label(walk, open, Name::Link, target),
-        InlineRow::EnterImage(target) => enter_label(walk, open, Name::Image, target),
-        InlineRow::Call(label) => push_call(walk, reading, label),
-        InlineRow::Exit => leave(walk, reading, open),
+        InlineRow::Text(text) => walk.data(text.len())?,
+        InlineRow::Verbatim(verbatim) => walk.data(verbatim.text.len())?,
+        InlineRow::Leaf(part) => push_leaf(walk, reading, part)?,
+        InlineRow::EnterSpan(span) => enter_span(walk, reading, open, span)?,
+        InlineRow::EnterLink(target) => enter_link(walk, open, target)?,
+        InlineRow::EnterImage(target) => enter_image(walk, open, target)?,
+        InlineRow::Call(label) => push_call(walk, reading, label)?,
+        InlineRow::Exit => leave_innermost(walk, reading, open)?,
     }
+    Ok(())
+}
+
+/// The end of the innermost that is open.
+#[tactic(auto, using(crate::proofs::LeavingAll::leave_last))]
+fn leave_innermost<T: Tables, A: Allocator>(
+    walk: &mut Walk<'_, A>,
+    reading: &Reading<'_, T>,
+    open: &mut Vec<Open, A>,
+) -> Result<(), AllocError>
+    ensures open { OnOk result (open_around open.new.items walk.new ≡ open_around open.old.items walk.old) }
+{
+    if let Some(held) = open.pop() {
+        leave(walk, reading, held)?;
+    }
+    Ok(())
 }
 
 /// The end of what is open.
 fn leave<T: Tables, A: Allocator>(
     walk: &mut Walk<'_, A>,
     reading: &Reading<'_, T>,
-    open: &mut Vec<Open, A>,
-) -> Result<(), AllocError> {
-    match open.pop() {
-        Some(Open::Span { span, size }) => leave_span(walk, span, size),
-        Some(Open::Link { resource }) => leave_label(walk, reading, Name::Link, resource),
-        Some(Open::Image { resource }) => leave_label(walk, reading, Name::Image, resource),
-        None => Ok(()),
+    held: Open,
+) -> Result<(), AllocError>
+    ensures open { OnOk result (still_open walk.new ≡ leave_open held (still_open walk.old)) }
+{
+    match held {
+        Open::Span { span, size } => leave_span(walk, span, size),
+        Open::Link { resource } => leave_label(walk, reading, Name::Link, resource),
+        Open::Image { resource } => leave_label(walk, reading, Name::Image, resource),
     }
 }

@@ -1,5 +1,10 @@
 //! Emphasis, strong emphasis (CommonMark 6.2), strikethrough (GFM 6.5) and marked text.
-use crate::open::Open;
+ghost use Rattle.std.specs.Prelude.{◌≡◌, OnOk};
+ghost use Rattle.event_output.specs.Open.{closed};
+ghost use Rattle.event_lines.specs.Open.{still_open};
+ghost use Rattle.event_inline.specs.Leaving.{open_around, span_name, text_name};
+
+use crate::opened::Open;
 use crate::reading::Reading;
 use engine_events::event::Name;
 use event_lines::Walk;
@@ -8,12 +13,15 @@ use std::alloc::{AllocError, Allocator};
 use text_bytes::run;
 
 /// The start of a span.
+#[tactic(auto, using(crate::proofs::LeavingAll::leave_last, event_output::proofs::Marks::same_self))]
 pub(crate) fn enter_span<T, A: Allocator>(
     walk: &mut Walk<'_, A>,
     reading: &Reading<'_, T>,
     open: &mut Vec<Open, A>,
     span: Span,
-) -> Result<(), AllocError> {
+) -> Result<(), AllocError>
+    ensures open { OnOk result (open_around open.new.items walk.new ≡ open_around open.old.items walk.old) }
+{
     let size = match span {
         Span::Emphasis => 1,
         Span::Strong | Span::Mark => 2,
@@ -22,7 +30,8 @@ pub(crate) fn enter_span<T, A: Allocator>(
     open.push(Open::Span { span, size })?;
     walk.enter(span_name(span))?;
     walk.text(sequence_name(span), size)?;
-    walk.enter(text_name(span))
+    walk.enter(text_name(span))?;
+    Ok(())
 }
 
 /// The end of a span with sequences of a size.
@@ -30,13 +39,17 @@ pub(crate) fn leave_span<A: Allocator>(
     walk: &mut Walk<'_, A>,
     span: Span,
     size: usize,
-) -> Result<(), AllocError> {
+) -> Result<(), AllocError>
+    ensures open { OnOk result (still_open walk.new ≡ closed (span_name span) (closed (text_name span) (still_open walk.old))) }
+{
     walk.exit(text_name(span))?;
     walk.text(sequence_name(span), size)?;
     walk.exit(span_name(span))
 }
 
-fn span_name(span: Span) -> Name {
+fn span_name(span: Span) -> Name
+    ensures { result ≡ span_name span }
+{
     match span {
         Span::Emphasis => Name::Emphasis,
         Span::Strong => Name::Strong,
@@ -54,7 +67,9 @@ fn sequence_name(span: Span) -> Name {
     }
 }
 
-fn text_name(span: Span) -> Name {
+fn text_name(span: Span) -> Name
+    ensures { result ≡ text_name span }
+{
     match span {
         Span::Emphasis => Name::EmphasisText,
         Span::Strong => Name::StrongText,

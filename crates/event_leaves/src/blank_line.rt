@@ -1,10 +1,15 @@
 //! Blank lines (CommonMark 4.9).
+ghost use Rattle.std.specs.Prelude.{◌≡◌, OnOk};
+ghost use Rattle.event_lines.specs.Open.{still_open};
+
 use engine_events::event::Name;
 use event_lines::Walk;
 use std::alloc::{AllocError, Allocator};
 
 /// A blank line with its ending, if it has one. It begins unless it is begun.
-pub fn push_blank_line<A: Allocator>(walk: &mut Walk<'_, A>) -> Result<(), AllocError> {
+pub fn push_blank_line<A: Allocator>(walk: &mut Walk<'_, A>) -> Result<(), AllocError>
+    ensures open { OnOk result (still_open walk.new ≡ still_open walk.old) }
+{
     walk.in_line()?;
     walk.all(Name::SpaceOrTab)?;
     walk.ending(Name::BlankLineEnding)

@@ -2,6 +2,10 @@
 //!
 //!     fenced ::= fence line* end_of_fence?
 //!     fence  ::= marker+ white* (info (white+ meta)?)? white*
+ghost use Rattle.std.specs.Prelude.{◌≡◌, ◌∷◌, IfOk, OnOk};
+ghost use Rattle.event_output.specs.Open.{Entered};
+ghost use Rattle.event_lines.specs.Open.{still_open};
+
 use crate::code_lines::{line_count, push_code_line};
 use crate::math_flow::MATH;
 use crate::texts::Texts;
@@ -34,15 +38,17 @@ const CODE: FenceNames = FenceNames {
 };
 
 /// Fenced code or math that is closed, with so many lines between its fences.
+#[tactic(auto, using(event_output::proofs::Marks::same_self))]
 pub fn push_fenced_code<T: Tables, A: Allocator + Clone>(
     walk: &mut Walk<'_, A>,
     texts: &Texts<'_, '_, T, A>,
     count: usize,
-) -> Result<(), AllocError> {
-    let marker = push_open(walk, texts, count)?;
-    let names = names_of(marker);
+) -> Result<(), AllocError>
+    ensures open { OnOk result (still_open walk.new ≡ still_open walk.old) }
+{
+    let names = push_open(walk, texts, count)?;
     walk.next_line()?;
-    push_closing_fence(walk, names, marker)?;
+    push_closing_fence(walk, names)?;
     walk.exit(names.block)
 }
 
@@ -51,50 +57,59 @@ pub fn push_whole_code<T: Tables, A: Allocator + Clone>(
     walk: &mut Walk<'_, A>,
     texts: &Texts<'_, '_, T, A>,
     text: &str,
-) -> Result<(), AllocError> {
+) -> Result<(), AllocError>
+    ensures open { OnOk result (still_open walk.new ≡ still_open walk.old) }
+{
     push_fenced_code(walk, texts, line_count(text))
 }
 
 /// Fenced code or math that isn't closed, with so many lines after its fence. Outside of containers it
 /// goes on to the end of the text, so that the last line ending is in it.
+#[tactic(auto, using(event_output::proofs::Marks::same_self))]
 pub fn push_unclosed_code<T: Tables, A: Allocator + Clone>(
     walk: &mut Walk<'_, A>,
     texts: &Texts<'_, '_, T, A>,
     count: usize,
-) -> Result<(), AllocError> {
-    let marker = push_open(walk, texts, count)?;
+) -> Result<(), AllocError>
+    ensures open { OnOk result (still_open walk.new ≡ still_open walk.old) }
+{
+    let names = push_open(walk, texts, count)?;
     if walk.is_outside() {
         walk.ending(Name::LineEnding)?;
     }
-    walk.exit(names_of(marker).block)
+    walk.exit(names.block)
 }
 
-/// The start of fenced code or math: its fence, and so many lines. Answers the marker of the fence.
+/// The start of fenced code or math: its fence, and so many lines. Returns the names.
 fn push_open<T: Tables, A: Allocator + Clone>(
     walk: &mut Walk<'_, A>,
     texts: &Texts<'_, '_, T, A>,
     count: usize,
-) -> Result<u8, AllocError> {
+) -> Result<&'static FenceNames, AllocError>
+    ensures open { IfOk result (λ names. still_open walk.new ≡ Entered names.now.block ∷ still_open walk.old) }
+{
     let indent = walk.rest.indent();
     let bare = walk.white()?;
-    let marker = first(bare.as_bytes());
-    let names = names_of(marker);
+    let names = names_of(first(bare.as_bytes()));
     walk.enter(names.block)?;
     push_opening_fence(walk, texts, names, bare)?;
     for _ in 0..count {
         walk.next_line()?;
         push_code_line(walk, names.chunk, indent)?;
     }
-    Ok(marker)
+    Ok(names)
 }
 
 /// The opening fence, which this end of the line is.
+#[tactic(auto, using(event_output::proofs::Marks::same_self))]
 fn push_opening_fence<T: Tables, A: Allocator + Clone>(
     walk: &mut Walk<'_, A>,
     texts: &Texts<'_, '_, T, A>,
     names: &FenceNames,
     bare: &str,
-) -> Result<(), AllocError> {
+) -> Result<(), AllocError>
+    ensures open { OnOk result (still_open walk.new ≡ still_open walk.old) }
+{
     let size = run(first(bare.as_bytes()), bare.as_bytes());
     walk.enter(names.fence)?;
     walk.token(names.sequence, size)?;
@@ -111,7 +126,9 @@ fn push_info<T: Tables, A: Allocator + Clone>(
     texts: &Texts<'_, '_, T, A>,
     names: &FenceNames,
     text: &str,
-) -> Result<(), AllocError> {
+) -> Result<(), AllocError>
+    ensures open { OnOk result (still_open walk.new ≡ still_open walk.old) }
+{
     let size = info_size(names, text.as_bytes());
     push_part(walk, texts, Name::CodeFencedFenceInfo, up_to(text, size))?;
     let rest = from(text, size);
@@ -130,12 +147,15 @@ fn info_size(names: &FenceNames, bytes: &[u8]) -> usize {
 }
 
 /// A string that comes next on the line, by a name. Nothing of no size.
+#[tactic(auto, using(event_output::proofs::Marks::same_self))]
 fn push_part<T: Tables, A: Allocator + Clone>(
     walk: &mut Walk<'_, A>,
     texts: &Texts<'_, '_, T, A>,
     name: Name,
     string: &str,
-) -> Result<(), AllocError> {
+) -> Result<(), AllocError>
+    ensures open { OnOk result (still_open walk.new ≡ still_open walk.old) }
+{
     if string.is_empty() {
         return Ok(());
     }
@@ -146,14 +166,16 @@ fn push_part<T: Tables, A: Allocator + Clone>(
 }
 
 /// The closing fence: the rest of the line.
+#[tactic(auto, using(event_output::proofs::Marks::same_self))]
 fn push_closing_fence<A: Allocator>(
     walk: &mut Walk<'_, A>,
     names: &FenceNames,
-    marker: u8,
-) -> Result<(), AllocError> {
+) -> Result<(), AllocError>
+    ensures open { OnOk result (still_open walk.new ≡ still_open walk.old) }
+{
     let bytes = walk.white()?.as_bytes();
     walk.enter(names.fence)?;
-    walk.token(names.sequence, run(marker, bytes))?;
+    walk.token(names.sequence, run(first(bytes), bytes))?;
     walk.all(Name::SpaceOrTab)?;
     walk.exit(names.fence)
 }

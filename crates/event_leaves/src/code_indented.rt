@@ -1,4 +1,7 @@
 //! Indented code (CommonMark 4.4).
+ghost use Rattle.std.specs.Prelude.{◌≡◌, OnOk};
+ghost use Rattle.event_lines.specs.Open.{still_open};
+
 use crate::code_lines::{push_code_line, push_indent};
 use engine_events::event::Name;
 use event_lines::Walk;
@@ -9,7 +12,9 @@ use std::alloc::{AllocError, Allocator};
 pub fn push_indented_code<A: Allocator>(
     walk: &mut Walk<'_, A>,
     count: usize,
-) -> Result<(), AllocError> {
+) -> Result<(), AllocError>
+    ensures open { OnOk result (still_open walk.new ≡ still_open walk.old) }
+{
     push_indent(walk, TAB_SIZE)?;
     walk.enter(Name::CodeIndented)?;
     walk.all(Name::CodeFlowChunk)?;

@@ -1,4 +1,7 @@
 //! Lines of code (CommonMark 4.4 and 4.5).
+ghost use Rattle.std.specs.Prelude.{◌≡◌, OnOk};
+ghost use Rattle.event_lines.specs.Open.{still_open};
+
 use engine_events::event::Name;
 use event_lines::Walk;
 use std::alloc::{AllocError, Allocator};
@@ -9,7 +12,9 @@ pub(crate) fn push_code_line<A: Allocator>(
     walk: &mut Walk<'_, A>,
     chunk: Name,
     indent: usize,
-) -> Result<(), AllocError> {
+) -> Result<(), AllocError>
+    ensures open { OnOk result (still_open walk.new ≡ still_open walk.old) }
+{
     push_indent(walk, indent)?;
     walk.all(chunk)
 }
@@ -18,7 +23,9 @@ pub(crate) fn push_code_line<A: Allocator>(
 pub(crate) fn push_indent<A: Allocator>(
     walk: &mut Walk<'_, A>,
     indent: usize,
-) -> Result<(), AllocError> {
+) -> Result<(), AllocError>
+    ensures open { OnOk result (still_open walk.new ≡ still_open walk.old) }
+{
     let rest = walk.rest;
     walk.space_to(&rest.outdent(indent))
 }

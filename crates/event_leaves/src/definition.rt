@@ -1,4 +1,7 @@
 //! Link reference definitions (CommonMark 4.7).
+ghost use Rattle.std.specs.Prelude.{◌≡◌, OnOk};
+ghost use Rattle.event_lines.specs.Open.{still_open};
+
 use crate::buffers::Buffers;
 use crate::texts::Texts;
 use event_lines::Walk;
@@ -12,7 +15,9 @@ pub fn push_definition<'a, T: Tables, A: Allocator + Clone>(
     texts: &Texts<'a, '_, T, A>,
     buffers: &mut Buffers<'a, A>,
     lines: &[Piece<'a>],
-) -> Result<(), AllocError> {
+) -> Result<(), AllocError>
+    ensures open { OnOk result (still_open walk.new ≡ still_open walk.old) }
+{
     join_lines(&mut buffers.joined, lines)?;
     walk.begin_content();
     event_links::push_definition(

@@ -2,6 +2,9 @@
 //!
 //!     frontmatter ::= fence line* fence
 //!     fence       ::= ('-'{3} | '+'{3}) white*
+ghost use Rattle.std.specs.Prelude.{◌≡◌, OnOk};
+ghost use Rattle.event_lines.specs.Open.{still_open};
+
 use crate::code_lines::line_count;
 use engine_events::event::Name;
 use event_lines::Walk;
@@ -9,10 +12,9 @@ use markdown_options::constants::FRONTMATTER_SEQUENCE_SIZE;
 use std::alloc::{AllocError, Allocator};
 
 /// Frontmatter, whose lines come next: the lines of this text. The ending of the last one follows it.
-pub fn push_frontmatter<A: Allocator>(
-    walk: &mut Walk<'_, A>,
-    text: &str,
-) -> Result<(), AllocError> {
+pub fn push_frontmatter<A: Allocator>(walk: &mut Walk<'_, A>, text: &str) -> Result<(), AllocError>
+    ensures open { OnOk result (still_open walk.new ≡ still_open walk.old) }
+{
     walk.in_line()?;
     walk.enter(Name::Frontmatter)?;
     push_metadata_fence(walk)?;
@@ -27,7 +29,9 @@ pub fn push_frontmatter<A: Allocator>(
 }
 
 /// A fence: the rest of the line.
-fn push_metadata_fence<A: Allocator>(walk: &mut Walk<'_, A>) -> Result<(), AllocError> {
+fn push_metadata_fence<A: Allocator>(walk: &mut Walk<'_, A>) -> Result<(), AllocError>
+    ensures open { OnOk result (still_open walk.new ≡ still_open walk.old) }
+{
     walk.enter(Name::FrontmatterFence)?;
     walk.token(Name::FrontmatterSequence, FRONTMATTER_SEQUENCE_SIZE)?;
     walk.all(Name::SpaceOrTab)?;

@@ -1,6 +1,9 @@
 //! ATX headings (CommonMark 4.2).
 //!
 //!     heading ::= '#'{1,6} white* text? white* '#'* white*
+ghost use Rattle.std.specs.Prelude.{◌≡◌, OnOk};
+ghost use Rattle.event_lines.specs.Open.{still_open};
+
 use crate::buffers::Buffers;
 use crate::text::push_text;
 use crate::texts::Texts;
@@ -20,7 +23,9 @@ pub fn push_heading<'a, T: Tables, A: Allocator + Clone>(
     buffers: &mut Buffers<'a, A>,
     rank: u8,
     content: &Piece<'a>,
-) -> Result<(), AllocError> {
+) -> Result<(), AllocError>
+    ensures open { OnOk result (still_open walk.new ≡ still_open walk.old) }
+{
     let bytes = walk.white()?.as_bytes();
     let size = usize::from(rank);
     walk.enter(Name::HeadingAtx)?;
@@ -41,7 +46,9 @@ fn push_heading_text<'a, T: Tables, A: Allocator + Clone>(
     texts: &Texts<'a, '_, T, A>,
     buffers: &mut Buffers<'a, A>,
     content: &Piece<'a>,
-) -> Result<(), AllocError> {
+) -> Result<(), AllocError>
+    ensures open { OnOk result (still_open walk.new ≡ still_open walk.old) }
+{
     walk.begin_here();
     walk.enter(Name::HeadingAtxText)?;
     push_text(
@@ -59,7 +66,9 @@ fn push_heading_text<'a, T: Tables, A: Allocator + Clone>(
 fn push_white<'b, A: Allocator>(
     walk: &mut Walk<'_, A>,
     bytes: &'b [u8],
-) -> Result<&'b [u8], AllocError> {
+) -> Result<&'b [u8], AllocError>
+    ensures open { OnOk result (still_open walk.new ≡ still_open walk.old) }
+{
     let size = white_size(bytes);
     walk.token(Name::SpaceOrTab, size)?;
     Ok(bytes_from(bytes, size))

@@ -1,6 +1,9 @@
 //! Setext headings (CommonMark 4.3).
 //!
 //!     heading ::= line+ ('='+ | '-'+) white*
+ghost use Rattle.std.specs.Prelude.{◌≡◌, OnOk};
+ghost use Rattle.event_lines.specs.Open.{still_open};
+
 use crate::buffers::Buffers;
 use crate::text::push_text;
 use crate::texts::Texts;
@@ -18,7 +21,9 @@ pub fn push_setext_heading<'a, T: Tables, A: Allocator + Clone>(
     texts: &Texts<'a, '_, T, A>,
     buffers: &mut Buffers<'a, A>,
     lines: &[Piece<'a>],
-) -> Result<(), AllocError> {
+) -> Result<(), AllocError>
+    ensures open { OnOk result (still_open walk.new ≡ still_open walk.old) }
+{
     walk.begin_content();
     let _bare = walk.white()?;
     walk.enter(Name::HeadingSetext)?;
@@ -31,7 +36,9 @@ pub fn push_setext_heading<'a, T: Tables, A: Allocator + Clone>(
 }
 
 /// The underline: the rest of the line.
-fn push_underline<A: Allocator>(walk: &mut Walk<'_, A>) -> Result<(), AllocError> {
+fn push_underline<A: Allocator>(walk: &mut Walk<'_, A>) -> Result<(), AllocError>
+    ensures open { OnOk result (still_open walk.new ≡ still_open walk.old) }
+{
     let bytes = walk.white()?.as_bytes();
     walk.enter(Name::HeadingSetextUnderline)?;
     let size = run(first(bytes), bytes);

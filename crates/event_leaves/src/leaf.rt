@@ -1,4 +1,7 @@
 //! Rows of blocks that hold no others (CommonMark 4).
+ghost use Rattle.std.specs.Prelude.{◌≡◌, OnOk};
+ghost use Rattle.event_lines.specs.Open.{still_open};
+
 use crate::buffers::Buffers;
 use crate::code_fenced::{push_fenced_code, push_unclosed_code, push_whole_code};
 use crate::code_indented::push_indented_code;
@@ -25,7 +28,9 @@ pub fn push_leaf<'a, T: Tables, A: Allocator + Clone>(
     first: bool,
     row: Row,
     lines: &[Piece<'a>],
-) -> Result<(), AllocError> {
+) -> Result<(), AllocError>
+    ensures open { OnOk result (still_open walk.new ≡ still_open walk.old) }
+{
     match row {
         Row::Paragraph(_) => push_paragraph(walk, texts, buffers, first, lines),
         Row::WholeParagraph => match lines {

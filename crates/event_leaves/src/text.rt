@@ -1,4 +1,6 @@
 //! Texts: the inline structure of paragraphs, headings and cells (CommonMark 6).
+ghost use Rattle.std.specs.Prelude.{◌≡◌, OnOk};
+ghost use Rattle.event_lines.specs.Open.{still_open};
 ghost use Rattle.inline_parser.specs.Scanned.{IsPlace};
 
 use crate::buffers::Buffers;
@@ -23,7 +25,9 @@ pub fn push_text<'a, T: Tables, A: Allocator + Clone>(
     first: bool,
     lines: &[Piece<'a>],
     after: Kind,
-) -> Result<(), AllocError> {
+) -> Result<(), AllocError>
+    ensures open { OnOk result (still_open walk.new ≡ still_open walk.old) }
+{
     if let Some(content) = line_content(lines, after) {
         return push_content(walk, texts, buffers, first, content);
     }
@@ -49,7 +53,9 @@ pub(crate) fn push_content<'a, T: Tables, A: Allocator + Clone>(
     buffers: &mut Buffers<'a, A>,
     first: bool,
     content: Content<'a>,
-) -> Result<(), AllocError> {
+) -> Result<(), AllocError>
+    ensures open { OnOk result (still_open walk.new ≡ still_open walk.old) }
+{
     push_checked(
         walk,
         texts,
@@ -70,7 +76,9 @@ fn push_checked<'c, T: Tables, A: Allocator + Clone>(
     open: &mut Vec<Open, A>,
     first: bool,
     content: Content<'c>,
-) -> Result<(), AllocError> {
+) -> Result<(), AllocError>
+    ensures open { OnOk result (still_open walk.new ≡ still_open walk.old) }
+{
     let start = content_start(content);
     let white = content.text().len().saturating_sub(start.len());
     walk.text(Name::SpaceOrTab, white)?;
@@ -94,6 +102,7 @@ fn push_from<'c, T: Tables, A: Allocator + Clone>(
     start: &'c str,
 ) -> Result<(), AllocError>
     requires { IsPlace content.text.now start.now }
+    ensures open { OnOk result (still_open walk.new ≡ still_open walk.old) }
 {
     let found = inline_rows(
         room,

@@ -1,6 +1,9 @@
 //! Thematic breaks (CommonMark 4.1).
 //!
 //!     break ::= (marker+ white*)+, with the same marker throughout
+ghost use Rattle.std.specs.Prelude.{◌≡◌, OnOk};
+ghost use Rattle.event_lines.specs.Open.{still_open};
+
 use engine_events::event::Name;
 use event_lines::Walk;
 use event_lines::cut::{bytes_from, first};
@@ -8,7 +11,9 @@ use std::alloc::{AllocError, Allocator};
 use text_bytes::{run, white_size};
 
 /// A thematic break: the rest of the line.
-pub fn push_thematic_break<A: Allocator>(walk: &mut Walk<'_, A>) -> Result<(), AllocError> {
+pub fn push_thematic_break<A: Allocator>(walk: &mut Walk<'_, A>) -> Result<(), AllocError>
+    ensures open { OnOk result (still_open walk.new ≡ still_open walk.old) }
+{
     let mut rest = walk.white()?.as_bytes();
     walk.enter(Name::ThematicBreak)?;
     while !rest.is_empty() {
@@ -19,7 +24,9 @@ pub fn push_thematic_break<A: Allocator>(walk: &mut Walk<'_, A>) -> Result<(), A
 }
 
 /// The markers or the white space that bytes begin with, which come next. Answers their size.
-fn push_part<A: Allocator>(walk: &mut Walk<'_, A>, bytes: &[u8]) -> Result<usize, AllocError> {
+fn push_part<A: Allocator>(walk: &mut Walk<'_, A>, bytes: &[u8]) -> Result<usize, AllocError>
+    ensures open { OnOk result (still_open walk.new ≡ still_open walk.old) }
+{
     let white = white_size(bytes);
     if white > 0 {
         walk.token(Name::SpaceOrTab, white)?;

@@ -1,4 +1,7 @@
 //! Contents, whose lines stand after the prefixes of containers (CommonMark 4.8).
+ghost use Rattle.std.specs.Prelude.{◌≡◌, OnOk};
+ghost use Rattle.event_lines.specs.Open.{still_open};
+
 use crate::walk::Walk;
 use engine_events::event::Name;
 use event_output::{End, at};
@@ -6,21 +9,27 @@ use std::alloc::{AllocError, Allocator};
 
 impl<'a, A: Allocator> Walk<'a, A> {
     /// A content begins, whose first line is the rest of the line.
-    pub fn begin_content(&mut self) {
+    pub fn begin_content(&mut self)
+        ensures open { still_open self.new ≡ still_open self.old }
+    {
         self.place = 0;
         self.line_place = 0;
         self.line_start = self.start_of(&self.rest);
     }
 
     /// A content begins, which is a part of the line, from an index on.
-    pub fn begin_part(&mut self, index: usize) {
+    pub fn begin_part(&mut self, index: usize)
+        ensures open { still_open self.new ≡ still_open self.old }
+    {
         self.place = 0;
         self.line_place = 0;
         self.line_start = at(index);
     }
 
     /// A content begins here, which is a part of the line.
-    pub fn begin_here(&mut self) {
+    pub fn begin_here(&mut self)
+        ensures open { still_open self.new ≡ still_open self.old }
+    {
         self.place = 0;
         self.line_place = 0;
         self.line_start = self.out.end();
@@ -32,14 +41,18 @@ impl<'a, A: Allocator> Walk<'a, A> {
     }
 
     /// The next bytes of the content, so many, by a name.
-    pub fn text(&mut self, name: Name, size: usize) -> Result<(), AllocError> {
+    pub fn text(&mut self, name: Name, size: usize) -> Result<(), AllocError>
+        ensures open { OnOk result (still_open self.new ≡ still_open self.old) }
+    {
         self.place = self.place.saturating_add(size);
         let end = self.content_end();
         self.out.token(name, end)
     }
 
     /// The next bytes of the content, so many, as data.
-    pub fn data(&mut self, size: usize) -> Result<(), AllocError> {
+    pub fn data(&mut self, size: usize) -> Result<(), AllocError>
+        ensures open { OnOk result (still_open self.new ≡ still_open self.old) }
+    {
         if size == 0 {
             return Ok(());
         }
@@ -49,7 +62,9 @@ impl<'a, A: Allocator> Walk<'a, A> {
     }
 
     /// The ending of the line by a name, of so many bytes, and the prefixes of the next line.
-    pub fn content_ending(&mut self, name: Name, size: usize) -> Result<(), AllocError> {
+    pub fn content_ending(&mut self, name: Name, size: usize) -> Result<(), AllocError>
+        ensures open { OnOk result (still_open self.new ≡ still_open self.old) }
+    {
         self.place = self.place.saturating_add(size);
         self.ending(name)?;
         self.begin_line()?;

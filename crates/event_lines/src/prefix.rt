@@ -1,4 +1,7 @@
 //! The prefixes of containers (CommonMark 5.1 and 5.2).
+ghost use Rattle.std.specs.Prelude.{◌≡◌, IfOk, OnOk};
+ghost use Rattle.event_lines.specs.Open.{still_open, with_entered};
+
 use crate::cut::first;
 use crate::walk::Walk;
 use block_starts::Cursor;
@@ -22,7 +25,9 @@ pub(crate) fn line_rest(content: &str) -> Cursor<'_> {
 impl<'a, A: Allocator> Walk<'a, A> {
     /// The prefixes of the containers that go on. At an empty rest, no quote may follow but those that
     /// are known.
-    pub(crate) fn prefixes(&mut self) -> Result<(), AllocError> {
+    pub(crate) fn prefixes(&mut self) -> Result<(), AllocError>
+        ensures open { OnOk result (still_open self.new ≡ still_open self.old) }
+    {
         for depth in 0..self.open.len() {
             if depth >= self.quotes_end && self.rest.is_blank() && self.rest.indent() == 0 {
                 return Ok(());
@@ -39,7 +44,9 @@ impl<'a, A: Allocator> Walk<'a, A> {
     }
 
     /// The prefix of a container, up to a rest of the line.
-    fn prefix(&mut self, container: Container<'a>, after: Cursor<'a>) -> Result<(), AllocError> {
+    fn prefix(&mut self, container: Container<'a>, after: Cursor<'a>) -> Result<(), AllocError>
+        ensures open { OnOk result (still_open self.new ≡ still_open self.old) }
+    {
         match container {
             Container::Quote => self.quote_prefix(after)?,
             _ => self.space_to(&after)?,
@@ -49,7 +56,9 @@ impl<'a, A: Allocator> Walk<'a, A> {
     }
 
     /// The prefix of a quote, up to a rest of the line.
-    fn quote_prefix(&mut self, after: Cursor<'a>) -> Result<(), AllocError> {
+    fn quote_prefix(&mut self, after: Cursor<'a>) -> Result<(), AllocError>
+        ensures open { OnOk result (still_open self.new ≡ still_open self.old) }
+    {
         let _bare = self.white()?;
         self.enter(Name::BlockQuotePrefix)?;
         self.token(Name::BlockQuoteMarker, 1)?;
@@ -57,12 +66,16 @@ impl<'a, A: Allocator> Walk<'a, A> {
         self.exit(Name::BlockQuotePrefix)
     }
 
-    /// The container that starts here, if one does.
-    pub fn start(&mut self) -> Result<(), AllocError> {
+    /// The container that starts here, if one does. Returns its name.
+    pub fn start(&mut self) -> Result<Option<Name>, AllocError>
+        ensures open { IfOk result (λ entered. still_open self.new ≡ with_entered entered (still_open self.old)) }
+    {
         let Some((container, line)) = starts(self.on, false, self.rest) else {
-            return Ok(());
+            return Ok(None);
         };
+        let name = container_name(container);
         let bare = self.white()?;
+        self.enter(name)?;
         match container {
             Container::Quote => self.start_quote(line.rest)?,
             Container::Item(item) => self.start_item(item, bare, line.rest)?,
@@ -70,17 +83,19 @@ impl<'a, A: Allocator> Walk<'a, A> {
         }
         self.open.push(container)?;
         self.rest = line.rest;
-        Ok(())
+        Ok(Some(name))
     }
 
-    fn start_quote(&mut self, after: Cursor<'a>) -> Result<(), AllocError> {
-        self.enter(Name::BlockQuote)?;
+    fn start_quote(&mut self, after: Cursor<'a>) -> Result<(), AllocError>
+        ensures open { OnOk result (still_open self.new ≡ still_open self.old) }
+    {
         self.quotes_end = self.open.len().saturating_add(1);
         self.quote_prefix(after)
     }
 
-    fn start_item(&mut self, item: Item, bare: &str, after: Cursor<'a>) -> Result<(), AllocError> {
-        self.enter(Name::ListItem)?;
+    fn start_item(&mut self, item: Item, bare: &str, after: Cursor<'a>) -> Result<(), AllocError>
+        ensures open { OnOk result (still_open self.new ≡ still_open self.old) }
+    {
         self.enter(Name::ListItemPrefix)?;
         if item.number.is_some() {
             self.token(Name::ListItemValue, digits(bare.as_bytes()))?;
@@ -90,30 +105,37 @@ impl<'a, A: Allocator> Walk<'a, A> {
         self.exit(Name::ListItemPrefix)
     }
 
-    fn start_footnote(&mut self, label: &str, after: Cursor<'a>) -> Result<(), AllocError> {
-        self.enter(Name::GfmFootnoteDefinition)?;
+    fn start_footnote(&mut self, label: &str, after: Cursor<'a>) -> Result<(), AllocError>
+        ensures open { OnOk result (still_open self.new ≡ still_open self.old) }
+    {
         self.enter(Name::GfmFootnoteDefinitionPrefix)?;
-        self.enter(Name::GfmFootnoteDefinitionLabel)?;
-        self.token(Name::GfmFootnoteDefinitionLabelMarker, 1)?;
-        self.token(Name::GfmFootnoteDefinitionMarker, 1)?;
-        self.enter(Name::GfmFootnoteDefinitionLabelString)?;
-        self.token(Name::Data, label.len())?;
-        self.exit(Name::GfmFootnoteDefinitionLabelString)?;
-        self.token(Name::GfmFootnoteDefinitionLabelMarker, 1)?;
-        self.exit(Name::GfmFootnoteDefinitionLabel)?;
+        self.footnote_label(label.len())?;
         self.token(Name::DefinitionMarker, 1)?;
         self.space_to(&after)?;
         self.exit(Name::GfmFootnoteDefinitionPrefix)
     }
 
-    /// The innermost container ends. Answers which.
-    pub fn leave(&mut self) -> Result<Option<Container<'a>>, AllocError> {
-        let Some(container) = self.open.pop() else {
-            return Ok(None);
-        };
+    /// A label of a size, with its brackets.
+    fn footnote_label(&mut self, size: usize) -> Result<(), AllocError>
+        ensures open { OnOk result (still_open self.new ≡ still_open self.old) }
+    {
+        self.enter(Name::GfmFootnoteDefinitionLabel)?;
+        self.token(Name::GfmFootnoteDefinitionLabelMarker, 1)?;
+        self.token(Name::GfmFootnoteDefinitionMarker, 1)?;
+        self.enter(Name::GfmFootnoteDefinitionLabelString)?;
+        self.token(Name::Data, size)?;
+        self.exit(Name::GfmFootnoteDefinitionLabelString)?;
+        self.token(Name::GfmFootnoteDefinitionLabelMarker, 1)?;
+        self.exit(Name::GfmFootnoteDefinitionLabel)
+    }
+
+    /// The innermost container doesn't go on. Returns which.
+    pub fn leave(&mut self) -> Option<Container<'a>>
+        ensures open { still_open self.new ≡ still_open self.old }
+    {
+        let container = self.open.pop()?;
         self.quotes_end = quotes_end(&self.open, self.quotes_end);
-        self.exit(container_name(container))?;
-        Ok(Some(container))
+        Some(container)
     }
 }
 

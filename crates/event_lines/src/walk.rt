@@ -1,4 +1,8 @@
 //! The lines of a text (CommonMark 2.1), one after another, each after the prefixes of its containers.
+ghost use Rattle.std.specs.Prelude.{◌≡◌, ◌∷◌, [], IfOk, OnOk};
+ghost use Rattle.event_output.specs.Open.{Entered, closed, open_in};
+ghost use Rattle.event_lines.specs.Open.{still_open};
+
 use crate::prefix::line_rest;
 use block_starts::Cursor;
 use engine_events::event::Name;
@@ -42,7 +46,9 @@ impl<'a, A: Allocator + Clone> Walk<'a, A> {
         on: &'a Constructs,
         size: usize,
         lines: &'a str,
-    ) -> Result<Walk<'a, A>, AllocError> {
+    ) -> Result<Walk<'a, A>, AllocError>
+        ensures open { IfOk result (λ walk. still_open walk ≡ []) }
+    {
         Ok(Walk {
             on,
             size,
@@ -63,7 +69,9 @@ impl<'a, A: Allocator + Clone> Walk<'a, A> {
 
 impl<'a, A: Allocator> Walk<'a, A> {
     /// What is written.
-    pub fn into_output(self) -> Output<A> {
+    pub fn into_output(self) -> Output<A>
+        ensures open { open_in result ≡ still_open self.entry }
+    {
         let Walk { out, .. } = self;
         out
     }
@@ -79,7 +87,9 @@ impl<'a, A: Allocator> Walk<'a, A> {
     }
 
     /// Begins a line, unless one is begun.
-    pub fn in_line(&mut self) -> Result<(), AllocError> {
+    pub fn in_line(&mut self) -> Result<(), AllocError>
+        ensures open { OnOk result (still_open self.new ≡ still_open self.old) }
+    {
         if self.is_in_line {
             Ok(())
         } else {
@@ -88,7 +98,9 @@ impl<'a, A: Allocator> Walk<'a, A> {
     }
 
     /// Begins a line: the containers that go on have their prefixes on it.
-    pub fn begin_line(&mut self) -> Result<(), AllocError> {
+    pub fn begin_line(&mut self) -> Result<(), AllocError>
+        ensures open { OnOk result (still_open self.new ≡ still_open self.old) }
+    {
         let (content, ending, after) = next_line(self.left);
         self.line_end = self
             .size
@@ -102,54 +114,72 @@ impl<'a, A: Allocator> Walk<'a, A> {
     }
 
     /// The ending of the line, and the start of the next.
-    pub fn next_line(&mut self) -> Result<(), AllocError> {
+    pub fn next_line(&mut self) -> Result<(), AllocError>
+        ensures open { OnOk result (still_open self.new ≡ still_open self.old) }
+    {
         self.ending(Name::LineEnding)?;
         self.begin_line()
     }
 
     /// The line's ending, if it has one, by this name.
-    pub fn ending(&mut self, name: Name) -> Result<(), AllocError> {
+    pub fn ending(&mut self, name: Name) -> Result<(), AllocError>
+        ensures open { OnOk result (still_open self.new ≡ still_open self.old) }
+    {
         self.is_in_line = false;
         let end = at(self.line_end).after(ending_size(self.ending));
         self.out.token(name, end)
     }
 
     /// Something begins here.
-    pub fn enter(&mut self, name: Name) -> Result<(), AllocError> {
+    pub fn enter(&mut self, name: Name) -> Result<(), AllocError>
+        ensures open { OnOk result (still_open self.new ≡ Entered name ∷ still_open self.old) }
+    {
         self.out.enter(name)
     }
 
     /// Something ends here.
-    pub fn exit(&mut self, name: Name) -> Result<(), AllocError> {
+    pub fn exit(&mut self, name: Name) -> Result<(), AllocError>
+        ensures open { OnOk result (still_open self.new ≡ closed name (still_open self.old)) }
+    {
         self.out.exit(name)
     }
 
     /// The next bytes, so many, by a name.
-    pub fn token(&mut self, name: Name, size: usize) -> Result<(), AllocError> {
+    pub fn token(&mut self, name: Name, size: usize) -> Result<(), AllocError>
+        ensures open { OnOk result (still_open self.new ≡ still_open self.old) }
+    {
         let end = self.out.end().after(size);
         self.out.token(name, end)
     }
 
     /// What is before an index, by a name.
-    pub fn to(&mut self, name: Name, index: usize) -> Result<(), AllocError> {
+    pub fn to(&mut self, name: Name, index: usize) -> Result<(), AllocError>
+        ensures open { OnOk result (still_open self.new ≡ still_open self.old) }
+    {
         self.out.token(name, at(index))
     }
 
     /// The columns and bytes of the line before a rest of it.
-    pub fn space_to(&mut self, rest: &Cursor<'a>) -> Result<(), AllocError> {
+    pub fn space_to(&mut self, rest: &Cursor<'a>) -> Result<(), AllocError>
+        ensures open { OnOk result (still_open self.new ≡ still_open self.old) }
+    {
         let end = self.start_of(rest);
         self.out.token(Name::SpaceOrTab, end)
     }
 
     /// The spaces and tabs ahead. Answers what follows them.
-    pub fn white(&mut self) -> Result<&'a str, AllocError> {
+    pub fn white(&mut self) -> Result<&'a str, AllocError>
+        ensures open { OnOk result (still_open self.new ≡ still_open self.old) }
+    {
         let bare = self.rest.bare_text();
         self.to(Name::SpaceOrTab, self.index_of(bare.len()))?;
         Ok(bare)
     }
 
     /// What is left of the line, by this name.
-    pub fn all(&mut self, name: Name) -> Result<(), AllocError> {
+    pub fn all(&mut self, name: Name) -> Result<(), AllocError>
+        ensures open { OnOk result (still_open self.new ≡ still_open self.old) }
+    {
         self.to(name, self.line_end)
     }
 

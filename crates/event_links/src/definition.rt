@@ -1,6 +1,9 @@
 //! Link reference definitions (CommonMark 4.7).
 //!
 //!     definition ::= spaces label ':' white destination (white title)? spaces
+ghost use Rattle.std.specs.Prelude.{◌≡◌, OnOk};
+ghost use Rattle.event_lines.specs.Open.{still_open};
+
 use crate::destination::{inside, push_destination};
 use crate::names::DEFINITION;
 use crate::resource::{last, without_last};
@@ -23,7 +26,9 @@ pub fn push_definition<T: Tables, A: Allocator>(
     on: &Constructs,
     tables: &T,
     content: &str,
-) -> Result<(), AllocError> {
+) -> Result<(), AllocError>
+    ensures open { OnOk result (still_open walk.new ≡ still_open walk.old) }
+{
     let bytes = content.as_bytes();
     let text = last(content, spaces(bytes).len());
     walk.text(Name::SpaceOrTab, content.len().saturating_sub(text.len()))?;
@@ -45,7 +50,9 @@ fn push_label<T: Tables, A: Allocator>(
     on: &Constructs,
     tables: &T,
     text: &str,
-) -> Result<(), AllocError> {
+) -> Result<(), AllocError>
+    ensures open { OnOk result (still_open walk.new ≡ still_open walk.old) }
+{
     walk.enter(Name::DefinitionLabel)?;
     walk.text(Name::DefinitionLabelMarker, 1)?;
     walk.enter(Name::DefinitionLabelString)?;
@@ -61,7 +68,9 @@ fn push_target<T: Tables, A: Allocator>(
     on: &Constructs,
     tables: &T,
     text: &str,
-) -> Result<(), AllocError> {
+) -> Result<(), AllocError>
+    ensures open { OnOk result (still_open walk.new ≡ still_open walk.old) }
+{
     let Some(part) = destination(text.as_bytes(), None) else {
         return Ok(());
     };

@@ -1,6 +1,9 @@
 //! Destinations (CommonMark 6.3).
 //!
 //!     destination ::= '<' string '>' | string
+ghost use Rattle.std.specs.Prelude.{◌≡◌, OnOk};
+ghost use Rattle.event_lines.specs.Open.{still_open};
+
 use crate::names::Names;
 use event_lines::Walk;
 use event_lines::cut::{first, from, up_to};
@@ -9,13 +12,16 @@ use markdown_options::{Constructs, Tables};
 use std::alloc::{AllocError, Allocator};
 
 /// A destination, with its delimiters.
+#[tactic(auto, using(event_output::proofs::Marks::same_self))]
 pub fn push_destination<T: Tables, A: Allocator>(
     walk: &mut Walk<'_, A>,
     on: &Constructs,
     tables: &T,
     names: &Names,
     text: &str,
-) -> Result<(), AllocError> {
+) -> Result<(), AllocError>
+    ensures open { OnOk result (still_open walk.new ≡ still_open walk.old) }
+{
     walk.enter(names.destination)?;
     if first(text.as_bytes()) == b'<' {
         push_literal(walk, on, tables, names, inside(text))?;
@@ -30,13 +36,16 @@ pub fn push_destination<T: Tables, A: Allocator>(
 }
 
 /// A destination between angle brackets.
+#[tactic(auto, using(event_output::proofs::Marks::same_self))]
 fn push_literal<T: Tables, A: Allocator>(
     walk: &mut Walk<'_, A>,
     on: &Constructs,
     tables: &T,
     names: &Names,
     text: &str,
-) -> Result<(), AllocError> {
+) -> Result<(), AllocError>
+    ensures open { OnOk result (still_open walk.new ≡ still_open walk.old) }
+{
     walk.enter(names.literal)?;
     walk.text(names.literal_marker, 1)?;
     if !text.is_empty() {

@@ -1,6 +1,9 @@
 //! Full and collapsed references (CommonMark 6.3).
 //!
 //!     reference ::= label | '[]' | nothing
+ghost use Rattle.std.specs.Prelude.{◌≡◌, OnOk};
+ghost use Rattle.event_lines.specs.Open.{still_open};
+
 use crate::destination::inside;
 use crate::resource::without_last;
 use engine_events::event::Name;
@@ -17,7 +20,9 @@ pub fn push_link_reference<T: Tables, A: Allocator>(
     on: &Constructs,
     tables: &T,
     text: &str,
-) -> Result<(), AllocError> {
+) -> Result<(), AllocError>
+    ensures open { OnOk result (still_open walk.new ≡ still_open walk.old) }
+{
     let Some(reference) = reference_front(text) else {
         return Ok(());
     };

@@ -1,6 +1,9 @@
 //! Resources (CommonMark 6.3).
 //!
 //!     resource ::= '(' white (destination (white title)? white)? ')'
+ghost use Rattle.std.specs.Prelude.{◌≡◌, OnOk};
+ghost use Rattle.event_lines.specs.Open.{still_open};
+
 use crate::destination::push_destination;
 use crate::names::RESOURCE;
 use crate::title::push_title;
@@ -20,7 +23,9 @@ pub fn push_resource<T: Tables, A: Allocator>(
     on: &Constructs,
     tables: &T,
     text: &str,
-) -> Result<(), AllocError> {
+) -> Result<(), AllocError>
+    ensures open { OnOk result (still_open walk.new ≡ still_open walk.old) }
+{
     walk.enter(Name::Resource)?;
     walk.text(Name::ResourceMarker, 1)?;
     let inside = push_white(walk, bytes_from(text.as_bytes(), 1))?;
@@ -37,7 +42,9 @@ fn push_target<T: Tables, A: Allocator>(
     on: &Constructs,
     tables: &T,
     text: &str,
-) -> Result<(), AllocError> {
+) -> Result<(), AllocError>
+    ensures open { OnOk result (still_open walk.new ≡ still_open walk.old) }
+{
     let bytes = text.as_bytes();
     let Some(part) = destination(bytes, Some(RESOURCE_DESTINATION_BALANCE_MAX)) else {
         return Ok(());

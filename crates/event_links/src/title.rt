@@ -1,6 +1,9 @@
 //! Titles (CommonMark 6.3).
 //!
 //!     title ::= '"' string '"' | "'" string "'" | '(' string ')'
+ghost use Rattle.std.specs.Prelude.{◌≡◌, OnOk};
+ghost use Rattle.event_lines.specs.Open.{still_open};
+
 use crate::destination::inside;
 use crate::names::Names;
 use event_lines::Walk;
@@ -9,13 +12,16 @@ use markdown_options::{Constructs, Tables};
 use std::alloc::{AllocError, Allocator};
 
 /// A title, with its delimiters.
+#[tactic(auto, using(event_output::proofs::Marks::same_self))]
 pub fn push_title<T: Tables, A: Allocator>(
     walk: &mut Walk<'_, A>,
     on: &Constructs,
     tables: &T,
     names: &Names,
     text: &str,
-) -> Result<(), AllocError> {
+) -> Result<(), AllocError>
+    ensures open { OnOk result (still_open walk.new ≡ still_open walk.old) }
+{
     let string = inside(text);
     walk.enter(names.title)?;
     walk.text(names.title_marker, 1)?;

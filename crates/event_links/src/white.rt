@@ -1,4 +1,7 @@
 //! White space between the parts of links (CommonMark 4.7 and 6.3).
+ghost use Rattle.std.specs.Prelude.{◌≡◌, OnOk};
+ghost use Rattle.event_lines.specs.Open.{still_open};
+
 use engine_events::event::Name;
 use event_lines::Walk;
 use event_lines::cut::{bytes_from, bytes_up_to};
@@ -16,7 +19,9 @@ pub fn before<'b>(bytes: &'b [u8], rest: &[u8]) -> &'b [u8] {
 pub fn push_white<'b, A: Allocator>(
     walk: &mut Walk<'_, A>,
     bytes: &'b [u8],
-) -> Result<&'b [u8], AllocError> {
+) -> Result<&'b [u8], AllocError>
+    ensures open { OnOk result (still_open walk.new ≡ still_open walk.old) }
+{
     let rest = white(bytes);
     let all = before(bytes, rest);
     let size = white_size(all);

@@ -1,3 +1,4 @@
 pub mod Spots
 pub mod Tokens
 pub mod Placed
+pub mod Open

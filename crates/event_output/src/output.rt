@@ -1,6 +1,8 @@
 //! Events, written one after another.
-ghost use Rattle.std.specs.Prelude.{◌<◌, ◌^◌, IfOk, length};
+ghost use Rattle.std.specs.Prelude.{◌≡◌, ◌<◌, ◌^◌, ◌∷◌, [], IfOk, IsTrue, OnOk, length};
 ghost use Rattle.event_output.specs.Placed.{ArePlaced};
+ghost use Rattle.engine_events.specs.declared.event.Name.TheVariants.{Data};
+ghost use Rattle.event_output.specs.Open.{Entered, Exited, closed, mark_of, open_in, unmatched};
 
 use crate::end::{End, at};
 use crate::points::set_points;
@@ -19,7 +21,9 @@ pub struct Output<A: Allocator> {
 
 impl<A: Allocator> Output<A> {
     /// No events, at the start of a text.
-    pub fn new(alloc: A) -> Output<A> {
+    pub fn new(alloc: A) -> Output<A>
+        ensures open { open_in result ≡ [] }
+    {
         Output {
             events: Vec::new(alloc),
             end: at(0),
@@ -32,21 +36,30 @@ impl<A: Allocator> Output<A> {
     }
 
     /// Something begins here.
-    pub fn enter(&mut self, name: Name) -> Result<(), AllocError> {
+    #[tactic(auto, using(crate::proofs::Marks::entered_one))]
+    pub fn enter(&mut self, name: Name) -> Result<(), AllocError>
+        ensures open { OnOk result (open_in self.new ≡ Entered name ∷ open_in self.old) }
+    {
         let event = event_at(Kind::Enter, name, self.end);
         self.events.push(event)?;
         Ok(())
     }
 
     /// Something ends here.
-    pub fn exit(&mut self, name: Name) -> Result<(), AllocError> {
+    #[tactic(auto, using(crate::proofs::Marks::exited_one))]
+    pub fn exit(&mut self, name: Name) -> Result<(), AllocError>
+        ensures open { OnOk result (open_in self.new ≡ closed name (open_in self.old)) }
+    {
         let event = event_at(Kind::Exit, name, self.end);
         self.events.push(event)?;
         Ok(())
     }
 
     /// What holds no other, up to a place. Nothing of no size.
-    pub fn token(&mut self, name: Name, end: End) -> Result<(), AllocError> {
+    #[tactic(auto, using(crate::proofs::Marks::closed_same))]
+    pub fn token(&mut self, name: Name, end: End) -> Result<(), AllocError>
+        ensures open { OnOk result (open_in self.new ≡ open_in self.old) }
+    {
         if end == self.end {
             return Ok(());
         }
@@ -56,7 +69,10 @@ impl<A: Allocator> Output<A> {
     }
 
     /// Data up to a place, as one with data that ends here.
-    pub fn data(&mut self, end: End) -> Result<(), AllocError> {
+    #[tactic(auto, using(crate::proofs::Marks::unmatched_set))]
+    pub fn data(&mut self, end: End) -> Result<(), AllocError>
+        ensures open { OnOk result (open_in self.new ≡ open_in self.old) }
+    {
         let count = self.events.len();
         if count == 0 || !ends_data(self.events[count - 1]) {
             return self.token(Name::Data, end);
@@ -70,6 +86,7 @@ impl<A: Allocator> Output<A> {
     pub fn finish(self, text: &[u8]) -> Result<Vec<Event, A>, AllocError>
         requires fits { length text.now < 2 ^ 61 }
         ensures placed { IfOk result (λ events. ArePlaced text.now events.items) }
+        ensures open { IfOk result (λ events. unmatched events.items ≡ open_in self) }
     {
         let Output { events, .. } = self;
         set_points(text, events)
@@ -77,7 +94,10 @@ impl<A: Allocator> Output<A> {
 }
 
 /// An event without a line and a column.
-fn event_at(kind: Kind, name: Name, end: End) -> Event {
+fn event_at(kind: Kind, name: Name, end: End) -> Event
+    ensures kind { result.kind ≡ kind }
+    ensures name { result.name ≡ name }
+{
     let point = Point {
         line: 1,
         column: 1,
@@ -88,6 +108,8 @@ fn event_at(kind: Kind, name: Name, end: End) -> Event {
 }
 
 /// Whether data ends.
-fn ends_data(event: Event) -> bool {
+fn ends_data(event: Event) -> bool
+    ensures { IsTrue result → mark_of event ≡ Exited Data }
+{
     event.name == Name::Data && event.kind == Kind::Exit
 }

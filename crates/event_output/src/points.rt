@@ -8,6 +8,7 @@ ghost use Rattle.event_output.specs.Spots.{IsIn, start};
 ghost use Rattle.event_output.specs.Tokens.{GoesOn, IsPlace, IsWhole, place, point_at};
 ghost use Rattle.event_output.specs.Placed.{ArePlaced, Exits, IsTold, told, told_event};
 ghost use Rattle.engine_events.specs.Events.{event};
+ghost use Rattle.event_output.specs.Open.{unmatched};
 
 use crate::pass::pass_to;
 use crate::spot::{Place, Spot};
@@ -30,7 +31,8 @@ pub(crate) fn set_points<A: Allocator>(
     written: Vec<Event, A>,
 ) -> Result<Vec<Event, A>, AllocError>
     requires fits { length text.now < 2 ^ 61 }
-    ensures { IfOk result (λ events. ArePlaced text.now events.items) }
+    ensures placed { IfOk result (λ events. ArePlaced text.now events.items) }
+    ensures open { IfOk result (λ events. unmatched events.items ≡ unmatched written.items) }
 {
     let mut events = written;
     let told = set_all(text, &mut events);
@@ -39,11 +41,12 @@ pub(crate) fn set_points<A: Allocator>(
 }
 
 /// Gives events their points. Answers what they come to.
-#[tactic(auto, using(crate::proofs::TokenLists::nothing_told))]
+#[tactic(auto, using(crate::proofs::TokenLists::nothing_told, crate::proofs::Marks::unmatched_set))]
 fn set_all<A: Allocator>(text: &[u8], events: &mut Vec<Event, A>) -> Told
     requires fits { length text.now < 2 ^ 61 }
     ensures place { IsPlace text.now result.place }
     ensures told { IsTold text.now events.new.items result }
+    ensures open { unmatched events.new.items ≡ unmatched events.old.items }
 {
     let mut told = Told::new();
     let count = events.len();
@@ -56,7 +59,7 @@ fn set_all<A: Allocator>(text: &[u8], events: &mut Vec<Event, A>) -> Told
 }
 
 /// Data up to the end of the text, unless the events end there.
-#[tactic(auto, using(crate::proofs::TokenLists::all_placed, crate::proofs::TokenLists::rest_placed))]
+#[tactic(auto, using(crate::proofs::TokenLists::all_placed, crate::proofs::TokenLists::rest_placed, crate::proofs::Marks::one_more))]
 fn push_rest<A: Allocator>(
     text: &[u8],
     told: Told,
@@ -65,7 +68,8 @@ fn push_rest<A: Allocator>(
     requires fits { length text.now < 2 ^ 61 }
     requires place { IsPlace text.now told.place }
     requires told { IsTold text.now events.old.items told }
-    ensures { OnOk result (ArePlaced text.now events.new.items) }
+    ensures placed { OnOk result (ArePlaced text.now events.new.items) }
+    ensures open { OnOk result (unmatched events.new.items ≡ unmatched events.old.items) }
 {
     if told.place.spot.index == text.len() {
         return Ok(());

@@ -1,9 +1,13 @@
 //! From a text to its events.
-ghost use Rattle.std.specs.Prelude.{◌≡◌, ◌≤◌, IfErr, IfOk, false, length};
+ghost use Rattle.std.specs.Prelude.{◌≡◌, ◌≤◌, [], IfErr, IfOk, false, length};
 ghost use Rattle.markdown_options.specs.Mdx.{has_mdx};
 ghost use Rattle.markdown_options.specs.Messages.{IsOutOfMemory};
 ghost use Rattle.block_rows.specs.Rows.{rows_size};
 ghost use Rattle.event_output.specs.Placed.{ArePlaced};
+ghost use Rattle.event_lines.specs.Open.{still_open};
+ghost use Rattle.event_parser.specs.Nested.{IsNested};
+ghost use Rattle.event_parser.specs.Labels.{definition_labels, footnote_labels, text_blocks};
+ghost use Rattle.event_parser.specs.State.{IsReadBy, definitions_of, footnotes_of};
 
 use crate::labels::Labels;
 use crate::parser::Parser;
@@ -39,6 +43,10 @@ pub fn parse<'a, T: Tables, A: Allocator + Clone>(
     requires size { length value.now ≤ SIZE_MAX }
     requires without_mdx { has_mdx options.now.constructs ≡ false }
     ensures placed { IfOk result (λ parsed. ArePlaced value.now parsed.0.items) }
+    ensures nested { IfOk result (λ parsed. IsNested parsed.0.items) }
+    ensures read_by { IfOk result (λ parsed. IsReadBy parsed.1 options.now tables.now value.now) }
+    ensures definitions { IfOk result (λ parsed. definitions_of parsed.1 ≡ definition_labels (text_blocks options.now.constructs value.now)) }
+    ensures footnotes { IfOk result (λ parsed. footnotes_of parsed.1 ≡ footnote_labels (text_blocks options.now.constructs value.now)) }
     ensures memory { IfErr result IsOutOfMemory }
 {
     let parsed = parse_text(alloc, value, options, tables)?;
@@ -46,6 +54,7 @@ pub fn parse<'a, T: Tables, A: Allocator + Clone>(
 }
 
 /// Reads a text.
+#[tactic(auto, using(crate::proofs::NestedLaw::nested, crate::proofs::LabelRows::defined_by, crate::proofs::LabelRows::begun_by))]
 fn parse_text<'a, T: Tables, A: Allocator + Clone>(
     alloc: A,
     value: &'a str,
@@ -54,6 +63,10 @@ fn parse_text<'a, T: Tables, A: Allocator + Clone>(
 ) -> Result<(Vec<Event, A>, ParseState<'a, T, A>), AllocError>
     requires size { length value.now ≤ SIZE_MAX }
     ensures placed { IfOk result (λ parsed. ArePlaced value.now parsed.0.items) }
+    ensures nested { IfOk result (λ parsed. IsNested parsed.0.items) }
+    ensures read_by { IfOk result (λ parsed. IsReadBy parsed.1 options.now tables.now value.now) }
+    ensures definitions { IfOk result (λ parsed. definitions_of parsed.1 ≡ definition_labels (text_blocks options.now.constructs value.now)) }
+    ensures footnotes { IfOk result (λ parsed. footnotes_of parsed.1 ≡ footnote_labels (text_blocks options.now.constructs value.now)) }
 {
     let (before, text) = without_mark(value);
     let BlockRows { rows, pieces } = block_rows(alloc.clone()?, before, text, &options.constructs)?;
@@ -84,7 +97,9 @@ fn begin<'a, A: Allocator + Clone>(
     before: Kind,
     text: &'a str,
     options: &'a ParseOptions,
-) -> Result<Walk<'a, A>, AllocError> {
+) -> Result<Walk<'a, A>, AllocError>
+    ensures open { IfOk result (λ walk. still_open walk ≡ []) }
+{
     let mut walk = Walk::new(alloc, &options.constructs, value.len(), text)?;
     walk.token(Name::ByteOrderMark, value.len().saturating_sub(text.len()))?;
     let (_, left) = without_frontmatter(&options.constructs, before, text);
@@ -106,6 +121,7 @@ fn push_blocks<'a, T: Tables, A: Allocator + Clone>(
     pieces: &[Piece<'a>],
 ) -> Result<Walk<'a, A>, AllocError>
     requires enough { rows_size rows.now ≤ length pieces.now }
+    ensures open { IfOk result (λ after. still_open after ≡ still_open walk.entry) }
 {
     let contents = definition_contents(alloc.clone()?, rows, pieces)?;
     let definitions = document_definitions(alloc.clone()?, &contents)?;
@@ -120,6 +136,7 @@ fn push_blocks<'a, T: Tables, A: Allocator + Clone>(
     let mut parser = Parser {
         walk,
         buffers: Buffers::new(alloc.clone()?)?,
+        names: Vec::new(alloc.clone()?),
         items: Vec::new(alloc.clone()?),
         places: places(alloc, rows)?,
         between_items: false,
@@ -131,6 +148,5 @@ fn push_blocks<'a, T: Tables, A: Allocator + Clone>(
         parser.row(&texts, *row, &pieces[taken..end])?;
         taken = end;
     }
-    let Parser { walk, .. } = parser;
-    Ok(walk)
+    parser.into_walk()
 }

@@ -1,4 +1,7 @@
 //! Character references (CommonMark 2.5).
+ghost use Rattle.std.specs.Prelude.{◌≡◌, OnOk};
+ghost use Rattle.event_lines.specs.Open.{still_open};
+
 use engine_events::event::Name;
 use event_lines::Walk;
 use event_lines::cut::{bytes_from, first};
@@ -9,7 +12,9 @@ pub fn push_reference<A: Allocator>(
     walk: &mut Walk<'_, A>,
     bytes: &[u8],
     size: usize,
-) -> Result<(), AllocError> {
+) -> Result<(), AllocError>
+    ensures open { OnOk result (still_open walk.new ≡ still_open walk.old) }
+{
     walk.enter(Name::CharacterReference)?;
     walk.text(Name::CharacterReferenceMarker, 1)?;
     let marker = push_markers(walk, bytes_from(bytes, 1))?;
@@ -22,7 +27,9 @@ pub fn push_reference<A: Allocator>(
 }
 
 /// The markers of a number. Answers their size.
-fn push_markers<A: Allocator>(walk: &mut Walk<'_, A>, bytes: &[u8]) -> Result<usize, AllocError> {
+fn push_markers<A: Allocator>(walk: &mut Walk<'_, A>, bytes: &[u8]) -> Result<usize, AllocError>
+    ensures open { OnOk result (still_open walk.new ≡ still_open walk.old) }
+{
     if first(bytes) != b'#' {
         return Ok(0);
     }

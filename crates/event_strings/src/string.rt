@@ -1,4 +1,7 @@
 //! Strings, in which only escapes and references are read (CommonMark 2.4 and 2.5).
+ghost use Rattle.std.specs.Prelude.{◌≡◌, OnOk};
+ghost use Rattle.event_lines.specs.Open.{still_open};
+
 use crate::character_escape::push_escape;
 use crate::character_reference::push_reference;
 use engine_events::event::Name;
@@ -17,7 +20,9 @@ pub fn push_string<T: Tables, A: Allocator>(
     on: &Constructs,
     tables: &T,
     string: &str,
-) -> Result<(), AllocError> {
+) -> Result<(), AllocError>
+    ensures open { OnOk result (still_open walk.new ≡ still_open walk.old) }
+{
     let mut rest = string;
     while !rest.is_empty() {
         let size = push_part(walk, on, tables, rest)?;
@@ -32,7 +37,9 @@ fn push_part<T: Tables, A: Allocator>(
     on: &Constructs,
     tables: &T,
     rest: &str,
-) -> Result<usize, AllocError> {
+) -> Result<usize, AllocError>
+    ensures open { OnOk result (still_open walk.new ≡ still_open walk.old) }
+{
     match first(rest.as_bytes()) {
         b'\\' if escape_at(on, rest).is_some() => {
             push_escape(walk)?;
@@ -55,7 +62,9 @@ fn push_part<T: Tables, A: Allocator>(
 fn push_white_or_data<A: Allocator>(
     walk: &mut Walk<'_, A>,
     bytes: &[u8],
-) -> Result<usize, AllocError> {
+) -> Result<usize, AllocError>
+    ensures open { OnOk result (still_open walk.new ≡ still_open walk.old) }
+{
     if let Some(found) = ending_at(bytes) {
         walk.content_ending(Name::LineEnding, found.size)?;
         let white = white_size(bytes_from(bytes, found.size));
@@ -71,7 +80,9 @@ fn push_white_or_data<A: Allocator>(
 }
 
 /// The first byte and those after it in which nothing may begin. Answers their size.
-fn push_data<A: Allocator>(walk: &mut Walk<'_, A>, bytes: &[u8]) -> Result<usize, AllocError> {
+fn push_data<A: Allocator>(walk: &mut Walk<'_, A>, bytes: &[u8]) -> Result<usize, AllocError>
+    ensures open { OnOk result (still_open walk.new ≡ still_open walk.old) }
+{
     let size = data_size(bytes_from(bytes, 1)).saturating_add(1);
     walk.data(size)?;
     Ok(size)

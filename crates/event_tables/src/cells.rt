@@ -1,6 +1,9 @@
 //! Rows of cells (GFM 4.10).
 //!
 //!     row ::= (white* bar)? cell (bar cell)* (bar white*)?
+ghost use Rattle.std.specs.Prelude.{◌≡◌, OnOk};
+ghost use Rattle.event_lines.specs.Open.{still_open};
+
 use block_cells::{Cell, Cells};
 use engine_events::event::Name;
 use event_leaves::{Buffers, Texts, push_text};
@@ -19,7 +22,9 @@ pub(crate) fn push_row<'a, T: Tables, A: Allocator + Clone>(
     texts: &Texts<'a, '_, T, A>,
     buffers: &mut Buffers<'a, A>,
     line: Piece<'a>,
-) -> Result<(), AllocError> {
+) -> Result<(), AllocError>
+    ensures open { OnOk result (still_open walk.new ≡ still_open walk.old) }
+{
     walk.enter(Name::GfmTableRow)?;
     let start = walk.index_of(line.text.len());
     walk.to(Name::SpaceOrTab, start)?;
@@ -35,10 +40,9 @@ fn without_columns(line: Piece<'_>) -> Piece<'_> {
 }
 
 /// The bar before the first cell, if there is one, with the spaces and tabs before it.
-fn push_first_divider<A: Allocator>(
-    walk: &mut Walk<'_, A>,
-    bytes: &[u8],
-) -> Result<(), AllocError> {
+fn push_first_divider<A: Allocator>(walk: &mut Walk<'_, A>, bytes: &[u8]) -> Result<(), AllocError>
+    ensures open { OnOk result (still_open walk.new ≡ still_open walk.old) }
+{
     let white = white_size(bytes);
     if first(bytes_from(bytes, white)) != b'|' {
         return Ok(());
@@ -53,7 +57,9 @@ fn push_cells<'a, T: Tables, A: Allocator + Clone>(
     texts: &Texts<'a, '_, T, A>,
     buffers: &mut Buffers<'a, A>,
     cells: Cells<'a>,
-) -> Result<(), AllocError> {
+) -> Result<(), AllocError>
+    ensures open { OnOk result (still_open walk.new ≡ still_open walk.old) }
+{
     let mut left = cells;
     while let Some(cell) = left.next() {
         push_cell(walk, texts, buffers, &cell)?;
@@ -70,7 +76,9 @@ fn push_cell<'a, T: Tables, A: Allocator + Clone>(
     texts: &Texts<'a, '_, T, A>,
     buffers: &mut Buffers<'a, A>,
     cell: &Cell<'a>,
-) -> Result<(), AllocError> {
+) -> Result<(), AllocError>
+    ensures open { OnOk result (still_open walk.new ≡ still_open walk.old) }
+{
     walk.enter(Name::GfmTableCell)?;
     if is_blank(cell.line.text) {
         walk.token(Name::SpaceOrTab, cell.line.text.len())?;
@@ -86,7 +94,9 @@ fn push_cell_text<'a, T: Tables, A: Allocator + Clone>(
     texts: &Texts<'a, '_, T, A>,
     buffers: &mut Buffers<'a, A>,
     cell: &Cell<'a>,
-) -> Result<(), AllocError> {
+) -> Result<(), AllocError>
+    ensures open { OnOk result (still_open walk.new ≡ still_open walk.old) }
+{
     walk.begin_here();
     walk.enter(Name::GfmTableCellText)?;
     push_text(

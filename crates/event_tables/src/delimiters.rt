@@ -2,6 +2,9 @@
 //!
 //!     delimiters ::= (bar | white | delimiter)*
 //!     delimiter  ::= ':'? '-'+ ':'?
+ghost use Rattle.std.specs.Prelude.{◌≡◌, OnOk};
+ghost use Rattle.event_lines.specs.Open.{still_open};
+
 use engine_events::event::Name;
 use event_lines::Walk;
 use event_lines::cut::{bytes_from, first};
@@ -9,7 +12,9 @@ use std::alloc::{AllocError, Allocator};
 use text_bytes::{run, white_size};
 
 /// A row of delimiters: the rest of the line.
-pub(crate) fn push_delimiters<A: Allocator>(walk: &mut Walk<'_, A>) -> Result<(), AllocError> {
+pub(crate) fn push_delimiters<A: Allocator>(walk: &mut Walk<'_, A>) -> Result<(), AllocError>
+    ensures open { OnOk result (still_open walk.new ≡ still_open walk.old) }
+{
     let mut rest = walk.white()?.as_bytes();
     walk.enter(Name::GfmTableDelimiterRow)?;
     while !rest.is_empty() {
@@ -20,7 +25,9 @@ pub(crate) fn push_delimiters<A: Allocator>(walk: &mut Walk<'_, A>) -> Result<()
 }
 
 /// The bar, the white space or the delimiter that bytes begin with, which come next. Answers its size.
-fn push_part<A: Allocator>(walk: &mut Walk<'_, A>, bytes: &[u8]) -> Result<usize, AllocError> {
+fn push_part<A: Allocator>(walk: &mut Walk<'_, A>, bytes: &[u8]) -> Result<usize, AllocError>
+    ensures open { OnOk result (still_open walk.new ≡ still_open walk.old) }
+{
     match first(bytes) {
         b'|' => {
             walk.token(Name::GfmTableCellDivider, 1)?;
@@ -36,7 +43,9 @@ fn push_part<A: Allocator>(walk: &mut Walk<'_, A>, bytes: &[u8]) -> Result<usize
 }
 
 /// The delimiter that bytes begin with. Its colons say how the column is aligned. Answers its size.
-fn push_delimiter<A: Allocator>(walk: &mut Walk<'_, A>, bytes: &[u8]) -> Result<usize, AllocError> {
+fn push_delimiter<A: Allocator>(walk: &mut Walk<'_, A>, bytes: &[u8]) -> Result<usize, AllocError>
+    ensures open { OnOk result (still_open walk.new ≡ still_open walk.old) }
+{
     walk.enter(Name::GfmTableDelimiterCell)?;
     walk.enter(Name::GfmTableDelimiterCellValue)?;
     let left = run(b':', bytes);

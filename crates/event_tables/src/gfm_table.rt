@@ -1,6 +1,9 @@
 //! Tables (GFM 4.10).
 //!
 //!     table ::= head delimiters row*
+ghost use Rattle.std.specs.Prelude.{◌≡◌, OnOk};
+ghost use Rattle.event_lines.specs.Open.{still_open};
+
 use crate::cells::push_row;
 use crate::delimiters::push_delimiters;
 use engine_events::event::Name;
@@ -17,7 +20,9 @@ pub fn push_table<'a, T: Tables, A: Allocator + Clone>(
     texts: &Texts<'a, '_, T, A>,
     buffers: &mut Buffers<'a, A>,
     lines: &[Piece<'a>],
-) -> Result<(), AllocError> {
+) -> Result<(), AllocError>
+    ensures open { OnOk result (still_open walk.new ≡ still_open walk.old) }
+{
     let [head, _, rows @ ..] = lines else {
         return Ok(());
     };
@@ -39,7 +44,9 @@ fn push_body<'a, T: Tables, A: Allocator + Clone>(
     texts: &Texts<'a, '_, T, A>,
     buffers: &mut Buffers<'a, A>,
     rows: &[Piece<'a>],
-) -> Result<(), AllocError> {
+) -> Result<(), AllocError>
+    ensures open { OnOk result (still_open walk.new ≡ still_open walk.old) }
+{
     walk.next_line()?;
     walk.enter(Name::GfmTableBody)?;
     for (i, row) in rows.iter().enumerate() {

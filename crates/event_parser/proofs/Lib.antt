@@ -1,0 +1,4 @@
+pub mod NestedLaw
+pub mod ClosingAll
+pub mod LabelRows
+pub mod FootnoteCodes

@@ -1,0 +1,4 @@
+pub mod Nested
+pub mod Closing
+pub mod State
+pub mod Labels
