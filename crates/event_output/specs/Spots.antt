@@ -1,5 +1,5 @@
 -- Places in a text, byte by byte (CommonMark 2.1 and 2.2).
-use Rattle.std.specs.Prelude.{ℕ, ◌+◌, ◌*◌, ◌≤◌, Bool, true, false, if◌then◌else◌, ◌==◌, List, length, nat_lt}
+use Rattle.std.specs.Prelude.{ℕ, ◌+◌, ◌*◌, ◌≤◌, Bool, true, false, ◌&&◌, if◌then◌else◌, ◌==◌, List, length, nat_le, nat_lt}
 use Rattle.std.specs.List.{fold}
 use Rattle.engine_events.specs.Columns.{between, column_after, mark_size}
 use Rattle.engine_events.specs.declared.place.Point.{Point}
@@ -23,6 +23,14 @@ next_spot mark s b =
 -- after the bytes up to an index
 abbrev pub spot_at : List ℕ → ℕ → Spot → Spot
 spot_at text index s = fold (next_spot (mark_size text)) s (between s.index index text)
+
+-- a byte that takes one column and ends no line, whatever else it is
+abbrev pub is_plain : ℕ → Bool
+is_plain b = nat_le 32 b
+
+-- after so many of these
+abbrev pub after_plain : Spot → ℕ → Spot
+after_plain s count = spot s.line (s.column + count) (s.index + count) (s.returned && (count == 0))
 
 -- so many columns of the tab there are before
 abbrev pub point_in : Spot → ℕ → Point

@@ -1,7 +1,8 @@
 //! From one place of a text to a later one (CommonMark 2.1 and 2.2).
 ghost use Rattle.std.specs.Prelude.{◌≡◌, ◌+◌, ◌*◌, ◌<◌, ◌≤◌, ◌^◌, length};
+ghost use Rattle.std.specs.List.{fold, list_all};
 ghost use Rattle.engine_events.specs.Columns.{mark_size};
-ghost use Rattle.event_output.specs.Spots.{IsIn, next_spot, spot_at};
+ghost use Rattle.event_output.specs.Spots.{IsIn, after_plain, is_plain, next_spot, spot_at};
 
 use crate::spot::Spot;
 use engine_events::place::column_after;
@@ -61,8 +62,47 @@ pub(crate) fn pass_to(text: &[u8], spot: Spot, index: usize) -> Spot
     ensures place { IsIn text.now result }
 {
     let mark = mark_size(text);
+    let bytes = &text[spot.index..index];
+    if mark <= spot.index && are_plain(bytes) {
+        pass_plain(spot, bytes.len())
+    } else {
+        pass_all(mark, spot, bytes)
+    }
+}
+
+/// Whether all bytes take one column each and end no line.
+fn are_plain(bytes: &[u8]) -> bool
+    ensures { result ≡ list_all is_plain bytes.now }
+{
+    bytes.iter().all(|byte| b' ' <= *byte)
+}
+
+/// After so many bytes of this kind.
+fn pass_plain(spot: Spot, count: usize) -> Spot
+    requires count { spot.index + count < 2 ^ 61 }
+    requires column { spot.column ≤ 4 * spot.index + 1 }
+    ensures { result ≡ after_plain spot count }
+{
+    Spot {
+        line: spot.line,
+        column: spot.column + count,
+        index: spot.index + count,
+        returned: spot.returned && count == 0,
+    }
+}
+
+/// After some bytes, one by one.
+fn pass_all(mark: usize, spot: Spot, bytes: &[u8]) -> Spot
+    requires fits { spot.index + length bytes.now < 2 ^ 61 }
+    requires line { spot.line ≤ spot.index + 1 }
+    requires column { spot.column ≤ 4 * spot.index + 1 }
+    ensures same { result ≡ fold (next_spot mark) spot bytes.now }
+    ensures index { result.index ≡ spot.index + length bytes.now }
+    ensures line { result.line ≤ result.index + 1 }
+    ensures column { result.column ≤ 4 * result.index + 1 }
+{
     let mut here = spot;
-    for byte in &text[spot.index..index] {
+    for byte in bytes {
         here = pass(mark, here, *byte);
     }
     here

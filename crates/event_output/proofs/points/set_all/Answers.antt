@@ -1,5 +1,5 @@
 use Rattle.std.proofs.lemmas.Grind.{common_steps}
-use Rattle.std.proofs.Common.{rules, arith, ◌≡◌, ◌∙◌, ap}
+use Rattle.std.proofs.Common.{rules, arith, ◌∙◌, ap}
 use Rattle.event_output.specs.Open.{mark_of}
 use Rattle.event_output.proofs.Marks.{unmatched_set}
 use Rattle.event_output.proofs.points.set_all.Goals as goal
