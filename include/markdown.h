@@ -1,4 +1,5 @@
-/* Markdown to HTML, and to its events: the functions of libmarkdown-proved, for C and C++. docs/LIBRARY.md says how to build and link it.
+/* Markdown to HTML, and to its events: the functions of libmarkdown-proved, for C and C++. docs/LIBRARY.md says how to build and
+ * link it.
  *
  * Input and HTML are UTF-8. Lengths are in bytes; no terminating NUL is read or written. No function aborts or keeps state
  * between calls, so threads may call them at the same time. markdown_convert and markdown_list_events free all memory that they
@@ -149,7 +150,7 @@ static inline uint32_t markdown_events(const unsigned char *text, size_t text_le
 {
     static const unsigned char none[1] = {0};
     markdown_event *events = NULL;
-    size_t room = text_length / 4 + 64, count = 0, i;
+    size_t room = text_length / 2 + 64, count = 0, i; /* READMEs have an event for three bytes */
     uint32_t status = MARKDOWN_ROOM;
     while (status == MARKDOWN_ROOM) {
         markdown_event *grown = NULL;

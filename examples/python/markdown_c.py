@@ -73,7 +73,7 @@ def _check(status):
 
 def events(library, text, flags=0):
     """The events of a text (bytes), one after another."""
-    count = ctypes.c_size_t(len(text) // 4 + 64)
+    count = ctypes.c_size_t(len(text) // 2 + 64)
     status = _ROOM
     while status == _ROOM:
         array = (_Event * count.value)()

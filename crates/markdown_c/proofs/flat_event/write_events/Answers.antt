@@ -1,4 +1,4 @@
-use Rattle.std.proofs.Common.{rules, ◌≡◌, ◌<◌, length, arith}
+use Rattle.std.proofs.Common.{rules, ◌<◌, length}
 use Rattle.markdown_c.proofs.Written.{written_more}
 use Rattle.markdown_c.proofs.flat_event.write_events.Goals as goal
 

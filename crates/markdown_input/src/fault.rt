@@ -1,9 +1,10 @@
-//! Why the program ends with a status other than 0.
+//! Why a program can't do what it is asked for.
+use std::alloc::{AllocError, AllocFailed};
 use std::io::{Error, ErrorKind};
 
-/// Why the program ends with a status other than 0.
-#[derive(Clone, Copy)]
-pub(crate) enum Fault {
+/// Why a program can't do what it is asked for.
+#[derive(Clone, Copy, Debug)]
+pub enum Fault {
     /// The command line is wrong.
     Words,
     /// The text can't be read.
@@ -12,7 +13,7 @@ pub(crate) enum Fault {
     Utf8,
     /// The text is too large.
     Size,
-    /// The events can't be written.
+    /// The output can't be written.
     Write,
     /// Memory ran out.
     Memory,
@@ -20,7 +21,7 @@ pub(crate) enum Fault {
 
 impl Fault {
     /// This fault, or that of memory if memory was refused.
-    pub(crate) fn unless_memory(self, error: &Error) -> Fault {
+    pub fn unless_memory(self, error: &Error) -> Fault {
         match error.kind() {
             ErrorKind::OutOfMemory => Fault::Memory,
             _ => self,
@@ -28,30 +29,39 @@ impl Fault {
     }
 
     /// The fault if a text can't be read.
-    pub(crate) fn reading(error: &Error) -> Fault {
+    pub fn reading(error: &Error) -> Fault {
         match error.kind() {
             ErrorKind::InvalidData => Fault::Utf8,
             _ => Fault::Read.unless_memory(error),
         }
     }
 
-    /// The exit status: 2 for a wrong command line, 1 for any other fault.
-    pub(crate) fn status(self) -> u8 {
-        match self {
-            Fault::Words => 2,
-            _ => 1,
-        }
+    /// The fault if output can't be written.
+    pub fn writing(error: &Error) -> Fault {
+        Fault::Write.unless_memory(error)
     }
 
     /// What is printed of it.
-    pub(crate) fn words(self) -> &'static str {
+    pub fn words(self) -> &'static str {
         match self {
-            Fault::Words => "wrong command line",
+            Fault::Words => "wrong command line; --help lists the words",
             Fault::Read => "cannot read",
             Fault::Utf8 => "input is not UTF-8",
             Fault::Size => "input is too large",
             Fault::Write => "cannot write",
             Fault::Memory => "out of memory",
         }
+    }
+}
+
+impl From<AllocError> for Fault {
+    fn from(_error: AllocError) -> Fault {
+        Fault::Memory
+    }
+}
+
+impl<T: Drop> From<AllocFailed<T>> for Fault {
+    fn from(_error: AllocFailed<T>) -> Fault {
+        Fault::Memory
     }
 }
