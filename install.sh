@@ -1,17 +1,51 @@
 #!/bin/sh
-# Proves and builds the program, and installs it as `markdown` in a folder (by default ~/.local/bin). With --library it installs
-# the library for C below a folder (by default ~/.local): include/markdown.h, lib/libmarkdown-proved.a and .so, and a file for
-# pkg-config.
-#
-#     ./install.sh [FOLDER]
-#     ./install.sh --library [FOLDER]
+# Proves and builds programs or the library for C, and installs them. `./install.sh --help` prints how it is called.
 #
 # It names each crate as it is proved. Proofs that the gate or an earlier run passed on this machine are taken, so a later run
 # takes less than a minute. RT_JOBS sets how many proofs run side by side; by default as many as processors and memory allow.
 set -eu
-crate=markdown_program what=program below=.local/bin
-[ "${1:-}" = --library ] && { crate=markdown_c what=library below=.local; shift; }
-folder=${1:-$HOME/$below}
+
+print_help() {
+    cat <<'END'
+Usage: ./install.sh [OPTION].. [FOLDER]
+
+Proves and builds the program markdown, and installs it in FOLDER (~/.local/bin).
+
+Options:
+  --program NAME  Install this program instead; may be repeated. NAME is one of
+                  markdown (Markdown to HTML), markdown-lint (finds what is
+                  wrong or unwise) or markdown-events (prints the events)
+  --all           Install all three programs
+  --library       Install the library for C below FOLDER (~/.local): the header,
+                  the static and the shared library, and a file for pkg-config
+  --help          Print this
+
+The first run takes most of an hour, for a further program some minutes more.
+Later runs take less than a minute.
+END
+}
+
+fail() { echo "install.sh: $*" >&2; exit 2; }
+
+programs='' library='' folder='' noted=''
+while [ $# -gt 0 ]; do
+    case $1 in
+        --help | -h) print_help; exit ;;
+        --all) programs='markdown markdown-events markdown-lint' ;;
+        --library) library=yes ;;
+        --program)
+            case ${2:-} in
+                markdown | markdown-events | markdown-lint) programs="$programs $2" ;;
+                *) fail "--program wants markdown, markdown-events or markdown-lint" ;;
+            esac
+            shift ;;
+        -*) fail "$1 is no option; --help lists them" ;;
+        *) [ -z "$folder" ] || fail "there are two folders: $folder and $1"; folder=$1 ;;
+    esac
+    shift
+done
+[ -z "$library" ] || [ -z "$programs" ] || fail "--library installs no programs"
+if [ -n "$library" ]; then folder=${folder:-$HOME/.local}; else folder=${folder:-$HOME/.local/bin}; fi
 mkdir -p "$folder"
 folder=$(cd "$folder" && pwd)
 cd "$(dirname "$0")"
@@ -19,6 +53,14 @@ scratch=$(mktemp -d)
 trap 'rm -rf "$scratch"' EXIT
 trap 'exit 1' INT TERM
 copy=$scratch/copy
+
+# The crate of a program.
+crate_of() {
+    case $1 in
+        markdown) echo markdown_program ;;
+        *) echo "$1" | tr - _ ;;
+    esac
+}
 
 # Names each crate on a line of its own as `rt ci` passes it.
 show_progress() {
@@ -35,26 +77,28 @@ show_progress() {
 # Runs a command, and shows its output only if it fails.
 quietly() { "$@" > "$scratch/log" 2>&1 || { cat "$scratch/log" >&2; exit 1; }; }
 
-# Says so if `markdown` as a command isn't the program just installed.
+# Says so if a program's name as a command isn't the program just installed.
 check_path() {
-    found=$(command -v markdown || true)
-    if [ -z "$found" ]; then
+    found=$(command -v "$1" || true)
+    if [ -n "$found" ] && ! [ "$found" -ef "$folder/$1" ]; then
+        echo "note: the command $1 is $found. For this one: export PATH=$folder:\$PATH" >&2
+    elif [ -z "$found" ] && [ -z "$noted" ]; then
         echo "note: $folder isn't on your PATH: export PATH=$folder:\$PATH" >&2
-    elif ! [ "$found" -ef "$folder/markdown" ]; then
-        echo "note: the command markdown is $found. For this one: export PATH=$folder:\$PATH" >&2
+        noted=yes
     fi
 }
 
 install_program() {
-    built=crates/markdown_program/out/markdown_program
-    mkdir -p crates/markdown_program/out
+    crate=$(crate_of "$1")
+    built=crates/$crate/out/$crate
+    mkdir -p "crates/$crate/out"
     # A new file each time: the old one may be running.
-    for to in "$built" "$folder/markdown"; do
+    for to in "$built" "$folder/$1"; do
         cp "$copy/$built" "$to.new"
         mv "$to.new" "$to"
     done
-    echo "installed $folder/markdown, as $built" >&2
-    check_path
+    echo "installed $folder/$1, as $built" >&2
+    check_path "$1"
 }
 
 install_library() {
@@ -64,8 +108,19 @@ install_library() {
     echo "installed below $folder: include/markdown.h, lib/libmarkdown-proved.a and .so, lib/pkgconfig/markdown-proved.pc" >&2
 }
 
-crates=$(bin/below "$crate" | sed '/ staticlib:/d' | wc -l)
+if [ -n "$library" ]; then
+    set -- markdown_c
+else
+    programs=${programs:-markdown}
+    set --
+    for program in $programs; do set -- "$@" "$(crate_of "$program")"; done
+fi
+crates=$(bin/below "$@" | sed '/ staticlib:/d' | wc -l)
 echo "proving $crates crates" >&2
-bin/prove "$crate" "$copy" 2>&1 | tee "$scratch/ci" | show_progress "$crates"
+bin/prove "$copy" "$@" 2>&1 | tee "$scratch/ci" | show_progress "$crates"
 tail -n 1 "$scratch/ci" | grep -q "^$crates passed, 0 failed" || { cat "$scratch/ci" >&2; exit 1; }
-"install_$what"
+if [ -n "$library" ]; then
+    install_library
+else
+    for program in $programs; do install_program "$program"; done
+fi

@@ -5,7 +5,8 @@ usage: docs/events.py            writes them
        docs/events.py --check    fails where the page has others
 
 The grammar is read from crates/event_grammar/src, the example's list from the stored run of crates/tests_events. Both ways
-fail where a name has no row and isn't void, or a row names what is no event.
+fail where a name has no row and isn't void, or a row names what is no event, and where the header for C, the specification of
+its numbers or the example in Python has other names.
 """
 import os
 import re
@@ -15,6 +16,12 @@ TOP = os.path.dirname(os.path.dirname(os.path.realpath(__file__)))
 PAGE = os.path.join(TOP, "docs", "EVENTS.md")
 SOURCES = os.path.join(TOP, "crates", "event_grammar", "src")
 NAMES = os.path.join(TOP, "crates", "engine_events", "src", "event.rt")
+# Where the names are listed once more, in the order of their numbers, and how.
+LISTS = {
+    "include/markdown.h": r'EACH\(\w+, "(\w+)"\)',
+    "crates/markdown_c/specs/EventNumbers.antt": r"(?m)^name_number names\.(\w+) = \d+$",
+    "examples/python/markdown_c.py": r"\b([A-Z]\w+)(?=[ \n])",
+}
 RUN = os.path.join(TOP, "crates", "tests_events", "stdin")
 # The text of the example, as it is written in the stored run.
 EXAMPLE = "> *a*\\0A> b"
@@ -39,6 +46,28 @@ def sources():
 
 
 # ---- the code
+def event_names():
+    """The names of events, in the order of their numbers."""
+    return re.findall(r"(?m)^    (\w+),", re.search(r"pub enum Name \{(.*?)\n\}", text_of(NAMES), re.S)[1])
+
+
+def check_lists():
+    """Fails where a list for C or Python has other names, or another order or number."""
+    for path, form in LISTS.items():
+        text = text_of(os.path.join(TOP, path))
+        if path.endswith(".py"):
+            text = re.search(r'EVENT_NAMES = """(.*?)"""', text, re.S)[1]
+        if re.findall(form, text) != event_names():
+            fail(f"{path} has other names of events than crates/engine_events/src/event.rt")
+    header = re.findall(r'EACH\((\w+), "(\w+)"\)', text_of(os.path.join(TOP, "include", "markdown.h")))
+    numbers = re.findall(r"= (\d+)$", text_of(os.path.join(TOP, "crates/markdown_c/specs/EventNumbers.antt")), re.M)[-len(header):]
+    if [int(it) for it in numbers] != list(range(len(header))):
+        fail("EventNumbers.antt skips a number")
+    for number, name in header:
+        if number != re.sub(r"(?<=[a-z0-9])(?=[A-Z])", "_", name).upper():
+            fail(f"include/markdown.h: {number} isn't {name}")
+
+
 def constants(source):
     """The lists of names by the names of their constants."""
     found = re.findall(r"const (\w+): \[Name; \d+\] = \[(.*?)\];", source, re.S)
@@ -146,7 +175,7 @@ def grammar():
     source = sources()
     lists = constants(source)
     found = [it for it in rows(source)]
-    names = re.findall(r"(?m)^    (\w+),", re.search(r"pub enum Name \{(.*?)\n\}", text_of(NAMES), re.S)[1])
+    names = event_names()
     void = constants(text_of(NAMES))["VOID_EVENTS"]
     with_row = {name for name, _, it in found if it}
     classes = {"block": lists["BLOCK_NAMES"], "string": lists["STRING_NAMES"], "text": lists["TEXT_NAMES"]}
@@ -213,6 +242,7 @@ def main(words):
     if words not in ([], ["--check"]):
         sys.exit(__doc__)
     wanted = page()
+    check_lists()
     if words and text_of(PAGE) != wanted:
         fail("docs/EVENTS.md is not what docs/events.py writes: run it")
     if not words:

@@ -8,7 +8,7 @@
 # the compilers, if they aren't cc and c++. If valgrind is there, the C programs run under it too.
 set -eu
 here=$(cd "$(dirname "$0")" && pwd)
-page=$here/../crates/examples_library
+page=$here/../crates/examples_library events=$here/../crates/markdown_events
 scratch=$(mktemp -d)
 trap 'rm -rf "$scratch"' EXIT
 passed=0 failed=0
@@ -24,6 +24,10 @@ works() { "$@" > /dev/null 2>&1; }
 converts() { "$@" --gfm --math --frontmatter --mark < "$page/stdin" | cmp - "$page/stdout"; }
 filters() { printf '<b><title>' | "$@" --gfm --dangerous | grep -qx '<p><b>&lt;title></p>'; }
 refuses() { ! printf 'a\377' | "$@" > "$scratch/out" 2>&1 && ! [ "$(head -c 1 "$scratch/out")" = '<' ]; }
+lists_events() { "$1" < "$events/stdin" | cmp - "$events/stdout"; }
+stops() { [ "$("$1" 3 < "$events/stdin" | wc -l)" = 3 ] && { status=0; "$1" 0 < "$events/stdin" || status=$?; [ "$status" = 3 ]; }; }
+# Whether a command that gets the path of a text prints its table of contents.
+lists_contents() { "$@" page.md > "$scratch/contents.out" < page.md && cmp "$scratch/contents.out" contents.md; }
 tries() {
     name=$1
     shift
@@ -56,12 +60,19 @@ library=${1:-$scratch}
 check "C" compile -o "$scratch/convert" "$here/c/convert.c"
 tries "C" "$scratch/convert"
 check "C: the version" tells_version
-if works nm --version; then check "the functions of the library" exports "markdown_convert markdown_version "; fi
+if works nm --version; then check "the functions of the library" exports "markdown_convert markdown_list_events markdown_version "; fi
 if works objdump --version; then check "the name of the library" names_itself libmarkdown-proved.so.0; fi
+check "C: events" compile -o "$scratch/events" "$here/c/events.c"
+check "C: events" lists_events "$scratch/events"
+check "C: a callback that stops" stops "$scratch/events"
+check "C: contents" compile -o "$scratch/contents" "$here/c/contents.c"
+cd "$here/contents"
+check "C: contents" lists_contents "$scratch/contents"
 check "C: refusals" compile -Wl,--wrap=malloc -Wl,--wrap=realloc -o "$scratch/refusals" "$here/c/refusals.c"
 check "C: refusals" "$scratch/refusals"
 if works valgrind true; then
     check "C: memory" converts valgrind -q --error-exitcode=9 --leak-check=full "$scratch/convert"
+    check "C: memory of events" lists_contents valgrind -q --error-exitcode=9 --leak-check=full "$scratch/contents"
     check "C: memory of refusals" valgrind -q --error-exitcode=9 --leak-check=full "$scratch/refusals"
 fi
 if works pkg-config --version && works ${CXX:-c++} --version; then
@@ -74,6 +85,7 @@ if works rustc --version; then
 fi
 if works python3 -c 'import ctypes'; then
     tries "Python" python3 "$here/python/convert.py" "$library/lib/libmarkdown-proved.so"
+    check "Python: contents" lists_contents python3 "$here/python/contents.py" "$library/lib/libmarkdown-proved.so"
 fi
 echo "$passed passed, $failed failed"
 [ "$failed" = 0 ]

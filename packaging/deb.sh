@@ -1,17 +1,17 @@
 #!/bin/sh
-# Makes packages for Debian of an installed program and library, and prints their paths: markdown-proved (the program),
+# Makes packages for Debian of installed programs and library, and prints their paths: markdown-proved (the programs),
 # libmarkdown-proved0 (the shared library) and libmarkdown-proved-dev (header, static library, pkg-config).
 #
-#     packaging/deb.sh PROGRAM FOLDER OUT
+#     packaging/deb.sh PROGRAMS FOLDER OUT
 #
-# PROGRAM is what ./install.sh has installed, FOLDER what `./install.sh --library FOLDER` has made. Debian has other packages
-# `markdown` and `libmarkdown2`. So the program is /usr/bin/markdown-proved, and /usr/bin/markdown is an alternative that leads to
-# it. $DEBFULLNAME and $DEBEMAIL name the maintainer, $SOURCE_DATE_EPOCH the time of the build.
+# PROGRAMS is what `./install.sh --all PROGRAMS` has made, FOLDER what `./install.sh --library FOLDER` has made. Debian has other
+# packages `markdown` and `libmarkdown2`. So the program markdown is /usr/bin/markdown-proved, and /usr/bin/markdown is an
+# alternative that leads to it. The others keep their names. $DEBFULLNAME and $DEBEMAIL name the maintainer, $SOURCE_DATE_EPOCH the time of the build.
 set -eu
-[ $# = 3 ] || { echo "usage: packaging/deb.sh PROGRAM FOLDER OUT" >&2; exit 2; }
-program=$1 folder=$2 out=$(cd "$3" && pwd)
+[ $# = 3 ] || { echo "usage: packaging/deb.sh PROGRAMS FOLDER OUT" >&2; exit 2; }
+programs=$1 folder=$2 out=$(cd "$3" && pwd)
 here=$(cd "$(dirname "$0")" && pwd)
-upstream=$("$program" --version | sed 's/.* //')
+upstream=$("$programs/markdown" --version | sed 's/.* //')
 version=$upstream-1
 architecture=$(dpkg --print-architecture)
 triple=$(dpkg-architecture -qDEB_HOST_MULTIARCH)
@@ -61,16 +61,22 @@ ABOUT=' This converter reads CommonMark 0.31.2 and GitHub Flavored Markdown, and
  writes HTML that is safe by default. It is proved to return exactly the HTML
  of a written definition.'
 
-# The program.
+# The programs.
 root=$scratch/markdown-proved
-install -D -s -m755 "$program" "$root/usr/bin/markdown-proved"
-mkdir -p "$root/usr/share/man/man1"
-sed "s/@DATE@/$(date -u -d "@$SOURCE_DATE_EPOCH" +%F)/; s/@VERSION@/$upstream/; s/@NAMES@/markdown-proved, markdown/; s/@NAME@/markdown-proved/
-    s/markdown-proved/markdown\\\\-proved/g" "$here/markdown.1" | gzip -9n > "$root/usr/share/man/man1/markdown-proved.1.gz"
 completions=usr/share/bash-completion/completions
-install -D -m644 "$here/markdown.bash" "$root/$completions/markdown-proved"
-install -D -m644 "$here/markdown.fish" "$root/usr/share/fish/vendor_completions.d/markdown-proved.fish"
-install -D -m644 "$here/_markdown" "$root/usr/share/zsh/vendor-completions/_markdown-proved"
+# A program of PROGRAMS, the name that it gets, and the names on its man page.
+add_program() {
+    install -D -s -m755 "$programs/$1" "$root/usr/bin/$2"
+    mkdir -p "$root/usr/share/man/man1"
+    sed "s/@DATE@/$(date -u -d "@$SOURCE_DATE_EPOCH" +%F)/; s/@VERSION@/$upstream/; s/@NAMES@/$3/; s/@NAME@/$2/
+        s/markdown-proved/markdown\\\\-proved/g" "$here/$1.1" | gzip -9n > "$root/usr/share/man/man1/$2.1.gz"
+    install -D -m644 "$here/$1.bash" "$root/$completions/$2"
+    install -D -m644 "$here/$1.fish" "$root/usr/share/fish/vendor_completions.d/$2.fish"
+    install -D -m644 "$here/_$1" "$root/usr/share/zsh/vendor-completions/_$2"
+}
+add_program markdown markdown-proved "markdown-proved, markdown"
+add_program markdown-events markdown-events markdown-events
+add_program markdown-lint markdown-lint markdown-lint
 mkdir "$root/DEBIAN"
 cat > "$root/DEBIAN/postinst" <<END
 #!/bin/sh
@@ -89,7 +95,10 @@ if [ "$1" = remove ] || [ "$1" = deconfigure ]; then
 fi
 END
 chmod 755 "$root/DEBIAN/postinst" "$root/DEBIAN/prerm"
-make_package markdown-proved text "proved converter from Markdown to HTML" "Depends: $(needs "$root/usr/bin/markdown-proved")" "$ABOUT"
+make_package markdown-proved text "proved converter from Markdown to HTML" "Depends: $(needs "$root/usr/bin/markdown-proved")" "$ABOUT
+ .
+ Two more programs find what is wrong or unwise in Markdown (markdown-lint),
+ and print what is where in it (markdown-events)."
 
 # The shared library.
 root=$scratch/$package

@@ -109,7 +109,67 @@ static int check_growing(void)
     return 0;
 }
 
+static markdown_event array[256];
+
+static uint32_t list_events(uint32_t flags, size_t room, size_t *count)
+{
+    memset(array, '?', sizeof array);
+    return markdown_list_events(TEXT, sizeof TEXT - 1, flags, array, room, count);
+}
+
+static int is_array_untouched_from(size_t at)
+{
+    const unsigned char *byte = (const unsigned char *)&array[at], *end = (const unsigned char *)(array + 256);
+    while (byte < end && *byte == '?')
+        byte++;
+    return byte == end;
+}
+
+static int check_events(void)
+{
+    size_t count = 7, wanted = 0;
+    uint32_t status = MARKDOWN_MEMORY;
+    CHECK(list_events(0, 256, &wanted) == MARKDOWN_OK && wanted > 50 && is_array_untouched_from(wanted));
+    CHECK(array[0].name == MARKDOWN_EVENT_HEADING_ATX && array[0].kind == MARKDOWN_ENTER);
+    CHECK(array[wanted - 1].kind == MARKDOWN_EXIT && array[wanted - 1].offset == sizeof TEXT - 1);
+    for (size_t i = 1; i < wanted; i++)
+        CHECK(array[i].offset >= array[i - 1].offset && array[i].line >= array[i - 1].line && array[i].columns == 0);
+    for (size_t room = 0; room < wanted; room++)
+        CHECK(list_events(0, room, &count) == MARKDOWN_ROOM && count == wanted && is_array_untouched_from(0));
+    CHECK(list_events(0, wanted, &count) == MARKDOWN_OK && count == wanted && is_array_untouched_from(wanted));
+    CHECK(list_events(2048, 256, &count) == MARKDOWN_FLAGS && count == 0 && is_array_untouched_from(0));
+    CHECK(markdown_list_events((const unsigned char *)"a\xff", 2, 0, array, 256, &count) == MARKDOWN_UTF8 && count == 0);
+    CHECK(markdown_list_events(TEXT, 0, 0, array, 256, &count) == MARKDOWN_OK && count == 0);
+    for (long granted = 0; status == MARKDOWN_MEMORY; granted++) {
+        left = granted;
+        status = list_events(0, 256, &count);
+        left = -1;
+        CHECK(status == MARKDOWN_MEMORY ? count == 0 && is_array_untouched_from(0) : status == MARKDOWN_OK && count == wanted);
+    }
+    return 0;
+}
+
+static int count_events(const markdown_event *event, void *context)
+{
+    (void)event;
+    return ++*(size_t *)context == 9;
+}
+
+static int check_callback(void)
+{
+    size_t count = 0;
+    CHECK(markdown_events(NULL, 0, 0, count_events, &count) == MARKDOWN_OK && count == 0);
+    CHECK(markdown_events(TEXT, sizeof TEXT - 1, 0, count_events, &count) == MARKDOWN_STOPPED && count == 9);
+    CHECK(markdown_events(TEXT, sizeof TEXT - 1, 0, count_events, &count) == MARKDOWN_OK && count > 50);
+    left = 0;
+    CHECK(markdown_events(TEXT, 1, 0, count_events, &count) == MARKDOWN_MEMORY);
+    left = -1;
+    CHECK(markdown_event_name(MARKDOWN_EVENT_COUNT) == NULL);
+    CHECK(strcmp(markdown_event_name(MARKDOWN_EVENT_THEMATIC_BREAK_SEQUENCE), "ThematicBreakSequence") == 0);
+    return 0;
+}
+
 int main(void)
 {
-    return check_room() || check_refusals() || check_memory() || check_growing();
+    return check_room() || check_refusals() || check_memory() || check_growing() || check_events() || check_callback();
 }

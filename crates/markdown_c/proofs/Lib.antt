@@ -1,1 +1,3 @@
+mod Listed
 mod Pages
+mod Written

@@ -1,2 +1,5 @@
+pub mod EventNumbers
 pub mod Flags
+pub mod FlatEvents
+pub mod ListedEvents
 pub mod Pages

@@ -9,23 +9,23 @@ use markdown::{fits, to_html_with_options};
 use std::alloc::Global;
 use std::mem::ManuallyDrop;
 
-/// The buffer begins with the page.
-const OK: u32 = 0;
+/// The buffer begins with the page, or the array with the events.
+pub(crate) const OK: u32 = 0;
 
-/// The buffer is too small for the page.
-const ROOM: u32 = 1;
+/// The buffer or the array is too small.
+pub(crate) const ROOM: u32 = 1;
 
 /// The text isn't UTF-8.
-const UTF8: u32 = 2;
+pub(crate) const UTF8: u32 = 2;
 
 /// A flag is unknown.
-const FLAGS: u32 = 3;
+pub(crate) const FLAGS: u32 = 3;
 
 /// The text has more than `usize::MAX / 8` bytes.
-const SIZE: u32 = 4;
+pub(crate) const SIZE: u32 = 4;
 
 /// Out of memory.
-const MEMORY: u32 = 5;
+pub(crate) const MEMORY: u32 = 5;
 
 /// Converts a text to HTML in a buffer, and returns a status. `size` becomes the length of the page
 /// in bytes if the status is `OK` or `ROOM`, and otherwise 0.

@@ -1,95 +1,93 @@
 //! The words of the command line.
-ghost use Rattle.std.specs.Prelude.{◌≡◌, false};
-ghost use Rattle.markdown_options.specs.Mdx.{has_mdx};
+use markdown_input::{Fault, Flags, STANDARD_INPUT};
 
-use markdown_options::{Constructs, ParseOptions};
+/// What `--help` prints.
+const HELP: &str = "\
+Prints the events of Markdown, one a line: what is entered or left, and where.
+
+Usage: markdown-events [OPTIONS] [FILE]
+
+It reads the file, or standard input, whose name is -.
+
+Options:
+      --gfm          Read GitHub Flavored Markdown
+      --frontmatter  Read frontmatter at the start of a text
+      --math         Read $a$, and blocks between lines of $$
+      --mark         Read ==text== as marked text
+      --all          All four
+  -h, --help         Print help
+  -V, --version      Print version
+
+A line is: enter or exit, the name, LINE:COLUMN(OFFSET), and at a tab how many of
+its columns are before this place, otherwise 0.
+
+Exit status:
+  0  all events were written
+  1  they were not; standard error has the reason
+  2  the command line is wrong
+";
+
+/// What `--version` prints.
+const VERSION: &str = "markdown-events 0.1.0\n";
 
 /// What a command line asks for.
 #[derive(Clone, Copy)]
 pub(crate) struct Command<'w> {
+    /// What to print, and no events: the help or the version.
+    pub(crate) answer: Option<&'static str>,
     /// Which constructs are on beside those of CommonMark.
     pub(crate) flags: Flags,
-    /// The path of the file to read. Without one, standard input is read.
-    pub(crate) path: Option<&'w str>,
-}
-
-/// Which constructs are on beside those of CommonMark.
-#[derive(Clone, Copy, Default)]
-pub(crate) struct Flags {
-    gfm: bool,
-    frontmatter: bool,
-    math: bool,
-    mark: bool,
+    /// The name of the file to read, if there is one.
+    file: Option<&'w str>,
 }
 
 impl<'w> Command<'w> {
-    /// Reads the words, without the name of the program. The path is the last one, unless that is a
-    /// flag. Returns nothing if a flag is wrong.
-    pub(crate) fn read(words: &'w [String]) -> Option<Command<'w>> {
-        let (flags, path) = split_path(words);
-        Some(Command {
-            flags: Flags::read(flags)?,
-            path,
+    /// Reads the words, without the name of the program. They may come in any order. Fails with
+    /// `Words` if a flag is wrong, or if there are two files.
+    pub(crate) fn read(words: &'w [String]) -> Result<Command<'w>, Fault> {
+        let mut command = Command {
+            answer: None,
+            flags: Flags::default(),
+            file: None,
+        };
+        for word in words {
+            command = command.with(word.as_str())?;
+        }
+        Ok(command)
+    }
+
+    /// The same with one more word. The first of help and version counts.
+    fn with(self, word: &'w str) -> Result<Command<'w>, Fault> {
+        match word {
+            "-h" | "--help" => Ok(self.with_answer(HELP)),
+            "-V" | "--version" => Ok(self.with_answer(VERSION)),
+            _ => match self.flags.with(word) {
+                Some(flags) => Ok(Command { flags, ..self }),
+                None => self.with_file(word),
+            },
+        }
+    }
+
+    fn with_answer(self, answer: &'static str) -> Command<'w> {
+        Command {
+            answer: Some(self.answer.unwrap_or(answer)),
+            ..self
+        }
+    }
+
+    /// The same with the name of a file. Fails if it looks like a flag, or if there is one already.
+    fn with_file(self, name: &'w str) -> Result<Command<'w>, Fault> {
+        if self.file.is_some() || (name.starts_with('-') && name != STANDARD_INPUT) {
+            return Err(Fault::Words);
+        }
+        Ok(Command {
+            file: Some(name),
+            ..self
         })
     }
-}
 
-/// The flags and the path among some words.
-fn split_path(words: &[String]) -> (&[String], Option<&str>) {
-    match words.split_last() {
-        Some((path, flags)) if !path.starts_with('-') => (flags, Some(path.as_str())),
-        _ => (words, None),
-    }
-}
-
-impl Flags {
-    /// Reads flags. Returns nothing if one is wrong.
-    fn read(words: &[String]) -> Option<Flags> {
-        let mut flags = Flags::default();
-        for word in words {
-            flags = flags.with(word)?;
-        }
-        Some(flags)
-    }
-
-    /// The same with one more flag.
-    fn with(self, word: &str) -> Option<Flags> {
-        match word {
-            "--gfm" => Some(Flags { gfm: true, ..self }),
-            "--frontmatter" => Some(Flags {
-                frontmatter: true,
-                ..self
-            }),
-            "--math" => Some(Flags { math: true, ..self }),
-            "--mark" => Some(Flags { mark: true, ..self }),
-            "--all" => Some(Flags {
-                gfm: true,
-                frontmatter: true,
-                math: true,
-                mark: true,
-            }),
-            _ => None,
-        }
-    }
-
-    /// The options that a text is read with.
-    pub(crate) fn options(self) -> ParseOptions
-        ensures without_mdx { has_mdx result.constructs ≡ false }
-    {
-        let constructs = if self.gfm {
-            Constructs::gfm()
-        } else {
-            Constructs::default()
-        };
-        ParseOptions {
-            constructs: Constructs {
-                frontmatter: self.frontmatter,
-                math_flow: self.math,
-                math_text: self.math,
-                mark: self.mark,
-                ..constructs
-            },
-            ..ParseOptions::default()
-        }
+    /// The name of the file to read, or of standard input.
+    pub(crate) fn name(&self) -> &'w str {
+        self.file.unwrap_or(STANDARD_INPUT)
     }
 }

@@ -2,43 +2,43 @@
 #![tactic(auto)]
 
 mod command;
-mod fault;
 mod lines;
 
 use command::Command;
 use engine_events::Event;
 use event_parser::{SIZE_MAX, parse};
-use fault::Fault;
 use lines::write_events;
+use markdown_input::{Fault, text, words};
 use markdown_tables::Builtin;
 use std::io::{self, BufWriter};
 use std::process::ExitCode;
-use std::{env, fs};
-
-/// What the words of the command line may be.
-const USAGE: &str =
-    "usage: markdown_events [--gfm] [--frontmatter] [--math] [--mark] [--all] [FILE]";
 
 fn main(rt: HostRuntime) -> ExitCode {
     match run(&rt) {
         Ok(()) => ExitCode::SUCCESS,
         Err(fault) => {
-            let _ = eprintln!(rt; "markdown_events: {}", fault.words());
-            if let Fault::Words = fault {
-                let _ = eprintln!(rt; "{USAGE}");
-            }
-            ExitCode::from(fault.status())
+            let _ = eprintln!(rt; "markdown-events: {}", fault.words());
+            ExitCode::from(status(fault))
         }
+    }
+}
+
+/// The exit status: 2 for a wrong command line, 1 for any other fault.
+fn status(fault: Fault) -> u8 {
+    match fault {
+        Fault::Words => 2,
+        _ => 1,
     }
 }
 
 /// Runs the command line.
 fn run(rt: &HostRuntime) -> Result<(), Fault> {
-    let words = words(rt).map_err(|error| Fault::Words.unless_memory(&error))?;
-    let Some(command) = Command::read(&words) else {
-        return Err(Fault::Words);
-    };
-    let text = text(rt, command.path).map_err(|error| Fault::reading(&error))?;
+    let words = words(rt)?;
+    let command = Command::read(&words)?;
+    if let Some(answer) = command.answer {
+        return print_answer(rt, answer).map_err(|error| Fault::writing(&error));
+    }
+    let text = text(rt, command.name())?;
     if text.len() > SIZE_MAX {
         return Err(Fault::Size);
     }
@@ -46,28 +46,16 @@ fn run(rt: &HostRuntime) -> Result<(), Fault> {
     let Ok((events, _)) = parse(rt.alloc(), &text, &options, &Builtin) else {
         return Err(Fault::Memory);
     };
-    print(rt, &events).map_err(|error| Fault::Write.unless_memory(&error))
+    print_events(rt, &events).map_err(|error| Fault::writing(&error))
 }
 
-/// The words of the command line, without the name of the program.
-fn words(rt: &HostRuntime) -> io::Result<Vec<String>> {
-    let mut words = Vec::new(rt.alloc());
-    for word in env::args(rt)?.skip(1) {
-        words.push(word)?;
-    }
-    Ok(words)
-}
-
-/// The text of a file, or of standard input.
-fn text(rt: &HostRuntime, path: Option<&str>) -> io::Result<String> {
-    match path {
-        Some(path) => fs::read_to_string(rt, path),
-        None => io::read_to_string(rt.alloc(), rt.stdin()),
-    }
+/// Prints the help or the version to standard output.
+fn print_answer(rt: &HostRuntime, answer: &str) -> io::Result<()> {
+    print!(rt; "{answer}")
 }
 
 /// Prints events to standard output.
-fn print(rt: &HostRuntime, events: &[Event]) -> io::Result<()> {
+fn print_events(rt: &HostRuntime, events: &[Event]) -> io::Result<()> {
     let mut writer = BufWriter::new(rt.alloc(), rt.stdout())?;
     write_events(&mut writer, events)
 }

@@ -1,48 +1,45 @@
 //! The words of the command line.
-ghost use Rattle.std.specs.Prelude.{◌≡◌, false};
-ghost use Rattle.markdown_options.specs.Mdx.{has_mdx};
-
-use crate::fault::Fault;
-use markdown_options::{Constructs, ParseOptions};
+use markdown_input::{Fault, Flags, STANDARD_INPUT};
 use std::alloc::Global;
 
 /// What `--help` prints.
-pub(crate) const HELP: &str = "\
-usage: markdown-lint [--gfm] [--frontmatter] [FILE..]
-
+const HELP: &str = "\
 Prints what it finds in Markdown, one finding a line: FILE:LINE:COLUMN: WHAT (RULE).
+
+Usage: markdown-lint [OPTIONS] [FILE..]
+
 It reads the files, or standard input, whose name is -.
 
-  --gfm          read GitHub Flavored Markdown
-  --frontmatter  read frontmatter at the start of a text
-  --help         print this
+Options:
+      --gfm          Read GitHub Flavored Markdown
+      --frontmatter  Read frontmatter at the start of a text
+      --math         Read $a$, and blocks between lines of $$
+      --mark         Read ==text== as marked text
+      --all          All four
+  -h, --help         Print help
+  -V, --version      Print version
 
 Rules: heading-increment, duplicate-heading, bare-url, undefined-reference,
 unused-definition, no-alt-text, trailing-spaces, tab-indent, list-marker.
 
-Exit status: 0 if nothing is found, 1 if there are findings, 2 if the command line
-is wrong or a file can't be read.
+Exit status:
+  0  nothing was found
+  1  there are findings
+  2  the command line is wrong, or a file can't be read
 ";
 
-/// The name of standard input.
-pub(crate) const STANDARD_INPUT: &str = "-";
+/// What `--version` prints.
+const VERSION: &str = "markdown-lint 0.1.0\n";
 
 /// What a command line asks for.
 #[derive(Drop)]
 pub(crate) struct Command<'w> {
-    /// Whether to print the help, and no more.
-    pub(crate) help: bool,
+    /// What to print, and no findings: the help or the version.
+    pub(crate) answer: Option<&'static str>,
     /// Which constructs are on beside those of CommonMark.
     pub(crate) flags: Flags,
     /// The names of the files to check. There is at least one.
     pub(crate) files: Vec<&'w str>,
-}
-
-/// Which constructs are on beside those of CommonMark.
-#[derive(Clone, Copy, Default)]
-pub(crate) struct Flags {
-    pub(crate) gfm: bool,
-    frontmatter: bool,
 }
 
 impl<'w> Command<'w> {
@@ -50,7 +47,7 @@ impl<'w> Command<'w> {
     /// Fails with `Words` if a flag is wrong, or with `Memory`.
     pub(crate) fn read(alloc: Global, words: &'w [String]) -> Result<Command<'w>, Fault> {
         let mut command = Command {
-            help: false,
+            answer: None,
             flags: Flags::default(),
             files: Vec::new(alloc),
         };
@@ -63,15 +60,21 @@ impl<'w> Command<'w> {
         Ok(command)
     }
 
-    /// Adds a word.
+    /// Adds a word. The first of help and version counts.
     fn add(&mut self, word: &'w str) -> Result<(), Fault> {
         match word {
-            "--help" => self.help = true,
-            "--gfm" => self.flags.gfm = true,
-            "--frontmatter" => self.flags.frontmatter = true,
-            _ => self.add_file(word)?,
+            "-h" | "--help" => self.set_answer(HELP),
+            "-V" | "--version" => self.set_answer(VERSION),
+            _ => match self.flags.with(word) {
+                Some(flags) => self.flags = flags,
+                None => self.add_file(word)?,
+            },
         }
         Ok(())
+    }
+
+    fn set_answer(&mut self, answer: &'static str) {
+        self.answer = Some(self.answer.unwrap_or(answer));
     }
 
     /// Adds the name of a file. Fails if it looks like a flag.
@@ -81,25 +84,5 @@ impl<'w> Command<'w> {
         }
         self.files.push(name)?;
         Ok(())
-    }
-}
-
-impl Flags {
-    /// The options that a text is read with.
-    pub(crate) fn options(self) -> ParseOptions
-        ensures without_mdx { has_mdx result.constructs ≡ false }
-    {
-        let constructs = if self.gfm {
-            Constructs::gfm()
-        } else {
-            Constructs::default()
-        };
-        ParseOptions {
-            constructs: Constructs {
-                frontmatter: self.frontmatter,
-                ..constructs
-            },
-            ..ParseOptions::default()
-        }
     }
 }

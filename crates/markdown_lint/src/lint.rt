@@ -1,25 +1,27 @@
 //! Files and their findings.
-use crate::command::{Flags, STANDARD_INPUT};
 use crate::document::Document;
-use crate::fault::Fault;
 use crate::finding::Finding;
 use crate::outcome::Outcome;
 use crate::rules::findings_of;
 use event_parser::{SIZE_MAX, parse};
+use markdown_input::{Fault, Flags, text};
 use markdown_tables::Builtin;
 use std::alloc::Global;
-use std::fs;
 use std::io::{self, BufWriter, Write};
 
 /// Checks files, and prints what is found in them. A file that can't be checked is named on
 /// standard error, and the others are checked all the same.
 pub(crate) fn lint_files(rt: &HostRuntime, flags: Flags, names: &[&str]) -> Result<Outcome, Fault> {
-    let mut writer = BufWriter::new(rt.alloc(), rt.stdout()).map_err(|error| writing(&error))?;
+    let mut writer = BufWriter::new(rt.alloc(), rt.stdout()).map_err(|error| Fault::writing(
+        &error,
+    ))?;
     let mut outcome = Outcome::Clean;
     for name in names {
         match findings_in(rt, flags, name) {
             Ok(findings) => {
-                write_findings(&mut writer, name, &findings).map_err(|error| writing(&error))?;
+                write_findings(&mut writer, name, &findings).map_err(|error| Fault::writing(
+                    &error,
+                ))?;
                 outcome = outcome.and(outcome_of(&findings));
             }
             Err(fault) => {
@@ -28,12 +30,8 @@ pub(crate) fn lint_files(rt: &HostRuntime, flags: Flags, names: &[&str]) -> Resu
             }
         }
     }
-    writer.flush().map_err(|error| writing(&error))?;
+    writer.flush().map_err(|error| Fault::writing(&error))?;
     Ok(outcome)
-}
-
-fn writing(error: &io::Error) -> Fault {
-    Fault::Write.unless_memory(error)
 }
 
 fn outcome_of(findings: &[Finding]) -> Outcome {
@@ -54,17 +52,8 @@ fn write_findings<W: Write>(writer: &mut W, name: &str, findings: &[Finding]) ->
 
 /// The findings of a file, or of standard input.
 fn findings_in(rt: &HostRuntime, flags: Flags, name: &str) -> Result<Vec<Finding>, Fault> {
-    let text = text(rt, name).map_err(|error| Fault::reading(&error))?;
+    let text = text(rt, name)?;
     lint(rt.alloc(), flags, &text)
-}
-
-/// The text of a file, or of standard input.
-fn text(rt: &HostRuntime, name: &str) -> io::Result<String> {
-    if name == STANDARD_INPUT {
-        io::read_to_string(rt.alloc(), rt.stdin())
-    } else {
-        fs::read_to_string(rt, name)
-    }
 }
 
 /// The findings of a text. Fails with `Size` or `Memory`.

@@ -3,7 +3,6 @@
 
 mod command;
 mod document;
-mod fault;
 mod finding;
 mod label;
 mod lint;
@@ -11,12 +10,12 @@ mod outcome;
 mod place;
 mod rules;
 
-use command::{Command, HELP};
-use fault::Fault;
+use command::Command;
 use lint::lint_files;
+use markdown_input::{Fault, words};
 use outcome::Outcome;
+use std::io;
 use std::process::ExitCode;
-use std::{env, io};
 
 fn main(rt: HostRuntime) -> ExitCode {
     let outcome = run(&rt).unwrap_or_else(|fault| {
@@ -28,24 +27,16 @@ fn main(rt: HostRuntime) -> ExitCode {
 
 /// Runs the command line.
 fn run(rt: &HostRuntime) -> Result<Outcome, Fault> {
-    let words = words(rt).map_err(|error| Fault::Words.unless_memory(&error))?;
+    let words = words(rt)?;
     let command = Command::read(rt.alloc(), &words)?;
-    if command.help {
-        return print_help(rt).map_err(|error| Fault::Write.unless_memory(&error));
+    if let Some(answer) = command.answer {
+        return print_answer(rt, answer).map_err(|error| Fault::writing(&error));
     }
     lint_files(rt, command.flags, &command.files)
 }
 
-/// The words of the command line, without the name of the program.
-fn words(rt: &HostRuntime) -> io::Result<Vec<String>> {
-    let mut words = Vec::new(rt.alloc());
-    for word in env::args(rt)?.skip(1) {
-        words.push(word)?;
-    }
-    Ok(words)
-}
-
-fn print_help(rt: &HostRuntime) -> io::Result<Outcome> {
-    print!(rt; "{HELP}")?;
+/// Prints the help or the version to standard output.
+fn print_answer(rt: &HostRuntime, answer: &str) -> io::Result<Outcome> {
+    print!(rt; "{answer}")?;
     Ok(Outcome::Clean)
 }

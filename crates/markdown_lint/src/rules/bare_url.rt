@@ -31,7 +31,12 @@ pub(crate) fn check(document: &Document<'_>, report: &mut Report) -> Result<(), 
 fn may_hold_url(name: Name) -> bool {
     matches!(
         name,
-        Name::Link | Name::Resource | Name::Reference | Name::Definition | Name::CodeFencedFence
+        Name::Link
+            | Name::Resource
+            | Name::Reference
+            | Name::Definition
+            | Name::CodeFencedFence
+            | Name::MathFlowFence
     )
 }
 

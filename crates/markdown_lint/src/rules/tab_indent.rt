@@ -1,8 +1,8 @@
 //! tab-indent: a tab in the indent of a line.
 //!
 //! In Markdown a tab goes to the next multiple of four columns (CommonMark 2.2), but editors show it in other
-//! widths: what looks like the content of an item may be none. Lines of code aren't looked at, nor are blank
-//! lines, nor tabs after a marker.
+//! widths: what looks like the content of an item may be none. Lines of code and of math aren't looked at,
+//! nor are blank lines, nor tabs after a marker.
 //!
 //! Example: `b` after a tab, on the line after `- a`.
 use crate::document::{Depth, Document};
@@ -50,8 +50,12 @@ fn ended(indent: Option<Indent>, index: usize) -> Option<Indent> {
     indent.filter(|indent| indent.end <= index)
 }
 
+/// Whether an event is code or math.
 fn is_code(name: Name) -> bool {
-    matches!(name, Name::CodeFenced | Name::CodeIndented | Name::CodeText)
+    matches!(
+        name,
+        Name::CodeFenced | Name::CodeIndented | Name::CodeText | Name::MathFlow | Name::MathText
+    )
 }
 
 /// The indent of the line that starts at a place, if it has a tab and the line isn't blank.

@@ -1,10 +1,10 @@
-//! Why a text can't be checked.
+//! Why a program can't do what it is asked for.
 use std::alloc::{AllocError, AllocFailed};
 use std::io::{Error, ErrorKind};
 
-/// Why a text can't be checked, or the run can't go on.
+/// Why a program can't do what it is asked for.
 #[derive(Clone, Copy, Debug)]
-pub(crate) enum Fault {
+pub enum Fault {
     /// The command line is wrong.
     Words,
     /// The text can't be read.
@@ -13,7 +13,7 @@ pub(crate) enum Fault {
     Utf8,
     /// The text is too large.
     Size,
-    /// The findings can't be written.
+    /// The output can't be written.
     Write,
     /// Memory ran out.
     Memory,
@@ -21,7 +21,7 @@ pub(crate) enum Fault {
 
 impl Fault {
     /// This fault, or that of memory if memory was refused.
-    pub(crate) fn unless_memory(self, error: &Error) -> Fault {
+    pub fn unless_memory(self, error: &Error) -> Fault {
         match error.kind() {
             ErrorKind::OutOfMemory => Fault::Memory,
             _ => self,
@@ -29,15 +29,20 @@ impl Fault {
     }
 
     /// The fault if a text can't be read.
-    pub(crate) fn reading(error: &Error) -> Fault {
+    pub fn reading(error: &Error) -> Fault {
         match error.kind() {
             ErrorKind::InvalidData => Fault::Utf8,
             _ => Fault::Read.unless_memory(error),
         }
     }
 
+    /// The fault if output can't be written.
+    pub fn writing(error: &Error) -> Fault {
+        Fault::Write.unless_memory(error)
+    }
+
     /// What is printed of it.
-    pub(crate) fn words(self) -> &'static str {
+    pub fn words(self) -> &'static str {
         match self {
             Fault::Words => "wrong command line; --help lists the words",
             Fault::Read => "cannot read",

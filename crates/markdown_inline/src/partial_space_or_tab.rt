@@ -1,0 +1,26 @@
+//! Spaces and tabs.
+//!
+//! ```text
+//! space_or_tab ::= 1*(' ' | '\t')
+//! ```
+ghost use Rattle.std.specs.Prelude.{◌≡◌};
+ghost use Rattle.engine_events.specs.declared.state.Inline.TheVariants as inline;
+ghost use Rattle.engine_events.specs.declared.state.Name.TheVariants as state_names;
+ghost use Rattle.markdown_engine.specs.Machine.{config, KeepsParseState};
+ghost use Rattle.markdown_inline.specs.SpaceOrTab.{with_any_white};
+
+use markdown_engine::state::{Inline, Name};
+use markdown_engine::tokenizer::Tokenizer;
+pub use state_labels::partial_space_or_tab::{after, inside, start};
+use std::alloc::Allocator;
+
+/// Returns the state that reads one or more spaces and tabs. They become an event `SpaceOrTab`.
+pub fn space_or_tab<M, T, A: Allocator>(tokenizer: &mut Tokenizer<'_, M, T, A>) -> Name
+    ensures state { result ≡ state_names.Inline inline.SpaceOrTabStart }
+    ensures became { config tokenizer.new ≡ with_any_white (config tokenizer.old) }
+    ensures parse_state { KeepsParseState tokenizer.old tokenizer.new }
+{
+    tokenizer.tokenize_state.connect = false;
+    tokenizer.tokenize_state.size_c = usize::MAX;
+    Name::Inline(Inline::SpaceOrTabStart)
+}

@@ -1,0 +1,27 @@
+//! Spaces, tabs and at most one line ending.
+//!
+//! ```text
+//! space_or_tab_eol ::= 1*space_or_tab | [space_or_tab] line_ending [space_or_tab]
+//! ```
+ghost use Rattle.std.specs.Prelude.{◌≡◌};
+ghost use Rattle.engine_events.specs.declared.state.Inline.TheVariants as inline;
+ghost use Rattle.engine_events.specs.declared.state.Name.TheVariants as state_names;
+ghost use Rattle.markdown_engine.specs.Machine.{config, KeepsParseState};
+ghost use Rattle.markdown_inline.specs.SpaceOrTab.{unconnected};
+
+use markdown_engine::state::{Inline, Name};
+use markdown_engine::tokenizer::Tokenizer;
+pub use state_labels::partial_space_or_tab_eol::{
+    after_eol, after_first, after_more, at_eol, start,
+};
+use std::alloc::Allocator;
+
+/// Returns the state that reads spaces and tabs with at most one line ending among them.
+pub fn space_or_tab_eol<M, T, A: Allocator>(tokenizer: &mut Tokenizer<'_, M, T, A>) -> Name
+    ensures state { result ≡ state_names.Inline inline.SpaceOrTabEolStart }
+    ensures became { config tokenizer.new ≡ unconnected (config tokenizer.old) }
+    ensures parse_state { KeepsParseState tokenizer.old tokenizer.new }
+{
+    tokenizer.tokenize_state.connect = false;
+    Name::Inline(Inline::SpaceOrTabEolStart)
+}
