@@ -23,7 +23,7 @@ use Rattle.event_written.specs.Strings.{valid, is_some_event, value_text, refere
 use Rattle.event_written.specs.Texts.{IsTextNode, AreTexts}
 use Rattle.event_written.specs.Within.{IsEnd, AreWithin, StandsFirst}
 use Rattle.event_written.proofs.ChildLaw.{child_within, inside_law, text_is, text_in_is}
-use Rattle.event_written.proofs.FormedTexts.{valid_is}
+pub use Rattle.event_written.proofs.FormedTexts.{valid_is}
 
 -- ---- texts
 
