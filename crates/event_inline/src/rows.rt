@@ -37,6 +37,8 @@ fn push_row<T: Tables, A: Allocator>(
         InlineRow::Text(text) => walk.data(text.len()),
         InlineRow::Verbatim(verbatim) => walk.data(verbatim.text.len()),
         InlineRow::Leaf(part) => push_leaf(walk, reading, part),
+        // No text has such a row.
+        InlineRow::Spelled(_) => Ok(()),
         InlineRow::EnterSpan(span) => enter_span(walk, reading, open, span),
         InlineRow::EnterLink(target) => enter_label(walk, open, Name::Link, target),
         InlineRow::EnterImage(target) => enter_label(walk, open, Name::Image, target),

@@ -8,7 +8,8 @@
 mod attention;
 pub mod columns;
 mod label_end;
-mod leaf;
+pub mod law;
+pub mod leaf;
 mod raw_text;
 pub mod rows;
 pub mod spelled;
