@@ -46,22 +46,29 @@ module _ (names : Names) (bytes : List ℕ) (leads : Target → LinkTexts) (in_l
       ap ending_rows (text_is bytes (Some (Around enter kids exit)) events (stands enter kids exit rest node.3 node.1 node))
       ∙ sym (endings_rows leads own (h.0 (ap (λ (z : Name). same_name z n.LineEnding) e)))
   alone_law n.CharacterEscape a e =
-      ap (λ (z : List ℕ). map Part (map Escape z)) (value_is names bytes kids (events_of kids ++ exit ∷ rest) (within enter kids exit rest node.3 node.1) t.1 n.CharacterEscapeValue)
+      ap (λ (z : List ℕ). map Part (map Escape z)) (value_is names bytes kids (events_of kids ++ exit ∷ rest)
+      (within enter kids exit rest node.3 node.1) t.1 n.CharacterEscapeValue)
       ∙ sym (leaves_rows leads (map Escape (text_in bytes n.CharacterEscapeValue kids)))
   alone_law n.CharacterReference a e =
-      ap (λ (z : List ℕ). Part (Character z) ∷ []) (reference_is names bytes kids (events_of kids ++ exit ∷ rest) (within enter kids exit rest node.3 node.1) t.1)
+      ap (λ (z : List ℕ). Part (Character z) ∷ []) (reference_is names bytes kids (events_of kids ++ exit ∷ rest)
+      (within enter kids exit rest node.3 node.1) t.1)
   alone_law n.Autolink a e =
       ap (λ (z : InlineLeaf). Part z ∷ []) (autolink_is names bytes kids (events_of kids ++ exit ∷ rest) (within enter kids exit rest node.3 node.1) t.1)
   alone_law n.GfmAutolinkLiteralWww a e =
-      ap (literal_rows linked (Some Www)) (own_text bytes (Around enter kids exit) events (stands enter kids exit rest node.3 node.1 node) t) ∙ literal_is names bytes leads linked Www own
+      ap (literal_rows linked (Some Www)) (own_text bytes (Around enter kids exit) events (stands enter kids exit rest node.3 node.1 node) t)
+      ∙ literal_is names bytes leads linked Www own
   alone_law n.GfmAutolinkLiteralEmail a e =
-      ap (literal_rows linked (Some Email)) (own_text bytes (Around enter kids exit) events (stands enter kids exit rest node.3 node.1 node) t) ∙ literal_is names bytes leads linked Email own
+      ap (literal_rows linked (Some Email)) (own_text bytes (Around enter kids exit) events (stands enter kids exit rest node.3 node.1 node) t)
+      ∙ literal_is names bytes leads linked Email own
   alone_law n.GfmAutolinkLiteralMailto a e =
-      ap (literal_rows linked (Some Protocol)) (own_text bytes (Around enter kids exit) events (stands enter kids exit rest node.3 node.1 node) t) ∙ literal_is names bytes leads linked Protocol own
+      ap (literal_rows linked (Some Protocol)) (own_text bytes (Around enter kids exit) events (stands enter kids exit rest node.3 node.1 node) t)
+      ∙ literal_is names bytes leads linked Protocol own
   alone_law n.GfmAutolinkLiteralProtocol a e =
-      ap (literal_rows linked (Some Protocol)) (own_text bytes (Around enter kids exit) events (stands enter kids exit rest node.3 node.1 node) t) ∙ literal_is names bytes leads linked Protocol own
+      ap (literal_rows linked (Some Protocol)) (own_text bytes (Around enter kids exit) events (stands enter kids exit rest node.3 node.1 node) t)
+      ∙ literal_is names bytes leads linked Protocol own
   alone_law n.GfmAutolinkLiteralXmpp a e =
-      ap (literal_rows linked (Some Protocol)) (own_text bytes (Around enter kids exit) events (stands enter kids exit rest node.3 node.1 node) t) ∙ literal_is names bytes leads linked Protocol own
+      ap (literal_rows linked (Some Protocol)) (own_text bytes (Around enter kids exit) events (stands enter kids exit rest node.3 node.1 node) t)
+      ∙ literal_is names bytes leads linked Protocol own
   alone_law n.CodeText a e =
       ap (λ (z : List ℕ). Part (Code (without_padding z)) ∷ []) (raw_is names bytes n.CodeTextSequence kids node.3 t.1 exit rest node.1)
   alone_law n.MathText a e =
@@ -75,7 +82,8 @@ module _ (names : Names) (bytes : List ℕ) (leads : Target → LinkTexts) (in_l
   alone_law n.GfmFootnoteCall a e =
       ap (λ (z : List ℕ). CallRow z ∷ []) (label_law names bytes kids node.3 exit rest node.1 (ap (is_listed media_names) (node.2 ∙ e)))
   alone_law n.GfmTaskListItemCheck a e =
-      ap (λ (z : Bool). Part (TaskCheck z) ∷ []) (has_is names bytes kids (events_of kids ++ exit ∷ rest) (within enter kids exit rest node.3 node.1) t.1 n.GfmTaskListItemValueChecked)
+      ap (λ (z : Bool). Part (TaskCheck z) ∷ []) (has_is names bytes kids (events_of kids ++ exit ∷ rest) (within enter kids exit rest node.3 node.1)
+      t.1 n.GfmTaskListItemValueChecked)
   alone_law n.Emphasis a e = absurd (let f : true ≡ false = a in cc)
   alone_law n.Strong a e = absurd (let f : true ≡ false = a in cc)
   alone_law n.GfmStrikethrough a e = absurd (let f : true ≡ false = a in cc)

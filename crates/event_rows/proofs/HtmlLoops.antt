@@ -1,5 +1,6 @@
 -- Raw HTML, event by event.
-use Rattle.std.proofs.Common.{◌≡◌, ◌<◌, ◌≤◌, ℕ, ◌+◌, ◌-◌, ◌==◌, Bool, true, false, if◌then◌else◌, List, [], ◌∷◌, ◌++◌, refl, sym, ap, ◌∙◌, get_or, append_assoc, drop, length}
+use Rattle.std.proofs.Common.{◌≡◌, ◌<◌, ◌≤◌, ℕ, ◌+◌, ◌-◌, ◌==◌, Bool, true, false, if◌then◌else◌, List, [], ◌∷◌, ◌++◌, refl, sym, ap, ◌∙◌, get_or}
+use Rattle.std.proofs.Common.{append_assoc, drop, length}
 use Rattle.std.proofs.lemmas.Bool.{eqb-true}
 use Rattle.std.proofs.lemmas.List.{append-nil, drop_all}
 use Rattle.engine_events.specs.declared.event.Event.{Event}
@@ -33,8 +34,10 @@ module _ (bytes : List ℕ) (events : List Event) where
   html_on i d kind l h =
       let next = drop_next events i l in
       ap (html_after bytes d) next
-      ∙ ap (λ (z : Kind). html_next z d (html_part_rows (event_at i).name (text_first bytes (event_at i ∷ drop (i + 1) events))) (λ e. html_after bytes e (drop (i + 1) events))) h
-      ∙ ap (λ (z : List Event). html_next kind d (html_part_rows (event_at i).name (text_first bytes z)) (λ e. html_after bytes e (drop (i + 1) events))) (sym next)
+      ∙ ap (λ (z : Kind). html_next z d (html_part_rows (event_at i).name (text_first bytes (event_at i ∷ drop (i + 1) events)))
+        (λ e. html_after bytes e (drop (i + 1) events))) h
+      ∙ ap (λ (z : List Event). html_next kind d (html_part_rows (event_at i).name (text_first bytes z))
+        (λ e. html_after bytes e (drop (i + 1) events))) (sym next)
 
   -- a part begins
   pub part_on : (i d : ℕ) (old new whole : List InlineRow) → i < length events → (event_at i).kind ≡ Enter → (d == 0) ≡ true

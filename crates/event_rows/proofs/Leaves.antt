@@ -1,5 +1,6 @@
 -- Events that hold no text with rows of its own: their rows by events and by their nodes.
-use Rattle.std.proofs.Common.{◌≡◌, ℕ, ◌+◌, ◌-◌, ◌==◌, Bool, true, false, ◌&&◌, ◌||◌, not, if◌then◌else◌, List, [], ◌∷◌, ◌++◌, drop, map, codes, Option, None, Some, refl, sym, ap, ◌∙◌, append_assoc, subst}
+use Rattle.std.proofs.Common.{◌≡◌, ℕ, ◌+◌, ◌-◌, ◌==◌, Bool, true, false, ◌&&◌, ◌||◌, not, if◌then◌else◌, List, [], ◌∷◌, ◌++◌, drop, map, codes}
+use Rattle.std.proofs.Common.{Option, None, Some, refl, sym, ap, ◌∙◌, append_assoc, subst}
 use Rattle.std.specs.Prelude.{is_some, unwrap_or}
 use Rattle.std.specs.Str.{is_utf8}
 use Rattle.std.proofs.lemmas.Str.{IsUtf8-nil, is_utf8-from_IsUtf8}
@@ -76,14 +77,15 @@ module _ (names : Names) (bytes : List ℕ) (kids : Nodes) (es : List Event) (w 
   pub reference_is : reference_by names bytes es ≡ reference_text_of names bytes kids
   reference_is =
       ap (λ (z : List ℕ). if has n.CharacterReferenceMarkerHexadecimal es then numbered_text (number_of 16 z)
-        else (if has n.CharacterReferenceMarkerNumeric es then numbered_text (number_of 10 z) else unwrap_or (names z) []))
+      else (if has n.CharacterReferenceMarkerNumeric es then numbered_text (number_of 10 z) else unwrap_or (names z) []))
       (value_is n.CharacterReferenceValue)
       ∙ ap (λ (z : Bool). if z then numbered_text (number_of 16 (text_in bytes n.CharacterReferenceValue kids))
-        else (if has n.CharacterReferenceMarkerNumeric es then numbered_text (number_of 10 (text_in bytes n.CharacterReferenceValue kids))
-        else unwrap_or (names (text_in bytes n.CharacterReferenceValue kids)) [])) (has_is n.CharacterReferenceMarkerHexadecimal)
-      ∙ ap (λ (z : Bool). if is_some (child n.CharacterReferenceMarkerHexadecimal kids) then numbered_text (number_of 16 (text_in bytes n.CharacterReferenceValue kids))
-        else (if z then numbered_text (number_of 10 (text_in bytes n.CharacterReferenceValue kids))
-        else unwrap_or (names (text_in bytes n.CharacterReferenceValue kids)) [])) (has_is n.CharacterReferenceMarkerNumeric)
+      else (if has n.CharacterReferenceMarkerNumeric es then numbered_text (number_of 10 (text_in bytes n.CharacterReferenceValue kids))
+      else unwrap_or (names (text_in bytes n.CharacterReferenceValue kids)) [])) (has_is n.CharacterReferenceMarkerHexadecimal)
+      ∙ ap (λ (z : Bool). if is_some (child n.CharacterReferenceMarkerHexadecimal kids) then numbered_text
+        (number_of 16 (text_in bytes n.CharacterReferenceValue kids))
+      else (if z then numbered_text (number_of 10 (text_in bytes n.CharacterReferenceValue kids))
+      else unwrap_or (names (text_in bytes n.CharacterReferenceValue kids)) [])) (has_is n.CharacterReferenceMarkerNumeric)
 
   pub autolink_is : autolink_by bytes es ≡ autolink_of names bytes kids
   autolink_is =
@@ -189,13 +191,15 @@ module _ (names : Names) (bytes : List ℕ) where
         record {
           down =
               λ d e es h.
-              ap (λ (k : Kind). raw_next k (same_name e.name sequence) begun (d + 1) (raw_part_first bytes e.name (e ∷ es)) (λ b q. raw_after bytes sequence b q es)) h
+              ap (λ (k : Kind). raw_next k (same_name e.name sequence) begun (d + 1) (raw_part_first bytes e.name (e ∷ es))
+              (λ b q. raw_after bytes sequence b q es)) h
               ∙ ap (λ (z : Bool). if not z then raw_after bytes sequence begun (d + 1 + 1) es
-                else (if same_name e.name sequence then (if begun then [] else raw_after bytes sequence true (d + 1 + 1) es)
-                else (if begun then raw_part_first bytes e.name (e ∷ es) else []) ++ raw_after bytes sequence begun (d + 1 + 1) es)) (nonzero d);
+              else (if same_name e.name sequence then (if begun then [] else raw_after bytes sequence true (d + 1 + 1) es)
+              else (if begun then raw_part_first bytes e.name (e ∷ es) else []) ++ raw_after bytes sequence begun (d + 1 + 1) es)) (nonzero d);
           up =
               λ d e es h.
-              ap (λ (k : Kind). raw_next k (same_name e.name sequence) begun (d + 1 + 1) (raw_part_first bytes e.name (e ∷ es)) (λ b q. raw_after bytes sequence b q es)) h
+              ap (λ (k : Kind). raw_next k (same_name e.name sequence) begun (d + 1 + 1) (raw_part_first bytes e.name (e ∷ es))
+              (λ b q. raw_after bytes sequence b q es)) h
               ∙ ap (λ (z : Bool). if z then [] else raw_after bytes sequence begun ((d + 1 + 1) - 1) es) (nonzero (d + 1))
               ∙ ap (λ (q : ℕ). raw_after bytes sequence begun q es) (less (d + 1));
         }
@@ -215,7 +219,8 @@ module _ (names : Names) (bytes : List ℕ) where
         → raw_after bytes sequence begun 1 (events_of kids ++ exit ∷ rest) ≡ raw_after bytes sequence begun 0 rest
     raw_skips begun kids k exit rest x =
         passes (raw_after bytes sequence begun) (raw_over begun) kids k 0 (exit ∷ rest)
-        ∙ ap (λ (z : Kind). raw_next z (same_name exit.name sequence) begun 1 (raw_part_first bytes exit.name (exit ∷ rest)) (λ b q. raw_after bytes sequence b q rest)) x
+        ∙ ap (λ (z : Kind). raw_next z (same_name exit.name sequence) begun 1 (raw_part_first bytes exit.name (exit ∷ rest))
+          (λ b q. raw_after bytes sequence b q rest)) x
 
     -- up to the second sequence
     raw_before : (ns : Nodes) → AreNodes ns → AreTexts bytes ns → (exit : Event) (es : List Event) → exit.kind ≡ Exit
@@ -231,13 +236,13 @@ module _ (names : Names) (bytes : List ℕ) where
         by_name : (b : Bool)
             → raw_after bytes sequence true 1 (events_of kids ++ y ∷ (events_of ns ++ exit ∷ es)) ≡ code_parts names bytes (before_child sequence ns)
             → (if b then [] else raw_part_first bytes enter.name (enter ∷ (events_of kids ++ y ∷ (events_of ns ++ exit ∷ es)))
-              ++ raw_after bytes sequence true 1 (events_of kids ++ y ∷ (events_of ns ++ exit ∷ es)))
+            ++ raw_after bytes sequence true 1 (events_of kids ++ y ∷ (events_of ns ++ exit ∷ es)))
             ≡ code_parts names bytes (if b then Nil else Cons (Around enter kids y) (before_child sequence ns))
         by_name true later = refl
         by_name false later =
             ap (λ (z : List ℕ). raw_part_first bytes enter.name (enter ∷ (events_of kids ++ y ∷ (events_of ns ++ exit ∷ es))) ++ z) later
             ∙ ap (λ (z : List ℕ). z ++ code_parts names bytes (before_child sequence ns))
-              (raw_part_is enter.name enter kids y (events_of ns ++ exit ∷ es) k.0 t.0)
+            (raw_part_is enter.name enter kids y (events_of ns ++ exit ∷ es) k.0 t.0)
 
     -- Raw text by events is that of the node.
     pub raw_is : (ns : Nodes) → AreNodes ns → AreTexts bytes ns → (exit : Event) (es : List Event) → exit.kind ≡ Exit
@@ -252,9 +257,9 @@ module _ (names : Names) (bytes : List ℕ) where
       where
         by_name : (b : Bool)
             → raw_after bytes sequence false 1 (events_of kids ++ y ∷ (events_of ns ++ exit ∷ es))
-              ≡ code_parts names bytes (before_child sequence (after_child sequence ns))
+            ≡ code_parts names bytes (before_child sequence (after_child sequence ns))
             → (if b then raw_after bytes sequence true 1 (events_of kids ++ y ∷ (events_of ns ++ exit ∷ es))
-              else raw_after bytes sequence false 1 (events_of kids ++ y ∷ (events_of ns ++ exit ∷ es)))
+            else raw_after bytes sequence false 1 (events_of kids ++ y ∷ (events_of ns ++ exit ∷ es)))
             ≡ code_parts names bytes (before_child sequence (if b then ns else after_child sequence ns))
         by_name true later = raw_skips true kids k.0.3 y (events_of ns ++ exit ∷ es) k.0.1 ∙ raw_before ns k.1 t.1 exit es x
         by_name false later = later

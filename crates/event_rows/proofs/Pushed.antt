@@ -49,7 +49,7 @@ module _ (names : Names) (bytes : List ℕ) (es : List Event) where
   hexadecimal digits d h =
       ap (λ (z : List ℕ). character (numbered_text (number_of 16 z))) d
       ∙ ap (λ (z : Bool). character (if z then numbered_text (number_of 16 value)
-        else (if has n.CharacterReferenceMarkerNumeric es then numbered_text (number_of 10 value) else unwrap_or (names value) []))) (sym h)
+      else (if has n.CharacterReferenceMarkerNumeric es then numbered_text (number_of 10 value) else unwrap_or (names value) []))) (sym h)
 
   pub decimal : (digits : List ℕ) → digits ≡ value → has n.CharacterReferenceMarkerHexadecimal es ≡ false → has n.CharacterReferenceMarkerNumeric es ≡ true
       → character (numbered_text (number_of 10 digits)) ≡ character (reference_by names bytes es)
@@ -57,7 +57,7 @@ module _ (names : Names) (bytes : List ℕ) (es : List Event) where
       ap (λ (z : List ℕ). character (numbered_text (number_of 10 z))) d
       ∙ ap (λ (z : Bool). character (if z then numbered_text (number_of 10 value) else unwrap_or (names value) [])) (sym k)
       ∙ ap (λ (z : Bool). character (if z then numbered_text (number_of 16 value)
-        else (if has n.CharacterReferenceMarkerNumeric es then numbered_text (number_of 10 value) else unwrap_or (names value) []))) (sym h)
+      else (if has n.CharacterReferenceMarkerNumeric es then numbered_text (number_of 10 value) else unwrap_or (names value) []))) (sym h)
 
   pub named : (text : List ℕ) → text ≡ unwrap_or (names value) [] → has n.CharacterReferenceMarkerHexadecimal es ≡ false
       → has n.CharacterReferenceMarkerNumeric es ≡ false → character text ≡ character (reference_by names bytes es)
@@ -65,7 +65,7 @@ module _ (names : Names) (bytes : List ℕ) (es : List Event) where
       ap character d
       ∙ ap (λ (z : Bool). character (if z then numbered_text (number_of 10 value) else unwrap_or (names value) [])) (sym k)
       ∙ ap (λ (z : Bool). character (if z then numbered_text (number_of 16 value)
-        else (if has n.CharacterReferenceMarkerNumeric es then numbered_text (number_of 10 value) else unwrap_or (names value) []))) (sym h)
+      else (if has n.CharacterReferenceMarkerNumeric es then numbered_text (number_of 10 value) else unwrap_or (names value) []))) (sym h)
 
 -- ---- autolinks
 

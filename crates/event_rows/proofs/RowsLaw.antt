@@ -1,5 +1,6 @@
 -- The law of rows: the rows of the events of a text are those of the inline structure that the events spell.
-use Rattle.std.proofs.Common.{◌≡◌, ℕ, ◌+◌, ◌-◌, ◌==◌, Bool, true, false, ◌||◌, not, if◌then◌else◌, ◌⊎◌, inl, inr, List, [], ◌∷◌, ◌++◌, drop, Option, None, Some, refl, sym, ap, ◌∙◌, append_assoc, subst, arith}
+use Rattle.std.proofs.Common.{◌≡◌, ℕ, ◌+◌, ◌-◌, ◌==◌, Bool, true, false, ◌||◌, not, if◌then◌else◌, ◌⊎◌, inl, inr, List, [], ◌∷◌, ◌++◌, drop, Option}
+use Rattle.std.proofs.Common.{None, Some, refl, sym, ap, ◌∙◌, append_assoc, subst, arith}
 use Rattle.std.proofs.lemmas.List.{append-nil}
 use Rattle.std.proofs.Math.Bool.{or-false}
 use Rattle.engine_events.specs.Names.{same_name, is_listed}
@@ -137,7 +138,8 @@ module _ (names : Names) (bytes : List ℕ) (leads : Target → LinkTexts) (in_l
       → HasEndings bytes (Around enter kids exit)
       → enter_rows names bytes leads in_link (place Text 0 k) name (enter ∷ (events_of kids ++ exit ∷ rest))
       ++ walk (entered (place Text 0 k) name) (events_of kids ++ exit ∷ rest)
-      ≡ rows (text_part names bytes (linked k) name (text_of bytes (Around enter kids exit)) kids (text_within names bytes (linked k || same_name name n.Link) kids))
+      ≡ rows (text_part names bytes (linked k) name (text_of bytes (Around enter kids exit)) kids
+      (text_within names bytes (linked k || same_name name n.Link) kids))
       ++ walk (place Text 0 k) rest
   each name (inl a) k enter kids exit rest e node ih t h =
       around name a k (text_of bytes (Around enter kids exit)) enter kids exit rest ih node.1 (node.2 ∙ e)
@@ -194,8 +196,9 @@ module _ (names : Names) (bytes : List ℕ) (leads : Target → LinkTexts) (in_l
             inside k y (events_of ns ++ exit ∷ es) m.0.1
             ∙ ap (λ (z : List InlineRow). rows (text_within names bytes (linked k) kids) ++ z)
             (exits names bytes leads in_link (place Behind 0 k) y (events_of ns ++ exit ∷ es) m.0.1
-            ∙ ap (λ (z : Bool). (if z then [] else Leave ∷ []) ++ walk (if z then place Behind 0 k else place Text 0 (links_after y.name k)) (events_of ns ++ exit ∷ es))
-              (ap (λ (z : Name). same_name z n.Label) m.0.2 ∙ e)
+            ∙ ap (λ (z : Bool). (if z then [] else Leave ∷ []) ++ walk (if z then place Behind 0 k else place Text 0 (links_after y.name k))
+              (events_of ns ++ exit ∷ es))
+            (ap (λ (z : Name). same_name z n.Label) m.0.2 ∙ e)
             ∙ last)
         by_name false false e last texts inside others =
             skipped names bytes leads in_link Before k kids m.0.3 y (events_of ns ++ exit ∷ es) m.0.1 ∙ others k exit es x

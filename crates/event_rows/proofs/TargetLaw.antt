@@ -1,5 +1,6 @@
 -- Where links and images lead, by events and by their nodes.
-use Rattle.std.proofs.Common.{◌≡◌, ℕ, ◌+◌, ◌-◌, ◌==◌, Bool, true, false, ◌&&◌, ◌||◌, if◌then◌else◌, List, [], ◌∷◌, ◌++◌, drop, Option, None, Some, refl, sym, ap, ◌∙◌, append_assoc, subst}
+use Rattle.std.proofs.Common.{◌≡◌, ℕ, ◌+◌, ◌-◌, ◌==◌, Bool, true, false, ◌&&◌, ◌||◌, if◌then◌else◌, List, [], ◌∷◌, ◌++◌, drop, Option, None, Some}
+use Rattle.std.proofs.Common.{refl, sym, ap, ◌∙◌, append_assoc, subst}
 use Rattle.std.specs.Prelude.{is_some}
 use Rattle.std.specs.Option.{option_map, option_or}
 use Rattle.std.specs.Str.{is_utf8}
@@ -71,8 +72,9 @@ module _ (name : Name) where
           ∙ own_up (c + 1) exit (events_of ns ++ es) k.0.1 (listed_as enter exit true k.0.2 l)
       by_media false l inside =
           own_enter (c + 1) enter (events_of kids ++ exit ∷ (events_of ns ++ es)) false k.0.0 l
-          ∙ ap (λ (z : Bool). if z then enter ∷ (events_of kids ++ exit ∷ (events_of ns ++ es)) else own_from name (c + 1) (events_of kids ++ exit ∷ (events_of ns ++ es)))
-            (and_no (same_name enter.name name) ((c + 1) == 0) (nonzero c))
+          ∙ ap (λ (z : Bool). if z then enter ∷ (events_of kids ++ exit ∷ (events_of ns ++ es)) else own_from name (c + 1)
+            (events_of kids ++ exit ∷ (events_of ns ++ es)))
+          (and_no (same_name enter.name name) ((c + 1) == 0) (nonzero c))
           ∙ inside c (exit ∷ (events_of ns ++ es))
           ∙ own_exit (c + 1) exit (events_of ns ++ es) false k.0.1 (listed_as enter exit false k.0.2 l)
 
@@ -90,7 +92,7 @@ module _ (name : Name) where
   found_as o others a b e f = subst (λ (l : List Event). Found o others l) (sym e) f
 
   own_node : (enter : Event) (kids : Nodes) (exit : Event) (rest : List Event) → IsNode (Around enter kids exit)
-        → Found (own name kids) (own_from name 0 (exit ∷ rest)) (own_from name 0 (events_of kids ++ exit ∷ rest))
+      → Found (own name kids) (own_from name 0 (exit ∷ rest)) (own_from name 0 (events_of kids ++ exit ∷ rest))
       → Found (own_in name (Around enter kids exit)) (own_from name 0 rest) (own_from name 0 (enter ∷ (events_of kids ++ exit ∷ rest)))
   own_node enter kids exit rest k inside =
       by_media (is_listed media_names enter.name) refl (same_name enter.name name) refl inside
@@ -98,16 +100,18 @@ module _ (name : Name) where
       by_media : (m : Bool) → is_listed media_names enter.name ≡ m → (s : Bool) → same_name enter.name name ≡ s
           → Found (own name kids) (own_from name 0 (exit ∷ rest)) (own_from name 0 (events_of kids ++ exit ∷ rest))
           → Found (if m then None else (if s then Some (Around enter kids exit) else own name kids)) (own_from name 0 rest)
-            (own_from name 0 (enter ∷ (events_of kids ++ exit ∷ rest)))
+          (own_from name 0 (enter ∷ (events_of kids ++ exit ∷ rest)))
       by_media true l s f inside =
           own_enter 0 enter (events_of kids ++ exit ∷ rest) true k.0 l
           ∙ own_over kids k.3 0 (exit ∷ rest)
           ∙ own_up 0 exit rest k.1 (listed_as enter exit true k.2 l)
-      by_media false l true f inside =
-          (k, rest,
-          own_enter 0 enter (events_of kids ++ exit ∷ rest) false k.0 l
-          ∙ ap (λ (z : Bool). if z && true then enter ∷ (events_of kids ++ exit ∷ rest) else own_from name 0 (events_of kids ++ exit ∷ rest)) f
-          ∙ sym (ap (λ (z : List Event). enter ∷ z) (append_assoc (events_of kids) (exit ∷ []) rest)))
+      by_media false l true f inside = (
+        k,
+        rest,
+        own_enter 0 enter (events_of kids ++ exit ∷ rest) false k.0 l
+            ∙ ap (λ (z : Bool). if z && true then enter ∷ (events_of kids ++ exit ∷ rest) else own_from name 0 (events_of kids ++ exit ∷ rest)) f
+            ∙ sym (ap (λ (z : List Event). enter ∷ z) (append_assoc (events_of kids) (exit ∷ []) rest)),
+      )
       by_media false l false f inside =
           let here : own_from name 0 (enter ∷ (events_of kids ++ exit ∷ rest)) ≡ own_from name 0 (events_of kids ++ exit ∷ rest) =
           own_enter 0 enter (events_of kids ++ exit ∷ rest) false k.0 l
@@ -146,7 +150,7 @@ found_is (Some (Around enter kids exit)) es h = ap has_own h.2
 
 module _ (names : Names) (bytes : List ℕ) where
   own_node_texts : (name : Name) (enter : Event) (kids : Nodes) (exit : Event) → IsTextNode bytes (Around enter kids exit)
-        → AreTexts bytes (inside_of (own name kids))
+      → AreTexts bytes (inside_of (own name kids))
       → AreTexts bytes (inside_of (own_in name (Around enter kids exit)))
   own_node_texts name enter kids exit t inside = by_name (is_listed media_names enter.name) (same_name enter.name name) inside
     where
@@ -159,7 +163,8 @@ module _ (names : Names) (bytes : List ℕ) where
   own_texts : (name : Name) (ns : Nodes) → AreTexts bytes ns → AreTexts bytes (inside_of (own name ns))
   own_texts name Nil t = tt
   own_texts name (Cons (Around enter kids exit) ns) t =
-      first_of (own_in name (Around enter kids exit)) (own name ns) (own_node_texts name enter kids exit t.0 (own_texts name kids t.0.1)) (own_texts name ns t.1)
+      first_of (own_in name (Around enter kids exit)) (own name ns) (own_node_texts name enter kids exit t.0 (own_texts name kids t.0.1))
+      (own_texts name ns t.1)
     where
       first_of : (o p : Option Node) → AreTexts bytes (inside_of o) → AreTexts bytes (inside_of p) → AreTexts bytes (inside_of (option_or o p))
       first_of None p a b = b
@@ -194,7 +199,8 @@ module _ (names : Names) (bytes : List ℕ) where
 
     own_label_is : label_after bytes events ≡ own_label bytes kids
     own_label_is =
-        ap (λ (z : Bool). if z then None else option_or (label_first bytes (own_from n.ReferenceString 0 events)) (label_first bytes (own_from n.LabelText 0 events)))
+        ap (λ (z : Bool). if z then None else option_or (label_first bytes (own_from n.ReferenceString 0 events))
+        (label_first bytes (own_from n.LabelText 0 events)))
         has_resource
         ∙ ap (λ (z : Option (List ℕ)). if is_some (own n.Resource kids) then None else option_or z (label_first bytes (own_from n.LabelText 0 events)))
         (label_is (own n.ReferenceString kids) (own_from n.ReferenceString 0 events) (first n.ReferenceString))
@@ -212,13 +218,14 @@ module _ (names : Names) (bytes : List ℕ) where
     pub target_is : AreTexts bytes kids → target_by names bytes events ≡ target_of names bytes kids
     target_is t =
         ap (λ (z : Bool). if z then Resource (written (string_first names bytes (own_from n.ResourceDestinationString 0 events)))
-          (Some (written (string_first names bytes (own_from n.ResourceTitleString 0 events)))) else Reference (label_by names bytes events)) has_resource
-        ∙ ap (λ (z : List ℕ). if is_some (own n.Resource kids) then Resource z (Some (written (string_first names bytes (own_from n.ResourceTitleString 0 events))))
-          else Reference (label_by names bytes events)) (written_is n.ResourceDestinationString t)
+        (Some (written (string_first names bytes (own_from n.ResourceTitleString 0 events)))) else Reference (label_by names bytes events)) has_resource
+        ∙ ap (λ (z : List ℕ). if is_some (own n.Resource kids) then Resource z
+          (Some (written (string_first names bytes (own_from n.ResourceTitleString 0 events))))
+        else Reference (label_by names bytes events)) (written_is n.ResourceDestinationString t)
         ∙ ap (λ (z : List ℕ). if is_some (own n.Resource kids) then Resource (written_string names bytes (own n.ResourceDestinationString kids)) (Some z)
-          else Reference (label_by names bytes events)) (written_is n.ResourceTitleString t)
+        else Reference (label_by names bytes events)) (written_is n.ResourceTitleString t)
         ∙ ap (λ (z : List ℕ). if is_some (own n.Resource kids) then Resource (written_string names bytes (own n.ResourceDestinationString kids))
-          (Some (written_string names bytes (own n.ResourceTitleString kids))) else Reference z) label_law
+        (Some (written_string names bytes (own n.ResourceTitleString kids))) else Reference z) label_law
 
   -- The same where the node's name is known.
   pub target_law : (name : Name) (kids : Nodes) → AreNodes kids → AreTexts bytes kids → (exit : Event) (rest : List Event) → exit.kind ≡ Exit

@@ -8,7 +8,8 @@ use Rattle.engine_events.specs.declared.event.Name.{Name}
 use Rattle.engine_events.specs.declared.event.Name.TheVariants as n
 use Rattle.definition_text.specs.Content.{content_codes, line_ending_code}
 use Rattle.definition_inline.specs.CharacterReference.{Names, number_of, numbered_text}
-use Rattle.definition_inline.specs.Inline.{LiteralKind, Www, Protocol, Email, InlineLeaf, Escape, Character, Autolink, Literal, Html, EscapedBreak, TrailingBreak, LineEnd}
+use Rattle.definition_inline.specs.Inline.{LiteralKind, Www, Protocol, Email, InlineLeaf, Escape, Character, Autolink, Literal, Html, EscapedBreak}
+use Rattle.definition_inline.specs.Inline.{TrailingBreak, LineEnd}
 use Rattle.event_meaning.specs.Raw.{ending_of}
 use Rattle.event_written.specs.Child.{from_child, text_first}
 use Rattle.event_written.specs.Strings.{valid, is_some_event}

@@ -34,7 +34,7 @@ module _ (names : Names) (bytes : List ℕ) where
   target_by events =
       if has_own (own_from n.Resource 0 events)
       then Resource (written (string_first names bytes (own_from n.ResourceDestinationString 0 events)))
-        (Some (written (string_first names bytes (own_from n.ResourceTitleString 0 events))))
+      (Some (written (string_first names bytes (own_from n.ResourceTitleString 0 events))))
       else Reference (label_by events)
 
   module _ (leads : Target → LinkTexts) (in_link : Bool) where

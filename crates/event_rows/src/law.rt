@@ -17,5 +17,4 @@ pub fn rows_law()
     ensures { (names : Names) (bytes : List ℕ) (leads : Target → LinkTexts) (in_link : Bool) (ns : Nodes) →
         AreNodes ns → AreTexts bytes ns → HaveEndings bytes ns →
         rows_by names bytes leads in_link (place Text 0 0) (events_of ns) ≡ inline_rows leads (inlines_of names bytes in_link ns) }
-{
-}
+{}

@@ -8,7 +8,8 @@ ghost use Rattle.event_written.specs.Strings.{valid};
 ghost use Rattle.inline_leaves.specs.Leaves.{kind_view, parts_of};
 ghost use Rattle.inline_rows.specs.InlineRows.{Part};
 ghost use Rattle.inline_rows.specs.View.{data_rows, rows_view};
-ghost use Rattle.event_rows.specs.Leaves.{ending_rows, literal_kind, literal_rows, html_part_rows, value_of, has, reference_by, autolink_by, html_after, leaf_of, leaf_rows};
+ghost use Rattle.event_rows.specs.Leaves.{ending_rows, literal_kind, literal_rows, html_part_rows, value_of, has, reference_by, autolink_by};
+ghost use Rattle.event_rows.specs.Leaves.{html_after, leaf_of, leaf_rows};
 ghost use Rattle.engine_events.specs.declared.event.Name.TheVariants as names;
 
 use crate::texts::{TextEvents, text_of};
@@ -51,7 +52,8 @@ pub(crate) fn push_leaf<'a, T: Tables, A: Allocator + Clone>(
     name: Name,
     events: &[Event],
 ) -> Result<(), AllocError>
-    ensures { (at : ℕ → LinkTexts) → OnOk result (rows_view at rows.new.items ≡ rows_view at rows.old.items ++ leaf_rows (T.reference_of texts.now.tables.now) texts.now.bytes.now linked name events.now) }
+    ensures { (at : ℕ → LinkTexts) → OnOk result (rows_view at rows.new.items
+        ≡ rows_view at rows.old.items ++ leaf_rows (T.reference_of texts.now.tables.now) texts.now.bytes.now linked name events.now) }
 {
     match leaf_of(name) {
         LeafKind::Data => push_text(rows, text_first(texts.bytes, events)),
@@ -147,7 +149,8 @@ fn push_escape<'a, A: Allocator>(
     bytes: &'a [u8],
     events: &[Event],
 ) -> Result<(), AllocError>
-    ensures { (at : ℕ → LinkTexts) → OnOk result (rows_view at rows.new.items ≡ rows_view at rows.old.items ++ map Part (map Escape (value_of bytes.now names.CharacterEscapeValue events.now))) }
+    ensures { (at : ℕ → LinkTexts) → OnOk result (rows_view at rows.new.items
+        ≡ rows_view at rows.old.items ++ map Part (map Escape (value_of bytes.now names.CharacterEscapeValue events.now))) }
 {
     let value = value_of(bytes, events, Name::CharacterEscapeValue);
     push_part(rows, LeafPart::Escape(value))
@@ -159,7 +162,8 @@ fn push_reference<'a, T: Tables, A: Allocator + Clone>(
     texts: &TextEvents<'a, T, A>,
     events: &[Event],
 ) -> Result<(), AllocError>
-    ensures { (at : ℕ → LinkTexts) → OnOk result (rows_view at rows.new.items ≡ rows_view at rows.old.items ++ Part (Character (reference_by (T.reference_of texts.now.tables.now) texts.now.bytes.now events.now)) ∷ []) }
+    ensures { (at : ℕ → LinkTexts) → OnOk result (rows_view at rows.new.items
+        ≡ rows_view at rows.old.items ++ Part (Character (reference_by (T.reference_of texts.now.tables.now) texts.now.bytes.now events.now)) ∷ []) }
 {
     let value = value_of(texts.bytes, events, Name::CharacterReferenceValue);
     if has(events, Name::CharacterReferenceMarkerHexadecimal) {
@@ -177,7 +181,8 @@ fn push_number<'a, A: Allocator>(
     radix: u32,
     digits: &'a str,
 ) -> Result<(), AllocError>
-    ensures { (at : ℕ → LinkTexts) → OnOk result (rows_view at rows.new.items ≡ rows_view at rows.old.items ++ Part (Character (numbered_text (number_of radix digits.now))) ∷ []) }
+    ensures { (at : ℕ → LinkTexts) → OnOk result (rows_view at rows.new.items
+        ≡ rows_view at rows.old.items ++ Part (Character (numbered_text (number_of radix digits.now))) ∷ []) }
 {
     push_part(rows, LeafPart::Number { radix, digits })
 }
@@ -230,7 +235,8 @@ fn push_literal<'a, A: Allocator>(
     name: Name,
     piece: &'a [u8],
 ) -> Result<(), AllocError>
-    ensures { (at : ℕ → LinkTexts) → OnOk result (rows_view at rows.new.items ≡ rows_view at rows.old.items ++ literal_rows linked (literal_kind name) (valid piece.now)) }
+    ensures { (at : ℕ → LinkTexts) → OnOk result (rows_view at rows.new.items
+        ≡ rows_view at rows.old.items ++ literal_rows linked (literal_kind name) (valid piece.now)) }
 {
     let Some(kind) = literal_kind(name) else {
         return Ok(());

@@ -19,4 +19,3 @@ pub use columns::Columns;
 pub use rows::text_rows;
 pub use spelled::SpelledStrings;
 pub use texts::TextEvents;
-

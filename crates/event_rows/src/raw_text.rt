@@ -33,11 +33,7 @@ pub(crate) fn sequence_of(name: Name) -> Option<Name>
 
 /// The text between the sequences, if it is one piece of the bytes. The events are those after the
 /// enter of the raw text.
-pub(crate) fn whole_piece<'a>(
-    bytes: &'a [u8],
-    sequence: Name,
-    events: &[Event],
-) -> Option<&'a [u8]>
+pub(crate) fn whole_piece<'a>(bytes: &'a [u8], sequence: Name, events: &[Event]) -> Option<&'a [u8]>
     ensures { option_map (λ piece. piece.now) result ≡ whole_by bytes.now sequence events.now }
 {
     match events {

@@ -321,10 +321,16 @@ fn push_part<'a, T: Tables, A: Allocator + Clone>(
         return push_row(rows, InlineRow::EnterSpan(span));
     }
     if name == Name::Link {
-        return push_row(rows, InlineRow::EnterLink(part.strings.link_target(part.target)));
+        return push_row(
+            rows,
+            InlineRow::EnterLink(part.strings.link_target(part.target)),
+        );
     }
     if name == Name::Image {
-        return push_row(rows, InlineRow::EnterImage(part.strings.link_target(part.target)));
+        return push_row(
+            rows,
+            InlineRow::EnterImage(part.strings.link_target(part.target)),
+        );
     }
     if name == Name::CodeText {
         return push_row(rows, InlineRow::Spelled(SpelledLeaf::Code(part.raw_text)));

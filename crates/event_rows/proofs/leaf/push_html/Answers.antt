@@ -32,7 +32,7 @@ loop-index-preserved g c =
                   part_on bytes events i d (rows_view at c.loop-index.rows.items) _ _ c.loop-index-test.true w.in-Enter.is (zero_is d v.if-depth-eq0.true)
                   (v.in_ok-push_html_part-in-Enter.ensures at
                   ∙ ap (λ (z : List ℕ). rows_view at c.loop-index.rows.items ++ html_part_rows (get_or events i no_event).name z)
-                    (v.text_first.ensures ∙ ap (text_first bytes) (take_rest events i))) (read at);
+                  (v.text_first.ensures ∙ ap (text_first bytes) (take_rest events i))) (read at);
             })
         | else-depth-eq0 v ↦ rw (w.rows-is, w.depth-is, v.rows-is)
             (record {
