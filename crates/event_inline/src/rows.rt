@@ -50,6 +50,8 @@ fn push_row<T: Tables, A: Allocator>(
         InlineRow::Text(text) => walk.data(text.len())?,
         InlineRow::Verbatim(verbatim) => walk.data(verbatim.text.len())?,
         InlineRow::Leaf(part) => push_leaf(walk, reading, part)?,
+        // No text has such a row.
+        InlineRow::Spelled(_) => {}
         InlineRow::EnterSpan(span) => enter_span(walk, reading, open, span)?,
         InlineRow::EnterLink(target) => enter_link(walk, open, target)?,
         InlineRow::EnterImage(target) => enter_image(walk, open, target)?,

@@ -13,9 +13,9 @@ use Rattle.definition_inline.specs.Inline.{Autolink, Literal, Html, EscapedBreak
 use Rattle.definition_inline.specs.Inline.{Link, Image, Inline, Leaf, Span, Linked, Call, Inlines}
 use Rattle.definition_inline.specs.Inline as inline
 use Rattle.event_grammar.specs.InGrammar.{node_name}
-use Rattle.event_grammar.specs.References.{own_label}
+use Rattle.event_grammar.specs.References.{own, own_label}
 use Rattle.event_grammar.specs.Trees.{Node, Nodes, Around, Nil, Cons}
-use Rattle.event_meaning.specs.Children.{child, kids_in, after_child, before_child, text_of, text_in, spaced_text_of}
+use Rattle.event_meaning.specs.Children.{child, inside_of, after_child, before_child, text_of, text_in, spaced_text_of}
 use Rattle.event_meaning.specs.Strings.{reference_text_of, string_of, written}
 
 abbrev pub append : Inlines → Inlines → Inlines
@@ -60,7 +60,7 @@ module _ (names : Names) (bytes : List ℕ) where
   -- ---- raw HTML: data and endings, each by itself
 
   abbrev pub html_part : Name → List ℕ → Inlines
-  html_part n.HtmlTextData text = part (Leaf (Html text))
+  html_part n.HtmlTextData text = part (Leaf (Html (content_codes text)))
   html_part n.LineEnding text = endings text
   html_part name text = inline.Nil
 
@@ -76,12 +76,13 @@ module _ (names : Names) (bytes : List ℕ) where
       if is_some (child n.AutolinkEmail kids) then Autolink true (text_in bytes n.AutolinkEmail kids)
       else Autolink false (text_in bytes n.AutolinkProtocol kids)
 
-  -- the destination and the title that a resource spells (CommonMark 6.3)
+  -- what a string spells, as it is written, or nothing where there is none
+  abbrev pub written_string : Option Node → List ContentCode
+  written_string string = written (string_of names bytes (inside_of string))
+
+  -- the destination and the title of a link or an image with a resource (CommonMark 6.3)
   abbrev pub resource_of : Nodes → Target
-  resource_of kids =
-      let literal = string_of names bytes (kids_in n.ResourceDestinationString (kids_in n.ResourceDestinationLiteral (kids_in n.ResourceDestination kids))) in
-      let raw = string_of names bytes (kids_in n.ResourceDestinationString (kids_in n.ResourceDestinationRaw (kids_in n.ResourceDestination kids))) in
-      Resource (written (literal ++ raw)) (Some (written (string_of names bytes (kids_in n.ResourceTitleString (kids_in n.ResourceTitle kids)))))
+  resource_of kids = Resource (written_string (own n.ResourceDestinationString kids)) (Some (written_string (own n.ResourceTitleString kids)))
 
   abbrev pub label_or_none : Option (List ℕ) → List ContentCode
   label_or_none None = []
@@ -93,7 +94,7 @@ module _ (names : Names) (bytes : List ℕ) where
 
   -- where a link or an image leads
   abbrev pub target_of : Nodes → Target
-  target_of kids = if is_some (child n.Resource kids) then resource_of (kids_in n.Resource kids) else Reference (label_codes kids)
+  target_of kids = if is_some (own n.Resource kids) then resource_of kids else Reference (label_codes kids)
 
   -- ---- parts
 

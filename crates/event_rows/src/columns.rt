@@ -1,4 +1,6 @@
 //! The columns of tabs that places cut (CommonMark 2.2).
+ghost use Rattle.std.specs.Prelude.{◌<◌};
+
 use event_grammar::Spot;
 
 /// An index whose column is known. Columns are counted on from it.
@@ -8,21 +10,28 @@ pub struct Columns {
     index: usize,
     /// How many columns are between it and the tab stop before it: 0 to 3.
     phase: u8,
+    ghost small: { phase < 4 },
 }
 
 impl Columns {
+    ghost use Rattle.std.specs.Prelude.{◌<◌};
+
     /// The start of a text.
     pub fn new() -> Columns {
         Columns { index: 0, phase: 0 }
     }
 
     /// Moves on to an index, if it is after the known one, and returns its phase.
-    fn reach(&mut self, bytes: &[u8], index: usize) -> u8 {
+    fn reach(&mut self, bytes: &[u8], index: usize) -> u8
+        ensures { result < 4 }
+    {
         let end = index.min(bytes.len());
         let start = self.index.max(mark_size(bytes)).min(end);
         if self.index < end {
-            self.phase = phase_past(&bytes[start..end], self.phase);
-            self.index = end;
+            *self = Columns {
+                index: end,
+                phase: phase_past(&bytes[start..end], self.phase),
+            };
         }
         self.phase
     }
@@ -49,6 +58,7 @@ fn mark_size(bytes: &[u8]) -> usize {
 /// The phase after some bytes.
 fn phase_past(bytes: &[u8], phase: u8) -> u8
     requires { phase < 4 }
+    ensures { result < 4 }
 {
     let mut past = phase;
     for byte in bytes {
@@ -60,6 +70,7 @@ fn phase_past(bytes: &[u8], phase: u8) -> u8
 /// The phase after a byte.
 fn phase_on(phase: u8, byte: u8) -> u8
     requires { phase < 4 }
+    ensures { result < 4 }
 {
     match byte {
         b'\t' | b'\n' | b'\r' => 0,

@@ -37,7 +37,11 @@ impl Held {
     pub fn with(self, name: Name, index: usize) -> Held {
         Held {
             resource: self.resource || name == Name::Resource,
-            destination: first_of(name == Name::ResourceDestinationString, index, self.destination),
+            destination: first_of(
+                name == Name::ResourceDestinationString,
+                index,
+                self.destination,
+            ),
             title: first_of(name == Name::ResourceTitleString, index, self.title),
             reference: first_of(name == Name::ReferenceString, index, self.reference),
             text: first_of(name == Name::LabelText, index, self.text),

@@ -8,7 +8,8 @@
 mod attention;
 pub mod columns;
 mod label_end;
-mod leaf;
+pub mod law;
+pub mod leaf;
 mod raw_text;
 pub mod rows;
 pub mod spelled;
@@ -18,4 +19,3 @@ pub use columns::Columns;
 pub use rows::text_rows;
 pub use spelled::SpelledStrings;
 pub use texts::TextEvents;
-

@@ -4,7 +4,13 @@
 //!     MathText ::= MathTextSequence (MathTextData | LineEnding)* MathTextSequence
 //!
 //! A line ending is a space, and so is each column of a tab that a place cuts.
+ghost use Rattle.std.specs.Prelude.{◌≡◌, ◌++◌, OnOk, string_bytes};
+ghost use Rattle.std.specs.Option.{option_map};
+ghost use Rattle.event_rows.specs.RawTexts.{sequence_of, is_chunk, is_exit, begins, piece_by, whole_by, exit_spot};
+ghost use Rattle.event_written.specs.Strings.{valid};
+
 use crate::columns::Columns;
+use crate::texts::text_of;
 use engine_events::event::{Event, Kind, Name};
 use event_grammar::Spot;
 use event_grammar::place::bytes_between;
@@ -13,7 +19,9 @@ use event_written::child::text_first;
 use std::alloc::{AllocError, Allocator};
 
 /// The name of the sequences around raw text, if this is the name of raw text.
-pub(crate) fn sequence_of(name: Name) -> Option<Name> {
+pub(crate) fn sequence_of(name: Name) -> Option<Name>
+    ensures { result ≡ sequence_of name }
+{
     if name == Name::CodeText {
         Some(Name::CodeTextSequence)
     } else if name == Name::MathText {
@@ -25,38 +33,57 @@ pub(crate) fn sequence_of(name: Name) -> Option<Name> {
 
 /// The text between the sequences, if it is one piece of the bytes. The events are those after the
 /// enter of the raw text.
-pub(crate) fn whole_piece<'a>(
-    bytes: &'a [u8],
-    sequence: Name,
-    events: &[Event],
-) -> Option<&'a [u8]> {
-    let [before, _, enter, exit, after, ..] = events else {
-        return None;
-    };
-    if begins(before, sequence) && is_chunk(enter.name) && begins(after, sequence) {
-        piece_between(bytes, enter, exit)
-    } else {
-        None
+pub(crate) fn whole_piece<'a>(bytes: &'a [u8], sequence: Name, events: &[Event]) -> Option<&'a [u8]>
+    ensures { option_map (λ piece. piece.now) result ≡ whole_by bytes.now sequence events.now }
+{
+    match events {
+        [before, end, enter, exit, after, ..] => {
+            if begins(before, sequence)
+                && is_exit(end.kind)
+                && is_chunk(enter.name)
+                && begins(after, sequence)
+            {
+                piece_between(bytes, enter, exit)
+            } else {
+                None
+            }
+        }
+        _ => None,
     }
 }
 
 /// Whether an event enters something of this name.
-fn begins(event: &Event, name: Name) -> bool {
-    event.kind == Kind::Enter && event.name == name
+fn begins(event: &Event, name: Name) -> bool
+    ensures { result ≡ begins name event.now }
+{
+    !is_exit(event.kind) && event.name == name
+}
+
+fn is_exit(kind: Kind) -> bool
+    ensures { result ≡ is_exit kind }
+{
+    match kind {
+        Kind::Enter => false,
+        Kind::Exit => true,
+    }
 }
 
 /// The bytes from an enter to the exit after it, if neither is in a tab.
-fn piece_between<'a>(bytes: &'a [u8], enter: &Event, exit: &Event) -> Option<&'a [u8]> {
+fn piece_between<'a>(bytes: &'a [u8], enter: &Event, exit: &Event) -> Option<&'a [u8]>
+    ensures { option_map (λ piece. piece.now) result ≡ piece_by bytes.now enter.now exit.now }
+{
     let from = spot_of(enter);
     let to = spot_of(exit);
-    if enter.kind == Kind::Enter && exit.kind == Kind::Exit && from.vs == 0 && to.vs == 0 {
+    if !is_exit(enter.kind) && is_exit(exit.kind) && from.vs == 0 && to.vs == 0 {
         Some(bytes_between(bytes, from, to))
     } else {
         None
     }
 }
 
-fn is_chunk(name: Name) -> bool {
+fn is_chunk(name: Name) -> bool
+    ensures { result ≡ is_chunk name }
+{
     name == Name::CodeTextData || name == Name::MathTextData
 }
 
@@ -136,7 +163,9 @@ fn push_chunk<A: Allocator>(
 
 /// The place of the exit of the event that these events are in, and more events may follow. Without
 /// an exit it is the text's start.
-fn exit_spot(events: &[Event]) -> Spot {
+fn exit_spot(events: &[Event]) -> Spot
+    ensures { result ≡ exit_spot 0 events.now }
+{
     let mut depth: usize = 0;
     for event in events {
         match event.kind {
@@ -153,11 +182,10 @@ fn exit_spot(events: &[Event]) -> Spot {
 }
 
 /// Appends bytes, if they are UTF-8.
-fn push_bytes<A: Allocator>(out: &mut String<A>, bytes: &[u8]) -> Result<(), AllocError> {
-    match std::str::from_utf8(bytes) {
-        Ok(text) => out.push_str(text),
-        Err(_) => Ok(()),
-    }
+fn push_bytes<A: Allocator>(out: &mut String<A>, bytes: &[u8]) -> Result<(), AllocError>
+    ensures { OnOk result (string_bytes out.new ≡ string_bytes out.old ++ valid bytes.now) }
+{
+    out.push_str(text_of(bytes))
 }
 
 fn push_spaces<A: Allocator>(out: &mut String<A>, count: u8) -> Result<(), AllocError> {

@@ -114,7 +114,7 @@ impl<A: Allocator + Clone> SpelledStrings<A> {
                 Kind::Enter => {
                     if is_media(name) {
                         let held = open.enter();
-                        let target = self.target(&mut label, texts, events, name, held)?;
+                        let target = self.read_target(&mut label, texts, events, name, held)?;
                         self.targets.push(target)?;
                     } else if is_held(name) {
                         open.inner = open.inner.with(name, index);
@@ -126,7 +126,7 @@ impl<A: Allocator + Clone> SpelledStrings<A> {
     }
 
     /// What a link, an image or a call is made of. `label` is overwritten.
-    fn target<T: Tables>(
+    fn read_target<T: Tables>(
         &mut self,
         label: &mut Vec<u8, A>,
         texts: &TextEvents<'_, T, A>,
@@ -192,38 +192,37 @@ impl<A: Allocator> SpelledStrings<A> {
         }
     }
 
-    /// How many links, images and calls there are.
-    pub(crate) fn target_count(&self) -> usize {
-        self.targets.len()
+    /// What the link, the image or the call of a number is made of.
+    fn target(&self, number: usize) -> SpelledTarget {
+        let count = self.targets.len();
+        if number < count {
+            self.targets[count - 1 - number]
+        } else {
+            SpelledTarget::Nowhere
+        }
     }
 
-    /// Where the link or the image leads whose number is counted from the last one.
+    /// Where the link or the image of a number leads.
     pub(crate) fn link_target(&self, number: usize) -> LinkTarget<'_> {
-        if number < self.targets.len() {
-            if let SpelledTarget::Resource { destination, title } = self.targets[number] {
-                return LinkTarget::Resource(LinkTexts {
-                    destination: self.text_in(destination),
-                    title: Some(self.text_in(title)),
-                });
-            }
-            if let SpelledTarget::Definition(place) = self.targets[number] {
-                return LinkTarget::Definition(place);
-            }
+        match self.target(number) {
+            SpelledTarget::Resource { destination, title } => LinkTarget::Resource(LinkTexts {
+                destination: self.text_in(destination),
+                title: Some(self.text_in(title)),
+            }),
+            SpelledTarget::Definition(place) => LinkTarget::Definition(place),
+            SpelledTarget::Nowhere => LinkTarget::Resource(NOWHERE),
+            SpelledTarget::Call(_) => LinkTarget::Resource(NOWHERE),
         }
-        LinkTarget::Resource(LinkTexts {
-            destination: "",
-            title: None,
-        })
     }
 
-    /// The label of the call whose number is counted from the last one.
+    /// The label of the call of a number.
     pub(crate) fn call_label(&self, number: usize) -> &str {
-        if number < self.targets.len() {
-            if let SpelledTarget::Call(label) = self.targets[number] {
-                return self.text_in(label);
-            }
+        match self.target(number) {
+            SpelledTarget::Call(label) => self.text_in(label),
+            SpelledTarget::Resource { .. } => "",
+            SpelledTarget::Definition(_) => "",
+            SpelledTarget::Nowhere => "",
         }
-        ""
     }
 
     /// The raw text of a number among those that are joined.
@@ -235,6 +234,12 @@ impl<A: Allocator> SpelledStrings<A> {
         }
     }
 }
+
+/// Where a link leads whose label has no definition.
+const NOWHERE: LinkTexts<'static> = LinkTexts {
+    destination: "",
+    title: None,
+};
 
 /// The links, images and calls that are open behind the place up to which events were read.
 #[derive(Drop)]

@@ -1,4 +1,7 @@
 //! What the events of texts are read by.
+ghost use Rattle.std.specs.Prelude.{◌≡◌};
+ghost use Rattle.event_written.specs.Strings.{valid};
+
 use inline_labels::LabelTable;
 use std::alloc::Allocator;
 
@@ -16,7 +19,9 @@ pub struct TextEvents<'a, T, A: Allocator + Clone> {
 }
 
 /// Bytes as a text, or no text if they aren't UTF-8.
-pub(crate) fn text_of(bytes: &[u8]) -> &str {
+pub(crate) fn text_of(bytes: &[u8]) -> &str
+    ensures { result.now ≡ valid bytes.now }
+{
     match std::str::from_utf8(bytes) {
         Ok(text) => text,
         Err(_) => "",

@@ -9,7 +9,7 @@ use Rattle.inline_links.specs.declared.text.LinkTexts.{LinkTexts}
 use Rattle.inline_rows.specs.declared.row.LinkTarget.{LinkTarget}
 use Rattle.inline_rows.specs.declared.row.LinkTarget.TheVariants.{Resource, Definition as ByPlace}
 use Rattle.inline_rows.specs.declared.row.InlineRow.{InlineRow}
-use Rattle.inline_rows.specs.declared.row.InlineRow.TheVariants.{Text, Verbatim, Leaf, EnterSpan, EnterLink, EnterImage, Call, Exit}
+use Rattle.inline_rows.specs.declared.row.InlineRow.TheVariants.{Text, Verbatim, Leaf, Spelled, EnterSpan, EnterLink, EnterImage, Call, Exit}
 use Rattle.inline_links.specs.View.{link_texts_view}
 use Rattle.inline_rows.specs.View.{target_texts, row_view, rows_view}
 use Rattle.inline_rows.specs.InlineRows as rows
@@ -31,6 +31,7 @@ module _ (at beside : ℕ → inline.LinkTexts) (same : (place : ℕ) → at pla
   same_row (Text text) = refl
   same_row (Verbatim verbatim) = refl
   same_row (Leaf part) = refl
+  same_row (Spelled leaf) = refl
   same_row (EnterSpan span) = refl
   same_row (EnterLink target) = ap (λ l. rows.EnterLinked inline.Link l ∷ []) (same_target target)
   same_row (EnterImage target) = ap (λ l. rows.EnterLinked inline.Image l ∷ []) (same_target target)

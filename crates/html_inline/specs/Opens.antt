@@ -7,7 +7,7 @@ use Rattle.definition_page.specs.InlinePieces.{Meaning}
 use Rattle.inline_runs.specs.View.{span_view}
 use Rattle.inline_links.specs.declared.text.LinkTexts.{LinkTexts}
 use Rattle.inline_rows.specs.declared.row.InlineRow.{InlineRow}
-use Rattle.inline_rows.specs.declared.row.InlineRow.TheVariants.{Text, Verbatim, Leaf, EnterSpan, EnterLink, EnterImage, Call, Exit}
+use Rattle.inline_rows.specs.declared.row.InlineRow.TheVariants.{Text, Verbatim, Leaf, Spelled, EnterSpan, EnterLink, EnterImage, Call, Exit}
 use Rattle.inline_links.specs.View.{link_texts_view}
 use Rattle.inline_rows.specs.View.{target_texts}
 use Rattle.html_inline.specs.declared.stack.OpenPart.{OpenPart}
@@ -26,6 +26,7 @@ abbrev pub image_target : (ℕ → inline.LinkTexts) → InlineRow → inline.Li
 image_target at (Text text) = nowhere
 image_target at (Verbatim verbatim) = nowhere
 image_target at (Leaf part) = nowhere
+image_target at (Spelled leaf) = nowhere
 image_target at (EnterSpan span) = nowhere
 image_target at (EnterLink target) = nowhere
 image_target at (EnterImage target) = target_texts at target

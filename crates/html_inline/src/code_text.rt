@@ -93,7 +93,7 @@ fn is_in_line(byte: u8) -> bool
 }
 
 /// A text without one space at each end, where there are both and something between.
-fn without_padding(text: &str) -> &str
+pub(crate) fn without_padding(text: &str) -> &str
     ensures { result.now ≡ without_padding text.now }
 {
     if text.len() > 1 && is_padded(text.as_bytes()) {

@@ -61,6 +61,7 @@ fn count_row<A: Allocator + Clone>(
         InlineRow::Text(_) => Ok(()),
         InlineRow::Verbatim(_) => Ok(()),
         InlineRow::Leaf(_) => Ok(()),
+        InlineRow::Spelled(_) => Ok(()),
         InlineRow::EnterSpan(_) => Ok(()),
         InlineRow::EnterLink(_) => Ok(()),
         InlineRow::EnterImage(_) => Ok(()),

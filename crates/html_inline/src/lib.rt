@@ -16,6 +16,7 @@ pub mod leaf;
 pub mod math_text;
 pub mod printing;
 pub mod rows;
+mod spelled;
 mod stack;
 pub mod string;
 pub mod url;

@@ -15,7 +15,7 @@ ghost use Rattle.inline_rows.specs.InlineRows as rows_of;
 ghost use Rattle.inline_runs.specs.View.{span_view};
 ghost use Rattle.inline_leaves.specs.Leaves.{parts_of};
 ghost use Rattle.inline_links.specs.View.{link_texts_view};
-ghost use Rattle.inline_rows.specs.View.{data_rows, row_view, rows_view, target_texts};
+ghost use Rattle.inline_rows.specs.View.{data_rows, row_view, rows_view, spelled_view, target_texts};
 ghost use Rattle.inline_rows.specs.declared.row.InlineRow.{InlineRow};
 ghost use Rattle.inline_rows.specs.declared.row.InlineRow.TheVariants.{Exit};
 ghost use Rattle.html_inline.specs.GfmTable.{parts_in_cell, leaf_in, row_printed_in};
@@ -27,12 +27,13 @@ use crate::gfm_label_start_footnote::push_call;
 use crate::label_end::{NOWHERE, linked_at, push_image_end, push_image_start, push_link_start};
 use crate::leaf::{push_description, push_leaf};
 use crate::printing::{Printing, Scratch};
+use crate::spelled::{push_spelled_description, push_spelled_leaf};
 use crate::stack::{OpenPart, is_described};
 use html_escape::push_encoded;
 use html_footnotes::Output;
 use inline_leaves::LeafPart;
 use inline_links::LinkTexts;
-use inline_rows::{InlineRow, LinkTarget, VerbatimText};
+use inline_rows::{InlineRow, LinkTarget, SpelledLeaf, VerbatimText};
 use inline_runs::Span;
 use markdown_options::Tables;
 use std::alloc::{AllocError, Allocator};
@@ -78,6 +79,7 @@ pub fn push_alone<A: Allocator + Clone, T: Tables>(
         InlineRow::Text(text) => push_plain(out, text),
         InlineRow::Verbatim(verbatim) => push_verbatim(out, verbatim),
         InlineRow::Leaf(_)
+        | InlineRow::Spelled(_)
         | InlineRow::EnterSpan(_)
         | InlineRow::EnterLink(_)
         | InlineRow::EnterImage(_)
@@ -132,6 +134,7 @@ fn push_row<A: Allocator + Clone, T: Tables>(
         InlineRow::Text(text) => push_encoded(&mut out.html, text),
         InlineRow::Verbatim(verbatim) => out.html.push_str(verbatim.text),
         InlineRow::Leaf(part) => push_part(&mut out.html, scratch, printing, part),
+        InlineRow::Spelled(leaf) => push_spelled(&mut out.html, scratch, printing, leaf),
         InlineRow::EnterSpan(span) => enter_span(out, scratch, span),
         InlineRow::EnterLink(target) => enter_link(out, scratch, printing, target),
         InlineRow::EnterImage(target) => enter_image(out, scratch, printing, place, target),
@@ -164,6 +167,27 @@ fn push_part<A: Allocator + Clone, T: Tables>(
         )
     } else {
         push_leaf(out, &mut scratch.text, printing, part)
+    }
+}
+
+/// Prints a construct that holds no other, as events spell it.
+fn push_spelled<A: Allocator + Clone, T: Tables>(
+    out: &mut String<A>,
+    scratch: &mut Scratch<A>,
+    printing: &Printing<'_, A, T>,
+    leaf: SpelledLeaf<'_>,
+) -> Result<(), AllocError>
+    ensures stack { scratch.new.stack ≡ scratch.old.stack }
+    ensures printed { (definition : Definitions) (footnotes : List (List ℕ)) (rows : List InlineRow) →
+        let meaning = meaning_by (T.reference_of printing.now.tables.now) printing.now definition footnotes in
+        let at = place_target printing.now.definitions.now in
+        Prints result out.old out.new (leaves_bytes printing.now.compile.now (is_described (map (opened_view meaning at rows) (reverse scratch.old.stack.items)))
+        (leaf_in printing.now.cell (spelled_view leaf.entry) ∷ [])) }
+{
+    if is_described(scratch.stack.as_slice()) {
+        push_spelled_description(out, printing.compile, printing.cell, leaf)
+    } else {
+        push_spelled_leaf(out, printing.compile, printing.cell, leaf)
     }
 }
 

@@ -67,6 +67,7 @@ module _ (at : ℕ → LinkTexts) where
   row_is_text (row.Text text) = refl
   row_is_text (row.Verbatim verbatim) = refl
   row_is_text (row.Leaf p) = leaves_are_text (parts_of p) (part_text p) (part_is p)
+  row_is_text (row.Spelled leaf) = refl
   row_is_text (row.EnterSpan span) = refl
   row_is_text (row.EnterLink to) = refl
   row_is_text (row.EnterImage to) = refl
@@ -116,6 +117,7 @@ module _ (at : ℕ → LinkTexts) where
   depth_outside (row.Text text) h = refl
   depth_outside (row.Verbatim verbatim) h = refl
   depth_outside (row.Leaf part) h = refl
+  depth_outside (row.Spelled leaf) h = refl
   depth_outside (row.EnterSpan span) h = refl
   depth_outside (row.EnterLink to) h = absurd (let wrong : true ≡ false = h in cc)
   depth_outside (row.EnterImage to) h = refl

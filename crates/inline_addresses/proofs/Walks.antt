@@ -17,6 +17,7 @@ use Rattle.inline_rows.specs.InlineRows.{Part}
 use Rattle.inline_rows.specs.View.{data_rows, row_view, rows_view}
 use Rattle.inline_rows.specs.declared.row.InlineRow.{InlineRow}
 use Rattle.inline_rows.specs.declared.row.InlineRow.TheVariants as row
+use Rattle.inline_rows.specs.declared.row.SpelledLeaf.TheVariants as spelled
 use Rattle.inline_literals.specs.Addresses.{found_parts, IsFound}
 use Rattle.inline_literals.specs.declared.address.FoundAddress.{FoundAddress}
 use Rattle.inline_addresses.specs.Addresses.{literal_text, part_text, row_depth, row_linked, row_text, rows_text, run_linked, linked_rows, text_or_end, IsNext}
@@ -70,12 +71,18 @@ module _ (at : ℕ → LinkTexts) where
   row_after n run (row.Text text) rest = run_longer n run text.now rest
   row_after n run (row.Verbatim verbatim) rest = run_longer n run verbatim.text.now rest
   row_after zero run (row.Leaf p) rest = leaves_after zero run (parts_of p) (part_text p) rest (part_is p)
+  row_after zero run (row.Spelled (spelled.Code text)) rest = refl
+  row_after zero run (row.Spelled (spelled.Math text)) rest = refl
+  row_after zero run (row.Spelled (spelled.Check done)) rest = refl
   row_after zero run (row.EnterSpan span) rest = refl
   row_after zero run (row.EnterLink to) rest = refl
   row_after zero run (row.EnterImage to) rest = refl
   row_after zero run (row.Call label) rest = refl
   row_after zero run row.Exit rest = refl
   row_after (suc n) run (row.Leaf p) rest = leaves_after (suc n) run (parts_of p) (part_text p) rest (part_is p)
+  row_after (suc n) run (row.Spelled (spelled.Code text)) rest = refl
+  row_after (suc n) run (row.Spelled (spelled.Math text)) rest = refl
+  row_after (suc n) run (row.Spelled (spelled.Check done)) rest = refl
   row_after (suc n) run (row.EnterSpan span) rest = refl
   row_after (suc n) run (row.EnterLink to) rest = refl
   row_after (suc n) run (row.EnterImage to) rest = refl
@@ -157,6 +164,9 @@ module _ (at : ℕ → LinkTexts) where
   row_in_link n (row.Text text) = all_kept n (λ b. inline.Data b) (λ b. refl) text.now
   row_in_link n (row.Verbatim verbatim) = all_kept n (λ b. inline.Data b) (λ b. refl) verbatim.text.now
   row_in_link n (row.Leaf p) = part_in_link n p
+  row_in_link n (row.Spelled (spelled.Code text)) = refl
+  row_in_link n (row.Spelled (spelled.Math text)) = refl
+  row_in_link n (row.Spelled (spelled.Check done)) = refl
   row_in_link n (row.EnterSpan span) = refl
   row_in_link n (row.EnterLink to) = refl
   row_in_link n (row.EnterImage to) = refl

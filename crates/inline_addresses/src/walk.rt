@@ -61,7 +61,8 @@ pub(crate) fn text_of<'a>(row: InlineRow<'a>) -> Option<&'a str>
         InlineRow::Text(text) => Some(text),
         InlineRow::Verbatim(verbatim) => Some(verbatim.text),
         InlineRow::Leaf(part) => text_of_part(part),
-        InlineRow::EnterSpan(_)
+        InlineRow::Spelled(_)
+        | InlineRow::EnterSpan(_)
         | InlineRow::EnterLink(_)
         | InlineRow::EnterImage(_)
         | InlineRow::Call(_)

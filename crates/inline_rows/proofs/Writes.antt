@@ -20,7 +20,7 @@ use Rattle.inline_runs.specs.declared.pair.Pair.{Pair}
 use Rattle.inline_runs.specs.declared.spans.RunSpans.{RunSpans}
 use Rattle.inline_rows.specs.View.{row_view, rows_view, data_rows}
 use Rattle.inline_rows.specs.declared.row.InlineRow.{InlineRow}
-use Rattle.inline_rows.specs.declared.row.InlineRow.TheVariants.{Text, Verbatim, Leaf, EnterSpan, EnterLink, EnterImage, Call, Exit}
+use Rattle.inline_rows.specs.declared.row.InlineRow.TheVariants.{Text, Verbatim, Leaf, Spelled, EnterSpan, EnterLink, EnterImage, Call, Exit}
 use Rattle.inline_rows.specs.Container.{text_of, AreBytes}
 use Rattle.inline_rows.specs.Told.{start_row, span_row_rows, told_rows, rows_needed}
 
@@ -124,6 +124,7 @@ module _ (leads : Target → LinkTexts) (at : ℕ → LinkTexts) where
   byte_view (Text text) marker is = ap data_rows is
   byte_view (Verbatim verbatim) marker is = absurd (cons_nil marker [] (sym is))
   byte_view (Leaf part) marker is = absurd (cons_nil marker [] (sym is))
+  byte_view (Spelled leaf) marker is = absurd (cons_nil marker [] (sym is))
   byte_view (EnterSpan span) marker is = absurd (cons_nil marker [] (sym is))
   byte_view (EnterLink target) marker is = absurd (cons_nil marker [] (sym is))
   byte_view (EnterImage target) marker is = absurd (cons_nil marker [] (sym is))

@@ -5,5 +5,5 @@
 pub mod row;
 mod tell;
 
-pub use row::{InlineRow, LinkTarget, VerbatimText};
+pub use row::{InlineRow, LinkTarget, SpelledLeaf, VerbatimText};
 pub use tell::tell_apart;

@@ -23,6 +23,17 @@ pub struct VerbatimText<'a> {
     pub ghost same: { encode text.now ≡ text.now },
 }
 
+/// A construct that holds no other, as a list of events spells it. Texts give a [`LeafPart`].
+#[derive(Clone, Copy)]
+pub enum SpelledLeaf<'a> {
+    /// The text of a code span, in which line endings are printed as they are (CommonMark 6.1).
+    Code(&'a str),
+    /// The same of math.
+    Math(&'a str),
+    /// The check of a task list item, done or not (GFM 5.3).
+    Check(bool),
+}
+
 /// A part that holds no other, or where one starts or ends that holds others.
 #[derive(Clone, Copy)]
 pub enum InlineRow<'a> {
@@ -32,6 +43,8 @@ pub enum InlineRow<'a> {
     Verbatim(VerbatimText<'a>),
     /// A construct that holds no other.
     Leaf(LeafPart<'a>),
+    /// The same, as a list of events spells it.
+    Spelled(SpelledLeaf<'a>),
     /// The start of what stands between two runs (CommonMark 6.2 and GFM 6.5).
     EnterSpan(Span),
     /// The start of a link (CommonMark 6.3).

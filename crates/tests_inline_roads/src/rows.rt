@@ -107,6 +107,7 @@ fn push_row(out: &mut Vec<u8>, row: &InlineRow<'_>) -> Result<(), Fail> {
             Ok(())
         },
         InlineRow::Leaf(part) => push_leaf(out, part),
+        InlineRow::Spelled(_) => push_part(out, b"spelled", b""),
         InlineRow::EnterSpan(Span::Emphasis) => push_part(out, b"+", b"emphasis"),
         InlineRow::EnterSpan(Span::Strong) => push_part(out, b"+", b"strong"),
         InlineRow::EnterSpan(Span::Strikethrough) => push_part(out, b"+", b"strikethrough"),

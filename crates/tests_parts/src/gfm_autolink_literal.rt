@@ -80,7 +80,7 @@ fn mark<'a>(row: &InlineRow<'a>) -> &'a str {
     match row {
         InlineRow::Text(text) => text,
         InlineRow::Verbatim(verbatim) => verbatim.text,
-        InlineRow::Leaf(_) => "?",
+        InlineRow::Leaf(_) | InlineRow::Spelled(_) => "?",
         InlineRow::EnterSpan(_) | InlineRow::EnterLink(_) | InlineRow::EnterImage(_) => "(",
         InlineRow::Call(_) => "^",
         InlineRow::Exit => ")",

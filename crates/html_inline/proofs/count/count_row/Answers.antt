@@ -39,3 +39,7 @@ pub returns-in-Leaf : goal.returns-in-Leaf
 returns-in-Leaf g c = λ meaning at default held.
     sym (ap (λ (row : InlineRow). fold (lay meaning.compile default) (output_view c.args.out.now) (in_bytes (rows_counts meaning (row_view at row)))) c.in-Leaf.is
     ∙ ap (λ ps. fold (lay meaning.compile default) (output_view c.args.out.now) (in_bytes ps)) (leaves_counts meaning (parts_of c.in-Leaf.field-0)))
+
+pub returns-in-Spelled : goal.returns-in-Spelled
+returns-in-Spelled g c = λ meaning at default held.
+    sym (ap (λ (row : InlineRow). fold (lay meaning.compile default) (output_view c.args.out.now) (in_bytes (rows_counts meaning (row_view at row)))) c.in-Spelled.is)

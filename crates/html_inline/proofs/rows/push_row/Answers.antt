@@ -1,11 +1,11 @@
-use Rattle.std.proofs.Common.{◌≡◌, ◌++◌, string_bytes, sym, ap, ◌∙◌, rules}
+use Rattle.std.proofs.Common.{◌≡◌, ◌∷◌, [], ◌++◌, string_bytes, sym, ap, ◌∙◌, rules}
 use Rattle.std.specs.Prelude.{map, reverse, OnOk}
 use Rattle.std.specs.List.{fold}
 use Rattle.std.proofs.lemmas.Result.{on_ok_weaker}
 use Rattle.html_bytes.specs.Layout.{with_text}
 use Rattle.inline_leaves.specs.Leaves.{parts_of}
 use Rattle.inline_rows.specs.declared.row.InlineRow.{InlineRow}
-use Rattle.inline_rows.specs.View.{row_view}
+use Rattle.inline_rows.specs.View.{row_view, spelled_view}
 use Rattle.html_footnotes.specs.Output.{output_view}
 use Rattle.html_inline.specs.Opens.{image_target, opened_view, place_target}
 use Rattle.html_inline.specs.GfmTable.{leaf_in, row_printed_in}
@@ -129,3 +129,21 @@ returns-in-Exit g c = λ definition footnotes held.
     let old = printed_at out stack in
     let row_is = λ (r : InlineRow). fold (row_printed_in p.cell meaning) old (row_view at r) in
     on_ok_weaker c.exit.result (λ e. e ∙ ap row_is (sym c.in-Exit.is)) (c.exit.ensures definition footnotes)
+
+pub returns-in-Spelled : goal.returns-in-Spelled
+returns-in-Spelled g c = λ definition footnotes held.
+    let p = c.args.printing.now in
+    let meaning = meaning_by (g.T.Tables.reference_of p.tables.now) p definition footnotes in
+    let at = place_target p.definitions.now in
+    let view = opened_view meaning at c.args.rows.now in
+    let stack = map view (reverse c.args.scratch.now.stack.items) in
+    let out = output_view c.args.out.now in
+    let old = printed_at out stack in
+    let row_is = λ (r : InlineRow). fold (row_printed_in p.cell meaning) old (row_view at r) in
+    let leaf = c.in-Spelled.leaf in
+    on_ok_weaker c.push_spelled.result
+    (λ (e : string_bytes c.push_spelled.new.out ≡ out.text ++ leaves_bytes p.compile.now (is_described stack) (leaf_in p.cell (spelled_view leaf) ∷ [])).
+    ap (λ s. printed_at (with_text out (string_bytes c.push_spelled.new.out)) (map view (reverse s.items))) c.push_spelled.ensures.stack
+    ∙ ap (λ x. printed_at (with_text out x) stack) e
+    ∙ sym (leaves_printed p.cell meaning stack (spelled_view leaf ∷ []) out) ∙ ap row_is (sym c.in-Spelled.is))
+    (c.push_spelled.ensures.printed definition footnotes c.args.rows.now)

@@ -1,0 +1,9 @@
+pub mod Passes
+pub mod InlineRows
+pub mod Walks
+pub mod Leaves
+pub mod TargetLaw
+pub mod AloneLaw
+pub mod RowsLaw
+pub mod Pushed
+pub mod HtmlLoops

@@ -1,0 +1,7 @@
+pub mod Places
+pub mod Leaves
+pub mod RawTexts
+pub mod Targets
+pub mod Texts
+pub mod Rows
+pub mod Spelled
