@@ -1,5 +1,6 @@
 -- Children by events are those of the tree.
-use Rattle.std.proofs.Common.{◌≡◌, ℕ, ◌+◌, ◌-◌, ◌==◌, Bool, true, false, ◌&&◌, if◌then◌else◌, List, [], ◌∷◌, ◌++◌, drop, Option, None, Some, refl, sym, ap, ◌∙◌, append_assoc, subst}
+use Rattle.std.proofs.Common.{◌≡◌, ℕ, ◌+◌, ◌-◌, ◌==◌, Bool, true, false, ◌&&◌, if◌then◌else◌, List, [], ◌∷◌, ◌++◌, drop, Option, None, Some, refl, sym, ap}
+use Rattle.std.proofs.Common.{◌∙◌, append_assoc, subst}
 use Rattle.std.proofs.lemmas.Bool.{cond-false}
 use Rattle.engine_events.specs.Names.{same_name}
 use Rattle.engine_events.specs.declared.event.Event.{Event}
@@ -9,9 +10,8 @@ use Rattle.engine_events.specs.declared.event.Name.{Name}
 use Rattle.event_grammar.specs.declared.spot.Spot.{Spot}
 use Rattle.event_grammar.specs.Checks.{spot_of}
 use Rattle.event_grammar.specs.Points.{bytes_between}
-use Rattle.event_grammar.specs.InGrammar.{kids_of}
 use Rattle.event_grammar.specs.Trees.{Node, Nodes, Around, Nil, Cons, node_events, events_of, IsNode, AreNodes}
-use Rattle.event_meaning.specs.Children.{child, inside_of, kids_in, text_of, text_or_none, text_in}
+use Rattle.event_meaning.specs.Children.{child, inside_of, kids_in, text_or_none, text_in}
 use Rattle.event_references.proofs.TextLaw.{split}
 use Rattle.event_check.proofs.LooseLaw.{nonzero, less}
 use Rattle.event_written.specs.Child.{from_next, from_child, to_next, text_to, text_first}

@@ -1,21 +1,19 @@
 -- Definitions by events are those of the tree.
-use Rattle.std.proofs.Common.{◌≡◌, ℕ, ◌&&◌, Bool, true, false, if◌then◌else◌, List, [], ◌∷◌, ◌++◌, drop, Option, None, Some, refl, sym, ap, ap₂, ◌∙◌, append_assoc, subst}
+use Rattle.std.proofs.Common.{◌≡◌, ℕ, ◌&&◌, Bool, true, false, if◌then◌else◌, List, [], ◌∷◌, ◌++◌, drop, Option, None, Some, refl, sym, ap, ap₂, ◌∙◌}
+use Rattle.std.proofs.Common.{append_assoc}
 use Rattle.std.specs.Prelude.{map}
 use Rattle.std.proofs.lemmas.List.{append-nil, map-append}
 use Rattle.std.proofs.lemmas.List.Concat.{flat_map-append}
 use Rattle.engine_events.specs.Names.{same_name}
 use Rattle.engine_events.specs.declared.event.Event.{Event}
-use Rattle.engine_events.specs.declared.event.Kind.{Kind}
-use Rattle.engine_events.specs.declared.event.Kind.TheVariants.{Exit}
 use Rattle.engine_events.specs.declared.event.Name.{Name}
 use Rattle.engine_events.specs.declared.event.Name.TheVariants as n
 use Rattle.definition_text.specs.Columns.{Code}
 use Rattle.definition_text.specs.Content.{content_codes}
 use Rattle.definition_inline.specs.CharacterReference.{Names}
 use Rattle.definition_inline.specs.Definition.{Definition, definition}
-use Rattle.event_grammar.specs.Checks.{spot_of}
 use Rattle.event_grammar.specs.InGrammar.{kids_of}
-use Rattle.event_grammar.specs.References.{named, label_text}
+use Rattle.event_grammar.specs.References.{named}
 use Rattle.event_grammar.specs.Trees.{Node, Nodes, Around, Nil, Cons, events_of, AreNodes}
 use Rattle.event_meaning.specs.Blocks.{label_of}
 use Rattle.event_meaning.specs.Children.{child, inside_of, kids_in}
@@ -25,10 +23,10 @@ use Rattle.event_references.specs.Texts.{is_enter, text_of}
 use Rattle.event_references.specs.Views.{text_first}
 use Rattle.event_references.proofs.TextLaw.{split, text_law}
 use Rattle.event_written.specs.Child.{from_child}
-use Rattle.event_written.specs.Definition.{label_string, place_events, literal_events, raw_events, title_events, starts_definition}
+use Rattle.event_written.specs.Definition.{label_string, place_events}
 use Rattle.event_written.specs.Definition.{destination_written, title_written, definition_after, definitions_in}
 use Rattle.event_written.specs.Strings.{parts_after}
-use Rattle.event_written.specs.Texts.{IsTextNode, AreTexts}
+use Rattle.event_written.specs.Texts.{AreTexts}
 use Rattle.event_written.specs.Within.{AreWithin, StandsFirst}
 use Rattle.event_written.proofs.ChildLaw.{child_within, kids_within}
 use Rattle.event_written.proofs.StringLaw.{string_law}
@@ -61,7 +59,8 @@ module _ (names : Names) (bytes : List ℕ) where
 
   same : (l m d e t u : List Code) → l ≡ m → d ≡ e → t ≡ u → definition l d (Some t) [] ≡ definition m e (Some u) []
   same l m d e t u h k p =
-      ap (λ (z : List Code). definition z d (Some t) []) h ∙ ap (λ (z : List Code). definition m z (Some t) []) k ∙ ap (λ (z : List Code). definition m e (Some z) []) p
+      ap (λ (z : List Code). definition z d (Some t) []) h ∙ ap (λ (z : List Code). definition m z (Some t) []) k ∙ ap
+      (λ (z : List Code). definition m e (Some z) []) p
 
   -- A definition by the events in it.
   pub definition_is : (node : Node) (ns : Nodes) (es : List Event) → kids_of node ≡ ns → AreWithin ns es → AreTexts bytes ns
@@ -80,7 +79,8 @@ module _ (names : Names) (bytes : List ℕ) where
       (destination_written names bytes es) (written (literal_of ++ raw_of))
       (title_written names bytes es) (written (string_of names bytes (kids_in n.DefinitionTitleString (kids_in n.DefinitionTitle ns))))
       (label_is (child n.DefinitionLabelString (kids_in n.DefinitionLabel ns)) (label_string es)
-      (child_within n.DefinitionLabelString (kids_in n.DefinitionLabel ns) (drop 1 (from_child n.DefinitionLabel 0 es)) (kids_within n.DefinitionLabel ns es w)))
+      (child_within n.DefinitionLabelString (kids_in n.DefinitionLabel ns) (drop 1 (from_child n.DefinitionLabel 0 es))
+      (kids_within n.DefinitionLabel ns es w)))
       (ap₂ (λ (x y : List ℕ). written x ++ written y) literal raw ∙ sym (flat_map-append written_byte literal_of raw_of))
       (ap written (spelled_in n.DefinitionTitle n.DefinitionTitleString ns es w h)) in
       whole ∙ ap (λ (z : Nodes). definition_of names bytes (Around enter z exit)) (sym e)
@@ -91,11 +91,13 @@ module _ (names : Names) (bytes : List ℕ) where
       → definitions_in names bytes (e ∷ es)
       ≡ (if same_name e.name n.Definition then definition_after names bytes es ∷ definitions_in names bytes es else definitions_in names bytes es)
   enters e es h =
-      ap (λ (z : Bool). if z && same_name e.name n.Definition then definition_after names bytes es ∷ definitions_in names bytes es else definitions_in names bytes es) h
+      ap (λ (z : Bool). if z && same_name e.name n.Definition then definition_after names bytes es ∷ definitions_in names bytes es else definitions_in names
+      bytes es) h
 
   exits : (e : Event) (es : List Event) → is_enter e.kind ≡ false → definitions_in names bytes (e ∷ es) ≡ definitions_in names bytes es
   exits e es h =
-      ap (λ (z : Bool). if z && same_name e.name n.Definition then definition_after names bytes es ∷ definitions_in names bytes es else definitions_in names bytes es) h
+      ap (λ (z : Bool). if z && same_name e.name n.Definition then definition_after names bytes es ∷ definitions_in names bytes es else definitions_in names
+      bytes es) h
 
   apart : (inside others : List Node) (rest : List Definition) → map (definition_of names bytes) inside ++ (map (definition_of names bytes) others ++ rest)
       ≡ map (definition_of names bytes) (inside ++ others) ++ rest
@@ -126,7 +128,8 @@ module _ (names : Names) (bytes : List ℕ) where
       (definitions_over kids k.0.3 h.0.1 (exit ∷ rest)
       ∙ ap (λ (z : List Definition). map (definition_of names bytes) (named n.Definition kids) ++ z)
       (exits exit rest (ap is_enter k.0.1) ∙ definitions_over ns k.1 h.1 es))
-      ∙ named_by b (Around enter kids exit) (named n.Definition kids) (named n.Definition ns) (definition_after names bytes inner) (definitions_in names bytes es)
+      ∙ named_by b (Around enter kids exit) (named n.Definition kids) (named n.Definition ns) (definition_after names bytes inner)
+      (definitions_in names bytes es)
       (definition_is (Around enter kids exit) kids inner refl within h.0.1)
 
   -- The law of definitions: those among the events of nodes are those of the nodes.

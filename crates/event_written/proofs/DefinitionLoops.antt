@@ -1,5 +1,5 @@
 -- Definitions, event by event.
-use Rattle.std.proofs.Common.{◌≡◌, ◌<◌, ℕ, ◌+◌, Bool, true, false, if◌then◌else◌, List, [], ◌∷◌, ◌++◌, refl, sym, ap, ◌∙◌, subst, get_or, append_assoc, drop, length}
+use Rattle.std.proofs.Common.{◌≡◌, ◌<◌, ℕ, ◌+◌, Bool, true, false, if◌then◌else◌, List, [], ◌∷◌, ◌++◌, sym, ap, ◌∙◌, get_or, append_assoc, drop, length}
 use Rattle.engine_events.specs.declared.event.Event.{Event}
 use Rattle.definition_inline.specs.CharacterReference.{Names}
 use Rattle.definition_inline.specs.Definition.{Definition}
@@ -32,8 +32,10 @@ module _ (names : Names) (bytes : List ℕ) (events : List Event) where
       → HasDefinitions new (front ++ definition_after names bytes (drop (i + 1) events) ∷ [])
       → front ++ definitions_in names bytes (drop i events) ≡ definitions_in names bytes events → HasFront names bytes events (i + 1) new
   front_more i new front l h has k =
-      let d = definition_after names bytes (drop (i + 1) events) in
-      (front ++ d ∷ [], has,
-       append_assoc front (d ∷ []) (definitions_in names bytes (drop (i + 1) events))
-       ∙ ap (λ (z : List Definition). front ++ z) (sym (next_is i true l h))
-       ∙ k)
+      let d = definition_after names bytes (drop (i + 1) events) in (
+        front ++ d ∷ [],
+        has,
+        append_assoc front (d ∷ []) (definitions_in names bytes (drop (i + 1) events))
+            ∙ ap (λ (z : List Definition). front ++ z) (sym (next_is i true l h))
+            ∙ k,
+      )

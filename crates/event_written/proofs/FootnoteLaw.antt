@@ -1,6 +1,6 @@
 -- The labels of footnote definitions by events are those of the blocks that the nodes spell.
-use Rattle.std.proofs.Common.{◌≡◌, ℕ, ◌+◌, ◌-◌, ◌==◌, Bool, true, false, if◌then◌else◌, List, [], ◌∷◌, ◌++◌, drop, Option, None, Some, refl, sym, ap, ◌∙◌, append_assoc}
-use Rattle.std.proofs.lemmas.Bool.{cond-false}
+use Rattle.std.proofs.Common.{◌≡◌, ℕ, ◌+◌, ◌-◌, ◌==◌, Bool, true, false, if◌then◌else◌, List, [], ◌∷◌, ◌++◌, drop, Option, None, Some, refl, sym, ap, ◌∙◌}
+use Rattle.std.proofs.Common.{append_assoc}
 use Rattle.std.proofs.lemmas.List.{append-nil}
 use Rattle.engine_events.specs.Names.{same_name, is_listed}
 use Rattle.engine_events.specs.declared.event.Event.{Event}
@@ -11,24 +11,27 @@ use Rattle.engine_events.specs.declared.event.Name.TheVariants as n
 use Rattle.definition_text.specs.Columns.{Code}
 use Rattle.definition_inline.specs.CharacterReference.{Names}
 use Rattle.definition_page.specs.Page as page
-use Rattle.event_grammar.specs.Trees.{Node, Nodes, Around, Nil, Cons, events_of, AreNodes}
+use Rattle.event_grammar.specs.Trees.{Nodes, Around, Nil, Cons, events_of, AreNodes}
 use Rattle.event_meaning.specs.Blocks.{join, start_of, footnote_label, block_of, blocks_of, blocks_from}
 use Rattle.event_meaning.specs.Children.{child, kids_in, text_of}
 use Rattle.event_meaning.specs.Spelled.{block_footnotes, footnotes}
 use Rattle.event_references.proofs.TextLaw.{split}
 use Rattle.event_check.proofs.LooseLaw.{nonzero, less}
 use Rattle.event_written.specs.Child.{from_child}
-use Rattle.event_written.specs.GfmFootnoteDefinition.{container_names, start_name, label_string, label_codes, Held, held, the_document, only_if, new_held, has_begun}
-use Rattle.event_written.specs.GfmFootnoteDefinition.{Notes, notes, enter_content, enter_open, enter_note, first_held, label_list, exit_note, note_next, notes_after}
+use Rattle.event_written.specs.GfmFootnoteDefinition.{container_names, start_name, label_string, label_codes, Held, held, the_document, only_if, has_begun}
+use Rattle.event_written.specs.GfmFootnoteDefinition.{Notes, notes, enter_content, enter_open, enter_note, first_held, label_list, exit_note, note_next}
+use Rattle.event_written.specs.GfmFootnoteDefinition.{notes_after}
 use Rattle.event_written.specs.Within.{AreWithin}
 use Rattle.event_written.proofs.ChildLaw.{child_within, kids_within}
 use Rattle.event_written.proofs.DefinitionLaw.{label_is}
+use Rattle.event_written.proofs.FootnoteLoops.{content_same}
 
 -- ---- blocks
 
 join_notes : (a b : page.Blocks) → footnotes (join a b) ≡ footnotes a ++ footnotes b
 join_notes page.Nil b = refl
-join_notes (page.Cons x xs) b = ap (λ (z : List (List Code)). block_footnotes x ++ z) (join_notes xs b) ∙ sym (append_assoc (block_footnotes x) (footnotes xs) (footnotes b))
+join_notes (page.Cons x xs) b = ap (λ (z : List (List Code)). block_footnotes x ++ z) (join_notes xs b) ∙ sym
+    (append_assoc (block_footnotes x) (footnotes xs) (footnotes b))
 
 abbrev own_notes : Name → List Code → List (List Code) → List (List Code)
 own_notes name label inner = if is_listed container_names name then inner ++ label_list (only_if (same_name name n.GfmFootnoteDefinition) label) else []
@@ -80,7 +83,8 @@ module _ (names : Names) (bytes : List ℕ) where
 
   exit_skipped : (ended : List (List Code)) (inner : Held) (outer : List Held) (k : ℕ) → exit_note (notes ended inner outer (k + 1)) ≡ notes ended inner outer k
   exit_skipped ended inner outer k =
-      ap (λ (t : Bool). if t then notes (ended ++ label_list inner.label) (first_held outer) (drop 1 outer) 0 else notes ended inner outer ((k + 1) - 1)) (nonzero k)
+      ap (λ (t : Bool). if t then notes (ended ++ label_list inner.label) (first_held outer) (drop 1 outer) 0 else notes ended inner outer ((k + 1) - 1))
+      (nonzero k)
       ∙ ap (notes ended inner outer) (less k)
 
   skip_over : (ns : Nodes) → AreNodes ns → (ended : List (List Code)) (inner : Held) (outer : List Held) (k : ℕ) → (k == 0) ≡ false → (es : List Event)
@@ -110,11 +114,15 @@ module _ (names : Names) (bytes : List ℕ) where
       ≡ run (notes (ended ++ (footnotes (blocks_from names bytes start ns) ++ label_list label)) (first_held outer) (drop 1 outer) 0) es
 
   -- an event in the content
-  node_over : (top : Bool) (enter : Event) (kids : Nodes) (exit : Event) (rest : List Event) (ended : List (List Code)) (label : Option (List Code)) (outer : List Held) (b : Bool)
+  node_over : (top : Bool) (enter : Event) (kids : Nodes) (exit : Event) (rest : List Event) (ended : List (List Code)) (label : Option (List Code))
+      (outer : List Held) (b : Bool)
       → exit.kind ≡ Exit → AreNodes kids → is_listed container_names enter.name ≡ b → FromStart kids
-      → run (enter_content (is_listed container_names enter.name) enter.name (label_codes bytes (events_of kids ++ exit ∷ rest)) (notes ended (held label None) outer 0))
+      → run (enter_content (is_listed container_names enter.name) enter.name (label_codes bytes (events_of kids ++ exit ∷ rest))
+      (notes ended (held label None) outer 0))
       (events_of kids ++ exit ∷ rest)
-      ≡ run (notes (ended ++ footnotes (block_of names bytes top enter.name (text_of bytes (Around enter kids exit)) kids (blocks_from names bytes (start_of enter.name) kids))) (held label None) outer 0) rest
+      ≡ run (notes (ended ++ footnotes
+      (block_of names bytes top enter.name (text_of bytes (Around enter kids exit)) kids (blocks_from names bytes (start_of enter.name) kids)))
+      (held label None) outer 0) rest
   node_over top enter kids exit rest ended label outer true x k b from =
       let inside = events_of kids ++ exit ∷ rest in
       let own = label_codes bytes inside in
@@ -122,12 +130,15 @@ module _ (names : Names) (bytes : List ℕ) where
       let inner = blocks_from names bytes (start_of enter.name) kids in
       let s = notes ended (held label None) outer 0 in
       ap (λ (t : Bool). run (enter_content t enter.name own s) inside) b
-      ∙ ap (λ (z : Name). run (notes ended (held (only_if (same_name enter.name n.GfmFootnoteDefinition) own) (Some z)) (held label None ∷ outer) 0) inside) (start_is enter.name)
+      ∙ ap (λ (z : Name). run (notes ended (held (only_if (same_name enter.name n.GfmFootnoteDefinition) own) (Some z)) (held label None ∷ outer) 0) inside)
+      (start_is enter.name)
       ∙ from (start_of enter.name) ended (only_if (same_name enter.name n.GfmFootnoteDefinition) own) (held label None ∷ outer) exit rest x
-      ∙ ap (λ (z : List Code). run (notes (ended ++ (footnotes inner ++ label_list (only_if (same_name enter.name n.GfmFootnoteDefinition) z))) (held label None) outer 0) rest) own_is
+      ∙ ap (λ (z : List Code). run
+      (notes (ended ++ (footnotes inner ++ label_list (only_if (same_name enter.name n.GfmFootnoteDefinition) z))) (held label None) outer 0) rest) own_is
       ∙ ap (λ (z : List (List Code)). run (notes (ended ++ z) (held label None) outer 0) rest)
       (sym (block_notes top enter.name (text_of bytes (Around enter kids exit)) kids inner
-      ∙ ap (λ (t : Bool). if t then footnotes inner ++ label_list (only_if (same_name enter.name n.GfmFootnoteDefinition) (footnote_label names bytes kids)) else []) b))
+      ∙ ap (λ (t : Bool). if t then footnotes inner ++ label_list (only_if (same_name enter.name n.GfmFootnoteDefinition) (footnote_label names bytes kids))
+      else []) b))
   node_over top enter kids exit rest ended label outer false x k b from =
       let inside = events_of kids ++ exit ∷ rest in
       let own = label_codes bytes inside in
@@ -140,24 +151,29 @@ module _ (names : Names) (bytes : List ℕ) where
       ∙ ap (λ (z : List (List Code)). run (notes z (held label None) outer 0) rest) (sym (append-nil ended))
       ∙ ap (λ (z : List (List Code)). run (notes (ended ++ z) (held label None) outer 0) rest)
       (sym (block_notes top enter.name (text_of bytes (Around enter kids exit)) kids inner
-      ∙ ap (λ (t : Bool). if t then footnotes inner ++ label_list (only_if (same_name enter.name n.GfmFootnoteDefinition) (footnote_label names bytes kids)) else []) b))
+      ∙ ap (λ (t : Bool). if t then footnotes inner ++ label_list (only_if (same_name enter.name n.GfmFootnoteDefinition) (footnote_label names bytes kids))
+      else []) b))
+
+  -- what an event spells
+  abbrev own : Bool → Event → Nodes → Event → page.Blocks
+  own top enter kids exit = block_of names bytes top enter.name (text_of bytes (Around enter kids exit)) kids
+      (blocks_from names bytes (start_of enter.name) kids)
 
   regroup : (top : Bool) (ended : List (List Code)) (a b : page.Blocks) → (ended ++ footnotes a) ++ footnotes b ≡ ended ++ footnotes (join a b)
   regroup top ended a b = append_assoc ended (footnotes a) (footnotes b) ∙ ap (λ (z : List (List Code)). ended ++ z) (sym (join_notes a b))
 
   notes_over : (ns : Nodes) → AreNodes ns → InContent ns × FromStart ns
-  notes_over Nil a =
-      (λ top ended label outer es. ap (λ (z : List (List Code)). run (notes z (held label None) outer 0) es) (sym (append-nil ended)),
-       λ start ended label outer exit es x. on_event exit es Exit (notes ended (held label (Some start)) outer 0) x)
+  notes_over Nil a = (
+    λ top ended label outer es. ap (λ (z : List (List Code)). run (notes z (held label None) outer 0) es) (sym (append-nil ended)),
+    λ start ended label outer exit es x. on_event exit es Exit (notes ended (held label (Some start)) outer 0) x,
+  )
   notes_over (Cons (Around enter kids exit) ns) a =
       let inner = notes_over kids a.0.3 in
-      let others = notes_over ns a.1 in
-      (λ top ended label outer es. content inner.1 others.0 top ended label outer es,
-       λ start ended label outer last es x. begins inner.1 others.0 others.1 start ended label outer last es (same_name enter.name start) x refl)
+      let others = notes_over ns a.1 in (
+        λ top ended label outer es. content inner.1 others.0 top ended label outer es,
+        λ start ended label outer last es x. begins inner.1 others.0 others.1 start ended label outer last es (same_name enter.name start) x refl,
+      )
     where
-      abbrev own : Bool → page.Blocks
-      own top = block_of names bytes top enter.name (text_of bytes (Around enter kids exit)) kids (blocks_from names bytes (start_of enter.name) kids)
-
       content : FromStart kids → InContent ns → InContent (Cons (Around enter kids exit) ns)
       content from over top ended label outer es =
           let rest = events_of ns ++ es in
@@ -165,30 +181,38 @@ module _ (names : Names) (bytes : List ℕ) where
           ap (λ (l : List Event). run (notes ended (held label None) outer 0) (enter ∷ l)) (split kids ns exit es)
           ∙ on_event enter inside Enter (notes ended (held label None) outer 0) a.0.0
           ∙ node_over top enter kids exit rest ended label outer (is_listed container_names enter.name) a.0.1 a.0.3 refl from
-          ∙ over top (ended ++ footnotes (own top)) label outer es
-          ∙ ap (λ (z : List (List Code)). run (notes z (held label None) outer 0) es) (regroup top ended (own top) (blocks_of names bytes top ns))
+          ∙ over top (ended ++ footnotes (own top enter kids exit)) label outer es
+          ∙ ap (λ (z : List (List Code)). run (notes z (held label None) outer 0) es)
+          (regroup top ended (own top enter kids exit) (blocks_of names bytes top ns))
 
       begins : FromStart kids → InContent ns → FromStart ns
-          → (start : Name) (ended : List (List Code)) (label : Option (List Code)) (outer : List Held) (last : Event) (es : List Event) (b : Bool) → last.kind ≡ Exit
+          → (start : Name) (ended : List (List Code)) (label : Option (List Code)) (outer : List Held) (last : Event) (es : List Event) (b : Bool) →
+          last.kind ≡ Exit
           → same_name enter.name start ≡ b
           → run (notes ended (held label (Some start)) outer 0) (events_of (Cons (Around enter kids exit) ns) ++ last ∷ es)
-          ≡ run (notes (ended ++ (footnotes (if same_name enter.name start then join (own false) (blocks_of names bytes false ns) else blocks_from names bytes start ns) ++ label_list label))
+          ≡ run (notes (ended ++
+          (footnotes (if same_name enter.name start then join (own false enter kids exit) (blocks_of names bytes false ns) else blocks_from names bytes
+          start ns) ++ label_list label))
           (first_held outer) (drop 1 outer) 0) es
       begins from over later start ended label outer last es true x h =
           let rest = events_of ns ++ last ∷ es in
           let inside = events_of kids ++ exit ∷ rest in
           let s = notes ended (held label (Some start)) outer 0 in
-          let found = ended ++ footnotes (join (own false) (blocks_of names bytes false ns)) in
+          let found = ended ++ footnotes (join (own false enter kids exit) (blocks_of names bytes false ns)) in
           ap (λ (l : List Event). run s (enter ∷ l)) (split kids ns exit (last ∷ es))
           ∙ on_event enter inside Enter s a.0.0
           ∙ ap (λ (t : Bool). run (enter_open t enter.name (label_codes bytes inside) s) inside) h
+          ∙ ap (λ (z : Notes). run z inside) (sym (content_same (is_listed container_names enter.name) enter.name (label_codes bytes inside) s))
           ∙ node_over false enter kids exit rest ended label outer (is_listed container_names enter.name) a.0.1 a.0.3 refl from
-          ∙ over false (ended ++ footnotes (own false)) label outer (last ∷ es)
-          ∙ ap (λ (z : List (List Code)). run (notes z (held label None) outer 0) (last ∷ es)) (regroup false ended (own false) (blocks_of names bytes false ns))
+          ∙ over false (ended ++ footnotes (own false enter kids exit)) label outer (last ∷ es)
+          ∙ ap (λ (z : List (List Code)). run (notes z (held label None) outer 0) (last ∷ es))
+          (regroup false ended (own false enter kids exit) (blocks_of names bytes false ns))
           ∙ on_event last es Exit (notes found (held label None) outer 0) x
           ∙ ap (λ (z : List (List Code)). run (notes z (first_held outer) (drop 1 outer) 0) es)
-          (append_assoc ended (footnotes (join (own false) (blocks_of names bytes false ns))) (label_list label))
-          ∙ ap (λ (t : Bool). run (notes (ended ++ (footnotes (if t then join (own false) (blocks_of names bytes false ns) else blocks_from names bytes start ns) ++ label_list label))
+          (append_assoc ended (footnotes (join (own false enter kids exit) (blocks_of names bytes false ns))) (label_list label))
+          ∙ ap (λ (t : Bool). run
+          (notes (ended ++ (footnotes (if t then join (own false enter kids exit) (blocks_of names bytes false ns) else blocks_from names bytes start ns) ++
+          label_list label))
           (first_held outer) (drop 1 outer) 0) es) (sym h)
       begins from over later start ended label outer last es false x h =
           let rest = events_of ns ++ last ∷ es in
@@ -201,7 +225,9 @@ module _ (names : Names) (bytes : List ℕ) where
           ∙ on_event exit rest Exit (notes ended (held label (Some start)) outer 1) a.0.1
           ∙ ap (λ (s : Notes). run s rest) (exit_skipped ended (held label (Some start)) outer 0)
           ∙ later start ended label outer last es x
-          ∙ ap (λ (t : Bool). run (notes (ended ++ (footnotes (if t then join (own false) (blocks_of names bytes false ns) else blocks_from names bytes start ns) ++ label_list label))
+          ∙ ap (λ (t : Bool). run
+          (notes (ended ++ (footnotes (if t then join (own false enter kids exit) (blocks_of names bytes false ns) else blocks_from names bytes start ns) ++
+          label_list label))
           (first_held outer) (drop 1 outer) 0) es) (sym h)
 
   -- The law of footnotes: the labels among the events of nodes are those of their blocks.

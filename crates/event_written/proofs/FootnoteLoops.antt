@@ -1,13 +1,16 @@
 -- The labels of footnote definitions, event by event.
-use Rattle.std.proofs.Common.{◌≡◌, ◌<◌, ◌≤◌, ℕ, ◌+◌, List, [], ◌∷◌, sym, ap, ◌∙◌, subst, get_or, drop, length}
+use Rattle.std.proofs.Common.{◌≡◌, ◌<◌, ◌≤◌, ℕ, ◌+◌, ◌==◌, Bool, true, false, if◌then◌else◌, List, [], Option, refl, sym, ap, ◌∙◌, subst, get_or, drop, length}
 use Rattle.std.proofs.lemmas.List.{drop_all}
 use Rattle.definition_text.specs.Columns.{Code}
+use Rattle.engine_events.specs.Names.{is_listed}
 use Rattle.engine_events.specs.declared.event.Event.{Event}
 use Rattle.engine_events.specs.declared.event.Kind.{Kind}
+use Rattle.engine_events.specs.declared.event.Name.{Name}
 use Rattle.inline_labels.specs.Table.{HasLabels}
 use Rattle.event_grammar.proofs.Runs.{no_event}
 use Rattle.event_references.proofs.Loops.{drop_next}
-use Rattle.event_written.specs.GfmFootnoteDefinition.{Notes, notes, the_document, label_codes, label_at, note_next, notes_after, HasNotes}
+use Rattle.event_written.specs.GfmFootnoteDefinition.{Notes, notes, the_document, label_at, note_next, notes_after, HasNotes}
+use Rattle.event_written.specs.GfmFootnoteDefinition.{container_names, begun, has_begun, enter_content, enter_open, enter_note}
 use Rattle.event_written.specs.declared.gfm_footnote_definition.Walk.{Walk}
 
 abbrev pub start_notes : Notes
@@ -36,3 +39,16 @@ pub knows_all : {A : Type 0} (bytes : List ℕ) (events : List Event) (i : ℕ) 
     → HasLabels walk.labels (notes_after bytes start_notes events).ended
 knows_all bytes events i walk l k =
     subst (λ (s : Notes). HasLabels walk.labels s.ended) (sym (ap (notes_after bytes k.0) (drop_all i events l)) ∙ k.2) k.1.has_labels
+
+-- an event in the content is entered
+pub content_same : (b : Bool) (name : Name) (label : List Code) (s : Notes)
+    → enter_content b name label (notes s.ended (begun s.inner) s.outer s.skipped) ≡ enter_content b name label s
+content_same true name label s = refl
+content_same false name label s = refl
+
+pub enters : (name : Name) (label : List Code) (s : Notes) (awaited : Option Name) → s.skipped ≡ 0 → awaited ≡ s.inner.awaited → has_begun awaited name ≡ true
+    → enter_content (is_listed container_names name) name label (notes s.ended (begun s.inner) s.outer s.skipped) ≡ enter_note name label s
+enters name label s awaited z a h =
+    content_same (is_listed container_names name) name label s
+    ∙ sym (ap (λ (n : ℕ). if n == 0 then enter_open (has_begun s.inner.awaited name) name label s else notes s.ended s.inner s.outer (s.skipped + 1)) z
+    ∙ ap (λ (t : Bool). enter_open t name label s) (ap (λ (o : Option Name). has_begun o name) (sym a) ∙ h))

@@ -1,6 +1,7 @@
 pub mod ChildLaw
 pub mod StringLaw
 pub mod PlaceTexts
+pub mod CheckedNodes
 pub mod DefinitionLaw
 pub mod FootnoteLaw
 pub mod ListLaw
@@ -10,5 +11,4 @@ pub mod Waiting
 pub mod StringLoops
 pub mod DefinitionLoops
 pub mod FootnoteLoops
-pub mod Written
 pub mod WrittenTargets

@@ -1,5 +1,5 @@
 -- Looseness by events, from the last on, is that of the tree.
-use Rattle.std.proofs.Common.{◌≡◌, ℕ, ◌==◌, Bool, true, false, ◌&&◌, ◌||◌, if◌then◌else◌, List, [], ◌∷◌, ◌++◌, drop, Option, None, Some, refl, sym, ap, ◌∙◌, append_assoc}
+use Rattle.std.proofs.Common.{◌≡◌, ℕ, Bool, true, false, ◌&&◌, ◌||◌, if◌then◌else◌, List, [], ◌∷◌, ◌++◌, Option, None, Some, refl, sym, ap, ◌∙◌, append_assoc}
 use Rattle.std.specs.Prelude.{reverse}
 use Rattle.std.specs.List.{fold}
 use Rattle.std.proofs.lemmas.Grind.{reverse_onto}
@@ -11,15 +11,15 @@ use Rattle.engine_events.specs.declared.event.Kind.{Kind}
 use Rattle.engine_events.specs.declared.event.Kind.TheVariants.{Enter, Exit}
 use Rattle.engine_events.specs.declared.event.Name.{Name}
 use Rattle.engine_events.specs.declared.event.Name.TheVariants as n
-use Rattle.event_check.specs.Loose.{is_apart, is_far, are_apart, is_loose_item, has_loose_item, is_loose_list}
+use Rattle.event_check.specs.Loose.{is_far, are_apart, has_loose_item, is_loose_list}
 use Rattle.event_grammar.specs.declared.slot.Child.{Child}
 use Rattle.event_grammar.specs.declared.slot.Child.TheVariants.{Only, Block}
 use Rattle.event_grammar.specs.declared.spot.Spot.{Spot}
 use Rattle.event_grammar.specs.Checks.{spot_of}
 use Rattle.event_grammar.specs.Slots.{has}
-use Rattle.event_grammar.specs.Trees.{Node, Nodes, Around, Nil, Cons, node_events, events_of, IsNode, AreNodes}
+use Rattle.event_grammar.specs.Trees.{Node, Nodes, Around, Nil, Cons, node_events, events_of, AreNodes}
 use Rattle.event_written.specs.List.{is_list, node_lists, loose_lists, compared_in, compares, level, new_level, is_before, before_exit, before_enter}
-use Rattle.event_written.specs.List.{PassView, pass_at, first_level, more_lists, pass_next, pass_start, pass_event, passed}
+use Rattle.event_written.specs.List.{PassView, pass_at, more_lists, pass_next, pass_start, pass_event, passed}
 use Rattle.event_written.specs.declared.list.Level.{Level}
 
 -- ---- either
@@ -84,7 +84,8 @@ module _ (bytes : List ℕ) where
         || (if h then level r.child (Some enter) ((h && is_before bytes exit r.next) || r.apart) (apart || r.loose)
         else level r.child r.next ((h && is_before bytes exit r.next) || r.apart) r.loose).apart)
     apart_by true f g last enter exit r apart ns ih =
-        ap (λ (z : Bool). z || are_apart bytes child (Some exit) ns) (far_is last enter) ∙ ap (λ (z : Bool). is_apart_from last (Some enter) || z) (ih (Some exit))
+        ap (λ (z : Bool). z || are_apart bytes child (Some exit) ns) (far_is last enter) ∙ ap (λ (z : Bool). is_apart_from last (Some enter) || z)
+        (ih (Some exit))
     apart_by false f g last enter exit r apart ns ih = ih last
 
     -- some two neighbours are apart: the last before and the first of these, or two of these
@@ -95,9 +96,11 @@ module _ (bytes : List ℕ) where
         let apart = (level_over kids (new_level (compared_in enter.name))).apart in
         apart_by (has child enter.name) false false last (spot_of enter) (spot_of exit) r apart ns (apart_over ns)
         ∙ ap (λ (c : Option Child). is_apart_from last
-        (if compares c enter.name then level r.child (Some (spot_of enter)) ((compares c enter.name && is_before bytes (spot_of exit) r.next) || r.apart) (apart || r.loose)
+        (if compares c enter.name then level r.child (Some (spot_of enter)) ((compares c enter.name && is_before bytes (spot_of exit) r.next) || r.apart)
+        (apart || r.loose)
         else level r.child r.next ((compares c enter.name && is_before bytes (spot_of exit) r.next) || r.apart) r.loose).next
-        || (if compares c enter.name then level r.child (Some (spot_of enter)) ((compares c enter.name && is_before bytes (spot_of exit) r.next) || r.apart) (apart || r.loose)
+        || (if compares c enter.name then level r.child (Some (spot_of enter)) ((compares c enter.name && is_before bytes (spot_of exit) r.next) || r.apart)
+        (apart || r.loose)
         else level r.child r.next ((compares c enter.name && is_before bytes (spot_of exit) r.next) || r.apart) r.loose).apart) (sym (child_is ns))
 
     apart_is : (ns : Nodes) → are_apart bytes child None ns ≡ (after ns).apart
@@ -113,7 +116,8 @@ module _ (bytes : List ℕ) where
   item_level P n.ListItem = refl
   item_level P name = refl
 
-  loose_by : (h : Bool) (at : Spot) (apart : Bool) (r : Level) → (if h then level r.child (Some at) r.apart (apart || r.loose) else r).loose ≡ ((h && apart) || r.loose)
+  loose_by : (h : Bool) (at : Spot) (apart : Bool) (r : Level) → (if h then level r.child (Some at) r.apart (apart || r.loose) else r).loose ≡
+      ((h && apart) || r.loose)
   loose_by true at apart r = refl
   loose_by false at apart r = refl
 
@@ -145,12 +149,14 @@ module _ (bytes : List ℕ) where
       → more_lists name (level_over kids (new_level (compared_in name))) (loose_lists bytes kids ++ lists)
       ≡ (if is_list name then is_loose_list bytes true kids ∷ loose_lists bytes kids else loose_lists bytes kids) ++ lists
   lists_by true name kids lists h =
-      let both = λ (t : Bool). let l = level_over kids (new_level (if t then Some (Only n.ListItem) else (if same_name name n.ListItem then Some Block else None))) in l in
+      let both = λ (t : Bool). let l = level_over kids
+      (new_level (if t then Some (Only n.ListItem) else (if same_name name n.ListItem then Some Block else None))) in l in
       ap (λ (t : Bool). if t then ((both t).apart || (both t).loose) ∷ (loose_lists bytes kids ++ lists) else loose_lists bytes kids ++ lists) h
       ∙ ap (λ (z : Bool). z ∷ (loose_lists bytes kids ++ lists)) (sym (list_is kids))
       ∙ ap (λ (t : Bool). (if t then is_loose_list bytes true kids ∷ loose_lists bytes kids else loose_lists bytes kids) ++ lists) (sym h)
   lists_by false name kids lists h =
-      let both = λ (t : Bool). let l = level_over kids (new_level (if t then Some (Only n.ListItem) else (if same_name name n.ListItem then Some Block else None))) in l in
+      let both = λ (t : Bool). let l = level_over kids
+      (new_level (if t then Some (Only n.ListItem) else (if same_name name n.ListItem then Some Block else None))) in l in
       ap (λ (t : Bool). if t then ((both t).apart || (both t).loose) ∷ (loose_lists bytes kids ++ lists) else loose_lists bytes kids ++ lists) h
       ∙ ap (λ (t : Bool). (if t then is_loose_list bytes true kids ∷ loose_lists bytes kids else loose_lists bytes kids) ++ lists) (sym h)
 

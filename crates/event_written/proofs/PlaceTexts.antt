@@ -1,5 +1,6 @@
 -- Between two places in order, between characters, stands a text.
-use Rattle.std.proofs.Common.{◌≡◌, ◌<◌, ◌≤◌, ℕ, ◌+◌, ◌-◌, ◌==◌, Bool, true, false, ◌&&◌, ◌||◌, if◌then◌else◌, List, [], ◌∷◌, ◌++◌, drop, take, length, get_or, drop-cons, add-one, refl, sym, ap, ◌∙◌, append_assoc, subst, arith, zero-le}
+use Rattle.std.proofs.Common.{◌≡◌, ◌<◌, ◌≤◌, ℕ, ◌+◌, ◌-◌, ◌==◌, Bool, true, false, ◌&&◌, ◌||◌, if◌then◌else◌, List, [], ◌∷◌, ◌++◌, drop, take, length, get_or}
+use Rattle.std.proofs.Common.{drop-cons, add-one, refl, sym, ap, ◌∙◌, subst, arith}
 use Rattle.std.specs.Prelude.{nat_lt, nat_le, slice_index}
 use Rattle.std.specs.Str.{is_utf8}
 use Rattle.std.proofs.lemmas.List.{append-nil}
@@ -9,11 +10,11 @@ use Rattle.engine_events.specs.declared.event.Event.{Event}
 use Rattle.event_grammar.specs.declared.spot.Spot.{Spot}
 use Rattle.event_grammar.specs.Checks.{spot_of}
 use Rattle.event_grammar.specs.InGrammar.{PlacesFit}
-use Rattle.event_grammar.specs.Points.{spot, edge, bytes_between, reaches, is_spot, is_column, column_at}
-use Rattle.event_grammar.specs.Trees.{Node, Nodes, Around, Nil, Cons, events_of}
-use Rattle.event_grammar.proofs.PlaceLaws.{text_more, ascii_byte, reaches_index}
+use Rattle.event_grammar.specs.Points.{edge, bytes_between, reaches, is_spot, is_column, column_at}
+use Rattle.event_grammar.specs.Trees.{Nodes, Around, Nil, Cons, events_of}
+use Rattle.event_grammar.proofs.PlaceLaws.{text_more, ascii_byte}
 use Rattle.event_references.proofs.TextLaw.{split}
-use Rattle.event_written.specs.Texts.{IsTextNode, AreTexts}
+use Rattle.event_written.specs.Texts.{AreTexts}
 
 module _ (bytes : List ℕ) where
   -- the bytes before the edge of a place are a text
@@ -97,9 +98,10 @@ module _ (bytes : List ℕ) where
       let first = edges_reach at e here.0 in
       let last = edges_reach on.at x on.fit.0 in
       let order : edge e ≤ edge x = omega (arith, on.later, last) in
-      let others = texts_over ns x es on.fit.2 in
-      (((between_text e x here.1 on.fit.1 order, inner.0), others.0),
-       record { at = others.1.at; later = omega (arith, first, order, others.1.later); fit = others.1.fit })
+      let others = texts_over ns x es on.fit.2 in (
+        ((between_text e x here.1 on.fit.1 order, inner.0), others.0),
+        record { at = others.1.at; later = omega (arith, first, order, others.1.later); fit = others.1.fit },
+      )
 
   pub texts_law : (ns : Nodes) (at : Spot) → PlacesFit bytes at (events_of ns) → AreTexts bytes ns
   texts_law ns at h = (texts_over ns at [] (subst (PlacesFit bytes at) (sym (append-nil (events_of ns))) h)).0

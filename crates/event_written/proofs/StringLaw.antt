@@ -1,5 +1,6 @@
 -- What a string spells by its events is what its nodes spell.
-use Rattle.std.proofs.Common.{◌≡◌, ℕ, ◌+◌, ◌-◌, ◌==◌, Bool, true, false, ◌||◌, if◌then◌else◌, List, [], ◌∷◌, ◌++◌, drop, Option, None, Some, refl, sym, ap, ◌∙◌, append_assoc, subst}
+use Rattle.std.proofs.Common.{◌≡◌, ℕ, ◌+◌, ◌-◌, ◌==◌, Bool, true, false, ◌||◌, if◌then◌else◌, List, [], ◌∷◌, ◌++◌, drop, Option, None, Some, refl, sym, ap}
+use Rattle.std.proofs.Common.{◌∙◌, append_assoc}
 use Rattle.std.specs.Prelude.{is_some, unwrap_or}
 use Rattle.std.specs.Str.{is_utf8}
 use Rattle.std.proofs.lemmas.Bool.{cond-false}
@@ -12,8 +13,8 @@ use Rattle.engine_events.specs.declared.event.Name.{Name}
 use Rattle.engine_events.specs.declared.event.Name.TheVariants as n
 use Rattle.definition_inline.specs.CharacterReference.{Names, number_of, numbered_text}
 use Rattle.event_grammar.specs.InGrammar.{node_name, kids_of}
-use Rattle.event_grammar.specs.Trees.{Node, Nodes, Around, Nil, Cons, node_events, events_of, IsNode, AreNodes}
-use Rattle.event_meaning.specs.Children.{child, inside_of, text_of, text_or_none, text_in}
+use Rattle.event_grammar.specs.Trees.{Node, Nodes, Around, Nil, Cons, node_events, events_of, AreNodes}
+use Rattle.event_meaning.specs.Children.{child, text_of, text_or_none, text_in}
 use Rattle.event_meaning.specs.Strings.{reference_text_of, string_part, string_of}
 use Rattle.event_references.proofs.TextLaw.{split}
 use Rattle.event_check.proofs.LooseLaw.{nonzero, less}
@@ -22,7 +23,7 @@ use Rattle.event_written.specs.Strings.{valid, is_some_event, value_text, refere
 use Rattle.event_written.specs.Texts.{IsTextNode, AreTexts}
 use Rattle.event_written.specs.Within.{IsEnd, AreWithin, StandsFirst}
 use Rattle.event_written.proofs.ChildLaw.{child_within, inside_law, text_is, text_in_is}
-use Rattle.event_written.proofs.FormedTexts.{valid_is}
+pub use Rattle.event_written.proofs.FormedTexts.{valid_is}
 
 -- ---- texts
 
@@ -36,7 +37,8 @@ module _ (bytes : List ℕ) where
   child_text name Nil h = is_utf8-from_IsUtf8 [] IsUtf8-nil
   child_text name (Cons (Around enter kids exit) ns) h = one (same_name enter.name name) (child_text name ns h.1)
     where
-      one : (b : Bool) → is_utf8 (text_in bytes name ns) ≡ true → is_utf8 (text_or_none bytes (if b then Some (Around enter kids exit) else child name ns)) ≡ true
+      one : (b : Bool) → is_utf8 (text_in bytes name ns) ≡ true → is_utf8 (text_or_none bytes (if b then Some (Around enter kids exit) else child name ns))
+          ≡ true
       one true others = h.0.0
       one false others = others
 

@@ -1,5 +1,6 @@
 -- The parts of a string, event by event.
-use Rattle.std.proofs.Common.{◌≡◌, ◌<◌, ℕ, ◌+◌, ◌-◌, ◌==◌, Bool, true, false, if◌then◌else◌, List, [], ◌∷◌, ◌++◌, refl, sym, ap, ◌∙◌, get_or, append_assoc, drop, length}
+use Rattle.std.proofs.Common.{◌≡◌, ◌<◌, ℕ, ◌+◌, ◌-◌, ◌==◌, Bool, true, false, if◌then◌else◌, List, [], ◌∷◌, ◌++◌, refl, sym, ap, ◌∙◌, get_or, append_assoc}
+use Rattle.std.proofs.Common.{drop, length}
 use Rattle.std.proofs.lemmas.Bool.{eqb-true}
 use Rattle.std.proofs.lemmas.List.{append-nil}
 use Rattle.std.proofs.lemmas.List.Concat.{flat_map-append}
@@ -42,8 +43,10 @@ module _ (names : Names) (bytes : List ℕ) (form : Form) (events : List Event) 
   parts_on i d kind l h =
       let next = drop_next events i l in
       ap (parts_after names bytes d) next
-      ∙ ap (λ (z : Kind). parts_next names bytes z d (part_text names bytes (event_at i).name (event_at i ∷ drop (i + 1) events)) (λ e. parts_after names bytes e (drop (i + 1) events))) h
-      ∙ ap (λ (z : List Event). parts_next names bytes kind d (part_text names bytes (event_at i).name z) (λ e. parts_after names bytes e (drop (i + 1) events))) (sym next)
+      ∙ ap (λ (z : Kind). parts_next names bytes z d (part_text names bytes (event_at i).name (event_at i ∷ drop (i + 1) events))
+      (λ e. parts_after names bytes e (drop (i + 1) events))) h
+      ∙ ap (λ (z : List Event). parts_next names bytes kind d (part_text names bytes (event_at i).name z)
+      (λ e. parts_after names bytes e (drop (i + 1) events))) (sym next)
 
   -- a part begins
   pub part_on : (i d : ℕ) (old new whole : List ℕ) → i < length events → (event_at i).kind ≡ Enter → (d == 0) ≡ true
@@ -65,7 +68,8 @@ module _ (names : Names) (bytes : List ℕ) (form : Form) (events : List Event) 
       → old ++ formed form (parts_after names bytes d (drop i events)) ≡ whole
       → old ++ formed form (parts_after names bytes (d + 1) (drop (i + 1) events)) ≡ whole
   enter_on i d old whole l h z w =
-      ap (λ (t : Bool). old ++ formed form ((if t then part_text names bytes (event_at i).name (drop i events) else []) ++ parts_after names bytes (d + 1) (drop (i + 1) events))) (sym z)
+      ap (λ (t : Bool). old ++ formed form
+      ((if t then part_text names bytes (event_at i).name (drop i events) else []) ++ parts_after names bytes (d + 1) (drop (i + 1) events))) (sym z)
       ∙ ap (λ (x : List ℕ). old ++ formed form x) (sym (parts_on i d Enter l h))
       ∙ w
 

@@ -7,7 +7,7 @@ use Rattle.definition_inline.specs.CharacterReference.{Names}
 use Rattle.event_meaning.specs.Strings.{written_byte, written}
 use Rattle.event_written.specs.Definition.{literal_events, raw_events, title_events, destination_written, title_written}
 use Rattle.event_written.specs.Strings.{parts_after}
-use Rattle.event_written.proofs.Written.{written_codes}
+use Rattle.event_meaning.proofs.Written.{written_codes}
 
 both_codes : (a b : List ℕ) → content_codes (written a ++ written b) ≡ written a ++ written b
 both_codes a b =

@@ -1,5 +1,5 @@
 -- The labels of footnote definitions, by events.
-use Rattle.std.specs.Prelude.{◌≡◌, ℕ, ◌+◌, ◌-◌, ◌==◌, Bool, true, false, ◌&&◌, if◌then◌else◌, List, [], ◌∷◌, ◌++◌, Option, None, Some, drop, length, map, reverse}
+use Rattle.std.specs.Prelude.{◌≡◌, ℕ, ◌+◌, ◌-◌, ◌==◌, Bool, true, false, if◌then◌else◌, List, [], ◌∷◌, ◌++◌, Option, None, Some, drop, length, map, reverse}
 use Rattle.std.specs.Option.{option_map}
 use Rattle.engine_events.specs.Names.{same_name, is_listed}
 use Rattle.engine_events.specs.declared.event.Event.{Event}

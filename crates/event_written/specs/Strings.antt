@@ -38,7 +38,8 @@ module _ (names : Names) (bytes : List ℕ) where
   -- the text of a character reference, by the events after its enter
   abbrev pub reference_text : List Event → List ℕ
   reference_text events =
-      value_text names (is_some_event (from_child n.CharacterReferenceMarkerHexadecimal 0 events)) (is_some_event (from_child n.CharacterReferenceMarkerNumeric 0 events))
+      value_text names (is_some_event (from_child n.CharacterReferenceMarkerHexadecimal 0 events))
+      (is_some_event (from_child n.CharacterReferenceMarkerNumeric 0 events))
       (text_first bytes (from_child n.CharacterReferenceValue 0 events))
 
   -- what a part of a string spells, by its name and the events from its enter on

@@ -1,6 +1,6 @@
 //! Characters by their number (CommonMark 2.5).
 ghost use Rattle.std.specs.Prelude.{◌≡◌, ◌^◌, ◌-◌, min};
-ghost use Rattle.std.specs.Char.{digit_value, encode_utf8};
+ghost use Rattle.std.specs.Char.{digit_value};
 ghost use Rattle.definition_inline.specs.CharacterReference.{character_of, number_of};
 
 use inline_references::character_of;

@@ -3,19 +3,17 @@
 //!     definition  ::= DefinitionLabel DefinitionMarker DefinitionDestination DefinitionTitle?
 //!     label       ::= DefinitionLabelMarker DefinitionLabelString DefinitionLabelMarker
 //!     destination ::= DefinitionDestinationLiteral | DefinitionDestinationRaw
-ghost use Rattle.std.specs.Prelude.{◌≡◌, ℕ, List, [], ◌∷◌, ◌++◌, map, IfOk, OnOk, string_bytes};
+ghost use Rattle.std.specs.Prelude.{◌≡◌, List, [], ◌∷◌, ◌++◌, map, IfOk, OnOk, string_bytes};
 ghost use Rattle.definition_inline.specs.Definition.{Definition};
-ghost use Rattle.definition_inline.specs.Inline.{link_texts};
 ghost use Rattle.engine_events.specs.declared.event.Name.TheVariants as names;
 ghost use Rattle.inline_links.specs.View.{link_texts_view};
-ghost use Rattle.event_grammar.specs.Checks.{spot_of};
 ghost use Rattle.event_grammar.specs.InGrammar.{PlacesFit};
 ghost use Rattle.event_grammar.specs.References.{named};
 ghost use Rattle.event_grammar.specs.Trees.{Nodes, events_of, AreNodes};
 ghost use Rattle.event_grammar.specs.declared.spot.Spot.{Spot};
 ghost use Rattle.event_meaning.specs.Spelled.{definition_of};
 ghost use Rattle.event_written.specs.Definition.{HasDefinitions, definition_after, definitions_in, destination_written, label_string};
-ghost use Rattle.event_written.specs.Definition.{leads, literal_events, raw_events, starts_definition, target_view, title_events, title_written};
+ghost use Rattle.event_written.specs.Definition.{leads, literal_events, raw_events, starts_definition, target_view, title_written};
 
 use crate::child::{child, inside_child};
 use crate::string::push_written;

@@ -1,7 +1,7 @@
 //! Strings: what an info, a destination or a title spells (CommonMark 2.4 and 2.5).
 //!
 //!     string ::= (Data | LineEnding | CharacterEscape | CharacterReference)*
-ghost use Rattle.std.specs.Prelude.{◌≡◌, ◌<◌, ◌++◌, ◌∷◌, [], List, MatchOption, OnOk, OnSome, string_bytes};
+ghost use Rattle.std.specs.Prelude.{◌≡◌, ◌<◌, ◌++◌, ◌∷◌, [], MatchOption, OnOk, OnSome, string_bytes};
 ghost use Rattle.definition_inline.specs.CharacterReference.{number_of, numbered_text};
 ghost use Rattle.event_grammar.specs.Trees.{Nodes};
 ghost use Rattle.event_meaning.specs.Strings.{string_of, written, written_byte};

@@ -1,4 +1,4 @@
-use Rattle.std.proofs.Common.{◌≡◌, ◌∙◌, ◌+◌, ◌++◌, ◌∷◌, [], sym, ap, get_or, subst, List}
+use Rattle.std.proofs.Common.{◌∙◌, ◌+◌, ◌++◌, ◌∷◌, [], sym, subst, List}
 use Rattle.std.proofs.lemmas.List.{take_rest}
 use Rattle.engine_events.specs.declared.event.Event.{Event}
 use Rattle.event_written.specs.Definition.{HasDefinitions, definition_after}

@@ -1,4 +1,4 @@
-use Rattle.std.proofs.Common.{◌≡◌, ◌∙◌, ap, sym, subst, List}
+use Rattle.std.proofs.Common.{◌∙◌, ap, subst, List}
 use Rattle.engine_events.specs.declared.event.Event.{Event}
 use Rattle.event_grammar.specs.InGrammar.{PlacesFit}
 use Rattle.event_written.specs.Definition.{HasDefinitions, definitions_in}

@@ -1,4 +1,4 @@
-use Rattle.std.proofs.Common.{◌≡◌, ◌++◌, ◌∙◌, ap, ap₂, ℕ, List, Some, string_bytes}
+use Rattle.std.proofs.Common.{◌++◌, ◌∙◌, ap, ap₂, ℕ, List, Some, string_bytes}
 use Rattle.definition_inline.specs.Inline.{link_texts}
 use Rattle.event_written.specs.Definition.{destination_written, title_written}
 use Rattle.event_written.proofs.WrittenTargets.{destination_codes, title_codes}

@@ -1,4 +1,4 @@
-use Rattle.std.proofs.Common.{◌≡◌, ◌++◌, ◌∙◌, sym, ap, ℕ, List, string_bytes, arith, get_or, drop}
+use Rattle.std.proofs.Common.{◌++◌, ◌∙◌, ap, List, string_bytes, arith, get_or}
 use Rattle.std.proofs.lemmas.List.{take_rest}
 use Rattle.engine_events.specs.declared.event.Event.{Event}
 use Rattle.event_grammar.proofs.Runs.{no_event}

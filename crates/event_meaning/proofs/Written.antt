@@ -1,5 +1,6 @@
 -- A written string stands for its text (CommonMark 2.4 and 2.5).
-use Rattle.std.proofs.Common.{◌≡◌, ◌<◌, ◌≤◌, ℕ, zero, suc, ◌+◌, ◌-◌, ◌==◌, Bool, true, false, ◌||◌, ◌&&◌, if◌then◌else◌, List, [], ◌∷◌, ◌++◌, length, drop, Option, None, Some, refl, sym, ap, ◌∙◌, subst, arith}
+use Rattle.std.proofs.Common.{◌≡◌, ◌<◌, ◌≤◌, ℕ, ◌+◌, ◌-◌, ◌==◌, Bool, true, false, ◌||◌, ◌&&◌, if◌then◌else◌, List, [], ◌∷◌, ◌++◌, length, drop, Option, None}
+use Rattle.std.proofs.Common.{Some, refl, sym, ap, ◌∙◌, subst, arith}
 use Rattle.std.specs.Prelude.{codes, nat_le}
 use Rattle.std.specs.Char.{is_ascii_punctuation, encode_utf8}
 use Rattle.std.specs.Fmt.{decimal, digits}
@@ -7,12 +8,12 @@ use Rattle.std.specs.List.{flat_map}
 use Rattle.std.proofs.lemmas.Bool.{eqb-true, or_parts}
 use Rattle.markdown_options.specs.Defaults.{default_constructs}
 use Rattle.definition_text.specs.Ascii.{ampersand, backslash, carriage_return}
-use Rattle.definition_text.specs.Columns.{Code, is_white, indent, bare}
+use Rattle.definition_text.specs.Columns.{Code, is_white, indent}
 use Rattle.definition_text.specs.Content.{content_codes, after_return_code, is_eol}
-use Rattle.definition_inline.specs.CharacterReference.{Names, reference_after, reference_of, reference_at, numbered_text}
+use Rattle.definition_inline.specs.CharacterReference.{Names, reference_after, reference_of, reference_at}
 use Rattle.definition_inline.specs.CharacterEscape.{escape_at}
 use Rattle.definition_inline.specs.HardBreak.{line_end_at}
-use Rattle.definition_inline.specs.Inline.{Found, Data, Escape, Character, LineEnd, leaf, or_else}
+use Rattle.definition_inline.specs.Inline.{Found, Escape, LineEnd, leaf, or_else}
 use Rattle.definition_inline.specs.Strings.{begins_with_eol, string_leaf_at, or_byte, string_parts, string_bytes, string_text, spaces_at}
 use Rattle.event_meaning.specs.Strings.{is_told, written_byte, written}
 
@@ -156,7 +157,8 @@ module _ (names : Names) where
 
   plain_text : (b : ℕ) (cs : List Code) → is_told b ≡ false → stands_for (b ∷ cs) ≡ b ∷ stands_for cs
   plain_text b cs h =
-      ap (λ (o : Option Found). flat_map string_bytes ((or_byte b o).parts ++ string_parts default_constructs names ((or_byte b o).size - 1) cs)) (no_leaf b cs h)
+      ap (λ (o : Option Found). flat_map string_bytes ((or_byte b o).parts ++ string_parts default_constructs names ((or_byte b o).size - 1) cs))
+      (no_leaf b cs h)
 
   byte_text : (b : ℕ) (cs : List Code) (t : Bool) → is_told b ≡ t → b < 256 → stands_for (written_byte b ++ cs) ≡ b ∷ stands_for cs
   byte_text b cs true h l = ap (λ (t : Bool). stands_for ((if t then codes "&#" ++ decimal b ++ codes ";" else b ∷ []) ++ cs)) h ∙ told_text b h l cs
