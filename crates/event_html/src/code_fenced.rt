@@ -1,4 +1,7 @@
 //! Fenced code (CommonMark 4.5).
+ghost use Rattle.std.specs.Prelude.{◌≡◌};
+ghost use Rattle.event_html.specs.Views.{kept_of};
+
 use crate::printer::Printer;
 use crate::source::Source;
 use engine_events::event::{Event, Name};
@@ -13,7 +16,9 @@ impl<A: Allocator + Clone> Printer<A> {
         &mut self,
         source: &Source<'_, T, A>,
         inside: &[Event],
-    ) -> Result<(), AllocError> {
+    ) -> Result<(), AllocError>
+        ensures kept { kept_of self.new ≡ kept_of self.old }
+    {
         let fence = kids_in(inside, Name::CodeFencedFence);
         self.page.fresh_tag("<pre><code")?;
         if let Some(info) = child(fence, Name::CodeFencedFenceInfo) {
@@ -28,7 +33,9 @@ impl<A: Allocator + Clone> Printer<A> {
         &mut self,
         source: &Source<'_, T, A>,
         info: &[Event],
-    ) -> Result<(), AllocError> {
+    ) -> Result<(), AllocError>
+        ensures kept { kept_of self.new ≡ kept_of self.old }
+    {
         self.info.clear();
         push_string(&mut self.info, source.bytes(), source.tables, info)?;
         self.page.say(" class=\"language-")?;
@@ -42,7 +49,9 @@ impl<A: Allocator + Clone> Printer<A> {
         source: &Source<'_, T, A>,
         fence: Name,
         inside: &[Event],
-    ) -> Result<(), AllocError> {
+    ) -> Result<(), AllocError>
+        ensures kept { kept_of self.new ≡ kept_of self.old }
+    {
         let after = match child(inside, fence) {
             None => inside,
             Some(opening) => opening.after,
@@ -65,7 +74,9 @@ impl<A: Allocator + Clone> Printer<A> {
         source: &Source<'_, T, A>,
         whole: bool,
         events: &[Event],
-    ) -> Result<(), AllocError> {
+    ) -> Result<(), AllocError>
+        ensures kept { kept_of self.new ≡ kept_of self.old }
+    {
         let printed = self.code(source, true, events)?;
         if !whole && printed.some {
             self.page.eol()?;

@@ -2,6 +2,9 @@
 //!
 //! A row has a cell for each column: those that are missing are empty, and more aren't printed, but
 //! the calls of footnotes in them count.
+ghost use Rattle.std.specs.Prelude.{◌≡◌};
+ghost use Rattle.event_html.specs.Views.{kept_of};
+
 use crate::printer::Printer;
 use crate::source::Source;
 use crate::text::text_within;
@@ -19,15 +22,32 @@ impl<A: Allocator + Clone> Printer<A> {
         source: &Source<'_, T, A>,
         index: usize,
         inside: &[Event],
-    ) -> Result<(), AllocError> {
+    ) -> Result<(), AllocError>
+        ensures kept { kept_of self.new ≡ kept_of self.old }
+    {
         let aligns = gfm_table_align(self.alloc.clone()?, &source.checked, index)?;
         self.page.fresh_tag("<table>")?;
         self.page.fresh()?;
-        if let Some(head) = child(inside, Name::GfmTableHead) {
-            self.table_head(source, &aligns, head.node.inside)?;
-            self.table_body(source, &aligns, head.after)?;
-        }
+        self.table_parts(source, &aligns, inside)?;
         self.page.fresh_tag("</table>")
+    }
+
+    /// Prints the head and the body of a table of these events.
+    fn table_parts<T: Tables>(
+        &mut self,
+        source: &Source<'_, T, A>,
+        aligns: &[AlignKind],
+        inside: &[Event],
+    ) -> Result<(), AllocError>
+        ensures kept { kept_of self.new ≡ kept_of self.old }
+    {
+        match child(inside, Name::GfmTableHead) {
+            None => Ok(()),
+            Some(head) => {
+                self.table_head(source, aligns, head.node.inside)?;
+                self.table_body(source, aligns, head.after)
+            }
+        }
     }
 
     /// Prints the head of these events.
@@ -36,7 +56,9 @@ impl<A: Allocator + Clone> Printer<A> {
         source: &Source<'_, T, A>,
         aligns: &[AlignKind],
         head: &[Event],
-    ) -> Result<(), AllocError> {
+    ) -> Result<(), AllocError>
+        ensures kept { kept_of self.new ≡ kept_of self.old }
+    {
         self.page.say("<thead>")?;
         if let Some(row) = child(head, Name::GfmTableRow) {
             self.table_row(source, CellKind::Head, aligns, row.node.inside)?;
@@ -51,7 +73,9 @@ impl<A: Allocator + Clone> Printer<A> {
         source: &Source<'_, T, A>,
         aligns: &[AlignKind],
         events: &[Event],
-    ) -> Result<(), AllocError> {
+    ) -> Result<(), AllocError>
+        ensures kept { kept_of self.new ≡ kept_of self.old }
+    {
         let body = kids_in(events, Name::GfmTableBody);
         if child(body, Name::GfmTableRow).is_none() {
             return Ok(());
@@ -68,7 +92,9 @@ impl<A: Allocator + Clone> Printer<A> {
         source: &Source<'_, T, A>,
         aligns: &[AlignKind],
         body: &[Event],
-    ) -> Result<(), AllocError> {
+    ) -> Result<(), AllocError>
+        ensures kept { kept_of self.new ≡ kept_of self.old }
+    {
         let mut first = true;
         let mut rest = body;
         while let Some(row) = child(rest, Name::GfmTableRow) {
@@ -89,7 +115,9 @@ impl<A: Allocator + Clone> Printer<A> {
         kind: CellKind,
         aligns: &[AlignKind],
         row: &[Event],
-    ) -> Result<(), AllocError> {
+    ) -> Result<(), AllocError>
+        ensures kept { kept_of self.new ≡ kept_of self.old }
+    {
         self.page.fresh_tag("<tr>")?;
         let mut rest = row;
         for align in aligns {
@@ -106,7 +134,9 @@ impl<A: Allocator + Clone> Printer<A> {
         kind: CellKind,
         align: AlignKind,
         row: &'e [Event],
-    ) -> Result<&'e [Event], AllocError> {
+    ) -> Result<&'e [Event], AllocError>
+        ensures kept { kept_of self.new ≡ kept_of self.old }
+    {
         self.page.fresh_tag(cell_tag(kind, align))?;
         let mut rest: &'e [Event] = &[];
         if let Some(cell) = child(row, Name::GfmTableCell) {
@@ -122,7 +152,9 @@ impl<A: Allocator + Clone> Printer<A> {
         &mut self,
         source: &Source<'_, T, A>,
         row: &[Event],
-    ) -> Result<(), AllocError> {
+    ) -> Result<(), AllocError>
+        ensures kept { kept_of self.new ≡ kept_of self.old }
+    {
         let mut rest = row;
         while let Some(cell) = child(rest, Name::GfmTableCell) {
             self.count_text(source, text_within(cell.node.inside))?;

@@ -1,5 +1,6 @@
 //! ATX headings (CommonMark 4.2).
 ghost use Rattle.std.specs.Prelude.{◌≡◌, ◌≤◌};
+ghost use Rattle.event_html.specs.Views.{kept_of};
 
 use crate::piece::piece_in;
 use crate::printer::Printer;
@@ -15,7 +16,9 @@ impl<A: Allocator + Clone> Printer<A> {
         &mut self,
         source: &Source<'_, T, A>,
         inside: &[Event],
-    ) -> Result<(), AllocError> {
+    ) -> Result<(), AllocError>
+        ensures kept { kept_of self.new ≡ kept_of self.old }
+    {
         let sequence = piece_in(source.bytes(), inside, Name::HeadingAtxSequence);
         self.heading(source, rank_of(sequence.len()), text_within(inside))
     }
@@ -28,6 +31,7 @@ impl<A: Allocator + Clone> Printer<A> {
         text: &[Event],
     ) -> Result<(), AllocError>
         requires { (1 ≤ rank) × (rank ≤ 6) }
+        ensures kept { kept_of self.new ≡ kept_of self.old }
     {
         self.page.fresh()?;
         self.page.heading_tag("<h", rank)?;

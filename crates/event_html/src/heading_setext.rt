@@ -1,5 +1,6 @@
 //! Setext headings (CommonMark 4.3).
 ghost use Rattle.std.specs.Prelude.{◌≡◌, ◌≤◌, ◌==◌, if◌then◌else◌, slice_index};
+ghost use Rattle.event_html.specs.Views.{kept_of};
 
 use crate::piece::piece_in;
 use crate::printer::Printer;
@@ -16,7 +17,9 @@ impl<A: Allocator + Clone> Printer<A> {
         &mut self,
         source: &Source<'_, T, A>,
         inside: &[Event],
-    ) -> Result<(), AllocError> {
+    ) -> Result<(), AllocError>
+        ensures kept { kept_of self.new ≡ kept_of self.old }
+    {
         let underline = kids_in(inside, Name::HeadingSetextUnderline);
         let line = piece_in(
             source.bytes(),

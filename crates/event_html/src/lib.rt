@@ -20,6 +20,7 @@ pub mod printer;
 pub mod raw;
 pub mod source;
 pub mod text;
+pub mod thematic_break;
 pub mod to_html;
 
 pub use to_html::compile;

@@ -1,4 +1,9 @@
 //! Line endings (CommonMark 2.1).
+ghost use Rattle.std.specs.Prelude.{◌≡◌, if◌then◌else◌, [], ◌∷◌, OnOk};
+ghost use Rattle.markdown_options.specs.declared.configuration.CompileOptions.{CompileOptions};
+ghost use Rattle.definition_page.specs.GfmTable.{endings_pieces};
+ghost use Rattle.event_html.specs.Views.{kept_of, Prints};
+
 use crate::piece::piece_of;
 use crate::printer::Printer;
 use crate::source::Source;
@@ -28,7 +33,11 @@ fn ending_of_bytes(bytes: &[u8]) -> LineEnding {
 
 impl<A: Allocator + Clone> Printer<A> {
     /// Prints an ending between blocks, unless it follows what says nothing.
-    pub(crate) fn line_ending(&mut self, ending: LineEnding) -> Result<(), AllocError> {
+    pub(crate) fn line_ending(&mut self, ending: LineEnding) -> Result<(), AllocError>
+        ensures kept { kept_of self.new ≡ kept_of self.old }
+        ensures printed { (options : CompileOptions) →
+            OnOk result (Prints options self.old self.new (if self.old.level.silent then [] else endings_pieces (ending ∷ []))) }
+    {
         if self.level.silent {
             return Ok(());
         }
@@ -40,7 +49,9 @@ impl<A: Allocator + Clone> Printer<A> {
         &mut self,
         source: &Source<'_, T, A>,
         events: &[Event],
-    ) -> Result<(), AllocError> {
+    ) -> Result<(), AllocError>
+        ensures kept { kept_of self.new ≡ kept_of self.old }
+    {
         let mut rest = events;
         while let Some((node, after)) = first_node(rest) {
             if node.name == Name::LineEnding {

@@ -1,4 +1,7 @@
 //! Paragraphs (CommonMark 4.8).
+ghost use Rattle.std.specs.Prelude.{◌≡◌};
+ghost use Rattle.event_html.specs.Views.{kept_of};
+
 use crate::printer::Printer;
 use crate::source::Source;
 use engine_events::event::Event;
@@ -11,7 +14,9 @@ impl<A: Allocator + Clone> Printer<A> {
         &mut self,
         source: &Source<'_, T, A>,
         inside: &[Event],
-    ) -> Result<(), AllocError> {
+    ) -> Result<(), AllocError>
+        ensures kept { kept_of self.new ≡ kept_of self.old }
+    {
         if self.level.tight {
             return self.text(source, false, inside);
         }

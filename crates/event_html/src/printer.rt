@@ -1,4 +1,7 @@
 //! Events to HTML.
+ghost use Rattle.std.specs.Prelude.{◌≡◌};
+ghost use Rattle.event_html.specs.Views.{kept_of};
+
 use crate::line_ending::ending_of;
 use crate::source::Source;
 use engine_events::event::{Event, Kind, Name};
@@ -122,14 +125,16 @@ impl<A: Allocator + Clone> Printer<A> {
         kind: BlockKind,
         index: usize,
         node: &Node<'_>,
-    ) -> Result<(), AllocError> {
+    ) -> Result<(), AllocError>
+        ensures kept { kept_of self.new ≡ kept_of self.old }
+    {
         let inside = node.inside;
         match kind {
             BlockKind::Ending => self.line_ending(ending_of(source.bytes(), node)),
             BlockKind::Paragraph => self.paragraph(source, inside),
             BlockKind::HeadingAtx => self.heading_atx(source, inside),
             BlockKind::HeadingSetext => self.heading_setext(source, inside),
-            BlockKind::ThematicBreak => self.page.thematic_break(),
+            BlockKind::ThematicBreak => self.thematic_break(),
             BlockKind::CodeIndented => self.code_indented(source, inside),
             BlockKind::CodeFenced => self.code_fenced(source, inside),
             BlockKind::MathFlow => self.math_flow(source, inside),

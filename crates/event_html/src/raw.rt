@@ -1,4 +1,7 @@
 //! Raw blocks: the chunks and endings of code, math and HTML (CommonMark 4.4 to 4.6).
+ghost use Rattle.std.specs.Prelude.{◌≡◌};
+ghost use Rattle.event_html.specs.Views.{kept_of};
+
 use crate::line_ending::ending_of;
 use crate::piece::{piece_of, text_of};
 use crate::printer::Printer;
@@ -42,7 +45,9 @@ impl<A: Allocator + Clone> Printer<A> {
         source: &Source<'_, T, A>,
         after_fence: bool,
         events: &[Event],
-    ) -> Result<Printed, AllocError> {
+    ) -> Result<Printed, AllocError>
+        ensures kept { kept_of self.new ≡ kept_of self.old }
+    {
         let mut printed = Printed {
             some: false,
             line: false,
@@ -72,7 +77,9 @@ impl<A: Allocator + Clone> Printer<A> {
         &mut self,
         source: &Source<'_, T, A>,
         events: &[Event],
-    ) -> Result<(), AllocError> {
+    ) -> Result<(), AllocError>
+        ensures kept { kept_of self.new ≡ kept_of self.old }
+    {
         let mut rest = events;
         while let Some((node, after)) = first_node(rest) {
             let part = self.raw_part(source, &node);
@@ -83,7 +90,9 @@ impl<A: Allocator + Clone> Printer<A> {
     }
 
     /// What an event of a raw block is.
-    fn raw_part<'t, T>(&mut self, source: &Source<'t, T, A>, node: &Node<'_>) -> RawPart<'t> {
+    fn raw_part<'t, T>(&mut self, source: &Source<'t, T, A>, node: &Node<'_>) -> RawPart<'t>
+        ensures kept { kept_of self.new ≡ kept_of self.old }
+    {
         if node.name == Name::LineEnding {
             RawPart::Ending(ending_of(source.bytes(), node))
         } else if node.name == Name::CodeFlowChunk || node.name == Name::MathFlowChunk {
@@ -100,7 +109,9 @@ impl<A: Allocator + Clone> Printer<A> {
     }
 
     /// A chunk with spaces for the columns of tabs that its ends cut.
-    fn chunk<'t, T>(&mut self, source: &Source<'t, T, A>, node: &Node<'_>) -> RawPart<'t> {
+    fn chunk<'t, T>(&mut self, source: &Source<'t, T, A>, node: &Node<'_>) -> RawPart<'t>
+        ensures kept { kept_of self.new ≡ kept_of self.old }
+    {
         if node.start.vs != 0 && node.start.index == node.end.index {
             return RawPart::Chunk {
                 before: node.end.vs.saturating_sub(node.start.vs),
@@ -116,7 +127,9 @@ impl<A: Allocator + Clone> Printer<A> {
     }
 
     /// Prints a piece of code.
-    fn code_part(&mut self, part: RawPart<'_>) -> Result<(), AllocError> {
+    fn code_part(&mut self, part: RawPart<'_>) -> Result<(), AllocError>
+        ensures kept { kept_of self.new ≡ kept_of self.old }
+    {
         match part {
             RawPart::Chunk {
                 before,
@@ -133,7 +146,9 @@ impl<A: Allocator + Clone> Printer<A> {
     }
 
     /// Prints a piece of HTML.
-    fn html_part(&mut self, options: &CompileOptions, part: RawPart<'_>) -> Result<(), AllocError> {
+    fn html_part(&mut self, options: &CompileOptions, part: RawPart<'_>) -> Result<(), AllocError>
+        ensures kept { kept_of self.new ≡ kept_of self.old }
+    {
         match part {
             RawPart::Chunk { text, .. } => push_html(&mut self.page.out.html, options, text),
             RawPart::Ending(ending) => self.page.push_ending(Some(ending)),
@@ -142,7 +157,9 @@ impl<A: Allocator + Clone> Printer<A> {
     }
 
     /// Prints a space for each of some columns.
-    fn push_spaces(&mut self, count: u8) -> Result<(), AllocError> {
+    fn push_spaces(&mut self, count: u8) -> Result<(), AllocError>
+        ensures kept { kept_of self.new ≡ kept_of self.old }
+    {
         push_columns(&mut self.page.out.html, count)
     }
 }

@@ -1,4 +1,7 @@
 //! Texts: the inline structure of paragraphs, headings and cells (CommonMark 6).
+ghost use Rattle.std.specs.Prelude.{◌≡◌};
+ghost use Rattle.event_html.specs.Views.{kept_of};
+
 use crate::printer::Printer;
 use crate::source::Source;
 use engine_events::event::{Event, Name};
@@ -43,7 +46,9 @@ impl<A: Allocator + Clone> Printer<A> {
         source: &Source<'_, T, A>,
         cell: bool,
         events: &[Event],
-    ) -> Result<(), AllocError> {
+    ) -> Result<(), AllocError>
+        ensures kept { kept_of self.new ≡ kept_of self.old }
+    {
         let texts = source.texts();
         let strings = SpelledStrings::read(self.alloc.clone()?, &texts, &mut self.columns, events)?;
         let rows = text_rows(self.alloc.clone()?, &texts, &strings, events)?;
@@ -61,7 +66,9 @@ impl<A: Allocator + Clone> Printer<A> {
         &mut self,
         source: &Source<'_, T, A>,
         events: &[Event],
-    ) -> Result<(), AllocError> {
+    ) -> Result<(), AllocError>
+        ensures kept { kept_of self.new ≡ kept_of self.old }
+    {
         let texts = source.texts();
         let strings = SpelledStrings::read(self.alloc.clone()?, &texts, &mut self.columns, events)?;
         let rows = text_rows(self.alloc.clone()?, &texts, &strings, events)?;

@@ -1,5 +1,6 @@
 -- The events of nodes before the exit around them.
-use Rattle.std.proofs.Common.{◌≡◌, ℕ, Bool, true, false, suc, ◌+◌, ◌-◌, ◌==◌, if◌then◌else◌, List, [], ◌∷◌, ◌++◌, length, take, drop, refl, sym, ap, ◌∙◌, append_assoc, zero-add, arith}
+use Rattle.std.proofs.Common.{◌≡◌, ℕ, Bool, true, false, suc, ◌+◌, ◌-◌, ◌==◌, List, [], ◌∷◌, ◌++◌, length, take, drop}
+use Rattle.std.proofs.Common.{refl, sym, ap, ◌∙◌, append_assoc, zero-add, arith}
 use Rattle.std.proofs.lemmas.Bool.{eqb-true, cond-false}
 use Rattle.std.proofs.lemmas.List.{length-append}
 use Rattle.std.proofs.Math.Seq.{take-append_seam, drop-append_seam}
@@ -40,7 +41,8 @@ added a b c = omega arith
 size : (kids : Nodes) (exit : Event) (ns : Nodes) (enter : Event)
     → length (events_of (Cons (Around enter kids exit) ns)) ≡ suc ((length (events_of kids) + 1) + length (events_of ns))
 size kids exit ns enter =
-    ap suc (length-append (events_of kids ++ exit ∷ []) (events_of ns) ∙ ap (λ (z : ℕ). z + length (events_of ns)) (length-append (events_of kids) (exit ∷ [])))
+    ap suc (length-append (events_of kids ++ exit ∷ []) (events_of ns)
+    ∙ ap (λ (z : ℕ). z + length (events_of ns)) (length-append (events_of kids) (exit ∷ [])))
 
 deep : (ns : Nodes) → AreNodes ns → (d : ℕ) (es : List Event) → size_inside d (events_of ns ++ es) ≡ length (events_of ns) + size_inside d es
 deep Nil k d es = sym (zero-add (size_inside d es))
