@@ -42,6 +42,7 @@ pub mod gfm_autolink_literal {
         protocol_start, trail, trail_bracket_after, trail_char_ref_inside, trail_char_ref_start,
         www_after, www_prefix_after, www_prefix_inside, www_start,
     };
+    pub use state_resolvers::resolving::link_text as resolve;
 }
 
 /// Ends of links, images and footnote calls (CommonMark 6.3, 6.4).
@@ -66,6 +67,11 @@ pub mod partial_data {
     pub use state_resolvers::resolving::resolve_data as resolve;
 }
 
+/// White space at the ends of lines (CommonMark 4.8, 6.7).
+pub mod partial_whitespace {
+    pub use state_resolvers::resolving::resolve_whitespace;
+}
+
 /// Strings: of titles, destinations, labels, infos.
 pub mod string {
     pub use state_inline::string::{before, before_data, start};
@@ -74,6 +80,7 @@ pub mod string {
 
 /// Texts: of paragraphs, headings, cells, labels and what is emphasized.
 pub mod text {
+    pub use state_inline::inlines::start_text as start;
     pub use state_inline::text::{
         before, before_data, before_hard_break_escape, before_html, before_label_start_link,
     };

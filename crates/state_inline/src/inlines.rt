@@ -28,7 +28,7 @@ pub struct Inlines<'s> {
 }
 
 /// At the start of a text.
-fn start_text<'s, T, A: Allocator>(tokenizer: &mut Tokenizer<'_, Inlines<'s>, T, A>) -> State
+pub fn start_text<'s, T, A: Allocator>(tokenizer: &mut Tokenizer<'_, Inlines<'s>, T, A>) -> State
     ensures { Does text_start tokenizer.old tokenizer.new result }
 {
     if !tokenizer.machine.starts.contains(&tokenizer.point.index) {

@@ -1,5 +1,5 @@
 -- What the resolvers of texts and strings do: each makes its edits, if these leave whole events.
-use Rattle.std.specs.Prelude.{◌≡◌, ℕ, Bool, true, false, if◌then◌else◌, length}
+use Rattle.std.specs.Prelude.{◌≡◌, ℕ, Bool, true, false, if◌then◌else◌, List, length}
 use Rattle.engine_chunks.specs.Joins.{link_all}
 use Rattle.engine_events.specs.declared.resolve.Name.{Name as Resolver}
 use Rattle.engine_events.specs.declared.resolve.Name.TheVariants as resolvers
@@ -28,6 +28,10 @@ module _ {M : Type 0} where
   abbrev pub name_spans : Config M → Config M
   name_spans c = with_edited_events (span_edits c.events (length c.events)) c
 
+  -- lines of data lose white space at their ends, and with `whole` the data does, too; with `hard` two spaces before a line ending break the line
+  abbrev pub resolve_whitespace : Bool → Bool → List ℕ → Config M → Config M
+  resolve_whitespace hard whole bytes c = with_edited_events (white_edits whole hard bytes c.events (length c.events)) c
+
   -- each chunk that is named as the one before another names that as the one after it
   abbrev pub join_chunks : Config M → Config M
   join_chunks c = record c { events = link_all c.events }
@@ -46,7 +50,7 @@ module _ {T M : Type 0} (is_punctuation : ℕ → Bool) (x : Context T) where
 
   -- texts lose white space at their ends, too
   abbrev pub trim_text : Config M → Config M
-  trim_text c = with_edited_events (white_edits true x.options.constructs.hard_break_trailing x.bytes c.events (length c.events)) c
+  trim_text c = resolve_whitespace x.options.constructs.hard_break_trailing true x.bytes c
 
   -- where literals are on, email addresses are found
   abbrev pub link_text : Config M → Config M
@@ -57,7 +61,7 @@ module _ {T M : Type 0} (is_punctuation : ℕ → Bool) (x : Context T) where
 
   -- strings lose white space at the ends of their lines
   abbrev pub trim_string : Config M → Config M
-  trim_string c = with_edited_events (white_edits false false x.bytes c.events (length c.events)) c
+  trim_string c = resolve_whitespace false false x.bytes c
 
   abbrev pub resolve_string : Config M → Config M
   resolve_string c = join_chunks (trim_string c)

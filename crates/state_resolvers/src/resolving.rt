@@ -3,7 +3,7 @@ ghost use Rattle.std.specs.Prelude.{◌≡◌, OnOk, IfErr};
 ghost use Rattle.markdown_options.specs.Messages.{IsOutOfMemory};
 ghost use Rattle.markdown_engine.specs.Machine.{config, read_with, KeepsParseState};
 ghost use Rattle.state_resolvers.specs.Resolving.{HasEdited, inline_resolved, join_chunks, link_text, name_emails, name_spans, name_text};
-ghost use Rattle.state_resolvers.specs.Resolving.{resolve_attention, resolve_data, resolve_label, resolve_string, resolve_text};
+ghost use Rattle.state_resolvers.specs.Resolving.{resolve_attention, resolve_data, resolve_label, resolve_string, resolve_text, resolve_whitespace};
 ghost use Rattle.state_resolvers.specs.Resolving.{trim_string, trim_text};
 
 use crate::edited_events::make;
@@ -97,6 +97,28 @@ fn name_text<M, T: Tables, A: Allocator + Clone>(
     name_spans(tokenizer)
 }
 
+/// Cuts white space off the ends of the lines of data, and with `trim_whole` off its ends, too. With
+/// `hard_break` two spaces or more before a line ending are a hard break (CommonMark 6.7).
+pub fn resolve_whitespace<M, T, A: Allocator + Clone>(
+    tokenizer: &mut Tokenizer<'_, M, T, A>,
+    hard_break: bool,
+    trim_whole: bool,
+) -> Result<(), Message>
+    ensures became { OnOk result (config tokenizer.new
+        ≡ resolve_whitespace hard_break trim_whole (read_with tokenizer.old).bytes (config tokenizer.old)) }
+    ensures parse_state { KeepsParseState tokenizer.old tokenizer.new }
+    ensures memory { IfErr result IsOutOfMemory }
+{
+    let trimming = Trimming {
+        in_text: trim_whole,
+        hard: hard_break,
+        bytes: tokenizer.parse_state.bytes,
+    };
+    let alloc = tokenizer.events.allocator().clone()?;
+    let edits = white_edits(alloc, &trimming, &tokenizer.events)?;
+    make(tokenizer, edits)
+}
+
 /// Cuts white space off the ends of a text, and of its lines.
 fn trim_text<M, T: Tables, A: Allocator + Clone>(
     tokenizer: &mut Tokenizer<'_, M, T, A>,
@@ -105,18 +127,12 @@ fn trim_text<M, T: Tables, A: Allocator + Clone>(
     ensures parse_state { KeepsParseState tokenizer.old tokenizer.new }
     ensures memory { IfErr result IsOutOfMemory }
 {
-    let trimming = Trimming {
-        in_text: true,
-        hard: tokenizer.parse_state.options.constructs.hard_break_trailing,
-        bytes: tokenizer.parse_state.bytes,
-    };
-    let alloc = tokenizer.events.allocator().clone()?;
-    let edits = white_edits(alloc, &trimming, &tokenizer.events)?;
-    make(tokenizer, edits)
+    let hard = tokenizer.parse_state.options.constructs.hard_break_trailing;
+    resolve_whitespace(tokenizer, hard, true)
 }
 
-/// Puts email addresses in place of data, where literals are on.
-fn link_text<M, T: Tables, A: Allocator + Clone>(
+/// Puts email addresses in place of data, where literals are on (GFM 6.9).
+pub fn link_text<M, T: Tables, A: Allocator + Clone>(
     tokenizer: &mut Tokenizer<'_, M, T, A>,
 ) -> Result<(), Message>
     ensures became { OnOk result (HasEdited T.punctuation_of link_text tokenizer.old tokenizer.new) }
@@ -168,14 +184,7 @@ fn trim_string<M, T: Tables, A: Allocator + Clone>(
     ensures parse_state { KeepsParseState tokenizer.old tokenizer.new }
     ensures memory { IfErr result IsOutOfMemory }
 {
-    let trimming = Trimming {
-        in_text: false,
-        hard: false,
-        bytes: tokenizer.parse_state.bytes,
-    };
-    let alloc = tokenizer.events.allocator().clone()?;
-    let edits = white_edits(alloc, &trimming, &tokenizer.events)?;
-    make(tokenizer, edits)
+    resolve_whitespace(tokenizer, false, false)
 }
 
 /// Cuts white space off the ends of the lines of a string, and joins chunks.
