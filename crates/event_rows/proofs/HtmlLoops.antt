@@ -35,9 +35,9 @@ module _ (bytes : List ℕ) (events : List Event) where
       let next = drop_next events i l in
       ap (html_after bytes d) next
       ∙ ap (λ (z : Kind). html_next z d (html_part_rows (event_at i).name (text_first bytes (event_at i ∷ drop (i + 1) events)))
-        (λ e. html_after bytes e (drop (i + 1) events))) h
+      (λ e. html_after bytes e (drop (i + 1) events))) h
       ∙ ap (λ (z : List Event). html_next kind d (html_part_rows (event_at i).name (text_first bytes z))
-        (λ e. html_after bytes e (drop (i + 1) events))) (sym next)
+      (λ e. html_after bytes e (drop (i + 1) events))) (sym next)
 
   -- a part begins
   pub part_on : (i d : ℕ) (old new whole : List InlineRow) → i < length events → (event_at i).kind ≡ Enter → (d == 0) ≡ true

@@ -83,7 +83,7 @@ module _ (names : Names) (bytes : List ℕ) (kids : Nodes) (es : List Event) (w 
       else (if has n.CharacterReferenceMarkerNumeric es then numbered_text (number_of 10 (text_in bytes n.CharacterReferenceValue kids))
       else unwrap_or (names (text_in bytes n.CharacterReferenceValue kids)) [])) (has_is n.CharacterReferenceMarkerHexadecimal)
       ∙ ap (λ (z : Bool). if is_some (child n.CharacterReferenceMarkerHexadecimal kids) then numbered_text
-        (number_of 16 (text_in bytes n.CharacterReferenceValue kids))
+      (number_of 16 (text_in bytes n.CharacterReferenceValue kids))
       else (if z then numbered_text (number_of 10 (text_in bytes n.CharacterReferenceValue kids))
       else unwrap_or (names (text_in bytes n.CharacterReferenceValue kids)) [])) (has_is n.CharacterReferenceMarkerNumeric)
 
@@ -220,7 +220,7 @@ module _ (names : Names) (bytes : List ℕ) where
     raw_skips begun kids k exit rest x =
         passes (raw_after bytes sequence begun) (raw_over begun) kids k 0 (exit ∷ rest)
         ∙ ap (λ (z : Kind). raw_next z (same_name exit.name sequence) begun 1 (raw_part_first bytes exit.name (exit ∷ rest))
-          (λ b q. raw_after bytes sequence b q rest)) x
+        (λ b q. raw_after bytes sequence b q rest)) x
 
     -- up to the second sequence
     raw_before : (ns : Nodes) → AreNodes ns → AreTexts bytes ns → (exit : Event) (es : List Event) → exit.kind ≡ Exit

@@ -197,7 +197,7 @@ module _ (names : Names) (bytes : List ℕ) (leads : Target → LinkTexts) (in_l
             ∙ ap (λ (z : List InlineRow). rows (text_within names bytes (linked k) kids) ++ z)
             (exits names bytes leads in_link (place Behind 0 k) y (events_of ns ++ exit ∷ es) m.0.1
             ∙ ap (λ (z : Bool). (if z then [] else Leave ∷ []) ++ walk (if z then place Behind 0 k else place Text 0 (links_after y.name k))
-              (events_of ns ++ exit ∷ es))
+            (events_of ns ++ exit ∷ es))
             (ap (λ (z : Name). same_name z n.Label) m.0.2 ∙ e)
             ∙ last)
         by_name false false e last texts inside others =

@@ -73,7 +73,7 @@ module _ (name : Name) where
       by_media false l inside =
           own_enter (c + 1) enter (events_of kids ++ exit ∷ (events_of ns ++ es)) false k.0.0 l
           ∙ ap (λ (z : Bool). if z then enter ∷ (events_of kids ++ exit ∷ (events_of ns ++ es)) else own_from name (c + 1)
-            (events_of kids ++ exit ∷ (events_of ns ++ es)))
+          (events_of kids ++ exit ∷ (events_of ns ++ es)))
           (and_no (same_name enter.name name) ((c + 1) == 0) (nonzero c))
           ∙ inside c (exit ∷ (events_of ns ++ es))
           ∙ own_exit (c + 1) exit (events_of ns ++ es) false k.0.1 (listed_as enter exit false k.0.2 l)
@@ -220,7 +220,7 @@ module _ (names : Names) (bytes : List ℕ) where
         ap (λ (z : Bool). if z then Resource (written (string_first names bytes (own_from n.ResourceDestinationString 0 events)))
         (Some (written (string_first names bytes (own_from n.ResourceTitleString 0 events)))) else Reference (label_by names bytes events)) has_resource
         ∙ ap (λ (z : List ℕ). if is_some (own n.Resource kids) then Resource z
-          (Some (written (string_first names bytes (own_from n.ResourceTitleString 0 events))))
+        (Some (written (string_first names bytes (own_from n.ResourceTitleString 0 events))))
         else Reference (label_by names bytes events)) (written_is n.ResourceDestinationString t)
         ∙ ap (λ (z : List ℕ). if is_some (own n.Resource kids) then Resource (written_string names bytes (own n.ResourceDestinationString kids)) (Some z)
         else Reference (label_by names bytes events)) (written_is n.ResourceTitleString t)
