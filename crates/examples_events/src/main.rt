@@ -1,6 +1,8 @@
 //! Prints a text as HTML without its images, and with each ATX heading one rank lower.
 #![tactic(auto)]
 
+ghost use Rattle.std.specs.Prelude.{◌≤◌, IfOk, length};
+
 use engine_events::event::{Event, Kind, Name};
 use engine_events::place::Point;
 use event_parser::{SIZE_MAX, parse};
@@ -66,10 +68,9 @@ fn lowered(alloc: Global, events: &[Event]) -> Result<Vec<Event>, AllocError> {
 
 /// Adds the sequence that these events begin with, one byte longer, and the space after it, one byte
 /// shorter. Returns the events after these. Adds nothing where there is no such space.
-fn push_lower<'e>(
-    changed: &mut Vec<Event>,
-    events: &'e [Event],
-) -> Result<&'e [Event], AllocError> {
+fn push_lower<'e>(changed: &mut Vec<Event>, events: &'e [Event]) -> Result<&'e [Event], AllocError>
+    ensures { IfOk result (λ rest. length rest.now ≤ length events.now) }
+{
     let [enter, exit, space, end, rest @ ..] = events else {
         return Ok(events);
     };
