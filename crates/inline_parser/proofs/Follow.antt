@@ -44,11 +44,13 @@ use Rattle.inline_label_ends.specs.declared.gfm_label_start_footnote.LabelForm.{
 use Rattle.inline_label_ends.specs.declared.gfm_label_start_footnote.LabelForm.TheVariants.{Leads, Calls}
 use Rattle.inline_label_ends.specs.Ends.{IsAfterEnd, IsAfterFormed, IsEnd, IsFormed}
 use Rattle.inline_label_ends.proofs.Rests.{after_same}
-use Rattle.inline_parser.specs.declared.label.LabelStart.{LabelStart}
-use Rattle.inline_parser.specs.declared.label.LabelStart.TheVariants as start
+use Rattle.inline_reading.specs.declared.label.LabelStart.{LabelStart}
+use Rattle.inline_reading.specs.declared.label.LabelStart.TheVariants as start
 use Rattle.inline_text.specs.Plain.{begins_more, is_text_at}
-use Rattle.inline_parser.specs.Scanned.{context_by, ended_here, IsPlace, IsRunFront, IsSingle, StartsLabel}
-use Rattle.inline_parser.specs.Shows.{start_view, with_open_label, unformed_in, formed_in}
+use Rattle.inline_parser.specs.Scanned.{context_by, IsPlace, IsRunFront, IsSingle}
+use Rattle.inline_reading.specs.Shows.{ended_here}
+use Rattle.inline_reading.specs.LabelStarts.{StartsLabel}
+use Rattle.inline_reading.specs.Shows.{start_view, with_open_label, unformed_in, formed_in}
 use Rattle.inline_parser.proofs.Views.{IsNext, after_next, next_place, codes_left, view_next}
 use Rattle.inline_parser.proofs.Goes as goes
 use Rattle.inline_text.proofs.Texts as texts

@@ -12,9 +12,9 @@ use Rattle.definition_inline.specs.Scan.{label_end_step, ended_step, and_then, s
 use Rattle.definition_inline.proofs.Scanning.{scan_skipped, scan_step, step_leaf, step_run, step_start, step_last}
 use Rattle.definition_inline.proofs.InlineSizes.{here_fits}
 use Rattle.inline_leaves.specs.Leaves.{leaf_items, text_items}
-use Rattle.inline_parser.specs.Shows.{unformed_in, formed_in}
+use Rattle.inline_reading.specs.Shows.{unformed_in, formed_in}
 use Rattle.inline_text.proofs.Texts.{other_step}
-use Rattle.inline_parser.specs.Scanned.{ended_here}
+use Rattle.inline_reading.specs.Shows.{ended_here}
 
 is_there : {A : Type 0} → Option A → Bool
 is_there None = false

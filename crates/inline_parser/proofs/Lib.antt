@@ -1,11 +1,6 @@
-pub mod Readings
-pub mod Sound
-pub mod Formed
-pub mod Changes
 pub mod Goes
 pub mod Views
 pub mod Follow
 pub mod Whole
 pub mod Placed
-pub mod Ended
 pub mod PlainText

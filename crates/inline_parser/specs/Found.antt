@@ -3,8 +3,8 @@ use Rattle.std.specs.Prelude.{◌==◌, ◌&&◌, ℕ, Bool, not, List, [], ◌�
 use Rattle.definition_text.specs.Columns.{is_blank}
 use Rattle.inline_rows.specs.declared.row.InlineRow.{InlineRow}
 use Rattle.inline_text.specs.declared.plain.Front.{Front}
-use Rattle.inline_parser.specs.declared.room.FoundRows.{FoundRows}
-use Rattle.inline_parser.specs.declared.room.FoundRows.TheVariants.{Alone, InRoom, InList}
+use Rattle.inline_parser.specs.declared.found.FoundRows.{FoundRows}
+use Rattle.inline_parser.specs.declared.found.FoundRows.TheVariants.{Alone, InRoom, InList}
 
 abbrev pub found_rows : {A : Type 0} → FoundRows A → List InlineRow
 found_rows (Alone row) = row ∷ []

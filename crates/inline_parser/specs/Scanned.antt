@@ -1,16 +1,14 @@
 -- A content that is being read, as the definition reads it.
-use Rattle.std.specs.Prelude.{◌≡◌, ◌<◌, ◌≤◌, ◌==◌, ◌&&◌, ℕ, Bool, false, not, List, [], ◌∷◌, OnOk, Result, Option, None, drop, take, length, slice_index}
-use Rattle.std.specs.List.{list_all}
+use Rattle.std.specs.Prelude.{◌≡◌, ◌<◌, ◌≤◌, ℕ, Bool, false, List, [], ◌∷◌, OnOk, Result, Option, None, drop, take, length, slice_index}
 use Rattle.std.specs.Str.{IsCharBoundary}
 use Rattle.markdown_options.specs.declared.configuration.ParseOptions.{ParseOptions}
 use Rattle.markdown_options.specs.declared.tables.Tables as tables
 use Rattle.definition_text.specs.Ascii.{carriage_return}
-use Rattle.definition_text.specs.Content.{content_codes, return_and_feed}
+use Rattle.definition_text.specs.Content.{content_codes}
 use Rattle.definition_inline.specs.Targets.{leads_to}
 use Rattle.definition_inline.specs.Attention.{run_at}
 use Rattle.definition_inline.specs.Scan as scan
-use Rattle.definition_inline.specs.LabelEnd.{LinkOrCall}
-use Rattle.definition_inline.specs.Scan.{InlineContext, ended_by, leaf_here, start_bytes}
+use Rattle.definition_inline.specs.Scan.{InlineContext, leaf_here}
 use Rattle.definition_inline.specs.Targets.{Targets, is_label_of, is_footnote_of, labels_of, linked_at, linked_by}
 use Rattle.inline_content.specs.declared.content.Content.{Content}
 use Rattle.inline_content.specs.View.{view_at}
@@ -21,19 +19,14 @@ use Rattle.inline_labels.specs.Table.{HasLabels}
 use Rattle.inline_links.specs.Codes.{IsRest}
 use Rattle.inline_literals.specs.Literals.{KnowsNames}
 use Rattle.inline_runs.specs.declared.run.Run.{Run}
-use Rattle.inline_parser.specs.declared.label.LabelStart.{LabelStart}
 use Rattle.inline_parser.specs.declared.scan.Scanner.{Scanner}
 use Rattle.inline_parser.specs.declared.scan.Source.{Source}
-use Rattle.inline_parser.specs.Shows.{Shows, IsSound, StartsBefore, start_view}
+use Rattle.inline_reading.specs.Shows.{Shows, IsSound, StartsBefore}
 
 -- tables with the labels of link reference definitions and of footnote definitions
 pub record HasTargets {A : Type 0} (labels footnotes : LabelTable A) (ds : Targets) : Type 0 where
   pub defined : HasLabels labels (labels_of ds.definitions)
   pub noted : HasLabels footnotes ds.footnotes
-
--- none of these bytes is CR, and none the code of a line ending of two
-abbrev pub has_no_return : List ℕ → Bool
-has_no_return bytes = list_all (λ b. not (b == carriage_return) && not (b == return_and_feed)) bytes
 
 -- the context of a document whose labels lead to these targets
 abbrev pub context_by : ParseOptions → (List ℕ → Option (List ℕ)) → Targets → InlineContext
@@ -64,11 +57,6 @@ pub record IsPlaced {A : Type 0} (is_punctuation : ℕ → Bool) (content : Cont
 abbrev pub IsPlacedBy : {T A : Type 0} → tables.Ghosts T → Source T A → Scanner A → Type 0
 IsPlacedBy g source s = IsPlaced (g.punctuation_of source.tables.now) source.content s
 
--- what a `]` forms with the innermost label start that is open, if there is one
-abbrev pub ended_here : InlineContext → List ℕ → List scan.OpenLabel → scan.Text → Option LinkOrCall
-ended_here context content [] inner = None
-ended_here context content (label ∷ others) inner = ended_by context content label inner
-
 -- a byte that is a code of one byte
 pub record IsSingle (bytes : List ℕ) : Type 0 where
   pub ascii : slice_index bytes 0 < 128
@@ -81,11 +69,6 @@ pub record IsSingle (bytes : List ℕ) : Type 0 where
 pub record IsRunFront (bytes : List ℕ) (run : Run) : Type 0 where
   pub end : IsEnd bytes run.size
   pub first : take 1 bytes ≡ run.marker ∷ []
-
--- a label start comes first
-pub record StartsLabel (bytes : List ℕ) (start : LabelStart) : Type 0 where
-  pub end : IsEnd bytes (length (start_bytes (start_view start)))
-  pub first : take (length (start_bytes (start_view start))) bytes ≡ start_bytes (start_view start)
 
 -- what a content is read as from a place on
 abbrev pub scan_from : ParseOptions → (List ℕ → Option (List ℕ)) → (ℕ → Bool) → Targets → Content → List ℕ → scan.Reading

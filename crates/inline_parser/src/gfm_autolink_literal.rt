@@ -6,8 +6,9 @@ ghost use Rattle.inline_rows.specs.InlineRows as seen;
 ghost use Rattle.inline_rows.specs.View.{rows_view};
 ghost use Rattle.inline_parser.specs.Found.{found_rows};
 
-use crate::room::{FoundRows, Room};
+use crate::found::FoundRows;
 use inline_addresses::{linked_rows, may_link, push_texts};
+use inline_reading::Room;
 use inline_rows::InlineRow;
 use std::alloc::{AllocError, Allocator};
 

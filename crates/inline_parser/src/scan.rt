@@ -4,11 +4,10 @@
 ghost use Rattle.std.specs.Prelude.{◌≡◌, ◌<◌, ◌≤◌, ◌==◌, ◌&&◌, ℕ, Bool, List, [], ◌∷◌, Option, None, Some, true};
 ghost use Rattle.std.specs.Prelude.{length, not, IfOk, IfSome, OnOk, take, drop, slice_index};
 ghost use Rattle.std.specs.List.{prefix_len};
-ghost use Rattle.std.specs.Option.{is_some, option_map};
+ghost use Rattle.std.specs.Option.{is_some};
 ghost use Rattle.std.specs.Str.{IsCharBoundary};
 ghost use Rattle.definition_text.specs.Ascii.{right_bracket};
 ghost use Rattle.definition_text.specs.Columns.{is_blank, is_white};
-ghost use Rattle.definition_text.specs.Bytes.{begins_with};
 ghost use Rattle.definition_text.specs.Encode.{encode};
 ghost use Rattle.definition_text.specs.Content.{content_codes};
 ghost use Rattle.definition_inline.specs.Inline.{Target, LinkTexts};
@@ -16,8 +15,7 @@ ghost use Rattle.definition_inline.specs.Targets.{leads_to};
 ghost use Rattle.inline_rows.specs.InlineRows.{inline_rows};
 ghost use Rattle.definition_inline.specs.Scan as scan;
 ghost use Rattle.definition_inline.specs.Scan.{inlines_from, spans_from, without_indent, formed_at, label_start_at, read_tokens};
-ghost use Rattle.definition_inline.specs.Scan.{start_bytes, starts_image, starts_link};
-ghost use Rattle.definition_inline.specs.GfmLabelStartFootnote.{starts_call, starts_marked_call};
+ghost use Rattle.definition_inline.specs.Scan.{start_bytes};
 ghost use Rattle.definition_inline.specs.Spans.{Delimiters};
 ghost use Rattle.definition_inline.specs.Targets.{Targets, labels_of, linked_at, linked_by};
 ghost use Rattle.inline_runs.specs.View.{run_view};
@@ -26,18 +24,19 @@ ghost use Rattle.inline_leaves.specs.Leaves.{leaf_items, parts_of, size_before, 
 ghost use Rattle.inline_content.specs.declared.content.Content.{Content as SeenContent};
 ghost use Rattle.inline_rows.specs.View.{data_rows, row_view, rows_view};
 ghost use Rattle.inline_label_ends.specs.Ends.{IsAfterFormed, IsFormed};
-ghost use Rattle.inline_parser.specs.Scanned.{context_by, ended_here, has_no_return, HasTargets, IsPlace, IsPlacedBy, IsRunFront, IsSingle, StartsLabel};
+ghost use Rattle.inline_parser.specs.Scanned.{context_by, HasTargets, IsPlace, IsPlacedBy, IsRunFront, IsSingle};
+ghost use Rattle.inline_reading.specs.Shows.{ended_here};
+ghost use Rattle.inline_reading.specs.LabelStarts.{StartsLabel};
 ghost use Rattle.inline_parser.specs.Scanned.{GoesOnBy, HasNoLeaf, HasNoLeafHere, HasNoRun, Shortens, StaysPlaced};
 ghost use Rattle.inline_addresses.specs.Addresses.{has_at_sign, row_text};
-ghost use Rattle.inline_parser.specs.Found.{found_rows, is_alone};
+ghost use Rattle.inline_parser.specs.Found.{found_rows};
+ghost use Rattle.inline_parser.specs.Found.{is_alone};
 ghost use Rattle.inline_text.specs.Verbatim.{AreVerbatim, TellsVerbatim};
 ghost use Rattle.inline_text.specs.Fronts.{IsTextOf};
-ghost use Rattle.inline_parser.specs.Shows.{with_open_label, start_view, IsSound, Shows, ShowsThen, StartsBefore};
+ghost use Rattle.inline_reading.specs.Shows.{with_open_label, start_view, IsSound, Shows, ShowsThen, StartsBefore};
 
+use crate::found::FoundRows;
 use crate::gfm_autolink_literal::rows_with_literals;
-use crate::label::{LabelStart, OpenLabel};
-use crate::reading::Reading;
-use crate::room::{FoundRows, Room, RowRoom};
 use inline_addresses::may_link;
 use inline_content::Content;
 use inline_label_ends::{LabelForm, call_or_link, link_or_image};
@@ -49,6 +48,9 @@ use inline_leaves::searches::Searches;
 use inline_leaves::space::white_size;
 use inline_links::part::from;
 use inline_literals::{NamesInVain, literal_at};
+use inline_reading::label::LabelStart;
+use inline_reading::label_start::{is_label_end, label_start_at};
+use inline_reading::{Reading, Room, RowRoom};
 use inline_rows::{InlineRow, VerbatimText};
 use inline_runs::Run;
 use inline_text::{Front, front_of};
@@ -513,62 +515,4 @@ fn formed_at<'a, T, A: Allocator + Clone>(
         LabelStart::Link => call_or_link(on, source.labels, source.footnotes, text, after),
         LabelStart::Image => link_or_image(source.labels, text, after),
     }
-}
-
-/// Whether a `]` comes first that may end a label (CommonMark 6.3).
-fn is_label_end(on: &Constructs, rest: &str) -> bool
-    requires { 0 < length rest.now }
-    ensures { result ≡ (on.now.label_end && (slice_index rest.now 0 == right_bracket)) }
-{
-    on.label_end && rest.as_bytes()[0] == b']'
-}
-
-/// The label start that a content begins with (CommonMark 6.3 and 6.4).
-fn label_start_at(on: &Constructs, rest: &str) -> Option<LabelStart>
-    ensures read { option_map start_view result ≡ label_start_at on.now (content_codes rest.now) }
-    ensures front { IfSome result (λ start. StartsLabel rest.now start) }
-{
-    if starts_image(on, rest) {
-        return Some(LabelStart::Image);
-    }
-    if starts_link(on, rest) {
-        return Some(LabelStart::Link);
-    }
-    None
-}
-
-/// Whether an image starts (CommonMark 6.4): by `![`, unless `!` stands before a call.
-fn starts_image(on: &Constructs, rest: &str) -> bool
-    ensures { result ≡ starts_image on.now (content_codes rest.now) }
-{
-    on.label_start_image && begins(rest, "![") && !starts_marked_call(on, rest)
-}
-
-/// Whether a link starts, by `[` (CommonMark 6.3), or a call.
-fn starts_link(on: &Constructs, rest: &str) -> bool
-    ensures { result ≡ starts_link on.now (content_codes rest.now) }
-{
-    (on.label_start_link && begins(rest, "[")) || starts_call(on, rest)
-}
-
-/// Whether a call of a footnote starts.
-fn starts_call(on: &Constructs, rest: &str) -> bool
-    ensures { result ≡ starts_call on.now (content_codes rest.now) }
-{
-    on.gfm_label_start_footnote && begins(rest, "[^")
-}
-
-/// Whether a call of a footnote starts after `!`.
-fn starts_marked_call(on: &Constructs, rest: &str) -> bool
-    ensures { result ≡ starts_marked_call on.now (content_codes rest.now) }
-{
-    on.gfm_label_start_footnote && begins(rest, "![^")
-}
-
-/// Whether a content begins with this text, in which there is no CR.
-fn begins(rest: &str, front: &str) -> bool
-    requires { has_no_return front.now ≡ true }
-    ensures { result ≡ begins_with front.now (content_codes rest.now) }
-{
-    rest.starts_with(front)
 }

@@ -11,7 +11,7 @@ use Rattle.definition_inline.specs.Targets.{linked_at, linked_by}
 use Rattle.inline_rows.specs.View.{rows_view}
 use Rattle.inline_links.specs.Codes.{IsRest}
 use Rattle.inline_parser.specs.Scanned.{context_by}
-use Rattle.inline_parser.specs.declared.label.OpenLabel.{OpenLabel}
+use Rattle.inline_reading.specs.declared.label.OpenLabel.{OpenLabel}
 use Rattle.inline_parser.proofs.Whole as whole
 use Rattle.inline_parser.proofs.scan.span_rows.Goals as goal
 

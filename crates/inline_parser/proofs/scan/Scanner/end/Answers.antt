@@ -9,8 +9,9 @@ use Rattle.definition_inline.specs.Targets.{leads_to}
 use Rattle.definition_inline.specs.Targets.{linked_at, linked_by, labels_of}
 use Rattle.inline_content.specs.View.{view_at}
 use Rattle.inline_leaves.specs.Leaves.{text_items, size_before}
-use Rattle.inline_parser.specs.Scanned.{context_by, ended_here, IsPlace}
-use Rattle.inline_parser.specs.Shows.{formed_in, unformed_in, StartsBefore}
+use Rattle.inline_parser.specs.Scanned.{context_by, IsPlace}
+use Rattle.inline_reading.specs.Shows.{ended_here}
+use Rattle.inline_reading.specs.Shows.{formed_in, unformed_in, StartsBefore}
 use Rattle.inline_label_ends.specs.Ends.{IsFormed, IsAfterEnd}
 use Rattle.inline_label_ends.proofs.Leading.{target_leads}
 use Rattle.inline_parser.proofs.Placed as placed

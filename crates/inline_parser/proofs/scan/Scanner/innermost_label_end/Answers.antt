@@ -6,10 +6,11 @@ use Rattle.definition_inline.specs.LabelEnd.{LinkOrCall}
 use Rattle.definition_inline.specs.Scan.{formed_at}
 use Rattle.definition_inline.specs.Targets.{labels_of}
 use Rattle.inline_label_ends.specs.Ends.{IsFormed}
-use Rattle.inline_parser.specs.declared.label.OpenLabel.{OpenLabel}
-use Rattle.inline_parser.specs.Scanned.{context_by, ended_here}
-use Rattle.inline_parser.specs.Shows.{start_view}
-use Rattle.inline_parser.proofs.Ended as ended
+use Rattle.inline_reading.specs.declared.label.OpenLabel.{OpenLabel}
+use Rattle.inline_parser.specs.Scanned.{context_by}
+use Rattle.inline_reading.specs.Shows.{ended_here}
+use Rattle.inline_reading.specs.Shows.{start_view}
+use Rattle.inline_reading.proofs.Ended as ended
 use Rattle.inline_parser.proofs.scan.Scanner.innermost_label_end.Goals as goal
 
 last_of : (xs ys : List OpenLabel) (o : Option OpenLabel) → xs ≡ ys → o ≡ slice_get xs (length xs - 1) → o ≡ slice_get ys (length ys - 1)

@@ -7,7 +7,7 @@ use Rattle.definition_inline.specs.Targets.{linked_at, linked_by}
 use Rattle.inline_content.specs.View.{view_at}
 use Rattle.inline_leaves.specs.Leaves.{text_items}
 use Rattle.inline_parser.specs.Scanned.{context_by}
-use Rattle.inline_parser.specs.Shows.{start_view, with_open_label}
+use Rattle.inline_reading.specs.Shows.{start_view, with_open_label}
 use Rattle.inline_parser.proofs.Follow as follow
 use Rattle.inline_parser.proofs.Follow.{on_ok}
 use Rattle.inline_parser.proofs.scan.Scanner.label_or_byte.Goals as goal

@@ -1,0 +1,31 @@
+//! The rows of a content, wherever they stand.
+ghost use Rattle.std.specs.Prelude.{◌≡◌};
+ghost use Rattle.inline_parser.specs.Found.{found_rows};
+
+use inline_rows::InlineRow;
+use std::alloc::Allocator;
+use std::slice::from_ref;
+
+/// The rows of a content.
+#[derive(Drop)]
+pub enum FoundRows<'a, A: Allocator> {
+    /// The content is text alone: nothing starts in it.
+    Alone(InlineRow<'a>),
+    /// They stand in the room for rows.
+    InRoom(&'a [InlineRow<'a>]),
+    /// They have addresses, or links without literals, and were made anew (GFM 6.9).
+    InList(Vec<InlineRow<'a>, A>),
+}
+
+impl<A: Allocator> FoundRows<'_, A> {
+    /// All of them.
+    pub fn as_slice(&self) -> &[InlineRow<'_>]
+        ensures { result.now ≡ found_rows self.now }
+    {
+        match self {
+            FoundRows::Alone(row) => from_ref(row),
+            FoundRows::InRoom(rows) => rows,
+            FoundRows::InList(rows) => rows.as_slice(),
+        }
+    }
+}
