@@ -19,7 +19,7 @@ use text_pieces::Piece;
 
 impl<'t, A: Allocator + Clone> LeafPrinter<'t, A> {
     /// Prints fenced code (CommonMark 4.5), at the top or in a container. Its info has no line ending.
-    pub(crate) fn fenced_code<T: Tables>(
+    pub fn fenced_code<T: Tables>(
         &mut self,
         texts: &Texts<'_, '_, T, A>,
         info: &str,
@@ -43,7 +43,7 @@ impl<'t, A: Allocator + Clone> LeafPrinter<'t, A> {
 
     /// Prints fenced code that is closed and whose lines are those of a text (CommonMark 4.5), wherever
     /// it stands. Its info has no line ending.
-    pub(crate) fn whole_code<T: Tables>(
+    pub fn whole_code<T: Tables>(
         &mut self,
         texts: &Texts<'_, '_, T, A>,
         info: &str,

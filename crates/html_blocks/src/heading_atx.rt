@@ -18,7 +18,7 @@ use text_pieces::Piece;
 
 impl<'t, A: Allocator + Clone> LeafPrinter<'t, A> {
     /// Prints a heading of one line, which may be empty.
-    pub(crate) fn heading_atx<T: Tables>(
+    pub fn heading_atx<T: Tables>(
         &mut self,
         texts: &Texts<'t, '_, T, A>,
         rank: u8,

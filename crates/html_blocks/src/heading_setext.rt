@@ -19,7 +19,7 @@ use text_pieces::Piece;
 
 impl<'t, A: Allocator + Clone> LeafPrinter<'t, A> {
     /// Prints a heading of these lines.
-    pub(crate) fn heading_setext<T: Tables>(
+    pub fn heading_setext<T: Tables>(
         &mut self,
         texts: &Texts<'t, '_, T, A>,
         rank: u8,

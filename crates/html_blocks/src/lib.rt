@@ -2,7 +2,6 @@
 #![tactic(auto)]
 
 pub mod code_fenced;
-pub mod gfm_table;
 pub mod heading_atx;
 pub mod heading_setext;
 pub mod paragraph;

@@ -19,7 +19,7 @@ use text_pieces::Piece;
 impl<'t, A: Allocator + Clone> LeafPrinter<'t, A> {
     /// Prints a paragraph, which may be the first block of an item (CommonMark 4.8). That of a tight
     /// item is its text alone.
-    pub(crate) fn paragraph<T: Tables>(
+    pub fn paragraph<T: Tables>(
         &mut self,
         texts: &Texts<'t, '_, T, A>,
         tight: bool,
@@ -41,7 +41,7 @@ impl<'t, A: Allocator + Clone> LeafPrinter<'t, A> {
     }
 
     /// Prints a paragraph of the lines of a text (CommonMark 4.8).
-    pub(crate) fn whole_paragraph<T: Tables>(
+    pub fn whole_paragraph<T: Tables>(
         &mut self,
         texts: &Texts<'t, '_, T, A>,
         tight: bool,

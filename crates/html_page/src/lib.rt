@@ -1,11 +1,7 @@
 //! Rows of blocks to HTML.
 #![tactic(auto)]
 
-pub mod block_quote;
-pub mod container;
-pub mod gfm_footnote_definition;
-pub mod list;
-pub mod list_item;
+mod leaf_block;
 pub mod printer;
 
 pub use printer::print_rows;

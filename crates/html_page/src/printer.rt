@@ -15,10 +15,11 @@ ghost use Rattle.html_rows.specs.Printing.{ends_blank_rows, is_blank_row, print_
 ghost use Rattle.html_page.specs.PrinterView.{printer_view};
 ghost use Rattle.html_leaves.specs.Prints.{KeepsEnding, page_view};
 
+use crate::leaf_block::print_leaf_block;
 use block_rows::Row;
 use html_blocks::LeafPrinter;
+use html_containers::Containers;
 use html_contents::Texts;
-use html_looseness::{Holder, Level, Place, places};
 use markdown_options::{CompileOptions, LineEnding, Tables};
 use std::alloc::{AllocError, Allocator};
 use text_pieces::Piece;
@@ -27,11 +28,7 @@ use text_pieces::Piece;
 #[derive(Drop)]
 pub(crate) struct Printer<'t, A: Allocator + Clone> {
     pub(crate) leaves: LeafPrinter<'t, A>,
-    pub(crate) level: Level,
-    /// The levels around it.
-    pub(crate) outer: Vec<Level, A>,
-    /// The places of the items to come, the next one last.
-    pub(crate) places: Vec<Place, A>,
+    pub(crate) containers: Containers<A>,
 }
 
 impl<'t, A: Allocator + Clone> Printer<'t, A> {
@@ -45,13 +42,10 @@ impl<'t, A: Allocator + Clone> Printer<'t, A> {
         ensures default { IfOk result (λ printer. printer.leaves.page.default_ending ≡ default_ending) }
         ensures blank { (ls : List BlockLine) → IfOk result (λ printer. printer_view printer ≡ blank_page (rows_value rows.now ls).rows) }
     {
-        let outer = Vec::new(alloc.clone()?);
-        let places = places(alloc.clone()?, rows)?;
+        let containers = Containers::new(alloc.clone()?, rows)?;
         Ok(Printer {
             leaves: LeafPrinter::new(alloc, room, default_ending)?,
-            level: Level::new(Holder::Document, false),
-            outer,
-            places,
+            containers,
         })
     }
 
@@ -72,33 +66,33 @@ impl<'t, A: Allocator + Clone> Printer<'t, A> {
     {
         match row {
             Row::Ending(ending) => {
-                self.leaves.line_ending(self.level, ending)?;
-                self.level.pass(row);
+                self.leaves.line_ending(self.containers.level, ending)?;
+                self.containers.level.pass(row);
                 Ok(0)
             }
             Row::Blank(_) => {
-                self.level.pass(row);
+                self.containers.level.pass(row);
                 Ok(0)
             }
             Row::EnterQuote => {
-                self.enter_quote()?;
+                self.containers.enter_quote(&mut self.leaves.page)?;
                 Ok(0)
             }
             Row::EnterFootnote => {
-                self.enter_footnote()?;
+                self.containers.enter_footnote(&mut self.leaves.page)?;
                 Ok(1)
             }
             Row::EnterItem { number, .. } => {
-                self.enter_item(number)?;
+                self.containers.enter_item(&mut self.leaves.page, number)?;
                 Ok(0)
             }
             Row::Exit => {
-                self.exit()?;
+                self.containers.exit(&mut self.leaves.page)?;
                 Ok(0)
             }
             _ => {
-                self.leaves.block(texts, row, self.level, lines)?;
-                self.level.pass(row);
+                print_leaf_block(&mut self.leaves, texts, row, self.containers.level, lines)?;
+                self.containers.level.pass(row);
                 Ok(row.size())
             }
         }

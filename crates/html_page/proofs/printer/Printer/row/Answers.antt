@@ -22,8 +22,8 @@ returns-in_ok-line_ending-in-Ending-clause-printed g c = λ ds has.
     let lines = piece_lines c.args.lines.now in
     let after = page_view c.line_ending.new.self.page in
     let level = c.pass.new.self in
-    let at = λ (out : LayoutState) (l : Level). printer_at out l (reverse p.outer.items) (reverse p.places.items) in
+    let at = λ (out : LayoutState) (l : Level). printer_at out l (reverse p.containers.outer.items) (reverse p.containers.places.items) in
     subst (λ (row : Row). at after level ≡ print_row d (ending_bytes p.leaves.page.default_ending) (printer_view p) (row_value row lines)) (sym c.in-Ending.is)
     (ap (at after) (c.pass.ensures lines)
-    ∙ ap (λ (out : LayoutState). at out (level_after p.level (row_value (row.Ending c.in-Ending.ending) lines)))
+    ∙ ap (λ (out : LayoutState). at out (level_after p.containers.level (row_value (row.Ending c.in-Ending.ending) lines)))
     (c.in_ok-line_ending-in-Ending.ensures.printed d))

@@ -1,0 +1,16 @@
+use Rattle.std.proofs.Common.{◌≡◌, Option, sym, subst}
+use Rattle.std.specs.Result.{OnOk}
+use Rattle.block_cells.specs.declared.gfm_table.Cell.{Cell}
+use Rattle.html_leaves.specs.GfmTable.{cell_name}
+use Rattle.html_rows.specs.GfmTable.{next_cell_bytes}
+use Rattle.html_leaves.specs.Prints.{layout_after, page_view}
+use Rattle.html_tables.proofs.gfm_table.next_cell.Goals as goal
+use Rattle.html_contents.specs.Texts.{document_by}
+
+pub returns-in-None-clause-printed : goal.returns-in-None-clause-printed
+returns-in-None-clause-printed g c = λ ds has clear.
+    let d = document_by g.T.Tables c.args.texts.now ds in
+    let page = c.args.page.now in
+    subst (λ (cell : Option Cell). OnOk c.missing_cell.result (page_view c.missing_cell.new.self
+    ≡ layout_after d.options.compile page.default_ending (page_view page) (next_cell_bytes d (cell_name c.args.kind) c.args.align cell)))
+    (sym c.in-None.is) (c.missing_cell.ensures.printed d)
