@@ -1,6 +1,2 @@
-pub mod Early
-pub mod Programs
-pub mod Refusals
-pub mod Transfers
 pub mod Pages
 pub mod FootnoteLabels

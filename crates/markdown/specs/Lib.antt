@@ -1,10 +1,1 @@
-pub mod Watched
-pub mod Faults
-pub mod Writes
-pub mod Transfer
-pub mod Tables
-pub mod Endings
-pub mod Statuses
-pub mod Complaints
-pub mod Program
 pub mod PageLaws

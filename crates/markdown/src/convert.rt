@@ -17,13 +17,11 @@ use block_parser::{BlockRows, block_rows};
 use block_targets::{definition_contents, document_definitions, document_footnotes};
 use html_contents::Texts;
 use html_page::print_rows;
+use markdown_devices::SIZE_MAX;
 use markdown_options::{Kind, LineEnding, Message, Options, Tables};
 use markdown_tables::Builtin;
 use std::alloc::{AllocError, Allocator};
 use text_lines::{next_line, without_mark};
-
-/// The largest size of a text, in bytes.
-pub const SIZE_MAX: usize = usize::MAX / 8;
 
 /// Returns whether a text is short enough to be converted: it has at most `usize::MAX / 8` bytes.
 pub fn fits(value: &str) -> bool

@@ -2,15 +2,14 @@
 ghost use Rattle.std.specs.Prelude.{◌≡◌, IfErr, IfOk, drop, false};
 ghost use Rattle.std.specs.IoError.{error_kind};
 ghost use Rattle.markdown_settings.specs.Settings.{word_texts};
-ghost use Rattle.markdown.specs.Program.{Complains, Runs};
-ghost use Rattle.markdown.specs.Statuses.{unread_fault};
-ghost use Rattle.markdown.specs.Watched.{has_failed};
+ghost use Rattle.markdown_devices.specs.Program.{Complains, Runs};
+ghost use Rattle.markdown_devices.specs.Statuses.{unread_fault};
+ghost use Rattle.markdown_devices.specs.Watched.{has_failed};
 
-use crate::command::{end, program};
-use crate::fault::Fault;
-use crate::transfer::RunError;
-use crate::watched::Watched;
-use std::io::{self, ErrorKind, Read, Write};
+use crate::command::program;
+use markdown_devices::words::{after_name, unread_fault};
+use markdown_devices::{Watched, end};
+use std::io::{self, Read, Write};
 use std::rt::Files;
 
 /// Runs [`program`] with the words of the process, and returns its exit status. The first word is
@@ -36,22 +35,5 @@ pub fn start<R: Read, W: Write, F: Write>(
     match words {
         Ok(words) => program(rt, after_name(&words), reader, writer, faults),
         Err(error) => end(faults, &Err(unread_fault(error.kind()))),
-    }
-}
-
-/// The words after the program's name.
-fn after_name(words: &[String]) -> &[String]
-    ensures { result.now ≡ drop 1 words.now }
-{
-    if words.is_empty() { words } else { &words[1..] }
-}
-
-/// The fault if the system gives no words.
-fn unread_fault(kind: ErrorKind) -> Fault
-    ensures { result ≡ unread_fault kind }
-{
-    match kind {
-        ErrorKind::OutOfMemory => Fault::Run(RunError::Memory),
-        _ => Fault::Words,
     }
 }

@@ -14,22 +14,20 @@
 mod command;
 mod convert;
 mod entry;
-mod fault;
 mod transfer;
-mod watched;
 
 pub use command::program;
-pub use convert::{SIZE_MAX, fits, to_html, to_html_with_options, to_html_with_tables};
+pub use convert::{fits, to_html, to_html_with_options, to_html_with_tables};
 pub use entry::start;
 pub use html_safe_page::is_safe_page;
+pub use markdown_devices::{RunError, SIZE_MAX, Watched};
 pub use markdown_options::{
     CompileOptions, Constructs, LineEnding, LineEndingError, Message, Options, ParseOptions, Place,
     Tables, configuration, constants as constant, line_ending, message, unist,
 };
 pub use markdown_settings::{Settings, SettingsError, settings};
 pub use markdown_tables::{Builtin, Rows, RowsError};
-pub use transfer::{RunError, run};
-pub use watched::Watched;
+pub use transfer::run;
 
 /// Character references (CommonMark 2.5).
 pub mod character_reference {

@@ -1,90 +1,20 @@
 //! From a reader to a writer.
-ghost use Rattle.std.specs.Prelude.{◌≡◌, ◌≤◌, ◌<◌, ◌+◌, ◌-◌, ◌||◌};
-ghost use Rattle.std.specs.Prelude.{IfOk, IfErr, OnOk, IfSome, IsTrue, is_err, is_ok, true, false, length, vec_len, string_bytes};
-ghost use Rattle.std.specs.Io.{appended_bytes, StartsWith};
-ghost use Rattle.std.specs.Io.KnownBytes.{Appends, Consumes, IsAtEnd, Keeps};
+ghost use Rattle.std.specs.Prelude.{◌≡◌, ◌≤◌, ◌||◌};
+ghost use Rattle.std.specs.Prelude.{IfOk, IfErr, OnOk, IfSome, IsTrue, true, false, length, string_bytes};
+ghost use Rattle.std.specs.Io.KnownBytes.{Appends, Keeps};
 ghost use Rattle.markdown_options.specs.Mdx.{HasNoMdx};
 ghost use Rattle.markdown_definition.specs.Html.{html};
 ghost use Rattle.html_contents.specs.Texts.{tables_by};
-ghost use Rattle.markdown.specs.Watched.{device, has_failed, has_stopped, has_ended, has_flushed, has_flush_failed, came_to_end};
-ghost use Rattle.markdown.specs.Faults.{is_read_error, is_write_error, is_size_error, is_utf8_error};
-ghost use Rattle.markdown.specs.Faults.{read_failed, write_failed, write_stopped, size_failed, utf8_failed, reads_all, gave_none};
-ghost use Rattle.markdown.specs.Transfer.{AppendsBeginning, RefusesPast, RefusesUtf8};
+ghost use Rattle.markdown_devices.specs.Watched.{device, has_failed, has_stopped, has_ended, has_flushed, has_flush_failed, came_to_end};
+ghost use Rattle.markdown_devices.specs.Faults.{is_read_error, is_write_error, is_size_error};
+ghost use Rattle.markdown_devices.specs.Faults.{read_failed, write_failed, write_stopped, size_failed, utf8_failed, reads_all};
+ghost use Rattle.markdown_devices.specs.Transfer.{AppendsBeginning, RefusesPast, RefusesUtf8};
 
-use crate::convert::{SIZE_MAX, to_html_with_tables};
-use crate::watched::Watched;
-use markdown_options::{Message, Options, Tables};
-use std::alloc::{AllocError, Allocator};
-use std::io::{self, Read, Write};
-use std::{error, fmt};
-
-/// Why [`run`] wrote no whole page. No read or write is repeated, not even an interrupted one.
-#[derive(Debug, Drop)]
-pub enum RunError {
-    /// More than `usize::MAX / 8` bytes were read.
-    Size,
-    /// The text was read to its end, and isn't UTF-8.
-    Utf8,
-    /// Out of memory.
-    Memory,
-    /// The reader returned this error.
-    Read(io::Error),
-    /// The writer returned this error. A beginning of the page was written.
-    Write(io::Error),
-    /// The writer took no byte. A beginning of the page was written.
-    Stopped,
-}
-
-impl RunError {
-    ghost use Rattle.std.specs.Prelude.{◌≡◌};
-    ghost use Rattle.markdown.specs.Complaints.{run_words};
-
-    /// Returns the message of the error, as the program prints it.
-    pub fn words(&self) -> &'static str
-        ensures { result.now ≡ run_words self.now }
-    {
-        match self {
-            RunError::Size => "input is too large",
-            RunError::Utf8 => "input is not UTF-8",
-            RunError::Memory => "out of memory",
-            RunError::Read(_) => "cannot read",
-            RunError::Write(_) | RunError::Stopped => "cannot write",
-        }
-    }
-}
-
-impl fmt::Display for RunError {
-    fn fmt<W: fmt::Write>(&self, f: &mut fmt::Formatter<W>) -> fmt::Result {
-        f.write_str(self.words())
-    }
-}
-
-impl error::Error for RunError {}
-
-/// Out of memory.
-impl From<AllocError> for RunError {
-    ghost use Rattle.markdown.specs.declared.transfer.RunError.TheVariants.{Memory};
-
-    ghost from_gives = { λ _ e. e ≡ Memory };
-
-    fn from(_error: AllocError) -> RunError {
-        RunError::Memory
-    }
-}
-
-/// A conversion fails only with `out of memory`.
-impl From<Message> for RunError {
-    ghost use Rattle.markdown.specs.declared.transfer.RunError.TheVariants.{Memory};
-
-    ghost from_gives = { λ _ e. e ≡ Memory };
-
-    fn from(_message: Message) -> RunError {
-        RunError::Memory
-    }
-}
-
-/// The size of a read, in bytes.
-const CHUNK: usize = 65536;
+use crate::convert::to_html_with_tables;
+use markdown_devices::{RunError, SIZE_MAX, Watched, read_all, write_all};
+use markdown_options::{Options, Tables};
+use std::alloc::Allocator;
+use std::io::{Read, Write};
 
 /// Reads a text to its end, and writes its HTML, with the caller's tables. The writer isn't
 /// flushed.
@@ -158,101 +88,4 @@ fn page_of<A: Allocator + Clone, T: Tables>(
         Ok(text) => Ok(to_html_with_tables(alloc, text, options, tables)?),
         Err(_) => Err(RunError::Utf8),
     }
-}
-
-/// Reads to the end.
-fn read_all<A: Allocator + Clone, R: Read>(
-    alloc: A,
-    reader: &mut Watched<R>,
-) -> Result<Vec<u8, A>, RunError>
-    requires { has_failed reader.old ≡ false }
-    ensures ok { IfOk result (λ bytes. IfSome (R.remaining (device reader.old)) (λ text. bytes.items ≡ text)) }
-    ensures fits { IfOk result (λ bytes. vec_len bytes ≤ SIZE_MAX) }
-    ensures read { has_failed reader.new ≡ read_failed result }
-    ensures end { has_ended reader.new ≡ (has_ended reader.old || is_ok result) }
-    ensures size { RefusesPast SIZE_MAX (R.remaining (device reader.old)) (R.remaining (device reader.new)) (size_failed result) }
-    ensures others { IfErr result (λ e. (is_write_error e ≡ false) × (is_utf8_error e ≡ false)) }
-{
-    let mut chunk = Vec::with_capacity(alloc.clone()?, CHUNK)?;
-    chunk.resize(CHUNK, 0)?;
-    let mut bytes = Vec::new(alloc);
-    read_chunks(reader, &mut chunk, &mut bytes)?;
-    Ok(bytes)
-}
-
-/// Reads to the end, by chunks.
-fn read_chunks<A: Allocator, R: Read>(
-    reader: &mut Watched<R>,
-    chunk: &mut [u8],
-    bytes: &mut Vec<u8, A>,
-) -> Result<(), RunError>
-    requires working { has_failed reader.old ≡ false }
-    requires room { 0 < length chunk.old }
-    requires empty { vec_len bytes.old ≡ 0 }
-    ensures ok { OnOk result (IfSome (R.remaining (device reader.old)) (λ text. bytes.new.items ≡ text)) }
-    ensures fits { OnOk result (vec_len bytes.new ≤ SIZE_MAX) }
-    ensures read { has_failed reader.new ≡ read_failed result }
-    ensures end { has_ended reader.new ≡ (has_ended reader.old || is_ok result) }
-    ensures size { RefusesPast SIZE_MAX (R.remaining (device reader.old)) (R.remaining (device reader.new)) (size_failed result) }
-    ensures others { IfErr result (λ e. (is_write_error e ≡ false) × (is_utf8_error e ≡ false)) }
-{
-    for _ in 0..u64::MAX {
-        if read_chunk(reader, chunk, bytes)? == 0 {
-            return Ok(());
-        }
-    }
-    unreachable!()
-}
-
-/// Reads once, and returns how many bytes were read: 0 at the end.
-fn read_chunk<A: Allocator, R: Read>(
-    reader: &mut Watched<R>,
-    chunk: &mut [u8],
-    bytes: &mut Vec<u8, A>,
-) -> Result<usize, RunError>
-    requires working { has_failed reader.old ≡ false }
-    requires room { 0 < length chunk.old }
-    requires fits { vec_len bytes.old ≤ SIZE_MAX }
-    ensures grows { IfOk result (λ n. vec_len bytes.new ≡ vec_len bytes.old + n) }
-    ensures appends { OnOk result (StartsWith bytes.new.items bytes.old.items) }
-    ensures fits { OnOk result (vec_len bytes.new ≤ SIZE_MAX) }
-    ensures known { OnOk result
-        (Consumes (R.remaining (device reader.old)) (R.remaining (device reader.new)) (appended_bytes bytes.old.items bytes.new.items)) }
-    ensures last { IfOk result (λ n. n ≡ 0 → IsAtEnd (R.remaining (device reader.new))) }
-    ensures read { has_failed reader.new ≡ read_failed result }
-    ensures end { has_ended reader.new ≡ (has_ended reader.old || gave_none result) }
-    ensures size { RefusesPast (SIZE_MAX - vec_len bytes.old) (R.remaining (device reader.old)) (R.remaining (device reader.new)) (size_failed result) }
-    ensures others { IfErr result (λ e. (is_write_error e ≡ false) × (is_utf8_error e ≡ false)) }
-{
-    let n = reader.read(chunk).map_err(RunError::Read)?;
-    if n == 0 {
-        return Ok(0);
-    }
-    if n > SIZE_MAX - bytes.len() {
-        return Err(RunError::Size);
-    }
-    bytes.extend_from_slice(&chunk[..n])?;
-    Ok(n)
-}
-
-/// Writes all of these bytes.
-pub(crate) fn write_all<W: Write>(writer: &mut Watched<W>, bytes: &[u8]) -> Result<(), RunError>
-    requires { has_failed writer.old ≡ false }
-    ensures ok { OnOk result (Appends (W.contents (device writer.old)) (W.contents (device writer.new)) bytes.now) }
-    ensures beginning { AppendsBeginning (W.contents (device writer.old)) (W.contents (device writer.new)) bytes.now }
-    ensures write { has_failed writer.new ≡ is_err result }
-    ensures stopped { has_stopped writer.new ≡ (has_stopped writer.old || write_stopped result) }
-    ensures unflushed { has_flushed writer.old ≡ false → has_flushed writer.new ≡ false }
-    ensures flush_failed { has_flush_failed writer.new ≡ has_flush_failed writer.old }
-    ensures only { IfErr result (λ e. is_write_error e ≡ true) }
-{
-    let mut at = 0;
-    while at < bytes.len() {
-        match writer.write(&bytes[at..]) {
-            Ok(0) => return Err(RunError::Stopped),
-            Ok(n) => at += n,
-            Err(error) => return Err(RunError::Write(error)),
-        }
-    }
-    Ok(())
 }

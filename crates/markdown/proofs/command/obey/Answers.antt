@@ -1,7 +1,7 @@
 use Rattle.std.proofs.Common.{map, string_bytes, subst}
 use Rattle.markdown_settings.specs.Settings.{Refuses, faults_of, options_of, path_of}
-use Rattle.markdown.proofs.Early.{early}
-use Rattle.markdown.proofs.Refusals.{may_come_of_writer}
+use Rattle.markdown_devices.proofs.Early.{early}
+use Rattle.markdown_devices.proofs.Refusals.{may_come_of_writer}
 use Rattle.markdown.proofs.command.obey.Goals as goal
 
 pub returns-in-Err-Memory-clause-page : goal.returns-in-Err-Memory-clause-page

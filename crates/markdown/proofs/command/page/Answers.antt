@@ -6,8 +6,8 @@ use Rattle.markdown_definition.specs.TextTables.{text_tables}
 use Rattle.markdown_tables.specs.Builtin.{builtin_tables}
 use Rattle.markdown_tables.specs.Punctuation.{builtin_punctuation}
 use Rattle.markdown_tables.specs.Rows.{names_of}
-use Rattle.markdown.specs.Endings.{EndsBy}
-use Rattle.markdown.proofs.Early.{early}
+use Rattle.markdown_devices.specs.Endings.{EndsBy}
+use Rattle.markdown_devices.proofs.Early.{early}
 use Rattle.markdown.proofs.command.page.Goals as goal
 
 pub returns-in_err-rows-in-Some-clause-page : goal.returns-in_err-rows-in-Some-clause-page

@@ -1,8 +1,8 @@
 use Rattle.std.proofs.Common.{Bool, map, string_bytes, subst}
 use Rattle.markdown_settings.specs.Settings.{faults_of, options_of, path_of}
-use Rattle.markdown.specs.Endings.{EndsBy}
-use Rattle.markdown.specs.Program.{WritesAnswer}
-use Rattle.markdown.proofs.Programs.{complains, silent, succeeds}
+use Rattle.markdown_devices.specs.Endings.{EndsBy}
+use Rattle.markdown_devices.specs.Program.{WritesAnswer}
+use Rattle.markdown_devices.proofs.Programs.{complains, silent, succeeds}
 use Rattle.markdown.proofs.command.program.Goals as goal
 
 pub returns : goal.returns

@@ -2,8 +2,8 @@ use Rattle.std.proofs.Common.{◌∙◌, ap}
 use Rattle.std.proofs.lemmas.Result.{on_ok_weaker}
 use Rattle.markdown_definition.specs.Html.{html}
 use Rattle.markdown_definition.specs.TextTables.{text_tables}
-use Rattle.markdown.specs.Faults.{is_write_error}
-use Rattle.markdown.proofs.Transfers.{begins_of_text, if_err_from, page_of_text}
+use Rattle.markdown_devices.specs.Faults.{is_write_error}
+use Rattle.markdown_devices.proofs.Transfers.{begins_of_text, if_err_from, page_of_text}
 use Rattle.markdown.proofs.transfer.run.Goals as goal
 
 pub returns-clause-ok : goal.returns-clause-ok

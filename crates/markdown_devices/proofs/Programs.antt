@@ -4,12 +4,12 @@ use Rattle.std.specs.Prelude.{Result, Ok, Err, MatchResult, IfErr, is_ok}
 use Rattle.std.specs.Io.KnownBytes.{Keeps}
 use Rattle.std.proofs.KnownBytes.{Keeps-refl}
 use Rattle.clap.specs.Words.{Kinds}
-use Rattle.markdown.specs.declared.fault.Fault.{Fault}
-use Rattle.markdown.specs.declared.fault.Fault.TheVariants.{Words, References, Rows, Run}
-use Rattle.markdown.specs.declared.watched.Watched.{Watched}
-use Rattle.markdown.specs.Program.{Complains}
-use Rattle.markdown.specs.Statuses.{MayComeOf, status_of}
-use Rattle.markdown.specs.Watched.{device}
+use Rattle.markdown_devices.specs.declared.fault.Fault.{Fault}
+use Rattle.markdown_devices.specs.declared.fault.Fault.TheVariants.{Words, References, Rows, Run}
+use Rattle.markdown_devices.specs.declared.watched.Watched.{Watched}
+use Rattle.markdown_devices.specs.Program.{Complains}
+use Rattle.markdown_devices.specs.Statuses.{MayComeOf, status_of}
+use Rattle.markdown_devices.specs.Watched.{device}
 
 -- how an outcome is told
 abbrev pub Tells : {T F : Type 0} → (F → Option (List ℕ)) → Watched F → Watched F → ℕ → Result T Fault → Type 0

@@ -11,7 +11,7 @@ use Rattle.std.proofs.Math.Seq.{take-add}
 use Rattle.markdown_options.specs.declared.configuration.Options.{Options}
 use Rattle.markdown_definition.specs.Html.{html}
 use Rattle.markdown_definition.specs.TextTables.{TextTables}
-use Rattle.markdown.specs.Transfer.{AppendsBeginning, RefusesPast}
+use Rattle.markdown_devices.specs.Transfer.{AppendsBeginning, RefusesPast}
 
 -- the next write goes on where the last one ended
 pub Appends-more : (a b c : Option (List ℕ)) (bytes : List ℕ) (at n : ℕ) → Appends a b (take at bytes) → Appends b c (take n (drop at bytes))

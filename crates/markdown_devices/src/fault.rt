@@ -1,14 +1,14 @@
 //! Why the program ends with a status other than 0.
 ghost use Rattle.std.specs.Prelude.{◌≡◌};
-ghost use Rattle.markdown.specs.Complaints.{fault_line, fault_words, rows_line, rows_words};
-ghost use Rattle.markdown.specs.Statuses.{status_of};
+ghost use Rattle.markdown_devices.specs.Complaints.{fault_line, fault_words, rows_line, rows_words};
+ghost use Rattle.markdown_devices.specs.Statuses.{status_of};
 
-use crate::transfer::RunError;
+use crate::run_error::RunError;
 use markdown_tables::RowsError;
 
 /// Why the program ends with a status other than 0.
 #[derive(Debug, Drop)]
-pub(crate) enum Fault {
+pub enum Fault {
     /// The command line is wrong.
     Words,
     /// The references file can't be read.
@@ -21,7 +21,7 @@ pub(crate) enum Fault {
 
 impl Fault {
     /// The exit status: 2 for a wrong command line, 1 for any other fault.
-    pub(crate) fn status(&self) -> u8
+    pub fn status(&self) -> u8
         ensures { result ≡ status_of self.now }
     {
         match self {
@@ -31,7 +31,7 @@ impl Fault {
     }
 
     /// The message of the fault, without the number of a line.
-    pub(crate) fn words(&self) -> &'static str
+    pub fn words(&self) -> &'static str
         ensures { result.now ≡ fault_words self.now }
     {
         match self {
@@ -43,7 +43,7 @@ impl Fault {
     }
 
     /// The wrong line of the references file, from 1.
-    pub(crate) fn line(&self) -> Option<usize>
+    pub fn line(&self) -> Option<usize>
         ensures { result ≡ fault_line self.now }
     {
         match self {

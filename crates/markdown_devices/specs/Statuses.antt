@@ -6,10 +6,10 @@ use Rattle.clap.specs.Words.{Kinds}
 use Rattle.markdown_settings.specs.Settings.{HasFault}
 use Rattle.markdown_tables.specs.declared.rows_error.RowsError.TheVariants as rows
 use Rattle.markdown_tables.specs.RowsFaults.{text_fault}
-use Rattle.markdown.specs.declared.fault.Fault.{Fault}
-use Rattle.markdown.specs.declared.fault.Fault.TheVariants.{Words, References, Rows, Run}
-use Rattle.markdown.specs.declared.transfer.RunError.TheVariants.{Memory}
-use Rattle.markdown.specs.Faults.{is_write_error}
+use Rattle.markdown_devices.specs.declared.fault.Fault.{Fault}
+use Rattle.markdown_devices.specs.declared.fault.Fault.TheVariants.{Words, References, Rows, Run}
+use Rattle.markdown_devices.specs.declared.run_error.RunError.TheVariants.{Memory}
+use Rattle.markdown_devices.specs.Faults.{is_write_error}
 
 -- 2 for words that are no command line, and 1 for every other fault
 abbrev pub status_of : Fault → ℕ

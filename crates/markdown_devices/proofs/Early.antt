@@ -4,12 +4,12 @@ use Rattle.std.proofs.KnownBytes.{Keeps-refl}
 use Rattle.markdown_options.specs.declared.configuration.Options.{Options}
 use Rattle.markdown_definition.specs.Html.{html}
 use Rattle.markdown_tables.specs.Builtin.{builtin_tables}
-use Rattle.markdown.specs.declared.convert.TheConstants.{SIZE_MAX}
-use Rattle.markdown.specs.declared.watched.Watched.{Watched}
-use Rattle.markdown.specs.Endings.{Ends, EndsBy}
-use Rattle.markdown.specs.Tables.{AreTables}
-use Rattle.markdown.specs.Transfer.{TellsMore}
-use Rattle.markdown.specs.Watched.{device, has_ended, has_failed, has_flush_failed}
+use Rattle.markdown_devices.specs.declared.read.TheConstants.{SIZE_MAX}
+use Rattle.markdown_devices.specs.declared.watched.Watched.{Watched}
+use Rattle.markdown_devices.specs.Endings.{Ends, EndsBy}
+use Rattle.markdown_devices.specs.Tables.{AreTables}
+use Rattle.markdown_devices.specs.Transfer.{TellsMore}
+use Rattle.markdown_devices.specs.Watched.{device, has_ended, has_failed, has_flush_failed}
 
 nothing_told : (a : Option (List ℕ)) (most : ℕ) → TellsMore most a a → ⊥
 nothing_told None most more = absurd more

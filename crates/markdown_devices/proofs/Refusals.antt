@@ -4,10 +4,10 @@ use Rattle.std.specs.Prelude.{Result, Ok, Err, IfErr}
 use Rattle.clap.specs.Words.{Kinds, Text}
 use Rattle.clap.specs.declared.error.kind.ErrorKind.TheVariants.{DisplayHelp, DisplayVersion}
 use Rattle.markdown_settings.specs.Settings.{AsksFor, HasFault}
-use Rattle.markdown.specs.declared.fault.Fault.{Fault}
-use Rattle.markdown.specs.declared.fault.Fault.TheVariants.{Words, References, Rows, Run}
-use Rattle.markdown.specs.declared.transfer.RunError.TheVariants.{Size, Utf8, Memory, Read, Write, Stopped}
-use Rattle.markdown.specs.Statuses.{MayComeOf, is_write_fault, status_of}
+use Rattle.markdown_devices.specs.declared.fault.Fault.{Fault}
+use Rattle.markdown_devices.specs.declared.fault.Fault.TheVariants.{Words, References, Rows, Run}
+use Rattle.markdown_devices.specs.declared.run_error.RunError.TheVariants.{Size, Utf8, Memory, Read, Write, Stopped}
+use Rattle.markdown_devices.specs.Statuses.{MayComeOf, is_write_fault, status_of}
 
 -- words without a fault ask for no help
 pub none_asks : (kinds : Kinds) (text : Text) → AsksFor kinds text → kinds ≡ [] → ⊥

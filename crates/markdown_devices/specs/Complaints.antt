@@ -3,10 +3,10 @@ use Rattle.std.specs.Prelude.{ℕ, List, [], ◌++◌, Option, None, Some, codes
 use Rattle.std.specs.Option.{option_map_or}
 use Rattle.markdown_tables.specs.declared.rows_error.RowsError.{RowsError}
 use Rattle.markdown_tables.specs.declared.rows_error.RowsError.TheVariants as rows
-use Rattle.markdown.specs.declared.fault.Fault.{Fault}
-use Rattle.markdown.specs.declared.fault.Fault.TheVariants.{Words, References, Rows, Run}
-use Rattle.markdown.specs.declared.transfer.RunError.{RunError}
-use Rattle.markdown.specs.declared.transfer.RunError.TheVariants.{Size, Utf8, Memory, Read, Write, Stopped}
+use Rattle.markdown_devices.specs.declared.fault.Fault.{Fault}
+use Rattle.markdown_devices.specs.declared.fault.Fault.TheVariants.{Words, References, Rows, Run}
+use Rattle.markdown_devices.specs.declared.run_error.RunError.{RunError}
+use Rattle.markdown_devices.specs.declared.run_error.RunError.TheVariants.{Size, Utf8, Memory, Read, Write, Stopped}
 
 abbrev pub run_words : RunError → List ℕ
 run_words Size = codes "input is too large"

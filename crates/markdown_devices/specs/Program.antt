@@ -3,13 +3,13 @@ use Rattle.std.specs.Prelude.{◌≡◌, ◌⊎◌, ◌==◌, ℕ, Bool, true, f
 use Rattle.std.specs.Io.KnownBytes.{Appends, Keeps}
 use Rattle.clap.specs.Words.{Kinds, Text}
 use Rattle.markdown_settings.specs.Settings.{AsksFor, faults_of, options_of, path_of}
-use Rattle.markdown.specs.declared.fault.Fault.{Fault}
-use Rattle.markdown.specs.declared.watched.Watched.{Watched}
-use Rattle.markdown.specs.Complaints.{complaint}
-use Rattle.markdown.specs.Endings.{EndsBy}
-use Rattle.markdown.specs.Statuses.{MayComeOf, status_of}
-use Rattle.markdown.specs.Transfer.{AppendsBeginning}
-use Rattle.markdown.specs.Watched.{device, has_failed, has_flushed, has_flush_failed}
+use Rattle.markdown_devices.specs.declared.fault.Fault.{Fault}
+use Rattle.markdown_devices.specs.declared.watched.Watched.{Watched}
+use Rattle.markdown_devices.specs.Complaints.{complaint}
+use Rattle.markdown_devices.specs.Endings.{EndsBy}
+use Rattle.markdown_devices.specs.Statuses.{MayComeOf, status_of}
+use Rattle.markdown_devices.specs.Transfer.{AppendsBeginning}
+use Rattle.markdown_devices.specs.Watched.{device, has_failed, has_flushed, has_flush_failed}
 
 -- how the writing of a text ends
 pub record WritesText {E : Type 0} (contents : E → Option (List ℕ)) (writer writer' : Watched E) (ok : Bool) (text : List ℕ) : Type 0 where

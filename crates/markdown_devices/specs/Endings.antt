@@ -5,11 +5,11 @@ use Rattle.std.specs.Io.KnownBytes.{Appends, Keeps}
 use Rattle.markdown_options.specs.declared.configuration.Options.{Options}
 use Rattle.markdown_definition.specs.TextTables.{TextTables}
 use Rattle.markdown_definition.specs.Html.{html}
-use Rattle.markdown.specs.declared.convert.TheConstants.{SIZE_MAX}
-use Rattle.markdown.specs.declared.watched.Watched.{Watched}
-use Rattle.markdown.specs.Tables.{AreTables}
-use Rattle.markdown.specs.Transfer.{AppendsBeginning, TellsMore}
-use Rattle.markdown.specs.Watched.{came_to_end, device, has_ended, has_failed, has_flushed, has_flush_failed}
+use Rattle.markdown_devices.specs.declared.read.TheConstants.{SIZE_MAX}
+use Rattle.markdown_devices.specs.declared.watched.Watched.{Watched}
+use Rattle.markdown_devices.specs.Tables.{AreTables}
+use Rattle.markdown_devices.specs.Transfer.{AppendsBeginning, TellsMore}
+use Rattle.markdown_devices.specs.Watched.{came_to_end, device, has_ended, has_failed, has_flushed, has_flush_failed}
 
 -- how a conversion ends that reads from a reader and writes a page of what it read, by what the two were and are
 pub record Ends {D E : Type 0} (remaining : D → Option (List ℕ)) (contents : E → Option (List ℕ))

@@ -1,8 +1,8 @@
 use Rattle.std.proofs.Common.{arith, vec_len, ◌∙◌}
 use Rattle.std.proofs.lemmas.Result.{err_from_is_err_and}
-use Rattle.markdown.specs.declared.convert.TheConstants.{SIZE_MAX}
-use Rattle.markdown.proofs.Transfers.{Consumes-next, Consumes-all_read, RefusesPast-after, still_going}
-use Rattle.markdown.proofs.transfer.read_chunks.Goals as goal
+use Rattle.markdown_devices.specs.declared.read.TheConstants.{SIZE_MAX}
+use Rattle.markdown_devices.proofs.Transfers.{Consumes-next, Consumes-all_read, RefusesPast-after, still_going}
+use Rattle.markdown_devices.proofs.read.read_chunks.Goals as goal
 
 pub returns-in_err-read_chunk-clause-size : goal.returns-in_err-read_chunk-clause-size
 returns-in_err-read_chunk-clause-size g c =

@@ -1,0 +1,4 @@
+pub mod Early
+pub mod Programs
+pub mod Refusals
+pub mod Transfers
