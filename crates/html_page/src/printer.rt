@@ -1,5 +1,5 @@
 //! Rows to HTML.
-ghost use Rattle.std.specs.Prelude.{◌≡◌, ◌≤◌, ◌<◌, ◌*◌, List, IfOk, OnOk, string_bytes, length, drop, vec_capacity, vec_len};
+ghost use Rattle.std.specs.Prelude.{◌≡◌, ◌≤◌, ◌<◌, ◌+◌, ◌-◌, ◌*◌, ◌++◌, List, IfOk, OnOk, string_bytes, length, drop, take, vec_capacity, vec_len};
 ghost use Rattle.markdown_options.specs.LineEndings.{ending_bytes};
 ghost use Rattle.definition_inline.specs.Targets.{Targets};
 ghost use Rattle.definition_text.specs.BlockLines.{BlockLine};
@@ -210,9 +210,40 @@ fn remove_front<T: Copy, A: Allocator>(items: &mut Vec<T, A>, count: usize)
     ensures memory { count ≡ vec_len items.old → vec_capacity items.new ≡ 0 }
 {
     let left = items.len() - count;
-    items.copy_within(count.., 0);
+    move_to_front(items, count);
     items.truncate(left);
     items.shrink_to_fit();
+}
+
+/// Moves the items from a place on to the front. Each step reads and writes apart, so that it is one
+/// copy of bytes, where `copy_within` would copy field by field.
+fn move_to_front<T: Copy>(items: &mut [T], from: usize)
+    requires { from ≤ length items.old }
+    ensures len { length items.new ≡ length items.old }
+    ensures moved { take (length items.old - from) items.new ≡ drop from items.old }
+{
+    if from == 0 {
+        return;
+    }
+    let mut at = 0;
+    'by_part: while from < items.len() - at {
+        at += copy_to_front(&mut items[at..], from);
+    }
+}
+
+/// Copies items from a place on over those at the front, at most as many as are before that place.
+/// Answers how many.
+fn copy_to_front<T: Copy>(items: &mut [T], from: usize) -> usize
+    requires some { 1 ≤ from }
+    requires within { from < length items.old }
+    ensures some { 1 ≤ result }
+    ensures within { result + from ≤ length items.old }
+    ensures copied { items.new ≡ take result (drop from items.old) ++ drop result items.old }
+{
+    let (front, back) = items.split_at_mut(from);
+    let count = front.len().min(back.len());
+    front[..count].copy_from_slice(&back[..count]);
+    count
 }
 
 /// Whether the last row is the ending of a blank line.

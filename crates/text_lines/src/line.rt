@@ -8,7 +8,7 @@ ghost use Rattle.definition_text.specs.Lines.{ends_line, lines, first_line, text
 ghost use Rattle.text_lines.specs.Endings.{BeginsWithEnding};
 
 use markdown_options::LineEnding;
-use text_search::{BytePair, next_of};
+use text_search::{BytePair, next_far};
 
 /// The bytes that begin an ending: LF and CR.
 const ENDS: BytePair = BytePair {
@@ -42,7 +42,7 @@ fn split_content(text: &str) -> (&str, &str)
 fn content_len(bytes: &[u8]) -> usize
     ensures { result ≡ position_or_len ends_line bytes.now }
 {
-    next_of(bytes, ENDS)
+    next_far(bytes, ENDS)
 }
 
 /// The ending that a text begins with, and what follows it.

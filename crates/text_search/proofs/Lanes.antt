@@ -1,5 +1,5 @@
 -- From the mask of one load to the bytes of a set.
-use Rattle.std.proofs.Common.{◌≡◌, ℕ, ◌+◌, ◌*◌, ◌/◌, ◌%◌, ◌^◌, ◌<◌, Bool, true, false, not, ◌||◌, eqb, cond, List, [], ◌∷◌, map, length, get_or, replicate}
+use Rattle.std.proofs.Common.{◌≡◌, ℕ, ◌+◌, ◌*◌, ◌/◌, ◌%◌, ◌^◌, ◌<◌, ◌≤◌, Bool, true, false, not, ◌||◌, eqb, cond, List, [], ◌∷◌, map, length, get_or, replicate}
 use Rattle.std.proofs.Common.{bit_and, bit_or, w8, Fits, refl, sym, ap, ◌∙◌, arith}
 use Rattle.std.proofs.lemmas.List.{get_or-map, length-map, ext_get_or}
 use Rattle.std.proofs.lemmas.Nat.{and_mask}
@@ -56,22 +56,22 @@ either false true = refl
 either false false = refl
 
 -- lanes that are compared with what two functions make of them
-counted : (f g : ℕ → ℕ) (v fs gs : List ℕ) → length v ≡ 16 → fs ≡ map f v → gs ≡ map g v
-    → first_set (mask_l (map (top 7) (zip2 bit_or (zip2 compared v fs) (zip2 compared v gs))) % 2 ^ 64) 16
+counted : (n : ℕ) (f g : ℕ → ℕ) (v fs gs : List ℕ) → n ≤ 64 → length v ≡ n → fs ≡ map f v → gs ≡ map g v
+    → first_set (mask_l (map (top 7) (zip2 bit_or (zip2 compared v fs) (zip2 compared v gs))) % 2 ^ 64) n
     ≡ prefix_len (λ x. not (eqb x (f x) || eqb x (g x))) v
-counted f g v fs gs long p q =
+counted n f g v fs gs few long p q =
     let hit = λ (x : ℕ). eqb x (f x) || eqb x (g x) in
     let first = zip2_of_maps compared (λ x. x) f v (itself v) p in
     let second = zip2_of_maps compared (λ x. x) g v (itself v) q in
     let tops = ap (map (top 7)) (zip2_of_maps bit_or _ _ v first second) ∙ map-map (top 7) _ v ∙ (λ i. map (λ x. either (eqb x (f x)) (eqb x (g x)) i) v) in
-    ap (λ m. first_set m 16) (ap (λ l. mask_l l % 2 ^ 64) tops ∙ mask_l-mod (map hit v) 64 (omega (arith, length-map v hit, long)))
-    ∙ first_set_mask_l hit v 16 long (omega arith)
+    ap (λ m. first_set m n) (ap (λ l. mask_l l % 2 ^ 64) tops ∙ mask_l-mod (map hit v) 64 (omega (arith, length-map v hit, long, few)))
+    ∙ first_set_mask_l hit v n long few
 
 -- the mask of the lanes whose bytes a set holds
 pub run_is : (set : ByteSet) (r : ℕ) (v fs gs : List ℕ) → length v ≡ 16 → fs ≡ map (λ x. get_or set.first (x % 16) 0) v
     → gs ≡ map (λ x. get_or set.second (x % 16) 0) v
     → r ≡ first_set (mask_l (map (top 7) (zip2 bit_or (zip2 compared v fs) (zip2 compared v gs))) % 2 ^ 64) 16 → r ≡ prefix_len (λ x. not (holds set x)) v
-run_is set r v fs gs long p q is = is ∙ counted (λ x. get_or set.first (x % 16) 0) (λ x. get_or set.second (x % 16) 0) v fs gs long p q
+run_is set r v fs gs long p q is = is ∙ counted 16 (λ x. get_or set.first (x % 16) 0) (λ x. get_or set.second (x % 16) 0) v fs gs (omega arith) long p q
 
 -- ---- pairs
 
@@ -81,12 +81,12 @@ filled b [] = refl
 filled b (x ∷ xs) = ap (λ l. b ∷ l) (filled b xs)
 
 -- the mask of the lanes whose bytes are of a pair
-pub pair_run_is : (pair : BytePair) (r : ℕ) (v : List ℕ) → length v ≡ 16
-    → r ≡ first_set (mask_l (map (top 7) (zip2 bit_or (zip2 compared v (replicate 16 pair.first)) (zip2 compared v (replicate 16 pair.second)))) % 2 ^ 64) 16
+pub pair_run_is : (n : ℕ) (pair : BytePair) (r : ℕ) (v : List ℕ) → n ≤ 64 → length v ≡ n
+    → r ≡ first_set (mask_l (map (top 7) (zip2 bit_or (zip2 compared v (replicate n pair.first)) (zip2 compared v (replicate n pair.second)))) % 2 ^ 64) n
     → r ≡ prefix_len (λ x. not (is_of_pair pair x)) v
-pair_run_is pair r v long is =
+pair_run_is n pair r v few long is =
     let lanes = λ (b : ℕ). ap (λ n. replicate n b) (sym long) ∙ filled b v in
-    is ∙ counted (λ _. pair.first) (λ _. pair.second) v (replicate 16 pair.first) (replicate 16 pair.second) long (lanes pair.first) (lanes pair.second)
+    is ∙ counted n (λ _. pair.first) (λ _. pair.second) v (replicate n pair.first) (replicate n pair.second) few long (lanes pair.first) (lanes pair.second)
 
 -- ---- classes
 

@@ -1,3 +1,4 @@
 pub mod Sets
 mod Lanes
 mod Ends
+mod After

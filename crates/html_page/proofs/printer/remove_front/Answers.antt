@@ -1,20 +1,17 @@
-use Rattle.std.proofs.Common.{◌≡◌, ◌+◌, ◌-◌, take, drop, sym, ap, ◌∙◌, arith, length-drop, take_all}
-use lib.Seq.{paste}
-use Rattle.std.proofs.lemmas.List.Edits.{take-paste}
+use Rattle.std.proofs.Common.{◌≡◌, ◌-◌, take, drop, length, ap, ◌∙◌, arith, vec_len}
+use Rattle.std.proofs.lemmas.List.{take_at}
 use Rattle.html_page.proofs.printer.remove_front.Goals as goal
 
 pub returns-clause-items : goal.returns-clause-items
 returns-clause-items g c =
     let all = c.args.items.now.items in
     let count = c.args.count in
-    let left = c.len.result - count in
-    let same : left ≡ 0 + left = omega arith in
+    let moved = c.move_to_front.new.items in
+    let left : c.len.result - count ≡ length c.deref_mut.result.now - count =
+    omega (arith, c.len.ensures, c.deref_mut.ensures.len) in
     c.shrink_to_fit.ensures.items
     ∙ c.truncate.ensures.items
-    ∙ ap (take left) c.copy_within.ensures.items
-    ∙ ap (λ n. take left (paste all 0 (drop count all) (n - count))) (sym c.len.ensures)
-    ∙ ap (λ k. take k (paste all 0 (drop count all) left)) same
-    ∙ take-paste all 0 (drop count all) left
-    (omega (arith, c.requires, c.len.ensures, c.args.items.now.ok.0))
-    (omega (arith, c.requires, c.len.ensures, c.args.items.now.ok.0, length-drop count all))
-    ∙ take_all left (drop count all) (omega (arith, c.len.ensures, c.args.items.now.ok.0, length-drop count all))
+    ∙ ap (take (c.len.result - count)) (take_at moved (drop (length moved) all) (vec_len c.args.items.now) (omega (arith, c.move_to_front.ensures.len, c.deref_mut.ensures.len)))
+    ∙ ap (λ k. take k moved) left
+    ∙ c.move_to_front.ensures.moved
+    ∙ ap (drop count) c.deref_mut.ensures.value
