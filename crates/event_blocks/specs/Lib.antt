@@ -1,0 +1,1 @@
+-- What the printers of leaf blocks are stated with.
