@@ -1,5 +1,14 @@
 //! Math (in neither standard).
-ghost use Rattle.html_leaves.specs.Prints.{KeepsEnding};
+ghost use Rattle.std.specs.Prelude.{◌≡◌, OnOk};
+ghost use Rattle.definition_inline.specs.CharacterReference.{Names};
+ghost use Rattle.definition_page.specs.BlockPieces.{Place, leaf_block_pieces};
+ghost use Rattle.definition_page.specs.InlinePieces.{Meaning};
+ghost use Rattle.event_grammar.specs.Trees.{Nodes, events_of};
+ghost use Rattle.event_meaning.specs.Blocks.{math_flow_of};
+ghost use Rattle.event_rows.specs.Columns.{AreCounted};
+ghost use Rattle.html_bytes.specs.Pieces.{in_bytes};
+ghost use Rattle.html_leaves.specs.Prints.{KeepsEnding, LaysOut};
+ghost use Rattle.event_blocks.specs.Sound.{AreSound};
 
 use crate::printer::LeafPrinter;
 use crate::source::Source;
@@ -14,7 +23,13 @@ impl<A: Allocator + Clone> LeafPrinter<A> {
         top: bool,
         inside: &[Event],
     ) -> Result<(), AllocError>
+        requires { AreCounted source.now.checked.bytes.now self.old.columns }
         ensures default { KeepsEnding self.old.page self.new.page }
+        ensures counted { AreCounted source.now.checked.bytes.now self.new.columns }
+        ensures printed { (names : Names) (m : Meaning) (place : Place) (ns : Nodes) → top ≡ place.top →
+            AreSound source.now.checked.bytes.now ns → inside.now ≡ events_of ns →
+            let math = math_flow_of names source.now.checked.bytes.now top ns in
+            OnOk result (LaysOut m.compile self.old.page self.new.page (in_bytes (leaf_block_pieces m place math))) }
     {
         self.page
             .fresh_tag("<pre><code class=\"language-math math-display\">")?;

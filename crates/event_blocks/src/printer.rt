@@ -1,6 +1,7 @@
 //! Leaf blocks, and the endings between blocks, printed to a page.
-ghost use Rattle.std.specs.Prelude.{◌≡◌, IfOk, string_bytes};
+ghost use Rattle.std.specs.Prelude.{◌≡◌, ℕ, List, IfOk, string_bytes};
 ghost use Rattle.markdown_options.specs.LineEndings.{ending_bytes};
+ghost use Rattle.event_rows.specs.Columns.{AreCounted};
 ghost use Rattle.html_bytes.specs.Layout.{nothing_laid, with_footnotes};
 ghost use Rattle.html_leaves.specs.Prints.{KeepsEnding, page_view};
 
@@ -46,6 +47,7 @@ impl<A: Allocator + Clone> LeafPrinter<A> {
     ) -> Result<LeafPrinter<A>, AllocError>
         ensures blank { IfOk result (λ printer. page_view printer.page ≡ nothing_laid) }
         ensures default { IfOk result (λ printer. printer.page.default_ending ≡ default_ending) }
+        ensures counted { (bytes : List ℕ) → IfOk result (λ printer. AreCounted bytes printer.columns) }
     {
         Ok(LeafPrinter {
             page: Page::new(alloc.clone()?, room, default_ending)?,
@@ -59,7 +61,7 @@ impl<A: Allocator + Clone> LeafPrinter<A> {
     /// Ends the page: prints the footnotes that are called after its text.
     pub fn finish(self, options: &CompileOptions) -> Result<String<A>, AllocError>
         ensures { IfOk result (λ html. string_bytes html ≡
-            with_footnotes options.now (ending_bytes self.entry.page.default_ending) (page_view self.entry.page)) }
+            with_footnotes options.now (ending_bytes self.page.default_ending) (page_view self.page)) }
     {
         let LeafPrinter { page, .. } = self;
         page.finish(options)
@@ -75,6 +77,7 @@ impl<A: Allocator + Clone> LeafPrinter<A> {
         index: usize,
         node: &Node<'_>,
     ) -> Result<(), AllocError>
+        requires { AreCounted source.now.checked.bytes.now self.old.columns }
         ensures default { KeepsEnding self.old.page self.new.page }
     {
         let inside = node.inside;

@@ -1,4 +1,6 @@
 //! What events are printed by.
+ghost use Rattle.std.specs.Prelude.{◌≡◌};
+
 use event_check::Checked;
 use event_rows::TextEvents;
 use html_inline::Printing;
@@ -26,7 +28,9 @@ pub struct Source<'a, T, A: Allocator + Clone> {
 
 impl<'a, T, A: Allocator + Clone> Source<'a, T, A> {
     /// The bytes of the text.
-    pub fn bytes(&self) -> &'a [u8] {
+    pub fn bytes(&self) -> &'a [u8]
+        ensures { result.now ≡ self.now.checked.bytes.now }
+    {
         self.checked.bytes()
     }
 
