@@ -1,7 +1,6 @@
 -- What is open on a page, and what was printed on it.
-use Rattle.std.specs.Prelude.{ℕ, Bool, false, List, [], ◌∷◌, reverse}
+use Rattle.std.specs.Prelude.{Bool, false, List, [], ◌∷◌, reverse}
 use Rattle.markdown_options.specs.declared.configuration.CompileOptions.{CompileOptions}
-use Rattle.markdown_options.specs.declared.line_ending.LineEnding.{LineEnding}
 use Rattle.definition_page.specs.Pieces.{Piece}
 use Rattle.html_bytes.specs.Pieces.{in_bytes}
 use Rattle.html_leaves.specs.Prints.{LaysOut}
@@ -46,7 +45,7 @@ holder_view (ListOf number) = left.ListOf number
 
 -- a page grows by these pieces of the definition
 abbrev pub Prints : {A : Type 0} → CompileOptions → Printer A → Printer A → List Piece → Type 0
-Prints options old new pieces = LaysOut options old.page new.page (in_bytes pieces)
+Prints options old new pieces = LaysOut options old.leaves.page new.leaves.page (in_bytes pieces)
 
 -- whether the next list is loose
 abbrev pub head_or_tight : List Bool → Bool
@@ -55,13 +54,3 @@ head_or_tight (loose ∷ others) = loose
 
 abbrev pub next_loose : {A : Type 0} → Printer A → Bool
 next_loose p = head_or_tight (reverse p.loose.items)
-
--- what a leaf keeps: what is open, which lists are loose, and the default ending
-pub record Kept : Type 0 where
-  pub opened : Opened
-  pub skipped : ℕ
-  pub loose : List Bool
-  pub ending : LineEnding
-
-abbrev pub kept_of : {A : Type 0} → Printer A → Kept
-kept_of p = record { opened = opened_of p; skipped = p.skipped; loose = p.loose.items; ending = p.page.default_ending }

@@ -15,24 +15,24 @@ use std::alloc::{AllocError, Allocator};
 impl<A: Allocator + Clone> Printer<A> {
     /// A block quote starts.
     pub(crate) fn enter_quote(&mut self) -> Result<(), AllocError>
-        ensures default { KeepsEnding self.old.page self.new.page }
+        ensures default { KeepsEnding self.old.leaves.page self.new.leaves.page }
         ensures skipped { self.new.skipped ≡ self.old.skipped }
         ensures loose { self.new.loose ≡ self.old.loose }
         ensures opened { OnOk result (opened_of self.new ≡ within kinds.Quote holders.Quote false (opened_of self.old)) }
         ensures printed { (options : CompileOptions) → OnOk result (Prints options self.old self.new (opening Quote)) }
     {
-        self.page.fresh_tag("<blockquote>")?;
+        self.leaves.page.fresh_tag("<blockquote>")?;
         self.go_in(BlockKind::Quote, Holder::Quote, false)
     }
 
     /// A block quote ends.
     pub(crate) fn leave_quote(&mut self) -> Result<(), AllocError>
-        ensures default { KeepsEnding self.old.page self.new.page }
+        ensures default { KeepsEnding self.old.leaves.page self.new.leaves.page }
         ensures skipped { self.new.skipped ≡ self.old.skipped }
         ensures loose { self.new.loose ≡ self.old.loose }
         ensures opened { opened_of self.new ≡ opened_of self.old }
         ensures printed { (options : CompileOptions) → OnOk result (Prints options self.old self.new (closing Quote self.old.level.plain)) }
     {
-        self.page.fresh_tag("</blockquote>")
+        self.leaves.page.fresh_tag("</blockquote>")
     }
 }

@@ -13,7 +13,7 @@ use std::alloc::{AllocError, Allocator};
 impl<A: Allocator + Clone> Printer<A> {
     /// The innermost container or list ends.
     pub(crate) fn leave(&mut self) -> Result<(), AllocError>
-        ensures default { KeepsEnding self.old.page self.new.page }
+        ensures default { KeepsEnding self.old.leaves.page self.new.leaves.page }
         ensures skipped { self.new.skipped ≡ self.old.skipped }
         ensures loose { self.new.loose ≡ self.old.loose }
         ensures opened { OnOk result (opened_of self.new ≡ outside (opened_of self.old)) }
@@ -27,7 +27,7 @@ impl<A: Allocator + Clone> Printer<A> {
 
     /// Prints the end of the innermost container or list.
     fn close(&mut self) -> Result<(), AllocError>
-        ensures default { KeepsEnding self.old.page self.new.page }
+        ensures default { KeepsEnding self.old.leaves.page self.new.leaves.page }
         ensures skipped { self.new.skipped ≡ self.old.skipped }
         ensures loose { self.new.loose ≡ self.old.loose }
         ensures opened { opened_of self.new ≡ opened_of self.old }
@@ -50,7 +50,7 @@ impl<A: Allocator + Clone> Printer<A> {
         holder: Holder,
         tight: bool,
     ) -> Result<(), AllocError>
-        ensures page { self.new.page ≡ self.old.page }
+        ensures leaves { self.new.leaves ≡ self.old.leaves }
         ensures skipped { self.new.skipped ≡ self.old.skipped }
         ensures loose { self.new.loose ≡ self.old.loose }
         ensures opened { OnOk result (opened_of self.new ≡ within kind holder tight (opened_of self.old)) }
@@ -63,7 +63,7 @@ impl<A: Allocator + Clone> Printer<A> {
 
     /// Goes out of one.
     fn go_out(&mut self)
-        ensures page { self.new.page ≡ self.old.page }
+        ensures leaves { self.new.leaves ≡ self.old.leaves }
         ensures skipped { self.new.skipped ≡ self.old.skipped }
         ensures loose { self.new.loose ≡ self.old.loose }
         ensures opened { opened_of self.new ≡ outside (opened_of self.old) }

@@ -15,24 +15,24 @@ use std::alloc::{AllocError, Allocator};
 impl<A: Allocator + Clone> Printer<A> {
     /// A footnote definition starts: what it holds is printed into a text of its own.
     pub(crate) fn enter_footnote(&mut self) -> Result<(), AllocError>
-        ensures default { KeepsEnding self.old.page self.new.page }
+        ensures default { KeepsEnding self.old.leaves.page self.new.leaves.page }
         ensures skipped { self.new.skipped ≡ self.old.skipped }
         ensures loose { self.new.loose ≡ self.old.loose }
         ensures opened { OnOk result (opened_of self.new ≡ within kinds.Footnote holders.Footnote false (opened_of self.old)) }
         ensures printed { (options : CompileOptions) → OnOk result (Prints options self.old self.new (opening Footnote)) }
     {
-        self.page.start_footnote()?;
+        self.leaves.page.start_footnote()?;
         self.go_in(BlockKind::Footnote, Holder::Footnote, false)
     }
 
     /// A footnote definition ends: the text around it goes on.
     pub(crate) fn leave_footnote(&mut self) -> Result<(), AllocError>
-        ensures default { KeepsEnding self.old.page self.new.page }
+        ensures default { KeepsEnding self.old.leaves.page self.new.leaves.page }
         ensures skipped { self.new.skipped ≡ self.old.skipped }
         ensures loose { self.new.loose ≡ self.old.loose }
         ensures opened { opened_of self.new ≡ opened_of self.old }
         ensures printed { (options : CompileOptions) → OnOk result (Prints options self.old self.new (closing Footnote self.old.level.plain)) }
     {
-        self.page.end_footnote()
+        self.leaves.page.end_footnote()
     }
 }

@@ -7,8 +7,8 @@ ghost use Rattle.event_pieces.specs.Left.{ListOf, opening, closing};
 ghost use Rattle.event_html.specs.Views.{opened_of, within, Prints, next_loose};
 
 use crate::printer::Printer;
-use crate::source::Source;
 use engine_events::event::{Event, Name};
+use event_blocks::source::Source;
 use event_levels::kind::BlockKind;
 use event_levels::level::Holder;
 use event_written::child::{child, inside_child, text_first};
@@ -36,27 +36,27 @@ impl<A: Allocator + Clone> Printer<A> {
         kind: BlockKind,
         number: Option<u32>,
     ) -> Result<(), AllocError>
-        ensures default { KeepsEnding self.old.page self.new.page }
+        ensures default { KeepsEnding self.old.leaves.page self.new.leaves.page }
         ensures skipped { self.new.skipped ≡ self.old.skipped }
         ensures opened { OnOk result (opened_of self.new ≡ within kind (holders.List number) (not (next_loose self.old)) (opened_of self.old)) }
         ensures printed { (options : CompileOptions) → OnOk result (Prints options self.old self.new (opening (ListOf number))) }
     {
         let loose = self.loose.pop().unwrap_or_default();
-        self.page.fresh()?;
-        self.page.list_tag(number)?;
+        self.leaves.page.fresh()?;
+        self.leaves.page.list_tag(number)?;
         self.go_in(kind, Holder::List { number }, !loose)
     }
 
     /// A list ends.
     pub(crate) fn leave_list(&mut self, number: Option<u32>) -> Result<(), AllocError>
-        ensures default { KeepsEnding self.old.page self.new.page }
+        ensures default { KeepsEnding self.old.leaves.page self.new.leaves.page }
         ensures skipped { self.new.skipped ≡ self.old.skipped }
         ensures loose { self.new.loose ≡ self.old.loose }
         ensures opened { opened_of self.new ≡ opened_of self.old }
         ensures printed { (options : CompileOptions) → OnOk result (Prints options self.old self.new (closing (ListOf number) self.old.level.plain)) }
     {
-        self.page.eol()?;
-        self.page.list_end(number)
+        self.leaves.page.eol()?;
+        self.leaves.page.list_end(number)
     }
 }
 

@@ -15,27 +15,27 @@ use std::alloc::{AllocError, Allocator};
 impl<A: Allocator + Clone> Printer<A> {
     /// An item starts.
     pub(crate) fn enter_item(&mut self) -> Result<(), AllocError>
-        ensures default { KeepsEnding self.old.page self.new.page }
+        ensures default { KeepsEnding self.old.leaves.page self.new.leaves.page }
         ensures skipped { self.new.skipped ≡ self.old.skipped }
         ensures loose { self.new.loose ≡ self.old.loose }
         ensures opened { OnOk result (opened_of self.new ≡ within kinds.Item holders.Item self.old.level.tight (opened_of self.old)) }
         ensures printed { (options : CompileOptions) → OnOk result (Prints options self.old self.new (opening Item)) }
     {
-        self.page.fresh_tag("<li>")?;
+        self.leaves.page.fresh_tag("<li>")?;
         self.go_in(BlockKind::Item, Holder::Item, self.level.tight)
     }
 
     /// An item ends. No fresh line is before its end tag after a paragraph of a tight item.
     pub(crate) fn leave_item(&mut self) -> Result<(), AllocError>
-        ensures default { KeepsEnding self.old.page self.new.page }
+        ensures default { KeepsEnding self.old.leaves.page self.new.leaves.page }
         ensures skipped { self.new.skipped ≡ self.old.skipped }
         ensures loose { self.new.loose ≡ self.old.loose }
         ensures opened { opened_of self.new ≡ opened_of self.old }
         ensures printed { (options : CompileOptions) → OnOk result (Prints options self.old self.new (closing Item self.old.level.plain)) }
     {
         if !self.level.plain {
-            self.page.fresh()?;
+            self.leaves.page.fresh()?;
         }
-        self.page.say("</li>")
+        self.leaves.page.say("</li>")
     }
 }

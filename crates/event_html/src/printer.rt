@@ -1,23 +1,17 @@
 //! Events to HTML.
-ghost use Rattle.std.specs.Prelude.{◌≡◌};
-ghost use Rattle.event_html.specs.Views.{kept_of};
-
-use crate::line_ending::ending_of;
-use crate::source::Source;
+use event_blocks::printer::{LeafPlace, LeafPrinter};
+use event_blocks::source::Source;
 use engine_events::event::{Event, Kind, Name};
 use event_levels::kind::{BlockKind, kind_of};
 use event_levels::level::{Holder, Level};
 use event_levels::node::{Node, node_after};
-use event_rows::Columns;
-use html_inline::Scratch;
-use html_leaves::Page;
 use markdown_options::{LineEnding, Tables};
 use std::alloc::{AllocError, Allocator};
 
 /// A page that is being printed, and what is open on it.
 #[derive(Drop)]
 pub struct Printer<A: Allocator + Clone> {
-    pub(crate) page: Page<A>,
+    pub(crate) leaves: LeafPrinter<A>,
     pub(crate) level: Level,
     /// The levels around it.
     pub(crate) outer: Vec<Level, A>,
@@ -25,10 +19,6 @@ pub struct Printer<A: Allocator + Clone> {
     pub(crate) skipped: usize,
     /// Whether the lists to come are loose, the next one last.
     pub(crate) loose: Vec<bool, A>,
-    pub(crate) columns: Columns,
-    pub(crate) scratch: Scratch<A>,
-    pub(crate) info: String<A>,
-    pub(crate) alloc: A,
 }
 
 impl<A: Allocator + Clone> Printer<A> {
@@ -40,15 +30,11 @@ impl<A: Allocator + Clone> Printer<A> {
         loose: Vec<bool, A>,
     ) -> Result<Printer<A>, AllocError> {
         Ok(Printer {
-            page: Page::new(alloc.clone()?, room, default_ending)?,
+            leaves: LeafPrinter::new(alloc.clone()?, room, default_ending)?,
             level: Level::new(Holder::Document, false),
-            outer: Vec::new(alloc.clone()?),
+            outer: Vec::new(alloc),
             skipped: 0,
             loose,
-            columns: Columns::new(),
-            scratch: Scratch::new(alloc.clone()?)?,
-            info: String::new(alloc.clone()?),
-            alloc,
         })
     }
 
@@ -62,7 +48,7 @@ impl<A: Allocator + Clone> Printer<A> {
             self.event(source, index, event, &events[index + 1..])?;
         }
         if ends_blank(events) {
-            self.page.fresh()?;
+            self.leaves.page.fresh()?;
         }
         Ok(())
     }
@@ -102,11 +88,21 @@ impl<A: Allocator + Clone> Printer<A> {
             BlockKind::Footnote => self.enter_footnote(),
             _ => {
                 let (node, _) = node_after(event, after);
-                self.leaf(source, kind, index, &node)?;
+                let place = self.leaf_place();
+                self.leaves.leaf(source, kind, place, index, &node)?;
                 self.level.pass(kind);
                 self.skipped = 1;
                 Ok(())
             }
+        }
+    }
+
+    /// Where a leaf block stands that comes next.
+    fn leaf_place(&self) -> LeafPlace {
+        LeafPlace {
+            top: self.level.holder.is_document(),
+            tight: self.level.tight,
+            silent: self.level.silent,
         }
     }
 
@@ -116,39 +112,6 @@ impl<A: Allocator + Clone> Printer<A> {
             let _ = self.loose.pop();
         }
         self.skipped = self.skipped.saturating_add(1);
-    }
-
-    /// Prints a leaf, which is entered at an index, or a line ending. Other events print nothing.
-    fn leaf<T: Tables>(
-        &mut self,
-        source: &Source<'_, T, A>,
-        kind: BlockKind,
-        index: usize,
-        node: &Node<'_>,
-    ) -> Result<(), AllocError>
-        ensures kept { kept_of self.new ≡ kept_of self.old }
-    {
-        let inside = node.inside;
-        match kind {
-            BlockKind::Ending => self.line_ending(ending_of(source.bytes(), node)),
-            BlockKind::Paragraph => self.paragraph(source, inside),
-            BlockKind::HeadingAtx => self.heading_atx(source, inside),
-            BlockKind::HeadingSetext => self.heading_setext(source, inside),
-            BlockKind::ThematicBreak => self.thematic_break(),
-            BlockKind::CodeIndented => self.code_indented(source, inside),
-            BlockKind::CodeFenced => self.code_fenced(source, inside),
-            BlockKind::MathFlow => self.math_flow(source, inside),
-            BlockKind::HtmlFlow => self.html_flow(source, inside),
-            BlockKind::Table => self.table(source, index, inside),
-            BlockKind::Blank
-            | BlockKind::Definition
-            | BlockKind::Quote
-            | BlockKind::UnorderedList
-            | BlockKind::OrderedList
-            | BlockKind::Item
-            | BlockKind::Footnote
-            | BlockKind::Other => Ok(()),
-        }
     }
 
     /// An event is exited.

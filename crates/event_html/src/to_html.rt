@@ -6,8 +6,8 @@ ghost use Rattle.event_check.specs.Checked.{Refuses};
 ghost use Rattle.event_check.specs.declared.error.CompileError.TheVariants.{Memory};
 
 use crate::printer::Printer;
-use crate::source::Source;
 use engine_events::event::Event;
+use event_blocks::source::Source;
 use event_check::{Checked, CompileError, check_events};
 use event_written::{footnote_labels, loose_lists, read_definitions};
 use markdown_options::{CompileOptions, Constructs, LineEnding, Tables};
@@ -64,8 +64,8 @@ fn checked_html<T: Tables, A: Allocator + Clone>(
     let ending = default_ending(bytes, options.default_line_ending);
     let mut printer = Printer::new(alloc, room(bytes.len()), ending, loose)?;
     printer.events(&source, events)?;
-    let Printer { page, .. } = printer;
-    page.finish(options)
+    let Printer { leaves, .. } = printer;
+    leaves.finish(options)
 }
 
 /// The first line ending of the text, or the other one if it has none.

@@ -1,1 +1,3 @@
 pub mod SiblingLaw
+pub mod FirstLaw
+pub mod ChildLaw

@@ -1,6 +1,9 @@
 //! Events that are siblings, and those in them.
-ghost use Rattle.std.specs.Prelude.{◌≡◌, ◌≤◌, ◌<◌, drop, length, nat_lt, is_some, IfSome};
+ghost use Rattle.std.specs.Prelude.{◌≡◌, ◌≤◌, ◌<◌, None, drop, length, nat_lt, is_some, IfSome, MatchOption};
 ghost use Rattle.event_grammar.specs.Checks.{spot_of};
+ghost use Rattle.event_grammar.specs.Trees.{Nodes, Nil, AreNodes, events_of};
+ghost use Rattle.event_meaning.specs.Children as tree;
+ghost use Rattle.event_levels.specs.Children.{IsFirstOf, IsChildOf};
 ghost use Rattle.event_levels.specs.Siblings.{size_inside, inside, first_or, IsFirst};
 
 use engine_events::event::{Event, Kind, Name};
@@ -85,6 +88,7 @@ fn size_inside(events: &[Event]) -> usize
 pub fn first_node(events: &[Event]) -> Option<(Node<'_>, &[Event])>
     ensures some { is_some result ≡ nat_lt 0 (length events.now) }
     ensures first { IfSome result (λ found. IsFirst events.now found.0 found.1.now) }
+    ensures nodes { (ns : Nodes) → AreNodes ns → events.now ≡ events_of ns → MatchOption result (ns ≡ Nil) (λ found. IsFirstOf ns found.0 found.1.now) }
     ensures smaller { IfSome result (λ found. length found.0.inside.now < length events.now) }
     ensures shorter { IfSome result (λ found. length found.1.now < length events.now) }
 {
@@ -96,6 +100,8 @@ pub fn first_node(events: &[Event]) -> Option<(Node<'_>, &[Event])>
 
 /// Returns the first of these siblings that has a name.
 pub fn child(events: &[Event], name: Name) -> Option<Sibling<'_>>
+    ensures nodes { (ns : Nodes) → AreNodes ns → events.now ≡ events_of ns →
+        MatchOption result (tree.child name ns ≡ None) (λ found. IsChildOf name events.now ns found) }
     ensures within { IfSome result (λ found. found.index ≤ length events.now) }
     ensures shorter { IfSome result (λ found. length found.after.now < length events.now) }
 {
@@ -114,7 +120,9 @@ pub fn child(events: &[Event], name: Name) -> Option<Sibling<'_>>
 }
 
 /// Returns the events in the first of these siblings that has a name, or none.
-pub fn kids_in(events: &[Event], name: Name) -> &[Event] {
+pub fn kids_in(events: &[Event], name: Name) -> &[Event]
+    ensures { (ns : Nodes) → AreNodes ns → events.now ≡ events_of ns → result.now ≡ events_of (tree.kids_in name ns) }
+{
     match child(events, name) {
         None => &[],
         Some(found) => found.node.inside,

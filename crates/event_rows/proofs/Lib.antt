@@ -7,3 +7,9 @@ pub mod AloneLaw
 pub mod RowsLaw
 pub mod Pushed
 pub mod HtmlLoops
+pub mod ColumnsLaw
+pub mod HeldLaw
+pub mod JoinedLaw
+pub mod SpelledLaw
+pub mod RawLoops
+pub mod PassLaw

@@ -27,27 +27,27 @@ use Rattle.event_rows.specs.Rows.{label_by, target_by}
 use Rattle.event_rows.proofs.Passes.{nonzero, less}
 
 module _ (name : Name) where
-  own_enter : (c : ℕ) (e : Event) (es : List Event) (m : Bool) → e.kind ≡ Enter → is_listed media_names e.name ≡ m
+  pub own_enter : (c : ℕ) (e : Event) (es : List Event) (m : Bool) → e.kind ≡ Enter → is_listed media_names e.name ≡ m
       → own_from name c (e ∷ es)
       ≡ (if m then own_from name (c + 1) es else (if same_name e.name name && (c == 0) then e ∷ es else own_from name c es))
   own_enter c e es m h l =
       ap (λ (k : Kind). own_next k (is_listed media_names e.name) (same_name e.name name) c (e ∷ es) (λ q. own_from name q es)) h
       ∙ ap (λ (z : Bool). own_next Enter z (same_name e.name name) c (e ∷ es) (λ q. own_from name q es)) l
 
-  own_exit : (c : ℕ) (e : Event) (es : List Event) (m : Bool) → e.kind ≡ Exit → is_listed media_names e.name ≡ m
+  pub own_exit : (c : ℕ) (e : Event) (es : List Event) (m : Bool) → e.kind ≡ Exit → is_listed media_names e.name ≡ m
       → own_from name c (e ∷ es) ≡ (if m then (if c == 0 then [] else own_from name (c - 1) es) else own_from name c es)
   own_exit c e es m h l =
       ap (λ (k : Kind). own_next k (is_listed media_names e.name) (same_name e.name name) c (e ∷ es) (λ q. own_from name q es)) h
       ∙ ap (λ (z : Bool). own_next Exit z (same_name e.name name) c (e ∷ es) (λ q. own_from name q es)) l
 
   -- an exit in another one
-  own_up : (c : ℕ) (e : Event) (es : List Event) → e.kind ≡ Exit → is_listed media_names e.name ≡ true → own_from name (c + 1) (e ∷ es) ≡ own_from name c es
+  pub own_up : (c : ℕ) (e : Event) (es : List Event) → e.kind ≡ Exit → is_listed media_names e.name ≡ true → own_from name (c + 1) (e ∷ es) ≡ own_from name c es
   own_up c e es h l =
       own_exit (c + 1) e es true h l
       ∙ ap (λ (z : Bool). if z then [] else own_from name ((c + 1) - 1) es) (nonzero c)
       ∙ ap (λ (q : ℕ). own_from name q es) (less c)
 
-  and_no : (b z : Bool) → z ≡ false → (b && z) ≡ false
+  pub and_no : (b z : Bool) → z ≡ false → (b && z) ≡ false
   and_no true z h = h
   and_no false z h = refl
 

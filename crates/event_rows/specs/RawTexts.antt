@@ -11,6 +11,7 @@ use Rattle.event_grammar.specs.declared.spot.Spot.{Spot}
 use Rattle.event_grammar.specs.Checks.{spot_of}
 use Rattle.event_grammar.specs.Points.{spot, bytes_between}
 use Rattle.event_meaning.specs.Children.{columns_after}
+use Rattle.event_rows.specs.declared.raw_text.RawPlace.{RawPlace}
 use Rattle.event_written.specs.Child.{text_first}
 use Rattle.event_written.specs.Strings.{valid}
 
@@ -51,6 +52,18 @@ is_exit Exit = true
 -- whether an event enters something of this name
 abbrev pub begins : Name → Event → Bool
 begins name e = not (is_exit e.kind) && same_name e.name name
+
+-- whether an event is a part of raw text
+abbrev pub is_raw_part : Kind → Bool → Bool → ℕ → Bool
+is_raw_part kind is_sequence begun depth = not (is_exit kind) && not is_sequence && begun && (depth == 0)
+
+abbrev pub past_sequence : Bool → Option RawPlace
+past_sequence begun = if begun then None else Some (record { begun = true; depth = 1 })
+
+-- what comes of an event, given the place after it
+abbrev pub raw_walked : Bool → Option RawPlace → List ℕ → (Bool → ℕ → List ℕ) → List ℕ
+raw_walked part None here others = []
+raw_walked part (Some next) here others = (if part then here else []) ++ others next.begun next.depth
 
 module _ (bytes : List ℕ) where
   -- the chunk that events begin with, with spaces for the columns of tabs that its ends cut

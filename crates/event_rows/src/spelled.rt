@@ -1,8 +1,29 @@
 //! What of a text is computed before its rows: strings that aren't one piece of the bytes, and where
 //! links and images lead.
+ghost use Rattle.std.specs.Prelude.{◌≡◌, ◌<◌, ◌+◌, ◌++◌, ◌∷◌, ℕ, List, [], true, false, IfOk, OnOk, drop, length, string_bytes};
+ghost use Rattle.std.specs.Str.{is_utf8};
+ghost use Rattle.definition_text.specs.Content.{content_codes};
+ghost use Rattle.definition_inline.specs.Definition.{Definition};
+ghost use Rattle.definition_inline.specs.Inline.{LinkTexts as Leads};
+ghost use Rattle.definition_inline.specs.LabelMatch.{first_match};
+ghost use Rattle.definition_inline.specs.Targets.{labels_of, linked_at, linked_by, leads_to};
+ghost use Rattle.engine_events.specs.Names.{same_name};
+ghost use Rattle.engine_events.specs.declared.event.Event.{Event as AnEvent};
+ghost use Rattle.engine_events.specs.declared.event.Name.TheVariants as names;
+ghost use Rattle.event_grammar.specs.InGrammar.{PlacesFit};
+ghost use Rattle.event_grammar.specs.declared.spot.Spot.{Spot};
+ghost use Rattle.event_meaning.specs.Strings.{written};
+ghost use Rattle.event_rows.specs.Columns.{AreCounted};
+ghost use Rattle.event_rows.specs.Joined.{HaveRaws, HaveTargets, IsJoined, IsTarget, found_target, joined_first, label_at, resource_by};
+ghost use Rattle.event_rows.specs.LabelEnd.{AreHeld, IsFoundAt, IsHeld, label_place};
+ghost use Rattle.event_rows.specs.RawTexts.{raw_after};
+ghost use Rattle.event_rows.specs.Targets.{string_first};
+ghost use Rattle.event_rows.specs.Spelled.{AreSpelled, nowhere, raws_by, raws_next, spelled, spelled_by, targets_by};
+ghost use Rattle.inline_labels.specs.Table.{HasLabels};
+
 use crate::columns::Columns;
-use crate::label_end::{Held, is_held, is_media};
-use crate::raw_text::{push_raw_text, sequence_of, whole_piece};
+use crate::label_end::{Held, Open, is_media};
+use crate::raw_text::{is_exit, push_raw_text, sequence_of, whole_piece};
 use crate::texts::{TextEvents, text_of};
 use engine_events::event::{Event, Kind, Name};
 use event_references::label::push_text_at;
@@ -56,7 +77,12 @@ impl<A: Allocator + Clone> SpelledStrings<A> {
         texts: &TextEvents<'_, T, A>,
         columns: &mut Columns,
         events: &[Event],
-    ) -> Result<SpelledStrings<A>, AllocError> {
+    ) -> Result<SpelledStrings<A>, AllocError>
+        requires { AreCounted texts.now.bytes.now columns.old }
+        ensures spelled { (ds : List Definition) (at : Spot) → HasLabels texts.now.definitions.now (labels_of ds) → PlacesFit texts.now.bytes.now at events.now →
+            IfOk result (λ strings. AreSpelled (T.reference_of texts.now.tables.now) texts.now.bytes.now (leads_to (linked_by ds)) (linked_at ds) strings events.now) }
+        ensures counted { AreCounted texts.now.bytes.now columns.new }
+    {
         let mut strings = SpelledStrings {
             text: String::new(alloc.clone()?),
             targets: Vec::new(alloc.clone()?),
@@ -73,21 +99,39 @@ impl<A: Allocator + Clone> SpelledStrings<A> {
         bytes: &[u8],
         columns: &mut Columns,
         events: &[Event],
-    ) -> Result<(), AllocError> {
+    ) -> Result<(), AllocError>
+        requires { AreCounted bytes.now columns.old }
+        ensures raws { (raws : List (List ℕ)) → HaveRaws self.old (raws_by bytes.now events.now) raws → OnOk result (HaveRaws self.new [] raws) }
+        ensures targets { self.new.targets.items ≡ self.old.targets.items }
+        ensures counted { AreCounted bytes.now columns.new }
+    {
         for (index, event) in events.iter().enumerate() {
-            if let Some(sequence) = joined_sequence(bytes, event, &events[index + 1..]) {
-                let start = self.text.len();
-                push_raw_text(
-                    &mut self.text,
-                    columns,
-                    bytes,
-                    sequence,
-                    &events[index + 1..],
-                )?;
-                let end = self.text.len();
-                self.raw_texts.push(Range { start, end })?;
+            let rest = &events[index + 1..];
+            if let Some(sequence) = joined_sequence(bytes, event, rest) {
+                self.join_raw_text(bytes, columns, sequence, rest)?;
             }
         }
+        Ok(())
+    }
+
+    /// Joins a code span or math. The events are those after its enter.
+    fn join_raw_text(
+        &mut self,
+        bytes: &[u8],
+        columns: &mut Columns,
+        sequence: Name,
+        events: &[Event],
+    ) -> Result<(), AllocError>
+        requires { AreCounted bytes.now columns.old }
+        ensures raws { (others raws : List (List ℕ)) → HaveRaws self.old (raw_after bytes.now sequence false 0 events.now ∷ others) raws →
+            OnOk result (HaveRaws self.new others raws) }
+        ensures targets { self.new.targets.items ≡ self.old.targets.items }
+        ensures counted { AreCounted bytes.now columns.new }
+    {
+        let start = self.text.len();
+        push_raw_text(&mut self.text, columns, bytes, sequence, events)?;
+        let end = self.text.len();
+        self.raw_texts.push(Range { start, end })?;
         Ok(())
     }
 
@@ -97,87 +141,58 @@ impl<A: Allocator + Clone> SpelledStrings<A> {
         alloc: A,
         texts: &TextEvents<'_, T, A>,
         events: &[Event],
-    ) -> Result<(), AllocError> {
+    ) -> Result<(), AllocError>
+        ensures targets { (ds : List Definition) (at : Spot) → HasLabels texts.now.definitions.now (labels_of ds) → PlacesFit texts.now.bytes.now at events.now →
+            self.old.targets.items ≡ [] →
+            OnOk result (HaveTargets (linked_at ds) self.new (targets_by (T.reference_of texts.now.tables.now) texts.now.bytes.now (leads_to (linked_by ds)) events.now)) }
+        ensures raws { (ds : List Definition) (at : Spot) (raws : List (List ℕ)) → HasLabels texts.now.definitions.now (labels_of ds) →
+            PlacesFit texts.now.bytes.now at events.now → HaveRaws self.old [] raws → OnOk result (HaveRaws self.new [] raws) }
+    {
         let mut label = Vec::new(alloc.clone()?);
-        let mut open = Open {
-            inner: Held::new(),
-            outer: Vec::new(alloc),
-        };
+        let mut open = Open::new(alloc);
         for index in (0..events.len()).rev() {
-            let name = events[index].name;
-            match events[index].kind {
-                Kind::Exit => {
-                    if is_media(name) {
-                        open.exit()?;
-                    }
-                }
-                Kind::Enter => {
-                    if is_media(name) {
-                        let held = open.enter();
-                        let target = self.read_target(&mut label, texts, events, name, held)?;
-                        self.targets.push(target)?;
-                    } else if is_held(name) {
-                        open.inner = open.inner.with(name, index);
-                    }
-                }
-            }
+            self.find_target(&mut label, &mut open, texts, events, index)?;
         }
         Ok(())
     }
 
-    /// What a link, an image or a call is made of. `label` is overwritten.
-    fn read_target<T: Tables>(
+    /// One event more, before the others. `label` is overwritten.
+    fn find_target<T: Tables>(
         &mut self,
         label: &mut Vec<u8, A>,
+        open: &mut Open<A>,
         texts: &TextEvents<'_, T, A>,
         events: &[Event],
-        name: Name,
-        held: Held,
-    ) -> Result<SpelledTarget, AllocError> {
-        if held.resource && name != Name::GfmFootnoteCall {
-            let destination = self.push_string(texts, events, held.destination)?;
-            let title = self.push_string(texts, events, held.title)?;
-            return Ok(SpelledTarget::Resource { destination, title });
+        index: usize,
+    ) -> Result<(), AllocError>
+        requires { index < length events.now }
+        ensures held { AreHeld events.now (drop (index + 1) events.now) open.old → OnOk result (AreHeld events.now (drop index events.now) open.new) }
+        ensures targets { (ds : List Definition) (at : Spot) → HasLabels texts.now.definitions.now (labels_of ds) → PlacesFit texts.now.bytes.now at events.now →
+            AreHeld events.now (drop (index + 1) events.now) open.old →
+            HaveTargets (linked_at ds) self.old (targets_by (T.reference_of texts.now.tables.now) texts.now.bytes.now (leads_to (linked_by ds)) (drop (index + 1) events.now)) →
+            OnOk result (HaveTargets (linked_at ds) self.new (targets_by (T.reference_of texts.now.tables.now) texts.now.bytes.now (leads_to (linked_by ds)) (drop index events.now))) }
+        ensures raws { (ds : List Definition) (at : Spot) (raws : List (List ℕ)) → HasLabels texts.now.definitions.now (labels_of ds) →
+            PlacesFit texts.now.bytes.now at events.now → AreHeld events.now (drop (index + 1) events.now) open.old →
+            HaveRaws self.old [] raws → OnOk result (HaveRaws self.new [] raws) }
+    {
+        let name = events[index].name;
+        match events[index].kind {
+            Kind::Exit => {
+                if is_media(name) {
+                    open.exit()?;
+                }
+            }
+            Kind::Enter => {
+                if is_media(name) {
+                    let held = open.enter();
+                    let target = read_target(&mut self.text, label, texts, events, name, held)?;
+                    self.targets.push(target)?;
+                } else {
+                    open.note(name, index);
+                }
+            }
         }
-        label.clear();
-        if let Some(index) = held.label() {
-            push_text_at(label, texts.bytes, events, index)?;
-        }
-        if name == Name::GfmFootnoteCall {
-            return Ok(SpelledTarget::Call(self.push_piece(text_of(label))?));
-        }
-        Ok(match texts.definitions.find(label)? {
-            Some(place) => SpelledTarget::Definition(place),
-            None => SpelledTarget::Nowhere,
-        })
-    }
-
-    /// Appends the string at an index, as it is written.
-    fn push_string<T: Tables>(
-        &mut self,
-        texts: &TextEvents<'_, T, A>,
-        events: &[Event],
-        index: Option<usize>,
-    ) -> Result<Range, AllocError> {
-        let start = self.text.len();
-        if let Some(index) = index {
-            push_written(
-                &mut self.text,
-                texts.bytes,
-                texts.tables,
-                events_after(events, index),
-            )?;
-        }
-        let end = self.text.len();
-        Ok(Range { start, end })
-    }
-
-    /// Appends a text.
-    fn push_piece(&mut self, piece: &str) -> Result<Range, AllocError> {
-        let start = self.text.len();
-        self.text.push_str(piece)?;
-        let end = self.text.len();
-        Ok(Range { start, end })
+        Ok(())
     }
 }
 
@@ -241,38 +256,154 @@ const NOWHERE: LinkTexts<'static> = LinkTexts {
     title: None,
 };
 
-/// The links, images and calls that are open behind the place up to which events were read.
-#[derive(Drop)]
-struct Open<A: Allocator> {
-    /// The innermost one, or one for the text.
-    inner: Held,
-    /// Those around it, the innermost last.
-    outer: Vec<Held, A>,
+/// What a link, an image or a call is made of. `label` is overwritten.
+fn read_target<T: Tables, A: Allocator + Clone>(
+    text: &mut String<A>,
+    label: &mut Vec<u8, A>,
+    texts: &TextEvents<'_, T, A>,
+    events: &[Event],
+    name: Name,
+    held: Held,
+) -> Result<SpelledTarget, AllocError>
+    ensures { (ds : List Definition) (at : Spot) (inside : List AnEvent) → HasLabels texts.now.definitions.now (labels_of ds) →
+        PlacesFit texts.now.bytes.now at events.now → IsHeld events.now inside 0 held →
+        IfOk result (λ target. IsTarget (linked_at ds) (string_bytes text.old) (string_bytes text.new) target
+        (spelled_by (T.reference_of texts.now.tables.now) texts.now.bytes.now (leads_to (linked_by ds)) name inside)) }
+{
+    if is_call(name) {
+        return read_call(text, label, texts.bytes, events, held);
+    }
+    if held.resource {
+        return read_resource(text, texts, events, held);
+    }
+    let target = read_reference(label, texts, events, held)?;
+    Ok(target)
 }
 
-impl<A: Allocator> Open<A> {
-    /// One more is read from its exit on.
-    fn exit(&mut self) -> Result<(), AllocError> {
-        self.outer.push(self.inner)?;
-        self.inner = Held::new();
-        Ok(())
-    }
+/// Whether this is the name of a footnote call.
+fn is_call(name: Name) -> bool
+    ensures { result ≡ same_name name names.GfmFootnoteCall }
+{
+    name == Name::GfmFootnoteCall
+}
 
-    /// The innermost one is read up to its enter. Returns what is in it.
-    fn enter(&mut self) -> Held {
-        let held = self.inner;
-        self.inner = match self.outer.pop() {
-            Some(outer) => outer,
-            None => Held::new(),
-        };
-        held
+/// Appends the label of a call. `label` is overwritten.
+fn read_call<A: Allocator + Clone>(
+    text: &mut String<A>,
+    label: &mut Vec<u8, A>,
+    bytes: &[u8],
+    events: &[Event],
+    held: Held,
+) -> Result<SpelledTarget, AllocError>
+    ensures { (at : ℕ → Leads) → is_utf8 (label_at bytes.now events.now (label_place held)) ≡ true →
+        IfOk result (λ target. IsTarget at (string_bytes text.old) (string_bytes text.new) target
+        (spelled nowhere (content_codes (label_at bytes.now events.now (label_place held))))) }
+{
+    read_label(label, bytes, events, held)?;
+    let range = push_piece(text, text_of(label))?;
+    Ok(SpelledTarget::Call(range))
+}
+
+/// Appends the destination and the title of a resource.
+fn read_resource<T: Tables, A: Allocator + Clone>(
+    text: &mut String<A>,
+    texts: &TextEvents<'_, T, A>,
+    events: &[Event],
+    held: Held,
+) -> Result<SpelledTarget, AllocError>
+    ensures { (at : ℕ → Leads) (inside : List AnEvent) → IsHeld events.now inside 0 held →
+        IfOk result (λ target. IsTarget at (string_bytes text.old) (string_bytes text.new) target
+        (spelled (resource_by (T.reference_of texts.now.tables.now) texts.now.bytes.now inside) [])) }
+{
+    let destination = push_string(text, texts, events, held.destination)?;
+    let title = push_string(text, texts, events, held.title)?;
+    Ok(SpelledTarget::Resource { destination, title })
+}
+
+/// Finds the definition of a label. `label` is overwritten.
+fn read_reference<T, A: Allocator + Clone>(
+    label: &mut Vec<u8, A>,
+    texts: &TextEvents<'_, T, A>,
+    events: &[Event],
+    held: Held,
+) -> Result<SpelledTarget, AllocError>
+    ensures { (labels : List (List ℕ)) → HasLabels texts.now.definitions.now labels →
+        IfOk result (λ target. target ≡ found_target (first_match (content_codes (label_at texts.now.bytes.now events.now (label_place held))) labels)) }
+{
+    read_label(label, texts.bytes, events, held)?;
+    let found = texts.definitions.find(label)?;
+    match found {
+        Some(place) => Ok(SpelledTarget::Definition(place)),
+        None => Ok(SpelledTarget::Nowhere),
     }
+}
+
+/// Sets `label` to the text of the label; empty if there is a resource, or none.
+fn read_label<A: Allocator>(
+    label: &mut Vec<u8, A>,
+    bytes: &[u8],
+    events: &[Event],
+    held: Held,
+) -> Result<(), AllocError>
+    ensures { OnOk result (label.new.items ≡ label_at bytes.now events.now (label_place held)) }
+{
+    label.clear();
+    if let Some(index) = held.label() {
+        push_text_at(label, bytes, events, index)?;
+    }
+    Ok(())
+}
+
+/// Appends the string at an index, as it is written, or nothing.
+fn push_string<T: Tables, A: Allocator + Clone>(
+    text: &mut String<A>,
+    texts: &TextEvents<'_, T, A>,
+    events: &[Event],
+    index: Option<usize>,
+) -> Result<Range, AllocError>
+    ensures { (string : List AnEvent) → IsFoundAt events.now index string →
+        IfOk result (λ range. IsJoined (string_bytes text.old) (string_bytes text.new) range
+        (written (string_first (T.reference_of texts.now.tables.now) texts.now.bytes.now string))) }
+{
+    let start = text.len();
+    push_string_at(text, texts, events, index)?;
+    let end = text.len();
+    Ok(Range { start, end })
+}
+
+fn push_string_at<T: Tables, A: Allocator + Clone>(
+    text: &mut String<A>,
+    texts: &TextEvents<'_, T, A>,
+    events: &[Event],
+    index: Option<usize>,
+) -> Result<(), AllocError>
+    ensures { (string : List AnEvent) → IsFoundAt events.now index string →
+        OnOk result (string_bytes text.new ≡ string_bytes text.old ++ written (string_first (T.reference_of texts.now.tables.now) texts.now.bytes.now string)) }
+{
+    let Some(index) = index else {
+        return Ok(());
+    };
+    let string = events_after(events, index);
+    push_written(text, texts.bytes, texts.tables, string)?;
+    Ok(())
+}
+
+/// Appends a piece.
+fn push_piece<A: Allocator>(text: &mut String<A>, piece: &str) -> Result<Range, AllocError>
+    ensures { IfOk result (λ range. IsJoined (string_bytes text.old) (string_bytes text.new) range piece.now) }
+{
+    let start = text.len();
+    text.push_str(piece)?;
+    let end = text.len();
+    Ok(Range { start, end })
 }
 
 /// The name of the sequences around the raw text that an event enters, if it is to be joined. The
 /// events are those after it.
-pub(crate) fn joined_sequence(bytes: &[u8], event: &Event, events: &[Event]) -> Option<Name> {
-    if event.kind == Kind::Exit {
+pub(crate) fn joined_sequence(bytes: &[u8], event: &Event, events: &[Event]) -> Option<Name>
+    ensures { (others : List (List ℕ)) → joined_first bytes.now result events.now others ≡ raws_next bytes.now event.now.kind event.now.name events.now others }
+{
+    if is_exit(event.kind) {
         return None;
     }
     let sequence = sequence_of(event.name)?;
@@ -283,7 +414,9 @@ pub(crate) fn joined_sequence(bytes: &[u8], event: &Event, events: &[Event]) -> 
 }
 
 /// The events after the one at an index.
-fn events_after(events: &[Event], index: usize) -> &[Event] {
+fn events_after(events: &[Event], index: usize) -> &[Event]
+    ensures { result.now ≡ drop (index + 1) events.now }
+{
     if index < events.len() {
         &events[index + 1..]
     } else {

@@ -1,5 +1,0 @@
-use Rattle.std.proofs.Common.{length}
-use Rattle.event_html.proofs.text.text_within.Given as goal
-
-abbrev pub decreases-loop-node : goal.decreases-loop-node
-decreases-loop-node l = length l.rest

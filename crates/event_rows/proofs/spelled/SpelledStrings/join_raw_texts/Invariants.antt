@@ -1,0 +1,14 @@
+use Rattle.std.proofs.Common.{◌≡◌, ℕ, List, drop}
+use Rattle.event_rows.specs.Columns.{AreCounted}
+use Rattle.event_rows.specs.Joined.{HaveRaws}
+use Rattle.event_rows.specs.Spelled.{raws_by}
+use Rattle.event_rows.proofs.spelled.SpelledStrings.join_raw_texts.Given as goal
+
+-- what was joined, with the raw texts that are left, is all
+abbrev pub invariant-loop-index : goal.invariant-loop-index
+invariant-loop-index g l =
+    record {
+      counted : AreCounted l.bytes l.columns;
+      raws : (raws : List (List ℕ)) → HaveRaws l.initial.self (raws_by l.bytes l.events) raws → HaveRaws l.self (raws_by l.bytes (drop l.index l.events)) raws;
+      targets : l.self.targets.items ≡ l.initial.self.targets.items;
+    }
