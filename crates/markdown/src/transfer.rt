@@ -83,8 +83,9 @@ impl From<Message> for RunError {
     }
 }
 
-/// The size of a read, in bytes.
-const CHUNK: usize = 65536;
+/// The size of a read, in bytes. The buffer is touched whole at each start, so a larger one costs more
+/// page faults than it saves calls.
+const CHUNK: usize = 16384;
 
 /// Reads a text to its end, and writes its HTML, with the caller's tables. The writer isn't
 /// flushed.
