@@ -16,8 +16,9 @@ use std::io::Read;
 /// The largest size of a text, in bytes.
 pub const SIZE_MAX: usize = usize::MAX / 8;
 
-/// The size of a read, in bytes.
-const CHUNK: usize = 65536;
+/// The size of a read, in bytes. The buffer is touched whole at each start, so a larger one costs
+/// more page faults than it saves calls.
+const CHUNK: usize = 16384;
 
 /// Reads to the end.
 pub fn read_all<A: Allocator + Clone, R: Read>(
