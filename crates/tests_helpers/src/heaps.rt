@@ -12,7 +12,7 @@ const UNIT: usize = 64;
 const LONG: usize = 512;
 
 /// The reader's buffer, which is asked for first.
-const BUFFER: usize = 65536;
+const BUFFER: usize = 16384;
 
 /// How many times a heap may grow until it has more than a row needs.
 const STEPS: usize = 8192;
