@@ -1,17 +1,17 @@
 -- The codes of a content and its bytes.
 use Rattle.std.proofs.Common.{◌≡◌, ℕ, zero, suc, ◌+◌, ◌-◌, ◌<◌, ◌≤◌, List, [], ◌∷◌, ◌++◌, Bool, false, cond, eqb, refl, sym, ap, ◌∙◌, get_or, length, drop}
 use Rattle.std.proofs.Common.{take, arith, inl, inr, subst}
-use Rattle.std.proofs.lemmas.Bool.{cases_Bool, cond-false, cond-true, eqb-true, ne_eqb, false≢true}
-use Rattle.std.proofs.lemmas.List.{drop_at, take_at, length-take-le, length-append, length-drop}
+use Rattle.std.proofs.lemmas.Bool.{cases_Bool, cases_lt, cond-false, cond-true, eqb-true, ne_eqb, false≢true}
+use Rattle.std.proofs.lemmas.List.{drop_at, drop-drop, get_or-drop, take_at, length-take-le, length-append, length-drop}
 use Rattle.std.proofs.lemmas.List.Sums.{prefix_len_passes, prefix_len-le-length}
 use Rattle.std.specs.List.{prefix_len, take_while}
 use Rattle.definition_text.specs.Bytes.{after_all}
 use Rattle.definition_text.specs.Content.{content_codes}
 use Rattle.std.specs.Str.{IsCharBoundary, IsUtf8}
 use Rattle.std.proofs.lemmas.Str.{IsCharBoundary-after_ascii}
-use Rattle.inline_links.specs.Codes.{IsCut}
+use Rattle.inline_links.specs.Codes.{IsCut, IsRest}
 use Rattle.inline_links.proofs.Cuts.{codes_some, cut_at}
-use Rattle.inline_leaves.specs.Leaves.{IsAfter, IsEnd, size_before}
+use Rattle.inline_leaves.specs.Leaves.{IsAfter, IsEnd, IsPlain, size_before}
 
 -- ---- the first code
 
@@ -51,6 +51,16 @@ pub plain_size : (n : ℕ) (xs : List ℕ) → n ≤ length xs → ((k : ℕ) �
 plain_size n xs le apart =
     ap length (plain_codes n xs le apart) ∙ length-append (take n xs) (content_codes (drop n xs))
     ∙ ap (λ k. k + length (content_codes (drop n xs))) (length-take-le n xs le)
+
+pub plain_join : (xs : List ℕ) (n m : ℕ) → IsPlain xs n → IsPlain (drop n xs) m → IsPlain xs (n + m)
+plain_join xs n m first second = record {
+  within = omega (arith, first.within, second.within, length-drop n xs);
+  plain = λ k lt. elim (cases_lt k n) [
+    | inl here ↦ first.plain k here
+    | inr there ↦ let place : n + (k - n) ≡ k = omega arith in
+        λ e. second.plain (k - n) (omega arith) (get_or-drop n xs (k - n) 0 ∙ ap (λ j. get_or xs j 0) place ∙ e)
+  ];
+}
 
 -- ---- codes that pass a test, which line endings fail
 
@@ -133,3 +143,13 @@ boundary_after_byte xs end u some le ascii =
 -- an end that this byte stands before
 pub end_after : (xs : List ℕ) (end : ℕ) → 0 < end → end ≤ length xs → get_or xs (end - 1) 0 < 128 → (get_or xs (end - 1) 0 ≡ 13 → ⊥) → IsEnd xs end
 end_after xs end some le ascii apart = record { some = some; within = le; ascii = ascii; cut = cut_after_byte xs end some apart }
+
+-- a rest of a rest
+pub rest_of_rest : (content bytes rest : List ℕ) (n : ℕ) → IsRest content bytes → n ≤ length bytes → rest ≡ drop n bytes → IsRest content rest
+rest_of_rest content bytes rest n place le e =
+    let size : length rest ≡ length bytes - n = ap length e ∙ length-drop n bytes in
+    let there : length content - length bytes + n ≡ length content - length rest = omega (arith, place.within) in
+    record {
+      within = omega (arith, place.within);
+      place = e ∙ ap (drop n) place.place ∙ drop-drop n (length content - length bytes) content ∙ ap (λ k. drop k content) there;
+    }

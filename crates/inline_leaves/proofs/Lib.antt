@@ -1,13 +1,7 @@
-pub mod AutolinkLemmas
 pub mod HardBreakTrailingLemmas
 pub mod LineEndingLemmas
-pub mod RawTextLemmas
 pub mod Codes
 pub mod Endings
-pub mod FirstBytes
 pub mod Fronts
 pub mod GfmTaskListItemLemmas
-pub mod HtmlTextLemmas
-pub mod RawRuns
 pub mod CharacterReferenceLemmas
-pub mod Searching

@@ -1,18 +1,13 @@
 -- What the answers on a content stand for.
-use Rattle.inline_leaves.specs.declared.byte_class.ByteClass.{ByteClass}
-use Rattle.inline_leaves.specs.declared.byte_class.ByteClass.TheVariants.{Scheme, Uri, Email, Domain}
-use Rattle.definition_inline.specs.Autolink.{is_scheme_byte, is_uri_byte, is_email_byte, is_domain_byte}
-use Rattle.std.specs.Prelude.{Bool, if◌then◌else◌, ◌&&◌, ◌≡◌, ◌<◌, ◌≤◌, ◌+◌, ◌-◌, ℕ, true, List, [], ◌∷◌, Option, None, Some, drop, length, map, slice_index}
-use Rattle.std.specs.Prelude.{IfSome, take}
-use Rattle.std.specs.Option.{option_map}
+use Rattle.std.specs.Prelude.{if◌then◌else◌, ◌&&◌, ◌≡◌, ◌<◌, ◌≤◌, ◌+◌, ◌-◌, ℕ, true, List, [], ◌∷◌, Option, None, Some, drop, length, map, slice_index}
+use Rattle.std.specs.Prelude.{IfSome}
 use Rattle.markdown_options.specs.declared.configuration.Constructs.{Constructs}
 use Rattle.definition_inline.specs.HardBreak.{is_trailing_break}
-use Rattle.definition_text.specs.Ascii.{backslash, carriage_return, greater_than, space}
+use Rattle.definition_text.specs.Ascii.{backslash, carriage_return, space}
 use Rattle.definition_text.specs.Columns.{is_white}
 use Rattle.definition_text.specs.Columns as columns
 use Rattle.definition_text.specs.Content.{content_codes, line_ending_code}
 use Rattle.definition_inline.specs.CharacterReference.{number_of, numbered_text}
-use Rattle.inline_leaves.specs.declared.autolink.Address.{Address}
 use Rattle.definition_inline.specs.CodeText.{code_text}
 use Rattle.definition_inline.specs.Inline as inline
 use Rattle.definition_inline.specs.Inline.{InlineLeaf}
@@ -116,18 +111,6 @@ pub record IsWhite (bytes : List ℕ) (size : ℕ) : Type 0 where
 abbrev pub spaces_parts : Constructs → List ℕ → List InlineLeaf
 spaces_parts on content = if on.hard_break_trailing && is_trailing_break content then inline.TrailingBreak ∷ [] else []
 
--- so many of a byte at a place
-pub record IsRun (marker : ℕ) (bytes : List ℕ) (at size : ℕ) : Type 0 where
-  pub within : at + size ≤ length bytes
-  pub markers : (k : ℕ) → k < size → slice_index bytes (at + k) ≡ marker
-
--- the bytes of a class
-abbrev pub is_of : ByteClass → ℕ → Bool
-is_of Scheme b = is_scheme_byte b
-is_of Uri b = is_uri_byte b
-is_of Email b = is_email_byte b
-is_of Domain b = is_domain_byte b
-
 -- the parts that a character makes
 abbrev pub character_parts : List ℕ → List InlineLeaf
 character_parts text = inline.Character text ∷ []
@@ -136,18 +119,3 @@ character_parts text = inline.Character text ∷ []
 pub record IsPlain (bytes : List ℕ) (size : ℕ) : Type 0 where
   pub within : size ≤ length bytes
   pub plain : (k : ℕ) → k < size → slice_index bytes k ≡ carriage_return → ⊥
-
--- the codes after the first bytes, where so many are found
-abbrev pub codes_after : List ℕ → Option ℕ → Option (List ℕ)
-codes_after bytes size = option_map (λ size. content_codes (drop size bytes)) size
-
--- the bytes of an address, before a `>`
-pub record IsAddress (bytes : List ℕ) (size : ℕ) : Type 0 where
-  pub within : size < length bytes
-  pub plain : (k : ℕ) → k < size → slice_index bytes k ≡ carriage_return → ⊥
-  pub greater : slice_index bytes size ≡ greater_than
-
--- what an address makes
-abbrev pub address_leaf : List ℕ → Option Address → Option inline.Found
-address_leaf bytes None = None
-address_leaf bytes (Some found) = Some (inline.leaf (inline.Autolink found.email (take found.size bytes) ∷ []) (found.size + 2))

@@ -13,7 +13,7 @@ use inline_links::part::from;
 use markdown_options::Constructs;
 
 /// A backslash before a line ending that isn't the last code (CommonMark 6.7).
-pub(crate) fn escaped_break_at<'a>(on: &Constructs, content: &'a str) -> Option<Leaf<'a>>
+pub fn escaped_break_at<'a>(on: &Constructs, content: &'a str) -> Option<Leaf<'a>>
     ensures read { found_leaf content.now result ≡ escaped_break_at on.now (content_codes content.now) }
     ensures place { LeavesRest content.now result }
 {

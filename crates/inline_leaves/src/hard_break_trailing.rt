@@ -20,7 +20,7 @@ use markdown_options::constants::HARD_BREAK_PREFIX_SIZE_MIN;
 
 /// Spaces and tabs at the end of a line or of the content, which may be a hard line break
 /// (CommonMark 6.7 and 6.8).
-pub(crate) fn line_spaces_at<'a>(on: &Constructs, content: &'a str) -> Option<Leaf<'a>>
+pub fn line_spaces_at<'a>(on: &Constructs, content: &'a str) -> Option<Leaf<'a>>
     ensures read { found_leaf content.now result ≡ line_spaces_at on.now (content_codes content.now) }
     ensures place { LeavesRest content.now result }
 {

@@ -1,23 +1,15 @@
-//! The inline constructs that hold no other (CommonMark 6).
+//! What the inline constructs that hold no other are read as, and those of them that need no search
+//! (CommonMark 2.4, 2.5, 6.7 and 6.8).
 #![tactic(auto)]
 
-mod autolink;
-mod byte_class;
 pub mod character_escape;
 pub mod character_reference;
-mod code_text;
 pub mod cut;
 pub mod gfm_task_list_item;
-mod hard_break_escape;
-mod hard_break_trailing;
-mod html_text;
+pub mod hard_break_escape;
+pub mod hard_break_trailing;
 pub mod leaf;
-pub mod leaf_at;
 pub mod line_ending;
-mod math_text;
-mod raw_runs;
-mod raw_text;
-pub mod searches;
 pub mod space;
 
 pub use gfm_task_list_item::Check;

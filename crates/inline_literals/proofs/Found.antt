@@ -30,7 +30,7 @@ use Rattle.inline_links.proofs.Cuts.{codes_some}
 use Rattle.inline_content.proofs.Views.{widths, codes_from, view_drop, view_is, after_at}
 use Rattle.inline_leaves.specs.Leaves.{IsPlain, IsAfter, IsEnd, size_before}
 use Rattle.inline_leaves.proofs.Codes.{at_return, plain_code, plain_codes, plain_drop, plain_take, plain_size, size_plain, cut_plain, is_after, end_after}
-use Rattle.inline_leaves.proofs.AutolinkLemmas.{plain_join}
+use Rattle.inline_leaves.proofs.Codes.{plain_join}
 use Rattle.inline_literals.specs.Literals.{StartsLiteral, IsNameEnd, may_begin, size_after, begins_name, begins_domain, domain_size}
 use Rattle.inline_literals.proofs.Names.{run_ends, no_return}
 use Rattle.inline_literals.proofs.Starts.{start_codes}

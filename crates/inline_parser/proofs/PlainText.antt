@@ -20,7 +20,7 @@ use Rattle.inline_content.specs.View.{view_at}
 use Rattle.inline_leaves.specs.Leaves.{size_before, text_items, IsAfter}
 use Rattle.inline_leaves.specs.Scanned.{leaf_in}
 use Rattle.inline_leaves.proofs.Codes.{plain_code}
-use Rattle.inline_leaves.proofs.FirstBytes.{by_white}
+use Rattle.inline_constructs.proofs.FirstBytes.{by_white}
 use Rattle.inline_rows.specs.InlineRows.{inline_rows}
 use Rattle.inline_rows.specs.View.{data_rows}
 use Rattle.inline_rows.specs.declared.row.InlineRow.TheVariants.{Text}

@@ -38,13 +38,13 @@ ghost use Rattle.inline_reading.specs.Shows.{with_open_label, start_view, IsSoun
 use crate::found::FoundRows;
 use crate::gfm_autolink_literal::rows_with_literals;
 use inline_addresses::may_link;
+use inline_constructs::leaf_at::leaf_at;
+use inline_constructs::searches::Searches;
 use inline_content::Content;
 use inline_label_ends::{LabelForm, call_or_link, link_or_image};
 use inline_labels::LabelTable;
 use inline_leaves::Leaf;
 use inline_leaves::cut::{cut_after, rest_from, text_before};
-use inline_leaves::leaf_at::leaf_at;
-use inline_leaves::searches::Searches;
 use inline_leaves::space::white_size;
 use inline_links::part::from;
 use inline_literals::{NamesInVain, literal_at};

@@ -1,7 +1,7 @@
 //! One content of each construct.
+use inline_constructs::leaf_at::leaf_at;
+use inline_constructs::searches::Searches;
 use inline_leaves::leaf::{Leaf, LeafPart};
-use inline_leaves::leaf_at::leaf_at;
-use inline_leaves::searches::Searches;
 use markdown_options::{Constructs, LineEnding, ParseOptions};
 use std::alloc::{AllocError, Global};
 use std::process::Abort;

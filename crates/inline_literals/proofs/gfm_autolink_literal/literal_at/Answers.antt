@@ -5,7 +5,7 @@ use Rattle.definition_inline.specs.GfmAutolinkLiteral.{literal_start_at}
 use Rattle.definition_inline.proofs.GfmAutolinkLiteral.{literals_off}
 use Rattle.inline_content.specs.View.{view_at}
 use Rattle.inline_leaves.specs.Leaves.{size_before}
-use Rattle.inline_leaves.proofs.Searching.{rest_of_rest}
+use Rattle.inline_leaves.proofs.Codes.{rest_of_rest}
 use Rattle.inline_literals.specs.Literals.{size_after, start_view, may_begin, StartsLiteral, IsNameEnd}
 use Rattle.inline_literals.proofs.Found.{none_first, view_codes, at_found, at_none, no_size, with_size, after_literal, size_of_literal, start_end}
 use Rattle.inline_literals.proofs.Found.{literal_boundary}

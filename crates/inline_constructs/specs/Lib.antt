@@ -1,0 +1,4 @@
+pub mod Leaves
+pub mod HtmlText
+pub mod Searched
+pub mod RawRuns

@@ -1,8 +1,0 @@
-use Rattle.std.proofs.Common.{◌≡◌, ◌+◌, drop}
-use Rattle.std.specs.List.{prefix_len}
-use Rattle.inline_leaves.specs.Leaves.{is_of}
-use Rattle.inline_leaves.proofs.byte_class.prefix_size.Given as goal
-
--- the bytes so far are of the class
-abbrev pub invariant-loop-i : goal.invariant-loop-i
-invariant-loop-i l = l.i + prefix_len (is_of l.class) (drop l.i l.bytes) ≡ prefix_len (is_of l.class) l.bytes

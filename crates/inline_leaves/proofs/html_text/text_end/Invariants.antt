@@ -1,7 +1,0 @@
-use Rattle.std.proofs.Common.{◌≡◌, drop}
-use Rattle.definition_inline.specs.HtmlText.{after_text}
-use Rattle.inline_leaves.proofs.html_text.text_end.Given as goal
-
--- what is left has the answer
-abbrev pub invariant-loop-i : goal.invariant-loop-i
-invariant-loop-i l = after_text l.text (drop l.i l.bytes) ≡ after_text l.text (drop l.start l.bytes)

@@ -1,9 +1,0 @@
-use Rattle.std.proofs.Common.{◌≡◌, ◌+◌, drop, nat_lt}
-use Rattle.std.specs.List.{prefix_len}
-use Rattle.inline_leaves.specs.declared.raw_runs.LastRun.{LastRun}
-use Rattle.inline_leaves.proofs.raw_runs.smaller.Given as goal
-
--- the runs so far are smaller
-abbrev pub invariant-loop-i : goal.invariant-loop-i
-invariant-loop-i l = prefix_len (λ (run : LastRun). nat_lt run.size l.size) l.runs
-    ≡ l.i + prefix_len (λ (run : LastRun). nat_lt run.size l.size) (drop l.i l.runs)
