@@ -1,5 +1,5 @@
 -- Links, images, calls and raw texts that are read ahead of the rows, the first first.
-use Rattle.std.specs.Prelude.{◌≡◌, ℕ, ◌-◌, Bool, false, ◌&&◌, ◌==◌, nat_le, if◌then◌else◌, List, [], ◌∷◌, drop, take, length, map, string_bytes}
+use Rattle.std.specs.Prelude.{◌≡◌, ℕ, ◌-◌, Bool, false, ◌&&◌, ◌==◌, nat_le, if◌then◌else◌, List, [], ◌∷◌, drop, take, length, map, reverse, string_bytes}
 use Rattle.std.specs.Prelude.{Option, None, Some}
 use Rattle.engine_events.specs.Names.{same_name, is_listed}
 use Rattle.engine_events.specs.declared.event.Event.{Event}
@@ -47,7 +47,7 @@ target_view at text targets.Nowhere = spelled nowhere []
 target_view at text (targets.Call label) = spelled nowhere (content_codes (range_text text label))
 
 abbrev pub targets_view : {A : Type 0} → (ℕ → LinkTexts) → SpelledStrings A → List Spelled
-targets_view at strings = map (target_view at (string_bytes strings.text)) strings.targets.items
+targets_view at strings = map (target_view at (string_bytes strings.text)) (reverse strings.targets.items)
 
 abbrev pub raws_view : {A : Type 0} → SpelledStrings A → List (List ℕ)
 raws_view strings = map (range_text (string_bytes strings.text)) strings.raw_texts.items

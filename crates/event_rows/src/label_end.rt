@@ -3,6 +3,10 @@
 //!
 //!     Link | Image    ::= Label (Reference | Resource)?
 //!     GfmFootnoteCall ::= Label
+ghost use Rattle.std.specs.Prelude.{◌≡◌};
+ghost use Rattle.engine_events.specs.Names.{is_listed};
+ghost use Rattle.event_grammar.specs.References.{media_names};
+
 use engine_events::event::Name;
 
 /// The indices of the enters in a link, an image or a call, without those in others in it. Of equal
@@ -75,6 +79,8 @@ pub(crate) fn is_held(name: Name) -> bool {
 }
 
 /// Whether this is the name of a link, an image or a call.
-pub(crate) fn is_media(name: Name) -> bool {
+pub(crate) fn is_media(name: Name) -> bool
+    ensures { result ≡ is_listed media_names name }
+{
     name == Name::Link || name == Name::Image || name == Name::GfmFootnoteCall
 }
