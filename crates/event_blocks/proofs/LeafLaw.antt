@@ -1,5 +1,5 @@
 -- What a leaf block of a kind spells and prints.
-use Rattle.std.proofs.Common.{◌≡◌, ◌∷◌, ℕ, Bool, true, false, List, [], Some, if◌then◌else◌, refl, sym, ap, ◌∙◌}
+use Rattle.std.proofs.Common.{◌≡◌, ◌⊎◌, inl, inr, ◌∷◌, ℕ, Bool, true, false, List, [], Some, if◌then◌else◌, refl, sym, ap, ◌∙◌}
 use Rattle.engine_events.specs.Names.{same_name}
 use Rattle.engine_events.specs.declared.event.Name.{Name}
 use Rattle.engine_events.specs.declared.event.Name.TheVariants as n
@@ -66,6 +66,20 @@ module _ (names : Names) (bytes : List ℕ) (top : Bool) (text : List ℕ) (kids
   leaf_law m place kind name same is =
       ap (λ (x : page.Blocks). in_bytes (first_pieces m place x))
       (ap leaf_by same ∙ sym (by_name name (sym (ap is_leaf same) ∙ is)))
+
+  -- kinds that print nothing here
+  pub nothing_by : (m : Meaning) (place : LeafPlace) (kind : BlockKind)
+      → (kind ≡ k.Blank) ⊎ ((kind ≡ k.Definition) ⊎ ((kind ≡ k.Quote) ⊎ ((kind ≡ k.UnorderedList) ⊎ ((kind ≡ k.OrderedList)
+      ⊎ ((kind ≡ k.Item) ⊎ ((kind ≡ k.Footnote) ⊎ (kind ≡ k.Other)))))))
+      → in_bytes (first_pieces m place (leaf_by kind)) ≡ []
+  nothing_by m place kind (inl e) = ap (λ (x : BlockKind). in_bytes (first_pieces m place (leaf_by x))) e
+  nothing_by m place kind (inr (inl e)) = ap (λ (x : BlockKind). in_bytes (first_pieces m place (leaf_by x))) e
+  nothing_by m place kind (inr (inr (inl e))) = ap (λ (x : BlockKind). in_bytes (first_pieces m place (leaf_by x))) e
+  nothing_by m place kind (inr (inr (inr (inl e)))) = ap (λ (x : BlockKind). in_bytes (first_pieces m place (leaf_by x))) e
+  nothing_by m place kind (inr (inr (inr (inr (inl e))))) = ap (λ (x : BlockKind). in_bytes (first_pieces m place (leaf_by x))) e
+  nothing_by m place kind (inr (inr (inr (inr (inr (inl e)))))) = ap (λ (x : BlockKind). in_bytes (first_pieces m place (leaf_by x))) e
+  nothing_by m place kind (inr (inr (inr (inr (inr (inr (inl e))))))) = ap (λ (x : BlockKind). in_bytes (first_pieces m place (leaf_by x))) e
+  nothing_by m place kind (inr (inr (inr (inr (inr (inr (inr e))))))) = ap (λ (x : BlockKind). in_bytes (first_pieces m place (leaf_by x))) e
 
 -- whether an ending prints nothing
 silent_by : (top tight silent : Bool) → is_silent (record { top = top; tight = tight }) (sibling_of silent) ≡ silent
