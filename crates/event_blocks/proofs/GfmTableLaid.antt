@@ -1,5 +1,6 @@
 -- Tables, laid out piece by piece.
-use Rattle.std.proofs.Common.{◌≡◌, ℕ, ◌≤◌, Bool, true, false, if◌then◌else◌, is_some, List, [], ◌∷◌, ◌++◌, Option, None, Some, refl, sym, ap, ◌∙◌, subst, codes, drop, length}
+use Rattle.std.proofs.Common.{◌≡◌, ℕ, ◌≤◌, Bool, true, false, if◌then◌else◌, is_some, List, [], ◌∷◌}
+use Rattle.std.proofs.Common.{◌++◌, Option, None, Some, refl, sym, ap, ◌∙◌, subst, codes, drop, length}
 use Rattle.std.specs.Prelude.{map}
 use Rattle.std.specs.List.{flat_map}
 use Rattle.std.specs.Option.{MatchOption}
@@ -103,7 +104,8 @@ module _ (m : Meaning) (default : List ℕ) where
     Rows ns o =
         MatchOption o (rows_of names bytes ns ≡ [])
         (λ node. rows_of names bytes ns
-        ≡ row_of names bytes (kids_of node) (endings_before_row names bytes (after_child n.GfmTableRow ns)) ∷ rows_of names bytes (after_child n.GfmTableRow ns))
+        ≡ row_of names bytes (kids_of node) (endings_before_row names bytes (after_child n.GfmTableRow ns))
+        ∷ rows_of names bytes (after_child n.GfmTableRow ns))
 
     rows_by : (b : Bool) (node : Node) (ns : Nodes) → Rows ns (child n.GfmTableRow ns)
         → MatchOption (if b then Some node else child n.GfmTableRow ns)
@@ -171,7 +173,8 @@ module _ (m : Meaning) (default : List ℕ) where
         let others = after_child n.GfmTableRow ns in
         let row = row_of names bytes (kids_of node) (endings_before_row names bytes others) in
         let all = row ∷ rows_of names bytes others in
-        ap (with_tag default (codes "</tbody>")) (row_more aligns ns node opened e ∙ ap (λ (x : List TableRow). past opened (rows aligns x)) (some_row ns node e))
+        ap (with_tag default (codes "</tbody>"))
+        (row_more aligns ns node opened e ∙ ap (λ (x : List TableRow). past opened (rows aligns x)) (some_row ns node e))
         ∙ sym (ended m.compile default opened (rows aligns all) (codes "tbody"))
         ∙ sym (laid_both m.compile default out (endings_pieces endings) (element (bare_tag (codes "tbody")) (rows aligns all ++ Fresh ∷ [])))
         ∙ sym (ap (λ (x : List TableRow). past out (body_pieces m aligns endings x)) (some_row ns node e))

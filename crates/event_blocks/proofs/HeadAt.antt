@@ -35,8 +35,8 @@ pub record ChildAt (events : List Event) (index : ℕ) (node : Node) : Type 0 wh
   pub stands : IsAt events index node
   pub within : index < length events
 
-pub child_at : (name : Name) (events : List Event) (index : ℕ) (enter exit : Event) (kids : Nodes) (found : Sibling) (child : IsChildOf name (events_of kids) kids found)
-    → AreNodes kids → StandsAt events index (Around enter kids exit) → ChildAt events (index + 1 + found.index) child.node
+pub child_at : (name : Name) (events : List Event) (index : ℕ) (enter exit : Event) (kids : Nodes) (found : Sibling)
+    (child : IsChildOf name (events_of kids) kids found) → AreNodes kids → StandsAt events index (Around enter kids exit) → ChildAt events (index + 1 + found.index) child.node
 child_at name events index enter exit kids found c k s =
     let before = events_of (before_child name kids) in
     let own = node_events c.node in

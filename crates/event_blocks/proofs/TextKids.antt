@@ -37,8 +37,8 @@ choose P true c kids inner outer h i o = h
 choose P false true kids inner outer h i o = i
 choose P false false kids inner outer h i o = o
 
-pub text_has : (P : Nodes → Type 0) → P Nil → ((enter exit : Event) (kids ns : Nodes) → P (Cons (Around enter kids exit) ns) → P kids × P ns) → (ns : Nodes) → P ns
-    → P (text_kids ns)
+pub text_has : (P : Nodes → Type 0) → P Nil → ((enter exit : Event) (kids ns : Nodes) → P (Cons (Around enter kids exit) ns) → P kids × P ns)
+    → (ns : Nodes) → P ns → P (text_kids ns)
 text_has P nil parts Nil h = nil
 text_has P nil parts (Cons (Around enter kids exit) ns) h =
     let h2 = parts enter exit kids ns h in

@@ -32,7 +32,8 @@ impl<A: Allocator + Clone> LeafPrinter<A> {
         ensures printed { (m : Meaning) (ds : List Definition) (place : Place) (kids : Nodes) →
             let names = T.reference_of source.now.tables.now in let bytes = source.now.checked.bytes.now in
             IsMeant names source.now ds m → place.tight ≡ tight → inside.now ≡ events_of kids → AreSound bytes kids →
-            OnOk result (LaysOut m.compile self.old.page self.new.page (in_bytes (leaf_block_pieces m place (page.Paragraph (inlines_of names bytes false kids))))) }
+            let paragraph = page.Paragraph (inlines_of names bytes false kids) in
+            OnOk result (LaysOut m.compile self.old.page self.new.page (in_bytes (leaf_block_pieces m place paragraph))) }
     {
         if tight {
             return self.text(source, false, inside);

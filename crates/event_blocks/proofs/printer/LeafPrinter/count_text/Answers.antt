@@ -61,7 +61,9 @@ returns-clause-printed g c = λ m ds kids meant events sound.
     let rows : rows_view (place_target c.printing.result.definitions.now) c.deref.result.now ≡ inline_rows (leads_to definition) is =
     ap (λ at. rows_view at c.deref.result.now) (ap place_target c.printing.ensures.definitions ∙ places_law source.links.now ds meant.links)
     ∙ ap (rows_view (linked_at ds)) c.deref.ensures.value
-    ∙ ? in
+    ∙ c.in_ok-rows.ensures.structure (leads_to definition) (linked_at ds) kids events sound.nodes
+    (subst (λ (bs : List ℕ). AreTexts bs kids) same sound.texts) (subst (λ (bs : List ℕ). HaveEndings bs kids) same sound.endings) spelled
+    ∙ ap (inline_rows (leads_to definition)) read in
     let footnotes = subst (λ table. HasLabels table m.footnotes) (sym c.printing.ensures.footnotes) meant.footnotes in
     let told = g.T.Tables.reference_of c.printing.result.tables.now in
     let law =

@@ -22,7 +22,11 @@ use Rattle.event_blocks.proofs.TextKids.{text_law, text_sound}
 use Rattle.event_blocks.proofs.printer.LeafPrinter.more_cells.Goals as goal
 
 pub loop-cell-init : goal.loop-cell-init
-loop-cell-init g c = record { same_default = refl; counted = c.requires; printed = λ m ds kids meant events sound. record { left = kids; sound = sound; events = events; printed = refl } }
+loop-cell-init g c = record {
+  same_default = refl;
+  counted = c.requires;
+  printed = λ m ds kids meant events sound. record { left = kids; sound = sound; events = events; printed = refl };
+}
 
 pub loop-cell-preserved : goal.loop-cell-preserved
 loop-cell-preserved g c =
@@ -40,10 +44,12 @@ loop-cell-preserved g c =
           let inner = kids_of f.node in
           let held = child_sound bytes n.GfmTableCell t.left f.node f.named t.sound in
           let text = c.text_within.ensures inner held.nodes (reads_inside c.in-Some.cell.node f.node f.reads) in
-          let is : in_cell (inlines_of names bytes false (text_kids inner)) ≡ cell_of names bytes f.node = ap in_cell (sym (text_law names bytes false inner)) in
+          let is : in_cell (inlines_of names bytes false (text_kids inner)) ≡ cell_of names bytes f.node =
+          ap in_cell (sym (text_law names bytes false inner)) in
           let counted =
           c.in_ok-count_text.ensures.printed m ds (text_kids inner) meant text (text_sound bytes inner held)
-          ∙ ap (λ (x : LineEnding). layout_after m.compile x here (in_bytes (inline_counts m (in_cell (inlines_of names bytes false (text_kids inner)))))) k.same_default
+          ∙ ap (λ (x : LineEnding). layout_after m.compile x here (in_bytes (inline_counts m (in_cell (inlines_of names bytes false (text_kids inner))))))
+          k.same_default
           ∙ ap (λ (x : Inlines). after_pieces m.compile default here (inline_counts m x)) is in
           record {
             left = after_child n.GfmTableCell t.left;

@@ -17,7 +17,11 @@ use Rattle.event_blocks.proofs.Sound.{child_sound, before_sound, after_sound}
 use Rattle.event_blocks.proofs.printer.LeafPrinter.more_rows.Goals as goal
 
 pub loop-row-init : goal.loop-row-init
-loop-row-init g c = record { same_default = refl; counted = c.requires; printed = λ m ds kids meant events sound. record { left = kids; sound = sound; events = events; printed = refl } }
+loop-row-init g c = record {
+  same_default = refl;
+  counted = c.requires;
+  printed = λ m ds kids meant events sound. record { left = kids; sound = sound; events = events; printed = refl };
+}
 
 pub loop-row-preserved : goal.loop-row-preserved
 loop-row-preserved g c =

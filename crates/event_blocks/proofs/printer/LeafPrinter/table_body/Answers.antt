@@ -55,7 +55,8 @@ returns-in_ok-more_rows-in-Some-clause-printed g c = λ m ds kids others meant e
     ∙ ap (λ (x : LineEnding). layout_after m.compile x (page_view c.table_row.new.self.page) more) second
     ∙ ap (λ x. layout_after m.compile e x more) printed in
     subst (λ x. OnOk c.fresh_tag.result (page_view c.fresh_tag.new.self ≡ x))
-    (ap (λ (x : LineEnding). with_tag (ending_bytes x) (codes "</tbody>") (page_view c.more_rows.new.self.page)) (c.in_ok-more_rows-in-Some.ensures.default ∙ second)
+    (ap (λ (x : LineEnding). with_tag (ending_bytes x) (codes "</tbody>") (page_view c.more_rows.new.self.page))
+    (c.in_ok-more_rows-in-Some.ensures.default ∙ second)
     ∙ ap (with_tag default (codes "</tbody>")) others_printed
     ∙ body_laid m default names bytes aligns endings kids f.node start f.named)
     c.fresh_tag.ensures.printed

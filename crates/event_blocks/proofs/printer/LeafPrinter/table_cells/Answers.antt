@@ -21,7 +21,11 @@ use Rattle.event_blocks.proofs.Sound.{after_sound}
 use Rattle.event_blocks.proofs.printer.LeafPrinter.table_cells.Goals as goal
 
 pub loop-align-init : goal.loop-align-init
-loop-align-init g c = record { same_default = refl; counted = c.requires; printed = λ m ds kids meant events sound. record { left = kids; sound = sound; events = events; printed = refl } }
+loop-align-init g c = record {
+  same_default = refl;
+  counted = c.requires;
+  printed = λ m ds kids meant events sound. record { left = kids; sound = sound; events = events; printed = refl };
+}
 
 pub loop-align-preserved : goal.loop-align-preserved
 loop-align-preserved g c =
@@ -40,7 +44,8 @@ loop-align-preserved g c =
           let default = ending_bytes e in
           let here = page_view c.loop-align.self.page in
           let t = k.printed m ds kids meant events sound in
-          let found = found_law n.GfmTableCell t.left c.loop-align.rest.now c.child-cell.result t.events (c.child-cell.ensures.nodes t.left t.sound.nodes t.events) in
+          let found = found_law n.GfmTableCell t.left c.loop-align.rest.now c.child-cell.result t.events
+          (c.child-cell.ensures.nodes t.left t.sound.nodes t.events) in
           let ps = in_bytes (cell_pieces m name align (next_cell names bytes t.left)) in
           let columns = drop (i + 1) aligns in
           record {
