@@ -1,16 +1,11 @@
 -- Walks over the cells of a row and the rows of a body: what is left to print.
 use Rattle.std.proofs.Common.{◌≡◌, ℕ, List}
-use Rattle.std.specs.List.{flat_map}
 use Rattle.engine_events.specs.declared.event.Event.{Event}
-use Rattle.markdown_options.specs.declared.align_kind.AlignKind.{AlignKind}
-use Rattle.definition_inline.specs.CharacterReference.{Names}
-use Rattle.definition_page.specs.GfmTable.{cells_pieces}
-use Rattle.definition_page.specs.InlinePieces.{Meaning, inline_counts}
+use Rattle.definition_page.specs.InlinePieces.{Meaning}
 use Rattle.definition_page.specs.Pieces.{Piece}
 use Rattle.event_grammar.specs.Trees.{Nodes, events_of}
 use Rattle.html_bytes.specs.Layout.{LayoutState}
 use Rattle.html_leaves.proofs.LeafLaid.{after_pieces}
-use Rattle.event_blocks.specs.GfmTable.{cells_in, more_rows_pieces}
 use Rattle.event_blocks.specs.Sound.{AreSound}
 
 -- some pieces, and then those of the nodes whose events are left, are all

@@ -1,5 +1,5 @@
 -- Where the head of a table stands in the list.
-use Rattle.std.proofs.Common.{◌≡◌, ℕ, ◌+◌, ◌<◌, List, [], ◌∷◌, ◌++◌, Option, Some, refl, sym, ap, ◌∙◌, subst, take, drop, length, append_assoc, arith}
+use Rattle.std.proofs.Common.{◌≡◌, ℕ, ◌+◌, ◌<◌, List, [], ◌∷◌, ◌++◌, Option, refl, sym, ap, ◌∙◌, subst, take, length, append_assoc, arith}
 use Rattle.std.proofs.lemmas.List.{length-append, length-take, length-drop, take-append-drop}
 use Rattle.std.specs.Option.{IfSome}
 use Rattle.engine_events.specs.declared.event.Event.{Event}
@@ -10,7 +10,7 @@ use Rattle.event_grammar.specs.InGrammar.{kids_of}
 use Rattle.event_grammar.specs.Trees.{Node, Nodes, Around, node_events, events_of, AreNodes, IsNode}
 use Rattle.event_levels.specs.Children.{IsChildOf}
 use Rattle.event_levels.specs.declared.node.Sibling.{Sibling}
-use Rattle.event_meaning.specs.Children.{child, before_child, after_child}
+use Rattle.event_meaning.specs.Children.{before_child, after_child}
 use Rattle.event_blocks.specs.Sound.{StandsAt}
 use Rattle.event_blocks.proofs.Children.{child_around, child_has}
 

@@ -1,11 +1,11 @@
 -- What a leaf block of a kind spells and prints.
-use Rattle.std.proofs.Common.{◌≡◌, ◌⊎◌, inl, inr, ◌∷◌, ℕ, Bool, true, false, List, [], Some, if◌then◌else◌, refl, sym, ap, ◌∙◌}
+use Rattle.std.proofs.Common.{◌≡◌, ◌⊎◌, inl, inr, ◌∷◌, ℕ, Bool, true, false, List, [], if◌then◌else◌, refl, sym, ap, ◌∙◌}
 use Rattle.engine_events.specs.Names.{same_name}
 use Rattle.engine_events.specs.declared.event.Name.{Name}
 use Rattle.engine_events.specs.declared.event.Name.TheVariants as n
 use Rattle.markdown_options.specs.declared.line_ending.LineEnding.{LineEnding}
 use Rattle.definition_inline.specs.CharacterReference.{Names}
-use Rattle.definition_page.specs.BlockPieces.{Place, is_silent}
+use Rattle.definition_page.specs.BlockPieces.{is_silent}
 use Rattle.definition_page.specs.GfmTable.{endings_pieces}
 use Rattle.definition_page.specs.InlinePieces.{Meaning}
 use Rattle.definition_page.specs.Page as page
@@ -19,7 +19,7 @@ use Rattle.event_meaning.specs.Raw.{ending_of, raw_lines, raw_parts}
 use Rattle.event_meaning.specs.Texts.{inlines_of}
 use Rattle.event_pieces.specs.Left.{sibling_of}
 use Rattle.html_bytes.specs.Pieces.{in_bytes}
-use Rattle.event_blocks.specs.Leaf.{is_leaf, place_of, first_pieces}
+use Rattle.event_blocks.specs.Leaf.{is_leaf, first_pieces}
 use Rattle.event_blocks.specs.declared.printer.LeafPlace.{LeafPlace}
 
 module _ (names : Names) (bytes : List ℕ) (top : Bool) (text : List ℕ) (kids : Nodes) (inner : page.Blocks) where

@@ -1,6 +1,5 @@
-use Rattle.std.proofs.Common.{◌≡◌, ◌∙◌, sym, ap, subst}
+use Rattle.std.proofs.Common.{◌∙◌, sym, ap}
 use Rattle.event_grammar.specs.Trees.{events_of}
-use Rattle.event_meaning.specs.Children.{child}
 use Rattle.event_blocks.proofs.Children.{no_child_before}
 use Rattle.event_blocks.proofs.gfm_table.before_child.Goals as goal
 

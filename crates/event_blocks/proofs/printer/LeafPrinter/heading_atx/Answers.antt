@@ -1,4 +1,4 @@
-use Rattle.std.proofs.Common.{◌≡◌, ◌≤◌, ◌∙◌, ℕ, false, List, length, sym, ap, subst, arith}
+use Rattle.std.proofs.Common.{◌≡◌, ◌≤◌, ◌∙◌, ℕ, false, List, length, sym, ap, subst}
 use Rattle.std.specs.Result.{OnOk}
 use Rattle.engine_events.specs.declared.event.Name.TheVariants as n
 use Rattle.definition_inline.specs.Inline.{Inlines}

@@ -9,7 +9,7 @@ use Rattle.definition_page.specs.InlinePieces.{inline_counts}
 use Rattle.event_grammar.specs.InGrammar.{kids_of}
 use Rattle.event_meaning.specs.Children.{after_child}
 use Rattle.event_meaning.specs.GfmTable.{cell_of}
-use Rattle.event_meaning.specs.Texts.{inlines_of, text_within}
+use Rattle.event_meaning.specs.Texts.{inlines_of}
 use Rattle.html_bytes.specs.Pieces.{in_bytes}
 use Rattle.html_leaves.specs.Prints.{layout_after, page_view}
 use Rattle.html_leaves.proofs.LeafLaid.{after_pieces}

@@ -1,6 +1,5 @@
 use Rattle.std.proofs.Common.{◌≡◌, ◌∷◌, ◌∙◌, Bool, false, if◌then◌else◌, sym, ap, subst, codes}
 use Rattle.std.specs.Result.{OnOk}
-use Rattle.markdown_options.specs.declared.line_ending.LineEnding.{LineEnding}
 use Rattle.definition_page.specs.InlinePieces.{element, inline_pieces}
 use Rattle.definition_page.specs.Pieces.{Fresh}
 use Rattle.definition_page.specs.Tags.{bare_tag}

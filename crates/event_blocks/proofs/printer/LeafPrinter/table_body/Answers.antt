@@ -3,7 +3,7 @@ use Rattle.std.specs.Result.{OnOk}
 use Rattle.engine_events.specs.declared.event.Name.TheVariants as n
 use Rattle.markdown_options.specs.LineEndings.{ending_bytes}
 use Rattle.markdown_options.specs.declared.line_ending.LineEnding.{LineEnding}
-use Rattle.definition_page.specs.GfmTable.{row_pieces, endings_pieces}
+use Rattle.definition_page.specs.GfmTable.{row_pieces}
 use Rattle.event_grammar.specs.InGrammar.{kids_of}
 use Rattle.event_meaning.specs.Children.{after_child, before_child}
 use Rattle.event_meaning.specs.GfmTable.{row_of, endings_in}

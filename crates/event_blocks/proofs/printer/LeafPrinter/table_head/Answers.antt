@@ -7,7 +7,7 @@ use Rattle.definition_page.specs.GfmTable.{row_pieces, endings_pieces}
 use Rattle.event_meaning.specs.Children.{kids_in, after_child, before_child}
 use Rattle.event_meaning.specs.GfmTable.{row_of, endings_in}
 use Rattle.html_bytes.specs.Pieces.{in_bytes}
-use Rattle.html_leaves.specs.Prints.{layout_after, page_view, with_bytes, with_tag}
+use Rattle.html_leaves.specs.Prints.{layout_after, page_view, with_tag}
 use Rattle.event_rows.specs.Columns.{AreCounted}
 use Rattle.event_blocks.specs.GfmTable.{head_row_of}
 use Rattle.event_blocks.proofs.Found.{found_law}
