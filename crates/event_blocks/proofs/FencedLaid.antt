@@ -1,5 +1,5 @@
 -- What fenced code prints, step by step.
-use Rattle.std.proofs.Common.{◌≡◌, ◌||◌, not, if◌then◌else◌, ℕ, Bool, true, false, List, [], ◌∷◌, ◌++◌, Option, None, Some, codes, refl, sym, ap, ◌∙◌, append_assoc}
+use Rattle.std.proofs.Common.{◌≡◌, ◌||◌, not, if◌then◌else◌, ℕ, Bool, true, false, List, [], ◌∷◌, ◌++◌, Option, Some, codes, refl, sym, ap, ◌∙◌, append_assoc}
 use Rattle.std.specs.List.{fold, flat_map}
 use Rattle.std.proofs.lemmas.List.{append-nil}
 use Rattle.std.proofs.lemmas.List.Sums.{fold-append}
@@ -10,7 +10,7 @@ use Rattle.definition_page.specs.Page.{FencedCode}
 use Rattle.definition_page.specs.Pieces as page
 use Rattle.definition_page.specs.Tags.{attribute_bytes, tag, bare_tag}
 use Rattle.definition_text.specs.Encode.{encode}
-use Rattle.definition_text.specs.BlockLines.{BlockLine, spaced_line}
+use Rattle.definition_text.specs.BlockLines.{BlockLine}
 use Rattle.event_meaning.specs.Raw.{RawPart, some_line, fenced_lines, raw_lines, without_first_end}
 use Rattle.html_bytes.proofs.SameLayout.{add_add, add_nil}
 use Rattle.html_bytes.proofs.SameText.{laid_both}

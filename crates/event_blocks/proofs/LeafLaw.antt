@@ -1,11 +1,11 @@
 -- What a leaf block of a kind spells and prints.
-use Rattle.std.proofs.Common.{◌≡◌, ◌∷◌, ℕ, Bool, true, false, List, [], Some, if◌then◌else◌, refl, sym, ap, ◌∙◌}
+use Rattle.std.proofs.Common.{◌≡◌, ◌⊎◌, inl, inr, ◌∷◌, ℕ, Bool, true, false, List, [], if◌then◌else◌, refl, sym, ap, ◌∙◌}
 use Rattle.engine_events.specs.Names.{same_name}
 use Rattle.engine_events.specs.declared.event.Name.{Name}
 use Rattle.engine_events.specs.declared.event.Name.TheVariants as n
 use Rattle.markdown_options.specs.declared.line_ending.LineEnding.{LineEnding}
 use Rattle.definition_inline.specs.CharacterReference.{Names}
-use Rattle.definition_page.specs.BlockPieces.{Place, is_silent}
+use Rattle.definition_page.specs.BlockPieces.{is_silent}
 use Rattle.definition_page.specs.GfmTable.{endings_pieces}
 use Rattle.definition_page.specs.InlinePieces.{Meaning}
 use Rattle.definition_page.specs.Page as page
@@ -19,7 +19,7 @@ use Rattle.event_meaning.specs.Raw.{ending_of, raw_lines, raw_parts}
 use Rattle.event_meaning.specs.Texts.{inlines_of}
 use Rattle.event_pieces.specs.Left.{sibling_of}
 use Rattle.html_bytes.specs.Pieces.{in_bytes}
-use Rattle.event_blocks.specs.Leaf.{is_leaf, place_of, first_pieces}
+use Rattle.event_blocks.specs.Leaf.{is_leaf, first_pieces}
 use Rattle.event_blocks.specs.declared.printer.LeafPlace.{LeafPlace}
 
 module _ (names : Names) (bytes : List ℕ) (top : Bool) (text : List ℕ) (kids : Nodes) (inner : page.Blocks) where
@@ -66,6 +66,20 @@ module _ (names : Names) (bytes : List ℕ) (top : Bool) (text : List ℕ) (kids
   leaf_law m place kind name same is =
       ap (λ (x : page.Blocks). in_bytes (first_pieces m place x))
       (ap leaf_by same ∙ sym (by_name name (sym (ap is_leaf same) ∙ is)))
+
+  -- kinds that print nothing here
+  pub nothing_by : (m : Meaning) (place : LeafPlace) (kind : BlockKind)
+      → (kind ≡ k.Blank) ⊎ ((kind ≡ k.Definition) ⊎ ((kind ≡ k.Quote) ⊎ ((kind ≡ k.UnorderedList) ⊎ ((kind ≡ k.OrderedList)
+      ⊎ ((kind ≡ k.Item) ⊎ ((kind ≡ k.Footnote) ⊎ (kind ≡ k.Other)))))))
+      → in_bytes (first_pieces m place (leaf_by kind)) ≡ []
+  nothing_by m place kind (inl e) = ap (λ (x : BlockKind). in_bytes (first_pieces m place (leaf_by x))) e
+  nothing_by m place kind (inr (inl e)) = ap (λ (x : BlockKind). in_bytes (first_pieces m place (leaf_by x))) e
+  nothing_by m place kind (inr (inr (inl e))) = ap (λ (x : BlockKind). in_bytes (first_pieces m place (leaf_by x))) e
+  nothing_by m place kind (inr (inr (inr (inl e)))) = ap (λ (x : BlockKind). in_bytes (first_pieces m place (leaf_by x))) e
+  nothing_by m place kind (inr (inr (inr (inr (inl e))))) = ap (λ (x : BlockKind). in_bytes (first_pieces m place (leaf_by x))) e
+  nothing_by m place kind (inr (inr (inr (inr (inr (inl e)))))) = ap (λ (x : BlockKind). in_bytes (first_pieces m place (leaf_by x))) e
+  nothing_by m place kind (inr (inr (inr (inr (inr (inr (inl e))))))) = ap (λ (x : BlockKind). in_bytes (first_pieces m place (leaf_by x))) e
+  nothing_by m place kind (inr (inr (inr (inr (inr (inr (inr e))))))) = ap (λ (x : BlockKind). in_bytes (first_pieces m place (leaf_by x))) e
 
 -- whether an ending prints nothing
 silent_by : (top tight silent : Bool) → is_silent (record { top = top; tight = tight }) (sibling_of silent) ≡ silent

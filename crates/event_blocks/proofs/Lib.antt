@@ -7,3 +7,11 @@ pub mod RawWalk
 pub mod Endings
 pub mod FencedLaid
 pub mod LeafLaw
+pub mod TextKids
+pub mod TextLaid
+pub mod Found
+pub mod HeadAt
+pub mod Ranks
+pub mod Laid
+pub mod GfmTableLaid
+pub mod GfmTableLeft

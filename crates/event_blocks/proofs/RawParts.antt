@@ -1,22 +1,17 @@
 -- What events of raw blocks are, by their names.
-use Rattle.std.proofs.Common.{◌≡◌, ◌<◌, ◌||◌, ℕ, Bool, true, false, List, [], ◌∷◌, ◌++◌, None, Some, refl, ap, ◌∙◌, get_or, cond}
+use Rattle.std.proofs.Common.{◌≡◌, ◌<◌, ℕ, true, false, List, [], ◌∷◌, ◌++◌, refl, ap, ◌∙◌, get_or}
 use Rattle.std.proofs.lemmas.List.{append-nil}
-use Rattle.engine_events.specs.Names.{same_name, is_listed}
+use Rattle.engine_events.specs.Names.{same_name}
 use Rattle.engine_events.specs.declared.event.Name.{Name}
 use Rattle.engine_events.specs.declared.event.Name.TheVariants as n
-use Rattle.markdown_options.specs.LineEndings.{ending_bytes}
 use Rattle.markdown_options.specs.declared.configuration.CompileOptions.{CompileOptions}
-use Rattle.markdown_options.specs.declared.line_ending.LineEnding.{LineEnding}
-use Rattle.definition_page.specs.GfmTagfilter.{filter_tags}
-use Rattle.definition_page.specs.Tags.{said_bytes, AsItIs, Words}
 use Rattle.definition_text.specs.Columns.{bytes_of}
 use Rattle.event_grammar.specs.Trees.{Node}
-use Rattle.event_meaning.specs.Children.{text_of, spaced_text_of}
-use Rattle.event_meaning.specs.Raw.{Chunk, End, ending_of, raw_lines, raw_part}
+use Rattle.event_meaning.specs.Children.{text_of}
+use Rattle.event_meaning.specs.Raw.{Chunk, raw_lines, raw_part}
 use Rattle.html_bytes.specs.RawHtml.{raw_bytes}
 use Rattle.html_leaves.specs.CodeLines.{html_of}
 use Rattle.text_pieces.proofs.Pieces.{only_bytes}
-use Rattle.event_blocks.specs.Sound.{chunk_names}
 
 module _ (bytes : List ℕ) (node : Node) where
   -- data of HTML

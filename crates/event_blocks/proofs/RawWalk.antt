@@ -1,8 +1,7 @@
 -- A walk over siblings that prints them one by one.
-use Rattle.std.proofs.Common.{◌≡◌, ◌||◌, ℕ, Bool, true, false, List, [], ◌++◌, refl, sym, ap, ◌∙◌, subst}
+use Rattle.std.proofs.Common.{◌≡◌, ◌||◌, ℕ, Bool, false, List, [], ◌++◌, refl, sym, ap, ◌∙◌, subst}
 use Rattle.engine_events.specs.declared.event.Event.{Event}
 use Rattle.event_grammar.specs.InGrammar.{node_name}
-use Rattle.event_grammar.specs.Trees as tree
 use Rattle.event_grammar.specs.Trees.{Nodes, Nil, Cons, events_of}
 use Rattle.event_levels.specs.Children.{IsFirstOf}
 use Rattle.event_levels.specs.declared.node.Node.{Node}

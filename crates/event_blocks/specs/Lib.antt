@@ -4,3 +4,6 @@ pub mod Sound
 pub mod Leaf
 pub mod Endings
 pub mod Raw
+pub mod Texts
+pub mod Found
+pub mod GfmTable

@@ -5,8 +5,9 @@ use Rattle.engine_events.specs.declared.event.Event.{Event}
 use Rattle.engine_events.specs.declared.event.Name.{Name}
 use Rattle.engine_events.specs.declared.event.Name.TheVariants as n
 use Rattle.event_grammar.specs.Facts.{is_size}
-use Rattle.event_grammar.specs.InGrammar.{node_name}
-use Rattle.event_grammar.specs.Trees.{Node, Nodes, Around, Nil, Cons, node_events, IsNode, AreNodes}
+use Rattle.event_grammar.specs.declared.spot.Spot.{Spot}
+use Rattle.event_grammar.specs.InGrammar.{node_name, PlacesFit}
+use Rattle.event_grammar.specs.Trees.{Node, Nodes, Around, Nil, Cons, node_events, events_of, IsNode, AreNodes}
 use Rattle.event_meaning.specs.Children.{text_in}
 use Rattle.event_rows.specs.Texts.{HasEndings, HaveEndings}
 use Rattle.event_written.specs.Texts.{IsTextNode, AreTexts}
@@ -44,6 +45,12 @@ abbrev mutual
   HaveHtml Nil = Unit {0}
   HaveHtml (Cons n ns) = HasHtml n × HaveHtml ns
 
+-- ---- places
+
+-- the places of events lie in the text, and never go back
+abbrev pub HavePlaces : List ℕ → List Event → Type 0
+HavePlaces bytes events = (at : Spot) × PlacesFit bytes at events
+
 -- ---- all of these
 
 pub record IsSound (bytes : List ℕ) (node : Node) : Type 0 where
@@ -52,6 +59,7 @@ pub record IsSound (bytes : List ℕ) (node : Node) : Type 0 where
   pub endings : HasEndings bytes node
   pub rank : HasRank bytes node
   pub html : HasHtml node
+  pub places : HavePlaces bytes (node_events node)
 
 pub record AreSound (bytes : List ℕ) (ns : Nodes) : Type 0 where
   pub nodes : AreNodes ns
@@ -59,6 +67,7 @@ pub record AreSound (bytes : List ℕ) (ns : Nodes) : Type 0 where
   pub endings : HaveEndings bytes ns
   pub ranks : HaveRanks bytes ns
   pub html : HaveHtml ns
+  pub places : HavePlaces bytes (events_of ns)
 
 -- ---- in a list
 

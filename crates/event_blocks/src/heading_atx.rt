@@ -1,6 +1,20 @@
 //! ATX headings (CommonMark 4.2).
-ghost use Rattle.std.specs.Prelude.{◌≡◌, ◌≤◌};
-ghost use Rattle.html_leaves.specs.Prints.{KeepsEnding};
+ghost use Rattle.std.specs.Prelude.{◌≡◌, ◌≤◌, List, OnOk, false, true};
+ghost use Rattle.definition_inline.specs.Definition.{Definition};
+ghost use Rattle.definition_page.specs.BlockPieces.{Place, leaf_block_pieces};
+ghost use Rattle.definition_page.specs.InlinePieces.{Meaning};
+ghost use Rattle.definition_page.specs.Page as page;
+ghost use Rattle.event_grammar.specs.Trees.{Nodes, events_of};
+ghost use Rattle.event_meaning.specs.Blocks.{heading_atx_of};
+ghost use Rattle.event_meaning.specs.Children.{text_in};
+ghost use Rattle.event_meaning.specs.Texts.{inlines_of};
+ghost use Rattle.event_grammar.specs.Facts.{is_size};
+ghost use Rattle.engine_events.specs.declared.event.Name.TheVariants as n;
+ghost use Rattle.html_bytes.specs.Pieces.{in_bytes};
+ghost use Rattle.html_leaves.specs.Prints.{KeepsEnding, LaysOut};
+ghost use Rattle.event_rows.specs.Columns.{AreCounted};
+ghost use Rattle.event_blocks.specs.Meant.{IsMeant};
+ghost use Rattle.event_blocks.specs.Sound.{AreSound};
 
 use crate::piece::piece_in;
 use crate::printer::LeafPrinter;
@@ -17,7 +31,13 @@ impl<A: Allocator + Clone> LeafPrinter<A> {
         source: &Source<'_, T, A>,
         inside: &[Event],
     ) -> Result<(), AllocError>
+        requires { AreCounted source.now.checked.bytes.now self.old.columns }
         ensures default { KeepsEnding self.old.page self.new.page }
+        ensures counted { AreCounted source.now.checked.bytes.now self.new.columns }
+        ensures printed { (m : Meaning) (ds : List Definition) (place : Place) (kids : Nodes) →
+            let names = T.reference_of source.now.tables.now in let bytes = source.now.checked.bytes.now in
+            IsMeant names source.now ds m → is_size 6 (text_in bytes n.HeadingAtxSequence kids) ≡ true → inside.now ≡ events_of kids → AreSound bytes kids →
+            OnOk result (LaysOut m.compile self.old.page self.new.page (in_bytes (leaf_block_pieces m place (heading_atx_of names bytes kids)))) }
     {
         let sequence = piece_in(source.bytes(), inside, Name::HeadingAtxSequence);
         self.heading(source, rank_of(sequence.len()), text_within(inside))
@@ -30,8 +50,15 @@ impl<A: Allocator + Clone> LeafPrinter<A> {
         rank: u8,
         text: &[Event],
     ) -> Result<(), AllocError>
-        requires { (1 ≤ rank) × (rank ≤ 6) }
+        requires rank { (1 ≤ rank) × (rank ≤ 6) }
+        requires counted { AreCounted source.now.checked.bytes.now self.old.columns }
         ensures default { KeepsEnding self.old.page self.new.page }
+        ensures counted { AreCounted source.now.checked.bytes.now self.new.columns }
+        ensures printed { (m : Meaning) (ds : List Definition) (place : Place) (kids : Nodes) →
+            let names = T.reference_of source.now.tables.now in let bytes = source.now.checked.bytes.now in
+            IsMeant names source.now ds m → text.now ≡ events_of kids → AreSound bytes kids →
+            let heading = page.Heading rank (inlines_of names bytes false kids) in
+            OnOk result (LaysOut m.compile self.old.page self.new.page (in_bytes (leaf_block_pieces m place heading))) }
     {
         self.page.fresh()?;
         self.page.heading_tag("<h", rank)?;

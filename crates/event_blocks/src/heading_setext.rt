@@ -1,6 +1,15 @@
 //! Setext headings (CommonMark 4.3).
-ghost use Rattle.std.specs.Prelude.{◌≡◌, ◌≤◌, ◌==◌, if◌then◌else◌, slice_index};
-ghost use Rattle.html_leaves.specs.Prints.{KeepsEnding};
+ghost use Rattle.std.specs.Prelude.{◌≡◌, ◌≤◌, ◌==◌, if◌then◌else◌, slice_index, List, OnOk};
+ghost use Rattle.definition_inline.specs.Definition.{Definition};
+ghost use Rattle.definition_page.specs.BlockPieces.{Place, leaf_block_pieces};
+ghost use Rattle.definition_page.specs.InlinePieces.{Meaning};
+ghost use Rattle.event_grammar.specs.Trees.{Nodes, events_of};
+ghost use Rattle.event_meaning.specs.Blocks.{heading_setext_of};
+ghost use Rattle.html_bytes.specs.Pieces.{in_bytes};
+ghost use Rattle.html_leaves.specs.Prints.{KeepsEnding, LaysOut};
+ghost use Rattle.event_rows.specs.Columns.{AreCounted};
+ghost use Rattle.event_blocks.specs.Meant.{IsMeant};
+ghost use Rattle.event_blocks.specs.Sound.{AreSound};
 
 use crate::piece::piece_in;
 use crate::printer::LeafPrinter;
@@ -18,7 +27,13 @@ impl<A: Allocator + Clone> LeafPrinter<A> {
         source: &Source<'_, T, A>,
         inside: &[Event],
     ) -> Result<(), AllocError>
+        requires { AreCounted source.now.checked.bytes.now self.old.columns }
         ensures default { KeepsEnding self.old.page self.new.page }
+        ensures counted { AreCounted source.now.checked.bytes.now self.new.columns }
+        ensures printed { (m : Meaning) (ds : List Definition) (place : Place) (kids : Nodes) →
+            let names = T.reference_of source.now.tables.now in let bytes = source.now.checked.bytes.now in
+            IsMeant names source.now ds m → inside.now ≡ events_of kids → AreSound bytes kids →
+            OnOk result (LaysOut m.compile self.old.page self.new.page (in_bytes (leaf_block_pieces m place (heading_setext_of names bytes kids)))) }
     {
         let underline = kids_in(inside, Name::HeadingSetextUnderline);
         let line = piece_in(

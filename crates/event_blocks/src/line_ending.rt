@@ -49,6 +49,7 @@ impl<A: Allocator + Clone> LeafPrinter<A> {
     /// Prints an ending between blocks, unless it follows a block that prints nothing.
     pub fn line_ending(&mut self, silent: bool, ending: LineEnding) -> Result<(), AllocError>
         ensures default { KeepsEnding self.old.page self.new.page }
+        ensures columns { self.new.columns ≡ self.old.columns }
         ensures printed { (options : CompileOptions) →
             OnOk result (LaysOut options self.old.page self.new.page (in_bytes (if silent then [] else endings_pieces (ending ∷ [])))) }
     {

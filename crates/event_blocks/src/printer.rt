@@ -1,9 +1,22 @@
 //! Leaf blocks, and the endings between blocks, printed to a page.
-ghost use Rattle.std.specs.Prelude.{◌≡◌, ℕ, List, IfOk, string_bytes};
+ghost use Rattle.std.specs.Prelude.{◌≡◌, ℕ, List, IfOk, OnOk, string_bytes, true};
 ghost use Rattle.markdown_options.specs.LineEndings.{ending_bytes};
 ghost use Rattle.event_rows.specs.Columns.{AreCounted};
 ghost use Rattle.html_bytes.specs.Layout.{nothing_laid, with_footnotes};
-ghost use Rattle.html_leaves.specs.Prints.{KeepsEnding, page_view};
+ghost use Rattle.definition_inline.specs.Definition.{Definition};
+ghost use Rattle.definition_page.specs.InlinePieces.{Meaning};
+ghost use Rattle.definition_page.specs.Page as page;
+ghost use Rattle.engine_events.specs.declared.event.Event.{Event as EventView};
+ghost use Rattle.event_grammar.specs.Trees.{Nodes, Around};
+ghost use Rattle.event_levels.specs.Kinds.{kind_of};
+ghost use Rattle.event_levels.specs.Siblings.{Reads};
+ghost use Rattle.event_meaning.specs.Blocks.{block_of};
+ghost use Rattle.event_meaning.specs.Children.{text_of};
+ghost use Rattle.html_bytes.specs.Pieces.{in_bytes};
+ghost use Rattle.html_leaves.specs.Prints.{KeepsEnding, LaysOut, page_view};
+ghost use Rattle.event_blocks.specs.Leaf.{is_leaf, first_pieces};
+ghost use Rattle.event_blocks.specs.Meant.{IsMeant};
+ghost use Rattle.event_blocks.specs.Sound.{IsSound, StandsAt};
 
 use crate::line_ending::ending_of;
 use crate::source::Source;
@@ -79,6 +92,13 @@ impl<A: Allocator + Clone> LeafPrinter<A> {
     ) -> Result<(), AllocError>
         requires { AreCounted source.now.checked.bytes.now self.old.columns }
         ensures default { KeepsEnding self.old.page self.new.page }
+        ensures counted { AreCounted source.now.checked.bytes.now self.new.columns }
+        ensures printed { (m : Meaning) (ds : List Definition) (enter exit : EventView) (kids : Nodes) (inner : page.Blocks) →
+            let names = T.reference_of source.now.tables.now in let bytes = source.now.checked.bytes.now in let leaf = Around enter kids exit in
+            IsMeant names source.now ds m → Reads node.now leaf → IsSound bytes leaf →
+            kind ≡ kind_of enter.name → is_leaf kind ≡ true → StandsAt source.now.checked.events.now index leaf →
+            let blocks = block_of names bytes place.top enter.name (text_of bytes leaf) kids inner in
+            OnOk result (LaysOut m.compile self.old.page self.new.page (in_bytes (first_pieces m place blocks))) }
     {
         let inside = node.inside;
         match kind {

@@ -1,5 +1,5 @@
 //! What events are printed by.
-ghost use Rattle.std.specs.Prelude.{◌≡◌};
+ghost use Rattle.std.specs.Prelude.{◌≡◌, false};
 
 use event_check::Checked;
 use event_rows::TextEvents;
@@ -35,7 +35,12 @@ impl<'a, T, A: Allocator + Clone> Source<'a, T, A> {
     }
 
     /// What the events of texts are read by.
-    pub fn texts(&self) -> TextEvents<'a, T, A> {
+    pub fn texts(&self) -> TextEvents<'a, T, A>
+        ensures bytes { result.bytes.now ≡ self.now.checked.bytes.now }
+        ensures tables { result.tables.now ≡ self.now.tables.now }
+        ensures definitions { result.definitions.now ≡ self.now.labels.now }
+        ensures linked { result.linked ≡ false }
+    {
         TextEvents {
             bytes: self.checked.bytes(),
             tables: self.tables,
@@ -45,7 +50,14 @@ impl<'a, T, A: Allocator + Clone> Source<'a, T, A> {
     }
 
     /// What texts are printed by, in a cell of a table or not.
-    pub fn printing(&self, cell: bool) -> Printing<'a, A, T> {
+    pub fn printing(&self, cell: bool) -> Printing<'a, A, T>
+        ensures on { result.on.now ≡ self.now.on.now }
+        ensures compile { result.compile.now ≡ self.now.options.now }
+        ensures tables { result.tables.now ≡ self.now.tables.now }
+        ensures definitions { result.definitions.now ≡ self.now.links.now }
+        ensures footnotes { result.footnotes.now ≡ self.now.footnotes.now }
+        ensures cell { result.cell ≡ cell }
+    {
         Printing {
             on: self.on,
             compile: self.options,

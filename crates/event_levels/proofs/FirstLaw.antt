@@ -1,5 +1,5 @@
 -- The first of siblings, by the tree.
-use Rattle.std.proofs.Common.{◌≡◌, Bool, true, false, List, [], ◌∷◌, ◌++◌, Option, None, Some, length, subst, refl, ap, ◌<◌, arith}
+use Rattle.std.proofs.Common.{◌≡◌, List, length, subst, refl, ap, ◌<◌, arith}
 use Rattle.engine_events.specs.declared.event.Event.{Event}
 use Rattle.event_grammar.specs.Trees.{Nodes, Around, Nil, Cons, events_of, AreNodes}
 use Rattle.event_levels.specs.Children.{IsFirstOf}

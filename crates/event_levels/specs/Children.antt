@@ -1,5 +1,5 @@
 -- Siblings and children that were found among events, by the tree.
-use Rattle.std.specs.Prelude.{◌≡◌, List, Option, None, Some, take}
+use Rattle.std.specs.Prelude.{◌≡◌, List, Some, take}
 use Rattle.engine_events.specs.declared.event.Event.{Event}
 use Rattle.engine_events.specs.declared.event.Name.{Name}
 use Rattle.event_grammar.specs.Trees as tree

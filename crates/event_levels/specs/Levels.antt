@@ -6,7 +6,7 @@ use Rattle.engine_events.specs.declared.event.Name.TheVariants as n
 use Rattle.event_levels.specs.declared.kind.BlockKind.{BlockKind}
 use Rattle.event_levels.specs.declared.kind.BlockKind.TheVariants as k
 use Rattle.event_levels.specs.declared.level.Holder.{Holder}
-use Rattle.event_levels.specs.declared.level.Holder.TheVariants.{Document, Quote, List, Item, Footnote}
+use Rattle.event_levels.specs.declared.level.Holder.TheVariants.{Document, Quote, Item, Footnote}
 use Rattle.event_levels.specs.declared.level.Level.{Level}
 
 abbrev pub is_document : Holder → Bool

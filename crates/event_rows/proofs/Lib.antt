@@ -1,3 +1,7 @@
+pub mod WholeLaw
+pub mod Ahead
+pub mod RowParts
+pub mod RowLoops
 pub mod Passes
 pub mod InlineRows
 pub mod Walks

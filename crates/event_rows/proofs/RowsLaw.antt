@@ -1,28 +1,26 @@
 -- The law of rows: the rows of the events of a text are those of the inline structure that the events spell.
-use Rattle.std.proofs.Common.{◌≡◌, ℕ, ◌+◌, ◌-◌, ◌==◌, Bool, true, false, ◌||◌, not, if◌then◌else◌, ◌⊎◌, inl, inr, List, [], ◌∷◌, ◌++◌, drop, Option}
-use Rattle.std.proofs.Common.{None, Some, refl, sym, ap, ◌∙◌, append_assoc, subst, arith}
+use Rattle.std.proofs.Common.{◌≡◌, ℕ, ◌+◌, ◌==◌, Bool, true, false, ◌||◌, not, if◌then◌else◌, ◌⊎◌, inl, inr, List, [], ◌∷◌, ◌++◌}
+use Rattle.std.proofs.Common.{refl, sym, ap, ◌∙◌, append_assoc}
 use Rattle.std.proofs.lemmas.List.{append-nil}
 use Rattle.std.proofs.Math.Bool.{or-false}
 use Rattle.engine_events.specs.Names.{same_name, is_listed}
 use Rattle.engine_events.specs.declared.event.Event.{Event}
-use Rattle.engine_events.specs.declared.event.Kind.{Kind}
-use Rattle.engine_events.specs.declared.event.Kind.TheVariants.{Enter, Exit}
+use Rattle.engine_events.specs.declared.event.Kind.TheVariants.{Exit}
 use Rattle.engine_events.specs.declared.event.Name.{Name}
 use Rattle.engine_events.specs.declared.event.Name.TheVariants as n
 use Rattle.definition_inline.specs.CharacterReference.{Names}
 use Rattle.definition_inline.specs.Inline.{Target, LinkTexts, SpanKind, LinkedKind, Link, Image, Span, Linked, Inlines}
 use Rattle.definition_inline.specs.Inline as inline
-use Rattle.inline_rows.specs.InlineRows.{InlineRow, Part, EnterSpan, EnterLinked, Leave, CallRow, inline_rows}
+use Rattle.inline_rows.specs.InlineRows.{InlineRow, EnterSpan, EnterLinked, Leave, inline_rows}
 use Rattle.event_grammar.specs.References.{media_names}
-use Rattle.event_grammar.specs.Trees.{Node, Nodes, Around, Nil, Cons, events_of, IsNode, AreNodes}
+use Rattle.event_grammar.specs.Trees.{Nodes, Around, Nil, Cons, events_of, IsNode, AreNodes}
 use Rattle.event_meaning.specs.Children.{text_of}
 use Rattle.event_meaning.specs.Texts.{text_names, target_of, text_part, inlines_of, text_within}
 use Rattle.event_references.proofs.TextLaw.{split}
 use Rattle.event_written.specs.Texts.{IsTextNode, AreTexts}
 use Rattle.event_rows.specs.Places.{place, span_of, is_around, links_in, links_after, entered, exited}
 use Rattle.event_rows.specs.Texts.{HasEndings, HaveEndings}
-use Rattle.event_rows.specs.Rows.{target_by, part_rows, enter_rows, exit_rows, exit_in, rows_by}
-use Rattle.event_rows.specs.declared.rows.Mode.{Mode}
+use Rattle.event_rows.specs.Rows.{target_by, part_rows, enter_rows, exit_rows, rows_by}
 use Rattle.event_rows.specs.declared.rows.Mode.TheVariants.{Text, Before, Behind}
 use Rattle.event_rows.specs.declared.rows.Place.{Place}
 use Rattle.event_rows.proofs.InlineRows.{append_rows}
@@ -88,10 +86,10 @@ module _ (names : Names) (bytes : List ℕ) (leads : Target → LinkTexts) (in_l
 
   after_as : (name : Name) (k : ℕ) (exit : Event) (rest : List Event) → exit.kind ≡ Exit → exit.name ≡ name
       → walk (place Behind 0 k) (exit ∷ rest)
-      ≡ exit_rows names bytes leads in_link (place Behind 0 k) name ++ walk (exited (place Behind 0 k) name) rest
+      ≡ exit_rows (place Behind 0 k) name ++ walk (exited (place Behind 0 k) name) rest
   after_as name k exit rest x e =
       exits names bytes leads in_link (place Behind 0 k) exit rest x
-      ∙ ap (λ (z : Name). exit_rows names bytes leads in_link (place Behind 0 k) z ++ walk (exited (place Behind 0 k) z) rest) e
+      ∙ ap (λ (z : Name). exit_rows (place Behind 0 k) z ++ walk (exited (place Behind 0 k) z) rest) e
 
   around : (name : Name) → IsAround name → (k : ℕ) (text : List ℕ) (enter : Event) (kids : Nodes) (exit : Event) (rest : List Event) → Within kids
       → exit.kind ≡ Exit → exit.name ≡ name

@@ -1,20 +1,17 @@
 -- A walk over the events of nodes: what is skipped has no rows.
-use Rattle.std.proofs.Common.{◌≡◌, ℕ, ◌+◌, ◌-◌, ◌==◌, Bool, true, false, ◌||◌, not, if◌then◌else◌, List, [], ◌∷◌, ◌++◌, refl, sym, ap, ◌∙◌, drop}
-use Rattle.engine_events.specs.Names.{same_name}
+use Rattle.std.proofs.Common.{◌≡◌, ℕ, ◌+◌, ◌-◌, Bool, if◌then◌else◌, List, [], ◌∷◌, ◌++◌, refl, ap, ◌∙◌}
 use Rattle.engine_events.specs.declared.event.Event.{Event}
 use Rattle.engine_events.specs.declared.event.Kind.{Kind}
 use Rattle.engine_events.specs.declared.event.Kind.TheVariants.{Enter, Exit}
-use Rattle.engine_events.specs.declared.event.Name.{Name}
-use Rattle.engine_events.specs.declared.event.Name.TheVariants as n
 use Rattle.definition_inline.specs.CharacterReference.{Names}
 use Rattle.definition_inline.specs.Inline.{Target, LinkTexts}
-use Rattle.event_grammar.specs.Trees.{Node, Nodes, Around, Nil, Cons, events_of, AreNodes}
+use Rattle.event_grammar.specs.Trees.{Nodes, Around, Nil, Cons, events_of, AreNodes}
 use Rattle.event_references.proofs.TextLaw.{split}
 use Rattle.inline_rows.specs.InlineRows.{InlineRow}
 use Rattle.event_rows.specs.Places.{place, entered, exited}
 use Rattle.event_rows.specs.Rows.{enter_rows, exit_rows, rows_next, rows_by, enter_in, exit_in}
 use Rattle.event_rows.specs.declared.rows.Mode.{Mode}
-use Rattle.event_rows.specs.declared.rows.Mode.TheVariants.{Text, Before, Behind}
+use Rattle.event_rows.specs.declared.rows.Mode.TheVariants.{Behind}
 use Rattle.event_rows.specs.declared.rows.Place.{Place}
 use Rattle.event_rows.proofs.Passes.{PassesOver, passes, nonzero, less}
 
@@ -27,7 +24,7 @@ module _ (names : Names) (bytes : List ℕ) (leads : Target → LinkTexts) (in_l
   enters p e es h = ap (λ (k : Kind). rows_next names bytes leads in_link k e.name p (e ∷ es) (λ q. walk q es)) h
 
   pub exits : (p : Place) (e : Event) (es : List Event) → e.kind ≡ Exit
-      → walk p (e ∷ es) ≡ exit_rows names bytes leads in_link p e.name ++ walk (exited p e.name) es
+      → walk p (e ∷ es) ≡ exit_rows p e.name ++ walk (exited p e.name) es
   exits p e es h = ap (λ (k : Kind). rows_next names bytes leads in_link k e.name p (e ∷ es) (λ q. walk q es)) h
 
   module _ (mode : Mode) (links : ℕ) where
@@ -45,7 +42,7 @@ module _ (names : Names) (bytes : List ℕ) (leads : Target → LinkTexts) (in_l
           up =
               λ d e es h.
               exits (place mode (d + 1 + 1) links) e es h
-              ∙ ap (λ (t : Bool). (if t then exit_in names bytes leads in_link mode e.name else [])
+              ∙ ap (λ (t : Bool). (if t then exit_in mode e.name else [])
               ++ walk (if t then exited (place mode 0 links) e.name else place mode ((d + 1 + 1) - 1) links) es) (nonzero (d + 1))
               ∙ ap (λ (q : ℕ). walk (place mode q links) es) (less (d + 1));
         }

@@ -1,5 +1,5 @@
 -- The rows of the events of a text, one event after another.
-use Rattle.std.specs.Prelude.{ℕ, Bool, false, ◌==◌, not, ◌||◌, if◌then◌else◌, List, [], ◌∷◌, ◌++◌, drop, Option, None, Some, is_some, map}
+use Rattle.std.specs.Prelude.{ℕ, Bool, false, ◌==◌, not, ◌||◌, if◌then◌else◌, List, [], ◌∷◌, ◌++◌, drop, Option, None, Some}
 use Rattle.engine_events.specs.Names.{same_name}
 use Rattle.engine_events.specs.declared.event.Event.{Event}
 use Rattle.engine_events.specs.declared.event.Kind.{Kind}
@@ -12,7 +12,7 @@ use Rattle.definition_inline.specs.Inline.{Target, Resource, Reference, LinkText
 use Rattle.inline_rows.specs.InlineRows.{InlineRow, Part, EnterSpan, EnterLinked, Leave, CallRow}
 use Rattle.event_meaning.specs.Strings.{written}
 use Rattle.event_meaning.specs.Texts.{label_or_none}
-use Rattle.event_rows.specs.Places.{place, span_of, entered, exited}
+use Rattle.event_rows.specs.Places.{span_of, entered, exited}
 use Rattle.event_rows.specs.Leaves.{has, leaf_rows}
 use Rattle.event_rows.specs.RawTexts.{sequence_of, raw_after}
 use Rattle.event_rows.specs.Targets.{own_from, has_own, string_first, label_after}
@@ -23,6 +23,14 @@ use Rattle.event_rows.specs.declared.rows.Place.{Place}
 -- raw text of this name: math, or code
 abbrev pub raw_leaf : Name → List ℕ → InlineLeaf
 raw_leaf name text = if same_name name n.CodeText then Code text else Math text
+
+abbrev pub exit_in : Mode → Name → List InlineRow
+exit_in Text name = []
+exit_in mode name = if same_name name n.Label then [] else Leave ∷ []
+
+-- the rows of an event that is exited
+abbrev pub exit_rows : Place → Name → List InlineRow
+exit_rows p name = if p.skipped == 0 then exit_in p.mode name else []
 
 module _ (names : Names) (bytes : List ℕ) where
   -- the label by the events after the enter of a link, an image or a call
@@ -61,14 +69,6 @@ module _ (names : Names) (bytes : List ℕ) where
     -- the rows of an event that is entered
     abbrev pub enter_rows : Place → Name → List Event → List InlineRow
     enter_rows p name events = if p.skipped == 0 then enter_in p.mode name p.links events else []
-
-    abbrev pub exit_in : Mode → Name → List InlineRow
-    exit_in Text name = []
-    exit_in mode name = if same_name name n.Label then [] else Leave ∷ []
-
-    -- those of one that is exited
-    abbrev pub exit_rows : Place → Name → List InlineRow
-    exit_rows p name = if p.skipped == 0 then exit_in p.mode name else []
 
     abbrev pub rows_next : Kind → Name → Place → List Event → (Place → List InlineRow) → List InlineRow
     rows_next Enter name p events others = enter_rows p name events ++ others (entered p name)

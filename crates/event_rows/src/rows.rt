@@ -1,9 +1,20 @@
 //! The rows of the events in a text.
-ghost use Rattle.std.specs.Prelude.{◌≡◌, ◌≤◌, ◌<◌, ◌+◌, ◌^◌};
+ghost use Rattle.std.specs.Prelude.{◌≡◌, ◌≤◌, ◌<◌, ◌+◌, ◌^◌, ◌++◌, ◌==◌, ◌||◌, ℕ, IfOk, OnOk, drop, not};
 ghost use Rattle.engine_events.specs.Names.{is_listed};
-ghost use Rattle.event_meaning.specs.Texts.{text_names};
-ghost use Rattle.event_rows.specs.Places.{is_around, entered_in, exited_in};
+ghost use Rattle.definition_inline.specs.CodeText.{without_padding};
+ghost use Rattle.definition_inline.specs.Inline.{Target, LinkTexts};
+ghost use Rattle.event_grammar.specs.Trees.{Nodes, AreNodes, events_of};
+ghost use Rattle.event_meaning.specs.Texts.{inlines_of, text_names};
+ghost use Rattle.event_rows.specs.Ahead.{AreStringsOf};
+ghost use Rattle.event_rows.specs.Places.{place, span_of, is_around, entered_in, exited_in};
+ghost use Rattle.event_rows.specs.RawTexts.{sequence_of};
+ghost use Rattle.event_rows.specs.Rows.{raw_leaf, alone_rows, part_rows, enter_rows, rows_by};
+ghost use Rattle.event_rows.specs.Spelled.{AreSpelled};
+ghost use Rattle.event_rows.specs.Texts.{HaveEndings};
 ghost use Rattle.event_rows.specs.declared.rows.Mode.TheVariants as modes;
+ghost use Rattle.event_written.specs.Texts.{AreTexts};
+ghost use Rattle.inline_rows.specs.InlineRows.{inline_rows};
+ghost use Rattle.inline_rows.specs.View.{row_view, rows_view, spelled_view};
 
 use crate::attention::span_of;
 use crate::label_end::is_media;
@@ -24,7 +35,19 @@ pub fn text_rows<'a, T: Tables, A: Allocator + Clone>(
     texts: &TextEvents<'a, T, A>,
     strings: &'a SpelledStrings<A>,
     events: &[Event],
-) -> Result<Vec<InlineRow<'a>, A>, AllocError> {
+) -> Result<Vec<InlineRow<'a>, A>, AllocError>
+    ensures rows { (leads : Target → LinkTexts) (at : ℕ → LinkTexts) →
+        let names = T.reference_of texts.now.tables.now in
+        let bytes = texts.now.bytes.now in
+        AreSpelled names bytes leads at strings.now events.now →
+        IfOk result (λ rows. rows_view at rows.items ≡ rows_by names bytes leads texts.now.linked (place modes.Text 0 0) events.now) }
+    ensures structure { (leads : Target → LinkTexts) (at : ℕ → LinkTexts) (ns : Nodes) →
+        let names = T.reference_of texts.now.tables.now in
+        let bytes = texts.now.bytes.now in
+        events.now ≡ events_of ns → AreNodes ns → AreTexts bytes ns → HaveEndings bytes ns →
+        AreSpelled names bytes leads at strings.now events.now →
+        IfOk result (λ rows. rows_view at rows.items ≡ inline_rows leads (inlines_of names bytes texts.now.linked ns)) }
+{
     let mut walk = Walk {
         rows: Vec::new(alloc),
         place: Place::new(),
@@ -214,8 +237,17 @@ pub struct Walk<'a, A: Allocator> {
 }
 
 impl<'a, A: Allocator + Clone> Walk<'a, A> {
-    ghost use Rattle.std.specs.Prelude.{◌≡◌, ◌≤◌, ◌<◌, ◌+◌, ◌^◌};
+    ghost use Rattle.std.specs.Prelude.{◌≡◌, ◌≤◌, ◌<◌, ◌+◌, ◌^◌, ◌++◌, ℕ, false, if◌then◌else◌, List, OnOk, drop};
+    ghost use Rattle.std.specs.Option.{option_map};
+    ghost use Rattle.engine_events.specs.Names.{is_listed};
+    ghost use Rattle.definition_inline.specs.Inline.{Target, LinkTexts};
+    ghost use Rattle.event_grammar.specs.References.{media_names};
+    ghost use Rattle.event_rows.specs.Ahead.{AreLeft};
     ghost use Rattle.event_rows.specs.Places.{entered, exited};
+    ghost use Rattle.event_rows.specs.RawTexts.{sequence_of, raw_after};
+    ghost use Rattle.event_rows.specs.Rows.{enter_rows, exit_rows};
+    ghost use Rattle.event_rows.specs.Spelled.{Spelled, first_raw, first_target, raws_view};
+    ghost use Rattle.inline_rows.specs.View.{rows_view};
 
     /// The event is entered that the events begin with.
     fn enter<T: Tables>(
@@ -227,56 +259,84 @@ impl<'a, A: Allocator + Clone> Walk<'a, A> {
     ) -> Result<(), AllocError>
         requires skipped { self.old.place.skipped + 1 < 2 ^ 64 }
         requires links { self.old.place.links + 1 < 2 ^ 64 }
+        requires targets { self.old.targets + 1 < 2 ^ 64 }
+        requires raw_texts { self.old.raw_texts + 1 < 2 ^ 64 }
         ensures place { self.new.place ≡ entered self.old.place name }
         ensures skipped { self.new.place.skipped ≤ self.old.place.skipped + 1 }
         ensures links { self.new.place.links ≤ self.old.place.links + 1 }
+        ensures targets { self.new.targets ≤ self.old.targets + 1 }
+        ensures raw_texts { self.new.raw_texts ≤ self.old.raw_texts + 1 }
+        ensures left { (leads : Target → LinkTexts) (at : ℕ → LinkTexts) (targets : List Spelled) (raws : List (List ℕ)) →
+            let names = T.reference_of texts.now.tables.now in
+            let bytes = texts.now.bytes.now in
+            let after = drop 1 events.now in
+            AreLeft at strings.now self.old (first_target names bytes leads name after targets) (first_raw bytes (sequence_of name) after raws) →
+            AreLeft at strings.now self.new targets raws }
+        ensures rows { (leads : Target → LinkTexts) (at : ℕ → LinkTexts) (targets : List Spelled) (raws : List (List ℕ)) →
+            let names = T.reference_of texts.now.tables.now in
+            let bytes = texts.now.bytes.now in
+            let after = drop 1 events.now in
+            AreLeft at strings.now self.old (first_target names bytes leads name after targets) (first_raw bytes (sequence_of name) after raws) →
+            OnOk result (rows_view at self.new.rows.items
+            ≡ rows_view at self.old.rows.items ++ enter_rows names bytes leads texts.now.linked self.old.place name events.now) }
     {
         let place = self.place;
         self.place = place.entered(name);
-        let target = self.targets;
-        if is_media(name) {
-            self.targets = target.saturating_add(1);
-        }
+        let target = self.next_target(name);
         let raw_text = self.raw_text(texts.bytes, strings, name, inside(events));
-        if place.skipped == 0 && place.mode == Mode::Text {
-            let linked = texts.linked || place.links != 0;
-            push_part(
-                &mut self.rows,
-                texts,
-                &PartStrings {
-                    strings,
-                    target,
-                    raw_text,
-                },
-                linked,
-                name,
-                events,
-            )
-        } else {
-            Ok(())
-        }
+        push_entered(
+            &mut self.rows,
+            texts,
+            &PartStrings {
+                strings,
+                target,
+                raw_text,
+            },
+            place,
+            name,
+            events,
+        )
     }
 
-    /// The text of the raw text of a name, or no text of another event. The events are those after
-    /// the enter.
+    /// The number of the next link, image or call, which is the event of this name if it is one.
+    fn next_target(&mut self, name: Name) -> usize
+        requires { self.old.targets + 1 < 2 ^ 64 }
+        ensures number { result ≡ self.old.targets }
+        ensures next { self.new ≡ record self.old { targets = (if is_listed media_names name then self.old.targets + 1 else self.old.targets) } }
+    {
+        let number = self.targets;
+        if is_media(name) {
+            self.targets = number + 1;
+        }
+        number
+    }
+
+    /// The text of the raw text of a name, or none of another event. The events are those after the
+    /// enter.
     fn raw_text(
         &mut self,
         bytes: &'a [u8],
         strings: &'a SpelledStrings<A>,
         name: Name,
         events: &[Event],
-    ) -> &'a str
-        ensures { self.new.place ≡ self.old.place }
+    ) -> Option<&'a str>
+        requires { self.old.raw_texts + 1 < 2 ^ 64 }
+        ensures same { self.new ≡ record self.old { raw_texts = self.new.raw_texts } }
+        ensures counted { self.new.raw_texts ≤ self.old.raw_texts + 1 }
+        ensures left { (raws : List (List ℕ)) →
+            drop self.old.raw_texts (raws_view strings.now) ≡ first_raw bytes.now (sequence_of name) events.now raws →
+            drop self.new.raw_texts (raws_view strings.now) ≡ raws }
+        ensures text { (raws : List (List ℕ)) →
+            drop self.old.raw_texts (raws_view strings.now) ≡ first_raw bytes.now (sequence_of name) events.now raws →
+            option_map (λ text. text.now) result ≡ option_map (λ sequence. raw_after bytes.now sequence false 0 events.now) (sequence_of name) }
     {
-        let Some(sequence) = sequence_of(name) else {
-            return "";
-        };
+        let sequence = sequence_of(name)?;
         match whole_piece(bytes, sequence, events) {
-            Some(piece) => text_of(piece),
+            Some(piece) => Some(text_of(piece)),
             None => {
                 let number = self.raw_texts;
-                self.raw_texts = number.saturating_add(1);
-                strings.raw_text(number)
+                self.raw_texts = number + 1;
+                Some(strings.raw_text(number))
             }
         }
     }
@@ -286,73 +346,182 @@ impl<'a, A: Allocator + Clone> Walk<'a, A> {
         ensures place { self.new.place ≡ exited self.old.place name }
         ensures skipped { self.new.place.skipped ≤ self.old.place.skipped }
         ensures links { self.new.place.links ≤ self.old.place.links }
+        ensures targets { self.new.targets ≡ self.old.targets }
+        ensures raw_texts { self.new.raw_texts ≡ self.old.raw_texts }
+        ensures rows { (at : ℕ → LinkTexts) →
+            OnOk result (rows_view at self.new.rows.items ≡ rows_view at self.old.rows.items ++ exit_rows self.old.place name) }
     {
         let place = self.place;
         self.place = place.exited(name);
         if place.skipped != 0 || place.mode == Mode::Text || name == Name::Label {
             return Ok(());
         }
-        self.rows.push(InlineRow::Exit)?;
-        Ok(())
+        push_row(&mut self.rows, InlineRow::Exit)
     }
 }
 
 /// The strings of a part of a text that were read before.
 #[derive(Clone, Copy)]
-struct PartStrings<'a, A: Allocator> {
+pub struct PartStrings<'a, A: Allocator> {
     strings: &'a SpelledStrings<A>,
     /// The number of the link, the image or the call.
     target: usize,
-    /// The raw text.
-    raw_text: &'a str,
+    /// The text of raw text.
+    raw_text: Option<&'a str>,
 }
 
-/// Adds the rows of the part of a text that the events begin with: for a span, a link or an image
-/// only the first one.
+/// Adds the rows of the event that the events begin with, which is entered at a place.
+fn push_entered<'a, T: Tables, A: Allocator + Clone>(
+    rows: &mut Vec<InlineRow<'a>, A>,
+    texts: &TextEvents<'a, T, A>,
+    part: &PartStrings<'a, A>,
+    place: Place,
+    name: Name,
+    events: &[Event],
+) -> Result<(), AllocError>
+    ensures { (leads : Target → LinkTexts) (at : ℕ → LinkTexts) →
+        let names = T.reference_of texts.now.tables.now in
+        let bytes = texts.now.bytes.now in
+        AreStringsOf names bytes leads at part.now name (drop 1 events.now) →
+        OnOk result (rows_view at rows.new.items
+        ≡ rows_view at rows.old.items ++ enter_rows names bytes leads texts.now.linked place name events.now) }
+{
+    if place.skipped != 0 {
+        return Ok(());
+    }
+    match place.mode {
+        Mode::Text => push_part(rows, texts, part, place.links, name, events),
+        Mode::Before => Ok(()),
+        Mode::Behind => Ok(()),
+    }
+}
+
+/// Adds the rows of the part of a text that the events begin with, in so many links: for a span, a
+/// link or an image only the first row.
 fn push_part<'a, T: Tables, A: Allocator + Clone>(
     rows: &mut Vec<InlineRow<'a>, A>,
     texts: &TextEvents<'a, T, A>,
     part: &PartStrings<'a, A>,
-    linked: bool,
+    links: usize,
     name: Name,
     events: &[Event],
-) -> Result<(), AllocError> {
-    if let Some(span) = span_of(name) {
-        return push_row(rows, InlineRow::EnterSpan(span));
+) -> Result<(), AllocError>
+    ensures { (leads : Target → LinkTexts) (at : ℕ → LinkTexts) →
+        let names = T.reference_of texts.now.tables.now in
+        let bytes = texts.now.bytes.now in
+        AreStringsOf names bytes leads at part.now name (drop 1 events.now) →
+        OnOk result (rows_view at rows.new.items
+        ≡ rows_view at rows.old.items ++ part_rows names bytes leads texts.now.linked (span_of name) name links events.now) }
+{
+    match span_of(name) {
+        Some(span) => push_row(rows, InlineRow::EnterSpan(span)),
+        None => push_unspanned(rows, texts, part, links, name, events),
     }
+}
+
+/// Adds the rows of a part of a text that isn't a span.
+fn push_unspanned<'a, T: Tables, A: Allocator + Clone>(
+    rows: &mut Vec<InlineRow<'a>, A>,
+    texts: &TextEvents<'a, T, A>,
+    part: &PartStrings<'a, A>,
+    links: usize,
+    name: Name,
+    events: &[Event],
+) -> Result<(), AllocError>
+    ensures { (leads : Target → LinkTexts) (at : ℕ → LinkTexts) →
+        let names = T.reference_of texts.now.tables.now in
+        let bytes = texts.now.bytes.now in
+        AreStringsOf names bytes leads at part.now name (drop 1 events.now) →
+        OnOk result (rows_view at rows.new.items
+        ≡ rows_view at rows.old.items ++ part_rows names bytes leads texts.now.linked None name links events.now) }
+{
     if name == Name::Link {
-        return push_row(
-            rows,
-            InlineRow::EnterLink(part.strings.link_target(part.target)),
-        );
+        let target = part.strings.link_target(part.target);
+        push_row(rows, InlineRow::EnterLink(target))
+    } else if name == Name::Image {
+        let target = part.strings.link_target(part.target);
+        push_row(rows, InlineRow::EnterImage(target))
+    } else {
+        push_alone(rows, texts, part, links, name, events)
     }
-    if name == Name::Image {
-        return push_row(
-            rows,
-            InlineRow::EnterImage(part.strings.link_target(part.target)),
-        );
+}
+
+/// Adds the rows of the event that the events begin with, which holds no text with rows of its own,
+/// in so many links.
+fn push_alone<'a, T: Tables, A: Allocator + Clone>(
+    rows: &mut Vec<InlineRow<'a>, A>,
+    texts: &TextEvents<'a, T, A>,
+    part: &PartStrings<'a, A>,
+    links: usize,
+    name: Name,
+    events: &[Event],
+) -> Result<(), AllocError>
+    ensures { (leads : Target → LinkTexts) (at : ℕ → LinkTexts) →
+        let names = T.reference_of texts.now.tables.now in
+        let bytes = texts.now.bytes.now in
+        AreStringsOf names bytes leads at part.now name (drop 1 events.now) →
+        OnOk result (rows_view at rows.new.items
+        ≡ rows_view at rows.old.items ++ alone_rows names bytes leads texts.now.linked (sequence_of name) name links events.now) }
+{
+    match part.raw_text {
+        Some(text) => push_row(rows, InlineRow::Spelled(raw_leaf(name, text))),
+        None => push_other(rows, texts, part, links, name, events),
     }
-    if name == Name::CodeText {
-        return push_row(rows, InlineRow::Spelled(SpelledLeaf::Code(part.raw_text)));
-    }
-    if name == Name::MathText {
-        return push_row(rows, InlineRow::Spelled(SpelledLeaf::Math(part.raw_text)));
-    }
+}
+
+/// Adds the rows of an event that holds no text with rows of its own, and isn't raw text.
+fn push_other<'a, T: Tables, A: Allocator + Clone>(
+    rows: &mut Vec<InlineRow<'a>, A>,
+    texts: &TextEvents<'a, T, A>,
+    part: &PartStrings<'a, A>,
+    links: usize,
+    name: Name,
+    events: &[Event],
+) -> Result<(), AllocError>
+    ensures { (leads : Target → LinkTexts) (at : ℕ → LinkTexts) →
+        let names = T.reference_of texts.now.tables.now in
+        let bytes = texts.now.bytes.now in
+        AreStringsOf names bytes leads at part.now name (drop 1 events.now) →
+        OnOk result (rows_view at rows.new.items
+        ≡ rows_view at rows.old.items ++ alone_rows names bytes leads texts.now.linked None name links events.now) }
+{
     if name == Name::GfmFootnoteCall {
-        return push_row(rows, InlineRow::Call(part.strings.call_label(part.target)));
-    }
-    if name == Name::GfmTaskListItemCheck {
+        let label = part.strings.call_label(part.target);
+        push_row(rows, InlineRow::Call(label))
+    } else if name == Name::GfmTaskListItemCheck {
         let done = has(inside(events), Name::GfmTaskListItemValueChecked);
-        return push_row(rows, InlineRow::Spelled(SpelledLeaf::Check(done)));
+        push_row(rows, InlineRow::Spelled(SpelledLeaf::Check(done)))
+    } else {
+        let linked = is_linked(texts.linked, links);
+        push_leaf(rows, texts, linked, name, events)
     }
-    push_leaf(rows, texts, linked, name, events)
+}
+
+/// Whether an event is in a link, if so many are open in a text that may be in one.
+fn is_linked(linked: bool, links: usize) -> bool
+    ensures { result ≡ (linked || not (links == 0)) }
+{
+    linked || links != 0
+}
+
+/// Raw text of this name: math, or code.
+fn raw_leaf(name: Name, text: &str) -> SpelledLeaf<'_>
+    ensures { spelled_view result ≡ raw_leaf name (without_padding text.now) }
+{
+    if name == Name::CodeText {
+        SpelledLeaf::Code(text)
+    } else {
+        SpelledLeaf::Math(text)
+    }
 }
 
 /// Adds a row.
 fn push_row<'a, A: Allocator>(
     rows: &mut Vec<InlineRow<'a>, A>,
     row: InlineRow<'a>,
-) -> Result<(), AllocError> {
+) -> Result<(), AllocError>
+    ensures { (at : ℕ → LinkTexts) → OnOk result (rows_view at rows.new.items ≡ rows_view at rows.old.items ++ row_view at row.entry) }
+{
     rows.push(row)?;
     Ok(())
 }

@@ -197,8 +197,17 @@ impl<A: Allocator + Clone> SpelledStrings<A> {
 }
 
 impl<A: Allocator> SpelledStrings<A> {
+    ghost use Rattle.std.specs.Prelude.{◌≡◌, ℕ, [], reverse, slice_index_or, string_bytes};
+    ghost use Rattle.definition_inline.specs.Inline as inline;
+    ghost use Rattle.definition_text.specs.Content.{content_codes};
+    ghost use Rattle.event_rows.specs.Spelled.{no_spelled, range_text, raws_view, targets_view};
+    ghost use Rattle.event_rows.specs.declared.spelled.SpelledTarget.TheVariants as targets;
+    ghost use Rattle.inline_rows.specs.View.{target_texts};
+
     /// The text of a range.
-    fn text_in(&self, range: Range) -> &str {
+    fn text_in(&self, range: Range) -> &str
+        ensures { result.now ≡ range_text (string_bytes self.now.text) range }
+    {
         let bytes = self.text.as_bytes();
         if range.start <= range.end && range.end <= bytes.len() {
             text_of(&bytes[range.start..range.end])
@@ -208,7 +217,9 @@ impl<A: Allocator> SpelledStrings<A> {
     }
 
     /// What the link, the image or the call of a number is made of.
-    fn target(&self, number: usize) -> SpelledTarget {
+    fn target(&self, number: usize) -> SpelledTarget
+        ensures { result ≡ slice_index_or (reverse self.now.targets.items) number targets.Nowhere }
+    {
         let count = self.targets.len();
         if number < count {
             self.targets[count - 1 - number]
@@ -218,7 +229,9 @@ impl<A: Allocator> SpelledStrings<A> {
     }
 
     /// Where the link or the image of a number leads.
-    pub(crate) fn link_target(&self, number: usize) -> LinkTarget<'_> {
+    pub(crate) fn link_target(&self, number: usize) -> LinkTarget<'_>
+        ensures { (at : ℕ → inline.LinkTexts) → target_texts at result ≡ (slice_index_or (targets_view at self.now) number no_spelled).leads }
+    {
         match self.target(number) {
             SpelledTarget::Resource { destination, title } => LinkTarget::Resource(LinkTexts {
                 destination: self.text_in(destination),
@@ -231,7 +244,9 @@ impl<A: Allocator> SpelledStrings<A> {
     }
 
     /// The label of the call of a number.
-    pub(crate) fn call_label(&self, number: usize) -> &str {
+    pub(crate) fn call_label(&self, number: usize) -> &str
+        ensures { (at : ℕ → inline.LinkTexts) → content_codes result.now ≡ (slice_index_or (targets_view at self.now) number no_spelled).label }
+    {
         match self.target(number) {
             SpelledTarget::Call(label) => self.text_in(label),
             SpelledTarget::Resource { .. } => "",
@@ -241,7 +256,9 @@ impl<A: Allocator> SpelledStrings<A> {
     }
 
     /// The raw text of a number among those that are joined.
-    pub(crate) fn raw_text(&self, number: usize) -> &str {
+    pub(crate) fn raw_text(&self, number: usize) -> &str
+        ensures { result.now ≡ slice_index_or (raws_view self.now) number [] }
+    {
         if number < self.raw_texts.len() {
             self.text_in(self.raw_texts[number])
         } else {

@@ -1,4 +1,4 @@
-use Rattle.std.proofs.Common.{refl, sym, ap, ◌∙◌, is_some}
+use Rattle.std.proofs.Common.{sym, ap, is_some}
 use Rattle.event_grammar.specs.Trees.{Nodes, events_of}
 use Rattle.event_meaning.specs.Children.{child, after_child, before_child}
 use Rattle.event_blocks.proofs.Children.{first_none}

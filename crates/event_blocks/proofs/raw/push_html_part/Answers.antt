@@ -5,7 +5,6 @@ use Rattle.engine_events.specs.declared.event.Name.{Name}
 use Rattle.engine_events.specs.declared.event.Name.TheVariants as n
 use Rattle.event_grammar.specs.InGrammar.{node_name}
 use Rattle.event_levels.proofs.ChildLaw.{reads_name}
-use Rattle.event_meaning.specs.Children.{text_of}
 use Rattle.event_meaning.specs.Raw.{RawPart, Chunk, raw_lines, raw_part}
 use Rattle.html_bytes.specs.Layout.{with_text}
 use Rattle.html_footnotes.specs.Output.{output_view}

@@ -1,6 +1,6 @@
-use Rattle.std.proofs.Common.{◌≡◌, ◌++◌, ℕ, List, refl, sym, ap, ◌∙◌}
+use Rattle.std.proofs.Common.{ℕ, List, ◌∙◌}
 use Rattle.event_grammar.specs.InGrammar.{node_name}
-use Rattle.event_grammar.specs.Trees.{Nodes, Cons}
+use Rattle.event_grammar.specs.Trees.{Nodes}
 use Rattle.event_meaning.specs.Raw.{raw_lines, raw_part, raw_parts}
 use Rattle.html_leaves.specs.CodeLines.{html_of}
 use Rattle.html_leaves.specs.Prints.{page_view}

@@ -1,9 +1,6 @@
-use Rattle.std.proofs.Common.{◌≡◌, ◌++◌, ℕ, List, [], Some, codes, string_bytes, refl, sym, ap, ◌∙◌, subst, append_assoc}
-use Rattle.std.specs.List.{flat_map}
+use Rattle.std.proofs.Common.{◌≡◌, ◌++◌, ℕ, List, [], codes, sym, ap, ◌∙◌, subst}
 use Rattle.std.specs.Result.{OnOk}
 use Rattle.std.proofs.lemmas.List.{append-nil}
-use Rattle.definition_page.specs.BlockPieces.{info_attributes}
-use Rattle.definition_page.specs.Tags.{attribute_bytes}
 use Rattle.definition_text.specs.Encode.{encode}
 use Rattle.event_meaning.specs.Strings.{string_of}
 use Rattle.event_written.specs.Texts.{AreTexts}

@@ -4,7 +4,7 @@ use Rattle.event_meaning.specs.Raw.{raw_part}
 use Rattle.event_written.specs.Texts.{IsTextNode}
 use Rattle.html_leaves.specs.Prints.{page_view}
 use Rattle.event_rows.specs.Columns.{AreCounted}
-use Rattle.event_blocks.specs.Raw.{part_view, passed}
+use Rattle.event_blocks.specs.Raw.{part_view}
 use Rattle.event_blocks.specs.declared.raw.Passed.{Passed}
 use Rattle.event_blocks.proofs.RawWalk.{CodeWalked, one_code, code_first}
 use Rattle.event_blocks.proofs.printer.LeafPrinter.code.Goals as goal

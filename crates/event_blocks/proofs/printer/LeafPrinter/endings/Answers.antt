@@ -1,4 +1,4 @@
-use Rattle.std.proofs.Common.{◌≡◌, ℕ, List, refl, sym, ap, ◌∙◌, subst}
+use Rattle.std.proofs.Common.{◌≡◌, ℕ, List, refl, sym, ap, ◌∙◌}
 use Rattle.markdown_options.specs.LineEndings.{ending_bytes}
 use Rattle.event_grammar.specs.Trees.{Nodes, Nil, Cons, AreNodes}
 use Rattle.event_meaning.specs.GfmTable.{endings_in}

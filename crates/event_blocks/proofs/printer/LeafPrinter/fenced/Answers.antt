@@ -1,11 +1,11 @@
-use Rattle.std.proofs.Common.{◌≡◌, ◌||◌, not, Bool, true, is_some, codes, sym, ap, ◌∙◌, subst}
+use Rattle.std.proofs.Common.{◌≡◌, ◌||◌, not, Bool, is_some, codes, sym, ap, ◌∙◌, subst}
 use Rattle.std.specs.Result.{OnOk}
 use Rattle.markdown_options.specs.LineEndings.{ending_bytes}
 use Rattle.markdown_options.specs.declared.line_ending.LineEnding.{LineEnding}
 use Rattle.event_meaning.specs.Children.{child, after_child, before_child}
 use Rattle.event_meaning.specs.Raw.{raw_parts, fenced_lines}
 use Rattle.html_bytes.specs.Layout.{LayoutState}
-use Rattle.html_leaves.specs.Prints.{page_view, with_bytes, with_fresh, layout_after}
+use Rattle.html_leaves.specs.Prints.{page_view, with_bytes, with_fresh}
 use Rattle.event_blocks.proofs.FencedLaid.{end_closed, end_open}
 use Rattle.event_blocks.proofs.Sound.{after_sound, before_sound}
 use Rattle.event_blocks.proofs.printer.LeafPrinter.fenced.Goals as goal

@@ -1,7 +1,7 @@
 use Rattle.std.proofs.Common.{◌≡◌, ◌∷◌, ◌++◌, ◌-◌, ℕ, List, [], codes, sym, ap, ◌∙◌}
 use Rattle.std.specs.List.{repeat}
 use Rattle.event_grammar.specs.Points.{bytes_between}
-use Rattle.event_meaning.specs.Children.{columns_after, text_of}
+use Rattle.event_meaning.specs.Children.{columns_after}
 use Rattle.event_meaning.specs.Raw.{Chunk}
 use Rattle.event_written.specs.Strings.{valid}
 use Rattle.event_blocks.proofs.Pieces.{not_cut_spaced, spaced_read, text_read, valid_text}

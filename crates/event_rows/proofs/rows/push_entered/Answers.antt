@@ -1,0 +1,14 @@
+use Rattle.std.proofs.Common.{arith}
+use Rattle.inline_rows.specs.View.{rows_view}
+use Rattle.event_rows.specs.Rows.{enter_rows}
+use Rattle.event_rows.specs.declared.rows.Mode.TheVariants.{Text}
+use Rattle.event_rows.proofs.Pushed.{along}
+use Rattle.event_rows.proofs.RowParts.{place_rows}
+use Rattle.event_rows.proofs.rows.push_entered.Goals as goal
+
+pub returns-in-Text : goal.returns-in-Text
+returns-in-Text g c leads at strings =
+    along c.push_part.result (rows_view at c.push_part.new.rows.items) (rows_view at c.args.rows.now.items) _
+    (enter_rows (g.T.Tables.reference_of c.args.texts.now.tables.now) c.args.texts.now.bytes.now leads c.args.texts.now.linked c.args.place c.args.name c.args.events.now)
+    (place_rows (g.T.Tables.reference_of c.args.texts.now.tables.now) c.args.texts.now.bytes.now leads c.args.texts.now.linked c.args.name 0 c.args.events.now c.args.place Text (omega arith) c.in-Text.is)
+    (c.push_part.ensures leads at strings)
