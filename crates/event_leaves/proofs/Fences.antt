@@ -1,5 +1,5 @@
 -- What fences hold, and where code stands.
-use Rattle.std.proofs.Common.{◌≡◌, List, [], ◌∷◌, Bool, true, Option, None, Some, refl}
+use Rattle.std.proofs.Common.{◌≡◌, List, ◌∷◌, true, Option, None, Some, refl}
 use Rattle.std.proofs.lemmas.Bool.{or_right}
 use Rattle.engine_events.specs.Names.{same_name, is_listed}
 use Rattle.engine_events.specs.declared.event.Name.{Name}

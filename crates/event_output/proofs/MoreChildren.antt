@@ -1,5 +1,5 @@
 -- Events that may stand where they do, and more of them.
-use Rattle.std.proofs.Common.{◌≡◌, ℕ, List, [], ◌∷◌, ◌++◌, Bool, true, false, ◌&&◌, refl, sym, ap, subst, ◌∙◌, map, get_or, set}
+use Rattle.std.proofs.Common.{◌≡◌, ℕ, List, [], ◌∷◌, ◌++◌, true, refl, ap, ◌∙◌, map, get_or, set}
 use Rattle.std.specs.List.{fold}
 use Rattle.std.proofs.lemmas.Bool.{and_from, and_parts}
 use Rattle.std.proofs.lemmas.List.{map-append}
@@ -8,7 +8,7 @@ use Rattle.engine_events.specs.declared.event.Kind.TheVariants as kind
 use Rattle.engine_events.specs.declared.event.Name.{Name}
 use Rattle.engine_events.specs.declared.event.Name.TheVariants as n
 use Rattle.engine_events.specs.declared.event.Event.{Event}
-use Rattle.event_output.specs.Open.{Mark, Entered, Exited, closed, mark_as, mark_of, then_mark, unmatched}
+use Rattle.event_output.specs.Open.{Mark, Entered, Exited, mark_as, mark_of, then_mark, unmatched}
 use Rattle.event_output.specs.Children.{HaveChildren, are_children, may_enter, may_follow, may_hold}
 use Rattle.event_output.proofs.Classes.{enters_in}
 use Rattle.event_output.proofs.Marks.{marked_one}

@@ -1,5 +1,5 @@
 //! Events, written one after another.
-ghost use Rattle.std.specs.Prelude.{◌≡◌, ◌<◌, ◌^◌, ◌∷◌, [], IfOk, IsTrue, OnOk, length, map, true};
+ghost use Rattle.std.specs.Prelude.{◌≡◌, ◌<◌, ◌^◌, ◌∷◌, [], IfOk, IsTrue, OnOk, length, true};
 ghost use Rattle.event_output.specs.Placed.{ArePlaced};
 ghost use Rattle.engine_events.specs.declared.event.Name.TheVariants.{Data, Paragraph};
 ghost use Rattle.event_output.specs.Open.{Entered, Exited, closed, mark_of, unmatched};

@@ -1,5 +1,5 @@
 -- What is open in a document, one more of it or one less.
-use Rattle.std.proofs.Common.{◌≡◌, arith, ℕ, zero, suc, ◌+◌, List, [], ◌∷◌, ◌++◌, Bool, true, false, refl, sym, ap, subst, ◌∙◌, get_or, length}
+use Rattle.std.proofs.Common.{◌≡◌, arith, ℕ, zero, suc, ◌+◌, List, [], ◌∷◌, ◌++◌, true, false, refl, sym, ap, subst, ◌∙◌, get_or, length}
 use Rattle.std.proofs.lemmas.Bool.{true≢false}
 use Rattle.engine_events.specs.Names.{is_listed}
 use Rattle.engine_events.specs.declared.event.Name.{Name}

@@ -1,5 +1,5 @@
 -- What the document may hold.
-use Rattle.std.proofs.Common.{◌≡◌, List, [], Bool, true, ap}
+use Rattle.std.proofs.Common.{◌≡◌, List, [], true, ap}
 use Rattle.engine_events.specs.declared.event.Name.TheVariants as n
 use Rattle.event_output.specs.Open.{Mark}
 use Rattle.event_output.specs.Children.{holds_blocks, holds_lines, may_enter}

@@ -1,6 +1,6 @@
 //! Rows of blocks to events (CommonMark 4 and 5).
 ghost use Rattle.std.specs.Prelude.{◌≡◌, ◌<◌, IfOk, IsTrue, OnOk, false, true, vec_len};
-ghost use Rattle.engine_events.specs.declared.event.Name.TheVariants.{ListItem, SpaceOrTab};
+ghost use Rattle.engine_events.specs.declared.event.Name.TheVariants.{ListItem};
 ghost use Rattle.event_output.specs.Children.{holds_blocks, may_enter};
 ghost use Rattle.event_lines.specs.Open.{still_open};
 ghost use Rattle.event_parser.specs.Opened.{close_all, ends_in_list, is_list};

@@ -1,4 +1,4 @@
-use Rattle.std.proofs.Common.{◌≡◌, ◌∷◌, sym, ap, subst, ◌∙◌}
+use Rattle.std.proofs.Common.{◌∷◌, sym, ap, subst, ◌∙◌}
 use Rattle.engine_events.specs.declared.event.Name.TheVariants as n
 use Rattle.event_output.specs.Open.{Entered}
 use Rattle.event_lines.specs.Open.{still_open}

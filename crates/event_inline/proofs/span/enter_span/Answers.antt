@@ -1,4 +1,4 @@
-use Rattle.std.proofs.Common.{◌≡◌, ◌∷◌, sym, ap, ap₂, subst, ◌∙◌}
+use Rattle.std.proofs.Common.{◌∷◌, sym, ap, ap₂, subst, ◌∙◌}
 use Rattle.event_output.specs.Open.{Entered}
 use Rattle.event_lines.specs.Open.{still_open}
 use Rattle.event_inline.specs.declared.opened.Open.TheVariants as held
