@@ -1,1 +1,2 @@
 pub mod LeavingAll
+pub mod Held

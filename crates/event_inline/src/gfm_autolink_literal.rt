@@ -1,10 +1,16 @@
 //! Links with no brackets (GFM 6.9).
+ghost use Rattle.std.specs.Prelude.{◌≡◌, true};
+ghost use Rattle.engine_events.specs.Names.{is_listed};
+ghost use Rattle.event_grammar.specs.Grammar.{text_names};
+
 use engine_events::event::Name;
 use event_lines::cut::first;
 use inline_leaves::LiteralKind;
 
 /// The name of a literal of a kind, which begins with these bytes.
-pub(crate) fn literal_name(kind: LiteralKind, bytes: &[u8]) -> Name {
+pub(crate) fn literal_name(kind: LiteralKind, bytes: &[u8]) -> Name
+    ensures { is_listed text_names result ≡ true }
+{
     match kind {
         LiteralKind::Www => Name::GfmAutolinkLiteralWww,
         LiteralKind::Email => Name::GfmAutolinkLiteralEmail,

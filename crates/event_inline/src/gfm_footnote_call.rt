@@ -1,5 +1,7 @@
 //! Calls of footnotes (in neither standard).
-ghost use Rattle.std.specs.Prelude.{◌≡◌, OnOk};
+ghost use Rattle.std.specs.Prelude.{◌≡◌, OnOk, true};
+ghost use Rattle.engine_events.specs.declared.event.Name.TheVariants.{GfmFootnoteCall, GfmFootnoteCallLabel};
+ghost use Rattle.event_output.specs.Children.{may_enter};
 ghost use Rattle.event_lines.specs.Open.{still_open};
 
 use crate::label::label_end;
@@ -12,11 +14,13 @@ use markdown_options::Tables;
 use std::alloc::{AllocError, Allocator};
 
 /// A call with a label.
+#[tactic(auto, using(event_output::proofs::Classes::enters_in, event_output::proofs::Classes::string_in), unfolding(event_output::specs::Children::may_hold, event_output::specs::Children::has_string))]
 pub(crate) fn push_call<T: Tables, A: Allocator>(
     walk: &mut Walk<'_, A>,
     reading: &Reading<'_, T>,
     label: &str,
 ) -> Result<(), AllocError>
+    requires child { may_enter (still_open walk.old) GfmFootnoteCall ≡ true }
     ensures open { OnOk result (still_open walk.new ≡ still_open walk.old) }
 {
     walk.enter(Name::GfmFootnoteCall)?;
@@ -30,7 +34,9 @@ pub(crate) fn push_call<T: Tables, A: Allocator>(
 }
 
 /// What begins the label.
+#[tactic(auto, using(event_output::proofs::Classes::enters_in), unfolding(event_output::specs::Children::may_hold))]
 fn call_start<A: Allocator>(walk: &mut Walk<'_, A>) -> Result<(), AllocError>
+    requires child { may_enter (still_open walk.old) GfmFootnoteCallLabel ≡ true }
     ensures open { OnOk result (still_open walk.new ≡ still_open walk.old) }
 {
     walk.enter(Name::GfmFootnoteCallLabel)?;

@@ -1,8 +1,10 @@
 //! Links and images (CommonMark 6.3 and 6.4).
-ghost use Rattle.std.specs.Prelude.{◌≡◌, OnOk};
+ghost use Rattle.std.specs.Prelude.{◌≡◌, OnOk, true};
+ghost use Rattle.engine_events.specs.declared.event.Name.TheVariants.{Image, LabelEnd, LabelImage, LabelLink, LabelText, Link, Reference, Resource};
+ghost use Rattle.event_output.specs.Children.{may_enter};
 ghost use Rattle.event_output.specs.Open.{closed};
 ghost use Rattle.event_lines.specs.Open.{still_open};
-ghost use Rattle.event_inline.specs.Leaving.{leave_label, open_around};
+ghost use Rattle.event_inline.specs.Leaving.{AreHeld, leave_label, open_around};
 
 use crate::opened::Open;
 use crate::reading::Reading;
@@ -14,13 +16,16 @@ use markdown_options::Tables;
 use std::alloc::{AllocError, Allocator};
 
 /// The start of a link.
-#[tactic(auto, using(crate::proofs::LeavingAll::leave_last))]
+#[tactic(auto, using(event_output::proofs::Classes::enters_in), unfolding(event_output::specs::Children::may_hold))]
 pub(crate) fn enter_link<A: Allocator>(
     walk: &mut Walk<'_, A>,
     open: &mut Vec<Open, A>,
     target: LinkTarget<'_>,
 ) -> Result<(), AllocError>
+    requires child { may_enter (still_open walk.old) Link ≡ true }
+    requires held { AreHeld open.old.items (still_open walk.old) }
     ensures open { OnOk result (open_around open.new.items walk.new ≡ open_around open.old.items walk.old) }
+    ensures held { OnOk result (AreHeld open.new.items (still_open walk.new)) }
 {
     let resource = matches!(target, LinkTarget::Resource(_));
     open.push(Open::Link { resource })?;
@@ -32,13 +37,16 @@ pub(crate) fn enter_link<A: Allocator>(
 }
 
 /// The start of an image.
-#[tactic(auto, using(crate::proofs::LeavingAll::leave_last))]
+#[tactic(auto, using(event_output::proofs::Classes::enters_in), unfolding(event_output::specs::Children::may_hold))]
 pub(crate) fn enter_image<A: Allocator>(
     walk: &mut Walk<'_, A>,
     open: &mut Vec<Open, A>,
     target: LinkTarget<'_>,
 ) -> Result<(), AllocError>
+    requires child { may_enter (still_open walk.old) Image ≡ true }
+    requires held { AreHeld open.old.items (still_open walk.old) }
     ensures open { OnOk result (open_around open.new.items walk.new ≡ open_around open.old.items walk.old) }
+    ensures held { OnOk result (AreHeld open.new.items (still_open walk.new)) }
 {
     let resource = matches!(target, LinkTarget::Resource(_));
     open.push(Open::Image { resource })?;
@@ -50,7 +58,9 @@ pub(crate) fn enter_image<A: Allocator>(
 }
 
 /// What begins the label of a link.
+#[tactic(auto, using(event_output::proofs::Classes::enters_in), unfolding(event_output::specs::Children::may_hold))]
 fn link_start<A: Allocator>(walk: &mut Walk<'_, A>) -> Result<(), AllocError>
+    requires child { may_enter (still_open walk.old) LabelLink ≡ true }
     ensures open { OnOk result (still_open walk.new ≡ still_open walk.old) }
 {
     walk.enter(Name::LabelLink)?;
@@ -59,7 +69,9 @@ fn link_start<A: Allocator>(walk: &mut Walk<'_, A>) -> Result<(), AllocError>
 }
 
 /// What begins the label of an image.
+#[tactic(auto, using(event_output::proofs::Classes::enters_in), unfolding(event_output::specs::Children::may_hold))]
 fn image_start<A: Allocator>(walk: &mut Walk<'_, A>) -> Result<(), AllocError>
+    requires child { may_enter (still_open walk.old) LabelImage ≡ true }
     ensures open { OnOk result (still_open walk.new ≡ still_open walk.old) }
 {
     walk.enter(Name::LabelImage)?;
@@ -75,6 +87,9 @@ pub(crate) fn leave_label<T: Tables, A: Allocator>(
     name: Name,
     resource: bool,
 ) -> Result<(), AllocError>
+    requires label { may_enter (closed LabelText (still_open walk.old)) LabelEnd ≡ true }
+    requires resource { may_enter (leave_label (still_open walk.old)) Resource ≡ true }
+    requires reference { may_enter (leave_label (still_open walk.old)) Reference ≡ true }
     ensures open { OnOk result (still_open walk.new ≡ closed name (leave_label (still_open walk.old))) }
 {
     label_end(walk)?;
@@ -88,7 +103,9 @@ pub(crate) fn leave_label<T: Tables, A: Allocator>(
 }
 
 /// What ends the label.
+#[tactic(auto, using(event_output::proofs::Classes::enters_in), unfolding(event_output::specs::Children::may_hold))]
 pub(crate) fn label_end<A: Allocator>(walk: &mut Walk<'_, A>) -> Result<(), AllocError>
+    requires label { may_enter (closed LabelText (still_open walk.old)) LabelEnd ≡ true }
     ensures open { OnOk result (still_open walk.new ≡ leave_label (still_open walk.old)) }
 {
     walk.exit(Name::LabelText)?;

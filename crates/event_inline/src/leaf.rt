@@ -1,5 +1,7 @@
 //! Constructs that hold no other (CommonMark 2.4, 2.5, 6.1 and 6.5 to 6.8).
-ghost use Rattle.std.specs.Prelude.{◌≡◌, OnOk};
+ghost use Rattle.std.specs.Prelude.{◌≡◌, OnOk, true};
+ghost use Rattle.engine_events.specs.declared.event.Name.TheVariants.{Autolink, HtmlText};
+ghost use Rattle.event_output.specs.Children.{has_lines, holds_lines, holds_text, may_enter, may_hold};
 ghost use Rattle.event_lines.specs.Open.{still_open};
 
 use crate::gfm_autolink_literal::literal_name;
@@ -14,12 +16,15 @@ use inline_leaves::LeafPart;
 use std::alloc::{AllocError, Allocator};
 use text_bytes::{run, white_size};
 
-/// The names of raw text between two sequences.
+/// The names of raw text between two sequences, which it may hold.
 #[derive(Clone, Copy)]
 struct RawNames {
     text: Name,
     sequence: Name,
     chunk: Name,
+    ghost holds_sequence: { may_hold text sequence ≡ true },
+    ghost holds_chunk: { may_hold text chunk ≡ true },
+    ghost may_go_on: { has_lines text ≡ true },
 }
 
 const CODE: RawNames = RawNames {
@@ -35,11 +40,13 @@ const MATH: RawNames = RawNames {
 };
 
 /// A construct that comes next in a content.
+#[tactic(auto, using(event_output::proofs::Classes::text_may, event_output::proofs::Classes::text_lines, crate::proofs::Held::text_child), unfolding(event_output::specs::Children::may_hold, event_output::specs::Children::has_lines))]
 pub(crate) fn push_leaf<T, A: Allocator>(
     walk: &mut Walk<'_, A>,
     reading: &Reading<'_, T>,
     part: LeafPart<'_>,
 ) -> Result<(), AllocError>
+    requires text { holds_text (still_open walk.old) ≡ true }
     ensures open { OnOk result (still_open walk.new ≡ still_open walk.old) }
 {
     let bytes = reading.rest(walk.place()).as_bytes();
@@ -64,7 +71,7 @@ pub(crate) fn push_leaf<T, A: Allocator>(
 }
 
 /// Raw text of a size between two sequences of a size, at the front of these bytes (CommonMark 6.1).
-#[tactic(auto, using(event_output::proofs::Marks::same_self))]
+#[tactic(auto, using(event_output::proofs::Marks::same_self, event_output::proofs::Classes::enters_in, event_output::proofs::Classes::lines_in))]
 fn push_raw<A: Allocator>(
     walk: &mut Walk<'_, A>,
     names: &RawNames,
@@ -72,6 +79,7 @@ fn push_raw<A: Allocator>(
     sequence: usize,
     size: usize,
 ) -> Result<(), AllocError>
+    requires child { may_enter (still_open walk.old) names.now.text ≡ true }
     ensures open { OnOk result (still_open walk.new ≡ still_open walk.old) }
 {
     walk.enter(names.text)?;
@@ -83,11 +91,13 @@ fn push_raw<A: Allocator>(
 }
 
 /// An autolink of a URI or an address of a size (CommonMark 6.5).
+#[tactic(auto, using(event_output::proofs::Classes::enters_in), unfolding(event_output::specs::Children::may_hold))]
 fn push_autolink<A: Allocator>(
     walk: &mut Walk<'_, A>,
     email: bool,
     size: usize,
 ) -> Result<(), AllocError>
+    requires child { may_enter (still_open walk.old) Autolink ≡ true }
     ensures open { OnOk result (still_open walk.new ≡ still_open walk.old) }
 {
     let name = if email {
@@ -103,7 +113,9 @@ fn push_autolink<A: Allocator>(
 }
 
 /// Raw HTML (CommonMark 6.6).
+#[tactic(auto, using(event_output::proofs::Classes::enters_in, event_output::proofs::Classes::lines_in), unfolding(event_output::specs::Children::may_hold, event_output::specs::Children::has_lines))]
 fn push_html<A: Allocator>(walk: &mut Walk<'_, A>, bytes: &[u8]) -> Result<(), AllocError>
+    requires child { may_enter (still_open walk.old) HtmlText ≡ true }
     ensures open { OnOk result (still_open walk.new ≡ still_open walk.old) }
 {
     walk.enter(Name::HtmlText)?;
@@ -113,11 +125,13 @@ fn push_html<A: Allocator>(walk: &mut Walk<'_, A>, bytes: &[u8]) -> Result<(), A
 
 /// A line ending of a size, with the spaces and tabs around it (CommonMark 6.8). Rows in which email
 /// addresses were looked for have no row for those before it.
+#[tactic(auto, using(event_output::proofs::Classes::lines_may))]
 fn push_line_end<A: Allocator>(
     walk: &mut Walk<'_, A>,
     bytes: &[u8],
     size: usize,
 ) -> Result<(), AllocError>
+    requires lines { holds_lines (still_open walk.old) ≡ true }
     ensures open { OnOk result (still_open walk.new ≡ still_open walk.old) }
 {
     let before = white_size(bytes);

@@ -1,5 +1,6 @@
 //! Raw text of lines (CommonMark 6.1 and 6.6).
-ghost use Rattle.std.specs.Prelude.{◌≡◌, OnOk};
+ghost use Rattle.std.specs.Prelude.{◌≡◌, OnOk, true};
+ghost use Rattle.event_output.specs.Children.{holds_lines, may_enter};
 ghost use Rattle.event_lines.specs.Open.{still_open};
 
 use engine_events::event::Name;
@@ -16,6 +17,8 @@ pub(crate) fn push_lines<A: Allocator>(
     bytes: &[u8],
     indented: bool,
 ) -> Result<(), AllocError>
+    requires child { may_enter (still_open walk.old) name ≡ true }
+    requires lines { holds_lines (still_open walk.old) ≡ true }
     ensures open { OnOk result (still_open walk.new ≡ still_open walk.old) }
 {
     let mut rest = bytes;
@@ -27,12 +30,15 @@ pub(crate) fn push_lines<A: Allocator>(
 }
 
 /// An ending, or what comes before one. Answers its size.
+#[tactic(auto, using(event_output::proofs::Classes::lines_may))]
 fn push_line<A: Allocator>(
     walk: &mut Walk<'_, A>,
     name: Name,
     bytes: &[u8],
     indented: bool,
 ) -> Result<usize, AllocError>
+    requires child { may_enter (still_open walk.old) name ≡ true }
+    requires lines { holds_lines (still_open walk.old) ≡ true }
     ensures open { OnOk result (still_open walk.new ≡ still_open walk.old) }
 {
     let Some(found) = ending_at(bytes) else {

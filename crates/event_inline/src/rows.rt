@@ -1,7 +1,8 @@
 //! Rows, one after another (CommonMark 6).
-ghost use Rattle.std.specs.Prelude.{◌≡◌, OnOk};
+ghost use Rattle.std.specs.Prelude.{◌≡◌, OnOk, true};
+ghost use Rattle.event_output.specs.Children.{holds_text};
 ghost use Rattle.event_lines.specs.Open.{still_open};
-ghost use Rattle.event_inline.specs.Leaving.{leave_open, open_around};
+ghost use Rattle.event_inline.specs.Leaving.{AreHeld, entered_open, leave_open, open_around};
 
 use crate::gfm_footnote_call::push_call;
 use crate::label::{enter_image, enter_link, leave_label};
@@ -17,13 +18,14 @@ use std::alloc::{AllocError, Allocator};
 
 /// The events of the rows of a content, and of what is left of it: spaces and tabs at its end. What is
 /// open is kept in a list, whose memory is used again. What the rows don't end ends after them.
-#[tactic(auto, using(crate::proofs::LeavingAll::leave_last))]
+#[tactic(auto, using(crate::proofs::LeavingAll::leave_last, crate::proofs::Held::none_held, crate::proofs::Held::held_last, crate::proofs::Held::held_less, event_output::proofs::Classes::text_may))]
 pub fn push_rows<T: Tables, A: Allocator>(
     walk: &mut Walk<'_, A>,
     reading: &Reading<'_, T>,
     open: &mut Vec<Open, A>,
     rows: &[InlineRow<'_>],
 ) -> Result<(), AllocError>
+    requires text { holds_text (still_open walk.old) ≡ true }
     ensures open { OnOk result (still_open walk.new ≡ still_open walk.old) }
 {
     open.clear();
@@ -38,13 +40,16 @@ pub fn push_rows<T: Tables, A: Allocator>(
 }
 
 /// The events of a row, which may begin something or end the innermost that is open.
+#[tactic(auto, using(crate::proofs::Held::held_text, event_output::proofs::Classes::text_may))]
 fn push_row<T: Tables, A: Allocator>(
     walk: &mut Walk<'_, A>,
     reading: &Reading<'_, T>,
     open: &mut Vec<Open, A>,
     row: InlineRow<'_>,
 ) -> Result<(), AllocError>
+    requires held { AreHeld open.old.items (still_open walk.old) }
     ensures open { OnOk result (open_around open.new.items walk.new ≡ open_around open.old.items walk.old) }
+    ensures held { OnOk result (AreHeld open.new.items (still_open walk.new)) }
 {
     match row {
         InlineRow::Text(text) => walk.data(text.len())?,
@@ -62,13 +67,15 @@ fn push_row<T: Tables, A: Allocator>(
 }
 
 /// The end of the innermost that is open.
-#[tactic(auto, using(crate::proofs::LeavingAll::leave_last))]
+#[tactic(auto, using(crate::proofs::LeavingAll::leave_last, crate::proofs::Held::held_last, crate::proofs::Held::held_less))]
 fn leave_innermost<T: Tables, A: Allocator>(
     walk: &mut Walk<'_, A>,
     reading: &Reading<'_, T>,
     open: &mut Vec<Open, A>,
 ) -> Result<(), AllocError>
+    requires held { AreHeld open.old.items (still_open walk.old) }
     ensures open { OnOk result (open_around open.new.items walk.new ≡ open_around open.old.items walk.old) }
+    ensures held { OnOk result (AreHeld open.new.items (still_open walk.new)) }
 {
     if let Some(held) = open.pop() {
         leave(walk, reading, held)?;
@@ -77,11 +84,13 @@ fn leave_innermost<T: Tables, A: Allocator>(
 }
 
 /// The end of what is open.
+#[tactic(auto, using(event_output::proofs::Classes::enters_in, crate::proofs::Held::span_holds_sequence, event_output::proofs::Marks::closed_same), unfolding(event_output::specs::Children::may_hold))]
 fn leave<T: Tables, A: Allocator>(
     walk: &mut Walk<'_, A>,
     reading: &Reading<'_, T>,
     held: Open,
 ) -> Result<(), AllocError>
+    requires held { still_open walk.old ≡ entered_open held (leave_open held (still_open walk.old)) }
     ensures open { OnOk result (still_open walk.new ≡ leave_open held (still_open walk.old)) }
 {
     match held {

@@ -1,5 +1,6 @@
 //! Blank lines (CommonMark 4.9).
-ghost use Rattle.std.specs.Prelude.{◌≡◌, OnOk};
+ghost use Rattle.std.specs.Prelude.{◌≡◌, OnOk, true};
+ghost use Rattle.event_output.specs.Children.{holds_lines};
 ghost use Rattle.event_lines.specs.Open.{still_open};
 
 use engine_events::event::Name;
@@ -7,7 +8,9 @@ use event_lines::Walk;
 use std::alloc::{AllocError, Allocator};
 
 /// A blank line with its ending, if it has one. It begins unless it is begun.
+#[tactic(auto, using(event_output::proofs::Classes::lines_may))]
 pub fn push_blank_line<A: Allocator>(walk: &mut Walk<'_, A>) -> Result<(), AllocError>
+    requires lines { holds_lines (still_open walk.old) ≡ true }
     ensures open { OnOk result (still_open walk.new ≡ still_open walk.old) }
 {
     walk.in_line()?;

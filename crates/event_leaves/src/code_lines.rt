@@ -1,5 +1,7 @@
 //! Lines of code (CommonMark 4.4 and 4.5).
-ghost use Rattle.std.specs.Prelude.{◌≡◌, OnOk};
+ghost use Rattle.std.specs.Prelude.{◌≡◌, OnOk, true};
+ghost use Rattle.engine_events.specs.declared.event.Name.TheVariants.{SpaceOrTab};
+ghost use Rattle.event_output.specs.Children.{may_enter};
 ghost use Rattle.event_lines.specs.Open.{still_open};
 
 use engine_events::event::Name;
@@ -13,6 +15,8 @@ pub(crate) fn push_code_line<A: Allocator>(
     chunk: Name,
     indent: usize,
 ) -> Result<(), AllocError>
+    requires child { may_enter (still_open walk.old) chunk ≡ true }
+    requires space { may_enter (still_open walk.old) SpaceOrTab ≡ true }
     ensures open { OnOk result (still_open walk.new ≡ still_open walk.old) }
 {
     push_indent(walk, indent)?;
@@ -24,6 +28,7 @@ pub(crate) fn push_indent<A: Allocator>(
     walk: &mut Walk<'_, A>,
     indent: usize,
 ) -> Result<(), AllocError>
+    requires space { may_enter (still_open walk.old) SpaceOrTab ≡ true }
     ensures open { OnOk result (still_open walk.new ≡ still_open walk.old) }
 {
     let rest = walk.rest;

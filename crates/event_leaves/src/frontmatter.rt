@@ -2,7 +2,9 @@
 //!
 //!     frontmatter ::= fence line* fence
 //!     fence       ::= ('-'{3} | '+'{3}) white*
-ghost use Rattle.std.specs.Prelude.{◌≡◌, OnOk};
+ghost use Rattle.std.specs.Prelude.{◌≡◌, OnOk, true};
+ghost use Rattle.engine_events.specs.declared.event.Name.TheVariants.{Frontmatter, FrontmatterFence};
+ghost use Rattle.event_output.specs.Children.{holds_lines, may_enter};
 ghost use Rattle.event_lines.specs.Open.{still_open};
 
 use crate::code_lines::line_count;
@@ -12,7 +14,10 @@ use markdown_options::constants::FRONTMATTER_SEQUENCE_SIZE;
 use std::alloc::{AllocError, Allocator};
 
 /// Frontmatter, whose lines come next: the lines of this text. The ending of the last one follows it.
+#[tactic(auto, using(event_output::proofs::Classes::enters_in, event_output::proofs::Classes::lines_in, event_output::proofs::Classes::lines_may), unfolding(event_output::specs::Children::may_hold, event_output::specs::Children::has_lines))]
 pub fn push_frontmatter<A: Allocator>(walk: &mut Walk<'_, A>, text: &str) -> Result<(), AllocError>
+    requires child { may_enter (still_open walk.old) Frontmatter ≡ true }
+    requires lines { holds_lines (still_open walk.old) ≡ true }
     ensures open { OnOk result (still_open walk.new ≡ still_open walk.old) }
 {
     walk.in_line()?;
@@ -29,7 +34,9 @@ pub fn push_frontmatter<A: Allocator>(walk: &mut Walk<'_, A>, text: &str) -> Res
 }
 
 /// A fence: the rest of the line.
+#[tactic(auto, using(event_output::proofs::Classes::enters_in), unfolding(event_output::specs::Children::may_hold))]
 fn push_metadata_fence<A: Allocator>(walk: &mut Walk<'_, A>) -> Result<(), AllocError>
+    requires child { may_enter (still_open walk.old) FrontmatterFence ≡ true }
     ensures open { OnOk result (still_open walk.new ≡ still_open walk.old) }
 {
     walk.enter(Name::FrontmatterFence)?;

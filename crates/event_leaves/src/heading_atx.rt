@@ -1,7 +1,9 @@
 //! ATX headings (CommonMark 4.2).
 //!
 //!     heading ::= '#'{1,6} white* text? white* '#'* white*
-ghost use Rattle.std.specs.Prelude.{◌≡◌, OnOk};
+ghost use Rattle.std.specs.Prelude.{◌≡◌, OnOk, true};
+ghost use Rattle.engine_events.specs.declared.event.Name.TheVariants.{HeadingAtxText, SpaceOrTab};
+ghost use Rattle.event_output.specs.Children.{holds_blocks, may_enter};
 ghost use Rattle.event_lines.specs.Open.{still_open};
 
 use crate::buffers::Buffers;
@@ -17,6 +19,7 @@ use text_bytes::{run, white_size};
 use text_pieces::Piece;
 
 /// An ATX heading of a rank, whose content is this piece of the line.
+#[tactic(auto, using(event_output::proofs::Classes::blocks_may, event_output::proofs::Classes::enters_in), unfolding(event_output::specs::Children::may_hold))]
 pub fn push_heading<'a, T: Tables, A: Allocator + Clone>(
     walk: &mut Walk<'_, A>,
     texts: &Texts<'a, '_, T, A>,
@@ -24,6 +27,7 @@ pub fn push_heading<'a, T: Tables, A: Allocator + Clone>(
     rank: u8,
     content: &Piece<'a>,
 ) -> Result<(), AllocError>
+    requires blocks { holds_blocks (still_open walk.old) ≡ true }
     ensures open { OnOk result (still_open walk.new ≡ still_open walk.old) }
 {
     let bytes = walk.white()?.as_bytes();
@@ -41,12 +45,14 @@ pub fn push_heading<'a, T: Tables, A: Allocator + Clone>(
 }
 
 /// The text, which comes next.
+#[tactic(auto, using(event_output::proofs::Classes::text_in), unfolding(event_output::specs::Children::may_hold, event_output::specs::Children::has_text))]
 fn push_heading_text<'a, T: Tables, A: Allocator + Clone>(
     walk: &mut Walk<'_, A>,
     texts: &Texts<'a, '_, T, A>,
     buffers: &mut Buffers<'a, A>,
     content: &Piece<'a>,
 ) -> Result<(), AllocError>
+    requires child { may_enter (still_open walk.old) HeadingAtxText ≡ true }
     ensures open { OnOk result (still_open walk.new ≡ still_open walk.old) }
 {
     walk.begin_here();
@@ -67,6 +73,7 @@ fn push_white<'b, A: Allocator>(
     walk: &mut Walk<'_, A>,
     bytes: &'b [u8],
 ) -> Result<&'b [u8], AllocError>
+    requires space { may_enter (still_open walk.old) SpaceOrTab ≡ true }
     ensures open { OnOk result (still_open walk.new ≡ still_open walk.old) }
 {
     let size = white_size(bytes);

@@ -1,7 +1,9 @@
 //! Setext headings (CommonMark 4.3).
 //!
 //!     heading ::= line+ ('='+ | '-'+) white*
-ghost use Rattle.std.specs.Prelude.{◌≡◌, OnOk};
+ghost use Rattle.std.specs.Prelude.{◌≡◌, OnOk, true};
+ghost use Rattle.engine_events.specs.declared.event.Name.TheVariants.{HeadingSetextUnderline, SpaceOrTab};
+ghost use Rattle.event_output.specs.Children.{holds_blocks, may_enter};
 ghost use Rattle.event_lines.specs.Open.{still_open};
 
 use crate::buffers::Buffers;
@@ -16,12 +18,14 @@ use text_bytes::run;
 use text_pieces::Piece;
 
 /// A heading of these lines, with the underline on the line after them.
+#[tactic(auto, using(event_output::proofs::Classes::blocks_may, event_output::proofs::Classes::enters_in, event_output::proofs::Classes::lines_in, event_output::proofs::Classes::text_in), unfolding(event_output::specs::Children::may_hold, event_output::specs::Children::has_lines, event_output::specs::Children::has_text))]
 pub fn push_setext_heading<'a, T: Tables, A: Allocator + Clone>(
     walk: &mut Walk<'_, A>,
     texts: &Texts<'a, '_, T, A>,
     buffers: &mut Buffers<'a, A>,
     lines: &[Piece<'a>],
 ) -> Result<(), AllocError>
+    requires blocks { holds_blocks (still_open walk.old) ≡ true }
     ensures open { OnOk result (still_open walk.new ≡ still_open walk.old) }
 {
     walk.begin_content();
@@ -36,7 +40,10 @@ pub fn push_setext_heading<'a, T: Tables, A: Allocator + Clone>(
 }
 
 /// The underline: the rest of the line.
+#[tactic(auto, using(event_output::proofs::Classes::enters_in), unfolding(event_output::specs::Children::may_hold))]
 fn push_underline<A: Allocator>(walk: &mut Walk<'_, A>) -> Result<(), AllocError>
+    requires child { may_enter (still_open walk.old) HeadingSetextUnderline ≡ true }
+    requires space { may_enter (still_open walk.old) SpaceOrTab ≡ true }
     ensures open { OnOk result (still_open walk.new ≡ still_open walk.old) }
 {
     let bytes = walk.white()?.as_bytes();

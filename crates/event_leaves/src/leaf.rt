@@ -1,5 +1,6 @@
 //! Rows of blocks that hold no others (CommonMark 4).
-ghost use Rattle.std.specs.Prelude.{◌≡◌, OnOk};
+ghost use Rattle.std.specs.Prelude.{◌≡◌, OnOk, true};
+ghost use Rattle.event_output.specs.Children.{holds_blocks};
 ghost use Rattle.event_lines.specs.Open.{still_open};
 
 use crate::buffers::Buffers;
@@ -29,6 +30,7 @@ pub fn push_leaf<'a, T: Tables, A: Allocator + Clone>(
     row: Row,
     lines: &[Piece<'a>],
 ) -> Result<(), AllocError>
+    requires blocks { holds_blocks (still_open walk.old) ≡ true }
     ensures open { OnOk result (still_open walk.new ≡ still_open walk.old) }
 {
     match row {

@@ -7,6 +7,7 @@ pub(crate) const MATH: FenceNames = FenceNames {
     block: Name::MathFlow,
     fence: Name::MathFlowFence,
     sequence: Name::MathFlowFenceSequence,
+    info: None,
     meta: Name::MathFlowFenceMeta,
     chunk: Name::MathFlowChunk,
 };

@@ -1,7 +1,8 @@
 //! Paragraphs (CommonMark 4.8).
-ghost use Rattle.std.specs.Prelude.{◌≡◌, ◌∷◌, OnOk};
+ghost use Rattle.std.specs.Prelude.{◌≡◌, ◌∷◌, OnOk, true};
 ghost use Rattle.engine_events.specs.declared.event.Name.TheVariants.{Paragraph};
 ghost use Rattle.event_output.specs.Open.{Entered};
+ghost use Rattle.event_output.specs.Children.{holds_blocks};
 ghost use Rattle.event_lines.specs.Open.{still_open};
 
 use crate::buffers::Buffers;
@@ -15,6 +16,7 @@ use std::alloc::{AllocError, Allocator};
 use text_pieces::Piece;
 
 /// A paragraph of these lines. The first block of an item may begin with a check (GFM 5.3).
+#[tactic(auto, using(event_output::proofs::Classes::text_in), unfolding(event_output::specs::Children::may_hold, event_output::specs::Children::has_text))]
 pub fn push_paragraph<'a, T: Tables, A: Allocator + Clone>(
     walk: &mut Walk<'_, A>,
     texts: &Texts<'a, '_, T, A>,
@@ -22,6 +24,7 @@ pub fn push_paragraph<'a, T: Tables, A: Allocator + Clone>(
     first: bool,
     lines: &[Piece<'a>],
 ) -> Result<(), AllocError>
+    requires blocks { holds_blocks (still_open walk.old) ≡ true }
     ensures open { OnOk result (still_open walk.new ≡ still_open walk.old) }
 {
     enter_paragraph(walk)?;
@@ -30,6 +33,7 @@ pub fn push_paragraph<'a, T: Tables, A: Allocator + Clone>(
 }
 
 /// A paragraph of the lines of a text. The first block of an item may begin with a check (GFM 5.3).
+#[tactic(auto, using(event_output::proofs::Classes::text_in), unfolding(event_output::specs::Children::may_hold, event_output::specs::Children::has_text))]
 pub fn push_whole_paragraph<'a, T: Tables, A: Allocator + Clone>(
     walk: &mut Walk<'_, A>,
     texts: &Texts<'a, '_, T, A>,
@@ -37,6 +41,7 @@ pub fn push_whole_paragraph<'a, T: Tables, A: Allocator + Clone>(
     first: bool,
     text: &'a str,
 ) -> Result<(), AllocError>
+    requires blocks { holds_blocks (still_open walk.old) ≡ true }
     ensures open { OnOk result (still_open walk.new ≡ still_open walk.old) }
 {
     enter_paragraph(walk)?;
@@ -45,7 +50,9 @@ pub fn push_whole_paragraph<'a, T: Tables, A: Allocator + Clone>(
 }
 
 /// A paragraph begins after the spaces and tabs ahead, and its content with them.
+#[tactic(auto, using(event_output::proofs::Classes::blocks_may))]
 fn enter_paragraph<A: Allocator>(walk: &mut Walk<'_, A>) -> Result<(), AllocError>
+    requires blocks { holds_blocks (still_open walk.old) ≡ true }
     ensures open { OnOk result (still_open walk.new ≡ Entered Paragraph ∷ still_open walk.old) }
 {
     walk.begin_content();

@@ -1,5 +1,6 @@
 //! Texts: the inline structure of paragraphs, headings and cells (CommonMark 6).
-ghost use Rattle.std.specs.Prelude.{◌≡◌, OnOk};
+ghost use Rattle.std.specs.Prelude.{◌≡◌, OnOk, true};
+ghost use Rattle.event_output.specs.Children.{holds_text};
 ghost use Rattle.event_lines.specs.Open.{still_open};
 ghost use Rattle.inline_parser.specs.Scanned.{IsPlace};
 
@@ -26,6 +27,7 @@ pub fn push_text<'a, T: Tables, A: Allocator + Clone>(
     lines: &[Piece<'a>],
     after: Kind,
 ) -> Result<(), AllocError>
+    requires text { holds_text (still_open walk.old) ≡ true }
     ensures open { OnOk result (still_open walk.new ≡ still_open walk.old) }
 {
     if let Some(content) = line_content(lines, after) {
@@ -54,6 +56,7 @@ pub(crate) fn push_content<'a, T: Tables, A: Allocator + Clone>(
     first: bool,
     content: Content<'a>,
 ) -> Result<(), AllocError>
+    requires text { holds_text (still_open walk.old) ≡ true }
     ensures open { OnOk result (still_open walk.new ≡ still_open walk.old) }
 {
     push_checked(
@@ -68,6 +71,7 @@ pub(crate) fn push_content<'a, T: Tables, A: Allocator + Clone>(
 }
 
 /// A content after the spaces and tabs that it begins with. A first one may begin with a check.
+#[tactic(auto, using(event_output::proofs::Classes::text_may))]
 fn push_checked<'c, T: Tables, A: Allocator + Clone>(
     walk: &mut Walk<'_, A>,
     texts: &Texts<'c, '_, T, A>,
@@ -77,6 +81,7 @@ fn push_checked<'c, T: Tables, A: Allocator + Clone>(
     first: bool,
     content: Content<'c>,
 ) -> Result<(), AllocError>
+    requires text { holds_text (still_open walk.old) ≡ true }
     ensures open { OnOk result (still_open walk.new ≡ still_open walk.old) }
 {
     let start = content_start(content);
@@ -101,7 +106,8 @@ fn push_from<'c, T: Tables, A: Allocator + Clone>(
     content: Content<'c>,
     start: &'c str,
 ) -> Result<(), AllocError>
-    requires { IsPlace content.text.now start.now }
+    requires text { holds_text (still_open walk.old) ≡ true }
+    requires place { IsPlace content.text.now start.now }
     ensures open { OnOk result (still_open walk.new ≡ still_open walk.old) }
 {
     let found = inline_rows(

@@ -1,7 +1,9 @@
 //! Thematic breaks (CommonMark 4.1).
 //!
 //!     break ::= (marker+ white*)+, with the same marker throughout
-ghost use Rattle.std.specs.Prelude.{◌≡◌, OnOk};
+ghost use Rattle.std.specs.Prelude.{◌≡◌, OnOk, true};
+ghost use Rattle.engine_events.specs.declared.event.Name.TheVariants.{SpaceOrTab, ThematicBreakSequence};
+ghost use Rattle.event_output.specs.Children.{holds_blocks, may_enter};
 ghost use Rattle.event_lines.specs.Open.{still_open};
 
 use engine_events::event::Name;
@@ -11,7 +13,9 @@ use std::alloc::{AllocError, Allocator};
 use text_bytes::{run, white_size};
 
 /// A thematic break: the rest of the line.
+#[tactic(auto, using(event_output::proofs::Classes::blocks_may, event_output::proofs::Classes::enters_in), unfolding(event_output::specs::Children::may_hold))]
 pub fn push_thematic_break<A: Allocator>(walk: &mut Walk<'_, A>) -> Result<(), AllocError>
+    requires blocks { holds_blocks (still_open walk.old) ≡ true }
     ensures open { OnOk result (still_open walk.new ≡ still_open walk.old) }
 {
     let mut rest = walk.white()?.as_bytes();
@@ -25,6 +29,8 @@ pub fn push_thematic_break<A: Allocator>(walk: &mut Walk<'_, A>) -> Result<(), A
 
 /// The markers or the white space that bytes begin with, which come next. Answers their size.
 fn push_part<A: Allocator>(walk: &mut Walk<'_, A>, bytes: &[u8]) -> Result<usize, AllocError>
+    requires space { may_enter (still_open walk.old) SpaceOrTab ≡ true }
+    requires sequence { may_enter (still_open walk.old) ThematicBreakSequence ≡ true }
     ensures open { OnOk result (still_open walk.new ≡ still_open walk.old) }
 {
     let white = white_size(bytes);

@@ -1,5 +1,7 @@
 //! Contents, whose lines stand after the prefixes of containers (CommonMark 4.8).
-ghost use Rattle.std.specs.Prelude.{◌≡◌, OnOk};
+ghost use Rattle.std.specs.Prelude.{◌≡◌, OnOk, true};
+ghost use Rattle.engine_events.specs.declared.event.Name.TheVariants.{Data};
+ghost use Rattle.event_output.specs.Children.{holds_lines, may_enter};
 ghost use Rattle.event_lines.specs.Open.{still_open};
 
 use crate::walk::Walk;
@@ -42,6 +44,7 @@ impl<'a, A: Allocator> Walk<'a, A> {
 
     /// The next bytes of the content, so many, by a name.
     pub fn text(&mut self, name: Name, size: usize) -> Result<(), AllocError>
+        requires child { may_enter (still_open self.old) name ≡ true }
         ensures open { OnOk result (still_open self.new ≡ still_open self.old) }
     {
         self.place = self.place.saturating_add(size);
@@ -51,6 +54,7 @@ impl<'a, A: Allocator> Walk<'a, A> {
 
     /// The next bytes of the content, so many, as data.
     pub fn data(&mut self, size: usize) -> Result<(), AllocError>
+        requires child { may_enter (still_open self.old) Data ≡ true }
         ensures open { OnOk result (still_open self.new ≡ still_open self.old) }
     {
         if size == 0 {
@@ -63,6 +67,8 @@ impl<'a, A: Allocator> Walk<'a, A> {
 
     /// The ending of the line by a name, of so many bytes, and the prefixes of the next line.
     pub fn content_ending(&mut self, name: Name, size: usize) -> Result<(), AllocError>
+        requires child { may_enter (still_open self.old) name ≡ true }
+        requires lines { holds_lines (still_open self.old) ≡ true }
         ensures open { OnOk result (still_open self.new ≡ still_open self.old) }
     {
         self.place = self.place.saturating_add(size);

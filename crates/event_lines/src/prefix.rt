@@ -1,5 +1,8 @@
 //! The prefixes of containers (CommonMark 5.1 and 5.2).
-ghost use Rattle.std.specs.Prelude.{◌≡◌, IfOk, OnOk};
+ghost use Rattle.std.specs.Prelude.{◌≡◌, IfOk, OnOk, true};
+ghost use Rattle.engine_events.specs.declared.event.Name.TheVariants.{BlockQuote, GfmFootnoteDefinition, GfmFootnoteDefinitionLabel};
+ghost use Rattle.engine_events.specs.declared.event.Name.TheVariants.{GfmFootnoteDefinitionPrefix, ListItem, ListItemPrefix, SpaceOrTab};
+ghost use Rattle.event_output.specs.Children.{holds_lines, may_enter};
 ghost use Rattle.event_lines.specs.Open.{still_open, with_entered};
 
 use crate::cut::first;
@@ -26,6 +29,7 @@ impl<'a, A: Allocator> Walk<'a, A> {
     /// The prefixes of the containers that go on. At an empty rest, no quote may follow but those that
     /// are known.
     pub(crate) fn prefixes(&mut self) -> Result<(), AllocError>
+        requires lines { holds_lines (still_open self.old) ≡ true }
         ensures open { OnOk result (still_open self.new ≡ still_open self.old) }
     {
         for depth in 0..self.open.len() {
@@ -44,7 +48,9 @@ impl<'a, A: Allocator> Walk<'a, A> {
     }
 
     /// The prefix of a container, up to a rest of the line.
+    #[tactic(auto, using(event_output::proofs::Classes::lines_may))]
     fn prefix(&mut self, container: Container<'a>, after: Cursor<'a>) -> Result<(), AllocError>
+        requires lines { holds_lines (still_open self.old) ≡ true }
         ensures open { OnOk result (still_open self.new ≡ still_open self.old) }
     {
         match container {
@@ -56,7 +62,9 @@ impl<'a, A: Allocator> Walk<'a, A> {
     }
 
     /// The prefix of a quote, up to a rest of the line.
+    #[tactic(auto, using(event_output::proofs::Classes::lines_may, event_output::proofs::Classes::enters_in), unfolding(event_output::specs::Children::may_hold))]
     fn quote_prefix(&mut self, after: Cursor<'a>) -> Result<(), AllocError>
+        requires lines { holds_lines (still_open self.old) ≡ true }
         ensures open { OnOk result (still_open self.new ≡ still_open self.old) }
     {
         let _bare = self.white()?;
@@ -66,34 +74,71 @@ impl<'a, A: Allocator> Walk<'a, A> {
         self.exit(Name::BlockQuotePrefix)
     }
 
-    /// The container that starts here, if one does. Returns its name.
-    pub fn start(&mut self) -> Result<Option<Name>, AllocError>
-        ensures open { IfOk result (λ entered. still_open self.new ≡ with_entered entered (still_open self.old)) }
+    /// The block quote that starts here, if one does. Returns whether it does.
+    #[tactic(auto, using(event_output::proofs::Classes::lines_in), unfolding(event_output::specs::Children::may_hold, event_output::specs::Children::has_lines))]
+    pub fn start_quote(&mut self) -> Result<bool, AllocError>
+        requires child { may_enter (still_open self.old) BlockQuote ≡ true }
+        requires space { may_enter (still_open self.old) SpaceOrTab ≡ true }
+        ensures open { IfOk result (λ starts. still_open self.new ≡ with_entered starts BlockQuote (still_open self.old)) }
     {
-        let Some((container, line)) = starts(self.on, false, self.rest) else {
-            return Ok(None);
+        let Some((Container::Quote, line)) = starts(self.on, false, self.rest) else {
+            return Ok(false);
         };
-        let name = container_name(container);
-        let bare = self.white()?;
-        self.enter(name)?;
-        match container {
-            Container::Quote => self.start_quote(line.rest)?,
-            Container::Item(item) => self.start_item(item, bare, line.rest)?,
-            Container::Footnote(label) => self.start_footnote(label, line.rest)?,
-        }
-        self.open.push(container)?;
-        self.rest = line.rest;
-        Ok(Some(name))
-    }
-
-    fn start_quote(&mut self, after: Cursor<'a>) -> Result<(), AllocError>
-        ensures open { OnOk result (still_open self.new ≡ still_open self.old) }
-    {
+        let _bare = self.white()?;
+        self.enter(Name::BlockQuote)?;
         self.quotes_end = self.open.len().saturating_add(1);
-        self.quote_prefix(after)
+        self.quote_prefix(line.rest)?;
+        self.start(Container::Quote, line.rest)?;
+        Ok(true)
     }
 
-    fn start_item(&mut self, item: Item, bare: &str, after: Cursor<'a>) -> Result<(), AllocError>
+    /// The item that starts here, if one does. Returns whether it does.
+    #[tactic(auto, using(event_output::proofs::Classes::enters_in), unfolding(event_output::specs::Children::may_hold))]
+    pub fn start_item(&mut self) -> Result<bool, AllocError>
+        requires child { may_enter (still_open self.old) ListItem ≡ true }
+        requires space { may_enter (still_open self.old) SpaceOrTab ≡ true }
+        ensures open { IfOk result (λ starts. still_open self.new ≡ with_entered starts ListItem (still_open self.old)) }
+    {
+        let Some((Container::Item(item), line)) = starts(self.on, false, self.rest) else {
+            return Ok(false);
+        };
+        let bare = self.white()?;
+        self.enter(Name::ListItem)?;
+        self.item_prefix(item, bare, line.rest)?;
+        self.start(Container::Item(item), line.rest)?;
+        Ok(true)
+    }
+
+    /// The footnote definition that starts here, if one does. Returns whether it does.
+    #[tactic(auto, using(event_output::proofs::Classes::enters_in), unfolding(event_output::specs::Children::may_hold))]
+    pub fn start_footnote(&mut self) -> Result<bool, AllocError>
+        requires child { may_enter (still_open self.old) GfmFootnoteDefinition ≡ true }
+        requires space { may_enter (still_open self.old) SpaceOrTab ≡ true }
+        ensures open { IfOk result (λ starts. still_open self.new ≡ with_entered starts GfmFootnoteDefinition (still_open self.old)) }
+    {
+        let Some((Container::Footnote(label), line)) = starts(self.on, false, self.rest) else {
+            return Ok(false);
+        };
+        let _bare = self.white()?;
+        self.enter(Name::GfmFootnoteDefinition)?;
+        self.footnote_prefix(label, line.rest)?;
+        self.start(Container::Footnote(label), line.rest)?;
+        Ok(true)
+    }
+
+    /// A container is open, whose prefix is written up to a rest of the line.
+    fn start(&mut self, container: Container<'a>, after: Cursor<'a>) -> Result<(), AllocError>
+        ensures open { still_open self.new ≡ still_open self.old }
+    {
+        self.open.push(container)?;
+        self.rest = after;
+        Ok(())
+    }
+
+    /// The prefix of an item, up to a rest of the line.
+    #[tactic(auto, using(event_output::proofs::Classes::enters_in), unfolding(event_output::specs::Children::may_hold))]
+    fn item_prefix(&mut self, item: Item, bare: &str, after: Cursor<'a>) -> Result<(), AllocError>
+        requires child { may_enter (still_open self.old) ListItemPrefix ≡ true }
         ensures open { OnOk result (still_open self.new ≡ still_open self.old) }
     {
         self.enter(Name::ListItemPrefix)?;
@@ -105,7 +150,10 @@ impl<'a, A: Allocator> Walk<'a, A> {
         self.exit(Name::ListItemPrefix)
     }
 
-    fn start_footnote(&mut self, label: &str, after: Cursor<'a>) -> Result<(), AllocError>
+    /// The prefix of a footnote definition, up to a rest of the line.
+    #[tactic(auto, using(event_output::proofs::Classes::enters_in), unfolding(event_output::specs::Children::may_hold))]
+    fn footnote_prefix(&mut self, label: &str, after: Cursor<'a>) -> Result<(), AllocError>
+        requires child { may_enter (still_open self.old) GfmFootnoteDefinitionPrefix ≡ true }
         ensures open { OnOk result (still_open self.new ≡ still_open self.old) }
     {
         self.enter(Name::GfmFootnoteDefinitionPrefix)?;
@@ -116,7 +164,9 @@ impl<'a, A: Allocator> Walk<'a, A> {
     }
 
     /// A label of a size, with its brackets.
+    #[tactic(auto, using(event_output::proofs::Classes::enters_in), unfolding(event_output::specs::Children::may_hold))]
     fn footnote_label(&mut self, size: usize) -> Result<(), AllocError>
+        requires child { may_enter (still_open self.old) GfmFootnoteDefinitionLabel ≡ true }
         ensures open { OnOk result (still_open self.new ≡ still_open self.old) }
     {
         self.enter(Name::GfmFootnoteDefinitionLabel)?;
@@ -147,14 +197,6 @@ fn quotes_end(open: &[Container<'_>], count: usize) -> usize {
         }
     }
     0
-}
-
-fn container_name(container: Container<'_>) -> Name {
-    match container {
-        Container::Quote => Name::BlockQuote,
-        Container::Item(_) => Name::ListItem,
-        Container::Footnote(_) => Name::GfmFootnoteDefinition,
-    }
 }
 
 /// How many digits bytes begin with.

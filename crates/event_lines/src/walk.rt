@@ -1,6 +1,9 @@
 //! The lines of a text (CommonMark 2.1), one after another, each after the prefixes of its containers.
-ghost use Rattle.std.specs.Prelude.{◌≡◌, ◌∷◌, [], IfOk, OnOk};
-ghost use Rattle.event_output.specs.Open.{Entered, closed, open_in};
+ghost use Rattle.std.specs.Prelude.{◌≡◌, ◌∷◌, [], IfOk, OnOk, true};
+ghost use Rattle.engine_events.specs.declared.event.Name.TheVariants.{SpaceOrTab};
+ghost use Rattle.event_output.specs.Open.{Entered, closed};
+ghost use Rattle.event_output.specs.Written.{open_in};
+ghost use Rattle.event_output.specs.Children.{holds_lines, may_enter};
 ghost use Rattle.event_lines.specs.Open.{still_open};
 
 use crate::prefix::line_rest;
@@ -88,6 +91,7 @@ impl<'a, A: Allocator> Walk<'a, A> {
 
     /// Begins a line, unless one is begun.
     pub fn in_line(&mut self) -> Result<(), AllocError>
+        requires lines { holds_lines (still_open self.old) ≡ true }
         ensures open { OnOk result (still_open self.new ≡ still_open self.old) }
     {
         if self.is_in_line {
@@ -99,6 +103,7 @@ impl<'a, A: Allocator> Walk<'a, A> {
 
     /// Begins a line: the containers that go on have their prefixes on it.
     pub fn begin_line(&mut self) -> Result<(), AllocError>
+        requires lines { holds_lines (still_open self.old) ≡ true }
         ensures open { OnOk result (still_open self.new ≡ still_open self.old) }
     {
         let (content, ending, after) = next_line(self.left);
@@ -114,7 +119,9 @@ impl<'a, A: Allocator> Walk<'a, A> {
     }
 
     /// The ending of the line, and the start of the next.
+    #[tactic(auto, using(event_output::proofs::Classes::lines_may))]
     pub fn next_line(&mut self) -> Result<(), AllocError>
+        requires lines { holds_lines (still_open self.old) ≡ true }
         ensures open { OnOk result (still_open self.new ≡ still_open self.old) }
     {
         self.ending(Name::LineEnding)?;
@@ -123,6 +130,7 @@ impl<'a, A: Allocator> Walk<'a, A> {
 
     /// The line's ending, if it has one, by this name.
     pub fn ending(&mut self, name: Name) -> Result<(), AllocError>
+        requires child { may_enter (still_open self.old) name ≡ true }
         ensures open { OnOk result (still_open self.new ≡ still_open self.old) }
     {
         self.is_in_line = false;
@@ -132,6 +140,7 @@ impl<'a, A: Allocator> Walk<'a, A> {
 
     /// Something begins here.
     pub fn enter(&mut self, name: Name) -> Result<(), AllocError>
+        requires child { may_enter (still_open self.old) name ≡ true }
         ensures open { OnOk result (still_open self.new ≡ Entered name ∷ still_open self.old) }
     {
         self.out.enter(name)
@@ -146,6 +155,7 @@ impl<'a, A: Allocator> Walk<'a, A> {
 
     /// The next bytes, so many, by a name.
     pub fn token(&mut self, name: Name, size: usize) -> Result<(), AllocError>
+        requires child { may_enter (still_open self.old) name ≡ true }
         ensures open { OnOk result (still_open self.new ≡ still_open self.old) }
     {
         let end = self.out.end().after(size);
@@ -154,6 +164,7 @@ impl<'a, A: Allocator> Walk<'a, A> {
 
     /// What is before an index, by a name.
     pub fn to(&mut self, name: Name, index: usize) -> Result<(), AllocError>
+        requires child { may_enter (still_open self.old) name ≡ true }
         ensures open { OnOk result (still_open self.new ≡ still_open self.old) }
     {
         self.out.token(name, at(index))
@@ -161,6 +172,7 @@ impl<'a, A: Allocator> Walk<'a, A> {
 
     /// The columns and bytes of the line before a rest of it.
     pub fn space_to(&mut self, rest: &Cursor<'a>) -> Result<(), AllocError>
+        requires space { may_enter (still_open self.old) SpaceOrTab ≡ true }
         ensures open { OnOk result (still_open self.new ≡ still_open self.old) }
     {
         let end = self.start_of(rest);
@@ -169,6 +181,7 @@ impl<'a, A: Allocator> Walk<'a, A> {
 
     /// The spaces and tabs ahead. Answers what follows them.
     pub fn white(&mut self) -> Result<&'a str, AllocError>
+        requires space { may_enter (still_open self.old) SpaceOrTab ≡ true }
         ensures open { OnOk result (still_open self.new ≡ still_open self.old) }
     {
         let bare = self.rest.bare_text();
@@ -178,6 +191,7 @@ impl<'a, A: Allocator> Walk<'a, A> {
 
     /// What is left of the line, by this name.
     pub fn all(&mut self, name: Name) -> Result<(), AllocError>
+        requires child { may_enter (still_open self.old) name ≡ true }
         ensures open { OnOk result (still_open self.new ≡ still_open self.old) }
     {
         self.to(name, self.line_end)

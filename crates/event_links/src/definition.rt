@@ -1,7 +1,9 @@
 //! Link reference definitions (CommonMark 4.7).
 //!
 //!     definition ::= spaces label ':' white destination (white title)? spaces
-ghost use Rattle.std.specs.Prelude.{◌≡◌, OnOk};
+ghost use Rattle.std.specs.Prelude.{◌≡◌, OnOk, true};
+ghost use Rattle.engine_events.specs.declared.event.Name.TheVariants.{Definition, DefinitionDestination, DefinitionLabel, DefinitionTitle, SpaceOrTab};
+ghost use Rattle.event_output.specs.Children.{holds_lines, may_enter};
 ghost use Rattle.event_lines.specs.Open.{still_open};
 
 use crate::destination::{inside, push_destination};
@@ -21,12 +23,15 @@ use markdown_options::{Constructs, Tables};
 use std::alloc::{AllocError, Allocator};
 
 /// A definition that a content is.
+#[tactic(auto, using(event_output::proofs::Classes::enters_in, event_output::proofs::Classes::lines_in), unfolding(event_output::specs::Children::may_hold, event_output::specs::Children::has_lines))]
 pub fn push_definition<T: Tables, A: Allocator>(
     walk: &mut Walk<'_, A>,
     on: &Constructs,
     tables: &T,
     content: &str,
 ) -> Result<(), AllocError>
+    requires child { may_enter (still_open walk.old) Definition ≡ true }
+    requires space { may_enter (still_open walk.old) SpaceOrTab ≡ true }
     ensures open { OnOk result (still_open walk.new ≡ still_open walk.old) }
 {
     let bytes = content.as_bytes();
@@ -45,12 +50,14 @@ pub fn push_definition<T: Tables, A: Allocator>(
 }
 
 /// The label, with its brackets.
+#[tactic(auto, using(event_output::proofs::Classes::enters_in, event_output::proofs::Classes::string_in), unfolding(event_output::specs::Children::may_hold, event_output::specs::Children::has_string))]
 fn push_label<T: Tables, A: Allocator>(
     walk: &mut Walk<'_, A>,
     on: &Constructs,
     tables: &T,
     text: &str,
 ) -> Result<(), AllocError>
+    requires child { may_enter (still_open walk.old) DefinitionLabel ≡ true }
     ensures open { OnOk result (still_open walk.new ≡ still_open walk.old) }
 {
     walk.enter(Name::DefinitionLabel)?;
@@ -63,12 +70,16 @@ fn push_label<T: Tables, A: Allocator>(
 }
 
 /// The destination, and the title if there is one.
+#[tactic(auto, unfolding(event_output::specs::Children::may_hold, event_output::specs::Children::has_string))]
 fn push_target<T: Tables, A: Allocator>(
     walk: &mut Walk<'_, A>,
     on: &Constructs,
     tables: &T,
     text: &str,
 ) -> Result<(), AllocError>
+    requires destination { may_enter (still_open walk.old) DefinitionDestination ≡ true }
+    requires title { may_enter (still_open walk.old) DefinitionTitle ≡ true }
+    requires lines { holds_lines (still_open walk.old) ≡ true }
     ensures open { OnOk result (still_open walk.new ≡ still_open walk.old) }
 {
     let Some(part) = destination(text.as_bytes(), None) else {

@@ -1,7 +1,8 @@
 //! Destinations (CommonMark 6.3).
 //!
 //!     destination ::= '<' string '>' | string
-ghost use Rattle.std.specs.Prelude.{◌≡◌, OnOk};
+ghost use Rattle.std.specs.Prelude.{◌≡◌, OnOk, true};
+ghost use Rattle.event_output.specs.Children.{may_enter};
 ghost use Rattle.event_lines.specs.Open.{still_open};
 
 use crate::names::Names;
@@ -12,7 +13,7 @@ use markdown_options::{Constructs, Tables};
 use std::alloc::{AllocError, Allocator};
 
 /// A destination, with its delimiters.
-#[tactic(auto, using(event_output::proofs::Marks::same_self))]
+#[tactic(auto, using(event_output::proofs::Marks::same_self, event_output::proofs::Classes::enters_in, event_output::proofs::Classes::string_in))]
 pub fn push_destination<T: Tables, A: Allocator>(
     walk: &mut Walk<'_, A>,
     on: &Constructs,
@@ -20,6 +21,7 @@ pub fn push_destination<T: Tables, A: Allocator>(
     names: &Names,
     text: &str,
 ) -> Result<(), AllocError>
+    requires child { may_enter (still_open walk.old) names.now.destination ≡ true }
     ensures open { OnOk result (still_open walk.new ≡ still_open walk.old) }
 {
     walk.enter(names.destination)?;
@@ -36,7 +38,7 @@ pub fn push_destination<T: Tables, A: Allocator>(
 }
 
 /// A destination between angle brackets.
-#[tactic(auto, using(event_output::proofs::Marks::same_self))]
+#[tactic(auto, using(event_output::proofs::Marks::same_self, event_output::proofs::Classes::enters_in, event_output::proofs::Classes::string_in))]
 fn push_literal<T: Tables, A: Allocator>(
     walk: &mut Walk<'_, A>,
     on: &Constructs,
@@ -44,6 +46,7 @@ fn push_literal<T: Tables, A: Allocator>(
     names: &Names,
     text: &str,
 ) -> Result<(), AllocError>
+    requires child { may_enter (still_open walk.old) names.now.literal ≡ true }
     ensures open { OnOk result (still_open walk.new ≡ still_open walk.old) }
 {
     walk.enter(names.literal)?;

@@ -1,7 +1,10 @@
 //! The names of the parts of destinations and titles (CommonMark 4.7 and 6.3).
+ghost use Rattle.std.specs.Prelude.{◌≡◌, true};
+ghost use Rattle.event_output.specs.Children.{has_string, may_hold};
+
 use engine_events::event::Name;
 
-/// The names of the parts of a destination and a title.
+/// The names of the parts of a destination and a title, of which each may hold those in it.
 #[derive(Clone, Copy)]
 pub struct Names {
     pub destination: Name,
@@ -12,6 +15,15 @@ pub struct Names {
     pub title: Name,
     pub title_marker: Name,
     pub title_string: Name,
+    ghost holds_literal: { may_hold destination literal ≡ true },
+    ghost holds_raw: { may_hold destination raw ≡ true },
+    ghost literal_holds_marker: { may_hold literal literal_marker ≡ true },
+    ghost literal_holds_string: { may_hold literal string ≡ true },
+    ghost raw_holds_string: { may_hold raw string ≡ true },
+    ghost holds_parts: { has_string string ≡ true },
+    ghost title_holds_marker: { may_hold title title_marker ≡ true },
+    ghost title_holds_string: { may_hold title title_string ≡ true },
+    ghost title_holds_parts: { has_string title_string ≡ true },
 }
 
 /// Those of a definition.

@@ -1,7 +1,9 @@
 //! Full and collapsed references (CommonMark 6.3).
 //!
 //!     reference ::= label | '[]' | nothing
-ghost use Rattle.std.specs.Prelude.{◌≡◌, OnOk};
+ghost use Rattle.std.specs.Prelude.{◌≡◌, OnOk, true};
+ghost use Rattle.engine_events.specs.declared.event.Name.TheVariants.{Reference};
+ghost use Rattle.event_output.specs.Children.{may_enter};
 ghost use Rattle.event_lines.specs.Open.{still_open};
 
 use crate::destination::inside;
@@ -15,12 +17,14 @@ use markdown_options::{Constructs, Tables};
 use std::alloc::{AllocError, Allocator};
 
 /// The reference that a text begins with, if it does.
+#[tactic(auto, using(event_output::proofs::Classes::enters_in, event_output::proofs::Classes::string_in), unfolding(event_output::specs::Children::may_hold, event_output::specs::Children::has_string))]
 pub fn push_link_reference<T: Tables, A: Allocator>(
     walk: &mut Walk<'_, A>,
     on: &Constructs,
     tables: &T,
     text: &str,
 ) -> Result<(), AllocError>
+    requires child { may_enter (still_open walk.old) Reference ≡ true }
     ensures open { OnOk result (still_open walk.new ≡ still_open walk.old) }
 {
     let Some(reference) = reference_front(text) else {

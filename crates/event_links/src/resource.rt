@@ -1,7 +1,9 @@
 //! Resources (CommonMark 6.3).
 //!
 //!     resource ::= '(' white (destination (white title)? white)? ')'
-ghost use Rattle.std.specs.Prelude.{◌≡◌, OnOk};
+ghost use Rattle.std.specs.Prelude.{◌≡◌, OnOk, true};
+ghost use Rattle.engine_events.specs.declared.event.Name.TheVariants.{Resource, ResourceDestination, ResourceTitle};
+ghost use Rattle.event_output.specs.Children.{holds_lines, may_enter};
 ghost use Rattle.event_lines.specs.Open.{still_open};
 
 use crate::destination::push_destination;
@@ -18,12 +20,14 @@ use markdown_options::{Constructs, Tables};
 use std::alloc::{AllocError, Allocator};
 
 /// A resource that a text begins with.
+#[tactic(auto, using(event_output::proofs::Classes::enters_in, event_output::proofs::Classes::lines_in), unfolding(event_output::specs::Children::may_hold, event_output::specs::Children::has_lines))]
 pub fn push_resource<T: Tables, A: Allocator>(
     walk: &mut Walk<'_, A>,
     on: &Constructs,
     tables: &T,
     text: &str,
 ) -> Result<(), AllocError>
+    requires child { may_enter (still_open walk.old) Resource ≡ true }
     ensures open { OnOk result (still_open walk.new ≡ still_open walk.old) }
 {
     walk.enter(Name::Resource)?;
@@ -37,12 +41,16 @@ pub fn push_resource<T: Tables, A: Allocator>(
 }
 
 /// A destination, and a title if there is one, with the white space after them.
+#[tactic(auto, unfolding(event_output::specs::Children::may_hold, event_output::specs::Children::has_string))]
 fn push_target<T: Tables, A: Allocator>(
     walk: &mut Walk<'_, A>,
     on: &Constructs,
     tables: &T,
     text: &str,
 ) -> Result<(), AllocError>
+    requires destination { may_enter (still_open walk.old) ResourceDestination ≡ true }
+    requires title { may_enter (still_open walk.old) ResourceTitle ≡ true }
+    requires lines { holds_lines (still_open walk.old) ≡ true }
     ensures open { OnOk result (still_open walk.new ≡ still_open walk.old) }
 {
     let bytes = text.as_bytes();

@@ -1,7 +1,8 @@
 //! Titles (CommonMark 6.3).
 //!
 //!     title ::= '"' string '"' | "'" string "'" | '(' string ')'
-ghost use Rattle.std.specs.Prelude.{◌≡◌, OnOk};
+ghost use Rattle.std.specs.Prelude.{◌≡◌, OnOk, true};
+ghost use Rattle.event_output.specs.Children.{may_enter};
 ghost use Rattle.event_lines.specs.Open.{still_open};
 
 use crate::destination::inside;
@@ -12,7 +13,7 @@ use markdown_options::{Constructs, Tables};
 use std::alloc::{AllocError, Allocator};
 
 /// A title, with its delimiters.
-#[tactic(auto, using(event_output::proofs::Marks::same_self))]
+#[tactic(auto, using(event_output::proofs::Marks::same_self, event_output::proofs::Classes::enters_in, event_output::proofs::Classes::string_in))]
 pub fn push_title<T: Tables, A: Allocator>(
     walk: &mut Walk<'_, A>,
     on: &Constructs,
@@ -20,6 +21,7 @@ pub fn push_title<T: Tables, A: Allocator>(
     names: &Names,
     text: &str,
 ) -> Result<(), AllocError>
+    requires child { may_enter (still_open walk.old) names.now.title ≡ true }
     ensures open { OnOk result (still_open walk.new ≡ still_open walk.old) }
 {
     let string = inside(text);

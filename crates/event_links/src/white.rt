@@ -1,5 +1,6 @@
 //! White space between the parts of links (CommonMark 4.7 and 6.3).
-ghost use Rattle.std.specs.Prelude.{◌≡◌, OnOk};
+ghost use Rattle.std.specs.Prelude.{◌≡◌, OnOk, true};
+ghost use Rattle.event_output.specs.Children.{holds_lines};
 ghost use Rattle.event_lines.specs.Open.{still_open};
 
 use engine_events::event::Name;
@@ -16,10 +17,12 @@ pub fn before<'b>(bytes: &'b [u8], rest: &[u8]) -> &'b [u8] {
 }
 
 /// Spaces and tabs, with at most one line ending among them. Answers what follows.
+#[tactic(auto, using(event_output::proofs::Classes::lines_may))]
 pub fn push_white<'b, A: Allocator>(
     walk: &mut Walk<'_, A>,
     bytes: &'b [u8],
 ) -> Result<&'b [u8], AllocError>
+    requires lines { holds_lines (still_open walk.old) ≡ true }
     ensures open { OnOk result (still_open walk.new ≡ still_open walk.old) }
 {
     let rest = white(bytes);

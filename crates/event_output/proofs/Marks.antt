@@ -18,7 +18,7 @@ unmatched_append es fs = ap (fold then_mark []) (map-append mark_of es fs) ∙ f
 pub unmatched_set : (es : List Event) (i : ℕ) (e d : Event) → mark_of e ≡ mark_of (get_or es i d) → unmatched (set es i e) ≡ unmatched es
 unmatched_set es i e d same = ap (fold then_mark []) (map-set_same mark_of es i e d same)
 
-marked_one : (es : List Event) (e : Event) (m : Mark) → mark_of e ≡ m → unmatched (es ++ e ∷ []) ≡ then_mark (unmatched es) m
+pub marked_one : (es : List Event) (e : Event) (m : Mark) → mark_of e ≡ m → unmatched (es ++ e ∷ []) ≡ then_mark (unmatched es) m
 marked_one es e m is = unmatched_append es (e ∷ []) ∙ ap (then_mark (unmatched es)) is
 
 -- one event more
@@ -44,3 +44,13 @@ pub one_more : (es : List Event) (e f : Event) (name : Name) → mark_of e ≡ E
 one_more es e f name enters exits =
     marked_one (es ++ e ∷ []) f (Exited name) exits
     ∙ closed_same name (unmatched (es ++ e ∷ [])) (unmatched es) (marked_one es e (Entered name) enters)
+
+-- what holds one other, which holds none
+pub two_more : (es : List Event) (e f g h : Event) (outer inner : Name) → mark_of e ≡ Entered outer → mark_of f ≡ Entered inner
+    → mark_of g ≡ Exited inner → mark_of h ≡ Exited outer
+    → unmatched ((((es ++ e ∷ []) ++ f ∷ []) ++ g ∷ []) ++ h ∷ []) ≡ unmatched es
+two_more es e f g h outer inner enters in_enters in_exits exits =
+    let once = es ++ e ∷ [] in
+    marked_one ((once ++ f ∷ []) ++ g ∷ []) h (Exited outer) exits
+    ∙ ap (closed outer) (one_more once f g inner in_enters in_exits)
+    ∙ closed_same outer (unmatched once) (unmatched es) (marked_one es e (Entered outer) enters)

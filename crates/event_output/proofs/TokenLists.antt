@@ -146,11 +146,15 @@ module _ (text : List ℕ) where
         vs = ap (λ p. p.vs) s.end ∙ no_tab_at_end t.place here.whole at_end;
       }
 
-  pub rest_placed : (es : List Event) (t : Told) (q : Place) (name : Name) → IsTold text es t → GoesOn text t.place q → IsPlace text q → q.spot.index ≡ length text
-      → ArePlaced text ((es ++ enter_event name t.place ∷ []) ++ exit_event name q ∷ [])
-  rest_placed es t q name is goes here at_end =
-      all_placed ((es ++ enter_event name t.place ∷ []) ++ exit_event name q ∷ []) (told q None)
-      (passes (es ++ enter_event name t.place ∷ []) t.place q name (enters es t name is) goes) here at_end
+  pub rest_placed : (es : List Event) (t : Told) (q : Place) (outer inner : Name) → IsTold text es t → GoesOn text t.place q → IsPlace text q
+      → q.spot.index ≡ length text
+      → ArePlaced text ((((es ++ enter_event outer t.place ∷ []) ++ enter_event inner t.place ∷ []) ++ exit_event inner q ∷ []) ++ exit_event outer q ∷ [])
+  rest_placed es t q outer inner is goes here at_end =
+      let once = es ++ enter_event outer t.place ∷ [] in
+      let twice = once ++ enter_event inner t.place ∷ [] in
+      let within = enters once (told t.place (Some outer)) inner (enters es t outer is) in
+      all_placed ((twice ++ exit_event inner q ∷ []) ++ exit_event outer q ∷ []) (told q None)
+      (exits (twice ++ exit_event inner q ∷ []) (told q None) outer (passes twice t.place q inner within goes)) here at_end
 
   -- an exit right after the enter of its name is further on
   pub exits_on : (t : Told) (entered name : Name) (q : Place) → t.entered ≡ Some entered → same_name entered name ≡ true → GoesOn text t.place q

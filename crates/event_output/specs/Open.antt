@@ -6,7 +6,6 @@ use Rattle.engine_events.specs.declared.event.Kind.{Kind}
 use Rattle.engine_events.specs.declared.event.Kind.TheVariants as kind
 use Rattle.engine_events.specs.declared.event.Name.{Name}
 use Rattle.engine_events.specs.declared.event.Event.{Event}
-use Rattle.event_output.specs.declared.output.Output.{Output}
 
 -- an event by its kind and its name alone
 pub data Mark : Type 0 where
@@ -34,6 +33,3 @@ then_mark marks (Exited name) = closed name marks
 -- the enters and exits of events that have no partner, the last first: without exits, what is open
 abbrev pub unmatched : List Event → List Mark
 unmatched events = fold then_mark [] (map mark_of events)
-
-abbrev pub open_in : {A : Type 0} → Output A → List Mark
-open_in o = unmatched o.events.items

@@ -2,13 +2,15 @@
 //!
 //! Each event gets the point where the one before it is. Only an exit right after the enter of the
 //! same name, of what holds no other, is further on.
-ghost use Rattle.std.specs.Prelude.{◌≡◌, ◌+◌, ◌<◌, ◌≤◌, ◌^◌, ◌∷◌, ◌++◌, [], List, IfOk, OnOk, length, None};
+ghost use Rattle.std.specs.Prelude.{◌≡◌, ◌+◌, ◌<◌, ◌≤◌, ◌^◌, ◌∷◌, ◌++◌, [], List, IfOk, OnOk, length, map, None, true};
 ghost use Rattle.engine_events.specs.declared.event.Event.{Event as EventOf};
 ghost use Rattle.event_output.specs.Spots.{IsIn, start};
 ghost use Rattle.event_output.specs.Tokens.{GoesOn, IsPlace, IsWhole, place, point_at};
 ghost use Rattle.event_output.specs.Placed.{ArePlaced, Exits, IsTold, told, told_event};
 ghost use Rattle.engine_events.specs.Events.{event};
-ghost use Rattle.event_output.specs.Open.{unmatched};
+ghost use Rattle.engine_events.specs.declared.event.Name.TheVariants.{Paragraph};
+ghost use Rattle.event_output.specs.Open.{mark_of, unmatched};
+ghost use Rattle.event_output.specs.Children.{HaveChildren, may_enter};
 
 use crate::pass::pass_to;
 use crate::spot::{Place, Spot};
@@ -25,13 +27,16 @@ pub struct Told {
     pub entered: Option<Name>,
 }
 
-/// Gives events their points in a text. What they leave of it at its end becomes data.
+/// Gives events their points in a text. What they leave of it at its end becomes a paragraph.
 pub(crate) fn set_points<A: Allocator>(
     text: &[u8],
     written: Vec<Event, A>,
 ) -> Result<Vec<Event, A>, AllocError>
     requires fits { length text.now < 2 ^ 61 }
+    requires children { HaveChildren written.items }
+    requires child { may_enter (unmatched written.items) Paragraph ≡ true }
     ensures placed { IfOk result (λ events. ArePlaced text.now events.items) }
+    ensures children { IfOk result (λ events. HaveChildren events.items) }
     ensures open { IfOk result (λ events. unmatched events.items ≡ unmatched written.items) }
 {
     let mut events = written;
@@ -41,12 +46,12 @@ pub(crate) fn set_points<A: Allocator>(
 }
 
 /// Gives events their points. Answers what they come to.
-#[tactic(auto, using(crate::proofs::TokenLists::nothing_told, crate::proofs::Marks::unmatched_set))]
+#[tactic(auto, using(crate::proofs::TokenLists::nothing_told))]
 fn set_all<A: Allocator>(text: &[u8], events: &mut Vec<Event, A>) -> Told
     requires fits { length text.now < 2 ^ 61 }
     ensures place { IsPlace text.now result.place }
     ensures told { IsTold text.now events.new.items result }
-    ensures open { unmatched events.new.items ≡ unmatched events.old.items }
+    ensures marks { map mark_of events.new.items ≡ map mark_of events.old.items }
 {
     let mut told = Told::new();
     let count = events.len();
@@ -58,8 +63,8 @@ fn set_all<A: Allocator>(text: &[u8], events: &mut Vec<Event, A>) -> Told
     told
 }
 
-/// Data up to the end of the text, unless the events end there.
-#[tactic(auto, using(crate::proofs::TokenLists::all_placed, crate::proofs::TokenLists::rest_placed, crate::proofs::Marks::one_more))]
+/// A paragraph of data up to the end of the text, unless the events end there.
+#[tactic(auto, using(crate::proofs::TokenLists::all_placed, crate::proofs::TokenLists::rest_placed, crate::proofs::Marks::two_more, crate::proofs::MoreChildren::rest_children))]
 fn push_rest<A: Allocator>(
     text: &[u8],
     told: Told,
@@ -68,17 +73,20 @@ fn push_rest<A: Allocator>(
     requires fits { length text.now < 2 ^ 61 }
     requires place { IsPlace text.now told.place }
     requires told { IsTold text.now events.old.items told }
+    requires children { HaveChildren events.old.items }
+    requires child { may_enter (unmatched events.old.items) Paragraph ≡ true }
     ensures placed { OnOk result (ArePlaced text.now events.new.items) }
     ensures open { OnOk result (unmatched events.new.items ≡ unmatched events.old.items) }
+    ensures children { OnOk result (HaveChildren events.new.items) }
 {
     if told.place.spot.index == text.len() {
         return Ok(());
     }
     let end = told.place.pass_to(text, text.len(), 0);
-    let first = told.place.event(Kind::Enter, Name::Data);
-    let last = end.event(Kind::Exit, Name::Data);
-    events.push(first)?;
-    events.push(last)?;
+    events.push(told.place.event(Kind::Enter, Name::Paragraph))?;
+    events.push(told.place.event(Kind::Enter, Name::Data))?;
+    events.push(end.event(Kind::Exit, Name::Data))?;
+    events.push(end.event(Kind::Exit, Name::Paragraph))?;
     Ok(())
 }
 

@@ -1,4 +1,5 @@
 pub mod NestedLaw
-pub mod ClosingAll
+pub mod Outermost
+pub mod Held
 pub mod LabelRows
 pub mod FootnoteCodes

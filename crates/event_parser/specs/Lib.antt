@@ -1,4 +1,5 @@
 pub mod Nested
+pub mod Opened
 pub mod Closing
 pub mod State
 pub mod Labels

@@ -1,9 +1,10 @@
 //! From a text to its events.
-ghost use Rattle.std.specs.Prelude.{◌≡◌, ◌≤◌, [], IfErr, IfOk, false, length};
+ghost use Rattle.std.specs.Prelude.{◌≡◌, ◌≤◌, [], IfErr, IfOk, false, length, true};
 ghost use Rattle.markdown_options.specs.Mdx.{has_mdx};
 ghost use Rattle.markdown_options.specs.Messages.{IsOutOfMemory};
 ghost use Rattle.block_rows.specs.Rows.{rows_size};
 ghost use Rattle.event_output.specs.Placed.{ArePlaced};
+ghost use Rattle.event_output.specs.Children.{HaveChildren, holds_blocks};
 ghost use Rattle.event_lines.specs.Open.{still_open};
 ghost use Rattle.event_parser.specs.Nested.{IsNested};
 ghost use Rattle.event_parser.specs.Labels.{definition_labels, footnote_labels, text_blocks};
@@ -44,6 +45,7 @@ pub fn parse<'a, T: Tables, A: Allocator + Clone>(
     requires without_mdx { has_mdx options.now.constructs ≡ false }
     ensures placed { IfOk result (λ parsed. ArePlaced value.now parsed.0.items) }
     ensures nested { IfOk result (λ parsed. IsNested parsed.0.items) }
+    ensures children { IfOk result (λ parsed. HaveChildren parsed.0.items) }
     ensures read_by { IfOk result (λ parsed. IsReadBy parsed.1 options.now tables.now value.now) }
     ensures definitions { IfOk result (λ parsed. definitions_of parsed.1 ≡ definition_labels (text_blocks options.now.constructs value.now)) }
     ensures footnotes { IfOk result (λ parsed. footnotes_of parsed.1 ≡ footnote_labels (text_blocks options.now.constructs value.now)) }
@@ -54,7 +56,7 @@ pub fn parse<'a, T: Tables, A: Allocator + Clone>(
 }
 
 /// Reads a text.
-#[tactic(auto, using(crate::proofs::NestedLaw::nested, crate::proofs::LabelRows::defined_by, crate::proofs::LabelRows::begun_by))]
+#[tactic(auto, using(crate::proofs::NestedLaw::nested, crate::proofs::LabelRows::defined_by, crate::proofs::LabelRows::begun_by, crate::proofs::Outermost::document_paragraph, crate::proofs::Outermost::document_blocks))]
 fn parse_text<'a, T: Tables, A: Allocator + Clone>(
     alloc: A,
     value: &'a str,
@@ -64,6 +66,7 @@ fn parse_text<'a, T: Tables, A: Allocator + Clone>(
     requires size { length value.now ≤ SIZE_MAX }
     ensures placed { IfOk result (λ parsed. ArePlaced value.now parsed.0.items) }
     ensures nested { IfOk result (λ parsed. IsNested parsed.0.items) }
+    ensures children { IfOk result (λ parsed. HaveChildren parsed.0.items) }
     ensures read_by { IfOk result (λ parsed. IsReadBy parsed.1 options.now tables.now value.now) }
     ensures definitions { IfOk result (λ parsed. definitions_of parsed.1 ≡ definition_labels (text_blocks options.now.constructs value.now)) }
     ensures footnotes { IfOk result (λ parsed. footnotes_of parsed.1 ≡ footnote_labels (text_blocks options.now.constructs value.now)) }
@@ -91,6 +94,7 @@ fn parse_text<'a, T: Tables, A: Allocator + Clone>(
 
 /// A walk over the lines of a text, after its byte order mark and its frontmatter. `text` is what
 /// follows the mark.
+#[tactic(auto, using(crate::proofs::Outermost::document_mark, crate::proofs::Outermost::document_frontmatter, crate::proofs::Outermost::document_lines))]
 fn begin<'a, A: Allocator + Clone>(
     alloc: A,
     value: &'a str,
@@ -111,7 +115,7 @@ fn begin<'a, A: Allocator + Clone>(
 }
 
 /// Writes the blocks of these rows, whose lines are given.
-#[tactic(auto, using(block_rows::proofs::RowSteps::taken_more))]
+#[tactic(auto, using(block_rows::proofs::RowSteps::taken_more, crate::proofs::Held::none_held))]
 fn push_blocks<'a, T: Tables, A: Allocator + Clone>(
     alloc: A,
     walk: Walk<'a, A>,
@@ -121,6 +125,7 @@ fn push_blocks<'a, T: Tables, A: Allocator + Clone>(
     pieces: &[Piece<'a>],
 ) -> Result<Walk<'a, A>, AllocError>
     requires enough { rows_size rows.now ≤ length pieces.now }
+    requires blocks { holds_blocks (still_open walk) ≡ true }
     ensures open { IfOk result (λ after. still_open after ≡ still_open walk.entry) }
 {
     let contents = definition_contents(alloc.clone()?, rows, pieces)?;
@@ -136,10 +141,9 @@ fn push_blocks<'a, T: Tables, A: Allocator + Clone>(
     let mut parser = Parser {
         walk,
         buffers: Buffers::new(alloc.clone()?)?,
-        names: Vec::new(alloc.clone()?),
+        open: Vec::new(alloc.clone()?),
         items: Vec::new(alloc.clone()?),
         places: places(alloc, rows)?,
-        between_items: false,
         first: false,
     };
     let mut taken = 0;

@@ -3,7 +3,7 @@
 
 pub mod document;
 pub mod labels;
-pub mod list;
+pub mod opened;
 pub mod parser;
 pub mod state;
 

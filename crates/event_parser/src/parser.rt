@@ -1,9 +1,12 @@
 //! Rows of blocks to events (CommonMark 4 and 5).
-ghost use Rattle.std.specs.Prelude.{◌≡◌, IfOk, OnOk};
+ghost use Rattle.std.specs.Prelude.{◌≡◌, ◌<◌, IfOk, IsTrue, OnOk, false, true, vec_len};
+ghost use Rattle.engine_events.specs.declared.event.Name.TheVariants.{ListItem};
+ghost use Rattle.event_output.specs.Children.{holds_blocks, may_enter};
 ghost use Rattle.event_lines.specs.Open.{still_open};
-ghost use Rattle.event_parser.specs.Closing.{close_all, open_around};
+ghost use Rattle.event_parser.specs.Opened.{close_all, ends_in_list, is_list};
+ghost use Rattle.event_parser.specs.Closing.{HasOpen, open_around};
 
-use crate::list::list_name;
+use crate::opened::Opened;
 use block_rows::Row;
 use engine_events::event::Name;
 use event_leaves::{Buffers, Texts, push_blank_line, push_leaf};
@@ -19,14 +22,12 @@ use text_pieces::Piece;
 pub(crate) struct Parser<'a, A: Allocator + Clone> {
     pub(crate) walk: Walk<'a, A>,
     pub(crate) buffers: Buffers<'a, A>,
-    /// The names of the containers and lists that are open, the innermost last.
-    pub(crate) names: Vec<Name, A>,
+    /// The containers and lists that are open, the innermost last.
+    pub(crate) open: Vec<Opened, A>,
     /// What is known of the items that are open, the innermost last.
     pub(crate) items: Vec<Place, A>,
     /// What is known of the items to come, the next one last.
     pub(crate) places: Vec<Place, A>,
-    /// Whether a list is open in which no item is. Its next item comes next.
-    pub(crate) between_items: bool,
     /// Whether the innermost container is an item in which no block is yet (GFM 5.3).
     pub(crate) first: bool,
 }
@@ -39,70 +40,152 @@ impl<'a, A: Allocator + Clone> Parser<'a, A> {
         row: Row,
         lines: &[Piece<'a>],
     ) -> Result<(), AllocError>
+        requires held { HasOpen self.old }
         ensures open { OnOk result (open_around self.new ≡ open_around self.old) }
+        ensures held { OnOk result (HasOpen self.new) }
     {
         if matches!(row, Row::Ending(_)) {
-            self.walk.ending(Name::LineEnding)?;
-            return Ok(());
+            return self.ending();
         }
-        self.walk.in_line()?;
+        self.in_line()?;
         match row {
-            Row::Blank(_) => push_blank_line(&mut self.walk)?,
-            Row::EnterQuote | Row::EnterFootnote => self.enter()?,
-            Row::EnterItem { number, .. } => self.enter_item(list_name(number))?,
-            Row::Exit => self.exit()?,
-            _ => self.leaf(texts, row, lines)?,
+            Row::Blank(_) => self.blank(),
+            Row::EnterQuote => self.enter_quote(),
+            Row::EnterFootnote => self.enter_footnote(),
+            Row::EnterItem { number, .. } => self.enter_item(Opened::list(number)),
+            Row::Exit => self.exit(),
+            _ => self.leaf(texts, row, lines),
+        }
+    }
+
+    /// The ending of the line.
+    #[tactic(auto, using(crate::proofs::Held::held_may))]
+    fn ending(&mut self) -> Result<(), AllocError>
+        requires held { HasOpen self.old }
+        ensures open { OnOk result (open_around self.new ≡ open_around self.old) }
+        ensures held { OnOk result (HasOpen self.new) }
+    {
+        self.walk.ending(Name::LineEnding)
+    }
+
+    /// Begins a line, unless one is begun.
+    #[tactic(auto, using(crate::proofs::Held::held_lines))]
+    fn in_line(&mut self) -> Result<(), AllocError>
+        requires held { HasOpen self.old }
+        ensures open { OnOk result (open_around self.new ≡ open_around self.old) }
+        ensures held { OnOk result (HasOpen self.new) }
+    {
+        self.walk.in_line()
+    }
+
+    /// A blank line.
+    #[tactic(auto, using(crate::proofs::Held::held_lines))]
+    fn blank(&mut self) -> Result<(), AllocError>
+        requires held { HasOpen self.old }
+        ensures open { OnOk result (open_around self.new ≡ open_around self.old) }
+        ensures held { OnOk result (HasOpen self.new) }
+    {
+        push_blank_line(&mut self.walk)
+    }
+
+    /// The start of a block quote.
+    #[tactic(auto, using(event_output::proofs::Classes::blocks_may, crate::proofs::Held::close_last, crate::proofs::Held::quote_held))]
+    fn enter_quote(&mut self) -> Result<(), AllocError>
+        requires held { HasOpen self.old }
+        ensures open { OnOk result (open_around self.new ≡ open_around self.old) }
+        ensures held { OnOk result (HasOpen self.new) }
+    {
+        self.first = false;
+        self.leave_lists()?;
+        if self.walk.start_quote()? {
+            self.open.push(Opened::Quote)?;
         }
         Ok(())
     }
 
-    /// The start of a block quote or a footnote definition.
-    fn enter(&mut self) -> Result<(), AllocError>
+    /// The start of a footnote definition.
+    #[tactic(auto, using(event_output::proofs::Classes::blocks_may, crate::proofs::Held::close_last, crate::proofs::Held::footnote_held))]
+    fn enter_footnote(&mut self) -> Result<(), AllocError>
+        requires held { HasOpen self.old }
         ensures open { OnOk result (open_around self.new ≡ open_around self.old) }
+        ensures held { OnOk result (HasOpen self.new) }
     {
         self.first = false;
-        self.start()
+        self.leave_lists()?;
+        if self.walk.start_footnote()? {
+            self.open.push(Opened::Footnote)?;
+        }
+        Ok(())
     }
 
     /// The start of an item, and of its list if it is the first.
-    fn enter_item(&mut self, list: Name) -> Result<(), AllocError>
+    #[tactic(auto, using(crate::proofs::Held::held_may, crate::proofs::Held::close_last, crate::proofs::Held::item_held))]
+    fn enter_item(&mut self, list: Opened) -> Result<(), AllocError>
+        requires list { is_list list ≡ true }
+        requires held { HasOpen self.old }
         ensures open { OnOk result (open_around self.new ≡ open_around self.old) }
+        ensures held { OnOk result (HasOpen self.new) }
     {
         let place = self.places.pop().unwrap_or_default();
-        if !self.between_items {
-            self.enter_list(list)?;
-        }
-        self.between_items = false;
+        self.in_list(list)?;
         self.first = true;
         self.items.push(place)?;
-        self.start()
-    }
-
-    /// The start of a list, after the spaces and tabs ahead.
-    #[tactic(auto, using(crate::proofs::ClosingAll::close_last, event_output::proofs::Marks::same_self))]
-    fn enter_list(&mut self, list: Name) -> Result<(), AllocError>
-        ensures open { OnOk result (open_around self.new ≡ open_around self.old) }
-    {
-        let _bare = self.walk.white()?;
-        self.walk.enter(list)?;
-        self.names.push(list)?;
+        if self.walk.start_item()? {
+            self.open.push(Opened::Item)?;
+        }
         Ok(())
     }
 
-    /// The start of the container that starts here, if one does.
-    #[tactic(auto, using(crate::proofs::ClosingAll::close_last, event_output::proofs::Marks::same_self))]
-    fn start(&mut self) -> Result<(), AllocError>
+    /// Begins a list after the spaces and tabs ahead, unless one is open in which no item is.
+    #[tactic(auto, using(event_output::proofs::Classes::blocks_may, crate::proofs::Held::held_blocks, crate::proofs::Held::held_items, crate::proofs::Held::around_more, crate::proofs::Held::held_more, crate::proofs::Held::list_child, crate::proofs::Held::list_holds_item))]
+    fn in_list(&mut self, list: Opened) -> Result<(), AllocError>
+        requires list { is_list list ≡ true }
+        requires held { HasOpen self.old }
         ensures open { OnOk result (open_around self.new ≡ open_around self.old) }
+        ensures held { OnOk result (HasOpen self.new) }
+        ensures item { OnOk result (may_enter (still_open self.new.walk) ListItem ≡ true) }
     {
-        if let Some(name) = self.walk.start()? {
-            self.names.push(name)?;
+        if self.is_in_list() {
+            return Ok(());
+        }
+        let _bare = self.walk.white()?;
+        self.walk.enter(list.name())?;
+        self.open.push(list)?;
+        Ok(())
+    }
+
+    /// Whether a list is open in which no item is.
+    #[tactic(auto, using(crate::proofs::Held::last_is, crate::proofs::Held::none_is))]
+    fn is_in_list(&self) -> bool
+        ensures list { result ≡ ends_in_list self.now.open.items }
+        ensures some { IsTrue result → 0 < vec_len self.now.open }
+    {
+        let count = self.open.len();
+        if count == 0 {
+            return false;
+        }
+        self.open[count - 1].is_list()
+    }
+
+    /// The ends of the lists in which no item is.
+    #[tactic(auto, using(crate::proofs::Held::held_blocks))]
+    fn leave_lists(&mut self) -> Result<(), AllocError>
+        requires held { HasOpen self.old }
+        ensures open { OnOk result (open_around self.new ≡ open_around self.old) }
+        ensures held { OnOk result (HasOpen self.new) }
+        ensures blocks { OnOk result (holds_blocks (still_open self.new.walk) ≡ true) }
+    {
+        while self.is_in_list() {
+            self.close()?;
         }
         Ok(())
     }
 
     /// The end of the innermost container.
     fn exit(&mut self) -> Result<(), AllocError>
+        requires held { HasOpen self.old }
         ensures open { OnOk result (open_around self.new ≡ open_around self.old) }
+        ensures held { OnOk result (HasOpen self.new) }
     {
         self.first = false;
         match self.walk.leave() {
@@ -117,24 +200,26 @@ impl<'a, A: Allocator + Clone> Parser<'a, A> {
 
     /// The end of its list, if the item that ended is the last.
     fn exit_item(&mut self) -> Result<(), AllocError>
+        requires held { HasOpen self.old }
         ensures open { OnOk result (open_around self.new ≡ open_around self.old) }
+        ensures held { OnOk result (HasOpen self.new) }
     {
         match self.items.pop() {
             Some(Place { goes_on: false, .. }) => self.close(),
-            _ => {
-                self.between_items = true;
-                Ok(())
-            }
+            _ => Ok(()),
         }
     }
 
     /// The exit of the innermost container or list.
-    #[tactic(auto, using(crate::proofs::ClosingAll::close_last))]
+    #[tactic(auto, using(crate::proofs::Held::close_last, crate::proofs::Held::held_less))]
     fn close(&mut self) -> Result<(), AllocError>
+        requires held { HasOpen self.old }
         ensures open { OnOk result (open_around self.new ≡ open_around self.old) }
+        ensures held { OnOk result (HasOpen self.new) }
+        ensures fewer { OnOk result (0 < vec_len self.old.open → vec_len self.new.open < vec_len self.old.open) }
     {
-        if let Some(name) = self.names.pop() {
-            self.walk.exit(name)?;
+        if let Some(opened) = self.open.pop() {
+            self.walk.exit(opened.name())?;
         }
         Ok(())
     }
@@ -146,10 +231,13 @@ impl<'a, A: Allocator + Clone> Parser<'a, A> {
         row: Row,
         lines: &[Piece<'a>],
     ) -> Result<(), AllocError>
+        requires held { HasOpen self.old }
         ensures open { OnOk result (open_around self.new ≡ open_around self.old) }
+        ensures held { OnOk result (HasOpen self.new) }
     {
         let first = self.first;
         self.first = false;
+        self.leave_lists()?;
         match row {
             Row::Table(_) => push_table(&mut self.walk, texts, &mut self.buffers, lines)?,
             _ => push_leaf(&mut self.walk, texts, &mut self.buffers, first, row, lines)?,
@@ -161,23 +249,23 @@ impl<'a, A: Allocator + Clone> Parser<'a, A> {
     pub(crate) fn into_walk(self) -> Result<Walk<'a, A>, AllocError>
         ensures open { IfOk result (λ walk. still_open walk ≡ open_around self.entry) }
     {
-        let Parser { walk, names, .. } = self;
-        exit_all(walk, names)
+        let Parser { walk, open, .. } = self;
+        exit_all(walk, open)
     }
 }
 
 /// The walk after the exits of all of these, the innermost of which is the last.
-#[tactic(auto, using(crate::proofs::ClosingAll::close_last))]
+#[tactic(auto, using(crate::proofs::Held::close_last))]
 fn exit_all<'a, A: Allocator>(
     walk: Walk<'a, A>,
-    names: Vec<Name, A>,
+    open: Vec<Opened, A>,
 ) -> Result<Walk<'a, A>, AllocError>
-    ensures open { IfOk result (λ after. still_open after ≡ close_all names.items (still_open walk.entry)) }
+    ensures open { IfOk result (λ after. still_open after ≡ close_all open.items (still_open walk.entry)) }
 {
     let mut walk = walk;
-    let mut names = names;
-    while let Some(name) = names.pop() {
-        walk.exit(name)?;
+    let mut open = open;
+    while let Some(opened) = open.pop() {
+        walk.exit(opened.name())?;
     }
     Ok(walk)
 }

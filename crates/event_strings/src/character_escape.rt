@@ -1,5 +1,7 @@
 //! Backslash escapes (CommonMark 2.4).
-ghost use Rattle.std.specs.Prelude.{◌≡◌, OnOk};
+ghost use Rattle.std.specs.Prelude.{◌≡◌, OnOk, true};
+ghost use Rattle.engine_events.specs.declared.event.Name.TheVariants.{CharacterEscape};
+ghost use Rattle.event_output.specs.Children.{may_enter};
 ghost use Rattle.event_lines.specs.Open.{still_open};
 
 use engine_events::event::Name;
@@ -7,7 +9,9 @@ use event_lines::Walk;
 use std::alloc::{AllocError, Allocator};
 
 /// A backslash and the byte that it escapes.
+#[tactic(auto, using(event_output::proofs::Classes::enters_in), unfolding(event_output::specs::Children::may_hold))]
 pub fn push_escape<A: Allocator>(walk: &mut Walk<'_, A>) -> Result<(), AllocError>
+    requires child { may_enter (still_open walk.old) CharacterEscape ≡ true }
     ensures open { OnOk result (still_open walk.new ≡ still_open walk.old) }
 {
     walk.enter(Name::CharacterEscape)?;

@@ -1,5 +1,7 @@
 //! Character references (CommonMark 2.5).
-ghost use Rattle.std.specs.Prelude.{◌≡◌, OnOk};
+ghost use Rattle.std.specs.Prelude.{◌≡◌, OnOk, true};
+ghost use Rattle.engine_events.specs.declared.event.Name.TheVariants.{CharacterReference, CharacterReferenceMarkerHexadecimal, CharacterReferenceMarkerNumeric};
+ghost use Rattle.event_output.specs.Children.{may_enter};
 ghost use Rattle.event_lines.specs.Open.{still_open};
 
 use engine_events::event::Name;
@@ -8,11 +10,13 @@ use event_lines::cut::{bytes_from, first};
 use std::alloc::{AllocError, Allocator};
 
 /// A character reference that is the front of these bytes, of a size.
+#[tactic(auto, using(event_output::proofs::Classes::enters_in), unfolding(event_output::specs::Children::may_hold))]
 pub fn push_reference<A: Allocator>(
     walk: &mut Walk<'_, A>,
     bytes: &[u8],
     size: usize,
 ) -> Result<(), AllocError>
+    requires child { may_enter (still_open walk.old) CharacterReference ≡ true }
     ensures open { OnOk result (still_open walk.new ≡ still_open walk.old) }
 {
     walk.enter(Name::CharacterReference)?;
@@ -28,6 +32,8 @@ pub fn push_reference<A: Allocator>(
 
 /// The markers of a number. Answers their size.
 fn push_markers<A: Allocator>(walk: &mut Walk<'_, A>, bytes: &[u8]) -> Result<usize, AllocError>
+    requires numeric { may_enter (still_open walk.old) CharacterReferenceMarkerNumeric ≡ true }
+    requires hexadecimal { may_enter (still_open walk.old) CharacterReferenceMarkerHexadecimal ≡ true }
     ensures open { OnOk result (still_open walk.new ≡ still_open walk.old) }
 {
     if first(bytes) != b'#' {

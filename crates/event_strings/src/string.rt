@@ -1,5 +1,7 @@
 //! Strings, in which only escapes and references are read (CommonMark 2.4 and 2.5).
-ghost use Rattle.std.specs.Prelude.{◌≡◌, OnOk};
+ghost use Rattle.std.specs.Prelude.{◌≡◌, OnOk, true};
+ghost use Rattle.engine_events.specs.declared.event.Name.TheVariants.{Data};
+ghost use Rattle.event_output.specs.Children.{holds_string, may_enter};
 ghost use Rattle.event_lines.specs.Open.{still_open};
 
 use crate::character_escape::push_escape;
@@ -21,6 +23,7 @@ pub fn push_string<T: Tables, A: Allocator>(
     tables: &T,
     string: &str,
 ) -> Result<(), AllocError>
+    requires string { holds_string (still_open walk.old) ≡ true }
     ensures open { OnOk result (still_open walk.new ≡ still_open walk.old) }
 {
     let mut rest = string;
@@ -32,12 +35,14 @@ pub fn push_string<T: Tables, A: Allocator>(
 }
 
 /// The part that a string begins with. Answers its size.
+#[tactic(auto, using(event_output::proofs::Classes::string_may))]
 fn push_part<T: Tables, A: Allocator>(
     walk: &mut Walk<'_, A>,
     on: &Constructs,
     tables: &T,
     rest: &str,
 ) -> Result<usize, AllocError>
+    requires string { holds_string (still_open walk.old) ≡ true }
     ensures open { OnOk result (still_open walk.new ≡ still_open walk.old) }
 {
     match first(rest.as_bytes()) {
@@ -59,10 +64,12 @@ fn push_part<T: Tables, A: Allocator>(
 
 /// White space at the end of a line, a line ending and the white space after it, or data. Answers its
 /// size.
+#[tactic(auto, using(event_output::proofs::Classes::string_may, event_output::proofs::Classes::string_lines))]
 fn push_white_or_data<A: Allocator>(
     walk: &mut Walk<'_, A>,
     bytes: &[u8],
 ) -> Result<usize, AllocError>
+    requires string { holds_string (still_open walk.old) ≡ true }
     ensures open { OnOk result (still_open walk.new ≡ still_open walk.old) }
 {
     if let Some(found) = ending_at(bytes) {
@@ -81,6 +88,7 @@ fn push_white_or_data<A: Allocator>(
 
 /// The first byte and those after it in which nothing may begin. Answers their size.
 fn push_data<A: Allocator>(walk: &mut Walk<'_, A>, bytes: &[u8]) -> Result<usize, AllocError>
+    requires child { may_enter (still_open walk.old) Data ≡ true }
     ensures open { OnOk result (still_open walk.new ≡ still_open walk.old) }
 {
     let size = data_size(bytes_from(bytes, 1)).saturating_add(1);

@@ -1,7 +1,9 @@
 //! Rows of cells (GFM 4.10).
 //!
 //!     row ::= (white* bar)? cell (bar cell)* (bar white*)?
-ghost use Rattle.std.specs.Prelude.{◌≡◌, OnOk};
+ghost use Rattle.std.specs.Prelude.{◌≡◌, OnOk, true};
+ghost use Rattle.engine_events.specs.declared.event.Name.TheVariants.{GfmTableCell, GfmTableCellDivider, GfmTableCellText, GfmTableRow, SpaceOrTab};
+ghost use Rattle.event_output.specs.Children.{may_enter};
 ghost use Rattle.event_lines.specs.Open.{still_open};
 
 use block_cells::{Cell, Cells};
@@ -17,12 +19,14 @@ use text_lines::is_blank;
 use text_pieces::Piece;
 
 /// A row of cells: a line, which is the rest of the line.
+#[tactic(auto, using(event_output::proofs::Classes::enters_in), unfolding(event_output::specs::Children::may_hold))]
 pub(crate) fn push_row<'a, T: Tables, A: Allocator + Clone>(
     walk: &mut Walk<'_, A>,
     texts: &Texts<'a, '_, T, A>,
     buffers: &mut Buffers<'a, A>,
     line: Piece<'a>,
 ) -> Result<(), AllocError>
+    requires child { may_enter (still_open walk.old) GfmTableRow ≡ true }
     ensures open { OnOk result (still_open walk.new ≡ still_open walk.old) }
 {
     walk.enter(Name::GfmTableRow)?;
@@ -41,6 +45,8 @@ fn without_columns(line: Piece<'_>) -> Piece<'_> {
 
 /// The bar before the first cell, if there is one, with the spaces and tabs before it.
 fn push_first_divider<A: Allocator>(walk: &mut Walk<'_, A>, bytes: &[u8]) -> Result<(), AllocError>
+    requires space { may_enter (still_open walk.old) SpaceOrTab ≡ true }
+    requires divider { may_enter (still_open walk.old) GfmTableCellDivider ≡ true }
     ensures open { OnOk result (still_open walk.new ≡ still_open walk.old) }
 {
     let white = white_size(bytes);
@@ -58,6 +64,8 @@ fn push_cells<'a, T: Tables, A: Allocator + Clone>(
     buffers: &mut Buffers<'a, A>,
     cells: Cells<'a>,
 ) -> Result<(), AllocError>
+    requires cell { may_enter (still_open walk.old) GfmTableCell ≡ true }
+    requires divider { may_enter (still_open walk.old) GfmTableCellDivider ≡ true }
     ensures open { OnOk result (still_open walk.new ≡ still_open walk.old) }
 {
     let mut left = cells;
@@ -71,12 +79,14 @@ fn push_cells<'a, T: Tables, A: Allocator + Clone>(
 }
 
 /// A cell, which comes next. One of spaces and tabs alone has no text.
+#[tactic(auto, using(event_output::proofs::Classes::enters_in), unfolding(event_output::specs::Children::may_hold))]
 fn push_cell<'a, T: Tables, A: Allocator + Clone>(
     walk: &mut Walk<'_, A>,
     texts: &Texts<'a, '_, T, A>,
     buffers: &mut Buffers<'a, A>,
     cell: &Cell<'a>,
 ) -> Result<(), AllocError>
+    requires child { may_enter (still_open walk.old) GfmTableCell ≡ true }
     ensures open { OnOk result (still_open walk.new ≡ still_open walk.old) }
 {
     walk.enter(Name::GfmTableCell)?;
@@ -89,12 +99,14 @@ fn push_cell<'a, T: Tables, A: Allocator + Clone>(
 }
 
 /// The text of a cell.
+#[tactic(auto, using(event_output::proofs::Classes::text_in), unfolding(event_output::specs::Children::may_hold, event_output::specs::Children::has_text))]
 fn push_cell_text<'a, T: Tables, A: Allocator + Clone>(
     walk: &mut Walk<'_, A>,
     texts: &Texts<'a, '_, T, A>,
     buffers: &mut Buffers<'a, A>,
     cell: &Cell<'a>,
 ) -> Result<(), AllocError>
+    requires child { may_enter (still_open walk.old) GfmTableCellText ≡ true }
     ensures open { OnOk result (still_open walk.new ≡ still_open walk.old) }
 {
     walk.begin_here();

@@ -2,7 +2,9 @@
 //!
 //!     delimiters ::= (bar | white | delimiter)*
 //!     delimiter  ::= ':'? '-'+ ':'?
-ghost use Rattle.std.specs.Prelude.{◌≡◌, OnOk};
+ghost use Rattle.std.specs.Prelude.{◌≡◌, OnOk, true};
+ghost use Rattle.engine_events.specs.declared.event.Name.TheVariants.{GfmTableCellDivider, GfmTableDelimiterCell, GfmTableDelimiterRow, SpaceOrTab};
+ghost use Rattle.event_output.specs.Children.{may_enter};
 ghost use Rattle.event_lines.specs.Open.{still_open};
 
 use engine_events::event::Name;
@@ -12,7 +14,10 @@ use std::alloc::{AllocError, Allocator};
 use text_bytes::{run, white_size};
 
 /// A row of delimiters: the rest of the line.
+#[tactic(auto, using(event_output::proofs::Classes::enters_in), unfolding(event_output::specs::Children::may_hold))]
 pub(crate) fn push_delimiters<A: Allocator>(walk: &mut Walk<'_, A>) -> Result<(), AllocError>
+    requires child { may_enter (still_open walk.old) GfmTableDelimiterRow ≡ true }
+    requires space { may_enter (still_open walk.old) SpaceOrTab ≡ true }
     ensures open { OnOk result (still_open walk.new ≡ still_open walk.old) }
 {
     let mut rest = walk.white()?.as_bytes();
@@ -26,6 +31,9 @@ pub(crate) fn push_delimiters<A: Allocator>(walk: &mut Walk<'_, A>) -> Result<()
 
 /// The bar, the white space or the delimiter that bytes begin with, which come next. Answers its size.
 fn push_part<A: Allocator>(walk: &mut Walk<'_, A>, bytes: &[u8]) -> Result<usize, AllocError>
+    requires cell { may_enter (still_open walk.old) GfmTableDelimiterCell ≡ true }
+    requires divider { may_enter (still_open walk.old) GfmTableCellDivider ≡ true }
+    requires space { may_enter (still_open walk.old) SpaceOrTab ≡ true }
     ensures open { OnOk result (still_open walk.new ≡ still_open walk.old) }
 {
     match first(bytes) {
@@ -43,7 +51,9 @@ fn push_part<A: Allocator>(walk: &mut Walk<'_, A>, bytes: &[u8]) -> Result<usize
 }
 
 /// The delimiter that bytes begin with. Its colons say how the column is aligned. Answers its size.
+#[tactic(auto, using(event_output::proofs::Classes::enters_in), unfolding(event_output::specs::Children::may_hold))]
 fn push_delimiter<A: Allocator>(walk: &mut Walk<'_, A>, bytes: &[u8]) -> Result<usize, AllocError>
+    requires child { may_enter (still_open walk.old) GfmTableDelimiterCell ≡ true }
     ensures open { OnOk result (still_open walk.new ≡ still_open walk.old) }
 {
     walk.enter(Name::GfmTableDelimiterCell)?;

@@ -1,12 +1,13 @@
 use Rattle.std.proofs.Common.{◌≡◌, ◌≤◌, ◌+◌, length, drop}
 use Rattle.block_rows.specs.Rows.{rows_size}
 use Rattle.event_lines.specs.Open.{still_open}
-use Rattle.event_parser.specs.Closing.{open_around}
+use Rattle.event_parser.specs.Closing.{HasOpen, open_around}
 use Rattle.event_parser.proofs.document.push_blocks.Given as goal
 
--- the rows to come take their lines from those that are left, and what is open beside containers and lists is as before
+-- the rows to come take their lines from those that are left, and what is open beside containers and lists is as before; it is the innermost
 abbrev pub invariant-loop-row : goal.invariant-loop-row
 invariant-loop-row g l = record {
   enough : l.taken + rows_size (drop l.row-index l.rows) ≤ length l.pieces;
   around : open_around l.parser ≡ still_open l.fn.walk;
+  held : HasOpen l.parser;
 }

@@ -1,0 +1,24 @@
+use Rattle.std.proofs.Common.{◌∷◌, sym, ap, subst, ◌∙◌}
+use Rattle.engine_events.specs.declared.event.Name.TheVariants as n
+use Rattle.event_output.specs.Open.{Entered}
+use Rattle.event_lines.specs.Open.{still_open}
+use Rattle.event_inline.specs.declared.opened.Open.TheVariants as held
+use Rattle.event_inline.specs.Leaving.{AreHeld, leave_all}
+use Rattle.event_inline.proofs.Held.{more}
+use Rattle.event_inline.proofs.label.enter_image.Goals as goal
+
+pub returns-clause-open : goal.returns-clause-open
+returns-clause-open g c =
+    ap (λ os. leave_all os (still_open c.enter-3.new.self)) c.in_ok-push.ensures.items
+    ∙ (more c.args.open.now.items (held.Image c.match-matches.matches) (still_open c.args.walk.now) (still_open c.enter-3.new.self) c.requires.held
+    (c.in_ok-enter-3.ensures.open
+    ∙ ap (λ ms. Entered n.LabelText ∷ ms)
+    (c.in_ok-image_start.ensures.open ∙ c.in_ok-enter-2.ensures.open ∙ ap (λ ms. Entered n.Label ∷ ms) c.in_ok-enter.ensures.open))).around
+
+pub returns-clause-held : goal.returns-clause-held
+returns-clause-held g c =
+    subst (λ os. AreHeld os (still_open c.enter-3.new.self)) (sym c.in_ok-push.ensures.items)
+    (more c.args.open.now.items (held.Image c.match-matches.matches) (still_open c.args.walk.now) (still_open c.enter-3.new.self) c.requires.held
+    (c.in_ok-enter-3.ensures.open
+    ∙ ap (λ ms. Entered n.LabelText ∷ ms)
+    (c.in_ok-image_start.ensures.open ∙ c.in_ok-enter-2.ensures.open ∙ ap (λ ms. Entered n.Label ∷ ms) c.in_ok-enter.ensures.open))).held
