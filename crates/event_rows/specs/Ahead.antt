@@ -21,6 +21,6 @@ pub record AreStringsOf {A : Type 0} (names : Names) (bytes : List ℕ) (leads :
   pub raw_text : option_map (λ text. text.now) part.raw_text ≡ option_map (λ sequence. raw_after bytes sequence false 0 events) (sequence_of name)
 
 -- what a walk has not used yet
-pub record AreLeft {A : Type 0} (at : ℕ → LinkTexts) (strings : SpelledStrings A) (walk : Walk A) (spelled : List Spelled) (texts : List (List ℕ)) : Type 0 where
+pub record AreLeft {A : Type 0} (at : ℕ → LinkTexts) (strings : SpelledStrings A) (walk : Walk A) (spelled : List Spelled) (raw : List (List ℕ)) : Type 0 where
   pub targets : drop walk.targets (targets_view at strings) ≡ spelled
-  pub raws : drop walk.raw_texts (raws_view strings) ≡ texts
+  pub raws : drop walk.raw_texts (raws_view strings) ≡ raw

@@ -9,14 +9,20 @@ use Rattle.event_rows.proofs.rows.push_alone.Goals as goal
 
 pub returns-in-Some : goal.returns-in-Some
 returns-in-Some g c leads at strings =
+    let names = g.T.Tables.reference_of c.args.texts.now.tables.now in
+    let bytes = c.args.texts.now.bytes.now in
+    let in_link = c.args.texts.now.linked in
     along c.push_row.result (rows_view at c.push_row.new.rows.items) (rows_view at c.args.rows.now.items) _
-    (alone_rows (g.T.Tables.reference_of c.args.texts.now.tables.now) c.args.texts.now.bytes.now leads c.args.texts.now.linked (sequence_of c.args.name) c.args.name c.args.links c.args.events.now)
-    (raw_row (g.T.Tables.reference_of c.args.texts.now.tables.now) c.args.texts.now.bytes.now leads c.args.texts.now.linked c.args.name c.args.links c.args.events.now (sequence_of c.args.name) c.in-Some.text.now _
+    (alone_rows names bytes leads in_link (sequence_of c.args.name) c.args.name c.args.links c.args.events.now)
+    (raw_row names bytes leads in_link c.args.name c.args.links c.args.events.now (sequence_of c.args.name) c.in-Some.text.now _
     (sym (ap (option_map (λ text. text.now)) c.in-Some.is) ∙ strings.raw_text) c.raw_leaf.ensures) (c.push_row.ensures at)
 
 pub returns-in-None : goal.returns-in-None
 returns-in-None g c leads at strings =
+    let names = g.T.Tables.reference_of c.args.texts.now.tables.now in
+    let bytes = c.args.texts.now.bytes.now in
+    let in_link = c.args.texts.now.linked in
     along c.push_other.result (rows_view at c.push_other.new.rows.items) (rows_view at c.args.rows.now.items) _
-    (alone_rows (g.T.Tables.reference_of c.args.texts.now.tables.now) c.args.texts.now.bytes.now leads c.args.texts.now.linked (sequence_of c.args.name) c.args.name c.args.links c.args.events.now)
-    (no_raw_row (g.T.Tables.reference_of c.args.texts.now.tables.now) c.args.texts.now.bytes.now leads c.args.texts.now.linked c.args.name c.args.links c.args.events.now (sequence_of c.args.name)
+    (alone_rows names bytes leads in_link (sequence_of c.args.name) c.args.name c.args.links c.args.events.now)
+    (no_raw_row names bytes leads in_link c.args.name c.args.links c.args.events.now (sequence_of c.args.name)
     (sym (ap (option_map (λ text. text.now)) c.in-None.is) ∙ strings.raw_text)) (c.push_other.ensures leads at strings)
