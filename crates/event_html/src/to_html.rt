@@ -1,7 +1,8 @@
 //! A list of events to HTML.
 ghost use Rattle.std.specs.Prelude.{◌≡◌, List, IfErr, IfOk, OnOk, string_bytes, unwrap_or};
 ghost use Rattle.definition_text.specs.Lines.{first_line, without_mark};
-ghost use Rattle.event_meaning.specs.Spelled.{default_ending, page_of};
+ghost use Rattle.event_meaning.specs.Spelled.{default_ending, html_of_events, page_of};
+ghost use Rattle.laws_safe_page.specs.SafeHtml.{AreSafe, HasOneReading};
 ghost use Rattle.definition_inline.specs.Definition.{Definition};
 ghost use Rattle.definition_page.specs.BlockPieces.{document_pieces};
 ghost use Rattle.definition_page.specs.InlinePieces.{Meaning};
@@ -43,6 +44,8 @@ pub fn compile<T: Tables, A: Allocator + Clone>(
     ensures right { OnOk result (MatchesGrammar (T.reference_of tables.now) bytes.now events.now) }
     ensures passes { MatchesGrammar (T.reference_of tables.now) bytes.now events.now → IfErr result (λ error. error ≡ Memory) }
     ensures fault { IfErr result (λ error. Refuses error (fault (T.reference_of tables.now) bytes.now events.now)) }
+    ensures page { IfOk result (λ html. string_bytes html ≡ html_of_events (T.reference_of tables.now) options.now bytes.now events.now) }
+    ensures safe { AreSafe options.now → IfOk result (λ html. HasOneReading (string_bytes html)) }
 {
     let checked = check_events(alloc.clone()?, events, bytes, tables)?;
     let html = checked_html(alloc, checked, options, tables)?;
@@ -55,7 +58,11 @@ fn checked_html<T: Tables, A: Allocator + Clone>(
     checked: Checked<'_>,
     options: &CompileOptions,
     tables: &T,
-) -> Result<String<A>, AllocError> {
+) -> Result<String<A>, AllocError>
+    ensures { let names = T.reference_of tables.now in
+        MatchesGrammar names checked.entry.bytes.now checked.entry.events.now →
+        IfOk result (λ html. string_bytes html ≡ html_of_events names options.now checked.entry.bytes.now checked.entry.events.now) }
+{
     let events = checked.events();
     let bytes = checked.bytes();
     let defined = read_definitions(alloc.clone()?, bytes, tables, events)?;
