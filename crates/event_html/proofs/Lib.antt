@@ -1,0 +1,9 @@
+pub mod Frames
+pub mod Going
+pub mod Reading
+pub mod Entering
+pub mod Tree
+pub mod Checked
+pub mod ItemNumbers
+pub mod Endings
+pub mod Blank

@@ -5,7 +5,8 @@ ghost use Rattle.html_leaves.specs.Prints.{KeepsEnding};
 ghost use Rattle.event_levels.specs.declared.kind.BlockKind.TheVariants as kinds;
 ghost use Rattle.event_levels.specs.declared.level.Holder.TheVariants as holders;
 ghost use Rattle.event_pieces.specs.Left.{Quote, opening, closing};
-ghost use Rattle.event_html.specs.Views.{opened_of, within, Prints};
+ghost use Rattle.event_html.specs.Opened.{within};
+ghost use Rattle.event_html.specs.Views.{opened_of, Prints};
 
 use crate::printer::Printer;
 use event_levels::kind::BlockKind;
@@ -16,7 +17,7 @@ impl<A: Allocator + Clone> Printer<A> {
     /// A block quote starts.
     pub(crate) fn enter_quote(&mut self) -> Result<(), AllocError>
         ensures default { KeepsEnding self.old.leaves.page self.new.leaves.page }
-        ensures skipped { self.new.skipped ≡ self.old.skipped }
+        ensures columns { self.new.leaves.columns ≡ self.old.leaves.columns }
         ensures loose { self.new.loose ≡ self.old.loose }
         ensures opened { OnOk result (opened_of self.new ≡ within kinds.Quote holders.Quote false (opened_of self.old)) }
         ensures printed { (options : CompileOptions) → OnOk result (Prints options self.old self.new (opening Quote)) }
@@ -28,7 +29,7 @@ impl<A: Allocator + Clone> Printer<A> {
     /// A block quote ends.
     pub(crate) fn leave_quote(&mut self) -> Result<(), AllocError>
         ensures default { KeepsEnding self.old.leaves.page self.new.leaves.page }
-        ensures skipped { self.new.skipped ≡ self.old.skipped }
+        ensures columns { self.new.leaves.columns ≡ self.old.leaves.columns }
         ensures loose { self.new.loose ≡ self.old.loose }
         ensures opened { opened_of self.new ≡ opened_of self.old }
         ensures printed { (options : CompileOptions) → OnOk result (Prints options self.old self.new (closing Quote self.old.level.plain)) }

@@ -3,7 +3,9 @@ ghost use Rattle.std.specs.Prelude.{◌≡◌, OnOk};
 ghost use Rattle.markdown_options.specs.declared.configuration.CompileOptions.{CompileOptions};
 ghost use Rattle.html_leaves.specs.Prints.{KeepsEnding};
 ghost use Rattle.event_pieces.specs.Left.{closing};
-ghost use Rattle.event_html.specs.Views.{opened_of, within, outside, holder_view, Prints};
+ghost use Rattle.event_html.specs.Frames.{holder_view};
+ghost use Rattle.event_html.specs.Opened.{within, outside};
+ghost use Rattle.event_html.specs.Views.{opened_of, Prints};
 
 use crate::printer::Printer;
 use event_levels::kind::BlockKind;
@@ -14,7 +16,7 @@ impl<A: Allocator + Clone> Printer<A> {
     /// The innermost container or list ends.
     pub(crate) fn leave(&mut self) -> Result<(), AllocError>
         ensures default { KeepsEnding self.old.leaves.page self.new.leaves.page }
-        ensures skipped { self.new.skipped ≡ self.old.skipped }
+        ensures columns { self.new.leaves.columns ≡ self.old.leaves.columns }
         ensures loose { self.new.loose ≡ self.old.loose }
         ensures opened { OnOk result (opened_of self.new ≡ outside (opened_of self.old)) }
         ensures printed { (options : CompileOptions) →
@@ -28,7 +30,7 @@ impl<A: Allocator + Clone> Printer<A> {
     /// Prints the end of the innermost container or list.
     fn close(&mut self) -> Result<(), AllocError>
         ensures default { KeepsEnding self.old.leaves.page self.new.leaves.page }
-        ensures skipped { self.new.skipped ≡ self.old.skipped }
+        ensures columns { self.new.leaves.columns ≡ self.old.leaves.columns }
         ensures loose { self.new.loose ≡ self.old.loose }
         ensures opened { opened_of self.new ≡ opened_of self.old }
         ensures printed { (options : CompileOptions) →
@@ -51,7 +53,6 @@ impl<A: Allocator + Clone> Printer<A> {
         tight: bool,
     ) -> Result<(), AllocError>
         ensures leaves { self.new.leaves ≡ self.old.leaves }
-        ensures skipped { self.new.skipped ≡ self.old.skipped }
         ensures loose { self.new.loose ≡ self.old.loose }
         ensures opened { OnOk result (opened_of self.new ≡ within kind holder tight (opened_of self.old)) }
     {
@@ -64,7 +65,6 @@ impl<A: Allocator + Clone> Printer<A> {
     /// Goes out of one.
     fn go_out(&mut self)
         ensures leaves { self.new.leaves ≡ self.old.leaves }
-        ensures skipped { self.new.skipped ≡ self.old.skipped }
         ensures loose { self.new.loose ≡ self.old.loose }
         ensures opened { opened_of self.new ≡ outside (opened_of self.old) }
     {

@@ -5,7 +5,8 @@ ghost use Rattle.html_leaves.specs.Prints.{KeepsEnding};
 ghost use Rattle.event_levels.specs.declared.kind.BlockKind.TheVariants as kinds;
 ghost use Rattle.event_levels.specs.declared.level.Holder.TheVariants as holders;
 ghost use Rattle.event_pieces.specs.Left.{Item, opening, closing};
-ghost use Rattle.event_html.specs.Views.{opened_of, within, Prints};
+ghost use Rattle.event_html.specs.Opened.{within};
+ghost use Rattle.event_html.specs.Views.{opened_of, Prints};
 
 use crate::printer::Printer;
 use event_levels::kind::BlockKind;
@@ -16,7 +17,7 @@ impl<A: Allocator + Clone> Printer<A> {
     /// An item starts.
     pub(crate) fn enter_item(&mut self) -> Result<(), AllocError>
         ensures default { KeepsEnding self.old.leaves.page self.new.leaves.page }
-        ensures skipped { self.new.skipped ≡ self.old.skipped }
+        ensures columns { self.new.leaves.columns ≡ self.old.leaves.columns }
         ensures loose { self.new.loose ≡ self.old.loose }
         ensures opened { OnOk result (opened_of self.new ≡ within kinds.Item holders.Item self.old.level.tight (opened_of self.old)) }
         ensures printed { (options : CompileOptions) → OnOk result (Prints options self.old self.new (opening Item)) }
@@ -28,7 +29,7 @@ impl<A: Allocator + Clone> Printer<A> {
     /// An item ends. No fresh line is before its end tag after a paragraph of a tight item.
     pub(crate) fn leave_item(&mut self) -> Result<(), AllocError>
         ensures default { KeepsEnding self.old.leaves.page self.new.leaves.page }
-        ensures skipped { self.new.skipped ≡ self.old.skipped }
+        ensures columns { self.new.leaves.columns ≡ self.old.leaves.columns }
         ensures loose { self.new.loose ≡ self.old.loose }
         ensures opened { opened_of self.new ≡ opened_of self.old }
         ensures printed { (options : CompileOptions) → OnOk result (Prints options self.old self.new (closing Item self.old.level.plain)) }

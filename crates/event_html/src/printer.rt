@@ -1,10 +1,30 @@
 //! Events to HTML.
+ghost use Rattle.std.specs.Prelude.{◌≡◌, ◌≤◌, ◌<◌, ◌-◌, List, [], ◌∷◌, ℕ, false, true, not, IfOk, OnOk, length, reverse, map};
+ghost use Rattle.engine_events.specs.declared.event.Kind.TheVariants as kinds;
+ghost use Rattle.definition_inline.specs.Definition.{Definition};
+ghost use Rattle.definition_page.specs.BlockPieces.{fresh_unless};
+ghost use Rattle.definition_page.specs.InlinePieces.{Meaning};
+ghost use Rattle.html_bytes.specs.Layout.{LayoutState, nothing_laid};
+ghost use Rattle.html_bytes.specs.Pieces.{in_bytes};
+ghost use Rattle.html_leaves.specs.Prints.{KeepsEnding, layout_after, page_view};
+ghost use Rattle.event_blocks.specs.Meant.{IsMeant};
+ghost use Rattle.event_grammar.specs.Trees.{Nodes, events_of, AreNodes};
+ghost use Rattle.event_blocks.specs.Leaf.{is_leaf};
+ghost use Rattle.event_levels.specs.Kinds.{kind_of};
+ghost use Rattle.event_levels.specs.Levels.{is_document, new_level};
+ghost use Rattle.event_levels.specs.declared.level.Holder.TheVariants as holders;
+ghost use Rattle.event_meaning.specs.Spelled.{ends_blank};
+ghost use Rattle.event_rows.specs.Columns.{AreCounted};
+ghost use Rattle.event_html.specs.Going.{GoesOn};
+ghost use Rattle.event_html.specs.Opened.{opened};
+ghost use Rattle.event_html.specs.Views.{opened_of};
+
+use engine_events::event::{Event, Kind, Name};
 use event_blocks::printer::{LeafPlace, LeafPrinter};
 use event_blocks::source::Source;
-use engine_events::event::{Event, Kind, Name};
 use event_levels::kind::{BlockKind, kind_of};
 use event_levels::level::{Holder, Level};
-use event_levels::node::{Node, node_after};
+use event_levels::node::node_after;
 use markdown_options::{LineEnding, Tables};
 use std::alloc::{AllocError, Allocator};
 
@@ -15,8 +35,6 @@ pub struct Printer<A: Allocator + Clone> {
     pub(crate) level: Level,
     /// The levels around it.
     pub(crate) outer: Vec<Level, A>,
-    /// How many events are open that aren't printed one by one.
-    pub(crate) skipped: usize,
     /// Whether the lists to come are loose, the next one last.
     pub(crate) loose: Vec<bool, A>,
 }
@@ -28,104 +46,192 @@ impl<A: Allocator + Clone> Printer<A> {
         room: usize,
         default_ending: LineEnding,
         loose: Vec<bool, A>,
-    ) -> Result<Printer<A>, AllocError> {
+    ) -> Result<Printer<A>, AllocError>
+        ensures blank { IfOk result (λ printer. page_view printer.leaves.page ≡ nothing_laid) }
+        ensures default { IfOk result (λ printer. printer.leaves.page.default_ending ≡ default_ending) }
+        ensures counted { (bytes : List ℕ) → IfOk result (λ printer. AreCounted bytes printer.leaves.columns) }
+        ensures opened { IfOk result (λ printer. opened_of printer ≡ opened (new_level holders.Document false) []) }
+        ensures loose { IfOk result (λ printer. printer.loose ≡ loose) }
+    {
         Ok(Printer {
             leaves: LeafPrinter::new(alloc.clone()?, room, default_ending)?,
             level: Level::new(Holder::Document, false),
             outer: Vec::new(alloc),
-            skipped: 0,
             loose,
         })
     }
 
-    /// Prints the events of a list.
-    pub(crate) fn events<T: Tables>(
-        &mut self,
-        source: &Source<'_, T, A>,
-        events: &[Event],
-    ) -> Result<(), AllocError> {
-        for (index, event) in events.iter().enumerate() {
-            self.event(source, index, event, &events[index + 1..])?;
-        }
+    /// Prints the events of the list.
+    pub(crate) fn events<T: Tables>(&mut self, source: &Source<'_, T, A>) -> Result<(), AllocError>
+        requires { AreCounted source.now.checked.bytes.now self.old.leaves.columns }
+        ensures default { KeepsEnding self.old.leaves.page self.new.leaves.page }
+        ensures printed { (m : Meaning) (ds : List Definition) (ns : Nodes) (whole : LayoutState) →
+            let names = T.reference_of source.now.tables.now in
+            let events = source.now.checked.events.now in
+            IsMeant names source.now ds m → AreNodes ns → events ≡ events_of ns →
+            GoesOn names source.now.checked.bytes.now m events whole self.old events → OnOk result (page_view self.new.leaves.page
+            ≡ layout_after m.compile self.old.leaves.page.default_ending whole (in_bytes (fresh_unless (not (ends_blank false ns))))) }
+    {
+        let events = source.checked.events();
+        self.all(source, events)?;
         if ends_blank(events) {
             self.leaves.page.fresh()?;
         }
         Ok(())
     }
 
-    /// Prints an event at an index, before these.
-    fn event<T: Tables>(
+    /// Prints these events, which are all of the list, one after another.
+    fn all<T: Tables>(
         &mut self,
         source: &Source<'_, T, A>,
-        index: usize,
-        event: &Event,
-        after: &[Event],
-    ) -> Result<(), AllocError> {
-        match event.kind {
-            Kind::Enter => self.enter(source, index, event, after),
-            Kind::Exit => self.exit(),
+        events: &[Event],
+    ) -> Result<(), AllocError>
+        requires { AreCounted source.now.checked.bytes.now self.old.leaves.columns }
+        ensures default { KeepsEnding self.old.leaves.page self.new.leaves.page }
+        ensures printed { (m : Meaning) (ds : List Definition) (whole : LayoutState) →
+            let names = T.reference_of source.now.tables.now in
+            IsMeant names source.now ds m → events.now ≡ source.now.checked.events.now →
+            GoesOn names source.now.checked.bytes.now m events.now whole self.old events.now → OnOk result (page_view self.new.leaves.page ≡ whole) }
+    {
+        let mut rest = events;
+        while let [event, after @ ..] = rest {
+            let index = events.len() - rest.len();
+            rest = self.event(source, index, event, after)?;
         }
+        Ok(())
     }
 
-    /// An event is entered. Containers and lists are printed event by event, others as a whole.
-    fn enter<T: Tables>(
+    /// Prints what the event at an index, before these, begins or ends. Returns the events to go on
+    /// with.
+    fn event<'e, T: Tables>(
         &mut self,
         source: &Source<'_, T, A>,
         index: usize,
         event: &Event,
-        after: &[Event],
-    ) -> Result<(), AllocError> {
-        if self.skipped > 0 || !self.level.begin(event.name) {
-            self.skip(event.name);
-            return Ok(());
-        }
-        let kind = kind_of(event.name);
-        match kind {
-            BlockKind::Quote => self.enter_quote(),
-            BlockKind::UnorderedList => self.enter_list(kind, None),
-            BlockKind::OrderedList => self.enter_ordered_list(source, after),
-            BlockKind::Item => self.enter_item(),
-            BlockKind::Footnote => self.enter_footnote(),
-            _ => {
-                let (node, _) = node_after(event, after);
-                let place = self.leaf_place();
-                self.leaves.leaf(source, kind, place, index, &node)?;
-                self.level.pass(kind);
-                self.skipped = 1;
-                Ok(())
+        after: &'e [Event],
+    ) -> Result<&'e [Event], AllocError>
+        requires { AreCounted source.now.checked.bytes.now self.old.leaves.columns }
+        ensures default { KeepsEnding self.old.leaves.page self.new.leaves.page }
+        ensures counted { AreCounted source.now.checked.bytes.now self.new.leaves.columns }
+        ensures shorter { IfOk result (λ rest. length rest.now ≤ length after.now) }
+        ensures printed { (m : Meaning) (ds : List Definition) (whole : LayoutState) →
+            let names = T.reference_of source.now.tables.now in
+            let bytes = source.now.checked.bytes.now in
+            let events = source.now.checked.events.now in
+            IsMeant names source.now ds m → index ≡ length events - length (event.now ∷ after.now) →
+            GoesOn names bytes m events whole self.old (event.now ∷ after.now) → IfOk result (λ rest. GoesOn names bytes m events whole self.new rest.now) }
+    {
+        match event.kind {
+            Kind::Enter => self.enter(source, index, event, after),
+            Kind::Exit => {
+                self.leave()?;
+                Ok(after)
             }
         }
     }
 
+    /// An event is entered. Events before the content of a container print nothing.
+    fn enter<'e, T: Tables>(
+        &mut self,
+        source: &Source<'_, T, A>,
+        index: usize,
+        event: &Event,
+        after: &'e [Event],
+    ) -> Result<&'e [Event], AllocError>
+        requires { AreCounted source.now.checked.bytes.now self.old.leaves.columns }
+        ensures default { KeepsEnding self.old.leaves.page self.new.leaves.page }
+        ensures counted { AreCounted source.now.checked.bytes.now self.new.leaves.columns }
+        ensures shorter { IfOk result (λ rest. length rest.now ≤ length after.now) }
+        ensures printed { (m : Meaning) (ds : List Definition) (whole : LayoutState) →
+            let names = T.reference_of source.now.tables.now in
+            let bytes = source.now.checked.bytes.now in
+            let events = source.now.checked.events.now in
+            IsMeant names source.now ds m → index ≡ length events - length (event.now ∷ after.now) → event.now.kind ≡ kinds.Enter →
+            GoesOn names bytes m events whole self.old (event.now ∷ after.now) → IfOk result (λ rest. GoesOn names bytes m events whole self.new rest.now) }
+    {
+        if self.level.begin(event.name) {
+            self.enter_content(source, index, event, after)
+        } else {
+            let (_, rest) = node_after(event, after);
+            Ok(rest)
+        }
+    }
+
+    /// An event of the content is entered. Containers and lists are printed event by event, others
+    /// as a whole.
+    fn enter_content<'e, T: Tables>(
+        &mut self,
+        source: &Source<'_, T, A>,
+        index: usize,
+        event: &Event,
+        after: &'e [Event],
+    ) -> Result<&'e [Event], AllocError>
+        requires { AreCounted source.now.checked.bytes.now self.old.leaves.columns }
+        ensures default { KeepsEnding self.old.leaves.page self.new.leaves.page }
+        ensures counted { AreCounted source.now.checked.bytes.now self.new.leaves.columns }
+        ensures shorter { IfOk result (λ rest. length rest.now ≤ length after.now) }
+        ensures printed { (m : Meaning) (ds : List Definition) (whole : LayoutState) →
+            let names = T.reference_of source.now.tables.now in
+            let bytes = source.now.checked.bytes.now in
+            let events = source.now.checked.events.now in
+            IsMeant names source.now ds m → index ≡ length events - length (event.now ∷ after.now) → event.now.kind ≡ kinds.Enter → self.old.level.begun ≡ true →
+            GoesOn names bytes m events whole self.old (event.now ∷ after.now) → IfOk result (λ rest. GoesOn names bytes m events whole self.new rest.now) }
+    {
+        let kind = kind_of(event.name);
+        match kind {
+            BlockKind::Quote => self.enter_quote()?,
+            BlockKind::UnorderedList => self.enter_list(kind, None)?,
+            BlockKind::OrderedList => self.enter_ordered_list(source, after)?,
+            BlockKind::Item => self.enter_item()?,
+            BlockKind::Footnote => self.enter_footnote()?,
+            _ => return self.leaf(source, index, event, after),
+        }
+        Ok(after)
+    }
+
+    /// Prints a leaf block as a whole.
+    fn leaf<'e, T: Tables>(
+        &mut self,
+        source: &Source<'_, T, A>,
+        index: usize,
+        event: &Event,
+        after: &'e [Event],
+    ) -> Result<&'e [Event], AllocError>
+        requires { AreCounted source.now.checked.bytes.now self.old.leaves.columns }
+        ensures default { KeepsEnding self.old.leaves.page self.new.leaves.page }
+        ensures counted { AreCounted source.now.checked.bytes.now self.new.leaves.columns }
+        ensures shorter { IfOk result (λ rest. length rest.now ≤ length after.now) }
+        ensures printed { (m : Meaning) (ds : List Definition) (whole : LayoutState) →
+            let names = T.reference_of source.now.tables.now in
+            let bytes = source.now.checked.bytes.now in
+            let events = source.now.checked.events.now in
+            IsMeant names source.now ds m → index ≡ length events - length (event.now ∷ after.now) → event.now.kind ≡ kinds.Enter → self.old.level.begun ≡ true → is_leaf (kind_of event.now.name) ≡ true →
+            GoesOn names bytes m events whole self.old (event.now ∷ after.now) → IfOk result (λ rest. GoesOn names bytes m events whole self.new rest.now) }
+    {
+        let kind = kind_of(event.name);
+        let (node, rest) = node_after(event, after);
+        let place = self.leaf_place();
+        self.leaves.leaf(source, kind, place, index, &node)?;
+        self.level.pass(kind);
+        Ok(rest)
+    }
+
     /// Where a leaf block stands that comes next.
-    fn leaf_place(&self) -> LeafPlace {
+    fn leaf_place(&self) -> LeafPlace
+        ensures { result ≡ record { top = is_document self.now.level.holder; tight = self.now.level.tight; silent = self.now.level.silent } }
+    {
         LeafPlace {
             top: self.level.holder.is_document(),
             tight: self.level.tight,
             silent: self.level.silent,
         }
     }
-
-    /// An event is entered that isn't printed by itself.
-    fn skip(&mut self, name: Name) {
-        if name == Name::ListOrdered || name == Name::ListUnordered {
-            let _ = self.loose.pop();
-        }
-        self.skipped = self.skipped.saturating_add(1);
-    }
-
-    /// An event is exited.
-    fn exit(&mut self) -> Result<(), AllocError> {
-        if self.skipped > 0 {
-            self.skipped -= 1;
-            return Ok(());
-        }
-        self.leave()
-    }
 }
 
 /// Whether the last of these events is the ending of a blank line.
-fn ends_blank(events: &[Event]) -> bool {
+fn ends_blank(events: &[Event]) -> bool
+    ensures { (ns : Nodes) → AreNodes ns → events.now ≡ events_of ns → result ≡ ends_blank false ns }
+{
     match events.last() {
         None => false,
         Some(event) => event.name == Name::BlankLineEnding,

@@ -4,7 +4,7 @@ use Rattle.html_bytes.specs.Pieces.{in_bytes}
 use Rattle.html_leaves.specs.Prints.{LaysOut}
 use Rattle.event_pieces.specs.Left.{closing}
 use Rattle.event_levels.specs.declared.level.Holder.{Holder}
-use Rattle.event_html.specs.Views.{holder_view}
+use Rattle.event_html.specs.Frames.{holder_view}
 use Rattle.event_html.proofs.printer.Printer.close.Goals as goal
 
 pub returns-in-Quote-clause-printed : goal.returns-in-Quote-clause-printed
