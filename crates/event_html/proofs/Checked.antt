@@ -21,7 +21,8 @@ use Rattle.event_grammar.specs.declared.slot.Slot.TheVariants.{One, Opt, Lead, M
 use Rattle.event_grammar.specs.Checks.{stands_between}
 use Rattle.event_grammar.specs.Facts.{is_fact, is_ending, are_digits}
 use Rattle.event_grammar.specs.Grammar.{row, space_names, line_names, string_names, text_names}
-use Rattle.event_grammar.specs.InGrammar.{Within, inside, Before, before, node_name}
+use Rattle.event_grammar.specs.InGrammar.{Within, inside, Before, before, node_name, PlacesFit}
+use Rattle.event_grammar.specs.Points.{spot}
 use Rattle.event_grammar.specs.SlotViews.{child_of}
 use Rattle.event_grammar.specs.Slots.{has}
 use Rattle.event_grammar.specs.Trees.{Node, Nodes, Around, Nil, Cons}
