@@ -14,7 +14,8 @@ impl<A: Allocator + Clone> LeafPrinter<A> {
     pub(crate) fn thematic_break(&mut self) -> Result<(), AllocError>
         ensures default { KeepsEnding self.old.page self.new.page }
         ensures columns { self.new.columns ≡ self.old.columns }
-        ensures printed { (m : Meaning) (place : Place) → OnOk result (LaysOut m.compile self.old.page self.new.page (in_bytes (leaf_block_pieces m place Break))) }
+        ensures printed { (m : Meaning) (place : Place) →
+            OnOk result (LaysOut m.compile self.old.page self.new.page (in_bytes (leaf_block_pieces m place Break))) }
     {
         self.page.fresh_tag("<hr />")
     }

@@ -33,9 +33,11 @@ impl<A: Allocator + Clone> Printer<A> {
         ensures columns { self.new.leaves.columns ≡ self.old.leaves.columns }
         ensures loose { reverse self.new.loose.items ≡ drop 1 (reverse self.old.loose.items) }
         ensures opened { (names : Names) (kids : Nodes) → let bytes = source.now.checked.bytes.now in AreWithin kids events.now → HaveNumbers bytes kids →
-            OnOk result (opened_of self.new ≡ within kinds.OrderedList (holders.List (Some (list_number names bytes kids))) (not (next_loose self.old)) (opened_of self.old)) }
+            let number = Some (list_number names bytes kids) in
+            OnOk result (opened_of self.new ≡ within kinds.OrderedList (holders.List number) (not (next_loose self.old)) (opened_of self.old)) }
         ensures printed { (options : CompileOptions) (names : Names) (kids : Nodes) → let bytes = source.now.checked.bytes.now in
-            AreWithin kids events.now → HaveNumbers bytes kids → OnOk result (Prints options self.old self.new (opening (ListOf (Some (list_number names bytes kids))))) }
+            AreWithin kids events.now → HaveNumbers bytes kids →
+            OnOk result (Prints options self.old self.new (opening (ListOf (Some (list_number names bytes kids))))) }
     {
         let item = inside_child(events, Name::ListItem);
         let prefix = inside_child(item, Name::ListItemPrefix);

@@ -174,7 +174,8 @@ impl<A: Allocator + Clone> Printer<A> {
             let names = T.reference_of source.now.tables.now in
             let bytes = source.now.checked.bytes.now in
             let events = source.now.checked.events.now in
-            IsMeant names source.now ds m → index ≡ length events - length (event.now ∷ after.now) → event.now.kind ≡ kinds.Enter → self.old.level.begun ≡ true →
+            IsMeant names source.now ds m → index ≡ length events - length (event.now ∷ after.now) → event.now.kind ≡ kinds.Enter →
+            self.old.level.begun ≡ true →
             GoesOn names bytes m events whole self.old (event.now ∷ after.now) → IfOk result (λ rest. GoesOn names bytes m events whole self.new rest.now) }
     {
         let kind = kind_of(event.name);
@@ -205,7 +206,8 @@ impl<A: Allocator + Clone> Printer<A> {
             let names = T.reference_of source.now.tables.now in
             let bytes = source.now.checked.bytes.now in
             let events = source.now.checked.events.now in
-            IsMeant names source.now ds m → index ≡ length events - length (event.now ∷ after.now) → event.now.kind ≡ kinds.Enter → self.old.level.begun ≡ true → is_leaf (kind_of event.now.name) ≡ true →
+            IsMeant names source.now ds m → index ≡ length events - length (event.now ∷ after.now) → event.now.kind ≡ kinds.Enter →
+            self.old.level.begun ≡ true → is_leaf (kind_of event.now.name) ≡ true →
             GoesOn names bytes m events whole self.old (event.now ∷ after.now) → IfOk result (λ rest. GoesOn names bytes m events whole self.new rest.now) }
     {
         let kind = kind_of(event.name);

@@ -79,8 +79,10 @@ impl<A: Allocator + Clone> SpelledStrings<A> {
         events: &[Event],
     ) -> Result<SpelledStrings<A>, AllocError>
         requires { AreCounted texts.now.bytes.now columns.old }
-        ensures spelled { (ds : List Definition) (at : Spot) → HasLabels texts.now.definitions.now (labels_of ds) → PlacesFit texts.now.bytes.now at events.now →
-            IfOk result (λ strings. AreSpelled (T.reference_of texts.now.tables.now) texts.now.bytes.now (leads_to (linked_by ds)) (linked_at ds) strings events.now) }
+        ensures spelled { (ds : List Definition) (at : Spot) →
+            let names = T.reference_of texts.now.tables.now in
+            HasLabels texts.now.definitions.now (labels_of ds) → PlacesFit texts.now.bytes.now at events.now →
+            IfOk result (λ strings. AreSpelled names texts.now.bytes.now (leads_to (linked_by ds)) (linked_at ds) strings events.now) }
         ensures counted { AreCounted texts.now.bytes.now columns.new }
     {
         let mut strings = SpelledStrings {
@@ -142,9 +144,11 @@ impl<A: Allocator + Clone> SpelledStrings<A> {
         texts: &TextEvents<'_, T, A>,
         events: &[Event],
     ) -> Result<(), AllocError>
-        ensures targets { (ds : List Definition) (at : Spot) → HasLabels texts.now.definitions.now (labels_of ds) → PlacesFit texts.now.bytes.now at events.now →
+        ensures targets { (ds : List Definition) (at : Spot) →
+            let spelled = targets_by (T.reference_of texts.now.tables.now) texts.now.bytes.now (leads_to (linked_by ds)) in
+            HasLabels texts.now.definitions.now (labels_of ds) → PlacesFit texts.now.bytes.now at events.now →
             self.old.targets.items ≡ [] →
-            OnOk result (HaveTargets (linked_at ds) self.new (targets_by (T.reference_of texts.now.tables.now) texts.now.bytes.now (leads_to (linked_by ds)) events.now)) }
+            OnOk result (HaveTargets (linked_at ds) self.new (spelled events.now)) }
         ensures raws { (ds : List Definition) (at : Spot) (raws : List (List ℕ)) → HasLabels texts.now.definitions.now (labels_of ds) →
             PlacesFit texts.now.bytes.now at events.now → HaveRaws self.old [] raws → OnOk result (HaveRaws self.new [] raws) }
     {
@@ -167,10 +171,11 @@ impl<A: Allocator + Clone> SpelledStrings<A> {
     ) -> Result<(), AllocError>
         requires { index < length events.now }
         ensures held { AreHeld events.now (drop (index + 1) events.now) open.old → OnOk result (AreHeld events.now (drop index events.now) open.new) }
-        ensures targets { (ds : List Definition) (at : Spot) → HasLabels texts.now.definitions.now (labels_of ds) → PlacesFit texts.now.bytes.now at events.now →
-            AreHeld events.now (drop (index + 1) events.now) open.old →
-            HaveTargets (linked_at ds) self.old (targets_by (T.reference_of texts.now.tables.now) texts.now.bytes.now (leads_to (linked_by ds)) (drop (index + 1) events.now)) →
-            OnOk result (HaveTargets (linked_at ds) self.new (targets_by (T.reference_of texts.now.tables.now) texts.now.bytes.now (leads_to (linked_by ds)) (drop index events.now))) }
+        ensures targets { (ds : List Definition) (at : Spot) →
+            let spelled = targets_by (T.reference_of texts.now.tables.now) texts.now.bytes.now (leads_to (linked_by ds)) in
+            HasLabels texts.now.definitions.now (labels_of ds) → PlacesFit texts.now.bytes.now at events.now →
+            AreHeld events.now (drop (index + 1) events.now) open.old → HaveTargets (linked_at ds) self.old (spelled (drop (index + 1) events.now)) →
+            OnOk result (HaveTargets (linked_at ds) self.new (spelled (drop index events.now))) }
         ensures raws { (ds : List Definition) (at : Spot) (raws : List (List ℕ)) → HasLabels texts.now.definitions.now (labels_of ds) →
             PlacesFit texts.now.bytes.now at events.now → AreHeld events.now (drop (index + 1) events.now) open.old →
             HaveRaws self.old [] raws → OnOk result (HaveRaws self.new [] raws) }
