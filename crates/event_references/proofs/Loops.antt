@@ -1,5 +1,5 @@
 -- Events, one after another.
-use Rattle.std.proofs.Common.{◌≡◌, ◌<◌, ℕ, ◌+◌, Bool, true, false, ◌&&◌, if◌then◌else◌, List, [], ◌∷◌, ◌++◌, Option, Some, refl, sym, ap, ◌∙◌, subst, get_or, drop-cons, add-one, append_assoc, drop, take, ◌-◌, length, OnOk, arith}
+use Rattle.std.proofs.Common.{◌≡◌, ◌<◌, ℕ, ◌+◌, Bool, true, false, ◌&&◌, ◌||◌, if◌then◌else◌, List, [], ◌∷◌, ◌++◌, Option, Some, refl, sym, ap, ◌∙◌, subst, get_or, drop-cons, add-one, append_assoc, drop, take, ◌-◌, length, OnOk, arith}
 use Rattle.std.specs.Prelude.{Result, Ok, map, reverse}
 use Rattle.std.proofs.lemmas.List.{map-append, length-append, length-map, reverse-append, take_rest}
 use Rattle.definition_text.specs.Content.{content_codes}
@@ -16,7 +16,8 @@ use Rattle.event_grammar.specs.References.{media_names, leads}
 use Rattle.event_grammar.proofs.Runs.{no_event}
 use Rattle.event_references.specs.Texts.{is_enter, text_after, text_of, texts_of}
 use Rattle.event_references.specs.Views.{text_first, text_at}
-use Rattle.event_references.specs.Lost.{Media, new_media, noted, label_of, around, lost_from, lost_next, lost_exit}
+use Rattle.event_references.proofs.Parts.{noted_none}
+use Rattle.event_references.specs.Lost.{Media, new_media, noted, is_part, label_of, around, lost_from, lost_next, lost_exit}
 
 pub drop_next : (events : List Event) (i : ℕ) → i < length events → drop i events ≡ get_or events i no_event ∷ drop (i + 1) events
 drop_next events i l = let f : drop i events ≡ get_or events i no_event ∷ drop (i + 1) events = rw (add-one, drop-cons events i no_event l) in f
@@ -69,6 +70,11 @@ module _ (bytes : List ℕ) (name : Name) (events : List Event) where
             ∙ k.3,
       )
 
+both_no : (a b : Bool) → (a || b) ≡ false → (a ≡ false) × (b ≡ false)
+both_no false false h = (refl, refl)
+both_no true b h = absurd (let f : true ≡ false = h in cc)
+both_no false true h = absurd (let f : true ≡ false = h in cc)
+
 -- ---- what leads nowhere
 
 module _ (bytes : List ℕ) (links footnotes : List (List ℕ)) (events : List Event) where
@@ -115,6 +121,19 @@ module _ (bytes : List ℕ) (links footnotes : List (List ℕ)) (events : List E
       by_next i m ms Exit l h
       ∙ ap (λ (z : Bool). if z then lost_exit bytes links footnotes (leads links footnotes (event_at i).name (label_of m)) ms i (λ next others. run next others (i + 1) (drop (i + 1) events))
       else run m ms (i + 1) (drop (i + 1) events)) t
+
+  skip_by : (kind : Kind) (i : ℕ) (m : Media) (ms : List Media) → i < length events → (event_at i).kind ≡ kind
+      → (is_listed media_names (event_at i).name ≡ false) × (is_part (event_at i).name ≡ false)
+      → run m ms i (drop i events) ≡ run m ms (i + 1) (drop (i + 1) events)
+  skip_by Enter i m ms l h t =
+      enter_other i m ms l h t.0
+      ∙ ap (λ (z : Media). run z ms (i + 1) (drop (i + 1) events)) (noted_none (event_at i).name (text_there i) m t.1)
+  skip_by Exit i m ms l h t = exit_other i m ms l h t.0
+
+  -- what is no link, image or call, and no part of one that tells its label, changes nothing
+  pub skip : (i : ℕ) (m : Media) (ms : List Media) → i < length events → (is_listed media_names (event_at i).name || is_part (event_at i).name) ≡ false
+      → run m ms i (drop i events) ≡ run m ms (i + 1) (drop (i + 1) events)
+  skip i m ms l h = skip_by (event_at i).kind i m ms l refl (both_no (is_listed media_names (event_at i).name) (is_part (event_at i).name) h)
 
   -- ---- the same by what the code holds
 

@@ -5,7 +5,7 @@ ghost use Rattle.definition_text.specs.Content.{content_codes};
 ghost use Rattle.inline_labels.specs.Table.{HasLabels};
 ghost use Rattle.event_grammar.specs.References.{is_defined};
 ghost use Rattle.event_references.specs.Texts.{is_enter, texts_of};
-ghost use Rattle.event_references.specs.Views.{text_at};
+ghost use Rattle.event_references.specs.Views.{text_at, AreLabels};
 
 use crate::label::{push_text, push_text_at};
 use engine_events::event::{Event, Kind, Name};
@@ -64,4 +64,32 @@ pub fn is_defined<A: Allocator + Clone>(
     text.clear();
     push_text_at(text, bytes, events, index)?;
     Ok(table.find(text)?.is_some())
+}
+
+/// Returns whether the text of the event at an index is the text of an event of a name. Without an
+/// index it is true. The table of such texts is made where it is first asked for. `text` is
+/// overwritten.
+pub fn is_label<A: Allocator + Clone>(
+    table: &mut Option<LabelTable<A>>,
+    alloc: &A,
+    text: &mut Vec<u8, A>,
+    events: &[Event],
+    bytes: &[u8],
+    name: Name,
+    label: Option<usize>,
+) -> Result<bool, AllocError>
+    requires { AreLabels bytes.now events.now name table.old }
+    ensures found { IfOk result (λ found. found ≡ is_defined (texts_of bytes.now name events.now) (option_map (text_at bytes.now events.now) label)) }
+    ensures kept { AreLabels bytes.now events.now name table.new }
+{
+    if label.is_none() {
+        return Ok(true);
+    }
+    let known = match table.take() {
+        Some(known) => known,
+        None => label_table(alloc.clone()?, events, bytes, name)?,
+    };
+    let found = is_defined(&known, text, events, bytes, label)?;
+    *table = Some(known);
+    Ok(found)
 }

@@ -1,22 +1,18 @@
 //! Links, images and footnote calls whose labels have no definition.
-ghost use Rattle.std.specs.Prelude.{◌≡◌, ◌∷◌, ◌++◌, [], true, false, List, ℕ, IfOk, OnOk, drop, map, reverse};
+ghost use Rattle.std.specs.Prelude.{◌≡◌, ◌∷◌, ◌++◌, ◌||◌, [], true, false, List, ℕ, IfOk, OnOk, drop, map, reverse};
 ghost use Rattle.std.specs.Option.{option_map, option_or};
 ghost use Rattle.engine_events.specs.Names.{is_listed};
 ghost use Rattle.engine_events.specs.declared.event.Event.{Event as AnEvent};
 ghost use Rattle.engine_events.specs.declared.event.Name.TheVariants as names;
-ghost use Rattle.definition_text.specs.Content.{content_codes};
-ghost use Rattle.inline_labels.specs.Table.{HasLabels};
 ghost use Rattle.event_grammar.specs.References.{media_names, leads};
 ghost use Rattle.event_references.specs.Texts.{texts_of};
 ghost use Rattle.event_references.specs.Lost.{new_media, noted, is_part, only_if, label_of, around, lost_from};
-ghost use Rattle.event_references.specs.Views.{text_at, media_view};
+ghost use Rattle.event_references.specs.Views.{text_at, media_view, AreLabels};
 
-use crate::labels::{is_defined, label_table};
+use crate::labels::is_label;
 use engine_events::event::{Event, Kind, Name};
 use inline_labels::LabelTable;
 use std::alloc::{AllocError, Allocator};
-
-const MEDIA_NAMES: [Name; 3] = [Name::Link, Name::Image, Name::GfmFootnoteCall];
 
 /// A link, an image or a call that is open. Its parts are indices of their enters.
 #[derive(Clone, Copy)]
@@ -76,6 +72,28 @@ impl Media {
     }
 }
 
+/// Whether an event of this name leads to a definition.
+fn is_media(name: Name) -> bool
+    ensures { result ≡ is_listed media_names name }
+{
+    matches!(name, Name::Link | Name::Image | Name::GfmFootnoteCall)
+}
+
+/// Whether an event of this name leads to a definition, or decides which label such an event has.
+fn is_media_or_part(name: Name) -> bool
+    ensures { result ≡ (is_listed media_names name || is_part name) }
+{
+    matches!(
+        name,
+        Name::Link
+            | Name::Image
+            | Name::GfmFootnoteCall
+            | Name::Resource
+            | Name::ReferenceString
+            | Name::LabelText
+    )
+}
+
 /// Whether an event of this name decides which label the event around it has.
 fn is_part(name: Name) -> bool
     ensures { result ≡ is_part name }
@@ -111,7 +129,7 @@ impl<A: Allocator> Open<A> {
             ((media_view bytes events self.new.inner ≡ noted name (text_at bytes events index) (media_view bytes events self.old.inner))
             × (self.new.outer.items ≡ self.old.outer.items)) }
     {
-        if MEDIA_NAMES.contains(&name) {
+        if is_media(name) {
             self.outer.push(self.inner)?;
             self.inner = Media::new();
         } else {
@@ -133,34 +151,53 @@ impl<A: Allocator> Open<A> {
     }
 }
 
-/// The definitions of a list.
+/// The labels of the definitions of a list. They are read where the first is asked for.
 #[derive(Drop)]
 struct Definitions<A: Allocator + Clone> {
-    links: LabelTable<A>,
-    footnotes: LabelTable<A>,
+    links: Option<LabelTable<A>>,
+    footnotes: Option<LabelTable<A>>,
 }
 
 impl<A: Allocator + Clone> Definitions<A> {
     /// Whether the label at this index has a definition for an event of this name. `text` is
     /// overwritten.
     fn leads(
-        &self,
+        &mut self,
+        alloc: &A,
         text: &mut Vec<u8, A>,
         events: &[Event],
         bytes: &[u8],
         name: Name,
         label: Option<usize>,
     ) -> Result<bool, AllocError>
-        ensures { (links footnotes : List (List ℕ)) → HasLabels self.now.links (map content_codes links) →
-            HasLabels self.now.footnotes (map content_codes footnotes) →
-            IfOk result (λ found. found ≡ leads links footnotes name (option_map (text_at bytes.now events.now) label)) }
+        requires links { AreLabels bytes.now events.now names.DefinitionLabelString self.old.links }
+        requires footnotes { AreLabels bytes.now events.now names.GfmFootnoteDefinitionLabelString self.old.footnotes }
+        ensures found { IfOk result (λ found. found ≡ leads (texts_of bytes.now names.DefinitionLabelString events.now)
+            (texts_of bytes.now names.GfmFootnoteDefinitionLabelString events.now) name (option_map (text_at bytes.now events.now) label)) }
+        ensures links { AreLabels bytes.now events.now names.DefinitionLabelString self.new.links }
+        ensures footnotes { AreLabels bytes.now events.now names.GfmFootnoteDefinitionLabelString self.new.footnotes }
     {
-        let table = if name == Name::GfmFootnoteCall {
-            &self.footnotes
+        if name == Name::GfmFootnoteCall {
+            is_label(
+                &mut self.footnotes,
+                alloc,
+                text,
+                events,
+                bytes,
+                Name::GfmFootnoteDefinitionLabelString,
+                label,
+            )
         } else {
-            &self.links
-        };
-        is_defined(table, text, events, bytes, label)
+            is_label(
+                &mut self.links,
+                alloc,
+                text,
+                events,
+                bytes,
+                Name::DefinitionLabelString,
+                label,
+            )
+        }
     }
 }
 
@@ -174,30 +211,29 @@ pub fn first_lost<A: Allocator + Clone>(
     ensures { IfOk result (λ found. found ≡ lost_from bytes.now (texts_of bytes.now names.DefinitionLabelString events.now)
         (texts_of bytes.now names.GfmFootnoteDefinitionLabelString events.now) new_media [] 0 events.now) }
 {
-    let definitions = Definitions {
-        links: label_table(alloc.clone()?, events, bytes, Name::DefinitionLabelString)?,
-        footnotes: label_table(
-            alloc.clone()?,
-            events,
-            bytes,
-            Name::GfmFootnoteDefinitionLabelString,
-        )?,
+    let mut definitions = Definitions {
+        links: None,
+        footnotes: None,
     };
     let mut text = Vec::new(alloc.clone()?);
     let mut open = Open {
         inner: Media::new(),
-        outer: Vec::new(alloc),
+        outer: Vec::new(alloc.clone()?),
     };
     for (index, event) in events.iter().enumerate() {
-        match event.kind {
-            Kind::Enter => open.enter(event.name, index)?,
-            Kind::Exit => {
-                if MEDIA_NAMES.contains(&event.name) {
-                    let label = open.inner.label();
-                    if !definitions.leads(&mut text, events, bytes, event.name, label)? {
-                        return Ok(Some(index));
+        if is_media_or_part(event.name) {
+            match event.kind {
+                Kind::Enter => open.enter(event.name, index)?,
+                Kind::Exit => {
+                    if is_media(event.name) {
+                        let label = open.inner.label();
+                        if !definitions.leads(
+                            &alloc, &mut text, events, bytes, event.name, label,
+                        )? {
+                            return Ok(Some(index));
+                        }
+                        open.leave();
                     }
-                    open.leave();
                 }
             }
         }

@@ -9,7 +9,7 @@ use Rattle.std.proofs.lemmas.List.{append-nil, length-append, map-append, revers
 use Rattle.std.proofs.lemmas.Str.{is_utf8-from_IsUtf8}
 use Rattle.definition_text.specs.Content.{content_codes}
 use Rattle.definition_inline.specs.Inline.{LinkTexts, link_texts}
-use Rattle.event_grammar.proofs.PlaceLaws.{text_more}
+use Rattle.event_written.proofs.Characters.{text_more}
 use Rattle.event_meaning.specs.Strings.{written}
 use Rattle.event_meaning.proofs.Written.{written_codes}
 use Rattle.event_written.specs.Strings.{valid}

@@ -5,6 +5,7 @@ pub mod RowLoops
 pub mod Passes
 pub mod InlineRows
 pub mod Walks
+pub mod PassedOver
 pub mod Leaves
 pub mod TargetLaw
 pub mod AloneLaw

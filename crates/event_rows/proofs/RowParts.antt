@@ -1,5 +1,5 @@
 -- The rows of one event.
-use Rattle.std.proofs.Common.{◌≡◌, ℕ, ◌==◌, Bool, true, false, ◌||◌, not, if◌then◌else◌, List, [], ◌∷◌, drop, Option, None, Some, refl, sym, ap, ◌∙◌}
+use Rattle.std.proofs.Common.{◌≡◌, ℕ, ◌==◌, Bool, true, false, ◌&&◌, ◌||◌, not, if◌then◌else◌, List, [], ◌∷◌, drop, Option, None, Some, refl, sym, ap, ◌∙◌}
 use denote.Enum.Bare.{sameb}
 use Rattle.engine_events.specs.Names.{same_name, is_listed}
 use Rattle.engine_events.specs.declared.event.Event.{Event}
@@ -10,7 +10,11 @@ use Rattle.definition_inline.specs.CodeText.{without_padding}
 use Rattle.definition_inline.specs.Inline.{Target, LinkTexts, InlineLeaf, TaskCheck, SpanKind, LinkedKind, Link, Image}
 use Rattle.inline_rows.specs.InlineRows.{InlineRow, Part, EnterLinked, Leave, CallRow}
 use Rattle.event_grammar.specs.References.{media_names}
+use Rattle.inline_rows.specs.View.{data_rows}
+use Rattle.event_written.specs.Child.{text_first}
+use Rattle.event_written.specs.Strings.{valid}
 use Rattle.event_rows.specs.Leaves.{has, leaf_rows}
+use Rattle.event_rows.specs.Places.{in_text, is_in_text}
 use Rattle.event_rows.specs.RawTexts.{sequence_of, raw_after}
 use Rattle.event_rows.specs.Rows.{raw_leaf, label_by, target_by, alone_rows, part_rows, enter_in, enter_rows, exit_in, exit_rows}
 use Rattle.event_rows.specs.Spelled.{Spelled, spelled, nowhere, spelled_by}
@@ -48,6 +52,26 @@ image_is name h = absurd (let g : false ≡ true = h in cc)
 call_is : (name : Name) → same_name name n.GfmFootnoteCall ≡ true → name ≡ n.GfmFootnoteCall
 call_is n.GfmFootnoteCall h = refl
 call_is name h = absurd (let g : false ≡ true = h in cc)
+
+data_is : (name : Name) → same_name name n.Data ≡ true → name ≡ n.Data
+data_is n.Data h = refl
+data_is name h = absurd (let g : false ≡ true = h in cc)
+
+module _ (names : Names) (bytes : List ℕ) (leads : Target → LinkTexts) (in_link : Bool) (events : List Event) where
+  data_by : (b : Bool) (m : Mode) (links : ℕ) → (b && in_text m) ≡ true
+      → data_rows (valid (text_first bytes events)) ≡ (if b then enter_in names bytes leads in_link m n.Data links events else [])
+  data_by true Text links h = refl
+  data_by true Before links h = absurd (let g : false ≡ true = h in cc)
+  data_by true Behind links h = absurd (let g : false ≡ true = h in cc)
+  data_by false m links h = absurd (let g : false ≡ true = h in cc)
+
+  -- data is a text
+  pub data_row : (p : Place) (name : Name) (text : List ℕ) → is_in_text p ≡ true → same_name name n.Data ≡ true → text ≡ valid (text_first bytes events)
+      → data_rows text ≡ enter_rows names bytes leads in_link p name events
+  data_row p name text b h t =
+      ap data_rows t
+      ∙ data_by (p.skipped == 0) p.mode p.links b
+      ∙ ap (λ (z : Name). enter_rows names bytes leads in_link p z events) (sym (data_is name h))
 
 module _ (names : Names) (bytes : List ℕ) (leads : Target → LinkTexts) (in_link : Bool) (name : Name) (links : ℕ) (events : List Event) where
   abbrev after : List Event

@@ -1,9 +1,10 @@
 -- Where a walk over the events of a text is: which events have rows.
-use Rattle.std.specs.Prelude.{ℕ, ◌+◌, ◌-◌, Bool, ◌==◌, ◌||◌, if◌then◌else◌, Option, None, Some, is_some}
+use Rattle.std.specs.Prelude.{ℕ, ◌+◌, ◌-◌, Bool, true, false, ◌==◌, ◌&&◌, ◌||◌, if◌then◌else◌, Option, None, Some, is_some}
 use Rattle.engine_events.specs.Names.{same_name, is_listed}
 use Rattle.engine_events.specs.declared.event.Name.{Name}
 use Rattle.engine_events.specs.declared.event.Name.TheVariants as n
 use Rattle.definition_inline.specs.Inline.{SpanKind, Emphasis, Strong, Strikethrough, Mark}
+use Rattle.event_grammar.specs.References.{media_names}
 use Rattle.event_meaning.specs.Texts.{text_names}
 use Rattle.event_rows.specs.declared.rows.Mode.{Mode}
 use Rattle.event_rows.specs.declared.rows.Mode.TheVariants.{Text, Before, Behind}
@@ -24,12 +25,24 @@ span_of name =
 abbrev pub is_around : Name → Bool
 is_around name = is_some (span_of name) || (same_name name n.Link || same_name name n.Image)
 
+-- whether strings of an event of this name were read ahead: it is a link, an image, a call, or raw text
+abbrev pub is_counted : Name → Bool
+is_counted name = is_listed media_names name || (same_name name n.CodeText || same_name name n.MathText)
+
 -- how many links are open where so many are around
 abbrev pub links_in : Name → ℕ → ℕ
 links_in name links = if same_name name n.Link then links + 1 else links
 
 abbrev pub links_after : Name → ℕ → ℕ
 links_after name links = if same_name name n.Link then links - 1 else links
+
+abbrev pub in_text : Mode → Bool
+in_text Text = true
+in_text mode = false
+
+-- whether an event that is entered here is a part of a text
+abbrev pub is_in_text : Place → Bool
+is_in_text p = (p.skipped == 0) && in_text p.mode
 
 -- an event of this name is entered where none is skipped
 abbrev pub entered_in : Mode → Name → ℕ → Place

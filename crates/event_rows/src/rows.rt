@@ -1,16 +1,18 @@
 //! The rows of the events in a text.
-ghost use Rattle.std.specs.Prelude.{◌≡◌, ◌≤◌, ◌<◌, ◌+◌, ◌^◌, ◌++◌, ◌==◌, ◌||◌, ℕ, IfOk, OnOk, drop, not};
+ghost use Rattle.std.specs.Prelude.{◌≡◌, ◌≤◌, ◌<◌, ◌+◌, ◌^◌, ◌++◌, ◌==◌, ◌||◌, ℕ, Bool, List, IfOk, OnOk, drop, length, not};
 ghost use Rattle.engine_events.specs.Names.{is_listed};
+ghost use Rattle.definition_inline.specs.CharacterReference.{Names};
 ghost use Rattle.definition_inline.specs.CodeText.{without_padding};
 ghost use Rattle.definition_inline.specs.Inline.{Target, LinkTexts};
 ghost use Rattle.event_grammar.specs.Trees.{Nodes, AreNodes, events_of};
 ghost use Rattle.event_meaning.specs.Texts.{inlines_of, text_names};
 ghost use Rattle.event_rows.specs.Ahead.{AreStringsOf};
-ghost use Rattle.event_rows.specs.Places.{place, span_of, is_around, entered_in, exited_in};
+ghost use Rattle.event_rows.specs.Places.{place, span_of, is_around, is_counted, entered_in, exited_in};
 ghost use Rattle.event_rows.specs.RawTexts.{sequence_of};
 ghost use Rattle.event_rows.specs.Rows.{raw_leaf, alone_rows, part_rows, enter_rows, rows_by};
-ghost use Rattle.event_rows.specs.Spelled.{AreSpelled};
+ghost use Rattle.event_rows.specs.Spelled.{AreSpelled, raws_by, targets_by};
 ghost use Rattle.event_rows.specs.Texts.{HaveEndings};
+ghost use Rattle.event_rows.specs.declared.rows.Mode.{Mode as AMode};
 ghost use Rattle.event_rows.specs.declared.rows.Mode.TheVariants as modes;
 ghost use Rattle.event_written.specs.Texts.{AreTexts};
 ghost use Rattle.inline_rows.specs.InlineRows.{inline_rows};
@@ -23,7 +25,7 @@ use crate::raw_text::{sequence_of, whole_piece};
 use crate::spelled::SpelledStrings;
 use crate::texts::{TextEvents, text_of};
 use engine_events::event::{Event, Kind, Name};
-use event_written::child::inside;
+use event_written::child::{inside, text_first};
 use inline_rows::{InlineRow, SpelledLeaf};
 use markdown_options::Tables;
 use std::alloc::{AllocError, Allocator};
@@ -49,18 +51,54 @@ pub fn text_rows<'a, T: Tables, A: Allocator + Clone>(
         IfOk result (λ rows. rows_view at rows.items ≡ inline_rows leads (inlines_of names bytes texts.now.linked ns)) }
 {
     let mut walk = Walk {
-        rows: Vec::new(alloc),
+        rows: Vec::with_capacity(alloc, events.len() / 4 + 1)?,
         place: Place::new(),
         targets: 0,
         raw_texts: 0,
     };
-    for (index, event) in events.iter().enumerate() {
+    let mut rest = events;
+    while let Some((event, after)) = rest.split_first() {
         match event.kind {
-            Kind::Enter => walk.enter(texts, strings, event.name, &events[index..])?,
+            Kind::Enter => walk.enter(texts, strings, event.name, rest)?,
             Kind::Exit => walk.exit(event.name)?,
         }
+        let (skipped, left) = pass_over(walk.place.skipped, after);
+        walk.place.skipped = skipped;
+        rest = left;
     }
     Ok(walk.rows)
+}
+
+/// Passes over events in one that is skipped, where so many are open, up to its exit or to one whose
+/// strings were read ahead. Returns how many are open there, and the events to go on with.
+fn pass_over(skipped: usize, events: &[Event]) -> (usize, &[Event])
+    requires { skipped + length events.now < 2 ^ 64 }
+    ensures rows { (names : Names) (bytes : List ℕ) (leads : Target → LinkTexts) (in_link : Bool) (mode : AMode) (links : ℕ) →
+        rows_by names bytes leads in_link (place mode result.0 links) result.1.now ≡ rows_by names bytes leads in_link (place mode skipped links) events.now }
+    ensures targets { (names : Names) (bytes : List ℕ) (leads : Target → LinkTexts) →
+        targets_by names bytes leads result.1.now ≡ targets_by names bytes leads events.now }
+    ensures raws { (bytes : List ℕ) → raws_by bytes result.1.now ≡ raws_by bytes events.now }
+    ensures fits { result.0 + length result.1.now ≤ skipped + length events.now }
+    ensures shorter { length result.1.now ≤ length events.now }
+{
+    let mut depth = skipped;
+    let mut rest = events;
+    while let Some((event, after)) = rest.split_first() {
+        if depth == 0 {
+            return (depth, rest);
+        }
+        match event.kind {
+            Kind::Enter => {
+                if is_counted(event.name) {
+                    return (depth, rest);
+                }
+                depth += 1;
+            }
+            Kind::Exit => depth -= 1,
+        }
+        rest = after;
+    }
+    (depth, rest)
 }
 
 /// What the innermost event is whose children aren't skipped.
@@ -86,7 +124,7 @@ pub struct Place {
 
 impl Place {
     ghost use Rattle.std.specs.Prelude.{◌≡◌, ◌<◌, ◌+◌, ◌^◌, ◌≤◌};
-    ghost use Rattle.event_rows.specs.Places.{place, entered, entered_in, exited, exited_in};
+    ghost use Rattle.event_rows.specs.Places.{place, is_in_text, entered, entered_in, exited, exited_in};
     ghost use Rattle.event_rows.specs.declared.rows.Mode.TheVariants as modes;
 
     /// The start of a text.
@@ -98,6 +136,13 @@ impl Place {
             skipped: 0,
             links: 0,
         }
+    }
+
+    /// Whether an event that is entered here is a part of a text.
+    fn is_in_text(self) -> bool
+        ensures { result ≡ is_in_text self }
+    {
+        self.skipped == 0 && matches!(self.mode, Mode::Text)
     }
 
     /// The place after an event of this name is entered.
@@ -217,6 +262,14 @@ fn behind_text(name: Name, links: usize) -> Place
     }
 }
 
+/// Whether strings of an event of this name were read ahead: it is a link, an image, a call, or raw
+/// text.
+fn is_counted(name: Name) -> bool
+    ensures { result ≡ is_counted name }
+{
+    is_media(name) || name == Name::CodeText || name == Name::MathText
+}
+
 /// Whether the text of an event of this name has rows, between a row for its start and one for its
 /// end.
 fn is_around(name: Name) -> bool
@@ -249,8 +302,53 @@ impl<'a, A: Allocator + Clone> Walk<'a, A> {
     ghost use Rattle.event_rows.specs.Spelled.{Spelled, first_raw, first_target, raws_view};
     ghost use Rattle.inline_rows.specs.View.{rows_view};
 
-    /// The event is entered that the events begin with.
+    /// The event is entered that the events begin with. Most are skipped, or are data.
     fn enter<T: Tables>(
+        &mut self,
+        texts: &TextEvents<'a, T, A>,
+        strings: &'a SpelledStrings<A>,
+        name: Name,
+        events: &[Event],
+    ) -> Result<(), AllocError>
+        requires skipped { self.old.place.skipped + 1 < 2 ^ 64 }
+        requires links { self.old.place.links + 1 < 2 ^ 64 }
+        requires targets { self.old.targets + 1 < 2 ^ 64 }
+        requires raw_texts { self.old.raw_texts + 1 < 2 ^ 64 }
+        ensures place { self.new.place ≡ entered self.old.place name }
+        ensures skipped { self.new.place.skipped ≤ self.old.place.skipped + 1 }
+        ensures links { self.new.place.links ≤ self.old.place.links + 1 }
+        ensures targets { self.new.targets ≤ self.old.targets + 1 }
+        ensures raw_texts { self.new.raw_texts ≤ self.old.raw_texts + 1 }
+        ensures left { (leads : Target → LinkTexts) (at : ℕ → LinkTexts) (targets : List Spelled) (raws : List (List ℕ)) →
+            let names = T.reference_of texts.now.tables.now in
+            let bytes = texts.now.bytes.now in
+            let after = drop 1 events.now in
+            AreLeft at strings.now self.old (first_target names bytes leads name after targets) (first_raw bytes (sequence_of name) after raws) →
+            AreLeft at strings.now self.new targets raws }
+        ensures rows { (leads : Target → LinkTexts) (at : ℕ → LinkTexts) (targets : List Spelled) (raws : List (List ℕ)) →
+            let names = T.reference_of texts.now.tables.now in
+            let bytes = texts.now.bytes.now in
+            let after = drop 1 events.now in
+            AreLeft at strings.now self.old (first_target names bytes leads name after targets) (first_raw bytes (sequence_of name) after raws) →
+            OnOk result (rows_view at self.new.rows.items
+            ≡ rows_view at self.old.rows.items ++ enter_rows names bytes leads texts.now.linked self.old.place name events.now) }
+    {
+        if self.place.skipped != 0 && !is_counted(name) {
+            self.place.skipped += 1;
+            return Ok(());
+        }
+        if name == Name::Data && self.place.is_in_text() {
+            self.place.skipped = 1;
+            return push_row(
+                &mut self.rows,
+                InlineRow::Text(text_of(text_first(texts.bytes, events))),
+            );
+        }
+        self.enter_any(texts, strings, name, events)
+    }
+
+    /// The same, whatever the event is.
+    fn enter_any<T: Tables>(
         &mut self,
         texts: &TextEvents<'a, T, A>,
         strings: &'a SpelledStrings<A>,

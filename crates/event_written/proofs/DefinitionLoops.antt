@@ -1,11 +1,14 @@
 -- Definitions, event by event.
-use Rattle.std.proofs.Common.{◌≡◌, ◌<◌, ℕ, ◌+◌, Bool, true, false, if◌then◌else◌, List, [], ◌∷◌, ◌++◌, sym, ap, ◌∙◌, get_or, append_assoc, drop, length}
+use Rattle.std.proofs.Common.{◌≡◌, ◌<◌, ℕ, ◌+◌, Bool, true, false, ◌&&◌, if◌then◌else◌, List, [], ◌∷◌, ◌++◌, refl, sym, ap, ◌∙◌, get_or, append_assoc, drop, length}
+use Rattle.engine_events.specs.Names.{same_name}
 use Rattle.engine_events.specs.declared.event.Event.{Event}
+use Rattle.engine_events.specs.declared.event.Name.TheVariants as n
+use Rattle.event_references.specs.Texts.{is_enter}
 use Rattle.definition_inline.specs.CharacterReference.{Names}
 use Rattle.definition_inline.specs.Definition.{Definition}
 use Rattle.event_grammar.proofs.Runs.{no_event}
 use Rattle.event_references.proofs.Loops.{drop_next}
-use Rattle.event_written.specs.Definition.{HasDefinitions, starts_definition, definition_after, definitions_in}
+use Rattle.event_written.specs.Definition.{HasDefinitions, has_definition, starts_definition, definition_after, definitions_in}
 use Rattle.event_written.specs.declared.definition.Definitions.{Definitions}
 
 -- those before a place were read
@@ -39,3 +42,25 @@ module _ (names : Names) (bytes : List ℕ) (events : List Event) where
             ∙ ap (λ (z : List Definition). front ++ z) (sym (next_is i true l h))
             ∙ k,
       )
+
+-- ---- without a definition
+
+never : (a b : Bool) → b ≡ false → (a && b) ≡ false
+never true b h = h
+never false b h = refl
+
+no_first : (b c : Bool) → (if b then true else c) ≡ false → b ≡ false
+no_first true c h = h
+no_first false c h = refl
+
+no_rest : (b c : Bool) → (if b then true else c) ≡ false → c ≡ false
+no_rest true c h = absurd (let f : true ≡ false = h in cc)
+no_rest false c h = h
+
+pub none_defined : (names : Names) (bytes : List ℕ) (events : List Event) → has_definition events ≡ false → definitions_in names bytes events ≡ []
+none_defined names bytes [] h = refl
+none_defined names bytes (e ∷ es) h =
+    let b = same_name e.name n.Definition in
+    ap (λ (t : Bool). if t then definition_after names bytes es ∷ definitions_in names bytes es else definitions_in names bytes es)
+    (never (is_enter e.kind) b (no_first b (has_definition es) h))
+    ∙ none_defined names bytes es (no_rest b (has_definition es) h)

@@ -1,10 +1,6 @@
 -- Looseness by events, from the last on, is that of the tree.
 use Rattle.std.proofs.Common.{◌≡◌, ℕ, Bool, true, false, ◌&&◌, ◌||◌, if◌then◌else◌, List, [], ◌∷◌, ◌++◌, Option, None, Some, refl, sym, ap, ◌∙◌, append_assoc}
-use Rattle.std.specs.Prelude.{reverse}
-use Rattle.std.specs.List.{fold}
-use Rattle.std.proofs.lemmas.Grind.{reverse_onto}
 use Rattle.std.proofs.lemmas.List.{append-nil}
-use Rattle.std.proofs.lemmas.List.Sums.{fold_push}
 use Rattle.engine_events.specs.Names.{same_name}
 use Rattle.engine_events.specs.declared.event.Event.{Event}
 use Rattle.engine_events.specs.declared.event.Kind.{Kind}
@@ -189,11 +185,3 @@ module _ (bytes : List ℕ) where
   pub lists_law : (ns : Nodes) → AreNodes ns → (passed bytes pass_start (events_of ns)).lists ≡ loose_lists bytes ns
   lists_law ns k =
       ap (λ (p : PassView). p.lists) (passed_over ns k (new_level None) [] []) ∙ append-nil (loose_lists bytes ns)
-
-  -- the pass from the last event on
-  pub passed_backward : (p : PassView) (events : List Event) → fold (pass_event bytes) p (reverse events) ≡ passed bytes p events
-  passed_backward p [] = refl
-  passed_backward p (e ∷ es) =
-      ap (fold (pass_event bytes) p) (reverse_onto es e [])
-      ∙ fold_push (pass_event bytes) p (reverse es) e
-      ∙ ap (λ q. pass_event bytes q e) (passed_backward p es)

@@ -1,6 +1,6 @@
 -- Between two places in order, between characters, stands a text.
 use Rattle.std.proofs.Common.{◌≡◌, ◌<◌, ◌≤◌, ℕ, ◌+◌, ◌-◌, ◌==◌, Bool, true, false, ◌&&◌, ◌||◌, if◌then◌else◌, List, [], ◌∷◌, ◌++◌, drop, take, length, get_or}
-use Rattle.std.proofs.Common.{drop-cons, add-one, refl, sym, ap, ◌∙◌, subst, arith}
+use Rattle.std.proofs.Common.{drop-cons, lit<, add-one, refl, sym, ap, ◌∙◌, subst, arith}
 use Rattle.std.specs.Prelude.{nat_lt, nat_le, slice_index}
 use Rattle.std.specs.Str.{is_utf8}
 use Rattle.std.proofs.lemmas.List.{append-nil}
@@ -12,7 +12,7 @@ use Rattle.event_grammar.specs.Checks.{spot_of}
 use Rattle.event_grammar.specs.InGrammar.{PlacesFit}
 use Rattle.event_grammar.specs.Points.{edge, bytes_between, reaches, is_spot, is_column, column_at}
 use Rattle.event_grammar.specs.Trees.{Nodes, Around, Nil, Cons, events_of}
-use Rattle.event_grammar.proofs.PlaceLaws.{text_more, ascii_byte}
+use Rattle.event_written.proofs.Characters.{text_more, ascii_byte}
 use Rattle.event_references.proofs.TextLaw.{split}
 use Rattle.event_written.specs.Texts.{AreTexts}
 
@@ -40,7 +40,7 @@ module _ (bytes : List ℕ) where
       text_more bytes p.index (p.index + 1) u (omega arith)
       ∙ ap (λ (z : ℕ). is_utf8 (take z (drop p.index bytes))) one
       ∙ ap is_utf8 (byte_there p.index 9 parts.0 parts.1)
-      ∙ ascii_byte (9 ∷ []) refl
+      ∙ ascii_byte 9 (lit< tt)
 
   pub edge_text : (p : Spot) → is_spot bytes p ≡ true → is_utf8 (take (edge p) bytes) ≡ true
   edge_text p h =

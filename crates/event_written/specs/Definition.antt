@@ -1,5 +1,5 @@
 -- Link reference definitions, by events (CommonMark 4.7).
-use Rattle.std.specs.Prelude.{◌≡◌, ℕ, ◌&&◌, Bool, if◌then◌else◌, List, [], ◌∷◌, ◌++◌, Some, drop, map, string_bytes}
+use Rattle.std.specs.Prelude.{◌≡◌, ℕ, ◌&&◌, Bool, true, false, if◌then◌else◌, List, [], ◌∷◌, ◌++◌, Some, drop, map, string_bytes}
 use Rattle.engine_events.specs.Names.{same_name}
 use Rattle.engine_events.specs.declared.event.Event.{Event}
 use Rattle.engine_events.specs.declared.event.Name.TheVariants as n
@@ -33,6 +33,11 @@ raw_events events = drop 1 (from_child n.DefinitionDestinationString 0 (drop 1 (
 
 abbrev pub title_events : List Event → List Event
 title_events events = drop 1 (from_child n.DefinitionTitleString 0 (drop 1 (from_child n.DefinitionTitle 0 events)))
+
+-- whether a definition is among events
+abbrev pub has_definition : List Event → Bool
+has_definition [] = false
+has_definition (e ∷ es) = if same_name e.name n.Definition then true else has_definition es
 
 abbrev pub starts_definition : Event → Bool
 starts_definition e = is_enter e.kind && same_name e.name n.Definition

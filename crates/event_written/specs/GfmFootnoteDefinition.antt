@@ -104,6 +104,11 @@ abbrev pub notes_after : List ℕ → Notes → List Event → Notes
 notes_after bytes s [] = s
 notes_after bytes s (e ∷ es) = notes_after bytes (note_next e.kind e.name (label_codes bytes es) s) es
 
+-- whether a footnote definition is among events
+abbrev pub has_definition : List Event → Bool
+has_definition [] = false
+has_definition (e ∷ es) = if same_name e.name n.GfmFootnoteDefinition then true else has_definition es
+
 -- ---- what the code holds
 
 abbrev pub label_at : List ℕ → List Event → ℕ → List Code

@@ -1,5 +1,5 @@
 -- Which lists are loose: a pass over events from the last to the first (CommonMark 5.3).
-use Rattle.std.specs.Prelude.{ℕ, Bool, true, false, ◌&&◌, ◌||◌, if◌then◌else◌, List, [], ◌∷◌, ◌++◌, Option, None, Some, drop, reverse}
+use Rattle.std.specs.Prelude.{ℕ, zero, suc, Bool, true, false, ◌&&◌, ◌||◌, if◌then◌else◌, List, [], ◌∷◌, ◌++◌, Option, None, Some, drop, reverse}
 use Rattle.engine_events.specs.Names.{same_name}
 use Rattle.engine_events.specs.declared.event.Event.{Event}
 use Rattle.engine_events.specs.declared.event.Kind.{Kind}
@@ -14,6 +14,7 @@ use Rattle.event_grammar.specs.Checks.{spot_of}
 use Rattle.event_grammar.specs.Slots.{has}
 use Rattle.event_grammar.specs.Trees.{Node, Nodes, Around, Nil, Cons}
 use Rattle.event_written.specs.declared.list.Level.{Level}
+use Rattle.event_written.specs.declared.list.OpenLevel.{OpenLevel}
 use Rattle.event_written.specs.declared.list.Pass.{Pass}
 
 abbrev pub is_list : Name → Bool
@@ -92,5 +93,21 @@ passed bytes p (e ∷ es) = pass_event bytes (passed bytes p es) e
 
 -- ---- what the code holds
 
+-- so many levels of events that are neither lists nor items, which are all alike, before others
+abbrev pub nones : ℕ → List Level → List Level
+nones zero ls = ls
+nones (suc depth) ls = new_level None ∷ nones depth ls
+
+-- the levels that stand open in a list or an item, before those around it
+abbrev pub levels_of : OpenLevel → List Level → List Level
+levels_of o ls = nones o.depth (o.level ∷ ls)
+
+abbrev pub around : List OpenLevel → List Level
+around [] = []
+around (o ∷ others) = levels_of o (around others)
+
+abbrev pub levels_in : {A : Type 0} → Pass A → List Level
+levels_in p = levels_of p.inner (around (reverse p.outer.items))
+
 abbrev pub pass_view : {A : Type 0} → Pass A → PassView
-pass_view p = pass_at p.level (reverse p.outer.items) (reverse p.lists.items)
+pass_view p = pass_at (first_level (levels_in p)) (drop 1 (levels_in p)) (reverse p.lists.items)

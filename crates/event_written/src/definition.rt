@@ -12,7 +12,7 @@ ghost use Rattle.event_grammar.specs.References.{named};
 ghost use Rattle.event_grammar.specs.Trees.{Nodes, events_of, AreNodes};
 ghost use Rattle.event_grammar.specs.declared.spot.Spot.{Spot};
 ghost use Rattle.event_meaning.specs.Spelled.{definition_of};
-ghost use Rattle.event_written.specs.Definition.{HasDefinitions, definition_after, definitions_in, destination_written, label_string};
+ghost use Rattle.event_written.specs.Definition.{HasDefinitions, definition_after, definitions_in, destination_written, has_definition, label_string};
 ghost use Rattle.event_written.specs.Definition.{leads, literal_events, raw_events, starts_definition, target_view, title_written};
 
 use crate::child::{child, inside_child};
@@ -68,6 +68,9 @@ fn definitions_in<T: Tables, A: Allocator + Clone>(
     ensures { IfOk result (λ found. HasDefinitions found (definitions_in (T.reference_of tables.now) bytes.now events.now)) }
 {
     let mut found = Definitions::new(alloc.clone()?)?;
+    if !has_definition(events) {
+        return Ok(found);
+    }
     let mut label = Vec::new(alloc);
     for (index, event) in events.iter().enumerate() {
         if starts_definition(event) {
@@ -75,6 +78,18 @@ fn definitions_in<T: Tables, A: Allocator + Clone>(
         }
     }
     Ok(found)
+}
+
+/// Whether a definition is among events.
+fn has_definition(events: &[Event]) -> bool
+    ensures { result ≡ has_definition events.now }
+{
+    for event in events {
+        if event.name == Name::Definition {
+            return true;
+        }
+    }
+    false
 }
 
 /// Whether a definition begins.

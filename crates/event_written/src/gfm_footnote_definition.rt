@@ -14,7 +14,7 @@ ghost use Rattle.event_grammar.specs.Trees.{Nodes, events_of, AreNodes};
 ghost use Rattle.event_meaning.specs.Blocks.{blocks_of};
 ghost use Rattle.event_meaning.specs.Spelled.{footnotes};
 ghost use Rattle.event_references.specs.Views.{text_first};
-ghost use Rattle.event_written.specs.GfmFootnoteDefinition.{Notes, HasNotes, container_names, enter_content, enter_note, exit_note, first_held, has_begun};
+ghost use Rattle.event_written.specs.GfmFootnoteDefinition.{Notes, HasNotes, container_names, enter_content, enter_note, exit_note, first_held, has_begun, has_definition};
 ghost use Rattle.event_written.specs.GfmFootnoteDefinition.{holder_view, holder_views, label_at, label_codes, label_string, new_held, start_name, the_document};
 
 use crate::child::{child, inside_child};
@@ -115,6 +115,9 @@ pub fn footnote_labels<A: Allocator + Clone>(
     ensures { (names : Names) (top : Bool) (ns : Nodes) → AreNodes ns → events.now ≡ events_of ns →
         IfOk result (λ table. HasLabels table (footnotes (blocks_of names bytes.now top ns))) }
 {
+    if !has_definition(events) {
+        return LabelTable::new(alloc);
+    }
     let mut walk = Walk {
         labels: LabelTable::new(alloc.clone()?)?,
         count: 0,
@@ -131,6 +134,18 @@ pub fn footnote_labels<A: Allocator + Clone>(
     }
     let Walk { labels, .. } = walk;
     Ok(labels)
+}
+
+/// Whether a footnote definition is among events.
+fn has_definition(events: &[Event]) -> bool
+    ensures { result ≡ has_definition events.now }
+{
+    for event in events {
+        if event.name == Name::GfmFootnoteDefinition {
+            return true;
+        }
+    }
+    false
 }
 
 impl<A: Allocator + Clone> Walk<A> {

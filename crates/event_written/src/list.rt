@@ -2,13 +2,14 @@
 //!
 //! A list is loose if two neighbouring items are more than a line apart, or two neighbouring blocks
 //! of an item. The events are passed from the last to the first, so that no list is read again for
-//! the lists around it.
-ghost use Rattle.std.specs.Prelude.{◌≡◌, List, ℕ, IfOk, OnOk, drop, reverse};
+//! the lists around it. Of events that are neither lists nor items only the number is kept.
+ghost use Rattle.std.specs.Prelude.{◌≡◌, ◌<◌, ◌+◌, ◌^◌, ◌||◌, ◌∷◌, List, ℕ, IfOk, OnOk, drop, reverse};
 ghost use Rattle.event_grammar.specs.Checks.{spot_of};
 ghost use Rattle.event_grammar.specs.Trees.{Nodes, events_of, AreNodes};
 ghost use Rattle.engine_events.specs.declared.event.Kind.TheVariants as kinds;
-ghost use Rattle.event_written.specs.List.{before_enter, before_exit, compared_in, compares, is_before, is_list, first_level, loose_lists, new_level};
-ghost use Rattle.event_written.specs.List.{pass_event, pass_next, pass_view};
+ghost use Rattle.event_written.specs.declared.list.Level.{Level as ALevel};
+ghost use Rattle.event_written.specs.List.{around, before_enter, before_exit, compared_in, compares, is_before, is_list, first_level, levels_in, levels_of};
+ghost use Rattle.event_written.specs.List.{loose_lists, new_level, pass_event, pass_next, pass_view};
 
 use engine_events::event::{Event, Kind, Name};
 use event_check::loose::is_apart;
@@ -30,12 +31,20 @@ pub struct Level {
     loose: bool,
 }
 
+/// A list or an item that is open behind a place, or the whole list of events.
+#[derive(Clone, Copy)]
+pub struct OpenLevel {
+    level: Level,
+    /// How many events are open in it, none of them a list or an item.
+    depth: usize,
+}
+
 /// A pass over events from the last to the first.
 #[derive(Drop)]
 struct Pass<A: Allocator> {
-    level: Level,
-    /// The levels around it, the innermost last.
-    outer: Vec<Level, A>,
+    inner: OpenLevel,
+    /// The lists and items around it, the innermost last.
+    outer: Vec<OpenLevel, A>,
     /// Whether the lists that were passed are loose, that of the first enter last.
     lists: Vec<bool, A>,
 }
@@ -51,12 +60,12 @@ pub fn loose_lists<A: Allocator + Clone>(
     ensures { (ns : Nodes) → AreNodes ns → events.now ≡ events_of ns → IfOk result (λ lists. reverse lists.items ≡ loose_lists bytes.now ns) }
 {
     let mut pass = Pass {
-        level: Level::new(None),
+        inner: OpenLevel::new(None),
         outer: Vec::new(alloc.clone()?),
         lists: Vec::new(alloc),
     };
-    for event in events.iter().rev() {
-        pass.event(bytes, event)?;
+    for index in (0..events.len()).rev() {
+        pass.event(bytes, &events[index])?;
     }
     let Pass { lists, .. } = pass;
     Ok(lists)
@@ -65,6 +74,7 @@ pub fn loose_lists<A: Allocator + Clone>(
 impl<A: Allocator> Pass<A> {
     /// One event more, before the others.
     fn event(&mut self, bytes: &[u8], event: &Event) -> Result<(), AllocError>
+        requires { self.old.inner.depth + 1 < 2 ^ 64 }
         ensures { OnOk result (pass_view self.new ≡ pass_event bytes.now (pass_view self.old) event.now) }
     {
         let at = spot_of(event);
@@ -77,36 +87,124 @@ impl<A: Allocator> Pass<A> {
 
     /// The exit of an event.
     fn exit(&mut self, bytes: &[u8], name: Name, at: Spot) -> Result<(), AllocError>
+        requires { self.old.inner.depth + 1 < 2 ^ 64 }
         ensures { OnOk result (pass_view self.new ≡ pass_next bytes.now kinds.Exit name at (pass_view self.old)) }
     {
-        self.outer.push(self.level.before_exit(bytes, name, at))?;
-        self.level = Level::new(compared_in(name));
+        if self.inner.depth != 0 && compared_in(name).is_none() {
+            self.inner.depth += 1;
+            return Ok(());
+        }
+        let inner = self.inner.before_exit(bytes, name, at);
+        match compared_in(name) {
+            None => self.inner = inner.deeper(),
+            Some(child) => {
+                self.outer.push(inner)?;
+                self.inner = OpenLevel::new(Some(child));
+            }
+        }
         Ok(())
     }
 
-    /// The enter of the event that the level is in.
+    /// The enter of the innermost event that is open.
     fn enter(&mut self, name: Name, at: Spot) -> Result<(), AllocError>
         ensures { (bytes : List ℕ) → OnOk result (pass_view self.new ≡ pass_next bytes kinds.Enter name at (pass_view self.old)) }
     {
-        if is_list(name) {
-            self.lists.push(self.level.apart || self.level.loose)?;
+        if self.inner.depth > 1 && !is_list(name) {
+            self.inner.depth -= 1;
+            return Ok(());
         }
-        let apart = self.level.apart;
-        self.level = self.leave().before_enter(name, at, apart);
+        if is_list(name) {
+            self.lists.push(self.inner.is_loose())?;
+        }
+        let apart = self.inner.is_apart();
+        self.inner = self.leave().before_enter(name, at, apart);
         Ok(())
     }
 
-    /// The level around the innermost one.
-    fn leave(&mut self) -> Level
-        ensures level { result ≡ first_level (reverse self.old.outer.items) }
-        ensures outer { reverse self.new.outer.items ≡ drop 1 (reverse self.old.outer.items) }
-        ensures inner { self.new.level ≡ self.old.level }
+    /// What is open around the innermost event.
+    fn leave(&mut self) -> OpenLevel
+        ensures level { first_level (levels_of result (around (reverse self.new.outer.items))) ≡ first_level (drop 1 (levels_in self.old)) }
+        ensures outer { drop 1 (levels_of result (around (reverse self.new.outer.items))) ≡ drop 1 (drop 1 (levels_in self.old)) }
+        ensures inner { self.new.inner ≡ self.old.inner }
         ensures lists { self.new.lists ≡ self.old.lists }
     {
-        match self.outer.pop() {
-            Some(level) => level,
-            None => Level::new(None),
+        if self.inner.depth != 0 {
+            return OpenLevel {
+                level: self.inner.level,
+                depth: self.inner.depth - 1,
+            };
         }
+        match self.outer.pop() {
+            Some(outer) => outer,
+            None => OpenLevel::new(None),
+        }
+    }
+}
+
+impl OpenLevel {
+    /// Nothing of it was passed.
+    fn new(child: Option<Child>) -> OpenLevel
+        ensures level { result.level ≡ new_level child }
+        ensures depth { result.depth ≡ 0 }
+    {
+        OpenLevel {
+            level: Level::new(child),
+            depth: 0,
+        }
+    }
+
+    /// With one event more that is open.
+    fn deeper(self) -> OpenLevel
+        requires { self.depth + 1 < 2 ^ 64 }
+        ensures level { result.level ≡ self.level }
+        ensures depth { result.depth ≡ self.depth + 1 }
+    {
+        OpenLevel {
+            level: self.level,
+            depth: self.depth + 1,
+        }
+    }
+
+    /// Before the exit of an event in the innermost one that is open.
+    fn before_exit(self, bytes: &[u8], name: Name, at: Spot) -> OpenLevel
+        ensures levels { (ls : List ALevel) → levels_of result ls ≡ before_exit bytes.now name at (first_level (levels_of self ls)) ∷ drop 1 (levels_of self ls) }
+        ensures depth { result.depth ≡ self.depth }
+    {
+        if self.depth != 0 {
+            return self;
+        }
+        OpenLevel {
+            level: self.level.before_exit(bytes, name, at),
+            depth: 0,
+        }
+    }
+
+    /// Before the enter of an event in the innermost one that is open, of which some two blocks are
+    /// more than a line apart or aren't.
+    fn before_enter(self, name: Name, at: Spot, apart: bool) -> OpenLevel
+        ensures { (ls : List ALevel) → levels_of result ls ≡ before_enter name at apart (first_level (levels_of self ls)) ∷ drop 1 (levels_of self ls) }
+    {
+        if self.depth != 0 {
+            return self;
+        }
+        OpenLevel {
+            level: self.level.before_enter(name, at, apart),
+            depth: 0,
+        }
+    }
+
+    /// Whether some two neighbours in the innermost event are more than a line apart.
+    fn is_apart(self) -> bool
+        ensures { (ls : List ALevel) → result ≡ (first_level (levels_of self ls)).apart }
+    {
+        self.depth == 0 && self.level.apart
+    }
+
+    /// Whether the innermost event is a list that is loose.
+    fn is_loose(self) -> bool
+        ensures { (ls : List ALevel) → result ≡ ((first_level (levels_of self ls)).apart || (first_level (levels_of self ls)).loose) }
+    {
+        self.depth == 0 && (self.level.apart || self.level.loose)
     }
 }
 

@@ -6,9 +6,9 @@ use Rattle.event_grammar.specs.References.{leads, media_names}
 use Rattle.event_grammar.proofs.Runs.{no_event}
 use Rattle.event_references.specs.Texts.{texts_of}
 use Rattle.event_references.specs.Views.{media_view}
-use Rattle.event_references.proofs.Loops.{enter_on, exit_on, exit_media, exit_other}
+use Rattle.event_references.proofs.Loops.{enter_on, exit_on, exit_media, exit_other, skip}
 use Rattle.event_references.proofs.lost.first_lost.Goals as goal
-use Rattle.event_references.proofs.lost.first_lost.Goals.{in-Enter+in_ok-enter-in-Enter, in-Exit+then-contains+in_ok-leads-in-Exit+else-not-branch, in-Exit+else-contains}
+use Rattle.event_references.proofs.lost.first_lost.Goals.{then-is_media_or_part+in-Enter+in_ok-enter-in-Enter, then-is_media_or_part+in-Exit+then-is_media+in_ok-leads-in-Exit+else-not-branch, then-is_media_or_part+in-Exit+else-is_media, else-is_media_or_part}
 
 pub returns-then-not-branch : goal.returns-then-not-branch
 returns-then-not-branch g c =
@@ -21,11 +21,11 @@ returns-then-not-branch g c =
     let m = media_view bytes events c.loop-index.open.inner in
     let ms = map (media_view bytes events) (reverse c.loop-index.open.outer.items) in
     sym (exit_media bytes links footnotes events i m ms false c.loop-index-test.true c.in-Exit.is
-    (sym c.contains.ensures.value ∙ c.if-contains.true)
+    (sym c.is_media.ensures ∙ c.if-is_media.true)
     (ap (leads links footnotes e.name) (sym (c.label-label.ensures bytes events))
-    ∙ sym (c.in_ok-leads-in-Exit.ensures links footnotes c.in_ok-label_table.ensures c.in_ok-label_table-2.ensures)
+    ∙ sym c.in_ok-leads-in-Exit.ensures.found
     ∙ c.if-not-branch.true))
-    ∙ c.loop-index.invariant
+    ∙ c.loop-index.invariant.rest
 
 pub loop-index-preserved : goal.loop-index-preserved
 loop-index-preserved g c =
@@ -37,21 +37,39 @@ loop-index-preserved g c =
     let e = get_or events i no_event in
     let v = media_view bytes events in
     let old = c.loop-index.open in
-    elim c.match-event.branch [
-      | in-Enter+in_ok-enter-in-Enter w ↦ rw w.open-is
-          (enter_on bytes links footnotes events v (is_listed media_names e.name) i old.inner w.enter.new.self.inner old.outer.items w.enter.new.self.outer.items
-          refl c.loop-index-test.true w.in-Enter.is (w.in_ok-enter-in-Enter.ensures.media bytes events) (w.in_ok-enter-in-Enter.ensures.other bytes events)
-          ∙ c.loop-index.invariant)
-      | in-Exit+then-contains+in_ok-leads-in-Exit+else-not-branch w ↦ rw w.open-is
-          (exit_on bytes links footnotes events v i old.inner w.leave.new.self.inner old.outer.items w.leave.new.self.outer.items
-          c.loop-index-test.true w.in-Exit.is (sym w.contains.ensures.value ∙ w.if-contains.true)
-          (ap (leads links footnotes e.name) (sym (w.label-label.ensures bytes events))
-          ∙ sym (w.in_ok-leads-in-Exit.ensures links footnotes c.in_ok-label_table.ensures c.in_ok-label_table-2.ensures)
-          ∙ w.if-not-branch.false)
-          (w.leave.ensures.inner bytes events) w.leave.ensures.outer
-          ∙ c.loop-index.invariant)
-      | in-Exit+else-contains w ↦ rw w.open-is
-          (sym (exit_other bytes links footnotes events i (v old.inner) (map v (reverse old.outer.items)) c.loop-index-test.true w.in-Exit.is
-          (sym w.contains.ensures.value ∙ w.if-contains.false))
-          ∙ c.loop-index.invariant)
+    elim c.if-is_media_or_part.branch [
+      | then-is_media_or_part+in-Enter+in_ok-enter-in-Enter w ↦ rw (w.open-is, w.definitions-is)
+          (record {
+            rest = enter_on bytes links footnotes events v (is_listed media_names e.name) i old.inner w.enter.new.self.inner old.outer.items w.enter.new.self.outer.items
+                refl c.loop-index-test.true w.in-Enter.is (w.in_ok-enter-in-Enter.ensures.media bytes events) (w.in_ok-enter-in-Enter.ensures.other bytes events)
+                ∙ c.loop-index.invariant.rest;
+            links = c.loop-index.invariant.links;
+            footnotes = c.loop-index.invariant.footnotes;
+          })
+      | then-is_media_or_part+in-Exit+then-is_media+in_ok-leads-in-Exit+else-not-branch w ↦ rw (w.open-is, w.definitions-is)
+          (record {
+            rest = exit_on bytes links footnotes events v i old.inner w.leave.new.self.inner old.outer.items w.leave.new.self.outer.items
+                c.loop-index-test.true w.in-Exit.is (sym w.is_media.ensures ∙ w.if-is_media.true)
+                (ap (leads links footnotes e.name) (sym (w.label-label.ensures bytes events)) ∙ sym w.in_ok-leads-in-Exit.ensures.found ∙ w.if-not-branch.false)
+                (w.leave.ensures.inner bytes events) w.leave.ensures.outer
+                ∙ c.loop-index.invariant.rest;
+            links = w.leads.ensures.links;
+            footnotes = w.leads.ensures.footnotes;
+          })
+      | then-is_media_or_part+in-Exit+else-is_media w ↦ rw (w.open-is, w.definitions-is)
+          (record {
+            rest = sym (exit_other bytes links footnotes events i (v old.inner) (map v (reverse old.outer.items)) c.loop-index-test.true w.in-Exit.is
+                (sym w.is_media.ensures ∙ w.if-is_media.false))
+                ∙ c.loop-index.invariant.rest;
+            links = c.loop-index.invariant.links;
+            footnotes = c.loop-index.invariant.footnotes;
+          })
+      | else-is_media_or_part w ↦ rw (w.open-is, w.definitions-is)
+          (record {
+            rest = sym (skip bytes links footnotes events i (v old.inner) (map v (reverse old.outer.items)) c.loop-index-test.true
+                (sym c.is_media_or_part.ensures ∙ w.if-is_media_or_part.false))
+                ∙ c.loop-index.invariant.rest;
+            links = c.loop-index.invariant.links;
+            footnotes = c.loop-index.invariant.footnotes;
+          })
     ]

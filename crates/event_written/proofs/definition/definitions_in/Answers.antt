@@ -2,7 +2,7 @@ use Rattle.std.proofs.Common.{◌∙◌, ◌+◌, ◌++◌, ◌∷◌, [], sym, 
 use Rattle.std.proofs.lemmas.List.{take_rest}
 use Rattle.engine_events.specs.declared.event.Event.{Event}
 use Rattle.event_written.specs.Definition.{HasDefinitions, definition_after}
-use Rattle.event_written.proofs.DefinitionLoops.{front_same, front_more}
+use Rattle.event_written.proofs.DefinitionLoops.{front_same, front_more, none_defined}
 use Rattle.event_written.proofs.definition.definitions_in.Goals as goal
 use Rattle.event_written.proofs.definition.definitions_in.Goals.{then-starts_definition+in_ok-read, else-starts_definition}
 
@@ -22,3 +22,10 @@ loop-index-preserved g c =
       | else-starts_definition w ↦ rw w.found-is
           (front_same names bytes events i c.loop-index.found c.loop-index-test.true (sym c.starts_definition.ensures ∙ w.if-starts_definition.false) before)
     ]
+
+pub returns-then-not-has_definition : goal.returns-then-not-has_definition
+returns-then-not-has_definition g c =
+    subst (HasDefinitions c.in_ok-found.found)
+    (sym (none_defined (g.T.Tables.reference_of c.args.tables.now) c.args.bytes.now c.args.events.now
+    (sym c.has_definition.ensures ∙ c.if-not-has_definition.true)))
+    c.in_ok-found.ensures

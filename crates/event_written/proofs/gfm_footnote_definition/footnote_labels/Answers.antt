@@ -1,10 +1,13 @@
-use Rattle.std.proofs.Common.{◌∙◌, ap, refl, subst, arith, List}
+use Rattle.std.proofs.Common.{◌∙◌, ap, refl, sym, subst, arith, List}
+use Rattle.std.specs.Prelude.{IfOk}
+use Rattle.definition_text.specs.Columns.{Code}
 use Rattle.engine_events.specs.declared.event.Event.{Event}
 use Rattle.engine_events.specs.declared.event.Kind.TheVariants as kinds
 use Rattle.inline_labels.specs.Table.{HasLabels}
 use Rattle.event_written.specs.GfmFootnoteDefinition.{holder_views, notes_after}
 use Rattle.event_written.proofs.FootnoteLaw.{footnotes_law}
 use Rattle.event_written.proofs.FootnoteLoops.{start_notes, knows_more, knows_all}
+use Rattle.event_written.proofs.NoFootnotes.{no_footnotes}
 use Rattle.event_written.proofs.gfm_footnote_definition.footnote_labels.Goals as goal
 use Rattle.event_written.proofs.gfm_footnote_definition.footnote_labels.Goals.{in-Enter+in_ok-enter-in-Enter, in-Exit+in_ok-exit-in-Exit}
 
@@ -21,7 +24,7 @@ loop-index-init g c =
           has_labels = c.in_ok-new.ensures;
           counted = refl;
           inner = c.document.ensures bytes events;
-          outer = ap (holder_views bytes events) c.new-2.ensures.items;
+          outer = ap (holder_views bytes events) c.new-3.ensures.items;
           skipped = refl;
         },
         refl,
@@ -61,3 +64,12 @@ returns g c = λ names top ns nodes is.
     subst (HasLabels c.loop-index.walk.labels)
     (ap (λ (es : List Event). (notes_after bytes start_notes es).ended) is ∙ footnotes_law names bytes top ns nodes)
     (knows_all bytes events c.loop-index.index c.loop-index.walk (omega (arith, c.loop-index-test.false)) c.loop-index.invariant.known)
+
+pub returns-then-not-has_definition : goal.returns-then-not-has_definition
+returns-then-not-has_definition g c = λ names top ns nodes is.
+    let bytes = c.args.bytes.now in
+    subst (λ (ended : List (List Code)). IfOk c.new.result (λ table. HasLabels table ended))
+    (sym (no_footnotes bytes c.args.events.now (sym c.has_definition.ensures ∙ c.if-not-has_definition.true))
+    ∙ ap (λ (es : List Event). (notes_after bytes start_notes es).ended) is
+    ∙ footnotes_law names bytes top ns nodes)
+    c.new.ensures

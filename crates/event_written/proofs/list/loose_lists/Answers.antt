@@ -1,20 +1,26 @@
-use Rattle.std.proofs.Common.{◌≡◌, ap, ◌∙◌, map, reverse}
-use Rattle.std.specs.List.{fold}
-use Rattle.std.proofs.lemmas.Iterator.Adapters.{YieldsList-from_rev_slice}
-use Rattle.std.proofs.lemmas.Iterator.Consumers.{YieldsList-end}
-use Rattle.event_written.specs.List.{PassView, pass_start, pass_event, passed}
-use Rattle.event_written.proofs.ListLaw.{passed_backward, lists_law}
+use Rattle.std.proofs.Common.{◌≡◌, ◌∙◌, ℕ, ap, arith, drop}
+use Rattle.std.specs.Prelude.{reverse}
+use Rattle.std.proofs.lemmas.List.{length-drop}
+use Rattle.event_written.specs.List.{PassView, around, pass_start, passed}
+use Rattle.event_written.proofs.ListLaw.{lists_law}
+use Rattle.event_written.proofs.OpenLevels.{depth_fits}
 use Rattle.event_written.proofs.list.loose_lists.Goals as goal
+
+pub event-requires : goal.event-requires
+event-requires g c =
+    let p = c.loop-index.pass in
+    let events = c.args.events.now in
+    let i = c.loop-index.index in
+    let h = depth_fits c.args.bytes.now p.inner (around (reverse p.outer.items)) (reverse p.lists.items) (drop i events) c.loop-index.invariant in
+    let d = length-drop i events in
+    omega (arith, h, d, c.loop-index-test.true)
 
 pub returns : goal.returns
 returns g c = λ ns nodes is.
     let bytes = c.args.bytes.now in
-    let events = c.args.events.now in
-    let all : map (λ y. y.now) c.loop-event.yielded ≡ reverse events =
-    (YieldsList-end (YieldsList-from_rev_slice events cc) c.loop-event.yielded _ c.loop-event.yielded_by _ _ c.in-None.is c.next.ensures.steps).0 in
+    let none : c.loop-index.index ≡ 0 = omega (arith, c.loop-index-test.false) in
     ap (λ (p : PassView). p.lists)
-    (c.loop-event.invariant
-    ∙ ap (fold (pass_event bytes) pass_start) all
-    ∙ passed_backward bytes pass_start events
+    (c.loop-index.invariant
+    ∙ ap (λ (k : ℕ). passed bytes pass_start (drop k c.args.events.now)) none
     ∙ ap (passed bytes pass_start) is)
     ∙ lists_law bytes ns nodes

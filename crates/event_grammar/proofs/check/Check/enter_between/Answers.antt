@@ -1,0 +1,11 @@
+use Rattle.std.proofs.Common.{◌∙◌, refl, sym}
+use Rattle.std.specs.Prelude.{map, reverse}
+use Rattle.event_grammar.specs.CheckViews.{open_view}
+use Rattle.event_grammar.proofs.Leaves.{stands}
+use Rattle.event_grammar.proofs.check.Check.enter_between.Goals as goal
+
+pub returns-clause-moved : goal.returns-clause-moved
+returns-clause-moved g c =
+    let old = c.args.self.now in
+    stands old.leaf (open_view old.inner) (map open_view (reverse old.outer.items)) old.spot c.args.at c.args.name old.inner.last _ c.requires.leaf
+    c.requires.barred c.requires.taken (sym c.stands_between.ensures ∙ c.if-not-stands_between.false) refl c.in_ok-push.ensures.moved
