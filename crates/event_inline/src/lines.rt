@@ -9,6 +9,13 @@ use event_lines::cut::bytes_from;
 use inline_leaves::line_ending::ending_at;
 use std::alloc::{AllocError, Allocator};
 use text_bytes::white_size;
+use text_search::{BytePair, next_of};
+
+/// The bytes that begin an ending: LF and CR.
+const ENDS: BytePair = BytePair {
+    first: b'\n',
+    second: b'\r',
+};
 
 /// Bytes by a name, and the endings between their lines. White space after an ending may stand apart.
 pub(crate) fn push_lines<A: Allocator>(
@@ -57,10 +64,5 @@ fn push_line<A: Allocator>(
 
 /// How many bytes come before the first LF or CR.
 fn line_size(bytes: &[u8]) -> usize {
-    for (i, byte) in bytes.iter().enumerate() {
-        if matches!(*byte, b'\n' | b'\r') {
-            return i;
-        }
-    }
-    bytes.len()
+    next_of(bytes, ENDS)
 }

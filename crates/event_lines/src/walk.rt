@@ -62,7 +62,7 @@ impl<'a, A: Allocator + Clone> Walk<'a, A> {
             ending: None,
             open: Vec::new(alloc.clone()?),
             quotes_end: 0,
-            out: Output::new(alloc),
+            out: Output::new(alloc, size)?,
             place: 0,
             line_place: 0,
             line_start: at(0),

@@ -1,34 +1,20 @@
 -- Events, and what is open after them.
-use Rattle.std.proofs.Common.{◌≡◌, ℕ, List, [], ◌∷◌, ◌++◌, true, if◌then◌else◌, refl, ap, ◌∙◌, map, get_or, set}
+use Rattle.std.proofs.Common.{◌≡◌, List, [], ◌∷◌, ◌++◌, true, if◌then◌else◌, refl, ap, ◌∙◌, map}
 use Rattle.std.specs.List.{fold}
 use Rattle.std.proofs.lemmas.List.{map-append}
 use Rattle.std.proofs.lemmas.List.Sums.{fold-append}
-use Rattle.std.proofs.Math.Seq.{map-set_same}
 use denote.Enum.Bare.{true_same}
 use Rattle.engine_events.specs.Names.{same_name}
 use Rattle.engine_events.specs.contracts.event.Name.{the_type}
-use Rattle.engine_events.specs.declared.event.Kind.TheVariants as kind
 use Rattle.engine_events.specs.declared.event.Name.{Name}
 use Rattle.engine_events.specs.declared.event.Event.{Event}
-use Rattle.event_output.specs.Open.{Mark, Entered, Exited, closed, mark_as, mark_of, then_mark, unmatched}
+use Rattle.event_output.specs.Open.{Mark, Entered, Exited, closed, mark_of, then_mark, unmatched}
 
 pub unmatched_append : (es fs : List Event) → unmatched (es ++ fs) ≡ fold then_mark (unmatched es) (map mark_of fs)
 unmatched_append es fs = ap (fold then_mark []) (map-append mark_of es fs) ∙ fold-append then_mark [] (map mark_of es) (map mark_of fs)
 
-pub unmatched_set : (es : List Event) (i : ℕ) (e d : Event) → mark_of e ≡ mark_of (get_or es i d) → unmatched (set es i e) ≡ unmatched es
-unmatched_set es i e d same = ap (fold then_mark []) (map-set_same mark_of es i e d same)
-
 pub marked_one : (es : List Event) (e : Event) (m : Mark) → mark_of e ≡ m → unmatched (es ++ e ∷ []) ≡ then_mark (unmatched es) m
 marked_one es e m is = unmatched_append es (e ∷ []) ∙ ap (then_mark (unmatched es)) is
-
--- one event more
-pub entered_one : (es : List Event) (e : Event) (name : Name) → e.kind ≡ kind.Enter → e.name ≡ name
-    → unmatched (es ++ e ∷ []) ≡ Entered name ∷ unmatched es
-entered_one es e name is_enter is_name = marked_one es e (Entered name) (ap (λ k. mark_as k e.name) is_enter ∙ ap Entered is_name)
-
-pub exited_one : (es : List Event) (e : Event) (name : Name) → e.kind ≡ kind.Exit → e.name ≡ name
-    → unmatched (es ++ e ∷ []) ≡ closed name (unmatched es)
-exited_one es e name is_exit is_name = marked_one es e (Exited name) (ap (λ k. mark_as k e.name) is_exit ∙ ap Exited is_name)
 
 -- the exit of what was entered last
 pub same_self : (name : Name) → same_name name name ≡ true

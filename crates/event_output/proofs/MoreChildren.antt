@@ -1,24 +1,17 @@
 -- Events that may stand where they do, and more of them.
-use Rattle.std.proofs.Common.{◌≡◌, ℕ, List, [], ◌∷◌, ◌++◌, true, refl, ap, ◌∙◌, map, get_or, set}
+use Rattle.std.proofs.Common.{◌≡◌, List, [], ◌∷◌, ◌++◌, true, refl, ap, ◌∙◌, map}
 use Rattle.std.specs.List.{fold}
 use Rattle.std.proofs.lemmas.Bool.{and_from, and_parts}
 use Rattle.std.proofs.lemmas.List.{map-append}
-use Rattle.std.proofs.Math.Seq.{map-set_same}
-use Rattle.engine_events.specs.declared.event.Kind.TheVariants as kind
-use Rattle.engine_events.specs.declared.event.Name.{Name}
 use Rattle.engine_events.specs.declared.event.Name.TheVariants as n
 use Rattle.engine_events.specs.declared.event.Event.{Event}
-use Rattle.event_output.specs.Open.{Mark, Entered, Exited, mark_as, mark_of, then_mark, unmatched}
+use Rattle.event_output.specs.Open.{Mark, Entered, Exited, mark_of, then_mark, unmatched}
 use Rattle.event_output.specs.Children.{HaveChildren, are_children, may_enter, may_follow, may_hold}
 use Rattle.event_output.proofs.Classes.{enters_in}
 use Rattle.event_output.proofs.Marks.{marked_one}
 
-pub no_children : (es : List Event) → es ≡ [] → HaveChildren es
-unfolding are_children
-no_children es none = ap (λ x. are_children [] (map mark_of x)) none
-
 -- one more
-marked_child : (marks ms : List Mark) (m : Mark) → are_children marks ms ≡ true → may_follow (fold then_mark marks ms) m ≡ true
+pub marked_child : (marks ms : List Mark) (m : Mark) → are_children marks ms ≡ true → may_follow (fold then_mark marks ms) m ≡ true
     → are_children marks (ms ++ m ∷ []) ≡ true
 unfolding are_children
 marked_child marks [] m are may = and_from (may_follow marks m) true may refl
@@ -30,17 +23,6 @@ one_child : (es : List Event) (e : Event) (m : Mark) → mark_of e ≡ m → Hav
 one_child es e m is have may =
     ap (are_children []) (map-append mark_of es (e ∷ []))
     ∙ marked_child [] (map mark_of es) (mark_of e) have (ap (may_follow (unmatched es)) is ∙ may)
-
-pub entered_child : (es : List Event) (e : Event) (name : Name) → e.kind ≡ kind.Enter → e.name ≡ name → HaveChildren es
-    → may_enter (unmatched es) name ≡ true → HaveChildren (es ++ e ∷ [])
-entered_child es e name is_enter is_name = one_child es e (Entered name) (ap (λ k. mark_as k e.name) is_enter ∙ ap Entered is_name)
-
-pub exited_child : (es : List Event) (e : Event) (name : Name) → e.kind ≡ kind.Exit → e.name ≡ name → HaveChildren es → HaveChildren (es ++ e ∷ [])
-exited_child es e name is_exit is_name have =
-    one_child es e (Exited name) (ap (λ k. mark_as k e.name) is_exit ∙ ap Exited is_name) have refl
-
-pub set_child : (es : List Event) (i : ℕ) (e d : Event) → mark_of e ≡ mark_of (get_or es i d) → HaveChildren es → HaveChildren (set es i e)
-set_child es i e d same have = ap (are_children []) (map-set_same mark_of es i e d same) ∙ have
 
 -- a paragraph of data
 data_in : may_hold n.Paragraph n.Data ≡ true

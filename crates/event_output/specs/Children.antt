@@ -2,7 +2,6 @@
 use Rattle.std.specs.Prelude.{◌≡◌, Bool, true, false, ◌||◌, ◌&&◌, List, [], ◌∷◌, ◌++◌, map}
 use Rattle.std.specs.List.{list_all, list_any}
 use Rattle.engine_events.specs.declared.event.Name.{Name}
-use Rattle.engine_events.specs.declared.event.Name.TheVariants as n
 use Rattle.engine_events.specs.declared.event.Event.{Event}
 use Rattle.event_grammar.specs.declared.slot.Between.TheVariants.{Lines}
 use Rattle.event_grammar.specs.declared.slot.Form.{Form}

@@ -1,5 +1,5 @@
 -- Places in a text, byte by byte (CommonMark 2.1 and 2.2).
-use Rattle.std.specs.Prelude.{ℕ, ◌+◌, ◌*◌, ◌≤◌, Bool, true, false, ◌&&◌, if◌then◌else◌, ◌==◌, List, length, nat_le, nat_lt}
+use Rattle.std.specs.Prelude.{◌≡◌, ℕ, ◌+◌, ◌*◌, ◌≤◌, ◌<◌, Bool, true, false, ◌&&◌, if◌then◌else◌, ◌==◌, List, length, nat_le, nat_lt, slice_index}
 use Rattle.std.specs.List.{fold}
 use Rattle.engine_events.specs.Columns.{between, column_after, mark_size}
 use Rattle.engine_events.specs.declared.place.Point.{Point}
@@ -27,6 +27,10 @@ spot_at text index s = fold (next_spot (mark_size text)) s (between s.index inde
 -- a byte that takes one column and ends no line, whatever else it is
 abbrev pub is_plain : ℕ → Bool
 is_plain b = nat_le 32 b
+
+-- the bytes between two places are of this kind
+abbrev pub ArePlain : List ℕ → ℕ → ℕ → Type 0
+ArePlain text from to = (k : ℕ) → from ≤ k → k < to → is_plain (slice_index text k) ≡ true
 
 -- after so many of these
 abbrev pub after_plain : Spot → ℕ → Spot

@@ -2,39 +2,52 @@
 ghost use Rattle.std.specs.Prelude.{◌≡◌, ◌<◌, ◌^◌, ◌∷◌, [], IfOk, IsTrue, OnOk, length, true};
 ghost use Rattle.event_output.specs.Placed.{ArePlaced};
 ghost use Rattle.engine_events.specs.declared.event.Name.TheVariants.{Data, Paragraph};
-ghost use Rattle.event_output.specs.Open.{Entered, Exited, closed, mark_of, unmatched};
+ghost use Rattle.event_output.specs.Drafts.{AreChildren, draft_marks};
+ghost use Rattle.event_output.specs.Open.{Entered, Exited, closed, unmatched};
 ghost use Rattle.event_output.specs.Children.{HaveChildren, may_enter};
 
+use crate::draft::Draft;
 use crate::end::{End, at};
-use crate::points::set_points;
+use crate::points::push_events;
+use engine_events::Event;
 use engine_events::event::Name;
-use engine_events::{Event, Kind, Point};
 use std::alloc::{AllocError, Allocator};
+
+/// How many bytes of text a draft mostly has at least.
+const DRAFT_BYTES: usize = 4;
 
 /// The events so far, and the place that they have come to.
 ///
-/// Until `finish`, a point has the index and the columns that are owed, and no line and column. Each
-/// event that is entered may stand in the one around it.
+/// Until `finish`, events are drafts, without a line and a column. Each event that is entered may stand
+/// in the one around it.
 #[derive(Drop)]
 pub struct Output<A: Allocator> {
+    drafts: Vec<Draft, A>,
+    /// Room for the events; there are none before `finish`.
     events: Vec<Event, A>,
     end: End,
-    ghost children: { HaveChildren events.items },
+    ghost children: { AreChildren drafts.items },
+    ghost empty: { events.items ≡ [] },
+}
+
+impl<A: Allocator + Clone> Output<A> {
+    ghost use Rattle.event_output.specs.Written.{open_in};
+
+    /// No events, at the start of a text of a size, with room for the drafts that such a text mostly has.
+    #[tactic(auto, using(crate::proofs::Drafted::no_children))]
+    pub fn new(alloc: A, size: usize) -> Result<Output<A>, AllocError>
+        ensures open { IfOk result (λ output. open_in output ≡ []) }
+    {
+        Ok(Output {
+            drafts: Vec::with_capacity(alloc.clone()?, size / DRAFT_BYTES)?,
+            events: Vec::new(alloc),
+            end: at(0),
+        })
+    }
 }
 
 impl<A: Allocator> Output<A> {
     ghost use Rattle.event_output.specs.Written.{open_in};
-
-    /// No events, at the start of a text.
-    #[tactic(auto, using(crate::proofs::MoreChildren::no_children))]
-    pub fn new(alloc: A) -> Output<A>
-        ensures open { open_in result ≡ [] }
-    {
-        Output {
-            events: Vec::new(alloc),
-            end: at(0),
-        }
-    }
 
     /// Where it is.
     pub fn end(&self) -> End {
@@ -42,28 +55,26 @@ impl<A: Allocator> Output<A> {
     }
 
     /// Something begins here.
-    #[tactic(auto, using(crate::proofs::Marks::entered_one, crate::proofs::MoreChildren::entered_child))]
+    #[tactic(auto, using(crate::proofs::Drafted::entered_one, crate::proofs::Drafted::entered_child))]
     pub fn enter(&mut self, name: Name) -> Result<(), AllocError>
         requires child { may_enter (open_in self.old) name ≡ true }
         ensures open { OnOk result (open_in self.new ≡ Entered name ∷ open_in self.old) }
     {
-        let event = event_at(Kind::Enter, name, self.end);
-        self.events.push(event)?;
+        self.drafts.push(Draft::Enter(name))?;
         Ok(())
     }
 
     /// Something ends here.
-    #[tactic(auto, using(crate::proofs::Marks::exited_one, crate::proofs::MoreChildren::exited_child))]
+    #[tactic(auto, using(crate::proofs::Drafted::exited_one, crate::proofs::Drafted::exited_child))]
     pub fn exit(&mut self, name: Name) -> Result<(), AllocError>
         ensures open { OnOk result (open_in self.new ≡ closed name (open_in self.old)) }
     {
-        let event = event_at(Kind::Exit, name, self.end);
-        self.events.push(event)?;
+        self.drafts.push(Draft::Exit(name))?;
         Ok(())
     }
 
     /// What holds no other, up to a place. Nothing of no size.
-    #[tactic(auto, using(crate::proofs::Marks::closed_same))]
+    #[tactic(auto, using(crate::proofs::Drafted::void_one, crate::proofs::Drafted::void_child))]
     pub fn token(&mut self, name: Name, end: End) -> Result<(), AllocError>
         requires child { may_enter (open_in self.old) name ≡ true }
         ensures open { OnOk result (open_in self.new ≡ open_in self.old) }
@@ -71,22 +82,22 @@ impl<A: Allocator> Output<A> {
         if end == self.end {
             return Ok(());
         }
-        self.enter(name)?;
         self.end = end;
-        self.exit(name)
+        self.drafts.push(draft_to(name, end))?;
+        Ok(())
     }
 
     /// Data up to a place, as one with data that ends here.
-    #[tactic(auto, using(crate::proofs::Marks::unmatched_set, crate::proofs::MoreChildren::set_child))]
+    #[tactic(auto, using(crate::proofs::Drafted::unmatched_set, crate::proofs::Drafted::set_child))]
     pub fn data(&mut self, end: End) -> Result<(), AllocError>
         requires child { may_enter (open_in self.old) Data ≡ true }
         ensures open { OnOk result (open_in self.new ≡ open_in self.old) }
     {
-        let count = self.events.len();
-        if count == 0 || !ends_data(self.events[count - 1]) {
+        let count = self.drafts.len();
+        if count == 0 || !is_data(self.drafts[count - 1]) {
             return self.token(Name::Data, end);
         }
-        self.events[count - 1] = event_at(Kind::Exit, Name::Data, end);
+        self.drafts[count - 1] = draft_to(Name::Data, end);
         self.end = end;
         Ok(())
     }
@@ -99,28 +110,30 @@ impl<A: Allocator> Output<A> {
         ensures children { IfOk result (λ events. HaveChildren events.items) }
         ensures open { IfOk result (λ events. unmatched events.items ≡ open_in self) }
     {
-        let Output { events, .. } = self;
-        set_points(text, events)
+        let Output { drafts, events, .. } = self;
+        let mut events = events;
+        push_events(text, &drafts, &mut events)?;
+        Ok(events)
     }
 }
 
-/// An event without a line and a column.
-fn event_at(kind: Kind, name: Name, end: End) -> Event
-    ensures kind { result.kind ≡ kind }
-    ensures name { result.name ≡ name }
+/// What holds no other, up to a place.
+fn draft_to(name: Name, end: End) -> Draft
+    ensures { draft_marks result ≡ Entered name ∷ Exited name ∷ [] }
 {
-    let point = Point {
-        line: 1,
-        column: 1,
+    Draft::Void {
+        name,
+        owed: end.owed,
         index: end.index,
-        vs: end.owed,
-    };
-    Event::new(kind, name, point, None)
+    }
 }
 
-/// Whether data ends.
-fn ends_data(event: Event) -> bool
-    ensures { IsTrue result → mark_of event ≡ Exited Data }
+/// Whether it is data.
+fn is_data(draft: Draft) -> bool
+    ensures { IsTrue result → draft_marks draft ≡ Entered Data ∷ Exited Data ∷ [] }
 {
-    event.name == Name::Data && event.kind == Kind::Exit
+    match draft {
+        Draft::Void { name, .. } => name == Name::Data,
+        _ => false,
+    }
 }

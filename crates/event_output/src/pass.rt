@@ -1,11 +1,23 @@
 //! From one place of a text to a later one (CommonMark 2.1 and 2.2).
 ghost use Rattle.std.specs.Prelude.{◌≡◌, ◌+◌, ◌*◌, ◌<◌, ◌≤◌, ◌^◌, length};
-ghost use Rattle.std.specs.List.{fold, list_all};
+ghost use Rattle.std.specs.List.{fold, prefix_len};
 ghost use Rattle.engine_events.specs.Columns.{mark_size};
-ghost use Rattle.event_output.specs.Spots.{IsIn, after_plain, is_plain, next_spot, spot_at};
+ghost use Rattle.event_output.specs.Spots.{ArePlain, IsIn, after_plain, is_plain, next_spot, spot_at};
 
 use crate::spot::Spot;
 use engine_events::place::column_after;
+use text_search::{ByteSet, next_of};
+
+/// The bytes that may end a line or be a tab: those before a space.
+const CONTROLS: ByteSet = ByteSet {
+    first: [0, 1, 2, 3, 4, 5, 6, 7, 8, 9, 10, 11, 12, 13, 14, 15],
+    second: [
+        16, 17, 18, 19, 20, 21, 22, 23, 24, 25, 26, 27, 28, 29, 30, 31,
+    ],
+};
+
+/// No byte order mark is longer.
+pub(crate) const MARK_MAX: usize = 3;
 
 /// After one more byte. Those of a byte order mark have no columns.
 fn pass(mark: usize, spot: Spot, byte: u8) -> Spot
@@ -51,9 +63,33 @@ fn pass(mark: usize, spot: Spot, byte: u8) -> Spot
     }
 }
 
-/// After the bytes up to an index.
-pub(crate) fn pass_to(text: &[u8], spot: Spot, index: usize) -> Spot
+/// Where bytes end that take one column each and end no line: those from an index on. They are looked at
+/// only if the index is after the end that is known.
+#[inline(always)]
+pub(crate) fn plain_end(text: &[u8], index: usize, known: usize) -> usize
+    requires within { index ≤ length text.now }
+    requires known { ArePlain text.now index known }
+    ensures { ArePlain text.now index result }
+{
+    if index <= known {
+        known
+    } else {
+        index + plain_size(&text[index..])
+    }
+}
+
+/// How many bytes of this kind come first.
+fn plain_size(bytes: &[u8]) -> usize
+    ensures size { result ≡ prefix_len is_plain bytes.now }
+    ensures within { result ≤ length bytes.now }
+{
+    next_of(bytes, CONTROLS)
+}
+
+/// After the bytes up to an index. Those before `plain` take one column each and end no line.
+pub(crate) fn pass_to(text: &[u8], plain: usize, spot: Spot, index: usize) -> Spot
     requires fits { length text.now < 2 ^ 61 }
+    requires plain { ArePlain text.now spot.index plain }
     requires within { index ≤ length text.now }
     requires after { spot.index ≤ index }
     requires place { IsIn text.now spot }
@@ -61,20 +97,11 @@ pub(crate) fn pass_to(text: &[u8], spot: Spot, index: usize) -> Spot
     ensures index { result.index ≡ index }
     ensures place { IsIn text.now result }
 {
-    let mark = mark_size(text);
-    let bytes = &text[spot.index..index];
-    if mark <= spot.index && are_plain(bytes) {
-        pass_plain(spot, bytes.len())
+    if index <= plain && MARK_MAX <= spot.index {
+        pass_plain(spot, index - spot.index)
     } else {
-        pass_all(mark, spot, bytes)
+        pass_all(mark_size(text), spot, &text[spot.index..index])
     }
-}
-
-/// Whether all bytes take one column each and end no line.
-fn are_plain(bytes: &[u8]) -> bool
-    ensures { result ≡ list_all is_plain bytes.now }
-{
-    bytes.iter().all(|byte| b' ' <= *byte)
 }
 
 /// After so many bytes of this kind.

@@ -1,161 +1,136 @@
 //! The points of events (CommonMark 2.2).
 //!
-//! Each event gets the point where the one before it is. Only an exit right after the enter of the
+//! Each event has the point where the one before it is. Only an exit right after the enter of the
 //! same name, of what holds no other, is further on.
-ghost use Rattle.std.specs.Prelude.{◌≡◌, ◌+◌, ◌<◌, ◌≤◌, ◌^◌, ◌∷◌, ◌++◌, [], List, IfOk, OnOk, length, map, None, true};
-ghost use Rattle.engine_events.specs.declared.event.Event.{Event as EventOf};
-ghost use Rattle.event_output.specs.Spots.{IsIn, start};
-ghost use Rattle.event_output.specs.Tokens.{GoesOn, IsPlace, IsWhole, place, point_at};
-ghost use Rattle.event_output.specs.Placed.{ArePlaced, Exits, IsTold, told, told_event};
-ghost use Rattle.engine_events.specs.Events.{event};
+ghost use Rattle.std.specs.Prelude.{◌≡◌, ◌+◌, ◌*◌, ◌<◌, ◌≤◌, ◌^◌, ◌++◌, [], OnOk, length, map, None, true, vec_capacity, vec_len};
 ghost use Rattle.engine_events.specs.declared.event.Name.TheVariants.{Paragraph};
-ghost use Rattle.event_output.specs.Open.{mark_of, unmatched};
+ghost use Rattle.engine_events.specs.Events.{event};
 ghost use Rattle.event_output.specs.Children.{HaveChildren, may_enter};
+ghost use Rattle.event_output.specs.Drafts.{AreChildren, draft_marks, marks_of, unmatched_in};
+ghost use Rattle.event_output.specs.Open.{mark_of, unmatched};
+ghost use Rattle.event_output.specs.Placed.{ArePlaced, IsTold, beginning};
+ghost use Rattle.event_output.specs.Spots.{ArePlain};
+ghost use Rattle.event_output.specs.Tokens.{GoesOn, IsPlace, IsWhole, place, point_at};
 
-use crate::pass::pass_to;
+use crate::draft::Draft;
+use crate::pass::{MARK_MAX, pass_to, plain_end};
 use crate::spot::{Place, Spot};
 use engine_events::event::Name;
 use engine_events::place::tab_size;
 use engine_events::{Event, Kind, Point};
 use std::alloc::{AllocError, Allocator};
 
-/// What events have come to.
-#[derive(Clone, Copy)]
-pub struct Told {
-    pub place: Place,
-    /// What the last event enters, if it enters something.
-    pub entered: Option<Name>,
-}
-
-/// Gives events their points in a text. What they leave of it at its end becomes a paragraph.
-pub(crate) fn set_points<A: Allocator>(
+/// Adds the events of drafts, with their points in a text. What they leave of it at its end becomes a
+/// paragraph.
+pub(crate) fn push_events<A: Allocator>(
     text: &[u8],
-    written: Vec<Event, A>,
-) -> Result<Vec<Event, A>, AllocError>
+    drafts: &[Draft],
+    events: &mut Vec<Event, A>,
+) -> Result<(), AllocError>
     requires fits { length text.now < 2 ^ 61 }
-    requires children { HaveChildren written.items }
-    requires child { may_enter (unmatched written.items) Paragraph ≡ true }
-    ensures placed { IfOk result (λ events. ArePlaced text.now events.items) }
-    ensures children { IfOk result (λ events. HaveChildren events.items) }
-    ensures open { IfOk result (λ events. unmatched events.items ≡ unmatched written.items) }
+    requires none { events.old.items ≡ [] }
+    requires children { AreChildren drafts.now }
+    requires child { may_enter (unmatched_in drafts.now) Paragraph ≡ true }
+    ensures placed { OnOk result (ArePlaced text.now events.new.items) }
+    ensures children { OnOk result (HaveChildren events.new.items) }
+    ensures open { OnOk result (unmatched events.new.items ≡ unmatched_in drafts.now) }
 {
-    let mut events = written;
-    let told = set_all(text, &mut events);
-    push_rest(text, told, &mut events)?;
-    Ok(events)
+    let Some(count) = drafts.len().checked_mul(2) else {
+        return Err(AllocError);
+    };
+    events.reserve_exact(count)?;
+    let place = push_drafts(text, drafts, events);
+    push_rest(text, place, events)
 }
 
-/// Gives events their points. Answers what they come to.
+/// Adds the events of drafts, for which there is room. Returns where they end.
+#[inline(never)]
 #[tactic(auto, using(crate::proofs::TokenLists::nothing_told))]
-fn set_all<A: Allocator>(text: &[u8], events: &mut Vec<Event, A>) -> Told
+fn push_drafts<A: Allocator>(text: &[u8], drafts: &[Draft], events: &mut Vec<Event, A>) -> Place
     requires fits { length text.now < 2 ^ 61 }
-    ensures place { IsPlace text.now result.place }
+    requires none { events.old.items ≡ [] }
+    requires room { 2 * length drafts.now ≤ vec_capacity events.old }
+    ensures place { IsPlace text.now result }
     ensures told { IsTold text.now events.new.items result }
-    ensures marks { map mark_of events.new.items ≡ map mark_of events.old.items }
+    ensures marks { map mark_of events.new.items ≡ marks_of drafts.now }
 {
-    let mut told = Told::new();
-    let count = events.len();
-    for i in 0..count {
-        let event = events[i];
-        told = told.next(text, event);
-        events[i] = told.event(event);
+    let mut place = START;
+    let mut plain = 0;
+    for draft in drafts {
+        push_draft(text, &mut plain, &mut place, *draft, events);
     }
-    told
+    place
+}
+
+/// Adds the events of a draft at a place, for which there is room. The place is where they end then.
+#[inline(always)]
+fn push_draft<A: Allocator>(
+    text: &[u8],
+    plain: &mut usize,
+    place: &mut Place,
+    draft: Draft,
+    events: &mut Vec<Event, A>,
+)
+    requires fits { length text.now < 2 ^ 61 }
+    requires place { IsPlace text.now place.old }
+    requires plain { ArePlain text.now place.old.spot.index plain.old }
+    requires told { IsTold text.now events.old.items place.old }
+    requires room { vec_len events.old + 2 ≤ vec_capacity events.old }
+    ensures place { IsPlace text.now place.new }
+    ensures plain { ArePlain text.now place.new.spot.index plain.new }
+    ensures told { IsTold text.now events.new.items place.new }
+    ensures marks { map mark_of events.new.items ≡ map mark_of events.old.items ++ draft_marks draft }
+    ensures len { vec_len events.new ≤ vec_len events.old + 2 }
+    ensures capacity { vec_capacity events.new ≡ vec_capacity events.old }
+{
+    match draft {
+        Draft::Enter(name) => events.push_reserved(place.event(Kind::Enter, name)),
+        Draft::Exit(name) => events.push_reserved(place.event(Kind::Exit, name)),
+        Draft::Void { name, owed, index } => {
+            events.push_reserved(place.event(Kind::Enter, name));
+            place.pass(text, plain, index, owed);
+            events.push_reserved(place.event(Kind::Exit, name));
+        }
+    }
 }
 
 /// A paragraph of data up to the end of the text, unless the events end there.
 #[tactic(auto, using(crate::proofs::TokenLists::all_placed, crate::proofs::TokenLists::rest_placed, crate::proofs::Marks::two_more, crate::proofs::MoreChildren::rest_children))]
 fn push_rest<A: Allocator>(
     text: &[u8],
-    told: Told,
+    place: Place,
     events: &mut Vec<Event, A>,
 ) -> Result<(), AllocError>
     requires fits { length text.now < 2 ^ 61 }
-    requires place { IsPlace text.now told.place }
-    requires told { IsTold text.now events.old.items told }
+    requires place { IsPlace text.now place }
+    requires told { IsTold text.now events.old.items place }
     requires children { HaveChildren events.old.items }
     requires child { may_enter (unmatched events.old.items) Paragraph ≡ true }
     ensures placed { OnOk result (ArePlaced text.now events.new.items) }
     ensures open { OnOk result (unmatched events.new.items ≡ unmatched events.old.items) }
     ensures children { OnOk result (HaveChildren events.new.items) }
 {
-    if told.place.spot.index == text.len() {
+    if place.spot.index == text.len() {
         return Ok(());
     }
-    let end = told.place.pass_to(text, text.len(), 0);
-    events.push(told.place.event(Kind::Enter, Name::Paragraph))?;
-    events.push(told.place.event(Kind::Enter, Name::Data))?;
+    let end = place.pass_to(text, place.spot.index, text.len(), 0);
+    events.push(place.event(Kind::Enter, Name::Paragraph))?;
+    events.push(place.event(Kind::Enter, Name::Data))?;
     events.push(end.event(Kind::Exit, Name::Data))?;
     events.push(end.event(Kind::Exit, Name::Paragraph))?;
     Ok(())
 }
 
-impl Told {
-    /// No events were told.
-    fn new() -> Told
-        ensures { result ≡ told (place start 0) None }
-    {
-        Told {
-            place: Place {
-                spot: Spot {
-                    line: 1,
-                    column: 1,
-                    index: 0,
-                    returned: false,
-                },
-                vs: 0,
-            },
-            entered: None,
-        }
-    }
-
-    /// An event of the kind and name of this one here.
-    fn event(self, event: Event) -> Event
-        requires { self.place.spot.column ≤ 2 ^ 63 + 1 }
-        ensures { result ≡ told_event self event }
-    {
-        self.place.event(event.kind, event.name)
-    }
-
-    /// After the next event, which was written at an index where columns of a tab are owed.
-    fn next(self, text: &[u8], event: Event) -> Told
-        requires fits { length text.now < 2 ^ 61 }
-        requires place { IsPlace text.now self.place }
-        ensures place { IsPlace text.now result.place }
-        ensures told { (es : List EventOf) → IsTold text.now es self → IsTold text.now (es ++ told_event result event ∷ []) result }
-    {
-        match event.kind {
-            Kind::Enter => Told {
-                place: self.place,
-                entered: Some(event.name),
-            },
-            Kind::Exit => Told {
-                place: self.exit_place(text, event),
-                entered: None,
-            },
-        }
-    }
-
-    /// Where an exit is: further on if it is right after the enter of its name.
-    fn exit_place(self, text: &[u8], event: Event) -> Place
-        requires fits { length text.now < 2 ^ 61 }
-        requires place { IsPlace text.now self.place }
-        ensures place { IsPlace text.now result }
-        ensures exits { Exits text.now self event.name result }
-    {
-        match self.entered {
-            Some(name) => {
-                if name == event.name {
-                    let point = event.point();
-                    self.place.pass_to(text, point.index, point.vs)
-                } else {
-                    self.place
-                }
-            }
-            None => self.place,
-        }
-    }
-}
+/// The start of a text.
+pub(crate) const START: Place = Place {
+    spot: Spot {
+        line: 1,
+        column: 1,
+        index: 0,
+        returned: false,
+    },
+    vs: 0,
+};
 
 impl Place {
     /// Its point.
@@ -172,18 +147,44 @@ impl Place {
     }
 
     /// An event here.
-    fn event(self, kind: Kind, name: Name) -> Event
+    pub(crate) fn event(self, kind: Kind, name: Name) -> Event
         requires { self.spot.column ≤ 2 ^ 63 + 1 }
         ensures { result ≡ event kind name (point_at self) None }
     {
         Event::new(kind, name, self.point(), None)
     }
 
+    /// Goes to an index of a text, before so many columns of the tab there, if that is further on. The
+    /// bytes from the place up to `plain` take one column each and end no line.
+    #[inline(always)]
+    fn pass(&mut self, text: &[u8], plain: &mut usize, index: usize, owed: u8)
+        requires fits { length text.now < 2 ^ 61 }
+        requires place { IsPlace text.now self.old }
+        requires plain { ArePlain text.now self.old.spot.index plain.old }
+        ensures place { IsPlace text.now self.new }
+        ensures goes_on { GoesOn text.now self.old self.new }
+        ensures plain { ArePlain text.now self.new.spot.index plain.new }
+    {
+        let from = self.spot.index;
+        if owed == 0 && MARK_MAX <= from && from < index && index <= *plain {
+            self.spot.column += index - from;
+            self.spot.index = index;
+            self.spot.returned = false;
+            self.vs = 0;
+        } else {
+            *self = self.pass_to(text, *plain, index, owed);
+            *plain = plain_end(text, self.spot.index, *plain);
+        }
+    }
+
     /// The place at an index of a text, before so many columns of the tab there, if it is further on.
+    /// The bytes up to `plain` take one column each and end no line.
+    #[inline(never)]
     #[tactic(auto, using(crate::proofs::TokenLists::stays))]
-    fn pass_to(self, text: &[u8], index: usize, owed: u8) -> Place
+    pub(crate) fn pass_to(self, text: &[u8], plain: usize, index: usize, owed: u8) -> Place
         requires fits { length text.now < 2 ^ 61 }
         requires place { IsPlace text.now self }
+        requires plain { ArePlain text.now self.spot.index plain }
         ensures place { IsPlace text.now result }
         ensures goes_on { GoesOn text.now self result }
         ensures index { length text.now ≤ index → result.spot.index ≡ length text.now }
@@ -200,7 +201,7 @@ impl Place {
                 self
             };
         }
-        let spot = pass_to(text, self.spot, to);
+        let spot = pass_to(text, plain, self.spot, to);
         Place {
             spot,
             vs: columns_before(text, spot, owed),

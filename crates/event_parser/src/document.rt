@@ -3,6 +3,7 @@ ghost use Rattle.std.specs.Prelude.{◌≡◌, ◌≤◌, [], IfErr, IfOk, false
 ghost use Rattle.markdown_options.specs.Mdx.{has_mdx};
 ghost use Rattle.markdown_options.specs.Messages.{IsOutOfMemory};
 ghost use Rattle.block_rows.specs.Rows.{rows_size};
+ghost use Rattle.event_check.specs.Matches.{MatchesGrammar};
 ghost use Rattle.event_output.specs.Placed.{ArePlaced};
 ghost use Rattle.event_output.specs.Children.{HaveChildren, holds_blocks};
 ghost use Rattle.event_lines.specs.Open.{still_open};
@@ -10,6 +11,7 @@ ghost use Rattle.event_parser.specs.Nested.{IsNested};
 ghost use Rattle.event_parser.specs.Labels.{definition_labels, footnote_labels, text_blocks};
 ghost use Rattle.event_parser.specs.State.{IsReadBy, definitions_of, footnotes_of};
 
+use crate::in_grammar::in_grammar;
 use crate::labels::Labels;
 use crate::parser::Parser;
 use crate::state::ParseState;
@@ -46,6 +48,7 @@ pub fn parse<'a, T: Tables, A: Allocator + Clone>(
     ensures placed { IfOk result (λ parsed. ArePlaced value.now parsed.0.items) }
     ensures nested { IfOk result (λ parsed. IsNested parsed.0.items) }
     ensures children { IfOk result (λ parsed. HaveChildren parsed.0.items) }
+    ensures grammar { IfOk result (λ parsed. MatchesGrammar (T.reference_of tables.now) value.now parsed.0.items) }
     ensures read_by { IfOk result (λ parsed. IsReadBy parsed.1 options.now tables.now value.now) }
     ensures definitions { IfOk result (λ parsed. definitions_of parsed.1 ≡ definition_labels (text_blocks options.now.constructs value.now)) }
     ensures footnotes { IfOk result (λ parsed. footnotes_of parsed.1 ≡ footnote_labels (text_blocks options.now.constructs value.now)) }
@@ -67,6 +70,7 @@ fn parse_text<'a, T: Tables, A: Allocator + Clone>(
     ensures placed { IfOk result (λ parsed. ArePlaced value.now parsed.0.items) }
     ensures nested { IfOk result (λ parsed. IsNested parsed.0.items) }
     ensures children { IfOk result (λ parsed. HaveChildren parsed.0.items) }
+    ensures grammar { IfOk result (λ parsed. MatchesGrammar (T.reference_of tables.now) value.now parsed.0.items) }
     ensures read_by { IfOk result (λ parsed. IsReadBy parsed.1 options.now tables.now value.now) }
     ensures definitions { IfOk result (λ parsed. definitions_of parsed.1 ≡ definition_labels (text_blocks options.now.constructs value.now)) }
     ensures footnotes { IfOk result (λ parsed. footnotes_of parsed.1 ≡ footnote_labels (text_blocks options.now.constructs value.now)) }
@@ -75,8 +79,9 @@ fn parse_text<'a, T: Tables, A: Allocator + Clone>(
     let BlockRows { rows, pieces } = block_rows(alloc.clone()?, before, text, &options.constructs)?;
     let labels = Labels::of_rows(alloc.clone()?, &rows, &pieces)?;
     let walk = begin(alloc.clone()?, value, before, text, options)?;
-    let walk = push_blocks(alloc, walk, options, tables, &rows, &pieces)?;
-    let events = walk.into_output().finish(value.as_bytes())?;
+    let walk = push_blocks(alloc.clone()?, walk, options, tables, &rows, &pieces)?;
+    let written = walk.into_output().finish(value.as_bytes())?;
+    let events = in_grammar(alloc, written, value, tables)?;
     let Labels {
         definitions,
         footnotes,

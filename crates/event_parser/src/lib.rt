@@ -2,6 +2,7 @@
 #![tactic(auto)]
 
 pub mod document;
+pub mod in_grammar;
 pub mod labels;
 pub mod opened;
 pub mod parser;

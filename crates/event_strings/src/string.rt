@@ -15,6 +15,15 @@ use inline_leaves::line_ending::ending_at;
 use markdown_options::{Constructs, Tables};
 use std::alloc::{AllocError, Allocator};
 use text_bytes::white_size;
+use text_search::{ByteSet, next_of};
+
+/// The bytes in which something may begin: a backslash, `&`, LF, CR, a space and a tab.
+const STARTS: ByteSet = ByteSet {
+    first: [
+        b' ', 2, 3, 4, 5, 6, b'&', 8, 9, b'\t', b'\n', 12, b'\\', b'\r', 15, 0,
+    ],
+    second: [1, 2, 3, 4, 5, 6, 7, 8, 9, 10, 11, 12, 13, 14, 15, 0],
+};
 
 /// A string, which comes next in a content.
 pub fn push_string<T: Tables, A: Allocator>(
@@ -98,10 +107,5 @@ fn push_data<A: Allocator>(walk: &mut Walk<'_, A>, bytes: &[u8]) -> Result<usize
 
 /// How many bytes come before the first in which something may begin.
 fn data_size(bytes: &[u8]) -> usize {
-    for (i, byte) in bytes.iter().enumerate() {
-        if matches!(*byte, b'\\' | b'&' | b'\n' | b'\r' | b' ' | b'\t') {
-            return i;
-        }
-    }
-    bytes.len()
+    next_of(bytes, STARTS)
 }

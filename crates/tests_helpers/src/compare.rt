@@ -6,6 +6,7 @@ ghost use Rattle.markdown_options.specs.Mdx.{HasNoMdx};
 ghost use Rattle.markdown_definition.specs.Html.{html};
 ghost use Rattle.markdown_tables.specs.Builtin.{builtin_tables};
 
+use crate::events::prints_by_events;
 use crate::failures::answers_failures;
 use crate::heaps::prints_in_growing_heaps;
 use crate::laws::broken_law;
@@ -16,9 +17,9 @@ use markdown::{
 };
 use std::alloc::Global;
 
-/// The first text whose page isn't the one that stands beside it, by either call, in heaps of every size and where a
-/// request for memory, a read or a write fails, or which breaks a law: isn't safe under safe options, or isn't that of the
-/// text quoted, listed, escaped or with other line endings.
+/// The first text whose page isn't the one beside it: by either call, by its events, in heaps of every size, or where a
+/// request for memory, a read or a write fails. Or the first that breaks a law: isn't safe under safe options, or isn't
+/// that of the text quoted, listed, escaped or with other line endings.
 pub fn first_wrong<'a>(
     alloc: Global,
     rows: &[(&'a str, &str)],
@@ -36,8 +37,8 @@ pub fn first_wrong<'a>(
     Ok(None)
 }
 
-/// Whether a text's page is this one, by either call, in heaps of every size and where a request for memory, a read or a
-/// write fails, and keeps the laws. Then it is the page of the definition.
+/// Whether a text's page is this one, by either call, by its events, in heaps of every size and where a request for
+/// memory, a read or a write fails, and keeps the laws. Then it is the page of the definition.
 fn is_right(alloc: Global, text: &str, want: &str, options: &Options) -> Result<bool, RunError>
     requires { HasNoMdx options.now }
     ensures { IfOk result (λ right. right ≡ true → html builtin_tables text.now options.now ≡ want.now) }
@@ -50,7 +51,8 @@ fn is_right(alloc: Global, text: &str, want: &str, options: &Options) -> Result<
         return Ok(false);
     }
     Ok(
-        runs_to(alloc, text, want, options)?
+        prints_by_events(alloc, text, want, options)
+            && runs_to(alloc, text, want, options)?
             && prints_in_growing_heaps(alloc, text, want, options)?
             && answers_refusals(alloc, text, want, options)?
             && answers_failures(alloc, text, want, options)

@@ -2,6 +2,7 @@
 #![tactic(auto)]
 
 mod compare;
+mod events;
 mod failures;
 mod heaps;
 mod laws;

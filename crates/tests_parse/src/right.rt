@@ -1,21 +1,17 @@
 //! Texts whose events must be right.
 ghost use Rattle.std.specs.Prelude.{◌≡◌, false};
-ghost use Rattle.markdown_options.specs.Mdx.{has_mdx};
+ghost use Rattle.markdown_options.specs.Mdx.{HasNoMdx, has_mdx};
 
 use crate::options::{every, extended};
 use crate::texts::{MARK, VARIANTS};
 use crate::wrong::{Wrong, wrong_of};
-use markdown_options::{Message, ParseOptions};
+use markdown_options::{CompileOptions, Message, Options, ParseOptions};
 use std::alloc::Global;
 use std::process::Abort;
 
 /// What is wrong with the events of a text, or of one of its variants.
-fn wrong_variant(
-    alloc: Global,
-    text: &str,
-    options: &ParseOptions,
-) -> Result<Option<Wrong>, Message>
-    requires { has_mdx options.now.constructs ≡ false }
+fn wrong_variant(alloc: Global, text: &str, options: &Options) -> Result<Option<Wrong>, Message>
+    requires { HasNoMdx options.now }
 {
     for variant in VARIANTS {
         let changed = variant.of(alloc, text)?;
@@ -30,9 +26,9 @@ fn wrong_variant(
 fn first_wrong<'a>(
     alloc: Global,
     texts: &'a str,
-    options: &ParseOptions,
+    options: &Options,
 ) -> Result<Option<(&'a str, Wrong)>, Message>
-    requires { has_mdx options.now.constructs ≡ false }
+    requires { HasNoMdx options.now }
 {
     for text in texts.split_terminator(MARK) {
         if let Some(wrong) = wrong_variant(alloc, text, options)? {
@@ -44,19 +40,30 @@ fn first_wrong<'a>(
 
 /// Fails, and shows the first text, if the events of one of these are wrong, as it is or as a variant, by any of four options.
 pub(crate) fn assert_right(rt: &(impl AllocGlobal + Abort), texts: &str) -> Result<(), Message> {
-    assert_right_by(rt, texts, ParseOptions::default())?;
-    assert_right_by(rt, texts, ParseOptions::gfm())?;
-    assert_right_by(rt, texts, extended())?;
-    assert_right_by(rt, texts, every())
+    assert_right_by(rt, texts, Options::default())?;
+    assert_right_by(rt, texts, Options::gfm())?;
+    assert_right_by(rt, texts, printed_safely(extended()))?;
+    assert_right_by(rt, texts, printed_safely(every()))
+}
+
+/// These options, with safe pages.
+fn printed_safely(parse: ParseOptions) -> Options
+    requires { has_mdx parse.constructs ≡ false }
+    ensures { HasNoMdx result }
+{
+    Options {
+        parse,
+        compile: CompileOptions::default(),
+    }
 }
 
 /// Fails, and shows the first text, if the events of one of these are wrong by these options.
 fn assert_right_by(
     rt: &(impl AllocGlobal + Abort),
     texts: &str,
-    options: ParseOptions,
+    options: Options,
 ) -> Result<(), Message>
-    requires { has_mdx options.constructs ≡ false }
+    requires { HasNoMdx options }
 {
     let wrong = first_wrong(rt.alloc(), texts, &options)?;
     assert!(rt; wrong.is_none(), "{wrong:?}");

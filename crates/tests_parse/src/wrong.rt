@@ -1,24 +1,24 @@
 //! What must hold of the events of a text.
-ghost use Rattle.std.specs.Prelude.{◌≡◌, false};
-ghost use Rattle.markdown_options.specs.Mdx.{has_mdx};
+ghost use Rattle.std.specs.Prelude.{◌≤◌, length};
+ghost use Rattle.markdown_options.specs.Mdx.{HasNoMdx};
 
 use engine_events::event::{Event, Kind, Name};
 use engine_events::place::START;
-use event_check::{CompileError, check_events};
-use event_grammar::EventFault;
 use event_grammar::void::is_void;
+use event_page::to_html_by_events;
 use event_parser::{ParseState, SIZE_MAX, parse};
-use markdown_options::{Message, ParseOptions};
+use markdown::to_html_with_options;
+use markdown_options::{Message, Options};
 use markdown_tables::Builtin;
-use std::alloc::{AllocError, Global};
+use std::alloc::Global;
 
 /// What is wrong with the events of a text.
 #[derive(Clone, Copy, Debug)]
 pub(crate) enum Wrong {
     /// The text has too many bytes.
     Size,
-    /// The events aren't in the grammar.
-    Fault(EventFault),
+    /// The events don't spell the page of the text.
+    Page,
     /// Their places don't tile the text.
     Places,
     /// The state has another text, or more or fewer labels than there are definitions.
@@ -29,16 +29,16 @@ pub(crate) enum Wrong {
 pub(crate) fn wrong_of(
     alloc: Global,
     text: &str,
-    options: &ParseOptions,
+    options: &Options,
 ) -> Result<Option<Wrong>, Message>
-    requires { has_mdx options.now.constructs ≡ false }
+    requires { HasNoMdx options.now }
 {
     if text.len() > SIZE_MAX {
         return Ok(Some(Wrong::Size));
     }
-    let (events, state) = parse(alloc, text, options, &Builtin)?;
-    if let Some(fault) = fault_of(alloc, &events, text)? {
-        return Ok(Some(Wrong::Fault(fault)));
+    let (events, state) = parse(alloc, text, &options.parse, &Builtin)?;
+    if !has_same_page(alloc, text, options)? {
+        return Ok(Some(Wrong::Page));
     }
     if !tile(&events, text.len()) {
         return Ok(Some(Wrong::Places));
@@ -49,12 +49,15 @@ pub(crate) fn wrong_of(
     Ok(None)
 }
 
-/// The fault of a list of events, if it has one.
-fn fault_of(alloc: Global, events: &[Event], text: &str) -> Result<Option<EventFault>, AllocError> {
-    match check_events(alloc, events, text.as_bytes(), &Builtin) {
-        Ok(_) => Ok(None),
-        Err(CompileError::Events(fault)) => Ok(Some(fault)),
-        Err(CompileError::Memory) => Err(AllocError),
+/// Whether a text has the same page by its events as it has by its rows.
+fn has_same_page(alloc: Global, text: &str, options: &Options) -> Result<bool, Message>
+    requires size { length text.now ≤ SIZE_MAX }
+    requires without_mdx { HasNoMdx options.now }
+{
+    let page = to_html_with_options(alloc, text, options)?;
+    match to_html_by_events(alloc, text, options, &Builtin) {
+        Ok(other) => Ok(page.as_str() == other.as_str()),
+        Err(_) => Ok(false),
     }
 }
 

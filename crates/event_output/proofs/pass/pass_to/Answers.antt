@@ -1,11 +1,9 @@
-use Rattle.std.proofs.Common.{◌≤◌, sym, subst, ◌∙◌}
-use Rattle.engine_events.specs.Columns.{between, mark_size}
-use Rattle.event_output.proofs.Plain.{all_plain}
+use Rattle.std.proofs.Common.{◌∙◌}
+use Rattle.event_output.proofs.Plain.{plain_to}
 use Rattle.event_output.proofs.pass.pass_to.Goals as goal
 
--- src/pass.rt:55:1
-pub returns-then-are_plain-clause-same : goal.returns-then-are_plain-clause-same
-returns-then-are_plain-clause-same c =
+pub returns-then-spot-ge-MARK_MAX-clause-same : goal.returns-then-spot-ge-MARK_MAX-clause-same
+returns-then-spot-ge-MARK_MAX-clause-same c =
     c.pass_plain.ensures
-    ∙ sym (all_plain (mark_size c.args.text.now) (between c.args.spot.index c.args.index c.args.text.now) c.args.spot
-    (subst (λ mark. mark ≤ c.args.spot.index) c.mark_size-mark.ensures c.if-mark-spot.true) (sym c.are_plain.ensures ∙ c.if-are_plain.true))
+    ∙ plain_to c.args.text.now c.args.spot c.args.plain c.args.index c.if-spot-ge-MARK_MAX.true c.requires.plain c.requires.after c.if-index-plain.true
+    c.requires.within

@@ -1,13 +1,9 @@
 use Rattle.std.proofs.Common.{arith, refl, ◌++◌, ◌∷◌, [], sym, subst, ap₂, ◌∙◌}
 use Rattle.event_output.specs.Placed.{ArePlaced}
 use Rattle.engine_events.specs.declared.event.Name.TheVariants.{Data, Paragraph}
-use Rattle.event_output.proofs.TokenLists.{all_placed, rest_placed}
+use Rattle.event_output.proofs.TokenLists.{rest_placed}
 use Rattle.event_output.proofs.points.push_rest.Goals as goal
 
-pub returns-then-told-text-clause-placed : goal.returns-then-told-text-clause-placed
-returns-then-told-text-clause-placed g c = all_placed c.args.text.now c.args.events.now.items c.args.told c.requires.told c.requires.place c.if-told-text.true
-
--- src/points.rt:67:1
 pub returns-clause-placed : goal.returns-clause-placed
 returns-clause-placed g c =
     subst (ArePlaced c.args.text.now)
@@ -16,5 +12,5 @@ returns-clause-placed g c =
     ∙ ap₂ (λ es e. es ++ e ∷ []) (c.in_ok-push-2.ensures.items
     ∙ ap₂ (λ es e. es ++ e ∷ []) (c.in_ok-push.ensures.items
     ∙ ap₂ (λ es e. es ++ e ∷ []) refl c.event.ensures) c.event-2.ensures) c.event-3.ensures) c.event-4.ensures))
-    (rest_placed c.args.text.now c.args.events.now.items c.args.told c.pass_to-end.result Paragraph Data c.requires.told c.pass_to-end.ensures.goes_on
+    (rest_placed c.args.text.now c.args.events.now.items c.args.place c.pass_to-end.result Paragraph Data c.requires.told c.pass_to-end.ensures.goes_on
     c.pass_to-end.ensures.place (c.pass_to-end.ensures.index (omega arith)))

@@ -1,0 +1,6 @@
+//! A text to its page by way of its events.
+#![tactic(auto)]
+
+pub mod page;
+
+pub use page::to_html_by_events;

@@ -1,0 +1,11 @@
+pub mod Places
+pub mod Leaves
+pub mod Laid
+pub mod ParserRows
+pub mod Begun
+pub mod FirstLines
+pub mod Passed
+pub mod HeadingSetext
+pub mod EmptyRests
+pub mod Outermost
+pub mod Refused

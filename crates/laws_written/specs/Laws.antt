@@ -1,0 +1,20 @@
+-- Inline structure is written in its content (CommonMark 6).
+use Rattle.std.specs.Prelude.{List, []}
+use Rattle.definition_text.specs.InlineCode.{InlineCode}
+use Rattle.definition_inline.specs.Inline.{Inlines}
+use Rattle.definition_inline.specs.Scan.{InlineContext, inlines, inlines_from, without_indent}
+use Rattle.laws_written.specs.Laid.{steps_of, AreLaid}
+use Rattle.laws_written.specs.Written.{AreWritten}
+
+-- the inline structure of a content is written in it, from its first code that is no space or tab to its end (CommonMark 6)
+abbrev pub WrittenLaw : Type 0
+WrittenLaw = (context : InlineContext) (content : List InlineCode) → AreWritten context (inlines context content) (without_indent content) []
+
+-- that of a content that begins anywhere is written in it, from its first code to its end
+abbrev pub WrittenFromLaw : Type 0
+WrittenFromLaw = (context : InlineContext) (content : List InlineCode) → AreWritten context (inlines_from context content) content []
+
+-- what is written from one place to another is so from left to right, too
+abbrev pub LaidLaw : Type 0
+LaidLaw =
+    (context : InlineContext) (is : Inlines) (from to : List InlineCode) → AreWritten context is from to → AreLaid context [] (steps_of is) from to

@@ -1,0 +1,22 @@
+//! Inline structure as it is written in its content.
+ghost use Rattle.laws_written.specs.Laws.{LaidLaw, WrittenFromLaw, WrittenLaw};
+
+/// The inline structure of a content is written in it, part by part, from its first code that is no
+/// space or tab to its end.
+#[tactic(auto, using(crate::proofs::Contents::written_law))]
+pub fn written_law()
+    ensures { WrittenLaw }
+{}
+
+/// The inline structure of a content that begins anywhere, also with spaces or inside a line, is
+/// written in it from its first code to its end.
+#[tactic(auto, using(crate::proofs::Contents::written_from_law))]
+pub fn written_from_law()
+    ensures { WrittenFromLaw }
+{}
+
+/// What is written as a tree is written from left to right: leaves, starts and ends, each at its place.
+#[tactic(auto, using(crate::proofs::Laid::laid_law))]
+pub fn laid_law()
+    ensures { LaidLaw }
+{}
