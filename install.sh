@@ -1,7 +1,7 @@
 #!/bin/sh
 # Proves and builds programs or the library for C, and installs them. `./install.sh --help` prints how it is called.
 #
-# It names each crate as it is proved. Proofs that the gate or an earlier run passed on this machine are taken, so a later run
+# It names each crate as it is proved. If the toolchain keeps what the gate or an earlier run proved on this machine, a later run
 # takes less than a minute. RT_JOBS sets how many proofs run side by side; by default as many as processors and memory allow.
 set -eu
 
@@ -21,7 +21,7 @@ Options:
   --help          Print this
 
 The first run takes most of an hour, for a further program some minutes more.
-Later runs take less than a minute.
+Later runs take less than a minute if the toolchain keeps what it proved.
 END
 }
 

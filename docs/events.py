@@ -74,6 +74,12 @@ def constants(source):
     return {name: re.findall(r"Name::(\w+)", items) for name, items in found}
 
 
+def matched(source):
+    """The lists of names by the tests `fn is_..` that match them."""
+    found = re.findall(r"fn (is_\w+)\(name: Name\) -> bool.*?matches!\((.*?)\)\n", source, re.S)
+    return {name: re.findall(r"Name::(\w+)", items) for name, items in found}
+
+
 def group_at(source, start):
     """The text between the bracket at a place and the one that closes it."""
     depth = 0
@@ -173,14 +179,14 @@ def document_row(source):
 # ---- the page
 def grammar():
     source = sources()
-    lists = constants(source)
+    lists = matched(source)
     found = [it for it in rows(source)]
     names = event_names()
     void = constants(text_of(NAMES))["VOID_EVENTS"]
     with_row = {name for name, _, it in found if it}
-    classes = {"block": lists["BLOCK_NAMES"], "string": lists["STRING_NAMES"], "text": lists["TEXT_NAMES"]}
+    classes = {"block": lists["is_block"], "string": lists["is_string_part"], "text": lists["is_text_part"]}
     for name in names:
-        if (name in with_row) + (name in void) + (name in lists["MDX_NAMES"]) != 1:
+        if (name in with_row) + (name in void) + (name in lists["is_mdx"]) != 1:
             fail(f"{name} isn't one of three: with a row, void, of MDX")
     for name, _, it in found:
         for word in re.findall(r"\w+", it):
@@ -199,9 +205,9 @@ def grammar():
     out += ["| %s | `%s` |" % (name, it.replace("|", "\\|")) for name, it in lines]
     out += ["", "- Every other name is void: it has no children.",
             "- `SpaceOrTab` may stand before, between and after the children of the document and of any event in the table.",
-            "- %s may stand there, too, but not at any depth in %s." % (ticked(lists["LINE_NAMES"]), ticked(lists["ONE_LINE_NAMES"])),
-            "- No %s stands in one of them, at any depth." % " or ".join(f"`{it}`" for it in lists["LINK_NAMES"]),
-            "- Never in a list: %s." % ticked(lists["MDX_NAMES"])]
+            "- %s may stand there, too, but not at any depth in %s." % (ticked(lists["is_line"]), ticked(lists["is_one_line"])),
+            "- No %s stands in one of them, at any depth." % " or ".join(f"`{it}`" for it in lists["is_link"]),
+            "- Never in a list: %s." % ticked(lists["is_mdx"])]
     return out
 
 
