@@ -1,0 +1,10 @@
+mod Printed
+mod Said
+mod HtmlText
+mod Targets
+mod Inline
+mod BlockLines
+mod GfmTable
+pub mod Page
+pub mod Definition
+pub mod Examples

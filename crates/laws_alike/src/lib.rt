@@ -1,0 +1,32 @@
+//! Pages that are alike print the same.
+#![tactic(auto)]
+
+ghost use Rattle.laws_alike.specs.Examples.{AlikeExamples, RefusedExamples};
+ghost use Rattle.laws_alike.specs.Laws.{AlikeDefinitionsMeanTheSame, AlikePagesPrintTheSame};
+
+/// Two pages that are alike, each by its own meaning, print the same HTML by all options of printing
+/// and with any default line ending.
+#[tactic(auto, using(crate::proofs::Page::alike_pages_print_the_same))]
+pub fn pages_law()
+    ensures { AlikePagesPrintTheSame }
+{}
+
+/// Meanings are alike if their definitions are alike one by one and their footnotes have labels that
+/// match.
+#[tactic(auto, using(crate::proofs::Definition::alike_definitions_mean_the_same))]
+pub fn definitions_law()
+    ensures { AlikeDefinitionsMeanTheSame }
+{}
+
+/// Pages that are alike: strings written apart, and HTML and code cut at line endings.
+#[tactic(auto, using(crate::proofs::Examples::alike_examples))]
+pub fn alike_examples()
+    ensures { AlikeExamples }
+{}
+
+/// Pages that aren't alike, since they differ in one thing that is printed: a text, a rank, a
+/// destination, a title, the looseness of a list, a line ending, a tag that is cut.
+#[tactic(auto, using(crate::proofs::Examples::refused_examples))]
+pub fn refused_examples()
+    ensures { RefusedExamples }
+{}
