@@ -9,7 +9,7 @@ use Rattle.definition_inline.specs.Inline.{Target, Resource, Reference, Data, Ht
 use Rattle.definition_page.specs.Page as page
 use Rattle.event_meaning.specs.Texts.{append, part, leaves}
 use Rattle.laws_alike.specs.BlockLines.{HtmlPart}
-use Rattle.laws_alike.specs.Examples.{plain_meaning, AreAlike, text, paragraph, link, code, html, AlikeExamples, RefusedExamples}
+use Rattle.laws_alike.specs.Examples.{plain_meaning, AreAlike, text, paragraph, link, code_block, html_block, AlikeExamples, RefusedExamples}
 use Rattle.laws_alike.specs.Inline.{IsPartAlike, ArePartsAlike}
 use Rattle.laws_alike.specs.Page.{IsBlockAlike, AreAlikeAfterFront}
 use Rattle.laws_alike.specs.Targets.{AreTargetsAlike, AreMeaningsAlike}
@@ -47,8 +47,8 @@ alike_examples = (
   alike_by (link (codes "\\*") None) (link (codes "*") (Some [])) link_alike,
   alike_by (paragraph (part (Call (codes "a\n b")))) (paragraph (part (Call (codes "a b")))) call_alike,
   alike_by (paragraph (leaves (Html (codes "<a\n  b>") ∷ []))) (paragraph (leaves (Html (codes "<a") ∷ LineEnd 10 ∷ Html (codes "b>") ∷ []))) html_alike,
-  alike_by (code (spaced_line (tab_column ∷ codes "a") (Some LineFeed) ∷ [])) (code (spaced_line (codes " a") None ∷ spaced_line [] (Some LineFeed) ∷ [])) refl,
-  alike_by (html (spaced_line (codes "<a>") (Some LineFeed) ∷ [])) (html (spaced_line (codes "<a>") None ∷ spaced_line [] (Some LineFeed) ∷ [])) refl,
+  alike_by (code_block (spaced_line (tab_column ∷ codes "a") (Some LineFeed) ∷ [])) (code_block (spaced_line (codes " a") None ∷ spaced_line [] (Some LineFeed) ∷ [])) refl,
+  alike_by (html_block (spaced_line (codes "<a>") (Some LineFeed) ∷ [])) (html_block (spaced_line (codes "<a>") None ∷ spaced_line [] (Some LineFeed) ∷ [])) refl,
 )
 
 -- ---- not alike

@@ -35,11 +35,11 @@ paragraph is = page.Leaf (page.Paragraph is)
 abbrev pub link : List Code → Option (List Code) → page.Block
 link destination title = paragraph (part (Linked Link (Resource destination title) (text (codes "c"))))
 
-abbrev pub code : List BlockLine → page.Block
-code ls = page.Leaf (page.IndentedCode ls)
+abbrev pub code_block : List BlockLine → page.Block
+code_block ls = page.Leaf (page.IndentedCode ls)
 
-abbrev pub html : List BlockLine → page.Block
-html ls = page.Leaf (page.Html ls)
+abbrev pub html_block : List BlockLine → page.Block
+html_block ls = page.Leaf (page.Html ls)
 
 -- a list of one item, loose or tight
 abbrev pub list : Bool → page.Block
@@ -54,10 +54,10 @@ AlikeExamples =
     -- raw HTML over two lines, and its pieces
     × AreAlike (paragraph (leaves (Html (codes "<a\n  b>") ∷ []))) (paragraph (leaves (Html (codes "<a") ∷ LineEnd 10 ∷ Html (codes "b>") ∷ [])))
     -- code with a remaining column of a tab, and with a space; its ending on a line of its own
-    × AreAlike (code (spaced_line (tab_column ∷ codes "a") (Some LineFeed) ∷ []))
-    (code (spaced_line (codes " a") None ∷ spaced_line [] (Some LineFeed) ∷ []))
+    × AreAlike (code_block (spaced_line (tab_column ∷ codes "a") (Some LineFeed) ∷ []))
+    (code_block (spaced_line (codes " a") None ∷ spaced_line [] (Some LineFeed) ∷ []))
     -- HTML with its ending, and cut before that
-    × AreAlike (html (spaced_line (codes "<a>") (Some LineFeed) ∷ [])) (html (spaced_line (codes "<a>") None ∷ spaced_line [] (Some LineFeed) ∷ []))
+    × AreAlike (html_block (spaced_line (codes "<a>") (Some LineFeed) ∷ [])) (html_block (spaced_line (codes "<a>") None ∷ spaced_line [] (Some LineFeed) ∷ []))
 
 abbrev pub RefusedExamples : Type 0
 RefusedExamples =
@@ -72,6 +72,6 @@ RefusedExamples =
     -- a loose list, and a tight one
     × AreRefused (list true) (list false)
     -- another ending
-    × AreRefused (code (spaced_line (codes "a") (Some LineFeed) ∷ [])) (code (spaced_line (codes "a") (Some CarriageReturn) ∷ []))
+    × AreRefused (code_block (spaced_line (codes "a") (Some LineFeed) ∷ [])) (code_block (spaced_line (codes "a") (Some CarriageReturn) ∷ []))
     -- a tag that is cut: its filter would not find it
-    × AreRefused (html (spaced_line (codes "<xmp>") None ∷ [])) (html (spaced_line (codes "<x") None ∷ spaced_line (codes "mp>") None ∷ []))
+    × AreRefused (html_block (spaced_line (codes "<xmp>") None ∷ [])) (html_block (spaced_line (codes "<x") None ∷ spaced_line (codes "mp>") None ∷ []))
