@@ -7,4 +7,6 @@ mod BlockLines
 mod GfmTable
 pub mod Page
 pub mod Definition
+pub mod Strings
+pub mod Spelled
 pub mod Examples

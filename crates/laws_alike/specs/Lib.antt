@@ -4,5 +4,7 @@ pub mod Inline
 pub mod BlockLines
 pub mod GfmTable
 pub mod Page
+pub mod Strings
 pub mod Laws
+pub mod Spelled
 pub mod Examples

@@ -3,6 +3,8 @@
 
 ghost use Rattle.laws_alike.specs.Examples.{AlikeExamples, RefusedExamples};
 ghost use Rattle.laws_alike.specs.Laws.{AlikeDefinitionsMeanTheSame, AlikePagesPrintTheSame};
+ghost use Rattle.laws_alike.specs.Spelled.{PagesOfTextsPrintTheirHtml};
+ghost use Rattle.laws_alike.specs.Strings.{WrittenStringsAreAlike};
 
 /// Two pages that are alike, each by its own meaning, print the same HTML by all options of printing
 /// and with any default line ending.
@@ -16,6 +18,19 @@ pub fn pages_law()
 #[tactic(auto, using(crate::proofs::Definition::alike_definitions_mean_the_same))]
 pub fn definitions_law()
     ensures { AlikeDefinitionsMeanTheSame }
+{}
+
+/// A string is alike to what is written for the text that it stands for: by itself, as a title, in a
+/// resource and in a definition. The text is a list of bytes.
+#[tactic(auto, using(crate::proofs::Strings::written_strings_are_alike))]
+pub fn strings_law()
+    ensures { WrittenStringsAreAlike }
+{}
+
+/// If the page that events spell is alike to the page of a text, it prints the HTML of the text.
+#[tactic(auto, using(crate::proofs::Spelled::pages_of_texts_print_their_html))]
+pub fn text_law()
+    ensures { PagesOfTextsPrintTheirHtml }
 {}
 
 /// Pages that are alike: strings written apart, and HTML and code cut at line endings.

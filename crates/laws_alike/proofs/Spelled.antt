@@ -1,0 +1,32 @@
+-- A page that is alike to that of a text prints the HTML of the text.
+use Rattle.std.proofs.Common.{◌≡◌, ℕ, List, refl, sym}
+use Rattle.markdown_options.specs.declared.configuration.Options.{Options}
+use Rattle.definition_text.specs.Lines.{without_mark}
+use Rattle.definition_page.specs.DocumentPieces.{default_ending}
+use Rattle.definition_page.specs.Html.{html}
+use Rattle.definition_page.specs.Page.{Page}
+use Rattle.definition_page.specs.TextTables.{TextTables}
+use Rattle.event_meaning.specs.Spelled.{page_html}
+use Rattle.laws_alike.specs.Page.{ArePagesAlike}
+use Rattle.laws_alike.specs.Spelled.{page_read, meaning_read, meaning_spelled, IsPageOfText, PagesOfTextsPrintTheirHtml}
+use Rattle.laws_alike.proofs.Definition.{alike_definitions_mean_the_same}
+use Rattle.laws_alike.proofs.Page.{alike_pages_print_the_same}
+
+module _ (tables : TextTables) (options : Options) (text : List ℕ) (spelled : Page) (of_text : IsPageOfText tables options text spelled) where
+  pages_alike : ArePagesAlike (meaning_read tables options text) (meaning_spelled tables options text spelled) (page_read tables options text) spelled
+  pages_alike =
+      record {
+        meanings =
+            alike_definitions_mean_the_same.same (meaning_read tables options text) (meaning_spelled tables options text spelled)
+            (page_read tables options text).definitions spelled.definitions refl refl of_text.definitions of_text.footnotes refl;
+        blocks = of_text.blocks;
+        ends_blank = of_text.ends_blank;
+      }
+
+  html_same : page_html tables.names options.compile text spelled ≡ html tables text options
+  html_same =
+      sym (alike_pages_print_the_same.same (meaning_read tables options text) (meaning_spelled tables options text spelled) (page_read tables options text)
+      spelled pages_alike options.compile (default_ending options (without_mark text)))
+
+pub pages_of_texts_print_their_html : PagesOfTextsPrintTheirHtml
+pages_of_texts_print_their_html = record { same = λ tables options text spelled of_text. html_same tables options text spelled of_text }

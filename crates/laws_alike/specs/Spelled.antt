@@ -1,0 +1,35 @@
+-- A page that events spell, and the page that is read from their text.
+use Rattle.std.specs.Prelude.{◌≡◌, ◌⊎◌, ℕ, List}
+use Rattle.markdown_options.specs.declared.configuration.Options.{Options}
+use Rattle.definition_page.specs.DocumentPieces as document
+use Rattle.definition_page.specs.Html.{html}
+use Rattle.definition_page.specs.InlinePieces.{Meaning}
+use Rattle.definition_page.specs.Page.{Page}
+use Rattle.definition_page.specs.Read.{read}
+use Rattle.definition_page.specs.TextTables.{TextTables}
+use Rattle.event_meaning.specs.Spelled as events
+use Rattle.laws_alike.specs.Page.{AreBlocksAlike, AreAlikeAfterFront}
+use Rattle.laws_alike.specs.Targets.{AreDefinitionsAlike, AreFootnotesAlike}
+
+module _ (tables : TextTables) (options : Options) (text : List ℕ) where
+  abbrev pub page_read : Page
+  page_read = read tables options.parse text
+
+  abbrev pub meaning_read : Meaning
+  meaning_read = document.meaning_of tables options page_read
+
+  abbrev pub meaning_spelled : Page → Meaning
+  meaning_spelled spelled = events.meaning_of tables.names options.compile spelled
+
+  -- A page that events spell is alike to the page of the text: in blocks, definitions and footnotes, and in whether it ends with a blank line.
+  pub record IsPageOfText (spelled : Page) : Type 0 where
+    pub blocks : AreBlocksAlike meaning_read (meaning_spelled spelled) page_read.blocks spelled.blocks
+        ⊎ AreAlikeAfterFront meaning_read (meaning_spelled spelled) page_read.blocks spelled.blocks
+    pub definitions : AreDefinitionsAlike meaning_read (meaning_spelled spelled) page_read.definitions spelled.definitions
+    pub footnotes : AreFootnotesAlike page_read.footnotes spelled.footnotes
+    pub ends_blank : page_read.ends_blank ≡ spelled.ends_blank
+
+-- A page that is alike to that of a text prints the HTML of the text.
+pub record PagesOfTextsPrintTheirHtml : Type 0 where
+  pub same : (tables : TextTables) (options : Options) (text : List ℕ) (spelled : Page) → IsPageOfText tables options text spelled
+      → events.page_html tables.names options.compile text spelled ≡ html tables text options
