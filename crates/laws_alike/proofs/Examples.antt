@@ -47,8 +47,10 @@ alike_examples = (
   alike_by (link (codes "\\*") None) (link (codes "*") (Some [])) link_alike,
   alike_by (paragraph (part (Call (codes "a\n b")))) (paragraph (part (Call (codes "a b")))) call_alike,
   alike_by (paragraph (leaves (Html (codes "<a\n  b>") ∷ []))) (paragraph (leaves (Html (codes "<a") ∷ LineEnd 10 ∷ Html (codes "b>") ∷ []))) html_alike,
-  alike_by (code_block (spaced_line (tab_column ∷ codes "a") (Some LineFeed) ∷ [])) (code_block (spaced_line (codes " a") None ∷ spaced_line [] (Some LineFeed) ∷ [])) refl,
-  alike_by (html_block (spaced_line (codes "<a>") (Some LineFeed) ∷ [])) (html_block (spaced_line (codes "<a>") None ∷ spaced_line [] (Some LineFeed) ∷ [])) refl,
+  alike_by (code_block (spaced_line (tab_column ∷ codes "a") (Some LineFeed) ∷ []))
+      (code_block (spaced_line (codes " a") None ∷ spaced_line [] (Some LineFeed) ∷ [])) refl,
+  alike_by (html_block (spaced_line (codes "<a>") (Some LineFeed) ∷ []))
+      (html_block (spaced_line (codes "<a>") None ∷ spaced_line [] (Some LineFeed) ∷ [])) refl,
 )
 
 -- ---- not alike

@@ -7,7 +7,7 @@ use Rattle.markdown_options.specs.declared.configuration.CompileOptions.{Compile
 use Rattle.definition_text.specs.Columns.{Code, indent, bare, bytes_of}
 use Rattle.definition_text.specs.Content.{is_eol}
 use Rattle.definition_text.proofs.Each.{Each, each-append, each-drop, each_map}
-use Rattle.definition_inline.specs.Inline.{InlineLeaf, LineEnd}
+use Rattle.definition_inline.specs.Inline.{InlineLeaf, Html, LineEnd}
 use Rattle.definition_page.specs.GfmTagfilter.{filter_tags}
 use Rattle.definition_page.specs.InlinePieces.{raw_html, HtmlLine, html_text_line, in_first_line, html_lines, html_line_says, later_line_says, html_lines_say}
 use Rattle.definition_page.specs.InlinePieces.{html_says, leaf_says, leaf_pieces}
@@ -103,27 +103,32 @@ module _ (options : CompileOptions) where
   pub html-said : (html : List Code) → said (flat_map (leaf_says options) (html_leaves html)) ≡ said (html_says options html)
   html-said html = lines-said (html_lines html) (each_one_line html)
 
-  -- ---- the pieces print what they say, without tags
+-- ---- the pieces
 
-  abbrev pub HasNoTags : InlineLeaf → Type 0
-  HasNoTags l = leaf_pieces options l ≡ map Says (leaf_says options l)
+-- what holds of HTML and of endings holds of each piece
+module _ (P : InlineLeaf → Type 0) (of_html : (html : List Code) → P (Html html)) (of_end : (c : Code) → P (LineEnd c)) where
+  each_leaf : (line : List Code) → Each P (html_leaf line)
+  each_leaf [] = tt
+  each_leaf (c ∷ cs) = (of_html (c ∷ cs), tt)
 
-  leaf_plain : (line : List Code) → Each HasNoTags (html_leaf line)
-  leaf_plain [] = tt
-  leaf_plain (c ∷ cs) = (refl, tt)
+  each_of_line : (line ending : List Code) → Each P (line_leaves line ending)
+  each_of_line line ending = each-append P (html_leaf line) (map LineEnd ending) (each_leaf line) (each_map P LineEnd ending of_end)
 
-  line_plain : (line ending : List Code) → Each HasNoTags (line_leaves line ending)
-  line_plain line ending =
-      each-append HasNoTags (html_leaf line) (map LineEnd ending) (leaf_plain line) (each_map HasNoTags LineEnd ending (λ c. refl))
+  each_later : (ls : List HtmlLine) → Each P (flat_map later_leaves ls)
+  each_later [] = tt
+  each_later (l ∷ ls) = each-append P (later_leaves l) (flat_map later_leaves ls) (each_of_line (bare l.line) l.ending) (each_later ls)
 
-  later_plain : (ls : List HtmlLine) → Each HasNoTags (flat_map later_leaves ls)
-  later_plain [] = tt
-  later_plain (l ∷ ls) = each-append HasNoTags (later_leaves l) (flat_map later_leaves ls) (line_plain (bare l.line) l.ending) (later_plain ls)
+  each_of_lines : (ls : List HtmlLine) → Each P (lines_leaves ls)
+  each_of_lines [] = tt
+  each_of_lines (first ∷ others) =
+      each-append P (line_leaves first.line first.ending) (flat_map later_leaves others) (each_of_line first.line first.ending) (each_later others)
 
-  lines_plain : (ls : List HtmlLine) → Each HasNoTags (lines_leaves ls)
-  lines_plain [] = tt
-  lines_plain (first ∷ others) =
-      each-append HasNoTags (line_leaves first.line first.ending) (flat_map later_leaves others) (line_plain first.line first.ending) (later_plain others)
+  pub each_piece : (html : List Code) → Each P (html_leaves html)
+  each_piece html = each_of_lines (html_lines html)
 
-  pub html_plain : (html : List Code) → Each HasNoTags (html_leaves html)
-  html_plain html = lines_plain (html_lines html)
+-- they print what they say, without tags
+abbrev pub HasNoTags : CompileOptions → InlineLeaf → Type 0
+HasNoTags options l = leaf_pieces options l ≡ map Says (leaf_says options l)
+
+pub html_plain : (options : CompileOptions) (html : List Code) → Each (HasNoTags options) (html_leaves html)
+html_plain options html = each_piece (HasNoTags options) (λ own. refl) (λ c. refl) html

@@ -6,6 +6,8 @@ mod Inline
 mod BlockLines
 mod GfmTable
 pub mod Page
+pub mod Composed
+pub mod Raw
 pub mod Definition
 pub mod Strings
 pub mod Spelled

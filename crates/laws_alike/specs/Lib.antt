@@ -6,5 +6,7 @@ pub mod GfmTable
 pub mod Page
 pub mod Strings
 pub mod Laws
+pub mod Composed
+pub mod Raw
 pub mod Spelled
 pub mod Examples

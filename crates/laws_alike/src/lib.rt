@@ -1,35 +1,49 @@
 //! Pages that are alike print the same.
 #![tactic(auto)]
 
+ghost use Rattle.laws_alike.specs.Composed.{AlikePartsCompose};
 ghost use Rattle.laws_alike.specs.Examples.{AlikeExamples, RefusedExamples};
 ghost use Rattle.laws_alike.specs.Laws.{AlikeDefinitionsMeanTheSame, AlikePagesPrintTheSame};
+ghost use Rattle.laws_alike.specs.Raw.{RawLinesAreAlike};
 ghost use Rattle.laws_alike.specs.Spelled.{PagesOfTextsPrintTheirHtml};
 ghost use Rattle.laws_alike.specs.Strings.{WrittenStringsAreAlike};
 
 /// Two pages that are alike, each by its own meaning, print the same HTML by all options of printing
 /// and with any default line ending.
 #[tactic(auto, using(crate::proofs::Page::alike_pages_print_the_same))]
-pub fn pages_law()
+pub fn alike_pages_law()
     ensures { AlikePagesPrintTheSame }
 {}
 
 /// Meanings are alike if their definitions are alike one by one and their footnotes have labels that
 /// match.
 #[tactic(auto, using(crate::proofs::Definition::alike_definitions_mean_the_same))]
-pub fn definitions_law()
+pub fn alike_definitions_law()
     ensures { AlikeDefinitionsMeanTheSame }
 {}
 
 /// A string is alike to what is written for the text that it stands for: by itself, as a title, in a
 /// resource and in a definition. The text is a list of bytes.
 #[tactic(auto, using(crate::proofs::Strings::written_strings_are_alike))]
-pub fn strings_law()
+pub fn written_strings_law()
     ensures { WrittenStringsAreAlike }
+{}
+
+/// Parts of texts stay alike with others after them, and in cells.
+#[tactic(auto, using(crate::proofs::Composed::alike_parts_compose))]
+pub fn alike_parts_law()
+    ensures { AlikePartsCompose }
+{}
+
+/// Lines of code and of HTML are alike to their texts and endings apart, which events have.
+#[tactic(auto, using(crate::proofs::Raw::raw_lines_are_alike))]
+pub fn raw_lines_law()
+    ensures { RawLinesAreAlike }
 {}
 
 /// If the page that events spell is alike to the page of a text, it prints the HTML of the text.
 #[tactic(auto, using(crate::proofs::Spelled::pages_of_texts_print_their_html))]
-pub fn text_law()
+pub fn page_of_text_law()
     ensures { PagesOfTextsPrintTheirHtml }
 {}
 
