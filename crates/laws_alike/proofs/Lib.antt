@@ -8,6 +8,7 @@ mod GfmTable
 pub mod Page
 pub mod Composed
 pub mod Raw
+pub mod LabelMatch
 pub mod Definition
 pub mod Strings
 pub mod Spelled

@@ -1,4 +1,5 @@
 pub mod Targets
+pub mod LabelMatch
 pub mod HtmlText
 pub mod Inline
 pub mod BlockLines

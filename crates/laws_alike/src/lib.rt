@@ -3,6 +3,7 @@
 
 ghost use Rattle.laws_alike.specs.Composed.{AlikePartsCompose};
 ghost use Rattle.laws_alike.specs.Examples.{AlikeExamples, RefusedExamples};
+ghost use Rattle.laws_alike.specs.LabelMatch.{SameWordsAreAlike};
 ghost use Rattle.laws_alike.specs.Laws.{AlikeDefinitionsMeanTheSame, AlikePagesPrintTheSame};
 ghost use Rattle.laws_alike.specs.Raw.{RawLinesAreAlike};
 ghost use Rattle.laws_alike.specs.Spelled.{PagesOfTextsPrintTheirHtml};
@@ -27,6 +28,13 @@ pub fn alike_definitions_law()
 #[tactic(auto, using(crate::proofs::Strings::written_strings_are_alike))]
 pub fn written_strings_law()
     ensures { WrittenStringsAreAlike }
+{}
+
+/// Labels with the same words are alike, whatever spaces, tabs and line endings are between these and
+/// at the ends.
+#[tactic(auto, using(crate::proofs::LabelMatch::same_words_are_alike))]
+pub fn label_words_law()
+    ensures { SameWordsAreAlike }
 {}
 
 /// Parts of texts stay alike with others after them, and in cells.
