@@ -11,5 +11,6 @@ pub mod Raw
 pub mod LabelMatch
 pub mod Definition
 pub mod Strings
+pub mod GfmFootnoteDefinition
 pub mod Spelled
 pub mod Examples

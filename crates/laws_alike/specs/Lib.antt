@@ -9,5 +9,6 @@ pub mod Strings
 pub mod Laws
 pub mod Composed
 pub mod Raw
+pub mod GfmFootnoteDefinition
 pub mod Spelled
 pub mod Examples

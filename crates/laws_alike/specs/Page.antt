@@ -7,13 +7,13 @@ use Rattle.definition_page.specs.Read.{without_ending}
 use Rattle.laws_alike.specs.BlockLines.{has_lines, AreCodeLinesAlike, AreHtmlLinesAlike}
 use Rattle.laws_alike.specs.GfmTable.{AreTablesAlike}
 use Rattle.laws_alike.specs.Inline.{ArePartsAlike}
-use Rattle.laws_alike.specs.Targets.{AreMeaningsAlike}
+use Rattle.laws_alike.specs.Targets.{AreLabelsAlike, AreMeaningsAlike}
 
--- Containers of one kind are alike. The label of a footnote definition isn't printed where it stands: `AreFootnotesAlike` has it.
+-- containers of one kind; footnote definitions have labels that match
 abbrev pub AreContainersAlike : PageContainer → PageContainer → Type 0
 AreContainersAlike Quote Quote = Unit {0}
 AreContainersAlike Item Item = Unit {0}
-AreContainersAlike (Footnote label) (Footnote label') = Unit {0}
+AreContainersAlike (Footnote label) (Footnote label') = AreLabelsAlike label label'
 AreContainersAlike c d = ⊥
 
 module _ (m m' : Meaning) where

@@ -35,8 +35,8 @@ is_there line = has_codes line.codes || is_some line.ending
 abbrev pub AreFencedAlike : List BlockLine → List BlockLine → Type 0
 AreFencedAlike ls ls' = AreCodeLinesAlike ls ls' × (has_lines ls ≡ has_lines ls')
 
--- Lines are alike to their parts, each on a line of its own. Those of fenced code are alike to the parts behind the ending of the opening fence's line; code that
--- ends with its container has a line, which may be empty.
+-- Lines are alike to their parts, each on a line of its own. Those of fenced code are alike to the parts behind the ending of the opening fence's line.
+-- Code that ends with its container has a line, which may be empty.
 pub record RawLinesAreAlike : Type 0 where
   pub code : (ls : List BlockLine) → AreCodeLinesAlike ls (raw_lines (flat_map code_parts ls))
   pub html : (ls : List BlockLine) → AreHtmlLinesAlike ls (raw_lines (flat_map html_line_parts ls))

@@ -9,7 +9,7 @@ use Rattle.definition_page.specs.Read.{read}
 use Rattle.definition_page.specs.TextTables.{TextTables}
 use Rattle.event_meaning.specs.Spelled as events
 use Rattle.laws_alike.specs.Page.{AreBlocksAlike, AreAlikeAfterFront}
-use Rattle.laws_alike.specs.Targets.{AreDefinitionsAlike, AreFootnotesAlike}
+use Rattle.laws_alike.specs.Targets.{AreDefinitionsAlike}
 
 module _ (tables : TextTables) (options : Options) (text : List ℕ) where
   abbrev pub page_read : Page
@@ -21,12 +21,13 @@ module _ (tables : TextTables) (options : Options) (text : List ℕ) where
   abbrev pub meaning_spelled : Page → Meaning
   meaning_spelled spelled = events.meaning_of tables.names options.compile spelled
 
-  -- A page that events spell is alike to the page of the text: in blocks, definitions and footnotes, and in whether it ends with a blank line.
+  -- A page that events spell is alike to the page of the text: in blocks and definitions, and in whether it ends with a blank line. Its footnotes are those of
+  -- its blocks, as they are of each page that events spell.
   pub record IsPageOfText (spelled : Page) : Type 0 where
     pub blocks : AreBlocksAlike meaning_read (meaning_spelled spelled) page_read.blocks spelled.blocks
         ⊎ AreAlikeAfterFront meaning_read (meaning_spelled spelled) page_read.blocks spelled.blocks
     pub definitions : AreDefinitionsAlike meaning_read (meaning_spelled spelled) page_read.definitions spelled.definitions
-    pub footnotes : AreFootnotesAlike page_read.footnotes spelled.footnotes
+    pub footnotes : spelled.footnotes ≡ events.footnotes spelled.blocks
     pub ends_blank : page_read.ends_blank ≡ spelled.ends_blank
 
 -- A page that is alike to that of a text prints the HTML of the text.

@@ -3,6 +3,7 @@
 
 ghost use Rattle.laws_alike.specs.Composed.{AlikePartsCompose};
 ghost use Rattle.laws_alike.specs.Examples.{AlikeExamples, RefusedExamples};
+ghost use Rattle.laws_alike.specs.GfmFootnoteDefinition.{FootnotesAreThoseOfBlocks};
 ghost use Rattle.laws_alike.specs.LabelMatch.{SameWordsAreAlike};
 ghost use Rattle.laws_alike.specs.Laws.{AlikeDefinitionsMeanTheSame, AlikePagesPrintTheSame};
 ghost use Rattle.laws_alike.specs.Raw.{RawLinesAreAlike};
@@ -47,6 +48,13 @@ pub fn alike_parts_law()
 #[tactic(auto, using(crate::proofs::Raw::raw_lines_are_alike))]
 pub fn raw_lines_law()
     ensures { RawLinesAreAlike }
+{}
+
+/// The labels of a page's footnotes are those of the footnotes among its blocks, in the order in which
+/// these end. Blocks that are alike have footnotes whose labels match.
+#[tactic(auto, using(crate::proofs::GfmFootnoteDefinition::footnotes_are_those_of_blocks))]
+pub fn block_footnotes_law()
+    ensures { FootnotesAreThoseOfBlocks }
 {}
 
 /// If the page that events spell is alike to the page of a text, it prints the HTML of the text.
