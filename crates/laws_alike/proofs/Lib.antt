@@ -10,6 +10,7 @@ pub mod Composed
 pub mod Raw
 pub mod LabelMatch
 pub mod Definition
+pub mod SpelledStrings
 pub mod Strings
 pub mod GfmFootnoteDefinition
 pub mod Spelled

@@ -1,21 +1,13 @@
 -- Strings that are written anew stand for the same texts.
-use Rattle.std.proofs.Common.{◌≡◌, ◌<◌, ℕ, suc, List, [], ◌∷◌, sym, ap, ◌∙◌}
+use Rattle.std.proofs.Common.{◌≡◌, ℕ, List, sym, ap, ◌∙◌}
 use Rattle.markdown_options.specs.Defaults.{default_constructs}
 use Rattle.definition_inline.specs.Strings.{string_text}
 use Rattle.definition_page.specs.InlinePieces.{Meaning}
 use Rattle.event_meaning.specs.Strings.{written}
 use Rattle.event_meaning.proofs.Written.{written_text}
+use Rattle.laws_alike.proofs.SpelledStrings.{each_byte}
 use Rattle.laws_alike.specs.Strings.{IsOfBytes, WrittenStringsAreAlike}
 use Rattle.laws_alike.specs.Targets.{title_text}
-
--- the same, byte by byte
-abbrev AreBytes : List ℕ → Type 0
-AreBytes [] = Unit {0}
-AreBytes (b ∷ bs) = (b < 256) × AreBytes bs
-
-each_byte : (text : List ℕ) → IsOfBytes text → AreBytes text
-each_byte [] h = tt
-each_byte (b ∷ bs) h = (h 0, each_byte bs (λ k. h (suc k)))
 
 -- a text that is written for what constructs of CommonMark read
 text_written : (m' : Meaning) (text : List ℕ) → m'.on ≡ default_constructs → IsOfBytes text → text ≡ string_text m'.on m'.names (written text)

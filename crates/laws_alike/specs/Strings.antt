@@ -2,11 +2,13 @@
 use Rattle.std.specs.Prelude.{◌≡◌, ◌<◌, ℕ, List, Option, Some, get_or}
 use Rattle.markdown_options.specs.Defaults.{default_constructs}
 use Rattle.definition_text.specs.Columns.{Code}
+use Rattle.definition_inline.specs.CharacterReference.{Names}
 use Rattle.definition_inline.specs.Definition.{Definition, definition}
 use Rattle.definition_inline.specs.Inline.{Resource}
 use Rattle.definition_inline.specs.Strings.{string_text}
 use Rattle.definition_page.specs.InlinePieces.{Meaning}
-use Rattle.event_meaning.specs.Strings.{written}
+use Rattle.event_grammar.specs.Trees.{Nodes}
+use Rattle.event_meaning.specs.Strings.{string_of, written}
 use Rattle.laws_alike.specs.Targets.{title_text, AreLabelsAlike, AreStringsAlike, AreTitlesAlike, AreTargetsAlike, IsDefinitionAlike}
 
 abbrev pub IsOfBytes : List ℕ → Type 0
@@ -32,3 +34,11 @@ pub record WrittenStringsAreAlike : Type 0 where
   pub definitions : (m m' : Meaning) (d : Definition) (label rest : List Code) → m'.on ≡ default_constructs
       → IsOfBytes (string_text m.on m.names d.destination) → IsOfBytes (title_text m d.title) → AreLabelsAlike d.label label
       → IsDefinitionAlike m m' d (definition label (rewritten m d.destination) (rewritten_title m d.title) rest)
+
+-- names of characters that stand for texts of bytes
+abbrev pub HaveTextsOfBytes : Names → Type 0
+HaveTextsOfBytes names = (name text : List ℕ) → names name ≡ Some text → IsOfBytes text
+
+-- What the events of a string spell is a text of bytes.
+pub record SpelledStringsAreOfBytes : Type 0 where
+  pub spelled : (names : Names) (bytes : List ℕ) (string : Nodes) → HaveTextsOfBytes names → IsOfBytes bytes → IsOfBytes (string_of names bytes string)

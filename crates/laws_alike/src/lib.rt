@@ -8,7 +8,7 @@ ghost use Rattle.laws_alike.specs.LabelMatch.{SameWordsAreAlike};
 ghost use Rattle.laws_alike.specs.Laws.{AlikeDefinitionsMeanTheSame, AlikePagesPrintTheSame};
 ghost use Rattle.laws_alike.specs.Raw.{RawLinesAreAlike};
 ghost use Rattle.laws_alike.specs.Spelled.{PagesOfTextsPrintTheirHtml};
-ghost use Rattle.laws_alike.specs.Strings.{WrittenStringsAreAlike};
+ghost use Rattle.laws_alike.specs.Strings.{SpelledStringsAreOfBytes, WrittenStringsAreAlike};
 
 /// Two pages that are alike, each by its own meaning, print the same HTML by all options of printing
 /// and with any default line ending.
@@ -29,6 +29,13 @@ pub fn alike_definitions_law()
 #[tactic(auto, using(crate::proofs::Strings::written_strings_are_alike))]
 pub fn written_strings_law()
     ensures { WrittenStringsAreAlike }
+{}
+
+/// What the events of a string spell is a list of bytes, if the text is and names of characters stand
+/// for lists of bytes.
+#[tactic(auto, using(crate::proofs::SpelledStrings::spelled_strings_are_of_bytes))]
+pub fn spelled_strings_law()
+    ensures { SpelledStringsAreOfBytes }
 {}
 
 /// Labels with the same words are alike, whatever spaces, tabs and line endings are between these and
