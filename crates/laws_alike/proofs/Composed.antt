@@ -1,13 +1,19 @@
--- Parts of texts, one after another and in cells, are alike if each is.
-use Rattle.std.proofs.Common.{◌≡◌, List, [], ◌∷◌, refl, sym, ap, ◌∙◌, subst}
+-- Parts of texts and blocks, one after another, are alike if each is.
+use Rattle.std.proofs.Common.{◌≡◌, Bool, false, ◌&&◌, not, if◌then◌else◌, List, [], ◌∷◌, None, Some, refl, sym, ap, ◌∙◌, subst}
 use Rattle.definition_text.proofs.Each.{Each}
+use Rattle.definition_block.specs.Blocks as tree
 use Rattle.definition_inline.specs.Inline.{InlineLeaf, Html, Inline, Leaf, Span, Linked, Call, Inlines, Nil, Cons}
 use Rattle.definition_page.specs.GfmTable.{leaf_in_cell, part_in_cell, in_cell}
 use Rattle.definition_page.specs.InlinePieces.{Meaning}
+use Rattle.definition_page.specs.Page.{Blocks}
+use Rattle.definition_page.specs.Page as page
+use Rattle.definition_page.specs.Read.{Reading, Standing, next_standing, without_ending, after_leaf, read_leaf, read_block, read_blocks}
+use Rattle.event_meaning.specs.Blocks.{join}
 use Rattle.event_meaning.specs.Texts.{append, leaves}
-use Rattle.laws_alike.specs.Composed.{AlikePartsCompose}
+use Rattle.laws_alike.specs.Composed.{standing_after, AlikePartsCompose, AlikeBlocksCompose}
 use Rattle.laws_alike.specs.HtmlText.{html_leaves}
 use Rattle.laws_alike.specs.Inline.{leaf_parts, IsPartAlike, ArePartsAlike}
+use Rattle.laws_alike.specs.Page.{AreBlocksAlike}
 use Rattle.laws_alike.proofs.HtmlText.{each_piece}
 
 append_assoc : (is js ks : Inlines) → append (append is js) ks ≡ append is (append js ks)
@@ -53,4 +59,47 @@ alike_parts_compose =
     record {
       joined = λ m m' is is' js js' p q. parts_joined m m' is is' js js' p q;
       in_cells = λ m m' is is' p. parts-cell m m' is is' p;
+    }
+
+-- ---- blocks
+
+module _ (m m' : Meaning) where
+  blocks_joined : (bs bs' cs cs' : Blocks) → AreBlocksAlike m m' bs bs' → AreBlocksAlike m m' cs cs' → AreBlocksAlike m m' (join bs cs) (join bs' cs')
+  blocks_joined page.Nil page.Nil cs cs' p q = q
+  blocks_joined page.Nil (page.Cons b' bs') cs cs' p q = absurd p
+  blocks_joined (page.Cons b bs) page.Nil cs cs' p q = absurd p
+  blocks_joined (page.Cons b bs) (page.Cons b' bs') cs cs' p q = (p.0, blocks_joined bs bs' cs cs' p.1 q)
+
+-- in a container nothing is left out after a leaf
+after_leaf_all : (top : Bool) (leaf : tree.LeafBlock) (bs : Blocks) → top ≡ false → after_leaf top leaf bs ≡ bs
+after_leaf_all top (tree.FencedCode info is_closed ls) bs h = ap (λ t. if t && not is_closed then without_ending bs else bs) h
+after_leaf_all top leaf bs h = refl
+
+module _ (r : Reading) where
+  read_before : (standing : Standing) (b : tree.Block) (bs cs : Blocks) → standing.top ≡ false
+      → read_block r standing b (join bs cs) ≡ join (read_block r standing b bs) cs
+  read_before standing (tree.Leaf leaf) bs cs h =
+      let first = page.Leaf (read_leaf r standing leaf) in
+      ap (page.Cons first) (after_leaf_all standing.top leaf (join bs cs) h)
+      ∙ ap (λ others. page.Cons first (join others cs)) (sym (after_leaf_all standing.top leaf bs h))
+  read_before standing (tree.Holds c kids) bs cs h = refl
+  read_before standing (tree.Items items) bs cs h = refl
+  read_before standing (tree.Ending None) bs cs h = refl
+  read_before standing (tree.Ending (Some ending)) bs cs h = refl
+  read_before standing (tree.Blank None) bs cs h = refl
+  read_before standing (tree.Blank (Some ending)) bs cs h = refl
+
+  read_joined : (standing : Standing) (bs cs : tree.Blocks) → standing.top ≡ false
+      → read_blocks r standing (tree.join bs cs) ≡ join (read_blocks r standing bs) (read_blocks r (standing_after standing bs) cs)
+  read_joined standing tree.Nil cs h = refl
+  read_joined standing (tree.Cons b bs) cs h =
+      let next = next_standing standing b in
+      ap (read_block r standing b) (read_joined next bs cs h)
+      ∙ read_before standing b (read_blocks r next bs) (read_blocks r (standing_after next bs) cs) h
+
+pub alike_blocks_compose : AlikeBlocksCompose
+alike_blocks_compose =
+    record {
+      joined = λ m m' bs bs' cs cs' p q. blocks_joined m m' bs bs' cs cs' p q;
+      read = λ r standing bs cs h. read_joined r standing bs cs h;
     }

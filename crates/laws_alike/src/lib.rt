@@ -1,7 +1,7 @@
 //! Pages that are alike print the same.
 #![tactic(auto)]
 
-ghost use Rattle.laws_alike.specs.Composed.{AlikePartsCompose};
+ghost use Rattle.laws_alike.specs.Composed.{AlikeBlocksCompose, AlikePartsCompose};
 ghost use Rattle.laws_alike.specs.Examples.{AlikeExamples, RefusedExamples};
 ghost use Rattle.laws_alike.specs.GfmFootnoteDefinition.{FootnotesAreThoseOfBlocks};
 ghost use Rattle.laws_alike.specs.LabelMatch.{SameWordsAreAlike};
@@ -49,6 +49,12 @@ pub fn label_words_law()
 #[tactic(auto, using(crate::proofs::Composed::alike_parts_compose))]
 pub fn alike_parts_law()
     ensures { AlikePartsCompose }
+{}
+
+/// Blocks stay alike with others after them. The blocks of a container are read one after another.
+#[tactic(auto, using(crate::proofs::Composed::alike_blocks_compose))]
+pub fn alike_blocks_law()
+    ensures { AlikeBlocksCompose }
 {}
 
 /// Lines of code and of HTML are alike to their texts and endings apart, which events have.
