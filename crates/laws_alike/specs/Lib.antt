@@ -1,0 +1,14 @@
+pub mod Targets
+pub mod LabelMatch
+pub mod HtmlText
+pub mod Inline
+pub mod BlockLines
+pub mod GfmTable
+pub mod Page
+pub mod Strings
+pub mod Laws
+pub mod Composed
+pub mod Raw
+pub mod GfmFootnoteDefinition
+pub mod Spelled
+pub mod Examples
