@@ -162,7 +162,7 @@ module _ (names : List ℕ → Option (List ℕ)) (bytes : List ℕ) where
       let a = reaches_index from start ((both (reaches from start) (is_spot bytes start) p).0) in
       let b = reaches_index start end ((both (reaches start end) (is_spot bytes end) q).0) in
       let k = s.before in
-      record { before = omega arith; phase_is = s.phase_is }
+      record { before = omega arith; phase_is = s.phase_is; there = (both (reaches start end) (is_spot bytes end) q).1 }
 
   -- the same by what stands there, and by the places that were read
   by_spots : (l : Option Leaf) (o after : Open) (os : List Open) (from start end : Spot) (enter exit : Event) (form : Form) → l ≡ None

@@ -2,7 +2,8 @@
 ghost use Rattle.std.specs.Prelude.{◌≡◌};
 ghost use Rattle.engine_events.specs.Names.{is_listed};
 ghost use Rattle.event_grammar.specs.Grammar.{block_names, string_names, text_names, line_names, one_line_names, mdx_names, link_names, cell_names};
-ghost use Rattle.event_grammar.specs.Void.{is_void};
+ghost use Rattle.event_grammar.specs.Voids.{asks, is_not, void_of};
+ghost use Rattle.event_grammar.specs.Rules.{rule_of, asks_link, asks_cell};
 ghost use Rattle.event_grammar.specs.Facts.{ending_names, asks_bytes};
 
 use engine_events::event::Name;
@@ -30,6 +31,7 @@ pub fn is_link(name: Name) -> bool
 }
 
 /// Whether a name is a cell of a table.
+#[inline(always)]
 pub fn is_cell(name: Name) -> bool
     ensures { result ≡ is_listed cell_names name }
 {
@@ -80,6 +82,47 @@ pub fn is_one_line(name: Name) -> bool
             | Name::CharacterEscape
             | Name::CharacterReference
     )
+}
+
+/// What its name asks of an event that holds others.
+#[derive(Clone, Copy, Debug, PartialEq, Eq)]
+pub enum Rule {
+    /// Nothing.
+    Free,
+    /// It is a cell of a table, which is counted.
+    Cell,
+    /// It is a link or a footnote call, which stand in no other.
+    Link,
+}
+
+impl Rule {
+    #[inline(always)]
+    pub fn is_link(self) -> bool
+        ensures { result ≡ asks_link self }
+    {
+        matches!(self, Rule::Link)
+    }
+
+    #[inline(always)]
+    pub fn is_cell(self) -> bool
+        ensures { result ≡ asks_cell self }
+    {
+        matches!(self, Rule::Cell)
+    }
+}
+
+/// What a name asks of its event.
+#[inline(never)]
+pub fn rule_of(name: Name) -> Rule
+    ensures { result ≡ rule_of name }
+{
+    if is_link(name) {
+        Rule::Link
+    } else if is_cell(name) {
+        Rule::Cell
+    } else {
+        Rule::Free
+    }
 }
 
 /// Whether a name is a block.
@@ -161,25 +204,62 @@ pub fn asks_bytes(name: Name) -> bool
     )
 }
 
-/// Whether an event of a name holds no other, and the name isn't one of MDX.
-pub fn holds_none(name: Name) -> bool
-    ensures { result ≡ is_void name }
+/// What is asked of an event that holds no other, by its name.
+#[derive(Clone, Copy, Debug, PartialEq, Eq)]
+pub enum Void {
+    /// It holds others, or its name is one of MDX.
+    Not,
+    /// It is spaces and tabs.
+    Space,
+    /// Its bytes are a line ending.
+    Ending,
+    /// Its bytes are what its name says.
+    Asking,
+    /// Nothing is asked of its bytes.
+    Plain,
+}
+
+impl Void {
+    /// Whether it holds others, or is one of MDX.
+    #[inline(always)]
+    pub fn is_not(self) -> bool
+        ensures { result ≡ is_not self }
+    {
+        matches!(self, Void::Not)
+    }
+
+    /// Whether anything is asked of its bytes.
+    #[inline(always)]
+    pub fn asks(self) -> bool
+        ensures { result ≡ asks self }
+    {
+        matches!(self, Void::Ending | Void::Asking)
+    }
+}
+
+/// What is asked of an event of this name, if it holds no other.
+#[inline(always)]
+pub fn void_of(name: Name) -> Void
+    ensures { result ≡ void_of name }
 {
     match name {
+        Name::SpaceOrTab => Void::Space,
+        Name::LineEnding | Name::BlankLineEnding => Void::Ending,
+        Name::ListItemValue | Name::HeadingAtxSequence | Name::CharacterReferenceValue => {
+            Void::Asking
+        }
         Name::AttentionSequence
         | Name::AutolinkEmail
         | Name::AutolinkMarker
         | Name::AutolinkProtocol
-        | Name::BlankLineEnding
         | Name::BlockQuoteMarker
         | Name::ByteOrderMark
         | Name::CharacterEscapeMarker
         | Name::CharacterEscapeValue
         | Name::CharacterReferenceMarker
         | Name::CharacterReferenceMarkerHexadecimal
-        | Name::CharacterReferenceMarkerNumeric => true,
+        | Name::CharacterReferenceMarkerNumeric => Void::Plain,
         Name::CharacterReferenceMarkerSemi
-        | Name::CharacterReferenceValue
         | Name::CodeFencedFenceSequence
         | Name::CodeFlowChunk
         | Name::CodeTextData
@@ -189,7 +269,7 @@ pub fn holds_none(name: Name) -> bool
         | Name::DefinitionDestinationLiteralMarker
         | Name::DefinitionLabelMarker
         | Name::DefinitionMarker
-        | Name::DefinitionTitleMarker => true,
+        | Name::DefinitionTitleMarker => Void::Plain,
         Name::EmphasisSequence
         | Name::FrontmatterChunk
         | Name::FrontmatterSequence
@@ -201,7 +281,7 @@ pub fn holds_none(name: Name) -> bool
         | Name::GfmFootnoteCallMarker
         | Name::GfmFootnoteDefinitionLabelMarker
         | Name::GfmFootnoteDefinitionMarker
-        | Name::GfmStrikethroughSequence => true,
+        | Name::GfmStrikethroughSequence => Void::Plain,
         Name::GfmTableCellDivider
         | Name::GfmTableDelimiterFiller
         | Name::GfmTableDelimiterMarker
@@ -210,27 +290,23 @@ pub fn holds_none(name: Name) -> bool
         | Name::GfmTaskListItemValueUnchecked
         | Name::HardBreakEscape
         | Name::HardBreakTrailing
-        | Name::HeadingAtxSequence
         | Name::HeadingSetextUnderlineSequence
         | Name::HtmlFlowData
-        | Name::HtmlTextData => true,
+        | Name::HtmlTextData => Void::Plain,
         Name::LabelImageMarker
         | Name::LabelMarker
-        | Name::LineEnding
         | Name::ListItemMarker
-        | Name::ListItemValue
         | Name::MarkSequence
         | Name::MathFlowChunk
         | Name::MathFlowFenceSequence
         | Name::MathTextData
         | Name::MathTextSequence
         | Name::ReferenceMarker
-        | Name::ResourceDestinationLiteralMarker => true,
+        | Name::ResourceDestinationLiteralMarker => Void::Plain,
         Name::ResourceMarker
         | Name::ResourceTitleMarker
-        | Name::SpaceOrTab
         | Name::StrongSequence
-        | Name::ThematicBreakSequence => true,
+        | Name::ThematicBreakSequence => Void::Plain,
         Name::Autolink
         | Name::BlockQuote
         | Name::BlockQuotePrefix
@@ -242,7 +318,7 @@ pub fn holds_none(name: Name) -> bool
         | Name::CodeFencedFenceMeta
         | Name::CodeIndented
         | Name::CodeText
-        | Name::Definition => false,
+        | Name::Definition => Void::Not,
         Name::DefinitionDestination
         | Name::DefinitionDestinationLiteral
         | Name::DefinitionDestinationRaw
@@ -254,7 +330,7 @@ pub fn holds_none(name: Name) -> bool
         | Name::Emphasis
         | Name::EmphasisText
         | Name::Frontmatter
-        | Name::FrontmatterFence => false,
+        | Name::FrontmatterFence => Void::Not,
         Name::GfmFootnoteCall
         | Name::GfmFootnoteCallLabel
         | Name::GfmFootnoteDefinition
@@ -266,7 +342,7 @@ pub fn holds_none(name: Name) -> bool
         | Name::GfmTable
         | Name::GfmTableBody
         | Name::GfmTableCell
-        | Name::GfmTableCellText => false,
+        | Name::GfmTableCellText => Void::Not,
         Name::GfmTableDelimiterCell
         | Name::GfmTableDelimiterCellValue
         | Name::GfmTableDelimiterRow
@@ -278,7 +354,7 @@ pub fn holds_none(name: Name) -> bool
         | Name::HeadingSetext
         | Name::HeadingSetextText
         | Name::HeadingSetextUnderline
-        | Name::HtmlFlow => false,
+        | Name::HtmlFlow => Void::Not,
         Name::HtmlText
         | Name::Image
         | Name::Label
@@ -290,7 +366,7 @@ pub fn holds_none(name: Name) -> bool
         | Name::ListItem
         | Name::ListItemPrefix
         | Name::ListOrdered
-        | Name::ListUnordered => false,
+        | Name::ListUnordered => Void::Not,
         Name::Mark
         | Name::MarkText
         | Name::MathFlow
@@ -302,7 +378,7 @@ pub fn holds_none(name: Name) -> bool
         | Name::MdxJsxFlowTag
         | Name::MdxJsxTextTag
         | Name::MdxTextExpression
-        | Name::Paragraph => false,
+        | Name::Paragraph => Void::Not,
         Name::Reference
         | Name::ReferenceString
         | Name::Resource
@@ -314,6 +390,6 @@ pub fn holds_none(name: Name) -> bool
         | Name::ResourceTitleString
         | Name::Strong
         | Name::StrongText
-        | Name::ThematicBreak => false,
+        | Name::ThematicBreak => Void::Not,
     }
 }
