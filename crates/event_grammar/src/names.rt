@@ -3,6 +3,8 @@ ghost use Rattle.std.specs.Prelude.{◌≡◌};
 ghost use Rattle.engine_events.specs.Names.{is_listed};
 ghost use Rattle.event_grammar.specs.Grammar.{block_names, string_names, text_names, line_names, one_line_names, mdx_names, link_names, cell_names};
 ghost use Rattle.event_grammar.specs.Voids.{asks, is_not, void_of};
+ghost use Rattle.event_grammar.specs.Spaces.{is_between};
+ghost use Rattle.event_grammar.specs.declared.slot.Between.TheVariants.{Lines};
 ghost use Rattle.event_grammar.specs.Rules.{rule_of, asks_link, asks_cell};
 ghost use Rattle.event_grammar.specs.Facts.{ending_names, asks_bytes};
 
@@ -226,6 +228,14 @@ impl Void {
         ensures { result ≡ is_not self }
     {
         matches!(self, Void::Not)
+    }
+
+    /// Whether it stands between the children of a row: spaces, or a line ending.
+    #[inline(always)]
+    pub fn is_between(self) -> bool
+        ensures { result ≡ is_between Lines self }
+    {
+        matches!(self, Void::Space | Void::Ending)
     }
 
     /// Whether anything is asked of its bytes.

@@ -16,7 +16,7 @@ returns-then-bars-clause-moved g c =
     let name = c.args.name in
     let link : c.is_link.result ≡ is_listed link_names name = c.is_link.ensures ∙ (ap asks_link c.rule_of-rule.ensures ∙ link_is name) in
     let cell : c.is_cell.result ≡ is_listed cell_names name = c.is_cell.ensures ∙ (ap asks_cell c.rule_of-rule.ensures ∙ cell_is name) in
-    let full = is_limit old.inner.limit old.inner.cells in
+    let full = is_limit (open_view old.inner).limit old.inner.cells in
     barred old.leaf (open_view old.inner) (map open_view (reverse old.outer.items)) old.spot c.args.at name c.requires.leaf
     (sym (ap (λ (z : Bool). (old.inner.linked && z) || (is_listed cell_names name && full)) link)
     ∙ (sym (ap (λ (z : Bool). (old.inner.linked && c.is_link.result) || (z && full)) cell) ∙ (sym c.bars.ensures ∙ c.if-bars.true)))
@@ -30,7 +30,7 @@ returns-clause-moved g c =
     let name = c.args.name in
     let link : c.is_link.result ≡ is_listed link_names name = c.is_link.ensures ∙ (ap asks_link c.rule_of-rule.ensures ∙ link_is name) in
     let cell : c.is_cell.result ≡ is_listed cell_names name = c.is_cell.ensures ∙ (ap asks_cell c.rule_of-rule.ensures ∙ cell_is name) in
-    let full = is_limit old.inner.limit old.inner.cells in
+    let full = is_limit (open_view old.inner).limit old.inner.cells in
     takes old.leaf (open_view old.inner) (open_view c.take.new.self) (map open_view (reverse old.outer.items)) old.spot c.args.at name
     (taken_view c.args.taken) old.inner.last _ c.requires.leaf
     (sym (ap (λ (z : Bool). (old.inner.linked && z) || (is_listed cell_names name && full)) link)
