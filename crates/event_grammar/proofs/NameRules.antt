@@ -4,12 +4,10 @@ use denote.Enum.Bare.{same_true}
 use Rattle.engine_events.specs.contracts.event.Name.{the_type}
 use Rattle.engine_events.specs.Names.{same_name, is_listed}
 use Rattle.engine_events.specs.declared.event.Name.{Name}
-use Rattle.engine_events.specs.declared.event.Name.TheVariants as n
-use Rattle.event_grammar.specs.Grammar.{link_names, cell_names, space_names}
+use Rattle.event_grammar.specs.Grammar.{space_names}
 use Rattle.event_grammar.specs.Facts.{ending_names, asks_bytes}
 use Rattle.event_grammar.specs.Void.{is_void}
 use Rattle.event_grammar.specs.Voids.{void_by, void_of, is_not, asks, asks_others}
-use Rattle.event_grammar.specs.Rules.{rule_by, rule_of, asks_link, asks_cell}
 
 -- ---- names of two in a list
 
@@ -23,27 +21,6 @@ pub of_two : (P : Name → Type 0) (a b name : Name) → P a → P b → is_list
 of_two P a b name p q h =
     either (same_name a name) (same_name b name) (P name) h
     (λ k. subst P (same_true the_type tt a name k) p) (λ k. subst P (same_true the_type tt b name k) q)
-
--- ---- events that hold others
-
-cell_by : (link cell : Bool) → (cell ≡ true → link ≡ false) → asks_cell (rule_by link cell) ≡ cell
-cell_by true true h = absurd (let f : true ≡ false = h refl in cc)
-cell_by true false h = refl
-cell_by false true h = refl
-cell_by false false h = refl
-
-link_by : (link cell : Bool) → asks_link (rule_by link cell) ≡ link
-link_by true cell = refl
-link_by false true = refl
-link_by false false = refl
-
-pub link_is : (name : Name) → asks_link (rule_of name) ≡ is_listed link_names name
-link_is name = link_by (is_listed link_names name) (is_listed cell_names name)
-
-pub cell_is : (name : Name) → asks_cell (rule_of name) ≡ is_listed cell_names name
-cell_is name =
-    cell_by (is_listed link_names name) (is_listed cell_names name)
-    (of_two (λ z. is_listed link_names z ≡ false) n.GfmTableCell n.GfmTableDelimiterCell name refl refl)
 
 -- ---- events that hold no other
 

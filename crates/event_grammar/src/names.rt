@@ -5,7 +5,6 @@ ghost use Rattle.event_grammar.specs.Grammar.{block_names, string_names, text_na
 ghost use Rattle.event_grammar.specs.Voids.{asks, is_not, void_of};
 ghost use Rattle.event_grammar.specs.Spaces.{is_between};
 ghost use Rattle.event_grammar.specs.declared.slot.Between.TheVariants.{Lines};
-ghost use Rattle.event_grammar.specs.Rules.{rule_of, asks_link, asks_cell};
 ghost use Rattle.event_grammar.specs.Facts.{ending_names, asks_bytes};
 
 use engine_events::event::Name;
@@ -84,47 +83,6 @@ pub fn is_one_line(name: Name) -> bool
             | Name::CharacterEscape
             | Name::CharacterReference
     )
-}
-
-/// What its name asks of an event that holds others.
-#[derive(Clone, Copy, Debug, PartialEq, Eq)]
-pub enum Rule {
-    /// Nothing.
-    Free,
-    /// It is a cell of a table, which is counted.
-    Cell,
-    /// It is a link or a footnote call, which stand in no other.
-    Link,
-}
-
-impl Rule {
-    #[inline(always)]
-    pub fn is_link(self) -> bool
-        ensures { result ≡ asks_link self }
-    {
-        matches!(self, Rule::Link)
-    }
-
-    #[inline(always)]
-    pub fn is_cell(self) -> bool
-        ensures { result ≡ asks_cell self }
-    {
-        matches!(self, Rule::Cell)
-    }
-}
-
-/// What a name asks of its event.
-#[inline(never)]
-pub fn rule_of(name: Name) -> Rule
-    ensures { result ≡ rule_of name }
-{
-    if is_link(name) {
-        Rule::Link
-    } else if is_cell(name) {
-        Rule::Cell
-    } else {
-        Rule::Free
-    }
 }
 
 /// Whether a name is a block.
