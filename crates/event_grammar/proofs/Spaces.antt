@@ -360,6 +360,7 @@ takes_none_more c next Enter name at k e = enter_by (is_barred c.inner name) c n
 takes_none_more c next Exit name at k e = exit_by (may_exit c.inner name) c next at name k e
 
 -- the innermost with a row
-pub held_takes_none : (l : Option Leaf) (o : Open) (os : List Open) (from : Spot) → TakesNone (check_at (innermost l o) (around_it l o os) from) → take_none o.rest ≡ true
+pub held_takes_none : (l : Option Leaf) (o : Open) (os : List Open) (from : Spot) → TakesNone (check_at (innermost l o) (around_it l o os) from)
+    → take_none o.rest ≡ true
 held_takes_none None o os from k = k.inner
 held_takes_none (Some x) o os from k = k.outer.0

@@ -18,14 +18,16 @@ pub returns-then-is_between-clause-stands : goal.returns-then-is_between-clause-
 returns-then-is_between-clause-stands g c =
     let bytes = c.args.bytes.now in
     let front = c.requires.front in
-    stands_on (g.T.Tables.reference_of c.args.tables.now) bytes c.args.self.now.spot c.spot_of-start.result c.spot_of-end.result c.args.self.now.known c.requires.stands
+    stands_on (g.T.Tables.reference_of c.args.tables.now) bytes c.args.self.now.spot c.spot_of-start.result c.spot_of-end.result c.args.self.now.known
+    c.requires.stands
     (c.is_next.ensures.place bytes front c.requires.stands.there c.if-not-is_next.false) (c.is_place.ensures.place bytes front c.if-not-is_place.false)
 
 pub returns-else-not-is_fact_between-2-clause-stands : goal.returns-else-not-is_fact_between-2-clause-stands
 returns-else-not-is_fact_between-2-clause-stands g c =
     let bytes = c.args.bytes.now in
     let front = c.requires.front in
-    stands_on (g.T.Tables.reference_of c.args.tables.now) bytes c.args.self.now.spot c.spot_of-start.result c.spot_of-end.result c.args.self.now.known c.requires.stands
+    stands_on (g.T.Tables.reference_of c.args.tables.now) bytes c.args.self.now.spot c.spot_of-start.result c.spot_of-end.result c.args.self.now.known
+    c.requires.stands
     (c.is_next.ensures.place bytes front c.requires.stands.there c.if-not-is_next.false) (c.is_place.ensures.place bytes front c.if-not-is_place.false)
 
 pub returns-then-is_between-clause-passed : goal.returns-then-is_between-clause-passed
@@ -36,8 +38,8 @@ returns-then-is_between-clause-passed g c =
     let name = c.args.enter.now.name in
     let outer = map open_view (reverse old.outer.items) in
     let stands = stands_as old.inner.around name c.void_of-void.result c.void_of-void.ensures (sym c.stands_as.ensures ∙ c.if-not-stands_as.false) in
-    λ _. passes_between (g.T.Tables.reference_of c.args.tables.now) bytes old.leaf (open_view old.inner) outer old.spot c.spot_of-start.result c.spot_of-end.result
-    c.args.enter.now c.args.exit.now c.requires.leaf c.spot_of-start.ensures c.spot_of-end.ensures c.requires.pair
+    λ _. passes_between (g.T.Tables.reference_of c.args.tables.now) bytes old.leaf (open_view old.inner) outer old.spot
+    c.spot_of-start.result c.spot_of-end.result c.args.enter.now c.args.exit.now c.requires.leaf c.spot_of-start.ensures c.spot_of-end.ensures c.requires.pair
     (void_is name (ap is_not (sym c.void_of-void.ensures) ∙ (sym c.is_not.ensures ∙ c.if-is_not.false)))
     (not_taken old.inner.rest.now name (held_takes_none old.leaf (open_view old.inner) outer old.spot c.requires.spaces) stands.1) stands.0
     (c.is_next.ensures.place bytes front c.requires.stands.there c.if-not-is_next.false) (c.is_place.ensures.place bytes front c.if-not-is_place.false)
