@@ -33,6 +33,12 @@ pub stays : (l : Option Leaf) (x : Leaf) (o : Open) (os : List Open) (from at : 
 stays None x o os from at name h = not_some _ x h
 stays (Some y) x o os from at name h = same (is_barred (leaf_view y o) name) None
 
+-- nothing is entered that is barred
+pub barred : (l : Option Leaf) (o : Open) (os : List Open) (from at : Spot) (name : Name) → l ≡ None → is_barred o name ≡ true
+    → entered (check_at (innermost l o) (around_it l o os) from) at name ≡ None
+barred None o os from at name h b = if_so (is_barred o name) None (entered_as (check_at o os from) at name (take_child o.rest name)) b
+barred (Some x) o os from at name h b = not_none _ x h
+
 -- a child is taken by the row
 pub takes : (l : Option Leaf) (o after : Open) (os : List Open) (from at : Spot) (name : Name) (t : Taken) (sibling : Option Name) (new : Check) → l ≡ None
     → is_barred o name ≡ false → take_child o.rest name ≡ Some t → after ≡ with_child o name t.rest → sibling ≡ o.last

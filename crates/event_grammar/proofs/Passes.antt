@@ -20,7 +20,8 @@ use Rattle.event_grammar.specs.Slots.{Taken, take_child, may_end}
 use Rattle.event_grammar.specs.Points.{reaches, is_spot, bytes_between}
 use Rattle.event_grammar.specs.Facts.{is_fact}
 use Rattle.event_grammar.specs.Void.{is_void}
-use Rattle.event_grammar.specs.Checks.{Open, Check, check_at, opened, with_child, limit_of, has_limit, may_exit, is_limit, entered, entered_as, exited, exited_to, moved, stands_between, spot_of, step, next_of, placed, fact_at}
+use Rattle.event_grammar.specs.Checks.{Open, Check, check_at, opened, with_child, limit_of, has_limit, may_exit, is_limit, entered, entered_as, exited}
+use Rattle.event_grammar.specs.Checks.{exited_to, moved, stands_between, spot_of, step, next_of, placed, fact_at}
 use Rattle.event_grammar.specs.CheckViews.{innermost, around_it, is_enter, is_pair, Passes, StandsAt}
 use Rattle.event_grammar.specs.declared.place.Known.{Known}
 use Rattle.event_grammar.proofs.PlaceLaws.{reaches_index}
@@ -87,7 +88,8 @@ may_end_alone o at name form a s =
 exit_alone : (o after : Open) (os : List Open) (from at to : Spot) (name : Name) (form : Form) → IsAlone name → same_name name name ≡ true
     → exited (check_at (opened o name form at) (after ∷ os) from) to name ≡ Some (check_at after os to)
 exit_alone o after os from at to name form a s =
-    ap (λ (b : Bool). if b then exited_to (check_at (opened o name form at) (after ∷ os) from) to name (after ∷ os) else None) (may_end_alone o at name form a s)
+    ap (λ (b : Bool). if b then exited_to (check_at (opened o name form at) (after ∷ os) from) to name (after ∷ os) else None)
+    (may_end_alone o at name form a s)
     ∙ ap (λ (b : Bool). Some (check_at (record after { above = if b then 0 else after.above }) os to)) a.head
 
 -- ---- by what may stand
@@ -162,7 +164,7 @@ module _ (names : List ℕ → Option (List ℕ)) (bytes : List ℕ) where
       let a = reaches_index from start ((both (reaches from start) (is_spot bytes start) p).0) in
       let b = reaches_index start end ((both (reaches start end) (is_spot bytes end) q).0) in
       let k = s.before in
-      record { before = omega arith; phase_is = s.phase_is }
+      record { before = omega arith; phase_is = s.phase_is; there = (both (reaches start end) (is_spot bytes end) q).1 }
 
   -- the same by what stands there, and by the places that were read
   by_spots : (l : Option Leaf) (o after : Open) (os : List Open) (from start end : Spot) (enter exit : Event) (form : Form) → l ≡ None
@@ -173,7 +175,8 @@ module _ (names : List ℕ → Option (List ℕ)) (bytes : List ℕ) where
       → is_fact names enter.name form o.last (bytes_between bytes start end) ≡ true
       → Passes names bytes (check_at (innermost l o) (around_it l o os) from) enter exit (check_at (innermost l after) (around_it l after os) end)
   by_spots l o after os from start end enter exit form e a b h v s p q f =
-      subst (λ (z : Spot). Passes names bytes (check_at (innermost l o) (around_it l o os) from) enter exit (check_at (innermost l after) (around_it l after os) z)) (sym b)
+      subst (λ (z : Spot). Passes names bytes (check_at (innermost l o) (around_it l o os) from) enter exit
+      (check_at (innermost l after) (around_it l after os) z)) (sym b)
       (passes l o after os from enter exit form e h v s
       (sym (ap (λ (z : Spot). reaches from z && is_spot bytes z) a) ∙ p)
       (sym (ap (λ (z : Spot). reaches z end && is_spot bytes end) a ∙ ap (λ (z : Spot). reaches (spot_of enter) z && is_spot bytes z) b) ∙ q)

@@ -2,7 +2,9 @@
 ghost use Rattle.std.specs.Prelude.{◌≡◌};
 ghost use Rattle.engine_events.specs.Names.{is_listed};
 ghost use Rattle.event_grammar.specs.Grammar.{block_names, string_names, text_names, line_names, one_line_names, mdx_names, link_names, cell_names};
-ghost use Rattle.event_grammar.specs.Void.{is_void};
+ghost use Rattle.event_grammar.specs.Voids.{asks, is_not, void_of};
+ghost use Rattle.event_grammar.specs.Spaces.{is_between};
+ghost use Rattle.event_grammar.specs.declared.slot.Between.TheVariants.{Lines};
 ghost use Rattle.event_grammar.specs.Facts.{ending_names, asks_bytes};
 
 use engine_events::event::Name;
@@ -30,6 +32,7 @@ pub fn is_link(name: Name) -> bool
 }
 
 /// Whether a name is a cell of a table.
+#[inline(always)]
 pub fn is_cell(name: Name) -> bool
     ensures { result ≡ is_listed cell_names name }
 {
@@ -161,25 +164,70 @@ pub fn asks_bytes(name: Name) -> bool
     )
 }
 
-/// Whether an event of a name holds no other, and the name isn't one of MDX.
-pub fn holds_none(name: Name) -> bool
-    ensures { result ≡ is_void name }
+/// What is asked of an event that holds no other, by its name.
+#[derive(Clone, Copy, Debug, PartialEq, Eq)]
+pub enum Void {
+    /// It holds others, or its name is one of MDX.
+    Not,
+    /// It is spaces and tabs.
+    Space,
+    /// Its bytes are a line ending.
+    Ending,
+    /// Its bytes are what its name says.
+    Asking,
+    /// Nothing is asked of its bytes.
+    Plain,
+}
+
+impl Void {
+    /// Whether it holds others, or is one of MDX.
+    #[inline(always)]
+    pub fn is_not(self) -> bool
+        ensures { result ≡ is_not self }
+    {
+        matches!(self, Void::Not)
+    }
+
+    /// Whether it stands between the children of a row: spaces, or a line ending.
+    #[inline(always)]
+    pub fn is_between(self) -> bool
+        ensures { result ≡ is_between Lines self }
+    {
+        matches!(self, Void::Space | Void::Ending)
+    }
+
+    /// Whether anything is asked of its bytes.
+    #[inline(always)]
+    pub fn asks(self) -> bool
+        ensures { result ≡ asks self }
+    {
+        matches!(self, Void::Ending | Void::Asking)
+    }
+}
+
+/// What is asked of an event of this name, if it holds no other.
+#[inline(always)]
+pub fn void_of(name: Name) -> Void
+    ensures { result ≡ void_of name }
 {
     match name {
+        Name::SpaceOrTab => Void::Space,
+        Name::LineEnding | Name::BlankLineEnding => Void::Ending,
+        Name::ListItemValue | Name::HeadingAtxSequence | Name::CharacterReferenceValue => {
+            Void::Asking
+        }
         Name::AttentionSequence
         | Name::AutolinkEmail
         | Name::AutolinkMarker
         | Name::AutolinkProtocol
-        | Name::BlankLineEnding
         | Name::BlockQuoteMarker
         | Name::ByteOrderMark
         | Name::CharacterEscapeMarker
         | Name::CharacterEscapeValue
         | Name::CharacterReferenceMarker
         | Name::CharacterReferenceMarkerHexadecimal
-        | Name::CharacterReferenceMarkerNumeric => true,
+        | Name::CharacterReferenceMarkerNumeric => Void::Plain,
         Name::CharacterReferenceMarkerSemi
-        | Name::CharacterReferenceValue
         | Name::CodeFencedFenceSequence
         | Name::CodeFlowChunk
         | Name::CodeTextData
@@ -189,7 +237,7 @@ pub fn holds_none(name: Name) -> bool
         | Name::DefinitionDestinationLiteralMarker
         | Name::DefinitionLabelMarker
         | Name::DefinitionMarker
-        | Name::DefinitionTitleMarker => true,
+        | Name::DefinitionTitleMarker => Void::Plain,
         Name::EmphasisSequence
         | Name::FrontmatterChunk
         | Name::FrontmatterSequence
@@ -201,7 +249,7 @@ pub fn holds_none(name: Name) -> bool
         | Name::GfmFootnoteCallMarker
         | Name::GfmFootnoteDefinitionLabelMarker
         | Name::GfmFootnoteDefinitionMarker
-        | Name::GfmStrikethroughSequence => true,
+        | Name::GfmStrikethroughSequence => Void::Plain,
         Name::GfmTableCellDivider
         | Name::GfmTableDelimiterFiller
         | Name::GfmTableDelimiterMarker
@@ -210,27 +258,23 @@ pub fn holds_none(name: Name) -> bool
         | Name::GfmTaskListItemValueUnchecked
         | Name::HardBreakEscape
         | Name::HardBreakTrailing
-        | Name::HeadingAtxSequence
         | Name::HeadingSetextUnderlineSequence
         | Name::HtmlFlowData
-        | Name::HtmlTextData => true,
+        | Name::HtmlTextData => Void::Plain,
         Name::LabelImageMarker
         | Name::LabelMarker
-        | Name::LineEnding
         | Name::ListItemMarker
-        | Name::ListItemValue
         | Name::MarkSequence
         | Name::MathFlowChunk
         | Name::MathFlowFenceSequence
         | Name::MathTextData
         | Name::MathTextSequence
         | Name::ReferenceMarker
-        | Name::ResourceDestinationLiteralMarker => true,
+        | Name::ResourceDestinationLiteralMarker => Void::Plain,
         Name::ResourceMarker
         | Name::ResourceTitleMarker
-        | Name::SpaceOrTab
         | Name::StrongSequence
-        | Name::ThematicBreakSequence => true,
+        | Name::ThematicBreakSequence => Void::Plain,
         Name::Autolink
         | Name::BlockQuote
         | Name::BlockQuotePrefix
@@ -242,7 +286,7 @@ pub fn holds_none(name: Name) -> bool
         | Name::CodeFencedFenceMeta
         | Name::CodeIndented
         | Name::CodeText
-        | Name::Definition => false,
+        | Name::Definition => Void::Not,
         Name::DefinitionDestination
         | Name::DefinitionDestinationLiteral
         | Name::DefinitionDestinationRaw
@@ -254,7 +298,7 @@ pub fn holds_none(name: Name) -> bool
         | Name::Emphasis
         | Name::EmphasisText
         | Name::Frontmatter
-        | Name::FrontmatterFence => false,
+        | Name::FrontmatterFence => Void::Not,
         Name::GfmFootnoteCall
         | Name::GfmFootnoteCallLabel
         | Name::GfmFootnoteDefinition
@@ -266,7 +310,7 @@ pub fn holds_none(name: Name) -> bool
         | Name::GfmTable
         | Name::GfmTableBody
         | Name::GfmTableCell
-        | Name::GfmTableCellText => false,
+        | Name::GfmTableCellText => Void::Not,
         Name::GfmTableDelimiterCell
         | Name::GfmTableDelimiterCellValue
         | Name::GfmTableDelimiterRow
@@ -278,7 +322,7 @@ pub fn holds_none(name: Name) -> bool
         | Name::HeadingSetext
         | Name::HeadingSetextText
         | Name::HeadingSetextUnderline
-        | Name::HtmlFlow => false,
+        | Name::HtmlFlow => Void::Not,
         Name::HtmlText
         | Name::Image
         | Name::Label
@@ -290,7 +334,7 @@ pub fn holds_none(name: Name) -> bool
         | Name::ListItem
         | Name::ListItemPrefix
         | Name::ListOrdered
-        | Name::ListUnordered => false,
+        | Name::ListUnordered => Void::Not,
         Name::Mark
         | Name::MarkText
         | Name::MathFlow
@@ -302,7 +346,7 @@ pub fn holds_none(name: Name) -> bool
         | Name::MdxJsxFlowTag
         | Name::MdxJsxTextTag
         | Name::MdxTextExpression
-        | Name::Paragraph => false,
+        | Name::Paragraph => Void::Not,
         Name::Reference
         | Name::ReferenceString
         | Name::Resource
@@ -314,6 +358,6 @@ pub fn holds_none(name: Name) -> bool
         | Name::ResourceTitleString
         | Name::Strong
         | Name::StrongText
-        | Name::ThematicBreak => false,
+        | Name::ThematicBreak => Void::Not,
     }
 }

@@ -1,0 +1,42 @@
+-- What its name asks of an event.
+use Rattle.std.proofs.Common.{◌≡◌, Bool, true, false, ◌||◌, ◌∷◌, [], refl, subst}
+use denote.Enum.Bare.{same_true}
+use Rattle.engine_events.specs.contracts.event.Name.{the_type}
+use Rattle.engine_events.specs.Names.{same_name, is_listed}
+use Rattle.engine_events.specs.declared.event.Name.{Name}
+use Rattle.event_grammar.specs.Grammar.{space_names}
+use Rattle.event_grammar.specs.Facts.{ending_names, asks_bytes}
+use Rattle.event_grammar.specs.Void.{is_void}
+use Rattle.event_grammar.specs.Voids.{void_by, void_of, is_not, asks, asks_others}
+
+-- ---- names of two in a list
+
+either : (a b : Bool) (A : Type 0) → (a || (b || false)) ≡ true → (a ≡ true → A) → (b ≡ true → A) → A
+either true b A h f g = f refl
+either false true A h f g = g refl
+either false false A h f g = absurd (let k : false ≡ true = h in cc)
+
+-- what is so of two names is so of each name in their list
+pub of_two : (P : Name → Type 0) (a b name : Name) → P a → P b → is_listed (a ∷ b ∷ []) name ≡ true → P name
+of_two P a b name p q h =
+    either (same_name a name) (same_name b name) (P name) h
+    (λ k. subst P (same_true the_type tt a name k) p) (λ k. subst P (same_true the_type tt b name k) q)
+
+-- ---- events that hold no other
+
+void_then : (v e o s : Bool) → is_not (void_by v e o s) ≡ false → v ≡ true
+void_then true e o s h = refl
+void_then false e o s h = absurd (let f : true ≡ false = h in cc)
+
+asks_then : (v e o s : Bool) → v ≡ true → asks (void_by v e o s) ≡ (e || o)
+asks_then true true o s h = refl
+asks_then true false true s h = refl
+asks_then true false false true h = refl
+asks_then true false false false h = refl
+asks_then false e o s h = absurd (let f : false ≡ true = h in cc)
+
+pub void_is : (name : Name) → is_not (void_of name) ≡ false → is_void name ≡ true
+void_is name h = void_then (is_void name) (is_listed ending_names name) (asks_others name) (is_listed space_names name) h
+
+pub asks_is : (name : Name) → is_not (void_of name) ≡ false → asks (void_of name) ≡ asks_bytes name
+asks_is name h = asks_then (is_void name) (is_listed ending_names name) (asks_others name) (is_listed space_names name) (void_is name h)
