@@ -21,7 +21,7 @@ use Rattle.inline_labels.specs.Table.{HasLabels}
 use Rattle.inline_rows.specs.InlineRows.{inline_rows}
 use Rattle.inline_rows.specs.View.{rows_view}
 use Rattle.event_blocks.proofs.TextLaid.{places_law, meaning_law}
-use Rattle.event_blocks.proofs.printer.LeafPrinter.text.Goals as goal
+use Rattle.event_blocks.proofs.printer.LeafPrinter.text_by_rows.Goals as goal
 
 pub read-requires : goal.read-requires
 read-requires g c = subst (λ (bs : List ℕ). AreCounted bs c.args.self.now.columns) (sym c.texts-texts.ensures.bytes) c.requires
