@@ -39,17 +39,12 @@ pub fn child(events: &[Event], name: Name) -> &[Event]
 pub(crate) fn has_name(events: &[Event], name: Name) -> bool
     ensures { result ≡ has_name name events.now }
 {
-    let mut index: usize = 0;
-    while index + 1 < events.len() {
-        if events[index].name == name || events[index + 1].name == name {
+    for event in events {
+        if event.name == name {
             return true;
         }
-        index += 2;
     }
-    match &events[index..] {
-        [] => false,
-        [last, ..] => last.name == name,
-    }
+    false
 }
 
 /// The events in the first one, and those after it.
