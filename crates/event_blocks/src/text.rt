@@ -18,8 +18,8 @@ use crate::printer::LeafPrinter;
 use crate::source::Source;
 use engine_events::event::{Event, Name};
 use event_levels::node::first_node;
-use event_rows::{SpelledStrings, TextEvents, text_rows};
-use html_inline::{Printing, count_rows, push_rows};
+use event_rows::{SpelledStrings, TextEvents, alone_row, text_rows};
+use html_inline::{Printing, count_rows, push_alone, push_rows};
 use markdown_options::Tables;
 use std::alloc::{AllocError, Allocator};
 
@@ -63,6 +63,32 @@ fn holds_text(name: Name) -> bool
 impl<A: Allocator + Clone> LeafPrinter<A> {
     /// Prints the text of these events, in a cell of a table or not.
     pub(crate) fn text<T: Tables>(
+        &mut self,
+        source: &Source<'_, T, A>,
+        cell: bool,
+        events: &[Event],
+    ) -> Result<(), AllocError>
+        requires { AreCounted source.now.checked.bytes.now self.old.columns }
+        ensures default { KeepsEnding self.old.page self.new.page }
+        ensures counted { AreCounted source.now.checked.bytes.now self.new.columns }
+        ensures printed { (m : Meaning) (ds : List Definition) (kids : Nodes) →
+            let names = T.reference_of source.now.tables.now in let bytes = source.now.checked.bytes.now in
+            IsMeant names source.now ds m → events.now ≡ events_of kids → AreSound bytes kids →
+            OnOk result (LaysOut m.compile self.old.page self.new.page (in_bytes (inline_pieces m (parts_in_cell cell (inlines_of names bytes false kids))))) }
+    {
+        match alone_row(source.bytes(), events) {
+            Some(row) => push_alone(
+                &mut self.page.out,
+                &mut self.scratch,
+                &source.printing(cell),
+                row,
+            ),
+            None => self.text_by_rows(source, cell, events),
+        }
+    }
+
+    /// Prints the text of these events by rows that are made of all of it.
+    fn text_by_rows<T: Tables>(
         &mut self,
         source: &Source<'_, T, A>,
         cell: bool,

@@ -9,4 +9,4 @@ pub mod list_item;
 pub mod printer;
 pub mod to_html;
 
-pub use to_html::compile;
+pub use to_html::{compile, compile_checked};

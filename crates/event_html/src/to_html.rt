@@ -48,20 +48,25 @@ pub fn compile<T: Tables, A: Allocator + Clone>(
     ensures safe { AreSafe options.now → IfOk result (λ html. HasOneReading (string_bytes html)) }
 {
     let checked = check_events(alloc.clone()?, events, bytes, tables)?;
-    let html = checked_html(alloc, checked, options, tables)?;
+    let html = compile_checked(alloc, checked, options, tables)?;
     Ok(html)
 }
 
-/// The HTML of a list in the grammar.
-fn checked_html<T: Tables, A: Allocator + Clone>(
+/// Returns the HTML of the page that a checked list of events spells. Fails out of memory.
+///
+/// It is for tools that print one list several times, or check it themselves: [`compile`] is
+/// [`check_events`] and this.
+pub fn compile_checked<T: Tables, A: Allocator + Clone>(
     alloc: A,
     checked: Checked<'_>,
     options: &CompileOptions,
     tables: &T,
 ) -> Result<String<A>, AllocError>
-    ensures { let names = T.reference_of tables.now in
+    ensures page { let names = T.reference_of tables.now in
         MatchesGrammar names checked.entry.bytes.now checked.entry.events.now →
         IfOk result (λ html. string_bytes html ≡ html_of_events names options.now checked.entry.bytes.now checked.entry.events.now) }
+    ensures safe { MatchesGrammar (T.reference_of tables.now) checked.entry.bytes.now checked.entry.events.now → AreSafe options.now →
+        IfOk result (λ html. HasOneReading (string_bytes html)) }
 {
     let events = checked.events();
     let bytes = checked.bytes();
@@ -78,7 +83,8 @@ fn checked_html<T: Tables, A: Allocator + Clone>(
         links: &links,
         footnotes: &footnotes,
     };
-    print(alloc, &source)
+    let html = print(alloc, &source)?;
+    Ok(html)
 }
 
 /// Prints the page of a list by what is known of it.

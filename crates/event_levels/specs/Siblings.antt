@@ -1,5 +1,5 @@
 -- Events that are siblings, by the events after an enter.
-use Rattle.std.specs.Prelude.{◌≡◌, ℕ, suc, ◌+◌, ◌-◌, ◌==◌, if◌then◌else◌, List, [], ◌∷◌, take, drop}
+use Rattle.std.specs.Prelude.{◌≡◌, ℕ, Bool, true, false, suc, ◌+◌, ◌-◌, ◌==◌, if◌then◌else◌, List, [], ◌∷◌, take, drop}
 use Rattle.engine_events.specs.declared.event.Event.{Event}
 use Rattle.engine_events.specs.declared.event.Kind.{Kind}
 use Rattle.engine_events.specs.declared.event.Kind.TheVariants.{Enter, Exit}
@@ -16,6 +16,10 @@ size_next Exit depth others = if depth == 0 then 0 else suc (others (depth - 1))
 abbrev pub size_inside : ℕ → List Event → ℕ
 size_inside depth [] = 0
 size_inside depth (e ∷ es) = size_next e.kind depth (λ d. size_inside d es)
+
+abbrev pub is_exit : Kind → Bool
+is_exit Enter = false
+is_exit Exit = true
 
 -- the events before that exit
 abbrev pub inside : List Event → List Event

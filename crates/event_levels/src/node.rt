@@ -4,7 +4,7 @@ ghost use Rattle.event_grammar.specs.Checks.{spot_of};
 ghost use Rattle.event_grammar.specs.Trees.{Nodes, Nil, AreNodes, events_of};
 ghost use Rattle.event_meaning.specs.Children as tree;
 ghost use Rattle.event_levels.specs.Children.{IsFirstOf, IsChildOf};
-ghost use Rattle.event_levels.specs.Siblings.{size_inside, inside, first_or, IsFirst};
+ghost use Rattle.event_levels.specs.Siblings.{size_inside, inside, first_or, is_exit, IsFirst};
 
 use engine_events::event::{Event, Kind, Name};
 use event_grammar::spot::{Spot, spot_of};
@@ -64,24 +64,49 @@ fn exit_of<'e>(enter: &Event, events: &'e [Event]) -> (Spot, &'e [Event])
     }
 }
 
-/// How many events come before the exit of the event that these are in.
+/// How many events come before the exit of the event that these are in. They are passed two by two,
+/// since that exit has an even number of them before it.
 fn size_inside(events: &[Event]) -> usize
     ensures size { result ≡ size_inside 0 events.now }
     ensures within { result ≤ length events.now }
 {
-    let mut depth: usize = 0;
-    for (index, event) in events.iter().enumerate() {
-        match event.kind {
-            Kind::Enter => depth += 1,
+    let mut pairs: usize = 0;
+    let mut index: usize = 0;
+    while index + 1 < events.len() {
+        match events[index].kind {
+            Kind::Enter => {
+                if !is_exit(events[index + 1].kind) {
+                    pairs += 1;
+                }
+            }
             Kind::Exit => {
-                if depth == 0 {
+                if pairs == 0 {
                     return index;
                 }
-                depth -= 1;
+                if is_exit(events[index + 1].kind) {
+                    pairs -= 1;
+                }
+            }
+        }
+        index += 2;
+    }
+    match &events[index..] {
+        [] => events.len(),
+        [last, ..] => {
+            if pairs == 0 && is_exit(last.kind) {
+                index
+            } else {
+                events.len()
             }
         }
     }
-    events.len()
+}
+
+/// Whether an event is the exit of another.
+fn is_exit(kind: Kind) -> bool
+    ensures { result ≡ is_exit kind }
+{
+    matches!(kind, Kind::Exit)
 }
 
 /// Returns the first of these siblings, and the events of those after it.

@@ -1,10 +1,11 @@
 -- What is held of links, images and calls: one event more, before the others.
-use Rattle.std.proofs.Common.{◌≡◌, ◌<◌, ℕ, zero, suc, ◌+◌, ◌==◌, Bool, true, false, ◌&&◌, ◌||◌, if◌then◌else◌, List, [], ◌∷◌, ◌++◌, drop, length, Option, None, Some}
+use Rattle.std.proofs.Common.{◌≡◌, ◌<◌, ℕ, zero, suc, ◌+◌, ◌==◌, Bool, true, false, ◌&&◌, ◌||◌, if◌then◌else◌, List, [], ◌∷◌, ◌++◌, drop, length, Option}
 use Rattle.std.proofs.Common.{refl, sym, ap, ◌∙◌, subst, get_or, arith}
 use Rattle.std.specs.Prelude.{reverse, slice_index_or}
-use Rattle.std.proofs.lemmas.List.{reverse-append}
+use Rattle.std.proofs.lemmas.List.{drop_all, reverse-append}
 use Rattle.engine_events.specs.Names.{same_name, is_listed}
 use Rattle.engine_events.specs.declared.event.Event.{Event}
+use Rattle.engine_events.specs.declared.event.Kind.{Kind}
 use Rattle.engine_events.specs.declared.event.Kind.TheVariants.{Enter, Exit}
 use Rattle.engine_events.specs.declared.event.Name.{Name}
 use Rattle.engine_events.specs.declared.event.Name.TheVariants as n
@@ -12,7 +13,7 @@ use Rattle.event_grammar.specs.References.{media_names}
 use Rattle.event_grammar.proofs.Runs.{no_event}
 use Rattle.event_references.proofs.Loops.{drop_next}
 use Rattle.event_rows.specs.Targets.{own_from, has_own}
-use Rattle.event_rows.specs.LabelEnd.{is_held, held, new_held, first_of, held_with, IsFoundAt, IsHeld, held_at, first_held, AreHeld}
+use Rattle.event_rows.specs.LabelEnd.{is_held, held, new_held, first_of, held_with, HoldsAt, IsFoundAt, IsHeld, held_at, first_held, AreHeld}
 use Rattle.event_rows.specs.declared.label_end.Held.{Held}
 use Rattle.event_rows.specs.declared.label_end.Open.{Open}
 use Rattle.event_rows.proofs.TargetLaw.{own_enter, own_exit, own_up, and_no}
@@ -211,3 +212,32 @@ pub not_held : (name : Name) (index : ℕ) (h : Held) → is_held name ≡ false
 not_held name index h z =
     unheld h (same_name name n.Resource) (same_name name n.ResourceDestinationString) (same_name name n.ResourceTitleString)
     (same_name name n.ReferenceString) (same_name name n.LabelText) index z
+
+-- what says nothing of where something leads
+pub held_other : (events : List Event) (index : ℕ) → index < length events → (inner : Held) (outer : List Held)
+    → is_listed media_names (get_or events index no_event).name ≡ false → is_held (get_or events index no_event).name ≡ false
+    → HoldsAt events (drop (index + 1) events) inner outer → HoldsAt events (drop index events) inner outer
+held_other events index l inner outer m h held = by_kind e.kind refl
+  where
+    e : Event
+    e = get_or events index no_event
+
+    behind : List Event
+    behind = drop (index + 1) events
+
+    here : HoldsAt events (e ∷ behind) inner outer → HoldsAt events (drop index events) inner outer
+    here k = subst (λ (z : List Event). HoldsAt events z inner outer) (sym (drop_next events index l)) k
+
+    by_kind : (kind : Kind) → e.kind ≡ kind → HoldsAt events (drop index events) inner outer
+    by_kind Enter x =
+        here (subst (λ (z : Held). HoldsAt events (e ∷ behind) z outer) (sym (not_held e.name index inner h))
+        (note_held events e behind index inner outer x m l (drop_next events index l) held))
+    by_kind Exit x = here (pass_held events e behind inner outer x m held)
+
+-- behind all events
+pub held_at_end : {A : Type 0} (events : List Event) (held : Open A) → held.inner ≡ new_held → held.outer.items ≡ []
+    → HoldsAt events (drop (length events) events) held.inner (reverse held.outer.items)
+held_at_end events held h k =
+    subst (λ (z : Held). HoldsAt events (drop (length events) events) z (reverse held.outer.items)) (sym h)
+    (subst (λ (z : List Held). HoldsAt events (drop (length events) events) new_held (reverse z)) (sym k)
+    (subst (λ (z : List Event). HoldsAt events z new_held []) (sym (drop_all (length events) events (omega arith))) (none_after events)))

@@ -18,3 +18,4 @@ pub mod JoinedLaw
 pub mod SpelledLaw
 pub mod RawLoops
 pub mod PassLaw
+pub mod AloneRow

@@ -1,5 +1,5 @@
 -- Targets and raw texts, event by event.
-use Rattle.std.proofs.Common.{◌≡◌, ◌<◌, ℕ, ◌+◌, Bool, true, false, if◌then◌else◌, List, [], ◌∷◌, ◌++◌, drop, length, Option, None, Some, refl, sym, ap, ◌∙◌, get_or}
+use Rattle.std.proofs.Common.{◌≡◌, ◌<◌, ℕ, ◌+◌, Bool, true, false, if◌then◌else◌, List, ◌∷◌, drop, length, is_some, Option, None, Some, refl, ap, ◌∙◌, get_or}
 use Rattle.engine_events.specs.Names.{is_listed}
 use Rattle.engine_events.specs.declared.event.Event.{Event}
 use Rattle.engine_events.specs.declared.event.Kind.{Kind}
@@ -21,6 +21,10 @@ whole_next bytes Enter name sequence events piece others s w =
     ap (λ (z : Option (List ℕ)). joined_before z (raw_after bytes sequence false 0 events) others) w
     ∙ ap (λ (z : Option Name). first_raw bytes z events others) s
 
+pub not_some : (o : Option Name) → is_some o ≡ false → o ≡ None
+not_some None h = refl
+not_some (Some name) h = absurd (let f : true ≡ false = h in cc)
+
 module _ (events : List Event) where
   abbrev event_at : ℕ → Event
   event_at i = get_or events i no_event
@@ -28,6 +32,16 @@ module _ (events : List Event) where
   pub raws_are : (bytes : List ℕ) (i : ℕ) → i < length events
       → raws_by bytes (drop i events) ≡ raws_next bytes (event_at i).kind (event_at i).name (drop (i + 1) events) (raws_by bytes (drop (i + 1) events))
   raws_are bytes i l = ap (raws_by bytes) (drop_next events i l)
+
+  -- what isn't raw text has none
+  pub raws_other : (bytes : List ℕ) (i : ℕ) → i < length events → sequence_of (event_at i).name ≡ None
+      → raws_by bytes (drop i events) ≡ raws_by bytes (drop (i + 1) events)
+  raws_other bytes i l none = raws_are bytes i l ∙ by_kind (event_at i).kind
+    where
+      by_kind : (kind : Kind)
+          → raws_next bytes kind (event_at i).name (drop (i + 1) events) (raws_by bytes (drop (i + 1) events)) ≡ raws_by bytes (drop (i + 1) events)
+      by_kind Enter = ap (λ (z : Option Name). first_raw bytes z (drop (i + 1) events) (raws_by bytes (drop (i + 1) events))) none
+      by_kind Exit = refl
 
   module _ (names : Names) (bytes : List ℕ) (leads : Target → LinkTexts) where
     abbrev others : ℕ → List Spelled

@@ -59,6 +59,10 @@ abbrev pub first_held : List Held → Held
 first_held [] = new_held
 first_held (h ∷ hs) = h
 
+-- what is held of the innermost one and of those around it
+abbrev pub HoldsAt : List Event → List Event → Held → List Held → Type 0
+HoldsAt events rest inner outer = (c : ℕ) → IsHeld events rest c (held_at inner outer c)
+
 -- what is held of all that are open
 pub record AreHeld {A : Type 0} (events rest : List Event) (held : Open A) : Type 0 where
   pub each : (c : ℕ) → IsHeld events rest c (held_at held.inner (reverse held.outer.items) c)

@@ -16,6 +16,6 @@ pub mod spelled;
 mod texts;
 
 pub use columns::Columns;
-pub use rows::text_rows;
+pub use rows::{alone_row, text_rows};
 pub use spelled::SpelledStrings;
 pub use texts::TextEvents;

@@ -55,7 +55,7 @@ pub(crate) fn whole_piece<'a>(bytes: &'a [u8], sequence: Name, events: &[Event])
 }
 
 /// Whether an event enters something of this name.
-fn begins(event: &Event, name: Name) -> bool
+pub(crate) fn begins(event: &Event, name: Name) -> bool
     ensures { result ≡ begins name event.now }
 {
     !is_exit(event.kind) && event.name == name

@@ -1,5 +1,5 @@
 //! The rows of the events in a text.
-ghost use Rattle.std.specs.Prelude.{◌≡◌, ◌≤◌, ◌<◌, ◌+◌, ◌^◌, ◌++◌, ◌==◌, ◌||◌, ℕ, Bool, List, IfOk, OnOk, drop, length, not};
+ghost use Rattle.std.specs.Prelude.{◌≡◌, ◌≤◌, ◌<◌, ◌+◌, ◌^◌, ◌++◌, ◌∷◌, ◌==◌, ◌||◌, ℕ, Bool, List, [], IfOk, IfSome, OnOk, drop, length, not};
 ghost use Rattle.engine_events.specs.Names.{is_listed};
 ghost use Rattle.definition_inline.specs.CharacterReference.{Names};
 ghost use Rattle.definition_inline.specs.CodeText.{without_padding};
@@ -21,7 +21,7 @@ ghost use Rattle.inline_rows.specs.View.{row_view, rows_view, spelled_view};
 use crate::attention::span_of;
 use crate::label_end::is_media;
 use crate::leaf::{has, push_leaf};
-use crate::raw_text::{sequence_of, whole_piece};
+use crate::raw_text::{begins, is_exit, sequence_of, whole_piece};
 use crate::spelled::SpelledStrings;
 use crate::texts::{TextEvents, text_of};
 use engine_events::event::{Event, Kind, Name};
@@ -67,6 +67,45 @@ pub fn text_rows<'a, T: Tables, A: Allocator + Clone>(
         rest = left;
     }
     Ok(walk.rows)
+}
+
+/// Returns the row of the events in a text that is one piece of data, with spaces or tabs around it
+/// or not, and none of another text.
+pub fn alone_row<'a>(bytes: &'a [u8], events: &[Event]) -> Option<InlineRow<'a>>
+    ensures rows { (names : Names) (leads : Target → LinkTexts) (at : ℕ → LinkTexts) (in_link : Bool) →
+        IfSome result (λ row. rows_view at (row ∷ []) ≡ rows_by names bytes.now leads in_link (place modes.Text 0 0) events.now) }
+    ensures structure { (names : Names) (leads : Target → LinkTexts) (at : ℕ → LinkTexts) (in_link : Bool) (ns : Nodes) →
+        events.now ≡ events_of ns → AreNodes ns → AreTexts bytes.now ns → HaveEndings bytes.now ns →
+        IfSome result (λ row. rows_view at (row ∷ []) ≡ inline_rows leads (inlines_of names bytes.now in_link ns)) }
+{
+    let data = after_space(events);
+    match data {
+        [enter, exit, after @ ..] => {
+            if begins(enter, Name::Data) && is_exit(exit.kind) && after_space(after).is_empty() {
+                Some(InlineRow::Text(text_of(text_first(bytes, data))))
+            } else {
+                None
+            }
+        }
+        _ => None,
+    }
+}
+
+/// The events after spaces or tabs, if they begin with these.
+fn after_space(events: &[Event]) -> &[Event]
+    ensures { (names : Names) (bytes : List ℕ) (leads : Target → LinkTexts) (in_link : Bool) →
+        rows_by names bytes leads in_link (place modes.Text 0 0) result.now ≡ rows_by names bytes leads in_link (place modes.Text 0 0) events.now }
+{
+    match events {
+        [enter, exit, after @ ..] => {
+            if begins(enter, Name::SpaceOrTab) && is_exit(exit.kind) {
+                after
+            } else {
+                events
+            }
+        }
+        _ => events,
+    }
 }
 
 /// Passes over events in one that is skipped, where so many are open, up to its exit or to one whose

@@ -1,10 +1,10 @@
 //! What of a text is computed before its rows: strings that aren't one piece of the bytes, and where
 //! links and images lead.
-ghost use Rattle.std.specs.Prelude.{◌≡◌, ◌<◌, ◌+◌, ◌++◌, ◌∷◌, ℕ, List, [], true, false, IfOk, OnOk, drop, length, string_bytes};
+ghost use Rattle.std.specs.Prelude.{◌≡◌, ◌<◌, ◌≤◌, ◌+◌, ◌++◌, ◌∷◌, ℕ, List, [], true, false, IfOk, OnOk, drop, length, string_bytes};
 ghost use Rattle.std.specs.Str.{is_utf8};
 ghost use Rattle.definition_text.specs.Content.{content_codes};
 ghost use Rattle.definition_inline.specs.Definition.{Definition};
-ghost use Rattle.definition_inline.specs.Inline.{LinkTexts as Leads};
+ghost use Rattle.definition_inline.specs.Inline.{Target, LinkTexts as Leads};
 ghost use Rattle.definition_inline.specs.LabelMatch.{first_match};
 ghost use Rattle.definition_inline.specs.Targets.{labels_of, linked_at, linked_by, leads_to};
 ghost use Rattle.engine_events.specs.Names.{same_name};
@@ -15,14 +15,16 @@ ghost use Rattle.event_grammar.specs.declared.spot.Spot.{Spot};
 ghost use Rattle.event_meaning.specs.Strings.{written};
 ghost use Rattle.event_rows.specs.Columns.{AreCounted};
 ghost use Rattle.event_rows.specs.Joined.{HaveRaws, HaveTargets, IsJoined, IsTarget, found_target, joined_first, label_at, resource_by};
-ghost use Rattle.event_rows.specs.LabelEnd.{AreHeld, IsFoundAt, IsHeld, label_place};
+ghost use Rattle.event_rows.specs.LabelEnd.{AreHeld, HoldsAt, IsFoundAt, IsHeld, label_place};
+ghost use Rattle.event_rows.specs.declared.label_end.Held.{Held as AHeld};
+ghost use Rattle.definition_inline.specs.CharacterReference.{Names};
 ghost use Rattle.event_rows.specs.RawTexts.{raw_after};
 ghost use Rattle.event_rows.specs.Targets.{string_first};
 ghost use Rattle.event_rows.specs.Spelled.{AreSpelled, nowhere, raws_by, raws_next, spelled, spelled_by, targets_by};
 ghost use Rattle.inline_labels.specs.Table.{HasLabels};
 
 use crate::columns::Columns;
-use crate::label_end::{Held, Open, is_media};
+use crate::label_end::{Held, Open, is_held, is_media};
 use crate::raw_text::{is_exit, push_raw_text, sequence_of, whole_piece};
 use crate::texts::{TextEvents, text_of};
 use engine_events::event::{Event, Kind, Name};
@@ -107,11 +109,13 @@ impl<A: Allocator + Clone> SpelledStrings<A> {
         ensures targets { self.new.targets.items ≡ self.old.targets.items }
         ensures counted { AreCounted bytes.now columns.new }
     {
-        for (index, event) in events.iter().enumerate() {
+        let mut index = next_raw(events, 0);
+        while index < events.len() {
             let rest = &events[index + 1..];
-            if let Some(sequence) = joined_sequence(bytes, event, rest) {
+            if let Some(sequence) = joined_sequence(bytes, &events[index], rest) {
                 self.join_raw_text(bytes, columns, sequence, rest)?;
             }
+            index = next_raw(events, index + 1);
         }
         Ok(())
     }
@@ -154,8 +158,11 @@ impl<A: Allocator + Clone> SpelledStrings<A> {
     {
         let mut label = Vec::new(alloc.clone()?);
         let mut open = Open::new(alloc);
-        for index in (0..events.len()).rev() {
+        let mut end = last_noted(events, events.len());
+        while end > 0 {
+            let index = end - 1;
             self.find_target(&mut label, &mut open, texts, events, index)?;
+            end = last_noted(events, index);
         }
         Ok(())
     }
@@ -418,6 +425,42 @@ fn push_piece<A: Allocator>(text: &mut String<A>, piece: &str) -> Result<Range, 
     text.push_str(piece)?;
     let end = text.len();
     Ok(Range { start, end })
+}
+
+/// The index of the next event from an index on that has the name of raw text, or the end.
+fn next_raw(events: &[Event], from: usize) -> usize
+    requires { from ≤ length events.now }
+    ensures raws { (bytes : List ℕ) → raws_by bytes (drop result events.now) ≡ raws_by bytes (drop from events.now) }
+    ensures within { (from ≤ result) × (result ≤ length events.now) }
+{
+    let mut index = from;
+    while index < events.len() {
+        if sequence_of(events[index].name).is_some() {
+            return index;
+        }
+        index += 1;
+    }
+    index
+}
+
+/// The index after the last event before an end that says where something leads, or 0.
+fn last_noted(events: &[Event], end: usize) -> usize
+    requires { end ≤ length events.now }
+    ensures targets { (names : Names) (bytes : List ℕ) (leads : Target → Leads) →
+        targets_by names bytes leads (drop result events.now) ≡ targets_by names bytes leads (drop end events.now) }
+    ensures held { (inner : AHeld) (outer : List AHeld) →
+        HoldsAt events.now (drop end events.now) inner outer → HoldsAt events.now (drop result events.now) inner outer }
+    ensures within { result ≤ end }
+{
+    let mut last = end;
+    while last > 0 {
+        let name = events[last - 1].name;
+        if is_media(name) || is_held(name) {
+            return last;
+        }
+        last -= 1;
+    }
+    last
 }
 
 /// The name of the sequences around the raw text that an event enters, if it is to be joined. The

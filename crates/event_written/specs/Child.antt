@@ -1,5 +1,5 @@
 -- The children of an event, and its bytes, by the events after its enter.
-use Rattle.std.specs.Prelude.{ℕ, ◌+◌, ◌-◌, ◌==◌, ◌&&◌, if◌then◌else◌, List, [], ◌∷◌}
+use Rattle.std.specs.Prelude.{ℕ, Bool, true, false, ◌+◌, ◌-◌, ◌==◌, ◌&&◌, if◌then◌else◌, List, [], ◌∷◌}
 use Rattle.engine_events.specs.Names.{same_name}
 use Rattle.engine_events.specs.declared.event.Event.{Event}
 use Rattle.engine_events.specs.declared.event.Kind.{Kind}
@@ -19,6 +19,11 @@ from_next Exit own name depth here others = if depth == 0 then [] else others (d
 abbrev pub from_child : Name → ℕ → List Event → List Event
 from_child name depth [] = []
 from_child name depth (e ∷ es) = from_next e.kind e.name name depth (e ∷ es) (λ d. from_child name d es)
+
+-- whether an event of a name is among events, at any depth
+abbrev pub has_name : Name → List Event → Bool
+has_name name [] = false
+has_name name (e ∷ es) = if same_name e.name name then true else has_name name es
 
 -- ---- bytes
 

@@ -12,7 +12,7 @@ use Rattle.inline_labels.specs.Table.{HasLabels}
 use Rattle.event_meaning.specs.Strings.{written}
 use Rattle.event_references.specs.Texts.{is_enter}
 use Rattle.event_references.specs.Views.{text_first}
-use Rattle.event_written.specs.Child.{from_child}
+use Rattle.event_written.specs.Child.{from_child, has_name}
 use Rattle.event_written.specs.Strings.{parts_after}
 use Rattle.event_written.specs.declared.definition.Definitions.{Definitions}
 use Rattle.event_written.specs.declared.definition.WrittenTarget.{WrittenTarget}
@@ -36,8 +36,7 @@ title_events events = drop 1 (from_child n.DefinitionTitleString 0 (drop 1 (from
 
 -- whether a definition is among events
 abbrev pub has_definition : List Event → Bool
-has_definition [] = false
-has_definition (e ∷ es) = if same_name e.name n.Definition then true else has_definition es
+has_definition events = has_name n.Definition events
 
 abbrev pub starts_definition : Event → Bool
 starts_definition e = is_enter e.kind && same_name e.name n.Definition

@@ -10,7 +10,7 @@ use Rattle.engine_events.specs.declared.event.Name.TheVariants as n
 use Rattle.definition_text.specs.Columns.{Code}
 use Rattle.definition_text.specs.Content.{content_codes}
 use Rattle.event_references.specs.Views.{text_first}
-use Rattle.event_written.specs.Child.{from_child}
+use Rattle.event_written.specs.Child.{has_name, from_child}
 use Rattle.inline_labels.specs.Table.{HasLabels}
 use Rattle.event_written.specs.declared.gfm_footnote_definition.Holder.{Holder}
 use Rattle.event_written.specs.declared.gfm_footnote_definition.Walk.{Walk}
@@ -106,8 +106,7 @@ notes_after bytes s (e ∷ es) = notes_after bytes (note_next e.kind e.name (lab
 
 -- whether a footnote definition is among events
 abbrev pub has_definition : List Event → Bool
-has_definition [] = false
-has_definition (e ∷ es) = if same_name e.name n.GfmFootnoteDefinition then true else has_definition es
+has_definition events = has_name n.GfmFootnoteDefinition events
 
 -- ---- what the code holds
 

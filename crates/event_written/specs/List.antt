@@ -102,6 +102,10 @@ nones (suc depth) ls = new_level None ∷ nones depth ls
 abbrev pub levels_of : OpenLevel → List Level → List Level
 levels_of o ls = nones o.depth (o.level ∷ ls)
 
+-- what is passed where so many others are open in a list or an item
+abbrev pub level_view : ℕ → Level → List Level → List Bool → PassView
+level_view depth l ls lists = pass_at (first_level (nones depth (l ∷ ls))) (drop 1 (nones depth (l ∷ ls))) lists
+
 abbrev pub around : List OpenLevel → List Level
 around [] = []
 around (o ∷ others) = levels_of o (around others)

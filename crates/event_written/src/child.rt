@@ -3,7 +3,7 @@
 //! Events are given as those after the parent's enter, or as those of a child from its enter on.
 //! In both cases more may follow.
 ghost use Rattle.std.specs.Prelude.{◌≡◌, drop};
-ghost use Rattle.event_written.specs.Child.{from_child, text_to, text_first};
+ghost use Rattle.event_written.specs.Child.{from_child, has_name, text_to, text_first};
 
 use engine_events::event::{Event, Kind, Name};
 use event_grammar::Spot;
@@ -33,6 +33,18 @@ pub fn child(events: &[Event], name: Name) -> &[Event]
         }
     }
     &[]
+}
+
+/// Whether an event of a name is among events, at any depth.
+pub(crate) fn has_name(events: &[Event], name: Name) -> bool
+    ensures { result ≡ has_name name events.now }
+{
+    for event in events {
+        if event.name == name {
+            return true;
+        }
+    }
+    false
 }
 
 /// The events in the first one, and those after it.

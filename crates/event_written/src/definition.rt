@@ -15,7 +15,7 @@ ghost use Rattle.event_meaning.specs.Spelled.{definition_of};
 ghost use Rattle.event_written.specs.Definition.{HasDefinitions, definition_after, definitions_in, destination_written, has_definition, label_string};
 ghost use Rattle.event_written.specs.Definition.{leads, literal_events, raw_events, starts_definition, target_view, title_written};
 
-use crate::child::{child, inside_child};
+use crate::child::{child, has_name, inside_child};
 use crate::string::push_written;
 use engine_events::event::{Event, Kind, Name};
 use event_references::label::push_text_at;
@@ -84,12 +84,7 @@ fn definitions_in<T: Tables, A: Allocator + Clone>(
 fn has_definition(events: &[Event]) -> bool
     ensures { result ≡ has_definition events.now }
 {
-    for event in events {
-        if event.name == Name::Definition {
-            return true;
-        }
-    }
-    false
+    has_name(events, Name::Definition)
 }
 
 /// Whether a definition begins.

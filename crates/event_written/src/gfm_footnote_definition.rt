@@ -17,7 +17,7 @@ ghost use Rattle.event_references.specs.Views.{text_first};
 ghost use Rattle.event_written.specs.GfmFootnoteDefinition.{Notes, HasNotes, container_names, enter_content, enter_note, exit_note, first_held, has_begun, has_definition};
 ghost use Rattle.event_written.specs.GfmFootnoteDefinition.{holder_view, holder_views, label_at, label_codes, label_string, new_held, start_name, the_document};
 
-use crate::child::{child, inside_child};
+use crate::child::{child, has_name, inside_child};
 use engine_events::event::{Event, Kind, Name};
 use event_references::label::push_text_at;
 use inline_labels::LabelTable;
@@ -140,12 +140,7 @@ pub fn footnote_labels<A: Allocator + Clone>(
 fn has_definition(events: &[Event]) -> bool
     ensures { result ≡ has_definition events.now }
 {
-    for event in events {
-        if event.name == Name::GfmFootnoteDefinition {
-            return true;
-        }
-    }
-    false
+    has_name(events, Name::GfmFootnoteDefinition)
 }
 
 impl<A: Allocator + Clone> Walk<A> {

@@ -3,13 +3,13 @@
 //! A list is loose if two neighbouring items are more than a line apart, or two neighbouring blocks
 //! of an item. The events are passed from the last to the first, so that no list is read again for
 //! the lists around it. Of events that are neither lists nor items only the number is kept.
-ghost use Rattle.std.specs.Prelude.{◌≡◌, ◌<◌, ◌+◌, ◌^◌, ◌||◌, ◌∷◌, List, ℕ, IfOk, OnOk, drop, reverse};
+ghost use Rattle.std.specs.Prelude.{◌≡◌, ◌<◌, ◌≤◌, ◌+◌, ◌^◌, ◌||◌, ◌∷◌, Bool, List, ℕ, IfOk, None, OnOk, drop, length, reverse};
 ghost use Rattle.event_grammar.specs.Checks.{spot_of};
 ghost use Rattle.event_grammar.specs.Trees.{Nodes, events_of, AreNodes};
 ghost use Rattle.engine_events.specs.declared.event.Kind.TheVariants as kinds;
 ghost use Rattle.event_written.specs.declared.list.Level.{Level as ALevel};
 ghost use Rattle.event_written.specs.List.{around, before_enter, before_exit, compared_in, compares, is_before, is_list, first_level, levels_in, levels_of};
-ghost use Rattle.event_written.specs.List.{loose_lists, new_level, pass_event, pass_next, pass_view};
+ghost use Rattle.event_written.specs.List.{level_view, loose_lists, new_level, pass_event, pass_next, pass_start, pass_view, passed};
 
 use engine_events::event::{Event, Kind, Name};
 use event_check::loose::is_apart;
@@ -64,11 +64,51 @@ pub fn loose_lists<A: Allocator + Clone>(
         outer: Vec::new(alloc.clone()?),
         lists: Vec::new(alloc),
     };
-    for index in (0..events.len()).rev() {
+    let mut end = events.len();
+    while end > 0 {
+        let index = end - 1;
         pass.event(bytes, &events[index])?;
+        end = pass.others(events, index);
     }
     let Pass { lists, .. } = pass;
     Ok(lists)
+}
+
+/// Passes events before an index that are neither lists nor items, in a list or an item in which so
+/// many are open, as long as at least so many are. Returns how many are open then, and the index of
+/// the first that was passed.
+fn pass_others(events: &[Event], end: usize, depth: usize, least: usize) -> (usize, usize)
+    requires within { end ≤ length events.now }
+    requires fits { depth + end < 2 ^ 64 }
+    ensures passed { (bytes : List ℕ) (level : ALevel) (ls : List ALevel) (lists : List Bool) → (least ≡ 0 → level.child ≡ None) →
+        level_view depth level ls lists ≡ passed bytes pass_start (drop end events.now) →
+        level_view result.0 level ls lists ≡ passed bytes pass_start (drop result.1 events.now) }
+    ensures within { result.1 ≤ end }
+{
+    if depth < least {
+        return (depth, end);
+    }
+    let mut inside = depth;
+    let mut first = end;
+    while first > 0 {
+        let event = &events[first - 1];
+        match event.kind {
+            Kind::Exit => {
+                if compared_in(event.name).is_some() {
+                    return (inside, first);
+                }
+                inside += 1;
+            }
+            Kind::Enter => {
+                if inside <= least || is_list(event.name) {
+                    return (inside, first);
+                }
+                inside -= 1;
+            }
+        }
+        first -= 1;
+    }
+    (inside, 0)
 }
 
 impl<A: Allocator> Pass<A> {
@@ -83,6 +123,20 @@ impl<A: Allocator> Pass<A> {
             Kind::Exit => self.exit(bytes, event.name, at)?,
         }
         Ok(())
+    }
+
+    /// Passes events before an index that are neither lists nor items, as long as these change nothing
+    /// but how many are open. Returns the index of the first that was passed.
+    fn others(&mut self, events: &[Event], end: usize) -> usize
+        requires within { end ≤ length events.now }
+        requires fits { self.old.inner.depth + end < 2 ^ 64 }
+        ensures passed { (bytes : List ℕ) →
+            pass_view self.old ≡ passed bytes pass_start (drop end events.now) → pass_view self.new ≡ passed bytes pass_start (drop result events.now) }
+        ensures within { result ≤ end }
+    {
+        let (depth, first) = pass_others(events, end, self.inner.depth, self.inner.least_depth());
+        self.inner.depth = depth;
+        first
     }
 
     /// The exit of an event.
@@ -151,6 +205,14 @@ impl OpenLevel {
             level: Level::new(child),
             depth: 0,
         }
+    }
+
+    /// How many events must be open so that others in them change nothing of it: none if it compares
+    /// no children.
+    fn least_depth(self) -> usize
+        ensures { result ≡ 0 → self.level.child ≡ None }
+    {
+        if self.level.child.is_none() { 0 } else { 1 }
     }
 
     /// With one event more that is open.

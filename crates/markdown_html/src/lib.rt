@@ -1,4 +1,4 @@
-//! Events to HTML: [`compile`], and the tools for a page of one's own.
+//! Events to HTML: [`compile`] and [`compile_checked`], and the tools for a page of one's own.
 //!
 //!     let (events, _) = parse(rt.alloc(), text, &ParseOptions::default(), &Builtin)?;
 //!     let html = compile(rt.alloc(), &events, text.as_bytes(), &CompileOptions::default(), &Builtin)?;
@@ -11,7 +11,7 @@ pub use event_check::{
     Checked, CompileError, check_events, gfm_table_align, list_item_loose, list_loose,
 };
 pub use event_grammar::{EventFault, FaultKind};
-pub use event_html::compile;
+pub use event_html::{compile, compile_checked};
 pub use html_escape::encode::encode;
 pub use html_escape::{gfm_tagfilter, sanitize, sanitize_with_protocols};
 pub use markdown_options::{AlignKind, CompileOptions, LineEnding, Tables};
@@ -21,7 +21,7 @@ pub use markdown_tables::Builtin;
 pub mod to_html {
     pub use event_check::{Checked, CompileError, check_events};
     pub use event_grammar::{EventFault, FaultKind};
-    pub use event_html::compile;
+    pub use event_html::{compile, compile_checked};
 }
 
 /// Tools for a page of one's own.

@@ -12,7 +12,7 @@ returns-clause-page g c =
     let k = c.in_ok-checked.ensures in
     let M : List Event → Type 0 = λ es. MatchesGrammar names c.args.bytes.now es in
     let N : List ℕ → Type 0 = λ bs. MatchesGrammar names bs c.in_ok-checked.checked.events.now in
-    c.in_ok-html.ensures (subst N (sym k.bytes) (subst M (sym k.events) k.right))
+    c.in_ok-html.ensures.page (subst N (sym k.bytes) (subst M (sym k.events) k.right))
     ∙ ap (λ (bs : List ℕ). html_of_events names c.args.options.now bs c.in_ok-checked.checked.events.now) k.bytes
     ∙ ap (λ (es : List Event). html_of_events names c.args.options.now c.args.bytes.now es) k.events
 

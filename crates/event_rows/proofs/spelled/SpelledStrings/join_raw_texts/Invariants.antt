@@ -1,4 +1,4 @@
-use Rattle.std.proofs.Common.{◌≡◌, ℕ, List, drop}
+use Rattle.std.proofs.Common.{◌≡◌, ◌≤◌, ◌-◌, ℕ, List, drop, length}
 use Rattle.event_rows.specs.Columns.{AreCounted}
 use Rattle.event_rows.specs.Joined.{HaveRaws}
 use Rattle.event_rows.specs.Spelled.{raws_by}
@@ -11,4 +11,8 @@ invariant-loop-index g l =
       counted : AreCounted l.bytes l.columns;
       raws : (raws : List (List ℕ)) → HaveRaws l.initial.self (raws_by l.bytes l.events) raws → HaveRaws l.self (raws_by l.bytes (drop l.index l.events)) raws;
       targets : l.self.targets.items ≡ l.initial.self.targets.items;
+      within : l.index ≤ length l.events;
     }
+
+abbrev pub decreases-loop-index : goal.decreases-loop-index
+decreases-loop-index g l = length l.events - l.index

@@ -1,5 +1,4 @@
 use Rattle.std.proofs.Common.{◌≡◌, ℕ, true, List, map, string_bytes, refl, sym, ap, ◌∙◌, subst}
-use Rattle.std.specs.Result.{IfOk}
 use Rattle.engine_events.specs.declared.event.Event.{Event}
 use Rattle.engine_events.specs.declared.event.Name.TheVariants as n
 use Rattle.inline_labels.specs.Table.{HasLabels}
@@ -12,12 +11,14 @@ use Rattle.event_meaning.specs.Blocks.{blocks_of}
 use Rattle.event_meaning.specs.Spelled.{definition_of, footnotes, html_of_nodes, meaning_of, page_of}
 use Rattle.event_written.specs.Definition.{HasDefinitions}
 use Rattle.event_written.proofs.CheckedNodes.{checked_nodes}
+use Rattle.laws_safe_page.specs.SafeHtml.{HasOneReading}
+use Rattle.laws_events.proofs.SafeHtml.{safe_events_law}
 use Rattle.event_html.proofs.Checked.{checked_sound, checked_lists, checked_numbers}
 use Rattle.event_html.proofs.Tree.{tree_is}
-use Rattle.event_html.proofs.to_html.checked_html.Goals as goal
+use Rattle.event_html.proofs.to_html.compile_checked.Goals as goal
 
-pub returns : goal.returns
-returns g c = λ h.
+pub returns-clause-page : goal.returns-clause-page
+returns-clause-page g c = λ h.
     let names = g.T.Tables.reference_of c.args.tables.now in
     let bytes = c.args.checked.bytes.now in
     let events = c.args.checked.events.now in
@@ -35,9 +36,9 @@ returns g c = λ h.
     = subst D own (c.in_ok-defined.ensures ns (spot 0 0) nodes is (subst Q (sym own) (subst P (sym c.events-events.ensures) h.places))) in
     let m = meaning_of names options (page_of names bytes ns) in
     let same : tree events ≡ ns = ap tree h.nested ∙ tree_is ns nodes in
-    let H : Nodes → Type 0 = λ t. IfOk c.print.result (λ html. string_bytes html ≡ html_of_nodes names options bytes t) in
+    let H : Nodes → Type 0 = λ t. string_bytes c.in_ok-html.html ≡ html_of_nodes names options bytes t in
     subst H (sym same)
-    (c.print.ensures m ds ns
+    (c.in_ok-html.ensures m ds ns
     (record {
       names_are = refl;
       compile = refl;
@@ -49,3 +50,10 @@ returns g c = λ h.
       footnotes = subst F own (c.in_ok-footnotes.ensures names true ns nodes is);
     })
     h.nested (checked_sound names bytes events h) (checked_lists names bytes events h) (checked_numbers names bytes events h))
+
+pub returns-clause-safe : goal.returns-clause-safe
+returns-clause-safe g c = λ h safe.
+    let names = g.T.Tables.reference_of c.args.tables.now in
+    let R : List ℕ → Type 0 = λ html. HasOneReading html in
+    subst R (sym (returns-clause-page g c h))
+    (safe_events_law names c.args.options.now c.args.checked.bytes.now c.args.checked.events.now safe h)
