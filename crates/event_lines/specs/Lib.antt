@@ -1,1 +1,4 @@
 pub mod Open
+pub mod Kinds
+pub mod Standing
+pub mod Steps

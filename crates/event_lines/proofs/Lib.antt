@@ -1,0 +1,5 @@
+pub mod Suffixes
+pub mod Prefixes
+pub mod Containers
+pub mod Lines
+pub mod Steps
