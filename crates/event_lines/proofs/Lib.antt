@@ -3,3 +3,5 @@ pub mod Prefixes
 pub mod Containers
 pub mod Lines
 pub mod Steps
+pub mod Ahead
+pub mod InLine

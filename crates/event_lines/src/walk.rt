@@ -1,10 +1,11 @@
 //! The lines of a text (CommonMark 2.1), one after another, each after the prefixes of its containers.
-ghost use Rattle.std.specs.Prelude.{◌≡◌, ◌∷◌, [], IfOk, OnOk, length, true};
+ghost use Rattle.std.specs.Prelude.{◌≡◌, ◌∷◌, [], IfOk, List, OnOk, length, true, ℕ};
 ghost use Rattle.definition_text.specs.Lines.{ending_text};
 ghost use Rattle.engine_events.specs.declared.event.Name.TheVariants.{SpaceOrTab};
 ghost use Rattle.event_output.specs.Open.{Entered, closed};
 ghost use Rattle.event_output.specs.Written.{open_in};
 ghost use Rattle.event_output.specs.Children.{holds_lines, may_enter};
+ghost use Rattle.event_lines.specs.Content.{EntersInLine, ExitsInLine, StandsInLine};
 ghost use Rattle.event_lines.specs.Open.{still_open};
 ghost use Rattle.event_lines.specs.Standing.{standing};
 ghost use Rattle.event_lines.specs.Steps.{BeginsAt, BeginsLine, EndsLine, HasSameOpen, IsBegun, PassesLine, with_rest};
@@ -155,6 +156,7 @@ impl<'a, A: Allocator> Walk<'a, A> {
     pub fn enter(&mut self, name: Name) -> Result<(), AllocError>
         requires child { may_enter (still_open self.old) name ≡ true }
         ensures open { OnOk result (still_open self.new ≡ Entered name ∷ still_open self.old) }
+        ensures written { OnOk result ((text line : List ℕ) → StandsInLine text line self.old → EntersInLine text name line self.old self.new) }
         ensures stays { OnOk result (standing self.new ≡ standing self.old) }
     {
         self.out.enter(name)
@@ -163,6 +165,7 @@ impl<'a, A: Allocator> Walk<'a, A> {
     /// Something ends here.
     pub fn exit(&mut self, name: Name) -> Result<(), AllocError>
         ensures open { OnOk result (still_open self.new ≡ closed name (still_open self.old)) }
+        ensures written { OnOk result ((text line : List ℕ) → StandsInLine text line self.old → ExitsInLine text name line self.old self.new) }
         ensures stays { OnOk result (standing self.new ≡ standing self.old) }
     {
         self.out.exit(name)
