@@ -1,9 +1,15 @@
 //! The prefixes of containers (CommonMark 5.1 and 5.2).
-ghost use Rattle.std.specs.Prelude.{◌≡◌, IfOk, OnOk, true};
+ghost use Rattle.std.specs.Prelude.{◌≡◌, IfOk, MatchOption, OnOk, length, true, ◌≤◌};
 ghost use Rattle.engine_events.specs.declared.event.Name.TheVariants.{BlockQuote, GfmFootnoteDefinition, GfmFootnoteDefinitionLabel};
 ghost use Rattle.engine_events.specs.declared.event.Name.TheVariants.{GfmFootnoteDefinitionPrefix, ListItem, ListItemPrefix, SpaceOrTab};
 ghost use Rattle.event_output.specs.Children.{holds_lines, may_enter};
+ghost use Rattle.definition_text.specs.Columns.{whole};
+ghost use Rattle.block_starts.specs.View.{container_view, container_views, rest_of};
+ghost use Rattle.laws_laid.specs.EmptyRests.{is_quote};
+ghost use Rattle.event_lines.specs.Kinds.{is_footnote, is_item};
 ghost use Rattle.event_lines.specs.Open.{still_open, with_entered};
+ghost use Rattle.event_lines.specs.Standing.{AreQuotesWithin, TEXT_MAX, standing};
+ghost use Rattle.event_lines.specs.Steps.{Leaves, ReadsPrefixes, StartsOf, with_container, with_rest};
 
 use crate::cut::first;
 use crate::walk::Walk;
@@ -17,7 +23,9 @@ use std::alloc::{AllocError, Allocator};
 const LINE_MAX: usize = 1 << 60;
 
 /// A line before anything of it is read.
-pub(crate) fn line_rest(content: &str) -> Cursor<'_> {
+pub(crate) fn line_rest(content: &str) -> Cursor<'_>
+    ensures { length content.now ≤ TEXT_MAX → rest_of result ≡ whole content.now }
+{
     if content.len() <= LINE_MAX {
         Cursor::new(content)
     } else {
@@ -31,6 +39,8 @@ impl<'a, A: Allocator> Walk<'a, A> {
     pub(crate) fn prefixes(&mut self) -> Result<(), AllocError>
         requires lines { holds_lines (still_open self.old) ≡ true }
         ensures open { OnOk result (still_open self.new ≡ still_open self.old) }
+        ensures reads { OnOk result (ReadsPrefixes (standing self.old) (standing self.new)) }
+        ensures stays { OnOk result (standing self.new ≡ with_rest (standing self.old) (rest_of self.new.rest)) }
     {
         for depth in 0..self.open.len() {
             if depth >= self.quotes_end && self.rest.is_blank() && self.rest.indent() == 0 {
@@ -52,6 +62,7 @@ impl<'a, A: Allocator> Walk<'a, A> {
     fn prefix(&mut self, container: Container<'a>, after: Cursor<'a>) -> Result<(), AllocError>
         requires lines { holds_lines (still_open self.old) ≡ true }
         ensures open { OnOk result (still_open self.new ≡ still_open self.old) }
+        ensures stays { OnOk result (standing self.new ≡ with_rest (standing self.old) (rest_of after.entry)) }
     {
         match container {
             Container::Quote => self.quote_prefix(after)?,
@@ -66,6 +77,7 @@ impl<'a, A: Allocator> Walk<'a, A> {
     fn quote_prefix(&mut self, after: Cursor<'a>) -> Result<(), AllocError>
         requires lines { holds_lines (still_open self.old) ≡ true }
         ensures open { OnOk result (still_open self.new ≡ still_open self.old) }
+        ensures stays { OnOk result (standing self.new ≡ standing self.old) }
     {
         let _bare = self.white()?;
         self.enter(Name::BlockQuotePrefix)?;
@@ -80,6 +92,7 @@ impl<'a, A: Allocator> Walk<'a, A> {
         requires child { may_enter (still_open self.old) BlockQuote ≡ true }
         requires space { may_enter (still_open self.old) SpaceOrTab ≡ true }
         ensures open { IfOk result (λ starts. still_open self.new ≡ with_entered starts BlockQuote (still_open self.old)) }
+        ensures starts { IfOk result (λ starts. StartsOf is_quote (standing self.old) starts (standing self.new)) }
     {
         let Some((Container::Quote, line)) = starts(self.on, false, self.rest) else {
             return Ok(false);
@@ -98,6 +111,7 @@ impl<'a, A: Allocator> Walk<'a, A> {
         requires child { may_enter (still_open self.old) ListItem ≡ true }
         requires space { may_enter (still_open self.old) SpaceOrTab ≡ true }
         ensures open { IfOk result (λ starts. still_open self.new ≡ with_entered starts ListItem (still_open self.old)) }
+        ensures starts { IfOk result (λ starts. StartsOf is_item (standing self.old) starts (standing self.new)) }
     {
         let Some((Container::Item(item), line)) = starts(self.on, false, self.rest) else {
             return Ok(false);
@@ -115,6 +129,7 @@ impl<'a, A: Allocator> Walk<'a, A> {
         requires child { may_enter (still_open self.old) GfmFootnoteDefinition ≡ true }
         requires space { may_enter (still_open self.old) SpaceOrTab ≡ true }
         ensures open { IfOk result (λ starts. still_open self.new ≡ with_entered starts GfmFootnoteDefinition (still_open self.old)) }
+        ensures starts { IfOk result (λ starts. StartsOf is_footnote (standing self.old) starts (standing self.new)) }
     {
         let Some((Container::Footnote(label), line)) = starts(self.on, false, self.rest) else {
             return Ok(false);
@@ -129,6 +144,7 @@ impl<'a, A: Allocator> Walk<'a, A> {
     /// A container is open, whose prefix is written up to a rest of the line.
     fn start(&mut self, container: Container<'a>, after: Cursor<'a>) -> Result<(), AllocError>
         ensures open { still_open self.new ≡ still_open self.old }
+        ensures stays { OnOk result (standing self.new ≡ with_container (standing self.old) (container_view container.entry) (rest_of after.entry)) }
     {
         self.open.push(container)?;
         self.rest = after;
@@ -140,6 +156,7 @@ impl<'a, A: Allocator> Walk<'a, A> {
     fn item_prefix(&mut self, item: Item, bare: &str, after: Cursor<'a>) -> Result<(), AllocError>
         requires child { may_enter (still_open self.old) ListItemPrefix ≡ true }
         ensures open { OnOk result (still_open self.new ≡ still_open self.old) }
+        ensures stays { OnOk result (standing self.new ≡ standing self.old) }
     {
         self.enter(Name::ListItemPrefix)?;
         if item.number.is_some() {
@@ -155,6 +172,7 @@ impl<'a, A: Allocator> Walk<'a, A> {
     fn footnote_prefix(&mut self, label: &str, after: Cursor<'a>) -> Result<(), AllocError>
         requires child { may_enter (still_open self.old) GfmFootnoteDefinitionPrefix ≡ true }
         ensures open { OnOk result (still_open self.new ≡ still_open self.old) }
+        ensures stays { OnOk result (standing self.new ≡ standing self.old) }
     {
         self.enter(Name::GfmFootnoteDefinitionPrefix)?;
         self.footnote_label(label.len())?;
@@ -168,6 +186,7 @@ impl<'a, A: Allocator> Walk<'a, A> {
     fn footnote_label(&mut self, size: usize) -> Result<(), AllocError>
         requires child { may_enter (still_open self.old) GfmFootnoteDefinitionLabel ≡ true }
         ensures open { OnOk result (still_open self.new ≡ still_open self.old) }
+        ensures stays { OnOk result (standing self.new ≡ standing self.old) }
     {
         self.enter(Name::GfmFootnoteDefinitionLabel)?;
         self.token(Name::GfmFootnoteDefinitionLabelMarker, 1)?;
@@ -182,6 +201,7 @@ impl<'a, A: Allocator> Walk<'a, A> {
     /// The innermost container doesn't go on. Returns which.
     pub fn leave(&mut self) -> Option<Container<'a>>
         ensures open { still_open self.new ≡ still_open self.old }
+        ensures leaves { MatchOption result (standing self.new ≡ standing self.old) (λ c. Leaves (container_view c) (standing self.old) (standing self.new)) }
     {
         let container = self.open.pop()?;
         self.quotes_end = quotes_end(&self.open, self.quotes_end);
@@ -190,9 +210,11 @@ impl<'a, A: Allocator> Walk<'a, A> {
 }
 
 /// After the last quote among the first containers, so many.
-fn quotes_end(open: &[Container<'_>], count: usize) -> usize {
-    for depth in (0..count.min(open.len())).rev() {
-        if matches!(open[depth], Container::Quote) {
+fn quotes_end(containers: &[Container<'_>], count: usize) -> usize
+    ensures { AreQuotesWithin count (container_views containers.now) → AreQuotesWithin result (container_views containers.now) }
+{
+    for depth in (0..count.min(containers.len())).rev() {
+        if matches!(containers[depth], Container::Quote) {
             return depth + 1;
         }
     }

@@ -1,10 +1,14 @@
 //! The lines of a text (CommonMark 2.1), one after another, each after the prefixes of its containers.
-ghost use Rattle.std.specs.Prelude.{◌≡◌, ◌∷◌, [], IfOk, OnOk, true};
+ghost use Rattle.std.specs.Prelude.{◌≡◌, ◌∷◌, [], IfOk, List, OnOk, length, true, ℕ};
+ghost use Rattle.definition_text.specs.Lines.{ending_text};
 ghost use Rattle.engine_events.specs.declared.event.Name.TheVariants.{SpaceOrTab};
 ghost use Rattle.event_output.specs.Open.{Entered, closed};
 ghost use Rattle.event_output.specs.Written.{open_in};
 ghost use Rattle.event_output.specs.Children.{holds_lines, may_enter};
+ghost use Rattle.event_lines.specs.Content.{EntersInLine, ExitsInLine, StandsInLine};
 ghost use Rattle.event_lines.specs.Open.{still_open};
+ghost use Rattle.event_lines.specs.Standing.{standing};
+ghost use Rattle.event_lines.specs.Steps.{BeginsAt, BeginsLine, EndsLine, HasSameOpen, IsBegun, PassesLine, with_rest};
 
 use crate::prefix::line_rest;
 use block_starts::Cursor;
@@ -51,6 +55,8 @@ impl<'a, A: Allocator + Clone> Walk<'a, A> {
         lines: &'a str,
     ) -> Result<Walk<'a, A>, AllocError>
         ensures open { IfOk result (λ walk. still_open walk ≡ []) }
+        ensures begins { IfOk result (λ walk. BeginsAt size lines.now (standing walk)) }
+        ensures outside { IfOk result (λ walk. walk.open.items ≡ []) }
     {
         Ok(Walk {
             on,
@@ -93,6 +99,8 @@ impl<'a, A: Allocator> Walk<'a, A> {
     pub fn in_line(&mut self) -> Result<(), AllocError>
         requires lines { holds_lines (still_open self.old) ≡ true }
         ensures open { OnOk result (still_open self.new ≡ still_open self.old) }
+        ensures begun { OnOk result (IsBegun (standing self.old) (standing self.new)) }
+        ensures around { OnOk result (HasSameOpen (standing self.old) (standing self.new)) }
     {
         if self.is_in_line {
             Ok(())
@@ -105,6 +113,8 @@ impl<'a, A: Allocator> Walk<'a, A> {
     pub fn begin_line(&mut self) -> Result<(), AllocError>
         requires lines { holds_lines (still_open self.old) ≡ true }
         ensures open { OnOk result (still_open self.new ≡ still_open self.old) }
+        ensures begins { OnOk result (BeginsLine (standing self.old) (standing self.new)) }
+        ensures around { OnOk result (HasSameOpen (standing self.old) (standing self.new)) }
     {
         let (content, ending, after) = next_line(self.left);
         self.line_end = self
@@ -123,6 +133,8 @@ impl<'a, A: Allocator> Walk<'a, A> {
     pub fn next_line(&mut self) -> Result<(), AllocError>
         requires lines { holds_lines (still_open self.old) ≡ true }
         ensures open { OnOk result (still_open self.new ≡ still_open self.old) }
+        ensures passes { OnOk result (PassesLine (standing self.old) (standing self.new)) }
+        ensures around { OnOk result (HasSameOpen (standing self.old) (standing self.new)) }
     {
         self.ending(Name::LineEnding)?;
         self.begin_line()
@@ -132,6 +144,8 @@ impl<'a, A: Allocator> Walk<'a, A> {
     pub fn ending(&mut self, name: Name) -> Result<(), AllocError>
         requires child { may_enter (still_open self.old) name ≡ true }
         ensures open { OnOk result (still_open self.new ≡ still_open self.old) }
+        ensures ends { OnOk result (EndsLine (standing self.old) (standing self.new)) }
+        ensures around { OnOk result (HasSameOpen (standing self.old) (standing self.new)) }
     {
         self.is_in_line = false;
         let end = at(self.line_end).after(ending_size(self.ending));
@@ -142,6 +156,8 @@ impl<'a, A: Allocator> Walk<'a, A> {
     pub fn enter(&mut self, name: Name) -> Result<(), AllocError>
         requires child { may_enter (still_open self.old) name ≡ true }
         ensures open { OnOk result (still_open self.new ≡ Entered name ∷ still_open self.old) }
+        ensures written { OnOk result ((text line : List ℕ) → StandsInLine text line self.old → EntersInLine text name line self.old self.new) }
+        ensures stays { OnOk result (standing self.new ≡ standing self.old) }
     {
         self.out.enter(name)
     }
@@ -149,6 +165,8 @@ impl<'a, A: Allocator> Walk<'a, A> {
     /// Something ends here.
     pub fn exit(&mut self, name: Name) -> Result<(), AllocError>
         ensures open { OnOk result (still_open self.new ≡ closed name (still_open self.old)) }
+        ensures written { OnOk result ((text line : List ℕ) → StandsInLine text line self.old → ExitsInLine text name line self.old self.new) }
+        ensures stays { OnOk result (standing self.new ≡ standing self.old) }
     {
         self.out.exit(name)
     }
@@ -157,6 +175,7 @@ impl<'a, A: Allocator> Walk<'a, A> {
     pub fn token(&mut self, name: Name, size: usize) -> Result<(), AllocError>
         requires child { may_enter (still_open self.old) name ≡ true }
         ensures open { OnOk result (still_open self.new ≡ still_open self.old) }
+        ensures stays { OnOk result (standing self.new ≡ standing self.old) }
     {
         let end = self.out.end().after(size);
         self.out.token(name, end)
@@ -166,6 +185,7 @@ impl<'a, A: Allocator> Walk<'a, A> {
     pub fn to(&mut self, name: Name, index: usize) -> Result<(), AllocError>
         requires child { may_enter (still_open self.old) name ≡ true }
         ensures open { OnOk result (still_open self.new ≡ still_open self.old) }
+        ensures stays { OnOk result (standing self.new ≡ standing self.old) }
     {
         self.out.token(name, at(index))
     }
@@ -174,6 +194,7 @@ impl<'a, A: Allocator> Walk<'a, A> {
     pub fn space_to(&mut self, rest: &Cursor<'a>) -> Result<(), AllocError>
         requires space { may_enter (still_open self.old) SpaceOrTab ≡ true }
         ensures open { OnOk result (still_open self.new ≡ still_open self.old) }
+        ensures stays { OnOk result (standing self.new ≡ standing self.old) }
     {
         let end = self.start_of(rest);
         self.out.token(Name::SpaceOrTab, end)
@@ -183,6 +204,7 @@ impl<'a, A: Allocator> Walk<'a, A> {
     pub fn white(&mut self) -> Result<&'a str, AllocError>
         requires space { may_enter (still_open self.old) SpaceOrTab ≡ true }
         ensures open { OnOk result (still_open self.new ≡ still_open self.old) }
+        ensures stays { OnOk result (standing self.new ≡ standing self.old) }
     {
         let bare = self.rest.bare_text();
         self.to(Name::SpaceOrTab, self.index_of(bare.len()))?;
@@ -193,6 +215,7 @@ impl<'a, A: Allocator> Walk<'a, A> {
     pub fn all(&mut self, name: Name) -> Result<(), AllocError>
         requires child { may_enter (still_open self.old) name ≡ true }
         ensures open { OnOk result (still_open self.new ≡ still_open self.old) }
+        ensures stays { OnOk result (standing self.new ≡ standing self.old) }
     {
         self.to(name, self.line_end)
     }
@@ -218,7 +241,9 @@ impl<'a, A: Allocator> Walk<'a, A> {
 }
 
 /// How many bytes an ending has, if there is one.
-fn ending_size(ending: Option<LineEnding>) -> usize {
+fn ending_size(ending: Option<LineEnding>) -> usize
+    ensures { result ≡ length (ending_text ending) }
+{
     match ending {
         Some(ending) => ending.as_str().len(),
         None => 0,

@@ -1,5 +1,5 @@
 -- A paragraph that is all of a text.
-use Rattle.std.proofs.Common.{◌≡◌, ℕ, List, [], ◌∷◌, refl, ap, ◌∙◌, sym, subst, length}
+use Rattle.std.proofs.Common.{◌≡◌, ℕ, List, [], refl, ap, ◌∙◌, sym, subst, length}
 use Rattle.engine_events.specs.declared.event.Event.{Event}
 use Rattle.event_output.specs.Children.{HaveChildren, are_children, may_enter, may_hold}
 use Rattle.event_output.specs.Open.{unmatched}

@@ -3,6 +3,8 @@ pub mod Tokens
 pub mod Placed
 pub mod Open
 pub mod Drafts
+pub mod Ends
+pub mod Forest
 pub mod Written
 pub mod Children
 pub mod Paragraph

@@ -1,4 +1,6 @@
 //! Where an event ends.
+ghost use Rattle.std.specs.Prelude.{◌≡◌, ◌+◌, ◌<◌, ◌^◌};
+ghost use Rattle.event_output.specs.Ends.{end_at};
 
 /// A place in a text: an index, and how many columns of the tab there are still ahead.
 #[derive(Clone, Copy, Debug, PartialEq, Eq)]
@@ -11,13 +13,17 @@ pub struct End {
 }
 
 /// The place before the byte at an index.
-pub fn at(index: usize) -> End {
+pub fn at(index: usize) -> End
+    ensures { result ≡ end_at index 0 }
+{
     End { index, owed: 0 }
 }
 
 impl End {
     /// The place so many bytes after the index.
-    pub fn after(self, size: usize) -> End {
+    pub fn after(self, size: usize) -> End
+        ensures { self.index + size < 2 ^ 64 → result ≡ end_at (self.index + size) 0 }
+    {
         at(self.index.saturating_add(size))
     }
 }

@@ -7,6 +7,9 @@ ghost use Rattle.engine_events.specs.declared.event.Name.TheVariants.{Paragraph}
 ghost use Rattle.engine_events.specs.Events.{event};
 ghost use Rattle.event_output.specs.Children.{HaveChildren, may_enter};
 ghost use Rattle.event_output.specs.Drafts.{AreChildren, draft_marks, marks_of, unmatched_in};
+ghost use Rattle.event_output.specs.declared.end.End.{End};
+ghost use Rattle.event_output.specs.Ends.{Follows, OwesIn, columns_before, end_at, end_place, first_end};
+ghost use Rattle.event_output.specs.Forest.{AreInOrder, GoesOnward, draft_end, draft_events, drafts_end, drafts_events};
 ghost use Rattle.event_output.specs.Open.{mark_of, unmatched};
 ghost use Rattle.event_output.specs.Placed.{ArePlaced, IsTold, beginning};
 ghost use Rattle.event_output.specs.Spots.{ArePlain};
@@ -34,6 +37,8 @@ pub(crate) fn push_events<A: Allocator>(
     ensures placed { OnOk result (ArePlaced text.now events.new.items) }
     ensures children { OnOk result (HaveChildren events.new.items) }
     ensures open { OnOk result (unmatched events.new.items ≡ unmatched_in drafts.now) }
+    ensures each { AreInOrder text.now first_end drafts.now → (drafts_end first_end drafts.now).index ≡ length text.now
+        → OnOk result (events.new.items ≡ drafts_events text.now first_end drafts.now) }
 {
     let Some(count) = drafts.len().checked_mul(2) else {
         return Err(AllocError);
@@ -53,6 +58,8 @@ fn push_drafts<A: Allocator>(text: &[u8], drafts: &[Draft], events: &mut Vec<Eve
     ensures place { IsPlace text.now result }
     ensures told { IsTold text.now events.new.items result }
     ensures marks { map mark_of events.new.items ≡ marks_of drafts.now }
+    ensures end { AreInOrder text.now first_end drafts.now → result ≡ end_place text.now (drafts_end first_end drafts.now) }
+    ensures each { AreInOrder text.now first_end drafts.now → events.new.items ≡ drafts_events text.now first_end drafts.now }
 {
     let mut place = START;
     let mut plain = 0;
@@ -80,6 +87,10 @@ fn push_draft<A: Allocator>(
     ensures plain { ArePlain text.now place.new.spot.index plain.new }
     ensures told { IsTold text.now events.new.items place.new }
     ensures marks { map mark_of events.new.items ≡ map mark_of events.old.items ++ draft_marks draft }
+    ensures end { (from : End) → GoesOnward text.now from draft → place.old ≡ end_place text.now from
+        → place.new ≡ end_place text.now (draft_end from draft) }
+    ensures each { (from : End) → from.index ≤ length text.now → GoesOnward text.now from draft → place.old ≡ end_place text.now from
+        → events.new.items ≡ events.old.items ++ draft_events text.now from draft }
     ensures len { vec_len events.new ≤ vec_len events.old + 2 }
     ensures capacity { vec_capacity events.new ≡ vec_capacity events.old }
 {
@@ -109,6 +120,7 @@ fn push_rest<A: Allocator>(
     ensures placed { OnOk result (ArePlaced text.now events.new.items) }
     ensures open { OnOk result (unmatched events.new.items ≡ unmatched events.old.items) }
     ensures children { OnOk result (HaveChildren events.new.items) }
+    ensures none { place.spot.index ≡ length text.now → OnOk result (events.new.items ≡ events.old.items) }
 {
     if place.spot.index == text.len() {
         return Ok(());
@@ -163,6 +175,8 @@ impl Place {
         requires plain { ArePlain text.now self.old.spot.index plain.old }
         ensures place { IsPlace text.now self.new }
         ensures goes_on { GoesOn text.now self.old self.new }
+        ensures end { (from : End) → self.old ≡ end_place text.now from → Follows text.now from (end_at index owed)
+            → self.new ≡ end_place text.now (end_at index owed) }
         ensures plain { ArePlain text.now self.new.spot.index plain.new }
     {
         let from = self.spot.index;
@@ -187,6 +201,8 @@ impl Place {
         requires plain { ArePlain text.now self.spot.index plain }
         ensures place { IsPlace text.now result }
         ensures goes_on { GoesOn text.now self result }
+        ensures end { (from : End) → self ≡ end_place text.now from → Follows text.now from (end_at index owed)
+            → result ≡ end_place text.now (end_at index owed) }
         ensures index { length text.now ≤ index → result.spot.index ≡ length text.now }
     {
         let to = index.min(text.len()).max(self.spot.index);
@@ -211,7 +227,8 @@ impl Place {
 
 /// How many columns of the tab at a place are before so many of them.
 fn columns_before(text: &[u8], spot: Spot, owed: u8) -> u8
-    ensures { IsWhole text.now (place spot result) }
+    ensures whole { IsWhole text.now (place spot result) }
+    ensures columns { OwesIn text.now spot owed → result ≡ columns_before spot owed }
 {
     if owed == 0 || spot.index >= text.len() || text[spot.index] != b'\t' {
         return 0;

@@ -1,4 +1,7 @@
-use Rattle.std.proofs.Common.{arith, refl, inl}
+use Rattle.std.proofs.Common.{◌+◌, ◌-◌, false, arith, refl, inl, sym, ap}
+use Rattle.event_output.specs.Ends.{columns_before, end_at}
+use Rattle.event_output.specs.Spots.{spot}
+use Rattle.event_output.proofs.Ends.{place_reached, spot_reached}
 use Rattle.event_output.proofs.Plain.{passed_at_once, plain_within}
 use Rattle.event_output.proofs.spot.Place.pass.Goals as goal
 
@@ -15,3 +18,14 @@ returns-then-index-plain-clause-goes_on c =
       };
       whole = inl refl;
     }
+
+pub returns-then-index-plain-clause-end : goal.returns-then-index-plain-clause-end
+returns-then-index-plain-clause-end c = λ from at follows.
+    let text = c.args.text.now in
+    let s = c.args.self.now.spot in
+    let to = end_at c.args.index c.args.owed in
+    let there = spot s.line (s.column + (c.args.index - s.index)) c.args.index false in
+    place_reached text from to there 0 follows
+    (spot_reached text from to c.args.self.now there at follows
+    (passed_at_once text s c.args.plain.now c.args.index c.if-from-ge-MARK_MAX.true c.requires.plain c.if-from-index.true c.if-index-plain.true))
+    (λ owes. ap (columns_before there) (sym c.if-owed-eq0.true))

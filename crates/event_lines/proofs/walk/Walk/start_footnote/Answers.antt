@@ -1,0 +1,25 @@
+use Rattle.std.proofs.Common.{true, Some, refl, ap, ◌∙◌, sym, subst}
+use Rattle.markdown_options.specs.declared.container.Container.{Container as CodeContainer}
+use Rattle.markdown_options.specs.declared.container.Container.TheVariants as code
+use Rattle.definition_block.specs.ContainerStart.{container_start}
+use Rattle.block_starts.specs.View.{container_view, container_views, rest_of, started_if}
+use Rattle.event_lines.specs.Kinds.{is_footnote}
+use Rattle.event_lines.specs.Standing.{Standing, standing}
+use Rattle.event_lines.specs.Steps.{StartsOf, with_container}
+use Rattle.event_lines.proofs.Containers.{quotes_other}
+use Rattle.event_lines.proofs.Steps.{container_starts}
+use Rattle.event_lines.proofs.walk.Walk.start_footnote.Goals as goal
+
+pub returns-clause-starts : goal.returns-clause-starts
+returns-clause-starts g c =
+    let old = c.args.self.now in
+    let s = c.in-Some-Footnote-default in
+    let k = container_view (code.Footnote s.label) in
+    let found = sym c.starts.ensures ∙ ap started_if s.is
+    ∙ ap (λ (x : CodeContainer). Some (container_start (container_view x) (rest_of s.line.rest) s.line.before)) s.field-0-0-is in
+    let same = c.in_ok-footnote_prefix.ensures.stays ∙ c.in_ok-enter.ensures.stays ∙ c.in_ok-_bare.ensures.stays in
+    let new = c.in_ok-start.ensures.stays ∙ ap (λ (x : Standing). with_container x k (rest_of s.line.rest)) same in
+    subst (λ (x : Standing). StartsOf is_footnote (standing old) true x) (sym new) (
+    container_starts is_footnote (standing old) k (rest_of s.line.rest) s.line.before old.quotes_end found
+    (quotes_other old.quotes_end (container_views old.open.items) k refl)
+    )
