@@ -1,5 +1,10 @@
 pub mod Suffixes
 pub mod Prefixes
 pub mod Containers
+pub mod Columns
+pub mod Spots
+pub mod Ends
+pub mod Quiet
 pub mod Lines
 pub mod Steps
+pub mod Written

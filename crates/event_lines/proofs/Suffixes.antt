@@ -3,7 +3,7 @@ use Rattle.std.proofs.Common.{◌≡◌, ℕ, ◌+◌, Bool, false, ◌&&◌, �
 use Rattle.std.specs.Prelude.{min, ◌==◌}
 use Rattle.std.specs.List.{prefix_len}
 use Rattle.definition_text.specs.Ascii.{right_parenthesis, asterisk, plus, hyphen, dot, colon, left_bracket, right_bracket, caret}
-use Rattle.std.proofs.lemmas.Bool.{cases_Bool, cond-true, cond-false}
+use Rattle.std.proofs.lemmas.Bool.{cases_Bool, cond-true, cond-false, eqb-true}
 use Rattle.std.proofs.lemmas.List.{drop-drop}
 use Rattle.markdown_options.specs.declared.configuration.Constructs.{Constructs}
 use Rattle.definition_text.specs.Columns.{Rest, bare, indent}
@@ -63,6 +63,36 @@ quote_end on rest line is =
           after_mark_end (after_byte 62 (bare rest)) rest line (λ found e. ends_in found (bare rest) rest (after_byte_end 62 (bare rest) found e) (indent rest, refl))
           (sym (cond-true (on.block_quote && small_indent on rest) _ _ h) ∙ is)
       | inr h ↦ let e : None ≡ Some line = sym (cond-false (on.block_quote && small_indent on rest) _ _ h) ∙ is in absurd (cc)
+    ]
+
+-- the parts of a quote's prefix: white space, the mark, and what belongs to it
+pub record QuoteParts (start rest : Rest) : Type 0 where
+  pub codes : Rest
+  pub mark : bare start ≡ 62 ∷ codes
+  pub end : IsEnd rest codes
+
+after_byte_is : (byte : ℕ) (rest found : Rest) → after_byte byte rest ≡ Some found → rest ≡ byte ∷ found
+after_byte_is byte [] found is = absurd (cc)
+after_byte_is byte (code ∷ codes) found is =
+    elim (cases_Bool (eqb code byte)) [
+      | inl h ↦ let e : Some codes ≡ Some found = sym (cond-true (eqb code byte) _ _ h) ∙ is in let same = eqb-true code byte h in cc
+      | inr h ↦ let e : None ≡ Some found = sym (cond-false (eqb code byte) _ _ h) ∙ is in absurd (cc)
+    ]
+
+mark_parts : (start : Rest) (o : Option Rest) (line : ContainerLine) → ((found : Rest) → o ≡ Some found → bare start ≡ 62 ∷ found)
+    → after_mark o ≡ Some line → QuoteParts start line.rest
+mark_parts start None line h is = absurd (cc)
+mark_parts start (Some found) line h is =
+    let e : line.rest ≡ outdent 1 found = cc in
+    record { codes = found; mark = h found refl; end = (min 1 (indent found), e) }
+
+pub quote_parts : (on : Constructs) (start : Rest) (line : ContainerLine) → quote_prefix on start ≡ Some line → QuoteParts start line.rest
+quote_parts on start line is =
+    elim (cases_Bool (on.block_quote && small_indent on start)) [
+      | inl h ↦
+          mark_parts start (after_byte 62 (bare start)) line (λ found e. after_byte_is 62 (bare start) found e)
+          (sym (cond-true (on.block_quote && small_indent on start) _ _ h) ∙ is)
+      | inr h ↦ let e : None ≡ Some line = sym (cond-false (on.block_quote && small_indent on start) _ _ h) ∙ is in absurd (cc)
     ]
 
 item_end : (size : ℕ) (blank : Bool) (rest : Rest) (line : ContainerLine) → item_continues size blank rest ≡ Some line → IsEnd line.rest rest

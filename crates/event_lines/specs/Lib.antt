@@ -1,4 +1,6 @@
 pub mod Open
 pub mod Kinds
 pub mod Standing
+pub mod Quiet
+pub mod Ends
 pub mod Steps

@@ -7,7 +7,9 @@ ghost use Rattle.definition_text.specs.Columns.{whole};
 ghost use Rattle.block_starts.specs.View.{container_view, container_views, rest_of};
 ghost use Rattle.laws_laid.specs.EmptyRests.{is_quote};
 ghost use Rattle.event_lines.specs.Kinds.{is_footnote, is_item};
+ghost use Rattle.event_lines.specs.Ends.{WritesPrefix, WritesPrefixes};
 ghost use Rattle.event_lines.specs.Open.{still_open, with_entered};
+ghost use Rattle.definition_block.specs.Container.{Quote};
 ghost use Rattle.event_lines.specs.Standing.{AreQuotesWithin, TEXT_MAX, standing};
 ghost use Rattle.event_lines.specs.Steps.{Leaves, ReadsPrefixes, StartsOf, with_container, with_rest};
 
@@ -41,6 +43,7 @@ impl<'a, A: Allocator> Walk<'a, A> {
         ensures open { OnOk result (still_open self.new ≡ still_open self.old) }
         ensures reads { OnOk result (ReadsPrefixes (standing self.old) (standing self.new)) }
         ensures stays { OnOk result (standing self.new ≡ with_rest (standing self.old) (rest_of self.new.rest)) }
+        ensures written { OnOk result (WritesPrefixes self.old self.new) }
     {
         for depth in 0..self.open.len() {
             if depth >= self.quotes_end && self.rest.is_blank() && self.rest.indent() == 0 {
@@ -63,6 +66,7 @@ impl<'a, A: Allocator> Walk<'a, A> {
         requires lines { holds_lines (still_open self.old) ≡ true }
         ensures open { OnOk result (still_open self.new ≡ still_open self.old) }
         ensures stays { OnOk result (standing self.new ≡ with_rest (standing self.old) (rest_of after.entry)) }
+        ensures written { OnOk result (WritesPrefix (container_view container.entry) (rest_of after.entry) self.old self.new) }
     {
         match container {
             Container::Quote => self.quote_prefix(after)?,
@@ -78,6 +82,7 @@ impl<'a, A: Allocator> Walk<'a, A> {
         requires lines { holds_lines (still_open self.old) ≡ true }
         ensures open { OnOk result (still_open self.new ≡ still_open self.old) }
         ensures stays { OnOk result (standing self.new ≡ standing self.old) }
+        ensures written { OnOk result (WritesPrefix Quote (rest_of after.entry) self.old self.new) }
     {
         let _bare = self.white()?;
         self.enter(Name::BlockQuotePrefix)?;

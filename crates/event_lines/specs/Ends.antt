@@ -1,0 +1,78 @@
+-- Where the output of a walk is, beside its lines.
+use Rattle.std.specs.Prelude.{◌≡◌, ℕ, ◌-◌, ◌+◌, ◌==◌, if◌then◌else◌, List, ◌∷◌, drop, length, false, Some}
+use Rattle.std.specs.List.{prefix_len}
+use Rattle.engine_events.specs.declared.event.Name.{Name}
+use Rattle.markdown_options.specs.declared.beside.Kind.{Kind}
+use Rattle.definition_text.specs.Columns.{Rest, whole, bytes_of, is_tab_column}
+use Rattle.definition_block.specs.Container.{Container}
+use Rattle.definition_block.specs.ContainerLine.{container_line}
+use Rattle.definition_block.specs.Containers.{continues}
+use Rattle.block_starts.specs.View.{rest_of}
+use Rattle.event_grammar.specs.Trees.{Nodes}
+use Rattle.event_output.specs.declared.end.End.{End}
+use Rattle.event_output.specs.declared.output.Output.{Output}
+use Rattle.event_output.specs.Ends.{Follows, end_at}
+use Rattle.event_output.specs.Forest.{void_nodes}
+use Rattle.event_output.specs.Written.{IsInOrder, Writes, end_in}
+use Rattle.laws_laid.specs.Places.{LineRest, Between}
+use Rattle.event_lines.specs.declared.walk.Walk.{Walk}
+use Rattle.event_lines.specs.Standing.{Standing, StandsAt, IsLineOf, standing}
+use Rattle.event_lines.specs.Quiet.{AreQuiet}
+
+-- where a rest of a line begins, of which the content ends at an index
+abbrev pub rest_start : ℕ → Rest → End
+rest_start line_end rest =
+    let index = line_end - length (bytes_of rest) in
+    let owed = prefix_len is_tab_column rest in
+    if owed == 0 then end_at index 0 else end_at (index - 1) owed
+
+-- what is written ends here
+abbrev pub written_to : {A : Type 0} → Walk A → End
+written_to w = end_in w.out
+
+-- all before the rest of the line is written
+abbrev pub IsWrittenToRest : {A : Type 0} → Walk A → Type 0
+IsWrittenToRest w = written_to w ≡ rest_start w.line_end (rest_of w.rest)
+
+-- all before the next line is written
+abbrev pub IsWrittenToLine : {A : Type 0} → Walk A → Type 0
+IsWrittenToLine w = written_to w ≡ end_at (w.size - length w.left.now) 0
+
+-- an event that holds no other is written up to an end, if this goes onward
+abbrev pub WritesUpTo : {A : Type 0} → Name → End → Walk A → Walk A → Type 0
+WritesUpTo name to old new =
+    (text : List ℕ) → IsInOrder text old.out → Follows text (written_to old) to
+    → Writes text old.out new.out (void_nodes text name (written_to old) to)
+
+-- nodes are written that spell nothing
+pub record WritesQuiet {A : Type 0} (text : List ℕ) (old new : Output A) : Type 0 where
+  pub nodes : Nodes
+  pub writes : Writes text old new nodes
+  pub quiet : AreQuiet nodes
+
+-- a walk is in a line, of which this is left after so many columns, and all before it is written
+pub record IsAfter {A : Type 0} (text before content after : List ℕ) (n : ℕ) (w : Walk A) : Type 0 where
+  pub line : IsLineOf text before content after
+  pub end : w.line_end ≡ length before + length content
+  pub rest : rest_of w.rest ≡ drop n (whole content)
+  pub written : IsWrittenToRest w
+  pub order : IsInOrder text w.out
+
+-- the prefix of a container that goes on is written, up to a rest of the line
+abbrev pub WritesPrefix : {A : Type 0} → Container → Rest → Walk A → Walk A → Type 0
+WritesPrefix c rest old new =
+    (text before content after : List ℕ) (n : ℕ) (kind : Kind) → IsAfter text before content after n old
+    → continues old.on.now c false (rest_of old.rest) ≡ Some (container_line rest kind)
+    → WritesQuiet text old.out new.out × (written_to new ≡ rest_start old.line_end rest)
+
+-- the prefixes of the open containers are written, up to the first that doesn't go on
+abbrev pub WritesPrefixes : {A : Type 0} → Walk A → Walk A → Type 0
+WritesPrefixes old new =
+    (text before content after : List ℕ) (n : ℕ) → IsAfter text before content after n old
+    → WritesQuiet text old.out new.out × ((m : ℕ) × IsAfter text before content after m new)
+
+-- the same for the next line
+abbrev pub WritesLine : {A : Type 0} → Walk A → Walk A → Type 0
+WritesLine old new =
+    (text : List ℕ) (next : LineRest) (others : List LineRest) → StandsAt text (Between (next ∷ others)) (standing old) → IsWrittenToLine old
+    → IsInOrder text old.out → WritesQuiet text old.out new.out × IsWrittenToRest new
