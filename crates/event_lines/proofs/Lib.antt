@@ -8,3 +8,5 @@ pub mod Quiet
 pub mod Lines
 pub mod Steps
 pub mod Written
+pub mod Ahead
+pub mod InLine

@@ -4,3 +4,4 @@ pub mod Standing
 pub mod Quiet
 pub mod Ends
 pub mod Steps
+pub mod Content

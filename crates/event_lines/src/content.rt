@@ -1,7 +1,10 @@
 //! Contents, whose lines stand after the prefixes of containers (CommonMark 4.8).
-ghost use Rattle.std.specs.Prelude.{◌≡◌, OnOk, true};
+ghost use Rattle.std.specs.Prelude.{◌≡◌, ◌<◌, ◌++◌, ◌^◌, List, OnOk, length, true, ℕ};
 ghost use Rattle.engine_events.specs.declared.event.Name.TheVariants.{Data};
 ghost use Rattle.event_output.specs.Children.{holds_lines, may_enter};
+ghost use Rattle.event_output.specs.Forest.{data_nodes, void_nodes};
+ghost use Rattle.event_output.specs.Written.{end_in};
+ghost use Rattle.event_lines.specs.Content.{StandsInLine, WritesInLine, content_end_in, end_after};
 ghost use Rattle.event_lines.specs.Open.{still_open};
 
 use crate::walk::Walk;
@@ -46,6 +49,8 @@ impl<'a, A: Allocator> Walk<'a, A> {
     pub fn text(&mut self, name: Name, size: usize) -> Result<(), AllocError>
         requires child { may_enter (still_open self.old) name ≡ true }
         ensures open { OnOk result (still_open self.new ≡ still_open self.old) }
+        ensures written { OnOk result ((text front line : List ℕ) → size ≡ length front → StandsInLine text (front ++ line) self.old
+            → WritesInLine text front (void_nodes text name (end_in self.old.out) (end_after (end_in self.old.out) size)) line self.old self.new) }
     {
         self.place = self.place.saturating_add(size);
         let end = self.content_end();
@@ -56,6 +61,8 @@ impl<'a, A: Allocator> Walk<'a, A> {
     pub fn data(&mut self, size: usize) -> Result<(), AllocError>
         requires child { may_enter (still_open self.old) Data ≡ true }
         ensures open { OnOk result (still_open self.new ≡ still_open self.old) }
+        ensures written { OnOk result ((text front line : List ℕ) → size ≡ length front → StandsInLine text (front ++ line) self.old
+            → WritesInLine text front (data_nodes text (end_in self.old.out) (end_after (end_in self.old.out) size)) line self.old self.new) }
     {
         if size == 0 {
             return Ok(());
@@ -80,7 +87,9 @@ impl<'a, A: Allocator> Walk<'a, A> {
     }
 
     /// The place in the text up to which the content is written.
-    fn content_end(&self) -> End {
+    fn content_end(&self) -> End
+        ensures { (content_end_in self.now).index < 2 ^ 61 → result ≡ content_end_in self.now }
+    {
         let more = self.place.saturating_sub(self.line_place);
         let owed = usize::from(self.line_start.owed);
         if more < owed {

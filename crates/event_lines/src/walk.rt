@@ -8,10 +8,11 @@ ghost use Rattle.event_output.specs.Open.{Entered, closed};
 ghost use Rattle.event_output.specs.Ends.{end_at};
 ghost use Rattle.event_output.specs.Written.{Enters, Exits, IsInOrder, open_in};
 ghost use Rattle.event_output.specs.Children.{holds_lines, may_enter};
-ghost use Rattle.event_lines.specs.Ends.{IsWrittenToRest, WritesLine, WritesUpTo, rest_start, written_to};
+ghost use Rattle.event_lines.specs.Ends.{WritesLine, WritesUpTo, rest_start, written_to};
+ghost use Rattle.event_lines.specs.Content.{EntersInLine, ExitsInLine, StandsInLine};
 ghost use Rattle.event_lines.specs.Open.{still_open};
 ghost use Rattle.event_lines.specs.Standing.{standing};
-ghost use Rattle.event_lines.specs.Steps.{BeginsAt, BeginsLine, EndsLine, HasSameOpen, IsBegun, PassesLine, with_rest};
+ghost use Rattle.event_lines.specs.Steps.{BeginsAt, BeginsLine, EndsLine, HasSameOpen, IsBegun, PassesLine};
 
 use crate::prefix::line_rest;
 use block_starts::Cursor;
@@ -160,6 +161,7 @@ impl<'a, A: Allocator> Walk<'a, A> {
     pub fn enter(&mut self, name: Name) -> Result<(), AllocError>
         requires child { may_enter (still_open self.old) name ≡ true }
         ensures open { OnOk result (still_open self.new ≡ Entered name ∷ still_open self.old) }
+        ensures written { OnOk result ((text line : List ℕ) → StandsInLine text line self.old → EntersInLine text name line self.old self.new) }
         ensures stays { OnOk result (standing self.new ≡ standing self.old) }
         ensures end { OnOk result (written_to self.new ≡ written_to self.old) }
         ensures enters { OnOk result ((text : List ℕ) → IsInOrder text self.old.out → Enters text name self.old.out self.new.out) }
@@ -170,6 +172,7 @@ impl<'a, A: Allocator> Walk<'a, A> {
     /// Something ends here.
     pub fn exit(&mut self, name: Name) -> Result<(), AllocError>
         ensures open { OnOk result (still_open self.new ≡ closed name (still_open self.old)) }
+        ensures written { OnOk result ((text line : List ℕ) → StandsInLine text line self.old → ExitsInLine text name line self.old self.new) }
         ensures stays { OnOk result (standing self.new ≡ standing self.old) }
         ensures end { OnOk result (written_to self.new ≡ written_to self.old) }
         ensures exits { OnOk result ((text : List ℕ) → IsInOrder text self.old.out → Exits text name self.old.out self.new.out) }

@@ -33,6 +33,17 @@ passed_index mark [] s = omega arith
 passed_index mark (b ∷ bs) s =
     passed_index mark bs (next_spot mark s b) ∙ omega (arith, next_index mark s b)
 
+-- an end that follows one that follows another
+pub follows_both : (text : List ℕ) (a b c : End) → Follows text a b → Follows text b c → Follows text a c
+follows_both text a b c first second = record {
+  forward = omega (arith, first.forward, second.forward);
+  within = second.within;
+  columns = λ same.
+      let there : b.index ≡ a.index = omega (arith, first.forward, second.forward, same) in
+      omega (arith, first.columns there, second.columns (same ∙ sym there));
+  whole = second.whole;
+}
+
 module _ (text : List ℕ) where
   -- the spot at an index has this index
   pub spot_index : (i : ℕ) → i ≤ length text → (index_spot text i).index ≡ i

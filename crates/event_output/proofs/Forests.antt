@@ -18,7 +18,7 @@ use Rattle.event_output.specs.declared.draft.Draft.TheVariants as draft
 use Rattle.event_output.specs.declared.end.End.{End}
 use Rattle.event_output.specs.declared.spot.Place.{Place}
 use Rattle.event_output.specs.Ends.{Follows, end_at, end_columns, end_place, enter_at, exit_at, first_end, same_end}
-use Rattle.event_output.proofs.Ends.{spot_index}
+use Rattle.event_output.proofs.Ends.{follows_both, spot_index}
 use Rattle.event_output.specs.Forest.{append, byte_node, byte_nodes, cut, node_bytewise, bytewise, draft_end, drafts_end, draft_events, drafts_events}
 use Rattle.event_output.specs.Forest.{GoesOnward, AreInOrder, IsData, data_nodes, void_nodes, with_nodes, entered, exited, exited_from, drafted, drafted_all, forest}
 
@@ -95,16 +95,6 @@ data_grown text from g name owed index end is first second =
     ∙ ap (λ ns. growth ns g.outer)
     (append-assoc g.kids (data_nodes text from (end_at index owed)) (data_nodes text (end_at index owed) end)
     ∙ ap (append g.kids) (data_on text from (end_at index owed) end first second)))
-
-follows_both : (text : List ℕ) (a b c : End) → Follows text a b → Follows text b c → Follows text a c
-follows_both text a b c first second = record {
-  forward = omega (arith, first.forward, second.forward);
-  within = second.within;
-  columns = λ same.
-      let there : b.index ≡ a.index = omega (arith, first.forward, second.forward, same) in
-      omega (arith, first.columns there, second.columns (same ∙ sym there));
-  whole = second.whole;
-}
 
 order_less_at : (text : List ℕ) (from : End) (ds : List Draft) (d : Draft) → AreInOrder text from (ds ++ d ∷ [])
     → AreInOrder text from ds × GoesOnward text (drafts_end from ds) d

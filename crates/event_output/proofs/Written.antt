@@ -1,10 +1,10 @@
 -- What is written, step by step.
-use Rattle.std.proofs.Common.{◌≡◌, ℕ, List, sym, ap, ap₂, ◌∙◌}
+use Rattle.std.proofs.Common.{ℕ, List, sym, ap, ◌∙◌}
 use Rattle.engine_events.specs.declared.event.Name.{Name}
 use Rattle.event_grammar.specs.Trees.{Nodes, Around, Nil, growth}
 use Rattle.event_output.specs.declared.output.Output.{Output}
 use Rattle.event_output.specs.Ends.{enter_at, exit_at}
-use Rattle.event_output.specs.Forest.{append, cut, entered, exited, with_nodes}
+use Rattle.event_output.specs.Forest.{append, cut, exited, with_nodes}
 use Rattle.event_output.specs.Written.{Enters, Exits, IsInOrder, Writes, end_in, forest_in}
 use Rattle.event_output.proofs.Forests.{append-assoc, append-nil}
 

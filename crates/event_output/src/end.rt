@@ -1,5 +1,5 @@
 //! Where an event ends.
-ghost use Rattle.std.specs.Prelude.{◌≡◌};
+ghost use Rattle.std.specs.Prelude.{◌≡◌, ◌+◌, ◌<◌, ◌^◌};
 ghost use Rattle.event_output.specs.Ends.{end_at};
 
 /// A place in a text: an index, and how many columns of the tab there are still ahead.
@@ -21,7 +21,9 @@ pub fn at(index: usize) -> End
 
 impl End {
     /// The place so many bytes after the index.
-    pub fn after(self, size: usize) -> End {
+    pub fn after(self, size: usize) -> End
+        ensures { self.index + size < 2 ^ 64 → result ≡ end_at (self.index + size) 0 }
+    {
         at(self.index.saturating_add(size))
     }
 }
