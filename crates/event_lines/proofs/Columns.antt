@@ -1,6 +1,6 @@
 -- Where the columns of a line are among its bytes (CommonMark 2.2).
-use Rattle.std.proofs.Common.{◌≡◌, ℕ, ◌+◌, ◌-◌, ◌<◌, ◌≤◌, suc, zero, Bool, true, false, cond, not, ◌||◌, List, [], ◌∷◌, ◌++◌, eqb, ltb, inl, inr, refl, sym, ap, ◌∙◌, subst, arith, get_or, drop, take, length}
-use Rattle.std.specs.Prelude.{◌⊎◌, ◌==◌, replicate}
+use Rattle.std.proofs.Common.{◌≡◌, ℕ, ◌+◌, ◌-◌, ◌<◌, ◌≤◌, suc, zero, true, false, cond, ◌||◌, List, [], ◌∷◌, ◌++◌, eqb, ltb, inl, inr, refl, sym, ap, ◌∙◌, subst, arith, get_or, drop, take, length}
+use Rattle.std.specs.Prelude.{◌⊎◌, replicate}
 use Rattle.std.specs.List.{prefix_len}
 use Rattle.std.proofs.Math.Seq.{drop-nil}
 use Rattle.std.proofs.lemmas.Bool.{cases_Bool, or_parts, cond-true, cond-false, cases_lt, eqb-true, eqb-false, ltb-true, ltb-false}
@@ -17,7 +17,7 @@ width_tab c b h = cond-true (eqb b 9) _ _ h
 width_other : (c b : ℕ) → eqb b 9 ≡ false → width c b ≡ 1
 width_other c b h = cond-false (eqb b 9) _ _ h
 
-codes_first : (c b : ℕ) (bs : List ℕ) → codes_from c (b ∷ bs) ≡ b ∷ (replicate (width c b - 1) tab_column ++ codes_from (c + width c b) bs)
+pub codes_first : (c b : ℕ) (bs : List ℕ) → codes_from c (b ∷ bs) ≡ b ∷ (replicate (width c b - 1) tab_column ++ codes_from (c + width c b) bs)
 codes_first c b bs =
     elim (cases_Bool (eqb b 9)) [
       | inl h ↦
@@ -37,28 +37,28 @@ codes_first c b bs =
           ∙ ap (λ (k : ℕ). b ∷ (replicate (width c b - 1) tab_column ++ codes_from k bs)) on
     ]
 
-some_width : (c b : ℕ) → 1 ≤ width c b
+pub some_width : (c b : ℕ) → 1 ≤ width c b
 some_width c b =
     elim (cases_Bool (eqb b 9)) [
       | inl h ↦ let w = width_tab c b h in omega arith
       | inr h ↦ let w = width_other c b h in omega arith
     ]
 
-drop_columns : (n k : ℕ) (rest : Rest) → n ≤ k → drop n (replicate k tab_column ++ rest) ≡ replicate (k - n) tab_column ++ rest
+pub drop_columns : (n k : ℕ) (rest : Rest) → n ≤ k → drop n (replicate k tab_column ++ rest) ≡ replicate (k - n) tab_column ++ rest
 drop_columns zero k rest le = let e : k ≡ k - 0 = omega arith in ap (λ (m : ℕ). replicate m tab_column ++ rest) e
 drop_columns (suc n) zero rest le = absurd (omega arith)
 drop_columns (suc n) (suc k) rest le =
     let e : k - n ≡ suc k - suc n = omega arith in
     drop_columns n k rest (omega arith) ∙ ap (λ (m : ℕ). replicate m tab_column ++ rest) e
 
-drop_past : (n k : ℕ) (rest : Rest) → k ≤ n → drop n (replicate k tab_column ++ rest) ≡ drop (n - k) rest
+pub drop_past : (n k : ℕ) (rest : Rest) → k ≤ n → drop n (replicate k tab_column ++ rest) ≡ drop (n - k) rest
 drop_past n zero rest le = let e : n ≡ n - 0 = omega arith in ap (λ (m : ℕ). drop m rest) e
 drop_past zero (suc k) rest le = absurd (omega arith)
 drop_past (suc n) (suc k) rest le =
     let e : n - k ≡ suc n - suc k = omega arith in
     drop_past n k rest (omega arith) ∙ ap (λ (m : ℕ). drop m rest) e
 
-drop_more_codes : (n : ℕ) (x : ℕ) (xs : Rest) → 1 ≤ n → drop n (x ∷ xs) ≡ drop (n - 1) xs
+pub drop_more_codes : (n : ℕ) (x : ℕ) (xs : Rest) → 1 ≤ n → drop n (x ∷ xs) ≡ drop (n - 1) xs
 drop_more_codes zero x xs le = absurd (omega arith)
 drop_more_codes (suc n) x xs le = let e : n ≡ suc n - 1 = omega arith in ap (λ (m : ℕ). drop m xs) e
 
@@ -86,11 +86,13 @@ onward c (b ∷ bs) n m le =
     elim (cases_Bool (ltb n w)) [
       | inl h ↦
           let p : past c (b ∷ bs) n ≡ 0 = cond-true (ltb n w) _ _ h in
-          let i : inside c (b ∷ bs) n ≡ n = cond-true (ltb n w) _ _ h in
-          (omega arith, λ e. elim (cases_Bool (ltb m w)) [
+          let i : inside c (b ∷ bs) n ≡ n = cond-true (ltb n w) _ _ h in (
+            omega arith,
+            λ e. elim (cases_Bool (ltb m w)) [
               | inl k ↦ let j : inside c (b ∷ bs) m ≡ m = cond-true (ltb m w) _ _ k in omega arith
               | inr k ↦ let q : past c (b ∷ bs) m ≡ suc (past (c + w) bs (m - w)) = cond-false (ltb m w) _ _ k in absurd (omega arith)
-            ])
+            ],
+          )
       | inr h ↦
           let p : past c (b ∷ bs) n ≡ suc (past (c + w) bs (n - w)) = cond-false (ltb n w) _ _ h in
           let i : inside c (b ∷ bs) n ≡ inside (c + w) bs (n - w) = cond-false (ltb n w) _ _ h in
@@ -121,7 +123,7 @@ pub record IsInTabOf (bs : List ℕ) (column past inside owed left : ℕ) : Type
 abbrev pub IsAmong : List ℕ → ℕ → ℕ → ℕ → ℕ → ℕ → Type 0
 IsAmong bs column past inside owed left = IsBetweenBytes bs past inside owed left ⊎ IsInTabOf bs column past inside owed left
 
-tail_bytes : (b : ℕ) (bs : List ℕ) → ((k : ℕ) → get_or (b ∷ bs) k 0 < 256) → (k : ℕ) → get_or bs k 0 < 256
+pub tail_bytes : (b : ℕ) (bs : List ℕ) → ((k : ℕ) → get_or (b ∷ bs) k 0 < 256) → (k : ℕ) → get_or bs k 0 < 256
 tail_bytes b bs h k = h (suc k)
 
 tab_sizes : (c : ℕ) → tab_size (c + 1) ≡ 1 + columns_after_tab c
@@ -155,7 +157,7 @@ among_more b bs c past inside owed left (inr at) =
       sizes = omega arith;
     })
 
-ne_zero : (n : ℕ) → eqb n 0 ≡ false → 1 ≤ n
+pub ne_zero : (n : ℕ) → eqb n 0 ≡ false → 1 ≤ n
 ne_zero n z = elim (cases_lt 0 n) [ inl lt ↦ omega arith | inr le ↦ let e : n ≡ 0 = omega arith in absurd (eqb-false n 0 z e) ]
 
 -- only a tab has more than one column
@@ -189,13 +191,13 @@ among c (b ∷ bs) n h =
             | inr z ↦
                 let ne = ne_zero n z in
                 let is : drop n all ≡ replicate (w - 1 - (n - 1)) tab_column ++ others =
-                  ap (drop n) (codes_first c b bs)
-                  ∙ drop_more_codes n b (replicate (w - 1) tab_column ++ others) ne
-                  ∙ drop_columns (n - 1) (w - 1) others (omega arith) in
+                ap (drop n) (codes_first c b bs)
+                ∙ drop_more_codes n b (replicate (w - 1) tab_column ++ others) ne
+                ∙ drop_columns (n - 1) (w - 1) others (omega arith) in
                 let owed : prefix_len is_tab_column (drop n all) ≡ w - 1 - (n - 1) =
-                  ap (prefix_len is_tab_column) is ∙ owed_columns (w - 1 - (n - 1)) others (no_columns (c + w) bs (tail_bytes b bs h)) in
+                ap (prefix_len is_tab_column) is ∙ owed_columns (w - 1 - (n - 1)) others (no_columns (c + w) bs (tail_bytes b bs h)) in
                 let left : length (bytes_of (drop n all)) ≡ length bs =
-                  ap (λ (r : Rest). length (bytes_of r)) is ∙ ap length (no_bytes (w - 1 - (n - 1)) others ∙ bytes_of_codes (c + w) bs (tail_bytes b bs h)) in
+                ap (λ (r : Rest). length (bytes_of r)) is ∙ ap length (no_bytes (w - 1 - (n - 1)) others ∙ bytes_of_codes (c + w) bs (tail_bytes b bs h)) in
                 let tab = wide_tab c b (omega arith) in
                 let wide = width_tab c b tab in
                 let size = tab_sizes c in
@@ -215,16 +217,16 @@ among c (b ∷ bs) n h =
           let i : inside c (b ∷ bs) n ≡ inside (c + w) bs (n - w) = cond-false (ltb n w) _ _ t in
           let fewer : (n - 1) - (w - 1) ≡ n - w = omega arith in
           let is : drop n all ≡ drop (n - w) others =
-            ap (drop n) (codes_first c b bs)
-            ∙ drop_more_codes n b (replicate (w - 1) tab_column ++ others) (omega arith)
-            ∙ drop_past (n - 1) (w - 1) others (omega arith)
-            ∙ ap (λ (m : ℕ). drop m others) fewer in
+          ap (drop n) (codes_first c b bs)
+          ∙ drop_more_codes n b (replicate (w - 1) tab_column ++ others) (omega arith)
+          ∙ drop_past (n - 1) (w - 1) others (omega arith)
+          ∙ ap (λ (m : ℕ). drop m others) fewer in
           let more = among_more b bs c (past (c + w) bs (n - w)) (inside (c + w) bs (n - w)) _ _ (among (c + w) bs (n - w) (tail_bytes b bs h)) in
           subst (λ (q : ℕ). IsAmong (b ∷ bs) (c + 1) q (inside c (b ∷ bs) n) (prefix_len is_tab_column (drop n all)) (length (bytes_of (drop n all)))) (sym p) (
-            subst (λ (j : ℕ). IsAmong (b ∷ bs) (c + 1) (suc (past (c + w) bs (n - w))) j (prefix_len is_tab_column (drop n all)) (length (bytes_of (drop n all)))) (sym i) (
-              subst (λ (r : Rest). IsAmong (b ∷ bs) (c + 1) (suc (past (c + w) bs (n - w))) (inside (c + w) bs (n - w)) (prefix_len is_tab_column r) (length (bytes_of r)))
-              (sym is) more
-            )
+          subst (λ (j : ℕ). IsAmong (b ∷ bs) (c + 1) (suc (past (c + w) bs (n - w))) j (prefix_len is_tab_column (drop n all)) (length (bytes_of (drop n all)))) (sym i) (
+          subst (λ (r : Rest). IsAmong (b ∷ bs) (c + 1) (suc (past (c + w) bs (n - w))) (inside (c + w) bs (n - w)) (prefix_len is_tab_column r) (length (bytes_of r)))
+          (sym is) more
+          )
           )
     ]
 
@@ -260,13 +262,13 @@ dark_owes_none c (b ∷ bs) n x xs h is dark =
             | inl z ↦
                 let e : n ≡ 0 = eqb-true n 0 z in
                 let first : b ∷ (replicate (w - 1) tab_column ++ others) ≡ x ∷ xs =
-                  sym (ap (λ (m : ℕ). drop m (codes_from c (b ∷ bs))) e ∙ codes_first c b bs) ∙ is in
+                sym (ap (λ (m : ℕ). drop m (codes_from c (b ∷ bs))) e ∙ codes_first c b bs) ∙ is in
                 let same : b ≡ x = cc in
                 let rest : replicate (w - 1) tab_column ++ others ≡ xs = cc in
                 let one : w - 1 ≡ 0 = elim (cases_Bool (eqb b 9)) [
-                    | inl t ↦ let tab = eqb-true b 9 t in let white : is_white x ≡ true = ap is_white (sym same ∙ tab) in absurd (cc)
-                    | inr t ↦ let wide = width_other c b t in omega arith
-                  ] in
+                  | inl t ↦ let tab = eqb-true b 9 t in let white : is_white x ≡ true = ap is_white (sym same ∙ tab) in absurd (cc)
+                  | inr t ↦ let wide = width_other c b t in omega arith
+                ] in
                 sym (ap (prefix_len is_tab_column) rest)
                 ∙ ap (λ (k : ℕ). prefix_len is_tab_column (replicate k tab_column ++ others)) one
                 ∙ no_columns (c + w) bs (tail_bytes b bs h)
@@ -274,10 +276,10 @@ dark_owes_none c (b ∷ bs) n x xs h is dark =
                 let ne = ne_zero n z in
                 let k : (w - 1) - (n - 1) ≡ suc ((w - 1) - n) = omega arith in
                 let first : replicate ((w - 1) - (n - 1)) tab_column ++ others ≡ x ∷ xs =
-                  sym (ap (drop n) (codes_first c b bs) ∙ drop_more_codes n b (replicate (w - 1) tab_column ++ others) ne
-                    ∙ drop_columns (n - 1) (w - 1) others (omega arith)) ∙ is in
+                sym (ap (drop n) (codes_first c b bs) ∙ drop_more_codes n b (replicate (w - 1) tab_column ++ others) ne
+                ∙ drop_columns (n - 1) (w - 1) others (omega arith)) ∙ is in
                 let same : tab_column ∷ (replicate ((w - 1) - n) tab_column ++ others) ≡ x ∷ xs =
-                  sym (ap (λ (m : ℕ). replicate m tab_column ++ others) k) ∙ first in
+                sym (ap (λ (m : ℕ). replicate m tab_column ++ others) k) ∙ first in
                 let column : tab_column ≡ x = cc in
                 let white : is_white x ≡ true = ap is_white (sym column) in
                 absurd (cc)
@@ -285,9 +287,9 @@ dark_owes_none c (b ∷ bs) n x xs h is dark =
       | inr ge ↦
           let fewer : (n - 1) - (w - 1) ≡ n - w = omega arith in
           let on : drop n (codes_from c (b ∷ bs)) ≡ drop (n - w) others =
-            ap (drop n) (codes_first c b bs)
-            ∙ drop_more_codes n b (replicate (w - 1) tab_column ++ others) (omega arith)
-            ∙ drop_past (n - 1) (w - 1) others (omega arith)
-            ∙ ap (λ (m : ℕ). drop m others) fewer in
+          ap (drop n) (codes_first c b bs)
+          ∙ drop_more_codes n b (replicate (w - 1) tab_column ++ others) (omega arith)
+          ∙ drop_past (n - 1) (w - 1) others (omega arith)
+          ∙ ap (λ (m : ℕ). drop m others) fewer in
           dark_owes_none (c + w) bs (n - w) x xs (tail_bytes b bs h) (sym on ∙ is) dark
     ]

@@ -1,12 +1,12 @@
 -- Where rests of a line begin in its text.
-use Rattle.std.proofs.Common.{◌≡◌, ℕ, ◌+◌, ◌-◌, ◌<◌, ◌≤◌, suc, Bool, true, false, cond, List, [], ◌∷◌, ◌++◌, eqb, inl, inr, refl, sym, ap, ap₂, ◌∙◌, subst, arith, get_or, drop, take, length, length-append}
+use Rattle.std.proofs.Common.{◌≡◌, ℕ, ◌+◌, ◌-◌, ◌<◌, ◌≤◌, suc, false, cond, List, ◌∷◌, ◌++◌, eqb, inl, inr, refl, sym, ap, ap₂, ◌∙◌, subst, arith, get_or, drop, take, length, length-append}
 use Rattle.std.specs.List.{list_any, prefix_len}
-use Rattle.std.proofs.lemmas.Bool.{cases_Bool, cond-true, cond-false, eqb-true, eqb-false}
+use Rattle.std.proofs.lemmas.Bool.{cases_Bool, cond-true, cond-false, eqb-true}
 use Rattle.engine_events.specs.Columns.{mark_size, tab_size, column_past}
 use Rattle.definition_text.specs.Columns.{Rest, whole, bytes_of, is_tab_column}
 use Rattle.definition_text.specs.Lines.{ends_line}
 use Rattle.event_output.specs.declared.end.End.{End}
-use Rattle.event_output.specs.Ends.{Follows, IsInTab, OwesIn, end_at, end_columns, index_spot}
+use Rattle.event_output.specs.Ends.{Follows, OwesIn, end_at, end_columns, index_spot}
 use Rattle.event_output.proofs.Ends.{spot_index}
 use Rattle.text_lines.proofs.Codes.{no_columns, bytes_of_codes}
 use Rattle.event_lines.specs.Standing.{IsLineOf}
@@ -18,7 +18,7 @@ zero_less : (n : ℕ) → 0 < n → eqb n 0 ≡ false
 zero_less n some = elim (cases_Bool (eqb n 0)) [ inl h ↦ let e = eqb-true n 0 h in absurd (omega arith) | inr h ↦ h ]
 
 -- a place among the bytes of a line
-start_among : (first : ℕ) (bs : List ℕ) (column p i owed left : ℕ) → IsAmong bs column p i owed left
+pub start_among : (first : ℕ) (bs : List ℕ) (column p i owed left : ℕ) → IsAmong bs column p i owed left
     → cond (eqb owed 0) (end_at ((first + length bs) - left) 0) (end_at (((first + length bs) - left) - 1) owed) ≡ end_at (first + p) owed
 start_among first bs column p i owed left (inl at) =
     let none = at.owed_none in
@@ -41,7 +41,7 @@ columns_among text bs first p i owed left column (inr at) =
     let less : tab_size (index_spot text (first + p)).column - owed ≡ i = omega arith in
     cond-false (eqb owed 0) _ _ (zero_less owed some) ∙ less
 
-owes_among : (text bs : List ℕ) (first p i owed left : ℕ) → (index_spot text (first + p)).column ≡ column_past (take p bs) 1
+pub owes_among : (text bs : List ℕ) (first p i owed left : ℕ) → (index_spot text (first + p)).column ≡ column_past (take p bs) 1
     → (index_spot text (first + p)).index ≡ first + p → first + length bs ≤ length text → (p < length bs → get_or text (first + p) 0 ≡ get_or bs p 0)
     → IsAmong bs 1 p i owed left → OwesIn text (index_spot text (first + p)) owed
 owes_among text bs first p i owed left column index within same (inl at) = inl at.owed_none
@@ -55,7 +55,7 @@ owes_among text bs first p i owed left column index within same (inr at) =
       fewer = omega arith;
     })
 
-past_within : (bs : List ℕ) (p i owed left : ℕ) → IsAmong bs 1 p i owed left → p ≤ length bs
+pub past_within : (bs : List ℕ) (p i owed left : ℕ) → IsAmong bs 1 p i owed left → p ≤ length bs
 past_within bs p i owed left (inl at) = let sizes = at.sizes in omega arith
 past_within bs p i owed left (inr at) = let sizes = at.sizes in omega arith
 
@@ -79,20 +79,20 @@ rests_follow text before content after n m le is first mark dark bytes =
     let column_n = column_in text before content after p is first mark dark within_n in
     let column_m = column_in text before content after q is first mark dark within_m in
     let size : length text ≡ length before + (length content + length after) =
-      ap length is ∙ length-append before (content ++ after) ∙ ap (λ (k : ℕ). length before + k) (length-append content after) in
+    ap length is ∙ length-append before (content ++ after) ∙ ap (λ (k : ℕ). length before + k) (length-append content after) in
     let columns_n = columns_among text content (length before) p (inside 0 content n) owed_n left_n column_n at in
     let columns_m = columns_among text content (length before) q (inside 0 content m) owed_m left_m column_m to in
     let index_m = spot_index text (length before + q) (omega arith) in
     let more = onward 0 content n m le in
     let same : q < length content → get_or text (length before + q) 0 ≡ get_or content q 0 = λ lt.
-      ap (λ (l : List ℕ). get_or l (length before + q) 0) is ∙ get_over before (content ++ after) q ∙ get_front content after q lt in
+    ap (λ (l : List ℕ). get_or l (length before + q) 0) is ∙ get_over before (content ++ after) q ∙ get_front content after q lt in
     let follows : Follows text (end_at (length before + p) owed_n) (end_at (length before + q) owed_m) =
-      record {
-        forward = omega (arith, more.0);
-        within = omega arith;
-        columns = λ e. rw (columns_n, columns_m) (more.1 (omega arith));
-        whole = owes_among text content (length before) q (inside 0 content m) owed_m left_m column_m index_m (omega arith) same to;
-      } in
+    record {
+      forward = omega (arith, more.0);
+      within = omega arith;
+      columns = λ e. rw (columns_n, columns_m) (more.1 (omega arith));
+      whole = owes_among text content (length before) q (inside 0 content m) owed_m left_m column_m index_m (omega arith) same to;
+    } in
     subst (λ (x : End). Follows text x (rest_start (length before + length content) (drop m (whole content)))) (sym start_n)
     (subst (λ (x : End). Follows text (end_at (length before + p) owed_n) x) (sym start_m) follows)
 

@@ -10,3 +10,4 @@ pub mod Steps
 pub mod Written
 pub mod Ahead
 pub mod InLine
+pub mod Next

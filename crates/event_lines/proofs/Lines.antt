@@ -83,16 +83,16 @@ dark_first (b ∷ bs) =
     elim (cases_Bool (eqb b 10)) [
       | inl e ↦ ap (λ (l : List TextLine). list_any ends_line (first_of l).content) (cond-true (eqb b 10) _ _ e)
       | inr e ↦ ap (λ (l : List TextLine). list_any ends_line (first_of l).content) (cond-false (eqb b 10) _ _ e) ∙ (elim (cases_Bool (eqb b 13)) [
-            | inl f ↦
-                ap (λ (l : List TextLine). list_any ends_line (first_of l).content) (cond-true (eqb b 13) _ _ f)
-                ∙ ap (list_any ends_line) (dark_return bs (lines bs))
-            | inr f ↦
-                ap (λ (l : List TextLine). list_any ends_line (first_of l).content) (cond-false (eqb b 13) _ _ f)
-                ∙ ap (list_any ends_line) (first_in b (lines bs))
-                ∙ ap (λ (x : Bool). (x || eqb b 13) || list_any ends_line (first_of (lines bs)).content) e
-                ∙ ap (λ (x : Bool). x || list_any ends_line (first_of (lines bs)).content) f
-                ∙ dark_first bs
-          ])
+        | inl f ↦
+            ap (λ (l : List TextLine). list_any ends_line (first_of l).content) (cond-true (eqb b 13) _ _ f)
+            ∙ ap (list_any ends_line) (dark_return bs (lines bs))
+        | inr f ↦
+            ap (λ (l : List TextLine). list_any ends_line (first_of l).content) (cond-false (eqb b 13) _ _ f)
+            ∙ ap (list_any ends_line) (first_in b (lines bs))
+            ∙ ap (λ (x : Bool). (x || eqb b 13) || list_any ends_line (first_of (lines bs)).content) e
+            ∙ ap (λ (x : Bool). x || list_any ends_line (first_of (lines bs)).content) f
+            ∙ dark_first bs
+      ])
     ]
 
 pub dark_line : (text content after : List ℕ) (ending : Option LineEnding) → lines text ≡ text_line content ending ∷ lines after
@@ -124,7 +124,7 @@ last_first (b ∷ bs) none =
           elim (cases_Bool (eqb b 13)) [
             | inl f ↦
                 absurd (some_return bs (lines bs) (
-                  sym (ap (λ (l : List TextLine). (first_of l).ending) (cond-false (eqb b 10) _ _ e ∙ cond-true (eqb b 13) _ _ f)) ∙ none
+                sym (ap (λ (l : List TextLine). (first_of l).ending) (cond-false (eqb b 10) _ _ e ∙ cond-true (eqb b 13) _ _ f)) ∙ none
                 ))
             | inr f ↦
                 let is : lines (b ∷ bs) ≡ in_first_line b (lines bs) = cond-false (eqb b 10) _ _ e ∙ cond-false (eqb b 13) _ _ f in
@@ -136,5 +136,5 @@ pub last_line : (text content after : List ℕ) (ending : Option LineEnding) →
     → after ≡ []
 last_line text content after ending is none =
     let others : lines after ≡ [] =
-      ap (drop 1) (sym is) ∙ last_first text (ap (λ (l : List TextLine). (first_of l).ending) is ∙ none) in
+    ap (drop 1) (sym is) ∙ last_first text (ap (λ (l : List TextLine). (first_of l).ending) is ∙ none) in
     sym (lines_joined after) ∙ ap joined others

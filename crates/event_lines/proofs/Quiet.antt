@@ -1,7 +1,7 @@
 -- What is written of prefixes spells nothing.
-use Rattle.std.proofs.Common.{◌≡◌, ℕ, Bool, true, false, List, inl, inr, refl, sym, ap, ◌∙◌, subst}
+use Rattle.std.proofs.Common.{ℕ, List, inl, inr, refl, sym, subst}
 use Rattle.std.proofs.lemmas.Bool.{cases_Bool, cond-true, cond-false}
-use Rattle.engine_events.specs.declared.event.Name.TheVariants.{BlockQuoteMarker, BlockQuotePrefix, SpaceOrTab}
+use Rattle.engine_events.specs.declared.event.Name.TheVariants.{BlockQuotePrefix, SpaceOrTab}
 use Rattle.event_grammar.specs.Trees.{Nodes, Nil, Cons, Around}
 use Rattle.event_output.specs.declared.end.End.{End}
 use Rattle.event_output.specs.declared.output.Output.{Output}

@@ -1,7 +1,7 @@
 -- The columns of a line's bytes in its text (CommonMark 2.2).
-use Rattle.std.proofs.Common.{◌≡◌, ℕ, ◌+◌, ◌-◌, ◌<◌, ◌≤◌, suc, zero, Bool, true, false, List, [], ◌∷◌, ◌++◌, Option, None, Some, eqb, ltb, inl, inr, refl, sym, ap, ◌∙◌, subst, arith, get_or, drop, take, length, length-append, append_assoc}
+use Rattle.std.proofs.Common.{◌≡◌, ℕ, ◌+◌, ◌-◌, ◌<◌, ◌≤◌, suc, zero, true, false, List, [], ◌∷◌, ◌++◌, Some, eqb, ltb, refl, sym, ap, ◌∙◌, arith, get_or, drop, take, length, length-append, append_assoc}
 use Rattle.std.specs.List.{fold, list_any}
-use Rattle.std.proofs.lemmas.Bool.{cond-true, cond-false, le-ltb, or_parts}
+use Rattle.std.proofs.lemmas.Bool.{cond-false, le-ltb, or_parts}
 use Rattle.std.proofs.lemmas.List.{append-nil, take-append-drop, length-take-le}
 use Rattle.std.proofs.lemmas.List.Sums.{fold-append}
 use Rattle.engine_events.specs.Columns.{mark_size, column_after, column_past}
@@ -52,10 +52,10 @@ spot_parts text xs ys zs is =
     let more : length ys ≡ length ys + 0 = omega arith in
     let none_xs : length xs - 0 ≡ length xs + 0 = omega arith in
     let front : take ((length xs + length ys) - 0) text ≡ xs ++ ys =
-      ap (λ (n : ℕ). take n text) none ∙ ap (take (length xs + length ys)) is ∙ take_over xs (ys ++ zs) (length ys)
-      ∙ ap (λ (n : ℕ). xs ++ take n (ys ++ zs)) more ∙ ap (λ (l : List ℕ). xs ++ l) (take_over ys zs 0 ∙ append-nil ys) in
+    ap (λ (n : ℕ). take n text) none ∙ ap (take (length xs + length ys)) is ∙ take_over xs (ys ++ zs) (length ys)
+    ∙ ap (λ (n : ℕ). xs ++ take n (ys ++ zs)) more ∙ ap (λ (l : List ℕ). xs ++ l) (take_over ys zs 0 ∙ append-nil ys) in
     let before : take (length xs - 0) text ≡ xs =
-      ap (λ (n : ℕ). take n text) none_xs ∙ ap (take (length xs + 0)) is ∙ take_over xs (ys ++ zs) 0 ∙ append-nil xs in
+    ap (λ (n : ℕ). take n text) none_xs ∙ ap (take (length xs + 0)) is ∙ take_over xs (ys ++ zs) 0 ∙ append-nil xs in
     ap (fold f start) front ∙ fold-append f start xs ys ∙ ap (λ (l : List ℕ). fold f (fold f start l) ys) (sym before)
 
 plain_columns : (mark : ℕ) (bs : List ℕ) (s : Spot) → mark ≤ s.index → list_any ends_line bs ≡ false
@@ -65,7 +65,7 @@ plain_columns mark (b ∷ bs) s le dark =
     let parts = or_parts (ends_line b) (list_any ends_line bs) dark in
     let no = or_parts (eqb b 10) (eqb b 13) parts.0 in
     let next : next_spot mark s b ≡ spot s.line (column_after b s.column) (s.index + 1) false =
-      cond-false (ltb s.index mark) _ _ (le-ltb s.index mark le) ∙ cond-false (eqb b 10) _ _ no.0 ∙ cond-false (eqb b 13) _ _ no.1 in
+    cond-false (ltb s.index mark) _ _ (le-ltb s.index mark le) ∙ cond-false (eqb b 10) _ _ no.0 ∙ cond-false (eqb b 13) _ _ no.1 in
     ap (λ (x : Spot). (fold (next_spot mark) x bs).column) next
     ∙ plain_columns mark bs (spot s.line (column_after b s.column) (s.index + 1) false) (omega arith) parts.1
 
@@ -80,7 +80,7 @@ pub column_in : (text before content after : List ℕ) (p : ℕ) → text ≡ be
     → (index_spot text (length before + p)).column ≡ column_past (take p content) 1
 column_in text before content after p is first mark dark le =
     let split : content ++ after ≡ take p content ++ (drop p content ++ after) =
-      ap (λ (l : List ℕ). l ++ after) (sym (take-append-drop p content)) ∙ append_assoc (take p content) (drop p content) after in
+    ap (λ (l : List ℕ). l ++ after) (sym (take-append-drop p content)) ∙ append_assoc (take p content) (drop p content) after in
     let parts : text ≡ before ++ (take p content ++ (drop p content ++ after)) = is ∙ ap (λ (l : List ℕ). before ++ l) split in
     let size : length (take p content) ≡ p = length-take-le p content le in
     let whole : length text ≡ length before + length (content ++ after) = ap length is ∙ length-append before (content ++ after) in

@@ -34,15 +34,15 @@ pub line_of : (old : Standing) (text : List ℕ) (left : List LineRest) (content
     → IsLineOf text st.before content (ending_text ending ++ after)
 line_of old text left content after ending st some is =
     let parts : text ≡ st.before ++ (content ++ (ending_text ending ++ after)) =
-      st.parts ∙ ap (λ (xs : List ℕ). st.before ++ xs) (line_first old.left content after ending is) in
+    st.parts ∙ ap (λ (xs : List ℕ). st.before ++ xs) (line_first old.left content after ending is) in
     record {
       parts = parts;
       fits = st.over.fits;
       first = st.first some;
       dark = dark_line old.left content after ending is;
       bytes = bytes_before content (ending_text ending ++ after) (
-        bytes_after st.before (content ++ (ending_text ending ++ after)) (subst (λ (xs : List ℕ). (k : ℕ) → get_or xs k 0 < 256) parts st.over.bytes)
-      );
+          bytes_after st.before (content ++ (ending_text ending ++ after)) (subst (λ (xs : List ℕ). (k : ℕ) → get_or xs k 0 < 256) parts st.over.bytes)
+          );
     }
 
 -- its prefixes are read, up to this rest
@@ -112,7 +112,7 @@ after_line text before content left (Some ending) last parts first some =
     let size = length-append before content in
     let split : text ≡ (before ++ content) ++ (ending_text (Some ending) ++ left) = parts ∙ sym (append_assoc before content (ending_text (Some ending) ++ left)) in
     let whole : length (before ++ content) + length (ending_text (Some ending)) ≡ length (before ++ (content ++ ending_text (Some ending))) =
-      sym (length-append (before ++ content) (ending_text (Some ending))) ∙ ap length (append_assoc before content (ending_text (Some ending))) in
+    sym (length-append (before ++ content) (ending_text (Some ending))) ∙ ap length (append_assoc before content (ending_text (Some ending))) in
     let column = column_after_ending text (before ++ content) left ending split (omega arith) in
     record {
       column = ap (λ (n : ℕ). (index_spot text n).column) (sym whole) ∙ column;
@@ -127,7 +127,7 @@ line_ends old text ending left st =
       begun = refl;
       before = st.line.before ++ (st.line.content ++ ending_text old.ending);
       parts = st.line.parts.parts ∙ sym (append_assoc st.line.before (st.line.content ++ ending_text old.ending) old.left
-        ∙ ap (λ (xs : List ℕ). st.line.before ++ xs) (append_assoc st.line.content (ending_text old.ending) old.left));
+          ∙ ap (λ (xs : List ℕ). st.line.before ++ xs) (append_assoc st.line.content (ending_text old.ending) old.left));
       first = after_line text st.line.before st.line.content old.left old.ending st.line.last st.line.parts.parts st.line.parts.first;
       kind = Whitespace;
       unread = st.unread;
@@ -137,8 +137,12 @@ line_ends old text ending left st =
 pub walk_begins : (s : Standing) (size : ℕ) (rest : List ℕ) → s.size ≡ size → s.left ≡ rest → s.is_in_line ≡ false → s.outermost ≡ [] → BeginsAt size rest s
 walk_begins s size rest is_size is_left out none text before kind fits all bytes parts first =
     record {
-      over = record { fits = fits; size = is_size ∙ all;
-        bytes = bytes; quotes = ap (λ (cs : List Container). list_any is_quote (drop s.quotes_end cs)) none ∙ ap (list_any is_quote) (drop-nil s.quotes_end) };
+      over = record {
+        fits = fits;
+        size = is_size ∙ all;
+        bytes = bytes;
+        quotes = ap (λ (cs : List Container). list_any is_quote (drop s.quotes_end cs)) none ∙ ap (list_any is_quote) (drop-nil s.quotes_end);
+      };
       begun = out;
       before = before;
       parts = parts ∙ ap (λ (xs : List ℕ). before ++ xs) (sym is_left);

@@ -1,5 +1,5 @@
 -- What is written of the prefixes of containers.
-use Rattle.std.proofs.Common.{◌≡◌, ℕ, ◌+◌, ◌-◌, ◌^◌, ◌<◌, ◌≤◌, Bool, true, false, List, [], ◌∷◌, ◌++◌, Option, Some, refl, sym, ap, ◌∙◌, subst, arith, drop, length, length-append}
+use Rattle.std.proofs.Common.{◌≡◌, ℕ, ◌+◌, ◌-◌, ◌^◌, ◌<◌, ◌≤◌, List, ◌∷◌, ◌++◌, Option, Some, refl, sym, ap, ◌∙◌, subst, arith, drop, length, length-append}
 use Rattle.std.proofs.lemmas.List.{drop-drop}
 use Rattle.engine_events.specs.declared.event.Name.TheVariants.{BlockQuoteMarker, BlockQuotePrefix, SpaceOrTab}
 use Rattle.markdown_options.specs.declared.configuration.Constructs.{Constructs}
@@ -14,7 +14,7 @@ use Rattle.event_output.specs.Written.{Enters, Exits, IsInOrder, Writes, end_in}
 use Rattle.markdown_options.specs.declared.line_ending.LineEnding.{LineEnding}
 use Rattle.definition_text.specs.Lines.{text_line, lines, ending_text}
 use Rattle.laws_laid.specs.Places.{LineRest}
-use Rattle.event_lines.specs.Standing.{Standing, IsBetween, IsLineOf, TEXT_MAX}
+use Rattle.event_lines.specs.Standing.{Standing, IsBetween, IsInLine, IsLineOf, TEXT_MAX}
 use Rattle.event_lines.proofs.Lines.{some_left}
 use Rattle.event_lines.proofs.Steps.{line_of}
 use Rattle.event_lines.specs.Ends.{WritesQuiet, rest_start}
@@ -34,9 +34,9 @@ module _ {A : Type 0} (text before content after : List ℕ) (n line_end : ℕ) 
       let from_start : rest_start line_end (drop n (whole content)) ≡ end_in a = ap (rest_start line_end) (sym at) ∙ sym from in
       let to_rest : rest_start line_end (drop (n + further.0) (whole content)) ≡ to = ap (rest_start line_end) at_rest ∙ sym is in
       quiet_space text a b (end_in a) to (
-        writes order (subst (λ (x : End). Follows text x to) from_start (
-          subst (λ (x : End). Follows text (rest_start line_end (drop n (whole content))) x) to_rest follows
-        ))
+      writes order (subst (λ (x : End). Follows text x to) from_start (
+      subst (λ (x : End). Follows text (rest_start line_end (drop n (whole content))) x) to_rest follows
+      ))
       )
 
   -- the prefix of a quote
@@ -48,7 +48,7 @@ module _ {A : Type 0} (text before content after : List ℕ) (n line_end : ℕ) 
       → (IsInOrder text a → Follows text (end_in a) bare_end → Writes text a b (void_nodes text SpaceOrTab (end_in a) bare_end)) → end_in b ≡ bare_end
       → (IsInOrder text b → Enters text BlockQuotePrefix b c) → end_in c ≡ end_in b
       → ((end_in c).index + 1 < 2 ^ 64 → IsInOrder text c → Follows text (end_in c) (end_at ((end_in c).index + 1) 0)
-        → Writes text c d (void_nodes text BlockQuoteMarker (end_in c) (end_at ((end_in c).index + 1) 0)))
+      → Writes text c d (void_nodes text BlockQuoteMarker (end_in c) (end_at ((end_in c).index + 1) 0)))
       → ((end_in c).index + 1 < 2 ^ 64 → end_in d ≡ end_at ((end_in c).index + 1) 0)
       → (IsInOrder text d → Follows text (end_in d) to → Writes text d e (void_nodes text SpaceOrTab (end_in d) to))
       → (IsInOrder text e → Exits text BlockQuotePrefix e f) → WritesQuiet text a f
@@ -58,53 +58,53 @@ module _ {A : Type 0} (text before content after : List ℕ) (n line_end : ℕ) 
       let bare_at : bare start ≡ drop n1 (whole content) = ap (drop (indent start)) at ∙ drop-drop (indent start) n (whole content) in
       let n2 = n1 + 1 in
       let codes_at : parts.codes ≡ drop n2 (whole content) =
-        ap (drop 1) (sym parts.mark) ∙ ap (drop 1) bare_at ∙ drop-drop 1 n1 (whole content) in
+      ap (drop 1) (sym parts.mark) ∙ ap (drop 1) bare_at ∙ drop-drop 1 n1 (whole content) in
       let n3 = n2 + parts.end.0 in
       let rest_at : rest ≡ drop n3 (whole content) = same ∙ parts.end.1 ∙ ap (drop parts.end.0) codes_at ∙ drop-drop parts.end.0 n2 (whole content) in
       let none = bare_owes_none start in
       let none_after = dark_owes_none 0 content n1 62 parts.codes line.bytes (sym bare_at ∙ parts.mark) refl in
       let left : length (bytes_of (drop n1 (whole content))) ≤ length content = left_within content n1 line.bytes in
       let left_is : length (bytes_of (drop n1 (whole content))) ≡ length (bytes_of (62 ∷ parts.codes)) =
-        ap (λ (r : Rest). length (bytes_of r)) (sym bare_at ∙ parts.mark) in
+      ap (λ (r : Rest). length (bytes_of r)) (sym bare_at ∙ parts.mark) in
       let bare_size : length (bytes_of (bare start)) ≡ length (bytes_of (62 ∷ parts.codes)) = ap (λ (r : Rest). length (bytes_of r)) parts.mark in
       let within : length (bytes_of (62 ∷ parts.codes)) ≤ line_end = omega arith in
       let e0 : end_in a ≡ rest_start line_end (drop n (whole content)) = from ∙ ap (rest_start line_end) at in
       let e1 : bare_end ≡ rest_start line_end (drop n1 (whole content)) = bare_is ∙ sym (start_whole line_end (bare start) none) ∙ ap (rest_start line_end) bare_at in
       let at_c : end_in c ≡ bare_end = enter_end ∙ white_end in
       let index_c : (end_in c).index ≡ line_end - length (bytes_of (62 ∷ parts.codes)) =
-        ap (λ (x : End). x.index) (at_c ∙ bare_is) ∙ ap (λ (k : ℕ). line_end - k) bare_size in
+      ap (λ (x : End). x.index) (at_c ∙ bare_is) ∙ ap (λ (k : ℕ). line_end - k) bare_size in
       let marked : end_at ((end_in c).index + 1) 0 ≡ rest_start line_end (drop n2 (whole content)) =
-        ap (λ (k : ℕ). end_at (k + 1) 0) index_c ∙ start_marked line_end parts.codes none_after within ∙ ap (rest_start line_end) codes_at in
+      ap (λ (k : ℕ). end_at (k + 1) 0) index_c ∙ start_marked line_end parts.codes none_after within ∙ ap (rest_start line_end) codes_at in
       let e3 : to ≡ rest_start line_end (drop n3 (whole content)) = to_is ∙ ap (rest_start line_end) rest_at in
       let size : length text ≡ length before + length (content ++ after) = ap length line.parts ∙ length-append before (content ++ after) in
       let more_size : length (content ++ after) ≡ length content + length after = length-append content after in
       let text_fits = line.fits in
       let fits : (end_in c).index + 1 < 2 ^ 64 = omega arith in
       let follows1 : Follows text (end_in a) bare_end =
-        subst (λ (x : End). Follows text x bare_end) (sym e0) (
-          subst (λ (x : End). Follows text (rest_start line_end (drop n (whole content))) x) (sym e1) (
-            line_follows text before content after line_end n n1 line end (omega arith)
-          )
-        ) in
+      subst (λ (x : End). Follows text x bare_end) (sym e0) (
+      subst (λ (x : End). Follows text (rest_start line_end (drop n (whole content))) x) (sym e1) (
+      line_follows text before content after line_end n n1 line end (omega arith)
+      )
+      ) in
       let follows2 : Follows text (end_in c) (end_at ((end_in c).index + 1) 0) =
-        subst (λ (x : End). Follows text x (end_at ((end_in c).index + 1) 0)) (sym (at_c ∙ e1)) (
-          subst (λ (x : End). Follows text (rest_start line_end (drop n1 (whole content))) x) (sym marked) (
-            line_follows text before content after line_end n1 n2 line end (omega arith)
-          )
-        ) in
+      subst (λ (x : End). Follows text x (end_at ((end_in c).index + 1) 0)) (sym (at_c ∙ e1)) (
+      subst (λ (x : End). Follows text (rest_start line_end (drop n1 (whole content))) x) (sym marked) (
+      line_follows text before content after line_end n1 n2 line end (omega arith)
+      )
+      ) in
       let follows3 : Follows text (end_in d) to =
-        subst (λ (x : End). Follows text x to) (sym (marker_end fits ∙ marked)) (
-          subst (λ (x : End). Follows text (rest_start line_end (drop n2 (whole content))) x) (sym e3) (
-            line_follows text before content after line_end n2 n3 line end (omega arith)
-          )
-        ) in
+      subst (λ (x : End). Follows text x to) (sym (marker_end fits ∙ marked)) (
+      subst (λ (x : End). Follows text (rest_start line_end (drop n2 (whole content))) x) (sym e3) (
+      line_follows text before content after line_end n2 n3 line end (omega arith)
+      )
+      ) in
       let first = white order follows1 in
       let entered = enters first.order in
       let second = marker fits entered.order follows2 in
       let third = space second.order follows3 in
       quiet_both text a b f (quiet_space text a b (end_in a) bare_end first) (
-        quiet_quote text b c d e f (void_nodes text BlockQuoteMarker (end_in c) (end_at ((end_in c).index + 1) 0)) (void_nodes text SpaceOrTab (end_in d) to)
-        entered second third (exits third.order)
+      quiet_quote text b c d e f (void_nodes text BlockQuoteMarker (end_in c) (end_at ((end_in c).index + 1) 0)) (void_nodes text SpaceOrTab (end_in d) to)
+      entered second third (exits third.order)
       )
 
 -- a line is begun, of which nothing is read: all before it is written
@@ -113,21 +113,36 @@ pub line_ready : (old : Standing) (text : List ℕ) (next : LineRest) (others : 
     → (length content ≤ TEXT_MAX → start ≡ whole content) → line_end ≡ (old.size - length after) - length (ending_text ending)
     → from ≡ end_at (old.size - length old.left) 0
     → IsLineOf text st.before content (ending_text ending ++ after) × (line_end ≡ length st.before + length content) × (start ≡ whole content)
-      × (from ≡ rest_start line_end start)
+    × (from ≡ rest_start line_end start)
 line_ready old text next others content after ending line_end start from st first fresh ends written =
     let some = some_left st.kind old.left next others st.unread in
     let e = first some in
     let line = line_of old text (next ∷ others) content after ending st some e in
     let sizes : length text ≡ length st.before + (length content + (length (ending_text ending) + length after)) =
-      ap length line.parts ∙ length-append st.before _ ∙ ap (λ (n : ℕ). length st.before + n) (
-        length-append content _ ∙ ap (λ (n : ℕ). length content + n) (length-append (ending_text ending) after)
-      ) in
+    ap length line.parts ∙ length-append st.before _ ∙ ap (λ (n : ℕ). length st.before + n) (
+    length-append content _ ∙ ap (λ (n : ℕ). length content + n) (length-append (ending_text ending) after)
+    ) in
     let left : length text ≡ length st.before + length old.left = ap length st.parts ∙ length-append st.before old.left in
     let fits = line.fits in
     let size = st.over.size in
     let is_whole : start ≡ whole content = fresh (omega arith) in
     let end : line_end ≡ length st.before + length content = omega arith in
     let index : old.size - length old.left ≡ length st.before = omega arith in (
-      line, end, is_whole,
+      line,
+      end,
+      is_whole,
       written ∙ ap (λ (n : ℕ). end_at n 0) index ∙ sym (start_line st.before content line_end line.bytes end) ∙ ap (rest_start line_end) (sym is_whole),
     )
+
+-- the line's ending leads to the next line
+pub ending_end : (text : List ℕ) (s : Standing) → IsInLine text s
+    → (s.line_end + length (ending_text s.ending) ≡ s.size - length s.left) × (s.line_end + length (ending_text s.ending) < 2 ^ 64)
+ending_end text s line =
+    let sizes : length text ≡ length line.before + (length line.content + (length (ending_text s.ending) + length s.left)) =
+    ap length line.parts.parts ∙ length-append line.before _ ∙ ap (λ (n : ℕ). length line.before + n) (
+    length-append line.content _ ∙ ap (λ (n : ℕ). length line.content + n) (length-append (ending_text s.ending) s.left)
+    ) in
+    let fits = line.over.fits in
+    let size = line.over.size in
+    let end = line.end in
+    (omega arith, omega arith)

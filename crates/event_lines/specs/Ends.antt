@@ -1,7 +1,9 @@
 -- Where the output of a walk is, beside its lines.
-use Rattle.std.specs.Prelude.{◌≡◌, ℕ, ◌-◌, ◌+◌, ◌==◌, if◌then◌else◌, List, ◌∷◌, drop, length, false, Some}
+use Rattle.std.specs.Prelude.{◌≡◌, ℕ, ◌-◌, ◌+◌, ◌==◌, if◌then◌else◌, List, ◌∷◌, Option, drop, length, false, Some}
 use Rattle.std.specs.List.{prefix_len}
 use Rattle.engine_events.specs.declared.event.Name.{Name}
+use Rattle.engine_events.specs.declared.event.Name.TheVariants.{LineEnding as Ending}
+use Rattle.markdown_options.specs.declared.line_ending.LineEnding.{LineEnding}
 use Rattle.markdown_options.specs.declared.beside.Kind.{Kind}
 use Rattle.definition_text.specs.Columns.{Rest, whole, bytes_of, is_tab_column}
 use Rattle.definition_block.specs.Container.{Container}
@@ -12,11 +14,11 @@ use Rattle.event_grammar.specs.Trees.{Nodes}
 use Rattle.event_output.specs.declared.end.End.{End}
 use Rattle.event_output.specs.declared.output.Output.{Output}
 use Rattle.event_output.specs.Ends.{Follows, end_at}
-use Rattle.event_output.specs.Forest.{void_nodes}
+use Rattle.event_output.specs.Forest.{append, void_nodes}
 use Rattle.event_output.specs.Written.{IsInOrder, Writes, end_in}
-use Rattle.laws_laid.specs.Places.{LineRest, Between}
+use Rattle.laws_laid.specs.Places.{LineRest, Between, AtEnding}
 use Rattle.event_lines.specs.declared.walk.Walk.{Walk}
-use Rattle.event_lines.specs.Standing.{Standing, StandsAt, IsLineOf, standing}
+use Rattle.event_lines.specs.Standing.{StandsAt, IsLineOf, standing}
 use Rattle.event_lines.specs.Quiet.{AreQuiet}
 
 -- where a rest of a line begins, of which the content ends at an index
@@ -76,3 +78,21 @@ abbrev pub WritesLine : {A : Type 0} → Walk A → Walk A → Type 0
 WritesLine old new =
     (text : List ℕ) (next : LineRest) (others : List LineRest) → StandsAt text (Between (next ∷ others)) (standing old) → IsWrittenToLine old
     → IsInOrder text old.out → WritesQuiet text old.out new.out × IsWrittenToRest new
+
+-- after the line that is begun, and its ending
+abbrev pub line_after : {A : Type 0} → Walk A → End
+line_after w = end_at (w.size - length w.left.now) 0
+
+-- the ending of a line is written
+abbrev pub WritesEnding : {A : Type 0} → Name → Walk A → Walk A → Type 0
+WritesEnding name old new =
+    (text : List ℕ) (ending : Option LineEnding) (left : List LineRest) → StandsAt text (AtEnding ending left) (standing old) → IsInOrder text old.out
+    → Follows text (written_to old) (line_after old)
+    → Writes text old.out new.out (void_nodes text name (written_to old) (line_after old)) × IsWrittenToLine new
+
+-- the ending of a line is written, and nodes that spell nothing on the next one
+abbrev pub WritesNextLine : {A : Type 0} → Walk A → Walk A → Type 0
+WritesNextLine old new =
+    (text : List ℕ) (ending : Option LineEnding) (next : LineRest) (others : List LineRest)
+    → StandsAt text (AtEnding ending (next ∷ others)) (standing old) → IsInOrder text old.out → Follows text (written_to old) (line_after old)
+    → (ns : Nodes) × Writes text old.out new.out (append (void_nodes text Ending (written_to old) (line_after old)) ns) × AreQuiet ns × IsWrittenToRest new

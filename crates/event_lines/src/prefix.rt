@@ -206,6 +206,7 @@ impl<'a, A: Allocator> Walk<'a, A> {
     /// The innermost container doesn't go on. Returns which.
     pub fn leave(&mut self) -> Option<Container<'a>>
         ensures open { still_open self.new ≡ still_open self.old }
+        ensures written { self.new.out ≡ self.old.out }
         ensures leaves { MatchOption result (standing self.new ≡ standing self.old) (λ c. Leaves (container_view c) (standing self.old) (standing self.new)) }
     {
         let container = self.open.pop()?;

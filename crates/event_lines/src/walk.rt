@@ -5,10 +5,10 @@ ghost use Rattle.definition_text.specs.Lines.{ending_text};
 ghost use Rattle.block_starts.specs.View.{rest_of};
 ghost use Rattle.engine_events.specs.declared.event.Name.TheVariants.{SpaceOrTab};
 ghost use Rattle.event_output.specs.Open.{Entered, closed};
-ghost use Rattle.event_output.specs.Ends.{end_at};
+ghost use Rattle.event_output.specs.Ends.{end_at, first_end};
 ghost use Rattle.event_output.specs.Written.{Enters, Exits, IsInOrder, open_in};
 ghost use Rattle.event_output.specs.Children.{holds_lines, may_enter};
-ghost use Rattle.event_lines.specs.Ends.{WritesLine, WritesUpTo, rest_start, written_to};
+ghost use Rattle.event_lines.specs.Ends.{WritesEnding, WritesLine, WritesNextLine, WritesUpTo, rest_start, written_to};
 ghost use Rattle.event_lines.specs.Content.{EntersInLine, ExitsInLine, StandsInLine};
 ghost use Rattle.event_lines.specs.Open.{still_open};
 ghost use Rattle.event_lines.specs.Standing.{standing};
@@ -60,6 +60,8 @@ impl<'a, A: Allocator + Clone> Walk<'a, A> {
     ) -> Result<Walk<'a, A>, AllocError>
         ensures open { IfOk result (λ walk. still_open walk ≡ []) }
         ensures begins { IfOk result (λ walk. BeginsAt size lines.now (standing walk)) }
+        ensures written { IfOk result (λ walk. written_to walk ≡ first_end) }
+        ensures order { IfOk result (λ walk. (text : List ℕ) → IsInOrder text walk.out) }
         ensures outside { IfOk result (λ walk. walk.open.items ≡ []) }
     {
         Ok(Walk {
@@ -104,6 +106,7 @@ impl<'a, A: Allocator> Walk<'a, A> {
         requires lines { holds_lines (still_open self.old) ≡ true }
         ensures open { OnOk result (still_open self.new ≡ still_open self.old) }
         ensures begun { OnOk result (IsBegun (standing self.old) (standing self.new)) }
+        ensures written { OnOk result (WritesLine self.old self.new) }
         ensures around { OnOk result (HasSameOpen (standing self.old) (standing self.new)) }
     {
         if self.is_in_line {
@@ -139,6 +142,7 @@ impl<'a, A: Allocator> Walk<'a, A> {
         requires lines { holds_lines (still_open self.old) ≡ true }
         ensures open { OnOk result (still_open self.new ≡ still_open self.old) }
         ensures passes { OnOk result (PassesLine (standing self.old) (standing self.new)) }
+        ensures written { OnOk result (WritesNextLine self.old self.new) }
         ensures around { OnOk result (HasSameOpen (standing self.old) (standing self.new)) }
     {
         self.ending(Name::LineEnding)?;
@@ -150,6 +154,7 @@ impl<'a, A: Allocator> Walk<'a, A> {
         requires child { may_enter (still_open self.old) name ≡ true }
         ensures open { OnOk result (still_open self.new ≡ still_open self.old) }
         ensures ends { OnOk result (EndsLine (standing self.old) (standing self.new)) }
+        ensures written { OnOk result (WritesEnding name self.old self.new) }
         ensures around { OnOk result (HasSameOpen (standing self.old) (standing self.new)) }
     {
         self.is_in_line = false;

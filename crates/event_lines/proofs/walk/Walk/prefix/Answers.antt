@@ -18,8 +18,8 @@ returns-clause-written g c text before content after n kind at is =
     elim c.match-container.branch [
       | in-Quote+in_ok-quote_prefix-in-Quote w ↦
           let way = subst
-            (λ (k : CodeContainer). continues old.on.now (container_view k) false (rest_of old.rest) ≡ Some (container_line rest kind))
-            w.in-Quote.is is in
+          (λ (k : CodeContainer). continues old.on.now (container_view k) false (rest_of old.rest) ≡ Some (container_line rest kind))
+          w.in-Quote.is is in
           subst (λ (x : Walk g.row.A.Denot). WritesQuiet text old.out x.out × (written_to x ≡ to)) (sym w.self-is)
           (w.in_ok-quote_prefix-in-Quote.ensures.written text before content after n kind at way)
       | in_default+in_ok-space_to-in_default w ↦
@@ -27,7 +27,7 @@ returns-clause-written g c text before content after n kind at is =
           let further = continues_end old.on.now (container_view c.args.container) (rest_of old.rest) (container_line rest kind) is in
           subst (λ (x : Walk g.row.A.Denot). WritesQuiet text old.out x.out × (written_to x ≡ to)) (sym w.self-is) (
             space_written text before content after n old.line_end (rest_of old.rest) rest old.out w.space_to.new.self.out to at.line at.end at.rest at.written
-            at.order further refl (space.written text),
+                at.order further refl (space.written text),
             space.end,
           )
     ]

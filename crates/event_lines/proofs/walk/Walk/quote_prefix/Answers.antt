@@ -22,11 +22,11 @@ returns-clause-written g c =
     let to = ap (λ (k : ℕ). rest_start k rest) end in
     both_ok c.exit.result
     (λ exits exit_end. λ text before content after n kind at is. (
-        quote_written text before content after n old.line_end (rest_of old.rest) rest old.on.now (container_line rest kind) old.out c.white.new.self.out
-        c.enter.new.self.out c.token.new.self.out c.space_to.new.self.out c.exit.new.self.out
-        (end_at (old.line_end - length (bytes_of (bare (rest_of old.rest)))) 0) (rest_start c.token.new.self.line_end rest)
-        at.line at.end at.rest at.written at.order is refl refl to (white.written text) white.end (enter.enters text) enter.end
-        (λ fits. marker.written fits text) marker.end (space.written text) (exits text),
-        exit_end ∙ space.end ∙ to,
-      ))
+      quote_written text before content after n old.line_end (rest_of old.rest) rest old.on.now (container_line rest kind) old.out c.white.new.self.out
+          c.enter.new.self.out c.token.new.self.out c.space_to.new.self.out c.exit.new.self.out
+          (end_at (old.line_end - length (bytes_of (bare (rest_of old.rest)))) 0) (rest_start c.token.new.self.line_end rest)
+          at.line at.end at.rest at.written at.order is refl refl to (white.written text) white.end (enter.enters text) enter.end
+          (λ fits. marker.written fits text) marker.end (space.written text) (exits text),
+      exit_end ∙ space.end ∙ to,
+    ))
     c.exit.ensures.exits c.exit.ensures.end
