@@ -1,8 +1,10 @@
 //! Strings, in which only escapes and references are read (CommonMark 2.4 and 2.5).
-ghost use Rattle.std.specs.Prelude.{◌≡◌, OnOk, true};
+ghost use Rattle.std.specs.Prelude.{◌≡◌, ◌<◌, ◌≤◌, ◌++◌, IfOk, List, OnOk, drop, length, take, true, ℕ};
+ghost use Rattle.definition_inline.specs.CharacterReference.{Names};
 ghost use Rattle.engine_events.specs.declared.event.Name.TheVariants.{Data};
 ghost use Rattle.event_output.specs.Children.{holds_string, may_enter};
 ghost use Rattle.event_lines.specs.Open.{still_open};
+ghost use Rattle.event_strings.specs.Strings.{StandsInString, WritesString};
 
 use crate::character_escape::push_escape;
 use crate::character_reference::push_reference;
@@ -99,6 +101,8 @@ fn push_white_or_data<A: Allocator>(
 fn push_data<A: Allocator>(walk: &mut Walk<'_, A>, bytes: &[u8]) -> Result<usize, AllocError>
     requires child { may_enter (still_open walk.old) Data ≡ true }
     ensures open { OnOk result (still_open walk.new ≡ still_open walk.old) }
+    ensures written { IfOk result (λ size. (names : Names) (text line : List ℕ) → 0 < length bytes.now → StandsInString text (bytes.now ++ line) walk.old
+        → WritesString names text (take size bytes.now) (take size bytes.now) (drop size bytes.now ++ line) walk.old walk.new) }
 {
     let size = data_size(bytes_from(bytes, 1)).saturating_add(1);
     walk.data(size)?;
@@ -106,6 +110,8 @@ fn push_data<A: Allocator>(walk: &mut Walk<'_, A>, bytes: &[u8]) -> Result<usize
 }
 
 /// How many bytes come before the first in which something may begin.
-fn data_size(bytes: &[u8]) -> usize {
+fn data_size(bytes: &[u8]) -> usize
+    ensures within { result ≤ length bytes.now }
+{
     next_of(bytes, STARTS)
 }
