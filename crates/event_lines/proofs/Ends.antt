@@ -1,15 +1,16 @@
 -- Where rests of a line begin in its text.
-use Rattle.std.proofs.Common.{◌≡◌, ℕ, ◌+◌, ◌-◌, ◌<◌, ◌≤◌, suc, false, cond, List, ◌∷◌, ◌++◌, eqb, inl, inr, refl, sym, ap, ap₂, ◌∙◌, subst, arith, get_or, drop, take, length, length-append}
+use Rattle.std.proofs.Common.{◌≡◌, ℕ, ◌+◌, ◌-◌, ◌<◌, ◌≤◌, suc, false, cond, List, [], ◌∷◌, ◌++◌, eqb, inl, inr, refl, sym, ap, ap₂, ◌∙◌, subst, arith, get_or, drop, take, length, length-append}
 use Rattle.std.specs.List.{list_any, prefix_len}
+use Rattle.std.proofs.lemmas.List.{drop_all}
 use Rattle.std.proofs.lemmas.Bool.{cases_Bool, cond-true, cond-false, eqb-true}
 use Rattle.engine_events.specs.Columns.{mark_size, tab_size, column_past}
 use Rattle.definition_text.specs.Columns.{Rest, whole, bytes_of, is_tab_column}
-use Rattle.definition_text.specs.Lines.{ends_line}
+use Rattle.definition_text.specs.Lines.{ends_line, ending_text}
 use Rattle.event_output.specs.declared.end.End.{End}
 use Rattle.event_output.specs.Ends.{Follows, OwesIn, end_at, end_columns, index_spot}
 use Rattle.event_output.proofs.Ends.{spot_index}
 use Rattle.text_lines.proofs.Codes.{no_columns, bytes_of_codes}
-use Rattle.event_lines.specs.Standing.{IsLineOf}
+use Rattle.event_lines.specs.Standing.{Standing, IsInLine, IsLineOf}
 use Rattle.event_lines.specs.Ends.{rest_start}
 use Rattle.event_lines.proofs.Columns.{past, inside, onward, IsAmong, among}
 use Rattle.event_lines.proofs.Spots.{column_in, get_over, get_front}
@@ -132,3 +133,27 @@ start_marked line_end codes none within =
     let size : length (bytes_of (62 ∷ codes)) ≡ suc (length (bytes_of codes)) = refl in
     let index : (line_end - length (bytes_of (62 ∷ codes))) + 1 ≡ line_end - length (bytes_of codes) = omega arith in
     ap (λ (n : ℕ). end_at n 0) index ∙ sym (start_whole line_end codes none)
+
+-- up to the ending of the line
+pub rest_to_end : (text before content after : List ℕ) (line_end n : ℕ) → IsLineOf text before content after → line_end ≡ length before + length content
+    → Follows text (rest_start line_end (drop n (whole content))) (end_at line_end 0)
+rest_to_end text before content after line_end n line end =
+    let all = length (whole content) in
+    let none : drop (n + all) (whole content) ≡ [] = drop_all (n + all) (whole content) (omega arith) in
+    let index : line_end - 0 ≡ line_end = omega arith in
+    let at : rest_start line_end (drop (n + all) (whole content)) ≡ end_at line_end 0 =
+    ap (rest_start line_end) none ∙ ap (λ (k : ℕ). end_at k 0) index in
+    subst (λ (x : End). Follows text (rest_start line_end (drop n (whole content))) x) at (
+    line_follows text before content after line_end n (n + all) line end (omega arith)
+    )
+
+-- and up to the next line
+pub end_to_next : (text : List ℕ) (s : Standing) → IsInLine text s → Follows text (end_at s.line_end 0) (end_at (s.size - length s.left) 0)
+end_to_next text s line =
+    let sizes : length text ≡ length line.before + (length line.content + (length (ending_text s.ending) + length s.left)) =
+    ap length line.parts.parts ∙ length-append line.before _ ∙ ap (λ (n : ℕ). length line.before + n) (
+    length-append line.content _ ∙ ap (λ (n : ℕ). length line.content + n) (length-append (ending_text s.ending) s.left)
+    ) in
+    let size = line.over.size in
+    let end = line.end in
+    record { forward = omega arith; within = omega arith; columns = λ e. omega arith; whole = inl refl }

@@ -262,3 +262,8 @@ container_starts is_kind old k rest before n found quotes text c here left to ki
       reverse-append old.outermost (k ∷ []) ∙ ap (λ (x : Container). x ∷ around old) (sym is_k),
       refl,
     )
+
+-- within a line, the walk is also at its ending
+pub at_ending : (text : List ℕ) (here : LineRest) (left : List LineRest) (s : Standing) → StandsAt text (Within here left) s
+    → StandsAt text (AtEnding here.beside.ending left) s
+at_ending text here left s st = record { line = st.line; ending = st.ending; unread = st.unread }

@@ -9,7 +9,9 @@ use Rattle.definition_block.specs.BlockQuote.{quote_prefix}
 use Rattle.event_output.specs.declared.end.End.{End}
 use Rattle.event_output.specs.declared.output.Output.{Output}
 use Rattle.event_output.specs.Ends.{Follows, end_at}
-use Rattle.event_output.specs.Forest.{void_nodes}
+use Rattle.event_grammar.specs.InGrammar.{node_name}
+use Rattle.event_grammar.specs.Trees.{Node}
+use Rattle.event_output.specs.Forest.{one, void_nodes}
 use Rattle.event_output.specs.Written.{Enters, Exits, IsInOrder, Writes, end_in}
 use Rattle.markdown_options.specs.declared.line_ending.LineEnding.{LineEnding}
 use Rattle.definition_text.specs.Lines.{text_line, lines, ending_text}
@@ -21,7 +23,33 @@ use Rattle.event_lines.specs.Ends.{WritesQuiet, rest_start}
 use Rattle.event_lines.proofs.Suffixes.{IsEnd, quote_parts}
 use Rattle.event_lines.proofs.Columns.{bare_owes_none, dark_owes_none}
 use Rattle.event_lines.proofs.Ends.{line_follows, start_whole, start_line, start_marked, left_within}
-use Rattle.event_lines.proofs.Quiet.{quiet_both, quiet_quote, quiet_space}
+use Rattle.event_lines.proofs.Quiet.{quote_node, quiet_space}
+
+module _ (text before content after : List ℕ) (n line_end : ℕ) (start : Rest) where
+  -- where the white space ahead begins
+  pub bare_start : (bare_end : End) → bare_end ≡ end_at (line_end - length (bytes_of (bare start))) 0 → bare_end ≡ rest_start line_end (bare start)
+  bare_start bare_end is = is ∙ sym (start_whole line_end (bare start) (bare_owes_none start))
+
+  -- the white space ahead
+  pub bare_follows : (bare_end : End) → IsLineOf text before content after → line_end ≡ length before + length content
+      → start ≡ drop n (whole content) → bare_end ≡ rest_start line_end (bare start) → Follows text (rest_start line_end start) bare_end
+  bare_follows bare_end line end at is =
+      let n1 = n + indent start in
+      let bare_at : bare start ≡ drop n1 (whole content) = ap (drop (indent start)) at ∙ drop-drop (indent start) n (whole content) in
+      subst (λ (x : End). Follows text x bare_end) (ap (rest_start line_end) (sym at)) (
+      subst (λ (x : End). Follows text (rest_start line_end (drop n (whole content))) x) (sym (is ∙ ap (rest_start line_end) bare_at)) (
+      line_follows text before content after line_end n n1 line end (omega arith)
+      )
+      )
+
+  pub bare_follows_self : (bare_end : End) → IsLineOf text before content after → line_end ≡ length before + length content
+      → start ≡ drop n (whole content) → bare_end ≡ rest_start line_end (bare start) → Follows text bare_end bare_end
+  bare_follows_self bare_end line end at is =
+      let n1 = n + indent start in
+      let bare_at : bare start ≡ drop n1 (whole content) = ap (drop (indent start)) at ∙ drop-drop (indent start) n (whole content) in
+      subst (λ (x : End). Follows text x x) (sym (is ∙ ap (rest_start line_end) bare_at)) (
+      line_follows text before content after line_end n1 n1 line end (omega arith)
+      )
 
 module _ {A : Type 0} (text before content after : List ℕ) (n line_end : ℕ) (start rest : Rest) where
   -- white space up to a rest further on
@@ -39,20 +67,20 @@ module _ {A : Type 0} (text before content after : List ℕ) (n line_end : ℕ) 
       ))
       )
 
-  -- the prefix of a quote
-  pub quote_written : (on : Constructs) (quote : ContainerLine) (a b c d e f : Output A) (bare_end to : End)
+  -- the prefix of a quote, where all before its mark is written
+  pub quote_inner : (on : Constructs) (quote : ContainerLine) (b c d e f : Output A) (bare_end to : End)
       → IsLineOf text before content after → line_end ≡ length before + length content
-      → start ≡ drop n (whole content) → end_in a ≡ rest_start line_end start → IsInOrder text a
+      → start ≡ drop n (whole content) → IsInOrder text b
       → quote_prefix on start ≡ Some quote → rest ≡ quote.rest
-      → bare_end ≡ end_at (line_end - length (bytes_of (bare start))) 0 → to ≡ rest_start line_end rest
-      → (IsInOrder text a → Follows text (end_in a) bare_end → Writes text a b (void_nodes text SpaceOrTab (end_in a) bare_end)) → end_in b ≡ bare_end
+      → bare_end ≡ end_at (line_end - length (bytes_of (bare start))) 0 → to ≡ rest_start line_end rest → end_in b ≡ bare_end
       → (IsInOrder text b → Enters text BlockQuotePrefix b c) → end_in c ≡ end_in b
       → ((end_in c).index + 1 < 2 ^ 64 → IsInOrder text c → Follows text (end_in c) (end_at ((end_in c).index + 1) 0)
       → Writes text c d (void_nodes text BlockQuoteMarker (end_in c) (end_at ((end_in c).index + 1) 0)))
       → ((end_in c).index + 1 < 2 ^ 64 → end_in d ≡ end_at ((end_in c).index + 1) 0)
       → (IsInOrder text d → Follows text (end_in d) to → Writes text d e (void_nodes text SpaceOrTab (end_in d) to))
-      → (IsInOrder text e → Exits text BlockQuotePrefix e f) → WritesQuiet text a f
-  quote_written on quote a b c d e f bare_end to line end at from order is same bare_is to_is white white_end enters enter_end marker marker_end space exits =
+      → (IsInOrder text e → Exits text BlockQuotePrefix e f)
+      → (first : Node) × (node_name first ≡ BlockQuotePrefix) × Writes text b f (one first)
+  quote_inner on quote b c d e f bare_end to line end at order is same bare_is to_is white_end enters enter_end marker marker_end space exits =
       let parts = quote_parts on start quote is in
       let n1 = n + indent start in
       let bare_at : bare start ≡ drop n1 (whole content) = ap (drop (indent start)) at ∙ drop-drop (indent start) n (whole content) in
@@ -68,7 +96,6 @@ module _ {A : Type 0} (text before content after : List ℕ) (n line_end : ℕ) 
       ap (λ (r : Rest). length (bytes_of r)) (sym bare_at ∙ parts.mark) in
       let bare_size : length (bytes_of (bare start)) ≡ length (bytes_of (62 ∷ parts.codes)) = ap (λ (r : Rest). length (bytes_of r)) parts.mark in
       let within : length (bytes_of (62 ∷ parts.codes)) ≤ line_end = omega arith in
-      let e0 : end_in a ≡ rest_start line_end (drop n (whole content)) = from ∙ ap (rest_start line_end) at in
       let e1 : bare_end ≡ rest_start line_end (drop n1 (whole content)) = bare_is ∙ sym (start_whole line_end (bare start) none) ∙ ap (rest_start line_end) bare_at in
       let at_c : end_in c ≡ bare_end = enter_end ∙ white_end in
       let index_c : (end_in c).index ≡ line_end - length (bytes_of (62 ∷ parts.codes)) =
@@ -80,12 +107,6 @@ module _ {A : Type 0} (text before content after : List ℕ) (n line_end : ℕ) 
       let more_size : length (content ++ after) ≡ length content + length after = length-append content after in
       let text_fits = line.fits in
       let fits : (end_in c).index + 1 < 2 ^ 64 = omega arith in
-      let follows1 : Follows text (end_in a) bare_end =
-      subst (λ (x : End). Follows text x bare_end) (sym e0) (
-      subst (λ (x : End). Follows text (rest_start line_end (drop n (whole content))) x) (sym e1) (
-      line_follows text before content after line_end n n1 line end (omega arith)
-      )
-      ) in
       let follows2 : Follows text (end_in c) (end_at ((end_in c).index + 1) 0) =
       subst (λ (x : End). Follows text x (end_at ((end_in c).index + 1) 0)) (sym (at_c ∙ e1)) (
       subst (λ (x : End). Follows text (rest_start line_end (drop n1 (whole content))) x) (sym marked) (
@@ -98,14 +119,11 @@ module _ {A : Type 0} (text before content after : List ℕ) (n line_end : ℕ) 
       line_follows text before content after line_end n2 n3 line end (omega arith)
       )
       ) in
-      let first = white order follows1 in
-      let entered = enters first.order in
+      let entered = enters order in
       let second = marker fits entered.order follows2 in
       let third = space second.order follows3 in
-      quiet_both text a b f (quiet_space text a b (end_in a) bare_end first) (
-      quiet_quote text b c d e f (void_nodes text BlockQuoteMarker (end_in c) (end_at ((end_in c).index + 1) 0)) (void_nodes text SpaceOrTab (end_in d) to)
+      quote_node text b c d e f (void_nodes text BlockQuoteMarker (end_in c) (end_at ((end_in c).index + 1) 0)) (void_nodes text SpaceOrTab (end_in d) to)
       entered second third (exits third.order)
-      )
 
 -- a line is begun, of which nothing is read: all before it is written
 pub line_ready : (old : Standing) (text : List ℕ) (next : LineRest) (others : List LineRest) (content after : List ℕ) (ending : Option LineEnding) (line_end : ℕ)

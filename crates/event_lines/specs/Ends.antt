@@ -1,24 +1,26 @@
 -- Where the output of a walk is, beside its lines.
-use Rattle.std.specs.Prelude.{◌≡◌, ℕ, ◌-◌, ◌+◌, ◌==◌, if◌then◌else◌, List, ◌∷◌, Option, drop, length, false, Some}
+use Rattle.std.specs.Prelude.{◌≡◌, ℕ, ◌-◌, ◌+◌, ◌==◌, if◌then◌else◌, List, ◌∷◌, Option, drop, length, Bool, false, true, Some}
 use Rattle.std.specs.List.{prefix_len}
 use Rattle.engine_events.specs.declared.event.Name.{Name}
-use Rattle.engine_events.specs.declared.event.Name.TheVariants.{LineEnding as Ending}
+use Rattle.engine_events.specs.declared.event.Name.TheVariants.{BlockQuotePrefix, LineEnding as Ending}
 use Rattle.markdown_options.specs.declared.line_ending.LineEnding.{LineEnding}
 use Rattle.markdown_options.specs.declared.beside.Kind.{Kind}
-use Rattle.definition_text.specs.Columns.{Rest, whole, bytes_of, is_tab_column}
+use Rattle.definition_text.specs.Columns.{Rest, whole, bare, bytes_of, is_tab_column}
 use Rattle.definition_block.specs.Container.{Container}
 use Rattle.definition_block.specs.ContainerLine.{container_line}
+use Rattle.definition_block.specs.BlockQuote.{quote_prefix}
 use Rattle.definition_block.specs.Containers.{continues}
 use Rattle.block_starts.specs.View.{rest_of}
-use Rattle.event_grammar.specs.Trees.{Nodes}
+use Rattle.event_grammar.specs.InGrammar.{node_name}
+use Rattle.event_grammar.specs.Trees.{Node, Nodes}
 use Rattle.event_output.specs.declared.end.End.{End}
 use Rattle.event_output.specs.declared.output.Output.{Output}
 use Rattle.event_output.specs.Ends.{Follows, end_at}
-use Rattle.event_output.specs.Forest.{append, void_nodes}
-use Rattle.event_output.specs.Written.{IsInOrder, Writes, end_in}
-use Rattle.laws_laid.specs.Places.{LineRest, Between, AtEnding}
+use Rattle.event_output.specs.Forest.{append, one, void_nodes}
+use Rattle.event_output.specs.Written.{Enters, IsInOrder, Writes, end_in}
+use Rattle.laws_laid.specs.Places.{LineRest, Place, Between, Within, AtEnding, Starts}
 use Rattle.event_lines.specs.declared.walk.Walk.{Walk}
-use Rattle.event_lines.specs.Standing.{StandsAt, IsLineOf, standing}
+use Rattle.event_lines.specs.Standing.{StandsAt, IsLineOf, around, standing}
 use Rattle.event_lines.specs.Quiet.{AreQuiet}
 
 -- where a rest of a line begins, of which the content ends at an index
@@ -96,3 +98,28 @@ WritesNextLine old new =
     (text : List ℕ) (ending : Option LineEnding) (next : LineRest) (others : List LineRest)
     → StandsAt text (AtEnding ending (next ∷ others)) (standing old) → IsInOrder text old.out → Follows text (written_to old) (line_after old)
     → (ns : Nodes) × Writes text old.out new.out (append (void_nodes text Ending (written_to old) (line_after old)) ns) × AreQuiet ns × IsWrittenToRest new
+
+-- A container is entered after white space, and in it its prefix is written first.
+pub record WritesStart {A : Type 0} (text : List ℕ) (name prefix : Name) (old new : Output A) : Type 0 where
+  pub before : Output A
+  pub entered : Output A
+  pub space : WritesQuiet text old before
+  pub enters : Enters text name before entered
+  pub first : Node
+  pub is_prefix : node_name first ≡ prefix
+  pub writes : Writes text entered new (one first)
+
+-- the prefix of a quote is written, where all before its mark is
+abbrev pub WritesMark : {A : Type 0} → Rest → Walk A → Walk A → Type 0
+WritesMark rest old new =
+    (text before content after : List ℕ) (n : ℕ) (kind : Kind) → IsLineOf text before content after → old.line_end ≡ length before + length content
+    → rest_of old.rest ≡ drop n (whole content) → written_to old ≡ rest_start old.line_end (bare (rest_of old.rest)) → IsInOrder text old.out
+    → quote_prefix old.on.now (rest_of old.rest) ≡ Some (container_line rest kind)
+    → (first : Node) × (node_name first ≡ BlockQuotePrefix) × Writes text old.out new.out (one first) × (written_to new ≡ rest_start old.line_end rest)
+
+-- where a container of this kind starts, it is written so
+abbrev pub WritesStartOf : {A : Type 0} → (Container → Bool) → Name → Name → Walk A → Walk A → Type 0
+WritesStartOf is_kind name prefix old new =
+    (text : List ℕ) (c : Container) (here : LineRest) (left : List LineRest) (to : Place) → is_kind c ≡ true → StandsAt text (Within here left) (standing old)
+    → Starts old.on.now (around (standing old)) c (Within here left) to → IsWrittenToRest old → IsInOrder text old.out
+    → WritesStart text name prefix old.out new.out × IsWrittenToRest new
