@@ -1,5 +1,6 @@
 -- Where the columns of a line are among its bytes (CommonMark 2.2).
-use Rattle.std.proofs.Common.{◌≡◌, ℕ, ◌+◌, ◌-◌, ◌<◌, ◌≤◌, suc, zero, true, false, cond, ◌||◌, List, [], ◌∷◌, ◌++◌, eqb, ltb, inl, inr, refl, sym, ap, ◌∙◌, subst, arith, get_or, drop, take, length}
+use Rattle.std.proofs.Common.{◌≡◌, ℕ, ◌+◌, ◌-◌, ◌<◌, ◌≤◌, suc, zero, true, false, cond, ◌||◌, List, [], ◌∷◌, ◌++◌, eqb, ltb, inl, inr, refl, sym, ap, ◌∙◌}
+use Rattle.std.proofs.Common.{subst, arith, get_or, drop, take, length}
 use Rattle.std.specs.Prelude.{◌⊎◌, replicate}
 use Rattle.std.specs.List.{prefix_len}
 use Rattle.std.proofs.Math.Seq.{drop-nil}
@@ -146,7 +147,9 @@ column_next c b =
 -- one byte before it
 among_more : (b : ℕ) (bs : List ℕ) (c past inside owed left : ℕ) → IsAmong bs ((c + width c b) + 1) past inside owed left
     → IsAmong (b ∷ bs) (c + 1) (suc past) inside owed left
-among_more b bs c past inside owed left (inl at) = let s = at.sizes in inl (record { inside_none = at.inside_none; owed_none = at.owed_none; sizes = omega arith })
+among_more b bs c past inside owed left (inl at) =
+    let s = at.sizes in
+    inl (record { inside_none = at.inside_none; owed_none = at.owed_none; sizes = omega arith })
 among_more b bs c past inside owed left (inr at) =
     let s = at.sizes in
     inr (record {
@@ -186,7 +189,8 @@ among c (b ∷ bs) n h =
                 let e : n ≡ 0 = eqb-true n 0 z in
                 let is : drop n all ≡ all = ap (λ (m : ℕ). drop m all) e in
                 let owed : prefix_len is_tab_column (drop n all) ≡ 0 = ap (prefix_len is_tab_column) is ∙ no_columns c (b ∷ bs) h in
-                let left : length (bytes_of (drop n all)) ≡ length (b ∷ bs) = ap (λ (r : Rest). length (bytes_of r)) is ∙ ap length (bytes_of_codes c (b ∷ bs) h) in
+                let left : length (bytes_of (drop n all)) ≡ length (b ∷ bs) =
+                ap (λ (r : Rest). length (bytes_of r)) is ∙ ap length (bytes_of_codes c (b ∷ bs) h) in
                 inl (record { inside_none = i ∙ e; owed_none = owed; sizes = omega arith })
             | inr z ↦
                 let ne = ne_zero n z in
@@ -223,8 +227,10 @@ among c (b ∷ bs) n h =
           ∙ ap (λ (m : ℕ). drop m others) fewer in
           let more = among_more b bs c (past (c + w) bs (n - w)) (inside (c + w) bs (n - w)) _ _ (among (c + w) bs (n - w) (tail_bytes b bs h)) in
           subst (λ (q : ℕ). IsAmong (b ∷ bs) (c + 1) q (inside c (b ∷ bs) n) (prefix_len is_tab_column (drop n all)) (length (bytes_of (drop n all)))) (sym p) (
-          subst (λ (j : ℕ). IsAmong (b ∷ bs) (c + 1) (suc (past (c + w) bs (n - w))) j (prefix_len is_tab_column (drop n all)) (length (bytes_of (drop n all)))) (sym i) (
-          subst (λ (r : Rest). IsAmong (b ∷ bs) (c + 1) (suc (past (c + w) bs (n - w))) (inside (c + w) bs (n - w)) (prefix_len is_tab_column r) (length (bytes_of r)))
+          subst (λ (j : ℕ). IsAmong (b ∷ bs) (c + 1) (suc (past (c + w) bs (n - w))) j (prefix_len is_tab_column (drop n all)) (length (bytes_of (drop n all))))
+          (sym i) (
+          subst (λ (r : Rest). IsAmong (b ∷ bs) (c + 1) (suc (past (c + w) bs (n - w))) (inside (c + w) bs (n - w)) (prefix_len is_tab_column r)
+          (length (bytes_of r)))
           (sym is) more
           )
           )

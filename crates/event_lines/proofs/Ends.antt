@@ -1,5 +1,6 @@
 -- Where rests of a line begin in its text.
-use Rattle.std.proofs.Common.{◌≡◌, ℕ, ◌+◌, ◌-◌, ◌<◌, ◌≤◌, suc, false, cond, List, [], ◌∷◌, ◌++◌, eqb, inl, inr, refl, sym, ap, ap₂, ◌∙◌, subst, arith, get_or, drop, take, length, length-append}
+use Rattle.std.proofs.Common.{◌≡◌, ℕ, ◌+◌, ◌-◌, ◌<◌, ◌≤◌, suc, false, cond, List, [], ◌∷◌, ◌++◌, eqb, inl, inr, refl, sym, ap, ap₂, ◌∙◌, subst, arith, get_or}
+use Rattle.std.proofs.Common.{drop, take, length, length-append}
 use Rattle.std.specs.List.{list_any, prefix_len}
 use Rattle.std.proofs.lemmas.List.{drop_all}
 use Rattle.std.proofs.lemmas.Bool.{cases_Bool, cond-true, cond-false, eqb-true}

@@ -1,5 +1,6 @@
 -- A text is its lines, one after another, each with its ending.
-use Rattle.std.proofs.Common.{◌≡◌, ℕ, ◌<◌, List, [], ◌∷◌, ◌++◌, Option, Some, eqb, refl, sym, ap, ◌∙◌, inl, inr, drop, length, arith, append_assoc, Bool, false, ◌||◌, None}
+use Rattle.std.proofs.Common.{◌≡◌, ℕ, ◌<◌, List, [], ◌∷◌, ◌++◌, Option, Some, eqb, refl, sym, ap, ◌∙◌, inl, inr, drop, length, arith, append_assoc, Bool}
+use Rattle.std.proofs.Common.{false, ◌||◌, None}
 use Rattle.std.specs.List.{flat_map, list_any}
 use Rattle.std.proofs.lemmas.Bool.{cases_Bool, cond-true, cond-false, eqb-true}
 use Rattle.markdown_options.specs.declared.line_ending.LineEnding.{LineEnding}

@@ -1,5 +1,6 @@
 -- The columns of a line's bytes in its text (CommonMark 2.2).
-use Rattle.std.proofs.Common.{◌≡◌, ℕ, ◌+◌, ◌-◌, ◌<◌, ◌≤◌, suc, zero, true, false, List, [], ◌∷◌, ◌++◌, Some, eqb, ltb, refl, sym, ap, ◌∙◌, arith, get_or, drop, take, length, length-append, append_assoc}
+use Rattle.std.proofs.Common.{◌≡◌, ℕ, ◌+◌, ◌-◌, ◌<◌, ◌≤◌, suc, zero, true, false, List, [], ◌∷◌, ◌++◌, Some, eqb, ltb, refl, sym, ap, ◌∙◌, arith, get_or}
+use Rattle.std.proofs.Common.{drop, take, length, length-append, append_assoc}
 use Rattle.std.specs.List.{fold, list_any}
 use Rattle.std.proofs.lemmas.Bool.{cond-false, le-ltb, or_parts}
 use Rattle.std.proofs.lemmas.List.{append-nil, take-append-drop, length-take-le}

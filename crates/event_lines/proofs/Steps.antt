@@ -1,5 +1,6 @@
 -- From one place of a text to the next.
-use Rattle.std.proofs.Common.{◌≡◌, ℕ, ◌+◌, ◌-◌, ◌<◌, ◌≤◌, Bool, true, false, List, [], ◌∷◌, ◌++◌, Option, Some, refl, sym, ap, ◌∙◌, subst, drop, length, arith, length-append, append_assoc, get_or, None}
+use Rattle.std.proofs.Common.{◌≡◌, ℕ, ◌+◌, ◌-◌, ◌<◌, ◌≤◌, Bool, true, false, List, [], ◌∷◌, ◌++◌, Option, Some, refl, sym, ap, ◌∙◌, subst, drop, length}
+use Rattle.std.proofs.Common.{arith, length-append, append_assoc, get_or, None}
 use Rattle.std.specs.Prelude.{reverse, Result, Ok, Err, OnOk}
 use Rattle.std.specs.List.{list_any}
 use Rattle.std.proofs.Math.Seq.{drop-nil}
@@ -110,7 +111,8 @@ after_line text before content left None last parts first some = let none = ap l
 after_line text before content left (Some ending) last parts first some =
     let mark = first.mark in
     let size = length-append before content in
-    let split : text ≡ (before ++ content) ++ (ending_text (Some ending) ++ left) = parts ∙ sym (append_assoc before content (ending_text (Some ending) ++ left)) in
+    let split : text ≡ (before ++ content) ++ (ending_text (Some ending) ++ left) =
+    parts ∙ sym (append_assoc before content (ending_text (Some ending) ++ left)) in
     let whole : length (before ++ content) + length (ending_text (Some ending)) ≡ length (before ++ (content ++ ending_text (Some ending))) =
     sym (length-append (before ++ content) (ending_text (Some ending))) ∙ ap length (append_assoc before content (ending_text (Some ending))) in
     let column = column_after_ending text (before ++ content) left ending split (omega arith) in

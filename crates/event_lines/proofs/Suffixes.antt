@@ -1,5 +1,6 @@
 -- What containers leave of a line is its end, from a column on.
-use Rattle.std.proofs.Common.{◌≡◌, ℕ, ◌+◌, Bool, false, ◌&&◌, ◌||◌, not, List, [], ◌∷◌, Option, None, Some, eqb, refl, sym, ap, ◌∙◌, inl, inr, drop, take, leb, ap₂}
+use Rattle.std.proofs.Common.{◌≡◌, ℕ, ◌+◌, Bool, false, ◌&&◌, ◌||◌, not, List, [], ◌∷◌, Option, None, Some, eqb, refl, sym, ap, ◌∙◌, inl, inr, drop, take}
+use Rattle.std.proofs.Common.{leb, ap₂}
 use Rattle.std.specs.Prelude.{min, ◌==◌}
 use Rattle.std.specs.List.{prefix_len}
 use Rattle.definition_text.specs.Ascii.{right_parenthesis, asterisk, plus, hyphen, dot, colon, left_bracket, right_bracket, caret}
@@ -19,7 +20,8 @@ use Rattle.markdown_options.specs.declared.beside.Kind.{Kind}
 use Rattle.markdown_options.specs.declared.beside.Kind.TheVariants.{Whitespace}
 use Rattle.laws_laid.specs.EmptyRests.{is_quote}
 use Rattle.definition_block.specs.ThematicBreak.{is_break}
-use Rattle.definition_block.specs.ListItem.{Marker, marker_of, is_digit, number_of, bullet, after_number, ordered_marker, marker, gap, is_item, item, item_after}
+use Rattle.definition_block.specs.ListItem.{Marker, marker_of, is_digit, number_of, bullet, after_number, ordered_marker, marker, gap, is_item, item}
+use Rattle.definition_block.specs.ListItem.{item_after}
 use Rattle.definition_block.specs.ListItem.{item_start, is_inside, item_continues}
 use Rattle.definition_block.specs.GfmFootnoteDefinition.{is_footnote_label, label_before, with_colon, after_open, after_bracket, footnote_mark}
 use Rattle.definition_block.specs.GfmFootnoteDefinition.{footnote_of, footnote_start}
@@ -63,7 +65,8 @@ quote_end : (on : Constructs) (rest : Rest) (line : ContainerLine) → quote_pre
 quote_end on rest line is =
     elim (cases_Bool (on.block_quote && small_indent on rest)) [
       | inl h ↦
-          after_mark_end (after_byte 62 (bare rest)) rest line (λ found e. ends_in found (bare rest) rest (after_byte_end 62 (bare rest) found e) (indent rest, refl))
+          after_mark_end (after_byte 62 (bare rest)) rest line
+          (λ found e. ends_in found (bare rest) rest (after_byte_end 62 (bare rest) found e) (indent rest, refl))
           (sym (cond-true (on.block_quote && small_indent on rest) _ _ h) ∙ is)
       | inr h ↦ let e : None ≡ Some line = sym (cond-false (on.block_quote && small_indent on rest) _ _ h) ∙ is in absurd (cc)
     ]
@@ -205,7 +208,8 @@ with_colon_end (Some label) whole p h is =
     elim (cases_Bool (is_footnote_label label.text)) [
       | inl t ↦
           let e = sym (cond-true (is_footnote_label label.text) _ _ t) ∙ is in
-          ends_in p.rest label.rest whole (after_byte_end colon label.rest p.rest (label_before_end label.text (after_byte colon label.rest) p e)) (h label refl)
+          ends_in p.rest label.rest whole (after_byte_end colon label.rest p.rest (label_before_end label.text (after_byte colon label.rest) p e))
+          (h label refl)
       | inr t ↦ let e : None ≡ Some p = sym (cond-false (is_footnote_label label.text) _ _ t) ∙ is in absurd (cc)
     ]
 

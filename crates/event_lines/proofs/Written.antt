@@ -96,7 +96,8 @@ module _ {A : Type 0} (text before content after : List ℕ) (n line_end : ℕ) 
       ap (λ (r : Rest). length (bytes_of r)) (sym bare_at ∙ parts.mark) in
       let bare_size : length (bytes_of (bare start)) ≡ length (bytes_of (62 ∷ parts.codes)) = ap (λ (r : Rest). length (bytes_of r)) parts.mark in
       let within : length (bytes_of (62 ∷ parts.codes)) ≤ line_end = omega arith in
-      let e1 : bare_end ≡ rest_start line_end (drop n1 (whole content)) = bare_is ∙ sym (start_whole line_end (bare start) none) ∙ ap (rest_start line_end) bare_at in
+      let e1 : bare_end ≡ rest_start line_end (drop n1 (whole content)) =
+      bare_is ∙ sym (start_whole line_end (bare start) none) ∙ ap (rest_start line_end) bare_at in
       let at_c : end_in c ≡ bare_end = enter_end ∙ white_end in
       let index_c : (end_in c).index ≡ line_end - length (bytes_of (62 ∷ parts.codes)) =
       ap (λ (x : End). x.index) (at_c ∙ bare_is) ∙ ap (λ (k : ℕ). line_end - k) bare_size in
@@ -126,7 +127,8 @@ module _ {A : Type 0} (text before content after : List ℕ) (n line_end : ℕ) 
       entered second third (exits third.order)
 
 -- a line is begun, of which nothing is read: all before it is written
-pub line_ready : (old : Standing) (text : List ℕ) (next : LineRest) (others : List LineRest) (content after : List ℕ) (ending : Option LineEnding) (line_end : ℕ)
+pub line_ready : (old : Standing) (text : List ℕ) (next : LineRest) (others : List LineRest) (content after : List ℕ)
+    (ending : Option LineEnding) (line_end : ℕ)
     (start : Rest) (from : End) → (st : IsBetween text (next ∷ others) old) → (0 < length old.left → lines old.left ≡ text_line content ending ∷ lines after)
     → (length content ≤ TEXT_MAX → start ≡ whole content) → line_end ≡ (old.size - length after) - length (ending_text ending)
     → from ≡ end_at (old.size - length old.left) 0

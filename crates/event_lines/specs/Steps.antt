@@ -52,7 +52,9 @@ IsBegun old new =
 
 -- from the ending of a line to the place after it
 abbrev pub EndsLine : Standing → Standing → Type 0
-EndsLine old new = (text : List ℕ) (ending : Option LineEnding) (left : List LineRest) → StandsAt text (AtEnding ending left) old → StandsAt text (Between left) new
+EndsLine old new =
+    (text : List ℕ) (ending : Option LineEnding) (left : List LineRest) → StandsAt text (AtEnding ending left) old
+    → StandsAt text (Between left) new
 
 -- from the ending of a line into the next one
 abbrev pub PassesLine : Standing → Standing → Type 0

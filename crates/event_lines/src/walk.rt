@@ -228,7 +228,8 @@ impl<'a, A: Allocator> Walk<'a, A> {
         ensures open { OnOk result (still_open self.new ≡ still_open self.old) }
         ensures stays { OnOk result (standing self.new ≡ standing self.old) }
         ensures end { OnOk result (written_to self.new ≡ end_at (self.old.line_end - length (bytes_of (bare (rest_of self.old.rest)))) 0) }
-        ensures written { OnOk result (WritesUpTo SpaceOrTab (end_at (self.old.line_end - length (bytes_of (bare (rest_of self.old.rest)))) 0) self.old self.new) }
+        ensures written { OnOk result (WritesUpTo SpaceOrTab (end_at (self.old.line_end - length (bytes_of (bare (rest_of self.old.rest)))) 0)
+            self.old self.new) }
         ensures bare { IfOk result (λ text. text.now ≡ bytes_of (bare (rest_of self.old.rest))) }
     {
         let bare = self.rest.bare_text();

@@ -75,7 +75,8 @@ loop-depth-preserved g c =
           let before_it = c.loop-depth.invariant.writes text before content after n at in
           let here = before_it.1.1 in
           let one = prefix.written text before content after before_it.1.0 more.before here way in
-          let further = continues_end now.on.now (container_view c.in-Some.container) (rest_of now.rest) (container_line (rest_of more.rest) more.before) way in (
+          let further = continues_end now.on.now (container_view c.in-Some.container) (rest_of now.rest)
+          (container_line (rest_of more.rest) more.before) way in (
             quiet_both text old.out now.out new.out before_it.0 one.0,
             (
               before_it.1.0 + further.0,

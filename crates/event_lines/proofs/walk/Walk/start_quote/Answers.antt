@@ -34,7 +34,8 @@ returns-clause-starts g c =
     let quotes = λ (x : Standing). record x { quotes_end = n } in
     let same = c.in_ok-quote_prefix.ensures.stays ∙ ap quotes entered in
     let new = c.in_ok-start.ensures.stays ∙ ap (λ (x : Standing). with_container x Quote (rest_of s.line.rest)) same in
-    let open_same : length (container_views c.enter.new.self.open.items) ≡ length (container_views old.open.items) = ap (λ (x : Standing). length x.outermost) entered in
+    let open_same : length (container_views c.enter.new.self.open.items) ≡ length (container_views old.open.items) =
+    ap (λ (x : Standing). length x.outermost) entered in
     let size = length-map c.enter.new.self.open.items container_view in
     subst (λ (x : Standing). StartsOf is_quote (standing old) true x) (sym new) (
     container_starts is_quote (standing old) Quote (rest_of s.line.rest) s.line.before n found
