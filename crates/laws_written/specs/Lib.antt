@@ -1,3 +1,4 @@
 pub mod Written
+pub mod Leaves
 pub mod Laid
 pub mod Laws

@@ -1,0 +1,30 @@
+-- Rows of the inline structure of a content are laid in it (CommonMark 6).
+use Rattle.std.specs.Prelude.{◌≡◌, ℕ, List, [], map}
+use Rattle.definition_text.specs.InlineCode.{InlineCode}
+use Rattle.definition_inline.specs.Inline.{Target, LinkTexts, Inlines, Link, Image}
+use Rattle.definition_inline.specs.Scan.{InlineContext, inlines_from}
+use Rattle.inline_rows.specs.InlineRows.{inline_rows, Part, EnterSpan, EnterLinked, Leave, CallRow}
+use Rattle.inline_rows.specs.InlineRows as seen
+use Rattle.inline_rows.specs.View.{rows_view}
+use Rattle.inline_rows.specs.declared.row.InlineRow.{InlineRow}
+use Rattle.laws_written.specs.Laid.{Step, Holds, EntersSpan, EntersLinked, Leaves, HoldsCall, steps_of}
+use Rattle.laws_rows.specs.Rows.{AreRowsLaid}
+
+-- the row of a step, where it is known where targets lead
+abbrev pub step_row : (Target → LinkTexts) → Step → seen.InlineRow
+step_row leads (Holds part) = Part part
+step_row leads (EntersSpan kind) = EnterSpan kind
+step_row leads (EntersLinked kind target) = EnterLinked kind (leads target)
+step_row leads Leaves = Leave
+step_row leads (HoldsCall label) = CallRow label
+
+-- the rows of inline structure are those of its steps
+abbrev pub RowsOfSteps : Type 0
+RowsOfSteps = (leads : Target → LinkTexts) (is : Inlines) → inline_rows leads is ≡ map (step_row leads) (steps_of is)
+
+-- rows that stand for the inline structure of a content that begins anywhere are laid in it, from its first code to its end
+abbrev pub RowsLaw : Type 0
+RowsLaw =
+    (context : InlineContext) (leads : Target → LinkTexts) (at : ℕ → LinkTexts) (content : List InlineCode) (rows : List InlineRow)
+    → rows_view at rows ≡ inline_rows leads (inlines_from context content)
+    → AreRowsLaid context [] rows content []
