@@ -1,2 +1,5 @@
 pub mod Steps
 pub mod Rows
+pub mod Parts
+pub mod Bytes
+pub mod Refused

@@ -1,14 +1,19 @@
 -- Rows of the inline structure of a content are laid in it (CommonMark 6).
-use Rattle.std.specs.Prelude.{◌≡◌, ℕ, List, [], map}
+use Rattle.std.specs.Prelude.{◌≡◌, ◌<◌, ℕ, List, [], map, slice_index}
+use Rattle.definition_text.specs.Content.{content_codes}
 use Rattle.definition_text.specs.InlineCode.{InlineCode}
-use Rattle.definition_inline.specs.Inline.{Target, LinkTexts, Inlines, Link, Image}
+use Rattle.definition_inline.specs.Inline.{Target, LinkTexts, Inlines}
 use Rattle.definition_inline.specs.Scan.{InlineContext, inlines_from}
 use Rattle.inline_rows.specs.InlineRows.{inline_rows, Part, EnterSpan, EnterLinked, Leave, CallRow}
 use Rattle.inline_rows.specs.InlineRows as seen
 use Rattle.inline_rows.specs.View.{rows_view}
 use Rattle.inline_rows.specs.declared.row.InlineRow.{InlineRow}
 use Rattle.laws_written.specs.Laid.{Step, Holds, EntersSpan, EntersLinked, Leaves, HoldsCall, steps_of}
-use Rattle.laws_rows.specs.Rows.{AreRowsLaid}
+use Rattle.inline_leaves.specs.declared.leaf.LeafPart.{LeafPart}
+use Rattle.laws_written.specs.Written.{AreCodes, EndNoLine}
+use Rattle.laws_rows.specs.Bytes.{AreBytesAt, Passes}
+use Rattle.laws_rows.specs.Parts.{HasPartForm}
+use Rattle.laws_rows.specs.Rows.{IsPartLaid, AreRowsLaid}
 
 -- the row of a step, where it is known where targets lead
 abbrev pub step_row : (Target → LinkTexts) → Step → seen.InlineRow
@@ -28,3 +33,18 @@ RowsLaw =
     (context : InlineContext) (leads : Target → LinkTexts) (at : ℕ → LinkTexts) (content : List InlineCode) (rows : List InlineRow)
     → rows_view at rows ≡ inline_rows leads (inlines_from context content)
     → AreRowsLaid context [] rows content []
+
+-- a row of a leaf has its form where it is laid
+abbrev pub PartsLaw : Type 0
+PartsLaw = (context : InlineContext) (part : LeafPart) (from to : List InlineCode) → IsPartLaid context part from to → HasPartForm context part from to
+
+-- codes that end no line are as many bytes
+abbrev pub InlineBytesLaw : Type 0
+InlineBytesLaw =
+    (text bytes : List ℕ) (from to : List InlineCode) → AreBytesAt bytes from → AreCodes text from to → EndNoLine text → Passes text bytes to
+
+-- the codes of a text are its bytes, also where lines end in it
+abbrev pub TextBytesLaw : Type 0
+TextBytesLaw =
+    (text bytes : List ℕ) (from to : List InlineCode) → ((k : ℕ) → slice_index text k < 256) → ((k : ℕ) → slice_index bytes k < 256)
+    → AreBytesAt bytes from → AreCodes (content_codes text) from to → Passes text bytes to

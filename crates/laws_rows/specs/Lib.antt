@@ -1,2 +1,5 @@
 pub mod Rows
+pub mod Parts
+pub mod Bytes
 pub mod Laws
+pub mod Refused

@@ -1,7 +1,8 @@
 //! Rows of inline structure are laid in their content.
 #![tactic(auto)]
 
-ghost use Rattle.laws_rows.specs.Laws.{RowsLaw, RowsOfSteps};
+ghost use Rattle.laws_rows.specs.Laws.{InlineBytesLaw, PartsLaw, RowsLaw, RowsOfSteps, TextBytesLaw};
+ghost use Rattle.laws_rows.specs.Refused.{RefusedRows};
 
 /// The rows of inline structure are those of its steps from left to right.
 #[tactic(auto, using(crate::proofs::Steps::rows_of_steps))]
@@ -14,4 +15,29 @@ pub fn steps_law()
 #[tactic(auto)]
 pub fn rows_law()
     ensures { RowsLaw }
+{}
+
+/// Rows of a leaf have the form of its construct where they are laid: escapes are so many backslashes
+/// with a byte each, a line ending has all spaces and tabs around it, spaces by themselves nothing.
+#[tactic(auto, using(crate::proofs::Parts::parts_law))]
+pub fn parts_law()
+    ensures { PartsLaw }
+{}
+
+/// Codes that end no line are as many bytes.
+#[tactic(auto)]
+pub fn inline_bytes_law()
+    ensures { InlineBytesLaw }
+{}
+
+/// The codes of a text are its bytes, also where lines end in it.
+pub fn text_bytes_law()
+    ensures { TextBytesLaw }
+{}
+
+/// Rows that aren't laid: a byte without a row, a row of another text, a link without a bracket, a
+/// span that doesn't end, and an end where nothing is open.
+#[tactic(auto, using(crate::proofs::Refused::refused_rows))]
+pub fn refused_rows()
+    ensures { RefusedRows }
 {}
