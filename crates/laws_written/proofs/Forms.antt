@@ -2,7 +2,7 @@
 use Rattle.std.proofs.Common.{inl, inr, ◌≡◌, ℕ, zero, suc, ◌+◌, ◌-◌, ◌<◌, Bool, true, false, cond, not, ◌&&◌, ◌||◌, List, [], ◌∷◌, ◌++◌, map, Option, None}
 use Rattle.std.proofs.Common.{Some, length, take, drop, replicate, refl, sym, ap, ◌∙◌, subst, arith, append_assoc}
 use Rattle.std.specs.Prelude.{◌==◌, nat_le, codes}
-use Rattle.std.specs.Char.{is_ascii_digit, is_ascii_hexdigit, is_ascii_alphanumeric}
+use Rattle.std.specs.Char.{is_ascii_digit, is_ascii_hexdigit, is_ascii_alphanumeric, is_ascii_punctuation}
 use Rattle.std.specs.List.{prefix_len, take_while, list_all}
 use Rattle.std.proofs.Math.Seq.{take-append_seam}
 use Rattle.std.proofs.lemmas.Bool.{cases_Bool, both_ways, cond_both, cond-true, cond-false, eqb-true, and_parts, true≢false}
@@ -54,7 +54,7 @@ run_of_codes m [] = refl
 run_of_codes m (c ∷ cs) = ap (λ n. cond (c.code == m) (1 + n) 0) (run_of_codes m cs)
 
 -- this code passes no such test
-differs : (test : ℕ → Bool) (c k : ℕ) → test c ≡ true → test k ≡ false → (c == k) ≡ false
+pub differs : (test : ℕ → Bool) (c k : ℕ) → test c ≡ true → test k ≡ false → (c == k) ≡ false
 differs test c k passes fails = elim (cases_Bool (c == k)) [
   | inl same ↦ absurd (both_ways (test k) fails (subst (λ x. test x ≡ true) (eqb-true c k same) passes))
   | inr other ↦ other
@@ -121,14 +121,26 @@ module _ (context : InlineContext) where
   escape_begins [] = tt
   escape_begins (c ∷ []) = tt
   escape_begins (c ∷ next ∷ cs) =
-      begins_if (c ∷ next ∷ cs) _ (Escape next.code) 2
-      (λ e. (eqb-true c.code 92 (and_parts (c.code == 92) _ (and_parts context.options.constructs.character_escape _ e).1).0, (refl, refl)))
+      let on = context.options.constructs.character_escape in
+      begins_if (c ∷ next ∷ cs) (on && ((c.code == 92) && is_ascii_punctuation next.code)) (Escape next.code) 2
+      (λ e.
+      let both = and_parts (c.code == 92) (is_ascii_punctuation next.code) (and_parts on _ e).1 in
+      record {
+        codes = (eqb-true c.code 92 both.0, (refl, refl));
+        some = omega arith;
+        inline = (refl, (inline_code is_ascii_punctuation next.code (record { feed = refl; return = refl; both = refl }) both.1, tt));
+      })
 
   break_begins : (from : List InlineCode) → Begins from (escaped_break_at context.options.constructs (codes_of from))
   break_begins [] = tt
   break_begins (c ∷ cs) =
+      let on = context.options.constructs.hard_break_escape in
       begins_if (c ∷ cs) _ EscapedBreak 1
-      (λ e. (eqb-true c.code 92 (and_parts (c.code == 92) _ (and_parts context.options.constructs.hard_break_escape _ e).1).0, refl))
+      (λ e. record {
+        codes = (eqb-true c.code 92 (and_parts (c.code == 92) _ (and_parts on _ e).1).0, refl);
+        some = omega arith;
+        inline = (refl, tt);
+      })
 
   line_end_begins : (from : List InlineCode) → Begins from (line_end_at (codes_of from))
   line_end_begins [] = tt

@@ -60,14 +60,14 @@ pub record IsLineEnd (code : ContentCode) (from to : List InlineCode) : Type 0 w
 -- the form of a leaf; no content has a check
 abbrev pub HasForm : InlineContext → InlineLeaf → List InlineCode → List InlineCode → Type 0
 HasForm context (Data b) from to = IsText (b ∷ []) from to
-HasForm context (Escape b) from to = AreCodes (backslash ∷ b ∷ []) from to
+HasForm context (Escape b) from to = IsText (backslash ∷ b ∷ []) from to
 HasForm context (Character text) from to = IsReference context text from to
 HasForm context (Code text) from to = IsRaw backtick text from to
 HasForm context (Math text) from to = IsRaw dollar text from to
 HasForm context (Autolink email text) from to = IsAutolink text from to
 HasForm context (Literal kind text) from to = IsText text from to
 HasForm context (Html text) from to = AreCodes text from to
-HasForm context EscapedBreak from to = AreCodes (backslash ∷ []) from to
+HasForm context EscapedBreak from to = IsText (backslash ∷ []) from to
 HasForm context TrailingBreak from to = AreAllSpaces from to
 HasForm context (LineEnd code) from to = IsLineEnd code from to
 HasForm context (TaskCheck done) from to = ⊥
