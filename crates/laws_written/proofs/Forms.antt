@@ -39,7 +39,7 @@ use Rattle.laws_written.proofs.Leaves.{is_its_text, codes_of_take}
 -- ---- codes at the front
 
 -- codes that a content begins with, and what follows them
-front_codes : (xs rest : List ℕ) (from : List InlineCode) → codes_of from ≡ xs ++ rest
+pub front_codes : (xs rest : List ℕ) (from : List InlineCode) → codes_of from ≡ xs ++ rest
     → AreCodes xs from (drop (length xs) from) × (codes_of (drop (length xs) from) ≡ rest)
 front_codes [] rest from is = (refl, is)
 front_codes (x ∷ xs) rest [] is = absurd cc
@@ -90,6 +90,12 @@ end_no_line (x ∷ xs) p = (p.0, end_no_line xs p.1)
 
 passed_inline : (test : ℕ → Bool) → IsInline test → (xs : List ℕ) → InLine (take (prefix_len test xs) xs)
 passed_inline test tells xs = each_passed (λ c. is_eol c ≡ false) test (λ c passes. inline_code test c tells passes) xs
+
+-- the text before what is left
+pub text_of_parts : (content front rest : List ℕ) → content ≡ front ++ rest → text_before content rest ≡ front
+text_of_parts content front rest is =
+    let size : length content - length rest ≡ length front = omega (arith, ap length is, length-append front rest) in
+    ap (λ n. take n content) size ∙ ap (take (length front)) is ∙ take-append_seam front rest
 
 -- ---- what begins at a place
 
@@ -198,11 +204,6 @@ module _ (context : InlineContext) where
       later : (o : Option (List ℕ)) → WhereSome (IsNextRun marker n cs) o → WhereSome (IsNextRun marker n (c ∷ cs)) o
       later None p = tt
       later (Some rest) p = record { front = c ∷ p.front; parts = ap (λ xs. c ∷ xs) p.parts; size = p.size }
-
-  text_of_parts : (content front rest : List ℕ) → content ≡ front ++ rest → text_before content rest ≡ front
-  text_of_parts content front rest is =
-      let size : length content - length rest ≡ length front = omega (arith, ap length is, length-append front rest) in
-      ap (λ n. take n content) size ∙ ap (take (length front)) is ∙ take-append_seam front rest
 
   raw_form : (marker : ℕ) (from : List InlineCode) (rest : List ℕ) → 0 < run marker (codes_of from)
       → run_of marker (run marker (codes_of from)) false (codes_of (drop (run marker (codes_of from)) from)) ≡ Some rest

@@ -12,3 +12,4 @@ pub mod Scanned
 pub mod Contents
 pub mod Laid
 pub mod Forms
+pub mod Tails
