@@ -3,3 +3,4 @@ pub mod Rows
 pub mod Parts
 pub mod Bytes
 pub mod Refused
+pub mod Raw

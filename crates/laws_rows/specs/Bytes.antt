@@ -1,7 +1,9 @@
 -- Places of a content in its bytes: code that makes events counts bytes, the definition counts codes.
-use Rattle.std.specs.Prelude.{◌≡◌, ℕ, List, drop, length, take}
+use Rattle.std.specs.Prelude.{◌≡◌, ◌<◌, ◌-◌, ℕ, false, List, Some, drop, length, take}
 use Rattle.definition_text.specs.Content.{content_codes}
 use Rattle.definition_text.specs.InlineCode.{InlineCode, codes_of}
+use Rattle.definition_text.specs.Runs.{run, after_run}
+use Rattle.definition_inline.specs.CodeText.{code_text, run_of}
 
 -- these bytes are at a place
 abbrev pub AreBytesAt : List ℕ → List InlineCode → Type 0
@@ -11,3 +13,11 @@ AreBytesAt bytes at = codes_of at ≡ content_codes bytes
 pub record Passes (text bytes : List ℕ) (to : List InlineCode) : Type 0 where
   pub front : take (length text) bytes ≡ text
   pub left : AreBytesAt (drop (length text) bytes) to
+
+-- raw text between two runs of a byte, in bytes: it ends at the next run of as many, after which these codes are left (CommonMark 6.1)
+pub record IsRawInBytes (marker : ℕ) (text bytes : List ℕ) (to : List InlineCode) : Type 0 where
+  pub some : 0 < run marker bytes
+  pub end : List ℕ
+  pub next : run_of marker (run marker bytes) false (after_run marker bytes) ≡ Some end
+  pub read : code_text (content_codes (take (length (after_run marker bytes) - length end) (after_run marker bytes))) ≡ text
+  pub left : AreBytesAt (drop (run marker bytes) end) to

@@ -1,5 +1,6 @@
 -- Rows of the inline structure of a content are laid in it (CommonMark 6).
 use Rattle.std.specs.Prelude.{◌≡◌, ◌<◌, ℕ, List, [], map, slice_index}
+use Rattle.definition_text.specs.Ascii.{backtick, dollar}
 use Rattle.definition_text.specs.Content.{content_codes}
 use Rattle.definition_text.specs.InlineCode.{InlineCode}
 use Rattle.definition_inline.specs.Inline.{Target, LinkTexts, Inlines}
@@ -11,7 +12,8 @@ use Rattle.inline_rows.specs.declared.row.InlineRow.{InlineRow}
 use Rattle.laws_written.specs.Laid.{Step, Holds, EntersSpan, EntersLinked, Leaves, HoldsCall, steps_of}
 use Rattle.inline_leaves.specs.declared.leaf.LeafPart.{LeafPart}
 use Rattle.laws_written.specs.Written.{AreCodes, EndNoLine}
-use Rattle.laws_rows.specs.Bytes.{AreBytesAt, Passes}
+use Rattle.laws_written.specs.Leaves.{IsRaw}
+use Rattle.laws_rows.specs.Bytes.{AreBytesAt, Passes, IsRawInBytes}
 use Rattle.laws_rows.specs.Parts.{HasPartForm}
 use Rattle.laws_rows.specs.Rows.{IsPartLaid, AreRowsLaid}
 
@@ -48,3 +50,12 @@ abbrev pub TextBytesLaw : Type 0
 TextBytesLaw =
     (text bytes : List ℕ) (from to : List InlineCode) → ((k : ℕ) → slice_index text k < 256) → ((k : ℕ) → slice_index bytes k < 256)
     → AreBytesAt bytes from → AreCodes (content_codes text) from to → Passes text bytes to
+
+-- raw text between runs of a byte is so in bytes, too
+abbrev pub IsRawByBytes : ℕ → Type 0
+IsRawByBytes marker =
+    (text bytes : List ℕ) (from to : List InlineCode) → IsRaw marker text from to → AreBytesAt bytes from → IsRawInBytes marker text bytes to
+
+-- so code and math end in bytes where they end in codes
+abbrev pub RawBytesLaw : Type 0
+RawBytesLaw = IsRawByBytes backtick × IsRawByBytes dollar

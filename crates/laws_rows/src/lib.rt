@@ -1,7 +1,7 @@
 //! Rows of inline structure are laid in their content.
 #![tactic(auto)]
 
-ghost use Rattle.laws_rows.specs.Laws.{InlineBytesLaw, PartsLaw, RowsLaw, RowsOfSteps, TextBytesLaw};
+ghost use Rattle.laws_rows.specs.Laws.{InlineBytesLaw, PartsLaw, RawBytesLaw, RowsLaw, RowsOfSteps, TextBytesLaw};
 ghost use Rattle.laws_rows.specs.Refused.{RefusedRows};
 
 /// The rows of inline structure are those of its steps from left to right.
@@ -33,6 +33,11 @@ pub fn inline_bytes_law()
 /// The codes of a text are its bytes, also where lines end in it.
 pub fn text_bytes_law()
     ensures { TextBytesLaw }
+{}
+
+/// Code and math end in bytes where they end in codes: at the next run of as many.
+pub fn raw_bytes_law()
+    ensures { RawBytesLaw }
 {}
 
 /// Rows that aren't laid: a byte without a row, a row of another text, a link without a bracket, a

@@ -97,6 +97,23 @@ text_of_parts content front rest is =
     let size : length content - length rest ≡ length front = omega (arith, ap length is, length-append front rest) in
     ap (λ n. take n content) size ∙ ap (take (length front)) is ∙ take-append_seam front rest
 
+-- a run of exactly so many that was found
+pub record IsNextRun (marker n : ℕ) (content rest : List ℕ) : Type 0 where
+  pub front : List ℕ
+  pub parts : content ≡ front ++ rest
+  pub size : run marker rest ≡ n
+
+pub next_run : (marker n : ℕ) (within : Bool) (content : List ℕ) → WhereSome (IsNextRun marker n content) (run_of marker n within content)
+next_run marker n within [] = tt
+next_run marker n within (c ∷ cs) =
+    cond_both (not within && (run marker (c ∷ cs) == n)) (Some (c ∷ cs)) (run_of marker n (c == marker) cs) (WhereSome (IsNextRun marker n (c ∷ cs)))
+    (λ e. record { front = []; parts = refl; size = eqb-true (run marker (c ∷ cs)) n (and_parts (not within) _ e).1 })
+    (λ _. later (run_of marker n (c == marker) cs) (next_run marker n (c == marker) cs))
+  where
+    later : (o : Option (List ℕ)) → WhereSome (IsNextRun marker n cs) o → WhereSome (IsNextRun marker n (c ∷ cs)) o
+    later None p = tt
+    later (Some rest) p = record { front = c ∷ p.front; parts = ap (λ xs. c ∷ xs) p.parts; size = p.size }
+
 -- ---- what begins at a place
 
 module _ (context : InlineContext) where
@@ -187,23 +204,6 @@ module _ (context : InlineContext) where
       (λ _. tt)
 
   -- ---- raw text
-
-  -- a run of exactly so many that was found
-  record IsNextRun (marker n : ℕ) (content rest : List ℕ) : Type 0 where
-    front : List ℕ
-    parts : content ≡ front ++ rest
-    size : run marker rest ≡ n
-
-  next_run : (marker n : ℕ) (within : Bool) (content : List ℕ) → WhereSome (IsNextRun marker n content) (run_of marker n within content)
-  next_run marker n within [] = tt
-  next_run marker n within (c ∷ cs) =
-      cond_both (not within && (run marker (c ∷ cs) == n)) (Some (c ∷ cs)) (run_of marker n (c == marker) cs) (WhereSome (IsNextRun marker n (c ∷ cs)))
-      (λ e. record { front = []; parts = refl; size = eqb-true (run marker (c ∷ cs)) n (and_parts (not within) _ e).1 })
-      (λ _. later (run_of marker n (c == marker) cs) (next_run marker n (c == marker) cs))
-    where
-      later : (o : Option (List ℕ)) → WhereSome (IsNextRun marker n cs) o → WhereSome (IsNextRun marker n (c ∷ cs)) o
-      later None p = tt
-      later (Some rest) p = record { front = c ∷ p.front; parts = ap (λ xs. c ∷ xs) p.parts; size = p.size }
 
   raw_form : (marker : ℕ) (from : List InlineCode) (rest : List ℕ) → 0 < run marker (codes_of from)
       → run_of marker (run marker (codes_of from)) false (codes_of (drop (run marker (codes_of from)) from)) ≡ Some rest
