@@ -4,3 +4,4 @@ pub mod Parts
 pub mod Bytes
 pub mod Refused
 pub mod Raw
+pub mod Marks

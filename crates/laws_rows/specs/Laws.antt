@@ -1,5 +1,5 @@
 -- Rows of the inline structure of a content are laid in it (CommonMark 6).
-use Rattle.std.specs.Prelude.{◌≡◌, ◌<◌, ℕ, List, [], map, slice_index}
+use Rattle.std.specs.Prelude.{◌≡◌, ◌<◌, ℕ, List, [], map, replicate, slice_index}
 use Rattle.definition_text.specs.Ascii.{backtick, dollar}
 use Rattle.definition_text.specs.Content.{content_codes}
 use Rattle.definition_text.specs.InlineCode.{InlineCode}
@@ -11,8 +11,11 @@ use Rattle.inline_rows.specs.View.{rows_view}
 use Rattle.inline_rows.specs.declared.row.InlineRow.{InlineRow}
 use Rattle.laws_written.specs.Laid.{Step, Holds, EntersSpan, EntersLinked, Leaves, HoldsCall, steps_of}
 use Rattle.inline_leaves.specs.declared.leaf.LeafPart.{LeafPart}
-use Rattle.laws_written.specs.Written.{AreCodes, EndNoLine}
+use Rattle.inline_runs.specs.View.{span_view}
+use Rattle.inline_runs.specs.declared.pair.Span.{Span}
+use Rattle.laws_written.specs.Written.{AreCodes, EndNoLine, StartsSpan, call_codes}
 use Rattle.laws_written.specs.Leaves.{IsRaw}
+use Rattle.laws_rows.specs.Marks.{sequence_size, call_text}
 use Rattle.laws_rows.specs.Bytes.{AreBytesAt, Passes, IsRawInBytes}
 use Rattle.laws_rows.specs.Parts.{HasPartForm}
 use Rattle.laws_rows.specs.Rows.{IsPartLaid, AreRowsLaid}
@@ -59,3 +62,16 @@ IsRawByBytes marker =
 -- so code and math end in bytes where they end in codes
 abbrev pub RawBytesLaw : Type 0
 RawBytesLaw = IsRawByBytes backtick × IsRawByBytes dollar
+
+-- the sequence of a span has a size that the span and the bytes tell, and ends no line
+abbrev pub SequenceLaw : Type 0
+SequenceLaw =
+    (context : InlineContext) (span : Span) (marker size : ℕ) (bytes : List ℕ) (from to : List InlineCode)
+    → StartsSpan context.options (span_view span) marker size from to → AreBytesAt bytes from
+    → (size ≡ sequence_size span bytes) × EndNoLine (replicate size marker)
+
+-- the bytes of a call are its label between brackets
+abbrev pub CallBytesLaw : Type 0
+CallBytesLaw =
+    (label bytes : List ℕ) (from to : List InlineCode) → ((k : ℕ) → slice_index label k < 256) → ((k : ℕ) → slice_index bytes k < 256)
+    → AreBytesAt bytes from → AreCodes (call_codes (content_codes label)) from to → Passes (call_text label) bytes to

@@ -1,7 +1,7 @@
 //! Rows of inline structure are laid in their content.
 #![tactic(auto)]
 
-ghost use Rattle.laws_rows.specs.Laws.{InlineBytesLaw, PartsLaw, RawBytesLaw, RowsLaw, RowsOfSteps, TextBytesLaw};
+ghost use Rattle.laws_rows.specs.Laws.{CallBytesLaw, InlineBytesLaw, PartsLaw, RawBytesLaw, RowsLaw, RowsOfSteps, SequenceLaw, TextBytesLaw};
 ghost use Rattle.laws_rows.specs.Refused.{RefusedRows};
 
 /// The rows of inline structure are those of its steps from left to right.
@@ -38,6 +38,16 @@ pub fn text_bytes_law()
 /// Code and math end in bytes where they end in codes: at the next run of as many.
 pub fn raw_bytes_law()
     ensures { RawBytesLaw }
+{}
+
+/// The sequence that a span starts with has one byte or two, by the span; one of tildes is a whole run.
+pub fn sequence_law()
+    ensures { SequenceLaw }
+{}
+
+/// The bytes of a call are its label between `[^` and `]`.
+pub fn call_bytes_law()
+    ensures { CallBytesLaw }
 {}
 
 /// Rows that aren't laid: a byte without a row, a row of another text, a link without a bracket, a

@@ -49,7 +49,7 @@ front_codes (x ∷ xs) rest (c ∷ cs) is =
     let others = front_codes xs rest cs later in
     ((first, others.0), others.1)
 
-run_of_codes : (m : ℕ) (a : List InlineCode) → run m (codes_of a) ≡ run_size m a
+pub run_of_codes : (m : ℕ) (a : List InlineCode) → run m (codes_of a) ≡ run_size m a
 run_of_codes m [] = refl
 run_of_codes m (c ∷ cs) = ap (λ n. cond (c.code == m) (1 + n) 0) (run_of_codes m cs)
 
