@@ -57,7 +57,7 @@ inline_bytes_law (x ∷ xs) bytes (c ∷ cs) to is codes inline =
 
 -- ---- where lines may end
 
-abbrev AreSmall : List ℕ → Type 0
+abbrev pub AreSmall : List ℕ → Type 0
 AreSmall bytes = (k : ℕ) → slice_index bytes k < 256
 
 -- the bytes of a code that comes first: one, or CR LF

@@ -5,3 +5,4 @@ pub mod Bytes
 pub mod Refused
 pub mod Raw
 pub mod Marks
+pub mod Leaves

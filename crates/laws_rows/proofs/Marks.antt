@@ -25,7 +25,7 @@ use Rattle.laws_rows.proofs.Bytes.{text_bytes_law}
 
 -- ---- sequences
 
-marks_inline : (size marker : ℕ) → is_eol marker ≡ false → EndNoLine (replicate size marker)
+pub marks_inline : (size marker : ℕ) → is_eol marker ≡ false → EndNoLine (replicate size marker)
 marks_inline zero marker inline = tt
 marks_inline (suc n) marker inline = (inline, marks_inline n marker inline)
 

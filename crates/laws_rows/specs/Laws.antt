@@ -1,7 +1,9 @@
 -- Rows of the inline structure of a content are laid in it (CommonMark 6).
-use Rattle.std.specs.Prelude.{◌≡◌, ◌<◌, ℕ, List, [], map, replicate, slice_index}
+use Rattle.std.specs.Prelude.{◌≡◌, ◌<◌, ℕ, List, [], drop, map, replicate, slice_index}
 use Rattle.definition_text.specs.Ascii.{backtick, dollar}
-use Rattle.definition_text.specs.Content.{content_codes}
+use Rattle.markdown_options.specs.declared.line_ending.LineEnding.{LineEnding}
+use Rattle.definition_text.specs.Columns.{indent}
+use Rattle.definition_text.specs.Content.{content_codes, line_ending_code}
 use Rattle.definition_text.specs.InlineCode.{InlineCode}
 use Rattle.definition_inline.specs.Inline.{Target, LinkTexts, Inlines}
 use Rattle.definition_inline.specs.Scan.{InlineContext, inlines_from}
@@ -14,10 +16,10 @@ use Rattle.inline_leaves.specs.declared.leaf.LeafPart.{LeafPart}
 use Rattle.inline_runs.specs.View.{span_view}
 use Rattle.inline_runs.specs.declared.pair.Span.{Span}
 use Rattle.laws_written.specs.Written.{AreCodes, EndNoLine, StartsSpan, call_codes}
-use Rattle.laws_written.specs.Leaves.{IsRaw}
+use Rattle.laws_written.specs.Leaves.{IsReference, IsRaw, AreAllSpaces}
 use Rattle.laws_rows.specs.Marks.{sequence_size, call_text}
-use Rattle.laws_rows.specs.Bytes.{AreBytesAt, Passes, IsRawInBytes}
-use Rattle.laws_rows.specs.Parts.{HasPartForm}
+use Rattle.laws_rows.specs.Bytes.{AreBytesAt, Passes, IsRawInBytes, IsReferenceInBytes, EndsLineInBytes}
+use Rattle.laws_rows.specs.Parts.{EndsLine, HasPartForm}
 use Rattle.laws_rows.specs.Rows.{IsPartLaid, AreRowsLaid}
 
 -- the row of a step, where it is known where targets lead
@@ -75,3 +77,19 @@ abbrev pub CallBytesLaw : Type 0
 CallBytesLaw =
     (label bytes : List ℕ) (from to : List InlineCode) → ((k : ℕ) → slice_index label k < 256) → ((k : ℕ) → slice_index bytes k < 256)
     → AreBytesAt bytes from → AreCodes (call_codes (content_codes label)) from to → Passes (call_text label) bytes to
+
+-- a reference ends in bytes at its first `;`
+abbrev pub ReferenceBytesLaw : Type 0
+ReferenceBytesLaw =
+    (context : InlineContext) (text bytes : List ℕ) (from to : List InlineCode) → IsReference context text from to → AreBytesAt bytes from
+    → IsReferenceInBytes bytes to
+
+-- a line ending has all spaces and tabs of the bytes around it
+abbrev pub LineBytesLaw : Type 0
+LineBytesLaw =
+    (ending : LineEnding) (bytes : List ℕ) (from to : List InlineCode) → ((k : ℕ) → slice_index bytes k < 256) → AreBytesAt bytes from
+    → EndsLine (line_ending_code ending) from to → EndsLineInBytes ending bytes to
+
+-- a hard break by spaces has all of the bytes that come next
+abbrev pub BreakBytesLaw : Type 0
+BreakBytesLaw = (bytes : List ℕ) (from to : List InlineCode) → AreBytesAt bytes from → AreAllSpaces from to → AreBytesAt (drop (indent bytes) bytes) to

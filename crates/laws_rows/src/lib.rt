@@ -1,7 +1,8 @@
 //! Rows of inline structure are laid in their content.
 #![tactic(auto)]
 
-ghost use Rattle.laws_rows.specs.Laws.{CallBytesLaw, InlineBytesLaw, PartsLaw, RawBytesLaw, RowsLaw, RowsOfSteps, SequenceLaw, TextBytesLaw};
+ghost use Rattle.laws_rows.specs.Laws.{BreakBytesLaw, CallBytesLaw, InlineBytesLaw, LineBytesLaw, PartsLaw, RawBytesLaw, ReferenceBytesLaw};
+ghost use Rattle.laws_rows.specs.Laws.{RowsLaw, RowsOfSteps, SequenceLaw, TextBytesLaw};
 ghost use Rattle.laws_rows.specs.Refused.{RefusedRows};
 
 /// The rows of inline structure are those of its steps from left to right.
@@ -48,6 +49,21 @@ pub fn sequence_law()
 /// The bytes of a call are its label between `[^` and `]`.
 pub fn call_bytes_law()
     ensures { CallBytesLaw }
+{}
+
+/// A reference ends at the first `;` of the bytes.
+pub fn reference_bytes_law()
+    ensures { ReferenceBytesLaw }
+{}
+
+/// A line ending has all spaces and tabs of the bytes around it.
+pub fn line_bytes_law()
+    ensures { LineBytesLaw }
+{}
+
+/// A hard break by spaces has all spaces and tabs of the bytes that come next.
+pub fn break_bytes_law()
+    ensures { BreakBytesLaw }
 {}
 
 /// Rows that aren't laid: a byte without a row, a row of another text, a link without a bracket, a
