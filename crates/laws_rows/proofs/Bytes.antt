@@ -1,16 +1,19 @@
 -- Codes that are at a place are bytes.
-use Rattle.std.proofs.Common.{inl, inr, ◌≡◌, ◌<◌, ℕ, suc, true, false, List, [], ◌∷◌, drop, refl, sym, ap, ◌∙◌, subst, arith}
+use Rattle.std.proofs.Common.{inl, inr, ◌≡◌, ◌<◌, ℕ, suc, true, false, List, [], ◌∷◌, ◌++◌, drop, refl, sym, ap, ◌∙◌, subst, arith}
 use Rattle.std.specs.Prelude.{◌==◌, slice_index}
 use Rattle.std.proofs.lemmas.Bool.{both_ways, cases_Bool, cond-true, cond-false, eqb-true, false≢true}
 use Rattle.definition_text.specs.Content.{after_return_code, content_codes, is_eol}
 use Rattle.definition_text.specs.InlineCode.{InlineCode, codes_of}
-use Rattle.laws_written.specs.Written.{AreCodes}
-use Rattle.laws_rows.specs.Bytes.{AreBytesAt, Passes}
-use Rattle.laws_rows.specs.Laws.{InlineBytesLaw, TextBytesLaw}
+use Rattle.laws_written.proofs.Codes.{codes_are}
+use Rattle.laws_rows.specs.Bytes.{AreBytesAt, Passes, IsFront}
+use Rattle.laws_rows.specs.Laws.{InlineBytesLaw, FrontBytesLaw, TextBytesLaw}
 
 -- a byte more
 one_more : (b : ℕ) (text bytes : List ℕ) (to : List InlineCode) → Passes text bytes to → Passes (b ∷ text) (b ∷ bytes) to
 one_more b text bytes to p = record { front = ap (λ xs. b ∷ xs) p.front; left = p.left }
+
+byte_more : (b : ℕ) (text bytes rest : List ℕ) → IsFront text bytes rest → IsFront (b ∷ text) (b ∷ bytes) rest
+byte_more b text bytes rest p = record { front = ap (λ xs. b ∷ xs) p.front; left = p.left }
 
 none_passed : (bytes : List ℕ) (from to : List InlineCode) → AreBytesAt bytes from → from ≡ to → Passes [] bytes to
 none_passed bytes from to is same = record { front = refl; left = subst (λ x. AreBytesAt bytes x) same is }
@@ -126,29 +129,34 @@ no_bytes (b ∷ bs) small is = elim (cases_Bool (b == 13)) [
 small_after : (x : ℕ) (xs all : List ℕ) → all ≡ x ∷ xs → AreSmall all → AreSmall xs
 small_after x xs all is small k = subst (λ ys. slice_index ys (suc k) < 256) is (small (suc k))
 
-codes_passed : (codes text bytes : List ℕ) (from to : List InlineCode) → AreSmall text → AreSmall bytes → codes ≡ content_codes text → AreBytesAt bytes from
-    → AreCodes codes from to → Passes text bytes to
-codes_passed [] text bytes from to small within is at same =
-    subst (λ xs. Passes xs bytes to) (sym (no_bytes text small is)) (none_passed bytes from to at same)
-codes_passed (x ∷ xs) text bytes [] to small within is at codes = absurd codes
-codes_passed (x ∷ xs) text bytes (c ∷ cs) to small within is at (same, codes) =
-    both (λ ts bs small_text small_bytes left rest. codes_passed xs ts bs cs to small_text small_bytes left rest codes) (first_code text small x xs is)
-    (first_code bytes within c.code (codes_of cs) at)
+-- codes that are a text's, and others after them
+front_passed : (codes rest text bytes : List ℕ) → AreSmall text → AreSmall bytes → codes ≡ content_codes text → codes ++ rest ≡ content_codes bytes
+    → IsFront text bytes rest
+front_passed [] rest text bytes small within is at =
+    subst (λ xs. IsFront xs bytes rest) (sym (no_bytes text small is)) (record { front = refl; left = sym at })
+front_passed (x ∷ xs) rest text bytes small within is at =
+    both (λ ts bs small_text small_bytes left more. front_passed xs rest ts bs small_text small_bytes left more) (first_code text small x xs is)
+    (first_code bytes within x (xs ++ rest) at)
   where
-    both : ((ts bs : List ℕ) → AreSmall ts → AreSmall bs → xs ≡ content_codes ts → AreBytesAt bs cs → Passes ts bs to) → FirstCode x xs text
-        → FirstCode c.code (codes_of cs) bytes → Passes text bytes to
-    both passed (OneByte ts text_is left single) (OneByte bs bytes_is rest other) =
-        let later = passed ts bs (small_after x ts text text_is small) (small_after c.code bs bytes bytes_is within) left rest in
-        subst (λ all. Passes all bytes to) (sym text_is)
-        (subst (λ all. Passes (x ∷ ts) all to) (sym (bytes_is ∙ ap (λ k. k ∷ bs) same)) (one_more x ts bs to later))
-    both passed (OneByte ts text_is left single) (TwoBytes bs two bytes_is rest) = absurd (single (sym same ∙ two))
-    both passed (TwoBytes ts two text_is left) (OneByte bs bytes_is rest other) = absurd (other (same ∙ two))
-    both passed (TwoBytes ts two text_is left) (TwoBytes bs again bytes_is rest) =
+    both : ((ts bs : List ℕ) → AreSmall ts → AreSmall bs → xs ≡ content_codes ts → xs ++ rest ≡ content_codes bs → IsFront ts bs rest)
+        → FirstCode x xs text → FirstCode x (xs ++ rest) bytes → IsFront text bytes rest
+    both passed (OneByte ts text_is left single) (OneByte bs bytes_is more other) =
+        let later = passed ts bs (small_after x ts text text_is small) (small_after x bs bytes bytes_is within) left more in
+        subst (λ all. IsFront all bytes rest) (sym text_is)
+        (subst (λ all. IsFront (x ∷ ts) all rest) (sym bytes_is) (byte_more x ts bs rest later))
+    both passed (OneByte ts text_is left single) (TwoBytes bs two bytes_is more) = absurd (single two)
+    both passed (TwoBytes ts two text_is left) (OneByte bs bytes_is more other) = absurd (other two)
+    both passed (TwoBytes ts two text_is left) (TwoBytes bs again bytes_is more) =
         let small_text = small_after 10 ts (10 ∷ ts) refl (small_after 13 (10 ∷ ts) text text_is small) in
         let small_bytes = small_after 10 bs (10 ∷ bs) refl (small_after 13 (10 ∷ bs) bytes bytes_is within) in
-        let later = passed ts bs small_text small_bytes left rest in
-        subst (λ all. Passes all bytes to) (sym text_is)
-        (subst (λ all. Passes (13 ∷ 10 ∷ ts) all to) (sym bytes_is) (one_more 13 (10 ∷ ts) (10 ∷ bs) to (one_more 10 ts bs to later)))
+        let later = passed ts bs small_text small_bytes left more in
+        subst (λ all. IsFront all bytes rest) (sym text_is)
+        (subst (λ all. IsFront (13 ∷ 10 ∷ ts) all rest) (sym bytes_is) (byte_more 13 (10 ∷ ts) (10 ∷ bs) rest (byte_more 10 ts bs rest later)))
+
+pub front_bytes_law : FrontBytesLaw
+front_bytes_law text bytes rest small within is = front_passed (content_codes text) rest text bytes small within refl (sym is)
 
 pub text_bytes_law : TextBytesLaw
-text_bytes_law text bytes from to small within at codes = codes_passed (content_codes text) text bytes from to small within refl at codes
+text_bytes_law text bytes from to small within at codes =
+    let front = front_bytes_law text bytes (codes_of to) small within (sym at ∙ codes_are (content_codes text) from to codes) in
+    record { front = front.front; left = sym front.left }

@@ -19,6 +19,11 @@ pub record Passes (text bytes : List ℕ) (to : List InlineCode) : Type 0 where
   pub front : take (length text) bytes ≡ text
   pub left : AreBytesAt (drop (length text) bytes) to
 
+-- bytes begin with a text, and these codes are left
+pub record IsFront (text bytes rest : List ℕ) : Type 0 where
+  pub front : take (length text) bytes ≡ text
+  pub left : content_codes (drop (length text) bytes) ≡ rest
+
 -- raw text between two runs of a byte, in bytes: it ends at the next run of as many, after which these codes are left (CommonMark 6.1)
 pub record IsRawInBytes (marker : ℕ) (text bytes : List ℕ) (to : List InlineCode) : Type 0 where
   pub some : 0 < run marker bytes

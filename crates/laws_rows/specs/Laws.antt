@@ -1,5 +1,5 @@
 -- Rows of the inline structure of a content are laid in it (CommonMark 6).
-use Rattle.std.specs.Prelude.{◌≡◌, ◌<◌, ℕ, List, [], drop, map, replicate, slice_index}
+use Rattle.std.specs.Prelude.{◌≡◌, ◌<◌, ℕ, List, [], ◌++◌, drop, map, replicate, slice_index}
 use Rattle.definition_text.specs.Ascii.{backtick, dollar}
 use Rattle.markdown_options.specs.declared.line_ending.LineEnding.{LineEnding}
 use Rattle.definition_text.specs.Columns.{indent}
@@ -18,7 +18,7 @@ use Rattle.inline_runs.specs.declared.pair.Span.{Span}
 use Rattle.laws_written.specs.Written.{AreCodes, EndNoLine, StartsSpan, call_codes}
 use Rattle.laws_written.specs.Leaves.{IsReference, IsRaw, AreAllSpaces}
 use Rattle.laws_rows.specs.Marks.{sequence_size, call_text}
-use Rattle.laws_rows.specs.Bytes.{AreBytesAt, Passes, IsRawInBytes, IsReferenceInBytes, EndsLineInBytes}
+use Rattle.laws_rows.specs.Bytes.{AreBytesAt, Passes, IsFront, IsRawInBytes, IsReferenceInBytes, EndsLineInBytes}
 use Rattle.laws_rows.specs.Parts.{EndsLine, HasPartForm}
 use Rattle.laws_rows.specs.Rows.{IsPartLaid, AreRowsLaid}
 
@@ -50,7 +50,13 @@ abbrev pub InlineBytesLaw : Type 0
 InlineBytesLaw =
     (text bytes : List ℕ) (from to : List InlineCode) → AreBytesAt bytes from → AreCodes text from to → EndNoLine text → Passes text bytes to
 
--- the codes of a text are its bytes, also where lines end in it
+-- bytes whose codes begin with those of a text begin with it, also where lines end in it
+abbrev pub FrontBytesLaw : Type 0
+FrontBytesLaw =
+    (text bytes rest : List ℕ) → ((k : ℕ) → slice_index text k < 256) → ((k : ℕ) → slice_index bytes k < 256)
+    → content_codes bytes ≡ content_codes text ++ rest → IsFront text bytes rest
+
+-- so the codes of a text at a place are its bytes
 abbrev pub TextBytesLaw : Type 0
 TextBytesLaw =
     (text bytes : List ℕ) (from to : List InlineCode) → ((k : ℕ) → slice_index text k < 256) → ((k : ℕ) → slice_index bytes k < 256)

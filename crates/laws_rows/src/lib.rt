@@ -1,7 +1,7 @@
 //! Rows of inline structure are laid in their content.
 #![tactic(auto)]
 
-ghost use Rattle.laws_rows.specs.Laws.{BreakBytesLaw, CallBytesLaw, InlineBytesLaw, LineBytesLaw, PartsLaw, RawBytesLaw, ReferenceBytesLaw};
+ghost use Rattle.laws_rows.specs.Laws.{BreakBytesLaw, CallBytesLaw, FrontBytesLaw, InlineBytesLaw, LineBytesLaw, PartsLaw, RawBytesLaw, ReferenceBytesLaw};
 ghost use Rattle.laws_rows.specs.Laws.{RowsLaw, RowsOfSteps, SequenceLaw, TextBytesLaw};
 ghost use Rattle.laws_rows.specs.Refused.{RefusedRows};
 
@@ -31,7 +31,12 @@ pub fn inline_bytes_law()
     ensures { InlineBytesLaw }
 {}
 
-/// The codes of a text are its bytes, also where lines end in it.
+/// Bytes whose codes begin with those of a text begin with it, also where lines end in it.
+pub fn front_bytes_law()
+    ensures { FrontBytesLaw }
+{}
+
+/// The codes of a text at a place are its bytes, also where lines end in it.
 pub fn text_bytes_law()
     ensures { TextBytesLaw }
 {}
